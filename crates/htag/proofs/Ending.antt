@@ -11,7 +11,6 @@ use Rattle.htag.specs.Attributes.{AttrsMean}
 use Rattle.htag.specs.Seen.{HasSeen, has_number}
 use Rattle.htag.specs.Tag.{Attribute, Part, attributes_after, has_attribute, is_known, kept, repeated, named_by}
 use Rattle.htag.specs.TagWalk.{names_after, NumbersMean, HasAttributes}
-use Rattle.htag.specs.Steps.{attribute_of}
 use Rattle.htag.proofs.Naming.{numbers_kept, attrs_kept, attrs-snoc, known_number}
 use Rattle.htag.proofs.Parts.{names-snoc, attributes-snoc, any-snoc}
 
@@ -23,38 +22,38 @@ or-true : (b : Bool) → true ≡ (b || true)
 or-true true = refl
 or-true false = refl
 
-module _ (before after : Texts) (grows : Grows before after) (are : AreNames after) (old new : TagWalk) (id : ℕ) (number : slice_get after id ≡ Some (string_bytes old.attribute)) (first : Bool)
-    (seen : (numbers : List ℕ) → HasSeen old.seen numbers → (first ≡ not (has_number id numbers)) × HasSeen new.seen (id ∷ numbers)) (any : new.any ≡ true) (parts : List Part) (part : Part) (is : part.attribute ≡ Some (attribute_of old)) (h : HasAttributes before old parts) where
-  known : is_known (names_after [] parts) (string_bytes old.attribute) ≡ not first
-  known = known_number after id (string_bytes old.attribute) are number h.numbers (names_after [] parts) (numbers_kept before after grows h.numbers (names_after [] parts) h.named) ∙ flip first (has_number id h.numbers) (seen h.numbers h.seen).0
+module _ (before after : Texts) (grows : Grows before after) (are : AreNames after) (old new : TagWalk) (a : Attribute) (id : ℕ) (number : slice_get after id ≡ Some a.name) (first : Bool)
+    (seen : (numbers : List ℕ) → HasSeen old.seen numbers → (first ≡ not (has_number id numbers)) × HasSeen new.seen (id ∷ numbers)) (any : new.any ≡ true) (parts : List Part) (part : Part) (is : part.attribute ≡ Some a) (h : HasAttributes before old parts) where
+  known : is_known (names_after [] parts) (a.name) ≡ not first
+  known = known_number after id (a.name) are number h.numbers (names_after [] parts) (numbers_kept before after grows h.numbers (names_after [] parts) h.named) ∙ flip first (has_number id h.numbers) (seen h.numbers h.seen).0
 
   holds : AttrsMean after new.attrs.items (attributes_after [] parts ++ kept (names_after [] parts) part.attribute) → HasAttributes after new (parts ++ part ∷ [])
   holds attributes = record {
     numbers = id ∷ h.numbers;
     seen = (seen h.numbers h.seen).1;
-    named = subst (NumbersMean after (id ∷ h.numbers)) (sym (names-snoc [] parts part ∙ ap (λ (a : Option Attribute). named_by a ++ names_after [] parts) is)) (number, numbers_kept before after grows h.numbers (names_after [] parts) h.named);
+    named = subst (NumbersMean after (id ∷ h.numbers)) (sym (names-snoc [] parts part ∙ ap (λ (o : Option Attribute). named_by o ++ names_after [] parts) is)) (number, numbers_kept before after grows h.numbers (names_after [] parts) h.named);
     attributes = subst (AttrsMean after new.attrs.items) (sym (attributes-snoc [] parts part)) attributes;
-    any = any ∙ or-true (has_attribute parts) ∙ sym (any-snoc parts part ∙ ap (λ (a : Option Attribute). has_attribute parts || is_some a) is);
+    any = any ∙ or-true (has_attribute parts) ∙ sym (any-snoc parts part ∙ ap (λ (o : Option Attribute). has_attribute parts || is_some o) is);
   }
 
   -- it is the first of its name
-  pub first_ends : (value : Attr) → first ≡ true → value.name ≡ id → string_bytes value.value ≡ string_bytes old.value.text → new.attrs.items ≡ old.attrs.items ++ value ∷ []
+  pub first_ends : (value : Attr) → first ≡ true → value.name ≡ id → string_bytes value.value ≡ a.value → new.attrs.items ≡ old.attrs.items ++ value ∷ []
       → HasAttributes after new (parts ++ part ∷ []) × (repeated (names_after [] parts) part.attribute ≡ [])
   first_ends value one name is_value attrs =
-      let none : is_known (names_after [] parts) (string_bytes old.attribute) ≡ false = known ∙ ap not one in (
-        holds (subst (AttrsMean after new.attrs.items) (ap (λ (x : List (List ℕ × List ℕ)). attributes_after [] parts ++ x) (sym (ap (kept (names_after [] parts)) is ∙ ap (λ (b : Bool). if b then [] else (string_bytes old.attribute, string_bytes old.value.text) ∷ []) none)))
-            (subst (λ (x : List Attr). AttrsMean after x (attributes_after [] parts ++ (string_bytes old.attribute, string_bytes old.value.text) ∷ [])) (sym attrs)
-            (attrs-snoc after old.attrs.items (attributes_after [] parts) value (string_bytes old.attribute, string_bytes old.value.text) (attrs_kept before after grows old.attrs.items (attributes_after [] parts) h.attributes) (ap (slice_get after) name ∙ number) is_value))),
-        ap (repeated (names_after [] parts)) is ∙ ap (λ (b : Bool). if b then error DuplicateAttribute old.place ∷ [] else []) none,
+      let none : is_known (names_after [] parts) (a.name) ≡ false = known ∙ ap not one in (
+        holds (subst (AttrsMean after new.attrs.items) (ap (λ (x : List (List ℕ × List ℕ)). attributes_after [] parts ++ x) (sym (ap (kept (names_after [] parts)) is ∙ ap (λ (b : Bool). if b then [] else (a.name, a.value) ∷ []) none)))
+            (subst (λ (x : List Attr). AttrsMean after x (attributes_after [] parts ++ (a.name, a.value) ∷ [])) (sym attrs)
+            (attrs-snoc after old.attrs.items (attributes_after [] parts) value (a.name, a.value) (attrs_kept before after grows old.attrs.items (attributes_after [] parts) h.attributes) (ap (slice_get after) name ∙ number) is_value))),
+        ap (repeated (names_after [] parts)) is ∙ ap (λ (b : Bool). if b then error DuplicateAttribute a.at ∷ [] else []) none,
       )
 
   -- it is a repeated one
-  pub repeated_ends : first ≡ false → new.attrs ≡ old.attrs → HasAttributes after new (parts ++ part ∷ []) × (repeated (names_after [] parts) part.attribute ≡ error DuplicateAttribute old.place ∷ [])
+  pub repeated_ends : first ≡ false → new.attrs ≡ old.attrs → HasAttributes after new (parts ++ part ∷ []) × (repeated (names_after [] parts) part.attribute ≡ error DuplicateAttribute a.at ∷ [])
   repeated_ends again attrs =
-      let some : is_known (names_after [] parts) (string_bytes old.attribute) ≡ true = known ∙ ap not again in
-      let nothing : kept (names_after [] parts) part.attribute ≡ [] = ap (kept (names_after [] parts)) is ∙ ap (λ (b : Bool). if b then [] else (string_bytes old.attribute, string_bytes old.value.text) ∷ []) some in (
+      let some : is_known (names_after [] parts) (a.name) ≡ true = known ∙ ap not again in
+      let nothing : kept (names_after [] parts) part.attribute ≡ [] = ap (kept (names_after [] parts)) is ∙ ap (λ (b : Bool). if b then [] else (a.name, a.value) ∷ []) some in (
         holds (subst (λ (x : Vec Attr Global). AttrsMean after x.items (attributes_after [] parts ++ kept (names_after [] parts) part.attribute)) (sym attrs)
             (subst (AttrsMean after old.attrs.items) (sym (ap (λ (x : List (List ℕ × List ℕ)). attributes_after [] parts ++ x) nothing ∙ append-nil (attributes_after [] parts)))
             (attrs_kept before after grows old.attrs.items (attributes_after [] parts) h.attributes))),
-        ap (repeated (names_after [] parts)) is ∙ ap (λ (b : Bool). if b then error DuplicateAttribute old.place ∷ [] else []) some,
+        ap (repeated (names_after [] parts)) is ∙ ap (λ (b : Bool). if b then error DuplicateAttribute a.at ∷ [] else []) some,
       )

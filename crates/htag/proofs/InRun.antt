@@ -33,30 +33,30 @@ use Rattle.htag.proofs.Names.{name_grows}
 use Rattle.htag.proofs.Pieces.{pieces_text-append, value_bytes-append, pieces_errors-append, plain_text, alone_bytes, alone_errors, begins_alone}
 
 module _ (c : ℕ) (h : is_plain_byte c ≡ true) where
-  no_sign : eqb c 38 ≡ false
+  pub no_sign : eqb c 38 ≡ false
   no_sign = grind (arith, nat_tests)
 
-  no_null : eqb c 0 ≡ false
+  pub no_null : eqb c 0 ≡ false
   no_null = grind (arith, nat_tests)
 
 -- a byte that only stands for itself
 module _ (c : ℕ) (h : is_word_byte c ≡ true) where
-  word_plain : is_plain_byte c ≡ true
+  pub word_plain : is_plain_byte c ≡ true
   word_plain = grind (arith, nat_tests)
 
   word_odd : is_odd c ≡ false
   word_odd = grind (arith, nat_tests)
 
-  word_in_name : not (ends_name c) ≡ true
+  pub word_in_name : not (ends_name c) ≡ true
   word_in_name = grind (arith, nat_tests)
 
-  word_in_attribute : not (ends_attribute_name c) ≡ true
+  pub word_in_attribute : not (ends_attribute_name c) ≡ true
   word_in_attribute = grind (arith, nat_tests)
 
   word_in_value : not (ends_unquoted c) ≡ true
   word_in_value = grind (arith, nat_tests)
 
-  word_no_equals : is_equals c ≡ false
+  pub word_no_equals : is_equals c ≡ false
   word_no_equals = grind (arith, nat_tests)
 
   word_lowered : to_ascii_lowercase (without_null c) ≡ c
@@ -67,7 +67,7 @@ pub placed_all : (test : ℕ → Bool) (at : ℕ) (run : List ℕ) → list_all 
 placed_all test at [] h = refl
 placed_all test at (x ∷ xs) h = let k = and_parts (test x) (list_all test xs) h in and_from _ _ k.0 (placed_all test (at + len_utf8 x) xs k.1)
 
-all_weaker : (test other : ℕ → Bool) → ((c : ℕ) → test c ≡ true → other c ≡ true) → (xs : List ℕ) → list_all test xs ≡ true → list_all other xs ≡ true
+pub all_weaker : (test other : ℕ → Bool) → ((c : ℕ) → test c ≡ true → other c ≡ true) → (xs : List ℕ) → list_all test xs ≡ true → list_all other xs ≡ true
 all_weaker test other f [] h = refl
 all_weaker test other f (x ∷ xs) h = let k = and_parts (test x) (list_all test xs) h in and_from _ _ (f x k.0) (all_weaker test other f xs k.1)
 
@@ -82,15 +82,15 @@ prefix_all test (x ∷ xs) = by (test x) refl (prefix_all test xs) where
 pub counted_all : (test : ℕ → Bool) (run : List ℕ) (count : ℕ) → count ≡ prefix_len test run → list_all test (take count run) ≡ true
 counted_all test run count is = ap (λ (n : ℕ). list_all test (take n run)) is ∙ prefix_all test run
 
-characters_placed : (at : ℕ) (run : List ℕ) → characters (placed at run) ≡ run
+pub characters_placed : (at : ℕ) (run : List ℕ) → characters (placed at run) ≡ run
 characters_placed at [] = refl
 characters_placed at (x ∷ xs) = ap (λ (ys : List ℕ). x ∷ ys) (characters_placed (at + len_utf8 x) xs)
 
-plain_run_bytes : (at : ℕ) (run : List ℕ) → list_all is_plain_byte run ≡ true → encode_utf8_all (characters (placed at run)) ≡ run
+pub plain_run_bytes : (at : ℕ) (run : List ℕ) → list_all is_plain_byte run ≡ true → encode_utf8_all (characters (placed at run)) ≡ run
 plain_run_bytes at run plain = ap encode_utf8_all (characters_placed at run) ∙ plain_bytes run plain
 
 -- the bytes of a name that is such a run, and its errors
-word_bytes : (at : ℕ) (run : List ℕ) → list_all is_word_byte run ≡ true → name_bytes (placed at run) ≡ run
+pub word_bytes : (at : ℕ) (run : List ℕ) → list_all is_word_byte run ≡ true → name_bytes (placed at run) ≡ run
 word_bytes at run words = ap encode_utf8_all (lowered at run words) ∙ plain_bytes run (all_weaker is_word_byte is_plain_byte word_plain run words) where
   lowered : (at : ℕ) (xs : List ℕ) → list_all is_word_byte xs ≡ true → map (λ (p : Placed). to_ascii_lowercase (without_null p.ch)) (placed at xs) ≡ xs
   lowered at [] h = refl
@@ -98,14 +98,14 @@ word_bytes at run words = ap encode_utf8_all (lowered at run words) ∙ plain_by
       let k = and_parts (is_word_byte x) (list_all is_word_byte xs) h in
       ap (λ (c : ℕ). c ∷ map (λ (p : Placed). to_ascii_lowercase (without_null p.ch)) (placed (at + len_utf8 x) xs)) (word_lowered x k.0) ∙ ap (λ (cs : List ℕ). x ∷ cs) (lowered (at + len_utf8 x) xs k.1)
 
-word_nulls : (at : ℕ) (run : List ℕ) → list_all is_word_byte run ≡ true → null_errors (placed at run) ≡ []
+pub word_nulls : (at : ℕ) (run : List ℕ) → list_all is_word_byte run ≡ true → null_errors (placed at run) ≡ []
 word_nulls at [] h = refl
 word_nulls at (x ∷ xs) h =
     let k = and_parts (is_word_byte x) (list_all is_word_byte xs) h in
     let some : eqb x 0 ≡ false = no_null x (word_plain x k.0) in
     rw some (word_nulls (at + len_utf8 x) xs k.1)
 
-word_errors : (at : ℕ) (run : List ℕ) → list_all is_word_byte run ≡ true → flat_map name_errors_here (placed at run) ≡ []
+pub word_errors : (at : ℕ) (run : List ℕ) → list_all is_word_byte run ≡ true → flat_map name_errors_here (placed at run) ≡ []
 word_errors at [] h = refl
 word_errors at (x ∷ xs) h =
     let k = and_parts (is_word_byte x) (list_all is_word_byte xs) h in

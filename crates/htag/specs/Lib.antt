@@ -7,3 +7,4 @@ pub mod ValueSteps
 pub mod TagWalk
 pub mod Steps
 pub mod Run
+pub mod AtOnce

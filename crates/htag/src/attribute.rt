@@ -17,7 +17,7 @@ use std::alloc::AllocError;
 use std::mem;
 
 /// The most names that numbers of 32 bits tell apart.
-const MAX_NUMBER: usize = 4_294_967_295;
+pub(crate) const MAX_NUMBER: usize = 4_294_967_295;
 
 impl<'t> TagWalk<'t> {
     /// Begins an attribute with the first character of its name.
@@ -64,7 +64,7 @@ impl<'t> TagWalk<'t> {
         push_lowered(&mut self.attribute, ch)
     }
 
-    /// In an attribute's name (13.2.5.33).
+    /// The attribute name state (`#attribute-name-state`).
     #[inline(always)]
     pub(crate) fn in_attribute_name(
         &mut self,
@@ -93,7 +93,7 @@ impl<'t> TagWalk<'t> {
         Ok(false)
     }
 
-    /// After an attribute's name and white space (13.2.5.34).
+    /// The after attribute name state (`#after-attribute-name-state`), after white space.
     #[inline(always)]
     pub(crate) fn after_attribute_name(
         &mut self,
@@ -117,7 +117,7 @@ impl<'t> TagWalk<'t> {
         self.past_attribute(names, ch, at, errors)
     }
 
-    /// Before a value (13.2.5.35).
+    /// The before attribute value state (`#before-attribute-value-state`).
     #[inline(always)]
     pub(crate) fn before_value(
         &mut self,
@@ -148,7 +148,8 @@ impl<'t> TagWalk<'t> {
         Ok(false)
     }
 
-    /// In a value in quotes (13.2.5.36, 13.2.5.37).
+    /// The attribute value (double-quoted) and attribute value (single-quoted) states (`#attribute-value-(double-quoted)-state`,
+    /// `#attribute-value-(single-quoted)-state`).
     #[inline(always)]
     pub(crate) fn in_quotes(
         &mut self,
@@ -171,7 +172,7 @@ impl<'t> TagWalk<'t> {
         Ok(false)
     }
 
-    /// In a value without quotes (13.2.5.38).
+    /// The attribute value (unquoted) state (`#attribute-value-(unquoted)-state`).
     pub(crate) fn in_unquoted(
         &mut self,
         table: &'t Table,
@@ -193,7 +194,7 @@ impl<'t> TagWalk<'t> {
         Ok(false)
     }
 
-    /// After a value in quotes (13.2.5.39).
+    /// The after attribute value (quoted) state (`#after-attribute-value-(quoted)-state`).
     #[inline(always)]
     pub(crate) fn after_quotes(
         &mut self,
@@ -250,7 +251,7 @@ impl<'t> TagWalk<'t> {
         self.end_attribute(names, errors)
     }
 
-    /// An attribute has been read: keeps the first one of its name.
+    /// An attribute has been read: keeps the first one of its name, as leaving the attribute name state says (`#attribute-name-state`).
     #[inline(never)]
     pub(crate) fn end_attribute(
         &mut self,

@@ -1,6 +1,7 @@
 //! Tags after their mark, a character at a time (HTML Standard, 13.2.5.8 and 13.2.5.32 to 13.2.5.40).
 #![tactic(auto)]
 
+mod at_once;
 mod attribute;
 mod kind;
 mod pending;
@@ -14,5 +15,6 @@ mod tag_state;
 mod value;
 mod walk;
 
+pub use at_once::bare_name;
 pub use kind::TagKind;
 pub use walk::TagWalk;

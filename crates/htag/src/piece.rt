@@ -115,7 +115,7 @@ impl<'t> ValueWalk<'t> {
         push_value(&mut self.text, ch)
     }
 
-    /// After an `&` that may be a reference's.
+    /// The character reference state (`#character-reference-state`) and those after it: after an `&` that may be a reference's.
     #[inline(never)]
     fn in_reference(
         &mut self,
@@ -158,7 +158,7 @@ impl<'t> ValueWalk<'t> {
         self.take_next(table, quoted, ch, at, errors)
     }
 
-    /// After an `&` that no key begins (13.2.5.74).
+    /// The ambiguous ampersand state (`#ambiguous-ampersand-state`): after an `&` that no key begins.
     fn in_run(
         &mut self,
         table: &'t Table,

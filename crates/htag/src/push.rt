@@ -99,18 +99,27 @@ fn is_word(byte: u8) -> bool
     matches!(byte, b'-' | b'.' | b'0'..=b':' | b'_')
 }
 
-/// How many bytes of a text are before the first one that may have a meaning in a name or in a value without quotes.
+/// How many bytes are before the first one that may have a meaning in a name or in a value without quotes.
+#[inline(always)]
+pub(crate) fn word_run(bytes: &[u8]) -> usize
+    ensures counted { result ≡ prefix_len is_word_byte bytes.now }
+    ensures few { result ≤ length bytes.now }
+{
+    for (index, byte) in bytes.iter().enumerate() {
+        if !is_word(*byte) {
+            return index;
+        }
+    }
+    bytes.len()
+}
+
+/// The same of a text.
 #[inline(always)]
 pub(crate) fn count_word(text: &str) -> usize
     ensures counted { result ≡ prefix_len is_word_byte text.now }
     ensures few { result ≤ length text.now }
 {
-    for (index, byte) in text.as_bytes().iter().enumerate() {
-        if !is_word(*byte) {
-            return index;
-        }
-    }
-    text.len()
+    word_run(text.as_bytes())
 }
 
 /// What is left of a run of plain characters from this place on.

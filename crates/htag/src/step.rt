@@ -11,7 +11,7 @@ use crate::walk::TagWalk;
 use names::{ErrorCode, ParseError, Refusal};
 
 impl<'t> TagWalk<'t> {
-    /// In the tag's name (13.2.5.8).
+    /// The tag name state (`#tag-name-state`).
     #[inline(always)]
     pub(crate) fn in_name(
         &mut self,
@@ -32,7 +32,7 @@ impl<'t> TagWalk<'t> {
         Ok(false)
     }
 
-    /// Before an attribute (13.2.5.32).
+    /// The before attribute name state (`#before-attribute-name-state`).
     #[inline(always)]
     pub(crate) fn before_attribute(
         &mut self,
@@ -59,7 +59,7 @@ impl<'t> TagWalk<'t> {
         Ok(false)
     }
 
-    /// After a `/` (13.2.5.40).
+    /// The self-closing start tag state (`#self-closing-start-tag-state`), after a `/`.
     pub(crate) fn after_solidus(
         &mut self,
         ch: char,

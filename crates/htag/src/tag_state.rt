@@ -3,22 +3,23 @@
 /// Where in a tag a walk is.
 #[derive(Clone, Copy)]
 pub(crate) enum TagState {
-    /// 13.2.5.8
+    /// The tag name state (`#tag-name-state`).
     Name,
-    /// 13.2.5.32
+    /// The before attribute name state (`#before-attribute-name-state`).
     BeforeAttribute,
-    /// 13.2.5.40
+    /// The self-closing start tag state (`#self-closing-start-tag-state`).
     Solidus,
-    /// 13.2.5.33
+    /// The attribute name state (`#attribute-name-state`).
     AttributeName,
-    /// 13.2.5.34
+    /// The after attribute name state (`#after-attribute-name-state`).
     AfterAttributeName,
-    /// 13.2.5.35
+    /// The before attribute value state (`#before-attribute-value-state`).
     BeforeValue,
-    /// In a value after this quote (13.2.5.36, 13.2.5.37).
+    /// The attribute value (double-quoted) or attribute value (single-quoted) state, by this quote
+    /// (`#attribute-value-(double-quoted)-state`, `#attribute-value-(single-quoted)-state`).
     Quoted(char),
-    /// 13.2.5.38
+    /// The attribute value (unquoted) state (`#attribute-value-(unquoted)-state`).
     Unquoted,
-    /// 13.2.5.39
+    /// The after attribute value (quoted) state (`#after-attribute-value-(quoted)-state`).
     AfterQuoted,
 }

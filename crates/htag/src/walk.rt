@@ -150,7 +150,7 @@ impl<'t> TagWalk<'t> {
         &self.name
     }
 
-    /// Whether it ended in `/>`.
+    /// Whether it ended in `/>`: the self-closing flag (`#self-closing-flag`).
     pub fn is_closing(&self) -> bool
         ensures { result ≡ self.now.closing }
     {
@@ -181,7 +181,7 @@ impl<'t> TagWalk<'t> {
         Ok(attrs)
     }
 
-    fn begin_parts(&mut self, kind: TagKind)
+    pub(crate) fn begin_parts(&mut self, kind: TagKind)
         ensures begun { IsBegun kind self.new }
         ensures name { self.new.name ≡ self.old.name }
     {

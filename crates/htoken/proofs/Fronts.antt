@@ -29,7 +29,7 @@ use Rattle.htoken.specs.Tokenizing.{HasTaken, Takes, take_ran_out, take_refused,
 use Rattle.htoken.proofs.Handing.{HandsEvents-append}
 
 -- what was handed over stands for the same when the table of names has grown
-token_kept : (old new : Texts) → Grows old new → (token : Token) (tok : Tok) → TokenMeans old token tok → TokenMeans new token tok
+pub token_kept : (old new : Texts) → Grows old new → (token : Token) (tok : Tok) → TokenMeans old token tok → TokenMeans new token tok
 token_kept old new grows (code.Doctype name public system forced at) tok h = h
 token_kept old new grows (code.Start name attrs closing at) tok (text, texts, is, are, e) = (text, texts, text_kept old new name text grows is, attrs_kept old new grows attrs.items texts are, e)
 token_kept old new grows (code.End name at) tok (text, is, e) = (text, text_kept old new name text grows is, e)

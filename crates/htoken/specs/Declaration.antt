@@ -30,7 +30,7 @@ IsOpened opened.Dash text = characters text ≡ codes "-"
 IsOpened opened.Doctype text = (begins (λ c. to_ascii_lowercase c == 100) text ≡ true) × IsFrontOf (codes "doctype") (lowered text)
 IsOpened opened.Cdata text = (begins (λ c. c == 91) text ≡ true) × IsFrontOf (codes "[CDATA[") (characters text)
 
--- The text after `<!` opens this.
+-- The text after `<!` opens this (#markup-declaration-open-state).
 abbrev pub OpensAs : Opens → List Placed → Type 0
 OpensAs (opens.Front so) text = IsOpened so text
 OpensAs opens.Comment text = characters text ≡ codes "--"

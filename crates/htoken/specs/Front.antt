@@ -25,7 +25,7 @@ use Rattle.htoken.specs.Spans.{has_references}
 use Rattle.htoken.specs.Steps.{TakesPart}
 use Rattle.htoken.specs.Tokenizing.{Reads, next_place}
 
--- the error of an `&` that is text, with these letters and digits after it and this character after those (13.2.5.72 to 13.2.5.74)
+-- the error of an `&` that is text, with these letters and digits after it and this character after those (#ambiguous-ampersand-state)
 abbrev pub bare_errors : List ℕ → ℕ → ℕ → List ParseError
 bare_errors [] next at = []
 bare_errors (letter ∷ letters) next at = error_if (next == 59) UnknownNamedCharacterReference at

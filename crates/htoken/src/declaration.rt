@@ -8,7 +8,7 @@ ghost use Rattle.htoken.specs.Declaration.{IsOpened, OpensAs, front_of};
 
 use names::Placed;
 
-/// What the characters after `<!` are a front of.
+/// What the characters after `<!` are a front of (`#markup-declaration-open-state`).
 #[derive(Clone, Copy)]
 pub(crate) enum Opened {
     /// Of anything: there are none.
@@ -30,7 +30,7 @@ pub(crate) enum Opens {
     Comment,
     /// The mark of a doctype.
     Doctype,
-    /// The mark of a CDATA section.
+    /// The mark of a CDATA section, which is a bogus comment: only foreign elements have one (`#markup-declaration-open-state`).
     Cdata,
     /// None of them.
     Bogus,

@@ -70,7 +70,7 @@ impl<'t> Tokenizer<'t> {
         }
     }
 
-    /// A `<` right before the end is text (13.2.5.6).
+    /// A `<` right before the end is text (`#tag-open-state`).
     fn end_less<S: TokenSink>(&self, end: u64, sink: &mut S) -> Result<(), Refusal>
         ensures { (names : Texts) → HandsEvents (gives_item S.gives S.gives_token) names sink.old
             (events_of (less_span (less self.now) (error EofBeforeTagName end))) result sink.new }
@@ -78,7 +78,7 @@ impl<'t> Tokenizer<'t> {
         give_faulty(ErrorCode::EofBeforeTagName, end, '<', self.at, sink)
     }
 
-    /// A `</` right before the end is text (13.2.5.7).
+    /// A `</` right before the end is text (`#end-tag-open-state`).
     fn end_solidus<S: TokenSink>(&self, at: u64, end: u64, sink: &mut S) -> Result<(), Refusal>
         ensures { (names : Texts) → HandsEvents (gives_item S.gives S.gives_token) names sink.old
             (events_of (less_span (less self.now) (error EofBeforeTagName end)) ++ events_of (character_span (record { ch = 47; at = at }))) result sink.new }

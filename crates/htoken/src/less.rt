@@ -18,7 +18,7 @@ use htag::TagKind;
 use names::{ErrorCode, ParseError, Refusal};
 
 impl<'t> Tokenizer<'t> {
-    /// After `<` (13.2.5.6).
+    /// The tag open state (`#tag-open-state`), after `<`.
     #[inline(always)]
     pub(crate) fn after_less<S: TokenSink>(
         &mut self,
@@ -69,7 +69,7 @@ impl<'t> Tokenizer<'t> {
         self.in_text(ch, at, sink)
     }
 
-    /// After `</` (13.2.5.7).
+    /// The end tag open state (`#end-tag-open-state`), after `</`.
     #[inline(always)]
     pub(crate) fn after_solidus<S: TokenSink>(
         &mut self,

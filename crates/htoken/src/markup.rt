@@ -24,7 +24,7 @@ use std::alloc::AllocError;
 use std::mem;
 
 impl<'t> Tokenizer<'t> {
-    /// After `<!` (13.2.5.42).
+    /// The markup declaration open state (`#markup-declaration-open-state`), after `<!`.
     pub(crate) fn in_declaration<S: TokenSink>(
         &mut self,
         bang: u64,
@@ -59,7 +59,7 @@ impl<'t> Tokenizer<'t> {
         }
     }
 
-    /// Begins a comment after its mark.
+    /// Begins a comment after its mark (`#comment-start-state`).
     fn begin_comment(&mut self)
         ensures { BeginsComment self.old self.new }
     {
@@ -67,7 +67,7 @@ impl<'t> Tokenizer<'t> {
         self.state = State::Comment;
     }
 
-    /// Begins a doctype after its mark.
+    /// Begins a doctype after its mark (`#doctype-state`).
     fn begin_doctype(&mut self)
         ensures { BeginsDoctype self.old self.new }
     {
@@ -106,7 +106,7 @@ impl<'t> Tokenizer<'t> {
         self.in_comment(ch, at, sink)
     }
 
-    /// Begins what is read as a comment up to the first `>`, with an error.
+    /// Begins what is read as a comment up to the first `>`, with an error (the bogus comment state, `#bogus-comment-state`).
     pub(crate) fn begin_bogus(&mut self, code: ErrorCode, at: u64) -> Result<(), AllocError>
         ensures { OnOk result (BeginsBogus self.old [] (error code at) self.new) }
     {

@@ -22,7 +22,8 @@ use crate::tokenizer::Tokenizer;
 use names::{Names, Placed, Refusal};
 
 impl<'t> Tokenizer<'t> {
-    /// After `<` in raw text (13.2.5.9, 13.2.5.12, 13.2.5.15).
+    /// The RCDATA less-than sign state and its like, after `<` in raw text (`#rcdata-less-than-sign-state`,
+    /// `#rawtext-less-than-sign-state`, `#script-data-less-than-sign-state`, `#script-data-escaped-less-than-sign-state`).
     pub(crate) fn after_raw_less<S: TokenSink>(
         &mut self,
         ch: char,
@@ -45,7 +46,10 @@ impl<'t> Tokenizer<'t> {
         self.in_text(ch, at, sink)
     }
 
-    /// After `</` and letters of the last start tag's name (13.2.5.10, 13.2.5.11 and their like).
+    /// The RCDATA end tag open and RCDATA end tag name states and their like: after `</` and letters of the last start tag's name, which
+    /// make an appropriate end tag token (`#appropriate-end-tag-token`, `#rcdata-end-tag-open-state`, `#rcdata-end-tag-name-state`,
+    /// `#rawtext-end-tag-open-state`, `#rawtext-end-tag-name-state`, `#script-data-end-tag-open-state`, `#script-data-end-tag-name-state`,
+    /// `#script-data-escaped-end-tag-open-state`, `#script-data-escaped-end-tag-name-state`).
     pub(crate) fn in_raw_name<S: TokenSink>(
         &mut self,
         solidus: u64,

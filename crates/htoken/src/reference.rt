@@ -35,7 +35,7 @@ impl<'t> Tokenizer<'t> {
         self.reference = Walk::new(self.table, false);
     }
 
-    /// After `&` (13.2.5.72 to 13.2.5.80).
+    /// The character reference state and the states after it (`#character-reference-state`), after `&`.
     #[inline(always)]
     pub(crate) fn in_reference<S: TokenSink>(
         &mut self,
@@ -163,7 +163,7 @@ impl<'t> Tokenizer<'t> {
         self.in_run(amp, ch, at, sink)
     }
 
-    /// In the run of alphanumerics after an `&` that no key begins (13.2.5.74).
+    /// The ambiguous ampersand state (`#ambiguous-ampersand-state`), in the run of alphanumerics after an `&` that no key begins.
     #[inline(always)]
     pub(crate) fn in_run<S: TokenSink>(
         &mut self,

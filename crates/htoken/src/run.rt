@@ -230,8 +230,35 @@ impl<'t> Tokenizer<'t> {
     {
         match self.state {
             State::Text => self.part_of_text(run, at, sink),
+            State::Less => self.part_after_less(names, run, at, sink),
             _ => self.part_of_markup(names, run, at, sink),
         }
+    }
+
+    /// Takes what follows a `<`: a whole tag without attributes, or a part of any markup. Returns the length.
+    #[inline(always)]
+    fn part_after_less<S: TokenSink>(
+        &mut self,
+        names: &mut Names,
+        run: &str,
+        at: u64,
+        sink: &mut S,
+    ) -> Result<usize, Refusal>
+        requires less { self.old.state ≡ State.Less }
+        requires some { 0 < length run.now }
+        requires clean { list_all is_clean (chars run.now) ≡ true }
+        requires within { at + length run.now ≤ MAX_INPUT }
+        ensures takes { (table : Entities) (start : Kind) (before : Texts) (text : List Character) (taken : List Event) → Grows before names.old
+            → HasTaken table start self.old before text taken
+            → TakesPart (gives_item S.gives S.gives_token) table start text at run.now taken names.new sink.old result sink.new self.new }
+        ensures few { IfOk result (λ count. (0 < count) × IsCut count run.now) }
+        ensures grows { Grows names.old names.new }
+    {
+        let count = self.tag_open(names, run, at, sink)?;
+        if count > 0 {
+            return Ok(count);
+        }
+        self.part_of_markup(names, run, at, sink)
     }
 
     /// Takes what is ASCII up to the next `<` or `&`, or past the next `>`, or else one character. Returns the length.
@@ -324,11 +351,37 @@ impl<'t> Tokenizer<'t> {
             State::Text => self.run_of_text(run, at, sink),
             State::Comment => self.run_of_comment(names, run, at, sink),
             State::Tag => self.run_of_tag(names, run, at, sink),
-            // With arms of their own, so that the state is not asked for again after each `<`.
-            State::Less => self.take_first(names, run, at, sink),
+            State::Less => self.front_after_less(names, run, at, sink),
+            // With an arm of its own, so that the state is not asked for again.
             State::LessSolidus(_) => self.take_first(names, run, at, sink),
             _ => self.take_first(names, run, at, sink),
         }
+    }
+
+    /// Takes what follows a `<`: a start tag as far as it is plain, or one character. Returns the length.
+    #[inline(always)]
+    fn front_after_less<S: TokenSink>(
+        &mut self,
+        names: &mut Names,
+        run: &str,
+        at: u64,
+        sink: &mut S,
+    ) -> Result<usize, Refusal>
+        requires less { self.old.state ≡ State.Less }
+        requires some { 0 < length run.now }
+        requires plain { list_all is_plain_byte run.now ≡ true }
+        requires within { at + length run.now ≤ MAX_INPUT }
+        ensures takes { (table : Entities) (start : Kind) (before : Texts) (text : List Character) (taken : List Event) → Grows before names.old
+            → HasTaken table start self.old before text taken
+            → TakesFront (gives_item S.gives S.gives_token) table start text at run.now taken names.new sink.old result sink.new self.new }
+        ensures few { IfOk result (λ count. (0 < count) × (count ≤ length run.now)) }
+        ensures grows { Grows names.old names.new }
+    {
+        let count = self.plain_start_tag(names, run, at, sink)?;
+        if count > 0 {
+            return Ok(count);
+        }
+        self.take_first(names, run, at, sink)
     }
 
     /// Takes the first character of a run, and returns 1.

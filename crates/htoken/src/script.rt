@@ -15,15 +15,18 @@ use names::Placed;
 /// How deep script data is in comment-like text.
 #[derive(Clone, Copy)]
 pub(crate) enum Level {
-    /// Not at all.
+    /// Not at all: the script data state (`#script-data-state`).
     Plain,
-    /// After `<!--`.
+    /// After `<!--`: the script data escaped state (`#script-data-escaped-state`).
     Escaped,
-    /// After `<!--` and `<script`.
+    /// After `<!--` and `<script`: the script data double escaped state (`#script-data-double-escaped-state`).
     DoubleEscaped,
 }
 
-/// The beginning of `<!--` or `-->` that ends the text.
+/// The beginning of `<!--` or `-->` that ends the text: the script data escape start states, and those after a dash in escaped and
+/// double escaped script data (`#script-data-escape-start-state`, `#script-data-escape-start-dash-state`,
+/// `#script-data-escaped-dash-state`, `#script-data-escaped-dash-dash-state`, `#script-data-double-escaped-dash-state`,
+/// `#script-data-double-escaped-dash-dash-state`).
 #[derive(Clone, Copy)]
 pub(crate) enum Mark {
     /// Nothing.
@@ -40,7 +43,9 @@ pub(crate) enum Mark {
     Dashes,
 }
 
-/// The beginning of a tag of a given name that ends the text.
+/// The beginning of a tag of a given name that ends the text: the script data double escape start and double escape end states
+/// (`#script-data-double-escape-start-state`, `#script-data-double-escaped-less-than-sign-state`,
+/// `#script-data-double-escape-end-state`).
 #[derive(Clone, Copy)]
 pub(crate) enum Word {
     /// Nothing.

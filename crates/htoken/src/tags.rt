@@ -30,7 +30,7 @@ impl<'t> Tokenizer<'t> {
         Ok(())
     }
 
-    /// Takes a character of a tag.
+    /// Takes a character of a tag (`#tag-name-state`, and the states from `#before-attribute-name-state` on).
     pub(crate) fn in_tag<S: TokenSink>(
         &mut self,
         names: &mut Names,
@@ -56,7 +56,11 @@ impl<'t> Tokenizer<'t> {
 
     /// Hands over the tag that has ended.
     #[inline(always)]
-    fn end_tag<S: TokenSink>(&mut self, names: &mut Names, sink: &mut S) -> Result<(), Refusal>
+    pub(crate) fn end_tag<S: TokenSink>(
+        &mut self,
+        names: &mut Names,
+        sink: &mut S,
+    ) -> Result<(), Refusal>
         ensures tag { EndsTag (gives_item S.gives S.gives_token) self.old names.new sink.old result self.new sink.new }
         ensures grows { Grows names.old names.new }
     {

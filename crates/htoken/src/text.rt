@@ -40,7 +40,7 @@ impl<'t> Tokenizer<'t> {
         }
     }
 
-    /// Takes a character in data (13.2.5.1).
+    /// Takes a character in the data state (`#data-state`).
     #[inline(always)]
     pub(crate) fn in_data<S: TokenSink>(
         &mut self,
@@ -66,7 +66,8 @@ impl<'t> Tokenizer<'t> {
         }
     }
 
-    /// Takes a character in RCDATA, RAWTEXT, script data or PLAINTEXT (13.2.5.2 to 13.2.5.5).
+    /// Takes a character in the RCDATA, RAWTEXT, script data or PLAINTEXT state (`#rcdata-state`, `#rawtext-state`, `#script-data-state`,
+    /// `#plaintext-state`).
     #[inline(never)]
     fn in_raw<S: TokenSink>(&mut self, ch: char, at: u64, sink: &mut S) -> Result<(), Refusal>
         requires text { self.old.state ≡ State.Text }

@@ -1,7 +1,7 @@
 use Rattle.std.proofs.Common.{◌≡◌, ◌+◌, drop}
 use Rattle.std.specs.List.{prefix_len}
 use Rattle.htag.specs.Run.{is_word_byte}
-use Rattle.htag.proofs.push.count_word.Given as goal
+use Rattle.htag.proofs.push.word_run.Given as goal
 
 abbrev pub invariant-loop-index : goal.invariant-loop-index
-invariant-loop-index l = prefix_len is_word_byte l.text ≡ l.index + prefix_len is_word_byte (drop l.index l.text)
+invariant-loop-index l = prefix_len is_word_byte l.bytes ≡ l.index + prefix_len is_word_byte (drop l.index l.bytes)

@@ -1,0 +1,21 @@
+use Rattle.std.proofs.Common.{◌≡◌, ◌-◌, ◌≤◌, ◌<◌, ℕ, true, length}
+use Rattle.names.specs.Names.{Grows}
+use Rattle.htag.specs.declared.kind.TagKind.TheVariants.{Start}
+use Rattle.htag.specs.declared.tag_state.TagState.TheVariants as phase
+use Rattle.htag.specs.AtOnce.{ArePlainParts}
+use Rattle.htag.proofs.walk.TagWalk.plain_parts.Given as goal
+
+-- This many bytes of the run are parts of the tag.
+abbrev pub invariant-loop-count : goal.invariant-loop-count
+invariant-loop-count l = record {
+  parts : (at : ℕ) → ArePlainParts l.names l.self l.run l.count l.spaced at;
+  within : l.count ≤ length l.run;
+  kind_is : l.self.kind ≡ Start;
+  name_is : l.self.name ≡ l.fn.self.name;
+  phase_is : l.self.phase ≡ phase.BeforeAttribute;
+  some : l.spaced ≡ true → 0 < l.count;
+  grows : Grows l.fn.names l.names;
+}
+
+abbrev pub decreases-loop-count : goal.decreases-loop-count
+decreases-loop-count l = length l.run - l.count

@@ -1,0 +1,290 @@
+-- Tags that stand whole in a run.
+use Rattle.std.proofs.Common.{◌≡◌, ◌≤◌, ◌<◌, ℕ, suc, ◌+◌, ◌-◌, true, false, ◌||◌, List, [], ◌∷◌, ◌++◌, length, take, drop, sym, refl, ap, ◌∙◌, subst, Result, Ok, Err, Option, Some, None, append-nil, append_assoc, arith}
+use Rattle.std.proofs.lemmas.Bool.{and_from, and_parts}
+use Rattle.std.proofs.lemmas.Bool.Decides.{nat_tests}
+use Rattle.std.proofs.lemmas.List.{length-take-le, take-append-drop}
+use Rattle.std.proofs.lemmas.Str.{IsUtf8-from_ascii, chars-nil}
+use Rattle.std.specs.Prelude.{codes, is_some, slice_get, slice_index}
+use Rattle.std.specs.Char.{is_ascii}
+use Rattle.std.specs.List.{list_all, slice_range}
+use Rattle.std.specs.Str.{chars, IsUtf8}
+use Rattle.names.specs.declared.error.ParseError.{ParseError}
+use Rattle.names.specs.declared.placed.Placed.{Placed}
+use Rattle.names.specs.declared.raw.RawKind.{RawKind}
+use Rattle.names.specs.declared.raw.RawKind.TheVariants as kind
+use Rattle.names.specs.declared.raw.RefusedName.{RefusedName}
+use Rattle.names.specs.declared.refusal.Refusal.{Refusal}
+use Rattle.names.specs.declared.refusal.Refusal.TheVariants.{Memory}
+use Rattle.names.specs.Names.{Texts, Grows}
+use Rattle.names.specs.Placed.{name_bytes, placed}
+use Rattle.names.specs.Sets.{raw_kind, refused_name}
+use Rattle.names.specs.Tags.{tag_named}
+use Rattle.htext.specs.Run.{is_plain_byte, IsCut}
+use Rattle.htext.proofs.Runs.{plain_chars}
+use Rattle.hmarkup.proofs.Handing.{hand_one}
+use Rattle.charref.specs.Reference.{Entities}
+use Rattle.htag.specs.declared.kind.TagKind.TheVariants as which
+use Rattle.htag.specs.declared.walk.TagWalk.{TagWalk}
+use Rattle.htag.specs.AtOnce.{IsBareName}
+use Rattle.htag.specs.TagWalk.{IsInTag, IsWholeTag}
+use Rattle.htag.proofs.AtOnce.{bare_bytes, bare_front, bare_no_errors, bare_placed, bare_plain, bare_within}
+use Rattle.htoken.specs.declared.state.State.{State}
+use Rattle.htoken.specs.declared.state.State.TheVariants as state
+use Rattle.htoken.specs.declared.token.Token.{Token}
+use Rattle.htoken.specs.declared.tokenizer.Tokenizer.{Tokenizer}
+use Rattle.htoken.specs.Data.{tag}
+use Rattle.htoken.specs.Spans.{IsSpan, IsSpanOf}
+use Rattle.htoken.specs.Standing.{next}
+use Rattle.htoken.specs.Steps.{EndsTag, TakesFront, TakesPart}
+use Rattle.htoken.specs.Tag.{IsTag, start_tag, end_tag, tag_mark}
+use Rattle.htoken.specs.Token.{Tok, Span, Start, End, Item, ItemToken, Event, TokenMeans, gives_item}
+use Rattle.htoken.specs.Tokens.{has_refused, AreFront}
+use Rattle.htoken.specs.Tokenizing.{Reads, Stands, HasTaken, holds, Takes, take_ran_out, take_took, IsHeld, IsIn, IsLast, less, next_place}
+use Rattle.htoken.proofs.Fronts.{part_taken, takes_nothing}
+use Rattle.htoken.proofs.Going.{spans_end}
+use Rattle.htoken.proofs.Handing.{span_given}
+use Rattle.htoken.proofs.InData.{between_data}
+use Rattle.htoken.proofs.InRun.{next_run}
+use Rattle.htoken.proofs.InTag.{tag_handed}
+use Rattle.htoken.proofs.InText.{ascii_chars, each_ascii, reads_front}
+
+-- A FRONT OF PLAIN BYTES
+
+plain_ascii : (xs : List ℕ) → list_all is_plain_byte xs ≡ true → list_all is_ascii xs ≡ true
+plain_ascii [] h = refl
+plain_ascii (x ∷ xs) h = let k = and_parts (is_plain_byte x) (list_all is_plain_byte xs) h in let small : is_ascii x ≡ true = grind (arith, k.0, nat_tests) in and_from _ _ small (plain_ascii xs k.1)
+
+module _ (n : ℕ) (run : List ℕ) (within : n ≤ length run) (plain : list_all is_plain_byte (take n run) ≡ true) (u : IsUtf8 run) where
+  pub plain_cut : IsCut n run
+  plain_cut = record {
+    within = within;
+    front = IsUtf8-from_ascii (take n run) (each_ascii (take n run) (plain_ascii (take n run) plain));
+    back = (ascii_chars (take n run) (drop n run) (plain_ascii (take n run) plain) (subst IsUtf8 (sym (take-append-drop n run)) u)).0;
+  }
+
+  pub plain_taken : chars (take n run) ≡ take n run
+  plain_taken = plain_chars (take n run) plain plain_cut.front
+
+  pub plain_next : (text : List Placed) (at : ℕ) → 0 < n → at + length run ≤ 0xFFFFFFFFFFFFFFFF → at + n ≡ next_place (text ++ placed at (chars (take n run)))
+  plain_next text at some room =
+      let long : length (take n run) ≡ n = length-take-le n run within in
+      ap (λ (k : ℕ). at + k) (sym long) ∙ sym (next_run text at (take n run) plain (omega (arith, some, long)) (omega (arith, long, within, room)))
+      ∙ ap (λ (x : List ℕ). next_place (text ++ placed at x)) (sym plain_taken)
+
+-- the first byte of a run, and the bytes after it
+pub first_is : {c : ℕ} (run : List ℕ) → 0 < length run → slice_index run 0 ≡ c → run ≡ c ∷ drop 1 run
+first_is [] some is = absurd (omega (arith, some))
+first_is (x ∷ xs) some is = ap (λ (y : ℕ). y ∷ xs) is
+
+pub range_after_first : (size : ℕ) (run : List ℕ) → slice_range run 1 (size + 1) ≡ take size (drop 1 run)
+range_after_first size run = let long : size + 1 - 1 ≡ size = omega arith in ap (λ (n : ℕ). take n (drop 1 run)) long
+
+-- nothing was taken of a run
+pub nothing_taken : {S : Type 0} (gives : S → Item → Result (Unit {0}) Refusal → S → Type 0) (table : Entities) (start : RawKind) (text : List Placed) (taken : List Event) (at : ℕ) (names : Texts) (s : S) (t : Tokenizer) → HasTaken table start t names text taken
+    → Takes gives table start text (placed at (chars [])) taken names s (Ok tt) s t
+nothing_taken gives table start text taken at names s t h = subst (λ (x : List ℕ). Takes gives table start text (placed at x) taken names s (Ok tt) s t) (sym chars-nil) (takes_nothing gives table start text taken names s t h)
+
+-- and then a part of it
+pub nothing_then : {S : Type 0} (gives : S → Item → Result (Unit {0}) Refusal → S → Type 0) (table : Entities) (start : RawKind) (text : List Placed) (taken : List Event) (at count : ℕ) (run : List ℕ) (before names : Texts) (old mid new : S) (t next : Tokenizer) (answer : Result ℕ Refusal) → count ≡ 0
+    → Grows before names → Takes gives table start text (placed at (chars (take count run))) taken before old (Ok tt) mid t
+    → ((fed : List Placed) (events : List Event) → HasTaken table start t before fed events → TakesPart gives table start fed at run events names mid answer new next) → TakesPart gives table start text at run taken names old answer new next
+nothing_then gives table start text taken at count run before names old mid new t next answer none grows first then = by answer then where
+  nothing : Takes gives table start text [] taken before old (Ok tt) mid t
+  nothing = subst (λ (x : List ℕ). Takes gives table start text (placed at x) taken before old (Ok tt) mid t) (ap (λ (n : ℕ). chars (take n run)) none ∙ chars-nil) first
+
+  by : (answer : Result ℕ Refusal) → ((fed : List Placed) (events : List Event) → HasTaken table start t before fed events → TakesPart gives table start fed at run events names mid answer new next) → TakesPart gives table start text at run taken names old answer new next
+  by (Ok n) then = part_taken gives table start text [] taken before names grows old mid t (placed at (chars (take n run))) (placed at (chars (take n run))) refl (Ok tt) new next nothing then
+  by (Err e) then = part_taken gives table start text [] taken before names grows old mid t (placed at (chars run)) (placed at (chars run)) refl (Err e) new next nothing then
+
+-- the same of a run of plain bytes
+pub nothing_before : {S : Type 0} (gives : S → Item → Result (Unit {0}) Refusal → S → Type 0) (table : Entities) (start : RawKind) (text : List Placed) (taken : List Event) (at count : ℕ) (run : List ℕ) (before names : Texts) (old mid new : S) (t next : Tokenizer) (answer : Result ℕ Refusal) → count ≡ 0
+    → Grows before names → Takes gives table start text (placed at (take count run)) taken before old (Ok tt) mid t
+    → ((fed : List Placed) (events : List Event) → HasTaken table start t before fed events → TakesFront gives table start fed at run events names mid answer new next) → TakesFront gives table start text at run taken names old answer new next
+nothing_before gives table start text taken at count run before names old mid new t next answer none grows first then = by answer then where
+  nothing : Takes gives table start text [] taken before old (Ok tt) mid t
+  nothing = subst (λ (n : ℕ). Takes gives table start text (placed at (take n run)) taken before old (Ok tt) mid t) none first
+
+  by : (answer : Result ℕ Refusal) → ((fed : List Placed) (events : List Event) → HasTaken table start t before fed events → TakesFront gives table start fed at run events names mid answer new next) → TakesFront gives table start text at run taken names old answer new next
+  by (Ok n) then = part_taken gives table start text [] taken before names grows old mid t (placed at (take n run)) (placed at (take n run)) refl (Ok tt) new next nothing then
+  by (Err e) then = part_taken gives table start text [] taken before names grows old mid t (placed at run) (placed at run) refl (Err e) new next nothing then
+
+-- A BARE TAG IN A RUN
+
+module _ (run : List ℕ) (size : ℕ) (u : IsUtf8 run) (bare : IsBareName run size) where
+  pub start_cut : IsCut (size + 1) run
+  start_cut = plain_cut (size + 1) run (bare_within run size bare) (bare_plain run size bare) u
+
+  start_placed : (at : ℕ) → placed at (chars (take (size + 1) run)) ≡ placed at (bare.letter ∷ bare.letters) ++ record { ch = 62; at = at + size } ∷ []
+  start_placed at = ap (placed at) (plain_taken (size + 1) run (bare_within run size bare) (bare_plain run size bare) u) ∙ bare_placed run size bare at
+
+  start_next : (text : List Placed) (at : ℕ) → at + length run ≤ 0xFFFFFFFFFFFFFFFF → at + size + 1 ≡ next_place (text ++ placed at (chars (take (size + 1) run)))
+  start_next text at room =
+      let one : at + size + 1 ≡ at + (size + 1) = omega arith in
+      one ∙ plain_next (size + 1) run (bare_within run size bare) (bare_plain run size bare) u text at (omega arith) room
+
+module _ (run rest : List ℕ) (size : ℕ) (u : IsUtf8 run) (run_is : run ≡ 47 ∷ rest) (bare : IsBareName rest size) where
+  end_within : size + 2 ≤ length run
+  end_within = omega (arith, ap length run_is, bare_within rest size bare)
+
+  end_bytes : take (size + 2) run ≡ 47 ∷ take (size + 1) rest
+  end_bytes = let two : size + 2 ≡ suc (size + 1) = omega arith in ap (λ (n : ℕ). take n run) two ∙ ap (take (suc (size + 1))) run_is
+
+  end_plain : list_all is_plain_byte (take (size + 2) run) ≡ true
+  end_plain = ap (list_all is_plain_byte) end_bytes ∙ bare_plain rest size bare
+
+  pub end_cut : IsCut (size + 2) run
+  end_cut = plain_cut (size + 2) run end_within end_plain u
+
+  end_placed : (at : ℕ) → placed at (chars (take (size + 2) run)) ≡ record { ch = 47; at = at } ∷ placed (at + 1) (bare.letter ∷ bare.letters) ++ record { ch = 62; at = at + 1 + size } ∷ []
+  end_placed at = ap (placed at) (plain_taken (size + 2) run end_within end_plain u ∙ end_bytes) ∙ ap (λ (x : List Placed). record { ch = 47; at = at } ∷ x) (bare_placed rest size bare (at + 1))
+
+  end_next : (text : List Placed) (at : ℕ) → at + length run ≤ 0xFFFFFFFFFFFFFFFF → at + size + 2 ≡ next_place (text ++ placed at (chars (take (size + 2) run)))
+  end_next text at room =
+      let two : at + size + 2 ≡ at + (size + 2) = omega arith in
+      two ∙ plain_next (size + 2) run end_within end_plain u text at (omega arith) room
+
+-- WHAT IS AFTER A `<`
+
+module _ (table : Entities) (start : RawKind) (t : Tokenizer) (names : Texts) (text : List Placed) (taken : List Event) (h : Reads table start t names text [] taken) where
+  -- memory ran out, and nothing was handed over
+  pub memory_out : {S : Type 0} (gives : S → Item → Result (Unit {0}) Refusal → S → Type 0) (fed : List Placed) (s : S) (new : Tokenizer) → Takes gives table start text fed taken names s (Err Memory) s new
+  memory_out gives fed s new = take_ran_out [] refl ([], tt, (refl, refl))
+      (λ more end. subst (λ (x : List Event). AreFront table start (text ++ (fed ++ more)) end x) (sym (append-nil taken)) (reads_front table start t names text [] taken h end (fed ++ more)))
+
+  module _ (after_less : t.state ≡ state.Less) where
+    held_less : (h.held ≡ less t ∷ []) × (t.raised.errors.items ≡ [])
+    held_less = subst (λ (s : State). IsHeld s table names h.here t h.held []) after_less h.is_held
+
+    here_data : h.here.kind ≡ kind.None
+    here_data = subst (λ (s : State). IsIn s h.here.kind) after_less h.is_in
+
+    less_ahead : (fed : List Placed) (place : ℕ) → place ≡ next_place (text ++ fed) → Reads table start (record t { next = place }) names text fed taken
+    less_ahead fed place is = record {
+      accepts = h.accepts;
+      front = h.front;
+      held = h.held;
+      here = h.here;
+      table_is = h.table_is;
+      text_is = h.text_is;
+      next_is = is;
+      stands = λ end more. h.stands end (fed ++ more);
+      kind_is = h.kind_is;
+      name_is = h.name_is;
+      is_in = h.is_in;
+      is_held = subst (λ (s : State). IsHeld s table names h.here (record t { next = place }) h.held fed) (sym after_less) held_less;
+    }
+
+    -- a tag without errors, after which data comes, was handed over
+    module _ (fed : List Placed) (tok : Tok) (is_tag : (end : ℕ) (more : List Placed) → IsTag table end more (record { text = less t ∷ fed; tokens = tok ∷ []; errors = [] })) where
+      abbrev span : Span
+      span = record { text = less t ∷ fed; tokens = tok ∷ []; errors = [] }
+
+      tag_given : {S : Type 0} (gives : S → ParseError → Result (Unit {0}) Refusal → S → Type 0) (gives_token : S → Token → Result (Unit {0}) Refusal → S → Type 0) → has_refused (tok ∷ []) ≡ false
+          → (next h.here (record { text = less t ∷ fed; tokens = tok ∷ []; errors = [] })).kind ≡ kind.None
+          → (new : Tokenizer) → new ≡ record t { next = new.next; state = state.Text; last = new.last } → new.next ≡ next_place (text ++ fed) → IsLast names new.last (next h.here (record { text = less t ∷ fed; tokens = tok ∷ []; errors = [] })).name
+          → (token : Token) → TokenMeans names token tok → (old s : S) (answer : Result (Unit {0}) Refusal) → gives_token old token answer s → Takes (gives_item gives gives_token) table start text fed taken names old answer s new
+      unfolding less_ahead
+      tag_given gives gives_token allowed to_data new then place last token means old s answer given =
+          spans_end (gives_item gives gives_token) table start text fed names taken (record t { next = new.next }) (less_ahead fed new.next place) span (ap (λ (x : List Placed). x ++ fed) (sym held_less.0))
+          (λ end more. subst (λ (k : RawKind). IsSpanOf k table end h.here more span) (sym here_data) (tag (is_tag end more))) allowed
+          new old s answer (ap (λ (x : Tokenizer). x.refused) then, ap (λ (x : Tokenizer). x.table) then, refl) (ap (λ (x : Tokenizer). x.kind) then ∙ h.kind_is ∙ here_data ∙ sym to_data) last
+          (ap (λ (x : Tokenizer). x.state) then) (ap (λ (x : Tokenizer). x.raised.errors.items) then ∙ held_less.1) (between_data _ new to_data)
+          (span_given gives gives_token names [] token tok old s answer means (hand_one (gives_item gives gives_token) old s (ItemToken token) answer given))
+
+    -- A START TAG, as far as it is plain
+
+    fits_data : (end : ℕ) (more : List Placed) (span : Span) → IsTag table end more span → IsSpan table end h.here more span
+    fits_data end more span is = subst (λ (k : RawKind). IsSpanOf k table end h.here more span) (sym here_data) (tag is)
+
+    held_then : (fed : List Placed) → less t ∷ fed ≡ h.held ++ fed
+    held_then fed = ap (λ (x : List Placed). x ++ fed) (sym held_less.0)
+
+    -- another walk through tags changes nothing
+    pub any_walk : (walk : TagWalk) → HasTaken table start (record t { tag = walk }) names text taken
+    any_walk walk = holds (record {
+      accepts = h.accepts;
+      front = h.front;
+      held = h.held;
+      here = h.here;
+      table_is = h.table_is;
+      text_is = h.text_is;
+      next_is = h.next_is;
+      stands = h.stands;
+      kind_is = h.kind_is;
+      name_is = h.name_is;
+      is_in = h.is_in;
+      is_held = subst (λ (s : State). IsHeld s table names h.here (record t { tag = walk }) h.held []) (sym after_less) held_less;
+    })
+
+    module _ {S : Type 0} (gives : S → ParseError → Result (Unit {0}) Refusal → S → Type 0) (gives_token : S → Token → Result (Unit {0}) Refusal → S → Type 0) (fed : List Placed) (place : ℕ) (next_is : place ≡ next_place (text ++ fed)) (walk : TagWalk) (is_start : walk.kind ≡ which.Start) where
+      pub plain_ends : (read : Texts) → Grows read names → IsWholeTag table read walk fed [] → (new : Tokenizer) (old s : S) (answer : Result (Unit {0}) Refusal) → EndsTag (gives_item gives gives_token) (record t { next = place; tag = walk }) names old answer new s
+          → Takes (gives_item gives gives_token) table start text fed taken names old answer s new
+      unfolding less_ahead
+      plain_ends read later whole =
+          tag_handed gives gives_token table start text fed names taken (record t { next = place }) (less_ahead fed place next_is) [] fed (held_then fed) (λ end more span e is. fits_data end more span is) (record t { next = place; tag = walk })
+          (record { kind_is = refl; last_is = refl; at_is = refl; stays = (refl, refl, refl) }) (sym (ap tag_mark is_start)) read later (subst (IsWholeTag table read walk fed) (sym held_less.1) whole)
+
+      pub plain_goes_on : IsInTag table names walk fed [] [] → (s : S) → Takes (gives_item gives gives_token) table start text fed taken names s (Ok tt) s (record t { next = place; tag = walk; state = state.Tag })
+      plain_goes_on inside s = take_took [] refl ([], tt, (refl, refl)) (holds (record {
+        accepts = h.accepts;
+        front = h.front;
+        held = h.held ++ fed;
+        here = h.here;
+        table_is = h.table_is;
+        text_is = ap (λ (x : List Placed). x ++ fed) h.text_is ∙ append_assoc h.front h.held fed;
+        next_is = next_is ∙ ap next_place (sym (append-nil (text ++ fed)));
+        stands = λ end more. subst (λ (x : List Event). Stands table start end h.front ((h.held ++ fed) ++ ([] ++ more)) h.here x []) (sym (append-nil taken))
+            (subst (λ (x : List Placed). Stands table start end h.front x h.here taken []) (sym (append_assoc h.held fed more)) (h.stands end (fed ++ more)));
+        kind_is = h.kind_is;
+        name_is = h.name_is;
+        is_in = tt;
+        is_held = record {
+          opening = [];
+          body = fed;
+          held_is = sym (held_then fed);
+          opens = sym (ap tag_mark is_start);
+          in_tag = subst (IsInTag table names walk fed []) (sym held_less.1) inside;
+          fits = λ end more others span e is. fits_data end more span is;
+        };
+      }))
+
+    -- A BARE TAG
+
+    module _ {S : Type 0} (gives : S → ParseError → Result (Unit {0}) Refusal → S → Type 0) (gives_token : S → Token → Result (Unit {0}) Refusal → S → Type 0) (run : List ℕ) (at size : ℕ) (u : IsUtf8 run) (room : at + length run ≤ 0xFFFFFFFFFFFFFFFF) where
+      module _ (bare : IsBareName run size) where
+        start_is : (end : ℕ) (more : List Placed) → IsTag table end more (record { text = less t ∷ placed at (chars (take (size + 1) run)); tokens = Start (take size run) [] false t.at ∷ []; errors = [] })
+        start_is end more =
+            let name : List Placed = placed at (bare.letter ∷ bare.letters) in
+            let close : List Placed = record { ch = 62; at = at + size } ∷ [] in
+            start_tag (less t ∷ []) name [] close false (bare_front run size bare at table end (at + size) (codes "<") (less t ∷ []) more refl) refl
+            (ap (λ (x : List Placed). record { text = less t ∷ x; tokens = Start (take size run) [] false t.at ∷ []; errors = [] }) (start_placed run size u bare at)
+            ∙ ap (λ (x : List Placed). record { text = x ++ close; tokens = Start (take size run) [] false t.at ∷ []; errors = [] }) (sym (append-nil (less t ∷ name)))
+            ∙ ap (λ (x : List ℕ). record { text = ((less t ∷ name) ++ []) ++ close; tokens = Start x [] false t.at ∷ []; errors = [] }) (sym (bare_bytes run size bare at))
+            ∙ ap (λ (x : List ParseError). record { text = ((less t ∷ name) ++ []) ++ close; tokens = Start (name_bytes name) [] false t.at ∷ []; errors = x }) (sym (bare_no_errors run size bare at)))
+
+        pub start_given : (name : ℕ) (new : Tokenizer) → new ≡ record t { next = at + size + 1; state = state.Text; last = Some name } → slice_get names name ≡ Some (take size run)
+            → refused_name (tag_named (take size run)) ≡ None → raw_kind (tag_named (take size run)) ≡ kind.None → (token : Token) → TokenMeans names token (Start (take size run) [] false t.at)
+            → (old s : S) (answer : Result (Unit {0}) Refusal) → gives_token old token answer s → Takes (gives_item gives gives_token) table start text (placed at (chars (take (size + 1) run))) taken names old answer s new
+        start_given name new then number in_profile to_data token means old s answer given =
+            tag_given (placed at (chars (take (size + 1) run))) (Start (take size run) [] false t.at) start_is gives gives_token (ap (λ (x : Option RefusedName). is_some x || false) in_profile) to_data new
+            (then ∙ sym (ap (λ (x : Tokenizer). record t { next = x.next; state = state.Text; last = x.last }) then)) (ap (λ (x : Tokenizer). x.next) then ∙ start_next run size u bare text at room)
+            (subst (λ (x : Option ℕ). IsLast names x (Some (take size run))) (sym (ap (λ (x : Tokenizer). x.last) then)) (take size run, number, refl)) token means old s answer given
+
+      module _ (rest : List ℕ) (run_is : run ≡ 47 ∷ rest) (bare : IsBareName rest size) where
+        end_is : (end : ℕ) (more : List Placed) → IsTag table end more (record { text = less t ∷ placed at (chars (take (size + 2) run)); tokens = End (take size rest) t.at ∷ []; errors = [] })
+        end_is end more =
+            let name : List Placed = placed (at + 1) (bare.letter ∷ bare.letters) in
+            let close : List Placed = record { ch = 62; at = at + 1 + size } ∷ [] in
+            let opening : List Placed = less t ∷ record { ch = 47; at = at } ∷ [] in
+            end_tag opening name [] close false (bare_front rest size bare (at + 1) table end (at + 1 + size) (codes "</") opening more refl) refl
+            (ap (λ (x : List Placed). record { text = less t ∷ x; tokens = End (take size rest) t.at ∷ []; errors = [] }) (end_placed run rest size u run_is bare at)
+            ∙ ap (λ (x : List Placed). record { text = x ++ close; tokens = End (take size rest) t.at ∷ []; errors = [] }) (sym (append-nil (opening ++ name)))
+            ∙ ap (λ (x : List ℕ). record { text = ((opening ++ name) ++ []) ++ close; tokens = End x t.at ∷ []; errors = [] }) (sym (bare_bytes rest size bare (at + 1)))
+            ∙ ap (λ (x : List ParseError). record { text = ((opening ++ name) ++ []) ++ close; tokens = End (name_bytes name) t.at ∷ []; errors = x ++ [] }) (sym (bare_no_errors rest size bare (at + 1))))
+
+        pub end_given : (new : Tokenizer) → new ≡ record t { next = at + size + 2; state = state.Text } → (token : Token) → TokenMeans names token (End (take size rest) t.at)
+            → (old s : S) (answer : Result (Unit {0}) Refusal) → gives_token old token answer s → Takes (gives_item gives gives_token) table start text (placed at (chars (take (size + 2) run))) taken names old answer s new
+        end_given new then token means old s answer given =
+            tag_given (placed at (chars (take (size + 2) run))) (End (take size rest) t.at) end_is gives gives_token refl refl new
+            (then ∙ sym (ap (λ (x : Tokenizer). record t { next = x.next; state = state.Text; last = x.last }) then)) (ap (λ (x : Tokenizer). x.next) then ∙ end_next run rest size u run_is bare text at room)
+            (subst (λ (x : Option ℕ). IsLast names x h.here.name) (sym (ap (λ (x : Tokenizer). x.last) then)) h.name_is) token means old s answer given

@@ -1,0 +1,55 @@
+use Rattle.std.proofs.Common.{◌+◌, ◌∙◌, List, ℕ, Some, [], take, sym, refl, ap, subst, arith}
+use Rattle.std.proofs.lemmas.Result.{err_from_is_err_and}
+use Rattle.names.specs.Sets.{raw_kind, refused_name}
+use Rattle.names.specs.Tags.{tag_named}
+use Rattle.names.proofs.Handing.{grows_on}
+use Rattle.htext.proofs.Runs.{front_of}
+use Rattle.htag.specs.Attributes.{AttrsMean}
+use Rattle.htoken.specs.Token.{gives_item}
+use Rattle.htoken.proofs.AtOnce.{memory_out, nothing_taken, start_cut, start_given}
+use Rattle.htoken.proofs.Fronts.{cut_refused}
+use Rattle.htoken.proofs.Taking.{IsCalm, taken_kept, taken_now}
+use Rattle.htoken.proofs.tokenizer.Tokenizer.bare_start_tag.Goals as goal
+
+pub returns-in_err-name-clause-takes : goal.returns-in_err-name-clause-takes
+returns-in_err-name-clause-takes g c =
+    let e = err_from_is_err_and c.from_residual.result c.from_residual.ensures.1 in
+    rw (e.1, e.2) (λ table start before text taken grows h.
+    memory_out table start c.args.self.now c.intern.new.self text taken (taken_now table start c.args.self.now before c.intern.new.self text taken (subst IsCalm (sym c.requires.less) tt) (grows_on _ _ _ grows c.intern.ensures.grows) h)
+    (gives_item g.S.ErrorSink.gives g.S.TokenSink.gives_token) _ _ _)
+
+pub returns-then-not-leads_to_data-clause-takes : goal.returns-then-not-leads_to_data-clause-takes
+returns-then-not-leads_to_data-clause-takes g c = λ table start before text taken grows h.
+    nothing_taken (gives_item g.S.ErrorSink.gives g.S.TokenSink.gives_token) table start text taken c.args.at c.intern.new.self c.args.sink.now c.args.self.now
+    (taken_kept table start c.args.self.now before c.intern.new.self text taken (grows_on _ _ _ grows c.in_ok-name.ensures.grows) h)
+
+pub returns-in_err-take_token-clause-takes : goal.returns-in_err-take_token-clause-takes
+returns-in_err-take_token-clause-takes g c =
+    let e = err_from_is_err_and c.from_residual-in_err-take_token.result c.from_residual-in_err-take_token.ensures.1 in
+    let run = c.args.run.now in
+    let name = take c.args.size run in
+    rw (e.1, e.2) (λ table start before text taken grows h.
+    let gives = gives_item g.S.ErrorSink.gives g.S.TokenSink.gives_token in
+    let k = taken_now table start c.args.self.now before c.intern.new.self text taken (subst IsCalm (sym c.requires.less) tt) (grows_on _ _ _ grows c.in_ok-name.ensures.grows) h in
+    let named = c.range.ensures.value ∙ front_of c.args.size run in
+    let tag = sym (ap tag_named named) ∙ sym c.in_ok-name.ensures.tag ∙ sym c.tag.ensures in
+    let leads = c.leads_to_data.ensures c.if-not-leads_to_data.false in
+    let number = c.in_ok-name.ensures.number ∙ ap (λ (x : List ℕ). Some x) named in
+    cut_refused gives table start text c.args.at (c.args.size + 1) run (start_cut run c.args.size c.utf8.run c.requires.bare) taken _ _ _ _ _ _
+    (start_given table start c.args.self.now c.intern.new.self text taken k c.requires.less g.S.ErrorSink.gives g.S.TokenSink.gives_token run c.args.at c.args.size c.utf8.run (omega (arith, c.requires.within)) c.requires.bare c.in_ok-name.name _ refl
+    number (ap refused_name tag ∙ leads.0) (ap raw_kind tag ∙ leads.1) _ (name, [], number, subst (λ x. AttrsMean c.intern.new.self x []) (sym c.new.ensures.items) tt, refl) _ _ _ c.in_err-take_token.ensures))
+
+pub returns-clause-takes : goal.returns-clause-takes
+returns-clause-takes g c = λ table start before text taken grows h.
+    let run = c.args.run.now in
+    let name = take c.args.size run in
+    let k = taken_now table start c.args.self.now before c.intern.new.self text taken (subst IsCalm (sym c.requires.less) tt) (grows_on _ _ _ grows c.in_ok-name.ensures.grows) h in
+    let named = c.range.ensures.value ∙ front_of c.args.size run in
+    let tag = sym (ap tag_named named) ∙ sym c.in_ok-name.ensures.tag ∙ sym c.tag.ensures in
+    let leads = c.leads_to_data.ensures c.if-not-leads_to_data.false in
+    let number = c.in_ok-name.ensures.number ∙ ap (λ (x : List ℕ). Some x) named in
+    start_given table start c.args.self.now c.intern.new.self text taken k c.requires.less g.S.ErrorSink.gives g.S.TokenSink.gives_token run c.args.at c.args.size c.utf8.run (omega (arith, c.requires.within)) c.requires.bare c.in_ok-name.name _ refl
+    number (ap refused_name tag ∙ leads.0) (ap raw_kind tag ∙ leads.1) _ (name, [], number, subst (λ x. AttrsMean c.intern.new.self x []) (sym c.new.ensures.items) tt, refl) _ _ _ c.in_ok-take_token.ensures
+
+pub returns-clause-cut : goal.returns-clause-cut
+returns-clause-cut g c = start_cut c.args.run.now c.args.size c.utf8.run c.requires.bare

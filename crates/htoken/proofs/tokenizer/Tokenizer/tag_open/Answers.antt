@@ -1,0 +1,14 @@
+use Rattle.htoken.specs.Token.{gives_item}
+use Rattle.htoken.proofs.AtOnce.{nothing_taken}
+use Rattle.htoken.proofs.Taking.{taken_kept}
+use Rattle.htoken.proofs.tokenizer.Tokenizer.tag_open.Goals as goal
+
+pub returns-in-0-clause-takes : goal.returns-in-0-clause-takes
+returns-in-0-clause-takes g c = λ table start before text taken grows h.
+    nothing_taken (gives_item g.S.ErrorSink.gives g.S.TokenSink.gives_token) table start text taken c.args.at c.args.names.now c.args.sink.now c.args.self.now
+    (taken_kept table start c.args.self.now before c.args.names.now text taken grows h)
+
+pub returns-in-0-bare_name-clause-takes : goal.returns-in-0-bare_name-clause-takes
+returns-in-0-bare_name-clause-takes g c = λ table start before text taken grows h.
+    nothing_taken (gives_item g.S.ErrorSink.gives g.S.TokenSink.gives_token) table start text taken c.args.at c.args.names.now c.args.sink.now c.args.self.now
+    (taken_kept table start c.args.self.now before c.args.names.now text taken grows h)

@@ -1,0 +1,157 @@
+//! Tags that stand whole in one run of the input (HTML Standard, 13.2.5.6 to 13.2.5.8).
+
+ghost use Rattle.std.specs.Prelude.{◌≡◌, ◌≤◌, ◌<◌, ◌+◌, List, true, None, IfOk, length, drop, slice_index};
+ghost use Rattle.std.specs.List.{list_all};
+ghost use Rattle.names.specs.declared.placed.Placed.{Placed as Character};
+ghost use Rattle.names.specs.declared.raw.RawKind.{RawKind as Kind};
+ghost use Rattle.names.specs.Names.{Texts, Grows};
+ghost use Rattle.names.specs.Sets.{raw_kind, refused_name};
+ghost use Rattle.htext.specs.declared.decoder.TheConstants.{MAX_INPUT};
+ghost use Rattle.htext.specs.Run.{is_plain_byte, IsCut};
+ghost use Rattle.charref.specs.Reference.{Entities};
+ghost use Rattle.htag.specs.AtOnce.{IsBareName};
+ghost use Rattle.htoken.specs.Steps.{TakesFront, TakesPart};
+ghost use Rattle.htoken.specs.Token.{Event, gives_item};
+ghost use Rattle.htoken.specs.Tokenizing.{HasTaken};
+
+use crate::sink::TokenSink;
+use crate::state::State;
+use crate::token::Token;
+use crate::tokenizer::Tokenizer;
+use htag::bare_name;
+use names::{Names, RawKind, Refusal, Tag};
+
+/// Whether data comes after a start tag of this name, which is in the profile.
+#[inline(always)]
+fn leads_to_data(tag: Tag) -> bool
+    ensures { result ≡ true → (refused_name tag ≡ None) × (raw_kind tag ≡ RawKind.None) }
+{
+    matches!(tag.raw_kind(), RawKind::None) && !tag.is_refused()
+}
+
+impl<'t> Tokenizer<'t> {
+    /// Tag open state (`#tag-open-state`): takes the rest of a tag without attributes, if the run begins with a whole one. Returns its
+    /// length, or 0.
+    #[inline(always)]
+    pub(crate) fn tag_open<S: TokenSink>(
+        &mut self,
+        names: &mut Names,
+        run: &str,
+        at: u64,
+        sink: &mut S,
+    ) -> Result<usize, Refusal>
+        requires less { self.old.state ≡ State.Less }
+        requires some { 0 < length run.now }
+        requires within { at + length run.now ≤ MAX_INPUT }
+        ensures takes { (table : Entities) (start : Kind) (before : Texts) (text : List Character) (taken : List Event) → Grows before names.old
+            → HasTaken table start self.old before text taken
+            → TakesPart (gives_item S.gives S.gives_token) table start text at run.now taken names.new sink.old result sink.new self.new }
+        ensures cut { IfOk result (λ count. IsCut count run.now) }
+        ensures grows { Grows names.old names.new }
+    {
+        let bytes = run.as_bytes();
+        if bytes[0] == b'/' {
+            return match bare_name(&bytes[1..]) {
+                0 => Ok(0),
+                size => self.bare_end_tag(size, names, run, at, sink),
+            };
+        }
+        match bare_name(bytes) {
+            0 => Ok(0),
+            size => self.bare_start_tag(size, names, run, at, sink),
+        }
+    }
+
+    /// End tag open state (`#end-tag-open-state`): takes the rest of an end tag, the name of which has this length.
+    #[inline(always)]
+    fn bare_end_tag<S: TokenSink>(
+        &mut self,
+        size: usize,
+        names: &mut Names,
+        run: &str,
+        at: u64,
+        sink: &mut S,
+    ) -> Result<usize, Refusal>
+        requires less { self.old.state ≡ State.Less }
+        requires some { 0 < length run.now }
+        requires solidus { slice_index run.now 0 ≡ 47 }
+        requires bare { IsBareName (drop 1 run.now) size }
+        requires within { at + length run.now ≤ MAX_INPUT }
+        ensures takes { (table : Entities) (start : Kind) (before : Texts) (text : List Character) (taken : List Event) → Grows before names.old
+            → HasTaken table start self.old before text taken
+            → TakesPart (gives_item S.gives S.gives_token) table start text at run.now taken names.new sink.old result sink.new self.new }
+        ensures cut { IfOk result (λ count. IsCut count run.now) }
+        ensures grows { Grows names.old names.new }
+    {
+        let name = names.intern(self.alloc, &run[1..size + 1])?;
+        self.next = at + size as u64 + 2;
+        self.state = State::Text;
+        sink.take_token(Token::End { name, at: self.at })?;
+        Ok(size + 2)
+    }
+
+    /// Takes the rest of a start tag, the name of which has this length, if data comes after it. Returns its length, or 0.
+    #[inline(always)]
+    fn bare_start_tag<S: TokenSink>(
+        &mut self,
+        size: usize,
+        names: &mut Names,
+        run: &str,
+        at: u64,
+        sink: &mut S,
+    ) -> Result<usize, Refusal>
+        requires less { self.old.state ≡ State.Less }
+        requires bare { IsBareName run.now size }
+        requires within { at + length run.now ≤ MAX_INPUT }
+        ensures takes { (table : Entities) (start : Kind) (before : Texts) (text : List Character) (taken : List Event) → Grows before names.old
+            → HasTaken table start self.old before text taken
+            → TakesPart (gives_item S.gives S.gives_token) table start text at run.now taken names.new sink.old result sink.new self.new }
+        ensures cut { IfOk result (λ count. IsCut count run.now) }
+        ensures grows { Grows names.old names.new }
+    {
+        let name = names.intern(self.alloc, &run[..size])?;
+        if !leads_to_data(name.tag()) {
+            return Ok(0);
+        }
+        self.next = at + size as u64 + 1;
+        self.state = State::Text;
+        self.last = Some(name);
+        sink.take_token(Token::Start {
+            name,
+            attrs: Vec::new(self.alloc),
+            closing: false,
+            at: self.at,
+        })?;
+        Ok(size + 1)
+    }
+
+    /// Tag open state: takes a start tag from a run of plain characters, as far as its attributes are plain. Returns how many bytes it took.
+    pub(crate) fn plain_start_tag<S: TokenSink>(
+        &mut self,
+        names: &mut Names,
+        run: &str,
+        at: u64,
+        sink: &mut S,
+    ) -> Result<usize, Refusal>
+        requires less { self.old.state ≡ State.Less }
+        requires plain { list_all is_plain_byte run.now ≡ true }
+        requires within { at + length run.now ≤ MAX_INPUT }
+        ensures takes { (table : Entities) (start : Kind) (before : Texts) (text : List Character) (taken : List Event) → Grows before names.old
+            → HasTaken table start self.old before text taken
+            → TakesFront (gives_item S.gives S.gives_token) table start text at run.now taken names.new sink.old result sink.new self.new }
+        ensures few { IfOk result (λ count. count ≤ length run.now) }
+        ensures grows { Grows names.old names.new }
+    {
+        let (count, ended) = self.tag.take_plain(names, run)?;
+        if count == 0 {
+            return Ok(0);
+        }
+        self.next = at + count as u64;
+        if ended {
+            self.end_tag(names, sink)?;
+            return Ok(count);
+        }
+        self.state = State::Tag;
+        Ok(count)
+    }
+}
