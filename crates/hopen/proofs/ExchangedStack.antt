@@ -7,7 +7,7 @@ use Rattle.std.proofs.lemmas.List.Edits.{length-remove}
 use Rattle.hchain.specs.Nearest.{without, put_before}
 use Rattle.hopen.specs.Kept.{opened_by}
 use Rattle.hopen.specs.declared.kept.KeptNode.{KeptNode}
-use Rattle.hopen.proofs.Rooms.{map-insert}
+use Rattle.hopen.specs.declared.stack.Open.{Open}
 use Rattle.hchain.proofs.Nearest.{position_is, remove_nearest, insert_nearest}
 
 module _ {Y : Type 0} (leaves sought : Y → Bool) where
@@ -30,7 +30,24 @@ module _ {Y : Type 0} (leaves sought : Y → Bool) where
       let same : position_or_len sought rest ≡ near = ap (position_or_len sought) (sym is) ∙ position_or_len-without ys (omega (arith, a.1, b.1)) ∙ a.1 in
       rw (same, lt-ltb near (length rest) (omega (arith, b.0))) refl
 
+-- an item that opens a node and keeps nothing
+abbrev pub item_of : Open → KeptNode
+item_of new = record {
+  opened = new;
+  same_name = 0;
+  next_name = 0;
+  same_node = 0;
+  sets = record { scope = 0; list_item_scope = 0; button_scope = 0; table_scope = 0; special = 0; item_stop = 0; heading = 0; table_section = 0; cell = 0; tells_mode = 0; must_close = 0 };
+}
+
+-- an edit, and then f of each
 module _ {X Y : Type 0} (f : X → Y) where
+  pub map-insert : (xs : List X) (i : ℕ) (x : X) → map f (insert xs i x) ≡ insert (map f xs) i (f x)
+  map-insert xs i x = map-append f (take i xs) (x ∷ drop i xs) ∙ (λ k. sym (take-map f i xs) k ++ f x ∷ sym (drop-map f i xs) k)
+
+  pub map-remove_range : (xs : List X) (i j : ℕ) → map f (remove_range xs i j) ≡ remove_range (map f xs) i j
+  map-remove_range xs i j = map-append f (take i xs) (drop j xs) ∙ (λ k. sym (take-map f i xs) k ++ sym (drop-map f j xs) k)
+
   pub map-remove : (xs : List X) (i : ℕ) → map f (remove xs i) ≡ remove (map f xs) i
   map-remove xs i = map-append f (take i xs) (drop (suc i) xs) ∙ (λ k. sym (take-map f i xs) k ++ sym (drop-map f (suc i) xs) k)
 
@@ -45,7 +62,7 @@ module _ {X Y : Type 0} (f : X → Y) where
       let many : length (reverse (map f (remove xs from))) ≡ length (remove xs from) = length-reverse (map f (remove xs from)) ∙ length-map (remove xs from) f in
       let place : position sought (reverse (map f (remove xs from))) ≡ Some near = position-without leaves sought (reverse (map f xs)) near far q p (omega arith) (reverse (map f (remove xs from))) (sym left) (omega arith) in
       let next : to - 1 + 1 ≡ to = omega arith in
-      ap reverse (ap (λ l. insert l to (f x)) (sym (map-remove xs from)) ∙ sym (map-insert f (remove xs from) to x) ∙ ap (λ n. map f (insert (remove xs from) n x)) (sym next))
+      ap reverse (ap (λ l. insert l to (f x)) (sym (map-remove xs from)) ∙ sym (map-insert (remove xs from) to x) ∙ ap (λ n. map f (insert (remove xs from) n x)) (sym next))
       ∙ insert_nearest f sought (remove xs from) (to - 1) near x place (omega arith) ∙ ap (put_before sought (f x)) left
 
 pub length-put-le : {Y : Type 0} (sought : Y → Bool) (y : Y) (ys : List Y) → length (put_before sought y ys) ≤ suc (length ys)

@@ -2,14 +2,13 @@ pub mod Opened
 pub mod Searches
 pub mod Spellings
 pub mod Places
-pub mod Counted
+pub mod KeptBy
 pub mod Linked
 pub mod Projected
-pub mod Rooms
-pub mod Raised
 pub mod Passed
 pub mod Swapped
 pub mod Standing
+pub mod SetPlace
 pub mod ExchangedStack
 pub mod WrittenBack
-pub mod SetsOf
+pub mod AllSpecial

@@ -1,9 +1,9 @@
 -- What the items of a vector keep, by index.
 use Rattle.std.proofs.Common.{◌≡◌, ◌≢◌, ℕ, suc, ◌+◌, ◌<◌, List, length, map, get_or, set, sym, ◌∙◌, ap, arith}
-use Rattle.std.proofs.lemmas.List.{length-map, get_or-map, get_or-set_same, get_or-set_other, length-set, map-set}
+use Rattle.std.proofs.lemmas.List.{length-map, get_or-map, get_or-set_other, map-set}
 use Rattle.std.proofs.Math.Seq.{map-set_same}
 use Rattle.hopen.proofs.Swapped.{swapped-set}
-use Rattle.hopen.specs.Kept.{swapped, name_of, names_in, node_of, nodes_in, opened_by, same_name_of, same_node_of, stops_of}
+use Rattle.hopen.specs.Kept.{swap_with_next, name_of, names_in, node_of, nodes_in, opened_by, same_name_of, same_node_of}
 use Rattle.hopen.specs.declared.kept.KeptNode.{KeptNode}
 
 module _ (items : List KeptNode) where
@@ -26,9 +26,6 @@ module _ (items : List KeptNode) where
     pub same_node-at : get_or (map same_node_of items) i 0 ≡ KeptNode.same_node (get_or items i d)
     same_node-at = get_or-map same_node_of items i d 0 h
 
-    pub stops-at : get_or (map stops_of items) i 0 ≡ KeptNode.stops (get_or items i d)
-    stops-at = get_or-map stops_of items i d 0 h
-
 -- two neighbours are written
 module _ {X Y : Type 0} (f : X → Y) (items : List X) (i : ℕ) (a b d : X) (within : i + 1 < length items) where
   pub two-same : f a ≡ f (get_or items i d) → f b ≡ f (get_or items (i + 1) d) → map f (set (set items i a) (i + 1) b) ≡ map f items
@@ -36,27 +33,15 @@ module _ {X Y : Type 0} (f : X → Y) (items : List X) (i : ℕ) (a b d : X) (wi
       let ne : i + 1 ≢ i = omega arith in
       map-set_same f (set items i a) (i + 1) b d (g ∙ ap f (sym (get_or-set_other items i (i + 1) a d ne))) ∙ map-set_same f items i a d e
 
-  pub two-swapped : f a ≡ f (get_or items (i + 1) d) → f b ≡ f (get_or items i d) → map f (set (set items i a) (i + 1) b) ≡ swapped i (map f items)
+  pub two-upper : f b ≡ f (get_or items (i + 1) d) → map f (set (set items i a) (i + 1) b) ≡ set (map f items) i (f a)
+  two-upper g =
+      let ne : i + 1 ≢ i = omega arith in
+      map-set_same f (set items i a) (i + 1) b d (g ∙ ap f (sym (get_or-set_other items i (i + 1) a d ne))) ∙ map-set f items i a
+
+  pub two-swapped : f a ≡ f (get_or items (i + 1) d) → f b ≡ f (get_or items i d) → map f (set (set items i a) (i + 1) b) ≡ swap_with_next i (map f items)
   two-swapped e g =
       let next : i + 1 ≡ suc i = omega arith in
       map-set f (set items i a) (i + 1) b ∙ ap (λ (l : List Y). set l (i + 1) (f b)) (map-set f items i a)
       ∙ (λ t. set (set (map f items) i ((e ∙ sym (get_or-map f items (i + 1) d (f d) within)) t)) (i + 1) ((g ∙ sym (get_or-map f items i d (f d) (omega arith))) t))
       ∙ ap (λ n. set (set (map f items) i (get_or (map f items) n (f d))) n (get_or (map f items) i (f d))) next
       ∙ swapped-set i (map f items) (f d) (omega (arith, length-map items f))
-
-module _ {X : Type 0} (f : X → ℕ) (items : List X) (i : ℕ) (a b : X) (within : i + 1 < length items) where
-  pub two-upper : get_or (map f (set (set items i a) (i + 1) b)) i 0 ≡ f a
-  two-upper =
-      let ne : i ≢ i + 1 = omega arith in
-      get_or-map f (set (set items i a) (i + 1) b) i a 0 (omega (arith, length-set (set items i a) (i + 1) b, length-set items i a))
-      ∙ ap f (get_or-set_other (set items i a) (i + 1) i b a ne ∙ get_or-set_same items i a a (omega arith))
-
-  pub two-lower : get_or (map f (set (set items i a) (i + 1) b)) (i + 1) 0 ≡ f b
-  two-lower =
-      get_or-map f (set (set items i a) (i + 1) b) (i + 1) a 0 (omega (arith, length-set (set items i a) (i + 1) b, length-set items i a))
-      ∙ ap f (get_or-set_same (set items i a) (i + 1) b a (omega (arith, length-set items i a)))
-
-  pub two-rest : (j : ℕ) → j ≢ i → j ≢ i + 1 → get_or (map f (set (set items i a) (i + 1) b)) j 0 ≡ get_or (map f items) j 0
-  two-rest j ne nf =
-      ap (λ (l : List ℕ). get_or l j 0) (map-set f (set items i a) (i + 1) b) ∙ get_or-set_other (map f (set items i a)) (i + 1) j (f b) 0 nf
-      ∙ ap (λ (l : List ℕ). get_or l j 0) (map-set f items i a) ∙ get_or-set_other (map f items) i j (f a) 0 ne

@@ -1,22 +1,20 @@
 -- The kept places under each change of the items.
-use Rattle.std.proofs.Common.{◌≡◌, ℕ, zero, suc, ◌+◌, ◌-◌, ◌^◌, add-one, ◌<◌, ◌≤◌, false, cond, List, [], ◌∷◌, ◌++◌, length, map, reverse, take, drop, get_or, set, ◌⊎◌, inl, inr, refl, sym, ◌∙◌, ap, subst, arith, length-append}
+use Rattle.std.proofs.Common.{◌≡◌, ℕ, zero, suc, ◌+◌, ◌-◌, add-one, ◌<◌, ◌≤◌, List, [], ◌∷◌, ◌++◌, length, map, take, drop, get_or, set, refl, sym, ◌∙◌, ap, subst, arith}
 use Rattle.std.proofs.Math.Path.{transport}
-use Rattle.std.proofs.lemmas.Bool.{cases_lt}
-use Rattle.std.proofs.lemmas.List.{get_or_default, drop-set, drop-drop, drop_at, length-take-le, reverse-append, length-reverse, length-map, map-append, get_or_append_left, get_or_push, take-append-le, take_all, take-map, drop-map, map-set, get_or-map}
-use Rattle.std.proofs.Math.Seq.{map-set_same}
+use Rattle.std.proofs.lemmas.List.{get_or_default, drop-set, drop-drop, drop_at, length-take-le, length-reverse, length-map, length-set, map-append, take-map, drop-map, map-set, get_or-map}
+use Rattle.std.proofs.Math.Seq.{map-set_same, take-append_seam}
 use Rattle.std.specs.List.{remove_range}
-use Rattle.hopen.specs.Stops.{AreCounted, HasRoom, HasSpace, closing, specials}
-use Rattle.hopen.specs.Kept.{AreAlike, AreIn, IsFresh, IsLinked, KeepStops, Stands, StandsAs, name_of, names_in, names_of, node_of, nodes_in, opened_by, same_name_of, same_node_of, stack_of, stops_of}
+use Rattle.hopen.specs.Kept.{AreAlike, AreIn, CanGiveWay, IsLinked, KeepSets, KeepsFrom, Stands, StandsAs, closing, kept_above, must_close_in, name_of, names_in, nearest_in, node_of, nodes_in, opened_by, same_name_of, same_node_of, sets_at, stack_of}
 use Rattle.hopen.specs.Stack.{OpenNode, OpenNodes}
 use Rattle.hopen.specs.StackView.{open_nodes_of}
 use Rattle.hopen.specs.declared.stack.OpenStack.TheInside.{Inside}
 use Rattle.hopen.specs.declared.kept.KeptNode.{KeptNode}
 use Rattle.hopen.specs.declared.kept.LastPlaces.{LastPlaces}
-use Rattle.names.specs.Sets.{may_stay_open}
-use Rattle.names.specs.Tags.{tag_of}
 use Rattle.hchain.proofs.Nearest.{reverse_push}
 use Rattle.hchain.proofs.Tables.{take-more, drop-more}
-use Rattle.hopen.proofs.Counted.{closing-le, listed, specials-le}
+use Rattle.hopen.proofs.KeptBy.{above-front, sets-more, sets-renamed, sets-take}
+use Rattle.hopen.specs.NameSets.{set_node}
+use Rattle.hopen.specs.declared.name_sets.SetNodes.{SetNodes}
 use Rattle.hopen.proofs.Linked.{linked-in, linked-less, linked-more}
 use Rattle.hopen.proofs.Projected.{length-names, length-nodes, node-at, same_node-at}
 use Rattle.hopen.proofs.Swapped.{linked-fresh}
@@ -34,15 +32,21 @@ length-stack_of items = length-reverse (map opened_by items) ∙ length-map item
 pub many : (s : Inside) (n : OpenNodes ℕ) → open_nodes_of s ≡ n → length s.items.items ≡ length n.stack
 many s n e = sym (length-stack_of s.items.items) ∙ ap (λ (m : OpenNodes ℕ). length m.stack) e
 
+-- what a node is to keep hangs on those above it alone
+pub keeps-taken : (items : List KeptNode) (i : ℕ) (y : OpenNode ℕ) (p : SetNodes) → i ≤ length items → KeepsFrom items i y p → KeepsFrom (take i items) (length (take i items)) y p
+keeps-taken items i y p h a = record { nodes = λ set. a.nodes set ∙ ap (nearest_in set y) (same (set_node set)); must_close = a.must_close ∙ ap (closing y) (same must_close_in) }
+  where
+    same : (f : SetNodes → ℕ) → kept_above f items i ≡ kept_above f (take i items) (length (take i items))
+    same f =
+        sym (above-front (map f (map sets_at items)) i 0) ∙ ap (λ (l : List ℕ). get_or (0 ∷ l) i 0) (take-map f i (map sets_at items) ∙ ap (map f) (take-map sets_at i items))
+        ∙ ap (kept_above f (take i items)) (sym (length-take-le i items h))
+
 module _ (items : List KeptNode) (x : KeptNode) where
   names-more : names_in (map opened_by (items ++ x ∷ [])) ≡ names_in (map opened_by items) ++ x.opened.name ∷ []
   names-more = ap names_in (map-append opened_by items (x ∷ [])) ∙ map-append name_of (map opened_by items) (opened_by x ∷ [])
 
   nodes-more : nodes_in (map opened_by (items ++ x ∷ [])) ≡ nodes_in (map opened_by items) ++ x.opened.node ∷ []
   nodes-more = ap nodes_in (map-append opened_by items (x ∷ [])) ∙ map-append node_of (map opened_by items) (opened_by x ∷ [])
-
-  pub names_of-more : names_of (items ++ x ∷ []) ≡ x.opened.name ∷ names_of items
-  names_of-more = ap reverse names-more ∙ reverse-append (names_in (map opened_by items)) (x.opened.name ∷ [])
 
   long : {X Y : Type 0} (f : KeptNode → X) (g : OpenNode ℕ → Y) → length (map f items) ≡ length (map g (map opened_by items))
   long f g = length-map items f ∙ sym (length-map (map opened_by items) g ∙ length-map items opened_by)
@@ -54,9 +58,6 @@ module _ (items : List KeptNode) (x : KeptNode) where
     linked-nodes : Stands last (items ++ x ∷ []) → IsLinked last.nodes.items (nodes_in (map opened_by items) ++ x.opened.node ∷ []) (map same_node_of items ++ x.same_node ∷ [])
     linked-nodes s = transport (λ t. IsLinked last.nodes.items (nodes-more t) (map-append same_node_of items (x ∷ []) t)) s.nodes
 
-    counted-top : Stands last (items ++ x ∷ []) → AreCounted last.stops (x.opened.name ∷ names_of items)
-    counted-top s = subst (AreCounted last.stops) names_of-more s.counted
-
     -- the tables have the numbers of an item
     pub stands-in : Stands last (items ++ x ∷ []) → (x.opened.name < length last.names.items) × (x.opened.node < length last.nodes.items)
     stands-in s = (
@@ -64,62 +65,42 @@ module _ (items : List KeptNode) (x : KeptNode) where
       linked-in last.nodes.items (nodes_in (map opened_by items)) (map same_node_of items ++ x.same_node ∷ []) x.opened.node (linked-nodes s),
     )
 
-    -- and it is counted if it must be closed
-    pub stands-must : Stands last (items ++ x ∷ []) → may_stay_open (tag_of x.opened.name) ≡ false → 0 < last.stops.must_close
-    stands-must s e = omega (arith, (counted-top s).must_close, ap (λ v. cond v (closing (names_of items)) (suc (closing (names_of items)))) e)
-
     -- the last item goes
-    pub stands-less : Stands last (items ++ x ∷ []) → (next : LastPlaces) → next.names.items ≡ set last.names.items x.opened.name x.same_name → next.nodes.items ≡ set last.nodes.items x.opened.node x.same_node
-        → ((names : List ℕ) → AreCounted last.stops (x.opened.name ∷ names) → AreCounted next.stops names) → Stands next items
-    stands-less s next names nodes closes = record {
+    pub stands-less : Stands last (items ++ x ∷ []) → (next : LastPlaces) → next.names.items ≡ set last.names.items x.opened.name x.same_name → next.nodes.items ≡ set last.nodes.items x.opened.node x.same_node → Stands next items
+    stands-less s next names nodes = record {
       names = rw names (linked-less last.names.items (names_in (map opened_by items)) (map same_name_of items) x.opened.name x.same_name (long same_name_of name_of) (linked-names s));
       nodes = rw nodes (linked-less last.nodes.items (nodes_in (map opened_by items)) (map same_node_of items) x.opened.node x.same_node (long same_node_of node_of) (linked-nodes s));
-      counted = closes (names_of items) (counted-top s);
-      stops = λ j h.
-          sym (get_or_append_left (map stops_of items) (x.stops ∷ []) 0 j (omega (arith, h, long stops_of name_of))) ∙ ap (λ (l : List ℕ). get_or l j 0) (sym (map-append stops_of items (x ∷ [])))
-          ∙ s.stops j (omega (arith, h, ap length names-more, length-append (names_in (map opened_by items)) (x.opened.name ∷ [])))
-          ∙ ap (λ l. length (specials (reverse l))) (ap (take j) names-more ∙ take-append-le j (names_in (map opened_by items)) (x.opened.name ∷ []) (omega (arith, h)));
+      sets = transport (λ t. KeepSets (front opened_by t) (front sets_at t)) (sets-take (map opened_by (items ++ x ∷ [])) (map sets_at (items ++ x ∷ [])) s.sets (length items));
+      fits = omega (arith, s.fits, ap length nodes, length-set last.nodes.items x.opened.node x.same_node);
     }
+      where
+        front : {X : Type 0} (f : KeptNode → X) → take (length items) (map f (items ++ x ∷ [])) ≡ map f items
+        front f = take-map f (length items) (items ++ x ∷ []) ∙ ap (map f) (take-append_seam items (x ∷ []))
 
     -- an item comes, with what the tables say
     pub stands-more : (place : ℕ) → place ≡ suc (length items) → Stands last items → x.opened.name < length last.names.items → x.opened.node < length last.nodes.items
-        → x.same_name ≡ get_or last.names.items x.opened.name 0 → x.same_node ≡ get_or last.nodes.items x.opened.node 0 → x.stops ≡ length last.stops.list.items
-        → (next : LastPlaces) → next.names.items ≡ set last.names.items x.opened.name place → next.nodes.items ≡ set last.nodes.items x.opened.node place
-        → ((names : List ℕ) → AreCounted last.stops names → place ≡ suc (length names) → AreCounted next.stops (x.opened.name ∷ names)) → Stands next (items ++ x ∷ [])
-    stands-more place is s name_in node_in same_name same_node stops next names nodes opens = record {
+        → x.same_name ≡ get_or last.names.items x.opened.name 0 → x.same_node ≡ get_or last.nodes.items x.opened.node 0
+        → KeepsFrom items (length items) (opened_by x) x.sets
+        → (next : LastPlaces) → next.names.items ≡ set last.names.items x.opened.name place → next.nodes.items ≡ set last.nodes.items x.opened.node place → Stands next (items ++ x ∷ [])
+    stands-more place is s name_in node_in same_name same_node keeps next names nodes = record {
       names = rw names (transport (λ t. IsLinked (set last.names.items x.opened.name place) (sym names-more t) (sym (map-append same_name_of items (x ∷ [])) t))
           (linked-more last.names.items (names_in (map opened_by items)) (map same_name_of items) x.opened.name x.same_name place (omega (arith, is, length-names items)) same_name (long same_name_of name_of) name_in s.names));
       nodes = rw nodes (transport (λ t. IsLinked (set last.nodes.items x.opened.node place) (sym nodes-more t) (sym (map-append same_node_of items (x ∷ [])) t))
           (linked-more last.nodes.items (nodes_in (map opened_by items)) (map same_node_of items) x.opened.node x.same_node place (omega (arith, is, length-nodes items)) same_node (long same_node_of node_of) node_in s.nodes));
-      counted = subst (AreCounted next.stops) (sym names_of-more) (opens (names_of items) s.counted (omega (arith, is, length-names items, length-reverse (names_in (map opened_by items)))));
-      stops = λ j h. transport (λ t. get_or (sym (map-append stops_of items (x ∷ [])) t) j 0 ≡ length (specials (reverse (take j (sym names-more t))))) (counts j (omega (arith, h, ap length names-more, length-append (names_in (map opened_by items)) (x.opened.name ∷ []))) (cases_lt j (length items)));
-    }
-      where
-        counts : (j : ℕ) → j ≤ length (names_in (map opened_by items)) → (j < length items) ⊎ (length items ≤ j) → get_or (map stops_of items ++ x.stops ∷ []) j 0 ≡ length (specials (reverse (take j (names_in (map opened_by items) ++ x.opened.name ∷ []))))
-        counts j h (inl less) =
-            get_or_append_left (map stops_of items) (x.stops ∷ []) 0 j (omega (arith, length-map items stops_of)) ∙ s.stops j (omega (arith, length-names items))
-            ∙ ap (λ l. length (specials (reverse l))) (sym (take-append-le j (names_in (map opened_by items)) (x.opened.name ∷ []) h))
-        counts j h (inr past) =
-            get_or_push (map stops_of items) x.stops 0 j (omega (arith, h, length-names items, length-map items stops_of)) ∙ stops ∙ listed last.stops.list.items (names_of items) s.counted.stops
-            ∙ ap (λ l. length (specials (reverse l))) (sym (take_all j (names_in (map opened_by items)) (omega (arith, length-names items))) ∙ sym (take-append-le j (names_in (map opened_by items)) (x.opened.name ∷ []) h))
-
--- there is room in the numbers where there is in the list
-pub stands-room : (last : LastPlaces) (items : List KeptNode) (name : ℕ) → Stands last items → length items + 1 < 2 ^ 32 → HasSpace last.stops name → HasRoom last.stops name
-stands-room last items name s h space =
-    let few : length (names_of items) ≡ length items = length-reverse (names_in (map opened_by items)) ∙ length-names items in
-    record {
-      fits = omega (arith, few, listed last.stops.list.items (names_of items) s.counted.stops, specials-le (names_of items));
-      counts = omega (arith, few, s.counted.must_close, closing-le (names_of items));
-      space = space;
+      sets = transport (λ t. KeepSets (sym (map-append opened_by items (x ∷ [])) t) (sym (map-append sets_at items (x ∷ [])) t))
+          (sets-more (map opened_by items) (map sets_at items) s.sets (opened_by x) x.sets
+          (λ set. keeps.nodes set ∙ ap (λ n. nearest_in set (opened_by x) (kept_above (set_node set) items n)) (sym (length-map items opened_by)))
+          (keeps.must_close ∙ ap (λ n. closing (opened_by x) (kept_above must_close_in items n)) (sym (length-map items opened_by))));
+      fits = omega (arith, s.fits, ap length nodes, length-set last.nodes.items x.opened.node place);
     }
 
 -- items that keep the same stand alike
 module _ (last : LastPlaces) (xs ys : List KeptNode) (a : AreAlike xs ys) where
   pub stands-alike : Stands last ys → Stands last xs
-  stands-alike s = transport (λ t. StandsAs last (sym a.opened t) (sym a.same_names t) (sym a.same_nodes t) (sym a.stops t)) s
+  stands-alike s = transport (λ t. StandsAs last (sym a.opened t) (sym a.same_names t) (sym a.same_nodes t) (sym a.sets t)) s
 
   pub alike-take : (n : ℕ) → AreAlike (take n xs) (take n ys)
-  alike-take n = record { opened = part opened_by a.opened; same_names = part same_name_of a.same_names; same_nodes = part same_node_of a.same_nodes; stops = part stops_of a.stops }
+  alike-take n = record { opened = part opened_by a.opened; same_names = part same_name_of a.same_names; same_nodes = part same_node_of a.same_nodes; sets = part sets_at a.sets }
     where
       part : {X : Type 0} (f : KeptNode → X) → map f xs ≡ map f ys → map f (take n xs) ≡ map f (take n ys)
       part f e = sym (take-map f n xs) ∙ ap (take n) e ∙ take-map f n ys
@@ -142,19 +123,21 @@ pub numbers-drop_alike : (n : ℕ) (xs ys : List KeptNode) (names nodes : ℕ) �
 numbers-drop_alike n xs ys names nodes e all = numbers-alike (drop n xs) (drop n ys) names nodes (sym (drop-map opened_by n xs) ∙ ap (drop n) e ∙ drop-map opened_by n ys) all
 
 -- a new node in the place of one of its name
-module _ (last next : LastPlaces) (items : List KeptNode) (i : ℕ) (x y : KeptNode) (new : Open) (s : Stands last items) (within : i < length items) (is : x ≡ get_or items i x) (fresh : IsFresh last x (suc i) new) where
+module _ (last next : LastPlaces) (items : List KeptNode) (i : ℕ) (x y : KeptNode) (new : Open) (s : Stands last items) (within : i < length items) (is : x ≡ get_or items i x) (fresh : CanGiveWay last x (suc i) new) where
   renamed-opened : y.opened ≡ new → map opened_by (set items i y) ≡ set (map opened_by items) i (open_of new)
   renamed-opened e = map-set opened_by items i y ∙ ap (λ (z : Open). set (map opened_by items) i (open_of z)) e
 
-  pub stands-renamed : new.node < length last.nodes.items → y.opened ≡ new → y.same_name ≡ x.same_name → y.same_node ≡ x.same_node → y.stops ≡ x.stops
-      → next.names.items ≡ last.names.items → next.nodes.items ≡ set (set last.nodes.items x.opened.node 0) new.node (suc i) → next.stops ≡ last.stops → Stands next (set items i y)
-  stands-renamed new_in opened same_name same_node stops names nodes kept = record {
+  pub stands-renamed : new.node < length last.nodes.items → y.opened ≡ new → y.same_name ≡ x.same_name → y.same_node ≡ x.same_node → y.sets ≡ x.sets
+      → next.names.items ≡ last.names.items → next.nodes.items ≡ set (set last.nodes.items x.opened.node 0) new.node (suc i) → Stands next (set items i y)
+  stands-renamed new_in opened same_name same_node sets names nodes = record {
     names = transport (λ t. IsLinked (sym names t) (sym same_names t) (sym (map-set_same same_name_of items i y x (same_name ∙ ap same_name_of is)) t)) s.names;
     nodes = transport (λ t. IsLinked (sym table t) (sym moved t) (sym (map-set_same same_node_of items i y x (same_node ∙ ap same_node_of is)) t))
         (linked-fresh last.nodes.items (nodes_in (map opened_by items)) (map same_node_of items) s.nodes i (omega (arith, length-nodes items)) new.node new_in
         (same_node-at items i x within ∙ ap same_node_of (sym is) ∙ fresh.none_above) (ap (λ n. get_or last.nodes.items n 0) here ∙ fresh.none_below) fresh.fresh);
-    counted = transport (λ t. AreCounted (sym kept t) (reverse (sym same_names t))) s.counted;
-    stops = transport (λ t. KeepStops (sym same_names t) (sym (map-set_same stops_of items i y x (stops ∙ ap stops_of is)) t)) s.stops;
+    sets = transport (λ t. KeepSets (sym (renamed-opened opened) t) (sym (map-set_same sets_at items i y x (sets ∙ ap sets_at is)) t))
+        (sets-renamed (map opened_by items) (map sets_at items) s.sets i (opened_by x) (open_of new) (omega (arith, length-map items opened_by))
+        (sym fresh.name ∙ ap name_of (ap opened_by is ∙ sym (get_or-map opened_by items i x (opened_by x) within))) fresh.plain);
+    fits = omega (arith, s.fits, ap length nodes, length-set (set last.nodes.items x.opened.node 0) new.node (suc i), length-set last.nodes.items x.opened.node 0);
   }
     where
       here : get_or (nodes_in (map opened_by items)) i 0 ≡ x.opened.node
@@ -176,12 +159,8 @@ module _ (items : List KeptNode) (n j : ℕ) (x : KeptNode) (next : n ≡ suc j)
   pub taken-in : (last : LastPlaces) → Stands last (take n items) → (x.opened.name < length last.names.items) × (x.opened.node < length last.nodes.items)
   taken-in last s = stands-in (take j items) x last (subst (λ (xs : List KeptNode). Stands last xs) (take-more items n j x next within is) s)
 
-  pub taken-less : (last next : LastPlaces) → Stands last (take n items) → next.names.items ≡ set last.names.items x.opened.name x.same_name → next.nodes.items ≡ set last.nodes.items x.opened.node x.same_node
-      → ((names : List ℕ) → AreCounted last.stops (x.opened.name ∷ names) → AreCounted next.stops names) → Stands next (take j items)
-  taken-less last left s names nodes closes = stands-less (take j items) x last (subst (λ (xs : List KeptNode). Stands last xs) (take-more items n j x next within is) s) left names nodes closes
-
-  pub taken-must : (last : LastPlaces) → Stands last (take n items) → may_stay_open (tag_of x.opened.name) ≡ false → 0 < last.stops.must_close
-  taken-must last s = stands-must (take j items) x last (subst (λ (xs : List KeptNode). Stands last xs) (take-more items n j x next within is) s)
+  pub taken-less : (last next : LastPlaces) → Stands last (take n items) → next.names.items ≡ set last.names.items x.opened.name x.same_name → next.nodes.items ≡ set last.nodes.items x.opened.node x.same_node → Stands next (take j items)
+  taken-less last left s names nodes = stands-less (take j items) x last (subst (λ (xs : List KeptNode). Stands last xs) (take-more items n j x next within is) s) left names nodes
 
   pub numbers-more : (names nodes : ℕ) → AreIn names nodes (drop n items) → x.opened.name < names → x.opened.node < nodes → AreIn names nodes (drop j items)
   numbers-more names nodes rest name_in node_in = subst (λ (xs : List KeptNode). AreIn names nodes xs) (sym (drop-more items n j x next within is)) (name_in, node_in, rest)

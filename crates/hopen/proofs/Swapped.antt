@@ -4,21 +4,21 @@ use Rattle.std.proofs.lemmas.Bool.{cases_Bool, cases_lt, eqb-true, eqb-false}
 use Rattle.std.proofs.lemmas.List.{get_or-set_same, get_or-set_other, get_or_past, length-set}
 use Rattle.hchain.specs.Chains.{last_up}
 use Rattle.hchain.proofs.LastUp.{up-sought, up-other, up-within, up-found, up-least, up-past, up-alike}
-use Rattle.hopen.specs.Kept.{IsHeld, IsLinked, swapped, turned}
+use Rattle.hopen.specs.Kept.{IsHeld, IsLinked, swap_with_next, place_after_swap}
 use Rattle.hopen.proofs.Linked.{eqb-same, eqb-not}
 
 -- where a place goes
-pub turned-upper : (i p : ℕ) → p ≡ suc i → turned i p ≡ suc (suc i)
-turned-upper i p e = ap (λ v. cond v (suc (suc i)) (cond (eqb p (suc (suc i))) (suc i) p)) (ap (λ q. eqb q (suc i)) e ∙ eqb-same (suc i))
+pub moved-upper : (i p : ℕ) → p ≡ suc i → place_after_swap i p ≡ suc (suc i)
+moved-upper i p e = ap (λ v. cond v (suc (suc i)) (cond (eqb p (suc (suc i))) (suc i) p)) (ap (λ q. eqb q (suc i)) e ∙ eqb-same (suc i))
 
-pub turned-lower : (i p : ℕ) → p ≡ suc (suc i) → turned i p ≡ suc i
-turned-lower i p e =
+pub moved-lower : (i p : ℕ) → p ≡ suc (suc i) → place_after_swap i p ≡ suc i
+moved-lower i p e =
     let ne : p ≢ suc i = omega arith in
     ap (λ v. cond v (suc (suc i)) (cond (eqb p (suc (suc i))) (suc i) p)) (eqb-not p (suc i) ne)
     ∙ ap (λ v. cond v (suc i) p) (ap (λ q. eqb q (suc (suc i))) e ∙ eqb-same (suc (suc i)))
 
-pub turned-other : (i p : ℕ) → p ≢ suc i → p ≢ suc (suc i) → turned i p ≡ p
-turned-other i p ne nf = ap (λ v. cond v (suc (suc i)) (cond (eqb p (suc (suc i))) (suc i) p)) (eqb-not p (suc i) ne) ∙ ap (λ v. cond v (suc i) p) (eqb-not p (suc (suc i)) nf)
+pub moved-other : (i p : ℕ) → p ≢ suc i → p ≢ suc (suc i) → place_after_swap i p ≡ p
+moved-other i p ne nf = ap (λ v. cond v (suc (suc i)) (cond (eqb p (suc (suc i))) (suc i) p)) (eqb-not p (suc i) ne) ∙ ap (λ v. cond v (suc i) p) (eqb-not p (suc (suc i)) nf)
 
 and-true : (v w : Bool) → (v && w) ≡ true → (v ≡ true) × (w ≡ true)
 and-true true w e = (refl, e)
@@ -26,8 +26,8 @@ and-true false w e = absurd (true≢false (sym e))
 
 -- two places that change, each at the one that keeps it
 module _ (t bs : List ℕ) (i a b m n p q : ℕ) (first : p ≡ suc i) (second : q ≡ suc (suc i)) (upper : IsHeld t bs a p m) (lower : IsHeld t bs b q n) where
-  pub turned-table : (k : ℕ) → cond (eqb n 0 && eqb k b) p (cond (eqb m 0 && eqb k a) q (get_or t k 0)) ≡ turned i (get_or t k 0)
-  turned-table k = go (cases_Bool (eqb n 0 && eqb k b)) (cases_Bool (eqb m 0 && eqb k a))
+  pub moved-table : (k : ℕ) → cond (eqb n 0 && eqb k b) p (cond (eqb m 0 && eqb k a) q (get_or t k 0)) ≡ place_after_swap i (get_or t k 0)
+  moved-table k = go (cases_Bool (eqb n 0 && eqb k b)) (cases_Bool (eqb m 0 && eqb k a))
     where
       no : (c d : ℕ) → (eqb c 0 && eqb k d) ≡ false → c ≡ 0 → k ≡ d → ⊥
       no c d e z w = true≢false (sym (both (ap (λ x. eqb x 0) z ∙ eqb-same 0) (ap (λ x. eqb x d) w ∙ eqb-same d)) ∙ e)
@@ -35,59 +35,59 @@ module _ (t bs : List ℕ) (i a b m n p q : ℕ) (first : p ≡ suc i) (second :
           both : eqb c 0 ≡ true → eqb k d ≡ true → (eqb c 0 && eqb k d) ≡ true
           both e f = λ t. e t && f t
 
-      go : ((eqb n 0 && eqb k b) ≡ true) ⊎ ((eqb n 0 && eqb k b) ≡ false) → ((eqb m 0 && eqb k a) ≡ true) ⊎ ((eqb m 0 && eqb k a) ≡ false) → cond (eqb n 0 && eqb k b) p (cond (eqb m 0 && eqb k a) q (get_or t k 0)) ≡ turned i (get_or t k 0)
+      go : ((eqb n 0 && eqb k b) ≡ true) ⊎ ((eqb n 0 && eqb k b) ≡ false) → ((eqb m 0 && eqb k a) ≡ true) ⊎ ((eqb m 0 && eqb k a) ≡ false) → cond (eqb n 0 && eqb k b) p (cond (eqb m 0 && eqb k a) q (get_or t k 0)) ≡ place_after_swap i (get_or t k 0)
       go (inl e) f =
           let both = and-true (eqb n 0) (eqb k b) e in
           let was : get_or t k 0 ≡ suc (suc i) = ap (λ x. get_or t x 0) (eqb-true k b both.1) ∙ lower.here (eqb-true n 0 both.0) ∙ second in
-          ap (λ v. cond v p (cond (eqb m 0 && eqb k a) q (get_or t k 0))) e ∙ first ∙ sym (turned-lower i (get_or t k 0) was)
+          ap (λ v. cond v p (cond (eqb m 0 && eqb k a) q (get_or t k 0))) e ∙ first ∙ sym (moved-lower i (get_or t k 0) was)
       go (inr e) (inl f) =
           let both = and-true (eqb m 0) (eqb k a) f in
           let was : get_or t k 0 ≡ suc i = ap (λ x. get_or t x 0) (eqb-true k a both.1) ∙ upper.here (eqb-true m 0 both.0) ∙ first in
-          ap (λ v. cond v p (cond (eqb m 0 && eqb k a) q (get_or t k 0))) e ∙ ap (λ v. cond v q (get_or t k 0)) f ∙ second ∙ sym (turned-upper i (get_or t k 0) was)
+          ap (λ v. cond v p (cond (eqb m 0 && eqb k a) q (get_or t k 0))) e ∙ ap (λ v. cond v q (get_or t k 0)) f ∙ second ∙ sym (moved-upper i (get_or t k 0) was)
       go (inr e) (inr f) =
           ap (λ v. cond v p (cond (eqb m 0 && eqb k a) q (get_or t k 0))) e ∙ ap (λ v. cond v q (get_or t k 0)) f
-          ∙ sym (turned-other i (get_or t k 0) (λ w. let h = upper.in_table k (w ∙ sym first) in no m a f h.0 h.1) (λ w. let h = lower.in_table k (w ∙ sym second) in no n b e h.0 h.1))
+          ∙ sym (moved-other i (get_or t k 0) (λ w. let h = upper.in_table k (w ∙ sym first) in no m a f h.0 h.1) (λ w. let h = lower.in_table k (w ∙ sym second) in no n b e h.0 h.1))
 
-  pub turned-list : (j : ℕ) → cond (eqb n (suc j)) p (cond (eqb m (suc j)) q (get_or bs j 0)) ≡ turned i (get_or bs j 0)
-  turned-list j = go (cases_Bool (eqb n (suc j))) (cases_Bool (eqb m (suc j)))
+  pub moved-list : (j : ℕ) → cond (eqb n (suc j)) p (cond (eqb m (suc j)) q (get_or bs j 0)) ≡ place_after_swap i (get_or bs j 0)
+  moved-list j = go (cases_Bool (eqb n (suc j))) (cases_Bool (eqb m (suc j)))
     where
-      go : (eqb n (suc j) ≡ true) ⊎ (eqb n (suc j) ≡ false) → (eqb m (suc j) ≡ true) ⊎ (eqb m (suc j) ≡ false) → cond (eqb n (suc j)) p (cond (eqb m (suc j)) q (get_or bs j 0)) ≡ turned i (get_or bs j 0)
-      go (inl e) f = ap (λ v. cond v p (cond (eqb m (suc j)) q (get_or bs j 0))) e ∙ first ∙ sym (turned-lower i (get_or bs j 0) (lower.there j (eqb-true n (suc j) e) ∙ second))
+      go : (eqb n (suc j) ≡ true) ⊎ (eqb n (suc j) ≡ false) → (eqb m (suc j) ≡ true) ⊎ (eqb m (suc j) ≡ false) → cond (eqb n (suc j)) p (cond (eqb m (suc j)) q (get_or bs j 0)) ≡ place_after_swap i (get_or bs j 0)
+      go (inl e) f = ap (λ v. cond v p (cond (eqb m (suc j)) q (get_or bs j 0))) e ∙ first ∙ sym (moved-lower i (get_or bs j 0) (lower.there j (eqb-true n (suc j) e) ∙ second))
       go (inr e) (inl f) =
-          ap (λ v. cond v p (cond (eqb m (suc j)) q (get_or bs j 0))) e ∙ ap (λ v. cond v q (get_or bs j 0)) f ∙ second ∙ sym (turned-upper i (get_or bs j 0) (upper.there j (eqb-true m (suc j) f) ∙ first))
+          ap (λ v. cond v p (cond (eqb m (suc j)) q (get_or bs j 0))) e ∙ ap (λ v. cond v q (get_or bs j 0)) f ∙ second ∙ sym (moved-upper i (get_or bs j 0) (upper.there j (eqb-true m (suc j) f) ∙ first))
       go (inr e) (inr f) =
           ap (λ v. cond v p (cond (eqb m (suc j)) q (get_or bs j 0))) e ∙ ap (λ v. cond v q (get_or bs j 0)) f
-          ∙ sym (turned-other i (get_or bs j 0) (λ w. eqb-false m (suc j) f (upper.in_list j (w ∙ sym first))) (λ w. eqb-false n (suc j) e (lower.in_list j (w ∙ sym second))))
+          ∙ sym (moved-other i (get_or bs j 0) (λ w. eqb-false m (suc j) f (upper.in_list j (w ∙ sym first))) (λ w. eqb-false n (suc j) e (lower.in_list j (w ∙ sym second))))
 
 module _ {X : Type 0} where
-  pub swapped-length : (i : ℕ) (xs : List X) → length (swapped i xs) ≡ length xs
+  pub swapped-length : (i : ℕ) (xs : List X) → length (swap_with_next i xs) ≡ length xs
   swapped-length zero [] = refl
   swapped-length zero (x ∷ []) = refl
   swapped-length zero (x ∷ y ∷ xs) = refl
   swapped-length (suc i) [] = refl
   swapped-length (suc i) (x ∷ xs) = ap suc (swapped-length i xs)
 
-  pub swapped-before : (i j : ℕ) (xs : List X) (d : X) → j < i → get_or (swapped i xs) j d ≡ get_or xs j d
+  pub swapped-before : (i j : ℕ) (xs : List X) (d : X) → j < i → get_or (swap_with_next i xs) j d ≡ get_or xs j d
   swapped-before zero j xs d h = absurd (omega arith)
   swapped-before (suc i) j [] d h = refl
   swapped-before (suc i) zero (x ∷ xs) d h = refl
   swapped-before (suc i) (suc j) (x ∷ xs) d h = swapped-before i j xs d (omega arith)
 
-  pub swapped-upper : (i : ℕ) (xs : List X) (d : X) → suc i < length xs → get_or (swapped i xs) i d ≡ get_or xs (suc i) d
+  pub swapped-upper : (i : ℕ) (xs : List X) (d : X) → suc i < length xs → get_or (swap_with_next i xs) i d ≡ get_or xs (suc i) d
   swapped-upper zero [] d h = absurd (omega arith)
   swapped-upper zero (x ∷ []) d h = absurd (omega arith)
   swapped-upper zero (x ∷ y ∷ xs) d h = refl
   swapped-upper (suc i) [] d h = absurd (omega arith)
   swapped-upper (suc i) (x ∷ xs) d h = swapped-upper i xs d (omega arith)
 
-  pub swapped-lower : (i : ℕ) (xs : List X) (d : X) → suc i < length xs → get_or (swapped i xs) (suc i) d ≡ get_or xs i d
+  pub swapped-lower : (i : ℕ) (xs : List X) (d : X) → suc i < length xs → get_or (swap_with_next i xs) (suc i) d ≡ get_or xs i d
   swapped-lower zero [] d h = absurd (omega arith)
   swapped-lower zero (x ∷ []) d h = absurd (omega arith)
   swapped-lower zero (x ∷ y ∷ xs) d h = refl
   swapped-lower (suc i) [] d h = absurd (omega arith)
   swapped-lower (suc i) (x ∷ xs) d h = swapped-lower i xs d (omega arith)
 
-  pub swapped-after : (i j : ℕ) (xs : List X) (d : X) → suc i < j → get_or (swapped i xs) j d ≡ get_or xs j d
+  pub swapped-after : (i j : ℕ) (xs : List X) (d : X) → suc i < j → get_or (swap_with_next i xs) j d ≡ get_or xs j d
   swapped-after zero zero xs d h = absurd (omega arith)
   swapped-after zero (suc zero) xs d h = absurd (omega arith)
   swapped-after zero (suc (suc j)) [] d h = refl
@@ -98,14 +98,14 @@ module _ {X : Type 0} where
   swapped-after (suc i) (suc j) (x ∷ xs) d h = swapped-after i j xs d (omega arith)
 
   -- all but the upper one are as they were
-  pub swapped-rest : (i : ℕ) (xs : List X) → suc i < length xs → remove (swapped i xs) (suc i) ≡ remove xs i
+  pub swapped-rest : (i : ℕ) (xs : List X) → suc i < length xs → remove (swap_with_next i xs) (suc i) ≡ remove xs i
   swapped-rest zero [] h = absurd (omega arith)
   swapped-rest zero (x ∷ []) h = absurd (omega arith)
   swapped-rest zero (x ∷ y ∷ xs) h = refl
   swapped-rest (suc i) [] h = absurd (omega arith)
   swapped-rest (suc i) (x ∷ xs) h = ap (λ l. x ∷ l) (swapped-rest i xs (omega arith))
 
-  pub swapped-same : (i : ℕ) (xs : List X) (d : X) → suc i < length xs → get_or xs i d ≡ get_or xs (suc i) d → swapped i xs ≡ xs
+  pub swapped-same : (i : ℕ) (xs : List X) (d : X) → suc i < length xs → get_or xs i d ≡ get_or xs (suc i) d → swap_with_next i xs ≡ xs
   swapped-same zero [] d h e = absurd (omega arith)
   swapped-same zero (x ∷ []) d h e = absurd (omega arith)
   swapped-same zero (x ∷ y ∷ xs) d h e = λ i. sym e i ∷ e i ∷ xs
@@ -113,14 +113,14 @@ module _ {X : Type 0} where
   swapped-same (suc i) (x ∷ xs) d h e = ap (λ l. x ∷ l) (swapped-same i xs d (omega arith) e)
 
   -- by two writes
-  pub swapped-set : (i : ℕ) (xs : List X) (d : X) → suc i < length xs → set (set xs i (get_or xs (suc i) d)) (suc i) (get_or xs i d) ≡ swapped i xs
+  pub swapped-set : (i : ℕ) (xs : List X) (d : X) → suc i < length xs → set (set xs i (get_or xs (suc i) d)) (suc i) (get_or xs i d) ≡ swap_with_next i xs
   swapped-set zero [] d h = absurd (omega arith)
   swapped-set zero (x ∷ []) d h = absurd (omega arith)
   swapped-set zero (x ∷ y ∷ xs) d h = refl
   swapped-set (suc i) [] d h = absurd (omega arith)
   swapped-set (suc i) (x ∷ xs) d h = ap (λ l. x ∷ l) (swapped-set i xs d (omega arith))
 
-pub swapped-map : {X Y : Type 0} (f : X → Y) (i : ℕ) (xs : List X) → map f (swapped i xs) ≡ swapped i (map f xs)
+pub swapped-map : {X Y : Type 0} (f : X → Y) (i : ℕ) (xs : List X) → map f (swap_with_next i xs) ≡ swap_with_next i (map f xs)
 swapped-map f zero [] = refl
 swapped-map f zero (x ∷ []) = refl
 swapped-map f zero (x ∷ y ∷ xs) = refl
@@ -129,48 +129,48 @@ swapped-map f (suc i) (x ∷ xs) = ap (λ l. f x ∷ l) (swapped-map f i xs)
 
 -- where a number is last, once two others have changed places
 module _ (s : ℕ → Bool) (i : ℕ) (ns : List ℕ) (within : suc i < length ns) where
-  up-before : (n : ℕ) → n ≤ i → last_up s (swapped i ns) n ≡ last_up s ns n
-  up-before n h = up-alike s ns (swapped i ns) n (λ j less. ap s (swapped-before i j ns 0 (omega arith)))
+  up-before : (n : ℕ) → n ≤ i → last_up s (swap_with_next i ns) n ≡ last_up s ns n
+  up-before n h = up-alike s ns (swap_with_next i ns) n (λ j less. ap s (swapped-before i j ns 0 (omega arith)))
 
   -- not both are sought
   module _ (one : s (get_or ns i 0) ≡ true → s (get_or ns (suc i) 0) ≡ false) where
     low : last_up s ns i ≤ i
     low = up-within s ns i
 
-    at-pair : last_up s (swapped i ns) (suc (suc i)) ≡ turned i (last_up s ns (suc (suc i)))
+    at-pair : last_up s (swap_with_next i ns) (suc (suc i)) ≡ place_after_swap i (last_up s ns (suc (suc i)))
     at-pair = go (cases_Bool (s (get_or ns i 0))) (cases_Bool (s (get_or ns (suc i) 0)))
       where
         ms : List ℕ
-        ms = swapped i ns
+        ms = swap_with_next i ns
 
-        go : (s (get_or ns i 0) ≡ true) ⊎ (s (get_or ns i 0) ≡ false) → (s (get_or ns (suc i) 0) ≡ true) ⊎ (s (get_or ns (suc i) 0) ≡ false) → last_up s ms (suc (suc i)) ≡ turned i (last_up s ns (suc (suc i)))
+        go : (s (get_or ns i 0) ≡ true) ⊎ (s (get_or ns i 0) ≡ false) → (s (get_or ns (suc i) 0) ≡ true) ⊎ (s (get_or ns (suc i) 0) ≡ false) → last_up s ms (suc (suc i)) ≡ place_after_swap i (last_up s ns (suc (suc i)))
         go (inl a) b =
             let old : last_up s ns (suc (suc i)) ≡ suc i = up-other s ns (suc i) (one a) ∙ up-sought s ns i a in
-            up-sought s ms (suc i) (ap s (swapped-lower i ns 0 within) ∙ a) ∙ sym (turned-upper i _ old)
+            up-sought s ms (suc i) (ap s (swapped-lower i ns 0 within) ∙ a) ∙ sym (moved-upper i _ old)
         go (inr a) (inl b) =
             let old : last_up s ns (suc (suc i)) ≡ suc (suc i) = up-sought s ns (suc i) b in
-            up-other s ms (suc i) (ap s (swapped-lower i ns 0 within) ∙ a) ∙ up-sought s ms i (ap s (swapped-upper i ns 0 within) ∙ b) ∙ sym (turned-lower i _ old)
+            up-other s ms (suc i) (ap s (swapped-lower i ns 0 within) ∙ a) ∙ up-sought s ms i (ap s (swapped-upper i ns 0 within) ∙ b) ∙ sym (moved-lower i _ old)
         go (inr a) (inr b) =
             let old : last_up s ns (suc (suc i)) ≡ last_up s ns i = up-other s ns (suc i) b ∙ up-other s ns i a in
             let ne : last_up s ns (suc (suc i)) ≢ suc i = omega (arith, low) in
             let nf : last_up s ns (suc (suc i)) ≢ suc (suc i) = omega (arith, low) in
-            up-other s ms (suc i) (ap s (swapped-lower i ns 0 within) ∙ a) ∙ up-other s ms i (ap s (swapped-upper i ns 0 within) ∙ b) ∙ up-before i (omega arith) ∙ sym old ∙ sym (turned-other i _ ne nf)
+            up-other s ms (suc i) (ap s (swapped-lower i ns 0 within) ∙ a) ∙ up-other s ms i (ap s (swapped-upper i ns 0 within) ∙ b) ∙ up-before i (omega arith) ∙ sym old ∙ sym (moved-other i _ ne nf)
 
-    pub up-swapped : (n : ℕ) → suc i < n → last_up s (swapped i ns) n ≡ turned i (last_up s ns n)
+    pub up-swapped : (n : ℕ) → suc i < n → last_up s (swap_with_next i ns) n ≡ place_after_swap i (last_up s ns n)
     up-swapped zero h = absurd (omega arith)
     up-swapped (suc n) h = go (cases_lt (suc i) n) (up-swapped n)
       where
-        step : suc i < n → last_up s (swapped i ns) n ≡ turned i (last_up s ns n) → (s (get_or ns n 0) ≡ true) ⊎ (s (get_or ns n 0) ≡ false) → last_up s (swapped i ns) (suc n) ≡ turned i (last_up s ns (suc n))
+        step : suc i < n → last_up s (swap_with_next i ns) n ≡ place_after_swap i (last_up s ns n) → (s (get_or ns n 0) ≡ true) ⊎ (s (get_or ns n 0) ≡ false) → last_up s (swap_with_next i ns) (suc n) ≡ place_after_swap i (last_up s ns (suc n))
         step less before (inl e) =
             let old : last_up s ns (suc n) ≡ suc n = up-sought s ns n e in
             let ne : last_up s ns (suc n) ≢ suc i = omega arith in
             let nf : last_up s ns (suc n) ≢ suc (suc i) = omega arith in
-            up-sought s (swapped i ns) n (ap s (swapped-after i n ns 0 less) ∙ e) ∙ sym old ∙ sym (turned-other i _ ne nf)
-        step less before (inr e) = up-other s (swapped i ns) n (ap s (swapped-after i n ns 0 less) ∙ e) ∙ before ∙ ap (turned i) (sym (up-other s ns n e))
+            up-sought s (swap_with_next i ns) n (ap s (swapped-after i n ns 0 less) ∙ e) ∙ sym old ∙ sym (moved-other i _ ne nf)
+        step less before (inr e) = up-other s (swap_with_next i ns) n (ap s (swapped-after i n ns 0 less) ∙ e) ∙ before ∙ ap (place_after_swap i) (sym (up-other s ns n e))
 
-        go : (suc i < n) ⊎ (n ≤ suc i) → (suc i < n → last_up s (swapped i ns) n ≡ turned i (last_up s ns n)) → last_up s (swapped i ns) (suc n) ≡ turned i (last_up s ns (suc n))
+        go : (suc i < n) ⊎ (n ≤ suc i) → (suc i < n → last_up s (swap_with_next i ns) n ≡ place_after_swap i (last_up s ns n)) → last_up s (swap_with_next i ns) (suc n) ≡ place_after_swap i (last_up s ns (suc n))
         go (inl less) before = step less (before less) (cases_Bool (s (get_or ns n 0)))
-        go (inr more) before = let same : suc i ≡ n = omega arith in subst (λ k. last_up s (swapped i ns) (suc k) ≡ turned i (last_up s ns (suc k))) same at-pair
+        go (inr more) before = let same : suc i ≡ n = omega arith in subst (λ k. last_up s (swap_with_next i ns) (suc k) ≡ place_after_swap i (last_up s ns (suc k))) same at-pair
 
 -- a place of a number below an index where it is too
 pub record Walks (ns : List ℕ) (i p : ℕ) : Type 0 where
@@ -261,19 +261,19 @@ module _ (t ns bs : List ℕ) (l : IsLinked t ns bs) (i : ℕ) where
       )
 
   -- two neighbours that are not of one number change places
-  module _ (within : suc i < length ns) (differ : get_or ns i 0 ≢ get_or ns (suc i) 0) (u cs : List ℕ) (table : (k : ℕ) → get_or u k 0 ≡ turned i (get_or t k 0))
-      (upper : get_or cs i 0 ≡ get_or bs (suc i) 0) (lower : get_or cs (suc i) 0 ≡ get_or bs i 0) (rest : (j : ℕ) → j ≢ i → j ≢ suc i → get_or cs j 0 ≡ turned i (get_or bs j 0)) where
+  module _ (within : suc i < length ns) (differ : get_or ns i 0 ≢ get_or ns (suc i) 0) (u cs : List ℕ) (table : (k : ℕ) → get_or u k 0 ≡ place_after_swap i (get_or t k 0))
+      (upper : get_or cs i 0 ≡ get_or bs (suc i) 0) (lower : get_or cs (suc i) 0 ≡ get_or bs i 0) (rest : (j : ℕ) → j ≢ i → j ≢ suc i → get_or cs j 0 ≡ place_after_swap i (get_or bs j 0)) where
     one-of : (k : ℕ) → eqb (get_or ns i 0) k ≡ true → eqb (get_or ns (suc i) 0) k ≡ false
     one-of k e = eqb-not (get_or ns (suc i) 0) k (λ f. differ (eqb-true _ k e ∙ sym f))
 
-    pub linked-swapped : IsLinked u (swapped i ns) cs
+    pub linked-swapped : IsLinked u (swap_with_next i ns) cs
     linked-swapped = record {
-      says = λ k. table k ∙ ap (turned i) (l.says k) ∙ sym (up-swapped (λ n. eqb n k) i ns within (one-of k) (length ns) within) ∙ ap (last_up (λ n. eqb n k) (swapped i ns)) (sym (swapped-length i ns));
+      says = λ k. table k ∙ ap (place_after_swap i) (l.says k) ∙ sym (up-swapped (λ n. eqb n k) i ns within (one-of k) (length ns) within) ∙ ap (last_up (λ n. eqb n k) (swap_with_next i ns)) (sym (swapped-length i ns));
       kept = λ j h. kept j (let less : j < length ns = omega (arith, swapped-length i ns) in less) (cases_lt j i) (cases_lt (suc i) j) (cases_lt i j);
     }
       where
         ms : List ℕ
-        ms = swapped i ns
+        ms = swap_with_next i ns
 
         kept : (j : ℕ) → j < length ns → (j < i) ⊎ (i ≤ j) → (suc i < j) ⊎ (j ≤ suc i) → (i < j) ⊎ (j ≤ i) → get_or cs j 0 ≡ last_up (λ n. eqb n (get_or ms j 0)) ms j
         kept j h (inl less) b m =
@@ -284,11 +284,11 @@ module _ (t ns bs : List ℕ) (l : IsLinked t ns bs) (i : ℕ) where
             let most = up-within s ns j in
             let ng : get_or bs j 0 ≢ suc i = omega arith in
             let nh : get_or bs j 0 ≢ suc (suc i) = omega arith in
-            rest j ne nf ∙ turned-other i (get_or bs j 0) ng nh ∙ up ∙ sym (up-before s i ns within j (omega arith)) ∙ ap (λ n. last_up (λ m. eqb m n) ms j) (sym (swapped-before i j ns 0 less))
+            rest j ne nf ∙ moved-other i (get_or bs j 0) ng nh ∙ up ∙ sym (up-before s i ns within j (omega arith)) ∙ ap (λ n. last_up (λ m. eqb m n) ms j) (sym (swapped-before i j ns 0 less))
         kept j h (inr a) (inl more) m =
             let ne : j ≢ i = omega arith in
             let nf : j ≢ suc i = omega arith in
-            rest j ne nf ∙ ap (turned i) (l.kept j h) ∙ sym (up-swapped (λ n. eqb n (get_or ns j 0)) i ns within (one-of (get_or ns j 0)) j more) ∙ ap (λ n. last_up (λ m. eqb m n) ms j) (sym (swapped-after i j ns 0 more))
+            rest j ne nf ∙ ap (place_after_swap i) (l.kept j h) ∙ sym (up-swapped (λ n. eqb n (get_or ns j 0)) i ns within (one-of (get_or ns j 0)) j more) ∙ ap (λ n. last_up (λ m. eqb m n) ms j) (sym (swapped-after i j ns 0 more))
         kept j h (inr a) (inr b) (inl m) =
             let at : suc i ≡ j = omega arith in
             let x = get_or ns i 0 in

@@ -1,11 +1,9 @@
 -- A vector after an edit of the slice that it lends, and tables that have grown.
-use Rattle.std.proofs.Common.{◌≡◌, ℕ, List, ◌++◌, length, map, take, drop, sym, ◌∙◌, ap, subst}
+use Rattle.std.proofs.Common.{◌≡◌, ℕ, List, ◌++◌, ◌<◌, ◌^◌, length, map, take, drop, sym, ◌∙◌, ap, subst}
 use Rattle.std.proofs.Math.Seq.{take-append_seam}
 use Rattle.std.proofs.lemmas.List.{length-map}
 use Rattle.std.specs.Prelude.{slice_index}
-use Rattle.hopen.specs.Kept.{names_of, opened_by, Stands}
-use Rattle.hopen.specs.Stops.{AreStops}
-use Rattle.hopen.specs.declared.stops.Stop.{Stop}
+use Rattle.hopen.specs.Kept.{opened_by, Stands}
 use Rattle.hopen.specs.declared.kept.KeptNode.{KeptNode}
 use Rattle.hopen.specs.declared.kept.LastPlaces.{LastPlaces}
 
@@ -18,11 +16,11 @@ written_back new old n lent same is long = ap (λ k. take k (new ++ drop (length
 
 -- where tables say the same places of the same items, these are in them
 pub stands_same : (old new : LastPlaces) (xs ys : List KeptNode) → ((k : ℕ) → slice_index new.names.items k ≡ slice_index old.names.items k) → ((k : ℕ) → slice_index new.nodes.items k ≡ slice_index old.nodes.items k)
-    → new.stops.list.items ≡ old.stops.list.items → new.stops.must_close ≡ old.stops.must_close → ys ≡ xs → Stands old xs → Stands new ys
-stands_same old new xs ys names nodes list must_close same s =
+    → (length old.nodes.items < 2 ^ 32 → length new.nodes.items < 2 ^ 32) → ys ≡ xs → Stands old xs → Stands new ys
+stands_same old new xs ys names nodes fits same s =
     subst (Stands new) (sym same) (record {
       names = record { says = λ k. names k ∙ s.names.says k; kept = s.names.kept };
       nodes = record { says = λ k. nodes k ∙ s.nodes.says k; kept = s.nodes.kept };
-      counted = record { stops = subst (λ (l : List Stop). AreStops l (names_of xs)) (sym list) s.counted.stops; must_close = must_close ∙ s.counted.must_close };
-      stops = s.stops;
+      sets = s.sets;
+      fits = fits s.fits;
     })

@@ -7,4 +7,3 @@ pub mod Rows
 pub mod Spelled
 pub mod NameSets
 pub mod Kept
-pub mod Stops

@@ -1,13 +1,13 @@
 -- What is sought among the open nodes, and what stops the search.
-use Rattle.std.specs.Prelude.{Bool, true, false}
+use Rattle.std.specs.Prelude.{Bool}
 use Rattle.hopen.specs.Stack.{OpenNode}
 use Rattle.hopen.specs.declared.scope.Scope.{Scope}
 use Rattle.hopen.specs.declared.scope.Scope.TheVariants as scope
 use Rattle.hopen.specs.declared.scope.Group.{Group}
 use Rattle.hopen.specs.declared.scope.Group.TheVariants as group
 use Rattle.names.specs.declared.tag.Tag.{Tag}
-use Rattle.names.specs.declared.tag.Tag.TheVariants as tag
-use Rattle.names.specs.Sets.{is_special, stops_scope, stops_list_item_scope, stops_button_scope, stops_table_scope, is_heading, is_table_section}
+use Rattle.names.specs.Sets.{stops_scope, stops_list_item_scope, stops_button_scope, stops_table_scope, is_heading, is_table_section, is_cell}
+pub use Rattle.names.specs.Sets.{stops_item, tells_mode}
 
 -- whether a name stops the search in a scope (13.2.4.2)
 abbrev pub stops_in : Scope → Tag → Bool
@@ -15,33 +15,6 @@ stops_in scope.Default t = stops_scope t
 stops_in scope.ListItem t = stops_list_item_scope t
 stops_in scope.Button t = stops_button_scope t
 stops_in scope.Table t = stops_table_scope t
-
--- whether it is td or th
-abbrev pub is_cell : Tag → Bool
-is_cell tag.Td = true
-is_cell tag.Th = true
-is_cell _ = false
-
--- What stops the search for an open li, dd or dt (13.2.6.4.7): a special name other than address, div and p.
-abbrev pub stops_item : Tag → Bool
-stops_item tag.Address = false
-stops_item tag.Div = false
-stops_item tag.P = false
-stops_item t = is_special t
-
--- whether an element of a name determines the insertion mode when it is reset (13.2.4.1)
-abbrev pub tells_mode : Tag → Bool
-tells_mode tag.Body = true
-tells_mode tag.Caption = true
-tells_mode tag.Colgroup = true
-tells_mode tag.Table = true
-tells_mode tag.Tbody = true
-tells_mode tag.Td = true
-tells_mode tag.Tfoot = true
-tells_mode tag.Th = true
-tells_mode tag.Thead = true
-tells_mode tag.Tr = true
-tells_mode _ = false
 
 -- whether a name is of a group
 abbrev pub is_of_group : Group → Tag → Bool

@@ -39,8 +39,8 @@ module _ {N : Type 0} where
   abbrev pub below : ℕ → List (OpenNode N) → List (OpenNode N)
   below n stack = before (is_node n) stack
 
-  -- Whether an element is in a scope (13.2.4.2): going up from the current node, one that is sought comes before any stop that is
-  -- not sought.
+  -- Whether an element is in a scope (#has-an-element-in-the-specific-scope): going up from the current node, one that is sought comes
+  -- before any stop that is not sought.
   abbrev pub in_scope : (stops sought : OpenNode N → Bool) → List (OpenNode N) → Bool
   in_scope stops sought [] = false
   in_scope stops sought (x ∷ up) = sought x || (not (stops x) && in_scope stops sought up)

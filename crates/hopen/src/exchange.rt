@@ -6,15 +6,13 @@ ghost use Rattle.std.specs.Prelude.{if◌then◌else◌};
 ghost use Rattle.hchain.specs.Nearest.{put_before, without};
 ghost use Rattle.hopen.specs.Opens.{open_of};
 ghost use Rattle.hopen.specs.Stack.{is_node, is_open};
-ghost use Rattle.hopen.specs.Stops.{AreCounted, HasSpace, specials};
-ghost use Rattle.hopen.specs.Kept.{IsHeld, IsLinked, KeepStops, Passes, Stands, names_in, nodes_in, opened_by, same_name_of, same_node_of};
-ghost use Rattle.hopen.specs.Kept.{stack_of, stops_of, swapped};
+ghost use Rattle.hopen.specs.Kept.{IsHeld, IsLinked, KeepSets, CanPass, Stands, names_in, nodes_in, opened_by, same_name_of, same_node_of};
+ghost use Rattle.hopen.specs.Kept.{sets_at, stack_of, swap_with_next};
 ghost use Rattle.names.specs.Sets.{is_special};
 ghost use Rattle.names.specs.Tags.{tag_of};
 
-use crate::kept::{KeptNode, LastPlaces, hint, insert, remove_run, replace};
+use crate::kept::{KeptNode, LastPlaces, hint, insert, remove_run, replace, sets_from};
 use crate::stack::Open;
-use crate::stops::{Stops, is_stop};
 use hnodes::NodeId;
 use names::NameId;
 
@@ -48,7 +46,7 @@ fn link(items: &mut [KeptNode], index: usize, same_name: u32, next_name: u32)
     ensures same_names { map same_name_of items.new ≡ slice_set (map same_name_of items.old) index same_name }
     ensures opened { map opened_by items.new ≡ map opened_by items.old }
     ensures same_nodes { map same_node_of items.new ≡ map same_node_of items.old }
-    ensures stops { map stops_of items.new ≡ map stops_of items.old }
+    ensures sets { map sets_at items.new ≡ map sets_at items.old }
 {
     let item = items[index];
     items[index] = KeptNode {
@@ -66,7 +64,7 @@ fn keep(names: &mut [u32], items: &mut [KeptNode], name: NameId, next: u32, plac
     ensures befores { (j : ℕ) → slice_index (map same_name_of items.new) j ≡ (if next == suc j then place else slice_index (map same_name_of items.old) j) }
     ensures opened { map opened_by items.new ≡ map opened_by items.old }
     ensures same_nodes { map same_node_of items.new ≡ map same_node_of items.old }
-    ensures stops { map stops_of items.new ≡ map stops_of items.old }
+    ensures sets { map sets_at items.new ≡ map sets_at items.old }
 {
     if next > 0 {
         let item = items[next as usize - 1];
@@ -81,10 +79,10 @@ fn swap_names(names: &mut [u32], items: &mut [KeptNode], index: usize)
     requires linked { IsLinked names.old (names_in (map opened_by items.old)) (map same_name_of items.old) }
     requires places { length items.old < 2 ^ 32 }
     requires within { index + 1 < length items.old }
-    ensures linked { IsLinked names.new (swapped index (names_in (map opened_by items.old))) (map same_name_of items.new) }
+    ensures linked { IsLinked names.new (swap_with_next index (names_in (map opened_by items.old))) (map same_name_of items.new) }
     ensures opened { map opened_by items.new ≡ map opened_by items.old }
     ensures same_nodes { map same_node_of items.new ≡ map same_node_of items.old }
-    ensures stops { map stops_of items.new ≡ map stops_of items.old }
+    ensures sets { map sets_at items.new ≡ map sets_at items.old }
 {
     let upper = items[index];
     let lower = items[index + 1];
@@ -102,52 +100,35 @@ fn swap_names(names: &mut [u32], items: &mut [KeptNode], index: usize)
     hint(items, upper.same_name, place + 1);
 }
 
-/// Notes that the lower one of two nodes comes to a place, which was that of the upper one; `index` is how many special nodes are above.
-fn raise(stops: &mut Stops, name: NameId, index: u32, place: u32)
-    requires { is_special (tag_of name) ≡ true → index < length stops.old.list.items }
-    ensures counted { (below above : List ℕ) → (upper : ℕ) → is_special (tag_of upper) ≡ false → index ≡ length (specials above) → place ≡ suc (length above) → AreCounted stops.old (below ++ name ∷ upper ∷ above) → AreCounted stops.new (below ++ upper ∷ name ∷ above) }
-    ensures space { (n : ℕ) → HasSpace stops.old n → HasSpace stops.new n }
-{
-    if is_stop(name.tag()) {
-        stops.list[index as usize].place = place;
-    }
-}
-
-/// How many special nodes are above the one right below an item.
-fn stops_with(item: &KeptNode) -> u32
-    requires { item.now.stops + 1 < 2 ^ 32 }
-    ensures { result ≡ (if is_special (tag_of item.now.opened.name) then suc item.now.stops else item.now.stops) }
-{
-    if is_stop(item.opened.name.tag()) {
-        item.stops + 1
-    } else {
-        item.stops
-    }
-}
-
 /// Exchanges the nodes of an item and the one right below it, and all but what they keep of their names.
 fn swap_items(items: &mut [KeptNode], index: usize)
     requires within { index + 1 < length items.old }
     requires places { length items.old < 2 ^ 32 }
-    requires stops { KeepStops (names_in (map opened_by items.old)) (map stops_of items.old) }
+    requires sets { KeepSets (map opened_by items.old) (map sets_at items.old) }
     requires plain { is_special (tag_of (slice_index (names_in (map opened_by items.old)) index)) ≡ false }
-    ensures opened { map opened_by items.new ≡ swapped index (map opened_by items.old) }
+    requires fits { slice_index (nodes_in (map opened_by items.old)) (index + 1) + 1 < 2 ^ 32 }
+    ensures opened { map opened_by items.new ≡ swap_with_next index (map opened_by items.old) }
     ensures same_names { map same_name_of items.new ≡ map same_name_of items.old }
-    ensures same_nodes { map same_node_of items.new ≡ swapped index (map same_node_of items.old) }
-    ensures stops { KeepStops (names_in (map opened_by items.new)) (map stops_of items.new) }
+    ensures same_nodes { map same_node_of items.new ≡ swap_with_next index (map same_node_of items.old) }
+    ensures sets { KeepSets (map opened_by items.new) (map sets_at items.new) }
 {
     let upper = items[index];
     let lower = items[index + 1];
+    let Open { node, name } = lower.opened;
+    let sets = sets_from(items, index, Open { node, name });
     items[index] = KeptNode {
-        opened: lower.opened,
+        opened: Open { node, name },
+        same_name: upper.same_name,
+        next_name: upper.next_name,
         same_node: lower.same_node,
-        ..upper
+        sets,
     };
     items[index + 1] = KeptNode {
         opened: upper.opened,
+        same_name: lower.same_name,
+        next_name: lower.next_name,
         same_node: upper.same_node,
-        stops: stops_with(&lower),
-        ..lower
+        sets: lower.sets,
     };
 }
 
@@ -155,12 +136,11 @@ fn swap_items(items: &mut [KeptNode], index: usize)
 fn swap(last: &mut LastPlaces, items: &mut [KeptNode], index: usize)
     requires stands { Stands last.old items.old }
     requires places { length items.old < 2 ^ 32 }
-    requires passes { Passes last.old items.old index }
+    requires can_pass { CanPass last.old items.old index }
     ensures stands { Stands last.new items.new }
-    ensures opened { map opened_by items.new ≡ swapped index (map opened_by items.old) }
+    ensures opened { map opened_by items.new ≡ swap_with_next index (map opened_by items.old) }
     ensures names { length last.new.names.items ≡ length last.old.names.items }
     ensures nodes { length last.new.nodes.items ≡ length last.old.nodes.items }
-    ensures space { (n : ℕ) → HasSpace last.old.stops n → HasSpace last.new.stops n }
 {
     let upper = items[index];
     let lower = items[index + 1];
@@ -168,18 +148,17 @@ fn swap(last: &mut LastPlaces, items: &mut [KeptNode], index: usize)
     swap_names(&mut last.names, items, index);
     last.nodes[upper.opened.node.index()] = place + 1;
     last.nodes[lower.opened.node.index()] = place;
-    raise(&mut last.stops, lower.opened.name, lower.stops, place);
     swap_items(items, index);
 }
 
 /// Whether a node can pass the one right below it.
-fn passes(last: &LastPlaces, items: &[KeptNode], index: usize) -> bool
+fn can_pass(last: &LastPlaces, items: &[KeptNode], index: usize) -> bool
     requires { index + 1 < length items.now }
-    ensures { (result ≡ true) → Passes last.now items.now index }
+    ensures { (result ≡ true) → CanPass last.now items.now index }
 {
     let upper = items[index].opened;
     let lower = items[index + 1].opened;
-    if is_stop(upper.name.tag()) {
+    if upper.name.tag().is_special() {
         return false;
     }
     if last.of_node(upper.node) as usize != index + 1 {
@@ -199,10 +178,9 @@ fn sink(last: &mut LastPlaces, items: &mut [KeptNode], from: usize, to: usize) -
     ensures rest { remove (map opened_by items.new) result ≡ remove (map opened_by items.old) from }
     ensures names { length last.new.names.items ≡ length last.old.names.items }
     ensures nodes { length last.new.nodes.items ≡ length last.old.nodes.items }
-    ensures space { (n : ℕ) → HasSpace last.old.stops n → HasSpace last.new.stops n }
 {
     let mut index = from;
-    while index < to && passes(last, items, index) {
+    while index < to && can_pass(last, items, index) {
         swap(last, items, index);
         index += 1;
     }
@@ -223,7 +201,6 @@ fn exchange_any(
     requires places { length items.old.items < 2 ^ 32 }
     requires name_in { new.name < length last.old.names.items }
     requires node_in { new.node < length last.old.nodes.items }
-    requires space { HasSpace last.old.stops new.name }
     ensures stands { Stands last.new items.new.items }
     ensures items { stack_of items.new.items ≡ put_before (is_node above) (open_of new) (reverse (remove (map opened_by items.old.items) index)) }
 {
@@ -249,7 +226,6 @@ pub(crate) fn exchange(
     requires places { length items.old.items < 2 ^ 32 }
     requires name_in { new.name < length last.old.names.items }
     requires node_in { new.node < length last.old.nodes.items }
-    requires space { HasSpace last.old.stops new.name }
     ensures stands { Stands last.new items.new.items }
     ensures items { stack_of items.new.items ≡ put_before (is_node above) (open_of new) (without (is_node leaving) (stack_of items.old.items)) }
 {

@@ -1,18 +1,16 @@
 //! The places that open nodes keep, so that no question has to search the stack.
 
-ghost use Rattle.std.specs.Prelude.{◌≡◌, false, true, suc, ℕ, List, ◌+◌, ◌<◌, ◌≤◌, ◌^◌, OnOk, OnErr, [], ◌∷◌, drop, insert, length, map, reverse, slice_index};
-ghost use Rattle.std.specs.Prelude.{slice_set, take, vec_capacity, vec_len, if◌then◌else◌};
+ghost use Rattle.std.specs.Prelude.{◌≡◌, true, suc, ℕ, ◌+◌, ◌<◌, ◌≤◌, ◌^◌, OnOk, OnErr, [], ◌∷◌, drop, insert, length, map, slice_index, slice_set, take};
+ghost use Rattle.std.specs.Prelude.{vec_capacity, vec_len, if◌then◌else◌};
 ghost use Rattle.std.specs.List.{remove_range};
 ghost use Rattle.std.specs.Option.{option_map};
 ghost use Rattle.hopen.specs.Opens.{open_of};
 ghost use Rattle.hopen.specs.Stack.{current};
-ghost use Rattle.hopen.specs.Stops.{AreCounted, HasRoom, HasSpace, specials};
-ghost use Rattle.hopen.specs.Kept.{AreAlike, AreIn, IsFresh, Stands, names_of, opened_by, stack_of};
-ghost use Rattle.names.specs.Sets.{may_stay_open};
-ghost use Rattle.names.specs.Tags.{tag_of};
+ghost use Rattle.hopen.specs.Kept.{AreAlike, AreIn, CanGiveWay, KeepsFrom, Stands, kept_above, must_close_in, opened_by, stack_of};
+ghost use Rattle.hopen.specs.NameSets.{set_node};
 
+use crate::name_sets::{NameSet, SetNodes};
 use crate::stack::Open;
-use crate::stops::Stops;
 use hnodes::NodeId;
 use names::NameId;
 use std::alloc::{AllocError, Global};
@@ -27,18 +25,17 @@ pub(crate) struct KeptNode {
     pub(crate) next_name: u32,
     /// The nearest place above it where the same node is open.
     pub(crate) same_node: u32,
-    /// How many special nodes are open above it.
-    pub(crate) stops: u32,
+    /// The nearest nodes of sets of names, from it on upwards.
+    pub(crate) sets: SetNodes,
 }
 
-const _: () = prove!(std::mem::size_of::<KeptNode>() == 24);
+const _: () = prove!(std::mem::size_of::<KeptNode>() == 64);
 
-/// For each name, and each node, by its number: the nearest place where it is open, 0 if it is not. And the special nodes.
+/// For each name, and each node, by its number: the nearest place where it is open, 0 if it is not.
 #[derive(Drop)]
 pub(crate) struct LastPlaces {
     pub(crate) names: Vec<u32>,
     pub(crate) nodes: Vec<u32>,
-    pub(crate) stops: Stops,
 }
 
 /// The place of a number; 0 if the table does not reach it.
@@ -55,18 +52,20 @@ fn place_at(places: &[u32], number: usize) -> u32
 /// How many numbers a table grows by at least: numbers mostly come in order, so the next ones have room then.
 const GROWTH: usize = 64;
 
-/// Grows a table so that a number is in it.
+/// Grows a table so that a number is in it. What follows a number of a table fits into 32 bits too.
+#[inline(always)]
 fn make_room(places: &mut Vec<u32>, number: usize) -> Result<(), AllocError>
     ensures same { (k : ℕ) → slice_index places.new.items k ≡ slice_index places.old.items k }
     ensures room { OnOk result (number < length places.new.items) }
+    ensures fits { length places.old.items < 2 ^ 32 → length places.new.items < 2 ^ 32 }
 {
     if number < places.len() {
         return Ok(());
     }
-    let Some(needed) = number.checked_add(GROWTH) else {
+    if number > u32::MAX as usize - GROWTH {
         return Err(AllocError);
-    };
-    places.resize(needed, 0)
+    }
+    places.resize(number + GROWTH, 0)
 }
 
 impl KeptNode {
@@ -79,7 +78,7 @@ impl KeptNode {
             same_name: 0,
             next_name: 0,
             same_node: 0,
-            stops: 0,
+            sets: SetNodes::none(),
         }
     }
 }
@@ -88,12 +87,10 @@ impl LastPlaces {
     pub(crate) fn new(alloc: Global) -> Self
         ensures names { result.names.items ≡ [] }
         ensures nodes { result.nodes.items ≡ [] }
-        ensures stops { AreCounted result.stops [] }
     {
         LastPlaces {
             names: Vec::new(alloc),
             nodes: Vec::new(alloc),
-            stops: Stops::new(alloc),
         }
     }
 
@@ -112,46 +109,28 @@ impl LastPlaces {
     }
 
     /// Makes room for a node and its name.
+    #[inline(always)]
     pub(crate) fn make_room(&mut self, opened: Open) -> Result<(), AllocError>
         ensures same_names { (k : ℕ) → slice_index self.new.names.items k ≡ slice_index self.old.names.items k }
         ensures same_nodes { (k : ℕ) → slice_index self.new.nodes.items k ≡ slice_index self.old.nodes.items k }
-        ensures same_stops { self.new.stops.list.items ≡ self.old.stops.list.items }
-        ensures must_close { self.new.stops.must_close ≡ self.old.stops.must_close }
+        ensures fits { length self.old.nodes.items < 2 ^ 32 → length self.new.nodes.items < 2 ^ 32 }
         ensures name_in { OnOk result (opened.name < length self.new.names.items) }
         ensures node_in { OnOk result (opened.node < length self.new.nodes.items) }
-        ensures room { OnOk result (HasSpace self.new.stops opened.name) }
     {
         make_room(&mut self.names, opened.name.index())?;
-        make_room(&mut self.nodes, opened.node.index())?;
-        self.stops.make_room(opened.name)
+        make_room(&mut self.nodes, opened.node.index())
     }
 
     /// Writes the places of a node and of its name.
+    #[inline(always)]
     fn set(&mut self, opened: Open, of_name: u32, of_node: u32)
         requires name_in { opened.name < length self.old.names.items }
         requires node_in { opened.node < length self.old.nodes.items }
         ensures names { self.new.names.items ≡ slice_set self.old.names.items opened.name of_name }
         ensures nodes { self.new.nodes.items ≡ slice_set self.old.nodes.items opened.node of_node }
-        ensures stops { self.new.stops ≡ self.old.stops }
     {
         self.names[opened.name.index()] = of_name;
         self.nodes[opened.node.index()] = of_node;
-    }
-
-    /// Notes that a node is open at a place, below all others.
-    #[inline(always)]
-    pub(crate) fn put(&mut self, opened: Open, place: u32)
-        requires name_in { opened.name < length self.old.names.items }
-        requires node_in { opened.node < length self.old.nodes.items }
-        requires room { HasRoom self.old.stops opened.name }
-        ensures names { self.new.names.items ≡ slice_set self.old.names.items opened.name place }
-        ensures nodes { self.new.nodes.items ≡ slice_set self.old.nodes.items opened.node place }
-        ensures counted { (names : List ℕ) → AreCounted self.old.stops names → place ≡ suc (length names) → AreCounted self.new.stops (opened.name ∷ names) }
-        ensures capacity { vec_capacity self.old.stops.list ≤ vec_capacity self.new.stops.list }
-    {
-        let Open { node, name } = opened;
-        self.set(Open { node, name }, place, place);
-        self.stops.open(name, place);
     }
 
     /// Notes that the node of the lowest item is closed: what the item kept is the nearest again.
@@ -159,33 +138,55 @@ impl LastPlaces {
     pub(crate) fn take_back(&mut self, item: &KeptNode)
         requires name_in { item.now.opened.name < length self.old.names.items }
         requires node_in { item.now.opened.node < length self.old.nodes.items }
-        requires must_close { may_stay_open (tag_of item.now.opened.name) ≡ false → 0 < self.old.stops.must_close }
         ensures names { self.new.names.items ≡ slice_set self.old.names.items item.now.opened.name item.now.same_name }
         ensures nodes { self.new.nodes.items ≡ slice_set self.old.nodes.items item.now.opened.node item.now.same_node }
-        ensures counted { (names : List ℕ) → AreCounted self.old.stops (item.now.opened.name ∷ names) → AreCounted self.new.stops names }
-        ensures capacity { vec_capacity self.new.stops.list ≡ vec_capacity self.old.stops.list }
     {
         self.set(item.opened, item.same_name, item.same_node);
-        self.stops.close(item.opened.name);
     }
 
     /// The item of a node that is opened right below all others.
     #[inline(always)]
-    pub(crate) fn item(&self, opened: Open) -> KeptNode
-        requires { length self.now.stops.list.items < 2 ^ 32 }
+    pub(crate) fn item(&self, opened: Open, sets: SetNodes) -> KeptNode
+        requires name_in { opened.name < length self.now.names.items }
+        requires node_in { opened.node < length self.now.nodes.items }
         ensures opened { result.opened ≡ opened }
         ensures same_name { result.same_name ≡ slice_index self.now.names.items opened.name }
         ensures same_node { result.same_node ≡ slice_index self.now.nodes.items opened.node }
-        ensures stops { result.stops ≡ length self.now.stops.list.items }
+        ensures sets { result.sets ≡ sets }
     {
         KeptNode {
             opened,
-            same_name: self.of_name(opened.name),
+            same_name: self.names[opened.name.index()],
             next_name: 0,
-            same_node: self.of_node(opened.node),
-            stops: self.stops.list.len() as u32,
+            same_node: self.nodes[opened.node.index()],
+            sets,
         }
     }
+}
+
+/// The nearest nodes of sets of names above an index.
+#[inline(always)]
+pub(crate) fn sets_above(items: &[KeptNode], index: usize) -> SetNodes
+    requires { index ≤ length items.now }
+    ensures nodes { (set : NameSet) → set_node set result ≡ kept_above (set_node set) items.now index }
+    ensures must_close { must_close_in result ≡ kept_above must_close_in items.now index }
+{
+    if index > 0 {
+        items[index - 1].sets
+    } else {
+        SetNodes::none()
+    }
+}
+
+/// The same from a node on upwards, where it is open at an index.
+#[inline(always)]
+pub(crate) fn sets_from(items: &[KeptNode], index: usize, opened: Open) -> SetNodes
+    requires within { index ≤ length items.now }
+    requires fits { opened.node + 1 < 2 ^ 32 }
+    ensures { KeepsFrom items.now index (open_of opened) result }
+{
+    let Open { node, name } = opened;
+    sets_above(items, index).with(name.tag(), node.index() as u32 + 1)
 }
 
 /// Notes at the item at a place, if it is one, where the next node of its name is.
@@ -194,11 +195,7 @@ pub(crate) fn hint(items: &mut [KeptNode], place: u32, next: u32)
     ensures { AreAlike items.new items.old }
 {
     if place > 0 && place as usize <= items.len() {
-        let item = items[place as usize - 1];
-        items[place as usize - 1] = KeptNode {
-            next_name: next,
-            ..item
-        };
+        items[place as usize - 1].next_name = next;
     }
 }
 
@@ -210,7 +207,6 @@ fn unwind(last: &mut LastPlaces, items: &[KeptNode], from: usize)
     ensures numbers { AreIn (length last.new.names.items) (length last.new.nodes.items) (drop from items.now) }
     ensures names { length last.new.names.items ≡ length last.old.names.items }
     ensures nodes { length last.new.nodes.items ≡ length last.old.nodes.items }
-    ensures capacity { vec_capacity last.new.stops.list ≡ vec_capacity last.old.stops.list }
 {
     let mut end = items.len();
     while end > from {
@@ -219,27 +215,44 @@ fn unwind(last: &mut LastPlaces, items: &[KeptNode], from: usize)
     }
 }
 
+/// Opens the node of the item at an index right below those above it: the item gets its places, and the tables get them.
+#[inline(always)]
+fn open_at(last: &mut LastPlaces, items: &mut [KeptNode], index: usize)
+    requires stands { Stands last.old (take index items.old) }
+    requires within { index < length items.old }
+    requires numbers { AreIn (length last.old.names.items) (length last.old.nodes.items) (drop index items.old) }
+    requires places { length items.old < 2 ^ 32 }
+    ensures stands { Stands last.new (take (index + 1) items.new) }
+    ensures numbers { AreIn (length last.new.names.items) (length last.new.nodes.items) (drop (index + 1) items.new) }
+    ensures same { map opened_by items.new ≡ map opened_by items.old }
+    ensures names { length last.new.names.items ≡ length last.old.names.items }
+    ensures nodes { length last.new.nodes.items ≡ length last.old.nodes.items }
+{
+    let place = index as u32 + 1;
+    let opened = items[index].opened;
+    let Open { node, name } = opened;
+    let sets = sets_from(items, index, Open { node, name });
+    let item = last.item(opened, sets);
+    let same_name = item.same_name;
+    last.set(item.opened, place, place);
+    items[index] = item;
+    hint(items, same_name, place);
+}
+
 /// Puts the items from an index on into the tables again, with the places that they have now.
 fn rewind(last: &mut LastPlaces, items: &mut [KeptNode], from: usize)
     requires stands { Stands last.old (take from items.old) }
     requires within { from ≤ length items.old }
     requires numbers { AreIn (length last.old.names.items) (length last.old.nodes.items) (drop from items.old) }
     requires places { length items.old < 2 ^ 32 }
-    requires room { length (specials (names_of items.old)) ≤ vec_capacity last.old.stops.list }
     ensures stands { Stands last.new items.new }
     ensures same { map opened_by items.new ≡ map opened_by items.old }
     ensures names { length last.new.names.items ≡ length last.old.names.items }
     ensures nodes { length last.new.nodes.items ≡ length last.old.nodes.items }
-    ensures capacity { vec_capacity last.old.stops.list ≤ vec_capacity last.new.stops.list }
 {
     let mut index = from;
     while index < items.len() {
-        let place = index as u32 + 1;
-        let item = last.item(items[index].opened);
-        let same_name = item.same_name;
-        last.put(item.opened, place);
-        items[index] = item;
-        hint(items, same_name, place);
+        open_at(last, items, index);
         index += 1;
     }
 }
@@ -259,12 +272,9 @@ pub(crate) fn push(
 {
     let Open { node, name } = opened;
     last.make_room(Open { node, name })?;
-    let place = items.len() as u32 + 1;
-    let item = last.item(Open { node, name });
-    let same_name = item.same_name;
-    items.push(item)?;
-    last.put(Open { node, name }, place);
-    hint(items, same_name, place);
+    let index = items.len();
+    items.push(KeptNode::new(Open { node, name }))?;
+    open_at(last, items, index);
     Ok(())
 }
 
@@ -290,7 +300,6 @@ pub(crate) fn remove_run(last: &mut LastPlaces, items: &mut Vec<KeptNode>, from:
     ensures items { map opened_by items.new.items ≡ map opened_by (remove_range items.old.items from to) }
     ensures names { length last.new.names.items ≡ length last.old.names.items }
     ensures nodes { length last.new.nodes.items ≡ length last.old.nodes.items }
-    ensures stops { vec_capacity last.old.stops.list ≤ vec_capacity last.new.stops.list }
     ensures capacity { vec_capacity items.new ≡ vec_capacity items.old }
 {
     if from == to {
@@ -301,13 +310,14 @@ pub(crate) fn remove_run(last: &mut LastPlaces, items: &mut Vec<KeptNode>, from:
     rewind(last, items, from);
 }
 
-/// Whether a node can be exchanged for a new one at its place, where just what its number says changes: the name is the same, the node
-/// is open nowhere else, and the new one nowhere.
-fn is_renamed(last: &LastPlaces, item: &KeptNode, place: u32, new: Open) -> bool
-    ensures { (result ≡ true) → IsFresh last.now item.now place new }
+/// Whether a new node can take the place of one with nothing below looked at: the name is the same and not special, the node is open
+/// nowhere else, and the new one nowhere.
+fn can_give_way(last: &LastPlaces, item: &KeptNode, place: u32, new: Open) -> bool
+    ensures { (result ≡ true) → CanGiveWay last.now item.now place new }
 {
     let Open { node, name } = new;
     item.opened.name == name
+        && !name.tag().is_special()
         && item.same_node == 0
         && last.of_node(item.opened.node) == place
         && last.of_node(node) == 0
@@ -320,7 +330,6 @@ fn replace_any(last: &mut LastPlaces, items: &mut [KeptNode], index: usize, new:
     requires places { length items.old < 2 ^ 32 }
     requires name_in { new.name < length last.old.names.items }
     requires node_in { new.node < length last.old.nodes.items }
-    requires space { HasSpace last.old.stops new.name }
     ensures stands { Stands last.new items.new }
     ensures items { map opened_by items.new ≡ slice_set (map opened_by items.old) index (open_of new) }
 {
@@ -329,22 +338,21 @@ fn replace_any(last: &mut LastPlaces, items: &mut [KeptNode], index: usize, new:
     rewind(last, items, index);
 }
 
-/// Puts a new node in the place of one. It takes constant time where the new node has the name of the old one, which is open nowhere
-/// else; otherwise it updates the places below it.
+/// Puts a new node in the place of one. It takes constant time where the new node has the name of the old one, which is not special and
+/// open nowhere else; otherwise it updates what is kept below it.
 pub(crate) fn replace(last: &mut LastPlaces, items: &mut [KeptNode], index: usize, new: Open)
     requires stands { Stands last.old items.old }
     requires within { index < length items.old }
     requires places { length items.old < 2 ^ 32 }
     requires name_in { new.name < length last.old.names.items }
     requires node_in { new.node < length last.old.nodes.items }
-    requires space { HasSpace last.old.stops new.name }
     ensures stands { Stands last.new items.new }
     ensures items { map opened_by items.new ≡ slice_set (map opened_by items.old) index (open_of new) }
 {
     let Open { node, name } = new;
     let item = items[index];
     let place = index as u32 + 1;
-    if is_renamed(last, &item, place, Open { node, name }) {
+    if can_give_way(last, &item, place, Open { node, name }) {
         last.nodes[item.opened.node.index()] = 0;
         last.nodes[node.index()] = place;
         items[index] = KeptNode {
@@ -364,7 +372,6 @@ pub(crate) fn insert(last: &mut LastPlaces, items: &mut Vec<KeptNode>, index: us
     requires places { length items.old.items + 1 < 2 ^ 32 }
     requires name_in { new.name < length last.old.names.items }
     requires node_in { new.node < length last.old.nodes.items }
-    requires space { HasSpace last.old.stops new.name }
     ensures stands { Stands last.new items.new.items }
     ensures items { map opened_by items.new.items ≡ insert (map opened_by items.old.items) index (open_of new) }
 {

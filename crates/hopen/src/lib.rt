@@ -6,10 +6,8 @@ mod kept;
 pub mod laws;
 mod name_sets;
 pub mod scope;
-mod sets_of;
 mod sought;
 pub mod stack;
-mod stops;
 
 pub use laws::stack_knows_no_names;
 pub use scope::{Group, Scope};

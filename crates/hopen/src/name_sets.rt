@@ -1,14 +1,15 @@
-//! Sets of known names, and where the nearest special open nodes of each set are.
+//! Sets of known names, and which open nodes are the nearest of each set.
 
 ghost use Rattle.std.specs.Prelude.{◌≡◌, false, if◌then◌else◌};
-ghost use Rattle.hopen.specs.NameSets.{is_in_set, set_place};
+ghost use Rattle.hopen.specs.NameSets.{is_in_set, set_node};
+ghost use Rattle.names.specs.Sets.{may_stay_open};
 
 use crate::scope::{Group, Scope};
-use crate::sets_of::{
-    BUTTON_SCOPE, CELL, HEADING, ITEM_STOP, LIST_ITEM_SCOPE, SCOPE, SPECIAL, TABLE_SCOPE,
-    TABLE_SECTION, TELLS_MODE, sets_of,
-};
 use names::Tag;
+use names::sets::{
+    BUTTON_SCOPE, CELL, HEADING, ITEM_STOP, LIST_ITEM_SCOPE, MAY_STAY_OPEN, SCOPE, SPECIAL,
+    TABLE_SCOPE, TABLE_SECTION, TELLS_MODE,
+};
 
 /// A set of known names that a search looks for, or that stops it.
 #[derive(Clone, Copy)]
@@ -23,9 +24,10 @@ pub(crate) enum NameSet {
     Group(Group),
 }
 
-/// For each set of names, where the nearest node that has one of them is among the special open nodes, from 1, the topmost; 0 is none.
+/// Of an open node and those above it: for each set of names, which is the nearest that has one of them, by the number after the
+/// node's own; 0 is none.
 #[derive(Clone, Copy)]
-pub(crate) struct SetPlaces {
+pub(crate) struct SetNodes {
     scope: u32,
     list_item_scope: u32,
     button_scope: u32,
@@ -36,21 +38,24 @@ pub(crate) struct SetPlaces {
     table_section: u32,
     cell: u32,
     tells_mode: u32,
+    /// Not the nearest, but any of those that may not be open at the end of the body.
+    pub(crate) must_close: u32,
 }
 
-/// A new place if there is one, else the old one.
-fn place_if(is_new: bool, new: u32, old: u32) -> u32
+/// A new node if it is in a set, else the old one.
+fn node_if(is_new: bool, new: u32, old: u32) -> u32
     ensures { result ≡ (if is_new then new else old) }
 {
     if is_new { new } else { old }
 }
 
-impl SetPlaces {
+impl SetNodes {
     /// No open node.
-    pub(crate) fn none() -> SetPlaces
-        ensures { (set : NameSet) → set_place set result ≡ 0 }
+    pub(crate) fn none() -> SetNodes
+        ensures nodes { (set : NameSet) → set_node set result ≡ 0 }
+        ensures must_close { result.must_close ≡ 0 }
     {
-        SetPlaces {
+        SetNodes {
             scope: 0,
             list_item_scope: 0,
             button_scope: 0,
@@ -61,13 +66,14 @@ impl SetPlaces {
             table_section: 0,
             cell: 0,
             tells_mode: 0,
+            must_close: 0,
         }
     }
 
-    /// Where the nearest node of a set is; 0 if there is none.
+    /// The nearest node of a set; 0 if there is none.
     #[inline(always)]
     pub(crate) fn of(&self, set: NameSet) -> u32
-        ensures { result ≡ set_place set self.now }
+        ensures { result ≡ set_node set self.now }
     {
         match set {
             NameSet::Stops(Scope::Default) => self.scope,
@@ -83,23 +89,25 @@ impl SetPlaces {
         }
     }
 
-    /// The same where one more special node is open right below, at a place among these.
+    /// The same of a node right below these.
     #[inline(always)]
-    pub(crate) fn with(&self, tag: Tag, place: u32) -> SetPlaces
-        ensures { (set : NameSet) → set_place set result ≡ (if is_in_set set tag then place else set_place set self.now) }
+    pub(crate) fn with(&self, tag: Tag, node: u32) -> SetNodes
+        ensures nodes { (set : NameSet) → set_node set result ≡ (if is_in_set set tag then node else set_node set self.now) }
+        ensures must_close { result.must_close ≡ (if may_stay_open tag then self.now.must_close else node) }
     {
-        let sets = sets_of(tag);
-        SetPlaces {
-            scope: place_if(sets & SCOPE != 0, place, self.scope),
-            list_item_scope: place_if(sets & LIST_ITEM_SCOPE != 0, place, self.list_item_scope),
-            button_scope: place_if(sets & BUTTON_SCOPE != 0, place, self.button_scope),
-            table_scope: place_if(sets & TABLE_SCOPE != 0, place, self.table_scope),
-            special: place_if(sets & SPECIAL != 0, place, self.special),
-            item_stop: place_if(sets & ITEM_STOP != 0, place, self.item_stop),
-            heading: place_if(sets & HEADING != 0, place, self.heading),
-            table_section: place_if(sets & TABLE_SECTION != 0, place, self.table_section),
-            cell: place_if(sets & CELL != 0, place, self.cell),
-            tells_mode: place_if(sets & TELLS_MODE != 0, place, self.tells_mode),
+        let sets = tag.sets();
+        SetNodes {
+            scope: node_if(sets & SCOPE != 0, node, self.scope),
+            list_item_scope: node_if(sets & LIST_ITEM_SCOPE != 0, node, self.list_item_scope),
+            button_scope: node_if(sets & BUTTON_SCOPE != 0, node, self.button_scope),
+            table_scope: node_if(sets & TABLE_SCOPE != 0, node, self.table_scope),
+            special: node_if(sets & SPECIAL != 0, node, self.special),
+            item_stop: node_if(sets & ITEM_STOP != 0, node, self.item_stop),
+            heading: node_if(sets & HEADING != 0, node, self.heading),
+            table_section: node_if(sets & TABLE_SECTION != 0, node, self.table_section),
+            cell: node_if(sets & CELL != 0, node, self.cell),
+            tells_mode: node_if(sets & TELLS_MODE != 0, node, self.tells_mode),
+            must_close: node_if(sets & MAY_STAY_OPEN == 0, node, self.must_close),
         }
     }
 }

@@ -1,41 +1,22 @@
 //! What stops a search among the open elements, and the groups of names that are sought there (HTML Standard, 13.2.4.2).
 
 ghost use Rattle.std.specs.Prelude.{◌≡◌};
-ghost use Rattle.hopen.specs.Scopes.{tells_mode, is_of_group};
+ghost use Rattle.hopen.specs.Scopes.{is_of_group};
 
 use names::Tag;
+use names::sets::{CELL, TELLS_MODE};
 
 /// A scope: the names that stop the search for an element.
 #[derive(Clone, Copy, Debug, PartialEq, Eq)]
 pub enum Scope {
-    /// "In scope", without further words.
+    /// "In scope", without further words (`#has-an-element-in-scope`).
     Default,
-    /// "In list item scope".
+    /// "In list item scope" (`#has-an-element-in-list-item-scope`).
     ListItem,
-    /// "In button scope".
+    /// "In button scope" (`#has-an-element-in-button-scope`).
     Button,
-    /// "In table scope".
+    /// "In table scope" (`#has-an-element-in-table-scope`).
     Table,
-}
-
-/// Whether an element of a name determines the insertion mode when it is reset.
-#[inline(always)]
-fn tells_mode(tag: Tag) -> bool
-    ensures { result ≡ tells_mode tag }
-{
-    matches!(
-        tag,
-        Tag::Body
-            | Tag::Caption
-            | Tag::Colgroup
-            | Tag::Table
-            | Tag::Tbody
-            | Tag::Td
-            | Tag::Tfoot
-            | Tag::Th
-            | Tag::Thead
-            | Tag::Tr
-    )
 }
 
 /// A group of names that a rule looks for together.
@@ -61,8 +42,8 @@ impl Group {
         match self {
             Group::Heading => tag.is_heading(),
             Group::TableSection => tag.is_table_section(),
-            Group::Cell => matches!(tag, Tag::Td | Tag::Th),
-            Group::TellsMode => tells_mode(tag),
+            Group::Cell => tag.sets() & CELL != 0,
+            Group::TellsMode => tag.sets() & TELLS_MODE != 0,
         }
     }
 }

@@ -1,11 +1,16 @@
 //! What is sought among the open nodes.
 
-ghost use Rattle.std.specs.Prelude.{◌≡◌, map};
+ghost use Rattle.std.specs.Prelude.{◌≡◌, ◌≤◌, length, map};
 ghost use Rattle.std.specs.List.{find};
+ghost use Rattle.hchain.specs.Chains.{last_up};
+ghost use Rattle.hchain.specs.Places.{last_place};
+ghost use Rattle.hopen.specs.Kept.{Stands, names_in, opened_by, stack_of};
+ghost use Rattle.hopen.specs.NameSets.{holds, is_in};
 ghost use Rattle.names.specs.Tags.{tag_of};
 ghost use Rattle.names.specs.Sets.{is_special};
 
-use crate::kept::KeptNode;
+use crate::kept::{KeptNode, LastPlaces, sets_above};
+use crate::name_sets::{NameSet, SetNodes};
 use crate::scope::Group;
 use crate::stack::Open;
 use hnodes::NodeId;
@@ -27,4 +32,38 @@ pub(crate) fn first_special(items: &[KeptNode]) -> Option<Open>
         .iter()
         .map(|item| item.opened)
         .find(|open| open.name.tag().is_special())
+}
+
+/// The place of the nearest node whose name is in a set, of those down to a place, by a look at each.
+#[inline(never)]
+fn search(items: &[KeptNode], set: NameSet, from: u32) -> u32
+    requires { from ≤ length items.now }
+    ensures { result ≡ last_up (holds set) (names_in (map opened_by items.now)) from }
+{
+    let mut place = from;
+    while place > 0 {
+        let tag = items[place as usize - 1].opened.name.tag();
+        if SetNodes::none().with(tag, 1).of(set) > 0 {
+            break;
+        }
+        place -= 1;
+    }
+    place
+}
+
+/// The place of the nearest node whose name is in a set; 0 if none is open. It searches only where that node is open twice.
+#[inline(always)]
+pub(crate) fn set_place(last: &LastPlaces, items: &[KeptNode], set: NameSet) -> u32
+    requires { Stands last.now items.now }
+    ensures { result ≡ last_place (is_in set) (stack_of items.now) }
+{
+    let node = sets_above(items, items.len()).of(set) as usize;
+    if node == 0 {
+        return 0;
+    }
+    let place = last.nodes[node - 1];
+    if items[place as usize - 1].same_node > 0 {
+        return search(items, set, place);
+    }
+    place
 }

@@ -16,10 +16,10 @@ ghost use Rattle.names.specs.declared.refusal.Refusal.TheVariants.{TooDeep, Memo
 ghost use Rattle.hopen.specs.declared.scope.Scope.TheVariants.{Default};
 
 use crate::exchange::exchange;
-use crate::kept::{KeptNode, LastPlaces, insert, pop, push, remove_run, replace};
+use crate::kept::{KeptNode, LastPlaces, insert, pop, push, remove_run, replace, sets_above};
 use crate::name_sets::NameSet;
 use crate::scope::{Group, Scope};
-use crate::sought::{Sought, first_special};
+use crate::sought::{Sought, first_special, set_place};
 use hnodes::NodeId;
 use names::{NameId, Refusal};
 use std::alloc::{AllocError, Global};
@@ -34,12 +34,12 @@ pub struct Open {
 
 /// The open nodes with their names, from html down to the current node.
 ///
-/// No question searches the stack, but for `furthest_block`, which passes the nodes from the formatting element down to the block.
-/// A push and a pop take the same time at any depth, amortized. `exchange` takes a step for each node from the one that leaves down to
-/// the other, and nothing below, where the one that leaves is not special and has the name of the new one; `replace` takes the same
-/// time at any depth where the names are the same. Else these two, and `remove`, `remove_run` and `insert_below` always, take a step
-/// for each node below. An open node takes 24 bytes, and a special one 44 more; each of the two tables of places takes 4 bytes for
-/// each number up to the greatest one. `push`, `replace`, `insert_below` and `exchange` alone allocate, and on an error they change
+/// No question searches the stack, but for `furthest_block`, which passes the nodes from the formatting element down to the block, and
+/// for questions of scope or groups that come to a node that is open twice. A push and a pop take the same time at any depth,
+/// amortized. Where the names are the same and not special, `exchange` takes a step for each node from the one that leaves down to the
+/// other, and nothing below, and `replace` takes the same time at any depth. Else these two, and `remove`, `remove_run` and
+/// `insert_below` always, take a step for each node below. An open node takes 64 bytes; each of the two tables of places takes 4 bytes
+/// for each number up to the greatest one. `push`, `replace`, `insert_below` and `exchange` alone allocate, and on an error they change
 /// nothing.
 #[derive(Drop)]
 pub struct OpenStack {
@@ -145,7 +145,7 @@ impl OpenStack {
     }
 
     /// Puts another node in the place of an open one; does nothing if that is not open. It takes the same time at any depth where the
-    /// names are the same.
+    /// names are the same and not special.
     pub fn replace(&mut self, node: NodeId, by: Open) -> Result<(), AllocError>
         ensures ok { OnOk result (self.new ≡ record self.old { stack = changed (is_node node) (λ _. open_of by) self.old.stack }) }
         ensures err { OnErr result (self.new ≡ self.old) }
@@ -202,8 +202,8 @@ impl OpenStack {
         self.place(node).is_some()
     }
 
-    /// Whether an element of a name is in a scope (13.2.4.2): going up from the current node, it is met before any scope boundary that
-    /// is not itself sought.
+    /// Whether an element of a name is in a scope (`#has-an-element-in-the-specific-scope`): going up from the current node, it is met
+    /// before any scope boundary that is not itself sought.
     pub fn in_scope(&self, scope: Scope, name: NameId) -> bool
         ensures { result ≡ is_in_scope (stops_node tag_of scope) (is_named nat_eq name) self.now.stack }
     {
@@ -230,7 +230,7 @@ impl OpenStack {
     pub fn all_may_stay_open(&self) -> bool
         ensures { result ≡ list_all (λ x. may_stay_open (tag_of x.name)) self.now.stack }
     {
-        self.last.stops.must_close == 0
+        sets_above(&self.items, self.items.len()).must_close == 0
     }
 
     /// Whether a node is in scope, without further words.
@@ -337,6 +337,7 @@ impl OpenStack {
     }
 
     /// The place of the nearest node that is sought, from 1, the topmost; 0 if none is open.
+    #[inline(always)]
     fn last_place(&self, sought: Sought) -> u32
         ensures { result ≡ last_place (is_sought sought) self.now.stack }
     {
@@ -352,14 +353,11 @@ impl OpenStack {
     fn set_place(&self, set: NameSet) -> u32
         ensures { result ≡ last_place (is_in set) self.now.stack }
     {
-        let index = self.last.stops.nearest_of(set) as usize;
-        if index == 0 {
-            return 0;
-        }
-        self.last.stops.list[index - 1].place
+        set_place(&self.last, &self.items, set)
     }
 
     /// How many open nodes are below the nearest that is sought; None if there is none.
+    #[inline(always)]
     fn place_of(&self, sought: Sought) -> Option<usize>
         ensures place { result ≡ position (is_sought sought) self.now.stack }
         ensures within { IfSome result (λ up. up < length self.now.stack) }
@@ -369,6 +367,7 @@ impl OpenStack {
     }
 
     /// How many open nodes are above the nearest that is sought; None if there is none.
+    #[inline(always)]
     fn index(&self, sought: Sought) -> Option<usize>
         ensures found { MatchOption result (position (is_sought sought) self.now.stack ≡ None)
             (λ i. position (is_sought sought) self.now.stack ≡ Some (length self.now.stack - 1 - i)) }

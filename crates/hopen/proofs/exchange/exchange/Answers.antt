@@ -13,7 +13,7 @@ use Rattle.hopen.specs.Opens.{open_of}
 use Rattle.hopen.specs.Stack.{is_node, is_open}
 use Rattle.hopen.specs.declared.kept.KeptNode.{KeptNode}
 use Rattle.hopen.specs.declared.kept.LastPlaces.{LastPlaces}
-use Rattle.hopen.proofs.ExchangedStack.{exchanged-nearest, map-remove, set-insert}
+use Rattle.hopen.proofs.ExchangedStack.{exchanged-nearest, item_of, map-remove, set-insert}
 use Rattle.hopen.proofs.Linked.{says-places}
 use Rattle.hopen.proofs.Standing.{length-stack_of}
 use Rattle.hopen.proofs.exchange.exchange.Goals as goal
@@ -67,7 +67,7 @@ returns-then-index-to-clause-items c =
     let to = c.saturating_sub-to.result in
     let index = c.sink-index.result in
     let sunk = c.sink-index.new.items in
-    let x : KeptNode = record { opened = c.args.new; same_name = 0; next_name = 0; same_node = 0; stops = 0 } in
+    let x : KeptNode = item_of c.args.new in
     let first = c.sink-index.auto.items ∙ c.deref_mut.ensures.len in
     let base : c.deref_mut-then-index-to.result.now ≡ sunk = c.deref_mut-then-index-to.ensures.value ∙ with_items_is c.args.items.now sunk first in
     let rest : remove (map opened_by sunk) index ≡ remove (map opened_by items) from = c.sink-index.ensures.rest ∙ ap (λ (xs : List KeptNode). remove (map opened_by xs) from) c.deref_mut.ensures.value in

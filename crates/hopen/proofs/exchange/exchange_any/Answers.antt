@@ -8,9 +8,8 @@ use Rattle.hopen.specs.declared.kept.KeptNode.{KeptNode}
 use Rattle.hchain.proofs.Nearest.{insert_nearest, no_words}
 use Rattle.hchain.proofs.Places.{position-none, position-some, last_place-le}
 use Rattle.hopen.proofs.Linked.{says-places}
-use Rattle.hopen.proofs.Rooms.{map-insert, map-remove_range, space-left}
 use Rattle.hopen.proofs.Standing.{length-stack_of}
-use Rattle.hopen.proofs.ExchangedStack.{length-left}
+use Rattle.hopen.proofs.ExchangedStack.{item_of, length-left, map-insert, map-remove_range}
 use Rattle.hopen.proofs.exchange.exchange_any.Goals as goal
 
 left-is : (items left : List KeptNode) (i : ℕ) → map opened_by left ≡ map opened_by (remove_range items i (i + 1)) → map opened_by left ≡ remove (map opened_by items) i
@@ -28,16 +27,12 @@ insert-requires-clause-room c = omega (arith, c.requires.room, c.remove_run.ensu
 pub insert-requires-clause-places : goal.insert-requires-clause-places
 insert-requires-clause-places c = omega (arith, c.requires.places, length-left c.args.items.now.items c.remove_run.new.items.items c.args.index c.requires.within c.remove_run.ensures.items)
 
-pub insert-requires-clause-space : goal.insert-requires-clause-space
-insert-requires-clause-space c =
-    space-left c.args.last.now c.remove_run.new.last c.args.items.now.items c.remove_run.new.items.items c.args.index (c.args.index + 1) c.requires.stands c.remove_run.ensures.stands (omega arith) c.remove_run.ensures.items c.remove_run.ensures.stops c.args.new.name c.requires.space
-
 pub returns-then-place-gt0-clause-items : goal.returns-then-place-gt0-clause-items
 returns-then-place-gt0-clause-items c =
     let left = c.remove_run.new.items.items in
     let place = c.of_node-place.result in
     let sought = is_node c.args.above in
-    let new : KeptNode = record { opened = c.args.new; same_name = 0; next_name = 0; same_node = 0; stops = 0 } in
+    let new : KeptNode = item_of c.args.new in
     let word = put_before sought (open_of c.args.new) in
     let says = c.of_node-place.ensures ∙ says-places node_of _ _ (map opened_by left) c.remove_run.ensures.stands.nodes c.args.above in
     let next : place - 1 + 1 ≡ place = omega arith in

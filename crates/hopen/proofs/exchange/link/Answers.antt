@@ -1,7 +1,7 @@
 use Rattle.std.proofs.Common.{ap}
 use Rattle.std.proofs.lemmas.List.{map-set}
 use Rattle.std.proofs.Math.Seq.{map-set_same}
-use Rattle.hopen.specs.Kept.{opened_by, same_name_of, same_node_of, stops_of}
+use Rattle.hopen.specs.Kept.{opened_by, same_name_of, same_node_of, sets_at}
 use Rattle.hopen.proofs.exchange.link.Goals as goal
 
 pub returns-clause-same_names : goal.returns-clause-same_names
@@ -13,5 +13,5 @@ returns-clause-opened c = map-set_same opened_by c.args.items.now c.args.index _
 pub returns-clause-same_nodes : goal.returns-clause-same_nodes
 returns-clause-same_nodes c = map-set_same same_node_of c.args.items.now c.args.index _ c.index-items-index.result (ap same_node_of c.index-items-index.is)
 
-pub returns-clause-stops : goal.returns-clause-stops
-returns-clause-stops c = map-set_same stops_of c.args.items.now c.args.index _ c.index-items-index.result (ap stops_of c.index-items-index.is)
+pub returns-clause-sets : goal.returns-clause-sets
+returns-clause-sets c = map-set_same sets_at c.args.items.now c.args.index _ c.index-items-index.result (ap sets_at c.index-items-index.is)

@@ -16,5 +16,4 @@ loop-index-preserved c =
       rest = ap (λ l. remove l (i + 1)) c.swap.ensures.opened ∙ ap (remove _) next ∙ swapped-rest i ys (omega (arith, many, c.loop-index.auto.items, c.requires.to)) ∙ c.loop-index.invariant.rest;
       names = c.swap.ensures.names ∙ c.loop-index.invariant.names;
       nodes = c.swap.ensures.nodes ∙ c.loop-index.invariant.nodes;
-      space = λ n h. c.swap.ensures.space n (c.loop-index.invariant.space n h);
     }

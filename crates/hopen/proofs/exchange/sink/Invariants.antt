@@ -1,6 +1,5 @@
-use Rattle.std.proofs.Common.{◌≡◌, ℕ, ◌-◌, ◌<◌, length, map, remove}
+use Rattle.std.proofs.Common.{◌≡◌, ◌-◌, ◌<◌, length, map, remove}
 use Rattle.hopen.specs.Kept.{Stands, opened_by}
-use Rattle.hopen.specs.Stops.{HasSpace}
 use Rattle.hopen.proofs.exchange.sink.Given as goal
 
 abbrev pub invariant-loop-index : goal.invariant-loop-index
@@ -10,7 +9,6 @@ invariant-loop-index l = record {
   rest : remove (map opened_by l.items) l.index ≡ remove (map opened_by l.initial.items) l.from;
   names : length l.last.names.items ≡ length l.initial.last.names.items;
   nodes : length l.last.nodes.items ≡ length l.initial.last.nodes.items;
-  space : (n : ℕ) → HasSpace l.initial.last.stops n → HasSpace l.last.stops n;
 }
 
 abbrev pub decreases-loop-index : goal.decreases-loop-index

@@ -1,23 +1,15 @@
-use Rattle.std.proofs.Common.{◌≡◌, ◌≢◌, ℕ, suc, ◌+◌, ◌<◌, cond, List, length, map, take, reverse, get_or, set, false, refl, sym, ◌∙◌, ap, subst, arith}
-use Rattle.std.proofs.lemmas.List.{get_or_default, length-reverse, length-take-le}
-use Rattle.hopen.proofs.Counted.{specials-le}
-use Rattle.hopen.proofs.Projected.{two-same, two-swapped, two-upper, two-lower, two-rest, stops-at, name-at, length-names}
-use Rattle.hopen.proofs.Raised.{counts-swapped}
-use Rattle.hopen.proofs.Swapped.{swapped-map}
-use Rattle.hopen.specs.Kept.{KeepStops, name_of, names_in, opened_by, same_name_of, same_node_of, stops_of, swapped}
+use Rattle.std.proofs.Common.{◌≡◌, ℕ, suc, ◌+◌, ◌<◌, List, length, map, get_or, set, false, refl, sym, ◌∙◌, ap, arith}
+use Rattle.std.proofs.Math.Path.{transport}
+use Rattle.std.proofs.lemmas.List.{get_or_default, get_or-map, length-map}
+use Rattle.hopen.proofs.KeptBy.{sets-swapped}
+use Rattle.hopen.proofs.Projected.{name-at, node-at, two-same, two-swapped, two-upper}
+use Rattle.hopen.specs.Kept.{KeepSets, KeepsFrom, closing, kept_above, must_close_in, names_in, nearest_in, opened_by, same_name_of, same_node_of, sets_at}
+use Rattle.hopen.specs.NameSets.{set_node}
+use Rattle.hopen.specs.Stack.{OpenNode}
 use Rattle.hopen.specs.declared.kept.KeptNode.{KeptNode}
 use Rattle.names.specs.Sets.{is_special}
 use Rattle.names.specs.Tags.{tag_of}
 use Rattle.hopen.proofs.exchange.swap_items.Goals as goal
-
--- few special ones are above
-few : (items : List KeptNode) (i : ℕ) (x : KeptNode) → i < length items → x ≡ get_or items i x → KeepStops (names_in (map opened_by items)) (map stops_of items) → x.stops < suc i
-few items i x h is k =
-    let ns = names_in (map opened_by items) in
-    omega (arith, ap stops_of is, stops-at items i x h, k i (omega (arith, length-names items)), specials-le (reverse (take i ns)), length-reverse (take i ns), length-take-le i ns (omega (arith, length-names items)))
-
-pub stops_with-requires : goal.stops_with-requires
-stops_with-requires c = omega (arith, few c.args.items.now (c.args.index + 1) c.index-items-index-2.result c.requires.within c.index-items-index-2.is c.requires.stops)
 
 pub returns-clause-opened : goal.returns-clause-opened
 returns-clause-opened c =
@@ -43,24 +35,30 @@ returns-clause-same_nodes c =
     let y = c.index-items-index-2.result in
     two-swapped same_node_of items i _ _ x c.requires.within (ap same_node_of (c.index-items-index-2.is ∙ get_or_default items (i + 1) y x c.requires.within)) (ap same_node_of c.index-items-index.is)
 
--- the counts of two neighbours that change places
-swap : (items : List KeptNode) (i : ℕ) (x y a b : KeptNode) → i + 1 < length items → x ≡ get_or items i x → y ≡ get_or items (i + 1) y → is_special (tag_of (get_or (names_in (map opened_by items)) i 0)) ≡ false
-    → KeepStops (names_in (map opened_by items)) (map stops_of items) → opened_by a ≡ opened_by y → opened_by b ≡ opened_by x → a.stops ≡ x.stops → b.stops ≡ cond (is_special (tag_of y.opened.name)) (suc y.stops) y.stops
-    → KeepStops (names_in (map opened_by (set (set items i a) (i + 1) b))) (map stops_of (set (set items i a) (i + 1) b))
-swap items i x y a b within is1 is2 plain k oa ob sa sb =
-    let next : i + 1 ≡ suc i = omega arith in
-    let second : y ≡ get_or items (i + 1) x = is2 ∙ get_or_default items (i + 1) y x within in
-    let ns = names_in (map opened_by items) in
-    let opened : map opened_by (set (set items i a) (i + 1) b) ≡ swapped i (map opened_by items) = two-swapped opened_by items i a b x within (oa ∙ ap opened_by second) (ob ∙ ap opened_by is1) in
-    let names : names_in (map opened_by (set (set items i a) (i + 1) b)) ≡ swapped i ns = ap names_in opened ∙ swapped-map name_of i (map opened_by items) in
-    let count : get_or (map stops_of items) (suc i) 0 ≡ y.stops = ap (λ n. get_or (map stops_of items) n 0) (sym next) ∙ stops-at items (i + 1) y within ∙ ap stops_of (sym is2) in
-    let name : get_or ns (suc i) 0 ≡ y.opened.name = ap (λ n. get_or ns n 0) (sym next) ∙ name-at items (i + 1) y within ∙ ap (λ (z : KeptNode). z.opened.name) (sym is2) in
-    subst (λ l. KeepStops l (map stops_of (set (set items i a) (i + 1) b))) (sym names)
-    (counts-swapped ns i (omega (arith, length-names items)) plain (map stops_of items) (map stops_of (set (set items i a) (i + 1) b)) k
-    (two-upper stops_of items i a b within ∙ sa ∙ ap stops_of is1 ∙ sym (stops-at items i x (omega arith)))
-    (ap (λ n. get_or (map stops_of (set (set items i a) (i + 1) b)) n 0) (sym next) ∙ two-lower stops_of items i a b within ∙ sb ∙ (λ t. cond (is_special (tag_of (sym name t))) (suc (sym count t)) (sym count t)))
-    (λ j ne nf. let ng : j ≢ i + 1 = omega arith in two-rest stops_of items i a b within j ne ng))
+module _ (items : List KeptNode) (i : ℕ) (x y : KeptNode) (within : i + 1 < length items) (is1 : x ≡ get_or items i x) (is2 : y ≡ get_or items (i + 1) y) (plain : is_special (tag_of (get_or (names_in (map opened_by items)) i 0)) ≡ false) (k : KeepSets (map opened_by items) (map sets_at items)) where
+  next : i + 1 ≡ suc i
+  next = omega arith
 
-pub returns-clause-stops : goal.returns-clause-stops
-returns-clause-stops c =
-    swap c.args.items.now c.args.index c.index-items-index.result c.index-items-index-2.result _ _ c.requires.within c.index-items-index.is c.index-items-index-2.is c.requires.plain c.requires.stops refl refl refl c.stops_with.ensures
+  upper : get_or (map opened_by items) i (opened_by x) ≡ opened_by x
+  upper = get_or-map opened_by items i x (opened_by x) (omega arith) ∙ ap opened_by (sym is1)
+
+  not-special : is_special (tag_of (OpenNode.name (get_or (map opened_by items) i (opened_by x)))) ≡ false
+  not-special = ap (λ (z : OpenNode ℕ). is_special (tag_of z.name)) upper ∙ ap (λ n. is_special (tag_of n)) (ap (λ (z : KeptNode). z.opened.name) is1 ∙ sym (name-at items i x (omega arith))) ∙ plain
+
+  swapped-sets : (a b : KeptNode) → opened_by a ≡ opened_by y → opened_by b ≡ opened_by x → b.sets ≡ y.sets → KeepsFrom items i (opened_by y) a.sets
+      → KeepSets (map opened_by (set (set items i a) (i + 1) b)) (map sets_at (set (set items i a) (i + 1) b))
+  swapped-sets a b oa ob sb keeps =
+      let second : y ≡ get_or items (i + 1) x = is2 ∙ get_or_default items (i + 1) y x within in
+      let lower : opened_by y ≡ get_or (map opened_by items) (suc i) (opened_by x) = ap opened_by second ∙ sym (get_or-map opened_by items (i + 1) x (opened_by x) within) ∙ ap (λ n. get_or (map opened_by items) n (opened_by x)) next in
+      transport (λ t. KeepSets (sym (two-swapped opened_by items i a b x within (oa ∙ ap opened_by second) (ob ∙ ap opened_by is1)) t) (sym (two-upper sets_at items i a b x within (sb ∙ ap sets_at second)) t))
+      (sets-swapped (map opened_by items) (map sets_at items) k i (opened_by x) (omega (arith, length-map items opened_by)) not-special a.sets
+      (λ set. keeps.nodes set ∙ ap (λ (z : OpenNode ℕ). nearest_in set z (kept_above (set_node set) items i)) lower)
+      (keeps.must_close ∙ ap (λ (z : OpenNode ℕ). closing z (kept_above must_close_in items i)) lower))
+
+pub sets_from-sets-requires-clause-fits : goal.sets_from-sets-requires-clause-fits
+sets_from-sets-requires-clause-fits c =
+    omega (arith, c.requires.fits, node-at c.args.items.now (c.args.index + 1) c.index-items-index-2.result c.requires.within, ap (λ (z : KeptNode). z.opened.node) c.index-items-index-2.is)
+
+pub returns-clause-sets : goal.returns-clause-sets
+returns-clause-sets c =
+    swapped-sets c.args.items.now c.args.index c.index-items-index.result c.index-items-index-2.result c.requires.within c.index-items-index.is c.index-items-index-2.is c.requires.plain c.requires.sets _ _ refl refl refl c.sets_from-sets.ensures

@@ -1,10 +1,10 @@
 use Rattle.std.proofs.Common.{◌≡◌, ◌≢◌, ℕ, zero, suc, ◌+◌, ◌<◌, ◌≤◌, ◌&&◌, eqb, cond, List, length, map, get_or, set, inl, inr, refl, sym, ◌∙◌, ap, subst, arith}
 use Rattle.std.proofs.lemmas.Bool.{cases_lt, eqb-true, eqb-false}
 use Rattle.std.proofs.lemmas.List.{get_or-set_same, get_or-set_other, get_or_past, length-map, length-set}
-use Rattle.hopen.specs.Kept.{IsHeld, IsLinked, names_in, opened_by, same_name_of, turned}
+use Rattle.hopen.specs.Kept.{IsHeld, IsLinked, names_in, opened_by, same_name_of, place_after_swap}
 use Rattle.hopen.specs.declared.kept.KeptNode.{KeptNode}
 use Rattle.hopen.proofs.Projected.{length-names, name-at, same_name-at}
-use Rattle.hopen.proofs.Swapped.{linked-swapped, swapped-same, turned-table, turned-list, walk-in}
+use Rattle.hopen.proofs.Swapped.{linked-swapped, swapped-same, moved-table, moved-list, walk-in}
 use Rattle.hopen.proofs.exchange.swap_names.Goals as goal
 
 -- one that keeps a place is in the list
@@ -98,15 +98,15 @@ returns-clause-linked c =
     held-lower : IsHeld t bs y.opened.name (i + 1 + 1) c.next_of_name-lower_next.result
     held-lower = subst (λ a. IsHeld t bs a (i + 1 + 1) c.next_of_name-lower_next.result) ny c.next_of_name-lower_next.ensures
 
-    table : (k : ℕ) → get_or c.keep-2.new.names k 0 ≡ turned i (get_or t k 0)
+    table : (k : ℕ) → get_or c.keep-2.new.names k 0 ≡ place_after_swap i (get_or t k 0)
     table k =
         c.keep-2.ensures.table k ∙ ap (λ v. cond (eqb c.next_of_name-lower_next.result 0 && eqb k y.opened.name) (i + 1) v) (c.keep.ensures.table k)
-        ∙ turned-table t bs i x.opened.name y.opened.name c.next_of_name-upper_next.result c.next_of_name-lower_next.result (i + 1) (i + 1 + 1) next (omega arith) held-upper held-lower k
+        ∙ moved-table t bs i x.opened.name y.opened.name c.next_of_name-upper_next.result c.next_of_name-lower_next.result (i + 1) (i + 1 + 1) next (omega arith) held-upper held-lower k
 
-    list : (j : ℕ) → get_or ks j 0 ≡ turned i (get_or bs j 0)
+    list : (j : ℕ) → get_or ks j 0 ≡ place_after_swap i (get_or bs j 0)
     list j =
         c.keep-2.ensures.befores j ∙ ap (λ v. cond (eqb c.next_of_name-lower_next.result (suc j)) (i + 1) v) (c.keep.ensures.befores j)
-        ∙ turned-list t bs i x.opened.name y.opened.name c.next_of_name-upper_next.result c.next_of_name-lower_next.result (i + 1) (i + 1 + 1) next (omega arith) held-upper held-lower j
+        ∙ moved-list t bs i x.opened.name y.opened.name c.next_of_name-upper_next.result c.next_of_name-lower_next.result (i + 1) (i + 1 + 1) next (omega arith) held-upper held-lower j
 
     written : cs ≡ set (set ks i y.same_name) (i + 1) x.same_name
     written = c.hint-2.ensures.same_names ∙ c.hint.ensures.same_names ∙ c.link-2.ensures.same_names ∙ ap (λ (l : List ℕ). set l (i + 1) x.same_name) c.link.ensures.same_names
@@ -122,7 +122,7 @@ returns-clause-linked c =
         ap (λ k. get_or cs k 0) (sym next) ∙ ap (λ (l : List ℕ). get_or l (i + 1) 0) written ∙ get_or-set_same (set ks i y.same_name) (i + 1) x.same_name 0 (omega (arith, c.requires.within, long, length-set ks i y.same_name))
         ∙ ap same_name_of c.index-items-index.is ∙ sym (same_name-at items i x (omega (arith, c.requires.within)))
 
-    rest : (j : ℕ) → j ≢ i → j ≢ suc i → get_or cs j 0 ≡ turned i (get_or bs j 0)
+    rest : (j : ℕ) → j ≢ i → j ≢ suc i → get_or cs j 0 ≡ place_after_swap i (get_or bs j 0)
     rest j ne nf =
         let ng : j ≢ i + 1 = omega arith in
         ap (λ (l : List ℕ). get_or l j 0) written ∙ get_or-set_other (set ks i y.same_name) (i + 1) j x.same_name 0 ng ∙ get_or-set_other ks i j y.same_name 0 ne ∙ list j

@@ -1,12 +1,11 @@
 use Rattle.std.proofs.Common.{◌≡◌, ◌<◌, ◌∷◌, List, take, drop, length, ◌∙◌, sym, ap, subst, map, rules, arith}
 use Rattle.std.specs.List.{insert}
 use Rattle.std.proofs.lemmas.List.{drop_at, length-take-le}
-use Rattle.hopen.specs.Kept.{AreIn, Stands, names_of, opened_by}
+use Rattle.hopen.specs.Kept.{AreIn, Stands, opened_by}
 use Rattle.hopen.specs.Opens.{open_of}
-use Rattle.hopen.specs.Stops.{HasSpace, specials}
 use Rattle.hopen.specs.declared.kept.KeptNode.{KeptNode}
 use Rattle.hopen.specs.declared.stack.Open.{Open}
-use Rattle.hopen.proofs.Rooms.{map-insert, room-insert}
+use Rattle.hopen.proofs.ExchangedStack.{map-insert}
 use Rattle.hopen.proofs.WrittenBack.{written_back}
 use Rattle.std.proofs.lemmas.Grind.{common_steps}
 use Rattle.hopen.proofs.kept.insert.Goals as goal
@@ -23,11 +22,6 @@ returns-clause-stands c =
 
 pub rewind-requires-clause-stands : goal.rewind-requires-clause-stands
 rewind-requires-clause-stands c = grind (arith, common_steps)
-
-pub rewind-requires-clause-room : goal.rewind-requires-clause-room
-rewind-requires-clause-room c =
-    let put : c.insert.new.self.items ≡ insert c.args.items.now.items c.args.index c.new.result = search rules in
-    omega (arith, ap (λ (xs : List KeptNode). length (specials (names_of xs))) (c.deref_mut.ensures.value ∙ put), room-insert c.args.last.now c.args.items.now.items c.requires.stands c.args.index c.new.result (subst (λ (z : Open). HasSpace c.args.last.now.stops z.name) (sym c.new.ensures) c.requires.space), c.unwind.ensures.capacity)
 
 pub rewind-requires-clause-numbers : goal.rewind-requires-clause-numbers
 rewind-requires-clause-numbers c =

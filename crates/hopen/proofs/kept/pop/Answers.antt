@@ -1,4 +1,4 @@
-use Rattle.hopen.proofs.Standing.{stands-in, stands-less, stands-must}
+use Rattle.hopen.proofs.Standing.{stands-in, stands-less}
 use Rattle.hopen.proofs.kept.pop.Goals as goal
 
 pub take_back-requires-clause-name_in : goal.take_back-requires-clause-name_in
@@ -7,9 +7,6 @@ take_back-requires-clause-name_in c = (stands-in c.pop.new.self.items c.in_ok-it
 pub take_back-requires-clause-node_in : goal.take_back-requires-clause-node_in
 take_back-requires-clause-node_in c = (stands-in c.pop.new.self.items c.in_ok-item.item c.args.last.now (rw c.in_ok-item.ensures.items at c.requires)).1
 
-pub take_back-requires-clause-must_close : goal.take_back-requires-clause-must_close
-take_back-requires-clause-must_close c = stands-must c.pop.new.self.items c.in_ok-item.item c.args.last.now (rw c.in_ok-item.ensures.items at c.requires)
-
 pub returns-clause-stands : goal.returns-clause-stands
 returns-clause-stands c =
-    stands-less c.pop.new.self.items c.in_ok-item.item c.args.last.now (rw c.in_ok-item.ensures.items at c.requires) c.take_back.new.self c.take_back.ensures.names c.take_back.ensures.nodes c.take_back.ensures.counted
+    stands-less c.pop.new.self.items c.in_ok-item.item c.args.last.now (rw c.in_ok-item.ensures.items at c.requires) c.take_back.new.self c.take_back.ensures.names c.take_back.ensures.nodes

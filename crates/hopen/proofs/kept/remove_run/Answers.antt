@@ -1,10 +1,7 @@
-use Rattle.std.proofs.Common.{◌≡◌, ◌∙◌, sym, ap, subst, map, arith, rules, length, drop, List}
+use Rattle.std.proofs.Common.{◌≡◌, ◌∙◌, sym, ap, subst, map, arith, rules, length, drop}
 use Rattle.std.proofs.lemmas.Grind.{common_steps}
 use Rattle.std.specs.List.{remove_range}
-use Rattle.hopen.specs.Kept.{AreIn, Stands, names_of, opened_by}
-use Rattle.hopen.specs.Stops.{specials}
-use Rattle.hopen.specs.declared.kept.KeptNode.{KeptNode}
-use Rattle.hopen.proofs.Rooms.{room-remove}
+use Rattle.hopen.specs.Kept.{AreIn, Stands, opened_by}
 use Rattle.hopen.proofs.Standing.{numbers-left}
 use Rattle.hopen.proofs.WrittenBack.{written_back}
 use Rattle.hopen.proofs.kept.remove_run.Goals as goal
@@ -16,11 +13,6 @@ rewind-requires-clause-numbers c =
     let all : AreIn names nodes (drop c.args.from c.args.items.now.items) = rw (← c.deref.ensures.value) c.unwind.ensures.numbers in
     let left = numbers-left c.args.items.now.items c.args.from c.args.to names nodes c.requires.order c.requires.within all in
     search (rules, left)
-
-pub rewind-requires-clause-room : goal.rewind-requires-clause-room
-rewind-requires-clause-room c =
-    let left : c.deref_mut.result.now ≡ remove_range c.args.items.now.items c.args.from c.args.to = search rules in
-    omega (arith, ap (λ (xs : List KeptNode). length (specials (names_of xs))) left, room-remove c.args.last.now c.args.items.now.items c.requires.stands c.args.from c.args.to c.requires.order, c.unwind.ensures.capacity)
 
 pub returns-clause-items : goal.returns-clause-items
 returns-clause-items c =

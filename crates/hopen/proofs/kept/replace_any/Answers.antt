@@ -1,20 +1,14 @@
-use Rattle.std.proofs.Common.{◌<◌, length, set, map, sym, ◌∙◌, ap, subst, arith}
+use Rattle.std.proofs.Common.{◌<◌, length, set, map, sym, ◌∙◌, ap, subst}
 use Rattle.std.proofs.lemmas.List.{map-set}
 use Rattle.hopen.specs.Kept.{opened_by}
 use Rattle.hopen.specs.Opens.{open_of}
-use Rattle.hopen.specs.Stops.{HasSpace}
 use Rattle.hopen.specs.declared.stack.Open.{Open}
-use Rattle.hopen.proofs.Rooms.{room-set}
 use Rattle.hopen.proofs.Standing.{numbers-replaced}
 use Rattle.hopen.proofs.kept.replace_any.Goals as goal
 
 pub rewind-requires-clause-numbers : goal.rewind-requires-clause-numbers
 rewind-requires-clause-numbers c =
     numbers-replaced c.args.items.now c.args.index c.new.result _ _ c.requires.within c.unwind.ensures.numbers (subst (λ (z : Open). z.name < length c.unwind.new.last.names.items) (sym c.new.ensures) (rw (c.unwind.ensures.names) c.requires.name_in)) (subst (λ (z : Open). z.node < length c.unwind.new.last.nodes.items) (sym c.new.ensures) (rw (c.unwind.ensures.nodes) c.requires.node_in))
-
-pub rewind-requires-clause-room : goal.rewind-requires-clause-room
-rewind-requires-clause-room c =
-    omega (arith, room-set c.args.last.now c.args.items.now c.requires.stands c.args.index c.new.result c.requires.within (subst (λ (z : Open). HasSpace c.args.last.now.stops z.name) (sym c.new.ensures) c.requires.space), c.unwind.ensures.capacity)
 
 pub returns-clause-items : goal.returns-clause-items
 returns-clause-items c = c.rewind.ensures.same ∙ map-set opened_by c.args.items.now c.args.index c.new.result ∙ ap (λ (z : Open). set (map opened_by c.args.items.now) c.args.index (open_of z)) c.new.ensures

@@ -1,4 +1,4 @@
-use Rattle.std.proofs.Common.{◌≡◌, ◌≤◌, ◌-◌, length, map, take, drop, vec_capacity}
+use Rattle.std.proofs.Common.{◌≡◌, ◌≤◌, ◌-◌, length, map, take, drop}
 use Rattle.hopen.specs.Kept.{Stands, AreIn, opened_by}
 use Rattle.hopen.proofs.kept.rewind.Given as goal
 
@@ -10,7 +10,6 @@ invariant-loop-index l = record {
   same : map opened_by l.items ≡ map opened_by l.initial.items;
   names : length l.last.names.items ≡ length l.initial.last.names.items;
   nodes : length l.last.nodes.items ≡ length l.initial.last.nodes.items;
-  capacity : vec_capacity l.initial.last.stops.list ≤ vec_capacity l.last.stops.list;
 }
 
 abbrev pub decreases-loop-index : goal.decreases-loop-index

@@ -1,6 +1,6 @@
 use Rattle.std.proofs.Common.{◌≡◌, suc, ◌-◌, ◌<◌, length, ap, ◌∙◌, arith}
 use Rattle.std.proofs.lemmas.List.{length-set}
-use Rattle.hopen.proofs.Standing.{taken-in, taken-less, taken-must, numbers-more}
+use Rattle.hopen.proofs.Standing.{taken-in, taken-less, numbers-more}
 use Rattle.hopen.proofs.kept.unwind.Goals as goal
 
 pub take_back-requires-clause-name_in : goal.take_back-requires-clause-name_in
@@ -10,10 +10,6 @@ take_back-requires-clause-name_in c =
 pub take_back-requires-clause-node_in : goal.take_back-requires-clause-node_in
 take_back-requires-clause-node_in c =
     (taken-in c.args.items.now c.loop-end.end (c.loop-end.end - 1) c.index-items-end.result (omega arith) (omega arith) c.index-items-end.is c.loop-end.last c.loop-end.invariant.stands).1
-
-pub take_back-requires-clause-must_close : goal.take_back-requires-clause-must_close
-take_back-requires-clause-must_close c =
-    taken-must c.args.items.now c.loop-end.end (c.loop-end.end - 1) c.index-items-end.result (omega arith) (omega arith) c.index-items-end.is c.loop-end.last c.loop-end.invariant.stands
 
 pub loop-end-preserved : goal.loop-end-preserved
 loop-end-preserved c =
@@ -26,9 +22,8 @@ loop-end-preserved c =
     record {
       within = omega arith;
       above = omega arith;
-      stands = taken-less c.args.items.now c.loop-end.end (c.loop-end.end - 1) x next within c.index-items-end.is c.loop-end.last c.take_back.new.self c.loop-end.invariant.stands c.take_back.ensures.names c.take_back.ensures.nodes c.take_back.ensures.counted;
+      stands = taken-less c.args.items.now c.loop-end.end (c.loop-end.end - 1) x next within c.index-items-end.is c.loop-end.last c.take_back.new.self c.loop-end.invariant.stands c.take_back.ensures.names c.take_back.ensures.nodes;
       numbers = rw (names, nodes) (numbers-more c.args.items.now c.loop-end.end (c.loop-end.end - 1) x next within c.index-items-end.is (length c.loop-end.last.names.items) (length c.loop-end.last.nodes.items) c.loop-end.invariant.numbers both.0 both.1);
       names = omega arith;
       nodes = omega arith;
-      capacity = omega arith;
     }

@@ -1,4 +1,4 @@
-use Rattle.std.proofs.Common.{◌≡◌, ◌≤◌, length, take, drop, vec_capacity}
+use Rattle.std.proofs.Common.{◌≡◌, ◌≤◌, length, take, drop}
 use Rattle.hopen.specs.Kept.{Stands, AreIn}
 use Rattle.hopen.proofs.kept.unwind.Given as goal
 
@@ -10,7 +10,6 @@ invariant-loop-end l = record {
   numbers : AreIn (length l.last.names.items) (length l.last.nodes.items) (drop l.end l.items);
   names : length l.last.names.items ≡ length l.initial.last.names.items;
   nodes : length l.last.nodes.items ≡ length l.initial.last.nodes.items;
-  capacity : vec_capacity l.last.stops.list ≡ vec_capacity l.initial.last.stops.list;
 }
 
 abbrev pub decreases-loop-end : goal.decreases-loop-end

@@ -15,7 +15,7 @@ exchange-requires-clause-open c = ap (λ (n : OpenNodes ℕ). is_open c.args.lea
 
 pub exchange-requires-clause-stands : goal.exchange-requires-clause-stands
 exchange-requires-clause-stands c =
-    stands_same c.self.inside.last _ c.self.inside.items.items _ c.in_ok-make_room.ensures.same_names c.in_ok-make_room.ensures.same_nodes c.in_ok-make_room.ensures.same_stops c.in_ok-make_room.ensures.must_close refl c.self.invariant.stands
+    stands_same c.self.inside.last _ c.self.inside.items.items _ c.in_ok-make_room.ensures.same_names c.in_ok-make_room.ensures.same_nodes c.in_ok-make_room.ensures.fits refl c.self.invariant.stands
 
 pub returns-clause-ok : goal.returns-clause-ok
 returns-clause-ok c =

@@ -1,4 +1,5 @@
 use Rattle.std.proofs.Common.{◌≤◌, ◌+◌, List, length, ◌∙◌, sym, ap, map, reverse, subst, arith, ℕ, ◌≡◌}
+use Rattle.hopen.proofs.ExchangedStack.{item_of, map-insert}
 use Rattle.hopen.proofs.Opened.{seen, found, none_found, kept, room-left}
 use Rattle.hopen.proofs.WrittenBack.{stands_same}
 use Rattle.hchain.proofs.Nearest.{insert_nearest, no_words}
@@ -8,7 +9,6 @@ use Rattle.hopen.specs.Opens.{open_of}
 use Rattle.hopen.specs.Kept.{opened_by}
 use Rattle.hopen.specs.declared.kept.KeptNode.{KeptNode}
 use Rattle.std.specs.List.{insert}
-use Rattle.hopen.proofs.Rooms.{map-insert}
 use Rattle.hopen.proofs.Standing.{many}
 use Rattle.std.proofs.lemmas.List.{length-map}
 use Rattle.std.proofs.lemmas.List.Edits.{length-insert}
@@ -18,7 +18,7 @@ pub returns-in_ok-reserve-clause-ok : goal.returns-in_ok-reserve-clause-ok
 returns-in_ok-reserve-clause-ok c =
     let f = found c.self.inside c.args.self.now (is_node c.args.node) c.in-Some.index c.self.view_is c.in-Some.ensures.found c.in-Some.ensures.within in
     let word = put_before (is_node c.args.node) (open_of c.args.opened) in
-    let x : KeptNode = record { opened = c.args.opened; same_name = 0; next_name = 0; same_node = 0; stops = 0 } in
+    let x : KeptNode = item_of c.args.opened in
     seen c.self.inside c.args.self.now word c.insert.new.items.items c.self.view_is
     (ap reverse (c.insert.ensures.items ∙ ap (λ (xs : List KeptNode). insert (map opened_by xs) (c.in-Some.index + 1) (open_of c.args.opened)) c.in_ok-reserve.ensures.items ∙ sym (map-insert opened_by c.self.inside.items.items (c.in-Some.index + 1) x))
     ∙ insert_nearest opened_by (is_node c.args.node) c.self.inside.items.items c.in-Some.index f.up x f.place f.sum)
@@ -29,12 +29,12 @@ returns-in_default-clause-ok c =
 
 pub insert-requires-clause-stands : goal.insert-requires-clause-stands
 insert-requires-clause-stands c =
-    stands_same c.self.inside.last _ c.self.inside.items.items _ c.in_ok-make_room.ensures.same_names c.in_ok-make_room.ensures.same_nodes c.in_ok-make_room.ensures.same_stops c.in_ok-make_room.ensures.must_close c.in_ok-reserve.ensures.items c.self.invariant.stands
+    stands_same c.self.inside.last _ c.self.inside.items.items _ c.in_ok-make_room.ensures.same_names c.in_ok-make_room.ensures.same_nodes c.in_ok-make_room.ensures.fits c.in_ok-reserve.ensures.items c.self.invariant.stands
 
 pub invariant_of-self-in_err-reserve : goal.invariant_of-self-in_err-reserve
 invariant_of-self-in_err-reserve c = record {
   within = subst (λ (xs : List KeptNode). length xs ≤ c.self.inside.limit) (sym c.in_err-reserve.ensures.items) c.self.invariant.within;
-  stands = stands_same c.self.inside.last _ c.self.inside.items.items _ c.in_ok-make_room.ensures.same_names c.in_ok-make_room.ensures.same_nodes c.in_ok-make_room.ensures.same_stops c.in_ok-make_room.ensures.must_close c.in_err-reserve.ensures.items c.self.invariant.stands;
+  stands = stands_same c.self.inside.last _ c.self.inside.items.items _ c.in_ok-make_room.ensures.same_names c.in_ok-make_room.ensures.same_nodes c.in_ok-make_room.ensures.fits c.in_err-reserve.ensures.items c.self.invariant.stands;
 }
 
 pub insert-requires-clause-within : goal.insert-requires-clause-within

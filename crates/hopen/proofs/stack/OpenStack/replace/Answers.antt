@@ -1,6 +1,7 @@
 use Rattle.std.proofs.Common.{◌∙◌, ap, sym, refl, reverse, arith}
 use Rattle.std.proofs.lemmas.List.{with_items_is, map-set}
 use Rattle.std.specs.Vec.{with_items}
+use Rattle.hopen.proofs.ExchangedStack.{item_of}
 use Rattle.hopen.proofs.Opened.{seen, found, none_found, kept}
 use Rattle.hchain.proofs.Nearest.{change_nearest, no_words}
 use Rattle.hchain.specs.Nearest.{changed}
@@ -14,7 +15,7 @@ pub returns-in_ok-make_room-clause-ok : goal.returns-in_ok-make_room-clause-ok
 returns-in_ok-make_room-clause-ok c =
     let f = found c.self.inside c.args.self.now (is_node c.args.node) c.in-Some.index c.self.view_is c.in-Some.ensures.found c.in-Some.ensures.within in
     let items = c.self.inside.items.items in
-    let x : KeptNode = record { opened = c.args.by; same_name = 0; next_name = 0; same_node = 0; stops = 0 } in
+    let x : KeptNode = item_of c.args.by in
     seen c.self.inside c.args.self.now (changed (is_node c.args.node) (λ _. open_of c.args.by)) (with_items c.self.inside.items c.replace.new.items).items c.self.view_is
     (ap stack_of (with_items_is c.self.inside.items c.replace.new.items (omega arith))
     ∙ ap reverse (rw c.deref_mut.ensures.value at c.replace.ensures.items ∙ sym (map-set opened_by items c.in-Some.index x))

@@ -3,7 +3,7 @@ use Rattle.std.proofs.lemmas.Bool.{eqb-true}
 use Rattle.names.specs.Sets.{is_special}
 use Rattle.names.specs.Tags.{tag_of}
 use Rattle.hopen.proofs.Projected.{name-at, node-at}
-use Rattle.hopen.proofs.exchange.passes.Goals as goal
+use Rattle.hopen.proofs.exchange.can_pass.Goals as goal
 
 pub returns : goal.returns
 returns c = λ e.
@@ -12,7 +12,7 @@ returns c = λ e.
     let i = c.args.index in
     record {
       within = c.requires;
-      plain = ap (λ n. is_special (tag_of n)) (name-at items i c.index-items-index.result (omega (arith, c.requires))) ∙ ap is_special (sym c.tag.ensures) ∙ sym c.is_stop.ensures ∙ c.if-is_stop.false;
+      plain = ap (λ n. is_special (tag_of n)) (name-at items i c.index-items-index.result (omega (arith, c.requires))) ∙ ap is_special (sym c.tag.ensures) ∙ sym c.is_special.ensures ∙ c.if-is_special.false;
       upper = ap (λ n. get_or nodes n 0) (node-at items i c.index-items-index.result (omega (arith, c.requires))) ∙ sym c.of_node.ensures ∙ c.if-of_node-index.false;
       lower = ap (λ n. get_or nodes n 0) (node-at items (i + 1) c.index-items-index-2.result (omega (arith, c.requires))) ∙ sym c.of_node-2.ensures ∙ eqb-true _ _ e;
     }

@@ -1,0 +1,116 @@
+-- The place of the nearest node of a set, by the node that is kept.
+use Rattle.std.proofs.Common.{◌≡◌, ℕ, zero, suc, ◌-◌, ◌<◌, ◌≤◌, true, false, cond, eqb, not, List, ◌∷◌, length, map, get_or, ◌⊎◌, inl, inr, refl, sym, ◌∙◌, ap, arith}
+use Rattle.std.specs.Prelude.{nat_eq}
+use Rattle.std.specs.List.{list_all}
+use Rattle.std.proofs.lemmas.Bool.{cases_Bool, cases_lt, eqb-true}
+use Rattle.std.proofs.lemmas.List.{get_or_default, get_or_past, length-map}
+use Rattle.hchain.specs.Chains.{last_up}
+use Rattle.hchain.specs.Places.{last_place}
+use Rattle.hchain.proofs.LastUp.{up-within, up-found, up-least, up-past}
+use Rattle.hchain.proofs.Places.{all-places}
+use Rattle.hopen.specs.Kept.{Stands, kept_above, must_close_in, name_of, names_in, nodes_in, opened_by, stack_of}
+use Rattle.hopen.specs.NameSets.{holds, is_in, set_node}
+use Rattle.hopen.specs.declared.kept.KeptNode.{KeptNode}
+use Rattle.hopen.specs.declared.kept.LastPlaces.{LastPlaces}
+use Rattle.hopen.specs.declared.name_sets.NameSet.{NameSet}
+use Rattle.hopen.specs.declared.name_sets.SetNodes.{SetNodes}
+use Rattle.names.specs.Sets.{may_stay_open}
+use Rattle.names.specs.Tags.{tag_of}
+use Rattle.hopen.proofs.KeptBy.{kept-closing, kept-nearest, node_at}
+use Rattle.hopen.proofs.Linked.{eqb-same, place-up}
+use Rattle.hopen.proofs.Projected.{length-names, length-nodes, same_node-at}
+use Rattle.std.proofs.Math.Dec.{eqb-suc-zero}
+
+module _ (last : LastPlaces) (items : List KeptNode) (s : Stands last items) where
+  abbrev pub ns : List ℕ
+  ns = nodes_in (map opened_by items)
+
+  long : length (names_in (map opened_by items)) ≡ length items
+  long = length-names items
+
+  -- the same in the words of the stack
+  pub last-in-stack : (set : NameSet) → last_up (holds set) (names_in (map opened_by items)) (length items) ≡ last_place (is_in set) (stack_of items)
+  last-in-stack set = ap (last_up (holds set) (names_in (map opened_by items))) (sym long) ∙ place-up name_of (holds set) (map opened_by items)
+
+  module _ (set : NameSet) (n : ℕ) (kept : n ≡ kept_above (set_node set) items (length items)) where
+    abbrev pub up : ℕ
+    up = last_up (holds set) (names_in (map opened_by items)) (length items)
+
+    most : up ≤ length items
+    most = up-within (holds set) (names_in (map opened_by items)) (length items)
+
+    kept-is : n ≡ node_at ns up
+    kept-is = kept ∙ ap (λ l. get_or (0 ∷ l) (length items) 0) (s.sets.nodes set) ∙ kept-nearest (map opened_by items) (record { node = 0; name = 0 }) set (length items) (let e : length items ≤ length (map opened_by items) = omega (arith, length-map items opened_by) in e)
+
+    -- none is open where none is kept
+    pub none-open : n ≡ 0 → 0 ≡ last_place (is_in set) (stack_of items)
+    none-open e = sym (go up refl) ∙ last-in-stack set
+      where
+        go : (k : ℕ) → up ≡ k → up ≡ 0
+        go zero f = f
+        go (suc k) f = absurd (omega (arith, kept-is, e, ap (node_at ns) f))
+
+    module _ (some : 0 < n) where
+      some-up : 0 < up
+      some-up = elim (cases_lt 0 up) [ inl less ↦ less | inr none ↦ absurd (let z : up ≡ 0 = omega arith in omega (arith, kept-is, some, ap (node_at ns) z)) ]
+
+      -- it is the node at that place
+      node-is : get_or ns (up - 1) 0 ≡ n - 1
+      node-is =
+          let next : up ≡ suc (up - 1) = omega (arith, some-up) in
+          let e : n ≡ suc (get_or ns (up - 1) 0) = kept-is ∙ ap (node_at ns) next in
+          omega (arith, e)
+
+      says : get_or last.nodes.items (n - 1) 0 ≡ last_up (λ k. eqb k (n - 1)) ns (length items)
+      says = s.nodes.says (n - 1) ∙ ap (last_up (λ k. eqb k (n - 1)) ns) (length-nodes items)
+
+      down : up ≤ get_or last.nodes.items (n - 1) 0
+      down = omega (arith, says, some-up, up-least (λ k. eqb k (n - 1)) ns (length items) (up - 1) (omega (arith, some-up, most)) (ap (λ k. eqb k (n - 1)) node-is ∙ eqb-same (n - 1)))
+
+      pub node-in : n - 1 < length last.nodes.items
+      node-in = elim (cases_lt (n - 1) (length last.nodes.items)) [ inl less ↦ less | inr past ↦ absurd (omega (arith, some-up, down, get_or_past last.nodes.items (n - 1) 0 past)) ]
+
+      -- the place of that node
+      module _ (place : ℕ) (at : place ≡ get_or last.nodes.items (n - 1) place) where
+        place-is : place ≡ last_up (λ k. eqb k (n - 1)) ns (length items)
+        place-is = at ∙ get_or_default last.nodes.items (n - 1) place 0 node-in ∙ says
+
+        pub place-within : (0 < place) × (place ≤ length items) × (up ≤ place)
+        place-within = (omega (arith, some-up, down, says, place-is), omega (arith, place-is, up-within (λ k. eqb k (n - 1)) ns (length items)), omega (arith, down, says, place-is))
+
+        -- the nearest of the set is there or above
+        pub nearest-from : last_up (holds set) (names_in (map opened_by items)) place ≡ last_place (is_in set) (stack_of items)
+        nearest-from = sym (up-past (holds set) (names_in (map opened_by items)) place (length items) place-within.1 (λ j more less. none j more less (cases_Bool (holds set (get_or (names_in (map opened_by items)) j 0))))) ∙ last-in-stack set
+          where
+            none : (j : ℕ) → place ≤ j → j < length items → (holds set (get_or (names_in (map opened_by items)) j 0) ≡ true) ⊎ (holds set (get_or (names_in (map opened_by items)) j 0) ≡ false) → holds set (get_or (names_in (map opened_by items)) j 0) ≡ false
+            none j more less (inl e) = absurd (omega (arith, place-within.2, up-least (holds set) (names_in (map opened_by items)) (length items) j less e))
+            none j more less (inr e) = e
+
+        -- and it is there where the node is open once
+        pub nearest-at : (d : KeptNode) → KeptNode.same_node (get_or items (place - 1) d) ≡ 0 → place ≡ last_place (is_in set) (stack_of items)
+        nearest-at d once = let e : place ≡ up = elim (cases_lt up place) [ inl more ↦ absurd (twice more) | inr less ↦ omega (arith, place-within.2) ] in e ∙ last-in-stack set
+          where
+            here : get_or ns (place - 1) 0 ≡ n - 1
+            here = ap (λ k. get_or ns (k - 1) 0) place-is ∙ eqb-true _ _ (up-found (λ k. eqb k (n - 1)) ns (length items) (omega (arith, place-is, place-within.0)))
+
+            twice : up < place → ⊥
+            twice more = omega (
+              arith,
+              some-up,
+              s.nodes.kept (place - 1) (omega (arith, place-within.0, place-within.1, length-nodes items)),
+              same_node-at items (place - 1) d (omega (arith, place-within.0, place-within.1)),
+              once,
+              up-least (λ k. eqb k (get_or ns (place - 1) 0)) ns (place - 1) (up - 1) (omega (arith, some-up, more)) (ap (λ k. eqb k (get_or ns (place - 1) 0)) (node-is ∙ sym here) ∙ eqb-same (get_or ns (place - 1) 0)),
+            )
+
+  -- all may stay open where none must be closed
+  pub all-stay : (p : SetNodes) → must_close_in p ≡ kept_above must_close_in items (length items) → nat_eq p.must_close 0 ≡ list_all (λ y. may_stay_open (tag_of y.name)) (stack_of items)
+  all-stay p a =
+      zeros p.must_close ∙ ap (λ k. nat_eq k 0) (a ∙ ap (λ l. get_or (0 ∷ l) (length items) 0) s.sets.must_close)
+      ∙ kept-closing (map opened_by items) (record { node = 0; name = 0 }) (length items) (let e : length items ≤ length (map opened_by items) = omega (arith, length-map items opened_by) in e)
+      ∙ ap (λ k. nat_eq k 0) (ap (last_up (λ m. not (may_stay_open (tag_of m))) (names_in (map opened_by items))) (sym long) ∙ place-up name_of (λ m. not (may_stay_open (tag_of m))) (map opened_by items))
+      ∙ all-places (λ y. may_stay_open (tag_of y.name)) (stack_of items)
+    where
+      zeros : (n : ℕ) → nat_eq n 0 ≡ nat_eq (cond (eqb n 0) 0 1) 0
+      zeros zero = refl
+      zeros (suc n) = rw (eqb-suc-zero n) refl
