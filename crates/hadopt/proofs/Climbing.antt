@@ -1,4 +1,4 @@
--- The way up of the adoption agency: the open nodes are in the document's tree or in that of the last node.
+-- The inner loop of the adoption agency: the open nodes are in the document's tree or in that of the last node.
 use Rattle.std.proofs.Common.{◌≡◌, ◌≢◌, ℕ, zero, suc, ◌+◌, ◌<◌, ◌≤◌, Bool, true, false, not, leb, cond, List, [], ◌∷◌, ◌++◌, Option, Some, None, refl, sym, ◌∙◌, subst, arith, ◌⊎◌, inl, inr, find}
 use Rattle.std.proofs.lemmas.Bool.{eq-eqb, ne_eqb}
 use Rattle.std.specs.Prelude.{◌==◌}
@@ -17,7 +17,7 @@ use Rattle.hnodes.proofs.Outside.{deep-new, deep-newest, graft-deep, graft-apart
 use Rattle.hadopt.specs.Naming.{Naming}
 use Rattle.hadopt.specs.Site.{Outcome, Goes, Refused, and_then, stack, trees, with_items}
 use Rattle.hadopt.specs.Inserts.{made}
-use Rattle.hadopt.specs.Adopts.{Climb, entries_for, left, replaced, climbed_one, climbed}
+use Rattle.hadopt.specs.Adopts.{InnerLoop, entries_for, left, node_replaced, inner_turn, inner_loop}
 use Rattle.hadopt.specs.Kept.{Each, Pairs}
 use Rattle.hadopt.proofs.Lists.{each-map, pairs-map, Among, empty, skip, keep, each-among, pairs-among, among-without, Front, front-next, front-pairs, front-map, front-each, front-without, front-changed, each-changed, pairs-changed}
 
@@ -40,9 +40,9 @@ find-each P p (y ∷ ys) x e is = go (p y) (find-each P p ys x e.1) is
 
 module _ {N : Type 0} where
   -- What becomes of the forest: a new node, and the last one under it.
-  module _ (count : ℕ) (f : Forest N) (counted : AreCounted count f) (last : ℕ) (low : last < count) (pos : 0 < last) (w : What N) where
+  module _ (count : ℕ) (f : Forest N) (counted : AreCounted count f) (last_node : ℕ) (low : last_node < count) (pos : 0 < last_node) (w : What N) where
     abbrev pub grown : Forest N
-    grown = graft_last last count (join f (tree count w none none))
+    grown = graft_last last_node count (join f (tree count w none none))
 
     absent : times count f ≡ 0
     absent = not-there count f counted count (omega arith)
@@ -53,29 +53,29 @@ module _ {N : Type 0} where
     new-one : times count (join f (tree count w none none)) ≡ 1
     new-one = times-new count w f absent
 
-    last-not : last ≢ count
+    last-not : last_node ≢ count
     last-not e = omega arith
 
-    in-last : (x : ℕ) → times x (tree_at last (join f (tree count w none none))) ≡ deep x last f
-    in-last x = sym (deep-is x last (join f (tree count w none none)) (at-most (count + 1) (join f (tree count w none none)) (counted-new count w f counted) last)) ∙ deep-new x last count w f last-not
+    in-last_node : (x : ℕ) → times x (tree_at last_node (join f (tree count w none none))) ≡ deep x last_node f
+    in-last_node x = sym (deep-is x last_node (join f (tree count w none none)) (at-most (count + 1) (join f (tree count w none none)) (counted-new count w f counted) last_node)) ∙ deep-new x last_node count w f last-not
 
     pub grown-few : (x y : ℕ) → y ≢ count → deep x y grown ≤ deep x y f
-    grown-few x y h = omega (arith, graft-deep x y last (LastIn count) (join f (tree count w none none)) (omega (arith, new-one)) (new-out y h), deep-new x y count w f h)
+    grown-few x y h = omega (arith, graft-deep x y last_node (LastIn count) (join f (tree count w none none)) (omega (arith, new-one)) (new-out y h), deep-new x y count w f h)
 
-    pub grown-apart : (x y : ℕ) → y ≢ count → deep x last f ≡ 0 → deep x y grown ≡ deep x y f
-    grown-apart x y h out = graft-apart x y last (LastIn count) (join f (tree count w none none)) (in-last x ∙ out) ∙ deep-new x y count w f h
+    pub grown-apart : (x y : ℕ) → y ≢ count → deep x last_node f ≡ 0 → deep x y grown ≡ deep x y f
+    grown-apart x y h out = graft-apart x y last_node (LastIn count) (join f (tree count w none none)) (in-last_node x ∙ out) ∙ deep-new x y count w f h
 
-    pub grown-out : (x : ℕ) → x ≢ count → deep x last f ≡ 0 → deep x count grown ≡ 0
-    grown-out x h out = graft-apart x count last (LastIn count) (join f (tree count w none none)) (in-last x ∙ out) ∙ deep-newest x count w f absent h
+    pub grown-out : (x : ℕ) → x ≢ count → deep x last_node f ≡ 0 → deep x count grown ≡ 0
+    grown-out x h out = graft-apart x count last_node (LastIn count) (join f (tree count w none none)) (in-last_node x ∙ out) ∙ deep-newest x count w f absent h
 
-    pub grown-in : (x : ℕ) → 0 < deep x last f → 0 < deep x count grown
-    grown-in x h = omega (arith, graft-below x count last (LastIn count) (join f (tree count w none none)) tt (omega (arith, new-one)) (in-last count ∙ deep-lower count last f absent) (omega (arith, deep-self count (join f (tree count w none none)), new-one)), in-last x)
+    pub grown-in : (x : ℕ) → 0 < deep x last_node f → 0 < deep x count grown
+    grown-in x h = omega (arith, graft-below x count last_node (LastIn count) (join f (tree count w none none)) tt (omega (arith, new-one)) (in-last_node count ∙ deep-lower count last_node f absent) (omega (arith, deep-self count (join f (tree count w none none)), new-one)), in-last_node x)
 
     pub grown-new : (y : ℕ) → y ≢ count → deep count y grown ≡ 0
     grown-new y h = omega (arith, grown-few count y h, deep-lower count y f absent)
 
     pub grown-sound : AreCounted (count + 1) grown
-    grown-sound = counted-graft (count + 1) last (LastIn count) (join f (tree count w none none)) (counted-new count w f counted) pos tt new-one (in-last count ∙ deep-lower count last f absent)
+    grown-sound = counted-graft (count + 1) last_node (LastIn count) (join f (tree count w none none)) (counted-new count w f counted) pos tt new-one (in-last_node count ∙ deep-lower count last_node f absent)
 
 module _ {N : Type 0} where
   -- entries that are left
@@ -108,15 +108,15 @@ module _ {N : Type 0} (n : Naming N) where
       go false r = (h.0, r)
 
   -- on the way, these open nodes being still to come
-  pub record Climbing (block : ℕ) (rest : List (OpenNode N)) (c : Climb N) : Type 0 where
+  pub record Climbing (block : ℕ) (rest : List (OpenNode N)) (c : InnerLoop N) : Type 0 where
     pub counted : AreCounted c.site.nodes.made (trees c.site)
-    pub low : c.last < c.site.nodes.made
-    pub pos : 0 < c.last
-    pub each : Each (λ x. ((0 < deep x.node 0 (trees c.site)) ⊎ (0 < deep x.node c.last (trees c.site))) × (0 < x.node)) (stack c.site)
-    pub behind : Each (λ x. (0 < deep x.node 0 (trees c.site)) × (deep x.node c.last (trees c.site) ≡ 0)) rest
+    pub low : c.last_node < c.site.nodes.made
+    pub pos : 0 < c.last_node
+    pub each : Each (λ x. ((0 < deep x.node 0 (trees c.site)) ⊎ (0 < deep x.node c.last_node (trees c.site))) × (0 < x.node)) (stack c.site)
+    pub behind : Each (λ x. (0 < deep x.node 0 (trees c.site)) × (deep x.node c.last_node (trees c.site) ≡ 0)) rest
     pub order : Pairs (λ x y. deep y.node x.node (trees c.site) ≡ 0) (stack c.site)
     pub front : Front (λ x. Plain x.name) rest (stack c.site)
-    pub block_in : ((0 < deep block 0 (trees c.site)) ⊎ (0 < deep block c.last (trees c.site))) × (0 < block)
+    pub block_in : ((0 < deep block 0 (trees c.site)) ⊎ (0 < deep block c.last_node (trees c.site))) × (0 < block)
     pub plain : PlainEntries c.site.items
 
   -- none in front is the first one behind
@@ -127,7 +127,7 @@ module _ {N : Type 0} (n : Naming N) where
       (λ y h. (h.0, ne_eqb y.node x.node (λ e. let z : deep x.node x.node f ≡ 0 = subst (λ (k : ℕ). deep x.node k f ≡ 0) e h.1.0 in omega (arith, deep-self x.node f))))
       (x ∷ rest) open_now (front-pairs (λ y. Plain y.name) (λ a b. deep b.node a.node f ≡ 0) (x ∷ rest) open_now front order)
 
-  module _ (block : ℕ) (x : OpenNode N) (rest : List (OpenNode N)) (c : Climb N) (h : Climbing block (x ∷ rest) c) where
+  module _ (block : ℕ) (x : OpenNode N) (rest : List (OpenNode N)) (c : InnerLoop N) (h : Climbing block (x ∷ rest) c) where
     there-x : 0 < times x.node (trees c.site)
     there-x = omega (arith, is-there c.site.nodes.made (trees c.site) h.counted x.node (deep-there c.site.nodes.made (trees c.site) h.counted x.node 0 h.behind.0.0).0)
 
@@ -161,36 +161,36 @@ module _ {N : Type 0} (n : Naming N) where
 
     module _ (w : What N) where
       abbrev f' : Forest N
-      f' = grown count (trees c.site) h.counted c.last h.low h.pos w
+      f' = grown count (trees c.site) h.counted c.last_node h.low h.pos w
 
       abbrev Now : OpenNode N → Type 0
       Now y = ((0 < deep y.node 0 f') ⊎ (0 < deep y.node count f')) × (0 < y.node)
 
-      now-in : (y : OpenNode N) → 0 < deep y.node c.last (trees c.site) → 0 < y.node → Now y × (y.node ≢ count)
-      now-in y a b = ((inr (grown-in count (trees c.site) h.counted c.last h.low h.pos w y.node a), b), old y.node c.last a)
+      now-in : (y : OpenNode N) → 0 < deep y.node c.last_node (trees c.site) → 0 < y.node → Now y × (y.node ≢ count)
+      now-in y a b = ((inr (grown-in count (trees c.site) h.counted c.last_node h.low h.pos w y.node a), b), old y.node c.last_node a)
 
-      now : (y : OpenNode N) → (0 < deep y.node 0 (trees c.site)) ⊎ (0 < deep y.node c.last (trees c.site)) → 0 < y.node → Now y × (y.node ≢ count)
+      now : (y : OpenNode N) → (0 < deep y.node 0 (trees c.site)) ⊎ (0 < deep y.node c.last_node (trees c.site)) → 0 < y.node → Now y × (y.node ≢ count)
       now y (inr a) b = now-in y a b
-      now y (inl a) b = go (deep y.node c.last (trees c.site)) refl
+      now y (inl a) b = go (deep y.node c.last_node (trees c.site)) refl
         where
-          go : (j : ℕ) → deep y.node c.last (trees c.site) ≡ j → Now y × (y.node ≢ count)
-          go zero z = ((inl (omega (arith, grown-apart count (trees c.site) h.counted c.last h.low h.pos w y.node 0 (λ e. omega (arith, h.low)) z)), b), old y.node 0 a)
+          go : (j : ℕ) → deep y.node c.last_node (trees c.site) ≡ j → Now y × (y.node ≢ count)
+          go zero z = ((inl (omega (arith, grown-apart count (trees c.site) h.counted c.last_node h.low h.pos w y.node 0 (λ e. omega (arith, h.low)) z)), b), old y.node 0 a)
           go (suc j) z = now-in y (omega arith) b
 
       now-each : Each (λ y. Now y × (y.node ≢ count)) (stack c.site)
       now-each = each-map _ _ (λ y p. now y p.0 p.1) (stack c.site) h.each
 
-      now-behind : (y : OpenNode N) → (0 < deep y.node 0 (trees c.site)) × (deep y.node c.last (trees c.site) ≡ 0) → (0 < deep y.node 0 f') × (deep y.node count f' ≡ 0)
-      now-behind y p = (omega (arith, p.0, grown-apart count (trees c.site) h.counted c.last h.low h.pos w y.node 0 (λ e. omega (arith, h.low)) p.1), grown-out count (trees c.site) h.counted c.last h.low h.pos w y.node (old y.node 0 p.0) p.1)
+      now-behind : (y : OpenNode N) → (0 < deep y.node 0 (trees c.site)) × (deep y.node c.last_node (trees c.site) ≡ 0) → (0 < deep y.node 0 f') × (deep y.node count f' ≡ 0)
+      now-behind y p = (omega (arith, p.0, grown-apart count (trees c.site) h.counted c.last_node h.low h.pos w y.node 0 (λ e. omega (arith, h.low)) p.1), grown-out count (trees c.site) h.counted c.last_node h.low h.pos w y.node (old y.node 0 p.0) p.1)
 
     replaced-climbs : (e : EntryOf N) (items : List (Listed N)) → PlainEntries items → Plain e.name
-        → Climbing block rest (replaced block count x e (record c { site = record (with_items items c.site) { nodes = make (element e.name e.attrs) c.site.nodes } }))
+        → Climbing block rest (node_replaced block count x e (record c { site = record (with_items items c.site) { nodes = make (element e.name e.attrs) c.site.nodes } }))
     replaced-climbs e items plain name =
         let w = element e.name e.attrs in
         let new : OpenNode N = record { node = count; name = e.name } in
-        let new_in : 0 < deep count count (f' w) = omega (arith, deep-self count (f' w), is-there (count + 1) (f' w) (grown-sound count (trees c.site) h.counted c.last h.low h.pos w) count (omega arith)) in
+        let new_in : 0 < deep count count (f' w) = omega (arith, deep-self count (f' w), is-there (count + 1) (f' w) (grown-sound count (trees c.site) h.counted c.last_node h.low h.pos w) count (omega arith)) in
         record {
-          counted = grown-sound count (trees c.site) h.counted c.last h.low h.pos w;
+          counted = grown-sound count (trees c.site) h.counted c.last_node h.low h.pos w;
           low = omega arith;
           pos = omega (arith, h.low);
           each = each-changed (λ y. Plain y.name × (is_node x.node y ≡ false)) (Now w) (is_node x.node) x new rest (stack c.site) (λ y p. p.1) is-x apart
@@ -199,9 +199,9 @@ module _ {N : Type 0} (n : Naming N) where
           behind = each-map _ _ (now-behind w) rest h.behind.1;
           order = pairs-changed (λ y. (Plain y.name × (is_node x.node y ≡ false)) × (y.node ≢ count)) (λ a b. deep b.node a.node (f' w) ≡ 0) (is_node x.node) x new rest (stack c.site) (λ y p. p.0.1) is-x
               (front-each (λ y. Plain y.name × (is_node x.node y ≡ false)) (λ y. Now w y × (y.node ≢ count)) (λ y. (Plain y.name × (is_node x.node y ≡ false)) × (y.node ≢ count)) (λ y p q. (p, q.1)) (x ∷ rest) (stack c.site) apart (now-each w))
-              (λ y p. grown-new count (trees c.site) h.counted c.last h.low h.pos w y.node p.1)
+              (λ y p. grown-new count (trees c.site) h.counted c.last_node h.low h.pos w y.node p.1)
               (each-map _ _ (λ y p. (now-behind w y p).1) rest h.behind.1)
-              (pairs-map (λ y. y.node ≢ count) _ _ (λ a b p q r. omega (arith, grown-few count (trees c.site) h.counted c.last h.low h.pos w b.node a.node p)) (stack c.site) (each-map _ _ (λ y p. p.1) (stack c.site) (now-each w)) h.order);
+              (pairs-map (λ y. y.node ≢ count) _ _ (λ a b p q r. omega (arith, grown-few count (trees c.site) h.counted c.last_node h.low h.pos w b.node a.node p)) (stack c.site) (each-map _ _ (λ y p. p.1) (stack c.site) (now-each w)) h.order);
           front = front-next (λ y. Plain y.name) new rest _ name (front-map (λ y. Plain y.name × (is_node x.node y ≡ false)) (λ y. Plain y.name) (λ y p. p.0) (new ∷ rest) _ (front-changed (λ y. Plain y.name × (is_node x.node y ≡ false)) (is_node x.node) x new rest (stack c.site) (λ y p. p.1) is-x apart));
           block_in = (now w (record { node = block; name = x.name }) h.block_in.0 h.block_in.1).0;
           plain = plain-with_node x.node count items plain;
@@ -217,22 +217,22 @@ module _ {N : Type 0} (n : Naming N) where
     abbrev items : ℕ → List (Listed N)
     items passed = entries_for passed x.node c.site.items
 
-    pub one-climbs : (at passed : ℕ) → OnGoes (Climbing block rest) (climbed_one n at block passed x c)
+    pub one-climbs : (at passed : ℕ) → OnGoes (Climbing block rest) (inner_turn n at block passed x c)
     one-climbs at passed = go (entry_of x.node (entries_for passed x.node c.site.items)) refl
       where
         with : (e : EntryOf N) → Plain e.name → (v : Bool)
-            → OnGoes (Climbing block rest) (and_then (cond v (Refused (TooManyNodes at)) (Goes (record (with_items (items passed) c.site) { nodes = make (element e.name e.attrs) c.site.nodes }))) (λ t. Goes (replaced block c.site.nodes.made x e (record c { site = t }))))
+            → OnGoes (Climbing block rest) (and_then (cond v (Refused (TooManyNodes at)) (Goes (record (with_items (items passed) c.site) { nodes = make (element e.name e.attrs) c.site.nodes }))) (λ t. Goes (node_replaced block c.site.nodes.made x e (record c { site = t }))))
         with e name true = tt
         with e name false = replaced-climbs e (items passed) (for-plain passed) name
 
         go : (o : Option (EntryOf N)) → entry_of x.node (items passed) ≡ o
-            → OnGoes (Climbing block rest) (option_map_or (λ e. and_then (made at (element e.name e.attrs) (with_items (items passed) c.site)) (λ t. Goes (replaced block c.site.nodes.made x e (record c { site = t })))) o (Goes (left x (record c { site = with_items (items passed) c.site }))))
+            → OnGoes (Climbing block rest) (option_map_or (λ e. and_then (made at (element e.name e.attrs) (with_items (items passed) c.site)) (λ t. Goes (node_replaced block c.site.nodes.made x e (record c { site = t })))) o (Goes (left x (record c { site = with_items (items passed) c.site }))))
         go None is = left-climbs 0 (items passed) (for-plain passed)
         go (Some e) is = with e (find-each (λ d. Plain d.name) (is_of_node x.node) (entries (items passed)) e (for-plain passed) is) (leb c.site.nodes.limit c.site.nodes.made)
 
-  pub climbed-climbs : (at block : ℕ) (way tail : List (OpenNode N)) (passed : ℕ) (c : Climb N) → Climbing block (way ++ tail) c → OnGoes (Climbing block tail) (climbed n at block passed way c)
-  climbed-climbs at block [] tail passed c h = h
-  climbed-climbs at block (x ∷ way) tail passed c h =
-      goes-then (Climbing block (way ++ tail)) (Climbing block tail) (climbed_one n at block passed x c) (climbed n at block (suc passed) way)
+  pub inner-loop-climbs : (at block : ℕ) (way tail : List (OpenNode N)) (passed : ℕ) (c : InnerLoop N) → Climbing block (way ++ tail) c → OnGoes (Climbing block tail) (inner_loop n at block passed way c)
+  inner-loop-climbs at block [] tail passed c h = h
+  inner-loop-climbs at block (x ∷ way) tail passed c h =
+      goes-then (Climbing block (way ++ tail)) (Climbing block tail) (inner_turn n at block passed x c) (inner_loop n at block (suc passed) way)
       (one-climbs block x (way ++ tail) c h at passed)
-      (λ d k. climbed-climbs at block way tail (suc passed) d k)
+      (λ d k. inner-loop-climbs at block way tail (suc passed) d k)

@@ -1,4 +1,4 @@
--- The way up of the adoption agency in two parts.
+-- The inner loop of the adoption agency in two parts.
 use Rattle.std.proofs.Common.{◌≡◌, ◌≢◌, ℕ, zero, suc, ◌+◌, ◌-◌, ◌<◌, ◌≤◌, Bool, true, false, cond, leb, eqb, List, [], ◌∷◌, ◌++◌, Option, Some, None, refl, sym, ◌∙◌, ap, subst, arith, ◌⊎◌, inl, inr, length, take, drop, slice_get}
 use Rattle.std.specs.List.{remove_range}
 use Rattle.std.specs.Option.{option_map_or}
@@ -10,8 +10,8 @@ use Rattle.hchain.specs.Nearest.{before, without}
 use Rattle.hopen.specs.Stack.{OpenNode, is_node}
 use Rattle.hformat.specs.Formatting.{EntryOf, entry_of, without_entry}
 use Rattle.names.specs.declared.refusal.Refusal.TheVariants.{TooManyNodes}
-use Rattle.hadopt.specs.Adopts.{Climb, entries_for, left, replaced, climbed_one, climbed}
-use Rattle.hadopt.specs.Climbs.{AreDifferent, without_entries, way_after, way_left, IsHalfway}
+use Rattle.hadopt.specs.Adopts.{InnerLoop, entries_for, left, node_replaced, inner_turn, inner_loop}
+use Rattle.hadopt.specs.InnerLoops.{AreDifferent, without_entries, way_after, way_left, IsHalfway}
 use Rattle.hadopt.specs.Inserts.{made}
 use Rattle.hadopt.specs.Kept.{Each, Pairs}
 use Rattle.hadopt.specs.Naming.{numbers}
@@ -22,20 +22,20 @@ use Rattle.hadopt.proofs.Lists.{Among, skip, keep, among-all, each-map, each-amo
 use Rattle.hadopt.proofs.Ways.{OnWay}
 
 -- what a node with an entry, among the first ones, becomes
-pub first-some : (at block passed : ℕ) (x : OpenNode ℕ) (e : EntryOf ℕ) (c : Climb ℕ) → passed < 3 → entry_of x.node c.site.items ≡ Some e
-    → climbed_one numbers at block passed x c ≡ and_then (made at (element e.name e.attrs) c.site) (λ t. Goes (replaced block c.site.nodes.made x e (record c { site = t })))
+pub first-some : (at block passed : ℕ) (x : OpenNode ℕ) (e : EntryOf ℕ) (c : InnerLoop ℕ) → passed < 3 → entry_of x.node c.site.items ≡ Some e
+    → inner_turn numbers at block passed x c ≡ and_then (made at (element e.name e.attrs) c.site) (λ t. Goes (node_replaced block c.site.nodes.made x e (record c { site = t })))
 first-some at block passed x e c few found = rw (lt-leb 3 passed few, found) refl
 
 -- open nodes stay different
-module _ (at block passed : ℕ) (x : OpenNode ℕ) (c : Climb ℕ) (h : AreDifferent c.site) where
+module _ (at block passed : ℕ) (x : OpenNode ℕ) (c : InnerLoop ℕ) (h : AreDifferent c.site) where
   other : (y : OpenNode ℕ) → y.node < c.site.nodes.made → y.node ≢ c.site.nodes.made
   other y low e = omega arith
 
-  pub one-different : OnGoes (λ (d : Climb ℕ). AreDifferent d.site) (climbed_one numbers at block passed x c)
+  pub one-different : OnGoes (λ (d : InnerLoop ℕ). AreDifferent d.site) (inner_turn numbers at block passed x c)
   one-different = go (entry_of x.node (entries_for passed x.node c.site.items))
     where
       with : (e : EntryOf ℕ) (v : Bool)
-          → OnGoes (λ (d : Climb ℕ). AreDifferent d.site) (and_then (cond v (Refused (TooManyNodes at)) (Goes (record (with_items (entries_for passed x.node c.site.items) c.site) { nodes = make (element e.name e.attrs) c.site.nodes }))) (λ t. Goes (replaced block c.site.nodes.made x e (record c { site = t }))))
+          → OnGoes (λ (d : InnerLoop ℕ). AreDifferent d.site) (and_then (cond v (Refused (TooManyNodes at)) (Goes (record (with_items (entries_for passed x.node c.site.items) c.site) { nodes = make (element e.name e.attrs) c.site.nodes }))) (λ t. Goes (node_replaced block c.site.nodes.made x e (record c { site = t }))))
       with e true = tt
       with e false =
           let new : OpenNode ℕ = record { node = c.site.nodes.made; name = e.name } in
@@ -48,7 +48,7 @@ module _ (at block passed : ℕ) (x : OpenNode ℕ) (c : Climb ℕ) (h : AreDiff
           }
 
       go : (o : Option (EntryOf ℕ))
-          → OnGoes (λ (d : Climb ℕ). AreDifferent d.site) (option_map_or (λ e. and_then (made at (element e.name e.attrs) (with_items (entries_for passed x.node c.site.items) c.site)) (λ t. Goes (replaced block c.site.nodes.made x e (record c { site = t })))) o (Goes (left x (record c { site = with_items (entries_for passed x.node c.site.items) c.site }))))
+          → OnGoes (λ (d : InnerLoop ℕ). AreDifferent d.site) (option_map_or (λ e. and_then (made at (element e.name e.attrs) (with_items (entries_for passed x.node c.site.items) c.site)) (λ t. Goes (node_replaced block c.site.nodes.made x e (record c { site = t })))) o (Goes (left x (record c { site = with_items (entries_for passed x.node c.site.items) c.site }))))
       go None = record {
         made = each-among _ (without (is_node x.node) (stack c.site)) (stack c.site) (among-without (is_node x.node) (stack c.site)) h.made;
         apart = pairs-among _ (without (is_node x.node) (stack c.site)) (stack c.site) (among-without (is_node x.node) (stack c.site)) h.apart;
@@ -61,11 +61,11 @@ without_each [] open_now = open_now
 without_each (x ∷ way) open_now = without_each way (without (is_node x.node) open_now)
 
 -- what the nodes on the way become that keep no entry
-all-left : (at block passed : ℕ) (way : List (OpenNode ℕ)) (c : Climb ℕ) → 3 ≤ passed
-    → climbed numbers at block passed way c ≡ Goes (record c { site = with_stack (without_each way (stack c.site)) (with_items (without_entries way c.site.items) c.site) })
+all-left : (at block passed : ℕ) (way : List (OpenNode ℕ)) (c : InnerLoop ℕ) → 3 ≤ passed
+    → inner_loop numbers at block passed way c ≡ Goes (record c { site = with_stack (without_each way (stack c.site)) (with_items (without_entries way c.site.items) c.site) })
 all-left at block passed [] c many = refl
 all-left at block passed (x ∷ way) c many =
-    let one : climbed_one numbers at block passed x c ≡ Goes (left x (record c { site = with_items (without_entry x.node c.site.items) c.site })) = rw (le-leb 3 passed many, entry_of-without x.node c.site.items) refl in
+    let one : inner_turn numbers at block passed x c ≡ Goes (left x (record c { site = with_items (without_entry x.node c.site.items) c.site })) = rw (le-leb 3 passed many, entry_of-without x.node c.site.items) refl in
     rw (one) (all-left at block (suc passed) way (left x (record c { site = with_items (without_entry x.node c.site.items) c.site })) (omega arith))
 
 abbrev Apart : OpenNode ℕ → OpenNode ℕ → Type 0
@@ -98,7 +98,7 @@ before-split test (x ∷ xs) = go (test x) (before-split test xs)
     go false e = ap (λ l. x ∷ l) e
 
 -- the nodes that are left to come leave in one move
-pub half-goes : (formatting block at count : ℕ) (c : Climb ℕ) (o : Outcome (Climb ℕ)) → IsHalfway formatting block at c count o → o ≡ Goes (record c { site = way_left formatting (length (stack c.site) - count) c.site })
+pub half-goes : (formatting block at count : ℕ) (c : InnerLoop ℕ) (o : Outcome (InnerLoop ℕ)) → IsHalfway formatting block at c count o → o ≡ Goes (record c { site = way_left formatting (length (stack c.site) - count) c.site })
 half-goes formatting block at count c o h = h.rest ∙ goes h.no_more ∙ ap (λ l. Goes (record c { site = with_stack l (with_items (without_entries way c.site.items) c.site) })) stays ∙ ap gone (sym way-is)
   where
     way : List (OpenNode ℕ)
@@ -107,7 +107,7 @@ half-goes formatting block at count c o h = h.rest ∙ goes h.no_more ∙ ap (λ
     below : ℕ
     below = length (stack c.site) - count
 
-    gone : List (OpenNode ℕ) → Outcome (Climb ℕ)
+    gone : List (OpenNode ℕ) → Outcome (InnerLoop ℕ)
     gone v = Goes (record c { site = with_stack (remove_range (stack c.site) below (below + length v)) (with_items (without_entries v c.site.items) c.site) })
 
     below-is : length h.gone_by ≡ below
@@ -119,11 +119,11 @@ half-goes formatting block at count c o h = h.rest ∙ goes h.no_more ∙ ap (λ
     way-is : way_after formatting below c.site ≡ way
     way-is = ap (before (is_node formatting)) dropped
 
-    goes : (count ≡ 0) ⊎ (3 ≤ h.passed) → climbed numbers at block h.passed way c ≡ Goes (record c { site = with_stack (without_each way (stack c.site)) (with_items (without_entries way c.site.items) c.site) })
+    goes : (count ≡ 0) ⊎ (3 ≤ h.passed) → inner_loop numbers at block h.passed way c ≡ Goes (record c { site = with_stack (without_each way (stack c.site)) (with_items (without_entries way c.site.items) c.site) })
     goes (inr many) = all-left at block h.passed way c many
     goes (inl none) = ends h.todo h.many
       where
-        ends : (todo : List (OpenNode ℕ)) → length todo ≡ count → climbed numbers at block h.passed (before (is_node formatting) todo) c ≡ Goes (record c { site = with_stack (without_each (before (is_node formatting) todo) (stack c.site)) (with_items (without_entries (before (is_node formatting) todo) c.site.items) c.site) })
+        ends : (todo : List (OpenNode ℕ)) → length todo ≡ count → inner_loop numbers at block h.passed (before (is_node formatting) todo) c ≡ Goes (record c { site = with_stack (without_each (before (is_node formatting) todo) (stack c.site)) (with_items (without_entries (before (is_node formatting) todo) c.site.items) c.site) })
         ends [] many = refl
         ends (y ∷ todo) many = absurd (omega (arith, many, none))
 
@@ -141,14 +141,14 @@ half-goes formatting block at count c o h = h.rest ∙ goes h.no_more ∙ ap (λ
         ∙ ap (λ l. take below (stack c.site) ++ l) (sym (sym (drop-drop (length way) below (stack c.site)) ∙ ap (drop (length way)) dropped))
 
 -- where the first part ends
-pub half-stops : (formatting block at : ℕ) (c : Climb ℕ) (o : Outcome (Climb ℕ)) → AreDifferent c.site → o ≡ Goes c → IsHalfway formatting block at c 0 o
+pub half-stops : (formatting block at : ℕ) (c : InnerLoop ℕ) (o : Outcome (InnerLoop ℕ)) → AreDifferent c.site → o ≡ Goes c → IsHalfway formatting block at c 0 o
 half-stops formatting block at c o d is = record { passed = 0; gone_by = stack c.site; todo = []; many = refl; on_stack = sym (append-nil (stack c.site)); no_more = inl refl; rest = is; different = d }
 
-pub half-ends : (formatting block at passed count : ℕ) (c : Climb ℕ) (o : Outcome (Climb ℕ)) → AreDifferent c.site → OnWay formatting block at passed count c o → (count ≡ 0) ⊎ (3 ≤ passed) → IsHalfway formatting block at c count o
+pub half-ends : (formatting block at passed count : ℕ) (c : InnerLoop ℕ) (o : Outcome (InnerLoop ℕ)) → AreDifferent c.site → OnWay formatting block at passed count c o → (count ≡ 0) ⊎ (3 ≤ passed) → IsHalfway formatting block at c count o
 half-ends formatting block at passed count c o d w no_more = record { passed = passed; gone_by = w.gone_by; todo = w.todo; many = w.many; on_stack = w.on_stack; no_more = no_more; rest = w.rest; different = d }
 
 -- no more are left to come than are open
-pub half-within : (formatting block at count : ℕ) (c : Climb ℕ) (o : Outcome (Climb ℕ)) → IsHalfway formatting block at c count o → count ≤ length (stack c.site)
+pub half-within : (formatting block at count : ℕ) (c : InnerLoop ℕ) (o : Outcome (InnerLoop ℕ)) → IsHalfway formatting block at c count o → count ≤ length (stack c.site)
 half-within formatting block at count c o h = omega (arith, h.many, ap length h.on_stack, length-append h.gone_by h.todo)
 
 -- going up the nodes on the way

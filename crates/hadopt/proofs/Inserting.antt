@@ -25,7 +25,7 @@ use Rattle.hadopt.specs.Site.{Goes, Refused, and_then, SiteOf, stack, trees, wit
 use Rattle.hadopt.specs.Places.{is_fostering, beside, foster_place, place}
 use Rattle.hadopt.specs.Inserts.{added, pushed, inserted, put, with_missing}
 use Rattle.hadopt.specs.Reconstructs.{stops_going_back, renewed, renewed_each, reconstructed}
-use Rattle.hadopt.specs.Adopts.{Climb}
+use Rattle.hadopt.specs.Adopts.{InnerLoop}
 use Rattle.hadopt.specs.Kept.{PlaceStands}
 use Rattle.hadopt.proofs.Lists.{each-map, pairs-map, among-all, among-after, here}
 use Rattle.hadopt.proofs.Climbing.{OnGoes, goes-then, PlainEntries, Climbing}
@@ -72,8 +72,8 @@ module _ {N : Type 0} (n : Naming N) where
     new_site = record s { nodes = make w s.nodes }
 
     -- a new node, as a last one on the way
-    abbrev pub loose : Climb N
-    loose = record { last = count; bookmark = InPlace; site = new_site }
+    abbrev pub loose : InnerLoop N
+    loose = record { last_node = count; bookmark = InPlace; site = new_site }
 
     old : (x : ℕ) → 0 < deep x 0 (trees s) → x ≢ count
     old x a e = omega (arith, (deep-there count (trees s) h.counted x 0 a).0)

@@ -1,4 +1,4 @@
--- What a turn of the adoption agency keeps, and what its parts ask.
+-- What a turn of the adoption agency's outer loop keeps, and what its steps ask.
 use Rattle.std.proofs.Common.{◌≡◌, ◌≢◌, ℕ, ◌<◌, Bool, true, false, List, [], ◌∷◌, Option, Some, None, find, nat_eq, cond, ◌||◌, refl, subst, arith, Ok, Err, drop, ◌⊎◌, inl, inr, sym, ◌∙◌, ap}
 use Rattle.std.specs.Prelude.{Result, IfOk, IfSome}
 use Rattle.names.specs.declared.refusal.Refusal.{Refusal}
@@ -14,12 +14,12 @@ use Rattle.hnodes.proofs.Counted.{at-most, deep-there, is-there}
 use Rattle.hnodes.proofs.Deep.{deep, deep-is, deep-self}
 use Rattle.hadopt.specs.Places.{place_in}
 use Rattle.hadopt.proofs.Lists.{each-map, each-both, pairs-map, Among, skip, keep, among-after, each-among, front-among}
-use Rattle.hadopt.proofs.Climbing.{OnGoes, Plain, Climbing, climbed-climbs}
+use Rattle.hadopt.proofs.Climbing.{OnGoes, Plain, Climbing, inner-loop-climbs}
 use Rattle.hadopt.proofs.Searching.{any-after, any-each, pairs-after, scope-front, at-nearest, special-there}
 use Rattle.hadopt.proofs.Settling.{Well, place-fits}
-use Rattle.hadopt.proofs.Turning.{not-table, WellAfter, turned-well}
+use Rattle.hadopt.proofs.Turning.{not-table, WellAfter, outer-turn-well}
 use Rattle.hadopt.proofs.Keeping.{to-well, from-well, numbers-tell}
-use Rattle.hadopt.proofs.Booked.{Booked, climbed-booked, bookmark-there, way-others}
+use Rattle.hadopt.proofs.Booked.{Booked, inner-loop-booked, bookmark-there, way-others}
 use Rattle.hopen.specs.Scopes.{stops}
 use Rattle.hopen.specs.declared.scope.Scope.TheVariants.{Default}
 use Rattle.hformat.specs.Formatting.{EntryOf, Listed, marker, entry, is_entry, after_marker, find_entry}
@@ -27,14 +27,14 @@ use Rattle.names.specs.Tags.{tag_of}
 use Rattle.names.specs.declared.error.ErrorCode.{ErrorCode}
 use Rattle.hadopt.specs.Naming.{numbers}
 use Rattle.hadopt.specs.Site.{Goes, SiteOf, stack, trees, with_stack, error_unless}
-use Rattle.hadopt.specs.Adopts.{Climb, climbed, turned, turns, is_unlisted, adopted, most_turns}
+use Rattle.hadopt.specs.Adopts.{InnerLoop, inner_loop, outer_turn, outer_loop, is_unlisted, adopted, most_turns}
 use Rattle.hadopt.specs.Gives.{Gives}
 use Rattle.hadopt.specs.declared.adopting.Turn as code
 use Rattle.hadopt.specs.declared.adopting.Turn.TheVariants as turn
 use Rattle.hadopt.specs.Meets.{turn_of, TurnGives}
 use Rattle.hadopt.specs.Kept.{Each, Kept}
-use Rattle.hadopt.specs.Climbs.{AreDifferent}
-use Rattle.hadopt.specs.Settles.{Settles, TurnsBy}
+use Rattle.hadopt.specs.InnerLoops.{AreDifferent}
+use Rattle.hadopt.specs.AfterInnerLoop.{AfterInnerLoop, WithFurthestBlock}
 
 before-each : {X : Type 0} (P : X → Type 0) (p : X → Bool) (xs : List X) → Each P xs → Each P (before p xs)
 before-each P p [] e = tt
@@ -44,13 +44,13 @@ before-each P p (x ∷ xs) e = go (p x) (before-each P p xs e.1)
     go true r = tt
     go false r = (e.0, r)
 
-there-low : (made : ℕ) (g : Forest ℕ) (counted : AreCounted made g) (x last : ℕ) → (0 < deep x 0 g) ⊎ (0 < deep x last g) → x < made
-there-low made g counted x last (inl a) = (deep-there made g counted x 0 a).0
-there-low made g counted x last (inr a) = (deep-there made g counted x last a).0
+there-low : (made : ℕ) (g : Forest ℕ) (counted : AreCounted made g) (x last_node : ℕ) → (0 < deep x 0 g) ⊎ (0 < deep x last_node g) → x < made
+there-low made g counted x last_node (inl a) = (deep-there made g counted x 0 a).0
+there-low made g counted x last_node (inr a) = (deep-there made g counted x last_node a).0
 
-current-low : (made : ℕ) (g : Forest ℕ) (counted : AreCounted made g) (last : ℕ) (up : List (OpenNode ℕ)) → Each (λ x. (0 < deep x.node 0 g) × (deep x.node last g ≡ 0)) up → IfSome (current up) (λ x. x.node < made)
-current-low made g counted last [] e = tt
-current-low made g counted last (x ∷ up) e = (deep-there made g counted x.node 0 e.0.0).0
+current-low : (made : ℕ) (g : Forest ℕ) (counted : AreCounted made g) (last_node : ℕ) (up : List (OpenNode ℕ)) → Each (λ x. (0 < deep x.node 0 g) × (deep x.node last_node g ≡ 0)) up → IfSome (current up) (λ x. x.node < made)
+current-low made g counted last_node [] e = tt
+current-low made g counted last_node (x ∷ up) e = (deep-there made g counted x.node 0 e.0.0).0
 
 any-among : {X : Type 0} (p : X → Bool) (x : X) (xs ys : List X) → p x ≡ true → Among (x ∷ xs) ys → list_any p ys ≡ true
 any-among p x xs [] is a = elim a [ ]
@@ -114,8 +114,8 @@ unless-same v code at s t is = let same : error_unless v code at s ≡ t = cc in
 -- where the furthest block is found, the way up can begin, and where it goes on, it can be settled
 module _ (s : SiteOf ℕ) (f : ℕ) (b : OpenNode ℕ) (h : Well numbers s) (is_open_now : is_open f (stack s) ≡ true) (scope : in_scope (stops tag_of Default) (is_node f) (stack s) ≡ true)
     (has : list_any (is_entry f) s.items ≡ true) (under : list_any (is_node b.node) (before (is_node f) (stack s)) ≡ true) where
-  abbrev start : Climb ℕ
-  start = record { last = b.node; bookmark = InPlace; site = s }
+  abbrev start : InnerLoop ℕ
+  start = record { last_node = b.node; bookmark = InPlace; site = s }
 
   abbrev way : List (OpenNode ℕ)
   way = before (is_node f) (above b.node (stack s))
@@ -164,20 +164,20 @@ module _ (s : SiteOf ℕ) (f : ℕ) (b : OpenNode ℕ) (h : Well numbers s) (is_
     marked = tt;
   }
 
-  pub settles-there : (at : ℕ) (c : Climb ℕ) → climbed numbers at b.node 0 way start ≡ Goes c → Settles f b.node (current (above f (stack s))) c
-  settles-there at c e =
+  pub after-there : (at : ℕ) (c : InnerLoop ℕ) → inner_loop numbers at b.node 0 way start ≡ Goes c → AfterInnerLoop f b.node (current (above f (stack s))) c
+  after-there at c e =
       let a = at-nearest (is_node f) (above b.node (stack s)) all.0 in
-      let k : Climbing numbers b.node (a.at ∷ a.up) c = subst (OnGoes (Climbing numbers b.node (a.at ∷ a.up))) e (climbed-climbs numbers at b.node way (a.at ∷ a.up) 0 start (subst (λ (l : List (OpenNode ℕ)). Climbing numbers b.node l start) a.is begins)) in
-      let m : Booked f [] c = subst (OnGoes (Booked f [])) e (climbed-booked at f b.node 0 way start booked-start) in
+      let k : Climbing numbers b.node (a.at ∷ a.up) c = subst (OnGoes (Climbing numbers b.node (a.at ∷ a.up))) e (inner-loop-climbs numbers at b.node way (a.at ∷ a.up) 0 start (subst (λ (l : List (OpenNode ℕ)). Climbing numbers b.node l start) a.is begins)) in
+      let m : Booked f [] c = subst (OnGoes (Booked f [])) e (inner-loop-booked at f b.node 0 way start booked-start) in
       let fits = place-fits numbers b.node (a.at ∷ a.up) c k a.at a.up refl in
-      let ancestor : current (above f (stack s)) ≡ current a.up = ap current (sym all.1 ∙ a.up_is) in
+      let common_ancestor : current (above f (stack s)) ≡ current a.up = ap current (sym all.1 ∙ a.up_is) in
       record {
         begun = k.pos;
         last_in = k.low;
         block_begun = k.block_in.1;
-        block_in = there-low c.site.nodes.made (trees c.site) k.counted b.node c.last k.block_in.0;
-        ancestor_in = rw (ancestor) (current-low c.site.nodes.made (trees c.site) k.counted c.last a.up k.behind.1);
-        place_outside = rw (ancestor) (sym (deep-is (place_node (place_in numbers (current a.up) c.site)) c.last (trees c.site) (at-most c.site.nodes.made (trees c.site) k.counted c.last)) ∙ fits.outside);
+        block_in = there-low c.site.nodes.made (trees c.site) k.counted b.node c.last_node k.block_in.0;
+        ancestor_in = rw (common_ancestor) (current-low c.site.nodes.made (trees c.site) k.counted c.last_node a.up k.behind.1);
+        place_outside = rw (common_ancestor) (sym (deep-is (place_node (place_in numbers (current a.up) c.site)) c.last_node (trees c.site) (at-most c.site.nodes.made (trees c.site) k.counted c.last_node)) ∙ fits.outside);
         formatting_open = any-among (is_node f) a.at a.up (stack c.site) a.sought (front-among _ (a.at ∷ a.up) (stack c.site) k.front);
         entry = m.has;
         bookmark = bookmark-there f c.bookmark c.site.items m.marked;
@@ -198,28 +198,28 @@ module _ (s : SiteOf ℕ) (f : ℕ) (b : OpenNode ℕ) (h : Well numbers s) (is_
     apart = pairs-map (λ x. (0 < deep x.node 0 (trees s)) × (0 < x.node)) (λ x y. deep y.node x.node (trees s) ≡ 0) _ (λ x y p q out. ne_eqb x.node y.node (others x y p.0 out)) (stack s) h.each h.order;
   }
 
-  pub turns-there : TurnsBy f b.node s
-  turns-there = record { begun = b-stands.1; block_in = low b b-stands.0; different = different; settles = settles-there }
+  pub furthest-block-there : WithFurthestBlock f b.node s
+  furthest-block-there = record { begun = b-stands.1; block_in = low b b-stands.0; different = different; after = after-there }
 
-pub kept-turns-by : (s : SiteOf ℕ) (f : ℕ) (block : OpenNode ℕ) → Kept numbers s → is_open f (stack s) ≡ true → in_scope (stops tag_of Default) (is_node f) (stack s) ≡ true → list_any (is_entry f) s.items ≡ true → furthest_block tag_of f (stack s) ≡ Some block → TurnsBy f block.node s
-kept-turns-by s f block k o scope e b = turns-there s f block (to-well numbers s k) o scope e (special-there tag_of (below f (stack s)) block b)
+pub kept-furthest-block : (s : SiteOf ℕ) (f : ℕ) (block : OpenNode ℕ) → Kept numbers s → is_open f (stack s) ≡ true → in_scope (stops tag_of Default) (is_node f) (stack s) ≡ true → list_any (is_entry f) s.items ≡ true → furthest_block tag_of f (stack s) ≡ Some block → WithFurthestBlock f block.node s
+kept-furthest-block s f block k o scope e b = furthest-block-there s f block (to-well numbers s k) o scope e (special-there tag_of (below f (stack s)) block b)
 
-pub turned-keeps : (at name : ℕ) (s t : SiteOf ℕ) (turn : code.Turn) → Kept numbers s → turned numbers at name s ≡ Goes (turn_of turn t) → Kept numbers t
-turned-keeps at name s t turn.Next k is = from-well numbers t (subst (OnGoes (WellAfter numbers numbers-tell at)) is (turned-well numbers numbers-tell at name s (to-well numbers s k)))
-turned-keeps at name s t turn.Ended k is = from-well numbers t (subst (OnGoes (WellAfter numbers numbers-tell at)) is (turned-well numbers numbers-tell at name s (to-well numbers s k)))
+pub outer-turn-keeps : (at name : ℕ) (s t : SiteOf ℕ) (turn : code.Turn) → Kept numbers s → outer_turn numbers at name s ≡ Goes (turn_of turn t) → Kept numbers t
+outer-turn-keeps at name s t turn.Next k is = from-well numbers t (subst (OnGoes (WellAfter numbers numbers-tell at)) is (outer-turn-well numbers numbers-tell at name s (to-well numbers s k)))
+outer-turn-keeps at name s t turn.Ended k is = from-well numbers t (subst (OnGoes (WellAfter numbers numbers-tell at)) is (outer-turn-well numbers numbers-tell at name s (to-well numbers s k)))
 
-pub unless-turns-by : (v : Bool) (code : ErrorCode) (at : ℕ) (s t : SiteOf ℕ) (f : ℕ) (block : OpenNode ℕ) → Goes (error_unless v code at s) ≡ Goes t → Kept numbers s → is_open f (stack s) ≡ true → in_scope (stops tag_of Default) (is_node f) (stack s) ≡ true → list_any (is_entry f) s.items ≡ true → furthest_block tag_of f (stack t) ≡ Some block → TurnsBy f block.node t
-unless-turns-by v code at s t f block is k o scope e b =
+pub unless-furthest-block : (v : Bool) (code : ErrorCode) (at : ℕ) (s t : SiteOf ℕ) (f : ℕ) (block : OpenNode ℕ) → Goes (error_unless v code at s) ≡ Goes t → Kept numbers s → is_open f (stack s) ≡ true → in_scope (stops tag_of Default) (is_node f) (stack s) ≡ true → list_any (is_entry f) s.items ≡ true → furthest_block tag_of f (stack t) ≡ Some block → WithFurthestBlock f block.node t
+unless-furthest-block v code at s t f block is k o scope e b =
     let same : error_unless v code at s ≡ t = cc in
-    subst (λ (u : SiteOf ℕ). TurnsBy f block.node u) same
-    (kept-turns-by (error_unless v code at s) f block (kept-error v code at s k) (rw (unless-stack v code at s) o) (rw (unless-stack v code at s) scope) (rw (unless-items v code at s) e) (rw (same) b))
+    subst (λ (u : SiteOf ℕ). WithFurthestBlock f block.node u) same
+    (kept-furthest-block (error_unless v code at s) f block (kept-error v code at s k) (rw (unless-stack v code at s) o) (rw (unless-stack v code at s) scope) (rw (unless-items v code at s) e) (rw (same) b))
 
-pub turn-keeps : (at name : ℕ) (s new : SiteOf ℕ) (r : Result code.Turn Refusal) → Kept numbers s → TurnGives r new (turned numbers at name s) → IfOk r (λ t. Kept numbers new)
-turn-keeps at name s new (Ok t) k is = turned-keeps at name s new t k is
+pub turn-keeps : (at name : ℕ) (s new : SiteOf ℕ) (r : Result code.Turn Refusal) → Kept numbers s → TurnGives r new (outer_turn numbers at name s) → IfOk r (λ t. Kept numbers new)
+turn-keeps at name s new (Ok t) k is = outer-turn-keeps at name s new t k is
 turn-keeps at name s new (Err e) k is = tt
 
 pub adopted-pops : (at name : ℕ) (s : SiteOf ℕ) → is_unlisted numbers at name s ≡ true → adopted numbers at name s ≡ Goes (with_stack (drop 1 (stack s)) s)
 adopted-pops at name s e = rw (e) refl
 
-pub adopted-gives : {A : Type 0} (at name : ℕ) (s new : SiteOf ℕ) (r : Result A Refusal) → is_unlisted numbers at name s ≡ false → Gives r new (turns numbers at most_turns name s) → Gives r new (adopted numbers at name s)
+pub adopted-gives : {A : Type 0} (at name : ℕ) (s new : SiteOf ℕ) (r : Result A Refusal) → is_unlisted numbers at name s ≡ false → Gives r new (outer_loop numbers at most_turns name s) → Gives r new (adopted numbers at name s)
 adopted-gives at name s new r e g = rw (e) g

@@ -1,4 +1,4 @@
--- The end of a turn of the adoption agency: the last node goes to its place, and the new element is settled.
+-- The steps of the adoption agency after its inner loop: the last node goes to its place, and the new element to its own.
 use Rattle.std.proofs.Common.{◌≡◌, ◌≢◌, ℕ, zero, suc, ◌+◌, ◌<◌, ◌≤◌, Bool, true, false, cond, List, [], ◌∷◌, Option, Some, None, refl, sym, ◌∙◌, subst, arith, ◌⊎◌, inl, inr, find, is_some}
 use Rattle.std.proofs.lemmas.Bool.{ne_eqb}
 use Rattle.std.specs.Prelude.{◌&&◌}
@@ -21,7 +21,7 @@ use Rattle.hnodes.proofs.Outside.{deep-new, deep-newest, graft-deep, graft-apart
 use Rattle.hadopt.specs.Naming.{Naming}
 use Rattle.hadopt.specs.Site.{SiteOf, stack, trees, with_trees, from_top, node_of}
 use Rattle.hadopt.specs.Places.{is_fostering, beside, foster_place, place_in}
-use Rattle.hadopt.specs.Adopts.{Climb}
+use Rattle.hadopt.specs.Adopts.{InnerLoop}
 use Rattle.hadopt.specs.Kept.{Each, Pairs}
 use Rattle.hadopt.proofs.Lists.{each-map, pairs-map, Among, skip, among-all, among-after, Front, here, there, front-among, front-pairs, front-map, front-each}
 use Rattle.hadopt.proofs.Climbing.{Plain, PlainEntries, Climbing}
@@ -34,22 +34,22 @@ pairs-front P Q R S h k rest (x ∷ xs) (there p f) e r = (each-map (R x) (S x) 
 
 module _ {N : Type 0} (n : Naming N) where
   -- a place in the document's tree, which is in none of the nodes in front of those behind
-  pub record Fits (rest : List (OpenNode N)) (c : Climb N) (place : Place) : Type 0 where
+  pub record Fits (rest : List (OpenNode N)) (c : InnerLoop N) (place : Place) : Type 0 where
     pub to_document : 0 < deep (place_node place) 0 (trees c.site)
-    pub outside : deep (place_node place) c.last (trees c.site) ≡ 0
+    pub outside : deep (place_node place) c.last_node (trees c.site) ≡ 0
     pub under : NotBefore 0 place
     pub front : Front (λ a. deep (place_node place) a.node (trees c.site) ≡ 0) rest (stack c.site)
 
-  module _ (block : ℕ) (rest : List (OpenNode N)) (c : Climb N) (h : Climbing n block rest c) where
+  module _ (block : ℕ) (rest : List (OpenNode N)) (c : InnerLoop N) (h : Climbing n block rest c) where
     pub document-fits : Fits rest c (LastIn 0)
     document-fits = record {
       to_document = omega (arith, deep-self 0 (trees c.site), is-there c.site.nodes.made (trees c.site) h.counted 0 (omega (arith, h.low)));
-      outside = document-out c.site.nodes.made (trees c.site) h.counted c.last h.pos;
+      outside = document-out c.site.nodes.made (trees c.site) h.counted c.last_node h.pos;
       under = tt;
       front = front-each _ _ _ (λ a p q. document-out c.site.nodes.made (trees c.site) h.counted a.node q.1) rest (stack c.site) h.front h.each;
     }
 
-    not-document : (z : OpenNode N) → 0 < deep z.node 0 (trees c.site) → deep z.node c.last (trees c.site) ≡ 0 → Member z (stack c.site) → z.node ≢ 0
+    not-document : (z : OpenNode N) → 0 < deep z.node 0 (trees c.site) → deep z.node c.last_node (trees c.site) ≡ 0 → Member z (stack c.site) → z.node ≢ 0
     not-document z a b m is = let p = each-member _ z (stack c.site) m h.each in omega (arith, p.1)
 
     member-front : (z : OpenNode N) → Member z rest → Front (λ a. deep z.node a.node (trees c.site) ≡ 0) rest (stack c.site)
@@ -110,34 +110,34 @@ module _ {N : Type 0} (n : Naming N) where
   StandsAt x s = (0 < deep x 0 (trees s)) × (0 < x)
 
   -- the last node at its place: all are in the document's tree again
-  module _ (block : ℕ) (rest : List (OpenNode N)) (c : Climb N) (h : Climbing n block rest c) (place : Place) (fits : Fits rest c place) where
+  module _ (block : ℕ) (rest : List (OpenNode N)) (c : InnerLoop N) (h : Climbing n block rest c) (place : Place) (fits : Fits rest c place) where
     abbrev placed : SiteOf N
-    placed = with_trees (graft c.last place (trees c.site)) c.site
+    placed = with_trees (graft c.last_node place (trees c.site)) c.site
 
     place-one : times (place_node place) (trees c.site) ≡ 1
     place-one = is-there c.site.nodes.made (trees c.site) h.counted (place_node place) (deep-there c.site.nodes.made (trees c.site) h.counted (place_node place) 0 fits.to_document).0
 
-    in-last : (x : ℕ) → times x (tree_at c.last (trees c.site)) ≡ deep x c.last (trees c.site)
-    in-last x = sym (deep-is x c.last (trees c.site) (at-most c.site.nodes.made (trees c.site) h.counted c.last))
+    in-last_node : (x : ℕ) → times x (tree_at c.last_node (trees c.site)) ≡ deep x c.last_node (trees c.site)
+    in-last_node x = sym (deep-is x c.last_node (trees c.site) (at-most c.site.nodes.made (trees c.site) h.counted c.last_node))
 
-    placed-in : (x : ℕ) → 0 < deep x c.last (trees c.site) → 0 < deep x 0 (trees placed)
-    placed-in x a = omega (arith, graft-below x 0 c.last place (trees c.site) fits.under (omega (arith, place-one)) (in-last (place_node place) ∙ fits.outside) fits.to_document, in-last x)
+    placed-in : (x : ℕ) → 0 < deep x c.last_node (trees c.site) → 0 < deep x 0 (trees placed)
+    placed-in x a = omega (arith, graft-below x 0 c.last_node place (trees c.site) fits.under (omega (arith, place-one)) (in-last_node (place_node place) ∙ fits.outside) fits.to_document, in-last_node x)
 
-    placed-stands : (x : ℕ) → ((0 < deep x 0 (trees c.site)) ⊎ (0 < deep x c.last (trees c.site))) × (0 < x) → StandsAt x placed
+    placed-stands : (x : ℕ) → ((0 < deep x 0 (trees c.site)) ⊎ (0 < deep x c.last_node (trees c.site))) × (0 < x) → StandsAt x placed
     placed-stands x (inr a, b) = (placed-in x a, b)
-    placed-stands x (inl a, b) = go (deep x c.last (trees c.site)) refl
+    placed-stands x (inl a, b) = go (deep x c.last_node (trees c.site)) refl
       where
-        go : (j : ℕ) → deep x c.last (trees c.site) ≡ j → StandsAt x placed
-        go zero z = (omega (arith, graft-apart x 0 c.last place (trees c.site) (in-last x ∙ z)), b)
+        go : (j : ℕ) → deep x c.last_node (trees c.site) ≡ j → StandsAt x placed
+        go zero z = (omega (arith, graft-apart x 0 c.last_node place (trees c.site) (in-last_node x ∙ z)), b)
         go (suc j) z = (placed-in x (omega arith), b)
 
     pub placed-well : Well placed
     placed-well = record {
-      counted = counted-graft c.site.nodes.made c.last place (trees c.site) h.counted h.pos fits.under place-one (in-last (place_node place) ∙ fits.outside);
+      counted = counted-graft c.site.nodes.made c.last_node place (trees c.site) h.counted h.pos fits.under place-one (in-last_node (place_node place) ∙ fits.outside);
       each = each-map _ _ (λ x p. placed-stands x.node p) (stack c.site) h.each;
-      order = pairs-front (λ a. deep (place_node place) a.node (trees c.site) ≡ 0) (λ b. deep b.node c.last (trees c.site) ≡ 0) _ _
-          (λ a b p r. omega (arith, graft-deep b.node a.node c.last place (trees c.site) (omega (arith, place-one)) p))
-          (λ a b q r. graft-apart b.node a.node c.last place (trees c.site) (in-last b.node ∙ q) ∙ r)
+      order = pairs-front (λ a. deep (place_node place) a.node (trees c.site) ≡ 0) (λ b. deep b.node c.last_node (trees c.site) ≡ 0) _ _
+          (λ a b p r. omega (arith, graft-deep b.node a.node c.last_node place (trees c.site) (omega (arith, place-one)) p))
+          (λ a b q r. graft-apart b.node a.node c.last_node place (trees c.site) (in-last_node b.node ∙ q) ∙ r)
           rest (stack c.site) fits.front (each-map _ _ (λ y p. p.1) rest h.behind) h.order;
       plain = h.plain;
     }

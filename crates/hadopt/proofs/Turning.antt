@@ -1,4 +1,4 @@
--- The adoption agency keeps what the open nodes need: a turn, and all turns.
+-- The adoption agency keeps what the open nodes need: a turn of its outer loop, and all turns.
 use Rattle.std.proofs.Common.{◌≡◌, ◌≢◌, ℕ, zero, suc, ◌<◌, Bool, true, false, not, leb, cond, List, [], ◌∷◌, Option, Some, None, refl, sym, ◌∙◌, ap, subst, arith, inl, find, drop}
 use Rattle.std.proofs.lemmas.Bool.{eqb-true}
 use Rattle.std.specs.Prelude.{◌&&◌, ◌||◌}
@@ -24,10 +24,10 @@ use Rattle.hadopt.specs.Naming.{Naming}
 use Rattle.hadopt.specs.Site.{Goes, Refused, and_then, SiteOf, stack, trees, with_trees, with_items, with_stack, with_error, error_unless, current_is}
 use Rattle.hadopt.specs.Places.{place_in}
 use Rattle.hadopt.specs.Closes.{past, popped_to, without_implied, closed, other_end}
-use Rattle.hadopt.specs.Adopts.{Turn, Next, Ended, next_turn, Climb, most_turns, settled, popped_with, climbed, ended_climb, adopted_by, turned_with, turned, turns, is_unlisted, adopted}
+use Rattle.hadopt.specs.Adopts.{Turn, Next, Ended, next_turn, InnerLoop, most_turns, formatting_replaced, popped_with, inner_loop, after_inner_loop, with_furthest_block, with_formatting_element, outer_turn, outer_loop, is_unlisted, adopted}
 use Rattle.hadopt.specs.Kept.{Each, Pairs, TellsTables}
 use Rattle.hadopt.proofs.Lists.{each-map, each-both, pairs-map, Among, empty, skip, keep, among-all, among-after, each-among, pairs-among, among-without, Front, front-among, front-pairs, front-each, pairs-put}
-use Rattle.hadopt.proofs.Climbing.{OnGoes, goes-then, find-each, Plain, PlainEntries, plain-without, plain-with_node, Climbing, climbed-climbs}
+use Rattle.hadopt.proofs.Climbing.{OnGoes, goes-then, find-each, Plain, PlainEntries, plain-without, plain-with_node, Climbing, inner-loop-climbs}
 use Rattle.hadopt.proofs.Searching.{any-after, any-each, pairs-after, scope-front, at-nearest, special-there}
 use Rattle.hadopt.proofs.Settling.{Well, StandsAt, place-fits, placed-well, block-stands, ended, ended-sound, ended-out, ended-below, ended-above, ended-stands, ended-new, above-apart, block-apart}
 
@@ -180,22 +180,22 @@ module _ {N : Type 0} (n : Naming N) where
               order',
         )
 
-    pub settled-well : Well n (settled block count fe bookmark (record s { nodes = make w s.nodes }))
-    settled-well =
+    pub formatting_replaced-well : Well n (formatting_replaced block count fe bookmark (record s { nodes = make w s.nodes }))
+    formatting_replaced-well =
         let o = open-well (list_any (is_node block) left_open) refl in
         record { counted = ended-sound count (trees s) h.counted block stands.0 stands.1 w; each = o.0; order = o.1; plain = plain-booked fe.node count bookmark s.items h.plain }
 
 module _ {N : Type 0} (n : Naming N) (tells : TellsTables n) (at : ℕ) where
   -- the last node at its place, and the new element
-  ended-well : (fe : EntryOf N) (block : ℕ) (r : OpenNode N) (up : List (OpenNode N)) (c : Climb N) → Climbing n block (r ∷ up) c → OnGoes (Well n) (ended_climb n at fe block (current up) c)
+  ended-well : (fe : EntryOf N) (block : ℕ) (r : OpenNode N) (up : List (OpenNode N)) (c : InnerLoop N) → Climbing n block (r ∷ up) c → OnGoes (Well n) (after_inner_loop n at fe block (current up) c)
   ended-well fe block r up c h = go (leb c.site.nodes.limit c.site.nodes.made)
     where
-      go : (v : Bool) → OnGoes (Well n) (and_then (cond v (Refused (TooManyNodes at)) (Goes (record (with_trees (graft c.last (place_in n (current up) c.site) (trees c.site)) c.site) { nodes = make (element fe.name fe.attrs) (record c.site.nodes { trees = graft c.last (place_in n (current up) c.site) (trees c.site) }) })))
-          (λ t. Goes (settled block c.site.nodes.made fe c.bookmark t)))
+      go : (v : Bool) → OnGoes (Well n) (and_then (cond v (Refused (TooManyNodes at)) (Goes (record (with_trees (graft c.last_node (place_in n (current up) c.site) (trees c.site)) c.site) { nodes = make (element fe.name fe.attrs) (record c.site.nodes { trees = graft c.last_node (place_in n (current up) c.site) (trees c.site) }) })))
+          (λ t. Goes (formatting_replaced block c.site.nodes.made fe c.bookmark t)))
       go true = tt
       go false =
           let fits = place-fits n block (r ∷ up) c h r up refl in
-          settled-well n block fe c.bookmark (with_trees (graft c.last (place_in n (current up) c.site) (trees c.site)) c.site) (placed-well n block (r ∷ up) c h (place_in n (current up) c.site) fits) (block-stands n block (r ∷ up) c h (place_in n (current up) c.site) fits)
+          formatting_replaced-well n block fe c.bookmark (with_trees (graft c.last_node (place_in n (current up) c.site) (trees c.site)) c.site) (placed-well n block (r ∷ up) c h (place_in n (current up) c.site) fits) (block-stands n block (r ∷ up) c h (place_in n (current up) c.site) fits)
 
   -- no stop is a table
   pub not-table : (x : OpenNode N) → stops n.tag Default x ≡ false → Plain n x.name
@@ -211,7 +211,7 @@ module _ {N : Type 0} (n : Naming N) (tells : TellsTables n) (at : ℕ) where
 
   module _ (fe : EntryOf N) (s : SiteOf N) (h : Well n s) where
     by-well : (b : OpenNode N) → list_any (is_node b.node) (before (is_node fe.node) (stack s)) ≡ true → is_open fe.node (stack s) ≡ true → in_scope (stops n.tag Default) (is_node fe.node) (stack s) ≡ true
-        → OnGoes WellAfter (adopted_by n at fe s b)
+        → OnGoes WellAfter (with_furthest_block n at fe s b)
     by-well b under is_open_now scope =
         let all = any-after (is_node fe.node) (is_node b.node) (stack s) under is_open_now in
         let a = at-nearest (is_node fe.node) (above b.node (stack s)) all.0 in
@@ -220,7 +220,7 @@ module _ {N : Type 0} (n : Naming N) (tells : TellsTables n) (at : ℕ) where
         let b_stands : StandsAt n b.node s = subst (λ (k : ℕ). StandsAt n k s) b_is bs.1 in
         let out = pairs-after _ (is_node b.node) (stack s) h.order all.2 in
         let out_is : out.0.node ≡ b.node = eqb-true out.0.node b.node out.1 in
-        let start : Climb N = record { last = b.node; bookmark = InPlace; site = s } in
+        let start : InnerLoop N = record { last_node = b.node; bookmark = InPlace; site = s } in
         let begins : Climbing n b.node (above b.node (stack s)) start = record {
           counted = h.counted;
           low = (deep-there s.nodes.made (trees s) h.counted b.node 0 b_stands.0).0;
@@ -233,42 +233,42 @@ module _ {N : Type 0} (n : Naming N) (tells : TellsTables n) (at : ℕ) where
           plain = h.plain;
         } in
         let way = before (is_node fe.node) (above b.node (stack s)) in
-        goes-then (Climbing n b.node (a.at ∷ a.up)) WellAfter (climbed n at b.node 0 way start) _
-        (climbed-climbs n at b.node way (a.at ∷ a.up) 0 start (subst (λ (l : List (OpenNode N)). Climbing n b.node l start) a.is begins))
-        (λ c k. goes-then (Well n) WellAfter (ended_climb n at fe b.node (current (above fe.node (stack s))) c) (λ t. Goes (Next t))
+        goes-then (Climbing n b.node (a.at ∷ a.up)) WellAfter (inner_loop n at b.node 0 way start) _
+        (inner-loop-climbs n at b.node way (a.at ∷ a.up) 0 start (subst (λ (l : List (OpenNode N)). Climbing n b.node l start) a.is begins))
+        (λ c k. goes-then (Well n) WellAfter (after_inner_loop n at fe b.node (current (above fe.node (stack s))) c) (λ t. Goes (Next t))
         (rw (← all.1, a.up_is) (ended-well fe b.node a.at a.up c k))
         (λ t m. m))
 
   popped-well : (fe : EntryOf N) (s : SiteOf N) → Well n s → Well n (popped_with fe s)
   popped-well fe s h = listed-as n (popped_to (is_node fe.node) s) (without_entry fe.node s.items) (plain-without n fe.node s.items h.plain) (fewer n s _ (among-after (is_node fe.node) (stack s)) h)
 
-  with-well : (fe : EntryOf N) (s : SiteOf N) → Well n s → OnGoes WellAfter (turned_with n at fe s)
+  with-well : (fe : EntryOf N) (s : SiteOf N) → Well n s → OnGoes WellAfter (with_formatting_element n at fe s)
   with-well fe s h = go (is_open fe.node (stack s)) refl (in_scope (stops n.tag Default) (is_node fe.node) (stack s)) refl (current_is (is_node fe.node) s)
     where
       under : (t : SiteOf N) → Well n t → is_open fe.node (stack t) ≡ true → in_scope (stops n.tag Default) (is_node fe.node) (stack t) ≡ true → (o : Option (OpenNode N)) → furthest_block n.tag fe.node (stack t) ≡ o
-          → OnGoes WellAfter (option_map_or (adopted_by n at fe t) o (Goes (Ended (popped_with fe t))))
+          → OnGoes WellAfter (option_map_or (with_furthest_block n at fe t) o (Goes (Ended (popped_with fe t))))
       under t k x y None e = popped-well fe t k
       under t k x y (Some b) e = by-well fe t k b (special-there n.tag (below fe.node (stack t)) b e) x y
 
       go : (x : Bool) → is_open fe.node (stack s) ≡ x → (y : Bool) → in_scope (stops n.tag Default) (is_node fe.node) (stack s) ≡ y → (z : Bool)
-          → OnGoes WellAfter (cond (not x) (Goes (Ended (with_items (without_entry fe.node s.items) (with_error TreeInBody at s)))) (cond (not y) (Goes (Ended (with_error TreeInBody at s))) (option_map_or (adopted_by n at fe (error_unless z TreeInBody at s)) (furthest_block n.tag fe.node (stack (error_unless z TreeInBody at s))) (Goes (Ended (popped_with fe (error_unless z TreeInBody at s)))))))
+          → OnGoes WellAfter (cond (not x) (Goes (Ended (with_items (without_entry fe.node s.items) (with_error TreeInBody at s)))) (cond (not y) (Goes (Ended (with_error TreeInBody at s))) (option_map_or (with_furthest_block n at fe (error_unless z TreeInBody at s)) (furthest_block n.tag fe.node (stack (error_unless z TreeInBody at s))) (Goes (Ended (popped_with fe (error_unless z TreeInBody at s)))))))
       go false i y j z = listed-as n (with_error TreeInBody at s) (without_entry fe.node s.items) (plain-without n fe.node s.items h.plain) (erred n s TreeInBody at h)
       go true i false j z = erred n s TreeInBody at h
       go true i true j true = under s h i j (furthest_block n.tag fe.node (stack s)) refl
       go true i true j false = under (with_error TreeInBody at s) (erred n s TreeInBody at h) i j (furthest_block n.tag fe.node (stack s)) refl
 
-  pub turned-well : (name : N) (s : SiteOf N) → Well n s → OnGoes WellAfter (turned n at name s)
-  turned-well name s h = go (find_entry n.same name s.items)
+  pub outer-turn-well : (name : N) (s : SiteOf N) → Well n s → OnGoes WellAfter (outer_turn n at name s)
+  outer-turn-well name s h = go (find_entry n.same name s.items)
     where
-      go : (o : Option (EntryOf N)) → OnGoes WellAfter (option_map_or (λ f. turned_with n at f s) o (Goes (Ended (other_end n at name s))))
+      go : (o : Option (EntryOf N)) → OnGoes WellAfter (option_map_or (λ f. with_formatting_element n at f s) o (Goes (Ended (other_end n at name s))))
       go None = other-well n at name s h
       go (Some f) = with-well f s h
 
-  turns-well : (k : ℕ) (name : N) (s : SiteOf N) → Well n s → OnGoes (Well n) (turns n at k name s)
-  turns-well zero name s h = h
-  turns-well (suc k) name s h = goes-then WellAfter (Well n) (turned n at name s) (next_turn (turns n at k name)) (turned-well name s h) (next (turns-well k name))
+  outer-loop-well : (k : ℕ) (name : N) (s : SiteOf N) → Well n s → OnGoes (Well n) (outer_loop n at k name s)
+  outer-loop-well zero name s h = h
+  outer-loop-well (suc k) name s h = goes-then WellAfter (Well n) (outer_turn n at name s) (next_turn (outer_loop n at k name)) (outer-turn-well name s h) (next (outer-loop-well k name))
     where
-      next : ((t : SiteOf N) → Well n t → OnGoes (Well n) (turns n at k name t)) → (t : Turn (SiteOf N)) → WellAfter t → OnGoes (Well n) (next_turn (turns n at k name) t)
+      next : ((t : SiteOf N) → Well n t → OnGoes (Well n) (outer_loop n at k name t)) → (t : Turn (SiteOf N)) → WellAfter t → OnGoes (Well n) (next_turn (outer_loop n at k name) t)
       next r (Next t) m = r t m
       next r (Ended t) m = m
 
@@ -276,6 +276,6 @@ module _ {N : Type 0} (n : Naming N) (tells : TellsTables n) (at : ℕ) where
   pub adopted-well : (name : N) (s : SiteOf N) → Well n s → OnGoes (Well n) (adopted n at name s)
   adopted-well name s h = go (is_unlisted n at name s)
     where
-      go : (v : Bool) → OnGoes (Well n) (cond v (Goes (with_stack (drop 1 (stack s)) s)) (turns n at most_turns name s))
+      go : (v : Bool) → OnGoes (Well n) (cond v (Goes (with_stack (drop 1 (stack s)) s)) (outer_loop n at most_turns name s))
       go true = fewer n s _ (among-drop (stack s)) h
-      go false = turns-well 8 name s h
+      go false = outer-loop-well 8 name s h

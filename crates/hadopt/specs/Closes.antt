@@ -1,4 +1,4 @@
--- What is closed (13.2.6.3, 13.2.6.4.7).
+-- What is closed: implied end tags, a p element, any other end tag, and the contexts of tables (13.2.6.3, 13.2.6.4.7).
 use Rattle.std.specs.Prelude.{ℕ, Bool, true, false, not, ◌&&◌, List, [], ◌∷◌, if◌then◌else◌}
 use Rattle.hchain.specs.Nearest.{after}
 use Rattle.hopen.specs.Stack.{OpenNode, in_scope}
@@ -10,8 +10,9 @@ use Rattle.names.specs.declared.tag.Tag.TheVariants as tag
 use Rattle.hadopt.specs.Naming.{Naming}
 use Rattle.hadopt.specs.Site.{SiteOf, stack, with_stack, with_error, error_unless, current_is}
 
--- Clear the stack back to a table context, a table body context, a table row context (13.2.6.4.9, 13.2.6.4.13, 13.2.6.4.14): what
--- stops it.
+-- Clear the stack back to a table context, a table body context, a table row context: what stops it
+-- (#clear-the-stack-back-to-a-table-context, #clear-the-stack-back-to-a-table-body-context,
+-- #clear-the-stack-back-to-a-table-row-context).
 abbrev pub is_table_context : Tag → Bool
 is_table_context tag.Table = true
 is_table_context tag.Html = true
@@ -45,7 +46,7 @@ module _ {N : Type 0} (n : Naming N) where
   abbrev pub is : Tag → OpenNode N → Bool
   is t = is_named n.same (n.known t)
 
-  -- Generate implied end tags, except for what is kept (13.2.6.3).
+  -- Generate implied end tags, except for what is kept (13.2.6.3, #generate-implied-end-tags).
   abbrev pub without_implied : (OpenNode N → Bool) → SiteOf N → SiteOf N
   without_implied kept s = with_stack (past (λ x. has_implied_end (n.tag x.name) && not (kept x)) (stack s)) s
 
@@ -59,7 +60,7 @@ module _ {N : Type 0} (n : Naming N) where
       let t = without_implied sought s in
       popped_to sought (error_unless (current_is sought t) TreeInBody at t)
 
-  -- Close a p element (13.2.6.4.7).
+  -- Close a p element (13.2.6.4.7, #close-a-p-element).
   abbrev pub closed_p : (at : ℕ) → SiteOf N → SiteOf N
   closed_p at s = closed at (is tag.P) s
 

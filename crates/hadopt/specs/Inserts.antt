@@ -1,4 +1,5 @@
--- What is inserted (13.2.6.1). `at` is the place of the token. Nodes are counted before the open ones.
+-- What is inserted: elements, comments, doctypes, characters, missing attributes (13.2.6.1). `at` is the place of the token. Nodes are counted
+-- before the open ones.
 use Rattle.std.specs.Prelude.{ℕ, ◌&&◌, nat_le, is_none, length, List, [], ◌∷◌, if◌then◌else◌}
 use Rattle.hnodes.specs.Forest.{Attribute, What, element, Forest}
 use Rattle.hnodes.specs.Attributes.{add_missing}
@@ -12,13 +13,13 @@ use Rattle.hadopt.specs.Naming.{Naming}
 use Rattle.hadopt.specs.Site.{Outcome, Goes, Refused, and_then, SiteOf, stack, trees, with_trees, with_stack, with_items, node_of}
 
 module _ {N : Type 0} (at : ℕ) where
-  -- a new node, loose
+  -- a new node, loose: create an element for a token (#create-an-element-for-the-token), a comment or a doctype
   abbrev pub made : What N → SiteOf N → Outcome (SiteOf N)
   made what s =
       if nat_le s.nodes.limit s.nodes.made then Refused (TooManyNodes at)
       else Goes (record s { nodes = make what s.nodes })
 
-  -- a new node at a place
+  -- a new node at a place: insert a comment (#insert-a-comment), or a doctype
   abbrev pub added : What N → Place → SiteOf N → Outcome (SiteOf N)
   added what place s = and_then (made what s) (λ t. Goes (with_trees (graft s.nodes.made place (trees t)) t))
 
@@ -28,12 +29,12 @@ module _ {N : Type 0} (at : ℕ) where
       if nat_le s.open_nodes.limit (length (stack s)) then Refused (TooDeep at)
       else Goes (with_stack (x ∷ stack s) s)
 
-  -- a new element at a place, which becomes the current node
+  -- insert an HTML element (#insert-an-html-element): a new one at a place, which becomes the current node
   abbrev pub inserted : N → List (Attribute N) → Place → SiteOf N → Outcome (SiteOf N)
   inserted name attrs place s =
       and_then (added (element name attrs) place s) (pushed (record { node = s.nodes.made; name = name }))
 
-  -- a character
+  -- insert a character (#insert-a-character)
   abbrev pub put : ℕ → Place → SiteOf N → Outcome (SiteOf N)
   put c place s =
       if is_none (text_before place (trees s)) && nat_le s.nodes.limit s.nodes.made then Refused (TooManyNodes at)
@@ -46,7 +47,8 @@ module _ {N : Type 0} where
   put_each (c ∷ cs) place s = and_then (put c.at c.ch place s) (put_each cs place)
 
 module _ {N : Type 0} (n : Naming N) where
-  -- Push onto the list of active formatting elements (13.2.4.3): the current node, with the token that it was made for.
+  -- Push onto the list of active formatting elements (#push-onto-the-list-of-active-formatting-elements): the current node, with the token
+  -- that it was made for.
   abbrev pub listed : N → List (Attribute N) → SiteOf N → SiteOf N
   listed name attrs s =
       with_items (entry_pushed n.same (record { node = node_of (current (stack s)); name = name; attrs = attrs }) s.items) s

@@ -11,5 +11,5 @@ pub mod Spelled
 pub mod Kept
 pub mod Made
 pub mod Meets
-pub mod Climbs
-pub mod Settles
+pub mod InnerLoops
+pub mod AfterInnerLoop

@@ -1,4 +1,4 @@
-//! The adoption agency (HTML Standard, 13.2.6.4.7).
+//! The adoption agency algorithm (HTML Standard, 13.2.6.4.7, `#adoption-agency-algorithm`), with the numbers of its steps.
 
 ghost use Rattle.std.specs.Prelude.{◌≡◌, ℕ, ◌<◌, ◌≤◌, ◌+◌, ◌*◌, IfOk, Some, length, nat_eq};
 ghost use Rattle.std.specs.List.{slice_get};
@@ -14,14 +14,15 @@ ghost use Rattle.hopen.specs.Opens.{open_of};
 ghost use Rattle.hformat.specs.Items.{entry_is};
 ghost use Rattle.hformat.specs.declared.bookmark.Bookmark.TheVariants.{InPlace};
 ghost use Rattle.hadopt.specs.Naming.{numbers};
-ghost use Rattle.hadopt.specs.Climbs.{AreDifferent, HalfGives, way_after, way_left, without_entries};
+ghost use Rattle.hadopt.specs.InnerLoops.{AreDifferent, HalfGives, way_after, way_left, without_entries};
 ghost use Rattle.hadopt.specs.Site.{Goes, and_then, stack, with_items};
 ghost use Rattle.hadopt.specs.Inserts.{made};
-ghost use Rattle.hadopt.specs.Adopts.{most_kept, replaced, climbed_one, climbed, ended_climb, adopted_by, turned_with, turned, turns, is_unlisted, adopted};
-ghost use Rattle.hadopt.specs.Meets.{climb_of, ClimbGives, TurnGives};
+ghost use Rattle.hadopt.specs.Adopts.{most_kept, node_replaced, inner_turn, inner_loop, after_inner_loop, with_furthest_block, with_formatting_element};
+ghost use Rattle.hadopt.specs.Adopts.{outer_turn, outer_loop, is_unlisted, adopted};
+ghost use Rattle.hadopt.specs.Meets.{inner_loop_of, InnerLoopGives, TurnGives};
 ghost use Rattle.hadopt.specs.Gives.{Gives};
 ghost use Rattle.hadopt.specs.Kept.{Kept};
-ghost use Rattle.hadopt.specs.Settles.{Settles, TurnsBy};
+ghost use Rattle.hadopt.specs.AfterInnerLoop.{AfterInnerLoop, WithFurthestBlock};
 
 use crate::site::Site;
 use hformat::{Bookmark, Entry};
@@ -29,67 +30,56 @@ use hnodes::{NodeId, Place};
 use hopen::Open;
 use names::{ErrorCode, NameId, Refusal};
 
-/// How a turn ends: another one comes, or the agency has ended.
+/// How a turn of the outer loop ends: another one comes, or the algorithm returns.
 #[derive(Clone, Copy)]
 pub(crate) enum Turn {
     Next,
     Ended,
 }
 
-/// On the way up from the furthest block: the last node, and the bookmark.
+/// Between two turns of the inner loop: the last node, and the bookmark.
 #[derive(Clone, Copy)]
-pub(crate) struct Climbed {
-    pub(crate) last: NodeId,
+pub(crate) struct InnerLoop {
+    pub(crate) last_node: NodeId,
     pub(crate) bookmark: Bookmark,
 }
 
-impl Climbed {
-    /// The same, with a number of open nodes left above.
-    fn halfway(self, left: usize) -> Halfway
-        ensures { result ≡ record { last = self.last; bookmark = self.bookmark; left = left } }
-    {
-        Halfway {
-            last: self.last,
-            bookmark: self.bookmark,
-            left,
-        }
-    }
-}
-
-/// On the way up, and how many open nodes are left above.
+/// In the inner loop, with so many open nodes left above.
 #[derive(Clone, Copy)]
 pub(crate) struct Halfway {
-    pub(crate) last: NodeId,
-    pub(crate) bookmark: Bookmark,
+    pub(crate) inner: InnerLoop,
     pub(crate) left: usize,
 }
 
-/// How many nodes on the way keep their entry.
+/// How many turns of the inner loop leave the node its entry (step 4.13.4).
 const MOST_KEPT: usize = 3;
 
-/// How many turns there are at most.
+/// How many turns the outer loop has at most (step 4.1).
 const MOST_TURNS: usize = 8;
 
 impl Site {
-    /// Replaces a node on the way by a new element for its entry, and appends the last node to it; it is the last node then.
-    fn take_in(
+    /// Steps 4.13.6 to 4.13.9: creates an element for the token of the node's entry, replaces the node by it, and appends the last node to
+    /// it; it is the last node then.
+    fn replace_node(
         &mut self,
-        on_way: Climbed,
-        block: NodeId,
+        inner: InnerLoop,
+        furthest_block: NodeId,
         node: NodeId,
         entry: Entry,
         at: u64,
-    ) -> Result<Climbed, Refusal>
-        requires begun { 0 < on_way.last }
-        requires last_in { on_way.last < self.old.nodes.made }
-        ensures done { (name : ℕ) → ClimbGives result self.new
+    ) -> Result<InnerLoop, Refusal>
+        requires begun { 0 < inner.last_node }
+        requires last_in { inner.last_node < self.old.nodes.made }
+        ensures done { (name : ℕ) → InnerLoopGives result self.new
             (and_then (made at (element (entry_is entry).name (entry_is entry).attrs) self.old)
-            (λ t. Goes (replaced block self.old.nodes.made (record { node = node; name = name }) (entry_is entry) (climb_of on_way t)))) }
-        ensures last { IfOk result (λ c. (0 < c.last) × (c.last < self.new.nodes.made)) }
+            (λ t. Goes (node_replaced furthest_block self.old.nodes.made (record { node = node; name = name }) (entry_is entry) (inner_loop_of inner t)))) }
+        ensures last_node { IfOk result (λ c. (0 < c.last_node) × (c.last_node < self.new.nodes.made)) }
         ensures few { self.new.nodes.made ≤ self.old.nodes.made + 1 }
     {
         let new = self.create_sharing(entry.name, entry.attrs, at)?;
-        self.graft(on_way.last, Place::LastIn(new));
+        // Step 4.13.8
+        self.graft(inner.last_node, Place::LastIn(new));
+        // Step 4.13.6
         self.replace(
             node,
             Open {
@@ -98,89 +88,93 @@ impl Site {
             },
         )?;
         self.replace_entry(node, new);
-        let bookmark = if on_way.last == block {
+        // Step 4.13.7
+        let bookmark = if inner.last_node == furthest_block {
             Bookmark::After(new)
         } else {
-            on_way.bookmark
+            inner.bookmark
         };
-        Ok(Climbed {
-            last: new,
+        Ok(InnerLoop {
+            last_node: new,
             bookmark,
         })
     }
 
-    /// Passes one of the first nodes on the way.
-    fn pass(
+    /// Steps 4.13.5 to 4.13.9: one of the first turns of the inner loop, whose node keeps its entry.
+    fn inner_turn(
         &mut self,
-        on_way: Climbed,
-        block: NodeId,
+        inner: InnerLoop,
+        furthest_block: NodeId,
         node: Open,
         at: u64,
-    ) -> Result<Climbed, Refusal>
-        requires begun { 0 < on_way.last }
-        requires last_in { on_way.last < self.old.nodes.made }
+    ) -> Result<InnerLoop, Refusal>
+        requires begun { 0 < inner.last_node }
+        requires last_in { inner.last_node < self.old.nodes.made }
         ensures done { (passed : ℕ) → passed < most_kept
-            → ClimbGives result self.new (climbed_one numbers at block passed (open_of node) (climb_of on_way self.old)) }
-        ensures last { IfOk result (λ c. (0 < c.last) × (c.last < self.new.nodes.made)) }
+            → InnerLoopGives result self.new (inner_turn numbers at furthest_block passed (open_of node) (inner_loop_of inner self.old)) }
+        ensures last_node { IfOk result (λ c. (0 < c.last_node) × (c.last_node < self.new.nodes.made)) }
         ensures few { self.new.nodes.made ≤ self.old.nodes.made + 1 }
     {
         match self.entry_of(node.node)? {
-            Some(entry) => self.take_in(on_way, block, node.node, entry, at),
+            Some(entry) => self.replace_node(inner, furthest_block, node.node, entry, at),
             None => {
                 self.leave(node.node);
-                Ok(on_way)
+                Ok(inner)
             }
         }
     }
 
-    /// Passes the first nodes on the way up from the furthest block to the formatting element: those that keep their entry.
-    fn climb_first(
+    /// Steps 4.11 to 4.13: the first turns of the inner loop, whose nodes keep their entry.
+    fn first_inner_turns(
         &mut self,
-        formatting: NodeId,
-        block: NodeId,
+        formatting_element: NodeId,
+        furthest_block: NodeId,
         at: u64,
     ) -> Result<Halfway, Refusal>
-        requires begun { 0 < block }
-        requires block_in { block < self.old.nodes.made }
+        requires begun { 0 < furthest_block }
+        requires block_in { furthest_block < self.old.nodes.made }
         requires different { AreDifferent self.old }
-        ensures done { HalfGives formatting block at result self.new
-            (climbed numbers at block 0 (before (is_node formatting) (above block self.old.open_nodes.stack))
-            (record { last = block; bookmark = InPlace; site = self.old })) }
-        ensures last { IfOk result (λ h. (0 < h.last) × (h.last < self.new.nodes.made)) }
+        ensures done { HalfGives formatting_element furthest_block at result self.new
+            (inner_loop numbers at furthest_block 0 (before (is_node formatting_element) (above furthest_block self.old.open_nodes.stack))
+            (record { last_node = furthest_block; bookmark = InPlace; site = self.old })) }
+        ensures last_node { IfOk result (λ h. (0 < h.inner.last_node) × (h.inner.last_node < self.new.nodes.made)) }
         ensures few { self.new.nodes.made ≤ self.old.nodes.made + most_kept }
     {
-        let mut on_way = Climbed {
-            last: block,
+        let mut inner = InnerLoop {
+            last_node: furthest_block,
             bookmark: Bookmark::InPlace,
         };
-        let mut left = self.stack.depth(block);
+        let mut left = self.stack.depth(furthest_block);
         let mut passed = 0;
         while left > 0 && passed < MOST_KEPT {
+            // Step 4.13.2
             left -= 1;
             let Some(node) = self.from_top(left) else {
                 unreachable!()
             };
-            if node.node == formatting {
-                return Ok(on_way.halfway(0));
+            // Step 4.13.3
+            if node.node == formatting_element {
+                return Ok(Halfway { inner, left: 0 });
             }
-            on_way = self.pass(on_way, block, node, at)?;
+            inner = self.inner_turn(inner, furthest_block, node, at)?;
+            // Step 4.13.1
             passed += 1;
         }
-        Ok(on_way.halfway(left))
+        Ok(Halfway { inner, left })
     }
 
-    /// Removes the entries of the nodes on the way, from the one with `below` nodes below it. Returns how many nodes are below the
-    /// formatting element then.
-    fn remove_entries(&mut self, formatting: NodeId, below: usize) -> usize
+    /// Step 4.13.4 of all further turns: removes the entries of their nodes, from the one with `below` nodes below it. Returns how many
+    /// nodes are below the formatting element then.
+    fn remove_entries(&mut self, formatting_element: NodeId, below: usize) -> usize
         requires { below ≤ length (stack self.old) }
-        ensures site { self.new ≡ with_items (without_entries (way_after formatting below self.old) self.old.items) self.old }
-        ensures end { result ≡ below + length (way_after formatting below self.old) }
+        ensures site { self.new ≡ with_items (without_entries (way_after formatting_element below self.old) self.old.items) self.old }
+        ensures end { result ≡ below + length (way_after formatting_element below self.old) }
     {
         for up in below..self.stack.len() {
             let Some(node) = self.get(up) else {
                 return up;
             };
-            if node.node == formatting {
+            if node.node == formatting_element {
                 return up;
             }
             self.remove_entry(node.node);
@@ -188,92 +182,128 @@ impl Site {
         self.stack.len()
     }
 
-    /// Removes the nodes on the way, from the one with `below` nodes below it, with their entries: from the stack in one pass.
-    fn leave_way(&mut self, formatting: NodeId, below: usize)
+    /// Steps 4.13.4 and 4.13.5 of all further turns: removes their nodes, from the one with `below` nodes below it, with their entries:
+    /// from the stack in one pass.
+    fn leave_way(&mut self, formatting_element: NodeId, below: usize)
         requires { below ≤ length (stack self.old) }
-        ensures { self.new ≡ way_left formatting below self.old }
+        ensures { self.new ≡ way_left formatting_element below self.old }
     {
-        let end = self.remove_entries(formatting, below);
+        let end = self.remove_entries(formatting_element, below);
         self.leave_run(below, end - below);
     }
 
-    /// Goes up from the furthest block to the formatting element.
-    fn climb(&mut self, formatting: NodeId, block: NodeId, at: u64) -> Result<Climbed, Refusal>
-        requires begun { 0 < block }
-        requires block_in { block < self.old.nodes.made }
+    /// Steps 4.10 to 4.13: the inner loop, up from the furthest block to the formatting element.
+    fn inner_loop(
+        &mut self,
+        formatting_element: NodeId,
+        furthest_block: NodeId,
+        at: u64,
+    ) -> Result<InnerLoop, Refusal>
+        requires begun { 0 < furthest_block }
+        requires block_in { furthest_block < self.old.nodes.made }
         requires different { AreDifferent self.old }
-        ensures done { ClimbGives result self.new
-            (climbed numbers at block 0 (before (is_node formatting) (above block self.old.open_nodes.stack))
-            (record { last = block; bookmark = InPlace; site = self.old })) }
-        ensures last { IfOk result (λ c. (0 < c.last) × (c.last < self.new.nodes.made)) }
+        ensures done { InnerLoopGives result self.new
+            (inner_loop numbers at furthest_block 0 (before (is_node formatting_element) (above furthest_block self.old.open_nodes.stack))
+            (record { last_node = furthest_block; bookmark = InPlace; site = self.old })) }
+        ensures last_node { IfOk result (λ c. (0 < c.last_node) × (c.last_node < self.new.nodes.made)) }
         ensures few { self.new.nodes.made ≤ self.old.nodes.made + most_kept }
     {
-        let half = self.climb_first(formatting, block, at)?;
+        let half = self.first_inner_turns(formatting_element, furthest_block, at)?;
         let below = self.stack.len() - half.left;
-        self.leave_way(formatting, below);
-        Ok(Climbed {
-            last: half.last,
-            bookmark: half.bookmark,
-        })
+        self.leave_way(formatting_element, below);
+        Ok(half.inner)
     }
 
-    /// The last node goes to the appropriate place in the common ancestor. A new element takes all children of the furthest block
-    /// and is appended to it; it is at the bookmark, and on the stack right below the block, in place of the formatting element.
-    fn settle(
+    /// Steps 4.14 to 4.19: the last node goes to the appropriate place in the common ancestor. A new element takes all children of the
+    /// furthest block and is appended to it; it is at the bookmark, and on the stack right below the furthest block, in place of the
+    /// formatting element.
+    fn after_inner_loop(
         &mut self,
-        formatting: Entry,
-        block: NodeId,
-        ancestor: Option<Open>,
-        on_way: Climbed,
+        formatting_element: Entry,
+        furthest_block: NodeId,
+        common_ancestor: Option<Open>,
+        inner: InnerLoop,
         at: u64,
     ) -> Result<(), Refusal>
-        requires { Settles formatting.node block (option_map open_of ancestor) (climb_of on_way self.old) }
-        ensures done { Gives result self.new (ended_climb numbers at (entry_is formatting) block (option_map open_of ancestor) (climb_of on_way self.old)) }
+        requires { AfterInnerLoop formatting_element.node furthest_block (option_map open_of common_ancestor) (inner_loop_of inner self.old) }
+        ensures done { Gives result self.new
+            (after_inner_loop numbers at (entry_is formatting_element) furthest_block (option_map open_of common_ancestor) (inner_loop_of inner self.old)) }
         ensures few { self.new.nodes.made ≤ self.old.nodes.made + 1 }
     {
-        let place = self.place_in(ancestor);
-        self.graft(on_way.last, place);
-        let new = self.create_sharing(formatting.name, formatting.attrs, at)?;
-        self.move_children(block, new);
-        self.graft(new, Place::LastIn(block));
+        // Step 4.14
+        let place = self.place_in(common_ancestor);
+        self.graft(inner.last_node, place);
+        // Step 4.15
+        let new = self.create_sharing(formatting_element.name, formatting_element.attrs, at)?;
+        // Steps 4.16 and 4.17
+        self.move_children(furthest_block, new);
+        self.graft(new, Place::LastIn(furthest_block));
+        // Step 4.19
         self.exchange(
-            formatting.node,
-            block,
+            formatting_element.node,
+            furthest_block,
             Open {
                 node: new,
-                name: formatting.name,
+                name: formatting_element.name,
             },
         )?;
-        self.move_to_bookmark(formatting.node, new, on_way.bookmark);
+        // Step 4.18
+        self.move_to_bookmark(formatting_element.node, new, inner.bookmark);
         Ok(())
     }
 
-    /// A turn with a furthest block.
-    fn turn_by(&mut self, formatting: Entry, block: NodeId, at: u64) -> Result<Turn, Refusal>
-        requires turns { TurnsBy formatting.node block self.old }
-        ensures done { (name : ℕ) → TurnGives result self.new (adopted_by numbers at (entry_is formatting) self.old (record { node = block; name = name })) }
+    /// Steps 4.9 to 4.19: a turn of the outer loop with a furthest block.
+    fn with_furthest_block(
+        &mut self,
+        formatting_element: Entry,
+        furthest_block: NodeId,
+        at: u64,
+    ) -> Result<Turn, Refusal>
+        requires stands { WithFurthestBlock formatting_element.node furthest_block self.old }
+        ensures done { (name : ℕ) → TurnGives result self.new
+            (with_furthest_block numbers at (entry_is formatting_element) self.old (record { node = furthest_block; name = name })) }
         ensures few { self.new.nodes.made ≤ self.old.nodes.made + 4 }
     {
-        let ancestor = self.stack.above(formatting.node);
-        let Climbed { last, bookmark } = self.climb(formatting.node, block, at)?;
-        self.settle(formatting, block, ancestor, Climbed { last, bookmark }, at)?;
+        let common_ancestor = self.stack.above(formatting_element.node);
+        let InnerLoop {
+            last_node,
+            bookmark,
+        } = self.inner_loop(formatting_element.node, furthest_block, at)?;
+        self.after_inner_loop(
+            formatting_element,
+            furthest_block,
+            common_ancestor,
+            InnerLoop {
+                last_node,
+                bookmark,
+            },
+            at,
+        )?;
         Ok(Turn::Next)
     }
 
-    /// A turn with a formatting element, the node of the last entry of the name after the last marker. Only a turn with a furthest
-    /// block copies the entry.
-    fn turn_with(&mut self, name: NameId, node: NodeId, at: u64) -> Result<Turn, Refusal>
+    /// Steps 4.4 to 4.19: a turn of the outer loop with a formatting element, the node of the last entry of the subject's name after the
+    /// last marker. It should be the current node (step 4.6). Without a furthest block (step 4.7) it is popped (step 4.8). Only a turn with a
+    /// furthest block copies the entry.
+    fn with_formatting_element(
+        &mut self,
+        subject: NameId,
+        node: NodeId,
+        at: u64,
+    ) -> Result<Turn, Refusal>
         requires kept { Kept numbers self.old }
-        requires entry { option_map (λ e. e.node) (find_entry nat_eq name self.old.items) ≡ Some node }
-        ensures done { (f : EntryOf ℕ) → find_entry nat_eq name self.old.items ≡ Some (record f { node = node })
-            → TurnGives result self.new (turned_with numbers at (record f { node = node }) self.old) }
+        requires entry { option_map (λ e. e.node) (find_entry nat_eq subject self.old.items) ≡ Some node }
+        ensures done { (f : EntryOf ℕ) → find_entry nat_eq subject self.old.items ≡ Some (record f { node = node })
+            → TurnGives result self.new (with_formatting_element numbers at (record f { node = node }) self.old) }
         ensures few { self.new.nodes.made ≤ self.old.nodes.made + 4 }
     {
+        // Step 4.4
         if !self.is_open(node) {
             self.error(ErrorCode::TreeInBody, at)?;
             self.remove_entry(node);
             return Ok(Turn::Ended);
         }
+        // Step 4.5
         if !self.node_in_scope(node) {
             self.error(ErrorCode::TreeInBody, at)?;
             return Ok(Turn::Ended);
@@ -281,11 +311,11 @@ impl Site {
         let found = self.is_current(node);
         self.error_unless(found, ErrorCode::TreeInBody, at)?;
         match self.furthest_block(node) {
-            Some(block) => {
-                let Some(formatting) = self.find_entry(name)? else {
+            Some(furthest_block) => {
+                let Some(formatting_element) = self.find_entry(subject)? else {
                     unreachable!()
                 };
-                self.turn_by(formatting, block.node, at)
+                self.with_furthest_block(formatting_element, furthest_block.node, at)
             }
             None => {
                 self.pop_to_node(node);
@@ -295,42 +325,42 @@ impl Site {
         }
     }
 
-    /// A turn: the last entry of the name after the last marker is its formatting element.
-    fn turn(&mut self, name: NameId, at: u64) -> Result<Turn, Refusal>
+    /// Step 4.3: a turn of the outer loop. Its formatting element is the node of the last entry of the subject's name after the last marker.
+    fn outer_turn(&mut self, subject: NameId, at: u64) -> Result<Turn, Refusal>
         requires { Kept numbers self.old }
-        ensures done { TurnGives result self.new (turned numbers at name self.old) }
+        ensures done { TurnGives result self.new (outer_turn numbers at subject self.old) }
         ensures kept { IfOk result (λ _. Kept numbers self.new) }
         ensures few { self.new.nodes.made ≤ self.old.nodes.made + 4 }
     {
-        match self.find(name) {
-            Some(node) => self.turn_with(name, node, at),
+        match self.find(subject) {
+            Some(node) => self.with_formatting_element(subject, node, at),
             None => {
-                self.other_end(name, at)?;
+                self.other_end(subject, at)?;
                 Ok(Turn::Ended)
             }
         }
     }
 
-    /// Whether the current node has a name and no entry.
-    fn is_unlisted(&self, name: NameId) -> bool
-        ensures { (at : ℕ) → result ≡ is_unlisted numbers at name self.now }
+    /// Step 2: whether the current node has the subject's name and no entry.
+    fn is_unlisted(&self, subject: NameId) -> bool
+        ensures { (at : ℕ) → result ≡ is_unlisted numbers at subject self.now }
     {
         match self.stack.current() {
-            Some(top) => top.name == name && self.list.entry_of(top.node).is_none(),
+            Some(top) => top.name == subject && self.list.entry_of(top.node).is_none(),
             None => false,
         }
     }
 
-    /// Up to `most` turns.
-    fn take_turns(&mut self, most: usize, name: NameId, at: u64) -> Result<(), Refusal>
+    /// Steps 3, 4.1 and 4.2: up to `most` turns.
+    fn outer_loop(&mut self, most: usize, subject: NameId, at: u64) -> Result<(), Refusal>
         requires { Kept numbers self.old }
-        ensures done { Gives result self.new (turns numbers at most name self.old) }
+        ensures done { Gives result self.new (outer_loop numbers at most subject self.old) }
         ensures kept { IfOk result (λ _. Kept numbers self.new) }
         ensures few { self.new.nodes.made ≤ self.old.nodes.made + most * 4 }
     {
         let mut left = most;
         while left > 0 {
-            if let Turn::Ended = self.turn(name, at)? {
+            if let Turn::Ended = self.outer_turn(subject, at)? {
                 return Ok(());
             }
             left -= 1;
@@ -338,17 +368,18 @@ impl Site {
         Ok(())
     }
 
-    /// The adoption agency for a name. It makes at most 32 elements, also where it is refused.
-    pub fn adopt(&mut self, name: NameId, at: u64) -> Result<(), Refusal>
+    /// The adoption agency for a subject, the name of a tag (step 1). It makes at most 32 elements, also where it is refused.
+    pub fn adopt(&mut self, subject: NameId, at: u64) -> Result<(), Refusal>
         requires { Kept numbers self.old }
-        ensures done { Gives result self.new (adopted numbers at name self.old) }
+        ensures done { Gives result self.new (adopted numbers at subject self.old) }
         ensures kept { IfOk result (λ _. Kept numbers self.new) }
         ensures few { self.new.nodes.made ≤ self.old.nodes.made + 32 }
     {
-        if self.is_unlisted(name) {
+        // Step 2
+        if self.is_unlisted(subject) {
             self.pop();
             return Ok(());
         }
-        self.take_turns(MOST_TURNS, name, at)
+        self.outer_loop(MOST_TURNS, subject, at)
     }
 }

@@ -27,7 +27,7 @@ impl Site {
         Ok(())
     }
 
-    /// Closes a p element.
+    /// Closes a p element (`#close-a-p-element`).
     pub fn close_p(&mut self, at: u64) -> Result<(), Refusal>
         ensures done { Gives result self.new (Goes (closed_p numbers at self.old)) }
         ensures kept { Kept numbers self.old → IfOk result (λ _. Kept numbers self.new) }

@@ -38,7 +38,7 @@ impl Site {
         self.tree.create_element(name, attrs, at)
     }
 
-    /// Makes a new element that shares its attributes.
+    /// Creates an element for a token (`#create-an-element-for-the-token`), whose attributes it shares.
     #[inline(always)]
     pub(crate) fn create_sharing(
         &mut self,

@@ -24,7 +24,9 @@ use names::{Attr, NameId, Refusal, Tag};
 use std::alloc::AllocError;
 
 impl Site {
-    /// Inserts a new element at a place and makes it the current node. `at` is the byte offset of the token, here as in all calls.
+    /// Inserts an HTML element (`#insert-an-html-element`): puts a new one at a place and makes it the current node. `at` is the byte
+    /// offset of the token, here as in all calls.
+    #[inline(always)]
     pub fn insert_element(
         &mut self,
         name: NameId,
@@ -72,7 +74,8 @@ impl Site {
         self.push(Open { node, name }, at)
     }
 
-    /// Inserts a formatting element, which also gets an entry in the list of active formatting elements.
+    /// Inserts a formatting element, which also gets an entry in the list of active formatting elements
+    /// (`#push-onto-the-list-of-active-formatting-elements`).
     pub fn insert_formatting(
         &mut self,
         name: NameId,
@@ -100,7 +103,7 @@ impl Site {
         self.list.push(node, name, attrs)
     }
 
-    /// Inserts a comment at a place.
+    /// Inserts a comment at a place (`#insert-a-comment`).
     pub fn insert_comment(&mut self, text: String, place: Place, at: u64) -> Result<NodeId, Refusal>
         requires { IsPlace place self.old.nodes }
         ensures done { Gives result self.new (added at (comment (string_bytes text)) place self.old) }
@@ -123,7 +126,7 @@ impl Site {
         Ok(node)
     }
 
-    /// Inserts a character at a place: at the end of the text right before the place, or in a new text there.
+    /// Inserts a character at a place (`#insert-a-character`): at the end of the text right before the place, or in a new text there.
     #[inline(always)]
     pub fn put(&mut self, c: char, place: Place, at: u64) -> Result<(), Refusal>
         requires { IsPlace place self.old.nodes }

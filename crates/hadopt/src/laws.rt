@@ -1,4 +1,4 @@
-//! Laws of the definitions.
+//! Laws of the operations on a site: names may be numbers or texts, and the adoption agency makes few elements.
 
 ghost use Rattle.std.specs.Prelude.{◌≡◌, ◌≤◌, ◌+◌, ℕ, List};
 ghost use Rattle.names.specs.Names.{Texts, AreNames};

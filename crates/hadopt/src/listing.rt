@@ -37,7 +37,8 @@ impl Site {
         Ok(())
     }
 
-    /// Removes the last marker and what comes after it, or everything if there is no marker.
+    /// Removes the last marker and what comes after it, or everything if there is no marker
+    /// (`#clear-the-list-of-active-formatting-elements-up-to-the-last-marker`).
     pub fn clear_to_marker(&mut self)
         ensures site { self.new ≡ with_items (cleared self.old.items) self.old }
         ensures kept { Kept numbers self.old → Kept numbers self.new }

@@ -1,4 +1,4 @@
-//! Where a node goes (HTML Standard, 13.2.6.1).
+//! The appropriate place for inserting a node, with foster parenting (HTML Standard, 13.2.6.1, `#appropriate-place-for-inserting-a-node`).
 
 ghost use Rattle.std.specs.Prelude.{◌≡◌, ◌<◌, IfSome, ◌&&◌, false};
 ghost use Rattle.std.specs.Option.{option_map, option_map_or};
@@ -73,17 +73,15 @@ impl Site {
         ensures place { result ≡ place_in numbers (option_map open_of target) self.now }
         ensures within { IsPlace result self.now.nodes }
     {
-        // A copy for the first of two calls.
-        let tested = target;
-        if self.is_fostered(tested) {
+        if self.is_fostered(&target) {
             return self.foster_place();
         }
         self.last_in(target)
     }
 
     /// Whether what goes into an open node is foster parented.
-    fn is_fostered(&self, target: Option<Open>) -> bool
-        ensures { result ≡ (self.now.foster && option_map_or (λ x. is_fostering (tag_of x.name)) (option_map open_of target) false) }
+    fn is_fostered(&self, target: &Option<Open>) -> bool
+        ensures { result ≡ (self.now.foster && option_map_or (λ x. is_fostering (tag_of x.name)) (option_map open_of target.now) false) }
     {
         match target {
             Some(top) => self.foster && fosters(top.name.tag()),
@@ -91,7 +89,7 @@ impl Site {
         }
     }
 
-    /// The place of a node that is foster parented.
+    /// The place of a node that is foster parented (`#foster-parent`).
     fn foster_place(&self) -> Place
         ensures place { result ≡ foster_place numbers self.now }
         ensures within { IsPlace result self.now.nodes }

@@ -20,25 +20,26 @@ use names::{NameId, Tag};
 /// Which open nodes are popped, up to the first that is not one of them.
 #[derive(Clone, Copy)]
 pub enum Passing {
-    /// Those with implied end tags, except those with a name.
+    /// Those with implied end tags, except those with a name (`#generate-implied-end-tags`).
     Implied(Option<NameId>),
-    /// All but table and html: clearing back to a table context.
+    /// All but table and html: clear the stack back to a table context (`#clear-the-stack-back-to-a-table-context`).
     Table,
-    /// All but tbody, tfoot, thead and html: clearing back to a table body context.
+    /// All but tbody, tfoot, thead and html: clear the stack back to a table body context
+    /// (`#clear-the-stack-back-to-a-table-body-context`).
     Body,
-    /// All but tr and html: clearing back to a table row context.
+    /// All but tr and html: clear the stack back to a table row context (`#clear-the-stack-back-to-a-table-row-context`).
     Row,
 }
 
 impl Passing {
     /// Whether a node is popped.
-    fn is(self, node: Open) -> bool
-        ensures { result ≡ passes self (open_of node) }
+    fn is(&self, node: Open) -> bool
+        ensures { result ≡ passes self.now (open_of node) }
     {
         let tag = node.name.tag();
         match self {
             Passing::Implied(None) => tag.has_implied_end(),
-            Passing::Implied(Some(kept)) => tag.has_implied_end() && node.name != kept,
+            Passing::Implied(Some(kept)) => tag.has_implied_end() && node.name != *kept,
             Passing::Table => !matches!(tag, Tag::Table | Tag::Html),
             Passing::Body => !matches!(tag, Tag::Tbody | Tag::Tfoot | Tag::Thead | Tag::Html),
             Passing::Row => !matches!(tag, Tag::Tr | Tag::Html),
@@ -51,8 +52,7 @@ fn pop_past(stack: &mut OpenStack, passing: Passing)
     ensures { stack.new ≡ record stack.old { stack = past (passes passing) stack.old.stack } }
 {
     while let Some(top) = stack.current() {
-        let wanted = passing;
-        if !wanted.is(top) {
+        if !passing.is(top) {
             return;
         }
         stack.pop();

@@ -1,4 +1,4 @@
-//! The state that the tree rules edit.
+//! The site that the tree rules edit: nodes, open elements, formatting elements, foster parenting, parse errors.
 
 ghost use Rattle.std.specs.Prelude.{◌≡◌, ◌<◌, IfOk, false, []};
 ghost use Rattle.hnodes.specs.Forest.{document, tree, none};

@@ -5,11 +5,11 @@ use Rattle.hadopt.proofs.site.Site.adopt.Goals as goal
 
 -- src/adopting.rt:266:13
 pub returns-then-is_unlisted-clause-done : goal.returns-then-is_unlisted-clause-done
-returns-then-is_unlisted-clause-done c = adopted-pops c.args.at c.args.name c.args.self.now (sym (c.is_unlisted.ensures c.args.at) ∙ c.if-is_unlisted.true) ∙ ap Goes (sym c.pop.ensures.site)
+returns-then-is_unlisted-clause-done c = adopted-pops c.args.at c.args.subject c.args.self.now (sym (c.is_unlisted.ensures c.args.at) ∙ c.if-is_unlisted.true) ∙ ap Goes (sym c.pop.ensures.site)
 
 -- src/adopting.rt:260:5
 pub returns-clause-done : goal.returns-clause-done
-returns-clause-done c = adopted-gives c.args.at c.args.name c.args.self.now c.take_turns.new.self c.take_turns.result (sym (c.is_unlisted.ensures c.args.at) ∙ c.if-is_unlisted.false) c.take_turns.ensures.done
+returns-clause-done c = adopted-gives c.args.at c.args.subject c.args.self.now c.outer_loop.new.self c.outer_loop.result (sym (c.is_unlisted.ensures c.args.at) ∙ c.if-is_unlisted.false) c.outer_loop.ensures.done
 
 pub returns-clause-few : goal.returns-clause-few
 returns-clause-few c = search rules

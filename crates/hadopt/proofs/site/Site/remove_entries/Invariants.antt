@@ -1,7 +1,7 @@
 use Rattle.std.proofs.Common.{◌≡◌, ◌+◌, length, drop}
 use Rattle.hchain.specs.Nearest.{before}
 use Rattle.hopen.specs.Stack.{is_node}
-use Rattle.hadopt.specs.Climbs.{way_after, without_entries}
+use Rattle.hadopt.specs.InnerLoops.{way_after, without_entries}
 use Rattle.hadopt.specs.Site.{stack, with_items}
 use Rattle.hadopt.proofs.site.Site.remove_entries.Given as goal
 
@@ -9,6 +9,6 @@ abbrev pub invariant-loop-up : goal.invariant-loop-up
 invariant-loop-up l = record {
   end : l.up-end ≡ length (stack l.self);
   same : l.self ≡ with_items l.self.items l.fn.self;
-  items : without_entries (way_after l.formatting l.below l.fn.self) l.fn.self.items ≡ without_entries (before (is_node l.formatting) (drop l.up (stack l.self))) l.self.items;
-  count : l.below + length (way_after l.formatting l.below l.fn.self) ≡ l.up + length (before (is_node l.formatting) (drop l.up (stack l.self)));
+  items : without_entries (way_after l.formatting_element l.below l.fn.self) l.fn.self.items ≡ without_entries (before (is_node l.formatting_element) (drop l.up (stack l.self))) l.self.items;
+  count : l.below + length (way_after l.formatting_element l.below l.fn.self) ≡ l.up + length (before (is_node l.formatting_element) (drop l.up (stack l.self)));
 }

@@ -1,5 +1,5 @@
 use Rattle.std.proofs.Common.{rules}
-use Rattle.hadopt.proofs.site.Site.settle.Goals as goal
+use Rattle.hadopt.proofs.site.Site.after_inner_loop.Goals as goal
 
 pub returns-clause-done : goal.returns-clause-done
 returns-clause-done c = search rules

@@ -1,0 +1,12 @@
+use Rattle.std.proofs.Common.{◌∙◌, ap, sym}
+use Rattle.std.specs.Option.{option_map}
+use Rattle.hopen.specs.Opens.{open_of}
+use Rattle.hformat.specs.Items.{entry_is}
+use Rattle.hadopt.specs.Meets.{inner_loop_of}
+use Rattle.hadopt.proofs.Halves.{first-some}
+use Rattle.hadopt.proofs.site.Site.inner_turn.Goals as goal
+
+pub returns-in-Some-clause-done : goal.returns-in-Some-clause-done
+returns-in-Some-clause-done c = λ passed few.
+    rw (first-some c.args.at c.args.furthest_block passed (open_of c.args.node) (entry_is c.in-Some.entry) (inner_loop_of c.args.inner c.args.self.now) few (sym c.in_ok-entry.ensures ∙ ap (option_map entry_is) c.in-Some.is))
+    (c.replace_node.ensures.done c.args.node.name)

@@ -1,0 +1,36 @@
+use Rattle.std.proofs.Common.{◌≡◌, ◌∙◌, ap, sym, nat_eq, None, ℕ}
+use Rattle.hformat.specs.Formatting.{find_entry}
+use Rattle.hadopt.specs.Naming.{numbers}
+use Rattle.hadopt.specs.Site.{Goes, SiteOf}
+use Rattle.hadopt.specs.Closes.{other_end}
+use Rattle.hadopt.specs.Adopts.{Ended}
+use Rattle.hadopt.specs.declared.adopting.Turn.TheVariants as turn
+use Rattle.hadopt.proofs.Keeps.{found-node, found-none, turn-keeps, outer-turn-keeps}
+use Rattle.hadopt.proofs.site.Site.outer_turn.Goals as goal
+
+pub with_formatting_element-requires-clause-entry : goal.with_formatting_element-requires-clause-entry
+with_formatting_element-requires-clause-entry c = sym c.find.ensures ∙ c.in-Some.is
+
+pub returns-in-Some-clause-done : goal.returns-in-Some-clause-done
+returns-in-Some-clause-done c =
+    let f = found-node c.args.subject c.in-Some.node c.args.self.now.items (sym c.find.ensures ∙ c.in-Some.is) in
+    rw (f.1) (c.with_formatting_element.ensures.done f.0 f.1)
+
+pub returns-in-Some-clause-kept : goal.returns-in-Some-clause-kept
+returns-in-Some-clause-kept c =
+    let f = found-node c.args.subject c.in-Some.node c.args.self.now.items (sym c.find.ensures ∙ c.in-Some.is) in
+    turn-keeps c.args.at c.args.subject c.args.self.now c.with_formatting_element.new.self c.with_formatting_element.result c.requires (rw (f.1) (c.with_formatting_element.ensures.done f.0 f.1))
+
+pub returns-in_ok-other_end-in-None-clause-done : goal.returns-in_ok-other_end-in-None-clause-done
+returns-in_ok-other_end-in-None-clause-done c =
+    let none : find_entry nat_eq c.args.subject c.args.self.now.items ≡ None = found-none c.args.subject c.args.self.now.items (sym c.find.ensures ∙ c.in-None.is) in
+    let gives : Goes (other_end numbers c.args.at c.args.subject c.args.self.now) ≡ Goes c.other_end.new.self = c.in_ok-other_end-in-None.ensures.done in
+    let same : other_end numbers c.args.at c.args.subject c.args.self.now ≡ c.other_end.new.self = cc in
+    rw (none) (ap (λ (s : SiteOf ℕ). Goes (Ended s)) same)
+
+pub returns-in_ok-other_end-in-None-clause-kept : goal.returns-in_ok-other_end-in-None-clause-kept
+returns-in_ok-other_end-in-None-clause-kept c =
+    let none : find_entry nat_eq c.args.subject c.args.self.now.items ≡ None = found-none c.args.subject c.args.self.now.items (sym c.find.ensures ∙ c.in-None.is) in
+    let gives : Goes (other_end numbers c.args.at c.args.subject c.args.self.now) ≡ Goes c.other_end.new.self = c.in_ok-other_end-in-None.ensures.done in
+    let same : other_end numbers c.args.at c.args.subject c.args.self.now ≡ c.other_end.new.self = cc in
+    outer-turn-keeps c.args.at c.args.subject c.args.self.now c.other_end.new.self turn.Ended c.requires (rw (none) (ap (λ (s : SiteOf ℕ). Goes (Ended s)) same))
