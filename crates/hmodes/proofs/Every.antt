@@ -32,7 +32,7 @@ families = family.Html ∷ family.Head ∷ family.Body ∷ family.Br ∷ family.
     family.Script ∷ family.Noscript ∷ family.Block ∷ family.P ∷ family.Heading ∷ family.Pre ∷ family.Form ∷ family.Li ∷ family.Dd ∷
     family.Plaintext ∷ family.Button ∷ family.A ∷ family.Formatting ∷ family.Nobr ∷ family.Object ∷ family.Table ∷ family.Area ∷ family.Input ∷
     family.Param ∷ family.Hr ∷ family.Image ∷ family.Textarea ∷ family.Xmp ∷ family.Iframe ∷ family.Rb ∷ family.Rp ∷ family.Caption ∷
-    family.Colgroup ∷ family.Col ∷ family.Section ∷ family.Row ∷ family.Cell ∷ family.Template ∷ []
+    family.Colgroup ∷ family.Col ∷ family.TableSection ∷ family.Row ∷ family.Cell ∷ family.Template ∷ []
 
 abbrev pub all_families : (Family → Bool) → Bool
 all_families f = f family.Other && list_all f families
@@ -79,7 +79,7 @@ each-family f all family.Rp = at-family f 34 all
 each-family f all family.Caption = at-family f 35 all
 each-family f all family.Colgroup = at-family f 36 all
 each-family f all family.Col = at-family f 37 all
-each-family f all family.Section = at-family f 38 all
+each-family f all family.TableSection = at-family f 38 all
 each-family f all family.Row = at-family f 39 all
 each-family f all family.Cell = at-family f 40 all
 each-family f all family.Template = at-family f 41 all

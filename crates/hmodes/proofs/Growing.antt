@@ -19,7 +19,7 @@ use Rattle.hopen.specs.Stack.{OpenNode, is_node, is_open, current, above, in_sco
 use Rattle.hopen.specs.declared.scope.Scope.TheVariants.{Default}
 use Rattle.hformat.specs.Formatting.{EntryOf, entry_of, entry_at, find_entry, without_entry}
 use Rattle.hformat.specs.declared.bookmark.Bookmark.TheVariants.{InPlace}
-use Rattle.hadopt.specs.Adopts.{Turn, Next, Ended, next_turn, Climb, most_turns, climbed_one, climbed, replaced, left, ended_climb, entries_for, adopted_by, popped_with, turned_with, turned, turns, is_unlisted, adopted}
+use Rattle.hadopt.specs.Adopts.{Turn, Next, Ended, next_turn, InnerLoop, most_turns, inner_turn, inner_loop, node_replaced, left, after_inner_loop, entries_for, with_furthest_block, popped_with, with_formatting_element, outer_turn, outer_loop, is_unlisted, adopted}
 use Rattle.hadopt.specs.Closes.{is, closed, other_end, without_implied}
 use Rattle.hadopt.specs.Inserts.{made, added, pushed, inserted, put}
 use Rattle.hadopt.specs.Naming.{Naming}
@@ -101,67 +101,67 @@ module _ {N : Type 0} (k : ℕ) where
         go false = h
 
     -- the adoption agency
-    climbed-one-holds : (block passed : ℕ) (x : OpenNode N) (c : Climb N) → Holds c.site → OnGoes (λ d. Holds d.site) (climbed_one n at block passed x c)
-    climbed-one-holds block passed x c h = go (entry_of x.node (entries_for passed x.node c.site.items))
+    inner-turn-holds : (block passed : ℕ) (x : OpenNode N) (c : InnerLoop N) → Holds c.site → OnGoes (λ d. Holds d.site) (inner_turn n at block passed x c)
+    inner-turn-holds block passed x c h = go (entry_of x.node (entries_for passed x.node c.site.items))
       where
         s : SiteOf N
         s = with_items (entries_for passed x.node c.site.items) c.site
 
-        go : (o : Option (EntryOf N)) → OnGoes (λ d. Holds d.site) (option_map_or (λ e. and_then (made at (element e.name e.attrs) s) (λ t. Goes (replaced block s.nodes.made x e (record c { site = t })))) o (Goes (left x (record c { site = s }))))
+        go : (o : Option (EntryOf N)) → OnGoes (λ d. Holds d.site) (option_map_or (λ e. and_then (made at (element e.name e.attrs) s) (λ t. Goes (node_replaced block s.nodes.made x e (record c { site = t })))) o (Goes (left x (record c { site = s }))))
         go None = h
         go (Some e) = goes-then Holds (λ d. Holds d.site) (made at (element e.name e.attrs) s) _ (made-holds at (element e.name e.attrs) s h) (λ t g. g)
 
-    climbed-holds : (block passed : ℕ) (way : List (OpenNode N)) (c : Climb N) → Holds c.site → OnGoes (λ d. Holds d.site) (climbed n at block passed way c)
-    climbed-holds block passed [] c h = h
-    climbed-holds block passed (x ∷ way) c h =
-        goes-then (λ d. Holds d.site) (λ d. Holds d.site) (climbed_one n at block passed x c) (climbed n at block (suc passed) way) (climbed-one-holds block passed x c h) (λ d g. climbed-holds block (suc passed) way d g)
+    inner-loop-holds : (block passed : ℕ) (way : List (OpenNode N)) (c : InnerLoop N) → Holds c.site → OnGoes (λ d. Holds d.site) (inner_loop n at block passed way c)
+    inner-loop-holds block passed [] c h = h
+    inner-loop-holds block passed (x ∷ way) c h =
+        goes-then (λ d. Holds d.site) (λ d. Holds d.site) (inner_turn n at block passed x c) (inner_loop n at block (suc passed) way) (inner-turn-holds block passed x c h) (λ d g. inner-loop-holds block (suc passed) way d g)
 
-    ended-holds : (f : EntryOf N) (block : ℕ) (ancestor : Option (OpenNode N)) (c : Climb N) → Holds c.site → Keeps (ended_climb n at f block ancestor c)
-    ended-holds f block ancestor c h = then (made at (element f.name f.attrs) _) _ (made-holds at (element f.name f.attrs) _ h) (λ t g. g)
+    ended-holds : (f : EntryOf N) (block : ℕ) (common_ancestor : Option (OpenNode N)) (c : InnerLoop N) → Holds c.site → Keeps (after_inner_loop n at f block common_ancestor c)
+    ended-holds f block common_ancestor c h = then (made at (element f.name f.attrs) _) _ (made-holds at (element f.name f.attrs) _ h) (λ t g. g)
 
     abbrev HoldsAfter : Turn (SiteOf N) → Type 0
     HoldsAfter (Next s) = Holds s
     HoldsAfter (Ended s) = Holds s
 
-    by-holds : (f : EntryOf N) (s : SiteOf N) (block : OpenNode N) → Holds s → OnGoes HoldsAfter (adopted_by n at f s block)
+    by-holds : (f : EntryOf N) (s : SiteOf N) (block : OpenNode N) → Holds s → OnGoes HoldsAfter (with_furthest_block n at f s block)
     by-holds f s block h =
-        goes-then (λ d. Holds d.site) HoldsAfter (climbed n at block.node 0 (before (is_node f.node) (above block.node (stack s))) (record { last = block.node; bookmark = InPlace; site = s })) _
-        (climbed-holds block.node 0 (before (is_node f.node) (above block.node (stack s))) (record { last = block.node; bookmark = InPlace; site = s }) h)
-        (λ c g. goes-then Holds HoldsAfter (ended_climb n at f block.node (current (above f.node (stack s))) c) _ (ended-holds f block.node (current (above f.node (stack s))) c g) (λ t m. m))
+        goes-then (λ d. Holds d.site) HoldsAfter (inner_loop n at block.node 0 (before (is_node f.node) (above block.node (stack s))) (record { last_node = block.node; bookmark = InPlace; site = s })) _
+        (inner-loop-holds block.node 0 (before (is_node f.node) (above block.node (stack s))) (record { last_node = block.node; bookmark = InPlace; site = s }) h)
+        (λ c g. goes-then Holds HoldsAfter (after_inner_loop n at f block.node (current (above f.node (stack s))) c) _ (ended-holds f block.node (current (above f.node (stack s))) c g) (λ t m. m))
 
-    with-holds : (f : EntryOf N) (s : SiteOf N) → Holds s → OnGoes HoldsAfter (turned_with n at f s)
+    with-holds : (f : EntryOf N) (s : SiteOf N) → Holds s → OnGoes HoldsAfter (with_formatting_element n at f s)
     with-holds f s h = go (is_open f.node (stack s)) (in_scope (stops n.tag Default) (is_node f.node) (stack s)) (current_is (is_node f.node) s)
       where
-        under : (t : SiteOf N) → Holds t → (o : Option (OpenNode N)) → OnGoes HoldsAfter (option_map_or (adopted_by n at f t) o (Goes (Ended (popped_with f t))))
+        under : (t : SiteOf N) → Holds t → (o : Option (OpenNode N)) → OnGoes HoldsAfter (option_map_or (with_furthest_block n at f t) o (Goes (Ended (popped_with f t))))
         under t g None = g
         under t g (Some b) = by-holds f t b g
 
-        go : (x y z : Bool) → OnGoes HoldsAfter (cond (not x) (Goes (Ended (with_items (without_entry f.node s.items) (with_error TreeInBody at s)))) (cond (not y) (Goes (Ended (with_error TreeInBody at s))) (option_map_or (adopted_by n at f (error_unless z TreeInBody at s)) (furthest_block n.tag f.node (stack (error_unless z TreeInBody at s))) (Goes (Ended (popped_with f (error_unless z TreeInBody at s)))))))
+        go : (x y z : Bool) → OnGoes HoldsAfter (cond (not x) (Goes (Ended (with_items (without_entry f.node s.items) (with_error TreeInBody at s)))) (cond (not y) (Goes (Ended (with_error TreeInBody at s))) (option_map_or (with_furthest_block n at f (error_unless z TreeInBody at s)) (furthest_block n.tag f.node (stack (error_unless z TreeInBody at s))) (Goes (Ended (popped_with f (error_unless z TreeInBody at s)))))))
         go false y z = h
         go true false z = h
         go true true z = under (error_unless z TreeInBody at s) (error-holds z s TreeInBody h) (furthest_block n.tag f.node (stack (error_unless z TreeInBody at s)))
 
-    turned-holds : (name : N) (s : SiteOf N) → Holds s → OnGoes HoldsAfter (turned n at name s)
-    turned-holds name s h = go (find_entry n.same name s.items)
+    outer-turn-holds : (name : N) (s : SiteOf N) → Holds s → OnGoes HoldsAfter (outer_turn n at name s)
+    outer-turn-holds name s h = go (find_entry n.same name s.items)
       where
-        go : (o : Option (EntryOf N)) → OnGoes HoldsAfter (option_map_or (λ f. turned_with n at f s) o (Goes (Ended (other_end n at name s))))
+        go : (o : Option (EntryOf N)) → OnGoes HoldsAfter (option_map_or (λ f. with_formatting_element n at f s) o (Goes (Ended (other_end n at name s))))
         go None = other-holds name s h
         go (Some f) = with-holds f s h
 
-    turns-holds : (turns_left : ℕ) (name : N) (s : SiteOf N) → Holds s → Keeps (turns n at turns_left name s)
-    turns-holds zero name s h = h
-    turns-holds (suc j) name s h = goes-then HoldsAfter Holds (turned n at name s) (next_turn (turns n at j name)) (turned-holds name s h) (next (turns-holds j name))
+    outer-loop-holds : (turns_left : ℕ) (name : N) (s : SiteOf N) → Holds s → Keeps (outer_loop n at turns_left name s)
+    outer-loop-holds zero name s h = h
+    outer-loop-holds (suc j) name s h = goes-then HoldsAfter Holds (outer_turn n at name s) (next_turn (outer_loop n at j name)) (outer-turn-holds name s h) (next (outer-loop-holds j name))
       where
-        next : ((t : SiteOf N) → Holds t → Keeps (turns n at j name t)) → (t : Turn (SiteOf N)) → HoldsAfter t → Keeps (next_turn (turns n at j name) t)
+        next : ((t : SiteOf N) → Holds t → Keeps (outer_loop n at j name t)) → (t : Turn (SiteOf N)) → HoldsAfter t → Keeps (next_turn (outer_loop n at j name) t)
         next r (Next t) m = r t m
         next r (Ended t) m = m
 
     adopted-holds : (name : N) (s : SiteOf N) → Holds s → Keeps (adopted n at name s)
     adopted-holds name s h = go (is_unlisted n at name s)
       where
-        go : (v : Bool) → Keeps (cond v (Goes (with_stack (drop 1 (stack s)) s)) (turns n at most_turns name s))
+        go : (v : Bool) → Keeps (cond v (Goes (with_stack (drop 1 (stack s)) s)) (outer_loop n at most_turns name s))
         go true = h
-        go false = turns-holds most_turns name s h
+        go false = outer-loop-holds most_turns name s h
 
     listed-holds : (name : N) (s : SiteOf N) → Holds s → Keeps (adopted_listed n at name s)
     listed-holds name s h = then (adopted n at name s) _ (adopted-holds name s h) (λ y g. go y g (find_entry n.same name s.items))

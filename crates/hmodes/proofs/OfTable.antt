@@ -20,7 +20,7 @@ use Rattle.hmodes.specs.Step.{Steps, none, and, refused}
 use Rattle.hmodes.specs.Step as step
 use Rattle.hmodes.proofs.Names.{steps_spelled}
 use Rattle.hmodes.proofs.Single.{step-one}
-use Rattle.hmodes.proofs.Tables.{table-agrees}
+use Rattle.hadopt.proofs.Agreeing.{numbers-agree}
 
 -- tokens have one result at most
 module _ {N : Type 0} (n : Naming N) where
@@ -81,8 +81,8 @@ module _ (names : Texts) where
   module _ (h : AreNames names) where
     steps-of : (ts : List (PlacedToken ℕ)) (s s' : State ℕ) → TokensAreOf names ts → spelled_state short s ≡ spelled_state long s → Steps numbers ts s (Goes s') → AreOf names (trees s'.site)
     steps-of ts s s' of begins run =
-        let one = (steps_spelled numbers texts short (table-agrees names h)).steps ts s (Goes s') run in
-        let other = (steps_spelled numbers texts long (table-agrees (longer names) (longer-names names h))).steps ts s (Goes s') run in
+        let one = (steps_spelled numbers texts short (numbers-agree names h)).steps ts s (Goes s') run in
+        let other = (steps_spelled numbers texts long (numbers-agree (longer names) (longer-names names h))).steps ts s (Goes s') run in
         let moved = subst (λ (x : State (List ℕ)). Steps texts (map (spelled_placed short) ts) x (Goes (spelled_state long s'))) (sym begins)
         (subst (λ (us : List (PlacedToken (List ℕ))). Steps texts us (spelled_state long s) (Goes (spelled_state long s'))) (sym (tokens-alike ts of)) other) in
         let same : Goes (spelled_state short s') ≡ Goes (spelled_state long s') = steps-one texts (map (spelled_placed short) ts) (spelled_state short s) (Goes (spelled_state short s')) (Goes (spelled_state long s')) one moved in

@@ -1,4 +1,4 @@
--- How a rule ends.
+-- How a rule of an insertion mode ends: with the token, or by reprocessing it.
 use Rattle.hmodes.specs.Words.{Do, nothing, again}
 use Rattle.hmodes.specs.declared.tree_construction.Flow.{Flow as Answer}
 use Rattle.hmodes.specs.declared.tree_construction.Flow.TheVariants as answer

@@ -1,4 +1,4 @@
--- What the words of the rules mean.
+-- What the words of the rules mean: `perform` does the steps of a rule, one after another.
 use Rattle.std.specs.Prelude.{ℕ, Bool, true, false, drop, List, [], ◌∷◌, ◌++◌, Option, Some, None, if◌then◌else◌}
 use Rattle.std.specs.Option.{option_map_or}
 use Rattle.hnodes.specs.Forest.{Attribute}

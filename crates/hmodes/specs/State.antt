@@ -26,16 +26,16 @@ pub record PlacedToken (N : Type 0) : Type 0 where
   pub token : Token N
   pub at : ℕ
 
--- the state other than the site
+-- the state other than the site; the saved mode is the original insertion mode (#original-insertion-mode)
 pub record Control : Type 0 where
   pub mode : Mode
   pub saved : Mode
-  pub head : Option ℕ  -- the head pointer
-  pub form : Option ℕ  -- the form pointer; the document stands for a context, which is never open
+  pub head : Option ℕ  -- the head element pointer
+  pub form : Option ℕ  -- the form element pointer; the document stands for a context, which is never open
   pub quirks : Bool
-  pub pending : List Placed  -- the pending table characters
+  pub pending : List Placed  -- the pending table character tokens
   pub drop_lf : Bool
-  pub acknowledged : Bool  -- whether the solidus of this token was
+  pub acknowledged : Bool  -- whether the self-closing flag of this token was (#acknowledge-self-closing-flag)
 
 pub record State (N : Type 0) : Type 0 where
   pub site : SiteOf N

@@ -23,7 +23,7 @@ pub data Test : Type 0 where
   name_is_listed : Test  -- an entry of the token's name comes after the last marker
   form_is_set : Test  -- the form pointer is not null
   is_in_quirks : Test  -- the document is in quirks mode
-  is_fragment : Test  -- a fragment is parsed
+  is_fragment : Test  -- a fragment is parsed: the fragment case
   doctype_conforms : Test  -- the doctype is html's, with no identifier, or `about:legacy-compat` as the system's
   input_is_hidden : Test  -- the token has an attribute type that is `hidden`, without ASCII case
   pending_is_ws : Test  -- all pending table characters are white space
@@ -37,7 +37,7 @@ pub data Do : Type 0 where
   when : Test → Do → Do
   unless : Test → Do → Do
   choose : Test → (yes no : Do) → Do
-  fostered : Do → Do  -- with foster parenting on
+  fostered : Do → Do  -- with foster parenting on (#foster-parent)
   each_pending : Do → Do  -- for each pending table character, at its own place; none is pending then
   -- the token goes by the rules of the mode that holds then, also under another name
   again : Do
@@ -45,28 +45,28 @@ pub data Do : Type 0 where
   -- errors and the state
   error : Mode → Do  -- a parse error, by the rules of a mode
   to : Mode → Do
-  save_mode : Do  -- the saved mode becomes the mode
-  to_saved : Do  -- the mode becomes the saved one
-  reset : Do  -- the mode becomes the one that fits the open nodes
-  head_pointer : Do  -- the head pointer becomes the current node
-  form_pointer : Do  -- the form pointer becomes the current node
+  save_mode : Do  -- the mode is saved as the original insertion mode (#original-insertion-mode)
+  to_saved : Do  -- switch to the original insertion mode: the mode becomes the saved one
+  reset : Do  -- reset the insertion mode appropriately: the mode becomes the one that fits the open nodes
+  head_pointer : Do  -- the head element pointer (#head-element-pointer) becomes the current node
+  form_pointer : Do  -- the form element pointer (#form-element-pointer) becomes the current node
   forget_form : Do  -- .. null
   drop_lf : Do  -- if the next token is the character LF, it is ignored
-  acknowledge : Do  -- the solidus of a self-closing tag
-  start_pending : Do  -- no table characters are pending
+  acknowledge : Do  -- the token's self-closing flag is acknowledged (#acknowledge-self-closing-flag)
+  start_pending : Do  -- no table character is pending: the pending table character tokens are an empty list
   pend : Do  -- the token's character is pending
   go_quirks : Do  -- quirks mode
   judge_quirks : Do  -- .. if the doctype says so
   -- the tree
-  insert : Do  -- an element for the token
+  insert : Do  -- insert an HTML element for the token (#insert-an-html-element)
   insert_named : Tag → Do  -- an element of this name, without attributes
   insert_root : Do  -- the same in the document
   insert_root_named : Tag → Do
-  insert_comment : Do
+  insert_comment : Do  -- insert a comment (#insert-a-comment)
   comment_in_document : Do
   comment_in_first : Do  -- last in the first open node
   insert_doctype : Do
-  put : Do  -- the token's character
+  put : Do  -- insert a character, the token's (#insert-a-character)
   add_missing_to_first : Do  -- the token's attributes that the first open node lacks
   add_missing_to_second : Do
   -- the open nodes
@@ -74,22 +74,22 @@ pub data Do : Type 0 where
   pop_to : Tag → Do  -- up to and with the nearest of this name
   pop_to_name : Do  -- .. of the token's name
   pop_to_group : Group → Do  -- .. of a group
-  implied : Do  -- generate implied end tags
+  implied : Do  -- generate implied end tags (#generate-implied-end-tags)
   implied_except : Tag → Do  -- .. except for this name
   implied_except_name : Do  -- .. except for the token's name
-  clear_to_table : Do  -- clear the stack back to a table context
-  clear_to_body : Do  -- .. to a table body context
-  clear_to_row : Do  -- .. to a table row context
+  clear_to_table : Do  -- clear the stack back to a table context (#clear-the-stack-back-to-a-table-context)
+  clear_to_body : Do  -- clear the stack back to a table body context (#clear-the-stack-back-to-a-table-body-context)
+  clear_to_row : Do  -- clear the stack back to a table row context (#clear-the-stack-back-to-a-table-row-context)
   push_head : Do  -- the head pointer's node
   remove_head : Do
   remove_form : Do
   -- the formatting elements
-  reconstruct : Do
-  push_to_list : Do  -- the current node, with the token
-  marker : Do
-  clear_to_marker : Do
+  reconstruct : Do  -- reconstruct the active formatting elements (#reconstruct-the-active-formatting-elements)
+  push_to_list : Do  -- push onto the list of active formatting elements: the current node, with the token
+  marker : Do  -- insert a marker at the end of the list of active formatting elements
+  clear_to_marker : Do  -- clear the list of active formatting elements up to the last marker
   -- algorithms of "in body"
-  close_p : Do
-  adopt : Do  -- the adoption agency, with the token's name
+  close_p : Do  -- close a p element (#close-a-p-element)
+  adopt : Do  -- the adoption agency (#adoption-agency-algorithm), with the token's name
   adopt_listed : Do  -- .. and then the last entry of that name, as it was before, leaves list and stack
   other_end : Do  -- any other end tag

@@ -1,4 +1,4 @@
-//! The insertion modes of raw text (HTML Standard, 13.2.6.4.8) and after the body.
+//! The insertion modes after the body (HTML Standard, 13.2.6.4).
 
 ghost use Rattle.std.specs.Prelude.{ℕ};
 ghost use Rattle.hadopt.specs.Naming.{numbers};
@@ -7,9 +7,9 @@ ghost use Rattle.hmodes.specs.Perform.{perform};
 ghost use Rattle.hmodes.specs.State.{Token as TokenOf};
 ghost use Rattle.hmodes.specs.States.{state_of};
 ghost use Rattle.hmodes.specs.Tokens.{token_of};
-ghost use Rattle.hmodes.specs.Body.{text, after_body, after_after_body};
-ghost use Rattle.hmodes.specs.Words.{◌▸◌, choose, again, error, to, to_saved, pop, is_fragment};
-ghost use Rattle.hmodes.specs.declared.mode.Mode.TheVariants.{Text, InBody, AfterBody, AfterAfterBody};
+ghost use Rattle.hmodes.specs.Body.{after_body, after_after_body};
+ghost use Rattle.hmodes.specs.Words.{◌▸◌, choose, again, error, to, is_fragment};
+ghost use Rattle.hmodes.specs.declared.mode.Mode.TheVariants.{InBody, AfterBody, AfterAfterBody};
 
 use crate::family::Family;
 use crate::mode::Mode;
@@ -19,34 +19,7 @@ use htoken::Token;
 use names::Refusal;
 
 impl<'q> TreeConstruction<'q> {
-    /// The "text" insertion mode.
-    pub(crate) fn text(
-        &mut self,
-        kind: TokenKind,
-        token: &mut Token,
-        at: u64,
-    ) -> Result<Flow, Refusal>
-        ensures { FlowGives result (token_of token.new) (state_of self.new) (perform numbers at (token_of token.old) (text kind) (state_of self.old)) }
-    {
-        match kind {
-            TokenKind::Nul | TokenKind::Ws | TokenKind::Char => self.put(token, at),
-            TokenKind::Eof => self.text_unended(at),
-            TokenKind::End(_) => self.pop_and_go(self.control.saved, Flow::Done),
-            _ => self.ignore(Mode::Text, at),
-        }
-    }
-
-    /// Text that no end tag ended.
-    pub(crate) fn text_unended(&mut self, at: u64) -> Result<Flow, Refusal>
-        ensures { (t : TokenOf ℕ) → FlowGives result t (state_of self.new) (perform numbers at t (error Text ▸ pop ▸ to_saved ▸ again) (state_of self.old)) }
-    {
-        self.error(Mode::Text, at)?;
-        self.site.pop();
-        self.control.mode = self.control.saved;
-        Ok(Flow::Again)
-    }
-
-    /// The "after body" insertion mode.
+    /// The "after body" insertion mode (`#parsing-main-afterbody`).
     pub(crate) fn after_body(
         &mut self,
         kind: TokenKind,
@@ -87,7 +60,7 @@ impl<'q> TreeConstruction<'q> {
         Ok(Flow::Again)
     }
 
-    /// The "after after body" insertion mode.
+    /// The "after after body" insertion mode (`#the-after-after-body-insertion-mode`).
     pub(crate) fn after_after_body(
         &mut self,
         kind: TokenKind,

@@ -1,4 +1,4 @@
-//! What the rules ask.
+//! What the rules of the insertion modes ask of the open nodes and of the form pointer.
 
 ghost use Rattle.std.specs.Prelude.{◌≡◌};
 ghost use Rattle.hadopt.specs.Naming.{numbers};

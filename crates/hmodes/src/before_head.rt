@@ -20,7 +20,7 @@ use htoken::Token;
 use names::{Refusal, Tag};
 
 impl<'q> TreeConstruction<'q> {
-    /// The "before html" insertion mode.
+    /// The "before html" insertion mode (`#the-before-html-insertion-mode`).
     pub(crate) fn before_html(
         &mut self,
         kind: TokenKind,
@@ -65,7 +65,7 @@ impl<'q> TreeConstruction<'q> {
         Ok(Flow::Again)
     }
 
-    /// The "before head" insertion mode.
+    /// The "before head" insertion mode (`#the-before-head-insertion-mode`).
     pub(crate) fn before_head(
         &mut self,
         kind: TokenKind,

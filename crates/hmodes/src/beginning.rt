@@ -80,7 +80,8 @@ impl<'q> TreeConstruction<'q> {
         })
     }
 
-    /// A fragment begins in a context element of a name, in the mode that a reset gives there; and its root element.
+    /// A fragment begins in a context element of a name (`#html-fragment-parsing-algorithm`), in the mode that a reset gives there; and
+    /// its root element.
     pub(crate) fn fragment(
         alloc: Global,
         keys: Keys,

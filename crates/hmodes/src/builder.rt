@@ -1,4 +1,4 @@
-//! The builder of a tree.
+//! The builder of a tree: it takes tokens and runs of text, and gives the tree with its errors, or one refusal.
 
 ghost use Rattle.std.specs.Prelude.{◌≡◌, ◌+◌, ◌-◌, ◌<◌, ◌≤◌, ◌++◌, ◌==◌, ◌&&◌, not, [], Some, None, true, Err, length, is_none, IfErr, IfOk, MatchResult};
 ghost use Rattle.std.specs.List.{list_all};
@@ -82,7 +82,7 @@ impl<'q> Builder<'q> {
         })
     }
 
-    /// The builder of a fragment in a context element of this name. An error is `Memory`.
+    /// The builder of a fragment in a context element of this name (`#html-fragment-parsing-algorithm`). An error is `Memory`.
     pub fn fragment(
         alloc: Global,
         keys: Keys,

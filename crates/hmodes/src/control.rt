@@ -9,16 +9,18 @@ use std::marker::Model;
 #[derive(Drop)]
 pub(crate) struct Control {
     pub(crate) mode: Mode,
+    /// The original insertion mode (`#original-insertion-mode`).
     pub(crate) saved: Mode,
     /// The head element pointer.
     pub(crate) head: Option<NodeId>,
     /// The form element pointer; the document stands for a context, which is never open.
     pub(crate) form: Option<NodeId>,
     pub(crate) quirks: bool,
+    /// The pending table character tokens.
     pub(crate) pending: Vec<Placed>,
     /// Whether the next token is ignored if it is a LF.
     pub(crate) drop_lf: bool,
-    /// Whether the solidus of this token was acknowledged.
+    /// Whether the self-closing flag of this token was acknowledged (`#acknowledge-self-closing-flag`).
     pub(crate) acknowledged: bool,
 }
 

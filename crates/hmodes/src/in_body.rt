@@ -26,7 +26,7 @@ use htoken::Token;
 use names::{Refusal, Tag};
 
 impl<'q> TreeConstruction<'q> {
-    /// The "in body" insertion mode.
+    /// The "in body" insertion mode (`#parsing-main-inbody`).
     pub(crate) fn in_body(
         &mut self,
         kind: TokenKind,
@@ -86,7 +86,7 @@ impl<'q> TreeConstruction<'q> {
             | Family::Col
             | Family::Colgroup
             | Family::Head
-            | Family::Section
+            | Family::TableSection
             | Family::Cell
             | Family::Row => self.ignore(Mode::InBody, at),
             _ => self.other_start(token, at),

@@ -20,7 +20,7 @@ use htoken::Token;
 use names::{Refusal, Tag};
 
 impl<'q> TreeConstruction<'q> {
-    /// The "in caption" insertion mode.
+    /// The "in caption" insertion mode (`#parsing-main-incaption`).
     pub(crate) fn in_caption(
         &mut self,
         kind: TokenKind,
@@ -36,7 +36,7 @@ impl<'q> TreeConstruction<'q> {
                 Family::Caption
                 | Family::Col
                 | Family::Colgroup
-                | Family::Section
+                | Family::TableSection
                 | Family::Cell
                 | Family::Row,
             ) => self.close_caption(Flow::Again, at),
@@ -46,7 +46,7 @@ impl<'q> TreeConstruction<'q> {
                 | Family::Col
                 | Family::Colgroup
                 | Family::Html
-                | Family::Section
+                | Family::TableSection
                 | Family::Cell
                 | Family::Row,
             ) => self.ignore(Mode::InCaption, at),
@@ -67,7 +67,7 @@ impl<'q> TreeConstruction<'q> {
         Ok(flow)
     }
 
-    /// The "in column group" insertion mode.
+    /// The "in column group" insertion mode (`#parsing-main-incolgroup`).
     pub(crate) fn in_column_group(
         &mut self,
         kind: TokenKind,

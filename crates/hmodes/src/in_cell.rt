@@ -26,7 +26,7 @@ use htoken::Token;
 use names::Refusal;
 
 impl<'q> TreeConstruction<'q> {
-    /// The "in cell" insertion mode.
+    /// The "in cell" insertion mode (`#parsing-main-intd`).
     pub(crate) fn in_cell(
         &mut self,
         kind: TokenKind,
@@ -42,14 +42,14 @@ impl<'q> TreeConstruction<'q> {
                 Family::Caption
                 | Family::Col
                 | Family::Colgroup
-                | Family::Section
+                | Family::TableSection
                 | Family::Cell
                 | Family::Row,
             ) => self.cell_ends(at),
             TokenKind::End(
                 Family::Body | Family::Caption | Family::Col | Family::Colgroup | Family::Html,
             ) => self.ignore(Mode::InCell, at),
-            TokenKind::End(Family::Table | Family::Section | Family::Row) => self.cell_ends_in(
+            TokenKind::End(Family::Table | Family::TableSection | Family::Row) => self.cell_ends_in(
                 token, at,
             ),
             _ => self.in_body(kind, token, at),
@@ -82,7 +82,7 @@ impl<'q> TreeConstruction<'q> {
         self.error(Mode::InCell, at)
     }
 
-    /// Closes the cell.
+    /// Closes the cell (`#close-the-cell`).
     pub(crate) fn close_cell(&mut self, at: u64) -> Result<(), Refusal>
         ensures { StateGives result (state_of self.new) (performed at (close_cell) (state_of self.old)) }
     {

@@ -22,7 +22,7 @@ use htoken::Token;
 use names::{Refusal, Tag};
 
 impl<'q> TreeConstruction<'q> {
-    /// The "in head" insertion mode.
+    /// The "in head" insertion mode (`#parsing-main-inhead`).
     pub(crate) fn in_head(
         &mut self,
         kind: TokenKind,
@@ -39,6 +39,7 @@ impl<'q> TreeConstruction<'q> {
             TokenKind::Start(Family::Title | Family::Noframes | Family::Style | Family::Script) => {
                 done(self.raw(token, at))
             }
+            // The scripting flag (`#scripting-flag`) is disabled.
             TokenKind::Start(Family::Noscript) => self.insert_and_go(
                 Mode::InHeadNoscript,
                 token,
@@ -79,7 +80,7 @@ impl<'q> TreeConstruction<'q> {
         Ok(flow)
     }
 
-    /// The "in head noscript" insertion mode.
+    /// The "in head noscript" insertion mode (`#parsing-main-inheadnoscript`).
     pub(crate) fn in_head_noscript(
         &mut self,
         kind: TokenKind,
@@ -114,7 +115,7 @@ impl<'q> TreeConstruction<'q> {
         Ok(Flow::Again)
     }
 
-    /// The "after head" insertion mode.
+    /// The "after head" insertion mode (`#the-after-head-insertion-mode`).
     pub(crate) fn after_head(
         &mut self,
         kind: TokenKind,

@@ -26,7 +26,7 @@ use htoken::Token;
 use names::{Refusal, Tag};
 
 impl<'q> TreeConstruction<'q> {
-    /// The "in row" insertion mode.
+    /// The "in row" insertion mode (`#parsing-main-intr`).
     pub(crate) fn in_row(
         &mut self,
         kind: TokenKind,
@@ -40,10 +40,14 @@ impl<'q> TreeConstruction<'q> {
             TokenKind::Start(Family::Cell) => self.cell(token, at),
             TokenKind::End(Family::Row) => self.close_row(Flow::Done, at),
             TokenKind::Start(
-                Family::Caption | Family::Col | Family::Colgroup | Family::Section | Family::Row,
+                Family::Caption
+                | Family::Col
+                | Family::Colgroup
+                | Family::TableSection
+                | Family::Row,
             ) => self.close_row(Flow::Again, at),
             TokenKind::End(Family::Table) => self.close_row(Flow::Again, at),
-            TokenKind::End(Family::Section) => self.end_section_in_row(token, at),
+            TokenKind::End(Family::TableSection) => self.end_section_in_row(token, at),
             TokenKind::End(
                 Family::Body
                 | Family::Caption
@@ -67,7 +71,7 @@ impl<'q> TreeConstruction<'q> {
         done(self.site.marker())
     }
 
-    /// The row is closed, by its end tag or by a token that is reprocessed then.
+    /// The row is closed, by its end tag `</tr>` or by a token that is reprocessed then.
     pub(crate) fn close_row(&mut self, flow: Flow, at: u64) -> Result<Flow, Refusal>
         ensures { (t : TokenOf ℕ) → FlowGives result t (state_of self.new) (perform numbers at t (close_row (ended flow)) (state_of self.old)) }
     {

@@ -27,7 +27,7 @@ use htoken::Token;
 use names::{Refusal, Tag};
 
 impl<'q> TreeConstruction<'q> {
-    /// The "in table" insertion mode.
+    /// The "in table" insertion mode (`#parsing-main-intable`).
     pub(crate) fn in_table(
         &mut self,
         kind: TokenKind,
@@ -64,7 +64,7 @@ impl<'q> TreeConstruction<'q> {
             Family::Caption => self.caption(token, at),
             Family::Colgroup => self.insert_in_table(Mode::InColumnGroup, token, at),
             Family::Col => self.colgroup_unwritten(at),
-            Family::Section => self.insert_in_table(Mode::InTableBody, token, at),
+            Family::TableSection => self.insert_in_table(Mode::InTableBody, token, at),
             Family::Cell | Family::Row => self.row_unwritten(at),
             Family::Table => self.table_again(at),
             Family::Style | Family::Script => self.in_head(TokenKind::Start(family), token, at),
@@ -87,7 +87,7 @@ impl<'q> TreeConstruction<'q> {
             | Family::Col
             | Family::Colgroup
             | Family::Html
-            | Family::Section
+            | Family::TableSection
             | Family::Cell
             | Family::Row
             | Family::Template => self.ignore(Mode::InTable, at),
@@ -95,7 +95,7 @@ impl<'q> TreeConstruction<'q> {
         }
     }
 
-    /// Anything else in a table: by the rules of the body, with foster parenting on.
+    /// Anything else in a table: by the rules of the body, with foster parenting on (`#foster-parent`).
     pub(crate) fn other_in_table(
         &mut self,
         kind: TokenKind,
@@ -198,7 +198,7 @@ impl<'q> TreeConstruction<'q> {
         Ok(Flow::Done)
     }
 
-    /// The nearest table is closed, and the mode is the one that fits then.
+    /// The nearest table is closed, and the mode is the one that fits then (`#reset-the-insertion-mode-appropriately`).
     fn close_table(&mut self)
         ensures { performed 0 (pop_to tag.Table ▸ reset) (state_of self.old) ≡ DoneOf (state_of self.new) }
     {

@@ -90,7 +90,7 @@ fn take_doctype(alloc: Global, token: &mut Token) -> DocumentType
 }
 
 impl<'q> TreeConstruction<'q> {
-    /// The "initial" insertion mode.
+    /// The "initial" insertion mode (`#the-initial-insertion-mode`).
     pub(crate) fn initial(
         &mut self,
         kind: TokenKind,

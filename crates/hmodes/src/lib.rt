@@ -26,6 +26,7 @@ mod runs;
 mod step;
 mod table_body;
 mod table_text;
+mod text;
 mod token;
 pub mod token_kind;
 mod tree_construction;
@@ -36,4 +37,4 @@ pub use laws::{
     adopts_once, each_table_agrees, names_are_of_the_table, one_step, open_stands, raw_follows,
     steps_know_no_names,
 };
-pub use limits::{Limits, MAX_DEPTH, MAX_NODES};
+pub use limits::{LEAST, Limits, MAX_DEPTH, MAX_NODES};

@@ -10,7 +10,7 @@ use names::Refusal;
 use std::marker::Model;
 
 /// The least number of nodes, and of open elements, that may be allowed.
-const LEAST: u64 = 16;
+pub const LEAST: u64 = 16;
 /// The most nodes that may be allowed.
 pub const MAX_NODES: u64 = 16_777_216;
 /// The most open elements that may be allowed.

@@ -40,6 +40,7 @@ impl<'q> TreeConstruction<'q> {
     }
 
     /// The start tag of a formatting element.
+    #[inline(always)]
     pub(crate) fn formatting(&mut self, token: &mut Token, at: u64) -> Result<Flow, Refusal>
         ensures { FlowGives result (token_of token.new) (state_of self.new) (perform numbers at (token_of token.old) (formatting) (state_of self.old)) }
     {

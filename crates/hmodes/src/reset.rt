@@ -1,4 +1,4 @@
-//! Resetting the insertion mode (HTML Standard, 13.2.4.1).
+//! Resetting the insertion mode (HTML Standard, 13.2.4.1, `#reset-the-insertion-mode-appropriately`).
 
 ghost use Rattle.std.specs.Prelude.{◌≡◌, option_and_then, slice_get};
 ghost use Rattle.hadopt.specs.Naming.{numbers};
@@ -45,7 +45,8 @@ pub(crate) fn context_mode(tag: Tag) -> Mode
 }
 
 impl<'q> TreeConstruction<'q> {
-    /// The mode that fits the open nodes: going up from the current one, the first that decides.
+    /// Reset the insertion mode appropriately: the mode that fits the open nodes, going up from the current one, is that of the first that
+    /// decides.
     pub(crate) fn reset_mode(&self) -> Mode
         ensures { result ≡ reset_mode numbers self.now.context (stack self.now.site) }
     {

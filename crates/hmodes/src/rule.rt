@@ -1,9 +1,11 @@
-//! The rule by which a token goes.
+//! The rule by which a token goes: that of the insertion mode, for the kind of the token (HTML Standard, 13.2.6).
 
 ghost use Rattle.std.specs.Prelude.{◌≡◌, ◌<◌, IfSome};
 ghost use Rattle.hadopt.specs.Kept.{Kept};
 ghost use Rattle.hadopt.specs.Naming.{numbers};
 ghost use Rattle.hmodes.specs.Flows.{FlowGives};
+ghost use Rattle.hmodes.specs.Perform.{perform};
+ghost use Rattle.hmodes.specs.Rules.{rule_of};
 ghost use Rattle.hmodes.specs.Step.{Rule};
 ghost use Rattle.hmodes.specs.States.{state_of};
 ghost use Rattle.hmodes.specs.declared.mode.Mode.TheVariants.{AfterHead};
@@ -16,13 +18,28 @@ use htoken::Token;
 use names::Refusal;
 
 impl<'q> TreeConstruction<'q> {
-    /// One rule for a token: of the mode that holds.
+    /// One rule for a token: of the mode that holds, which is "in body" for most tokens.
+    #[inline(always)]
     pub(crate) fn rule(&mut self, token: &mut Token, at: u64) -> Result<Flow, Refusal>
         requires kept { Kept numbers self.old.site }
         requires head { self.old.control.mode ≡ AfterHead → IfSome self.old.control.head (λ k. (0 < k) × (k < self.old.site.nodes.made)) }
         ensures { FlowGives result (token_of token.new) (state_of self.new) (Rule numbers at (token_of token.old) (state_of self.old)) }
     {
         let kind = TokenKind::of(token);
+        match self.control.mode {
+            Mode::InBody => self.in_body(kind, token, at),
+            _ => self.rule_of_mode(kind, token, at),
+        }
+    }
+
+    /// The rule for a kind of token of the mode that holds.
+    #[inline(never)]
+    fn rule_of_mode(&mut self, kind: TokenKind, token: &mut Token, at: u64) -> Result<Flow, Refusal>
+        requires kept { Kept numbers self.old.site }
+        requires head { self.old.control.mode ≡ AfterHead → IfSome self.old.control.head (λ k. (0 < k) × (k < self.old.site.nodes.made)) }
+        ensures { FlowGives result (token_of token.new) (state_of self.new)
+            (perform numbers at (token_of token.old) (rule_of self.old.control.mode kind) (state_of self.old)) }
+    {
         match self.control.mode {
             Mode::Initial => self.initial(kind, token, at),
             Mode::BeforeHtml => self.before_html(kind, token, at),

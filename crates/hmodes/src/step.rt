@@ -31,6 +31,7 @@ impl<'q> TreeConstruction<'q> {
     }
 
     /// By the rules of the mode that holds, as long as one reprocesses the token.
+    #[inline(always)]
     fn by_rules(&mut self, token: &mut Token, at: u64) -> Result<(), Refusal>
         requires { HasBegun (state_of self.old) }
         ensures { ChainGives at (token_of token.old) (state_of self.old) result (state_of self.new) }
@@ -63,7 +64,7 @@ impl<'q> TreeConstruction<'q> {
         self.control.acknowledged = false;
     }
 
-    /// A token ends: a self-closing start tag that no rule acknowledged is a parse error.
+    /// A token ends: a self-closing flag that no rule acknowledged is a parse error (`#acknowledge-self-closing-flag`).
     fn end(&mut self, closing: bool, at: u64) -> Result<(), Refusal>
         ensures { (token : TokenOf ℕ) → is_self_closing token ≡ closing → Gives result (state_of self.new) (Goes (finished at token (state_of self.old))) }
     {
@@ -75,7 +76,7 @@ impl<'q> TreeConstruction<'q> {
     }
 }
 
-/// Whether a token is a self-closing start tag.
+/// Whether a token is a start tag with its self-closing flag set (`#self-closing-flag`).
 fn is_self_closing(token: &Token) -> bool
     ensures { result ≡ is_self_closing (token_of token.now) }
 {

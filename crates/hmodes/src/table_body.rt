@@ -25,7 +25,7 @@ use htoken::Token;
 use names::{Refusal, Tag};
 
 impl<'q> TreeConstruction<'q> {
-    /// The "in table body" insertion mode.
+    /// The "in table body" insertion mode (`#parsing-main-intbody`).
     pub(crate) fn in_table_body(
         &mut self,
         kind: TokenKind,
@@ -38,9 +38,10 @@ impl<'q> TreeConstruction<'q> {
         match kind {
             TokenKind::Start(Family::Row) => self.row(token, at),
             TokenKind::Start(Family::Cell) => self.row_unwritten_in_body(at),
-            TokenKind::End(Family::Section) => self.end_section(token, at),
-            TokenKind::Start(Family::Caption | Family::Col | Family::Colgroup | Family::Section) =>
-                self.section_ends(at),
+            TokenKind::End(Family::TableSection) => self.end_section(token, at),
+            TokenKind::Start(
+                Family::Caption | Family::Col | Family::Colgroup | Family::TableSection,
+            ) => self.section_ends(at),
             TokenKind::End(Family::Table) => self.section_ends(at),
             TokenKind::End(
                 Family::Body

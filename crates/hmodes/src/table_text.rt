@@ -30,7 +30,7 @@ fn are_ws(pending: &[Placed]) -> bool
 }
 
 impl<'q> TreeConstruction<'q> {
-    /// The "in table text" insertion mode.
+    /// The "in table text" insertion mode (`#parsing-main-intabletext`).
     pub(crate) fn in_table_text(
         &mut self,
         kind: TokenKind,
@@ -46,7 +46,7 @@ impl<'q> TreeConstruction<'q> {
         }
     }
 
-    /// The character is pending.
+    /// The character is pending: it is appended to the pending table character tokens.
     pub(crate) fn pend(&mut self, token: &Token, at: u64) -> Result<Flow, Refusal>
         ensures { FlowGives result (token_of token.now) (state_of self.new) (perform numbers at (token_of token.now) (pend) (state_of self.old)) }
     {

@@ -1,4 +1,4 @@
-//! What the rules take of a token.
+//! What the rules of the insertion modes take of a token: its name, attributes, text or character.
 
 ghost use Rattle.std.specs.Prelude.{◌≡◌, map, string_bytes};
 ghost use Rattle.hnodes.specs.Rows.{attribute_of};

@@ -1,4 +1,4 @@
-//! What a rule names of a token.
+//! The kinds of tokens by which the rules of the insertion modes are chosen.
 
 ghost use Rattle.std.specs.Prelude.{◌≡◌, ◌==◌};
 ghost use Rattle.hadopt.specs.Naming.{numbers};

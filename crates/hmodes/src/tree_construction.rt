@@ -1,4 +1,4 @@
-//! What the rules of all modes work with.
+//! The state that the rules of all insertion modes work on, how a rule ends, and the codes of its errors.
 
 ghost use Rattle.std.specs.Prelude.{◌≡◌, ℕ};
 ghost use Rattle.hmodes.specs.Flows.{FlowGives, StateGives};
@@ -25,7 +25,7 @@ pub(crate) enum Flow {
 pub(crate) struct TreeConstruction<'q> {
     pub(crate) site: Site,
     pub(crate) control: Control,
-    /// A fragment's context.
+    /// A fragment's context, the context element of the HTML fragment parsing algorithm (`#concept-frag-parse-context`).
     pub(crate) context: Option<NameId>,
     /// The quirks list; a fragment has none.
     pub(crate) quirks_list: Option<&'q Quirks>,

@@ -1,4 +1,4 @@
-//! The steps that the rules are made of.
+//! The steps that the rules of the insertion modes are made of: errors, insertions, raw text, closings (HTML Standard, 13.2.6.1 to 13.2.6.4).
 
 ghost use Rattle.std.specs.Prelude.{ℕ, IfOk, []};
 ghost use Rattle.hadopt.specs.Kept.{Kept};
@@ -38,7 +38,7 @@ impl<'q> TreeConstruction<'q> {
         done(self.error(mode, at))
     }
 
-    /// An element for a start tag at the appropriate place.
+    /// An HTML element for a start tag at the appropriate place (`#insert-an-html-element`).
     pub(crate) fn insert(&mut self, token: &mut Token, at: u64) -> Result<(), Refusal>
         ensures done { StateGives result (state_of self.new) (perform numbers at (token_of token.old) insert (state_of self.old)) }
         ensures kept { Kept numbers self.old.site → IfOk result (λ _. Kept numbers self.new.site) }
@@ -61,7 +61,7 @@ impl<'q> TreeConstruction<'q> {
         Ok(())
     }
 
-    /// A comment last in the current node.
+    /// A comment last in the current node (`#insert-a-comment`).
     pub(crate) fn insert_comment(&mut self, token: &mut Token, at: u64) -> Result<Flow, Refusal>
         ensures done { FlowGives result (token_of token.new) (state_of self.new) (perform numbers at (token_of token.old) insert_comment (state_of self.old)) }
     {
@@ -104,7 +104,7 @@ impl<'q> TreeConstruction<'q> {
         done(self.put_char(token_char(token), at))
     }
 
-    /// A character at the appropriate place.
+    /// A character at the appropriate place (`#insert-a-character`).
     #[inline(always)]
     pub(crate) fn put_char(&mut self, ch: char, at: u64) -> Result<(), Refusal>
         ensures { StateGives result (state_of self.new) (perform numbers at (character ch) put (state_of self.old)) }
@@ -134,7 +134,7 @@ impl<'q> TreeConstruction<'q> {
         done(self.add_missing(0, token))
     }
 
-    /// A start tag whose element has no content.
+    /// A start tag whose element has no content; its self-closing flag is acknowledged.
     pub(crate) fn void(&mut self, token: &mut Token, at: u64) -> Result<(), Refusal>
         ensures { StateGives result (state_of self.new) (perform numbers at (token_of token.old) void (state_of self.old)) }
     {
@@ -144,7 +144,8 @@ impl<'q> TreeConstruction<'q> {
         Ok(())
     }
 
-    /// The generic raw text and RCDATA element parsing algorithms (13.2.6.2).
+    /// The generic raw text element parsing algorithm and the generic RCDATA element parsing algorithm
+    /// (`#generic-raw-text-element-parsing-algorithm`, `#generic-rcdata-element-parsing-algorithm`).
     pub(crate) fn raw(&mut self, token: &mut Token, at: u64) -> Result<(), Refusal>
         ensures { StateGives result (state_of self.new) (perform numbers at (token_of token.old) raw (state_of self.old)) }
     {
@@ -155,6 +156,7 @@ impl<'q> TreeConstruction<'q> {
     }
 
     /// Closes an open p in button scope.
+    #[inline(always)]
     pub(crate) fn close_p_in_scope(&mut self, at: u64) -> Result<(), Refusal>
         ensures done { StateGives result (state_of self.new) (performed at close_p_in_scope (state_of self.old)) }
     {

@@ -1,5 +1,5 @@
-use Rattle.hmodes.proofs.Tables.{table-agrees}
+use Rattle.hadopt.proofs.Agreeing.{numbers-agree}
 use Rattle.hmodes.proofs.laws.each_table_agrees.Goals as goal
 
 pub returns : goal.returns
-returns c = table-agrees
+returns c = numbers-agree
