@@ -1,7 +1,8 @@
 -- Names and attributes that are plain.
-use Rattle.std.proofs.Common.{◌≡◌, ℕ, ◌+◌, ◌-◌, ◌<◌, ◌≤◌, Bool, true, false, not, List, [], ◌∷◌, length, get_or, take, drop, map, refl, sym, ◌∙◌, ap, arith}
+use Rattle.std.proofs.Common.{◌≡◌, ℕ, ◌+◌, ◌-◌, ◌<◌, ◌≤◌, inl, inr, Bool, true, false, not, List, [], ◌∷◌, length, get_or, take, drop, map, refl, sym, ◌∙◌, ap, arith}
+use Rattle.std.proofs.lemmas.Bool.{and_parts, cases_lt}
 use Rattle.std.proofs.lemmas.Bool.Decides.{Decides-eqb}
-use Rattle.std.proofs.lemmas.List.{take_all, drop_all}
+use Rattle.std.proofs.lemmas.List.{take_all, drop_all, get_or_past}
 use Rattle.std.proofs.lemmas.Slice.Eq.{bytes_eq-Decides}
 use Rattle.std.specs.Prelude.{◌&&◌, ◌||◌, bytes_eq, nat_eq}
 use Rattle.std.specs.List.{list_all, list_any}
@@ -11,7 +12,6 @@ use Rattle.names.specs.declared.attr.Attr.{Attr}
 use Rattle.names.proofs.KnownTags.{different}
 use Rattle.hnodes.specs.Differing.{names_differ}
 use Rattle.hnodes.specs.Forest.{Attribute}
-use Rattle.hnodes.specs.Named.{AttributesAreOf}
 use Rattle.hnodes.specs.Rows.{attribute_of}
 use Rattle.hnodes.specs.Spelled.{spelled_attribute}
 use Rattle.hplain.specs.Plain.{is_clean, is_name_byte, is_plain_name, are_plain_attributes}
@@ -35,25 +35,60 @@ same-name names i j table h h' = go (nat_eq j i) refl
         different (text_of names i) (text_of names j)
         (λ same. let one : nat_eq j i ≡ true = (Decides-eqb j i).1 (sym (table.distinct i j h h' same)) in let no : false ≡ true = sym e ∙ one in cc)
 
-has-name : (names : Texts) (i : ℕ) (attrs : List (Attribute ℕ)) → AreNames names → i < length names → AttributesAreOf names attrs
+-- a plain name is in the table, since what is beyond it has no text
+plain-within : (names : Texts) (i : ℕ) → is_plain_name (text_of names i) ≡ true → i < length names
+plain-within names i h = elim (cases_lt i (length names)) [
+  | inl less ↦ less
+  | inr past ↦ (let none : false ≡ true = ap is_plain_name (sym (get_or_past names i [] past)) ∙ h in absurd cc)
+]
+
+has-name : (names : Texts) (i : ℕ) (attrs : List (Attribute ℕ)) → AreNames names → i < length names → list_all (is_plain_attribute (text_of names)) attrs ≡ true
     → list_any (λ b. nat_eq b.0 i) attrs ≡ list_any (λ b. bytes_eq (text_of names i) b.0) (map (spelled_attribute (text_of names)) attrs)
-has-name names i [] table h of = refl
-has-name names i (a ∷ attrs) table h of = λ k. sym (same-name names i a.0 table h of.0) k || has-name names i attrs table h of.1 k
+has-name names i [] table h plain = refl
+has-name names i (a ∷ attrs) table h plain =
+    let (one, others) = and_parts _ _ plain in
+    λ k. sym (same-name names i a.0 table h (plain-within names a.0 (and_parts _ _ one).0)) k || has-name names i attrs table h others k
 
 -- attributes are plain if each is by itself, and their names differ
-pub plain-are : (names : Texts) (attrs : List (Attribute ℕ)) → AreNames names → AttributesAreOf names attrs
+pub plain-are : (names : Texts) (attrs : List (Attribute ℕ)) → AreNames names
     → (list_all (is_plain_attribute (text_of names)) attrs && names_differ nat_eq attrs) ≡ are_plain_attributes (map (spelled_attribute (text_of names)) attrs)
-plain-are names [] table of = refl
-plain-are names (a ∷ attrs) table of =
-    apart (is_plain_name (text_of names a.0)) (is_clean a.1) (list_all (is_plain_attribute (text_of names)) attrs) (list_any (λ b. nat_eq b.0 a.0) attrs) (names_differ nat_eq attrs)
-    ∙ (λ k. is_plain_name (text_of names a.0) && is_clean a.1 && not (has-name names a.0 attrs table of.0 of.1 k) && plain-are names attrs table of.1 k)
+plain-are names [] table = refl
+plain-are names (a ∷ attrs) table =
+    apart name (is_clean a.1) (list_all (is_plain_attribute (text_of names)) attrs) same (names_differ nat_eq attrs)
+    ∙ ap (λ u. name && is_clean a.1 && not same && u) (plain-are names attrs table)
+    ∙ compared name others refl refl (plain-are names attrs table)
   where
+    name : Bool
+    name = is_plain_name (text_of names a.0)
+
+    same : Bool
+    same = list_any (λ b. nat_eq b.0 a.0) attrs
+
+    same_text : Bool
+    same_text = list_any (λ b. bytes_eq (text_of names a.0) b.0) (map (spelled_attribute (text_of names)) attrs)
+
+    others : Bool
+    others = are_plain_attributes (map (spelled_attribute (text_of names)) attrs)
+
     apart : (name clean all same differ : Bool) → (((name && clean) && all) && (not same && differ)) ≡ (name && clean && not same && (all && differ))
     apart false clean all same differ = refl
     apart true false all same differ = refl
     apart true true false true differ = refl
     apart true true false false differ = refl
     apart true true true same differ = refl
+
+    none : (u v w : Bool) → (u && not v && false) ≡ (u && not w && false)
+    none false v w = refl
+    none true false false = refl
+    none true false true = refl
+    none true true false = refl
+    none true true true = refl
+
+    compared : (u v : Bool) → name ≡ u → others ≡ v → (list_all (is_plain_attribute (text_of names)) attrs && names_differ nat_eq attrs) ≡ others
+        → (u && is_clean a.1 && not same && v) ≡ (u && is_clean a.1 && not same_text && v)
+    compared false v e e' law = refl
+    compared true false e e' law = none (is_clean a.1) same same_text
+    compared true true e e' law = ap (λ w. is_clean a.1 && not w && true) (has-name names a.0 attrs table (plain-within names a.0 e) (and_parts _ _ (law ∙ e')).0)
 
 -- the attributes from one on
 abbrev pub plain_from : Texts → ℕ → List Attr → Bool

@@ -1,6 +1,5 @@
 -- A list is content of what it is in exactly if each of its regions is, and no form is in a form.
 use Rattle.std.proofs.Common.{◌≡◌, ℕ, ◌<◌, Bool, true, false, not, cond, List, [], ◌∷◌, Some, None, refl, sym, ◌∙◌, ap, subst, option_and_then}
-use Rattle.std.specs.List.{AllByRecursion}
 use Rattle.std.specs.Option.{option_map}
 use Rattle.std.specs.Prelude.{◌&&◌, ◌||◌, Option}
 use Rattle.names.specs.Names.{Texts, AreNames, text_of}
@@ -9,7 +8,6 @@ use Rattle.names.specs.declared.tag.Tag.{Tag}
 use Rattle.names.specs.declared.tag.Tag.TheVariants as tag
 use Rattle.hnodes.specs.Edits.{AreCounted}
 use Rattle.hnodes.specs.Forest.{What, element, Forest, none, tree, children_of}
-use Rattle.hnodes.specs.Named.{AreOf}
 use Rattle.hnodes.specs.Spelled.{spelled, spelled_what}
 use Rattle.hnodes.specs.Spots.{name_in}
 use Rattle.hplain.specs.ContentTable.{row, takes_role}
@@ -17,7 +15,7 @@ use Rattle.hplain.specs.Plain.{Inside, are_content, are_content_if, are_plain_at
 use Rattle.hserialize.specs.Walk.{inserts_marker}
 use Rattle.hplain.specs.Regions.{are_region_content, begins_region, form_after, have_plain_regions, in_region, makes_form, without_form}
 use Rattle.hplain.specs.Testing.{is_phrasing, tag_at, tag_or_other, texts_at_top, top_content}
-use Rattle.hserialize.specs.Walk.{node_of, visits}
+use Rattle.hserialize.specs.Walk.{visits}
 use Rattle.hplain.specs.declared.content.Content.{Content}
 use Rattle.hplain.specs.declared.content.Content.TheVariants as content
 use Rattle.hserialize.specs.declared.walk.Reach.TheVariants.{Whole}
@@ -26,7 +24,7 @@ use Rattle.hserialize.specs.declared.walk.Visit.TheVariants.{Enter, Leave}
 use Rattle.hplain.proofs.Entering.{enters_region}
 use Rattle.hserialize.proofs.KnownNames.{tags-agree}
 use Rattle.hserialize.proofs.Runs.{run, walked, run-visits}
-use Rattle.hserialize.proofs.Seen.{Seen, seen, IsRoot, root-visits}
+use Rattle.hserialize.proofs.Seen.{Seen, seen}
 use Rattle.hplain.proofs.Tested.{is_left, none_left, tells}
 
 -- BY REGIONS
@@ -238,16 +236,14 @@ plain_is context t top f named topmost =
     ∙ ap (λ o. are_content_if o f) (sym (top_is (row t).1 (is_form t)) ∙ named)
 
 -- what is left of the walk finds whether the list is plain
-pub record IsFinding (names : Texts) (made : ℕ) (f : Forest ℕ) (root : ℕ) (context : List ℕ) (in_form : Bool) (left : List Visit) : Type 0 where
-  pub roots : AllByRecursion (λ v. IsRoot names made f (node_of v)) left
+pub record IsFinding (names : Texts) (f : Forest ℕ) (root : ℕ) (context : List ℕ) (in_form : Bool) (left : List Visit) : Type 0 where
   pub tags : (id : ℕ) → tag_of id ≡ tag_named (text_of names id)
   pub same : is_left (run (enters (text_of names) tags f) (leaves (text_of names) tags f) left (Some in_form)) ≡ is_plain context (spelled (text_of names) (children_of root f))
 
-pub begun : (names : Texts) (made : ℕ) (f : Forest ℕ) (root : ℕ) (top : Content) (context : List ℕ) (t : Tag) (in_form : Bool) (left items : List Visit) → AreNames names → AreCounted made f → root < made → AreOf names (children_of root f)
+pub begun : (names : Texts) (made : ℕ) (f : Forest ℕ) (root : ℕ) (top : Content) (context : List ℕ) (t : Tag) (in_form : Bool) (left items : List Visit) → AreNames names → AreCounted made f → root < made
     → in_context_of (row t).1 (is_form t) ≡ in_context context → Some top ≡ top_content (row t).1 → true ≡ are_region_content (in_region top) (spelled (text_of names) (children_of root f)) → in_form ≡ is_form t
-    → left ≡ items → items ≡ visits Whole (children_of root f) → IsFinding names made f root context in_form left
-begun names made f root top context t in_form left items table counted h of named topmost region begins same visited = record {
-  roots = subst (AllByRecursion (λ v. IsRoot names made f (node_of v))) (sym is) (root-visits names made f root Whole counted h of);
+    → left ≡ items → items ≡ visits Whole (children_of root f) → IsFinding names f root context in_form left
+begun names made f root top context t in_form left items table counted h named topmost region begins same visited = record {
   tags = tags;
   same =
       (λ i. is_left (run (enters (text_of names) tags f) (leaves (text_of names) tags f) (is i) (Some (begins i))))
@@ -264,38 +260,33 @@ begun names made f root top context t in_form left items table counted h of name
     tags : (id : ℕ) → tag_of id ≡ tag_named (text_of names id)
     tags id = tags-agree names table id
 
--- what the next visit asks for
-pub next_is : (names : Texts) (made : ℕ) (f : Forest ℕ) (root : ℕ) (context : List ℕ) (in_form : Bool) (v : Visit) (old left : List Visit) → old ≡ v ∷ left → IsFinding names made f root context in_form old → IsRoot names made f (node_of v)
-next_is names made f root context in_form v old left is s = (subst (IsFinding names made f root context in_form) is s).roots.0
-
 -- one visit more
-steps : (names : Texts) (made : ℕ) (f : Forest ℕ) (root : ℕ) (context : List ℕ) (in_form : Bool) (v : Visit) (left : List Visit) → (s : IsFinding names made f root context in_form (v ∷ left))
+steps : (names : Texts) (f : Forest ℕ) (root : ℕ) (context : List ℕ) (in_form : Bool) (v : Visit) (left : List Visit) → (s : IsFinding names f root context in_form (v ∷ left))
     → is_left (run (enters (text_of names) s.tags f) (leaves (text_of names) s.tags f) left (form_after (text_of names) f v in_form)) ≡ is_plain context (spelled (text_of names) (children_of root f))
-steps names made f root context in_form (Enter n) left s = s.same
-steps names made f root context in_form (Leave n) left s = s.same
+steps names f root context in_form (Enter n) left s = s.same
+steps names f root context in_form (Leave n) left s = s.same
 
-pub goes_on : (names : Texts) (made : ℕ) (f : Forest ℕ) (root : ℕ) (context : List ℕ) (in_form in_form' : Bool) (v : Visit) (old left : List Visit) → old ≡ v ∷ left → IsFinding names made f root context in_form old
-    → Some in_form' ≡ form_after (text_of names) f v in_form → IsFinding names made f root context in_form' left
-goes_on names made f root context in_form in_form' v old left is s o =
-    let t : IsFinding names made f root context in_form (v ∷ left) = subst (IsFinding names made f root context in_form) is s in
+pub goes_on : (names : Texts) (f : Forest ℕ) (root : ℕ) (context : List ℕ) (in_form in_form' : Bool) (v : Visit) (old left : List Visit) → old ≡ v ∷ left → IsFinding names f root context in_form old
+    → Some in_form' ≡ form_after (text_of names) f v in_form → IsFinding names f root context in_form' left
+goes_on names f root context in_form in_form' v old left is s o =
+    let t : IsFinding names f root context in_form (v ∷ left) = subst (IsFinding names f root context in_form) is s in
     record {
-      roots = t.roots.1;
       tags = t.tags;
-      same = ap (λ r. is_left (run (enters (text_of names) t.tags f) (leaves (text_of names) t.tags f) left r)) o ∙ steps names made f root context in_form v left t;
+      same = ap (λ r. is_left (run (enters (text_of names) t.tags f) (leaves (text_of names) t.tags f) left r)) o ∙ steps names f root context in_form v left t;
     }
 
 -- a form in a form, or a region that is not content
-pub fails : (names : Texts) (made : ℕ) (f : Forest ℕ) (root : ℕ) (context : List ℕ) (in_form : Bool) (v : Visit) (old left : List Visit) → old ≡ v ∷ left → IsFinding names made f root context in_form old
+pub fails : (names : Texts) (f : Forest ℕ) (root : ℕ) (context : List ℕ) (in_form : Bool) (v : Visit) (old left : List Visit) → old ≡ v ∷ left → IsFinding names f root context in_form old
     → None ≡ form_after (text_of names) f v in_form → false ≡ is_plain context (spelled (text_of names) (children_of root f))
-fails names made f root context in_form v old left is s o =
-    let t : IsFinding names made f root context in_form (v ∷ left) = subst (IsFinding names made f root context in_form) is s in
+fails names f root context in_form v old left is s o =
+    let t : IsFinding names f root context in_form (v ∷ left) = subst (IsFinding names f root context in_form) is s in
     sym (none_left left (enters (text_of names) t.tags f) (leaves (text_of names) t.tags f) (λ n. refl) (λ n. refl))
-    ∙ ap (λ r. is_left (run (enters (text_of names) t.tags f) (leaves (text_of names) t.tags f) left r)) o ∙ steps names made f root context in_form v left t
+    ∙ ap (λ r. is_left (run (enters (text_of names) t.tags f) (leaves (text_of names) t.tags f) left r)) o ∙ steps names f root context in_form v left t
 
 -- the end
-pub found : (names : Texts) (made : ℕ) (f : Forest ℕ) (root : ℕ) (context : List ℕ) (in_form : Bool) (left : List Visit) → left ≡ [] → IsFinding names made f root context in_form left
+pub found : (names : Texts) (f : Forest ℕ) (root : ℕ) (context : List ℕ) (in_form : Bool) (left : List Visit) → left ≡ [] → IsFinding names f root context in_form left
     → true ≡ is_plain context (spelled (text_of names) (children_of root f))
-found names made f root context in_form left is s = (subst (IsFinding names made f root context in_form) is s).same
+found names f root context in_form left is s = (subst (IsFinding names f root context in_form) is s).same
 
 -- no list is plain where none is at the top
 pub none_plain : (context : List ℕ) (t : Tag) (f : Forest (List ℕ)) → in_context_of (row t).1 (is_form t) ≡ in_context context → top_content (row t).1 ≡ None → false ≡ is_plain context f

@@ -1,7 +1,6 @@
 -- What a walk over a region tests.
 use Rattle.std.proofs.Common.{◌≡◌, ℕ, ◌<◌, Bool, true, false, not, cond, eqb, List, [], ◌∷◌, Some, None, refl, sym, ◌∙◌, ap, subst, option_and_then}
-use Rattle.std.proofs.lemmas.Bool.{eq-eqb}
-use Rattle.std.specs.List.{AllByRecursion}
+use Rattle.std.proofs.lemmas.Bool.{and_parts, eq-eqb}
 use Rattle.std.specs.Prelude.{◌&&◌, Option}
 use Rattle.names.specs.Names.{Texts, AreNames, text_of}
 use Rattle.names.specs.Tags.{tag_of, tag_named}
@@ -9,7 +8,6 @@ use Rattle.names.specs.declared.tag.Tag.{Tag}
 use Rattle.names.specs.declared.tag.Tag.TheVariants as tag
 use Rattle.hnodes.specs.Edits.{AreCounted}
 use Rattle.hnodes.specs.Forest.{What, element, text, Forest, none, tree, children_of}
-use Rattle.hnodes.specs.Named.{AreOf, IsLent}
 use Rattle.hnodes.specs.Spelled.{spelled, spelled_what}
 use Rattle.hnodes.specs.Spots.{first_or, name_in, what_of}
 use Rattle.hplain.specs.ContentTable.{row, takes_role, texts_in}
@@ -17,7 +15,7 @@ use Rattle.hplain.specs.Plain.{Inside, begins_with_text, begins_with_line_feed a
 use Rattle.hserialize.specs.Walk.{inserts_marker}
 use Rattle.hplain.specs.Regions.{are_region_content, begins_region, in_region, without_form}
 use Rattle.hplain.specs.Testing.{alone, is_phrasing, content_among, texts_at_top, tag_or_other, tag_at, marked, standing_at_top, standing_in, standing_of, inside_is, is_text, begins_with_line_feed, is_text_at, begins_at, is_plain_element, is_plain_what, is_plain_at, after_visit}
-use Rattle.hserialize.specs.Walk.{node_of, goes_in, visits}
+use Rattle.hserialize.specs.Walk.{goes_in, visits}
 use Rattle.hplain.specs.declared.around.Around.{Around}
 use Rattle.hplain.specs.declared.content.Content.{Content}
 use Rattle.hplain.specs.declared.content.Content.TheVariants as content
@@ -29,11 +27,7 @@ use Rattle.hserialize.specs.declared.walk.Visit.TheVariants.{Enter, Leave}
 use Rattle.hplain.proofs.Entering.{fits, place_in, IsEntered, enter_element, enter_other, left_again}
 use Rattle.hserialize.proofs.KnownNames.{tags-agree}
 use Rattle.hserialize.proofs.Runs.{run, walked, run-visits}
-use Rattle.hserialize.proofs.Seen.{IsSeen, Seen, seen, lent-visits}
-
-both : (u v : Bool) → (u && v) ≡ true → (u ≡ true) × (v ≡ true)
-both true v h = (refl, h)
-both false v h = absurd cc
+use Rattle.hserialize.proofs.Seen.{IsSeen, Seen, seen}
 
 is_not : (u : Bool) → not u ≡ true → u ≡ false
 is_not false h = refl
@@ -135,8 +129,8 @@ module _ (spelling : ℕ → List ℕ) (tags : (id : ℕ) → tag_of id ≡ tag_
 
       go : (v : What ℕ) → what_of b f ≡ Some v → is_plain_node (place p a) (spelled_what spelling v) (spelled spelling kids) (spelled spelling rest) ≡ true → IsAgain p b v a
       go (element name attrs) e h = record {
-        below = λ no_marker. below_element p b t a (without_form (inside_element t (place p a))) s.other same (enter_element t (content_in p a.in_phrasing) (texts_of p a.in_phrasing) a no_marker (both _ _ stands).0 fit);
-        back = ap (λ u. marked u false (marked u true a)) same ∙ left_again t (content_in p a.in_phrasing) (texts_of p a.in_phrasing) a (both _ _ stands).0 (is_not _ (both _ _ stands).1) fit;
+        below = λ no_marker. below_element p b t a (without_form (inside_element t (place p a))) s.other same (enter_element t (content_in p a.in_phrasing) (texts_of p a.in_phrasing) a no_marker (and_parts _ _ stands).0 fit);
+        back = ap (λ u. marked u false (marked u true a)) same ∙ left_again t (content_in p a.in_phrasing) (texts_of p a.in_phrasing) a (and_parts _ _ stands).0 (is_not _ (and_parts _ _ stands).1) fit;
       }
         where
           t : Tag
@@ -146,7 +140,7 @@ module _ (spelling : ℕ → List ℕ) (tags : (id : ℕ) → tag_of id ≡ tag_
           same = named (element name attrs) e ∙ tags name
 
           stands : (takes_role (content_in p a.in_phrasing) (row t).0 && not (is_nested (place p a) t)) ≡ true
-          stands = (both _ _ (both _ _ h).0).0
+          stands = (and_parts _ _ (and_parts _ _ h).0).0
       go v e h = record {
         below = λ _. below_element p b tag.Other a (place_in content.Empty texts.None a) s.other (named v e) (enter_other a);
         back = ap (λ u. marked u false (marked u true a)) (named v e);
@@ -208,15 +202,13 @@ tells true a = refl
 tells false a = refl
 
 -- what is left of a walk finds whether the region is content
-pub record IsTesting (names : Texts) (made : ℕ) (f : Forest ℕ) (root : ℕ) (top : Content) (around : Around) (left : List Visit) : Type 0 where
-  pub lent : AllByRecursion (λ v. IsLent names made f (node_of v)) left
+pub record IsTesting (names : Texts) (f : Forest ℕ) (root : ℕ) (top : Content) (around : Around) (left : List Visit) : Type 0 where
   pub tags : (id : ℕ) → tag_of id ≡ tag_named (text_of names id)
   pub same : is_left (run (enters (text_of names) tags f root top) (leaves (text_of names) tags f root top) left (Some around)) ≡ are_region_content (in_region top) (spelled (text_of names) (children_of root f))
 
-pub begun : (names : Texts) (made : ℕ) (f : Forest ℕ) (root : ℕ) (top : Content) (around : Around) (left items : List Visit) → AreNames names → AreCounted made f → root < made → AreOf names (children_of root f)
-    → is_phrasing top ≡ false → around ≡ alone → left ≡ items → items ≡ visits Region (children_of root f) → IsTesting names made f root top around left
-begun names made f root top around left items table counted h of other begins same visited = record {
-  lent = subst (AllByRecursion (λ v. IsLent names made f (node_of v))) (sym is) (lent-visits names made f root Region counted h of);
+pub begun : (names : Texts) (made : ℕ) (f : Forest ℕ) (root : ℕ) (top : Content) (around : Around) (left items : List Visit) → AreNames names → AreCounted made f → root < made
+    → is_phrasing top ≡ false → around ≡ alone → left ≡ items → items ≡ visits Region (children_of root f) → IsTesting names f root top around left
+begun names made f root top around left items table counted h other begins same visited = record {
   tags = tags;
   same =
       (λ i. is_left (run (enters (text_of names) tags f root top) (leaves (text_of names) tags f root top) (is i) (Some (begins i))))
@@ -241,24 +233,19 @@ begun names made f root top around left items table counted h of other begins sa
     fit : fits (cond (eqb root root) top own) false ≡ true
     fit = ap (λ u. fits (cond u top own) false) self ∙ not_phrasing top other
 
--- what the next visit asks for
-pub next_is : (names : Texts) (made : ℕ) (f : Forest ℕ) (root : ℕ) (top : Content) (around : Around) (v : Visit) (old left : List Visit) → old ≡ v ∷ left → IsTesting names made f root top around old → IsLent names made f (node_of v)
-next_is names made f root top around v old left is s = (subst (IsTesting names made f root top around) is s).lent.0
-
 -- one visit more
-steps : (names : Texts) (made : ℕ) (f : Forest ℕ) (root : ℕ) (top : Content) (around : Around) (v : Visit) (left : List Visit) → (s : IsTesting names made f root top around (v ∷ left))
+steps : (names : Texts) (f : Forest ℕ) (root : ℕ) (top : Content) (around : Around) (v : Visit) (left : List Visit) → (s : IsTesting names f root top around (v ∷ left))
     → is_left (run (enters (text_of names) s.tags f root top) (leaves (text_of names) s.tags f root top) left (after_visit (text_of names) f root top v around)) ≡ are_region_content (in_region top) (spelled (text_of names) (children_of root f))
-steps names made f root top around (Enter n) left s = s.same
-steps names made f root top around (Leave n) left s = s.same
+steps names f root top around (Enter n) left s = s.same
+steps names f root top around (Leave n) left s = s.same
 
-pub goes_on : (names : Texts) (made : ℕ) (f : Forest ℕ) (root : ℕ) (top : Content) (around around' : Around) (v : Visit) (old left : List Visit) → old ≡ v ∷ left → IsTesting names made f root top around old
-    → Some around' ≡ after_visit (text_of names) f root top v around → IsTesting names made f root top around' left
-goes_on names made f root top around around' v old left is s o =
-    let t : IsTesting names made f root top around (v ∷ left) = subst (IsTesting names made f root top around) is s in
+pub goes_on : (names : Texts) (f : Forest ℕ) (root : ℕ) (top : Content) (around around' : Around) (v : Visit) (old left : List Visit) → old ≡ v ∷ left → IsTesting names f root top around old
+    → Some around' ≡ after_visit (text_of names) f root top v around → IsTesting names f root top around' left
+goes_on names f root top around around' v old left is s o =
+    let t : IsTesting names f root top around (v ∷ left) = subst (IsTesting names f root top around) is s in
     record {
-      lent = t.lent.1;
       tags = t.tags;
-      same = ap (λ r. is_left (run (enters (text_of names) t.tags f root top) (leaves (text_of names) t.tags f root top) left r)) o ∙ steps names made f root top around v left t;
+      same = ap (λ r. is_left (run (enters (text_of names) t.tags f root top) (leaves (text_of names) t.tags f root top) left r)) o ∙ steps names f root top around v left t;
     }
 
 -- visits after one that is not plain
@@ -267,14 +254,14 @@ none_left [] enter leave e l = refl
 none_left (Enter n ∷ vs) enter leave e l = ap (λ r. is_left (run enter leave vs r)) (e n) ∙ none_left vs enter leave e l
 none_left (Leave n ∷ vs) enter leave e l = ap (λ r. is_left (run enter leave vs r)) (l n) ∙ none_left vs enter leave e l
 
-pub fails : (names : Texts) (made : ℕ) (f : Forest ℕ) (root : ℕ) (top : Content) (around : Around) (v : Visit) (old left : List Visit) → old ≡ v ∷ left → IsTesting names made f root top around old
+pub fails : (names : Texts) (f : Forest ℕ) (root : ℕ) (top : Content) (around : Around) (v : Visit) (old left : List Visit) → old ≡ v ∷ left → IsTesting names f root top around old
     → None ≡ after_visit (text_of names) f root top v around → false ≡ are_region_content (in_region top) (spelled (text_of names) (children_of root f))
-fails names made f root top around v old left is s o =
-    let t : IsTesting names made f root top around (v ∷ left) = subst (IsTesting names made f root top around) is s in
+fails names f root top around v old left is s o =
+    let t : IsTesting names f root top around (v ∷ left) = subst (IsTesting names f root top around) is s in
     sym (none_left left (enters (text_of names) t.tags f root top) (leaves (text_of names) t.tags f root top) (λ n. refl) (λ n. refl))
-    ∙ ap (λ r. is_left (run (enters (text_of names) t.tags f root top) (leaves (text_of names) t.tags f root top) left r)) o ∙ steps names made f root top around v left t
+    ∙ ap (λ r. is_left (run (enters (text_of names) t.tags f root top) (leaves (text_of names) t.tags f root top) left r)) o ∙ steps names f root top around v left t
 
 -- the end
-pub found : (names : Texts) (made : ℕ) (f : Forest ℕ) (root : ℕ) (top : Content) (around : Around) (left : List Visit) → left ≡ [] → IsTesting names made f root top around left
+pub found : (names : Texts) (f : Forest ℕ) (root : ℕ) (top : Content) (around : Around) (left : List Visit) → left ≡ [] → IsTesting names f root top around left
     → true ≡ are_region_content (in_region top) (spelled (text_of names) (children_of root f))
-found names made f root top around left is s = (subst (IsTesting names made f root top around) is s).same
+found names f root top around left is s = (subst (IsTesting names f root top around) is s).same

@@ -1,10 +1,9 @@
 //! Whether a list of trees is plain.
 
 ghost use Rattle.std.specs.Prelude.{◌≡◌, ◌<◌, ◌&&◌, ◌||◌, IfSome, Some, false, map};
-ghost use Rattle.names.specs.Names.{AreNames, text_of};
+ghost use Rattle.names.specs.Names.{text_of};
 ghost use Rattle.names.specs.Tags.{tag_of};
-ghost use Rattle.hnodes.specs.Forest.{children_of, element};
-ghost use Rattle.hnodes.specs.Named.{AreOf, AttributesAreOf, NodeIsOf, IsLent};
+ghost use Rattle.hnodes.specs.Forest.{children_of};
 ghost use Rattle.hnodes.specs.Rows.{attribute_of};
 ghost use Rattle.hnodes.specs.Spelled.{spelled, spelled_attribute};
 ghost use Rattle.hnodes.specs.Spots.{attributes_of, first_child_of, next_of, parent_of, what_of};
@@ -87,10 +86,9 @@ fn drops_line_feed(tag: Tag) -> bool
 fn are_plain_attributes(tree: &Tree, names: &Names, node: NodeId, attrs: &[Attr]) -> bool
     requires made { node < tree.now.made }
     requires own { attributes_of node tree.now.trees ≡ Some (map attribute_of attrs.now) }
-    requires table { AreNames names.now }
-    requires names { AttributesAreOf names.now (map attribute_of attrs.now) }
     ensures { result ≡ are_plain_attributes (map (spelled_attribute (text_of names.now)) (map attribute_of attrs.now)) }
 {
+    names.are_names();
     all_plain_attributes(names, attrs) && tree.attrs_differ(node)
 }
 
@@ -105,8 +103,6 @@ fn is_plain_element(
 ) -> bool
     requires made { node < tree.now.made }
     requires own { attributes_of node tree.now.trees ≡ Some (map attribute_of attrs.now) }
-    requires table { AreNames names.now }
-    requires names { NodeIsOf names.now (element name (map attribute_of attrs.now)) }
     ensures { result ≡ is_plain_element (text_of names.now) (inside_is standing) (tag_of name) (map attribute_of attrs.now)
         (begins_at (first_child_of node tree.now.trees) tree.now.trees) }
 {
@@ -119,8 +115,7 @@ fn is_plain_element(
 
 /// Whether a node is plain by itself, before its siblings.
 fn is_plain_node(tree: &Tree, names: &Names, standing: Standing, node: NodeId) -> bool
-    requires table { AreNames names.now }
-    requires lent { IsLent names.now tree.now.made tree.now.trees node }
+    requires { node < tree.now.made }
     ensures { result ≡ is_plain_at (text_of names.now) (inside_is standing) node tree.now.trees }
 {
     match NodeView::of(tree, node) {
@@ -144,8 +139,7 @@ fn after_visit(
     around: Around,
     visit: Visit,
 ) -> Option<Around>
-    requires table { AreNames names.now }
-    requires lent { IsLent names.now tree.now.made tree.now.trees (node_of visit) }
+    requires { node_of visit < tree.now.made }
     ensures { result ≡ after_visit (text_of names.now) tree.now.trees root top visit around }
 {
     match visit {
@@ -164,11 +158,10 @@ fn after_visit(
 /// those is a region by itself.
 fn is_plain_region(tree: &Tree, names: &Names, root: NodeId, top: Content) -> bool
     requires made { root < tree.now.made }
-    requires table { AreNames names.now }
-    requires names { AreOf names.now (children_of root tree.now.trees) }
     requires not_phrasing { is_phrasing top ≡ false }
     ensures { result ≡ are_region_content (in_region top) (spelled (text_of names.now) (children_of root tree.now.trees)) }
 {
+    names.are_names();
     let mut around = Around::alone();
     for visit in TreeWalk::new(tree, root, Reach::Region) {
         match after_visit(tree, names, root, top, around, visit) {
@@ -203,9 +196,7 @@ fn has_form_around(in_form: bool, tag: Tag) -> bool
 /// Whether a form is around the nodes that come after a visit. None if a form is in a form, or if what is in an element
 /// that inserts a marker is not its content.
 fn form_after(tree: &Tree, names: &Names, in_form: bool, visit: Visit) -> Option<bool>
-    requires made { node_of visit < tree.now.made }
-    requires table { AreNames names.now }
-    requires names { AreOf names.now (children_of (node_of visit) tree.now.trees) }
+    requires { node_of visit < tree.now.made }
     ensures { result ≡ form_after (text_of names.now) tree.now.trees visit in_form }
 {
     match visit {
@@ -226,9 +217,7 @@ fn form_after(tree: &Tree, names: &Names, in_form: bool, visit: Visit) -> Option
 /// Whether the children of a node are a plain list in an element of this name: they come back from the parser as they are. Takes
 /// no memory, and as many steps as there are nodes, attributes, and bytes in names, values and texts.
 pub fn is_plain(tree: &Tree, names: &Names, root: NodeId, context: &str) -> bool
-    requires made { root < tree.now.made }
-    requires table { AreNames names.now }
-    requires names { AreOf names.now (children_of root tree.now.trees) }
+    requires { root < tree.now.made }
     ensures { result ≡ is_plain context.now (spelled (text_of names.now) (children_of root tree.now.trees)) }
 {
     let tag = Tag::named(context);
@@ -238,6 +227,7 @@ pub fn is_plain(tree: &Tree, names: &Names, root: NodeId, context: &str) -> bool
     if !is_plain_region(tree, names, root, top) {
         return false;
     }
+    names.are_names();
     let mut in_form = is_form(tag);
     for visit in TreeWalk::new(tree, root, Reach::Whole) {
         match form_after(tree, names, in_form, visit) {

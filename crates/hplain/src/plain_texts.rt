@@ -2,14 +2,12 @@
 
 ghost use Rattle.std.specs.Prelude.{◌≡◌, map};
 ghost use Rattle.std.specs.List.{list_all};
-ghost use Rattle.names.specs.Names.{IsOf, text_of};
-ghost use Rattle.hnodes.specs.Named.{AttributesAreOf};
+ghost use Rattle.names.specs.Names.{text_of};
 ghost use Rattle.hnodes.specs.Rows.{attribute_of};
 ghost use Rattle.hplain.specs.Plain.{begins_with, has_part, is_clean, is_among_texts, is_plain_text, is_plain_comment, is_name_byte, is_plain_name};
 ghost use Rattle.hplain.specs.Testing.{is_plain_attribute};
 
 use crate::content::Texts;
-use hserialize::name_text;
 use names::{Attr, Names};
 
 /// Whether a part is in a text.
@@ -105,15 +103,13 @@ fn is_plain_name(name: &str) -> bool
 
 /// Whether the name and the value of an attribute are plain.
 fn is_plain_attribute(names: &Names, attr: &Attr) -> bool
-    requires { IsOf names.now attr.now.name }
     ensures { result ≡ is_plain_attribute (text_of names.now) (attribute_of attr.now) }
 {
-    is_plain_name(name_text(names, attr.name)) && is_clean(&attr.value)
+    is_plain_name(names.text(attr.name)) && is_clean(&attr.value)
 }
 
 /// Whether each of these attributes is plain by itself.
 pub(crate) fn all_plain_attributes(names: &Names, attrs: &[Attr]) -> bool
-    requires { AttributesAreOf names.now (map attribute_of attrs.now) }
     ensures { result ≡ list_all (is_plain_attribute (text_of names.now)) (map attribute_of attrs.now) }
 {
     for attr in attrs {

@@ -1,16 +1,14 @@
 -- What a walk prints.
 use Rattle.std.proofs.Common.{◌≡◌, ℕ, zero, suc, ◌+◌, ◌^◌, ◌<◌, ◌≤◌, Bool, true, false, cond, List, [], ◌∷◌, ◌++◌, length, refl, sym, ◌∙◌, ap, subst, arith}
 use Rattle.std.proofs.lemmas.List.{append_assoc, append-nil}
-use Rattle.std.specs.List.{AllByRecursion}
 use Rattle.names.specs.Names.{Texts, text_of}
 use Rattle.hnodes.specs.Forest.{Forest, none, tree, children_of}
 use Rattle.hnodes.specs.Edits.{AreCounted}
 use Rattle.hnodes.specs.Spelled.{spelled, spelled_what}
 use Rattle.hnodes.specs.Spots.{what_of}
 use Rattle.hprint.specs.Lines.{node_lines, tree_lines, tree_text}
-use Rattle.hnodes.specs.Named.{AreOf, IsLent}
 use Rattle.hprint.specs.Printing.{one_less, depth_after, IsOpen, lines_of, visit_lines}
-use Rattle.hserialize.specs.Walk.{node_of, goes_in, visits}
+use Rattle.hserialize.specs.Walk.{goes_in, visits}
 use Rattle.hserialize.specs.declared.walk.Reach.{Reach}
 use Rattle.hserialize.specs.declared.walk.Reach.TheVariants.{Whole}
 use Rattle.hserialize.specs.declared.walk.Visit.{Visit}
@@ -19,7 +17,7 @@ use Rattle.names.specs.declared.refusal.Refusal.{Refusal}
 use Rattle.hserialize.specs.Output.{Taken, Adds, Fails}
 use Rattle.hserialize.proofs.Output.{none_added, both_added, then_failed}
 use Rattle.hserialize.proofs.Runs.{run, walked, run-visits}
-use Rattle.hserialize.proofs.Seen.{Seen, seen, lent-visits}
+use Rattle.hserialize.proofs.Seen.{Seen, seen}
 
 -- only what is open is left, all along
 abbrev Balanced : ℕ → List Visit → Type 0
@@ -58,18 +56,16 @@ module _ (texts : ℕ → List ℕ) (f : Forest ℕ) where
       regrouped a k r = ap (λ t. t ++ r) (append_assoc out a k) ∙ append_assoc out (a ++ k) r
 
 -- What is printed so far, and the visits that are left.
-pub record IsPrinting (names : Texts) (made : ℕ) (f : Forest ℕ) (root depth : ℕ) (out : List ℕ) (left : List Visit) : Type 0 where
+pub record IsPrinting (names : Texts) (f : Forest ℕ) (root depth : ℕ) (out : List ℕ) (left : List Visit) : Type 0 where
   pub few : depth + length left < 2 ^ 33
   pub balanced : Balanced depth left
-  pub lent : AllByRecursion (λ v. IsLent names made f (node_of v)) left
   pub same : run (enters (text_of names) f) (leaves (text_of names) f) left (depth, out) ≡ (0, tree_text (spelled (text_of names) (children_of root f)))
 
-begun : (names : Texts) (made : ℕ) (f : Forest ℕ) (root : ℕ) (out : List ℕ) (left items : List Visit) → AreCounted made f → root < made → AreOf names (children_of root f) → out ≡ [] → left ≡ items
-    → items ≡ visits Whole (children_of root f) → length items < 2 ^ 33 → IsPrinting names made f root 0 out left
-begun names made f root out left items counted h of empty same visited few = record {
+begun : (names : Texts) (made : ℕ) (f : Forest ℕ) (root : ℕ) (out : List ℕ) (left items : List Visit) → AreCounted made f → root < made → out ≡ [] → left ≡ items
+    → items ≡ visits Whole (children_of root f) → length items < 2 ^ 33 → IsPrinting names f root 0 out left
+begun names made f root out left items counted h empty same visited few = record {
   few = let long : length left ≡ length items = ap length same in omega (arith, few, long);
   balanced = subst (Balanced 0) (append-nil (visits Whole (children_of root f)) ∙ sym is) (balanced Whole (children_of root f) 0 [] tt);
-  lent = subst (AllByRecursion (λ v. IsLent names made f (node_of v))) (sym is) (lent-visits names made f root Whole counted h of);
   same = (λ i. run (enters (text_of names) f) (leaves (text_of names) f) (is i) (0, empty i)) ∙ run-visits (enters (text_of names) f) (leaves (text_of names) f) Whole (children_of root f) (0, [])
       ∙ prints (text_of names) f made root root (children_of root f) (seen made f counted root h) 0 [];
 }
@@ -78,21 +74,19 @@ begun names made f root out left items counted h of empty same visited few = rec
     is = same ∙ visited
 
 -- one visit more
-goes_on : (names : Texts) (made : ℕ) (f : Forest ℕ) (root depth depth' : ℕ) (out out' : List ℕ) (v : Visit) (old left : List Visit) → old ≡ v ∷ left → IsPrinting names made f root depth out old
-    → depth' ≡ depth_after v depth → out' ≡ out ++ visit_lines (text_of names) f depth v → IsPrinting names made f root depth' out' left
-goes_on names made f root depth depth' out out' v old left is s d o = go v (subst (IsPrinting names made f root depth out) is s) d o
+goes_on : (names : Texts) (f : Forest ℕ) (root depth depth' : ℕ) (out out' : List ℕ) (v : Visit) (old left : List Visit) → old ≡ v ∷ left → IsPrinting names f root depth out old
+    → depth' ≡ depth_after v depth → out' ≡ out ++ visit_lines (text_of names) f depth v → IsPrinting names f root depth' out' left
+goes_on names f root depth depth' out out' v old left is s d o = go v (subst (IsPrinting names f root depth out) is s) d o
   where
-    go : (v : Visit) → IsPrinting names made f root depth out (v ∷ left) → depth' ≡ depth_after v depth → out' ≡ out ++ visit_lines (text_of names) f depth v → IsPrinting names made f root depth' out' left
+    go : (v : Visit) → IsPrinting names f root depth out (v ∷ left) → depth' ≡ depth_after v depth → out' ≡ out ++ visit_lines (text_of names) f depth v → IsPrinting names f root depth' out' left
     go (Enter n) t e e' = record {
       few = let long = t.few in omega (arith, long, e);
       balanced = subst (λ k. Balanced k left) (sym e) t.balanced.1;
-      lent = t.lent.1;
       same = (λ i. run (enters (text_of names) f) (leaves (text_of names) f) left (e i, e' i)) ∙ t.same;
     }
     go (Leave n) t e e' = record {
       few = let long = t.few in let less = below depth in omega (arith, long, e, less);
       balanced = subst (λ k. Balanced k left) (sym e) t.balanced.1;
-      lent = t.lent.1;
       same = (λ i. run (enters (text_of names) f) (leaves (text_of names) f) left (e i, (e' ∙ append-nil out) i)) ∙ t.same;
     }
       where
@@ -101,43 +95,43 @@ goes_on names made f root depth depth' out out' v old left is s d o = go v (subs
         below (suc k) = omega arith
 
 -- what the next visit asks for
-pub next_is : (names : Texts) (made : ℕ) (f : Forest ℕ) (root depth : ℕ) (out : List ℕ) (v : Visit) (old left : List Visit) → old ≡ v ∷ left → IsPrinting names made f root depth out old
-    → (depth < 2 ^ 33) × IsOpen depth v × IsLent names made f (node_of v)
-next_is names made f root depth out v old left is s =
-    let t = subst (IsPrinting names made f root depth out) is s in let long = t.few in (omega (arith, long), t.balanced.0, t.lent.0)
+pub next_is : (names : Texts) (f : Forest ℕ) (root depth : ℕ) (out : List ℕ) (v : Visit) (old left : List Visit) → old ≡ v ∷ left → IsPrinting names f root depth out old
+    → (depth < 2 ^ 33) × IsOpen depth v
+next_is names f root depth out v old left is s =
+    let t = subst (IsPrinting names f root depth out) is s in let long = t.few in (omega (arith, long), t.balanced.0)
 
 -- the end
-printed : (names : Texts) (made : ℕ) (f : Forest ℕ) (root depth : ℕ) (out : List ℕ) (left : List Visit) → left ≡ [] → IsPrinting names made f root depth out left → out ≡ tree_text (spelled (text_of names) (children_of root f))
-printed names made f root depth out left is s = ap (λ (q : ℕ × List ℕ). q.1) (subst (IsPrinting names made f root depth out) is s).same
+printed : (names : Texts) (f : Forest ℕ) (root depth : ℕ) (out : List ℕ) (left : List Visit) → left ≡ [] → IsPrinting names f root depth out left → out ≡ tree_text (spelled (text_of names) (children_of root f))
+printed names f root depth out left is s = ap (λ (q : ℕ × List ℕ). q.1) (subst (IsPrinting names f root depth out) is s).same
 
 -- What was added so far is a beginning of the text.
-pub record IsPutting (names : Texts) (made : ℕ) (f : Forest ℕ) (root depth : ℕ) (old now : Taken) (left : List Visit) : Type 0 where
+pub record IsPutting (names : Texts) (f : Forest ℕ) (root depth : ℕ) (old now : Taken) (left : List Visit) : Type 0 where
   pub done : List ℕ
   pub added : Adds old now done
-  pub printing : IsPrinting names made f root depth done left
+  pub printing : IsPrinting names f root depth done left
 
-pub begun_putting : (names : Texts) (made : ℕ) (f : Forest ℕ) (root : ℕ) (old : Taken) (left items : List Visit) → AreCounted made f → root < made → AreOf names (children_of root f) → left ≡ items
-    → items ≡ visits Whole (children_of root f) → length items < 2 ^ 33 → IsPutting names made f root 0 old old left
-begun_putting names made f root old left items counted h of same visited few = record {
+pub begun_putting : (names : Texts) (made : ℕ) (f : Forest ℕ) (root : ℕ) (old : Taken) (left items : List Visit) → AreCounted made f → root < made → left ≡ items
+    → items ≡ visits Whole (children_of root f) → length items < 2 ^ 33 → IsPutting names f root 0 old old left
+begun_putting names made f root old left items counted h same visited few = record {
   done = [];
   added = none_added old;
-  printing = begun names made f root [] left items counted h of refl same visited few;
+  printing = begun names made f root [] left items counted h refl same visited few;
 }
 
-module _ (names : Texts) (made : ℕ) (f : Forest ℕ) (root depth : ℕ) (old now : Taken) (v : Visit) (before left : List Visit) (is : before ≡ v ∷ left) (s : IsPutting names made f root depth old now before) where
+module _ (names : Texts) (f : Forest ℕ) (root depth : ℕ) (old now : Taken) (v : Visit) (before left : List Visit) (is : before ≡ v ∷ left) (s : IsPutting names f root depth old now before) where
   -- one visit more
-  pub put_more : (depth' : ℕ) (new : Taken) → depth' ≡ depth_after v depth → Adds now new (visit_lines (text_of names) f depth v) → IsPutting names made f root depth' old new left
+  pub put_more : (depth' : ℕ) (new : Taken) → depth' ≡ depth_after v depth → Adds now new (visit_lines (text_of names) f depth v) → IsPutting names f root depth' old new left
   put_more depth' new e h = record {
     done = s.done ++ visit_lines (text_of names) f depth v;
     added = both_added old now new s.done (visit_lines (text_of names) f depth v) s.added h;
-    printing = goes_on names made f root depth depth' s.done _ v before left is s.printing e refl;
+    printing = goes_on names f root depth depth' s.done _ v before left is s.printing e refl;
   }
 
   -- one that failed
   pub put_failed : (new : Taken) {e : Refusal} → Fails e now new (visit_lines (text_of names) f depth v) → Fails e old new (tree_text (spelled (text_of names) (children_of root f)))
   put_failed new h =
       let lines = visit_lines (text_of names) f depth v in
-      let t = goes_on names made f root depth (depth_after v depth) s.done (s.done ++ lines) v before left is s.printing refl refl in
+      let t = goes_on names f root depth (depth_after v depth) s.done (s.done ++ lines) v before left is s.printing refl refl in
       let (rest, more) = extends left (depth_after v depth) (s.done ++ lines) in
       subst (Fails _ old new) (sym (append_assoc s.done lines rest) ∙ sym more ∙ ap (λ (q : ℕ × List ℕ). q.1) t.same) (then_failed old now new s.done lines rest s.added h)
     where
@@ -147,5 +141,5 @@ module _ (names : Texts) (made : ℕ) (f : Forest ℕ) (root depth : ℕ) (old n
       extends (Leave n ∷ vs) d out = extends vs (one_less d) out
 
 -- the end
-pub all_printed : (names : Texts) (made : ℕ) (f : Forest ℕ) (root depth : ℕ) (old now : Taken) (left : List Visit) → left ≡ [] → IsPutting names made f root depth old now left → Adds old now (tree_text (spelled (text_of names) (children_of root f)))
-all_printed names made f root depth old now left is s = subst (Adds old now) (printed names made f root depth s.done left is s.printing) s.added
+pub all_printed : (names : Texts) (f : Forest ℕ) (root depth : ℕ) (old now : Taken) (left : List Visit) → left ≡ [] → IsPutting names f root depth old now left → Adds old now (tree_text (spelled (text_of names) (children_of root f)))
+all_printed names f root depth old now left is s = subst (Adds old now) (printed names f root depth s.done left is s.printing) s.added

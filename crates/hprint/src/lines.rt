@@ -10,7 +10,6 @@ ghost use Rattle.hnodes.specs.Spots.{what_of};
 ghost use Rattle.hnodes.specs.Spelled.{spelled, spelled_what};
 ghost use Rattle.hprint.specs.Entries.{pair_of};
 ghost use Rattle.hprint.specs.Lines.{indented, attribute_line, identifiers, node_lines, error_lines, tree_text};
-ghost use Rattle.hnodes.specs.Named.{NodeIsOf, AreOf, IsLent};
 ghost use Rattle.hserialize.specs.Gathered.{Holds};
 ghost use Rattle.hserialize.specs.Output.{IsFlushed, Puts, WritesText, taken};
 ghost use Rattle.hprint.specs.Printing.{IsOpen, attribute_count, depth_after, lines_of, visit_lines};
@@ -20,9 +19,7 @@ ghost use Rattle.hserialize.specs.Walk.{node_of};
 use crate::error_line::{ErrorLine, put_error};
 use crate::sorted::{NamedAttr, in_order};
 use hnodes::{DocumentType, NodeId, Tree};
-use hserialize::{
-    Gathered, NodeView, Reach, Sink, Target, TreeWalk, Visit, name_text, put, put_parts, room,
-};
+use hserialize::{Gathered, NodeView, Reach, Sink, Target, TreeWalk, Visit, put, put_parts, room};
 use names::{Attr, NameId, Names, ParseError, Refusal};
 use std::alloc::Global;
 
@@ -87,12 +84,11 @@ fn put_element<'a, W: Target>(
 ) -> Result<(), Refusal>
     requires deep { depth < 2 ^ 33 }
     requires room { length attrs.now ≤ vec_capacity entries.old }
-    requires names { NodeIsOf names.now (element name (map attribute_of attrs.now)) }
     ensures text { Puts (taken W.written W.failed out.old) (taken W.written W.failed out.new)
         (node_lines depth (spelled_what (text_of names.now) (element name (map attribute_of attrs.now)))) result }
     ensures room { vec_capacity entries.old ≤ vec_capacity entries.new }
 {
-    put_line(out, depth, &[b"<", name_text(names, name).as_bytes(), b">"])?;
+    put_line(out, depth, &[b"<", names.text(name).as_bytes(), b">"])?;
     in_order(entries, names, attrs);
     put_attributes(out, depth + 1, entries)
 }
@@ -172,7 +168,7 @@ fn put_node<'a, W: Target>(
 ) -> Result<(), Refusal>
     requires deep { depth < 2 ^ 33 }
     requires room { attribute_count (what_of node tree.now.trees) ≤ vec_capacity entries.old }
-    requires lent { IsLent names.now tree.now.made tree.now.trees node }
+    requires made { node < tree.now.made }
     ensures text { Puts (taken W.written W.failed out.old) (taken W.written W.failed out.new)
         (lines_of (text_of names.now) depth (what_of node tree.now.trees)) result }
     ensures room { vec_capacity entries.old ≤ vec_capacity entries.new }
@@ -197,7 +193,7 @@ fn put_visit<'a, W: Target>(
 ) -> Result<(), Refusal>
     requires deep { depth < 2 ^ 33 }
     requires room { attribute_count (what_of (node_of visit.now) tree.now.trees) ≤ vec_capacity entries.old }
-    requires lent { IsLent names.now tree.now.made tree.now.trees (node_of visit.now) }
+    requires made { node_of visit.now < tree.now.made }
     ensures text { Puts (taken W.written W.failed out.old) (taken W.written W.failed out.new)
         (visit_lines (text_of names.now) tree.now.trees depth visit.now) result }
     ensures room { vec_capacity entries.old ≤ vec_capacity entries.new }
@@ -254,7 +250,6 @@ fn put_nodes<'a, W: Target>(
 ) -> Result<(), Refusal>
     requires made { root < tree.now.made }
     requires room { (n : ℕ) → n < tree.now.made → attribute_count (what_of n tree.now.trees) ≤ vec_capacity entries.old }
-    requires names { AreOf names.now (children_of root tree.now.trees) }
     ensures { Puts (taken W.written W.failed out.old) (taken W.written W.failed out.new)
         (tree_text (spelled (text_of names.now) (children_of root tree.now.trees))) result }
 {
@@ -277,7 +272,6 @@ fn print_nodes<'a, W: Target>(
 ) -> Result<(), Refusal>
     requires made { root < tree.now.made }
     requires room { (n : ℕ) → n < tree.now.made → attribute_count (what_of n tree.now.trees) ≤ vec_capacity entries.old }
-    requires names { AreOf names.now (children_of root tree.now.trees) }
     ensures text { WritesText W.written W.failed (tree_text (spelled (text_of names.now) (children_of root tree.now.trees))) target.old target.new result }
     ensures flushed { OnOk result (IsFlushed W.flushes target.new) }
 {
@@ -297,8 +291,7 @@ pub fn print_tree<W: Target>(
     root: NodeId,
     target: &mut W,
 ) -> Result<(), Refusal>
-    requires made { root < tree.now.made }
-    requires names { AreOf names.now (children_of root tree.now.trees) }
+    requires { root < tree.now.made }
     ensures text { WritesText W.written W.failed (tree_text (spelled (text_of names.now) (children_of root tree.now.trees))) target.old target.new result }
     ensures flushed { OnOk result (IsFlushed W.flushes target.new) }
 {
@@ -313,8 +306,7 @@ pub fn tree_text(
     names: &Names,
     root: NodeId,
 ) -> Result<Vec<u8>, Refusal>
-    requires made { root < tree.now.made }
-    requires names { AreOf names.now (children_of root tree.now.trees) }
+    requires { root < tree.now.made }
     ensures { Holds result (tree_text (spelled (text_of names.now) (children_of root tree.now.trees))) }
 {
     let mut text = Gathered::new(alloc);

@@ -6,9 +6,7 @@ ghost use Rattle.hnodes.specs.Rows.{attribute_of};
 ghost use Rattle.hnodes.specs.Spelled.{spelled_attribute};
 ghost use Rattle.hprint.specs.Entries.{AreNumbered, pair_of};
 ghost use Rattle.hprint.specs.Lines.{in_order};
-ghost use Rattle.hnodes.specs.Named.{AttributesAreOf};
 
-use hserialize::name_text;
 use names::{Attr, Names};
 
 /// An attribute: the text of its name, its place among those of its element, and its value.
@@ -26,8 +24,7 @@ fn add<'a>(entries: &mut Vec<NamedAttr<'a>>, added: NamedAttr<'a>)
 
 /// Makes these the attributes, as they are.
 fn enter<'a>(entries: &mut Vec<NamedAttr<'a>>, names: &'a Names, attrs: &'a [Attr])
-    requires room { length attrs.now ≤ vec_capacity entries.old }
-    requires names { AttributesAreOf names.now (map attribute_of attrs.now) }
+    requires { length attrs.now ≤ vec_capacity entries.old }
     ensures pairs { map pair_of entries.new.items ≡ map (spelled_attribute (text_of names.now)) (map attribute_of attrs.now) }
     ensures places { AreNumbered entries.new.items }
     ensures room { vec_capacity entries.old ≤ vec_capacity entries.new }
@@ -35,14 +32,13 @@ fn enter<'a>(entries: &mut Vec<NamedAttr<'a>>, names: &'a Names, attrs: &'a [Att
     entries.clear();
     for attr in attrs {
         let place = entries.len();
-        add(entries, (name_text(names, attr.name), place, &attr.value));
+        add(entries, (names.text(attr.name), place, &attr.value));
     }
 }
 
 /// Makes these the attributes in the order of the names' bytes; those of one name stay as they are. No memory is taken.
 pub(crate) fn in_order<'a>(entries: &mut Vec<NamedAttr<'a>>, names: &'a Names, attrs: &'a [Attr])
-    requires room { length attrs.now ≤ vec_capacity entries.old }
-    requires names { AttributesAreOf names.now (map attribute_of attrs.now) }
+    requires { length attrs.now ≤ vec_capacity entries.old }
     ensures pairs { map pair_of entries.new.items ≡ in_order (map (spelled_attribute (text_of names.now)) (map attribute_of attrs.now)) }
     ensures room { vec_capacity entries.old ≤ vec_capacity entries.new }
 {

@@ -1,23 +1,14 @@
 -- Attributes one after another.
-use Rattle.std.proofs.Common.{◌≡◌, ℕ, ◌+◌, ◌<◌, List, ◌∷◌, ◌++◌, get_or, drop, map, length, sym, ◌∙◌, ap, subst, drop-cons, add-one}
+use Rattle.std.proofs.Common.{◌≡◌, ℕ, ◌+◌, ◌<◌, List, ◌∷◌, ◌++◌, get_or, drop, map, length, sym, ◌∙◌, ap, drop-cons, add-one}
 use Rattle.std.proofs.lemmas.List.{append_assoc}
 use Rattle.std.specs.List.{flat_map}
-use Rattle.names.specs.Names.{Texts, IsOf}
 use Rattle.names.specs.declared.attr.Attr.{Attr}
 use Rattle.hnodes.specs.Forest.{Attribute}
-use Rattle.hnodes.specs.Named.{AttributesAreOf}
 use Rattle.hnodes.specs.Rows.{attribute_of}
 
 -- the attributes from an index on
 pub dropped : (attrs : List Attr) (i : ℕ) (x : Attr) → i < length attrs → x ≡ get_or attrs i x → drop i attrs ≡ x ∷ drop (i + 1) attrs
 dropped attrs i x h is = drop-cons attrs i x h ∙ (λ k. sym is k ∷ drop (sym (add-one i) k) attrs)
-
--- the names of the next attribute, and of those after it
-pub attributes-head : (names : Texts) (attrs : List Attr) (i : ℕ) (x : Attr) → i < length attrs → x ≡ get_or attrs i x → AttributesAreOf names (map attribute_of (drop i attrs)) → IsOf names x.name
-attributes-head names attrs i x h is of = (subst (λ (l : List Attr). AttributesAreOf names (map attribute_of l)) (dropped attrs i x h is) of).0
-
-pub attributes-rest : (names : Texts) (attrs : List Attr) (i : ℕ) (x : Attr) → i < length attrs → x ≡ get_or attrs i x → AttributesAreOf names (map attribute_of (drop i attrs)) → AttributesAreOf names (map attribute_of (drop (i + 1) attrs))
-attributes-rest names attrs i x h is of = (subst (λ (l : List Attr). AttributesAreOf names (map attribute_of l)) (dropped attrs i x h is) of).1
 
 -- the text of the next attribute, and of those after it
 pub next-text : (f : Attribute ℕ → Attribute (List ℕ)) (g : Attribute (List ℕ) → List ℕ) (attrs : List Attr) (i : ℕ) (x : Attr) (a : Attribute (List ℕ)) (end : List ℕ) → i < length attrs → x ≡ get_or attrs i x

@@ -9,4 +9,5 @@ pub mod Finished
 pub mod InMemory
 pub mod Escapes
 pub mod Wrote
+pub mod Outer
 pub mod Kept

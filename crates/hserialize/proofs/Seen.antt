@@ -1,10 +1,9 @@
 -- What is asked of the nodes inside one is what is in their trees.
-use Rattle.std.proofs.Common.{◌≡◌, ℕ, ◌<◌, Bool, true, false, eqb, cond, List, [], ◌∷◌, ◌++◌, Some, None, refl, sym, ◌∙◌, ap, subst, option_and_then}
+use Rattle.std.proofs.Common.{◌≡◌, ℕ, ◌<◌, Bool, true, false, eqb, cond, [], Some, None, refl, sym, ◌∙◌, ap, option_and_then}
 use Rattle.std.proofs.lemmas.Bool.{eq-eqb}
-use Rattle.std.specs.List.{AllByRecursion}
+use Rattle.std.specs.List.{All}
 use Rattle.std.specs.Prelude.{IsTrue}
 use Rattle.std.specs.Option.{option_map}
-use Rattle.names.specs.Names.{Texts}
 use Rattle.hnodes.specs.Forest.{What, Forest, none, tree, join, children_of}
 use Rattle.hnodes.specs.Spots.{Spot, spot_of, first_or, first_child_of, next_of, parent_of, what_of}
 use Rattle.hnodes.specs.Edits.{AreCounted}
@@ -14,13 +13,12 @@ use Rattle.hnodes.proofs.Counted.{is-there}
 use Rattle.hnodes.proofs.ChildSpots.{spot_among, child-spot}
 use Rattle.hnodes.proofs.TreeOrder.{IsInside, apart, own-inside}
 use Rattle.hnodes.proofs.Families.{spot-children}
-use Rattle.std.proofs.lemmas.List.{append_assoc, append-nil}
-use Rattle.hnodes.specs.Named.{NodeIsOf, AreOf, IsLent}
+use Rattle.std.proofs.lemmas.List.Elements.{All-append, All-cons, All-nil}
 use Rattle.hserialize.specs.Walk.{node_of, goes_in, visits}
 use Rattle.hserialize.specs.declared.walk.Reach.{Reach}
 use Rattle.hserialize.specs.declared.walk.Reach.TheVariants.{Whole}
 use Rattle.hserialize.specs.declared.walk.Visit.{Visit}
-use Rattle.hserialize.specs.declared.walk.Visit.TheVariants.{Leave}
+use Rattle.hserialize.specs.declared.walk.Visit.TheVariants.{Enter, Leave}
 use Rattle.hserialize.proofs.Moves.{comes, parents}
 
 -- what is asked of node b, where it is with these children below p, before these siblings
@@ -72,45 +70,20 @@ module _ (made : ℕ) (f : Forest ℕ) (counted : AreCounted made f) (root : ℕ
   pub seen : root < made → Seen made f root root (children_of root f)
   seen h = seen-among root none (children_of root f) h refl (rw (eq-eqb root root refl) refl)
 
--- something holds of each node
-abbrev pub Each : (ℕ → Type 0) → Forest ℕ → Type 0
-Each P none = Unit {0}
-Each P (tree b w kids rest) = P b × Each P kids × Each P rest
+-- the nodes that a walk visits were made
+module _ (made : ℕ) (f : Forest ℕ) (root : ℕ) (reach : Reach) where
+  abbrev is_made : Visit → Type 0
+  is_made v = node_of v < made
 
--- and so of each visit
-pub each-visits : (P : ℕ → Type 0) (reach : Reach) (f : Forest ℕ) (more : List Visit) → Each P f → AllByRecursion (λ v. P (node_of v)) more → AllByRecursion (λ v. P (node_of v)) (visits reach f ++ more)
-each-visits P reach none more h t = t
-each-visits P reach (tree b w kids rest) more h t =
-    (h.0, go (goes_in reach w) (each-visits P reach kids (Leave b ∷ (visits reach rest ++ more)) h.1) (h.0, each-visits P reach rest more h.2 t))
-  where
-    go : (u : Bool) → (AllByRecursion (λ v. P (node_of v)) (Leave b ∷ (visits reach rest ++ more)) → AllByRecursion (λ v. P (node_of v)) (visits reach kids ++ (Leave b ∷ (visits reach rest ++ more))))
-        → AllByRecursion (λ v. P (node_of v)) (Leave b ∷ (visits reach rest ++ more)) → AllByRecursion (λ v. P (node_of v)) ((cond u (visits reach kids) [] ++ Leave b ∷ visits reach rest) ++ more)
-    go true l r = subst (AllByRecursion (λ v. P (node_of v))) (sym (append_assoc (visits reach kids) (Leave b ∷ visits reach rest) more)) (l r)
-    go false l r = r
+  made-among : (p : ℕ) (g : Forest ℕ) → Seen made f root p g → All is_made (visits reach g)
+  made-among p none s = All-nil is_made
+  made-among p (tree b w kids rest) s =
+      All-cons is_made (Enter b) _ s.0.made_is
+      (All-append is_made (cond (goes_in reach w) (visits reach kids) []) _ (inside (goes_in reach w) (made-among b kids s.1)) (All-cons is_made (Leave b) _ s.0.made_is (made-among p rest s.2)))
+    where
+      inside : (u : Bool) → All is_made (visits reach kids) → All is_made (cond u (visits reach kids) [])
+      inside true h = h
+      inside false h = All-nil is_made
 
-each-lent : (names : Texts) (made : ℕ) (f : Forest ℕ) (root p : ℕ) (g : Forest ℕ) → Seen made f root p g → AreOf names g → Each (IsLent names made f) g
-each-lent names made f root p none s h = tt
-each-lent names made f root p (tree b w kids rest) s h =
-    ((s.0.made_is, λ v is. subst (NodeIsOf names) (some_inj (sym s.0.what ∙ is)) h.0), each-lent names made f root b kids s.1 h.1, each-lent names made f root p rest s.2 h.2)
-
--- the nodes that a walk visits are such nodes
-pub lent-visits : (names : Texts) (made : ℕ) (f : Forest ℕ) (root : ℕ) (reach : Reach) → AreCounted made f → root < made → AreOf names (children_of root f)
-    → AllByRecursion (λ v. IsLent names made f (node_of v)) (visits reach (children_of root f))
-lent-visits names made f root reach counted h of =
-    subst (AllByRecursion (λ v. IsLent names made f (node_of v))) (append-nil (visits reach (children_of root f)))
-    (each-visits (IsLent names made f) reach (children_of root f) [] (each-lent names made f root root (children_of root f) (seen made f counted root h) of) tt)
-
--- a node that was made, where the names of what is in it are those of the table
-abbrev pub IsRoot : Texts → (made : ℕ) → Forest ℕ → ℕ → Type 0
-IsRoot names made f n = (n < made) × AreOf names (children_of n f)
-
-each-root : (names : Texts) (made : ℕ) (f : Forest ℕ) (root p : ℕ) (g : Forest ℕ) → Seen made f root p g → AreOf names g → Each (IsRoot names made f) g
-each-root names made f root p none s h = tt
-each-root names made f root p (tree b w kids rest) s h =
-    ((s.0.made_is, subst (AreOf names) (sym s.0.kids_are) h.1), each-root names made f root b kids s.1 h.1, each-root names made f root p rest s.2 h.2)
-
-pub root-visits : (names : Texts) (made : ℕ) (f : Forest ℕ) (root : ℕ) (reach : Reach) → AreCounted made f → root < made → AreOf names (children_of root f)
-    → AllByRecursion (λ v. IsRoot names made f (node_of v)) (visits reach (children_of root f))
-root-visits names made f root reach counted h of =
-    subst (AllByRecursion (λ v. IsRoot names made f (node_of v))) (append-nil (visits reach (children_of root f)))
-    (each-visits (IsRoot names made f) reach (children_of root f) [] (each-root names made f root root (children_of root f) (seen made f counted root h) of) tt)
+  pub made-visits : AreCounted made f → root < made → All is_made (visits reach (children_of root f))
+  made-visits counted h = made-among root (children_of root f) (seen made f counted root h)

@@ -1,7 +1,6 @@
 -- What a walk writes.
 use Rattle.std.proofs.Common.{◌≡◌, ℕ, ◌<◌, Bool, true, false, not, cond, List, [], ◌∷◌, ◌++◌, map, Option, Some, None, refl, sym, ◌∙◌, ap, subst, option_and_then}
 use Rattle.std.proofs.lemmas.List.{append_assoc, append-nil}
-use Rattle.std.specs.List.{AllByRecursion}
 use Rattle.std.specs.Option.{option_map}
 use Rattle.names.specs.Names.{Texts, AreNames, text_of}
 use Rattle.names.specs.Sets.{is_void, raw_kind}
@@ -10,9 +9,8 @@ use Rattle.hnodes.specs.Forest.{What, document, doctype, element, comment, text,
 use Rattle.hnodes.specs.Edits.{AreCounted}
 use Rattle.hnodes.specs.Spelled.{spelled, spelled_what, spelled_attribute}
 use Rattle.hnodes.specs.Spots.{what_of, name_of, name_in}
-use Rattle.hnodes.specs.Named.{AreOf, IsLent}
 use Rattle.names.specs.declared.refusal.Refusal.{Refusal}
-use Rattle.hserialize.specs.Walk.{node_of, goes_in, visits}
+use Rattle.hserialize.specs.Walk.{goes_in, visits}
 use Rattle.hserialize.specs.Written.{has_no_references, is_raw_in, start_tag_text, end_tag_text, node_text, written_among, written}
 use Rattle.hserialize.specs.Writing.{holds_raw, stands_raw, opening, closing, opening_of, closing_of, visit_text}
 use Rattle.hserialize.specs.declared.escaping.Escaping.{Escaping}
@@ -23,7 +21,7 @@ use Rattle.hserialize.proofs.KnownNames.{tags-agree}
 use Rattle.hserialize.proofs.Runs.{run, walked, run-visits}
 use Rattle.hserialize.specs.Output.{Taken, Adds, Fails}
 use Rattle.hserialize.proofs.Output.{HasLeft, none_put, part_put, part_failed, all_put}
-use Rattle.hserialize.proofs.Seen.{Seen, IsSeen, seen, lent-visits}
+use Rattle.hserialize.proofs.Seen.{Seen, IsSeen, seen}
 
 module _ (how : Escaping) (texts : ℕ → List ℕ) (f : Forest ℕ) where
   abbrev pub enters : ℕ → List ℕ → List ℕ
@@ -108,45 +106,31 @@ first-visit how names f v old left is = ap (visits_text how names f) is ∙ go v
     go (Enter n) = run-after how names f left (opening_of how (text_of names) (stands_raw n f) (what_of n f))
     go (Leave n) = run-after how names f left (closing_of (text_of names) (what_of n f))
 
--- The visits that are left, and what they write.
-pub record IsWriting (how : Escaping) (names : Texts) (made : ℕ) (f : Forest ℕ) (node : ℕ) (old now : Taken) (left : List Visit) : Type 0 where
-  pub lent : AllByRecursion (λ v. IsLent names made f (node_of v)) left
-  pub same : HasLeft old now (wanted how names f node) (visits_text how names f left)
+-- the visits that are left write the rest of it
+abbrev pub IsWriting : (how : Escaping) (names : Texts) (f : Forest ℕ) (node : ℕ) (old now : Taken) (left : List Visit) → Type 0
+IsWriting how names f node old now left = HasLeft old now (wanted how names f node) (visits_text how names f left)
 
-pub begun : (how : Escaping) (names : Texts) (made : ℕ) (f : Forest ℕ) (node : ℕ) (old : Taken) (left items : List Visit) → AreNames names → AreCounted made f → node < made → AreOf names (children_of node f) → left ≡ items
-    → items ≡ visits Written (children_of node f) → IsWriting how names made f node old old left
-begun how names made f node old left items table counted h of same visited = record {
-  lent = subst (AllByRecursion (λ v. IsLent names made f (node_of v))) (sym is) (lent-visits names made f node Written counted h of);
-  same = subst (HasLeft old old (wanted how names f node)) (sym whole) (none_put old (wanted how names f node));
-}
+pub begun : (how : Escaping) (names : Texts) (made : ℕ) (f : Forest ℕ) (node : ℕ) (old : Taken) (left items : List Visit) → AreNames names → AreCounted made f → node < made → left ≡ items
+    → items ≡ visits Written (children_of node f) → IsWriting how names f node old old left
+begun how names made f node old left items table counted h same visited = subst (HasLeft old old (wanted how names f node)) (sym whole) (none_put old (wanted how names f node))
   where
-    is : left ≡ visits Written (children_of node f)
-    is = same ∙ visited
-
     tags : (id : ℕ) → tag_of id ≡ tag_named (text_of names id)
     tags id = tags-agree names table id
 
     whole : visits_text how names f left ≡ wanted how names f node
     whole =
-        ap (visits_text how names f) is ∙ run-visits (enters how (text_of names) f) (leaves how (text_of names) f) Written (children_of node f) []
+        ap (visits_text how names f) (same ∙ visited) ∙ run-visits (enters how (text_of names) f) (leaves how (text_of names) f) Written (children_of node f) []
         ∙ writes how (text_of names) f tags made node node (children_of node f) (seen made f counted node h) [] ∙ ap (λ r. written_among how r (spelled (text_of names) (children_of node f))) (raw-same how (text_of names) f tags made node (name_of node f))
 
-module _ (how : Escaping) (names : Texts) (made : ℕ) (f : Forest ℕ) (node : ℕ) (old now : Taken) (v : Visit) (before left : List Visit) (is : before ≡ v ∷ left) (s : IsWriting how names made f node old now before) where
-  -- what the next visit asks for
-  pub next_is : IsLent names made f (node_of v)
-  next_is = (subst (AllByRecursion (λ v. IsLent names made f (node_of v))) is s.lent).0
-
+module _ (how : Escaping) (names : Texts) (f : Forest ℕ) (node : ℕ) (old now : Taken) (v : Visit) (before left : List Visit) (is : before ≡ v ∷ left) (s : IsWriting how names f node old now before) where
   -- one visit more
-  pub goes_on : (new : Taken) → Adds now new (visit_text how (text_of names) f v) → IsWriting how names made f node old new left
-  goes_on new h = record {
-    lent = (subst (AllByRecursion (λ v. IsLent names made f (node_of v))) is s.lent).1;
-    same = part_put old now new _ _ _ _ s.same (first-visit how names f v before left is) h;
-  }
+  pub goes_on : (new : Taken) → Adds now new (visit_text how (text_of names) f v) → IsWriting how names f node old new left
+  goes_on new h = part_put old now new _ _ _ _ s (first-visit how names f v before left is) h
 
   -- one that failed
   pub failed : (new : Taken) {e : Refusal} → Fails e now new (visit_text how (text_of names) f v) → Fails e old new (wanted how names f node)
-  failed new h = part_failed old now new _ _ _ _ s.same (first-visit how names f v before left is) h
+  failed new h = part_failed old now new _ _ _ _ s (first-visit how names f v before left is) h
 
 -- the end
-pub wrote : (how : Escaping) (names : Texts) (made : ℕ) (f : Forest ℕ) (node : ℕ) (old now : Taken) (left : List Visit) → left ≡ [] → IsWriting how names made f node old now left → Adds old now (wanted how names f node)
-wrote how names made f node old now left is s = all_put old now _ _ s.same (ap (visits_text how names f) is)
+pub wrote : (how : Escaping) (names : Texts) (f : Forest ℕ) (node : ℕ) (old now : Taken) (left : List Visit) → left ≡ [] → IsWriting how names f node old now left → Adds old now (wanted how names f node)
+wrote how names f node old now left is s = all_put old now _ _ s (ap (visits_text how names f) is)

@@ -25,6 +25,6 @@ written_char escaping setting c =
     else (if c == 0x3E && escapes_angles escaping setting then codes "&gt;"
     else encode_utf8 c))))
 
--- a text in UTF-8, as it is written
+-- a text in UTF-8, as it is written: escaping a string (#escapingString)
 abbrev pub escaped : Escaping → Setting → List ℕ → List ℕ
 escaped escaping setting text = flat_map (written_char escaping setting) (chars text)

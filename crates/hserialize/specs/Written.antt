@@ -33,7 +33,7 @@ start_tag_text escaping name attrs = codes "<" ++ name ++ flat_map (attribute_te
 abbrev pub end_tag_text : List ℕ → List ℕ
 end_tag_text name = codes "</" ++ name ++ codes ">"
 
--- an element, given what its children are as text; a void element has none, and no end tag
+-- an element, given what its children are as text; one that serializes as void (#serializes-as-void) has none, and no end tag
 abbrev pub element_text : Escaping → List ℕ → List (Attribute (List ℕ)) → List ℕ → List ℕ
 element_text escaping name attrs children = start_tag_text escaping name attrs ++ (if is_void (tag_named name) then [] else children ++ end_tag_text name)
 
@@ -50,6 +50,7 @@ written_among escaping raw none = []
 written_among escaping raw (tree n w kids rest) =
     node_text escaping raw w (written_among escaping (is_raw_in (name_in w)) kids) ++ written_among escaping raw rest
 
--- a list of trees that is in an element of this name, or in none
+-- a list of trees that is in an element of this name, or in none: the HTML fragment serialization algorithm
+-- (#html-fragment-serialisation-algorithm)
 abbrev pub written : Escaping → Option (List ℕ) → Forest (List ℕ) → List ℕ
 written escaping name f = written_among escaping (is_raw_in name) f

@@ -12,8 +12,8 @@ pub mod walk;
 
 pub use escaping::Escaping;
 pub use gathered::Gathered;
-pub use node_view::{NodeView, name_text};
-pub use serializer::{serialize, serialize_to_vec};
+pub use node_view::NodeView;
+pub use serializer::{serialize, serialize_outer, serialize_outer_to_vec, serialize_to_vec};
 pub use sink::{Sink, put, put_parts, room};
 pub use target::{Target, write_all};
 pub use walk::{Reach, TreeWalk, Visit, inserts_marker};

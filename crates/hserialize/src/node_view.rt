@@ -1,12 +1,11 @@
-//! Nodes as a tree lends them, and the texts of their names.
+//! Nodes as a tree lends them.
 
 ghost use Rattle.std.specs.Prelude.{◌≡◌, ◌<◌, Some};
-ghost use Rattle.names.specs.Names.{IsOf, text_of};
 ghost use Rattle.hnodes.specs.Spots.{what_of};
 ghost use Rattle.hserialize.specs.Lent.{what_is};
 
 use hnodes::{DocumentType, NodeId, NodeKind, Tree};
-use names::{Attr, NameId, Names};
+use names::{Attr, NameId};
 
 /// What a node is, as its tree lends it.
 #[derive(Clone, Copy)]
@@ -37,12 +36,4 @@ impl<'a> NodeView<'a> {
             None => NodeView::Document,
         }
     }
-}
-
-/// The text of a name.
-pub fn name_text(names: &Names, name: NameId) -> &str
-    requires { IsOf names.now name }
-    ensures { result.now ≡ text_of names.now name }
-{
-    names.text(name)
 }

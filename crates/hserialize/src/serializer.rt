@@ -2,24 +2,23 @@
 
 ghost use Rattle.std.specs.Prelude.{◌≡◌, ◌++◌, ◌<◌, codes, map, OnOk, if◌then◌else◌};
 ghost use Rattle.std.specs.Option.{option_map};
-ghost use Rattle.names.specs.Names.{AreNames, text_of};
-ghost use Rattle.hnodes.specs.Forest.{children_of, element};
+ghost use Rattle.names.specs.Names.{text_of};
+ghost use Rattle.hnodes.specs.Forest.{children_of, tree_at};
 ghost use Rattle.hnodes.specs.Rows.{attribute_of};
 ghost use Rattle.hnodes.specs.Spelled.{spelled, spelled_attribute};
 ghost use Rattle.hnodes.specs.Spots.{name_of, what_of};
 ghost use Rattle.hserialize.specs.Escaping.{escaped};
-ghost use Rattle.hnodes.specs.Named.{NodeIsOf, AreOf, IsLent};
 ghost use Rattle.hserialize.specs.Gathered.{Holds};
 ghost use Rattle.hserialize.specs.Output.{IsFlushed, Puts, WritesText, taken};
 ghost use Rattle.hserialize.specs.Walk.{node_of};
 ghost use Rattle.hserialize.specs.Written.{attribute_text, start_tag_text, end_tag_text, written};
-ghost use Rattle.hserialize.specs.Writing.{stands_raw, holds_raw, opening_of, closing_of, visit_text};
+ghost use Rattle.hserialize.specs.Writing.{stands_raw, holds_raw, name_around, opening_of, closing_of, ending_of, visit_text};
 ghost use Rattle.hserialize.specs.declared.escaping.Setting.TheVariants.{Text};
 
 use crate::escaped::put_escaped;
 use crate::escaping::{Escaping, Setting};
 use crate::gathered::Gathered;
-use crate::node_view::{NodeView, name_text};
+use crate::node_view::NodeView;
 use crate::sink::{Sink, put, put_before, put_between, room};
 use crate::target::Target;
 use crate::walk::{Reach, TreeWalk, Visit};
@@ -49,13 +48,12 @@ fn put_start_tag<W: Target>(
     name: NameId,
     attrs: &[Attr],
 ) -> Result<(), Refusal>
-    requires { NodeIsOf names.now (element name (map attribute_of attrs.now)) }
     ensures { Puts (taken W.written W.failed out.old) (taken W.written W.failed out.new)
         (start_tag_text escaping (text_of names.now name) (map (spelled_attribute (text_of names.now)) (map attribute_of attrs.now))) result }
 {
-    put_before(out, b"<", name_text(names, name))?;
+    put_before(out, b"<", names.text(name))?;
     for attr in attrs {
-        put_attribute(out, escaping, name_text(names, attr.name), &attr.value)?;
+        put_attribute(out, escaping, names.text(attr.name), &attr.value)?;
     }
     put(out, b">")
 }
@@ -114,7 +112,7 @@ fn put_opening<W: Target>(
     names: &Names,
     node: NodeId,
 ) -> Result<(), Refusal>
-    requires { IsLent names.now tree.now.made tree.now.trees node }
+    requires { node < tree.now.made }
     ensures { Puts (taken W.written W.failed out.old) (taken W.written W.failed out.new)
         (opening_of escaping (text_of names.now) (stands_raw node tree.now.trees) (what_of node tree.now.trees))
         result }
@@ -135,14 +133,11 @@ fn put_closing<W: Target>(
     names: &Names,
     node: NodeId,
 ) -> Result<(), Refusal>
-    requires { IsLent names.now tree.now.made tree.now.trees node }
+    requires { node < tree.now.made }
     ensures { Puts (taken W.written W.failed out.old) (taken W.written W.failed out.new) (closing_of (text_of names.now) (what_of node tree.now.trees)) result }
 {
     match NodeView::of(tree, node) {
-        NodeView::Element(name, _) if !name.tag().is_void() => put_end_tag(
-            out,
-            name_text(names, name),
-        ),
+        NodeView::Element(name, _) if !name.tag().is_void() => put_end_tag(out, names.text(name)),
         _ => Ok(()),
     }
 }
@@ -155,7 +150,7 @@ fn put_visit<W: Target>(
     names: &Names,
     visit: Visit,
 ) -> Result<(), Refusal>
-    requires { IsLent names.now tree.now.made tree.now.trees (node_of visit) }
+    requires { node_of visit < tree.now.made }
     ensures { Puts (taken W.written W.failed out.old) (taken W.written W.failed out.new) (visit_text escaping (text_of names.now) tree.now.trees visit) result }
 {
     match visit {
@@ -172,23 +167,62 @@ fn put_children<W: Target>(
     names: &Names,
     node: NodeId,
 ) -> Result<(), Refusal>
-    requires made { node < tree.now.made }
-    requires table { AreNames names.now }
-    requires names { AreOf names.now (children_of node tree.now.trees) }
+    requires { node < tree.now.made }
     ensures { Puts (taken W.written W.failed out.old) (taken W.written W.failed out.new)
         (written escaping (option_map (text_of names.now) (name_of node tree.now.trees))
         (spelled (text_of names.now) (children_of node tree.now.trees))) result }
 {
+    names.are_names();
     for visit in TreeWalk::new(tree, node, Reach::Written) {
         put_visit(out, escaping, tree, names, visit)?;
     }
     Ok(())
 }
 
-/// Writes the children of a node as text, and flushes. Texts in it are written raw if its own name says so. Takes as many steps
-/// as there are nodes and bytes that are written. `Memory` comes before the first write, and nothing is written then. Where a
-/// write fails, what was taken before is a beginning of the text, and `Write` is returned. No write follows, so none is tried
-/// again.
+/// Writes what comes after the opening of an element that is not void: what is in it, and its end tag.
+fn put_ending<W: Target>(
+    out: &mut Sink<'_, W>,
+    escaping: Escaping,
+    tree: &Tree,
+    names: &Names,
+    node: NodeId,
+) -> Result<(), Refusal>
+    requires { node < tree.now.made }
+    ensures { Puts (taken W.written W.failed out.old) (taken W.written W.failed out.new)
+        (ending_of escaping (text_of names.now) (what_of node tree.now.trees) (children_of node tree.now.trees)) result }
+{
+    match NodeView::of(tree, node) {
+        NodeView::Element(name, _) if !name.tag().is_void() => {
+            put_children(out, escaping, tree, names, node)?;
+            put_end_tag(out, names.text(name))
+        }
+        _ => Ok(()),
+    }
+}
+
+/// Writes a node and what is in it. Nothing is handed on.
+fn put_outer<W: Target>(
+    out: &mut Sink<'_, W>,
+    escaping: Escaping,
+    tree: &Tree,
+    names: &Names,
+    node: NodeId,
+) -> Result<(), Refusal>
+    requires { node < tree.now.made }
+    ensures { Puts (taken W.written W.failed out.old) (taken W.written W.failed out.new)
+        (written escaping (option_map (text_of names.now) (name_around node tree.now.trees))
+        (spelled (text_of names.now) (tree_at node tree.now.trees))) result }
+{
+    names.are_names();
+    tree.are_nodes();
+    put_opening(out, escaping, tree, names, node)?;
+    put_ending(out, escaping, tree, names, node)
+}
+
+/// Writes the children of a node as text, by the HTML fragment serialization algorithm (`#html-fragment-serialisation-algorithm`), and
+/// flushes. Texts in it are written raw if its own name says so. Takes as many steps as there are nodes and bytes that are written.
+/// `Memory` comes before the first write, and nothing is written then. Where a write fails, what was taken before is a beginning of the
+/// text, and `Write` is returned. No write follows, so none is tried again.
 pub fn serialize<W: Target>(
     alloc: Global,
     tree: &Tree,
@@ -197,9 +231,7 @@ pub fn serialize<W: Target>(
     escaping: Escaping,
     target: &mut W,
 ) -> Result<(), Refusal>
-    requires made { node < tree.now.made }
-    requires table { AreNames names.now }
-    requires names { AreOf names.now (children_of node tree.now.trees) }
+    requires { node < tree.now.made }
     ensures text { WritesText W.written W.failed
         (written escaping (option_map (text_of names.now) (name_of node tree.now.trees)) (spelled (text_of names.now) (children_of node tree.now.trees)))
         target.old target.new result }
@@ -219,13 +251,49 @@ pub fn serialize_to_vec(
     node: NodeId,
     escaping: Escaping,
 ) -> Result<Vec<u8>, Refusal>
-    requires made { node < tree.now.made }
-    requires table { AreNames names.now }
-    requires names { AreOf names.now (children_of node tree.now.trees) }
+    requires { node < tree.now.made }
     ensures { Holds result
         (written escaping (option_map (text_of names.now) (name_of node tree.now.trees)) (spelled (text_of names.now) (children_of node tree.now.trees))) }
 {
     let mut text = Gathered::new(alloc);
     let answer = serialize(alloc, tree, names, node, escaping, &mut text);
+    text.into_text(answer)
+}
+
+/// Writes a node with its own tags, as [`serialize`] writes it among the children of its parent, and in the same way.
+pub fn serialize_outer<W: Target>(
+    alloc: Global,
+    tree: &Tree,
+    names: &Names,
+    node: NodeId,
+    escaping: Escaping,
+    target: &mut W,
+) -> Result<(), Refusal>
+    requires { node < tree.now.made }
+    ensures text { WritesText W.written W.failed
+        (written escaping (option_map (text_of names.now) (name_around node tree.now.trees)) (spelled (text_of names.now) (tree_at node tree.now.trees)))
+        target.old target.new result }
+    ensures flushed { OnOk result (IsFlushed W.flushes target.new) }
+{
+    let mut held = room(alloc)?;
+    let mut out = Sink::new(target, &mut held);
+    put_outer(&mut out, escaping, tree, names, node)?;
+    out.finish()
+}
+
+/// The text that [`serialize_outer`] writes. An error is `Memory`.
+pub fn serialize_outer_to_vec(
+    alloc: Global,
+    tree: &Tree,
+    names: &Names,
+    node: NodeId,
+    escaping: Escaping,
+) -> Result<Vec<u8>, Refusal>
+    requires { node < tree.now.made }
+    ensures { Holds result
+        (written escaping (option_map (text_of names.now) (name_around node tree.now.trees)) (spelled (text_of names.now) (tree_at node tree.now.trees))) }
+{
+    let mut text = Gathered::new(alloc);
+    let answer = serialize_outer(alloc, tree, names, node, escaping, &mut text);
     text.into_text(answer)
 }

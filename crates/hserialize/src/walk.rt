@@ -1,6 +1,7 @@
 //! Walks over the nodes inside a node, without recursion and without memory.
 
 ghost use Rattle.std.specs.Prelude.{◌≡◌, ◌<◌, ◌∷◌, ◌^◌, ℕ, length, Bool, true, false, not, Some, IfSome, IsTrue};
+ghost use Rattle.std.specs.List.{All};
 ghost use Rattle.hnodes.specs.Edits.{AreNodes};
 ghost use Rattle.hnodes.specs.Forest.{What, children_of};
 ghost use Rattle.hnodes.specs.Passed.{ancestors_of, is_among};
@@ -57,6 +58,7 @@ impl<'a> TreeWalk<'a> {
     pub fn new(tree: &'a Tree, root: NodeId, reach: Reach) -> TreeWalk<'a>
         requires { root < tree.now.made }
         ensures visits { result ≡ visits reach (children_of root tree.now.trees) }
+        ensures within { All (λ v. node_of v < tree.now.made) result }
         ensures few { length result < 2 ^ 33 }
         ensures nodes { AreNodes tree.now }
     {

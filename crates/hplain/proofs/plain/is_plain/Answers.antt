@@ -7,7 +7,7 @@ use Rattle.hnodes.specs.Spelled.{spelled}
 use Rattle.hplain.specs.ContentTable.{row}
 use Rattle.hplain.specs.Plain.{in_context, in_context_of, is_form}
 use Rattle.hplain.specs.Testing.{top_content}
-use Rattle.hplain.proofs.Regions.{begun, fails, found, goes_on, next_is, none_plain, not_plain, top_other}
+use Rattle.hplain.proofs.Regions.{begun, fails, found, goes_on, none_plain, not_plain, top_other}
 use Rattle.hplain.proofs.plain.is_plain.Goals as goal
 
 -- the plain lists in an element whose known name is that of the context
@@ -28,29 +28,19 @@ returns-then-not-is_plain_region c =
 
 pub loop-visit-init : goal.loop-visit-init
 loop-visit-init c =
-    begun c.args.names.now c.args.tree.now.made c.args.tree.now.trees c.args.root c.in-Some.top c.args.context.now c.named-tag.result c.is_form-in_form.result _ _ c.requires.table
-    c.new-visit-items.ensures.nodes.counted c.requires.made c.requires.names (of_context c.args.context.now c.named-tag.result c.named-tag.ensures) (sym c.in-Some.is ∙ c.at_top.ensures ∙ ap (λ r. top_content r.1) c.row.ensures)
+    begun c.args.names.now c.args.tree.now.made c.args.tree.now.trees c.args.root c.in-Some.top c.args.context.now c.named-tag.result c.is_form-in_form.result _ _ c.are_names.ensures
+    c.new-visit-items.ensures.nodes.counted c.requires (of_context c.args.context.now c.named-tag.result c.named-tag.ensures) (sym c.in-Some.is ∙ c.at_top.ensures ∙ ap (λ r. top_content r.1) c.row.ensures)
     (sym c.if-not-is_plain_region.false ∙ c.is_plain_region.ensures) c.is_form-in_form.ensures c.into_iter-visit-iterator.ensures.into_iter_gives c.new-visit-items.ensures.visits
-
-pub form_after-requires : goal.form_after-requires
-form_after-requires c =
-    let root = next_is c.args.names.now c.args.tree.now.made c.args.tree.now.trees c.args.root c.args.context.now c.loop-visit.in_form c.in-Some-visit.visit c.loop-visit.visit-iterator c.next.new.self
-    c.in-Some-visit.ensures.steps c.loop-visit.invariant in
-    record {
-      made = root.0;
-      table = c.requires.table;
-      names = root.1;
-    }
 
 pub loop-visit-preserved : goal.loop-visit-preserved
 loop-visit-preserved c =
-    goes_on c.args.names.now c.args.tree.now.made c.args.tree.now.trees c.args.root c.args.context.now c.loop-visit.in_form c.in-Some-form_after.after c.in-Some-visit.visit c.loop-visit.visit-iterator c.next.new.self
+    goes_on c.args.names.now c.args.tree.now.trees c.args.root c.args.context.now c.loop-visit.in_form c.in-Some-form_after.after c.in-Some-visit.visit c.loop-visit.visit-iterator c.next.new.self
     c.in-Some-visit.ensures.steps c.loop-visit.invariant c.in-Some-form_after.ensures
 
 pub returns-in-None-form_after : goal.returns-in-None-form_after
 returns-in-None-form_after c =
-    fails c.args.names.now c.args.tree.now.made c.args.tree.now.trees c.args.root c.args.context.now c.loop-visit.in_form c.in-Some-visit.visit c.loop-visit.visit-iterator c.next.new.self
+    fails c.args.names.now c.args.tree.now.trees c.args.root c.args.context.now c.loop-visit.in_form c.in-Some-visit.visit c.loop-visit.visit-iterator c.next.new.self
     c.in-Some-visit.ensures.steps c.loop-visit.invariant c.in-None-form_after.ensures
 
 pub returns : goal.returns
-returns c = found c.args.names.now c.args.tree.now.made c.args.tree.now.trees c.args.root c.args.context.now c.loop-visit.in_form c.loop-visit.visit-iterator c.in-None.ensures.steps.0 c.loop-visit.invariant
+returns c = found c.args.names.now c.args.tree.now.trees c.args.root c.args.context.now c.loop-visit.in_form c.loop-visit.visit-iterator c.in-None.ensures.steps.0 c.loop-visit.invariant

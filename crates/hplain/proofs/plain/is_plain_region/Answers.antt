@@ -1,27 +1,20 @@
-use Rattle.hplain.proofs.Tested.{begun, fails, found, goes_on, next_is}
+use Rattle.hplain.proofs.Tested.{begun, fails, found, goes_on}
 use Rattle.hplain.proofs.plain.is_plain_region.Goals as goal
 
 pub loop-visit-init : goal.loop-visit-init
 loop-visit-init c =
-    begun c.args.names.now c.args.tree.now.made c.args.tree.now.trees c.args.root c.args.top c.alone-around.result _ _ c.requires.table c.new-visit-items.ensures.nodes.counted c.requires.made c.requires.names
+    begun c.args.names.now c.args.tree.now.made c.args.tree.now.trees c.args.root c.args.top c.alone-around.result _ _ c.are_names.ensures c.new-visit-items.ensures.nodes.counted c.requires.made
     c.requires.not_phrasing c.alone-around.ensures c.into_iter-visit-iterator.ensures.into_iter_gives c.new-visit-items.ensures.visits
-
-pub after_visit-requires : goal.after_visit-requires
-after_visit-requires c = record {
-  table = c.requires.table;
-  lent = next_is c.args.names.now c.args.tree.now.made c.args.tree.now.trees c.args.root c.args.top c.loop-visit.around c.in-Some.visit c.loop-visit.visit-iterator c.next.new.self c.in-Some.ensures.steps
-      c.loop-visit.invariant;
-}
 
 pub loop-visit-preserved : goal.loop-visit-preserved
 loop-visit-preserved c =
-    goes_on c.args.names.now c.args.tree.now.made c.args.tree.now.trees c.args.root c.args.top c.loop-visit.around c.in-Some-after_visit.after c.in-Some.visit c.loop-visit.visit-iterator c.next.new.self
+    goes_on c.args.names.now c.args.tree.now.trees c.args.root c.args.top c.loop-visit.around c.in-Some-after_visit.after c.in-Some.visit c.loop-visit.visit-iterator c.next.new.self
     c.in-Some.ensures.steps c.loop-visit.invariant c.in-Some-after_visit.ensures
 
 pub returns-in-None-after_visit : goal.returns-in-None-after_visit
 returns-in-None-after_visit c =
-    fails c.args.names.now c.args.tree.now.made c.args.tree.now.trees c.args.root c.args.top c.loop-visit.around c.in-Some.visit c.loop-visit.visit-iterator c.next.new.self c.in-Some.ensures.steps
+    fails c.args.names.now c.args.tree.now.trees c.args.root c.args.top c.loop-visit.around c.in-Some.visit c.loop-visit.visit-iterator c.next.new.self c.in-Some.ensures.steps
     c.loop-visit.invariant c.in-None-after_visit.ensures
 
 pub returns : goal.returns
-returns c = found c.args.names.now c.args.tree.now.made c.args.tree.now.trees c.args.root c.args.top c.loop-visit.around c.loop-visit.visit-iterator c.in-None.ensures.steps.0 c.loop-visit.invariant
+returns c = found c.args.names.now c.args.tree.now.trees c.args.root c.args.top c.loop-visit.around c.loop-visit.visit-iterator c.in-None.ensures.steps.0 c.loop-visit.invariant

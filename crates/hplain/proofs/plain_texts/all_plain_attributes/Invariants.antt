@@ -1,12 +1,7 @@
-use Rattle.std.proofs.Common.{◌≡◌, drop, map}
-use Rattle.hnodes.specs.Named.{AttributesAreOf}
-use Rattle.hnodes.specs.Rows.{attribute_of}
+use Rattle.std.proofs.Common.{◌≡◌}
 use Rattle.hplain.proofs.PlainNames.{plain_from}
 use Rattle.hplain.proofs.plain_texts.all_plain_attributes.Given as goal
 
 -- the attributes so far are plain
 abbrev pub invariant-loop-attr : goal.invariant-loop-attr
-invariant-loop-attr l = record {
-  of : AttributesAreOf l.names (map attribute_of (drop l.attr-index l.attrs));
-  same : plain_from l.names l.attr-index l.attrs ≡ plain_from l.names 0 l.attrs;
-}
+invariant-loop-attr l = plain_from l.names l.attr-index l.attrs ≡ plain_from l.names 0 l.attrs

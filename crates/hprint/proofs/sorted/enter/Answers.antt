@@ -1,18 +1,13 @@
 use Rattle.std.proofs.Common.{arith, rules}
 use Rattle.names.specs.Names.{text_of}
 use Rattle.hnodes.specs.Spelled.{spelled_attribute}
-use Rattle.hserialize.proofs.Attributes.{attributes-head, attributes-rest}
 use Rattle.hprint.proofs.Ordered.{one-more, one_longer, one_numbered}
 use Rattle.hprint.proofs.sorted.enter.Goals as goal
 
-pub name_text-requires : goal.name_text-requires
-name_text-requires c = attributes-head c.args.names.now c.args.attrs.now c.loop-attr.attr-index c.attr-item.result c.loop-attr-test.true c.attr-item.is c.loop-attr.invariant.of
-
 pub loop-attr-preserved : goal.loop-attr-preserved
 loop-attr-preserved c = record {
-  of = attributes-rest c.args.names.now c.args.attrs.now c.loop-attr.attr-index c.attr-item.result c.loop-attr-test.true c.attr-item.is c.loop-attr.invariant.of;
   same = one-more (spelled_attribute (text_of c.args.names.now)) c.args.attrs.now c.loop-attr.attr-index c.attr-item.result c.loop-attr.entries.items c.add.new.entries.items _ _ c.loop-attr-test.true c.attr-item.is c.add.ensures.items
-      (λ i. (c.name_text.ensures i, c.deref.ensures i)) c.loop-attr.invariant.same;
+      (λ i. (c.text.ensures.text i, c.deref.ensures i)) c.loop-attr.invariant.same;
   many = one_longer _ _ _ _ c.add.ensures.items c.loop-attr.invariant.many;
   numbered = one_numbered c.loop-attr.entries.items _ _ c.loop-attr.invariant.numbered (search rules) c.add.ensures.items;
   room = let before = c.loop-attr.invariant.room in let after = c.add.ensures.room in omega (arith, before, after);

@@ -3,13 +3,11 @@ use Rattle.names.specs.Names.{text_of}
 use Rattle.hnodes.specs.Rows.{attribute_of}
 use Rattle.hnodes.specs.Spelled.{spelled_attribute}
 use Rattle.hprint.specs.Entries.{AreNumbered, pair_of}
-use Rattle.hnodes.specs.Named.{AttributesAreOf}
 use Rattle.hprint.proofs.sorted.enter.Given as goal
 
 -- the entries so far and those to come are all of them
 abbrev pub invariant-loop-attr : goal.invariant-loop-attr
 invariant-loop-attr l = record {
-  of : AttributesAreOf l.names (map attribute_of (drop l.attr-index l.attrs));
   same : map pair_of l.entries.items ++ map (spelled_attribute (text_of l.names)) (map attribute_of (drop l.attr-index l.attrs)) ≡ map (spelled_attribute (text_of l.names)) (map attribute_of l.attrs);
   many : length l.entries.items ≡ l.attr-index;
   numbered : AreNumbered l.entries.items;

@@ -1,7 +1,4 @@
-use Rattle.std.proofs.Common.{Some, [], cond, sym, ◌∙◌, ap, subst, map}
-use Rattle.hnodes.specs.Forest.{element}
-use Rattle.hnodes.specs.Rows.{attribute_of}
-use Rattle.hserialize.specs.Lent.{what_is}
+use Rattle.std.proofs.Common.{[], cond, ◌∙◌, ap, subst}
 use Rattle.names.specs.Names.{text_of}
 use Rattle.names.specs.Sets.{is_void}
 use Rattle.hserialize.specs.Output.{Puts, taken}
@@ -10,10 +7,7 @@ use Rattle.hserialize.specs.Writing.{closing_of}
 use Rattle.hserialize.proofs.Output.{put_for}
 use Rattle.hserialize.proofs.serializer.put_closing.Goals as goal
 
-pub name_text-requires : goal.name_text-requires
-name_text-requires g c = (c.requires.1 (element c.in-Element.name (map attribute_of c.in-Element.field-1.now)) (sym c.of.ensures ∙ ap (λ n. Some (what_is n)) c.in-Element.is)).0
-
 pub returns-in-Element : goal.returns-in-Element
 returns-in-Element g c = put_for (taken g.W.Target.written g.W.Target.failed c.args.out.now) (taken g.W.Target.written g.W.Target.failed c.put_end_tag.new.out) (closing_of (text_of c.args.names.now)) c.put_end_tag.result _ _ _ c.in-Element.is c.of.ensures
     (subst (λ t. Puts (taken g.W.Target.written g.W.Target.failed c.args.out.now) (taken g.W.Target.written g.W.Target.failed c.put_end_tag.new.out) t c.put_end_tag.result)
-    (ap end_tag_text c.name_text.ensures ∙ ap (λ void. cond void [] (end_tag_text (text_of c.args.names.now c.in-Element.name))) (c.if-not-is_void.ensures ∙ ap is_void c.tag.ensures)) c.put_end_tag.ensures)
+    (ap end_tag_text c.text.ensures.text ∙ ap (λ void. cond void [] (end_tag_text (text_of c.args.names.now c.in-Element.name))) (c.if-not-is_void.ensures ∙ ap is_void c.tag.ensures)) c.put_end_tag.ensures)
