@@ -1,11 +1,6 @@
 -- The classes of texts, by their first characters. Each production of data is at the front of one class.
-use Rattle.std.proofs.Common.{◌≡◌, ℕ, Bool, true, false, not, ◌&&◌, ◌||◌, eqb, List, [], ◌∷◌, ◌++◌, sym, refl, ap, ◌∙◌, subst, codes}
-use Rattle.std.proofs.lemmas.Bool.{eqb-true, false≢true}
-use Rattle.std.specs.Char.{to_ascii_lowercase}
-use Rattle.names.specs.declared.placed.Placed.{Placed}
-use Rattle.names.specs.Placed.{characters, lowered, begins, spells, spells_in_any_case, is_letter, is_greater}
-use Rattle.hmarkup.proofs.Marks.{and_parts, and_both, eqb_self, first_is}
-use Rattle.htoken.specs.Data.{is_no_markup, is_cdata, is_declaration}
+use Rattle.hcuts.proofs.Names.{◌≡◌, ℕ, Bool, true, false, not, ◌&&◌, ◌||◌, eqb, List, [], ◌∷◌, ◌++◌, sym, refl, ap, ◌∙◌, subst, codes, eqb-true, false≢true, to_ascii_lowercase, Placed, characters, lowered, begins, spells, spells_in_any_case, is_letter, is_greater, and_parts, and_both, eqb_self, first_is, is_cdata, is_declaration}
+use Rattle.htoken.specs.Data.{is_no_markup}
 use Rattle.hcuts.proofs.OneTag.{Side, Opens, Ends, mark_of}
 use Rattle.hcuts.proofs.OneValue.{lower_is}
 

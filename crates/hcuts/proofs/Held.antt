@@ -1,53 +1,37 @@
 -- What a tokenizer holds back is a beginning of a span.
-use Rattle.std.proofs.Common.{◌≡◌, ℕ, Bool, true, false, not, ◌||◌, ◌&&◌, eqb, List, [], ◌∷◌, ◌++◌, sym, refl, ap, ◌∙◌, subst, append_assoc, append-nil}
-use Rattle.std.proofs.lemmas.Bool.{eqb-true, false≢true}
+use Rattle.hcuts.proofs.Names.{◌≡◌, ℕ, Bool, true, false, not, ◌||◌, ◌&&◌, eqb, List, [], ◌∷◌, ◌++◌, sym, refl, ap, ◌∙◌, subst, append_assoc, append-nil, eqb-true, false≢true, to_ascii_lowercase, IncorrectlyOpenedComment, ParseError, Placed, RawKind, Texts, characters, lowered, all, begins, is_letter, is_empty, place, stops, spells, spells_in_any_case, error, name_bytes, Entities, IsTable, CommentKind, IsBogus, closed_bogus, IsDoctype, and_parts, and_both, neither, parts_text, attributes_after, ends_name, tag_errors, end_tag_errors, Tok, Span, Event, Start, End, Comment, piece_span, is_declaration, is_cdata, comment_span, may_end, is_raw_end, IsSpanOf, has_references, raw_reference, raw_end, IsTag, start_tag, end_tag, inside, CanEnd}
 use Rattle.std.specs.Prelude.{codes, if◌then◌else◌, map, Some}
 use Rattle.std.specs.String.{string_bytes}
 use Rattle.std.specs.List.{list_all}
-use Rattle.std.specs.Char.{to_ascii_lowercase}
-use Rattle.names.specs.declared.error.ErrorCode.TheVariants.{IncorrectlyOpenedComment}
-use Rattle.names.specs.declared.error.ParseError.{ParseError}
-use Rattle.names.specs.declared.placed.Placed.{Placed}
-use Rattle.names.specs.declared.raw.RawKind.{RawKind}
 use Rattle.names.specs.declared.raw.RawKind.TheVariants as kind
-use Rattle.names.specs.Names.{Texts}
-use Rattle.names.specs.Placed.{characters, lowered, all, begins, is_letter, is_empty, place, stops, before, spells, spells_in_any_case, null_errors, text_bytes, error, name_bytes}
-use Rattle.charref.specs.Reference.{Entities, IsTable}
+use Rattle.names.specs.Placed.{before, null_errors, text_bytes}
 use Rattle.charref.proofs.Opening.{open_taken}
-use Rattle.hmarkup.specs.declared.comment.CommentKind.{CommentKind}
 use Rattle.hmarkup.specs.declared.comment.CommentKind.TheVariants as comment
-use Rattle.hmarkup.specs.Comment.{IsBogus, closed_bogus, closes_bogus}
+use Rattle.hmarkup.specs.Comment.{closes_bogus}
 use Rattle.hmarkup.specs.CommentWalk.{HasReadOf, IsSpan as IsCommentOf}
-use Rattle.hmarkup.specs.Doctype.{IsDoctype}
 use Rattle.hmarkup.specs.DoctypeWalk.{HasReadDoctype}
 use Rattle.hmarkup.proofs.Closing.{closed_span, closed_doctype}
-use Rattle.hmarkup.proofs.Marks.{and_parts, and_both, neither}
 use Rattle.htag.specs.declared.kind.TagKind.{TagKind}
 use Rattle.htag.specs.declared.kind.TagKind.TheVariants as tag
-use Rattle.htag.specs.Tag.{parts_text, attributes_after, ends_name, tag_errors, end_tag_errors}
 use Rattle.htag.proofs.Parts.{begins_stops}
 use Rattle.htoken.specs.declared.declaration.Opened.{Opened}
 use Rattle.htoken.specs.declared.declaration.Opened.TheVariants as opened
 use Rattle.htoken.specs.declared.state.State.{State}
 use Rattle.htoken.specs.declared.state.State.TheVariants as state
 use Rattle.htoken.specs.declared.tokenizer.Tokenizer.{Tokenizer}
-use Rattle.htoken.specs.Token.{Tok, Span, Event, Start, End, Comment, piece_span}
-use Rattle.htoken.specs.Data.{IsDataSpan, is_declaration, is_cdata, comment_span}
 use Rattle.htoken.specs.Data as d
 use Rattle.htoken.specs.Declaration.{IsOpened}
 use Rattle.htoken.specs.HeldFrom.{from_of}
-use Rattle.htoken.specs.Raw.{may_end, is_raw, is_raw_end, name_ends}
-use Rattle.htoken.specs.Spans.{IsSpanOf, has_references, raw_reference, raw_end}
-use Rattle.htoken.specs.Tag.{IsTag, start_tag, end_tag, tag_mark}
+use Rattle.htoken.specs.Raw.{is_raw, name_ends}
+use Rattle.htoken.specs.Tag.{tag_mark}
 use Rattle.htoken.specs.Tokenizing.{Reads, holds, in_run, IsHeld, IsIn, IsInMarkup, IsInMarkedTag, IsInReference, less, doctype_token, next_place}
 use Rattle.htoken.proofs.Declaring.{nothing_at_end}
 use Rattle.htoken.proofs.Holding.{held_place}
 use Rattle.htoken.proofs.InData.{in_data}
 use Rattle.htoken.proofs.RawEnds.{a_name, is_whole, letters_stay}
 use Rattle.htoken.proofs.RawNames.{is_lower, is_word, raw_word, letters_of}
-use Rattle.hcuts.specs.Beginning.{IsBeginning, nothing, inside}
+use Rattle.hcuts.specs.Beginning.{IsBeginning, nothing}
 use Rattle.hcuts.specs.Held.{HeldBegins}
-use Rattle.hcuts.specs.SomeEnd.{CanEnd}
 use Rattle.hcuts.proofs.SomeEnd.{greater, tags_can_end}
 
 -- TAGS

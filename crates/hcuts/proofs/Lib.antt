@@ -1,3 +1,4 @@
+pub mod Names
 pub mod Words
 pub mod OneValue
 pub mod OnePart

@@ -1,23 +1,37 @@
 -- A text is cut into spans in one way.
-use Rattle.std.proofs.Common.{◌≡◌, ℕ, Bool, true, false, List, [], ◌∷◌, ◌++◌, Some, sym, refl, ap, ◌∙◌, subst, append_assoc, append-nil}
-use Rattle.std.proofs.lemmas.Bool.{false≢true}
-use Rattle.std.specs.Prelude.{is_some}
-use Rattle.names.specs.declared.error.ParseError.{ParseError}
-use Rattle.names.specs.declared.placed.Placed.{Placed}
-use Rattle.names.specs.declared.raw.RefusedName.{RefusedName}
-use Rattle.names.specs.Sets.{refused_name}
-use Rattle.names.specs.Tags.{tag_named}
-use Rattle.hmarkup.proofs.Marks.{neither, or_none, or_left}
-use Rattle.charref.specs.Reference.{Entities}
-use Rattle.htoken.specs.Token.{Tok, Start, Eof, Span}
-use Rattle.htoken.specs.Standing.{Standing, at_start, next, standing_after}
-use Rattle.htoken.specs.Raw.{end_errors}
-use Rattle.htoken.specs.Spans.{IsSpan}
-use Rattle.htoken.specs.Tokens.{spans_text, Cut, tokens_of, errors_of, is_refused_tag, has_refused, IsOut}
+use Rattle.hcuts.proofs.Names.{◌≡◌, ℕ, Bool, true, false, List, [], ◌∷◌, ◌++◌, Some, sym, refl, ap, ◌∙◌, subst, append_assoc, append-nil, false≢true, is_some, ParseError, Placed, RefusedName, refused_name, tag_named, neither, or_none, Entities, Tok, Start, Eof, Span, Standing, at_start, next, standing_after, end_errors, IsSpan, spans_text, Cut, tokens_of, errors_of, is_refused_tag, has_refused, IsOut}
+use Rattle.hmarkup.proofs.Marks.{or_left}
 use Rattle.hcuts.specs.OneCut.{OneCut, OneListOfTokens, NoTokensOfRefused, OneRefusal}
 use Rattle.hcuts.proofs.OneSpan.{one_span, some_span}
 
--- Two cuts by spans that fit, each up to where none that fits is, are the same.
+-- Spans at the front of a cut are its first.
+pub record IsFirst (table : Entities) (end : ℕ) (here : Standing) (spans whole : List Span) (rest after : List Placed) : Type 0 where
+  pub more : List Span
+  pub whole_is : whole ≡ spans ++ more
+  pub rest_is : rest ≡ spans_text more ++ after
+  pub cut : Cut table end (standing_after here spans) more after
+
+-- Of two cuts of one text one is a front of the other.
+pub data OneIsFront (table : Entities) (end : ℕ) (here : Standing) (spans whole : List Span) (rest after : List Placed) : Type 0 where
+  first : IsFirst table end here spans whole rest after → OneIsFront table end here spans whole rest after
+  goes_on : (span : Span) (others : List Span) → spans ≡ whole ++ span ∷ others → IsSpan table end (standing_after here whole) (spans_text others ++ rest) span → after ≡ span.text ++ (spans_text others ++ rest)
+      → OneIsFront table end here spans whole rest after
+
+module _ (table : Entities) (end : ℕ) (rest after : List Placed) where
+  after_same : (here : Standing) (s w : Span) (ss ws : List Span) → s ≡ w → OneIsFront table end (next here s) ss ws rest after → OneIsFront table end here (s ∷ ss) (w ∷ ws) rest after
+  after_same here s w ss ws same (first k) =
+      first (record { more = k.more; whole_is = ap (λ (x : Span). x ∷ ws) (sym same) ∙ ap (λ (xs : List Span). s ∷ xs) k.whole_is; rest_is = k.rest_is; cut = k.cut })
+  after_same here s w ss ws same (goes_on span others split is text) =
+      goes_on span others (ap (λ (x : Span). x ∷ ss) same ∙ ap (λ (xs : List Span). w ∷ xs) split) (subst (λ (x : Span). IsSpan table end (standing_after (next here x) ws) (spans_text others ++ rest) span) same is) text
+
+  pub one_is_front : (here : Standing) (spans whole : List Span) → Cut table end here spans rest → Cut table end here whole after → spans_text spans ++ rest ≡ spans_text whole ++ after → OneIsFront table end here spans whole rest after
+  one_is_front here [] whole c d e = first (record { more = whole; whole_is = refl; rest_is = e; cut = d })
+  one_is_front here (s ∷ ss) [] (is, c) d e = goes_on s ss refl is (sym e ∙ append_assoc s.text (spans_text ss) rest)
+  one_is_front here (s ∷ ss) (w ∷ ws) (is, c) (is', d) e =
+      let same = one_span table end here (spans_text ss ++ rest) (spans_text ws ++ after) s w is is'
+      (sym (append_assoc s.text (spans_text ss) rest) ∙ e ∙ append_assoc w.text (spans_text ws) after) in
+      after_same here s w ss ws same.0 (one_is_front (next here s) ss ws c (subst (λ (x : Span). Cut table end (next here x) ws after) (sym same.0) d) same.1)
+
 module _ (table : Entities) (end : ℕ) (Fits : Span → Type 0) where
   abbrev pub AllFit : List Span → Type 0
   AllFit [] = Unit {0}
@@ -26,17 +40,29 @@ module _ (table : Entities) (end : ℕ) (Fits : Span → Type 0) where
   abbrev pub NoneFits : Standing → List Placed → Type 0
   NoneFits here text = (span : Span) (rest : List Placed) → IsSpan table end here rest span → Fits span → text ≡ span.text ++ rest → ⊥
 
+  fit_after : (xs ys : List Span) → AllFit (xs ++ ys) → AllFit ys
+  fit_after [] ys f = f
+  fit_after (x ∷ xs) ys f = fit_after xs ys f.1
+
+  -- where the spans at the front fit, and none that fits is where the whole cut ends
+  pub first_of : (here : Standing) (spans whole : List Span) (rest after : List Placed) → Cut table end here spans rest → Cut table end here whole after → AllFit spans
+      → NoneFits (standing_after here whole) after → spans_text spans ++ rest ≡ spans_text whole ++ after → IsFirst table end here spans whole rest after
+  first_of here spans whole rest after c d f n e = elim (one_is_front table end rest after here spans whole c d e) [
+    | first k ↦ k
+    | goes_on span others split is text ↦ absurd (n span (spans_text others ++ rest) is (fit_after whole (span ∷ others) (subst AllFit split f)).0 text)
+  ]
+
+  no_more : (here : Standing) (more : List Span) (after : List Placed) → Cut table end here more after → AllFit more → NoneFits here (spans_text more ++ after) → more ≡ []
+  no_more here [] after c f n = refl
+  no_more here (m ∷ ms) after (is, c) f n = absurd (n m (spans_text ms ++ after) is f.0 (append_assoc m.text (spans_text ms) after))
+
+  -- Two cuts by spans that fit, each up to where none that fits is, are the same.
   one_cut_up_to : (here : Standing) (spans spans' : List Span) (rest rest' : List Placed) → Cut table end here spans rest → Cut table end here spans' rest' → AllFit spans → AllFit spans'
       → NoneFits (standing_after here spans) rest → NoneFits (standing_after here spans') rest' → spans_text spans ++ rest ≡ spans_text spans' ++ rest' → (spans ≡ spans') × (rest ≡ rest')
-  one_cut_up_to here [] [] rest rest' c c' f f' n n' e = (refl, e)
-  one_cut_up_to here [] (t ∷ ts) rest rest' c (first', c') f f' n n' e = absurd (n t (spans_text ts ++ rest') first' f'.0 (e ∙ append_assoc t.text (spans_text ts) rest'))
-  one_cut_up_to here (s ∷ ss) [] rest rest' (first, c) c' f f' n n' e = absurd (n' s (spans_text ss ++ rest) first f.0 (sym e ∙ append_assoc s.text (spans_text ss) rest))
-  one_cut_up_to here (s ∷ ss) (t ∷ ts) rest rest' (first, c) (first', c') f f' n n' e =
-      let same : (s ≡ t) × (spans_text ss ++ rest ≡ spans_text ts ++ rest') = one_span table end here (spans_text ss ++ rest) (spans_text ts ++ rest') s t first first'
-      (sym (append_assoc s.text (spans_text ss) rest) ∙ e ∙ append_assoc t.text (spans_text ts) rest') in
-      let others : (ss ≡ ts) × (rest ≡ rest') = one_cut_up_to (next here s) ss ts rest rest' c (subst (λ (x : Span). Cut table end (next here x) ts rest') (sym same.0) c') f.1 f'.1 n
-      (subst (λ (x : Span). NoneFits (standing_after (next here x) ts) rest') (sym same.0) n') same.1 in
-      (ap (λ (x : Span). x ∷ ss) same.0 ∙ ap (λ (xs : List Span). t ∷ xs) others.0, others.1)
+  one_cut_up_to here spans spans' rest rest' c c' f f' n n' e =
+      let k = first_of here spans spans' rest rest' c c' f n' e in
+      let none : k.more ≡ [] = no_more (standing_after here spans) k.more rest' k.cut (fit_after spans k.more (subst AllFit k.whole_is f')) (subst (NoneFits (standing_after here spans)) k.rest_is n) in
+      (sym (append-nil spans) ∙ ap (λ (x : List Span). spans ++ x) (sym none) ∙ sym k.whole_is, k.rest_is ∙ ap (λ (x : List Span). spans_text x ++ rest') none)
 
 -- a whole text
 abbrev pub Any : Span → Type 0

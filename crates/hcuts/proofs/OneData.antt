@@ -1,24 +1,13 @@
 -- One span of data at most is at the front of a text.
-use Rattle.std.proofs.Common.{◌≡◌, ℕ, false, eqb, List, [], ◌∷◌, ◌++◌, length, sym, refl, ap, ◌∙◌, subst, codes, append_assoc}
-use Rattle.std.proofs.lemmas.List.{length-map}
-use Rattle.std.specs.Char.{to_ascii_lowercase}
-use Rattle.names.specs.declared.error.ParseError.{ParseError}
+use Rattle.hcuts.proofs.Names.{◌≡◌, ℕ, false, eqb, List, [], ◌∷◌, ◌++◌, length, sym, refl, ap, ◌∙◌, subst, codes, append_assoc, length-map, to_ascii_lowercase, ParseError, IncorrectlyOpenedComment, Placed, characters, lowered, place, is_letter, error, CommentKind, IsDoctype, same_front, Entities, Piece, IsReference, Span, piece_span, parts_text, IsTag, IsDataSpan, comment_span, character, reference, less_than_last, less_than_solidus_last, less_than, nothing, tag, comment, bogus_end_tag, bogus_question, bogus_cdata, bogus_declaration, doctype}
 use Rattle.names.specs.declared.error.ErrorCode.{ErrorCode}
-use Rattle.names.specs.declared.error.ErrorCode.TheVariants.{CdataInHtmlContent, EofBeforeTagName, IncorrectlyOpenedComment, InvalidFirstCharacterOfTagName, MissingEndTagName, UnexpectedQuestionMarkInsteadOfTagName}
-use Rattle.names.specs.declared.placed.Placed.{Placed}
-use Rattle.names.specs.Placed.{characters, lowered, place, is_letter, error}
-use Rattle.hmarkup.specs.declared.comment.CommentKind.{CommentKind}
+use Rattle.names.specs.declared.error.ErrorCode.TheVariants.{CdataInHtmlContent, EofBeforeTagName, InvalidFirstCharacterOfTagName, MissingEndTagName, UnexpectedQuestionMarkInsteadOfTagName}
 use Rattle.hmarkup.specs.declared.comment.CommentKind.TheVariants as comments
 use Rattle.hmarkup.specs.CommentWalk.{IsSpan}
-use Rattle.hmarkup.specs.Doctype.{Found, IsDoctype}
-use Rattle.hmarkup.proofs.Fronts.{same_front}
+use Rattle.hmarkup.specs.Doctype.{Found}
 use Rattle.hmarkup.proofs.OneSpan.{one_of}
 use Rattle.hmarkup.proofs.Reading.{one_doctype}
-use Rattle.charref.specs.Reference.{Entities, Piece, IsReference}
-use Rattle.htoken.specs.Token.{Span, piece_span}
-use Rattle.htag.specs.Tag.{parts_text}
-use Rattle.htoken.specs.Tag.{IsTag}
-use Rattle.htoken.specs.Data.{IsDataSpan, character_span, less_span, comment_span, doctype_span, character, reference, less_than_last, less_than_solidus_last, less_than, nothing, tag, comment, bogus_end_tag, bogus_question, bogus_cdata, bogus_declaration, doctype}
+use Rattle.htoken.specs.Data.{character_span, less_span, doctype_span}
 use Rattle.charref.proofs.OneReference.{one_of as one_reference}
 use Rattle.hcuts.proofs.Words.{heads, tails, same_mark, begins_more}
 use Rattle.hcuts.proofs.OneValue.{at_amp}

@@ -1,15 +1,8 @@
 -- One part of a tag at most is at the front of the text after its name.
-use Rattle.std.proofs.Common.{◌≡◌, ℕ, Bool, true, false, not, ◌&&◌, ◌||◌, ◌==◌, eqb, if◌then◌else◌, List, [], ◌∷◌, ◌++◌, drop, None, sym, refl, ap, ◌∙◌, subst, codes, append_assoc, append-nil}
-use Rattle.std.proofs.lemmas.Bool.{false≢true, eqb-true}
-use Rattle.names.specs.declared.error.ParseError.{ParseError}
-use Rattle.names.specs.declared.error.ErrorCode.TheVariants.{MissingAttributeValue, MissingWhitespaceBetweenAttributes, UnexpectedSolidusInTag}
-use Rattle.names.specs.declared.placed.Placed.{Placed}
-use Rattle.names.specs.Placed.{characters, place, begins, stops, all, RunsTo, past, is_empty, is_space, is_equals, is_greater, is_quote, error_if}
-use Rattle.hmarkup.proofs.Marks.{and_parts, and_both, eqb_self, first_is}
+use Rattle.hcuts.proofs.Names.{◌≡◌, ℕ, Bool, true, false, not, ◌&&◌, ◌||◌, ◌==◌, eqb, if◌then◌else◌, List, [], ◌∷◌, ◌++◌, drop, None, sym, refl, ap, ◌∙◌, subst, codes, append_assoc, append-nil, false≢true, eqb-true, ParseError, MissingAttributeValue, Placed, characters, place, begins, stops, all, RunsTo, past, is_empty, is_space, is_equals, is_greater, is_quote, and_parts, and_both, eqb_self, first_is, Entities, Piece, AreValue, pieces_text, value_bytes, Part, IsPart, IsAttributeName, ends_name, ends_attribute_name, ends_unquoted, is_sign, value_errors, unquoted_errors, attribute_part, space, solidus, bare, no_value, unquoted, quoted, unclosed}
+use Rattle.names.specs.declared.error.ErrorCode.TheVariants.{MissingWhitespaceBetweenAttributes, UnexpectedSolidusInTag}
+use Rattle.names.specs.Placed.{error_if}
 use Rattle.hmarkup.proofs.Characters.{quote_is, quote_not_space}
-use Rattle.charref.specs.Reference.{Entities, Piece}
-use Rattle.htag.specs.Value.{AreValue, pieces_text, value_bytes}
-use Rattle.htag.specs.Tag.{Part, IsPart, IsAttributeName, ends_name, ends_attribute_name, ends_unquoted, is_sign, value_errors, unquoted_errors, attribute_part, space, solidus, bare, no_value, unquoted, quoted, unclosed}
 use Rattle.hcuts.proofs.Words.{heads, tails, same_mark, one_run, goes_no_further, begins_more, single, no_mark}
 use Rattle.hcuts.proofs.OneValue.{one_value}
 

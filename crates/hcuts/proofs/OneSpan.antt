@@ -1,19 +1,6 @@
 -- One span of raw text at most is at the front of a text, and one span of each kind.
-use Rattle.std.proofs.Common.{◌≡◌, ℕ, Bool, true, false, ◌&&◌, eqb, List, [], ◌∷◌, ◌++◌, Option, Some, None, sym, refl, ap, ◌∙◌}
-use Rattle.std.proofs.lemmas.Bool.{false≢true, eqb-true}
-use Rattle.names.specs.declared.placed.Placed.{Placed}
-use Rattle.names.specs.declared.raw.RawKind.{RawKind}
+use Rattle.hcuts.proofs.Names.{◌≡◌, ℕ, Bool, true, false, ◌&&◌, eqb, List, [], ◌∷◌, ◌++◌, Option, Some, None, sym, refl, ap, ◌∙◌, false≢true, eqb-true, not_second, Placed, RawKind, begins, spells, and_parts, Entities, Piece, IsReference, Span, piece_span, Standing, plain_piece, is_end_tag_of, is_raw_end, may_end, tag, IsRawSpan, IsSpanOf, IsSpan, has_references, raw_character, raw_reference, raw_end, one_of}
 use Rattle.names.specs.declared.raw.RawKind.TheVariants as kind
-use Rattle.names.specs.Placed.{begins, spells}
-use Rattle.hmarkup.proofs.Marks.{and_parts}
-use Rattle.charref.specs.Reference.{Entities, Piece, IsReference}
-use Rattle.htoken.specs.Token.{Span, piece_span}
-use Rattle.htoken.specs.Standing.{Standing}
-use Rattle.htag.specs.Value.{plain_piece}
-use Rattle.htoken.specs.Raw.{is_end_tag_of, is_raw_end, may_end}
-use Rattle.htoken.specs.Data.{tag}
-use Rattle.htoken.specs.Spans.{IsRawSpan, IsSpanOf, IsSpan, has_references, raw_character, raw_reference, raw_end}
-use Rattle.charref.proofs.OneReference.{one_of}
 use Rattle.hcuts.proofs.Words.{heads, tails, begins_more}
 use Rattle.hcuts.proofs.OneValue.{is_amp, at_amp, no_reference}
 use Rattle.hcuts.proofs.OneData.{one_data_span, one_tag, some_data}
@@ -30,10 +17,6 @@ end_tag_less (Some name) (p ∷ ps) h = ap (λ (c : ℕ). eqb c 38) (eqb-true p.
 
 pub raw_end_less : (here : Standing) (text : List Placed) → is_raw_end here text ≡ true → begins is_amp text ≡ false
 raw_end_less here text h = end_tag_less here.name text (and_parts (may_end here.kind here.front) (is_end_tag_of here.name text) h).1
-
-not_second : (a b : Bool) → (a && b) ≡ false → a ≡ true → b ≡ false
-not_second true b h k = h
-not_second false b h k = absurd (false≢true k)
 
 module _ (table : Entities) (end : ℕ) (here : Standing) where
   piece_whole : (rest : List Placed) (span : Span) (piece : Piece) → span ≡ piece_span piece → span.text ++ rest ≡ piece.text ++ rest

@@ -1,14 +1,6 @@
 -- One tag at most is at the front of a text.
-use Rattle.std.proofs.Common.{◌≡◌, inl, inr, ℕ, Bool, true, false, not, eqb, List, [], ◌∷◌, ◌++◌, sym, refl, ap, ◌∙◌, subst, codes, append_assoc}
-use Rattle.std.proofs.lemmas.Bool.{false≢true}
+use Rattle.hcuts.proofs.Names.{◌≡◌, inl, inr, ℕ, Bool, true, false, not, eqb, List, [], ◌∷◌, ◌++◌, sym, refl, ap, ◌∙◌, subst, codes, append_assoc, false≢true, Placed, characters, place, error, name_bytes, first_is, Entities, Span, Start, End, Part, IsPart, AreParts, parts_text, IsTagFront, tag_close, tag_errors, end_tag_errors, attributes_after, ends_name, IsTag, start_tag, end_tag, unfinished}
 use Rattle.names.specs.declared.error.ErrorCode.TheVariants.{EofInTag}
-use Rattle.names.specs.declared.placed.Placed.{Placed}
-use Rattle.names.specs.Placed.{characters, place, error, name_bytes}
-use Rattle.hmarkup.proofs.Marks.{first_is}
-use Rattle.charref.specs.Reference.{Entities}
-use Rattle.htoken.specs.Token.{Span, Start, End}
-use Rattle.htag.specs.Tag.{Part, IsPart, AreParts, parts_text, IsTagFront, tag_close, tag_errors, end_tag_errors, attributes_after, ends_name}
-use Rattle.htoken.specs.Tag.{IsTag, start_tag, end_tag, unfinished}
 use Rattle.hcuts.proofs.Words.{heads, same_mark, one_run, goes_no_further}
 use Rattle.hcuts.proofs.OnePart.{one_part, none_at_end, none_at_greater, none_at_close}
 

@@ -1,13 +1,7 @@
 -- A value is cut into pieces in one way.
-use Rattle.std.proofs.Common.{arith, ◌≡◌, ℕ, ◌+◌, Bool, true, false, eqb, cond, nat_lt, List, [], ◌∷◌, ◌++◌, sym, refl, ap, ◌∙◌, subst, codes}
-use Rattle.std.proofs.lemmas.Bool.{false≢true}
-use Rattle.std.proofs.lemmas.Bool.Decides.{nat_tests}
-use Rattle.std.specs.Char.{to_ascii_lowercase}
-use Rattle.names.specs.declared.placed.Placed.{Placed}
-use Rattle.names.specs.Placed.{characters, lowered, begins}
-use Rattle.charref.specs.Reference.{Entities, Piece, IsReference, named, kept, unknown, decimal, hexadecimal, no_digits, alone}
-use Rattle.htag.specs.Value.{IsPiece, plain, reference, plain_piece, pieces_text, AreValue}
-use Rattle.charref.proofs.OneReference.{one_of}
+use Rattle.hcuts.proofs.Names.{arith, ◌≡◌, ℕ, ◌+◌, Bool, true, false, eqb, cond, nat_lt, List, [], ◌∷◌, ◌++◌, sym, refl, ap, ◌∙◌, subst, codes, false≢true, nat_tests, to_ascii_lowercase, Placed, characters, lowered, begins, Entities, Piece, IsReference, IsPiece, plain, plain_piece, pieces_text, AreValue, one_of}
+use Rattle.charref.specs.Reference.{named, kept, unknown, decimal, hexadecimal, no_digits, alone}
+use Rattle.htag.specs.Value.{reference}
 use Rattle.hcuts.proofs.Words.{heads, tails, begins_more}
 
 lower_near : (c k : ℕ) (a b : Bool) → nat_lt c 65 ≡ a → cond a c (cond b (c + 32) c) ≡ k → nat_lt k 97 ≡ true → c ≡ k

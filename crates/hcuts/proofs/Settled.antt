@@ -1,41 +1,12 @@
 -- The spans at the front of a text that are there whatever follows are among those that a tokenizer has handed over.
-use Rattle.std.proofs.Common.{◌≡◌, ℕ, false, List, [], ◌∷◌, ◌++◌, length, sym, refl, ap, ◌∙◌, subst, append_assoc, append-nil, arith, length-append}
-use Rattle.std.proofs.lemmas.Bool.{false≢true}
-use Rattle.std.proofs.lemmas.Grind.{flat_map-append}
-use Rattle.names.specs.declared.placed.Placed.{Placed}
-use Rattle.names.specs.declared.raw.RawKind.{RawKind}
-use Rattle.names.specs.Placed.{is_empty}
-use Rattle.charref.specs.Reference.{Entities}
+use Rattle.hcuts.proofs.Names.{◌≡◌, ℕ, false, List, [], ◌∷◌, ◌++◌, length, sym, ap, ◌∙◌, subst, append_assoc, append-nil, arith, length-append, false≢true, flat_map-append, Placed, RawKind, is_empty, Entities, Span, Event, Standing, at_start, IsSpan, spans_text, tokens_of, has_refused, tokens_in, inside}
 use Rattle.htoken.specs.HeldFrom.{IsCutAt}
-use Rattle.htoken.specs.Token.{Span, Event}
-use Rattle.htoken.specs.Standing.{Standing, at_start, next, standing_after}
-use Rattle.htoken.specs.Spans.{IsSpan}
-use Rattle.htoken.specs.Tokens.{spans_text, Cut, tokens_of, has_refused, tokens_in}
-use Rattle.hcuts.specs.Beginning.{nothing, inside}
+use Rattle.hcuts.specs.Beginning.{nothing}
 use Rattle.hcuts.specs.Held.{HoldsBeginning}
 use Rattle.hcuts.specs.Settled.{AreSettled, AreTaken, SettledAreTaken}
 use Rattle.hcuts.proofs.Held.{held_begins}
-use Rattle.hcuts.proofs.OneCut.{refused_parts}
+use Rattle.hcuts.proofs.OneCut.{OneIsFront, first, goes_on, one_is_front, refused_parts}
 use Rattle.hcuts.proofs.OneSpan.{one_span, some_span}
-
--- Of two cuts of one text one is a front of the other.
-pub data OneIsFront (table : Entities) (end : ℕ) (here : Standing) (spans whole : List Span) (rest after : List Placed) : Type 0 where
-  first : (more : List Span) → whole ≡ spans ++ more → OneIsFront table end here spans whole rest after
-  goes_on : (span : Span) (others : List Span) → IsSpan table end (standing_after here whole) (spans_text others ++ rest) span → after ≡ span.text ++ (spans_text others ++ rest)
-      → OneIsFront table end here spans whole rest after
-
-module _ (table : Entities) (end : ℕ) (rest after : List Placed) where
-  after_same : (here : Standing) (s w : Span) (ss ws : List Span) → s ≡ w → OneIsFront table end (next here s) ss ws rest after → OneIsFront table end here (s ∷ ss) (w ∷ ws) rest after
-  after_same here s w ss ws same (first more is) = first more (ap (λ (x : Span). x ∷ ws) (sym same) ∙ ap (λ (xs : List Span). s ∷ xs) is)
-  after_same here s w ss ws same (goes_on span others is text) = goes_on span others (subst (λ (x : Span). IsSpan table end (standing_after (next here x) ws) (spans_text others ++ rest) span) same is) text
-
-  pub one_is_front : (here : Standing) (spans whole : List Span) → Cut table end here spans rest → Cut table end here whole after → spans_text spans ++ rest ≡ spans_text whole ++ after → OneIsFront table end here spans whole rest after
-  one_is_front here [] whole c d e = first whole refl
-  one_is_front here (s ∷ ss) [] (is, c) d e = goes_on s ss is (sym e ∙ append_assoc s.text (spans_text ss) rest)
-  one_is_front here (s ∷ ss) (w ∷ ws) (is, c) (is', d) e =
-      let same = one_span table end here (spans_text ss ++ rest) (spans_text ws ++ after) s w is is'
-      (sym (append_assoc s.text (spans_text ss) rest) ∙ e ∙ append_assoc w.text (spans_text ws) after) in
-      after_same here s w ss ws same.0 (one_is_front (next here s) ss ws c (subst (λ (x : Span). Cut table end (next here x) ws after) (sym same.0) d) same.1)
 
 taken_front : (taken : List Event) (spans whole more : List Span) → whole ≡ spans ++ more → tokens_in taken ≡ tokens_of whole → has_refused (tokens_of whole) ≡ false → AreTaken taken spans
 taken_front taken spans whole more is tokens_are in_profile =
@@ -67,8 +38,8 @@ module _ (table : Entities) (start : RawKind) (text : List Placed) (taken : List
 
     are_taken : ((span : Span) (others : List Span) → IsSpan table end h.here (spans_text others ++ (s.rest ++ more)) span → h.held ++ more ≡ span.text ++ (spans_text others ++ (s.rest ++ more)) → ⊥) → AreTaken taken spans
     are_taken none = elim compared [
-      | first others is ↦ taken_front taken spans here_cut.spans others is here_cut.tokens_are here_cut.in_profile
-      | goes_on span others is whole ↦ absurd (none span others (subst (λ (x : Standing). IsSpan table end x (spans_text others ++ (s.rest ++ more)) span) (h.cuts end more).1 is) whole)
+      | first k ↦ taken_front taken spans here_cut.spans k.more k.whole_is here_cut.tokens_are here_cut.in_profile
+      | goes_on span others split is whole ↦ absurd (none span others (subst (λ (x : Standing). IsSpan table end x (spans_text others ++ (s.rest ++ more)) span) (h.cuts end more).1 is) whole)
     ]
 
   settled_taken : AreTaken taken spans

@@ -1,22 +1,14 @@
 -- What tokens a span gives: one start tag, whose name begins with a letter, or none that is refused.
-use Rattle.std.proofs.Common.{arith, ◌≡◌, ℕ, ◌+◌, ◌<◌, Bool, true, false, cond, nat_lt, eqb, List, [], ◌∷◌, ◌++◌, map, sym, refl, ap, ◌∙◌, subst}
-use Rattle.std.proofs.lemmas.Bool.{false≢true}
-use Rattle.std.proofs.lemmas.Bool.Decides.{nat_tests}
+use Rattle.hcuts.proofs.Names.{arith, ◌≡◌, ℕ, ◌+◌, Bool, true, false, cond, nat_lt, eqb, List, [], ◌∷◌, ◌++◌, sym, refl, ap, ◌∙◌, subst, false≢true, nat_tests, to_ascii_lowercase, Placed, RawKind, begins, is_letter, name_bytes, Entities, Piece, Tok, Start, End, Comment, Eof, Span, piece_span, Standing, IsTag, start_tag, end_tag, unfinished, IsDataSpan, character, reference, less_than_last, less_than_solidus_last, less_than, nothing, tag, comment, bogus_end_tag, bogus_question, bogus_cdata, bogus_declaration, doctype, IsRawSpan, IsSpanOf, IsSpan, raw_character, raw_reference, raw_end, has_refused, IsName}
+use Rattle.std.proofs.Common.{◌<◌, map}
 use Rattle.std.proofs.lemmas.Str.{encode_ascii}
 use Rattle.std.specs.Prelude.{encode_utf8_all}
-use Rattle.std.specs.Char.{to_ascii_lowercase, encode_utf8}
-use Rattle.names.specs.declared.placed.Placed.{Placed}
-use Rattle.names.specs.declared.raw.RawKind.{RawKind}
+use Rattle.std.specs.Char.{encode_utf8}
 use Rattle.names.specs.declared.raw.RawKind.TheVariants as kind
-use Rattle.names.specs.Placed.{begins, is_letter, name_bytes, without_null}
-use Rattle.charref.specs.Reference.{Entities, Piece}
-use Rattle.htoken.specs.Token.{Tok, Doctype, Start, End, Comment, Char, Eof, Span, piece_span}
-use Rattle.htoken.specs.Standing.{Standing, after_tokens}
-use Rattle.htoken.specs.Tag.{IsTag, start_tag, end_tag, unfinished}
-use Rattle.htoken.specs.Data.{IsDataSpan, character, reference, less_than_last, less_than_solidus_last, less_than, nothing, tag, comment, bogus_end_tag, bogus_question, bogus_cdata, bogus_declaration, doctype}
-use Rattle.htoken.specs.Spans.{IsRawSpan, IsSpanOf, IsSpan, raw_character, raw_reference, raw_end}
-use Rattle.htoken.specs.Tokens.{has_refused}
-use Rattle.hcuts.specs.SomeCut.{begins_letter, IsName}
+use Rattle.names.specs.Placed.{without_null}
+use Rattle.htoken.specs.Token.{Doctype, Char}
+use Rattle.htoken.specs.Standing.{after_tokens}
+use Rattle.hcuts.specs.SomeCut.{begins_letter}
 
 -- A NAME
 

@@ -1,27 +1,10 @@
 -- Each text is cut, and has an answer.
-use Rattle.std.proofs.Common.{arith, ◌≡◌, ℕ, zero, suc, ◌+◌, ◌≤◌, Bool, true, false, ◌&&◌, ◌||◌, cond, nat_lt, eqb, List, [], ◌∷◌, ◌++◌, length, Option, Some, None, sym, refl, ap, ◌∙◌, subst, append_assoc, append-nil}
-use Rattle.std.proofs.lemmas.Bool.{false≢true, eqb-true}
-use Rattle.std.proofs.lemmas.Bool.Decides.{nat_tests}
-use Rattle.std.specs.Prelude.{is_some}
-use Rattle.std.specs.Char.{to_ascii_lowercase}
-use Rattle.names.specs.declared.placed.Placed.{Placed}
-use Rattle.names.specs.declared.raw.RawKind.{RawKind}
+use Rattle.hcuts.proofs.Names.{arith, ◌≡◌, ℕ, zero, suc, ◌+◌, ◌≤◌, Bool, true, false, ◌&&◌, ◌||◌, cond, nat_lt, eqb, List, [], ◌∷◌, ◌++◌, length, Option, Some, None, sym, refl, ap, ◌∙◌, subst, append_assoc, append-nil, false≢true, eqb-true, nat_tests, is_some, to_ascii_lowercase, Placed, RawKind, RefusedName, spells, spells_in_any_case, is_letter, refused_name, tag_named, and_parts, or_none, Entities, IsTable, Tok, Eof, Span, Standing, at_start, next, standing_after, is_end_tag_of, is_raw_end, may_end, end_errors, IsRawSpan, IsSpanOf, IsSpan, has_references, raw_character, raw_reference, raw_end, spans_text, Cut, tokens_of, errors_of, is_refused_tag, has_refused, IsOut, HasTag, IsName, some_of}
+use Rattle.names.proofs.Words.{or_second}
 use Rattle.names.specs.declared.raw.RawKind.TheVariants as kind
-use Rattle.names.specs.declared.raw.RefusedName.{RefusedName}
-use Rattle.names.specs.Placed.{spells, spells_in_any_case, is_letter}
-use Rattle.names.specs.Sets.{refused_name}
-use Rattle.names.specs.Tags.{tag_named}
-use Rattle.hmarkup.proofs.Marks.{and_parts, or_none}
-use Rattle.charref.specs.Reference.{Entities, IsTable}
-use Rattle.htoken.specs.Token.{Tok, Eof, Span}
-use Rattle.htoken.specs.Standing.{Standing, at_start, next, standing_after}
-use Rattle.htoken.specs.Raw.{is_end_tag_of, is_raw_end, may_end, end_errors}
-use Rattle.htoken.specs.Spans.{IsRawSpan, IsSpanOf, IsSpan, has_references, raw_character, raw_reference, raw_end}
-use Rattle.htoken.specs.Tokens.{spans_text, Cut, tokens_of, errors_of, is_refused_tag, has_refused, IsOut}
-use Rattle.hcuts.specs.SomeCut.{HasTag, HasCut, HasAnswer, gives, refuses, IsName, SomeSpan, SomeCut, SomeAnswer}
+use Rattle.hcuts.specs.SomeCut.{HasCut, HasAnswer, gives, refuses, SomeSpan, SomeCut, SomeAnswer}
 use Rattle.hcuts.proofs.OneValue.{is_amp, at_amp}
 use Rattle.hcuts.proofs.OneTag.{Ends}
-use Rattle.charref.proofs.SomeReference.{some_of}
 use Rattle.hcuts.proofs.SomePart.{begins_long, shorter, not_empty}
 use Rattle.hcuts.proofs.SomeTag.{some_tag}
 use Rattle.hcuts.proofs.SomeData.{some_data_span}
@@ -123,10 +106,6 @@ refused_append : (xs ys : List Tok) → has_refused (xs ++ ys) ≡ (has_refused 
 refused_append [] ys = refl
 refused_append (x ∷ xs) ys = ap (λ (b : Bool). is_refused_tag x || b) (refused_append xs ys) ∙ or_assoc (is_refused_tag x) (has_refused xs) (has_refused ys)
 
-second : (a b : Bool) → (a || b) ≡ true → a ≡ false → b ≡ true
-second true b h k = absurd (false≢true (sym k))
-second false b h k = h
-
 first_only : (b : Bool) → (b || false) ≡ true → b ≡ true
 first_only true h = refl
 first_only false h = h
@@ -169,7 +148,7 @@ module _ (table : Entities) (end : ℕ) where
       → IsRefusedFrom table end here (s.text ++ spans_text ss)
   refused_by here s ss is true e after h = out_of here s (spans_text ss) is e (span_shape table end here (spans_text ss) s is)
   refused_by here s ss is false e after h =
-      let k = after (second (has_refused s.tokens) (has_refused (tokens_of ss)) (sym (refused_append s.tokens (tokens_of ss)) ∙ h) e) in
+      let k = after (or_second (has_refused s.tokens) (has_refused (tokens_of ss)) (sym (refused_append s.tokens (tokens_of ss)) ∙ h) e) in
       record {
         front = s ∷ k.front;
         rest = k.rest;

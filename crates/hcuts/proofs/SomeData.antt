@@ -1,22 +1,12 @@
 -- A span of data is at the front of each text but the empty one.
-use Rattle.std.proofs.Common.{arith, ◌≡◌, ℕ, ◌≤◌, Bool, true, false, not, ◌&&◌, ◌||◌, eqb, List, [], ◌∷◌, ◌++◌, length, sym, refl, ap, ◌∙◌, subst, codes, append_assoc, append-nil}
-use Rattle.std.proofs.lemmas.Bool.{false≢true, eqb-true}
-use Rattle.std.specs.Char.{to_ascii_lowercase}
-use Rattle.names.specs.declared.error.ParseError.{ParseError}
-use Rattle.names.specs.declared.placed.Placed.{Placed}
-use Rattle.names.specs.Placed.{characters, lowered, begins, spells, spells_in_any_case, is_letter, is_greater}
+use Rattle.hcuts.proofs.Names.{arith, ◌≡◌, ℕ, ◌≤◌, Bool, true, false, not, ◌&&◌, ◌||◌, eqb, List, [], ◌∷◌, ◌++◌, length, sym, refl, ap, ◌∙◌, subst, codes, append_assoc, append-nil, false≢true, eqb-true, to_ascii_lowercase, ParseError, Placed, characters, lowered, begins, spells, spells_in_any_case, is_letter, is_greater, IsBogus, closed_bogus, and_parts, or_none, Entities, IsTable, Span, IsDataSpan, character, reference, less_than_last, less_than_solidus_last, less_than, nothing, tag, comment, bogus_end_tag, bogus_question, bogus_cdata, bogus_declaration, doctype, is_cdata, is_declaration, some_of}
 use Rattle.hmarkup.specs.declared.comment.CommentKind.TheVariants as comments
-use Rattle.hmarkup.specs.Comment.{IsBogus, closed_bogus, unclosed_bogus}
-use Rattle.hmarkup.proofs.Marks.{and_parts, or_none}
+use Rattle.hmarkup.specs.Comment.{unclosed_bogus}
 use Rattle.hmarkup.proofs.SomeSpan.{some_span, some_doctype}
-use Rattle.charref.specs.Reference.{Entities, IsTable}
-use Rattle.htoken.specs.Token.{Span}
-use Rattle.htoken.specs.Data.{IsDataSpan, character, reference, less_than_last, less_than_solidus_last, less_than, nothing, tag, comment, bogus_end_tag, bogus_question, bogus_cdata, bogus_declaration, doctype, is_cdata, is_declaration}
 use Rattle.hcuts.proofs.Words.{heads, single}
 use Rattle.hcuts.proofs.OneValue.{is_amp, at_amp}
 use Rattle.hcuts.proofs.OneTag.{Opens, Ends}
 use Rattle.hcuts.proofs.CutClasses.{spells_more}
-use Rattle.charref.proofs.SomeReference.{some_of}
 use Rattle.hcuts.proofs.SomePart.{begins_long}
 use Rattle.hcuts.proofs.SomeTag.{some_tag}
 

@@ -1,20 +1,12 @@
 -- What has been read of a tag can be completed.
-use Rattle.std.proofs.Common.{◌≡◌, ℕ, Bool, true, false, not, ◌||◌, eqb, List, [], ◌∷◌, ◌++◌, sym, refl, ap, ◌∙◌, subst, append_assoc, append-nil}
-use Rattle.names.specs.declared.error.ErrorCode.TheVariants.{MissingAttributeValue}
-use Rattle.names.specs.declared.error.ParseError.{ParseError}
-use Rattle.names.specs.declared.placed.Placed.{Placed}
-use Rattle.names.specs.Names.{Texts}
-use Rattle.names.specs.Placed.{characters, begins, stops, all, is_empty, is_space, is_quote, error}
-use Rattle.charref.specs.Reference.{Entities, IsTable}
+use Rattle.hcuts.proofs.Names.{◌≡◌, ℕ, Bool, true, false, not, ◌||◌, eqb, List, [], ◌∷◌, ◌++◌, sym, refl, ap, ◌∙◌, subst, append_assoc, append-nil, MissingAttributeValue, ParseError, Placed, Texts, characters, begins, stops, all, is_empty, is_space, is_quote, error, Entities, IsTable, pieces_text, value_bytes, Part, IsPart, AreParts, parts_text, IsAttributeName, ends_name, ends_attribute_name, ends_unquoted, is_sign, attribute_part, value_errors, unquoted_errors, tag_close, CanEnd}
 use Rattle.htag.specs.declared.tag_state.TagState.{TagState}
 use Rattle.htag.specs.declared.tag_state.TagState.TheVariants as phase
 use Rattle.htag.specs.declared.walk.TagWalk.{TagWalk}
-use Rattle.htag.specs.Value.{pieces_text, value_bytes}
-use Rattle.htag.specs.Tag.{Part, IsPart, AreParts, parts_text, IsAttributeName, ends_name, ends_attribute_name, ends_unquoted, is_sign, attribute_part, value_errors, unquoted_errors, tag_close}
 use Rattle.htag.specs.TagWalk.{HasName, PastName, InName, InQuotes, InUnquoted, PastQuotes, HasPhase, IsPast, IsInTag}
 use Rattle.htag.proofs.Parts.{begins-more, parts_text-snoc, AreParts-snoc}
 use Rattle.htag.proofs.Values.{spaces_sign, sign_stops}
-use Rattle.hcuts.specs.SomeEnd.{CanEnd, TagsCanEnd}
+use Rattle.hcuts.specs.SomeEnd.{TagsCanEnd}
 use Rattle.hcuts.proofs.SomePart.{some_value}
 
 abbrev pub greater : Placed

@@ -1,14 +1,8 @@
 -- A part of a tag is at the front of each text where a tag does not end.
-use Rattle.std.proofs.Common.{arith, ◌≡◌, ℕ, zero, suc, ◌≤◌, Bool, true, false, not, ◌&&◌, ◌||◌, ◌==◌, eqb, if◌then◌else◌, List, [], ◌∷◌, ◌++◌, length, drop, sym, refl, ap, ◌∙◌, subst, append_assoc, append-nil, length-append}
-use Rattle.std.proofs.lemmas.Bool.{or_parts, false≢true, eqb-true}
-use Rattle.names.specs.declared.placed.Placed.{Placed}
-use Rattle.names.specs.Placed.{begins, stops, all, RunsTo, past, is_space, is_equals, is_greater, is_quote}
-use Rattle.hmarkup.proofs.Marks.{and_both, or_none}
+use Rattle.hcuts.proofs.Names.{arith, ◌≡◌, ℕ, zero, suc, ◌≤◌, Bool, true, false, not, ◌&&◌, ◌||◌, ◌==◌, eqb, if◌then◌else◌, List, [], ◌∷◌, ◌++◌, length, drop, sym, refl, ap, ◌∙◌, subst, append_assoc, append-nil, length-append, false≢true, eqb-true, not_second, Placed, begins, stops, all, RunsTo, past, is_space, is_equals, is_greater, is_quote, and_both, or_none, Entities, Piece, IsTable, IsPiece, plain, plain_piece, AreValue, pieces_text, Part, IsPart, AreParts, parts_text, IsAttributeName, ends_name, ends_attribute_name, ends_unquoted, is_sign, space, solidus, bare, no_value, unquoted, quoted, unclosed, some_of}
+use Rattle.std.proofs.lemmas.Bool.{or_parts, not-true}
 use Rattle.hmarkup.proofs.Endings.{not_either}
-use Rattle.charref.specs.Reference.{Entities, Piece, IsTable}
-use Rattle.htag.specs.Value.{IsPiece, plain, reference, plain_piece, AreValue, pieces_text}
-use Rattle.htag.specs.Tag.{Part, IsPart, AreParts, parts_text, IsAttributeName, ends_name, ends_attribute_name, ends_unquoted, is_sign, space, solidus, bare, no_value, unquoted, quoted, unclosed}
-use Rattle.charref.proofs.SomeReference.{some_of}
+use Rattle.htag.specs.Value.{reference}
 use Rattle.hcuts.proofs.Words.{begins_more}
 use Rattle.hcuts.proofs.OneValue.{is_amp, at_amp}
 
@@ -87,13 +81,9 @@ all_twice : (test : ℕ → Bool) (xs : List Placed) → all (λ c. not (not (te
 all_twice test [] h = refl
 all_twice test (x ∷ xs) h = twice_by (test x.ch) (all (λ c. not (not (test c))) xs) (all test xs) h (all_twice test xs)
 
-not_false : (b : Bool) → not b ≡ true → b ≡ false
-not_false true h = absurd (false≢true h)
-not_false false h = refl
-
 stops_twice : (test : ℕ → Bool) (xs : List Placed) → stops (λ c. not (test c)) xs ≡ true → begins test xs ≡ false
 stops_twice test [] h = refl
-stops_twice test (x ∷ xs) h = not_false (test x.ch) h
+stops_twice test (x ∷ xs) h = not-true (test x.ch) h
 
 record HasSign (text : List Placed) : Type 0 where
   sign : List Placed
@@ -203,10 +193,6 @@ abbrev pub is_stop : List Placed → Bool
 is_stop [] = true
 is_stop (p ∷ ps) = is_greater p.ch || (eqb p.ch 47 && begins is_greater ps)
 
-second_of : (a b : Bool) → (a && b) ≡ false → a ≡ true → b ≡ false
-second_of true b h k = h
-second_of false b h k = absurd (false≢true k)
-
 module _ (table : Entities) (is_table : IsTable table) (end : ℕ) where
   attribute_by : (name after : List Placed) → IsAttributeName name after → (b : Bool) → begins is_equals (past is_space after) ≡ b → HasPart table end (name ++ after)
   attribute_by name after n false e =
@@ -219,7 +205,7 @@ module _ (table : Entities) (is_table : IsTable table) (end : ℕ) where
 
   part_by : (p : Placed) (ps : List Placed) (white slash : Bool) → is_space p.ch ≡ white → eqb p.ch 47 ≡ slash → is_stop (p ∷ ps) ≡ false → HasPart table end (p ∷ ps)
   part_by p ps true slash e f h = record { part = _; rest = ps; text_is = refl; is_part = space p e refl; long = omega arith }
-  part_by p ps false true e f h = record { part = _; rest = ps; text_is = refl; is_part = solidus p (eqb-true p.ch 47 f) (second_of (eqb p.ch 47) (begins is_greater ps) (or_parts (is_greater p.ch) (eqb p.ch 47 && begins is_greater ps) h).1 f) refl; long = omega arith }
+  part_by p ps false true e f h = record { part = _; rest = ps; text_is = refl; is_part = solidus p (eqb-true p.ch 47 f) (not_second (eqb p.ch 47) (begins is_greater ps) (or_parts (is_greater p.ch) (eqb p.ch 47 && begins is_greater ps) h).1 f) refl; long = omega arith }
   part_by p ps false false e f h =
       let k = split ends_attribute_name ps in
       subst (λ (x : List Placed). HasPart table end (p ∷ x)) (sym k.text_is)

@@ -1,15 +1,6 @@
 -- A tag is at each `<` or `</` before a letter.
-use Rattle.std.proofs.Common.{arith, ◌≡◌, inl, inr, ℕ, ◌≤◌, Bool, true, false, not, ◌&&◌, ◌||◌, eqb, List, [], ◌∷◌, ◌++◌, length, sym, refl, ap, ◌∙◌, subst, codes, length-append}
-use Rattle.std.proofs.lemmas.Bool.{false≢true, eqb-true}
-use Rattle.names.specs.declared.placed.Placed.{Placed}
-use Rattle.names.specs.Placed.{characters, begins, stops, all, is_letter, is_greater}
-use Rattle.hmarkup.proofs.Marks.{and_parts, and_both}
-use Rattle.charref.specs.Reference.{Entities, IsTable}
-use Rattle.htoken.specs.Token.{Span}
-use Rattle.htag.specs.Tag.{Part, parts_text, IsTagFront, ends_name}
-use Rattle.htoken.specs.Tag.{IsTag, start_tag, end_tag, unfinished}
+use Rattle.hcuts.proofs.Names.{arith, ◌≡◌, inl, inr, ℕ, ◌≤◌, Bool, true, false, not, ◌&&◌, ◌||◌, eqb, List, [], ◌∷◌, ◌++◌, length, sym, refl, ap, ◌∙◌, subst, codes, length-append, false≢true, eqb-true, Placed, characters, begins, stops, all, is_letter, is_greater, and_parts, and_both, Entities, IsTable, Span, Part, parts_text, IsTagFront, ends_name, IsTag, start_tag, end_tag, unfinished, HasTag}
 use Rattle.htoken.proofs.RawEnds.{letter_stays}
-use Rattle.hcuts.specs.SomeCut.{HasTag}
 use Rattle.hcuts.proofs.OneTag.{Side, Opens, Ends, mark_of, tag_span, cut_span, tag_text, IsEnding, closed, cut_off, tag_whole}
 use Rattle.hcuts.proofs.SomePart.{split, some_parts, is_stop}
 

@@ -41,7 +41,8 @@ pub fn some_answer()
     ensures { SomeAnswer }
 {}
 
-/// A whole text is cut into spans in exactly one way.
+/// A whole text is cut into spans in exactly one way, so that its tokens are the same however the bytes are cut into the pieces that it
+/// comes in.
 pub fn exactly_one_cut()
     ensures { ExactlyOneCut }
 {}

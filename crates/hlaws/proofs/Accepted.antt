@@ -1,29 +1,11 @@
 -- A fragment whose tokens lead the rules to a state is accepted, with the tree of that state.
-use Rattle.std.proofs.Common.{◌≡◌, ℕ, ◌≤◌, List, ◌++◌, length, take, map, None, Ok, refl, sym, ap, ◌∙◌, subst}
-use Rattle.std.specs.Prelude.{IsUtf8}
+use Rattle.hlaws.proofs.Names.{◌≡◌, ℕ, ◌≤◌, List, ◌++◌, length, map, None, Ok, refl, sym, ap, ◌∙◌, subst, IsUtf8, ParseError, Placed, raw_kind, tag_named, input_errors, Policy, read_len, refusal_of, Tok, Tokens, texts, Goes, fragment_begins, State, Steps, reads_in, text_in, ParseOptions, fragment, manner, policy, Parse, Parses, accepted, placed, text_of, in_order, order-permutes, order-sorted}
+use Rattle.std.proofs.Common.{take}
 use Rattle.std.proofs.Math.Seq.{take-length}
-use Rattle.names.specs.declared.error.ParseError.{ParseError}
-use Rattle.names.specs.declared.placed.Placed.{Placed}
-use Rattle.names.specs.Sets.{raw_kind}
-use Rattle.names.specs.Tags.{tag_named}
-use Rattle.htext.specs.Items.{input_errors}
 use Rattle.htext.specs.declared.BadBytes.{BadBytes}
 use Rattle.htext.specs.declared.BadBytes.TheVariants as bad
-use Rattle.htext.specs.Text.{Policy, read_len, refusal_of}
 use Rattle.htext.proofs.Refusals as refusals
-use Rattle.htoken.specs.Token.{Tok}
-use Rattle.htoken.specs.Tokens.{Tokens}
-use Rattle.hadopt.specs.Naming.{texts}
-use Rattle.hadopt.specs.Site.{Goes}
-use Rattle.hmodes.specs.Beginning.{fragment_begins}
-use Rattle.hmodes.specs.State.{State}
-use Rattle.hmodes.specs.Step.{Steps}
-use Rattle.hparse.specs.Input.{reads_in, text_in}
-use Rattle.hparse.specs.Parse.{ParseOptions, fragment, manner, policy, Parse, Parses, accepted}
-use Rattle.hparse.specs.Taken.{placed}
-use Rattle.hlaws.specs.ComesBack.{text_of}
 use Rattle.hlaws.proofs.OneInput.{all-read}
-use Rattle.hparse.proofs.Sorting.{in_order, order-permutes, order-sorted}
 
 -- bytes in UTF-8 that fit are accepted, whatever becomes of bad ones, and all read
 accepted-bytes : (how : Policy) (bytes : List ℕ) → IsUtf8 bytes → length bytes ≤ how.limit → refusal_of how bytes ≡ None

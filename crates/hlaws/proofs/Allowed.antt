@@ -1,15 +1,9 @@
 -- A context in which lists are plain is one that a parser takes.
-use Rattle.std.proofs.Common.{◌≡◌, ℕ, Bool, true, not, ◌&&◌, ◌||◌, List, refl, sym, ◌∙◌, ap}
-use Rattle.std.proofs.lemmas.Bool.{false≢true}
-use Rattle.std.specs.Prelude.{nat_le, bytes_eq, codes, length}
-use Rattle.names.specs.declared.tag.Tag.{Tag}
+use Rattle.hlaws.proofs.Names.{◌≡◌, ℕ, Bool, true, not, ◌&&◌, ◌||◌, List, refl, sym, ◌∙◌, ap, false≢true, nat_le, bytes_eq, codes, Tag, is_refused, tags, tag_named, tag_text, Forest, row, are_content_if, in_context_of, is_form, is_context}
+use Rattle.std.specs.Prelude.{length}
 use Rattle.names.specs.declared.tag.Tag.TheVariants as tag
-use Rattle.names.specs.Sets.{is_refused}
-use Rattle.names.specs.Tags.{tags, tag_named, tag_text}
-use Rattle.hnodes.specs.Forest.{Forest}
-use Rattle.hplain.specs.ContentTable.{row}
-use Rattle.hplain.specs.Plain.{are_content_if, in_context_of, is_form, is_plain}
-use Rattle.hparse.specs.Parse.{is_context, is_name}
+use Rattle.hplain.specs.Plain.{is_plain}
+use Rattle.hparse.specs.Parse.{is_name}
 use Rattle.hlaws.proofs.NamesAsTexts.{named_back}
 
 -- whether a parser takes a context of this name, which is known as t

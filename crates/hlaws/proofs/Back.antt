@@ -1,37 +1,14 @@
 -- Plain trees come back, where what is written of them is read as their own tokens.
-use Rattle.std.proofs.Common.{◌≡◌, ℕ, ◌+◌, Bool, true, false, List, [], ◌∷◌, ◌++◌, map, Some, refl, sym, ◌∙◌, ap, subst, arith, ◌⊎◌, inl, inr}
-use Rattle.std.proofs.lemmas.Bool.{ne_eqb, false≢true}
-use Rattle.hnodes.specs.Forest.{Forest, none, tree, size, children_of}
-use Rattle.hnodes.proofs.Forests.{join-none}
-use Rattle.names.specs.Sets.{raw_kind}
-use Rattle.names.specs.Tags.{tag_named, tag_text}
-use Rattle.names.specs.declared.tag.Tag.{Tag}
+use Rattle.hlaws.proofs.Names.{◌≡◌, ℕ, ◌+◌, Bool, true, false, List, [], ◌∷◌, ◌++◌, map, Some, refl, sym, ◌∙◌, ap, subst, arith, ◌⊎◌, inl, inr, ne_eqb, false≢true, Forest, none, tree, size, children_of, join-none, raw_kind, tag_named, tag_text, Tag, Tok, texts, Goes, Mode, InBody, InCaption, InCell, InTable, InTableBody, InRow, fragment_begins, rule_of, perform, PlacedToken, State, eof, Done, Rule, begun, ends, Step, goes, Steps, and, Content, Escaping, IsQuiet, Builds, fits_mode, fits_current, is_flow_mode, numbered, AreTexts, AreRead, PlainTokens, ParseOptions, is_context, placed, taken, row, texts_in, Inside, are_content, are_content_if, in_context_of, is_form, tokens_of}
 use Rattle.names.specs.declared.tag.Tag.TheVariants as tag
-use Rattle.htoken.specs.Token.{Tok}
-use Rattle.hadopt.specs.Naming.{texts}
-use Rattle.hadopt.specs.Site.{Goes, stack}
-use Rattle.hmodes.specs.declared.mode.Mode.{Mode}
-use Rattle.hmodes.specs.declared.mode.Mode.TheVariants.{InBody, InCaption, InCell, InTable, InTableBody, InRow}
-use Rattle.hmodes.specs.Beginning.{fragment_begins}
+use Rattle.hadopt.specs.Site.{stack}
 use Rattle.hmodes.specs.Erased.{erased, node}
 use Rattle.hmodes.specs.Reset.{context_mode}
-use Rattle.hmodes.specs.Rules.{rule_of}
-use Rattle.hmodes.specs.Perform.{perform}
 use Rattle.hmodes.specs.declared.token_kind.TokenKind.TheVariants.{Eof}
-use Rattle.hmodes.specs.State.{PlacedToken, State, eof, Done}
-use Rattle.hmodes.specs.Step.{Rule, begun, Chain, ends, Step, goes, Steps, and}
 use Rattle.hmodes.specs.Step as step
-use Rattle.hplain.specs.declared.content.Content.{Content}
 use Rattle.hplain.specs.declared.content.Content.TheVariants as content
 use Rattle.hplain.specs.declared.content.Texts.TheVariants as allowed
-use Rattle.hserialize.specs.declared.escaping.Escaping.{Escaping}
-use Rattle.hlaws.specs.Building.{IsQuiet, Builds, fits_mode, fits_current, is_flow_mode, numbered}
-use Rattle.hlaws.specs.ComesBack.{AreTexts, AreRead, Fits, Gives, PlainTokens, PlainComesBack}
-use Rattle.hparse.specs.Parse.{ParseOptions, is_context}
-use Rattle.hparse.specs.Taken.{placed, taken}
-use Rattle.hplain.specs.ContentTable.{row, texts_in}
-use Rattle.hplain.specs.Plain.{Inside, are_content, are_content_if, in_context_of, is_form}
-use Rattle.hlaws.specs.PlainTokens.{tokens_of}
+use Rattle.hlaws.specs.ComesBack.{Fits, Gives, PlainComesBack}
 use Rattle.hserialize.specs.Written.{written}
 use Rattle.hlaws.proofs.TokenLists.{AreTokens, parted, first, after, ended}
 use Rattle.hlaws.proofs.Content.{parts_mode_is, rows_mode_is, cells_mode_is}

@@ -1,24 +1,10 @@
 -- What the rules ask of the names of plain elements, a class at a time.
-use Rattle.std.proofs.Common.{◌≡◌, Bool, true, false, Option, Some, None, refl}
-use Rattle.names.specs.declared.tag.Tag.{Tag}
+use Rattle.hlaws.proofs.Names.{◌≡◌, Bool, true, false, Option, Some, None, refl, Tag, is_void, is_heading, has_implied_end, stops_button_scope, is_fostering, Family, Mode, InTable, InCaption, InColumnGroup, InTableBody, InRow, InCell, family_of, is_table_context, is_body_context, is_row_context, open_mode, Content, Role, is_list, is_dl, row, is_a, is_button, is_form, drops_line_feed, inserts_marker}
 use Rattle.names.specs.declared.tag.Tag.TheVariants as tag
-use Rattle.names.specs.Sets.{is_void, is_heading, has_implied_end, stops_button_scope}
-use Rattle.hadopt.specs.Places.{is_fostering}
-use Rattle.hmodes.specs.declared.family.Family.{Family}
 use Rattle.hmodes.specs.declared.family.Family.TheVariants as family
-use Rattle.hmodes.specs.declared.mode.Mode.{Mode}
-use Rattle.hmodes.specs.declared.mode.Mode.TheVariants.{InTable, InCaption, InColumnGroup, InTableBody, InRow, InCell}
-use Rattle.hmodes.specs.Families.{family_of}
-use Rattle.hadopt.specs.Closes.{is_table_context, is_body_context, is_row_context}
-use Rattle.hmodes.specs.Reset.{open_mode}
-use Rattle.hplain.specs.declared.content.Content.{Content}
 use Rattle.hplain.specs.declared.content.Content.TheVariants as content
-use Rattle.hplain.specs.declared.content.Role.{Role}
 use Rattle.hplain.specs.declared.content.Role.TheVariants as role
-use Rattle.hlaws.specs.Building.{is_list, is_dl, is_colgroup}
-use Rattle.hplain.specs.ContentTable.{row}
-use Rattle.hplain.specs.Plain.{is_a, is_button, is_form, drops_line_feed}
-use Rattle.hserialize.specs.Walk.{inserts_marker}
+use Rattle.hlaws.specs.Building.{is_colgroup}
 
 abbrev pub is_p : Tag → Bool
 is_p tag.P = true
@@ -164,7 +150,7 @@ class_profile Object = record (plain_profile family.Object role.Phrasing content
 class_profile Table = record (plain_profile family.Table role.Flow content.TableParts) { mode = Some InTable; stops_button = true; table_context = true; fosters = true }
 class_profile Caption = record (plain_profile family.Caption role.TablePart content.Flow) { mode = Some InCaption; stops_button = true; marks = true }
 class_profile Colgroup = record (plain_profile family.Colgroup role.TablePart content.Columns) { mode = Some InColumnGroup; is_colgroup = true }
-class_profile Section = record (plain_profile family.Section role.TablePart content.TableRows) { mode = Some InTableBody; body_context = true; fosters = true }
+class_profile Section = record (plain_profile family.TableSection role.TablePart content.TableRows) { mode = Some InTableBody; body_context = true; fosters = true }
 class_profile Row = record (plain_profile family.Row role.TableRow content.Cells) { mode = Some InRow; row_context = true; fosters = true }
 class_profile Cell = record (plain_profile family.Cell role.Cell content.Flow) { mode = Some InCell; stops_button = true; marks = true }
 

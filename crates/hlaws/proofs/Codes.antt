@@ -1,9 +1,7 @@
 -- Each error code is at its rank among the codes, so that no two have one rank.
-use Rattle.std.proofs.Common.{◌≡◌, List, ◌++◌, Some, refl, sym, ap, ◌∙◌}
+use Rattle.hlaws.proofs.Names.{◌≡◌, List, ◌++◌, Some, refl, sym, ap, ◌∙◌, ErrorCode, code_rank}
 use Rattle.std.specs.Prelude.{slice_get}
-use Rattle.names.specs.declared.error.ErrorCode.{ErrorCode}
 use Rattle.names.specs.declared.error.ErrorCode.TheVariants as code
-use Rattle.names.specs.Codes.{code_rank}
 use Rattle.names.specs.CodeRows.{input_codes, token_codes, tree_codes}
 
 abbrev every : List ErrorCode

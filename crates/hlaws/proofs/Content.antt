@@ -1,23 +1,10 @@
 -- Facts of content, of the modes in which it is and of the names that it holds.
-use Rattle.std.proofs.Common.{◌≡◌, Bool, true, false, not, refl, ap}
-use Rattle.std.proofs.lemmas.Bool.{false≢true}
-use Rattle.hopen.specs.Scopes.{stops_item}
-use Rattle.names.specs.declared.tag.Tag.{Tag}
+use Rattle.hlaws.proofs.Names.{◌≡◌, Bool, true, false, not, refl, ap, false≢true, stops_item, Tag, is_heading, Mode, InBody, InCaption, InCell, InTable, InTableBody, InRow, InColumnGroup, Comment, rule_of, Content, Role, takes_role, texts_in, Inside, is_nested, is_a, is_button, is_form, inserts_marker, is_flow_mode, fits_mode, fits_current, is_list, is_dl}
 use Rattle.names.specs.declared.tag.Tag.TheVariants as tag
-use Rattle.names.specs.Sets.{is_heading, stops_scope}
-use Rattle.hmodes.specs.declared.mode.Mode.{Mode}
-use Rattle.hmodes.specs.declared.mode.Mode.TheVariants.{InBody, InCaption, InCell, InTable, InTableBody, InRow, InColumnGroup}
-use Rattle.hmodes.specs.declared.token_kind.TokenKind.TheVariants.{Comment}
-use Rattle.hmodes.specs.Rules.{rule_of}
+use Rattle.names.specs.Sets.{stops_scope}
 use Rattle.hmodes.specs.Words.{insert_comment}
-use Rattle.hplain.specs.declared.content.Content.{Content}
 use Rattle.hplain.specs.declared.content.Content.TheVariants as content
-use Rattle.hplain.specs.declared.content.Role.{Role}
 use Rattle.hplain.specs.declared.content.Role.TheVariants as role
-use Rattle.hplain.specs.ContentTable.{takes_role, texts_in}
-use Rattle.hplain.specs.Plain.{Inside, is_nested, is_a, is_button, is_form}
-use Rattle.hserialize.specs.Walk.{inserts_marker}
-use Rattle.hlaws.specs.Building.{is_flow_mode, fits_mode, fits_current, is_list, is_dl}
 
 -- the content in which a role is, but that of phrasing elements, which are in two
 abbrev pub home : Role → Content

@@ -1,24 +1,14 @@
 -- A list that the table calls content is good.
-use Rattle.std.proofs.Common.{◌≡◌, ℕ, zero, suc, ◌<◌, ◌≤◌, Bool, true, false, not, ◌&&◌, ◌||◌, leb, List, [], ◌∷◌, ◌++◌, refl, sym, ◌∙◌, ap, subst, arith, ◌⊎◌, inl, inr}
-use Rattle.std.proofs.lemmas.Bool.{and_parts, and_right as and_no, false≢true, eqb-true, lt-leb, cases_lt}
-use Rattle.std.proofs.lemmas.Str.{encodes-chars, encode_ascii, encodes-IsAscii, chars_from_encodes}
-use Rattle.std.proofs.lemmas.List.Folds.{list_all-append}
-use Rattle.std.specs.Prelude.{IsUtf8, IsAscii, chars, encode_utf8, encode_utf8_all, codes, ◌==◌}
+use Rattle.hlaws.proofs.Names.{◌≡◌, ℕ, zero, suc, ◌<◌, ◌≤◌, Bool, true, false, not, ◌&&◌, ◌||◌, List, [], ◌∷◌, ◌++◌, refl, sym, ◌∙◌, ap, subst, arith, ◌⊎◌, inl, inr, and_parts, false≢true, eqb-true, lt-leb, cases_lt, not-true, encodes-chars, encode_ascii, list_all-append, IsUtf8, chars, encode_utf8, encode_utf8_all, codes, ◌==◌, list_all, Forest, none, tree, element, text, tag_named, texts, Content, row, takes_role, takes_comments, texts_in, takes_space, AreTexts, Inside, inside_element, inside_node, is_nested, are_content, is_plain_node, are_plain_attributes, is_plain_text, is_plain_comment, is_clean, is_among_texts, begins_with, begins_with_text, begins_with_line_feed, drops_line_feed, is_empty}
+use Rattle.std.proofs.Common.{leb}
+use Rattle.std.proofs.lemmas.Bool.{and_right as and_no}
+use Rattle.std.proofs.lemmas.Str.{encodes-IsAscii, chars_from_encodes}
+use Rattle.std.specs.Prelude.{IsAscii}
 use Rattle.std.specs.Char.{is_ascii_whitespace}
-use Rattle.std.specs.List.{list_all}
 use Rattle.hnodes.specs.Forest as forest
-use Rattle.hnodes.specs.Forest.{Forest, none, tree, element, text}
-use Rattle.names.specs.Tags.{tag_named}
-use Rattle.hadopt.specs.Naming.{texts}
-use Rattle.hplain.specs.declared.content.Content.{Content}
 use Rattle.hplain.specs.declared.content.Content.TheVariants as content
 use Rattle.hplain.specs.declared.content.Texts.TheVariants as allowed
-use Rattle.hplain.specs.ContentTable.{row, takes_role, takes_comments, texts_in}
-use Rattle.hlaws.specs.Building.{takes_space}
-use Rattle.hlaws.specs.ComesBack.{AreTexts}
-use Rattle.hplain.specs.Plain.{Inside, inside_element, inside_node, is_nested, are_content, is_plain_node, are_plain_attributes, is_plain_text, is_plain_comment, is_clean, is_among_texts, begins_with, begins_with_text, begins_with_line_feed, drops_line_feed}
-use Rattle.hserialize.specs.Words.{is_empty}
-use Rattle.hlaws.proofs.TokenLists.{AllOk, IsText, NoNul, not_true}
+use Rattle.hlaws.proofs.TokenLists.{AllOk, IsText, NoNul}
 use Rattle.hlaws.proofs.Whole.{Good, LfSafe, TextFits}
 
 -- TEXTS
@@ -137,7 +127,7 @@ not_empty i b (forest.doctype a p s) kids rest h = cc
 pub lf_safe : (v : Bool) (kids : Forest (List ℕ)) → not (v && begins_with_line_feed kids) ≡ true → LfSafe v kids
 lf_safe v none h = tt
 lf_safe false (tree b (text t) kids rest) h = λ is. refl
-lf_safe true (tree b (text t) kids rest) h = λ is. first_line_feed t is (not_true _ h)
+lf_safe true (tree b (text t) kids rest) h = λ is. first_line_feed t is (not-true _ h)
 lf_safe v (tree b (element x attrs) kids rest) h = tt
 lf_safe v (tree b (forest.comment t) kids rest) h = tt
 lf_safe v (tree b forest.document kids rest) h = tt
@@ -166,7 +156,7 @@ good i (tree b (element x attrs) kids rest) fit u h =
     let feeds : Bool = not (drops_line_feed (tag_named x) && begins_with_line_feed kids) in
     let two : (takes && nests) ≡ true = (and_parts (takes && nests) named (and_parts (takes && nests && named) feeds h3.node).0).0 in (
       (and_parts takes nests two).0,
-      not_true (is_nested i (tag_named x)) (and_parts takes nests two).1,
+      not-true (is_nested i (tag_named x)) (and_parts takes nests two).1,
       lf_safe (drops_line_feed (tag_named x)) kids (and_parts (takes && nests && named) feeds h3.node).1,
       good (inside_element (tag_named x) i) kids (inl refl) u.2 h3.children,
       good i rest fit u.3 h3.others,
@@ -175,9 +165,9 @@ good i (tree b (text t) none rest) fit u h =
     let h3 = three i b (text t) none rest h in
     let plain : is_plain_text i.texts t ≡ true = (and_parts (is_plain_text i.texts t) (not (begins_with_text rest)) h3.node).0 in
     let some_clean : (not (is_empty t) && is_clean t) ≡ true = (and_parts (not (is_empty t) && is_clean t) (is_among_texts i.texts t) plain).0 in
-    let is = is_text t u.0 (not_true (is_empty t) (and_parts (not (is_empty t)) (is_clean t) some_clean).0) (and_parts (not (is_empty t)) (is_clean t) some_clean).1 in (
+    let is = is_text t u.0 (not-true (is_empty t) (and_parts (not (is_empty t)) (is_clean t) some_clean).0) (and_parts (not (is_empty t)) (is_clean t) some_clean).1 in (
       record { is = is; fits = text_fits i t is u.0 fit (and_parts (not (is_empty t) && is_clean t) (is_among_texts i.texts t) plain).1 },
-      not_true (begins_with_text rest) (and_parts (is_plain_text i.texts t) (not (begins_with_text rest)) h3.node).1,
+      not-true (begins_with_text rest) (and_parts (is_plain_text i.texts t) (not (begins_with_text rest)) h3.node).1,
       good i rest fit u.2 h3.others,
     )
 good i (tree b (text t) (tree b' w' kids' rest') rest) fit u h =

@@ -1,18 +1,9 @@
 -- What is used of names, where they are texts.
-use Rattle.std.proofs.Common.{◌≡◌, ℕ, Bool, true, false, cond, List, [], ◌∷◌, refl, sym, ◌∙◌, ap}
-use Rattle.std.proofs.lemmas.Bool.{false≢true}
-use Rattle.std.proofs.lemmas.Slice.Eq.{bytes_eq-Decides}
-use Rattle.std.specs.Prelude.{bytes_eq}
-use Rattle.names.specs.declared.tag.Tag.{Tag}
+use Rattle.hlaws.proofs.Names.{◌≡◌, ℕ, Bool, true, false, cond, List, [], ◌∷◌, refl, sym, ◌∙◌, ap, false≢true, bytes_eq-Decides, bytes_eq, Tag, tag_text, tags, tag_named, texts, Family, family_of, is_list, is_dl, is_a, is_button}
 use Rattle.names.specs.declared.tag.Tag.TheVariants as tag
-use Rattle.names.specs.Tags.{tag_text, tags, tag_named, tag_among}
+use Rattle.names.specs.Tags.{tag_among}
 use Rattle.names.proofs.KnownTags.{different}
-use Rattle.hadopt.specs.Naming.{texts}
-use Rattle.hmodes.specs.declared.family.Family.{Family}
 use Rattle.hmodes.specs.declared.family.Family.TheVariants as family
-use Rattle.hmodes.specs.Families.{family_of}
-use Rattle.hlaws.specs.Building.{is_list, is_dl}
-use Rattle.hplain.specs.Plain.{is_a, is_button}
 use Rattle.hlaws.proofs.Classes.{is_p}
 use Rattle.hlaws.proofs.Whole.{NameLaws}
 

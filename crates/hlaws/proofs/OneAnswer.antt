@@ -1,24 +1,10 @@
 -- The bytes of a document have exactly one list of tokens and errors, or refusal.
-use Rattle.std.proofs.Common.{◌≡◌, ℕ, List, ◌++◌, length, Option, None, Some, Result, Ok, Err, refl, sym, ap, ◌∙◌, subst}
-use Rattle.std.specs.List.Sorted.{IsPermutation}
-use Rattle.names.specs.declared.error.ParseError.{ParseError}
-use Rattle.names.specs.declared.placed.Placed.{Placed}
+use Rattle.hlaws.proofs.Names.{◌≡◌, ℕ, List, ◌++◌, length, Option, None, Some, Result, Ok, Err, refl, sym, ap, ◌∙◌, subst, IsPermutation, ParseError, Placed, RefusedName, Refusal, OutOfProfile, input_errors, Policy, read_len, refusal_of, Entities, Tok, Tokens, HasAnswer, gives, refuses, one_list_of_tokens, no_tokens_of_refused, one_refusal, some_answer, ExactlyOne, in_order, order-permutes, order-sorted}
 use Rattle.names.specs.declared.raw.RawKind.TheVariants as kind
-use Rattle.names.specs.declared.raw.RefusedName.{RefusedName}
-use Rattle.names.specs.declared.refusal.Refusal.{Refusal}
-use Rattle.names.specs.declared.refusal.Refusal.TheVariants.{OutOfProfile}
-use Rattle.htext.specs.Items.{input_errors}
-use Rattle.htext.specs.Text.{Policy, decoded, read_len, refusal_of}
-use Rattle.charref.specs.Reference.{Entities}
-use Rattle.htoken.specs.Token.{Tok}
-use Rattle.htoken.specs.Tokens.{Tokens}
-use Rattle.hcuts.specs.SomeCut.{HasAnswer, gives, refuses}
-use Rattle.hcuts.proofs.OneCut.{one_list_of_tokens, no_tokens_of_refused, one_refusal}
-use Rattle.hcuts.proofs.SomeCut.{some_answer}
+use Rattle.htext.specs.Text.{decoded}
 use Rattle.hparse.specs.Answer.{Answers, read_text, refused_text, refused_bytes, accepted}
-use Rattle.hlaws.specs.OneAnswer.{ExactlyOne, OneAnswer}
+use Rattle.hlaws.specs.OneAnswer.{OneAnswer}
 use Rattle.hlaws.proofs.OneInput.{all-read, one-some, never-both, one-list}
-use Rattle.hparse.proofs.Sorting.{in_order, order-permutes, order-sorted}
 
 module _ (table : Entities) (how : Policy) (bytes : List ℕ) where
   abbrev text : List Placed

@@ -1,12 +1,6 @@
 -- What is said of an input in two ways is one thing.
-use Rattle.std.proofs.Common.{◌≡◌, ℕ, Bool, true, false, eqb, cond, List, length, Option, None, Some, refl, sym, ◌∙◌}
-use Rattle.std.proofs.lemmas.Bool.{eqb-true}
-use Rattle.std.specs.List.Sorted.{IsPermutation, IsSorted}
+use Rattle.hlaws.proofs.Names.{◌≡◌, ℕ, Bool, true, false, eqb, cond, List, length, Option, None, Some, refl, sym, ◌∙◌, eqb-true, IsPermutation, IsSorted, ParseError, Refusal, Policy, read_len, refusal_of, error_cmp}
 use Rattle.std.proofs.lemmas.List.Sorted.{IsPermutation-sym, IsPermutation-trans}
-use Rattle.names.specs.declared.error.ParseError.{ParseError}
-use Rattle.names.specs.declared.refusal.Refusal.{Refusal}
-use Rattle.htext.specs.Text.{Policy, read_len, refusal_of}
-use Rattle.hparse.specs.Answer.{error_cmp}
 use Rattle.hlaws.proofs.OneOrder.{sorted-once}
 
 -- bytes that are not refused are all read

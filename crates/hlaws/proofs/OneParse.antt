@@ -1,38 +1,16 @@
 -- The bytes of a document or of a fragment have exactly one tree and list of errors, or refusal.
-use Rattle.std.proofs.Common.{◌≡◌, ℕ, List, [], ◌∷◌, ◌++◌, length, map, Option, None, Some, Result, Ok, Err, refl, sym, ap, ◌∙◌, subst, append-nil}
-use Rattle.std.specs.List.Sorted.{IsPermutation, IsSorted}
-use Rattle.std.proofs.lemmas.List.{map-append}
-use Rattle.names.specs.declared.error.ParseError.{ParseError}
-use Rattle.names.specs.declared.placed.Placed.{Placed}
-use Rattle.names.specs.declared.raw.RawKind.{RawKind}
-use Rattle.names.specs.declared.raw.RefusedName.{RefusedName}
-use Rattle.names.specs.declared.refusal.Refusal.{Refusal}
-use Rattle.names.specs.declared.refusal.Refusal.TheVariants.{OutOfProfile}
-use Rattle.htext.specs.Items.{input_errors}
-use Rattle.htext.specs.Text.{read_len, refusal_of}
-use Rattle.htoken.specs.Token.{Tok, Gives}
-use Rattle.htoken.specs.Standing.{start_kind}
-use Rattle.htoken.specs.Tokens.{spans_text, Tokens, IsRefused, AreFront, tokens_in, eof_of}
-use Rattle.hadopt.specs.Naming.{texts}
-use Rattle.hadopt.specs.Site.{Outcome, Goes, Refused}
+use Rattle.hlaws.proofs.Names.{◌≡◌, ℕ, false, List, [], ◌∷◌, ◌++◌, length, map, Option, None, Some, Result, Ok, Err, refl, sym, ap, ◌∙◌, subst, append-nil, IsPermutation, IsSorted, map-append, ParseError, Placed, RawKind, RefusedName, Refusal, OutOfProfile, input_errors, read_len, refusal_of, Tok, Span, Gives, at_start, start_kind, spans_text, Cut, has_refused, Tokens, AreFront, eof_of, texts, Outcome, Goes, Refused, PlacedToken, State, Step, Steps, and, HasAnswer, gives, refuses, one_list_of_tokens, no_tokens_of_refused, one_refusal, some_answer, error_cmp, reads_in, text_in, ParseOptions, fragment, Parse, Parses, manner, policy, start_of, refused_token, refused_tag, accepted, placed, ExactlyOne, in_order, order-permutes, order-sorted}
+use Rattle.htoken.specs.Tokens.{IsRefused, tokens_in, tokens_of}
 use Rattle.hmodes.specs.Reached.{Reached, after}
 use Rattle.hmodes.specs.Reached as reached
-use Rattle.hmodes.specs.State.{PlacedToken, State}
-use Rattle.hmodes.specs.Step.{Step, Steps, none, and, refused}
+use Rattle.hmodes.specs.Step.{none, refused}
 use Rattle.hmodes.proofs.Between.{texts-all, reached-orderly}
 use Rattle.hmodes.proofs.Ends.{some-step}
 use Rattle.hmodes.proofs.Single.{step-one}
-use Rattle.hcuts.specs.SomeCut.{HasAnswer, gives, refuses}
 use Rattle.hcuts.proofs.Fronts.{one_front, one_front_of_refused}
-use Rattle.hcuts.proofs.OneCut.{one_list_of_tokens, no_tokens_of_refused, one_refusal}
-use Rattle.hcuts.proofs.SomeCut.{some_answer}
-use Rattle.hparse.specs.Answer.{error_cmp}
-use Rattle.hparse.specs.Input.{reads_in, text_in}
-use Rattle.hparse.specs.Parse.{ParseOptions, ParseCase, document, fragment, Parse, Parses, manner, policy, start_of, begins, refused_token, refused_tag, refused_bytes, accepted}
-use Rattle.hparse.specs.Taken.{placed}
-use Rattle.hlaws.specs.OneAnswer.{ExactlyOne, OneParse}
+use Rattle.hparse.specs.Parse.{ParseCase, document, begins, refused_bytes}
+use Rattle.hlaws.specs.OneAnswer.{OneParse}
 use Rattle.hlaws.proofs.OneInput.{all-read, one-some, never-both, one-list}
-use Rattle.hparse.proofs.Sorting.{in_order, order-permutes, order-sorted}
 
 -- tokens in order have one result
 steps-one : (ts : List (PlacedToken (List ℕ))) (s : State (List ℕ)) (o o' : Outcome (State (List ℕ))) → Steps texts ts s o → Steps texts ts s o' → o ≡ o'
@@ -65,7 +43,7 @@ reached-first opts document = reached.document opts.quirks opts.limits
 reached-first opts (fragment context) = reached.fragment context opts.limits
 
 -- tokens and nothing else as what a sink was handed
-pub given : (ts : List Tok) → tokens_in (map Gives ts) ≡ ts
+given : (ts : List Tok) → tokens_in (map Gives ts) ≡ ts
 given [] = refl
 given (t ∷ ts) = ap (λ (x : List Tok). t ∷ x) (given ts)
 
@@ -100,6 +78,21 @@ module _ (opts : ParseOptions) (parse_case : ParseCase) (bytes : List ℕ) where
   at-end : {tokens : List Tok} {errors : List ParseError} → refusal_of (policy opts parse_case) bytes ≡ None → Tokens opts.table kind text (length bytes) tokens errors → Tokens opts.table kind text end tokens errors
   at-end {tokens} {errors} whole read = subst (λ (n : ℕ). Tokens opts.table kind text n tokens errors) (sym (all-read (policy opts parse_case) bytes whole)) read
 
+  -- the rules refuse tokens of the spans at the front of the text
+  pub rules-refuse : (tokens others : List Tok) (spans : List Span) (rest : List Placed) (r : Refusal) → text ≡ spans_text spans ++ rest → Cut opts.table end (at_start kind) spans rest → has_refused (tokens_of spans) ≡ false
+      → tokens ++ others ≡ tokens_of spans ++ eof_of end rest → Leads tokens (Refused r) → Parses opts parse_case bytes (Err r)
+  rules-refuse tokens others spans rest r text_is cut in_profile front_is steps =
+      let front : AreFront opts.table kind text end (map Gives tokens) = record {
+        spans = spans;
+        rest = rest;
+        others = others;
+        text_is = text_is;
+        cut = cut;
+        in_profile = in_profile;
+        front_is = ap (λ (ts : List Tok). ts ++ others) (given tokens) ∙ front_is;
+      } in
+      refused_token r (map Gives tokens) front (led tokens (tokens_in (map Gives tokens)) (Refused r) (sym (given tokens)) steps)
+
   -- the text is refused for a start tag
   module _ (tokens : List Tok) (name : RefusedName) (at : ℕ) (out : IsRefused opts.table kind text end tokens name at) where
     data OfRefused (x : Result Parse Refusal) : Type 0 where
@@ -131,16 +124,7 @@ module _ (opts : ParseOptions) (parse_case : ParseCase) (bytes : List ℕ) where
     exactly-refused : (o : Outcome (State (List ℕ))) × Leads tokens o → ExactlyOne (Parses opts parse_case bytes)
     exactly-refused (Goes state, steps) = only-refused (Err (OutOfProfile name at)) (refused_tag name at tokens state out steps)
     exactly-refused (Refused r, steps) =
-        let front : AreFront opts.table kind text end (map Gives tokens) = record {
-          spans = out.spans;
-          rest = out.rest;
-          others = eof_of end out.rest;
-          text_is = out.text_is;
-          cut = out.cut;
-          in_profile = out.in_profile;
-          front_is = ap (λ (ts : List Tok). ts ++ eof_of end out.rest) (given tokens ∙ out.tokens_are);
-        } in
-        only-refused (Err r) (refused_token r (map Gives tokens) front (led tokens (tokens_in (map Gives tokens)) (Refused r) (sym (given tokens)) steps))
+        only-refused (Err r) (rules-refuse tokens (eof_of end out.rest) out.spans out.rest r out.text_is out.cut out.in_profile (ap (λ (ts : List Tok). ts ++ eof_of end out.rest) out.tokens_are) steps)
 
   -- the text has tokens
   module _ (tokens : List Tok) (errors : List ParseError) (read : Tokens opts.table kind text end tokens errors) where
@@ -194,16 +178,7 @@ module _ (opts : ParseOptions) (parse_case : ParseCase) (bytes : List ℕ) where
 
     exactly-tokens : (o : Outcome (State (List ℕ))) × Leads tokens o → ExactlyOne (Parses opts parse_case bytes)
     exactly-tokens (Refused r, steps) =
-        let front : AreFront opts.table kind text end (map Gives tokens) = record {
-          spans = read.spans;
-          rest = [];
-          others = [];
-          text_is = read.text_is ∙ sym (append-nil (spans_text read.spans));
-          cut = read.cut;
-          in_profile = read.in_profile;
-          front_is = append-nil (tokens_in (map Gives tokens)) ∙ given tokens ∙ read.tokens_are;
-        } in
-        only-tokens (Err r) (refused_token r (map Gives tokens) front (led tokens (tokens_in (map Gives tokens)) (Refused r) (sym (given tokens)) steps))
+        only-tokens (Err r) (rules-refuse tokens [] read.spans [] r (read.text_is ∙ sym (append-nil (spans_text read.spans))) read.cut read.in_profile (append-nil tokens ∙ read.tokens_are) steps)
     exactly-tokens (Goes state, steps) = by (refusal_of (policy opts parse_case) bytes) refl
       where
         by : (r : Option Refusal) → refusal_of (policy opts parse_case) bytes ≡ r → ExactlyOne (Parses opts parse_case bytes)

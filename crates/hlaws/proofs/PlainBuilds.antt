@@ -1,13 +1,9 @@
 -- The tokens of a plain list build it from each quiet state.
-use Rattle.std.proofs.Common.{◌≡◌, ℕ, suc, ◌+◌, ◌≤◌, Bool, true, false, not, List, ◌∷◌, length, refl, sym, ap, subst, arith}
-use Rattle.hnodes.specs.Forest.{Forest, size}
-use Rattle.hadopt.specs.Naming.{texts}
+use Rattle.hlaws.proofs.Names.{◌≡◌, ℕ, suc, ◌+◌, ◌≤◌, Bool, true, false, not, List, ◌∷◌, length, refl, sym, ap, subst, arith, Forest, size, texts, State, Builds, begins_with_line_feed}
 use Rattle.hadopt.specs.Site.{trees}
-use Rattle.hmodes.specs.State.{State}
 use Rattle.hlaws.specs.Building as spec
-use Rattle.hlaws.specs.Building.{IsQuiet, Builds, IsBuilt, BeginsWell, HasRoom}
+use Rattle.hlaws.specs.Building.{IsBuilt, BeginsWell, HasRoom}
 use Rattle.hlaws.specs.ComesBack.{PlainBuilds}
-use Rattle.hplain.specs.Plain.{begins_with_line_feed}
 use Rattle.hlaws.proofs.FromTable.{good, lf_safe}
 use Rattle.hlaws.proofs.NamesAsTexts.{text_laws}
 use Rattle.hlaws.proofs.Rules.{state}

@@ -1,43 +1,20 @@
 -- What the rules do with the tokens of plain elements, where the state is quiet.
-use Rattle.std.proofs.Common.{◌≡◌, ℕ, suc, ◌+◌, ◌<◌, Bool, true, false, List, [], ◌∷◌, ◌++◌, length, map, Some, None, refl, sym, ◌∙◌, ap}
-use Rattle.std.proofs.lemmas.Bool.{eq-eqb, lt-leb, false≢true}
+use Rattle.hlaws.proofs.Names.{◌≡◌, ℕ, suc, ◌+◌, ◌<◌, Bool, true, false, List, [], ◌∷◌, ◌++◌, length, map, Some, None, refl, sym, ◌∙◌, ap, eq-eqb, lt-leb, false≢true, list_all, nat_le, encode_utf8, ◌==◌, Attribute, element, text, Forest, none, tree, times, join, graft_last, text_before, LastIn, OpenNode, in_scope, stops, stops_item, Listed, marker, entry, entry_of, find_entry, without_entry, cleared, Placed, is_space, has_implied_end, is_heading, Naming, Outcome, Goes, is, is_table_context, is_body_context, is_row_context, is_fostering, Family, Mode, InBody, InCaption, InCell, Text, InTable, InTableText, InTableBody, InRow, InColumnGroup, Comment, Start, End, void, raw, family_of, void_in_text, rule_of, reset_mode, perform, Token, start, end, character, Control, State, Done, kind_of, Rule, Chain, goes_again, begun, is_flow_mode, under, EntriesOpen}
 use Rattle.std.proofs.lemmas.List.{append-nil, append_assoc}
-use Rattle.std.specs.List.{list_all}
 use Rattle.std.specs.Str.{encode_utf8_all}
-use Rattle.std.specs.Prelude.{nat_le, encode_utf8, ◌==◌}
-use Rattle.hnodes.specs.Forest.{Attribute, element, text, Forest, none, tree, times, join}
-use Rattle.hnodes.specs.Edits.{graft_last, with_char, text_before}
-use Rattle.hnodes.specs.declared.node.Place.TheVariants.{LastIn}
-use Rattle.hopen.specs.Stack.{OpenNode, in_scope}
-use Rattle.hopen.specs.Scopes.{stops, stops_item}
+use Rattle.hnodes.specs.Edits.{with_char}
 use Rattle.hopen.specs.declared.scope.Scope.{Scope}
 use Rattle.hopen.specs.declared.scope.Scope.TheVariants as scope
-use Rattle.hformat.specs.Formatting.{Listed, marker, entry, entry_of, find_entry, without_entry, pushed, cleared}
-use Rattle.names.specs.declared.placed.Placed.{Placed}
+use Rattle.hformat.specs.Formatting.{pushed}
 use Rattle.names.specs.declared.tag.Tag.TheVariants as tag
-use Rattle.names.specs.Placed.{is_space}
-use Rattle.names.specs.Sets.{has_implied_end, is_heading}
-use Rattle.hadopt.specs.Naming.{Naming}
-use Rattle.hadopt.specs.Site.{Outcome, Goes}
-use Rattle.hadopt.specs.Closes.{is, is_table_context, is_body_context, is_row_context}
 use Rattle.hadopt.specs.Reconstructs.{reconstructed}
-use Rattle.hadopt.specs.Places.{is_fostering}
-use Rattle.hmodes.specs.declared.family.Family.{Family}
 use Rattle.hmodes.specs.declared.family.Family.TheVariants as family
-use Rattle.hmodes.specs.declared.mode.Mode.{Mode}
-use Rattle.hmodes.specs.declared.mode.Mode.TheVariants.{InBody, InCaption, InCell, Text, InTable, InTableText, InTableBody, InRow, InColumnGroup}
 use Rattle.hmodes.specs.declared.token_kind.TokenKind.{TokenKind}
-use Rattle.hmodes.specs.declared.token_kind.TokenKind.TheVariants.{Nul, Ws, Char, Comment, Start, End}
+use Rattle.hmodes.specs.declared.token_kind.TokenKind.TheVariants.{Nul, Ws, Char}
 use Rattle.hmodes.specs.Words.{Do, put}
-use Rattle.hmodes.specs.Programs.{void, raw}
-use Rattle.hmodes.specs.Families.{family_of}
-use Rattle.hmodes.specs.Body.{character_in_body, block, close_block, end_item, void_in_text}
-use Rattle.hmodes.specs.Rules.{rule_of}
-use Rattle.hmodes.specs.Reset.{reset_mode}
-use Rattle.hmodes.specs.Perform.{perform, each_of}
-use Rattle.hmodes.specs.State.{Token, start, end, character, Control, State, Flow, Done, Again, flow_then, kind_of}
-use Rattle.hmodes.specs.Step.{Rule, Chain, goes_again, begun}
-use Rattle.hlaws.specs.Building.{is_flow_mode, under, EntriesOpen}
+use Rattle.hmodes.specs.Body.{character_in_body, block, close_block, end_item}
+use Rattle.hmodes.specs.Perform.{each_of}
+use Rattle.hmodes.specs.State.{Flow, Again, flow_then}
 use Rattle.hlaws.proofs.Classes.{is_p}
 use Rattle.hlaws.proofs.Growing.{graft-new, what-new, text_before-new}
 
@@ -217,8 +194,8 @@ module _ {N : Type 0} (n : Naming N) (laws : Laws n) (z : State N) where
       pub start_colgroup : c.mode ≡ InTable → family_of (n.tag x) ≡ family.Colgroup → is_table_context (n.tag d.name) ≡ true → Opens items (record c { mode = InColumnGroup })
       start_colgroup m fam clear = starts_in InTable family.Colgroup _ m fam (simp (clear, full, high, new) refl)
 
-      pub start_section : c.mode ≡ InTable → family_of (n.tag x) ≡ family.Section → is_table_context (n.tag d.name) ≡ true → Opens items (record c { mode = InTableBody })
-      start_section m fam clear = starts_in InTable family.Section _ m fam (simp (clear, full, high, new) refl)
+      pub start_section : c.mode ≡ InTable → family_of (n.tag x) ≡ family.TableSection → is_table_context (n.tag d.name) ≡ true → Opens items (record c { mode = InTableBody })
+      start_section m fam clear = starts_in InTable family.TableSection _ m fam (simp (clear, full, high, new) refl)
 
       pub start_row : c.mode ≡ InTableBody → family_of (n.tag x) ≡ family.Row → is_body_context (n.tag d.name) ≡ true → Opens items (record c { mode = InRow })
       start_row m fam clear = starts_in InTableBody family.Row _ m fam (simp (clear, full, high, new) refl)
@@ -298,8 +275,8 @@ module _ {N : Type 0} (n : Naming N) (laws : Laws n) (z : State N) where
       pub end_colgroup : c.mode ≡ InColumnGroup → family_of (n.tag x) ≡ family.Colgroup → Closes items (record c { mode = InTable })
       end_colgroup m fam = ends_in InColumnGroup family.Colgroup _ _ m fam refl
 
-      pub end_section : c.mode ≡ InTableBody → family_of (n.tag x) ≡ family.Section → is_body_context (n.tag x) ≡ true → Closes items (record c { mode = InTable })
-      end_section m fam clear = ends_in InTableBody family.Section _ _ m fam (simp (self, clear) refl)
+      pub end_section : c.mode ≡ InTableBody → family_of (n.tag x) ≡ family.TableSection → is_body_context (n.tag x) ≡ true → Closes items (record c { mode = InTable })
+      end_section m fam clear = ends_in InTableBody family.TableSection _ _ m fam (simp (self, clear) refl)
 
       pub end_row : c.mode ≡ InRow → family_of (n.tag x) ≡ family.Row → n.same x (n.known tag.Tr) ≡ true → is_row_context (n.tag x) ≡ true → Closes items (record c { mode = InTableBody })
       end_row m fam known clear = ends_in InRow family.Row _ _ m fam (simp (known, clear) refl)

@@ -1,12 +1,6 @@
 -- Tokens with their places, and what the law of building asks of texts.
-use Rattle.std.proofs.Common.{◌≡◌, ℕ, Bool, true, false, not, List, [], ◌∷◌, ◌++◌, map, refl, ◌∙◌, ap}
-use Rattle.std.proofs.lemmas.Bool.{false≢true}
-use Rattle.std.specs.Prelude.{encode_utf8_all, chars, ◌==◌}
-use Rattle.hnodes.specs.Forest.{text, Forest, tree}
-use Rattle.hadopt.specs.Naming.{Naming}
-use Rattle.hadopt.specs.Site.{Goes}
-use Rattle.hmodes.specs.State.{Token, PlacedToken, State}
-use Rattle.hmodes.specs.Step.{Steps, and}
+use Rattle.hlaws.proofs.Names.{◌≡◌, ℕ, Bool, true, false, List, [], ◌∷◌, ◌++◌, map, refl, ◌∙◌, ap, encode_utf8_all, chars, ◌==◌, text, Forest, tree, Naming, Goes, Token, PlacedToken, State, Steps, and}
+use Rattle.names.proofs.Words.{heads, tails}
 use Rattle.hmodes.specs.Step as step
 
 -- the tokens, without their places
@@ -34,13 +28,9 @@ module _ {N : Type 0} where
 
   pub first : (ts : List (PlacedToken N)) (u : Token N) (us : List (Token N)) → AreTokens ts (u ∷ us) → First ts u us
   first [] u us h = absurd cc
-  first (t ∷ ts) u us h = record { at = t.at; others = ts; is = ap (λ v. record { token = v; at = t.at } ∷ ts) (head h); rest = tail h }
-    where
-      head : t.token ∷ map (λ t. t.token) ts ≡ u ∷ us → t.token ≡ u
-      head e = cc
-
-      tail : t.token ∷ map (λ t. t.token) ts ≡ u ∷ us → map (λ t. t.token) ts ≡ us
-      tail e = cc
+  first (t ∷ ts) u us h =
+      let all : List (Token N) = map (λ t. t.token) ts in
+      record { at = t.at; others = ts; is = ap (λ v. record { token = v; at = t.at } ∷ ts) (heads t.token u all us h); rest = tails t.token u all us h }
 
   pub parted : (ts : List (PlacedToken N)) (us vs : List (Token N)) → AreTokens ts (us ++ vs) → Parted ts us vs
   parted ts [] vs h = record { front = []; back = ts; is = refl; fronts = refl; backs = h }
@@ -71,7 +61,3 @@ pub record IsText (t : List ℕ) : Type 0 where
 abbrev pub begins_text : {N : Type 0} → Forest N → Bool
 begins_text (tree b (text t) kids rest) = true
 begins_text _ = false
-
-pub not_true : (a : Bool) → not a ≡ true → a ≡ false
-not_true true h = absurd (false≢true h)
-not_true false h = refl

@@ -1,20 +1,16 @@
 -- A character as it is written, and the key that it is written by.
-use Rattle.std.proofs.Common.{◌≡◌, ℕ, zero, suc, ◌≤◌, Bool, true, false, not, cond, ◌&&◌, ◌||◌, nat_eq, bytes_eq, Contains, slice_get, Some, List, [], ◌∷◌, ◌++◌, length, refl, sym, ◌∙◌, ap, subst, arith}
-use Rattle.std.proofs.Math.Utf8.{scalar, scalars}
-use Rattle.std.proofs.lemmas.Bool.{and_parts, eqb-true}
-use Rattle.std.proofs.lemmas.Slice.Eq.{bytes_eq-Decides}
-use Rattle.std.specs.Prelude.{codes, flat_map, encode_utf8, ◌==◌}
-use Rattle.std.specs.List.{list_all, starts_with}
-use Rattle.names.specs.Placed.{is_alphanumeric}
-use Rattle.charref.specs.Reference.{Entry, Entities, IsTable, HasCore, longest, is_key, is_key_name, ends_in_semicolon}
+use Rattle.hlaws.proofs.Names.{◌≡◌, ℕ, ◌≤◌, Bool, true, false, not, cond, ◌&&◌, ◌||◌, nat_eq, Some, List, [], ◌∷◌, ◌++◌, length, refl, sym, ◌∙◌, ap, subst, arith, scalar, scalars, and_parts, eqb-true, bytes_eq-Decides, codes, flat_map, encode_utf8, ◌==◌, list_all, is_alphanumeric, Entities, IsTable, HasCore, longest, ends_in_semicolon, Escaping, written_char}
+use Rattle.std.proofs.Common.{bytes_eq, Contains}
+use Rattle.std.specs.List.{starts_with}
+use Rattle.charref.specs.Reference.{Entry, is_key, is_key_name}
 use Rattle.charref.specs.Table.{IsOver}
 use Rattle.charref.proofs.Keys.{longest-over}
 use Rattle.charref.proofs.Core.{has_found}
-use Rattle.hserialize.specs.declared.escaping.Escaping.{Escaping}
+use Rattle.charref.proofs.Naming.{is_key_of}
 use Rattle.hserialize.specs.declared.escaping.Escaping.TheVariants as escaping
 use Rattle.hserialize.specs.declared.escaping.Setting.{Setting}
 use Rattle.hserialize.specs.declared.escaping.Setting.TheVariants as setting
-use Rattle.hserialize.specs.Escaping.{written_char, escapes_quote, escapes_angles}
+use Rattle.hserialize.specs.Escaping.{escapes_quote, escapes_angles}
 use Rattle.hlaws.proofs.TokensText.{Spells, spells-nil, spells-append, spells_ascii, spells_char, is_no_return, is_clean_char, is_written_ascii, clean_no_return, clean_not_null}
 
 -- THE LONGEST KEY
@@ -35,11 +31,6 @@ key_ends (c ∷ d ∷ ds) (p ∷ q ∷ front) k s e =
     go true e h more = let x = ap length ((bytes_eq-Decides (d ∷ ds) (codes ";")).0 e) in omega (arith, x)
     go false e h more = let x = more h in omega (arith, x)
 
-key_at : (table : Entities) (k : ℕ) (e : Entry) → list_all (λ entry. is_key entry.key) table ≡ true → slice_get table k ≡ Some e → is_key e.key ≡ true
-key_at [] k e all h = absurd cc
-key_at (x ∷ xs) zero e all h = let same : x ≡ e = cc in subst (λ (y : Entry). is_key y.key ≡ true) same (and_parts _ _ all).0
-key_at (x ∷ xs) (suc k) e all h = key_at xs k e (and_parts _ _ all).1 h
-
 no_longer_key : (key name : List ℕ) → is_key key ≡ true → ends_in_semicolon name ≡ true → starts_with nat_eq key (38 ∷ name) ≡ true → length key ≤ length (38 ∷ name)
 no_longer_key [] name k e s = omega arith
 no_longer_key (c ∷ cs) name k e s = let x : length cs ≤ length name = key_ends cs name (and_parts (c == 38) _ k).1 (and_parts (nat_eq 38 c) _ s).1 e in omega (arith, x)
@@ -51,7 +42,7 @@ entry_of name c = record { key = 38 ∷ name; stands_for = c ∷ [] }
 pub longest-core : (table : Entities) (name : List ℕ) (c : ℕ) (rest : List ℕ) → IsTable table → Contains table (entry_of name c) → ends_in_semicolon name ≡ true
     → longest table ((38 ∷ name) ++ rest) ≡ Some (entry_of name c)
 longest-core table name c rest is_table contains e =
-    let over : IsOver table (38 ∷ name) = record { no_more = λ k entry got starts. no_longer_key entry.key name (key_at table k entry is_table.keys got) e starts } in
+    let over : IsOver table (38 ∷ name) = record { no_more = λ k entry got starts. no_longer_key entry.key name (is_key_of table k entry is_table got) e starts } in
     longest-over table (38 ∷ name) rest over ∙ has_found table (entry_of name c) is_table contains
 
 -- HOW A CHARACTER IS WRITTEN

@@ -1,28 +1,16 @@
 -- Texts that are cut into spans, one after another, and the characters among them.
-use Rattle.std.proofs.Common.{◌≡◌, ℕ, ◌⊎◌, inl, inr, Bool, true, false, not, cond, ◌&&◌, ◌||◌, Some, List, [], ◌∷◌, ◌++◌, map, refl, sym, ◌∙◌, ap, subst, append-nil, append_assoc}
-use Rattle.std.proofs.lemmas.Bool.{and_right, or_from}
-use Rattle.std.proofs.lemmas.Grind.{flat_map-append}
-use Rattle.std.proofs.lemmas.List.{map-append}
-use Rattle.std.specs.Prelude.{◌==◌, Option, None}
-use Rattle.names.specs.declared.placed.Placed.{Placed}
-use Rattle.names.specs.declared.raw.RawKind.{RawKind}
+use Rattle.hlaws.proofs.Names.{◌≡◌, ℕ, ◌⊎◌, inl, inr, Bool, true, false, not, cond, ◌&&◌, ◌||◌, Some, List, [], ◌∷◌, ◌++◌, map, refl, sym, ◌∙◌, ap, subst, append-nil, append_assoc, and_right, or_from, flat_map-append, map-append, ◌==◌, first_is, Placed, RawKind, characters, begins, is_alphanumeric, Entities, Piece, IsTable, longest, named_piece, ends_in_semicolon, Span, piece_span, Standing, next, standing_after, IsSpan, IsSpanOf, raw_character, is_raw_end, is_end_tag_of, plain_piece, Cut, spans_text, has_refused, Token, character, taken}
+use Rattle.std.specs.Prelude.{Option, None}
 use Rattle.names.specs.declared.raw.RawKind.TheVariants as kind
-use Rattle.names.specs.Placed.{characters, begins, is_alphanumeric}
-use Rattle.charref.specs.Reference.{Entities, Piece, IsTable, IsReference, longest, named_piece, ends_in_semicolon, named}
-use Rattle.htoken.specs.Token.{Span, piece_span}
-use Rattle.htoken.specs.Standing.{Standing, next, standing_after}
-use Rattle.htoken.specs.Spans.{IsSpan, IsSpanOf, raw_character, raw_reference}
-use Rattle.htoken.specs.Raw.{is_raw_end, is_end_tag_of}
-use Rattle.htag.specs.Value.{plain_piece}
+use Rattle.charref.specs.Reference.{IsReference, named}
+use Rattle.htoken.specs.Spans.{raw_reference}
 use Rattle.htoken.specs.Data.{IsDataSpan, character_span}
 use Rattle.htoken.specs.Data as production
-use Rattle.htoken.specs.Tokens.{Cut, spans_text, tokens_of, has_refused}
+use Rattle.htoken.specs.Tokens.{tokens_of}
 use Rattle.htoken.proofs.Cutting.{refused-append}
-use Rattle.hmodes.specs.State.{Token, character}
-use Rattle.hparse.specs.Taken.{taken}
 use Rattle.hserialize.specs.declared.escaping.Setting.TheVariants as setting
 use Rattle.hlaws.proofs.TokensCore.{IsCoreName, Way, by_name, by_itself, AreWritten, entry_of, longest-core, begins_alphanumeric}
-use Rattle.hlaws.proofs.TokensText.{head_of, tail_of}
+use Rattle.hlaws.proofs.TokensText.{tail_of}
 
 -- SPLITTING
 
@@ -37,7 +25,7 @@ pub split : (text : List Placed) (cs ds : List ℕ) → characters text ≡ cs +
 split text [] ds e = record { front = []; back = text; is = refl; fronts = refl; backs = e }
 split [] (c ∷ cs) ds e = absurd cc
 split (p ∷ text) (c ∷ cs) ds e =
-    let same : p.ch ≡ c = head_of p text c (cs ++ ds) e in
+    let same : p.ch ≡ c = first_is p text c (cs ++ ds) e in
     let others : characters text ≡ cs ++ ds = tail_of p text c (cs ++ ds) e in
     let s = split text cs ds others in
     record { front = p ∷ s.front; back = s.back; is = ap (λ (x : List Placed). p ∷ x) s.is; fronts = λ i. same i ∷ s.fronts i; backs = s.backs }
@@ -116,7 +104,7 @@ module _ (table : Entities) (is_table : IsTable table) where
       begun [] [] e h = absurd cc
       begun [] (b ∷ bytes) e h = absurd cc
       begun (p ∷ name) [] e h = absurd cc
-      begun (p ∷ name) (b ∷ bytes) e h = ap is_alphanumeric (head_of p name b bytes e) ∙ h
+      begun (p ∷ name) (b ∷ bytes) e h = ap is_alphanumeric (first_is p name b bytes e) ∙ h
 
       whole : (name rest : List Placed) (bytes : List ℕ) → characters name ≡ bytes → characters (amp ∷ name ++ rest) ≡ (38 ∷ bytes) ++ characters rest
       whole name rest bytes e = let x : characters (name ++ rest) ≡ bytes ++ characters rest = map-append (λ (p : Placed). p.ch) name rest ∙ ap (λ (y : List ℕ). y ++ characters rest) e in λ i. is_amp i ∷ x i
@@ -137,7 +125,7 @@ module _ (table : Entities) (is_table : IsTable table) where
       go : (text : List Placed) → characters text ≡ 38 ∷ name → Cuts table end here text rest (character c ∷ []) (Same here)
       go [] e = absurd cc
       go (amp ∷ nm) e =
-          let is_amp : amp.ch ≡ 38 = head_of amp nm 38 name e in
+          let is_amp : amp.ch ≡ 38 = first_is amp nm 38 name e in
           let is_name : characters nm ≡ name = tail_of amp nm 38 name e in
           let piece : Piece = named_piece (amp ∷ nm) (entry_of name c) in
           one table end here rest (piece_span piece) (character c ∷ []) (Same here) (referred piece (a_reference false amp nm rest name c is_amp is_name key)) refl refl (record { kind_is = refl; name_is = refl })
@@ -146,7 +134,7 @@ module _ (table : Entities) (is_table : IsTable table) where
       go : (text : List Placed) → characters text ≡ c ∷ [] → Cuts table end here text rest (character c ∷ []) (Same here)
       go [] e = absurd cc
       go (p ∷ q ∷ text) e = absurd cc
-      go (p ∷ []) e = itself p (head_of p [] c [] e) no_amp no_less
+      go (p ∷ []) e = itself p (first_is p [] c [] e) no_amp no_less
 
   -- of data, and of text in which no more than references is read
   data_span : (c : ℕ) (ds : List ℕ) (text rest : List Placed) (end : ℕ) (here : Standing) → here.kind ≡ kind.None → Way table setting.Text c ds → characters text ≡ ds

@@ -1,35 +1,18 @@
 -- Tags and comments, whole.
-use Rattle.std.proofs.Common.{◌≡◌, ℕ, Bool, true, false, not, cond, ◌&&◌, ◌||◌, nat_eq, Some, List, [], ◌∷◌, ◌++◌, map, refl, sym, ◌∙◌, ap, subst, arith, append-nil, append_assoc}
-use Rattle.std.proofs.lemmas.Bool.{and_parts, and_right, or_from, or_parts}
-use Rattle.std.proofs.lemmas.Bool.Decides.{nat_tests}
-use Rattle.std.proofs.lemmas.List.{map-append}
-use Rattle.std.specs.Prelude.{codes, encode_utf8_all}
-use Rattle.std.specs.List.{list_all}
-use Rattle.names.specs.declared.placed.Placed.{Placed}
-use Rattle.names.specs.declared.raw.RawKind.{RawKind}
+use Rattle.hlaws.proofs.Names.{◌≡◌, ℕ, Bool, true, false, not, cond, ◌&&◌, ◌||◌, nat_eq, Some, List, [], ◌∷◌, ◌++◌, map, refl, sym, ◌∙◌, ap, subst, arith, append-nil, append_assoc, and_parts, and_right, or_from, or_parts, nat_tests, map-append, codes, encode_utf8_all, list_all, all-characters, all_weaker, first_is, Placed, RawKind, characters, place, begins, spells, all, is_letter, without_null, name_bytes, raw_kind, is_refused, tag_named, Entities, IsTable, Attribute, Span, Standing, next, parts_text, attributes_after, ends_name, IsSpanOf, has_refused, start, end, comment, taken, begins_with, has_part}
 use Rattle.names.specs.declared.raw.RawKind.TheVariants as kind
-use Rattle.names.specs.Placed.{characters, place, begins, stops, spells, all, before, Avoids, is_letter, without_null, name_bytes, text_bytes}
-use Rattle.names.specs.Sets.{raw_kind, is_refused}
-use Rattle.names.specs.Tags.{tag_named}
-use Rattle.charref.specs.Reference.{Entities, IsTable}
-use Rattle.hnodes.specs.Forest.{Attribute}
+use Rattle.names.specs.Placed.{stops, before, Avoids, text_bytes}
 use Rattle.hmarkup.specs.Comment.{IsComment, closed, closes_comment, closes_at_once}
 use Rattle.hmarkup.specs.Comment as text_of_comment
 use Rattle.hmarkup.proofs.Marks.{before-avoids, before-here}
-use Rattle.htoken.specs.Token.{Span, Start, End}
-use Rattle.htoken.specs.Standing.{Standing, next}
+use Rattle.htoken.specs.Token.{Start, End}
 use Rattle.htoken.specs.Tag.{IsTag, start_tag, end_tag}
-use Rattle.htag.specs.Tag.{parts_text, attributes_after, tag_errors, end_tag_errors, ends_name}
-use Rattle.htoken.specs.Spans.{IsSpanOf}
+use Rattle.htag.specs.Tag.{tag_errors, end_tag_errors}
 use Rattle.htoken.specs.Data.{comment_span}
 use Rattle.htoken.specs.Data as production
-use Rattle.htoken.specs.Tokens.{has_refused}
-use Rattle.hmodes.specs.State.{start, end, comment}
-use Rattle.hparse.specs.Taken.{taken}
-use Rattle.hplain.specs.Plain.{begins_with, has_part}
-use Rattle.hlaws.proofs.TokensText.{is_clean_char, clean_not_null, head_of, tail_of}
+use Rattle.hlaws.proofs.TokensText.{is_clean_char, clean_not_null, tail_of}
 use Rattle.hlaws.proofs.TokensCuts.{split, Cuts, one, cuts_as}
-use Rattle.hlaws.proofs.TokensTags.{is_good, good_no_end, all-characters, all_over, name_bytes_are, begins_letter, AreAttributes, AreNew, attribute_parts, attribute_codes}
+use Rattle.hlaws.proofs.TokensTags.{is_good, good_no_end, name_bytes_are, begins_letter, AreAttributes, AreNew, attribute_parts, attribute_codes}
 
 -- NAMES OF ELEMENTS
 
@@ -48,15 +31,15 @@ letter_first : (text : List Placed) (name : List ℕ) → characters text ≡ na
 letter_first [] [] e h = absurd cc
 letter_first [] (c ∷ cs) e h = absurd cc
 letter_first (p ∷ ps) [] e h = absurd cc
-letter_first (p ∷ ps) (c ∷ cs) e h = ap is_letter (head_of p ps c cs e) ∙ h
+letter_first (p ∷ ps) (c ∷ cs) e h = ap is_letter (first_is p ps c cs e) ∙ h
 
 runs_name : (text : List Placed) (name : List ℕ) → characters text ≡ name → list_all is_good name ≡ true → all (λ c. not (ends_name c)) text ≡ true
-runs_name text name e h = all-characters (λ c. not (ends_name c)) text ∙ ap (list_all (λ c. not (ends_name c))) e ∙ all_over is_good (λ c. not (ends_name c)) good_no_end name h
+runs_name text name e h = all-characters (λ c. not (ends_name c)) text ∙ ap (list_all (λ c. not (ends_name c))) e ∙ all_weaker is_good (λ c. not (ends_name c)) good_no_end name h
 
 -- what follows a name: `>`, or the space before an attribute
 stops_there : (close rest : List Placed) → characters close ≡ codes ">" → stops ends_name (close ++ rest) ≡ true
 stops_there [] rest e = absurd cc
-stops_there (p ∷ ps) rest e = ap ends_name (head_of p ps 62 [] e)
+stops_there (p ∷ ps) rest e = ap ends_name (first_is p ps 62 [] e)
 
 stops_after_name : (table : Entities) (attrs : List (Attribute (List ℕ))) (ds : List ℕ) (text close rest : List Placed) → AreAttributes table attrs ds → characters text ≡ ds → characters close ≡ codes ">"
     → stops ends_name (text ++ (close ++ rest)) ≡ true
@@ -153,7 +136,7 @@ avoids_close : (inner close : List Placed) (cs : List ℕ) → characters inner 
 avoids_close [] close cs e k h g = tt
 avoids_close (p ∷ ps) close [] e k h g = absurd cc
 avoids_close (p ∷ ps) close (c ∷ cs) e k h g =
-    let same : p.ch ≡ c = head_of p ps c cs e in
+    let same : p.ch ≡ c = first_is p ps c cs e in
     let others : characters ps ≡ cs = tail_of p ps c cs e in
     let whole : characters (p ∷ ps ++ close) ≡ c ∷ cs ++ codes "-->" = let x : characters (ps ++ close) ≡ cs ++ codes "-->" = map-append (λ (p : Placed). p.ch) ps close ∙ (λ i. others i ++ k i) in λ i. same i ∷ x i in (
       or_from _ _ (spells_is (codes "-->") (p ∷ ps ++ close) ∙ ap (begins_with (codes "-->")) whole ∙ no_close c cs h) (spells_is (codes "--!>") (p ∷ ps ++ close) ∙ ap (begins_with (codes "--!>")) whole ∙ no_bang_close c cs g),
@@ -174,7 +157,7 @@ bytes_of_text : (text : List Placed) (cs : List ℕ) → characters text ≡ cs 
 bytes_of_text [] cs e h = e
 bytes_of_text (p ∷ ps) [] e h = absurd cc
 bytes_of_text (p ∷ ps) (c ∷ cs) e h =
-    let same : p.ch ≡ c = head_of p ps c cs e in
+    let same : p.ch ≡ c = first_is p ps c cs e in
     let others : characters ps ≡ cs = tail_of p ps c cs e in
     let both = and_parts (is_clean_char c) (list_all is_clean_char cs) h in
     let x : without_null p.ch ≡ c = ap without_null same ∙ ap (λ (b : Bool). cond b 0xFFFD c) (clean_not_null c both.0) in

@@ -1,36 +1,16 @@
 -- Plain lists are read as their own tokens.
-use Rattle.std.proofs.Common.{◌≡◌, ℕ, inl, Bool, true, false, not, ◌&&◌, ◌||◌, bytes_eq, List, [], ◌∷◌, ◌++◌, map, refl, sym, ◌∙◌, ap, subst, true≢false}
-use Rattle.std.proofs.lemmas.Bool.{and_parts, and_from, or_from, or_parts, false_from_ne_true, false≢true}
-use Rattle.std.proofs.lemmas.Slice.Eq.{bytes_eq-Decides}
-use Rattle.std.proofs.lemmas.Str.{encodes-chars, scalars-chars}
-use Rattle.std.specs.Prelude.{codes, chars, IsUtf8, flat_map}
+use Rattle.hlaws.proofs.Names.{◌≡◌, ℕ, inl, Bool, true, false, not, ◌&&◌, ◌||◌, List, [], ◌∷◌, ◌++◌, map, refl, sym, ◌∙◌, ap, subst, true≢false, and_parts, and_from, or_from, or_parts, false_from_ne_true, false≢true, not-true, bytes_eq-Decides, encodes-chars, scalars-chars, codes, chars, IsUtf8, flat_map, list_all, list_any, Placed, RawKind, Tag, characters, raw_kind, is_refused, is_void, tag_named, tag_text, tags, Entities, IsTable, HasCore, Attribute, Standing, standing_after, is_known, Token, start, end, comment, character, Content, Role, Escaping, escaped, row, takes_role, are_plain_attributes, is_plain_comment, is_clean, is_name_byte, begins_with, has_part, start_tag_text, end_tag_text}
+use Rattle.std.proofs.Common.{bytes_eq}
 use Rattle.std.specs.Char.{is_ascii_lowercase}
-use Rattle.std.specs.List.{list_all, list_any}
-use Rattle.names.specs.declared.placed.Placed.{Placed}
-use Rattle.names.specs.declared.raw.RawKind.{RawKind}
+use Rattle.names.proofs.Words.{or_second}
 use Rattle.names.specs.declared.raw.RawKind.TheVariants as kind
-use Rattle.names.specs.declared.tag.Tag.{Tag}
 use Rattle.names.specs.declared.tag.Tag.TheVariants as tag
-use Rattle.names.specs.Placed.{characters}
-use Rattle.names.specs.Sets.{raw_kind, is_refused, is_void}
-use Rattle.names.specs.Tags.{tag_named, tag_text, tags}
-use Rattle.charref.specs.Reference.{Entities, IsTable, HasCore}
-use Rattle.hnodes.specs.Forest.{Attribute}
-use Rattle.htoken.specs.Standing.{Standing, standing_after}
-use Rattle.htag.specs.Tag.{is_known}
-use Rattle.hmodes.specs.State.{Token, start, end, comment, character}
-use Rattle.hplain.specs.declared.content.Content.{Content}
 use Rattle.hplain.specs.declared.content.Content.TheVariants as content
-use Rattle.hplain.specs.declared.content.Role.{Role}
 use Rattle.hplain.specs.declared.content.Role.TheVariants as role
-use Rattle.hserialize.specs.declared.escaping.Escaping.{Escaping}
 use Rattle.hserialize.specs.declared.escaping.Setting.TheVariants as setting
-use Rattle.hserialize.specs.Escaping.{escaped}
-use Rattle.hplain.specs.ContentTable.{row, takes_role}
-use Rattle.hplain.specs.Plain.{are_plain_attributes, is_plain_name, is_plain_comment, is_clean, is_name_byte, begins_with, has_part}
-use Rattle.hserialize.specs.Written.{attribute_text, start_tag_text, end_tag_text}
+use Rattle.hplain.specs.Plain.{is_plain_name}
+use Rattle.hserialize.specs.Written.{attribute_text}
 use Rattle.hlaws.specs.ComesBack.{AreUtf8}
-use Rattle.hlaws.proofs.TokenLists.{not_true}
 use Rattle.hlaws.proofs.NamesAsTexts.{named_back}
 use Rattle.hlaws.proofs.TokensText.{Spells, spells-nil, spells-append, spells_ascii, spells_text, clean_text, no_part, no_front}
 use Rattle.hlaws.proofs.TokensCore.{escaped_as}
@@ -84,10 +64,6 @@ somewhere c role.Cell h = refl
 somewhere content.Around role.Nowhere h = absurd (false≢true h)
 somewhere _ role.Nowhere h = absurd (false≢true h)
 
-or_second : (a b : Bool) → (a || b) ≡ true → a ≡ false → b ≡ true
-or_second true b h e = absurd cc
-or_second false b h e = h
-
 -- a name that is somewhere
 pub record IsKnownName (name : List ℕ) : Type 0 where
   pub is_name : IsElementName name
@@ -104,7 +80,7 @@ known_name name c h =
     let b = and_parts (list_all is_good (tag_text t)) (begins_letter (tag_text t)) a.0 in
     let d = and_parts (not (is_refused t)) (fits (raw_kind t) (row t).1 (is_void t)) a.1 in
     record {
-      is_name = record { good = ap (list_all is_good) is ∙ b.0; letter = ap begins_letter is ∙ b.1; allowed = not_true _ d.0 };
+      is_name = record { good = ap (list_all is_good) is ∙ b.0; letter = ap begins_letter is ∙ b.1; allowed = not-true _ d.0 };
       fit = d.1;
     }
 
@@ -174,7 +150,7 @@ are_new [] h = tt
 are_new (a ∷ others) h =
     let x = and_parts ((is_plain_name a.0 && is_clean a.1) && not (list_any (λ b. bytes_eq a.0 b.0) others)) _ h in
     let y = and_parts (is_plain_name a.0 && is_clean a.1) _ x.0 in
-    (refl, new_more a.0 [] [] others (are_new others x.1) (not_true _ y.1))
+    (refl, new_more a.0 [] [] others (are_new others x.1) (not-true _ y.1))
 
 pub record AttributesRead (table : Entities) (attrs : List (Attribute (List ℕ))) (bytes : List ℕ) : Type 0 where
   pub codes_are : List ℕ

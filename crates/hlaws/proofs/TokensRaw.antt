@@ -1,24 +1,11 @@
 -- Raw texts, and the end tags that end them.
-use Rattle.std.proofs.Common.{◌≡◌, ℕ, suc, ◌+◌, Bool, true, false, not, cond, ◌&&◌, Some, None, List, [], ◌∷◌, ◌++◌, map, length, drop, refl, sym, ◌∙◌, ap, subst, arith, append_assoc, true≢false}
-use Rattle.std.proofs.lemmas.Bool.{and_parts, and_from, and_right, or_parts, or_right, eqb-true, false_from_ne_true}
-use Rattle.std.proofs.lemmas.List.{map-append}
-use Rattle.std.specs.Prelude.{◌==◌, codes, Option}
-use Rattle.std.specs.Char.{to_ascii_lowercase}
-use Rattle.std.specs.List.{list_all}
-use Rattle.names.specs.declared.placed.Placed.{Placed}
-use Rattle.names.specs.declared.raw.RawKind.{RawKind}
+use Rattle.hlaws.proofs.Names.{◌≡◌, ℕ, suc, ◌+◌, Bool, true, false, not, cond, ◌&&◌, Some, None, List, [], ◌∷◌, ◌++◌, map, length, drop, refl, sym, ◌∙◌, ap, subst, arith, append_assoc, true≢false, and_parts, and_from, and_right, or_parts, or_right, eqb-true, false_from_ne_true, map-append, ◌==◌, codes, to_ascii_lowercase, list_all, first_is, Placed, RawKind, characters, begins, spells, without_null, Entities, Span, piece_span, Standing, IsSpanOf, raw_character, has_references, is_raw_end, is_end_tag_of, may_end, ends_name, ends_attribute_name, plain_piece, end, character, begins_with, has_part}
+use Rattle.std.specs.Prelude.{Option}
 use Rattle.names.specs.declared.raw.RawKind.TheVariants as kind
-use Rattle.names.specs.Placed.{characters, begins, spells, spells_in_any_case, without_null}
-use Rattle.charref.specs.Reference.{Entities}
-use Rattle.htoken.specs.Token.{Span, piece_span}
-use Rattle.htoken.specs.Standing.{Standing}
-use Rattle.htoken.specs.Spans.{IsSpanOf, IsRawSpan, raw_character, raw_end, has_references}
-use Rattle.htoken.specs.Raw.{is_raw_end, is_end_tag_of, may_end, level, level_from, ended}
-use Rattle.htag.specs.Tag.{ends_name, ends_attribute_name}
-use Rattle.htag.specs.Value.{plain_piece}
-use Rattle.hmodes.specs.State.{end, character}
-use Rattle.hplain.specs.Plain.{begins_with, has_part}
-use Rattle.hlaws.proofs.TokensText.{is_clean_char, clean_not_null, is_written_ascii, head_of, tail_of}
+use Rattle.names.specs.Placed.{spells_in_any_case}
+use Rattle.htoken.specs.Spans.{IsRawSpan, raw_end}
+use Rattle.htoken.specs.Raw.{level, level_from, ended}
+use Rattle.hlaws.proofs.TokensText.{is_clean_char, clean_not_null, is_written_ascii, tail_of}
 use Rattle.hlaws.proofs.TokensCuts.{split, Cuts, one, join, cuts_as, cuts_none}
 use Rattle.hlaws.proofs.TokensTags.{is_good}
 use Rattle.hlaws.proofs.TokensMarks.{IsElementName, an_end_tag, spells_is}
@@ -66,7 +53,7 @@ module _ (table : Entities) (end_at : ℕ) where
   raw_cuts (c ∷ cs) [] rest here raw none e clean stays = absurd cc
   raw_cuts [] (p ∷ ps) rest here raw none e clean stays = absurd cc
   raw_cuts (c ∷ cs) (p ∷ ps) rest here raw none e clean stays =
-      let same : p.ch ≡ c = head_of p ps c cs e in
+      let same : p.ch ≡ c = first_is p ps c cs e in
       let others : characters ps ≡ cs = tail_of p ps c cs e in
       let both = and_parts (is_clean_char c) (list_all is_clean_char cs) clean in
       let first = raw_char p c (ps ++ rest) here raw none same both.0 stays.0 in
@@ -85,7 +72,7 @@ pub no_end_in : (name : Option (List ℕ)) (text rest : List Placed) (cs more : 
 no_end_in name [] rest cs more e k h = tt
 no_end_in name (p ∷ ps) rest [] more e k h = absurd cc
 no_end_in name (p ∷ ps) rest (c ∷ cs) more e k h =
-    let same : p.ch ≡ c = head_of p ps c cs e in
+    let same : p.ch ≡ c = first_is p ps c cs e in
     let others : characters ps ≡ cs = tail_of p ps c cs e in
     let whole : characters (p ∷ ps ++ rest) ≡ c ∷ cs ++ 60 ∷ more = let x : characters (ps ++ rest) ≡ cs ++ 60 ∷ more = map-append (λ (p : Placed). p.ch) ps rest ∙ (λ i. others i ++ k i) in λ i. same i ∷ x i in
     (of_name name (spells_is (codes "</") (p ∷ ps ++ rest) ∙ ap (begins_with (codes "</")) whole ∙ no_open_end c cs more h), no_end_in name ps rest cs more others k (or_parts _ _ h).1)
@@ -133,7 +120,7 @@ pub level_zero : (text front : List Placed) (cs : List ℕ) → characters text 
 level_zero [] front cs e z h = z
 level_zero (p ∷ ps) front [] e z h = absurd cc
 level_zero (p ∷ ps) front (c ∷ cs) e z h =
-    let same : p.ch ≡ c = head_of p ps c cs e in
+    let same : p.ch ≡ c = first_is p ps c cs e in
     let others : characters ps ≡ cs = tail_of p ps c cs e in
     let moved : has_part (codes "<!--") (put_back (p ∷ front) cs) ≡ false = ap (λ (x : ℕ). has_part (codes "<!--") (put_back front (x ∷ cs))) same ∙ h in
     level_zero ps (p ∷ front) cs others (level_stays p front z (no_opening (p ∷ front) cs moved)) moved
@@ -151,7 +138,7 @@ spells_name : (name : List ℕ) (text rest : List Placed) → characters text �
 spells_name [] text rest e h = refl
 spells_name (c ∷ cs) [] rest e h = absurd cc
 spells_name (c ∷ cs) (p ∷ ps) rest e h =
-    let same : p.ch ≡ c = head_of p ps c cs e in
+    let same : p.ch ≡ c = first_is p ps c cs e in
     let others : characters ps ≡ cs = tail_of p ps c cs e in
     let both = and_parts (is_good c) (list_all is_good cs) h in
     and_from _ _ (ap (λ (x : ℕ). to_ascii_lowercase x == c) same ∙ good_lower c both.0) (spells_name cs ps rest others both.1)
@@ -172,9 +159,9 @@ stands_here name (o ∷ []) middle close rest h e m k = absurd cc
 stands_here name (o ∷ q ∷ r ∷ opening) middle close rest h e m k = absurd cc
 stands_here name (o ∷ q ∷ []) middle [] rest h e m k = absurd cc
 stands_here name (o ∷ q ∷ []) middle (g ∷ close) rest h e m k =
-    let is_less : o.ch ≡ 60 = head_of o (q ∷ []) 60 (codes "/") e in
-    let is_solidus : q.ch ≡ 47 = head_of q [] 47 [] (tail_of o (q ∷ []) 60 (codes "/") e) in
-    let is_greater : g.ch ≡ 62 = head_of g close 62 [] k in
+    let is_less : o.ch ≡ 60 = first_is o (q ∷ []) 60 (codes "/") e in
+    let is_solidus : q.ch ≡ 47 = first_is q [] 47 [] (tail_of o (q ∷ []) 60 (codes "/") e) in
+    let is_greater : g.ch ≡ 62 = first_is g close 62 [] k in
     let opens : spells (codes "</") (o ∷ q ∷ (middle ++ (g ∷ close ++ rest))) ≡ true = rw (is_less, is_solidus) refl in
     let ends : begins ends_name (drop (2 + length name) (o ∷ q ∷ (middle ++ (g ∷ close ++ rest)))) ≡ true = ap (λ (n : ℕ). begins ends_name (drop n (o ∷ q ∷ (middle ++ (g ∷ close ++ rest))))) (two_more (length name)) ∙ ap (begins ends_name) (past_name name middle (g ∷ close ++ rest) m) ∙ ap ends_name is_greater in
     and_from _ _ (and_from _ _ opens (spells_name name middle (g ∷ close ++ rest) m h)) ends

@@ -1,16 +1,13 @@
 -- The law at some lists, with what is written and its tokens in full.
-use Rattle.std.proofs.Common.{ℕ, false, List, [], ◌∷◌, ◌++◌, map, refl}
-use Rattle.std.specs.Prelude.{codes}
+use Rattle.hlaws.proofs.Names.{ℕ, false, List, [], ◌∷◌, ◌++◌, map, refl, codes, Entities, IsTable, HasCore, Forest, none, tree, element, text, Token, start, end, character, eof, AreRead}
 use Rattle.std.specs.Str.{chars}
 use Rattle.std.specs.Char.{encode_utf8}
 use Rattle.std.specs.List.{IsDistinct}
 use Rattle.names.specs.declared.raw.RawKind.TheVariants as kind
-use Rattle.charref.specs.Reference.{Entities, IsTable, HasCore, core}
-use Rattle.hnodes.specs.Forest.{Forest, none, tree, element, text, comment}
-use Rattle.hmodes.specs.State.{Token, start, end, character, eof}
+use Rattle.charref.specs.Reference.{core}
+use Rattle.hnodes.specs.Forest.{comment}
 use Rattle.hmodes.specs.State as token
 use Rattle.hserialize.specs.declared.escaping.Escaping.TheVariants.{One}
-use Rattle.hlaws.specs.ComesBack.{AreRead}
 use Rattle.hlaws.proofs.TokensWhole.{tokens_law}
 
 abbrev chars_of : List ℕ → List (Token (List ℕ))

@@ -1,22 +1,14 @@
 -- Tags and comments as they are written are spans.
-use Rattle.std.proofs.Common.{◌≡◌, ℕ, zero, suc, ◌<◌, Bool, true, false, not, cond, ◌&&◌, ◌||◌, nat_eq, nat_lt, Some, None, List, [], ◌∷◌, ◌++◌, drop, refl, sym, ◌∙◌, ap, subst, arith, append-nil, append_assoc}
-use Rattle.std.proofs.lemmas.Bool.{and_parts, and_from, eqb-true, ltb-true}
-use Rattle.std.proofs.lemmas.Bool.Decides.{nat_tests}
-use Rattle.std.proofs.lemmas.Str.{encode_ascii}
-use Rattle.std.specs.Prelude.{◌==◌, codes, encode_utf8_all}
-use Rattle.std.specs.Char.{to_ascii_lowercase}
-use Rattle.std.specs.List.{flat_map, list_all}
-use Rattle.names.specs.declared.placed.Placed.{Placed}
-use Rattle.names.specs.Placed.{characters, place, error_if, begins, stops, all, is_letter, is_space, without_null, name_bytes}
-use Rattle.charref.specs.Reference.{Entities, Piece, IsTable, named_piece}
-use Rattle.hnodes.specs.Forest.{Attribute}
-use Rattle.htag.specs.Value.{IsPiece, plain, plain_piece, pieces_text, AreValue, value_bytes}
+use Rattle.hlaws.proofs.Names.{◌≡◌, ℕ, zero, suc, ◌<◌, Bool, true, false, not, cond, ◌&&◌, ◌||◌, nat_eq, nat_lt, Some, None, List, [], ◌∷◌, ◌++◌, drop, refl, sym, ◌∙◌, ap, subst, arith, append-nil, append_assoc, and_parts, and_from, eqb-true, ltb-true, nat_tests, encode_ascii, ◌==◌, codes, encode_utf8_all, to_ascii_lowercase, list_all, all-characters, all_weaker, first_is, Placed, characters, place, begins, all, is_letter, is_space, without_null, name_bytes, Entities, Piece, IsTable, named_piece, Attribute, plain_piece, parts_text, ends_name, ends_attribute_name, is_known, attributes_after, is_name_byte}
+use Rattle.std.specs.List.{flat_map}
+use Rattle.names.proofs.Words.{implied}
+use Rattle.names.specs.Placed.{error_if, stops}
+use Rattle.htag.specs.Value.{IsPiece, plain, pieces_text, AreValue, value_bytes}
 use Rattle.htag.specs.Value as piece
 use Rattle.names.specs.declared.error.ErrorCode.TheVariants.{MissingWhitespaceBetweenAttributes}
-use Rattle.htag.specs.Tag.{Part, attribute_part, value_errors, is_sign, space, quoted, AreParts, parts_text, ends_name, ends_attribute_name, is_known, kept, attributes_after}
+use Rattle.htag.specs.Tag.{Part, attribute_part, value_errors, is_sign, space, quoted, AreParts, kept}
 use Rattle.hserialize.specs.declared.escaping.Setting.TheVariants as setting
-use Rattle.hplain.specs.Plain.{is_name_byte}
-use Rattle.hlaws.proofs.TokensText.{is_written_ascii, head_of, tail_of}
+use Rattle.hlaws.proofs.TokensText.{is_written_ascii, tail_of}
 use Rattle.hlaws.proofs.TokensCore.{Way, by_name, by_itself, AreWritten, entry_of}
 use Rattle.hlaws.proofs.TokensCuts.{split, no_characters, a_reference}
 
@@ -34,10 +26,6 @@ good_below : (n c : ℕ) → are_good_below n ≡ true → c < n → is_name_byt
 good_below zero c all less h = absurd (omega (arith, less))
 good_below (suc n) c all less h = go (nat_eq c n) refl (good_below n c (and_parts (not (is_name_byte n) || is_good n) _ all).1)
   where
-    implied : (a b : Bool) → (not a || b) ≡ true → a ≡ true → b ≡ true
-    implied true b e k = e
-    implied false b e k = absurd cc
-
     go : (b : Bool) → nat_eq c n ≡ b → (c < n → is_name_byte c ≡ true → is_good c ≡ true) → is_good c ≡ true
     go true e others = let same : c ≡ n = eqb-true c n e in implied (is_name_byte c) (is_good c) (subst (λ (x : ℕ). (not (is_name_byte x) || is_good x) ≡ true) (sym same) (and_parts _ _ all).0) h
     go false e others = others (grind (arith, nat_tests)) h
@@ -66,20 +54,12 @@ good_no_end c h = go (ends_name c) (c == 61) (good_ends_none c h)
     go true b e = e
     go false b e = refl
 
-pub all-characters : (test : ℕ → Bool) (text : List Placed) → all test text ≡ list_all test (characters text)
-all-characters test [] = refl
-all-characters test (p ∷ ps) = ap (λ (b : Bool). test p.ch && b) (all-characters test ps)
-
-pub all_over : (test other : ℕ → Bool) → ((c : ℕ) → test c ≡ true → other c ≡ true) → (cs : List ℕ) → list_all test cs ≡ true → list_all other cs ≡ true
-all_over test other imply [] h = refl
-all_over test other imply (c ∷ cs) h = let both = and_parts _ _ h in and_from _ _ (imply c both.0) (all_over test other imply cs both.1)
-
 pub name_bytes_are : (text : List Placed) (name : List ℕ) → characters text ≡ name → list_all is_good name ≡ true → name_bytes text ≡ name
 name_bytes_are [] [] e h = refl
 name_bytes_are [] (c ∷ cs) e h = absurd cc
 name_bytes_are (p ∷ ps) [] e h = absurd cc
 name_bytes_are (p ∷ ps) (c ∷ cs) e h =
-    let same : p.ch ≡ c = head_of p ps c cs e in
+    let same : p.ch ≡ c = first_is p ps c cs e in
     let others : characters ps ≡ cs = tail_of p ps c cs e in
     let both = and_parts (is_good c) (list_all is_good cs) h in
     let parts = and_parts (not (ends_attribute_name c) && to_ascii_lowercase (without_null c) == c) (is_written_ascii c) both.0 in
@@ -97,18 +77,18 @@ abbrev pub is_some_name : List ℕ → Bool
 is_some_name [] = false
 is_some_name (c ∷ cs) = true
 
-first_is : (text : List Placed) (name : List ℕ) → characters text ≡ name → is_some_name name ≡ true → list_all is_good name ≡ true → begins (λ c. not (ends_name c)) text ≡ true
-first_is [] [] e some h = absurd cc
-first_is [] (c ∷ cs) e some h = absurd cc
-first_is (p ∷ ps) [] e some h = absurd cc
-first_is (p ∷ ps) (c ∷ cs) e some h = ap (λ (x : ℕ). not (ends_name x)) (head_of p ps c cs e) ∙ good_no_end c (and_parts _ _ h).0
+name_begins : (text : List Placed) (name : List ℕ) → characters text ≡ name → is_some_name name ≡ true → list_all is_good name ≡ true → begins (λ c. not (ends_name c)) text ≡ true
+name_begins [] [] e some h = absurd cc
+name_begins [] (c ∷ cs) e some h = absurd cc
+name_begins (p ∷ ps) [] e some h = absurd cc
+name_begins (p ∷ ps) (c ∷ cs) e some h = ap (λ (x : ℕ). not (ends_name x)) (first_is p ps c cs e) ∙ good_no_end c (and_parts _ _ h).0
 
 runs_on : (text : List Placed) (name : List ℕ) → characters text ≡ name → list_all is_good name ≡ true → all (λ c. not (ends_attribute_name c)) (drop 1 text) ≡ true
 runs_on [] name e h = refl
 runs_on (p ∷ ps) [] e h = absurd cc
 runs_on (p ∷ ps) (c ∷ cs) e h =
     let others : characters ps ≡ cs = tail_of p ps c cs e in
-    all-characters (λ c. not (ends_attribute_name c)) ps ∙ ap (list_all (λ c. not (ends_attribute_name c))) others ∙ all_over is_good (λ c. not (ends_attribute_name c)) good_ends_none cs (and_parts _ _ h).1
+    all-characters (λ c. not (ends_attribute_name c)) ps ∙ ap (list_all (λ c. not (ends_attribute_name c))) others ∙ all_weaker is_good (λ c. not (ends_attribute_name c)) good_ends_none cs (and_parts _ _ h).1
 
 sign_is : (s : Placed) → s.ch ≡ 61 → is_sign (s ∷ []) ≡ true
 sign_is s e = subst (λ (c : ℕ). is_sign (record { ch = c; at = s.at } ∷ []) ≡ true) (sym e) refl
@@ -172,7 +152,7 @@ module _ (table : Entities) (is_table : IsTable table) where
       first : Way table setting.Value c ds → (front back : List Placed) → characters front ≡ ds → text ≡ front ++ back → Valued table back cs → Valued table text (c ∷ cs)
       first (by_name name d key) [] back e t then = absurd cc
       first (by_name name d key) (amp ∷ nm) back e t then =
-          let is_amp : amp.ch ≡ 38 = head_of amp nm 38 name (e ∙ d) in
+          let is_amp : amp.ch ≡ 38 = first_is amp nm 38 name (e ∙ d) in
           let is_name : characters nm ≡ name = tail_of amp nm 38 name (e ∙ d) in
           record {
             pieces = named_piece (amp ∷ nm) (entry_of name c) ∷ then.pieces;
@@ -183,7 +163,7 @@ module _ (table : Entities) (is_table : IsTable table) where
       first (by_itself d no_amp no_quote) [] back e t then = absurd cc
       first (by_itself d no_amp no_quote) (p ∷ q ∷ front) back e t then = absurd cc
       first (by_itself d no_amp no_quote) (p ∷ []) back e t then =
-          let same : p.ch ≡ c = head_of p [] c [] (e ∙ d) in
+          let same : p.ch ≡ c = first_is p [] c [] (e ∙ d) in
           record {
             pieces = plain_piece p ∷ then.pieces;
             text_is = ap (λ (x : List Placed). p ∷ x) then.text_is ∙ sym t;
@@ -219,7 +199,7 @@ module _ (table : Entities) (is_table : IsTable table) where
             space p (ap is_space is_sp) refl,
             (
               quoted name (s ∷ []) quote close v.pieces 34
-                  (record { first = first_is name a.0 e-name is.named is.good; runs = record { passes_none = runs_on name a.0 e-name is.good; stops_after = ap ends_attribute_name is_sg } })
+                  (record { first = name_begins name a.0 e-name is.named is.good; runs = record { passes_none = runs_on name a.0 e-name is.good; stops_after = ap ends_attribute_name is_sg } })
                   (sign_is s is_sg) e-quote refl (ap (all (λ c. not (c == 34))) v.text_is ∙ all-characters (λ c. not (c == 34)) value ∙ ap (list_all (λ c. not (c == 34))) e-value ∙ no_quotes table is.characters_are es is.value) v.are e-close refl,
               then.are,
             ),

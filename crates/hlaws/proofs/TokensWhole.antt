@@ -1,41 +1,15 @@
 -- Plain lists are read as their own tokens, in every context.
-use Rattle.std.proofs.Common.{◌≡◌, ℕ, ◌⊎◌, inl, inr, Bool, true, false, not, cond, ◌&&◌, nat_lt, Option, Some, None, List, [], ◌∷◌, ◌++◌, map, length, refl, sym, ◌∙◌, ap, subst, append-nil, append_assoc}
-use Rattle.std.proofs.lemmas.Bool.{and_parts, false≢true}
-use Rattle.std.proofs.lemmas.List.{map-append}
-use Rattle.std.proofs.lemmas.Str.{chars-nil, scalars-chars, IsUtf8-nil}
-use Rattle.std.specs.Prelude.{codes, chars, IsUtf8, flat_map}
-use Rattle.names.specs.declared.placed.Placed.{Placed}
-use Rattle.names.specs.declared.raw.RawKind.{RawKind}
+use Rattle.hlaws.proofs.Names.{◌≡◌, ℕ, ◌⊎◌, inl, inr, Bool, true, false, not, cond, ◌&&◌, nat_lt, Option, Some, None, List, [], ◌∷◌, ◌++◌, map, length, refl, sym, ◌∙◌, ap, subst, append-nil, append_assoc, and_parts, false≢true, not-true, map-append, scalars-chars, codes, chars, IsUtf8, flat_map, Placed, RawKind, characters, raw_kind, is_void, tag_named, Entities, IsTable, HasCore, Attribute, What, Forest, none, tree, Eof, Standing, at_start, standing_after, has_references, may_end, texts, Token, start, end, comment, character, eof, Content, Role, Escaping, escaped, written_char, row, takes_role, takes_comments, Inside, inside_element, inside_node, in_context_of, is_form, are_content, are_content_if, is_plain_node, is_plain_text, is_plain_comment, are_plain_attributes, is_among_texts, is_clean, begins_with_text, begins_with_line_feed, has_part, is_nested, drops_line_feed, is_empty, tokens_of, start_tag_text, end_tag_text, AreTexts, AreRead, PlainTokens, text_of, taken}
+use Rattle.std.proofs.lemmas.Str.{chars-nil, IsUtf8-nil}
 use Rattle.names.specs.declared.raw.RawKind.TheVariants as kind
-use Rattle.names.specs.Placed.{characters}
-use Rattle.names.specs.Sets.{raw_kind, is_void}
-use Rattle.names.specs.Tags.{tag_named}
-use Rattle.charref.specs.Reference.{Entities, IsTable, HasCore}
 use Rattle.hnodes.specs.Forest as forest
-use Rattle.hnodes.specs.Forest.{Attribute, What, Forest, none, tree}
-use Rattle.htoken.specs.Token.{Eof}
-use Rattle.htoken.specs.Standing.{Standing, at_start, standing_after}
-use Rattle.htoken.specs.Spans.{has_references}
-use Rattle.htoken.specs.Raw.{end_errors, may_end}
+use Rattle.htoken.specs.Raw.{end_errors}
 use Rattle.htoken.specs.Tokens as cut
-use Rattle.hadopt.specs.Naming.{texts}
-use Rattle.hmodes.specs.State.{Token, start, end, comment, character, eof}
-use Rattle.hplain.specs.declared.content.Content.{Content}
 use Rattle.hplain.specs.declared.content.Content.TheVariants as content
-use Rattle.hplain.specs.declared.content.Role.{Role}
 use Rattle.hplain.specs.declared.content.Texts.{Texts}
 use Rattle.hplain.specs.declared.content.Texts.TheVariants as allowed
-use Rattle.hserialize.specs.declared.escaping.Escaping.{Escaping}
 use Rattle.hserialize.specs.declared.escaping.Setting.TheVariants as setting
-use Rattle.hserialize.specs.Escaping.{escaped, written_char}
-use Rattle.hplain.specs.ContentTable.{row, takes_role, takes_comments}
-use Rattle.hplain.specs.Plain.{Inside, inside_element, inside_node, in_context_of, is_form, are_content, are_content_if, is_plain_node, is_plain_text, is_plain_comment, are_plain_attributes, is_among_texts, is_clean, begins_with_text, begins_with_line_feed, has_part, is_nested, drops_line_feed}
-use Rattle.hserialize.specs.Words.{is_empty}
-use Rattle.hlaws.specs.PlainTokens.{tokens_of}
-use Rattle.hserialize.specs.Written.{has_no_references, start_tag_text, end_tag_text, element_text, written_among}
-use Rattle.hlaws.specs.ComesBack.{AreTexts, AreRead, PlainTokens, text_of}
-use Rattle.hparse.specs.Taken.{taken}
-use Rattle.hlaws.proofs.TokenLists.{not_true}
+use Rattle.hserialize.specs.Written.{has_no_references, element_text, written_among}
 use Rattle.hlaws.proofs.TokensText.{Spells, spells-append, spells_text, spells_utf8, clean_text, text_characters, no_part}
 use Rattle.hlaws.proofs.TokensCore.{escaped_as}
 use Rattle.hlaws.proofs.TokensCuts.{split, Cuts, Same, join, cuts_as, text_cuts}
@@ -144,7 +118,7 @@ one_text how inside (tree n (forest.text t) kids none) h which u p =
 one_text how inside (tree n (forest.text t) kids (tree m w ks rest)) h which u p =
     let a = and_parts (is_plain_node inside (forest.text t) kids (tree m w ks rest) && are_content (inside_node (forest.text t) inside) kids) (are_content inside (tree m w ks rest)) p in
     let b = and_parts (is_plain_text inside.texts t && not (begins_with_text (tree m w ks rest))) _ a.0 in
-    let c = not_true _ (and_parts (is_plain_text inside.texts t) _ b.0).1 in
+    let c = not-true _ (and_parts (is_plain_text inside.texts t) _ b.0).1 in
     let d = and_parts (is_plain_node inside w ks rest && are_content (inside_node w inside) ks) _ a.1 in
     absurd (is_text w (only_text inside w ks rest h (and_parts (is_plain_node inside w ks rest) _ d.0).0) c)
   where

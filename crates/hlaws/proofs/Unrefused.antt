@@ -1,35 +1,20 @@
 -- Settled spans are the first of each text that begins so, whether it is refused or not.
-use Rattle.std.proofs.Common.{◌≡◌, ℕ, true, false, List, [], ◌∷◌, ◌++◌, map, sym, refl, ap, ◌∙◌, subst, append_assoc, append-nil}
-use Rattle.std.proofs.lemmas.List.{map-append}
-use Rattle.std.proofs.lemmas.Grind.{flat_map-append}
-use Rattle.names.specs.declared.error.ParseError.{ParseError}
-use Rattle.names.specs.declared.placed.Placed.{Placed}
-use Rattle.names.specs.declared.raw.RawKind.{RawKind}
-use Rattle.htext.specs.Text.{character_of, read_len}
+use Rattle.hlaws.proofs.Names.{◌≡◌, ℕ, true, false, List, [], ◌∷◌, ◌++◌, map, sym, refl, ap, ◌∙◌, subst, append_assoc, append-nil, map-append, flat_map-append, ParseError, Placed, RawKind, character_of, read_len, Entities, Tok, Span, Eof, Gives, Standing, at_start, next, standing_after, start_kind, IsSpan, spans_text, Cut, has_refused, Tokens, AreFront, eof_of, texts, Refused, Steps, text_in, manner, policy, start_of, accepted, refused_token, refused_tag, placed}
 use Rattle.htext.proofs.Texts.{goes_on}
-use Rattle.charref.specs.Reference.{Entities}
-use Rattle.htoken.specs.Token.{Tok, Span, Eof, Gives}
-use Rattle.htoken.specs.Standing.{Standing, at_start, next, standing_after, start_kind}
-use Rattle.htoken.specs.Spans.{IsSpan}
-use Rattle.htoken.specs.Tokens.{spans_text, Cut, tokens_of, has_refused, Tokens, AreFront, eof_of}
+use Rattle.htoken.specs.Tokens.{tokens_of}
 use Rattle.htoken.proofs.Cutting.{spans_text-snoc}
 use Rattle.hcuts.specs.Settled.{AreSettled}
-use Rattle.hcuts.proofs.OneCut.{refused_parts}
+use Rattle.hcuts.proofs.OneCut.{refused_parts, one_is_front, first, goes_on as further}
 use Rattle.hcuts.proofs.OneSpan.{some_span}
-use Rattle.hcuts.proofs.Settled.{one_is_front, first, goes_on as further}
-use Rattle.hadopt.specs.Naming.{texts}
-use Rattle.hadopt.specs.Site.{Refused}
-use Rattle.hmodes.specs.Step.{Steps}
 use Rattle.hparse.specs.Answer.{accepted as taken}
-use Rattle.hparse.specs.Input.{Manner, how_of, settled_in, text_in}
+use Rattle.hparse.specs.Input.{Manner, how_of, settled_in}
 use Rattle.hparse.specs.Into.{as_document}
-use Rattle.hparse.specs.Parse.{begins, manner, policy, start_of, accepted, refused_token, refused_tag}
-use Rattle.hparse.specs.Taken.{placed}
+use Rattle.hparse.specs.Parse.{begins}
 use Rattle.hparse.specs.Unrefused.{AreSettledIn, settled_text}
 use Rattle.hparse.proofs.Unrefused.{leads_on}
 use Rattle.hlaws.specs.Unrefused.{FrontsOfAnswered, FrontsOfParsed, RulesRefuse, ProfileRefuses}
 use Rattle.hlaws.proofs.OneInput.{never-both}
-use Rattle.hlaws.proofs.OneParse.{given}
+use Rattle.hlaws.proofs.OneParse.{rules-refuse}
 
 -- the text of more bytes
 later : (m : Manner) (bytes more : List ℕ) → (after : List Placed) × (text_in m (bytes ++ more) ≡ settled_text m bytes ++ after)
@@ -47,14 +32,14 @@ record IsFirst (spans : List Span) (tokens : List Tok) : Type 0 where
 module _ (table : Entities) (start : RawKind) (front after : List Placed) (spans : List Span) (s : AreSettled table start front spans) where
   settled_first : (end : ℕ) (text : List Placed) (tokens : List Tok) (errors : List ParseError) → text ≡ front ++ after → Tokens table start text end tokens errors → IsFirst spans tokens
   settled_first end text tokens errors is read = elim (one_is_front table end (s.rest ++ after) [] (at_start start) spans read.spans (s.cut end after) read.cut texts_are) [
-    | first more whole ↦
-        let both : tokens_of read.spans ≡ tokens_of spans ++ tokens_of more = ap tokens_of whole ∙ flat_map-append (λ (x : Span). x.tokens) spans more in
+    | first k ↦
+        let both : tokens_of read.spans ≡ tokens_of spans ++ tokens_of k.more = ap tokens_of k.whole_is ∙ flat_map-append (λ (x : Span). x.tokens) spans k.more in
         record {
-          others = tokens_of more ++ Eof end ∷ [];
-          tokens_are = read.tokens_are ∙ ap (λ (x : List Tok). x ++ Eof end ∷ []) both ∙ append_assoc (tokens_of spans) (tokens_of more) (Eof end ∷ []);
-          in_profile = (refused_parts (tokens_of spans) (tokens_of more) (sym (ap has_refused both) ∙ read.in_profile)).0;
+          others = tokens_of k.more ++ Eof end ∷ [];
+          tokens_are = read.tokens_are ∙ ap (λ (x : List Tok). x ++ Eof end ∷ []) both ∙ append_assoc (tokens_of spans) (tokens_of k.more) (Eof end ∷ []);
+          in_profile = (refused_parts (tokens_of spans) (tokens_of k.more) (sym (ap has_refused both) ∙ read.in_profile)).0;
         }
-    | further span others is_span whole ↦ absurd (some_span table end (standing_after (at_start start) read.spans) (spans_text others ++ (s.rest ++ after)) span is_span whole)
+    | further span others split is_span whole ↦ absurd (some_span table end (standing_after (at_start start) read.spans) (spans_text others ++ (s.rest ++ after)) span is_span whole)
   ] where
     texts_are : spans_text spans ++ (s.rest ++ after) ≡ spans_text read.spans ++ []
     texts_are = sym (append_assoc (spans_text spans) s.rest after) ∙ ap (λ (x : List Placed). x ++ after) (sym s.text_is) ∙ sym is ∙ read.text_is ∙ sym (append-nil (spans_text read.spans))
@@ -83,20 +68,10 @@ pub rules_refuse : RulesRefuse
 rules_refuse opts parse_case bytes spans refusal s (in_profile, steps) more =
     let m = manner opts parse_case in
     let l = later m bytes more in
-    let all : List ℕ = bytes ++ more in
-    let end : ℕ = read_len (policy opts parse_case) all in
     let rest : List Placed = s.rest ++ l.0 in
-    let front : AreFront opts.table (start_kind (start_of parse_case)) (text_in m all) end (map Gives (tokens_of spans)) = record {
-      spans = spans;
-      rest = rest;
-      others = eof_of end rest;
-      text_is = l.1 ∙ ap (λ (x : List Placed). x ++ l.0) s.text_is ∙ append_assoc (spans_text spans) s.rest l.0;
-      cut = s.cut end l.0;
-      in_profile = in_profile;
-      front_is = ap (λ (ts : List Tok). ts ++ eof_of end rest) (given (tokens_of spans));
-    } in
-    refused_token refusal (map Gives (tokens_of spans)) front
-    (subst (λ (ts : List Tok). Steps texts (map placed ts) (begins opts parse_case) (Refused refusal)) (sym (given (tokens_of spans))) steps)
+    let end : ℕ = read_len (policy opts parse_case) (bytes ++ more) in
+    rules-refuse opts parse_case (bytes ++ more) (tokens_of spans) (eof_of end rest) spans rest refusal
+    (l.1 ∙ ap (λ (x : List Placed). x ++ l.0) s.text_is ∙ append_assoc (spans_text spans) s.rest l.0) (s.cut end l.0) in_profile refl steps
 
 -- the last span of a cut
 last_span : (table : Entities) (end : ℕ) (here : Standing) (spans : List Span) (span : Span) (rest : List Placed) → Cut table end here (spans ++ span ∷ []) rest

@@ -1,55 +1,26 @@
 -- The tokens of a plain list of trees build it under the current node.
-use Rattle.std.proofs.Common.{◌≡◌, ℕ, suc, ◌+◌, ◌<◌, ◌≤◌, Bool, true, false, not, ◌&&◌, ◌||◌, cond, eqb, List, [], ◌∷◌, ◌++◌, length, map, Option, Some, None, refl, sym, ◌∙◌, ap, subst, arith, inl, inr}
-use Rattle.std.proofs.lemmas.Bool.{and_parts, or_parts, and_right, eq-eqb, ne_eqb, lt-leb, false≢true}
+use Rattle.hlaws.proofs.Names.{◌≡◌, ℕ, suc, ◌+◌, ◌<◌, ◌≤◌, Bool, true, false, not, ◌&&◌, ◌||◌, cond, eqb, List, [], ◌∷◌, ◌++◌, length, map, Option, Some, None, refl, sym, ◌∙◌, ap, subst, arith, inl, inr, and_parts, or_parts, and_right, eq-eqb, ne_eqb, lt-leb, false≢true, not-true, nat_le, encode_utf8, encode_utf8_all, chars, ◌==◌, list_all, Attribute, What, element, text, Forest, none, tree, size, times, if_text, text_before, LastIn, OpenNode, in_scope, stops, EntryOf, Listed, marker, entry, with_room, without_entry, entry_of, find_entry, cleared, Placed, is_space, is_void, is_heading, stops_button_scope, Naming, Goes, is, is_table_context, is_body_context, is_row_context, is_fostering, Family, Start, End, Mode, InCaption, InCell, Text, InTable, InTableText, InTableBody, InRow, InColumnGroup, family_of, perform, void, raw, void_in_text, Token, start, end, comment, character, eof, PlacedToken, Control, State, Done, kind_of, reset_mode, open_mode, Rule, begun, ends, goes_again, Step, goes, Steps, and, Content, Role, row, takes_role, takes_comments, texts_in, Inside, inside_element, is_nested, is_a, is_button, is_form, drops_line_feed, inserts_marker, is_flow_mode, fits_mode, fits_current, is_list, is_dl, takes_space, numbered, under, Thinned, same, kept, lost, EntriesOpen, EntriesLower, tokens_of}
 use Rattle.std.proofs.lemmas.List.{append-nil, append_assoc}
-use Rattle.std.specs.Prelude.{nat_le, encode_utf8, encode_utf8_all, chars, ◌==◌, unwrap_or}
-use Rattle.std.specs.List.{list_all}
+use Rattle.std.specs.Prelude.{unwrap_or}
+use Rattle.hnodes.proofs.Counts.{times-hung}
 use Rattle.hnodes.specs.Forest as forest
-use Rattle.hnodes.specs.Forest.{Attribute, What, element, text, Forest, none, tree, size, times, join}
-use Rattle.hnodes.specs.Edits.{if_text, text_before}
-use Rattle.hnodes.specs.declared.node.Place.TheVariants.{LastIn}
-use Rattle.hopen.specs.Stack.{OpenNode, in_scope}
-use Rattle.hopen.specs.Scopes.{stops}
 use Rattle.hopen.specs.declared.scope.Scope.TheVariants as scope
-use Rattle.hformat.specs.Formatting.{EntryOf, Listed, marker, entry, with_room, without_entry, entry_of, find_entry, cleared}
-use Rattle.names.specs.declared.placed.Placed.{Placed}
 use Rattle.names.specs.declared.tag.Tag.TheVariants as tag
-use Rattle.names.specs.Placed.{is_space}
-use Rattle.names.specs.Sets.{is_void, is_heading, stops_button_scope}
-use Rattle.hadopt.specs.Naming.{Naming}
-use Rattle.hadopt.specs.Site.{Goes}
-use Rattle.hadopt.specs.Closes.{is, is_table_context, is_body_context, is_row_context}
-use Rattle.hadopt.specs.Places.{is_fostering}
-use Rattle.hmodes.specs.declared.family.Family.{Family}
 use Rattle.hmodes.specs.declared.family.Family.TheVariants as family
-use Rattle.hmodes.specs.declared.token_kind.TokenKind.TheVariants.{Start, End}
-use Rattle.hmodes.specs.declared.mode.Mode.{Mode}
-use Rattle.hmodes.specs.declared.mode.Mode.TheVariants.{InCaption, InCell, Text, InTable, InTableText, InTableBody, InRow, InColumnGroup}
-use Rattle.hmodes.specs.Families.{family_of}
-use Rattle.hmodes.specs.Perform.{perform}
-use Rattle.hmodes.specs.Programs.{void, raw}
-use Rattle.hmodes.specs.Body.{void_in_text}
-use Rattle.hmodes.specs.State.{Token, start, end, comment, character, doctype, eof, PlacedToken, Control, State, Done, kind_of}
-use Rattle.hmodes.specs.Reset.{reset_mode, open_mode}
-use Rattle.hmodes.specs.Step.{Rule, begun, Chain, ends, goes_again, Step, goes, Steps, and}
+use Rattle.hmodes.specs.State.{doctype}
 use Rattle.hmodes.specs.Step as step
-use Rattle.hplain.specs.declared.content.Content.{Content}
 use Rattle.hplain.specs.declared.content.Content.TheVariants as content
-use Rattle.hplain.specs.declared.content.Role.{Role}
 use Rattle.hplain.specs.declared.content.Role.TheVariants as role
-use Rattle.hplain.specs.ContentTable.{row, takes_role, takes_comments, texts_in}
-use Rattle.hplain.specs.Plain.{Inside, inside_element, content_within, is_nested, is_a, is_button, is_form, drops_line_feed}
-use Rattle.hserialize.specs.Walk.{inserts_marker}
-use Rattle.hlaws.specs.Building.{is_flow_mode, fits_mode, fits_current, closes_p, is_list, is_dl, takes_space, is_character, ActsAs, numbered, under, depth, Thinned, same, kept, lost, EntriesOpen, AllLower, EntriesLower}
-use Rattle.hlaws.specs.PlainTokens.{tokens_of}
-use Rattle.hlaws.proofs.Growing.{graft-new, times-numbered, under-none, under-under, under-new, times-under, text_before-new, text_before-leaf}
+use Rattle.hplain.specs.Plain.{content_within}
+use Rattle.hlaws.specs.Building.{closes_p, is_character, ActsAs, depth, AllLower}
+use Rattle.hlaws.proofs.Growing.{graft-new, times-numbered, under-none, under-under, under-new, text_before-new, text_before-leaf}
 use Rattle.hlaws.proofs.Thinned.{then, thinned-room, open-thinned, open-pushed, lower-thinned, entries-more, no-entry}
 use Rattle.hlaws.proofs.Classes.{Class, VoidClass, Profile, profile, plain_profile, around, class_profile, void_profile, Classed, with_content, without, classed, has_content, has_none, is_p}
 use Rattle.hlaws.proofs.Classes as class
 use Rattle.hlaws.proofs.Content.{home, has_home, stands_in, no_nowhere, phrasing_mode, parts_mode_is, rows_mode_is, cells_mode_is, columns_mode_is, comment_rule, around_fits, nested_a, nested_button, nested_form, marker_stops, list_stops, dl_stops}
 use Rattle.hlaws.proofs.Rules as rules
 use Rattle.hlaws.proofs.Rules.{Laws, IsFlowRule, by_end, state, node}
-use Rattle.hlaws.proofs.TokenLists.{AreTokens, first, parted, after, ended, AllOk, IsText, NoNul, begins_text, not_true}
+use Rattle.hlaws.proofs.TokenLists.{AreTokens, first, parted, after, ended, AllOk, IsText, NoNul, begins_text}
 
 -- WHAT IS USED OF A KIND OF NAMES
 
@@ -152,6 +123,14 @@ module _ {N : Type 0} (n : Naming N) where
     pub no_a : i.in_a ≡ false → (y : N) → is_a (n.tag y) ≡ true → find_entry n.same y items ≡ None
     pub no_form : i.in_form ≡ false → c.form ≡ None
 
+  -- what the content is decides which modes and current nodes fit
+  module _ {context : Option N} {i : Inside} {made : ℕ} {f : Forest N} {d : OpenNode N} {up : List (OpenNode N)} {items : List (Listed N)} {c : Control} (q : Quiet context i made f d up items c) (k : Content) (e : i.content ≡ k) where
+    mode_in : fits_mode k c.mode ≡ true
+    mode_in = ap (λ u. fits_mode u c.mode) (sym e) ∙ q.mode_fits
+
+    current_in : fits_current k i.texts (n.tag d.name) ≡ true
+    current_in = ap (λ u. fits_current u i.texts (n.tag d.name)) (sym e) ∙ q.current_fits
+
 module _ {N : Type 0} (n : Naming N) (laws : NameLaws n) (z : State N) where
   -- from one state that acts as quiet to another
   pub record Built (l : Forest N) (made : ℕ) (f : Forest N) (d : OpenNode N) (up : List (OpenNode N)) (items : List (Listed N)) (c : Control) (s : State N) (ts : List (PlacedToken N)) : Type 0 where
@@ -177,8 +156,8 @@ module _ {N : Type 0} (n : Naming N) (laws : NameLaws n) (z : State N) where
         mode_is = q.mode_is ∙ sym k.mode;
         mode_fits = ap (fits_mode i.content) k.mode ∙ q.mode_fits;
         current_fits = q.current_fits;
-        once = times-under d.node d.node (numbered made l) f q.once ∙ omega (arith, q.once, times-numbered d.node made l (inl low));
-        fresh = λ m h. times-under m d.node (numbered made l) f q.once ∙ omega (arith, q.fresh m (omega arith), times-numbered m made l (inr h));
+        once = times-hung d.node d.node (numbered made l) f q.once ∙ omega (arith, q.once, times-numbered d.node made l (inl low));
+        fresh = λ m h. times-hung m d.node (numbered made l) f q.once ∙ omega (arith, q.fresh m (omega arith), times-numbered m made l (inr h));
         lower = lower-more made (made + size l) (d ∷ up) (omega arith) q.lower;
         entries_lower = entries-more made (made + size l) items' (omega arith) (lower-thinned made t q.entries_lower);
         listed = open-thinned (d ∷ up) t q.listed;
@@ -236,6 +215,17 @@ module _ {N : Type 0} (n : Naming N) (laws : NameLaws n) (z : State N) where
     pub no_drop : control'.drop_lf ≡ false
 
   module _ (d : OpenNode N) (up : List (OpenNode N)) (items : List (Listed N)) (m : Mode) (ok : ℕ → Type 0) (puts : rules.Puts n laws.basic z d up items m ok) where
+    -- one character goes in, and then the others
+    then_chars : (made : ℕ) (f : Forest N) (c : Control) (at ch : ℕ) (s s1 : State N) (ts others : List (PlacedToken N)) → ts ≡ record { token = character ch; at = at } ∷ others → (s.control.drop_lf && ch == 10) ≡ false
+        → Rule n at (character ch) (begun s) ≡ Done s1 → CharsBuilt made f d up items (begun_control c) s1 others → CharsBuilt made f d up items c s ts
+    then_chars made f c at ch s s1 ts others is safe rule k = record {
+      control' = k.control';
+      steps = subst (λ (us : List (PlacedToken N)). Steps n us s (Goes (state z made f (d ∷ up) items k.control'))) (sym is) (and (char_step at ch s s1 safe rule) k.steps);
+      keeps = record { mode = k.keeps.mode; head = k.keeps.head; form = k.keeps.form; quirks = k.keeps.quirks };
+      saved = k.saved;
+      no_drop = k.no_drop;
+    }
+
     chars_built : (made k : ℕ) (g : Forest N) (once : times d.node g ≡ 1) (absent : times k g ≡ 0) (chs t : List ℕ) (c : Control) (ts : List (PlacedToken N)) → c.mode ≡ m → c.drop_lf ≡ false → AllOk ok chs
         → AreTokens ts (map (λ ch. character ch) chs)
         → CharsBuilt made (under d.node (tree k (text (t ++ encode_utf8_all chs)) none none) g) d up items c (state z made (under d.node (tree k (text t) none none) g) (d ∷ up) items c) ts
@@ -251,18 +241,10 @@ module _ {N : Type 0} (n : Naming N) (laws : NameLaws n) (z : State N) where
         let p = first ts (character ch) (map (λ ch. character ch) chs) h in
         let s : State N = state z made (under d.node (tree k (text t) none none) g) (d ∷ up) items c in
         let s1 : State N = state z made (under d.node (tree k (text (t ++ encode_utf8 ch)) none none) g) (d ∷ up) items (begun_control c) in
-        let rule : Rule n p.at (character ch) (begun s) ≡ Done s1 = puts p.at ch made (under d.node (tree k (text t) none none) g) (begun_control c) s1 is oks.0 (rules.put_next n laws.basic z d up items p.at ch made k t g (begun_control c) once absent) in
-        let one : Step n p.at (character ch) s (Goes s1) = char_step p.at ch s s1 (rw drop refl) rule in
         let others = chars_built made k g once absent chs (t ++ encode_utf8 ch) (begun_control c) p.others is refl oks.1 p.rest in
-        let s2 : List ℕ → State N = λ u. state z made (under d.node (tree k (text u) none none) g) (d ∷ up) items others.control' in
-        let more_steps : Steps n p.others s1 (Goes (s2 (t ++ encode_utf8_all (ch ∷ chs)))) = subst (λ (u : List ℕ). Steps n p.others s1 (Goes (s2 u))) (append_assoc t (encode_utf8 ch) (encode_utf8_all chs)) others.steps in
-        record {
-          control' = others.control';
-          steps = subst (λ (us : List (PlacedToken N)). Steps n us s (Goes (s2 (t ++ encode_utf8_all (ch ∷ chs))))) (sym p.is) (and one more_steps);
-          keeps = record { mode = others.keeps.mode; head = others.keeps.head; form = others.keeps.form; quirks = others.keeps.quirks };
-          saved = others.saved;
-          no_drop = others.no_drop;
-        }
+        then_chars made (under d.node (tree k (text (t ++ encode_utf8_all (ch ∷ chs))) none none) g) c p.at ch s s1 ts p.others p.is (rw drop refl)
+        (puts p.at ch made (under d.node (tree k (text t) none none) g) (begun_control c) s1 is oks.0 (rules.put_next n laws.basic z d up items p.at ch made k t g (begun_control c) once absent))
+        (subst (λ (u : List ℕ). CharsBuilt made (under d.node (tree k (text u) none none) g) d up items (begun_control c) s1 p.others) (append_assoc t (encode_utf8 ch) (encode_utf8_all chs)) others)
 
     text_built : (made : ℕ) (f : Forest N) (once : times d.node f ≡ 1) (absent : times made f ≡ 0) (t : List ℕ) (is : IsText t) (c : Control) (ts : List (PlacedToken N)) → c.mode ≡ m → (c.drop_lf && is.one == 10) ≡ false → AllOk ok (is.one ∷ is.more)
         → text_before (LastIn d.node) f ≡ None → made < z.site.nodes.limit
@@ -272,18 +254,10 @@ module _ {N : Type 0} (n : Naming N) (laws : NameLaws n) (z : State N) where
         let p = first ts (character is.one) (map (λ ch. character ch) is.more) (h ∙ ap (map (λ ch. character ch)) is.spelled) in
         let s : State N = state z made f (d ∷ up) items c in
         let s1 : State N = state z (made + 1) (under d.node (tree made (text (encode_utf8 is.one)) none none) f) (d ∷ up) items (begun_control c) in
-        let rule : Rule n p.at (character is.one) (begun s) ≡ Done s1 = puts p.at is.one made f (begun_control c) s1 mode oks.0 (rules.put_first n laws.basic z d up items p.at is.one made f (begun_control c) none_before absent room) in
-        let one : Step n p.at (character is.one) s (Goes s1) = char_step p.at is.one s s1 safe rule in
         let others = chars_built (made + 1) made f once absent is.more (encode_utf8 is.one) (begun_control c) p.others mode refl oks.1 p.rest in
-        let s2 : List ℕ → State N = λ u. state z (made + 1) (under d.node (tree made (text u) none none) f) (d ∷ up) items others.control' in
-        let more_steps : Steps n p.others s1 (Goes (s2 t)) = subst (λ (u : List ℕ). Steps n p.others s1 (Goes (s2 u))) is.bytes others.steps in
-        record {
-          control' = others.control';
-          steps = subst (λ (us : List (PlacedToken N)). Steps n us s (Goes (s2 t))) (sym p.is) (and one more_steps);
-          keeps = record { mode = others.keeps.mode; head = others.keeps.head; form = others.keeps.form; quirks = others.keeps.quirks };
-          saved = others.saved;
-          no_drop = others.no_drop;
-        }
+        then_chars (made + 1) (under d.node (tree made (text t) none none) f) c p.at is.one s s1 ts p.others p.is safe
+        (puts p.at is.one made f (begun_control c) s1 mode oks.0 (rules.put_first n laws.basic z d up items p.at is.one made f (begun_control c) none_before absent room))
+        (subst (λ (u : List ℕ). CharsBuilt (made + 1) (under d.node (tree made (text u) none none) f) d up items (begun_control c) s1 p.others) is.bytes others)
 
   all_any : (chs : List ℕ) → AllOk (λ ch. Unit {0}) chs
   all_any [] = tt
@@ -527,8 +501,8 @@ module _ {N : Type 0} (n : Naming N) (laws : NameLaws n) (z : State N) where
         let t = tags x attrs kids ts h in
         let f1 : Forest N = under d.node leaf f in
         let self : eqb made made ≡ true = eq-eqb made made refl in
-        let once1 : times made f1 ≡ 1 = times-under made d.node leaf f once ∙ rw self (omega (arith, absent)) in
-        let absent1 : times (made + 1) f1 ≡ 0 = times-under (made + 1) d.node leaf f once ∙ rw (ne_eqb made (made + 1) (λ e. omega arith)) (omega (arith, fresh (made + 1) (omega arith))) in
+        let once1 : times made f1 ≡ 1 = times-hung made d.node leaf f once ∙ rw self (omega (arith, absent)) in
+        let absent1 : times (made + 1) f1 ≡ 0 = times-hung (made + 1) d.node leaf f once ∙ rw (ne_eqb made (made + 1) (λ e. omega arith)) (omega (arith, fresh (made + 1) (omega arith))) in
         let inner = text_built (node made x) (d ∷ up) items Text (λ ch. Unit {0}) (rules.raw_puts n laws.basic z (node made x) (d ∷ up) items) (made + 1) f1 once1 absent1 u is c1 t.inner is_text_mode safe (all_any (is.one ∷ is.more))
         (text_before-leaf d.node made (element x attrs) f once absent) room
         (t.inners ∙ append-nil (map (λ ch. character ch) (chars u))) in
@@ -636,8 +610,8 @@ module _ {N : Type 0} (n : Naming N) (laws : NameLaws n) (z : State N) where
           mode_is = mode;
           mode_fits = fits;
           current_fits = cur;
-          once = times-under made d.node (tree made (element x attrs) none none) f q.once ∙ rw self (omega (arith, absent1));
-          fresh = λ m h. times-under m d.node (tree made (element x attrs) none none) f q.once ∙ rw (ne_eqb made m (λ e. omega arith)) (omega (arith, q.fresh m (omega arith)));
+          once = times-hung made d.node (tree made (element x attrs) none none) f q.once ∙ rw self (omega (arith, absent1));
+          fresh = λ m h. times-hung m d.node (tree made (element x attrs) none none) f q.once ∙ rw (ne_eqb made m (λ e. omega arith)) (omega (arith, q.fresh m (omega arith)));
           lower = (omega arith, lower-more made (made + 1) (d ∷ up) (omega arith) q.lower);
           entries_lower = fit.1;
           listed = fit.0;
@@ -694,12 +668,6 @@ module _ {N : Type 0} (n : Naming N) (laws : NameLaws n) (z : State N) where
       content_is : j.content ≡ content_within i.content r.content
       content_is = ap (λ o. content_within i.content o.content) p
 
-      mode_here : (k : Content) → i.content ≡ k → fits_mode k c.mode ≡ true
-      mode_here k e = ap (λ o. fits_mode o c.mode) (sym e) ∙ q.mode_fits
-
-      current_here : (k : Content) → i.content ≡ k → fits_current k i.texts (n.tag d.name) ≡ true
-      current_here k e = ap (λ o. fits_current o i.texts (n.tag d.name)) (sym e) ∙ q.current_fits
-
       phrasing_flows : r.role ≡ role.Phrasing → is_flow_mode c.mode ≡ true
       phrasing_flows e = phrasing_mode i.content c.mode (ap (takes_role i.content) (sym e) ∙ role_is) q.mode_fits
 
@@ -731,7 +699,7 @@ module _ {N : Type 0} (n : Naming N) (laws : NameLaws n) (z : State N) where
         → fits_current k (texts_in k) (n.tag x) ≡ true → (ts : List (PlacedToken N)) → Spells ts → Node ts
     a_block k lists dls p within fit cur =
         let e : i.content ≡ content.Flow = stands _ p refl in
-        let flows : is_flow_mode c.mode ≡ true = mode_here _ p content.Flow e in
+        let flows : is_flow_mode c.mode ≡ true = mode_in n q content.Flow e in
         let no_p = q.no_p (ap closes_p e) in
         own _ p k within flows fit cur refl refl (λ h. p_below (ap (λ r. r.is_p) p) no_p)
         (λ at. rules.start_block n laws.basic z at made f d up items (begun_control c) x attrs absent1 room_here deep_here flows family.Block (ap (λ r. r.family) p) (refl, refl, refl) no_p)
@@ -740,7 +708,7 @@ module _ {N : Type 0} (n : Naming N) (laws : NameLaws n) (z : State N) where
     a_paragraph : profile (n.tag x) ≡ class_profile class.Paragraph → (ts : List (PlacedToken N)) → Spells ts → Node ts
     a_paragraph p =
         let e : i.content ≡ content.Flow = stands _ p refl in
-        let flows : is_flow_mode c.mode ≡ true = mode_here _ p content.Flow e in
+        let flows : is_flow_mode c.mode ≡ true = mode_in n q content.Flow e in
         own _ p content.Phrasing refl flows (λ m. refl) refl refl refl (λ h. absurd (false≢true h))
         (λ at. rules.start_block n laws.basic z at made f d up items (begun_control c) x attrs absent1 room_here deep_here flows family.P (ap (λ r. r.family) p) (refl, refl, refl) (q.no_p (ap closes_p e)))
         (λ at m g items2 c2 mode. rules.end_p n laws.basic z at m g d up items2 c2 made x mode (ap (λ r. r.family) p) (ap (λ r. r.is_p) p) (ap (λ r. r.has_implied_end) p))
@@ -748,16 +716,16 @@ module _ {N : Type 0} (n : Naming N) (laws : NameLaws n) (z : State N) where
     a_heading : profile (n.tag x) ≡ class_profile class.Heading → (ts : List (PlacedToken N)) → Spells ts → Node ts
     a_heading p =
         let e : i.content ≡ content.Flow = stands _ p refl in
-        let flows : is_flow_mode c.mode ≡ true = mode_here _ p content.Flow e in
+        let flows : is_flow_mode c.mode ≡ true = mode_in n q content.Flow e in
         own _ p content.Phrasing refl flows (λ m. refl) refl refl refl (λ h. absurd (false≢true h))
-        (λ at. rules.start_heading n laws.basic z at made f d up items (begun_control c) x attrs absent1 room_here deep_here flows (ap (λ r. r.family) p) (q.no_p (ap closes_p e)) (not_true (is_heading (n.tag d.name)) (current_here _ p content.Flow e)))
+        (λ at. rules.start_heading n laws.basic z at made f d up items (begun_control c) x attrs absent1 room_here deep_here flows (ap (λ r. r.family) p) (q.no_p (ap closes_p e)) (not-true (is_heading (n.tag d.name)) (current_in n q content.Flow e)))
         (λ at m g items2 c2 mode. rules.end_heading n laws.basic z at m g d up items2 c2 made x mode (ap (λ r. r.has_implied_end) p) (ap (λ r. r.family) p) (ap (λ r. r.is_heading) p))
 
     an_item : profile (n.tag x) ≡ class_profile class.Item → (ts : List (PlacedToken N)) → Spells ts → Node ts
     an_item p =
         let e : i.content ≡ content.ListItems = stands _ p refl in
-        let flows : is_flow_mode c.mode ≡ true = mode_here _ p content.ListItems e in
-        let within : is_list (n.tag d.name) ≡ true = current_here _ p content.ListItems e in
+        let flows : is_flow_mode c.mode ≡ true = mode_in n q content.ListItems e in
+        let within : is_list (n.tag d.name) ≡ true = current_in n q content.ListItems e in
         let no_p = q.no_p (ap closes_p e) in
         own _ p content.Flow refl flows (λ m. refl) (ap (λ r. not r.is_heading) p) refl refl (λ h. p_below (ap (λ r. r.is_p) p) no_p)
         (λ at. rules.start_li n laws.basic z at made f d up items (begun_control c) x attrs absent1 room_here deep_here flows (ap (λ r. r.family) p) no_p (rw (laws.li d.name within, list_stops (n.tag d.name) within) refl))
@@ -766,8 +734,8 @@ module _ {N : Type 0} (n : Naming N) (laws : NameLaws n) (z : State N) where
     a_definition : profile (n.tag x) ≡ class_profile class.Definition → (ts : List (PlacedToken N)) → Spells ts → Node ts
     a_definition p =
         let e : i.content ≡ content.Definitions = stands _ p refl in
-        let flows : is_flow_mode c.mode ≡ true = mode_here _ p content.Definitions e in
-        let within : is_dl (n.tag d.name) ≡ true = current_here _ p content.Definitions e in
+        let flows : is_flow_mode c.mode ≡ true = mode_in n q content.Definitions e in
+        let within : is_dl (n.tag d.name) ≡ true = current_in n q content.Definitions e in
         let no_p = q.no_p (ap closes_p e) in
         own _ p content.Flow refl flows (λ m. refl) (ap (λ r. not r.is_heading) p) refl refl (λ h. p_below (ap (λ r. r.is_p) p) no_p)
         (λ at. rules.start_dd n laws.basic z at made f d up items (begun_control c) x attrs absent1 room_here deep_here flows (ap (λ r. r.family) p) no_p
@@ -778,7 +746,7 @@ module _ {N : Type 0} (n : Naming N) (laws : NameLaws n) (z : State N) where
     a_pre p =
         let e : i.content ≡ content.Flow = stands _ p refl in
         let o : j.content ≡ content.Phrasing = content_is _ p in
-        let flows : is_flow_mode c.mode ≡ true = mode_here _ p content.Flow e in
+        let flows : is_flow_mode c.mode ≡ true = mode_in n q content.Flow e in
         by_law items (record (begun_control c) { drop_lf = true })
         (pushed items (record (begun_control c) { drop_lf = true }) (same_mode _ p refl) (fits_at _ p content.Phrasing o c.mode flows) (current_at _ p content.Phrasing o refl) as_before (not_closed _ p content.Phrasing o refl)
         (anchors_same (ap (λ r. r.marks) p)) forms_same)
@@ -791,7 +759,7 @@ module _ {N : Type 0} (n : Naming N) (laws : NameLaws n) (z : State N) where
     a_form p =
         let e : i.content ≡ content.Flow = stands _ p refl in
         let o : j.content ≡ content.Flow = content_is _ p in
-        let flows : is_flow_mode c.mode ≡ true = mode_here _ p content.Flow e in
+        let flows : is_flow_mode c.mode ≡ true = mode_in n q content.Flow e in
         let no_p = q.no_p (ap closes_p e) in
         let formed : is_form (n.tag x) ≡ true = ap (λ r. r.is_form) p in
         let pointer : c.form ≡ None = q.no_form (sym (nested_form i (n.tag x) formed) ∙ alone) in
@@ -858,7 +826,7 @@ module _ {N : Type 0} (n : Naming N) (laws : NameLaws n) (z : State N) where
       flows_around = phrasing_flows _ p refl
 
       fits_around : fits_mode j.content c.mode ≡ true
-      fits_around = ap (λ u. fits_mode u c.mode) (content_is _ p) ∙ q.mode_fits
+      fits_around = mode_in n q _ (sym (content_is _ p))
 
       current_around : fits_current j.content j.texts (n.tag x) ≡ true
       current_around = ap (λ u. fits_current u (texts_in u) (n.tag x)) (content_is _ p) ∙ around_fits i.content (n.tag x) (role_is _ p) (ap (λ r. r.is_heading) p)
@@ -963,31 +931,31 @@ module _ {N : Type 0} (n : Naming N) (laws : NameLaws n) (z : State N) where
     a_table p =
         let e : i.content ≡ content.Flow = stands _ p refl in
         in_parts content.TableParts InTable (reset_mode n z.context (d ∷ up)) _ p refl refl refl refl (ap (λ r. r.table_context && (r.fosters || false)) p) refl q.mode_is
-        (λ at. rules.start_table n laws.basic z at made f d up items (begun_control c) x attrs absent1 room_here deep_here (mode_here _ p content.Flow e) (ap (λ r. r.family) p) (q.no_p (ap closes_p e)))
+        (λ at. rules.start_table n laws.basic z at made f d up items (begun_control c) x attrs absent1 room_here deep_here (mode_in n q content.Flow e) (ap (λ r. r.family) p) (q.no_p (ap closes_p e)))
         (λ at m g items2 c2 mode. rules.end_table n laws.basic z at m g d up items2 c2 made x mode (ap (λ r. r.family) p) (laws.table x (ap (λ r. r.family) p)))
 
     a_colgroup : profile (n.tag x) ≡ class_profile class.Colgroup → (ts : List (PlacedToken N)) → Spells ts → Node ts
     a_colgroup p =
         let e : i.content ≡ content.TableParts = stands _ p refl in
-        let mode_at : c.mode ≡ InTable = parts_mode_is c.mode (mode_here _ p content.TableParts e) in
+        let mode_at : c.mode ≡ InTable = parts_mode_is c.mode (mode_in n q content.TableParts e) in
         in_parts content.Columns InColumnGroup InTable _ p refl refl refl refl (ap (λ r. r.is_colgroup) p) refl (sym mode_at)
-        (λ at. rules.start_colgroup n laws.basic z at made f d up items (begun_control c) x attrs absent1 room_here deep_here mode_at (ap (λ r. r.family) p) (and_parts (is_table_context (n.tag d.name)) _ (current_here _ p content.TableParts e)).0)
+        (λ at. rules.start_colgroup n laws.basic z at made f d up items (begun_control c) x attrs absent1 room_here deep_here mode_at (ap (λ r. r.family) p) (and_parts (is_table_context (n.tag d.name)) _ (current_in n q content.TableParts e)).0)
         (λ at m g items2 c2 mode. rules.end_colgroup n laws.basic z at m g d up items2 c2 made x mode (ap (λ r. r.family) p))
 
     a_section : profile (n.tag x) ≡ class_profile class.Section → (ts : List (PlacedToken N)) → Spells ts → Node ts
     a_section p =
         let e : i.content ≡ content.TableParts = stands _ p refl in
-        let mode_at : c.mode ≡ InTable = parts_mode_is c.mode (mode_here _ p content.TableParts e) in
+        let mode_at : c.mode ≡ InTable = parts_mode_is c.mode (mode_in n q content.TableParts e) in
         in_parts content.TableRows InTableBody InTable _ p refl refl refl refl (ap (λ r. r.body_context && (r.fosters || false)) p) refl (sym mode_at)
-        (λ at. rules.start_section n laws.basic z at made f d up items (begun_control c) x attrs absent1 room_here deep_here mode_at (ap (λ r. r.family) p) (and_parts (is_table_context (n.tag d.name)) _ (current_here _ p content.TableParts e)).0)
+        (λ at. rules.start_section n laws.basic z at made f d up items (begun_control c) x attrs absent1 room_here deep_here mode_at (ap (λ r. r.family) p) (and_parts (is_table_context (n.tag d.name)) _ (current_in n q content.TableParts e)).0)
         (λ at m g items2 c2 mode. rules.end_section n laws.basic z at m g d up items2 c2 made x mode (ap (λ r. r.family) p) (ap (λ r. r.body_context) p))
 
     a_row : profile (n.tag x) ≡ class_profile class.Row → (ts : List (PlacedToken N)) → Spells ts → Node ts
     a_row p =
         let e : i.content ≡ content.TableRows = stands _ p refl in
-        let mode_at : c.mode ≡ InTableBody = rows_mode_is c.mode (mode_here _ p content.TableRows e) in
+        let mode_at : c.mode ≡ InTableBody = rows_mode_is c.mode (mode_in n q content.TableRows e) in
         in_parts content.Cells InRow InTableBody _ p refl refl refl refl (ap (λ r. r.row_context && (r.fosters || false)) p) refl (sym mode_at)
-        (λ at. rules.start_row n laws.basic z at made f d up items (begun_control c) x attrs absent1 room_here deep_here mode_at (ap (λ r. r.family) p) (and_parts (is_body_context (n.tag d.name)) _ (current_here _ p content.TableRows e)).0)
+        (λ at. rules.start_row n laws.basic z at made f d up items (begun_control c) x attrs absent1 room_here deep_here mode_at (ap (λ r. r.family) p) (and_parts (is_body_context (n.tag d.name)) _ (current_in n q content.TableRows e)).0)
         (λ at m g items2 c2 mode. rules.end_row n laws.basic z at m g d up items2 c2 made x mode (ap (λ r. r.family) p) (laws.table_row x (ap (λ r. r.family) p)) (ap (λ r. r.row_context) p))
 
     -- a caption, a cell and an object: flow content after a marker, after which the list is as it was
@@ -1013,17 +981,17 @@ module _ {N : Type 0} (n : Naming N) (laws : NameLaws n) (z : State N) where
     a_caption : profile (n.tag x) ≡ class_profile class.Caption → (ts : List (PlacedToken N)) → Spells ts → Node ts
     a_caption p =
         let e : i.content ≡ content.TableParts = stands _ p refl in
-        let mode_at : c.mode ≡ InTable = parts_mode_is c.mode (mode_here _ p content.TableParts e) in
+        let mode_at : c.mode ≡ InTable = parts_mode_is c.mode (mode_in n q content.TableParts e) in
         marking InCaption InTable _ p refl (ap (λ r. unwrap_or r.mode (reset_mode n z.context (d ∷ up))) p) refl refl refl refl (sym mode_at)
-        (λ at. rules.start_caption n laws.basic z at made f d up items (begun_control c) x attrs absent1 room_here deep_here mode_at (ap (λ r. r.family) p) (and_parts (is_table_context (n.tag d.name)) _ (current_here _ p content.TableParts e)).0)
+        (λ at. rules.start_caption n laws.basic z at made f d up items (begun_control c) x attrs absent1 room_here deep_here mode_at (ap (λ r. r.family) p) (and_parts (is_table_context (n.tag d.name)) _ (current_in n q content.TableParts e)).0)
         (λ at m g items2 c2 mode. rules.end_caption n laws.basic z at m g d up items2 c2 made x mode (ap (λ r. r.family) p) (laws.caption x (ap (λ r. r.family) p)) (ap (λ r. r.has_implied_end) p))
 
     a_cell : profile (n.tag x) ≡ class_profile class.Cell → (ts : List (PlacedToken N)) → Spells ts → Node ts
     a_cell p =
         let e : i.content ≡ content.Cells = stands _ p refl in
-        let mode_at : c.mode ≡ InRow = cells_mode_is c.mode (mode_here _ p content.Cells e) in
+        let mode_at : c.mode ≡ InRow = cells_mode_is c.mode (mode_in n q content.Cells e) in
         marking InCell InRow _ p refl (ap (λ r. unwrap_or r.mode (reset_mode n z.context (d ∷ up))) p) refl refl refl refl (sym mode_at)
-        (λ at. rules.start_cell n laws.basic z at made f d up items (begun_control c) x attrs absent1 room_here deep_here mode_at (ap (λ r. r.family) p) (and_parts (is_row_context (n.tag d.name)) _ (current_here _ p content.Cells e)).0)
+        (λ at. rules.start_cell n laws.basic z at made f d up items (begun_control c) x attrs absent1 room_here deep_here mode_at (ap (λ r. r.family) p) (and_parts (is_row_context (n.tag d.name)) _ (current_in n q content.Cells e)).0)
         (λ at m g items2 c2 mode. rules.end_cell n laws.basic z at m g d up items2 c2 made x mode (ap (λ r. r.family) p) (ap (λ r. r.has_implied_end) p))
 
     an_object : profile (n.tag x) ≡ class_profile class.Object → (ts : List (PlacedToken N)) → Spells ts → Node ts
@@ -1118,10 +1086,10 @@ module _ {N : Type 0} (n : Naming N) (laws : NameLaws n) (z : State N) where
     of_void class.Source p = plain_void family.Param _ (refl, refl, refl) p refl refl
     of_void class.Link p = plain_void family.Link _ (refl, refl, refl) p refl refl
     of_void class.Column p = void_built (λ at. rules.start_col n laws.basic z at made f d up items (begun_control c) x attrs (q.fresh made (omega arith)) room_for deep_for
-        (columns_mode_is c.mode (ap (λ u. fits_mode u c.mode) (sym (stands_in i.content role.Column refl (void_role _ p))) ∙ q.mode_fits)) (ap (λ r. r.family) p))
+        (columns_mode_is c.mode (mode_in n q _ (stands_in i.content role.Column refl (void_role _ p)))) (ap (λ r. r.family) p))
     of_void class.Rule p =
         let e : i.content ≡ content.Flow = stands_in i.content role.Flow refl (void_role _ p) in
-        void_built (λ at. rules.start_hr n laws.basic z at made f d up items (begun_control c) x attrs (q.fresh made (omega arith)) room_for deep_for (ap (λ u. fits_mode u c.mode) (sym e) ∙ q.mode_fits) (ap (λ r. r.family) p) (q.no_p (ap closes_p e)))
+        void_built (λ at. rules.start_hr n laws.basic z at made f d up items (begun_control c) x attrs (q.fresh made (omega arith)) room_for deep_for (mode_in n q content.Flow e) (ap (λ r. r.family) p) (q.no_p (ap closes_p e)))
 
   -- THE INDUCTION
 
@@ -1143,22 +1111,16 @@ module _ {N : Type 0} (n : Naming N) (laws : NameLaws n) (z : State N) where
       in_flow : is_flow_mode c.mode ≡ true → NodeBuilt b (text t) none made f d up items c (state z made f (d ∷ up) items c) ts
       in_flow flows = flow_text b t good.is made f d up items c q.once absent_now q.listed none_before safe room ts flows h
 
-      fits_now : (k : Content) → i.content ≡ k → fits_mode k c.mode ≡ true
-      fits_now k e = ap (λ u. fits_mode u c.mode) (sym e) ∙ q.mode_fits
-
-      cur_now : (k : Content) → i.content ≡ k → fits_current k i.texts (n.tag d.name) ≡ true
-      cur_now k e = ap (λ u. fits_current u i.texts (n.tag d.name)) (sym e) ∙ q.current_fits
-
       text_now : (k : Content) → i.content ≡ k → TextFits (record i { content = k }) (good.is.one ∷ good.is.more)
       text_now k e = subst (λ (u : Content). TextFits (record i { content = u }) (good.is.one ∷ good.is.more)) e good.fits
 
       go : (k : Content) → i.content ≡ k → NodeBuilt b (text t) none made f d up items c (state z made f (d ∷ up) items c) ts
-      go content.TableParts e = let z = text_now content.TableParts e in in_parts (ap rules.is_parts_mode (parts_mode_is c.mode (fits_now content.TableParts e))) (fosters_at _ _ (and_parts (is_table_context (n.tag d.name)) _ (cur_now content.TableParts e)).1 z.1) z.0
-      go content.TableRows e = let z = text_now content.TableRows e in in_parts (ap rules.is_parts_mode (rows_mode_is c.mode (fits_now content.TableRows e))) (fosters_at _ _ (and_parts (is_body_context (n.tag d.name)) _ (cur_now content.TableRows e)).1 z.1) z.0
-      go content.Cells e = let z = text_now content.Cells e in in_parts (ap rules.is_parts_mode (cells_mode_is c.mode (fits_now content.Cells e))) (fosters_at _ _ (and_parts (is_row_context (n.tag d.name)) _ (cur_now content.Cells e)).1 z.1) z.0
-      go content.Columns e = column_text b t good.is made f d up items c q.once absent_now q.listed none_before safe room ts (columns_mode_is c.mode (fits_now content.Columns e)) (text_now content.Columns e) h
+      go content.TableParts e = let z = text_now content.TableParts e in in_parts (ap rules.is_parts_mode (parts_mode_is c.mode (mode_in n q content.TableParts e))) (fosters_at _ _ (and_parts (is_table_context (n.tag d.name)) _ (current_in n q content.TableParts e)).1 z.1) z.0
+      go content.TableRows e = let z = text_now content.TableRows e in in_parts (ap rules.is_parts_mode (rows_mode_is c.mode (mode_in n q content.TableRows e))) (fosters_at _ _ (and_parts (is_body_context (n.tag d.name)) _ (current_in n q content.TableRows e)).1 z.1) z.0
+      go content.Cells e = let z = text_now content.Cells e in in_parts (ap rules.is_parts_mode (cells_mode_is c.mode (mode_in n q content.Cells e))) (fosters_at _ _ (and_parts (is_row_context (n.tag d.name)) _ (current_in n q content.Cells e)).1 z.1) z.0
+      go content.Columns e = column_text b t good.is made f d up items c q.once absent_now q.listed none_before safe room ts (columns_mode_is c.mode (mode_in n q content.Columns e)) (text_now content.Columns e) h
       go content.Empty e = absurd (text_now content.Empty e)
-      go k e = in_flow (fits_now k e)
+      go k e = in_flow (mode_in n q k e)
 
   node_and_rest : (b : ℕ) (w : What N) (kids rest : Forest N) → LawOf rest → (i : Inside) (made : ℕ) (f : Forest N) (d : OpenNode N) (up : List (OpenNode N)) (items : List (Listed N)) (c : Control) (s : State N) (ts : List (PlacedToken N)) (us : List (Token N))
       → Quiet n z.context i made f d up items c → Good n i rest → (begins_text rest ≡ true → is_text w ≡ false) → (is_text w ≡ false → if_text made (Some w) ≡ None) → made + (1 + (size kids + size rest)) ≤ z.site.nodes.limit → suc (length up) + depth rest ≤ z.site.open_nodes.limit

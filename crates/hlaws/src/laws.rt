@@ -1,4 +1,4 @@
-//! Laws of the definitions.
+//! Laws of whole inputs: one answer and one parse, what is refused of a front, and that a plain list of trees comes back.
 
 ghost use Rattle.hlaws.specs.ComesBack.{PlainTokens, PlainBuilds, PlainComesBack};
 ghost use Rattle.hlaws.specs.OneAnswer.{OneAnswer, OneParse};
@@ -21,13 +21,14 @@ pub fn plain_comes_back()
 {}
 
 /// The bytes of a document have exactly one answer: its tokens and its errors in their order, or what it is refused for, with the
-/// place.
+/// place. So however the bytes are cut into pieces, what `hparse` gives of them is the same, unless memory runs out.
 pub fn one_answer()
     ensures { OneAnswer }
 {}
 
 /// The bytes of a document or of a fragment are parsed in exactly one way: a tree and the errors in their order, or what they are
-/// refused for, with the place.
+/// refused for, with the place. So however the bytes are cut into pieces, what a parser gives of them is the same, unless memory runs
+/// out.
 pub fn one_parse()
     ensures { OneParse }
 {}

@@ -5,24 +5,14 @@ use Rattle.std.proofs.lemmas.List.Sorted.{IsPermutation-append_left, IsPermutati
 use Rattle.names.specs.declared.error.ParseError.{ParseError}
 use Rattle.names.specs.declared.refusal.Refusal.{Refusal}
 use Rattle.names.specs.Names.{Texts, Grows}
-use Rattle.names.proofs.Handing.{text_kept, grows_not, grows_on, Hands-append}
-use Rattle.htag.proofs.Naming.{attrs_kept}
-use Rattle.htoken.specs.declared.token.Token.TheVariants as code
+use Rattle.names.proofs.Handing.{grows_not, grows_on, Hands-append}
 use Rattle.htoken.specs.declared.token.Token.{Token}
-use Rattle.htoken.specs.Token.{Tok, Item, ItemToken, ItemError, Event, Gives, Reports, Mean, TokenMeans}
+use Rattle.htoken.specs.Token.{Tok, Item, ItemToken, ItemError, Event, Gives, Reports, Mean}
 use Rattle.htoken.specs.Tokens.{tokens_in, errors_in}
 use Rattle.htoken.specs.Handing.{HandsEvents}
+use Rattle.htoken.proofs.Fronts.{token_kept}
 use Rattle.hparse.specs.Input.{Began, Handed, tokens_handed, errors_handed}
 use Rattle.hparse.specs.TokenRun.{TokensMean}
-
--- a token stands for the same one when the table has grown
-token_kept : (old new : Texts) → Grows old new → (token : Token) (tok : Tok) → TokenMeans old token tok → TokenMeans new token tok
-token_kept old new grows (code.Doctype name public system forced at) tok h = h
-token_kept old new grows (code.Start name attrs closing at) tok (text, texts, is, are, e) = (text, texts, text_kept old new name text grows is, attrs_kept old new grows attrs.items texts are, e)
-token_kept old new grows (code.End name at) tok (text, is, e) = (text, text_kept old new name text grows is, e)
-token_kept old new grows (code.Comment text at) tok h = h
-token_kept old new grows (code.Char ch at) tok h = h
-token_kept old new grows (code.Eof at) tok h = h
 
 module _ (old new : Texts) (grows : Grows old new) where
   -- tokens stand for the same ones when the table has grown

@@ -23,7 +23,7 @@ use Rattle.hmodes.specs.Spelled.{spelled_placed, spelled_state}
 use Rattle.hmodes.specs.State.{PlacedToken, State, start, end}
 use Rattle.hmodes.specs.Tokens.{token_of}
 use Rattle.hmodes.specs.Tokens as given
-use Rattle.hmodes.proofs.Tables.{table-agrees}
+use Rattle.hadopt.proofs.Agreeing.{numbers-agree}
 use Rattle.hparse.specs.TokenRun.{TokensMean}
 use Rattle.hparse.specs.Taken.{placed}
 
@@ -64,7 +64,7 @@ module _ (names : Texts) (are : AreNames names) where
   tokens_spelled (t ∷ ts) [] h = absurd h
 
   agree : Agree numbers texts spell
-  agree = table-agrees names are
+  agree = numbers-agree names are
 
   -- the state in which a fragment begins, from html's name, what is known of the context, and its name
   began_in : Limits → List ℕ → Tag → List ℕ → State (List ℕ)

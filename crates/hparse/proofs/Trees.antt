@@ -22,7 +22,7 @@ use Rattle.hmodes.specs.Spelled.{spelled_state}
 use Rattle.hmodes.specs.State.{State, PlacedToken}
 use Rattle.hmodes.specs.Step.{Steps}
 use Rattle.hmodes.proofs.Names.{steps_spelled}
-use Rattle.hmodes.proofs.Tables.{table-agrees}
+use Rattle.hadopt.proofs.Agreeing.{numbers-agree}
 use Rattle.hmodes.specs.Building.{Building}
 use Rattle.hparse.specs.declared.parsed.Parsed.{Parsed}
 use Rattle.hparse.specs.Input.{Began, Handed, reads_in, tokens_handed, errors_handed, IsRefusedFor, by_sink, by_tag, by_bytes, IsTaken}
@@ -60,7 +60,7 @@ module _ (opts : ParseOptions) (parse_case : ParseCase) (began : Began Building)
   in_texts grew ts tokens o mean steps =
       subst (λ (s : State (List ℕ)). Steps texts (map placed tokens) s (outcome_map (spelled_state spell) o)) (begins_spelled opts began.names later parse_case began.sink.state (grows_on began.names names later grew grows) are begins_in)
       (subst (λ (ps : List (PlacedToken (List ℕ))). Steps texts ps (spelled_state spell began.sink.state) (outcome_map (spelled_state spell) o)) (tokens_spelled later are ts tokens (tokens_kept names later grows ts tokens mean))
-      ((steps_spelled numbers texts spell (table-agrees later are)).steps (map placed_number ts) began.sink.state o steps))
+      ((steps_spelled numbers texts spell (numbers-agree later are)).steps (map placed_number ts) began.sink.state o steps))
 
   -- where all of them were handed over
   pub gone : (tokens : List Tok) (errors : List ParseError) → Handed builds names began tokens errors (Ok tt) now → Steps texts (map placed tokens) (begins opts parse_case) (Goes (spelled_state spell now.state))
@@ -83,7 +83,6 @@ module _ (opts : ParseOptions) (parse_case : ParseCase) (began : Began Building)
       record {
         table = subst AreNames (sym r.names_are) are;
         trees = ap (λ (n : Texts). spelled (spelling n) parsed.tree.trees) r.names_are ∙ ap (λ (t : Nodes ℕ). spelled spell t.trees) r.tree_is;
-        made = r.made;
         names_are = children_are_of parsed.names parsed.root parsed.tree.trees (subst (λ (n : Texts). AreOf n parsed.tree.trees) (sym r.names_are) (subst (λ (t : Nodes ℕ). AreOf later t.trees) (sym r.tree_is) of_table));
         root = r.root_is ∙ b.root ∙ root_is;
         errors = refl;

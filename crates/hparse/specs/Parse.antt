@@ -29,7 +29,7 @@ use Rattle.hparse.specs.Answer.{error_cmp}
 use Rattle.hparse.specs.Input.{Manner, how_of, reads_in, text_in}
 use Rattle.hparse.specs.Taken.{placed}
 
--- what is parsed: a document, or a fragment in the context of an element of this name (13.4)
+-- what is parsed: a document, or a fragment in the context of an element of this name (#html-fragment-parsing-algorithm)
 pub data ParseCase : Type 0 where
   document : ParseCase
   fragment : (context : List ℕ) → ParseCase
@@ -106,6 +106,6 @@ abbrev pub is_name : List ℕ → Bool
 is_name [] = false
 is_name (first ∷ others) = is_lower first && list_all is_name_byte others
 
--- whether a fragment may be parsed in the context of an element of this name
+-- whether this may be the name of a fragment's context
 abbrev pub is_context : List ℕ → Bool
 is_context name = nat_le (length name) 64 && is_name name && not (bytes_eq name (codes "colgroup") || is_refused (tag_named name))

@@ -1,5 +1,5 @@
 -- What a parser has been fed, and what its calls do.
-use Rattle.std.specs.Prelude.{◌≡◌, ◌<◌, ℕ, List, [], ◌++◌, slice_get, Some, None, Result, Ok, Err}
+use Rattle.std.specs.Prelude.{◌≡◌, ℕ, List, [], ◌++◌, slice_get, Some, None, Result, Ok, Err}
 use Rattle.std.specs.List.Sorted.{IsPermutation, IsSorted}
 use Rattle.names.specs.declared.error.ParseError.{ParseError}
 use Rattle.names.specs.declared.refusal.Refusal.{Refusal}
@@ -64,7 +64,6 @@ pub record IsMadeOf (names : Texts) (tree : Nodes ℕ) (root : ℕ) (errors : Li
   pub names_are : parsed.names ≡ names
   pub tree_is : parsed.tree ≡ tree
   pub root_is : parsed.root ≡ root
-  pub made : parsed.root < parsed.tree.made
   pub errors_are : IsPermutation errors parsed.errors.items
   pub sorted : IsSorted error_cmp parsed.errors.items
 
@@ -77,7 +76,6 @@ IsBuilt names built = IsMadeOf names built.state.site.nodes built.root (built.st
 pub record IsParse (parse_case : ParseCase) (parsed : Parsed) (parse : Parse) : Type 0 where
   pub table : AreNames parsed.names
   pub trees : spelled (spelling parsed.names) parsed.tree.trees ≡ parse.trees
-  pub made : parsed.root < parsed.tree.made
   pub names_are : AreOf parsed.names (children_of parsed.root parsed.tree.trees)
   pub root : parsed.root ≡ root_of parse_case
   pub errors : parsed.errors.items ≡ parse.errors

@@ -40,8 +40,8 @@ fn is_name(name: &[u8]) -> bool
     }
 }
 
-/// Whether a fragment may be parsed in the context of an element of this name. The name has at most 64 bytes, and is neither
-/// colgroup nor one that is left out of the profile.
+/// Whether this may be the name of a fragment's context, the context element of the HTML fragment parsing algorithm
+/// (`#html-fragment-parsing-algorithm`). The name has at most 64 bytes, and is neither colgroup nor one that is left out of the profile.
 pub fn is_context(name: &str) -> bool
     ensures { result ≡ is_context name.now }
 {

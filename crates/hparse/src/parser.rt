@@ -40,9 +40,9 @@ impl<'t> Parser<'t> {
         })
     }
 
-    /// The parser of a fragment in the context of an element of this name: 1 to 64 bytes, a lower letter, then lower letters,
-    /// digits, `-`, `_` and `:`, but neither colgroup nor a name that is left out of the profile. An error is `BadContext`,
-    /// which is found first, or `Memory`.
+    /// The parser of a fragment in the context of an element of this name (`#html-fragment-parsing-algorithm`): 1 to 64 bytes, a lower
+    /// letter, then lower letters, digits, `-`, `_` and `:`, but neither colgroup nor a name that is left out of the profile. An error is
+    /// `BadContext`, which is found first, or `Memory`.
     pub fn fragment(
         alloc: Global,
         context: &str,

@@ -11,6 +11,7 @@ ghost use Rattle.hparse.specs.Unrefused.{IsUnrefusedText};
 use crate::options::Options;
 use crate::reading::Reading;
 use crate::source::Source;
+use htext::MAX_INPUT;
 use htoken::{Start, TokenSink};
 use names::{Names, Refusal};
 use std::alloc::Global;
@@ -54,13 +55,13 @@ pub(crate) fn read_to_end<S: TokenSink, R: Source>(
         (WasRead (gives_item S.gives S.gives_token) m began) piece fed source.old source.new result }
 {
     let mut buffer = vec![in alloc; 0u8; piece]?;
-    for _turn in 0..u64::MAX {
+    for _turn in 0..MAX_INPUT + 4 {
         match source.read(&mut buffer) {
             None => return Err(Refusal::Read),
             Some(0) => return reading.end(),
             Some(count) => reading.feed(&buffer[..count])?,
         }
     }
-    // No input leads here: a piece has at least one byte, and what is too long is refused long before the last turn.
-    Err(Refusal::TooLarge { at: u64::MAX })
+    // No input leads here: a turn feeds at least one byte, and one past the greatest limit is refused when three more have been fed.
+    Err(Refusal::TooLarge { at: MAX_INPUT })
 }
