@@ -19,6 +19,12 @@ fn known_names_have_their_numbers(rt: HostRuntime) -> Result<(), Fail> {
     Ok(())
 }
 
+#[test]
+fn a_name_may_be_a_formatting_one(rt: HostRuntime) -> Result<(), Fail> {
+    assert!(rt; Tag::A.is_formatting() && !Tag::P.is_formatting());
+    Ok(())
+}
+
 /// Whether the name of a hidden input's attribute is the last of the known names.
 fn type_is_known(alloc: Global) -> Result<bool, AllocError> {
     let mut names = Names::new(alloc, Keys::for_tests());

@@ -2,23 +2,17 @@
 use Rattle.std.proofs.Common.{◌≡◌, ℕ, ◌<◌, List, [], ◌∷◌, ◌++◌, Some, map, refl, sym, ap, ap₂, subst, ◌∙◌}
 use Rattle.std.proofs.lemmas.List.{append_assoc, append-nil, map-append}
 use Rattle.std.proofs.lemmas.Grind.{flat_map-append}
-use Rattle.std.specs.List.{flat_map, AllByRecursion}
+use Rattle.std.specs.List.{flat_map}
 use Rattle.std.specs.Option.{option_map, option_map_or}
 use Rattle.names.specs.Names.{Texts, text_of}
 use Rattle.hnodes.specs.Forest.{Forest, none, tree, children_of}
 use Rattle.hnodes.specs.Edits.{AreCounted}
-use Rattle.hnodes.specs.Named.{AreOf, IsLent, NodeIsOf}
 use Rattle.hnodes.specs.Passed.{order}
 use Rattle.hnodes.specs.Spelled.{spelled}
 use Rattle.hnodes.specs.Spots.{kind_in, what_of}
-use Rattle.hnodes.proofs.Forests.{some_inj}
 use Rattle.hserialize.proofs.Seen.{Seen, seen}
 use Rattle.html_c.specs.Rows.{kind_number, link_to, node_words_at, row_at, row_of, rows_of, words_of}
 use Rattle.html_c.specs.declared.answer.NodeRow.{NodeRow}
-
-all_append : (P : ℕ → Type 0) (xs ys : List ℕ) → AllByRecursion P xs → AllByRecursion P ys → AllByRecursion P (xs ++ ys)
-all_append P [] ys all more = more
-all_append P (x ∷ xs) ys (one, all) more = (one, all_append P xs ys all more)
 
 module _ (names : Texts) (made : ℕ) (f : Forest ℕ) (root : ℕ) where
   abbrev node_row : ℕ → NodeRow
@@ -26,13 +20,6 @@ module _ (names : Texts) (made : ℕ) (f : Forest ℕ) (root : ℕ) where
 
   abbrev node_bytes : ℕ → List ℕ
   node_bytes n = node_words_at (text_of names) (what_of n f)
-
-  lent : (p : ℕ) (g : Forest ℕ) → Seen made f root p g → AreOf names g → AllByRecursion (IsLent names made f) (order g)
-  lent p none s of = tt
-  lent p (tree b w kids rest) (is, inside, after) (its, of_kids, of_rest) = (
-    (is.made_is, λ v what. subst (NodeIsOf names) (some_inj (sym is.what ∙ what)) its),
-    all_append (IsLent names made f) (order kids) (order rest) (lent b kids inside of_kids) (lent p rest after of_rest),
-  )
 
   rows_listed : (p : ℕ) (g : Forest ℕ) → Seen made f root p g → map node_row (order g) ≡ rows_of p g
   rows_listed p none s = refl
@@ -54,44 +41,36 @@ module _ (names : Texts) (made : ℕ) (f : Forest ℕ) (root : ℕ) where
       (flat_map-append node_bytes (order kids) (order rest) ∙ ap₂ (λ (l r : List ℕ). l ++ r) (words_listed b kids inside) (words_listed p rest after))
 
 -- What is listed so far, and the nodes that are left.
-pub record IsListing (names : Texts) (made : ℕ) (f : Forest ℕ) (root : ℕ) (rows : List NodeRow) (words : List ℕ) (left : List ℕ) : Type 0 where
-  pub are_lent : AllByRecursion (IsLent names made f) left
+pub record IsListing (names : Texts) (f : Forest ℕ) (root : ℕ) (rows : List NodeRow) (words : List ℕ) (left : List ℕ) : Type 0 where
   pub rows_are : rows ++ map (λ n. row_at n f) left ≡ rows_of root (children_of root f)
   pub words_are : words ++ flat_map (λ n. node_words_at (text_of names) (what_of n f)) left ≡ words_of (spelled (text_of names) (children_of root f))
 
-pub begun : (names : Texts) (made : ℕ) (f : Forest ℕ) (root : ℕ) (rows : List NodeRow) (words : List ℕ) (left items : List ℕ) → AreCounted made f → root < made → AreOf names (children_of root f)
-    → rows ≡ [] → words ≡ [] → left ≡ items → items ≡ order (children_of root f) → IsListing names made f root rows words left
-begun names made f root rows words left items counted h of no_rows no_words same ordered =
+pub begun : (names : Texts) (made : ℕ) (f : Forest ℕ) (root : ℕ) (rows : List NodeRow) (words : List ℕ) (left items : List ℕ) → AreCounted made f → root < made
+    → rows ≡ [] → words ≡ [] → left ≡ items → items ≡ order (children_of root f) → IsListing names f root rows words left
+begun names made f root rows words left items counted h no_rows no_words same ordered =
     let s = seen made f counted root h in let is = same ∙ ordered in
     record {
-      are_lent = subst (AllByRecursion (IsLent names made f)) (sym is) (lent names made f root root (children_of root f) s of);
       rows_are = (λ i. no_rows i ++ map (λ n. row_at n f) (is i)) ∙ rows_listed names made f root root (children_of root f) s;
       words_are = (λ i. no_words i ++ flat_map (λ n. node_words_at (text_of names) (what_of n f)) (is i)) ∙ words_listed names made f root root (children_of root f) s;
     }
 
--- what the next node asks for
-pub next_is : (names : Texts) (made : ℕ) (f : Forest ℕ) (root : ℕ) (rows : List NodeRow) (words : List ℕ) (n : ℕ) (old left : List ℕ) → old ≡ n ∷ left
-    → IsListing names made f root rows words old → IsLent names made f n
-next_is names made f root rows words n old left is l = (subst (IsListing names made f root rows words) is l).are_lent.0
-
 -- one node more
-pub goes_on : (names : Texts) (made : ℕ) (f : Forest ℕ) (root : ℕ) (rows rows' : List NodeRow) (words words' : List ℕ) (n : ℕ) (old left : List ℕ) → old ≡ n ∷ left
-    → IsListing names made f root rows words old → rows' ≡ rows ++ row_at n f ∷ [] → words' ≡ words ++ node_words_at (text_of names) (what_of n f)
-    → IsListing names made f root rows' words' left
-goes_on names made f root rows rows' words words' n old left is l more_rows more_words =
-    let t = subst (IsListing names made f root rows words) is l in
+pub goes_on : (names : Texts) (f : Forest ℕ) (root : ℕ) (rows rows' : List NodeRow) (words words' : List ℕ) (n : ℕ) (old left : List ℕ) → old ≡ n ∷ left
+    → IsListing names f root rows words old → rows' ≡ rows ++ row_at n f ∷ [] → words' ≡ words ++ node_words_at (text_of names) (what_of n f)
+    → IsListing names f root rows' words' left
+goes_on names f root rows rows' words words' n old left is l more_rows more_words =
+    let t = subst (IsListing names f root rows words) is l in
     record {
-      are_lent = t.are_lent.1;
       rows_are = ap (λ r. r ++ map (λ m. row_at m f) left) more_rows ∙ append_assoc rows (row_at n f ∷ []) (map (λ m. row_at m f) left) ∙ t.rows_are;
       words_are = ap (λ r. r ++ flat_map (λ m. node_words_at (text_of names) (what_of m f)) left) more_words
           ∙ append_assoc words (node_words_at (text_of names) (what_of n f)) (flat_map (λ m. node_words_at (text_of names) (what_of m f)) left) ∙ t.words_are;
     }
 
 -- the end
-pub ended_rows : (names : Texts) (made : ℕ) (f : Forest ℕ) (root : ℕ) (rows : List NodeRow) (words : List ℕ) (left : List ℕ) → left ≡ []
-    → IsListing names made f root rows words left → rows ≡ rows_of root (children_of root f)
-ended_rows names made f root rows words left is l = sym (append-nil rows) ∙ (subst (IsListing names made f root rows words) is l).rows_are
+pub ended_rows : (names : Texts) (f : Forest ℕ) (root : ℕ) (rows : List NodeRow) (words : List ℕ) (left : List ℕ) → left ≡ []
+    → IsListing names f root rows words left → rows ≡ rows_of root (children_of root f)
+ended_rows names f root rows words left is l = sym (append-nil rows) ∙ (subst (IsListing names f root rows words) is l).rows_are
 
-pub ended_words : (names : Texts) (made : ℕ) (f : Forest ℕ) (root : ℕ) (rows : List NodeRow) (words : List ℕ) (left : List ℕ) → left ≡ []
-    → IsListing names made f root rows words left → words ≡ words_of (spelled (text_of names) (children_of root f))
-ended_words names made f root rows words left is l = sym (append-nil words) ∙ (subst (IsListing names made f root rows words) is l).words_are
+pub ended_words : (names : Texts) (f : Forest ℕ) (root : ℕ) (rows : List NodeRow) (words : List ℕ) (left : List ℕ) → left ≡ []
+    → IsListing names f root rows words left → words ≡ words_of (spelled (text_of names) (children_of root f))
+ended_words names f root rows words left is l = sym (append-nil words) ∙ (subst (IsListing names f root rows words) is l).words_are

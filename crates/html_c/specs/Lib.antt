@@ -3,7 +3,6 @@ pub mod Faults
 pub mod Fitted
 pub mod Given
 pub mod Input
-pub mod Lent
 pub mod Page
 pub mod Parts
 pub mod Room

@@ -4,7 +4,7 @@ use Rattle.hserialize.specs.declared.escaping.Escaping.{Escaping}
 use Rattle.html_c.specs.Exports.{GivesRows, GivesNoRows, GivesText}
 use Rattle.html_c.specs.Faults.{at_of, detail_of, status_of}
 use Rattle.html_c.specs.Given.{escaping_told, NoEscaping}
-use Rattle.html_c.specs.Room.{put_over}
+use Rattle.html_c.specs.Room.{fit_status, put_over}
 use Rattle.html_c.specs.declared.answer.Given.{Given}
 use Rattle.html_c.specs.declared.answer.NodeRow.{NodeRow}
 use Rattle.html_c.specs.declared.answer.PageAnswer.{PageAnswer}
@@ -38,7 +38,7 @@ put_parts page rooms =
 -- the answer to a page that fits or does not, and to none
 abbrev pub page_answer : Bool → Parts → PageAnswer
 page_answer fits page = record {
-  status = if fits then 0 else 13;
+  status = fit_status fits;
   detail = 0;
   at = 0;
   nodes = length page.rows;

@@ -8,9 +8,13 @@ use Rattle.html_c.specs.declared.fault.CallFault.{CallFault}
 abbrev pub put_over : {A : Type 0} → Bool → List A → List A → List A
 put_over fits items room = if fits then items ++ drop (length items) room else room
 
+-- the status where everything fits, or something does not
+abbrev pub fit_status : Bool → ℕ
+fit_status fits = if fits then 0 else 13
+
 -- the answer to this many bytes and nodes, which fit or do not
 abbrev pub room_answer : Bool → (bytes nodes : ℕ) → Answer
-room_answer fits bytes nodes = record { status = if fits then 0 else 13; detail = 0; at = 0; length = bytes; nodes = nodes }
+room_answer fits bytes nodes = record { status = fit_status fits; detail = 0; at = 0; length = bytes; nodes = nodes }
 
 -- the answer to none
 abbrev pub fault_answer : CallFault → Answer

@@ -1,10 +1,7 @@
 //! A page: the tree of an input, its parse errors and its HTML, by one parse.
 
-ghost use Rattle.std.specs.Prelude.{◌≡◌, ◌<◌, if◌then◌else◌, ℕ, List, [], length, None, IfOk, MatchResult};
-ghost use Rattle.names.specs.Names.{AreNames};
+ghost use Rattle.std.specs.Prelude.{◌≡◌, if◌then◌else◌, ℕ, List, [], length, None, IfOk, MatchResult};
 ghost use Rattle.names.specs.declared.refusal.Refusal.TheVariants.{Memory};
-ghost use Rattle.hnodes.specs.Forest.{children_of};
-ghost use Rattle.hnodes.specs.Named.{AreOf};
 ghost use Rattle.hprint.specs.Lines.{error_lines};
 ghost use Rattle.hwrite.specs.Prints.{parsed_text};
 ghost use Rattle.hwrite.specs.declared.command.Task.TheVariants as task;
@@ -78,9 +75,6 @@ fn html_in(
     parsed: &Parsed,
     room: usize,
 ) -> Result<Fitted, Refusal>
-    requires made { parsed.now.root < parsed.now.tree.made }
-    requires table { AreNames parsed.now.names }
-    requires names { AreOf parsed.now.names (children_of parsed.now.root parsed.now.tree.trees) }
     ensures { IsFitted room (if wanted then parsed_text escaping task.Write None parsed.now else []) result }
 {
     let mut text = Fitted::new(alloc, room);
@@ -107,9 +101,6 @@ fn page_in(
     error_room: usize,
     text_room: usize,
 ) -> Result<Page, Refusal>
-    requires made { parsed.now.root < parsed.now.tree.made }
-    requires table { AreNames parsed.now.names }
-    requires names { AreOf parsed.now.names (children_of parsed.now.root parsed.now.tree.trees) }
     ensures made { MatchResult result (IsPage wants escaping parsed.now) (λ refusal. refusal ≡ Memory) }
     ensures rooms { IfOk result (λ page. (page.errors.room ≡ error_room) × (page.text.room ≡ text_room)) }
 {

@@ -1,10 +1,10 @@
 //! The caller's rooms.
 
-ghost use Rattle.std.specs.Prelude.{◌≡◌, ◌≤◌, if◌then◌else◌, true, length, nat_le};
+ghost use Rattle.std.specs.Prelude.{◌≡◌, ◌≤◌, true, length, nat_le};
 ghost use Rattle.html_c.specs.Exports.{fit};
 ghost use Rattle.html_c.specs.Fitted.{text_of};
 ghost use Rattle.html_c.specs.Page.{page_fault};
-ghost use Rattle.html_c.specs.Room.{fault_answer, put_over, room_answer};
+ghost use Rattle.html_c.specs.Room.{fault_answer, fit_status, put_over, room_answer};
 
 use crate::answer::{Answer, NodeRow, PageAnswer};
 use crate::fault::CallFault;
@@ -16,7 +16,7 @@ const TOO_SHORT: u32 = 13;
 
 /// The status where everything fits, or something does not.
 pub(crate) fn status(fits: bool) -> u32
-    ensures { result ≡ (if fits then 0 else 13) }
+    ensures { result ≡ fit_status fits }
 {
     if fits { 0 } else { TOO_SHORT }
 }

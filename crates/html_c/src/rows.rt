@@ -1,17 +1,16 @@
 //! A tree as rows of numbers and as the bytes of its words.
 
 ghost use Rattle.std.specs.Prelude.{◌≡◌, ◌<◌, ◌++◌, ◌∷◌, [], Some, flat_map, map, IfOk, IfSome, OnOk, string_bytes};
-ghost use Rattle.names.specs.Names.{IsOf, text_of};
-ghost use Rattle.hnodes.specs.Forest.{children_of, element};
-ghost use Rattle.hnodes.specs.Named.{AreOf, AttributesAreOf, IsLent, NodeIsOf};
+ghost use Rattle.names.specs.Names.{text_of};
+ghost use Rattle.hnodes.specs.Forest.{children_of};
 ghost use Rattle.hnodes.specs.Rows.{attribute_of};
 ghost use Rattle.hnodes.specs.Spelled.{spelled, spelled_attribute, spelled_what};
 ghost use Rattle.hnodes.specs.Spots.{what_of};
-ghost use Rattle.html_c.specs.Lent.{what_is};
 ghost use Rattle.html_c.specs.Rows.{attribute_words, ended, kind_number, link_to, row_at, rows_of, node_words_at, words_at, words_of};
 
 use crate::answer::NodeRow;
 use hnodes::{DocumentType, NodeId, NodeKind, Tree};
+use hserialize::NodeView;
 use names::{Attr, NameId, Names};
 use std::alloc::{AllocError, Global};
 
@@ -27,14 +26,6 @@ pub(crate) struct Rows {
     pub(crate) words: Vec<u8>,
 }
 
-/// The text of a name.
-fn name_text(names: &Names, name: NameId) -> &str
-    requires { IsOf names.now name }
-    ensures { result.now ≡ text_of names.now name }
-{
-    names.text(name)
-}
-
 /// Adds a word.
 fn push_word(words: &mut Vec<u8>, word: &str) -> Result<(), AllocError>
     ensures { OnOk result (words.new.items ≡ words.old.items ++ ended word.now) }
@@ -46,12 +37,11 @@ fn push_word(words: &mut Vec<u8>, word: &str) -> Result<(), AllocError>
 
 /// Adds the words of attributes.
 fn push_attributes(words: &mut Vec<u8>, names: &Names, attrs: &[Attr]) -> Result<(), AllocError>
-    requires { AttributesAreOf names.now (map attribute_of attrs.now) }
     ensures { OnOk result (words.new.items ≡ words.old.items
         ++ flat_map attribute_words (map (spelled_attribute (text_of names.now)) (map attribute_of attrs.now))) }
 {
     for attr in attrs {
-        push_word(words, name_text(names, attr.name))?;
+        push_word(words, names.text(attr.name))?;
         push_word(words, &attr.value)?;
     }
     Ok(())
@@ -74,11 +64,10 @@ fn push_element(
     name: NameId,
     attrs: &[Attr],
 ) -> Result<(), AllocError>
-    requires { NodeIsOf names.now (element name (map attribute_of attrs.now)) }
     ensures { OnOk result (words.new.items ≡ words.old.items ++ (ended (text_of names.now name)
         ++ flat_map attribute_words (map (spelled_attribute (text_of names.now)) (map attribute_of attrs.now)))) }
 {
-    push_word(words, name_text(names, name))?;
+    push_word(words, names.text(name))?;
     push_attributes(words, names, attrs)
 }
 
@@ -89,46 +78,15 @@ fn push_words(
     names: &Names,
     node: NodeId,
 ) -> Result<(), AllocError>
-    requires { IsLent names.now tree.now.made tree.now.trees node }
+    requires { node < tree.now.made }
     ensures { OnOk result (words.new.items ≡ words.old.items ++ words_at (text_of names.now) (what_of node tree.now.trees)) }
 {
-    match Lent::of(tree, node) {
-        Lent::Document => Ok(()),
-        Lent::Doctype(texts) => push_doctype(words, texts),
-        Lent::Element(name, attrs) => push_element(words, names, name, attrs),
-        Lent::Comment(text) => push_word(words, text),
-        Lent::Text(text) => push_word(words, text),
-    }
-}
-
-/// What a node is, as its tree lends it.
-#[derive(Clone, Copy)]
-pub(crate) enum Lent<'a> {
-    Document,
-    Doctype(&'a DocumentType),
-    Element(NameId, &'a [Attr]),
-    Comment(&'a str),
-    Text(&'a str),
-}
-
-impl<'a> Lent<'a> {
-    /// What a node of a tree is.
-    fn of(tree: &'a Tree, at: NodeId) -> Lent<'a>
-        requires { at < tree.now.made }
-        ensures { Some (what_is result) ≡ what_of at tree.now.trees }
-    {
-        if let Some(name) = tree.name(at) {
-            return Lent::Element(name, tree.attrs(at).unwrap_or(&[]));
-        }
-        if let Some(texts) = tree.doctype(at) {
-            return Lent::Doctype(texts);
-        }
-        let kind = tree.kind(at);
-        match tree.text(at) {
-            Some(text) if kind == NodeKind::Text => Lent::Text(text),
-            Some(text) => Lent::Comment(text),
-            None => Lent::Document,
-        }
+    match NodeView::of(tree, node) {
+        NodeView::Document => Ok(()),
+        NodeView::Doctype(texts) => push_doctype(words, texts),
+        NodeView::Element(name, attrs) => push_element(words, names, name, attrs),
+        NodeView::Comment(text) => push_word(words, text),
+        NodeView::Text(text) => push_word(words, text),
     }
 }
 
@@ -179,7 +137,7 @@ fn row_at(tree: &Tree, node: NodeId) -> NodeRow
 impl Rows {
     /// Adds a node and its words.
     fn push(&mut self, tree: &Tree, names: &Names, node: NodeId) -> Result<(), AllocError>
-        requires { IsLent names.now tree.now.made tree.now.trees node }
+        requires { node < tree.now.made }
         ensures { OnOk result ((self.new.nodes.items ≡ self.old.nodes.items ++ row_at node tree.now.trees ∷ [])
             × (self.new.words.items ≡ self.old.words.items ++ node_words_at (text_of names.now) (what_of node tree.now.trees))) }
     {
@@ -197,8 +155,7 @@ pub(crate) fn rows_inside(
     names: &Names,
     root: NodeId,
 ) -> Result<Rows, AllocError>
-    requires made { root < tree.now.made }
-    requires names { AreOf names.now (children_of root tree.now.trees) }
+    requires { root < tree.now.made }
     ensures rows { IfOk result (λ rows. rows.nodes.items ≡ rows_of root (children_of root tree.now.trees)) }
     ensures words { IfOk result (λ rows. rows.words.items ≡ words_of (spelled (text_of names.now) (children_of root tree.now.trees))) }
 {

@@ -2,8 +2,6 @@
 
 ghost use Rattle.std.specs.Prelude.{◌≡◌, ◌<◌, MatchResult};
 ghost use Rattle.names.specs.declared.refusal.Refusal.TheVariants.{Memory};
-ghost use Rattle.hnodes.specs.Forest.{children_of};
-ghost use Rattle.hnodes.specs.Named.{AreOf};
 ghost use Rattle.hparse.specs.Parsing.{options_of};
 ghost use Rattle.hwrite.specs.Command.{name_of};
 ghost use Rattle.hwrite.specs.Context.{AllowsContext};
@@ -33,8 +31,6 @@ pub(crate) fn rows_of(alloc: Global, input: &[u8], given: &Given) -> Result<Rows
 
 /// The rows and the words of what was parsed.
 pub(crate) fn rows_in(alloc: Global, parsed: &Parsed) -> Result<Rows, Refusal>
-    requires made { parsed.now.root < parsed.now.tree.made }
-    requires names { AreOf parsed.now.names (children_of parsed.now.root parsed.now.tree.trees) }
     ensures { MatchResult result (HasRows parsed.now) (λ refusal. refusal ≡ Memory) }
 {
     Ok(rows_inside(alloc, &parsed.tree, &parsed.names, parsed.root)?)

@@ -4,7 +4,7 @@ ghost use Rattle.std.specs.Prelude.{◌≡◌, ◌∷◌, ◌++◌, [], IfSome, 
 ghost use Rattle.hwrite.specs.Calls.{EndsWith, WritesAll};
 ghost use Rattle.htmlp.specs.Ending.{around_name, ending_text, fault_status, fault_text, limit_line, name_line, number_lines, range_text};
 ghost use Rattle.htmlp.specs.Ending.{refusal_line, refusal_status, status_of};
-ghost use Rattle.names.specs.RefusalText.{detail_of, detail_text, number_of, number_text, refusal_text};
+ghost use Rattle.names.specs.RefusalText.{detail_text, number_text, refusal_text};
 
 use crate::fault::Fault;
 use crate::numeric::Numeric;
@@ -183,35 +183,9 @@ fn write_refused<W: Target>(target: &mut W, refusal: Refusal) -> Result<(), Refu
 {
     write_part(target, b"refused: ")?;
     write_part(target, refusal.name().as_bytes())?;
-    write_detail(target, detail(refusal))?;
-    write_count(target, number(refusal))?;
+    write_detail(target, refusal.detail())?;
+    write_count(target, refusal.number())?;
     write_part(target, b"\n")
-}
-
-/// The element or the cause that a refusal names, if it names one.
-fn detail(refusal: Refusal) -> Option<&'static str>
-    ensures { option_map (λ s. s.now) result ≡ detail_of refusal }
-{
-    match refusal {
-        Refusal::OutOfProfile { name, .. } => Some(name.text()),
-        Refusal::BadTable { cause } => Some(cause.name()),
-        _ => None,
-    }
-}
-
-/// Its number, after the word that says what it counts: a byte of the input, or a line.
-fn number(refusal: Refusal) -> Option<(&'static str, u64)>
-    ensures { option_map (λ p. (p.0.now, p.1)) result ≡ number_of refusal }
-{
-    match refusal {
-        Refusal::NotUtf8 { at }
-        | Refusal::OutOfProfile { at, .. }
-        | Refusal::TooLarge { at }
-        | Refusal::TooManyNodes { at }
-        | Refusal::TooDeep { at } => Some(("at", at)),
-        Refusal::BadQuirks { line } => Some(("line", line)),
-        _ => None,
-    }
 }
 
 fn write_detail<W: Target>(target: &mut W, detail: Option<&str>) -> Result<(), Refusal>

@@ -3,7 +3,7 @@
 ghost use Rattle.std.specs.Prelude.{◌≡◌};
 ghost use Rattle.htmlp.specs.Numeric.{accepted, name_of, range_of};
 
-use hmodes::{MAX_DEPTH, MAX_NODES};
+use hmodes::{LEAST, MAX_DEPTH, MAX_NODES};
 
 /// An option whose value is a number.
 #[derive(Clone, Copy, Debug)]
@@ -33,8 +33,8 @@ impl Numeric {
     {
         match self {
             Numeric::Piece => (1, 65_536),
-            Numeric::Nodes => (16, MAX_NODES),
-            Numeric::Open => (16, MAX_DEPTH),
+            Numeric::Nodes => (LEAST, MAX_NODES),
+            Numeric::Open => (LEAST, MAX_DEPTH),
             Numeric::Escape => (1, 2),
         }
     }

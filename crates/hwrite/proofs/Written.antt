@@ -74,10 +74,6 @@ module _ {W : Type 0} (written : W → Option (List ℕ)) (failed : W → ℕ) w
       not_read_in none target e (not_allowed not is same) = context_refused not (let why : e ≡ BadContext = cc in ap (λ (x : Refusal). Err x) why) same refl
       not_read_in none target e (allowed is r) = ran is (not_read none target e r)
 
-      pub an_answer_in : (run : R) → ReadsIn left reads context answers unrefused piece old new (Ok run) → (bytes : List ℕ) × answers bytes (Ok run)
-      an_answer_in run (not_allowed not is same) = absurd cc
-      an_answer_in run (allowed is r) = an_answer run r
-
       pub comes_to_text_in : (target target' : W) (run : R) (text : List ℕ) (answer : Result (Unit {0}) Refusal) → ReadsIn left reads context answers unrefused piece old new (Ok run)
           → ((bytes : List ℕ) → answers bytes (Ok run) → prints bytes (Ok text)) → WritesText written failed text target target' answer
           → RunsIn left reads written failed context prints unrefused piece old new target target' answer

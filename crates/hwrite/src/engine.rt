@@ -1,9 +1,8 @@
 //! An input from a reader, and what is made of it to a writer.
 
 ghost use Rattle.std.specs.Prelude.{◌≡◌, ◌<◌, ◌≤◌, [], OnOk};
-ghost use Rattle.names.specs.Names.{AreNames, text_of};
+ghost use Rattle.names.specs.Names.{text_of};
 ghost use Rattle.hnodes.specs.Forest.{children_of};
-ghost use Rattle.hnodes.specs.Named.{AreOf};
 ghost use Rattle.hnodes.specs.Spelled.{spelled};
 ghost use Rattle.hparse.specs.Answer.{Answers, of_document};
 ghost use Rattle.hparse.specs.Parse.{Parses};
@@ -127,9 +126,6 @@ fn print_parsed<W: Target>(
     parsed: &Parsed,
     target: &mut W,
 ) -> Result<(), Refusal>
-    requires made { parsed.now.root < parsed.now.tree.made }
-    requires table { AreNames parsed.now.names }
-    requires names { AreOf parsed.now.names (children_of parsed.now.root parsed.now.tree.trees) }
     ensures text { WritesText W.written W.failed (parsed_text command.entry.escaping command.entry.task (name_of command.entry.context) parsed.now)
         target.old target.new result }
     ensures flushed { OnOk result (IsFlushed W.flushes target.new) }
@@ -157,9 +153,6 @@ fn plain_line(is_plain: bool) -> &'static [u8]
 
 /// Whether what was parsed in an element of this name is plain there. No document is.
 fn is_plain_in(context: Option<&str>, parsed: &Parsed) -> bool
-    requires made { parsed.now.root < parsed.now.tree.made }
-    requires table { AreNames parsed.now.names }
-    requires names { AreOf parsed.now.names (children_of parsed.now.root parsed.now.tree.trees) }
     ensures { result ≡ is_plain_in (case_in (name_of context.entry))
         (spelled (text_of parsed.now.names) (children_of parsed.now.root parsed.now.tree.trees)) }
 {

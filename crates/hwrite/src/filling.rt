@@ -85,7 +85,6 @@ fn put_filled<W: Target>(
     holes: &[NameId],
     names: &Names,
 ) -> Result<(), Refusal>
-    requires { (bytes : List ℕ) × Fills names.now text.now holes.now bytes }
     ensures { (bytes : List ℕ) → Fills names.now text.now holes.now bytes
         → Puts (taken W.written W.failed out.old) (taken W.written W.failed out.new) bytes result }
 {
@@ -101,7 +100,6 @@ fn put_filled<W: Target>(
 
 /// Writes the lines of a draft.
 fn put_draft<W: Target>(out: &mut Sink<'_, W>, draft: &Draft, names: &Names) -> Result<(), Refusal>
-    requires { (text : List ℕ) × ComesTo names.now (drafted draft.now) [] text }
     ensures { (text : List ℕ) → ComesTo names.now (drafted draft.now) [] text
         → Puts (taken W.written W.failed out.old) (taken W.written W.failed out.new) text result }
 {

@@ -25,7 +25,10 @@ pub use hparse::{
 };
 pub use hplain::is_plain;
 pub use hprint::{error_lines, print_errors, print_tree, tree_text};
-pub use hserialize::{Escaping, Target, serialize, serialize_to_vec, write_all};
+pub use hserialize::{
+    Escaping, Target, serialize, serialize_outer, serialize_outer_to_vec, serialize_to_vec,
+    write_all,
+};
 pub use htext::BadBytes;
 pub use htoken::Token;
 pub use lines::token_lines;

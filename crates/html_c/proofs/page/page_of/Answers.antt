@@ -11,15 +11,6 @@ returns-in_err-escaping-clause-says c = fails c.from_residual.result c.in_err-es
 pub returns-in_err-parsed-clause-says : goal.returns-in_err-parsed-clause-says
 returns-in_err-parsed-clause-says c = fails c.from_residual-in_err-parsed.result c.in_err-parsed.field-0.0 _ _ c.from_residual-in_err-parsed.ensures.1 (no_tree c.in_err-parsed.ensures)
 
-pub page_in-page-requires-clause-made : goal.page_in-page-requires-clause-made
-page_in-page-requires-clause-made c = c.in_ok-parsed.ensures.answers.1.made
-
-pub page_in-page-requires-clause-table : goal.page_in-page-requires-clause-table
-page_in-page-requires-clause-table c = c.in_ok-parsed.ensures.answers.1.table
-
-pub page_in-page-requires-clause-names : goal.page_in-page-requires-clause-names
-page_in-page-requires-clause-names c = c.in_ok-parsed.ensures.answers.1.names_are
-
 pub returns-in_err-page-clause-says : goal.returns-in_err-page-clause-says
 returns-in_err-page-clause-says c =
     fails c.from_residual-in_err-page.result (fault.Refused c.in_err-page.field-0.0) _ _ c.from_residual-in_err-page.ensures.1

@@ -1,24 +1,18 @@
 use Rattle.std.proofs.Common.{ap, drop, ◌∙◌, ◌+◌, ◌++◌}
 use Rattle.std.proofs.lemmas.List.{drop_all}
 use Rattle.names.specs.Names.{text_of}
-use Rattle.hserialize.proofs.Attributes.{attributes-head, attributes-rest}
 use Rattle.html_c.proofs.Words.{all_added, attributes_bytes, next_attribute, two_added}
 use Rattle.html_c.specs.Rows.{ended}
 use Rattle.html_c.proofs.rows.push_attributes.Goals as goal
 
-pub name_text-requires : goal.name_text-requires
-name_text-requires c = attributes-head c.args.names.now c.args.attrs.now c.loop-attr.attr-index c.attr-item.result c.loop-attr-test.true c.attr-item.is c.loop-attr.invariant.1
-
 pub loop-attr-preserved : goal.loop-attr-preserved
-loop-attr-preserved c = (
-  two_added c.loop-attr.words.items _ _ _ (attributes_bytes (text_of c.args.names.now) (drop c.loop-attr.attr-index c.args.attrs.now)) (ended (text_of c.args.names.now c.attr-item.result.name)) _
-      (attributes_bytes (text_of c.args.names.now) (drop (c.loop-attr.attr-index + 1) c.args.attrs.now)) c.loop-attr.invariant.0
-      (next_attribute (text_of c.args.names.now) c.args.attrs.now c.loop-attr.attr-index c.attr-item.result c.loop-attr-test.true c.attr-item.is)
-      (c.in_ok-push_word.ensures ∙ ap (λ t. c.loop-attr.words.items ++ ended t) c.name_text.ensures)
-      (c.in_ok-push_word-2.ensures ∙ ap (λ t. c.push_word.new.words.items ++ ended t) c.deref.ensures),
-  attributes-rest c.args.names.now c.args.attrs.now c.loop-attr.attr-index c.attr-item.result c.loop-attr-test.true c.attr-item.is c.loop-attr.invariant.1,
-)
+loop-attr-preserved c =
+    two_added c.loop-attr.words.items _ _ _ (attributes_bytes (text_of c.args.names.now) (drop c.loop-attr.attr-index c.args.attrs.now)) (ended (text_of c.args.names.now c.attr-item.result.name)) _
+    (attributes_bytes (text_of c.args.names.now) (drop (c.loop-attr.attr-index + 1) c.args.attrs.now)) c.loop-attr.invariant
+    (next_attribute (text_of c.args.names.now) c.args.attrs.now c.loop-attr.attr-index c.attr-item.result c.loop-attr-test.true c.attr-item.is)
+    (c.in_ok-push_word.ensures ∙ ap (λ t. c.loop-attr.words.items ++ ended t) c.text.ensures.text)
+    (c.in_ok-push_word-2.ensures ∙ ap (λ t. c.push_word.new.words.items ++ ended t) c.deref.ensures)
 
 pub returns : goal.returns
 returns c =
-    all_added c.loop-attr.words.items _ _ c.loop-attr.invariant.0 (ap (attributes_bytes (text_of c.args.names.now)) (drop_all _ _ c.loop-attr-test.false))
+    all_added c.loop-attr.words.items _ _ c.loop-attr.invariant (ap (attributes_bytes (text_of c.args.names.now)) (drop_all _ _ c.loop-attr-test.false))

@@ -1,12 +1,9 @@
-use Rattle.std.proofs.Common.{◌≡◌, ◌++◌, map, drop}
+use Rattle.std.proofs.Common.{◌≡◌, ◌++◌, drop}
 use Rattle.names.specs.Names.{text_of}
-use Rattle.hnodes.specs.Named.{AttributesAreOf}
-use Rattle.hnodes.specs.Rows.{attribute_of}
 use Rattle.html_c.proofs.Words.{attributes_bytes}
 use Rattle.html_c.proofs.rows.push_attributes.Given as goal
 
 -- the words so far and those to come are all of them
 abbrev pub invariant-loop-attr : goal.invariant-loop-attr
 invariant-loop-attr l =
-    (l.words.items ++ attributes_bytes (text_of l.names) (drop l.attr-index l.attrs) ≡ l.initial.words.items ++ attributes_bytes (text_of l.names) l.attrs)
-    × AttributesAreOf l.names (map attribute_of (drop l.attr-index l.attrs))
+    l.words.items ++ attributes_bytes (text_of l.names) (drop l.attr-index l.attrs) ≡ l.initial.words.items ++ attributes_bytes (text_of l.names) l.attrs

@@ -7,12 +7,6 @@ use Rattle.html_c.proofs.tree.rows_of.Goals as goal
 pub returns-in_err-parsed : goal.returns-in_err-parsed
 returns-in_err-parsed c = fails c.from_residual.result c.in_err-parsed.field-0.0 _ _ c.from_residual.ensures.1 c.in_err-parsed.ensures
 
-pub rows_in-rows-requires-clause-made : goal.rows_in-rows-requires-clause-made
-rows_in-rows-requires-clause-made c = c.in_ok-parsed.ensures.answers.1.made
-
-pub rows_in-rows-requires-clause-names : goal.rows_in-rows-requires-clause-names
-rows_in-rows-requires-clause-names c = c.in_ok-parsed.ensures.answers.1.names_are
-
 pub returns-in_err-rows : goal.returns-in_err-rows
 returns-in_err-rows c =
     fails c.from_residual-in_err-rows.result (fault.Refused c.in_err-rows.field-0.0) _ _ c.from_residual-in_err-rows.ensures.1

@@ -1,5 +1,5 @@
-use Rattle.std.proofs.Common.{◌≡◌, ℕ, ◌+◌, List, ◌++◌, drop, sym, ap, subst, ◌∙◌}
-use Rattle.std.proofs.lemmas.Option.{slice_get_within}
+use Rattle.std.proofs.Common.{◌≡◌, ℕ, ◌+◌, List, [], ◌++◌, drop, sym, ap, subst, ◌∙◌}
+use Rattle.std.proofs.lemmas.Option.{get_or_from_slice_get}
 use Rattle.hserialize.specs.Output.{taken}
 use Rattle.hserialize.proofs.Output.{none_put, part_put, part_failed, last_put, passed_on}
 use Rattle.hwrite.specs.Draft.{Fills}
@@ -9,12 +9,6 @@ use Rattle.hwrite.proofs.filling.put_filled.Goals as goal
 
 pub loop-name-init : goal.loop-name-init
 loop-name-init g c = λ bytes fills. (bytes, fills, none_put _ bytes)
-
-pub text-requires : goal.text-requires
-text-requires g c =
-    let left = c.loop-name.invariant c.requires.0 c.requires.1 in
-    let at = next_hole c.args.names.now c.loop-name.rest.now c.args.holes.now left.0 c.loop-name.name-index c.name-item.result c.loop-name-test.true c.name-item.is left.1 in
-    slice_get_within _ _ _ at.of
 
 pub returns-in_err-put : goal.returns-in_err-put
 returns-in_err-put g c = λ bytes fills.
@@ -28,8 +22,7 @@ returns-in_err-put_quoted g c = λ bytes fills.
     let left = c.loop-name.invariant bytes fills in
     let at = next_hole c.args.names.now c.loop-name.rest.now c.args.holes.now left.0 c.loop-name.name-index c.name-item.result c.loop-name-test.true c.name-item.is left.1 in
     let parted = at.bytes_are ∙ ap (λ (l : List ℕ). l ++ (quoted at.name ++ at.rest)) (sym c.around_hole.ensures.before) in
-    let found = sym at.of ∙ c.text.ensures.text in
-    let same : at.name ≡ c.text.result.now = cc in
+    let same : at.name ≡ c.text.result.now = sym (c.text.ensures.text ∙ get_or_from_slice_get c.args.names.now c.name-item.result at.name [] at.of) in
     passed_on _ _ _ _ c.from_residual-in_err-put_quoted.ensures.1
     (part_failed _ _ _ _ _ (quoted c.text.result.now) at.rest (part_put _ _ _ _ _ _ (quoted at.name ++ at.rest) left.2 parted c.in_ok-put.ensures) (ap (λ (n : List ℕ). quoted n ++ at.rest) same)
     c.in_err-put_quoted.ensures)
@@ -39,8 +32,7 @@ loop-name-preserved g c = λ bytes fills.
     let left = c.loop-name.invariant bytes fills in
     let at = next_hole c.args.names.now c.loop-name.rest.now c.args.holes.now left.0 c.loop-name.name-index c.name-item.result c.loop-name-test.true c.name-item.is left.1 in
     let parted = at.bytes_are ∙ ap (λ (l : List ℕ). l ++ (quoted at.name ++ at.rest)) (sym c.around_hole.ensures.before) in
-    let found = sym at.of ∙ c.text.ensures.text in
-    let same : at.name ≡ c.text.result.now = cc in (
+    let same : at.name ≡ c.text.result.now = sym (c.text.ensures.text ∙ get_or_from_slice_get c.args.names.now c.name-item.result at.name [] at.of) in (
       at.rest,
       subst (λ (t : List ℕ). Fills c.args.names.now t (drop (c.loop-name.name-index + 1) c.args.holes.now) at.rest) (sym c.around_hole.ensures.after) at.fills,
       part_put _ _ _ _ _ (quoted c.text.result.now) at.rest (part_put _ _ _ _ _ _ (quoted at.name ++ at.rest) left.2 parted c.in_ok-put.ensures) (ap (λ (n : List ℕ). quoted n ++ at.rest) same)
