@@ -1,5 +1,6 @@
 -- Plain trees come back, where what is written of them is read as their own tokens.
-use Rattle.hlaws.proofs.Names.{◌≡◌, ℕ, ◌+◌, Bool, true, false, List, [], ◌∷◌, ◌++◌, map, Some, refl, sym, ◌∙◌, ap, subst, arith, ◌⊎◌, inl, inr, ne_eqb, false≢true, Forest, none, tree, size, children_of, join-none, raw_kind, tag_named, tag_text, Tag, Tok, texts, Goes, Mode, InBody, InCaption, InCell, InTable, InTableBody, InRow, fragment_begins, rule_of, perform, PlacedToken, State, eof, Done, Rule, begun, ends, Step, goes, Steps, and, Content, Escaping, IsQuiet, Builds, fits_mode, fits_current, is_flow_mode, numbered, AreTexts, AreRead, PlainTokens, ParseOptions, is_context, placed, taken, row, texts_in, Inside, are_content, are_content_if, in_context_of, is_form, tokens_of}
+use Rattle.hlaws.proofs.Names.{◌≡◌, ℕ, ◌+◌, Bool, true, false, List, [], ◌∷◌, ◌++◌, map, Some, refl, sym, ◌∙◌, ap, subst, arith, ◌⊎◌, inl, inr, ne_eqb, false≢true, Forest, none, tree, size, children_of, join-none, raw_kind, tag_named, tag_text, Tag, Tok, texts, Goes, Mode, InBody, InCaption, InCell, InTable, InTableBody, InRow, fragment_begins, rule_of, perform, PlacedToken, State, eof, Done, Rule, begun, ends, Step, goes, Steps, and, Content, Escaping, Builds, fits_mode, fits_current, is_flow_mode, numbered, AreTexts, AreRead, PlainTokens, ParseOptions, is_context, placed, taken, row, texts_in, Inside, are_content, are_content_if, in_context_of, is_form, tokens_of}
+use Rattle.hlaws.specs.Building.{IsQuiet}
 use Rattle.names.specs.declared.tag.Tag.TheVariants as tag
 use Rattle.hadopt.specs.Site.{stack}
 use Rattle.hmodes.specs.Erased.{erased, node}

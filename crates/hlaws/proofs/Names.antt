@@ -8,7 +8,7 @@ pub use Rattle.hcuts.proofs.OneCut.{one_list_of_tokens, no_tokens_of_refused, on
 pub use Rattle.hcuts.proofs.SomeCut.{some_answer}
 pub use Rattle.hcuts.specs.SomeCut.{HasAnswer, gives, refuses}
 pub use Rattle.hformat.specs.Formatting.{Listed, marker, entry, entry_of, find_entry, without_entry, cleared, EntryOf, with_room}
-pub use Rattle.hlaws.specs.Building.{IsQuiet, Builds, fits_mode, fits_current, is_flow_mode, numbered, is_list, is_dl, takes_space, under, EntriesOpen, Thinned, same, kept, lost, EntriesLower}
+pub use Rattle.hlaws.specs.Building.{Builds, fits_mode, fits_current, is_flow_mode, numbered, is_list, is_dl, takes_space, under, EntriesOpen, Thinned, same, kept, lost, EntriesLower}
 pub use Rattle.hlaws.specs.ComesBack.{text_of, AreTexts, AreRead, PlainTokens}
 pub use Rattle.hlaws.specs.OneAnswer.{ExactlyOne}
 pub use Rattle.hlaws.specs.PlainTokens.{tokens_of}
@@ -20,7 +20,7 @@ pub use Rattle.hmodes.specs.Programs.{void, raw}
 pub use Rattle.hmodes.specs.Reset.{open_mode, reset_mode}
 pub use Rattle.hmodes.specs.Rules.{rule_of}
 pub use Rattle.hmodes.specs.State.{State, PlacedToken, eof, Done, Token, start, end, character, Control, kind_of, comment}
-pub use Rattle.hmodes.specs.Step.{Steps, Rule, begun, Chain, ends, Step, goes, and, goes_again}
+pub use Rattle.hmodes.specs.Step.{Steps, Rule, begun, ends, Step, goes, and, goes_again}
 pub use Rattle.hmodes.specs.declared.family.Family.{Family}
 pub use Rattle.hmodes.specs.declared.mode.Mode.{Mode}
 pub use Rattle.hmodes.specs.declared.mode.Mode.TheVariants.{InBody, InCaption, InCell, InTable, InTableBody, InRow, InColumnGroup, Text, InTableText}

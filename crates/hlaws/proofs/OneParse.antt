@@ -79,9 +79,9 @@ module _ (opts : ParseOptions) (parse_case : ParseCase) (bytes : List ℕ) where
   at-end {tokens} {errors} whole read = subst (λ (n : ℕ). Tokens opts.table kind text n tokens errors) (sym (all-read (policy opts parse_case) bytes whole)) read
 
   -- the rules refuse tokens of the spans at the front of the text
-  pub rules-refuse : (tokens others : List Tok) (spans : List Span) (rest : List Placed) (r : Refusal) → text ≡ spans_text spans ++ rest → Cut opts.table end (at_start kind) spans rest → has_refused (tokens_of spans) ≡ false
+  pub refused-front : (tokens others : List Tok) (spans : List Span) (rest : List Placed) (r : Refusal) → text ≡ spans_text spans ++ rest → Cut opts.table end (at_start kind) spans rest → has_refused (tokens_of spans) ≡ false
       → tokens ++ others ≡ tokens_of spans ++ eof_of end rest → Leads tokens (Refused r) → Parses opts parse_case bytes (Err r)
-  rules-refuse tokens others spans rest r text_is cut in_profile front_is steps =
+  refused-front tokens others spans rest r text_is cut in_profile front_is steps =
       let front : AreFront opts.table kind text end (map Gives tokens) = record {
         spans = spans;
         rest = rest;
@@ -124,7 +124,7 @@ module _ (opts : ParseOptions) (parse_case : ParseCase) (bytes : List ℕ) where
     exactly-refused : (o : Outcome (State (List ℕ))) × Leads tokens o → ExactlyOne (Parses opts parse_case bytes)
     exactly-refused (Goes state, steps) = only-refused (Err (OutOfProfile name at)) (refused_tag name at tokens state out steps)
     exactly-refused (Refused r, steps) =
-        only-refused (Err r) (rules-refuse tokens (eof_of end out.rest) out.spans out.rest r out.text_is out.cut out.in_profile (ap (λ (ts : List Tok). ts ++ eof_of end out.rest) out.tokens_are) steps)
+        only-refused (Err r) (refused-front tokens (eof_of end out.rest) out.spans out.rest r out.text_is out.cut out.in_profile (ap (λ (ts : List Tok). ts ++ eof_of end out.rest) out.tokens_are) steps)
 
   -- the text has tokens
   module _ (tokens : List Tok) (errors : List ParseError) (read : Tokens opts.table kind text end tokens errors) where
@@ -178,7 +178,7 @@ module _ (opts : ParseOptions) (parse_case : ParseCase) (bytes : List ℕ) where
 
     exactly-tokens : (o : Outcome (State (List ℕ))) × Leads tokens o → ExactlyOne (Parses opts parse_case bytes)
     exactly-tokens (Refused r, steps) =
-        only-tokens (Err r) (rules-refuse tokens [] read.spans [] r (read.text_is ∙ sym (append-nil (spans_text read.spans))) read.cut read.in_profile (append-nil tokens ∙ read.tokens_are) steps)
+        only-tokens (Err r) (refused-front tokens [] read.spans [] r (read.text_is ∙ sym (append-nil (spans_text read.spans))) read.cut read.in_profile (append-nil tokens ∙ read.tokens_are) steps)
     exactly-tokens (Goes state, steps) = by (refusal_of (policy opts parse_case) bytes) refl
       where
         by : (r : Option Refusal) → refusal_of (policy opts parse_case) bytes ≡ r → ExactlyOne (Parses opts parse_case bytes)

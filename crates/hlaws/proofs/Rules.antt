@@ -1,5 +1,6 @@
 -- What the rules do with the tokens of plain elements, where the state is quiet.
-use Rattle.hlaws.proofs.Names.{◌≡◌, ℕ, suc, ◌+◌, ◌<◌, Bool, true, false, List, [], ◌∷◌, ◌++◌, length, map, Some, None, refl, sym, ◌∙◌, ap, eq-eqb, lt-leb, false≢true, list_all, nat_le, encode_utf8, ◌==◌, Attribute, element, text, Forest, none, tree, times, join, graft_last, text_before, LastIn, OpenNode, in_scope, stops, stops_item, Listed, marker, entry, entry_of, find_entry, without_entry, cleared, Placed, is_space, has_implied_end, is_heading, Naming, Outcome, Goes, is, is_table_context, is_body_context, is_row_context, is_fostering, Family, Mode, InBody, InCaption, InCell, Text, InTable, InTableText, InTableBody, InRow, InColumnGroup, Comment, Start, End, void, raw, family_of, void_in_text, rule_of, reset_mode, perform, Token, start, end, character, Control, State, Done, kind_of, Rule, Chain, goes_again, begun, is_flow_mode, under, EntriesOpen}
+use Rattle.hlaws.proofs.Names.{◌≡◌, ℕ, suc, ◌+◌, ◌<◌, Bool, true, false, List, [], ◌∷◌, ◌++◌, length, map, Some, None, refl, sym, ◌∙◌, ap, eq-eqb, lt-leb, false≢true, list_all, nat_le, encode_utf8, ◌==◌, Attribute, element, text, Forest, none, tree, times, join, graft_last, text_before, LastIn, OpenNode, in_scope, stops, stops_item, Listed, marker, entry, entry_of, find_entry, without_entry, cleared, Placed, is_space, has_implied_end, is_heading, Naming, Outcome, Goes, is, is_table_context, is_body_context, is_row_context, is_fostering, Family, Mode, InBody, InCaption, InCell, Text, InTable, InTableText, InTableBody, InRow, InColumnGroup, Comment, Start, End, void, raw, family_of, void_in_text, rule_of, reset_mode, perform, Token, start, end, character, Control, State, Done, kind_of, Rule, goes_again, begun, is_flow_mode, under, EntriesOpen}
+use Rattle.hmodes.specs.Step.{Chain}
 use Rattle.std.proofs.lemmas.List.{append-nil, append_assoc}
 use Rattle.std.specs.Str.{encode_utf8_all}
 use Rattle.hnodes.specs.Edits.{with_char}

@@ -80,16 +80,21 @@ no_text_among which (inr (inl e)) = ap (λ (x : Texts). is_among_texts x []) e
 no_text_among which (inr (inr e)) = ap (λ (x : Texts). is_among_texts x []) e
 
 -- only texts are there
-only_text : (inside : Inside) (w : What (List ℕ)) (kids rest : Forest (List ℕ)) → holds_text inside.content ≡ true → is_plain_node inside w kids rest ≡ true → begins_with_text (tree 0 w kids rest) ≡ true
-only_text inside (forest.element name attrs) kids rest h p =
+only_text : (m : ℕ) (inside : Inside) (w : What (List ℕ)) (kids rest : Forest (List ℕ)) → holds_text inside.content ≡ true → is_plain_node inside w kids rest ≡ true → begins_with_text (tree m w kids rest) ≡ true
+only_text m inside (forest.element name attrs) kids rest h p =
     let a = and_parts ((takes_role inside.content (row (tag_named name)).0 && not (is_nested inside (tag_named name))) && are_plain_attributes attrs) (not (drops_line_feed (tag_named name) && begins_with_line_feed kids)) p in
     let b = and_parts (takes_role inside.content (row (tag_named name)).0 && not (is_nested inside (tag_named name))) _ a.0 in
     let c : takes_role inside.content (row (tag_named name)).0 ≡ true = (and_parts (takes_role inside.content (row (tag_named name)).0) _ b.0).0 in
     absurd (let x = no_role inside.content (row (tag_named name)).0 h in cc)
-only_text inside (forest.text t) kids rest h p = refl
-only_text inside (forest.comment t) kids rest h p = absurd (let x = no_comment inside.content h in let y = (and_parts (takes_comments inside.content) (is_plain_comment t) p).0 in cc)
-only_text inside forest.document kids rest h p = absurd (false≢true p)
-only_text inside (forest.doctype n s i) kids rest h p = absurd (false≢true p)
+only_text m inside (forest.text t) kids rest h p = refl
+only_text m inside (forest.comment t) kids rest h p = absurd (let x = no_comment inside.content h in let y = (and_parts (takes_comments inside.content) (is_plain_comment t) p).0 in cc)
+only_text m inside forest.document kids rest h p = absurd (false≢true p)
+only_text m inside (forest.doctype n s i) kids rest h p = absurd (false≢true p)
+
+begins_so : (m : ℕ) (inside : Inside) (w : What (List ℕ)) (kids rest : Forest (List ℕ)) → holds_text inside.content ≡ true → are_content inside (tree m w kids rest) ≡ true → begins_with_text (tree m w kids rest) ≡ true
+begins_so m inside w kids rest h p =
+    let a = and_parts (is_plain_node inside w kids rest && are_content (inside_node w inside) kids) (are_content inside rest) p in
+    only_text m inside w kids rest h (and_parts (is_plain_node inside w kids rest) _ a.0).0
 
 one_text : (how : Escaping) (inside : Inside) (l : Forest (List ℕ)) → holds_text inside.content ≡ true → (inside.texts ≡ allowed.Any) ⊎ ((inside.texts ≡ allowed.Raw) ⊎ (inside.texts ≡ allowed.Script)) → AreTexts l → are_content inside l ≡ true → OneText how inside.texts l
 one_text how inside none h which u p = record {
@@ -119,24 +124,9 @@ one_text how inside (tree n (forest.text t) kids (tree m w ks rest)) h which u p
     let a = and_parts (is_plain_node inside (forest.text t) kids (tree m w ks rest) && are_content (inside_node (forest.text t) inside) kids) (are_content inside (tree m w ks rest)) p in
     let b = and_parts (is_plain_text inside.texts t && not (begins_with_text (tree m w ks rest))) _ a.0 in
     let c = not-true _ (and_parts (is_plain_text inside.texts t) _ b.0).1 in
-    let d = and_parts (is_plain_node inside w ks rest && are_content (inside_node w inside) ks) _ a.1 in
-    absurd (is_text w (only_text inside w ks rest h (and_parts (is_plain_node inside w ks rest) _ d.0).0) c)
-  where
-    is_text : (w : What (List ℕ)) → begins_with_text (tree 0 w ks rest) ≡ true → begins_with_text (tree m w ks rest) ≡ false → ⊥
-    is_text (forest.text s) e f = cc
-    is_text (forest.element name attrs) e f = cc
-    is_text (forest.comment s) e f = cc
-    is_text forest.document e f = cc
-    is_text (forest.doctype a b d) e f = cc
-one_text how inside (tree n (forest.element name attrs) kids rest) h which u p = absurd (not_text inside (forest.element name attrs) kids rest h p refl)
-  where
-    not_text : (inside : Inside) (w : What (List ℕ)) (kids rest : Forest (List ℕ)) → holds_text inside.content ≡ true → are_content inside (tree n w kids rest) ≡ true → begins_with_text (tree 0 w kids rest) ≡ false → ⊥
-    not_text inside w kids rest h p e =
-        let a = and_parts (is_plain_node inside w kids rest && are_content (inside_node w inside) kids) (are_content inside rest) p in
-        let x = only_text inside w kids rest h (and_parts (is_plain_node inside w kids rest) _ a.0).0 in cc
-one_text how inside (tree n (forest.comment t) kids rest) h which u p =
-    absurd (let a = and_parts (is_plain_node inside (forest.comment t) kids rest && are_content (inside_node (forest.comment t) inside) kids) (are_content inside rest) p in
-    let x = only_text inside (forest.comment t) kids rest h (and_parts (is_plain_node inside (forest.comment t) kids rest) _ a.0).0 in cc)
+    absurd (false≢true (sym c ∙ begins_so m inside w ks rest h a.1))
+one_text how inside (tree n (forest.element name attrs) kids rest) h which u p = absurd (false≢true (begins_so n inside (forest.element name attrs) kids rest h p))
+one_text how inside (tree n (forest.comment t) kids rest) h which u p = absurd (false≢true (begins_so n inside (forest.comment t) kids rest h p))
 one_text how inside (tree n forest.document kids rest) h which u p = absurd (false≢true p)
 one_text how inside (tree n (forest.doctype a b d) kids rest) h which u p = absurd (false≢true p)
 

@@ -1,5 +1,5 @@
 -- Settled spans are the first of each text that begins so, whether it is refused or not.
-use Rattle.hlaws.proofs.Names.{◌≡◌, ℕ, true, false, List, [], ◌∷◌, ◌++◌, map, sym, refl, ap, ◌∙◌, subst, append_assoc, append-nil, map-append, flat_map-append, ParseError, Placed, RawKind, character_of, read_len, Entities, Tok, Span, Eof, Gives, Standing, at_start, next, standing_after, start_kind, IsSpan, spans_text, Cut, has_refused, Tokens, AreFront, eof_of, texts, Refused, Steps, text_in, manner, policy, start_of, accepted, refused_token, refused_tag, placed}
+use Rattle.hlaws.proofs.Names.{◌≡◌, ℕ, true, false, List, [], ◌∷◌, ◌++◌, map, sym, refl, ap, ◌∙◌, subst, append_assoc, append-nil, map-append, flat_map-append, ParseError, Placed, RawKind, character_of, read_len, Entities, Tok, Span, Eof, Standing, at_start, next, standing_after, start_kind, IsSpan, spans_text, Cut, has_refused, Tokens, eof_of, text_in, manner, policy, start_of, accepted, refused_tag}
 use Rattle.htext.proofs.Texts.{goes_on}
 use Rattle.htoken.specs.Tokens.{tokens_of}
 use Rattle.htoken.proofs.Cutting.{spans_text-snoc}
@@ -14,7 +14,7 @@ use Rattle.hparse.specs.Unrefused.{AreSettledIn, settled_text}
 use Rattle.hparse.proofs.Unrefused.{leads_on}
 use Rattle.hlaws.specs.Unrefused.{FrontsOfAnswered, FrontsOfParsed, RulesRefuse, ProfileRefuses}
 use Rattle.hlaws.proofs.OneInput.{never-both}
-use Rattle.hlaws.proofs.OneParse.{rules-refuse}
+use Rattle.hlaws.proofs.OneParse.{refused-front}
 
 -- the text of more bytes
 later : (m : Manner) (bytes more : List ℕ) → (after : List Placed) × (text_in m (bytes ++ more) ≡ settled_text m bytes ++ after)
@@ -70,7 +70,7 @@ rules_refuse opts parse_case bytes spans refusal s (in_profile, steps) more =
     let l = later m bytes more in
     let rest : List Placed = s.rest ++ l.0 in
     let end : ℕ = read_len (policy opts parse_case) (bytes ++ more) in
-    rules-refuse opts parse_case (bytes ++ more) (tokens_of spans) (eof_of end rest) spans rest refusal
+    refused-front opts parse_case (bytes ++ more) (tokens_of spans) (eof_of end rest) spans rest refusal
     (l.1 ∙ ap (λ (x : List Placed). x ++ l.0) s.text_is ∙ append_assoc (spans_text spans) s.rest l.0) (s.cut end l.0) in_profile refl steps
 
 -- the last span of a cut
