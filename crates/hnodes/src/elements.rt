@@ -1,18 +1,20 @@
 //! Questions on elements by names and their texts, and walks that pass over all other nodes.
 
-ghost use Rattle.std.specs.Prelude.{◌≡◌, ◌<◌, ◌↔◌, ℕ, Some, false, nat_eq, IfSome, IsTrue, OnOk, OnErr};
+ghost use Rattle.std.specs.Prelude.{◌≡◌, ◌<◌, ◌↔◌, ℕ, [], Some, false, map, nat_eq, slice_get, unwrap_or, IfSome, IsTrue, OnOk, OnErr};
 ghost use Rattle.std.specs.List.{All};
 ghost use Rattle.std.specs.Option.{option_map, option_map_or};
 ghost use Rattle.hnodes.specs.Edits.{AreNodes};
 ghost use Rattle.hnodes.specs.Elements.{elements_among, is_element, stands_for};
 ghost use Rattle.hnodes.specs.Forest.{roots, children_of};
 ghost use Rattle.hnodes.specs.Passed.{siblings_from};
-ghost use Rattle.hnodes.specs.Spots.{name_of, value_of};
+ghost use Rattle.hnodes.specs.Spelled.{spelled_attribute};
+ghost use Rattle.hnodes.specs.Spots.{attributes_of, kind_of, name_of, value_of};
+ghost use Rattle.names.specs.Names.{text_of};
 ghost use Rattle.names.specs.Tags.{tag_of};
 
-use crate::node::NodeId;
+use crate::node::{NodeId, NodeKind};
 use crate::tree::Tree;
-use names::{NameId, Names, Tag};
+use names::{Attr, NameId, Names, Tag};
 use std::marker::Model;
 
 impl Tree {
@@ -49,6 +51,24 @@ impl Tree {
         self.attr(at, names.find(name)?)
     }
 
+    /// The attributes of an element, each as the texts of its name and its value, in their order; none for another node. The table
+    /// is that of the tree's names.
+    pub fn attributes<'a>(&'a self, names: &'a Names, at: NodeId) -> AttributeTexts<'a>
+        requires { at < self.now.made }
+        ensures { result ≡ map (spelled_attribute (text_of names.now)) (unwrap_or (attributes_of at self.now.trees) []) }
+    {
+        let attrs = self.attrs(at).unwrap_or(&[]);
+        AttributeTexts { names, attrs }
+    }
+
+    /// Whether a node is a text.
+    pub fn is_text(&self, at: NodeId) -> bool
+        requires { at < self.now.made }
+        ensures { IsTrue result ↔ (kind_of at self.now.trees ≡ Some NodeKind.Text) }
+    {
+        self.kind(at) == NodeKind::Text
+    }
+
     /// Whether a node is an element whose name has this text. [`Tree::is`] asks for a known name, in less time.
     pub fn is_element(&self, names: &Names, at: NodeId, name: &str) -> bool
         requires { at < self.now.made }
@@ -69,6 +89,17 @@ impl Tree {
     {
         let next = self.element_from(self.first_child(at));
         ChildElements { tree: self, next }
+    }
+
+    /// The first child of a node that is an element.
+    pub fn first_element_child(&self, at: NodeId) -> Option<NodeId>
+        requires { at < self.now.made }
+        ensures child { result ≡ slice_get (elements_among (roots (children_of at self.now.trees)) self.now.trees) 0 }
+        ensures within { IfSome result (λ n. n < self.now.made) }
+        ensures nodes { AreNodes self.now }
+    {
+        let first = self.first_child(at);
+        self.element_from(first)
     }
 
     /// The first element among a node and the siblings after it.
@@ -122,5 +153,40 @@ impl<'a> Iterator for ChildElements<'a> {
         let node = self.next?;
         self.next = self.tree.element_from(self.tree.next(node));
         Some(node)
+    }
+}
+
+/// The attributes of an element as texts of names and values, in their order. From [`Tree::attributes`].
+#[derive(Drop)]
+pub struct AttributeTexts<'a> {
+    names: &'a Names,
+    attrs: &'a [Attr],
+}
+
+impl<'a> Model for AttributeTexts<'a> {
+    ghost use Rattle.std.specs.Prelude.{ℕ, List, map};
+    ghost use Rattle.hnodes.specs.Forest.{Attribute};
+    ghost use Rattle.hnodes.specs.Rows.{attribute_of};
+    ghost use Rattle.hnodes.specs.Spelled.{spelled_attribute};
+    ghost use Rattle.names.specs.Names.{text_of};
+
+    ghost Value = { List (Attribute (List ℕ)) };
+
+    ghost view = { λ s. map (spelled_attribute (text_of s.names.now)) (map attribute_of s.attrs.now) };
+}
+
+impl<'a> Iterator for AttributeTexts<'a> {
+    ghost use Rattle.std.specs.Iterator.{YieldsFirstBy, item_count};
+
+    type Item = (&'a str, &'a str);
+
+    ghost next_gives = { YieldsFirstBy (λ texts. (texts.0.now, texts.1.now)) (λ s. s) };
+
+    ghost remaining = { item_count (λ s. s) };
+
+    fn next(&mut self) -> Option<(&'a str, &'a str)> {
+        let (attr, rest) = self.attrs.split_first()?;
+        self.attrs = rest;
+        Some((self.names.text(attr.name), &attr.value))
     }
 }

@@ -471,7 +471,7 @@ impl Tree {
         self.nodes[at.number as usize].last.get()
     }
 
-    /// The sibling after a node.
+    /// The sibling after a node, which is `next_sibling` elsewhere.
     pub fn next(&self, at: NodeId) -> Option<NodeId>
         requires { at < self.now.made }
         ensures sibling { result ≡ next_of at self.now.trees }
@@ -481,7 +481,7 @@ impl Tree {
         self.nodes[at.number as usize].next.get()
     }
 
-    /// The sibling before a node.
+    /// The sibling before a node, which is `previous_sibling` elsewhere.
     pub fn previous(&self, at: NodeId) -> Option<NodeId>
         requires { at < self.now.made }
         ensures sibling { result ≡ previous_of at self.now.trees }

@@ -33,12 +33,12 @@ impl Tree {
     /// The children of a node, in their order.
     pub fn children(&self, at: NodeId) -> Children
         requires { at < self.now.made }
-        ensures { result ≡ roots (children_of at self.now.trees) }
+        ensures order { result ≡ roots (children_of at self.now.trees) }
+        ensures within { All (λ n. n < self.now.made) result }
+        ensures nodes { AreNodes self.now }
     {
-        Children {
-            tree: self,
-            next: self.first_child(at),
-        }
+        let next = self.first_child(at);
+        Children { tree: self, next }
     }
 
     /// The ancestors of a node: its parent, the parent of that, and so on to the root.
