@@ -1,13 +1,8 @@
 -- All that is in a set of known names is special.
-use Rattle.std.proofs.Common.{◌≡◌, Bool, true, false, not, ◌||◌, List, [], ◌∷◌, refl, sym, arith, true≢false}
-use Rattle.std.specs.List.{list_all}
-use Rattle.hopen.specs.NameSets.{is_in_set}
-use Rattle.hopen.specs.declared.name_sets.NameSet.{NameSet}
+use Rattle.hopen.proofs.Names.{◌≡◌, Bool, true, false, not, ◌||◌, List, [], ◌∷◌, refl, sym, arith, true≢false, list_all, is_in_set, NameSet, is_special, Tag}
 use Rattle.hopen.specs.declared.name_sets.NameSet.TheVariants as name_set
 use Rattle.hopen.specs.declared.scope.Scope.TheVariants as scope
 use Rattle.hopen.specs.declared.scope.Group.TheVariants as group
-use Rattle.names.specs.Sets.{is_special}
-use Rattle.names.specs.declared.tag.Tag.{Tag}
 use Rattle.names.specs.declared.tag.Tag.TheVariants.{Other}
 
 -- all sets

@@ -1,14 +1,8 @@
 -- An exchange of two members of a vector in the words on lists whose nearest member is first.
-use Rattle.std.proofs.Common.{◌≡◌, ℕ, suc, ◌+◌, ◌-◌, ◌<◌, ◌≤◌, Bool, true, false, cond, not, List, [], ◌∷◌, ◌++◌, Some, length, map, take, drop, reverse, insert, remove, set, zero, refl, sym, ◌∙◌, ap, arith}
-use Rattle.std.specs.List.{remove_range, position, position_or_len}
-use Rattle.std.proofs.lemmas.Bool.{lt-ltb}
-use Rattle.std.proofs.lemmas.List.{map-append, take-map, drop-map, length-map, length-reverse}
+use Rattle.hopen.proofs.Names.{◌≡◌, ℕ, suc, ◌+◌, ◌-◌, ◌<◌, ◌≤◌, Bool, true, false, cond, not, List, [], ◌∷◌, ◌++◌, Some, length, map, take, drop, reverse, insert, remove, set, zero, refl, sym, ◌∙◌, ap, arith, remove_range, position, lt-ltb, map-append, take-map, drop-map, length-map, length-reverse, without, put_before, opened_by, KeptNode, Open, remove_nearest, insert_nearest}
+use Rattle.std.specs.List.{position_or_len}
 use Rattle.std.proofs.lemmas.List.Edits.{length-remove}
-use Rattle.hchain.specs.Nearest.{without, put_before}
-use Rattle.hopen.specs.Kept.{opened_by}
-use Rattle.hopen.specs.declared.kept.KeptNode.{KeptNode}
-use Rattle.hopen.specs.declared.stack.Open.{Open}
-use Rattle.hchain.proofs.Nearest.{position_is, remove_nearest, insert_nearest}
+use Rattle.hchain.proofs.Nearest.{position_is}
 
 module _ {Y : Type 0} (leaves sought : Y → Bool) where
   -- what is nearer than the one that leaves stays where it is

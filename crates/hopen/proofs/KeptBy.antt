@@ -1,16 +1,6 @@
 -- What each open node keeps of those above it, as nodes come, go, change places and give way.
-use Rattle.std.proofs.Common.{◌≡◌, ℕ, zero, suc, ◌<◌, ◌≤◌, Bool, true, false, cond, not, List, [], ◌∷◌, ◌++◌, length, map, take, get_or, set, refl, sym, ◌∙◌, ap, arith, true≢false}
-use Rattle.std.specs.Prelude.{nat_eq}
-use Rattle.std.proofs.Math.Dec.{eqb-suc-zero}
-use Rattle.std.proofs.lemmas.List.{get_or-map, map-append, map-set, take-map}
-use Rattle.hchain.specs.Chains.{last_up}
-use Rattle.hopen.specs.Kept.{KeepSets, closing, kept_by, must_close_in, name_of, names_in, nearest_in, node_of, nodes_in, swap_with_next}
-use Rattle.hopen.specs.NameSets.{holds, set_node}
-use Rattle.hopen.specs.Stack.{OpenNode}
-use Rattle.hopen.specs.declared.name_sets.NameSet.{NameSet}
-use Rattle.hopen.specs.declared.name_sets.SetNodes.{SetNodes}
-use Rattle.names.specs.Sets.{is_special, may_stay_open}
-use Rattle.names.specs.Tags.{tag_of}
+use Rattle.hopen.proofs.Names.{◌≡◌, ℕ, zero, suc, ◌<◌, ◌≤◌, Bool, true, false, cond, not, List, [], ◌∷◌, ◌++◌, length, map, take, get_or, set, refl, sym, ◌∙◌, ap, arith, true≢false, nat_eq, eqb-suc-zero, get_or-map, map-append, map-set, take-map, last_up, KeepSets, closing, must_close_in, name_of, names_in, nearest_in, node_of, nodes_in, swap_with_next, holds, set_node, OpenNode, NameSet, SetNodes, is_special, may_stay_open, tag_of}
+use Rattle.hopen.specs.Kept.{kept_by}
 use Rattle.hopen.proofs.AllSpecial.{special}
 
 -- what is above an index is in the front up to it

@@ -1,11 +1,8 @@
 -- A table of the places where numbers are last, and what the members of their list keep, as members come, go and change places.
-use Rattle.std.proofs.Common.{◌≡◌, ◌≢◌, ℕ, suc, ◌<◌, ◌≤◌, eqb, Bool, true, false, cond, List, [], ◌∷◌, ◌++◌, length, map, reverse, get_or, set, ◌⊎◌, inl, inr, refl, sym, ◌∙◌, ap, arith, length-append}
-use Rattle.std.proofs.lemmas.Bool.{cases_Bool, cases_lt, eqb-true, eqb-false}
-use Rattle.std.proofs.lemmas.List.{get_or_append_left, get_or_push, get_or-set_same, get_or-set_other, get_or_past, length-map, length-reverse, map-append, reverse-append, reverse-reverse}
-use Rattle.hchain.specs.Chains.{last_up}
-use Rattle.hchain.specs.Places.{last_place, SaysPlaces}
-use Rattle.hchain.proofs.LastUp.{up-sought, up-other, up-alike}
-use Rattle.hopen.specs.Kept.{IsLinked}
+use Rattle.hopen.proofs.Names.{◌≡◌, ◌≢◌, ℕ, suc, ◌<◌, ◌≤◌, eqb, Bool, true, false, cond, List, [], ◌∷◌, ◌++◌, length, map, reverse, get_or, set, ◌⊎◌, inl, inr, refl, sym, ◌∙◌, ap, arith, cases_Bool, cases_lt, eqb-true, eqb-false, get_or-set_same, get_or-set_other, get_or_past, length-map, length-reverse, map-append, reverse-append, reverse-reverse, last_up, last_place, up-sought, up-other, up-alike, IsLinked}
+use Rattle.std.proofs.Common.{length-append}
+use Rattle.std.proofs.lemmas.List.{get_or_append_left, get_or_push}
+use Rattle.hchain.specs.Places.{SaysPlaces}
 
 pub eqb-same : (n : ℕ) → eqb n n ≡ true
 eqb-same n = elim (cases_Bool (eqb n n)) [ inl e ↦ e | inr e ↦ absurd (eqb-false n n e refl) ]

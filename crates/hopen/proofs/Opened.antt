@@ -1,17 +1,7 @@
 -- What is seen of the open nodes after an edit of their vector.
-use Rattle.std.proofs.Common.{◌≡◌, ℕ, suc, ◌+◌, ◌-◌, ◌<◌, ◌≤◌, Bool, List, Option, Some, None, length, drop, map, reverse, refl, sym, ◌∙◌, ap, subst, arith, MatchOption, Result, Ok, Err, true, false, cond, leb}
-use Rattle.std.specs.List.{position}
-use Rattle.std.proofs.lemmas.List.{length-drop, length-map, length-reverse}
-use Rattle.std.proofs.Math.Seq.{drop-length}
-use Rattle.std.specs.Option.{unwrap_or, IfSome}
-use Rattle.hchain.specs.Nearest.{after}
-use Rattle.hchain.proofs.Nearest.{words, no_words}
-use Rattle.hopen.specs.Stack.{OpenNode, OpenNodes}
-use Rattle.hopen.specs.Kept.{opened_by}
-use Rattle.hopen.specs.StackView.{open_nodes_of}
-use Rattle.hopen.specs.declared.kept.KeptNode.{KeptNode}
+use Rattle.hopen.proofs.Names.{◌≡◌, ℕ, suc, ◌+◌, ◌-◌, ◌<◌, ◌≤◌, Bool, List, Option, Some, None, length, drop, map, reverse, refl, sym, ◌∙◌, ap, subst, arith, true, false, cond, leb, position, length-drop, length-map, length-reverse, drop-length, unwrap_or, IfSome, after, words, no_words, OpenNode, OpenNodes, opened_by, open_nodes_of, KeptNode, Inside}
+use Rattle.std.proofs.Common.{MatchOption, Result, Ok, Err}
 use Rattle.std.proofs.lemmas.Bool.{leb-false}
-use Rattle.hopen.specs.declared.stack.OpenStack.TheInside.{Inside}
 
 pub seen : (s : Inside) (n : OpenNodes ℕ) (word : List (OpenNode ℕ) → List (OpenNode ℕ)) (items : List KeptNode) → open_nodes_of s ≡ n → reverse (map opened_by items) ≡ word (reverse (map opened_by s.items.items))
     → ◌≡◌ {A = OpenNodes ℕ} (record { limit = s.limit; stack = reverse (map opened_by items) }) (record { limit = n.limit; stack = word n.stack })

@@ -1,12 +1,6 @@
 -- What is kept of the open nodes where one passes the one right below it.
-use Rattle.std.proofs.Common.{◌≡◌, ◌≢◌, ℕ, suc, ◌+◌, ◌<◌, ◌≤◌, eqb, true, false, cond, List, length, map, get_or, set, ◌⊎◌, inl, inr, refl, sym, ◌∙◌, ap, subst, arith}
-use Rattle.std.proofs.Math.Path.{transport}
-use Rattle.std.proofs.lemmas.Bool.{cases_Bool, cases_lt, eqb-true, eqb-false}
-use Rattle.std.proofs.lemmas.List.{get_or-set_same, get_or-set_other, length-map, length-set}
-use Rattle.hopen.specs.Kept.{IsHeld, IsLinked, KeepSets, CanPass, Stands, name_of, names_in, node_of, nodes_in, opened_by, same_name_of, same_node_of, sets_at, swap_with_next, place_after_swap}
-use Rattle.hopen.specs.Stack.{OpenNode}
-use Rattle.hopen.specs.declared.kept.KeptNode.{KeptNode}
-use Rattle.hopen.specs.declared.kept.LastPlaces.{LastPlaces}
+use Rattle.hopen.proofs.Names.{◌≡◌, ◌≢◌, ℕ, suc, ◌+◌, ◌<◌, ◌≤◌, eqb, true, false, cond, List, length, map, get_or, set, ◌⊎◌, inl, inr, refl, sym, ◌∙◌, ap, subst, arith, transport, cases_Bool, cases_lt, eqb-true, eqb-false, get_or-set_same, get_or-set_other, length-map, length-set, IsHeld, IsLinked, KeepSets, Stands, name_of, names_in, node_of, nodes_in, opened_by, same_name_of, same_node_of, sets_at, swap_with_next, place_after_swap, OpenNode, KeptNode, LastPlaces}
+use Rattle.hopen.specs.Kept.{CanPass}
 use Rattle.hopen.proofs.Projected.{length-nodes}
 use Rattle.hopen.proofs.Swapped.{held-none, linked-swapped, swapped-after, swapped-before, swapped-lower, swapped-map, swapped-upper, moved-other, moved-table, walk-in}
 

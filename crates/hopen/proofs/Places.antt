@@ -1,9 +1,7 @@
 -- A question of scope, and the places of the nodes that it is about.
-use Rattle.std.proofs.Common.{◌≡◌, suc, Bool, true, false, cond, not, ltb, leb, ◌&&◌, ◌||◌, List, [], ◌∷◌, length, refl, arith}
-use Rattle.std.proofs.lemmas.Bool.{lt-ltb, le-leb, lt-leb}
-use Rattle.hchain.specs.Places.{last_place}
-use Rattle.hopen.specs.Stack.{OpenNode, in_scope}
-use Rattle.hchain.proofs.Places.{last_place-le}
+use Rattle.hopen.proofs.Names.{◌≡◌, suc, Bool, true, false, cond, not, leb, ◌&&◌, ◌||◌, List, [], ◌∷◌, length, refl, arith, lt-ltb, last_place, OpenNode, in_scope, last_place-le}
+use Rattle.std.proofs.Common.{ltb}
+use Rattle.std.proofs.lemmas.Bool.{le-leb, lt-leb}
 
 -- one that is sought is in scope where no stop is nearer
 pub in_scope-places : {N : Type 0} (stops sought : OpenNode N → Bool) (xs : List (OpenNode N)) → in_scope stops sought xs ≡ (ltb 0 (last_place sought xs) && leb (last_place stops xs) (last_place sought xs))

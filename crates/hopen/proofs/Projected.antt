@@ -1,10 +1,6 @@
 -- What the items of a vector keep, by index.
-use Rattle.std.proofs.Common.{◌≡◌, ◌≢◌, ℕ, suc, ◌+◌, ◌<◌, List, length, map, get_or, set, sym, ◌∙◌, ap, arith}
-use Rattle.std.proofs.lemmas.List.{length-map, get_or-map, get_or-set_other, map-set}
-use Rattle.std.proofs.Math.Seq.{map-set_same}
+use Rattle.hopen.proofs.Names.{◌≡◌, ◌≢◌, ℕ, suc, ◌+◌, ◌<◌, List, length, map, get_or, set, sym, ◌∙◌, ap, arith, length-map, get_or-map, get_or-set_other, map-set, map-set_same, swap_with_next, name_of, names_in, node_of, nodes_in, opened_by, same_name_of, same_node_of, KeptNode}
 use Rattle.hopen.proofs.Swapped.{swapped-set}
-use Rattle.hopen.specs.Kept.{swap_with_next, name_of, names_in, node_of, nodes_in, opened_by, same_name_of, same_node_of}
-use Rattle.hopen.specs.declared.kept.KeptNode.{KeptNode}
 
 module _ (items : List KeptNode) where
   pub length-names : length (names_in (map opened_by items)) ≡ length items

@@ -1,25 +1,9 @@
 -- The place of the nearest node of a set, by the node that is kept.
-use Rattle.std.proofs.Common.{◌≡◌, ℕ, zero, suc, ◌-◌, ◌<◌, ◌≤◌, true, false, cond, eqb, not, List, ◌∷◌, length, map, get_or, ◌⊎◌, inl, inr, refl, sym, ◌∙◌, ap, arith}
-use Rattle.std.specs.Prelude.{nat_eq}
-use Rattle.std.specs.List.{list_all}
-use Rattle.std.proofs.lemmas.Bool.{cases_Bool, cases_lt, eqb-true}
-use Rattle.std.proofs.lemmas.List.{get_or_default, get_or_past, length-map}
-use Rattle.hchain.specs.Chains.{last_up}
-use Rattle.hchain.specs.Places.{last_place}
-use Rattle.hchain.proofs.LastUp.{up-within, up-found, up-least, up-past}
+use Rattle.hopen.proofs.Names.{◌≡◌, ℕ, zero, suc, ◌-◌, ◌<◌, ◌≤◌, true, false, cond, eqb, not, List, ◌∷◌, length, map, get_or, ◌⊎◌, inl, inr, refl, sym, ◌∙◌, ap, arith, nat_eq, list_all, cases_Bool, cases_lt, eqb-true, get_or_default, get_or_past, length-map, last_up, last_place, up-within, up-found, up-least, up-past, Stands, kept_above, must_close_in, name_of, names_in, nodes_in, opened_by, stack_of, holds, is_in, set_node, KeptNode, LastPlaces, NameSet, SetNodes, may_stay_open, tag_of, eqb-suc-zero}
 use Rattle.hchain.proofs.Places.{all-places}
-use Rattle.hopen.specs.Kept.{Stands, kept_above, must_close_in, name_of, names_in, nodes_in, opened_by, stack_of}
-use Rattle.hopen.specs.NameSets.{holds, is_in, set_node}
-use Rattle.hopen.specs.declared.kept.KeptNode.{KeptNode}
-use Rattle.hopen.specs.declared.kept.LastPlaces.{LastPlaces}
-use Rattle.hopen.specs.declared.name_sets.NameSet.{NameSet}
-use Rattle.hopen.specs.declared.name_sets.SetNodes.{SetNodes}
-use Rattle.names.specs.Sets.{may_stay_open}
-use Rattle.names.specs.Tags.{tag_of}
 use Rattle.hopen.proofs.KeptBy.{kept-closing, kept-nearest, node_at}
 use Rattle.hopen.proofs.Linked.{eqb-same, place-up}
 use Rattle.hopen.proofs.Projected.{length-names, length-nodes, same_node-at}
-use Rattle.std.proofs.Math.Dec.{eqb-suc-zero}
 
 module _ (last : LastPlaces) (items : List KeptNode) (s : Stands last items) where
   abbrev pub ns : List ℕ

@@ -1,16 +1,12 @@
 -- The open nodes under other names.
-use Rattle.std.proofs.Common.{◌≡◌, ℕ, Bool, true, false, cond, not, ◌&&◌, ◌||◌, List, [], ◌∷◌, Option, Some, None, refl, ◌∙◌, ap}
+use Rattle.hopen.proofs.Names.{◌≡◌, ℕ, Bool, true, false, cond, not, ◌&&◌, ◌||◌, List, [], ◌∷◌, Option, Some, None, refl, ◌∙◌, ap, option_map, option_or, slice_get-map, find-map, OpenNode, is_node, current, in_scope, topmost_special, furthest_block, is_named, Tag, is_special}
 use Rattle.std.specs.Prelude.{if◌then◌else◌, slice_get, drop, reverse}
-use Rattle.std.specs.Option.{option_map, option_or}
-use Rattle.std.proofs.lemmas.Option.{slice_get-map}
-use Rattle.hchain.proofs.Images.{before-map, after-map, without-map, changed-map, put_before-map, find-map, any-map, position-map}
+use Rattle.hchain.proofs.Images.{before-map, after-map, without-map, changed-map, put_before-map, any-map, position-map}
 use Rattle.hchain.proofs.Nearest.{reverse-map}
-use Rattle.hopen.specs.Stack.{OpenNode, is_node, current, below, in_scope, topmost_special, furthest_block}
-use Rattle.hopen.specs.Scopes.{stops_in, is_named, is_of, is_of_group}
+use Rattle.hopen.specs.Stack.{below}
+use Rattle.hopen.specs.Scopes.{stops_in, is_of, is_of_group}
 use Rattle.hopen.specs.Spelled.{spelled_open, spelled_stack, StackKnowsNoNames}
 use Rattle.hopen.specs.declared.scope.Scope.TheVariants.{Default}
-use Rattle.names.specs.declared.tag.Tag.{Tag}
-use Rattle.names.specs.Sets.{is_special}
 use Rattle.names.specs.Spelling.{IsSpelling}
 
 module _ {N M : Type 0} (tag : N → Tag) (tag' : M → Tag) (same : N → N → Bool) (same' : M → M → Bool) (g : N → M) (s : IsSpelling tag tag' same same' g) where

@@ -1,25 +1,14 @@
 -- The kept places under each change of the items.
-use Rattle.std.proofs.Common.{◌≡◌, ℕ, zero, suc, ◌+◌, ◌-◌, add-one, ◌<◌, ◌≤◌, List, [], ◌∷◌, ◌++◌, length, map, take, drop, get_or, set, refl, sym, ◌∙◌, ap, subst, arith}
-use Rattle.std.proofs.Math.Path.{transport}
-use Rattle.std.proofs.lemmas.List.{get_or_default, drop-set, drop-drop, drop_at, length-take-le, length-reverse, length-map, length-set, map-append, take-map, drop-map, map-set, get_or-map}
-use Rattle.std.proofs.Math.Seq.{map-set_same, take-append_seam}
-use Rattle.std.specs.List.{remove_range}
-use Rattle.hopen.specs.Kept.{AreAlike, AreIn, CanGiveWay, IsLinked, KeepSets, KeepsFrom, Stands, StandsAs, closing, kept_above, must_close_in, name_of, names_in, nearest_in, node_of, nodes_in, opened_by, same_name_of, same_node_of, sets_at, stack_of}
-use Rattle.hopen.specs.Stack.{OpenNode, OpenNodes}
-use Rattle.hopen.specs.StackView.{open_nodes_of}
-use Rattle.hopen.specs.declared.stack.OpenStack.TheInside.{Inside}
-use Rattle.hopen.specs.declared.kept.KeptNode.{KeptNode}
-use Rattle.hopen.specs.declared.kept.LastPlaces.{LastPlaces}
+use Rattle.hopen.proofs.Names.{◌≡◌, ℕ, zero, suc, ◌+◌, ◌-◌, ◌<◌, ◌≤◌, List, [], ◌∷◌, ◌++◌, length, map, take, drop, get_or, set, refl, sym, ◌∙◌, ap, subst, arith, transport, get_or_default, drop-drop, drop_at, length-take-le, length-reverse, length-map, length-set, map-append, take-map, drop-map, map-set, get_or-map, map-set_same, take-append_seam, remove_range, AreIn, CanGiveWay, IsLinked, KeepSets, KeepsFrom, Stands, closing, kept_above, must_close_in, name_of, names_in, nearest_in, node_of, nodes_in, opened_by, same_name_of, same_node_of, sets_at, stack_of, OpenNode, OpenNodes, open_nodes_of, Inside, KeptNode, LastPlaces, set_node, SetNodes, open_of, Open}
+use Rattle.std.proofs.Common.{add-one}
+use Rattle.std.proofs.lemmas.List.{drop-set}
+use Rattle.hopen.specs.Kept.{AreAlike, StandsAs}
 use Rattle.hchain.proofs.Nearest.{reverse_push}
 use Rattle.hchain.proofs.Tables.{take-more, drop-more}
 use Rattle.hopen.proofs.KeptBy.{above-front, sets-more, sets-renamed, sets-take}
-use Rattle.hopen.specs.NameSets.{set_node}
-use Rattle.hopen.specs.declared.name_sets.SetNodes.{SetNodes}
 use Rattle.hopen.proofs.Linked.{linked-in, linked-less, linked-more}
 use Rattle.hopen.proofs.Projected.{length-names, length-nodes, node-at, same_node-at}
 use Rattle.hopen.proofs.Swapped.{linked-fresh}
-use Rattle.hopen.specs.Opens.{open_of}
-use Rattle.hopen.specs.declared.stack.Open.{Open}
 
 -- the last item of a vector
 pub stack-more : (items : List KeptNode) (x : KeptNode) → stack_of (items ++ x ∷ []) ≡ opened_by x ∷ stack_of items

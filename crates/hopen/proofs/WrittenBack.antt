@@ -1,11 +1,7 @@
 -- A vector after an edit of the slice that it lends, and tables that have grown.
-use Rattle.std.proofs.Common.{◌≡◌, ℕ, List, ◌++◌, ◌<◌, ◌^◌, length, map, take, drop, sym, ◌∙◌, ap, subst}
-use Rattle.std.proofs.Math.Seq.{take-append_seam}
-use Rattle.std.proofs.lemmas.List.{length-map}
+use Rattle.hopen.proofs.Names.{◌≡◌, ℕ, List, ◌++◌, ◌<◌, length, map, take, drop, sym, ◌∙◌, ap, subst, take-append_seam, length-map, opened_by, Stands, KeptNode, LastPlaces}
+use Rattle.std.proofs.Common.{◌^◌}
 use Rattle.std.specs.Prelude.{slice_index}
-use Rattle.hopen.specs.Kept.{opened_by, Stands}
-use Rattle.hopen.specs.declared.kept.KeptNode.{KeptNode}
-use Rattle.hopen.specs.declared.kept.LastPlaces.{LastPlaces}
 
 -- where the same nodes are open afterwards, the vector has the items of the slice
 pub written_back : (new old : List KeptNode) (n : ℕ) (lent : List KeptNode) → map opened_by new ≡ map opened_by lent → lent ≡ old → length lent ≡ n → take n (new ++ drop (length new) old) ≡ new

@@ -1,7 +1,4 @@
-use Rattle.std.proofs.Common.{◌+◌, get_or, sym, ◌∙◌, ap, arith}
-use Rattle.std.proofs.lemmas.Bool.{eqb-true}
-use Rattle.names.specs.Sets.{is_special}
-use Rattle.names.specs.Tags.{tag_of}
+use Rattle.hopen.proofs.Names.{◌+◌, get_or, sym, ◌∙◌, ap, arith, eqb-true, is_special, tag_of}
 use Rattle.hopen.proofs.Projected.{name-at, node-at}
 use Rattle.hopen.proofs.exchange.can_pass.Goals as goal
 

@@ -1,18 +1,4 @@
-use Rattle.std.proofs.Common.{◌≡◌, ℕ, suc, ◌-◌, ◌<◌, ◌≤◌, true, List, Some, None, length, map, reverse, get_or, insert, remove, set, inl, inr, sym, ◌∙◌, ap, arith, true≢false}
-use Rattle.std.proofs.lemmas.Bool.{cases_lt}
-use Rattle.std.proofs.lemmas.List.{with_items_is, length-map}
-use Rattle.std.specs.List.{position}
-use Rattle.std.specs.Option.{is_some}
-use Rattle.std.specs.Vec.{with_items}
-use Rattle.hchain.specs.Nearest.{put_before}
-use Rattle.hchain.specs.Places.{last_place}
-use Rattle.hchain.proofs.Nearest.{is_some-position, remove_nearest}
-use Rattle.hchain.proofs.Places.{last_place-le, position-none, position-some}
-use Rattle.hopen.specs.Kept.{Stands, node_of, opened_by, same_node_of, stack_of}
-use Rattle.hopen.specs.Opens.{open_of}
-use Rattle.hopen.specs.Stack.{is_node, is_open}
-use Rattle.hopen.specs.declared.kept.KeptNode.{KeptNode}
-use Rattle.hopen.specs.declared.kept.LastPlaces.{LastPlaces}
+use Rattle.hopen.proofs.Names.{◌≡◌, ℕ, suc, ◌-◌, ◌<◌, ◌≤◌, true, List, Some, None, length, map, reverse, get_or, insert, remove, set, inl, inr, sym, ◌∙◌, ap, arith, true≢false, cases_lt, with_items_is, length-map, position, is_some, with_items, put_before, last_place, is_some-position, remove_nearest, last_place-le, position-none, position-some, Stands, node_of, opened_by, same_node_of, stack_of, open_of, is_node, is_open, KeptNode, LastPlaces}
 use Rattle.hopen.proofs.ExchangedStack.{exchanged-nearest, item_of, map-remove, set-insert}
 use Rattle.hopen.proofs.Linked.{says-places}
 use Rattle.hopen.proofs.Standing.{length-stack_of}

@@ -1,12 +1,4 @@
-use Rattle.std.proofs.Common.{◌≡◌, ℕ, ◌+◌, ◌-◌, suc, List, length, map, reverse, insert, remove, sym, ◌∙◌, ap, arith}
-use Rattle.std.specs.List.{remove_range}
-use Rattle.hchain.specs.Nearest.{put_before}
-use Rattle.hopen.specs.Opens.{open_of}
-use Rattle.hopen.specs.Stack.{is_node}
-use Rattle.hopen.specs.Kept.{node_of, opened_by, stack_of}
-use Rattle.hopen.specs.declared.kept.KeptNode.{KeptNode}
-use Rattle.hchain.proofs.Nearest.{insert_nearest, no_words}
-use Rattle.hchain.proofs.Places.{position-none, position-some, last_place-le}
+use Rattle.hopen.proofs.Names.{◌≡◌, ℕ, ◌+◌, ◌-◌, suc, List, length, map, reverse, insert, remove, sym, ◌∙◌, ap, arith, remove_range, put_before, open_of, is_node, node_of, opened_by, stack_of, KeptNode, insert_nearest, no_words, position-none, position-some, last_place-le}
 use Rattle.hopen.proofs.Linked.{says-places}
 use Rattle.hopen.proofs.Standing.{length-stack_of}
 use Rattle.hopen.proofs.ExchangedStack.{item_of, length-left, map-insert, map-remove_range}

@@ -1,7 +1,4 @@
-use Rattle.std.proofs.Common.{ap}
-use Rattle.std.proofs.lemmas.List.{map-set}
-use Rattle.std.proofs.Math.Seq.{map-set_same}
-use Rattle.hopen.specs.Kept.{opened_by, same_name_of, same_node_of, sets_at}
+use Rattle.hopen.proofs.Names.{ap, map-set, map-set_same, opened_by, same_name_of, same_node_of, sets_at}
 use Rattle.hopen.proofs.exchange.link.Goals as goal
 
 pub returns-clause-same_names : goal.returns-clause-same_names

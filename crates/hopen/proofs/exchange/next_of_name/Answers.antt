@@ -1,8 +1,4 @@
-use Rattle.std.proofs.Common.{◌≡◌, ℕ, zero, suc, ◌-◌, ◌+◌, ◌<◌, ◌≤◌, List, length, map, get_or, inl, inr, refl, sym, ◌∙◌, ap, subst, arith}
-use Rattle.std.proofs.lemmas.Bool.{cases_lt}
-use Rattle.std.proofs.lemmas.List.{length-map, get_or_past}
-use Rattle.hopen.specs.Kept.{IsHeld, names_in, opened_by, same_name_of}
-use Rattle.hopen.specs.declared.kept.KeptNode.{KeptNode}
+use Rattle.hopen.proofs.Names.{◌≡◌, ℕ, zero, suc, ◌-◌, ◌+◌, ◌<◌, ◌≤◌, List, length, map, get_or, inl, inr, refl, sym, ◌∙◌, ap, subst, arith, cases_lt, length-map, get_or_past, IsHeld, names_in, opened_by, same_name_of, KeptNode}
 use Rattle.hopen.proofs.Projected.{length-names, name-at, same_name-at}
 use Rattle.hopen.proofs.Swapped.{Walks, held-none, held-next, walk-start, walk-up}
 use Rattle.hopen.proofs.exchange.next_of_name.Goals as goal

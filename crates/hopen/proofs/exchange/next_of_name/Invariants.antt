@@ -1,5 +1,4 @@
-use Rattle.std.proofs.Common.{◌≡◌, ◌≤◌, ℕ, suc, length, map, get_or}
-use Rattle.hopen.specs.Kept.{names_in, opened_by, same_name_of}
+use Rattle.hopen.proofs.Names.{◌≡◌, ◌≤◌, ℕ, suc, length, map, get_or, names_in, opened_by, same_name_of}
 use Rattle.hopen.proofs.Swapped.{Walks}
 use Rattle.hopen.proofs.exchange.next_of_name.Given as goal
 

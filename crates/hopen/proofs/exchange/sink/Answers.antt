@@ -1,6 +1,4 @@
-use Rattle.std.proofs.Common.{◌≡◌, suc, ◌+◌, map, remove, ap, ◌∙◌, arith}
-use Rattle.std.proofs.lemmas.List.{length-map}
-use Rattle.hopen.specs.Kept.{opened_by}
+use Rattle.hopen.proofs.Names.{◌≡◌, suc, ◌+◌, map, remove, ap, ◌∙◌, arith, length-map, opened_by}
 use Rattle.hopen.proofs.Swapped.{swapped-rest}
 use Rattle.hopen.proofs.exchange.sink.Goals as goal
 

@@ -1,5 +1,4 @@
-use Rattle.std.proofs.Common.{◌≡◌, ◌-◌, ◌<◌, length, map, remove}
-use Rattle.hopen.specs.Kept.{Stands, opened_by}
+use Rattle.hopen.proofs.Names.{◌≡◌, ◌-◌, ◌<◌, length, map, remove, Stands, opened_by}
 use Rattle.hopen.proofs.exchange.sink.Given as goal
 
 abbrev pub invariant-loop-index : goal.invariant-loop-index

@@ -1,8 +1,4 @@
-use Rattle.std.proofs.Common.{◌≡◌, ℕ, ◌+◌, ◌<◌, List, length, map, get_or, set, sym, ◌∙◌, ap, subst, arith}
-use Rattle.std.proofs.Math.Path.{transport}
-use Rattle.std.proofs.lemmas.List.{with_items_is, length-set}
-use Rattle.hopen.specs.Kept.{IsLinked, names_in, nodes_in, opened_by, same_node_of, swap_with_next}
-use Rattle.hopen.specs.declared.kept.KeptNode.{KeptNode}
+use Rattle.hopen.proofs.Names.{◌≡◌, ℕ, ◌+◌, ◌<◌, List, length, map, get_or, set, sym, ◌∙◌, ap, subst, arith, transport, with_items_is, length-set, IsLinked, names_in, nodes_in, opened_by, same_node_of, swap_with_next, KeptNode}
 use Rattle.hopen.proofs.Passed.{stands-passed}
 use Rattle.hopen.proofs.Projected.{length-nodes, node-at}
 use Rattle.hopen.proofs.Swapped.{walk-in}

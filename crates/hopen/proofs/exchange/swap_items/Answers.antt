@@ -1,14 +1,6 @@
-use Rattle.std.proofs.Common.{◌≡◌, ℕ, suc, ◌+◌, ◌<◌, List, length, map, get_or, set, false, refl, sym, ◌∙◌, ap, arith}
-use Rattle.std.proofs.Math.Path.{transport}
-use Rattle.std.proofs.lemmas.List.{get_or_default, get_or-map, length-map}
+use Rattle.hopen.proofs.Names.{◌≡◌, ℕ, suc, ◌+◌, ◌<◌, List, length, map, get_or, set, false, refl, sym, ◌∙◌, ap, arith, transport, get_or_default, get_or-map, length-map, KeepSets, KeepsFrom, closing, kept_above, must_close_in, names_in, nearest_in, opened_by, same_name_of, same_node_of, sets_at, set_node, OpenNode, KeptNode, is_special, tag_of}
 use Rattle.hopen.proofs.KeptBy.{sets-swapped}
 use Rattle.hopen.proofs.Projected.{name-at, node-at, two-same, two-swapped, two-upper}
-use Rattle.hopen.specs.Kept.{KeepSets, KeepsFrom, closing, kept_above, must_close_in, names_in, nearest_in, opened_by, same_name_of, same_node_of, sets_at}
-use Rattle.hopen.specs.NameSets.{set_node}
-use Rattle.hopen.specs.Stack.{OpenNode}
-use Rattle.hopen.specs.declared.kept.KeptNode.{KeptNode}
-use Rattle.names.specs.Sets.{is_special}
-use Rattle.names.specs.Tags.{tag_of}
 use Rattle.hopen.proofs.exchange.swap_items.Goals as goal
 
 pub returns-clause-opened : goal.returns-clause-opened

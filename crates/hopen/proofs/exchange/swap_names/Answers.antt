@@ -1,8 +1,4 @@
-use Rattle.std.proofs.Common.{◌≡◌, ◌≢◌, ℕ, zero, suc, ◌+◌, ◌<◌, ◌≤◌, ◌&&◌, eqb, cond, List, length, map, get_or, set, inl, inr, refl, sym, ◌∙◌, ap, subst, arith}
-use Rattle.std.proofs.lemmas.Bool.{cases_lt, eqb-true, eqb-false}
-use Rattle.std.proofs.lemmas.List.{get_or-set_same, get_or-set_other, get_or_past, length-map, length-set}
-use Rattle.hopen.specs.Kept.{IsHeld, IsLinked, names_in, opened_by, same_name_of, place_after_swap}
-use Rattle.hopen.specs.declared.kept.KeptNode.{KeptNode}
+use Rattle.hopen.proofs.Names.{◌≡◌, ◌≢◌, ℕ, zero, suc, ◌+◌, ◌<◌, ◌≤◌, ◌&&◌, eqb, cond, List, length, map, get_or, set, inl, inr, refl, sym, ◌∙◌, ap, subst, arith, cases_lt, eqb-true, eqb-false, get_or-set_same, get_or-set_other, get_or_past, length-map, length-set, IsHeld, IsLinked, names_in, opened_by, same_name_of, place_after_swap, KeptNode}
 use Rattle.hopen.proofs.Projected.{length-names, name-at, same_name-at}
 use Rattle.hopen.proofs.Swapped.{linked-swapped, swapped-same, moved-table, moved-list, walk-in}
 use Rattle.hopen.proofs.exchange.swap_names.Goals as goal

@@ -1,6 +1,4 @@
-use Rattle.std.proofs.Common.{◌-◌, refl}
-use Rattle.std.proofs.Math.Seq.{map-set_same}
-use Rattle.hopen.specs.Kept.{opened_by, same_name_of, same_node_of, sets_at}
+use Rattle.hopen.proofs.Names.{◌-◌, refl, map-set_same, opened_by, same_name_of, same_node_of, sets_at}
 use Rattle.hopen.proofs.kept.hint.Goals as goal
 
 pub returns-then-place-items : goal.returns-then-place-items

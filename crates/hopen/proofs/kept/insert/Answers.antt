@@ -1,13 +1,7 @@
-use Rattle.std.proofs.Common.{◌≡◌, ◌<◌, ◌∷◌, List, take, drop, length, ◌∙◌, sym, ap, subst, map, rules, arith}
+use Rattle.hopen.proofs.Names.{◌≡◌, ◌<◌, ◌∷◌, List, take, drop, length, ◌∙◌, sym, ap, subst, map, rules, arith, drop_at, length-take-le, AreIn, Stands, opened_by, open_of, KeptNode, Open, common_steps}
 use Rattle.std.specs.List.{insert}
-use Rattle.std.proofs.lemmas.List.{drop_at, length-take-le}
-use Rattle.hopen.specs.Kept.{AreIn, Stands, opened_by}
-use Rattle.hopen.specs.Opens.{open_of}
-use Rattle.hopen.specs.declared.kept.KeptNode.{KeptNode}
-use Rattle.hopen.specs.declared.stack.Open.{Open}
 use Rattle.hopen.proofs.ExchangedStack.{map-insert}
 use Rattle.hopen.proofs.WrittenBack.{written_back}
-use Rattle.std.proofs.lemmas.Grind.{common_steps}
 use Rattle.hopen.proofs.kept.insert.Goals as goal
 
 pub returns-clause-items : goal.returns-clause-items

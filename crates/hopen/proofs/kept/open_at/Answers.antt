@@ -1,11 +1,5 @@
-use Rattle.std.proofs.Common.{◌≡◌, ℕ, suc, ◌+◌, ◌<◌, List, [], ◌∷◌, ◌++◌, length, map, take, drop, set, get_or, ap, sym, ◌∙◌, subst, arith}
-use Rattle.std.proofs.lemmas.List.{get_or_default, length-set, length-take-le, take_more_set, drop-set-lt}
-use Rattle.std.proofs.Math.Path.{transport}
-use Rattle.std.proofs.Math.Seq.{map-set_same}
-use Rattle.hopen.specs.Kept.{AreIn, KeepsFrom, Stands, opened_by}
-use Rattle.hopen.specs.declared.kept.KeptNode.{KeptNode}
-use Rattle.hopen.specs.declared.stack.Open.{Open}
-use Rattle.hopen.specs.Opens.{open_of}
+use Rattle.hopen.proofs.Names.{◌≡◌, ℕ, suc, ◌+◌, ◌<◌, List, [], ◌∷◌, ◌++◌, length, map, take, drop, set, get_or, ap, sym, ◌∙◌, subst, arith, get_or_default, length-set, length-take-le, transport, map-set_same, AreIn, KeepsFrom, Stands, opened_by, KeptNode, Open, open_of}
+use Rattle.std.proofs.lemmas.List.{take_more_set, drop-set-lt}
 use Rattle.hopen.proofs.Standing.{alike-take, keeps-taken, numbers-drop_alike, numbers-less, stands-alike, stands-more}
 use Rattle.hopen.proofs.kept.open_at.Goals as goal
 

@@ -1,10 +1,4 @@
-use Rattle.std.proofs.Common.{◌≡◌, ◌+◌, List, [], ◌∷◌, ◌++◌, ◌<◌, length, map, take, drop, reverse, subst, sym, ap, ◌∙◌, arith}
-use Rattle.std.proofs.lemmas.List.{drop_at, take_all}
-use Rattle.std.proofs.Math.Seq.{take-append_seam}
-use Rattle.hopen.specs.Kept.{AreIn, Stands, opened_by, stack_of}
-use Rattle.hopen.specs.declared.kept.KeptNode.{KeptNode}
-use Rattle.hopen.specs.declared.stack.Open.{Open}
-use Rattle.hopen.specs.Opens.{open_of}
+use Rattle.hopen.proofs.Names.{◌≡◌, ◌+◌, List, [], ◌∷◌, ◌++◌, ◌<◌, length, map, take, drop, reverse, subst, sym, ap, ◌∙◌, arith, drop_at, take_all, take-append_seam, AreIn, Stands, opened_by, stack_of, KeptNode, Open, open_of}
 use Rattle.hopen.proofs.Standing.{stack-more}
 use Rattle.hopen.proofs.WrittenBack.{stands_same, written_back}
 use Rattle.hopen.proofs.kept.push.Goals as goal

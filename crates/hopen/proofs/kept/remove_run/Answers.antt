@@ -1,7 +1,4 @@
-use Rattle.std.proofs.Common.{◌≡◌, ◌∙◌, sym, ap, subst, map, arith, rules, length, drop}
-use Rattle.std.proofs.lemmas.Grind.{common_steps}
-use Rattle.std.specs.List.{remove_range}
-use Rattle.hopen.specs.Kept.{AreIn, Stands, opened_by}
+use Rattle.hopen.proofs.Names.{◌≡◌, ◌∙◌, sym, ap, subst, map, arith, rules, length, drop, common_steps, remove_range, AreIn, Stands, opened_by}
 use Rattle.hopen.proofs.Standing.{numbers-left}
 use Rattle.hopen.proofs.WrittenBack.{written_back}
 use Rattle.hopen.proofs.kept.remove_run.Goals as goal

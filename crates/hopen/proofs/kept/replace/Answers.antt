@@ -1,6 +1,4 @@
-use Rattle.std.proofs.Common.{◌≡◌, suc, ◌+◌, set, refl, subst, arith}
-use Rattle.std.proofs.lemmas.List.{map-set}
-use Rattle.hopen.specs.Kept.{CanGiveWay, opened_by}
+use Rattle.hopen.proofs.Names.{◌≡◌, suc, ◌+◌, set, refl, subst, arith, map-set, CanGiveWay, opened_by}
 use Rattle.hopen.proofs.Standing.{stands-renamed}
 use Rattle.hopen.proofs.kept.replace.Goals as goal
 

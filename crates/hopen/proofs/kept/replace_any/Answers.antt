@@ -1,8 +1,4 @@
-use Rattle.std.proofs.Common.{◌<◌, length, set, map, sym, ◌∙◌, ap, subst}
-use Rattle.std.proofs.lemmas.List.{map-set}
-use Rattle.hopen.specs.Kept.{opened_by}
-use Rattle.hopen.specs.Opens.{open_of}
-use Rattle.hopen.specs.declared.stack.Open.{Open}
+use Rattle.hopen.proofs.Names.{◌<◌, length, set, map, sym, ◌∙◌, ap, subst, map-set, opened_by, open_of, Open}
 use Rattle.hopen.proofs.Standing.{numbers-replaced}
 use Rattle.hopen.proofs.kept.replace_any.Goals as goal
 

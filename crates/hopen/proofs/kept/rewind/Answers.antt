@@ -1,6 +1,4 @@
-use Rattle.std.proofs.Common.{◌∙◌, subst, arith}
-use Rattle.std.proofs.lemmas.List.{take_all}
-use Rattle.hopen.specs.Kept.{Stands}
+use Rattle.hopen.proofs.Names.{◌∙◌, subst, arith, take_all, Stands}
 use Rattle.hopen.proofs.kept.rewind.Goals as goal
 
 pub loop-index-preserved : goal.loop-index-preserved

@@ -1,5 +1,4 @@
-use Rattle.std.proofs.Common.{◌≡◌, ◌≤◌, ◌-◌, length, map, take, drop}
-use Rattle.hopen.specs.Kept.{Stands, AreIn, opened_by}
+use Rattle.hopen.proofs.Names.{◌≡◌, ◌≤◌, ◌-◌, length, map, take, drop, Stands, AreIn, opened_by}
 use Rattle.hopen.proofs.kept.rewind.Given as goal
 
 abbrev pub invariant-loop-index : goal.invariant-loop-index

@@ -1,9 +1,4 @@
-use Rattle.std.proofs.Common.{◌≡◌, ℕ, suc, ◌-◌, ◌<◌, ◌≤◌, List, length, map, get_or, sym, ◌∙◌, ap, arith}
-use Rattle.std.proofs.lemmas.List.{get_or-map, length-map}
-use Rattle.hopen.specs.Kept.{kept_above, must_close_in, sets_at}
-use Rattle.hopen.specs.NameSets.{set_node}
-use Rattle.hopen.specs.declared.kept.KeptNode.{KeptNode}
-use Rattle.hopen.specs.declared.name_sets.SetNodes.{SetNodes}
+use Rattle.hopen.proofs.Names.{◌≡◌, ℕ, suc, ◌-◌, ◌<◌, ◌≤◌, List, length, map, get_or, sym, ◌∙◌, ap, arith, get_or-map, length-map, kept_above, must_close_in, sets_at, set_node, KeptNode, SetNodes}
 use Rattle.hopen.proofs.kept.sets_above.Goals as goal
 
 -- the item right above has it

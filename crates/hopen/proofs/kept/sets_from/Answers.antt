@@ -1,7 +1,4 @@
-use Rattle.std.proofs.Common.{◌≡◌, ℕ, suc, ◌+◌, Bool, true, false, cond, eqb, ◌∙◌, ap, arith}
-use Rattle.std.proofs.Math.Dec.{eqb-suc-zero}
-use Rattle.hopen.specs.NameSets.{is_in_set}
-use Rattle.names.specs.Sets.{may_stay_open}
+use Rattle.hopen.proofs.Names.{◌≡◌, ℕ, suc, ◌+◌, Bool, true, false, cond, eqb, ◌∙◌, ap, arith, eqb-suc-zero, is_in_set, may_stay_open}
 use Rattle.hopen.proofs.kept.sets_from.Goals as goal
 
 -- one that must be closed is kept where there is one

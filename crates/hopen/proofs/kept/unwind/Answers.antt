@@ -1,5 +1,4 @@
-use Rattle.std.proofs.Common.{◌≡◌, suc, ◌-◌, ◌<◌, length, ap, ◌∙◌, arith}
-use Rattle.std.proofs.lemmas.List.{length-set}
+use Rattle.hopen.proofs.Names.{◌≡◌, suc, ◌-◌, ◌<◌, length, ap, ◌∙◌, arith, length-set}
 use Rattle.hopen.proofs.Standing.{taken-in, taken-less, numbers-more}
 use Rattle.hopen.proofs.kept.unwind.Goals as goal
 

@@ -1,5 +1,4 @@
-use Rattle.std.proofs.Common.{◌≡◌, ◌≤◌, length, take, drop}
-use Rattle.hopen.specs.Kept.{Stands, AreIn}
+use Rattle.hopen.proofs.Names.{◌≡◌, ◌≤◌, length, take, drop, Stands, AreIn}
 use Rattle.hopen.proofs.kept.unwind.Given as goal
 
 abbrev pub invariant-loop-end : goal.invariant-loop-end

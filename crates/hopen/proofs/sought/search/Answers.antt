@@ -1,13 +1,4 @@
-use Rattle.std.proofs.Common.{◌≡◌, ℕ, suc, ◌-◌, ◌<◌, Bool, true, false, cond, length, map, get_or, List, refl, sym, ◌∙◌, ap, arith}
-use Rattle.hchain.specs.Chains.{last_up}
-use Rattle.hchain.proofs.LastUp.{up-sought, up-other}
-use Rattle.hopen.specs.Kept.{names_in, opened_by}
-use Rattle.hopen.specs.NameSets.{holds, is_in_set}
-use Rattle.hopen.specs.declared.kept.KeptNode.{KeptNode}
-use Rattle.hopen.specs.declared.name_sets.NameSet.{NameSet}
-use Rattle.hopen.specs.declared.stack.Open.{Open}
-use Rattle.names.specs.declared.tag.Tag.{Tag}
-use Rattle.names.specs.Tags.{tag_of}
+use Rattle.hopen.proofs.Names.{◌≡◌, ℕ, suc, ◌-◌, ◌<◌, Bool, true, false, cond, length, map, get_or, List, refl, sym, ◌∙◌, ap, arith, last_up, up-sought, up-other, names_in, opened_by, holds, is_in_set, KeptNode, NameSet, Open, Tag, tag_of}
 use Rattle.hopen.proofs.Projected.{name-at}
 use Rattle.hopen.proofs.sought.search.Goals as goal
 

@@ -1,7 +1,4 @@
-use Rattle.std.proofs.Common.{◌≡◌, ◌≤◌, length, map}
-use Rattle.hchain.specs.Chains.{last_up}
-use Rattle.hopen.specs.Kept.{names_in, opened_by}
-use Rattle.hopen.specs.NameSets.{holds}
+use Rattle.hopen.proofs.Names.{◌≡◌, ◌≤◌, length, map, last_up, names_in, opened_by, holds}
 use Rattle.hopen.proofs.sought.search.Given as goal
 
 abbrev pub invariant-loop-place : goal.invariant-loop-place

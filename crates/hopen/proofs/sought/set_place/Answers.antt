@@ -1,4 +1,4 @@
-use Rattle.std.proofs.Common.{◌∙◌, arith}
+use Rattle.hopen.proofs.Names.{◌∙◌, arith}
 use Rattle.hopen.proofs.SetPlace.{nearest-at, nearest-from, node-in, none-open, place-within}
 use Rattle.hopen.proofs.sought.set_place.Goals as goal
 

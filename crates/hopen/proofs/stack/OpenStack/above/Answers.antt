@@ -1,11 +1,5 @@
-use Rattle.std.proofs.Common.{◌≡◌, ℕ, Some, suc, ◌+◌, ◌-◌, length, drop, ◌∙◌, ap, sym, arith}
-use Rattle.std.specs.Option.{option_map}
-use Rattle.std.proofs.Math.Seq.{drop-length}
-use Rattle.hopen.specs.Kept.{opened_by, stack_of}
-use Rattle.hopen.specs.declared.kept.KeptNode.{KeptNode}
-use Rattle.hopen.specs.Opens.{open_of}
-use Rattle.hopen.specs.Stack.{OpenNodes, is_node, current, above}
-use Rattle.hchain.proofs.Nearest.{words, no_words, slice_get_nearest}
+use Rattle.hopen.proofs.Names.{◌≡◌, ℕ, Some, suc, ◌+◌, ◌-◌, length, drop, ◌∙◌, ap, sym, arith, option_map, drop-length, opened_by, stack_of, KeptNode, open_of, OpenNodes, is_node, current, words, no_words, slice_get_nearest}
+use Rattle.hopen.specs.Stack.{above}
 use Rattle.hopen.proofs.Searches.{current-drop}
 use Rattle.hopen.proofs.Opened.{found}
 use Rattle.hopen.proofs.stack.OpenStack.above.Goals as goal

@@ -1,10 +1,4 @@
-use Rattle.std.proofs.Common.{◌≡◌, ℕ, length, ap, ◌∙◌, arith}
-use Rattle.std.proofs.Math.Path.{transport}
-use Rattle.std.specs.List.{list_all}
-use Rattle.names.specs.Sets.{may_stay_open}
-use Rattle.names.specs.Tags.{tag_of}
-use Rattle.hopen.specs.Kept.{kept_above, must_close_in}
-use Rattle.hopen.specs.Stack.{OpenNodes}
+use Rattle.hopen.proofs.Names.{◌≡◌, ℕ, length, ap, ◌∙◌, arith, transport, list_all, may_stay_open, tag_of, kept_above, must_close_in, OpenNodes}
 use Rattle.hopen.proofs.SetPlace.{all-stay}
 use Rattle.hopen.proofs.stack.OpenStack.all_may_stay_open.Goals as goal
 

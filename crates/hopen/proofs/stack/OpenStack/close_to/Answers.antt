@@ -1,8 +1,4 @@
-use Rattle.std.proofs.Common.{◌≡◌, ℕ, ◌-◌, ◌+◌, length, drop, ap, sym, ◌∙◌, arith}
-use Rattle.std.proofs.lemmas.List.{length-drop, drop-drop}
-use Rattle.hopen.specs.Stack.{OpenNodes}
-use Rattle.hchain.specs.Nearest.{after}
-use Rattle.hopen.specs.Opens.{is_sought}
+use Rattle.hopen.proofs.Names.{◌≡◌, ℕ, ◌-◌, ◌+◌, length, drop, ap, sym, ◌∙◌, arith, length-drop, drop-drop, OpenNodes, after, is_sought}
 use Rattle.hopen.proofs.Opened.{left_is}
 use Rattle.hopen.proofs.stack.OpenStack.close_to.Goals as goal
 

@@ -1,4 +1,4 @@
-use Rattle.std.proofs.Common.{◌≡◌, ◌-◌, ◌≤◌, length, drop}
+use Rattle.hopen.proofs.Names.{◌≡◌, ◌-◌, ◌≤◌, length, drop}
 use Rattle.hopen.proofs.stack.OpenStack.close_to.Given as goal
 
 abbrev pub invariant-loop-self : goal.invariant-loop-self

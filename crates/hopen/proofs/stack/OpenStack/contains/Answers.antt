@@ -1,7 +1,4 @@
-use Rattle.std.proofs.Common.{ap, ◌∙◌}
-use Rattle.std.specs.Option.{is_some}
-use Rattle.hopen.specs.Stack.{is_node}
-use Rattle.hchain.proofs.Nearest.{is_some-position}
+use Rattle.hopen.proofs.Names.{ap, ◌∙◌, is_some, is_node, is_some-position}
 use Rattle.hopen.proofs.stack.OpenStack.contains.Goals as goal
 
 pub returns : goal.returns

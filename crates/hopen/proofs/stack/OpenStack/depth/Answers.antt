@@ -1,5 +1,4 @@
-use Rattle.std.proofs.Common.{◌∙◌}
-use Rattle.hopen.specs.Stack.{is_node}
+use Rattle.hopen.proofs.Names.{◌∙◌, is_node}
 use Rattle.hopen.proofs.Opened.{depth_is}
 use Rattle.hopen.proofs.stack.OpenStack.depth.Goals as goal
 

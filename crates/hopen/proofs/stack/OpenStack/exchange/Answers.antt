@@ -1,9 +1,5 @@
-use Rattle.std.proofs.Common.{ℕ, length, refl, ap, ◌∙◌, arith}
-use Rattle.hchain.specs.Nearest.{without, put_before}
+use Rattle.hopen.proofs.Names.{ℕ, length, refl, ap, ◌∙◌, arith, without, put_before, open_of, OpenNodes, is_node, is_open, stack_of}
 use Rattle.hchain.proofs.Nearest.{length-without}
-use Rattle.hopen.specs.Opens.{open_of}
-use Rattle.hopen.specs.Stack.{OpenNodes, is_node, is_open}
-use Rattle.hopen.specs.Kept.{stack_of}
 use Rattle.hopen.proofs.Opened.{seen}
 use Rattle.hopen.proofs.Standing.{length-stack_of}
 use Rattle.hopen.proofs.WrittenBack.{stands_same}

@@ -1,9 +1,5 @@
-use Rattle.std.proofs.Common.{◌≡◌, ◌≤◌, Some, refl, map, length, ap, sym, ◌∙◌, arith}
-use Rattle.std.specs.List.{slice_get}
-use Rattle.std.specs.Option.{option_map}
-use Rattle.std.proofs.lemmas.List.{reverse-reverse, length-map}
-use Rattle.std.proofs.lemmas.Option.{slice_get-map, slice_get_read, slice_get_past}
-use Rattle.hopen.specs.Kept.{opened_by}
+use Rattle.hopen.proofs.Names.{◌≡◌, ◌≤◌, Some, refl, map, length, ap, sym, ◌∙◌, arith, slice_get, option_map, reverse-reverse, length-map, slice_get-map, slice_get_past, opened_by}
+use Rattle.std.proofs.lemmas.Option.{slice_get_read}
 use Rattle.hopen.proofs.stack.OpenStack.from_top.Goals as goal
 
 pub returns-then-down-len : goal.returns-then-down-len

@@ -1,15 +1,6 @@
-use Rattle.std.proofs.Common.{◌≡◌, ℕ, ◌-◌, List, length, drop, map, refl, ◌∙◌, ap, sym, rules}
-use Rattle.std.specs.List.{find, position}
-use Rattle.std.specs.Option.{option_map, unwrap_or}
+use Rattle.hopen.proofs.Names.{◌≡◌, ℕ, ◌-◌, List, length, drop, map, refl, ◌∙◌, ap, sym, rules, find, position, option_map, unwrap_or, is_special, tag_of, opened_by, open_of, OpenNodes, is_node, furthest_block, KeptNode, find-map}
 use Rattle.std.proofs.lemmas.List.{take_rest}
 use Rattle.std.proofs.lemmas.Simd.{map-map}
-use Rattle.names.specs.Sets.{is_special}
-use Rattle.names.specs.Tags.{tag_of}
-use Rattle.hopen.specs.Kept.{opened_by}
-use Rattle.hopen.specs.Opens.{open_of}
-use Rattle.hopen.specs.Stack.{OpenNodes, is_node, furthest_block}
-use Rattle.hopen.specs.declared.kept.KeptNode.{KeptNode}
-use Rattle.hchain.proofs.Images.{find-map}
 use Rattle.hopen.proofs.Searches.{furthest-nearest}
 use Rattle.hopen.proofs.stack.OpenStack.furthest_block.Goals as goal
 

@@ -1,10 +1,4 @@
-use Rattle.std.proofs.Common.{◌≡◌, ℕ, Some, suc, ◌+◌, ◌-◌, ◌≤◌, length, ◌∙◌, ap, sym, arith}
-use Rattle.std.specs.List.{slice_get}
-use Rattle.std.proofs.lemmas.Option.{slice_get_past}
-use Rattle.hopen.specs.Kept.{opened_by, stack_of}
-use Rattle.hopen.specs.declared.kept.KeptNode.{KeptNode}
-use Rattle.hopen.specs.Stack.{OpenNodes}
-use Rattle.hchain.proofs.Nearest.{slice_get_nearest}
+use Rattle.hopen.proofs.Names.{◌≡◌, ℕ, Some, suc, ◌+◌, ◌-◌, ◌≤◌, length, ◌∙◌, ap, sym, arith, slice_get, slice_get_past, opened_by, stack_of, KeptNode, OpenNodes, slice_get_nearest}
 use Rattle.hopen.proofs.Standing.{length-stack_of}
 use Rattle.hopen.proofs.stack.OpenStack.get.Goals as goal
 

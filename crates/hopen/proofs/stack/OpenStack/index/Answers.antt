@@ -1,6 +1,4 @@
-use Rattle.std.proofs.Common.{◌-◌, arith}
-use Rattle.hopen.specs.Opens.{is_sought}
-use Rattle.hchain.proofs.Places.{position-none, position-some, last_place-le}
+use Rattle.hopen.proofs.Names.{◌-◌, arith, is_sought, position-none, position-some, last_place-le}
 use Rattle.hopen.proofs.stack.OpenStack.index.Goals as goal
 
 pub returns-then-place-eq0-clause-found : goal.returns-then-place-eq0-clause-found

@@ -1,16 +1,9 @@
-use Rattle.std.proofs.Common.{◌≤◌, ◌+◌, List, length, ◌∙◌, sym, ap, map, reverse, subst, arith, ℕ, ◌≡◌}
+use Rattle.hopen.proofs.Names.{◌≤◌, ◌+◌, List, length, ◌∙◌, sym, ap, map, reverse, subst, arith, ℕ, ◌≡◌, insert_nearest, no_words, put_before, is_node, OpenNodes, open_of, opened_by, KeptNode, length-map}
 use Rattle.hopen.proofs.ExchangedStack.{item_of, map-insert}
 use Rattle.hopen.proofs.Opened.{seen, found, none_found, kept, room-left}
 use Rattle.hopen.proofs.WrittenBack.{stands_same}
-use Rattle.hchain.proofs.Nearest.{insert_nearest, no_words}
-use Rattle.hchain.specs.Nearest.{put_before}
-use Rattle.hopen.specs.Stack.{is_node, OpenNodes}
-use Rattle.hopen.specs.Opens.{open_of}
-use Rattle.hopen.specs.Kept.{opened_by}
-use Rattle.hopen.specs.declared.kept.KeptNode.{KeptNode}
 use Rattle.std.specs.List.{insert}
 use Rattle.hopen.proofs.Standing.{many}
-use Rattle.std.proofs.lemmas.List.{length-map}
 use Rattle.std.proofs.lemmas.List.Edits.{length-insert}
 use Rattle.hopen.proofs.stack.OpenStack.insert_below.Goals as goal
 

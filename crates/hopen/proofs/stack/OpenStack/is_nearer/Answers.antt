@@ -1,7 +1,5 @@
-use Rattle.std.proofs.Common.{refl}
-use Rattle.std.proofs.lemmas.Bool.{lt-ltb, le-ltb}
-use Rattle.hopen.specs.NameSets.{is_in}
-use Rattle.hopen.specs.Opens.{is_sought}
+use Rattle.hopen.proofs.Names.{refl, lt-ltb, is_in, is_sought}
+use Rattle.std.proofs.lemmas.Bool.{le-ltb}
 use Rattle.hopen.proofs.Places.{in_scope-places}
 use Rattle.hopen.proofs.stack.OpenStack.is_nearer.Goals as goal
 

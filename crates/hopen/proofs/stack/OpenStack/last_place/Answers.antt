@@ -1,11 +1,5 @@
-use Rattle.std.proofs.Common.{ℕ, ap, sym, ◌∙◌, map}
-use Rattle.hchain.specs.Places.{last_place}
-use Rattle.hopen.specs.Kept.{name_of, node_of, opened_by}
-use Rattle.hopen.specs.Opens.{is_sought}
-use Rattle.hopen.specs.Stack.{OpenNodes, is_node}
-use Rattle.hopen.specs.Scopes.{is_named}
+use Rattle.hopen.proofs.Names.{ℕ, ap, sym, ◌∙◌, map, last_place, name_of, node_of, opened_by, is_sought, OpenNodes, is_node, is_named, nat_eq}
 use Rattle.hopen.specs.declared.sought.Sought.{Sought}
-use Rattle.std.specs.Prelude.{nat_eq}
 use Rattle.hopen.proofs.Linked.{says-places}
 use Rattle.hopen.proofs.stack.OpenStack.last_place.Goals as goal
 

@@ -1,8 +1,5 @@
-use Rattle.std.proofs.Common.{nat_eq, ◌∙◌, ap, sym}
-use Rattle.std.specs.Option.{option_map}
-use Rattle.hopen.specs.Opens.{open_of}
-use Rattle.hopen.specs.Scopes.{is_named}
-use Rattle.hchain.proofs.Nearest.{words, no_words}
+use Rattle.hopen.proofs.Names.{◌∙◌, ap, sym, option_map, open_of, is_named, words, no_words}
+use Rattle.std.proofs.Common.{nat_eq}
 use Rattle.hopen.proofs.stack.OpenStack.nearest.Goals as goal
 
 pub returns-in_err-place_of : goal.returns-in_err-place_of

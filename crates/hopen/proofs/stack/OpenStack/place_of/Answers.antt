@@ -1,4 +1,4 @@
-use Rattle.std.proofs.Common.{◌≡◌, ◌-◌, Some, length, sym, ◌∙◌, ap, arith}
+use Rattle.hopen.proofs.Names.{◌≡◌, ◌-◌, Some, length, sym, ◌∙◌, ap, arith}
 use Rattle.hopen.proofs.Standing.{many}
 use Rattle.hopen.proofs.stack.OpenStack.place_of.Goals as goal
 

@@ -1,5 +1,4 @@
-use Rattle.std.proofs.Common.{ℕ, length, ap, arith}
-use Rattle.hopen.specs.Stack.{OpenNodes}
+use Rattle.hopen.proofs.Names.{ℕ, length, ap, arith, OpenNodes}
 use Rattle.hopen.proofs.Opened.{room-left}
 use Rattle.hopen.proofs.Standing.{length-stack_of, many}
 use Rattle.hopen.proofs.stack.OpenStack.push.Goals as goal

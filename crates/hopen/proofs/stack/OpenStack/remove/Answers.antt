@@ -1,10 +1,5 @@
-use Rattle.std.proofs.Common.{◌≡◌, ◌+◌, ℕ, suc, ◌∙◌, ap, arith, map, reverse}
-use Rattle.std.specs.List.{remove_range}
+use Rattle.hopen.proofs.Names.{◌≡◌, ◌+◌, ℕ, suc, ◌∙◌, ap, arith, map, reverse, remove_range, remove_nearest, no_words, without, is_node, opened_by}
 use Rattle.hopen.proofs.Opened.{seen, found, none_found, kept}
-use Rattle.hchain.proofs.Nearest.{remove_nearest, no_words}
-use Rattle.hchain.specs.Nearest.{without}
-use Rattle.hopen.specs.Stack.{is_node}
-use Rattle.hopen.specs.Kept.{opened_by}
 use Rattle.hopen.proofs.stack.OpenStack.remove.Goals as goal
 
 next : (i : ℕ) → i + 1 ≡ suc i

@@ -1,7 +1,4 @@
-use Rattle.std.proofs.Common.{◌≡◌, ◌+◌, ◌-◌, ℕ, length, ap, sym, ◌∙◌, arith, reverse}
-use Rattle.std.specs.List.{remove_range}
-use Rattle.hopen.specs.Stack.{OpenNodes}
-use Rattle.hopen.specs.Kept.{opened_by}
+use Rattle.hopen.proofs.Names.{◌≡◌, ◌+◌, ◌-◌, ℕ, length, ap, sym, ◌∙◌, arith, reverse, remove_range, OpenNodes, opened_by}
 use Rattle.hopen.proofs.Opened.{seen}
 use Rattle.hchain.proofs.Nearest.{remove_run_nearest}
 use Rattle.hopen.proofs.Standing.{length-stack_of}

@@ -1,14 +1,8 @@
-use Rattle.std.proofs.Common.{◌∙◌, ap, sym, refl, reverse, arith}
-use Rattle.std.proofs.lemmas.List.{with_items_is, map-set}
-use Rattle.std.specs.Vec.{with_items}
+use Rattle.hopen.proofs.Names.{◌∙◌, ap, sym, refl, reverse, arith, with_items_is, map-set, with_items, no_words, is_node, open_of, opened_by, stack_of, KeptNode}
 use Rattle.hopen.proofs.ExchangedStack.{item_of}
 use Rattle.hopen.proofs.Opened.{seen, found, none_found, kept}
-use Rattle.hchain.proofs.Nearest.{change_nearest, no_words}
+use Rattle.hchain.proofs.Nearest.{change_nearest}
 use Rattle.hchain.specs.Nearest.{changed}
-use Rattle.hopen.specs.Stack.{is_node}
-use Rattle.hopen.specs.Opens.{open_of}
-use Rattle.hopen.specs.Kept.{opened_by, stack_of}
-use Rattle.hopen.specs.declared.kept.KeptNode.{KeptNode}
 use Rattle.hopen.proofs.stack.OpenStack.replace.Goals as goal
 
 pub returns-in_ok-make_room-clause-ok : goal.returns-in_ok-make_room-clause-ok

@@ -1,5 +1,4 @@
-use Rattle.std.proofs.Common.{arith}
-use Rattle.std.proofs.lemmas.Grind.{common_steps}
+use Rattle.hopen.proofs.Names.{arith, common_steps}
 use Rattle.hopen.proofs.stack.OpenStack.room.Goals as goal
 
 pub returns-then-len-self : goal.returns-then-len-self
