@@ -1,10 +1,5 @@
 -- Attributes one after another.
-use Rattle.std.proofs.Common.{◌≡◌, ℕ, ◌+◌, ◌<◌, List, ◌∷◌, ◌++◌, get_or, drop, map, length, sym, ◌∙◌, ap, drop-cons, add-one}
-use Rattle.std.proofs.lemmas.List.{append_assoc}
-use Rattle.std.specs.List.{flat_map}
-use Rattle.names.specs.declared.attr.Attr.{Attr}
-use Rattle.hnodes.specs.Forest.{Attribute}
-use Rattle.hnodes.specs.Rows.{attribute_of}
+use Rattle.hserialize.proofs.Names.{◌≡◌, ℕ, ◌+◌, ◌<◌, List, ◌∷◌, ◌++◌, get_or, drop, map, length, sym, ◌∙◌, ap, drop-cons, add-one, append_assoc, flat_map, Attr, Attribute, attribute_of}
 
 -- the attributes from an index on
 pub dropped : (attrs : List Attr) (i : ℕ) (x : Attr) → i < length attrs → x ≡ get_or attrs i x → drop i attrs ≡ x ∷ drop (i + 1) attrs

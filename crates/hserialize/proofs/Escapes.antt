@@ -1,15 +1,9 @@
 -- A text as it is written, in runs of characters that are written as they are.
-use Rattle.std.proofs.Common.{◌≡◌, ℕ, ◌+◌, ◌-◌, ◌≤◌, List, [], ◌∷◌, ◌++◌, length, take, drop, refl, sym, ◌∙◌, ap, subst, arith, length-append}
+use Rattle.hserialize.proofs.Names.{◌≡◌, ℕ, ◌+◌, ◌-◌, ◌≤◌, List, [], ◌∷◌, ◌++◌, length, take, drop, refl, sym, ◌∙◌, ap, subst, arith, length-append, append_assoc, take_rest, encode_utf8, flat_map, Refusal, escaped, Taken, Adds, Fails, Escaping}
 use Rattle.std.proofs.Math.Seq.{drop-append_seam, take-append_seam}
-use Rattle.std.proofs.lemmas.List.{append_assoc, take_rest}
 use Rattle.std.proofs.lemmas.Str.{chars-nil, chars_past_char, IsUtf8-past_char}
-use Rattle.std.specs.Char.{encode_utf8}
-use Rattle.std.specs.List.{flat_map}
 use Rattle.std.specs.Str.{IsUtf8}
-use Rattle.names.specs.declared.refusal.Refusal.{Refusal}
-use Rattle.hserialize.specs.Escaping.{escaped, written_char}
-use Rattle.hserialize.specs.Output.{Taken, Adds, Fails}
-use Rattle.hserialize.specs.declared.escaping.Escaping.{Escaping}
+use Rattle.hserialize.specs.Escaping.{written_char}
 use Rattle.hserialize.specs.declared.escaping.Setting.{Setting}
 use Rattle.hserialize.proofs.Output.{HasLeft, none_put, part_put, part_failed}
 

@@ -1,12 +1,7 @@
 -- Texts that are written by way of a buffer, from its beginning to its end.
-use Rattle.std.proofs.Common.{◌≡◌, ℕ, List, [], ◌++◌, Option, Result, Ok, Err, refl, sym, ap, subst, ◌∙◌, append_assoc}
-use Rattle.std.specs.Prelude.{IsErrAnd}
-use Rattle.std.specs.Io.KnownBytes.{Appends}
-use Rattle.std.proofs.KnownBytes.{Appends-trans}
-use Rattle.names.specs.declared.refusal.Refusal.{Refusal}
-use Rattle.names.specs.declared.refusal.Refusal.TheVariants.{Write}
-use Rattle.hserialize.specs.Calls.{counted}
-use Rattle.hserialize.specs.Output.{WritesText, text_cut, text_written, taken, Adds, Fails, Ends}
+use Rattle.hserialize.proofs.Names.{◌≡◌, ℕ, List, [], ◌++◌, Option, Result, Ok, Err, refl, sym, ap, subst, ◌∙◌, IsErrAnd, Appends, Appends-trans, Refusal, Write, counted, WritesText, text_cut, text_written, taken, Adds, Fails}
+use Rattle.std.proofs.Common.{append_assoc}
+use Rattle.hserialize.specs.Output.{Ends}
 use Rattle.hserialize.specs.declared.sink.Sink.{Sink}
 
 module _ {W : Type 0} (written : W → Option (List ℕ)) (failed : W → ℕ) (text : List ℕ) (old last : W) (begun : Sink W) (called : ℕ) (name : begun.target.ghost_name ≡ called) (same : begun.target.now ≡ old) (none : begun.held.now.items ≡ []) where

@@ -1,8 +1,6 @@
 -- What was written to a text in memory is that text.
-use Rattle.std.proofs.Common.{◌≡◌, ℕ, List, [], Some, Ok, subst}
-use Rattle.std.specs.Io.KnownBytes.{Appends}
-use Rattle.hserialize.specs.Gathered.{gathered, failures_of}
-use Rattle.hserialize.specs.Output.{WritesText, no_buffer, text_cut, text_written}
+use Rattle.hserialize.proofs.Names.{◌≡◌, ℕ, List, [], Some, Ok, subst, Appends, gathered, failures_of, WritesText, text_cut, text_written}
+use Rattle.hserialize.specs.Output.{no_buffer}
 use Rattle.hserialize.specs.declared.gathered.Gathered.{Gathered}
 
 -- all of a text that was written is held

@@ -1,9 +1,8 @@
 -- Edits of a tree whose names are those of a table: what is put in has names of the table, and so has the tree after it.
-use Rattle.std.proofs.Common.{◌≡◌, ℕ, zero, suc, ◌+◌, ◌<◌, ◌≤◌, Bool, true, false, cond, eqb, List, [], ◌∷◌, ◌++◌, Option, Some, None, length, ap, ◌∙◌, arith, length-append}
+use Rattle.hserialize.proofs.Names.{◌≡◌, ℕ, zero, suc, ◌+◌, ◌<◌, ◌≤◌, Bool, true, false, cond, eqb, List, [], ◌∷◌, ◌++◌, Option, Some, None, length, ap, ◌∙◌, arith, length-append, encode_utf8, Texts, Attribute, What, document, doctype, element, comment, text, Forest, none, tree, join, tree_at, children_of}
 use Rattle.std.specs.Prelude.{slice_get}
-use Rattle.std.specs.Char.{encode_utf8}
-use Rattle.names.specs.Names.{Texts, IsOf, Grows}
-use Rattle.hnodes.specs.Forest.{Attribute, What, document, doctype, element, comment, text, Forest, none, tree, join, tree_at, children_of, cut, change_children, change_what, put_before}
+use Rattle.names.specs.Names.{IsOf, Grows}
+use Rattle.hnodes.specs.Forest.{cut, change_children, change_what, put_before}
 use Rattle.hnodes.specs.Edits.{Nodes, graft_last, graft, with_attribute, add_attribute, with_text, with_char, make, text_before, char_into, add_char, add_chars}
 use Rattle.hnodes.specs.Named.{AttributesAreOf, NodeIsOf, AreOf}
 use Rattle.hnodes.specs.declared.node.Place.{Place}

@@ -1,3 +1,4 @@
+pub mod Names
 pub mod Moves
 pub mod Sizes
 pub mod Seen

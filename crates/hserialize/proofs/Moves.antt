@@ -1,24 +1,14 @@
 -- The moves of a walk.
-use Rattle.std.proofs.Common.{◌≡◌, ◌≢◌, ℕ, ◌<◌, Bool, true, false, eqb, cond, List, [], ◌∷◌, ◌++◌, Option, Some, None, refl, sym, ◌∙◌, ap, subst, arith, drop, option_and_then, ◌⊎◌, inl, inr}
-use Rattle.std.proofs.lemmas.Bool.{eq-eqb, ne_eqb}
-use Rattle.std.proofs.lemmas.List.{append_assoc, append-nil}
-use Rattle.std.specs.Prelude.{IsTrue}
-use Rattle.std.specs.Option.{option_map}
-use Rattle.hnodes.specs.Forest.{What, Forest, none, tree, join, children_of}
-use Rattle.hnodes.specs.Spots.{Spot, spot_of, first_or, first_child_of, next_of, parent_of, what_of}
-use Rattle.hnodes.specs.Edits.{AreCounted}
-use Rattle.hnodes.specs.Passed.{ancestors_of, way_up, trees_after, is_among}
-use Rattle.hnodes.proofs.Forests.{some_inj, join-assoc}
+use Rattle.hserialize.proofs.Names.{◌≡◌, ℕ, ◌<◌, Bool, true, false, eqb, cond, List, [], ◌∷◌, ◌++◌, Option, Some, None, refl, sym, ◌∙◌, ap, subst, arith, drop, option_and_then, ◌⊎◌, inl, inr, eq-eqb, append_assoc, append-nil, IsTrue, option_map, What, Forest, none, tree, join, children_of, Spot, spot_of, first_or, first_child_of, next_of, parent_of, what_of, AreCounted, ancestors_of, way_up, is_among, some_inj, join-assoc, spot-children, at-most, is-there, was-made, spot_among, child-spot, IsInside, apart, own-inside, goes_in, visits, after_ends, visits_from, Reach, Whole, Enter, Leave}
+use Rattle.std.proofs.Common.{◌≢◌}
+use Rattle.std.proofs.lemmas.Bool.{ne_eqb}
+use Rattle.hnodes.specs.Passed.{trees_after}
 use Rattle.hnodes.proofs.Levels.{level, Here, Below}
-use Rattle.hnodes.proofs.Families.{first_child-is, spot-children}
-use Rattle.hnodes.proofs.Counted.{at-most, is-there, was-made}
-use Rattle.hnodes.proofs.ChildSpots.{spot_among, child-spot, root-spot}
-use Rattle.hnodes.proofs.TreeOrder.{IsInside, Entered, entered, apart, own-inside}
+use Rattle.hnodes.proofs.Families.{first_child-is}
+use Rattle.hnodes.proofs.ChildSpots.{root-spot}
+use Rattle.hnodes.proofs.TreeOrder.{Entered, entered}
 use Rattle.hnodes.proofs.WaysUp.{way-step}
-use Rattle.hserialize.specs.Walk.{goes_in, visits, visits_inside, after_ends, visits_from}
-use Rattle.hserialize.specs.declared.walk.Reach.{Reach}
-use Rattle.hserialize.specs.declared.walk.Reach.TheVariants.{Whole}
-use Rattle.hserialize.specs.declared.walk.Visit.TheVariants.{Enter, Leave}
+use Rattle.hserialize.specs.Walk.{visits_inside}
 
 module _ (made : ℕ) (f : Forest ℕ) (counted : AreCounted made f) (root : ℕ) where
   -- the nodes that a node is inside of are its parent and those that this is inside of

@@ -1,22 +1,11 @@
 -- A node with its own tags.
-use Rattle.std.proofs.Common.{◌≡◌, ℕ, ◌+◌, ◌<◌, zero, suc, Bool, true, false, eqb, cond, List, [], ◌++◌, map, Option, Some, None, refl, sym, ◌∙◌, ap, arith}
+use Rattle.hserialize.proofs.Names.{◌≡◌, ℕ, ◌+◌, ◌<◌, zero, suc, Bool, true, false, eqb, cond, List, [], ◌++◌, map, Option, Some, None, refl, sym, ◌∙◌, ap, arith, append-nil, option_map, Texts, AreNames, text_of, is_void, tag_of, tag_named, AreCounted, What, document, doctype, element, comment, text, Forest, none, tree, times, tree_at, children_of, spelled, spelled_attribute, Spot, spot_of, what_of, is-there, spot-children, some_inj, start_tag_text, end_tag_text, written, written_among, ending_of, opening, opening_of, stands_raw, Escaping}
 use Rattle.std.proofs.lemmas.Bool.{eqb-true}
-use Rattle.std.proofs.lemmas.List.{append-nil}
-use Rattle.std.specs.Option.{option_map}
-use Rattle.names.specs.Names.{Texts, AreNames, text_of}
-use Rattle.names.specs.Sets.{is_void}
-use Rattle.names.specs.Tags.{tag_of, tag_named}
-use Rattle.hnodes.specs.Edits.{AreCounted}
-use Rattle.hnodes.specs.Forest.{What, document, doctype, element, comment, text, Forest, none, tree, times, tree_at, children_of}
-use Rattle.hnodes.specs.Spelled.{spelled, spelled_attribute}
-use Rattle.hnodes.specs.Spots.{Spot, spot_below, spot_of, what_of}
-use Rattle.hnodes.proofs.Counted.{is-there}
-use Rattle.hnodes.proofs.Families.{Sited, at_root, in_kids, in_rest, sited, spot-children}
-use Rattle.hnodes.proofs.Forests.{some_inj, join-none, tree_at-absent}
+use Rattle.hnodes.specs.Spots.{spot_below}
+use Rattle.hnodes.proofs.Families.{Sited, at_root, in_kids, in_rest, sited}
+use Rattle.hnodes.proofs.Forests.{join-none, tree_at-absent}
 use Rattle.hnodes.proofs.Spots.{either-none, spot_below-absent, spot_of-absent}
-use Rattle.hserialize.specs.Written.{start_tag_text, end_tag_text, written, written_among}
-use Rattle.hserialize.specs.Writing.{ending, ending_of, name_around, opening, opening_of, stands_raw}
-use Rattle.hserialize.specs.declared.escaping.Escaping.{Escaping}
+use Rattle.hserialize.specs.Writing.{ending, name_around}
 use Rattle.hserialize.proofs.KnownNames.{tags-agree}
 use Rattle.hserialize.proofs.Wrote.{raw-same}
 

@@ -1,17 +1,12 @@
 -- Writes one after another.
-use Rattle.std.proofs.Common.{◌≡◌, ℕ, List, [], ◌∷◌, ◌++◌, Option, Some, Result, Ok, Err, refl, sym, ap, subst, ◌∙◌, append_assoc, append-nil, length, drop, get_or, drop-cons, add-one, ◌+◌, ◌<◌}
+use Rattle.hserialize.proofs.Names.{◌≡◌, ℕ, List, [], ◌∷◌, ◌++◌, Option, Some, Result, Ok, Err, refl, sym, ap, subst, ◌∙◌, length, drop, get_or, drop-cons, add-one, ◌+◌, ◌<◌, flat_map, IsErrAnd, Appends, Appends-trans, What, what_is, Refusal, Write, counted, Taken, Adds, Fails, Puts}
+use Rattle.std.proofs.Common.{append_assoc, append-nil}
 use Rattle.std.specs.Borrow.{Bor}
-use Rattle.std.specs.List.{flat_map}
-use Rattle.std.specs.Prelude.{◌≢◌, IsErrAnd, IfErr, OnErr, OnOk}
-use Rattle.std.specs.Io.KnownBytes.{Appends}
-use Rattle.std.proofs.KnownBytes.{Appends-nil, Appends-trans}
-use Rattle.hnodes.specs.Forest.{What}
-use Rattle.hserialize.specs.Lent.{what_is}
+use Rattle.std.specs.Prelude.{◌≢◌, IfErr, OnErr, OnOk}
+use Rattle.std.proofs.KnownBytes.{Appends-nil}
 use Rattle.hserialize.specs.declared.node_view.NodeView.{NodeView}
-use Rattle.names.specs.declared.refusal.Refusal.{Refusal}
-use Rattle.names.specs.declared.refusal.Refusal.TheVariants.{Write}
-use Rattle.hserialize.specs.Calls.{counted, counted_by_result}
-use Rattle.hserialize.specs.Output.{AppendsBeginning, Taken, Adds, Fails, Puts}
+use Rattle.hserialize.specs.Calls.{counted_by_result}
+use Rattle.hserialize.specs.Output.{AppendsBeginning}
 
 -- The known bytes grew by a beginning of these bytes, and the others are left; no call has failed.
 abbrev pub HasLeft : Taken → Taken → (bytes left : List ℕ) → Type 0

@@ -1,11 +1,5 @@
 -- What visits do in their order is what recursion over the trees does.
-use Rattle.std.proofs.Common.{◌≡◌, ℕ, Bool, true, false, cond, List, [], ◌∷◌, ◌++◌, refl, sym, ◌∙◌, ap}
-use Rattle.std.proofs.lemmas.List.{append_assoc, append-nil}
-use Rattle.hnodes.specs.Forest.{Forest, none, tree}
-use Rattle.hserialize.specs.Walk.{goes_in, visits}
-use Rattle.hserialize.specs.declared.walk.Reach.{Reach}
-use Rattle.hserialize.specs.declared.walk.Visit.{Visit}
-use Rattle.hserialize.specs.declared.walk.Visit.TheVariants.{Enter, Leave}
+use Rattle.hserialize.proofs.Names.{◌≡◌, ℕ, Bool, true, false, cond, List, [], ◌∷◌, ◌++◌, refl, sym, ◌∙◌, ap, append_assoc, append-nil, Forest, none, tree, goes_in, visits, Reach, Visit, Enter, Leave}
 
 module _ {S : Type 0} (enter leave : ℕ → S → S) where
   -- what visits do to a state

@@ -1,24 +1,8 @@
 -- What is asked of the nodes inside one is what is in their trees.
-use Rattle.std.proofs.Common.{◌≡◌, ℕ, ◌<◌, Bool, true, false, eqb, cond, [], Some, None, refl, sym, ◌∙◌, ap, option_and_then}
-use Rattle.std.proofs.lemmas.Bool.{eq-eqb}
+use Rattle.hserialize.proofs.Names.{◌≡◌, ℕ, ◌<◌, Bool, true, false, eqb, cond, [], Some, None, refl, sym, ◌∙◌, ap, option_and_then, eq-eqb, IsTrue, option_map, What, Forest, none, tree, join, children_of, Spot, spot_of, first_or, first_child_of, next_of, parent_of, what_of, AreCounted, ancestors_of, way_up, is_among, some_inj, join-assoc, is-there, spot_among, child-spot, IsInside, apart, own-inside, spot-children, goes_in, visits, Reach, Whole, Visit, Enter, Leave}
 use Rattle.std.specs.List.{All}
-use Rattle.std.specs.Prelude.{IsTrue}
-use Rattle.std.specs.Option.{option_map}
-use Rattle.hnodes.specs.Forest.{What, Forest, none, tree, join, children_of}
-use Rattle.hnodes.specs.Spots.{Spot, spot_of, first_or, first_child_of, next_of, parent_of, what_of}
-use Rattle.hnodes.specs.Edits.{AreCounted}
-use Rattle.hnodes.specs.Passed.{ancestors_of, way_up, is_among}
-use Rattle.hnodes.proofs.Forests.{some_inj, join-assoc}
-use Rattle.hnodes.proofs.Counted.{is-there}
-use Rattle.hnodes.proofs.ChildSpots.{spot_among, child-spot}
-use Rattle.hnodes.proofs.TreeOrder.{IsInside, apart, own-inside}
-use Rattle.hnodes.proofs.Families.{spot-children}
 use Rattle.std.proofs.lemmas.List.Elements.{All-append, All-cons, All-nil}
-use Rattle.hserialize.specs.Walk.{node_of, goes_in, visits}
-use Rattle.hserialize.specs.declared.walk.Reach.{Reach}
-use Rattle.hserialize.specs.declared.walk.Reach.TheVariants.{Whole}
-use Rattle.hserialize.specs.declared.walk.Visit.{Visit}
-use Rattle.hserialize.specs.declared.walk.Visit.TheVariants.{Enter, Leave}
+use Rattle.hserialize.specs.Walk.{node_of}
 use Rattle.hserialize.proofs.Moves.{comes, parents}
 
 -- what is asked of node b, where it is with these children below p, before these siblings

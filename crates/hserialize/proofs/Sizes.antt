@@ -1,14 +1,10 @@
 -- How many nodes there are, and how long a walk over them is.
-use Rattle.std.proofs.Common.{◌≡◌, ℕ, zero, suc, ◌+◌, ◌*◌, ◌<◌, ◌≤◌, Bool, true, false, eqb, cond, length, length-append, refl, ap, arith, ◌∷◌, ◌++◌, []}
-use Rattle.std.proofs.lemmas.Bool.{eqb-false, eq-eqb}
-use Rattle.hnodes.specs.Forest.{What, Forest, none, tree, size, times, tree_at, children_of}
-use Rattle.hnodes.specs.Edits.{AreCounted}
-use Rattle.hnodes.proofs.Counted.{at-most, is-there, was-made}
+use Rattle.hserialize.proofs.Names.{◌≡◌, ℕ, zero, suc, ◌+◌, ◌<◌, ◌≤◌, Bool, true, false, eqb, cond, length, length-append, refl, ap, arith, ◌∷◌, ◌++◌, [], eq-eqb, What, Forest, none, tree, times, tree_at, children_of, AreCounted, at-most, is-there, was-made, goes_in, visits, Reach, Enter, Leave}
+use Rattle.std.proofs.Common.{◌*◌}
+use Rattle.std.proofs.lemmas.Bool.{eqb-false}
+use Rattle.hnodes.specs.Forest.{size}
 use Rattle.hnodes.proofs.Families.{family}
 use Rattle.hnodes.proofs.Inside.{tree_at-size}
-use Rattle.hserialize.specs.Walk.{goes_in, visits}
-use Rattle.hserialize.specs.declared.walk.Reach.{Reach}
-use Rattle.hserialize.specs.declared.walk.Visit.TheVariants.{Enter, Leave}
 
 -- how many nodes have a number below k, each as often as it is there
 abbrev total : ℕ → Forest ℕ → ℕ

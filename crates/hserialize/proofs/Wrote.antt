@@ -1,25 +1,14 @@
 -- What a walk writes.
-use Rattle.std.proofs.Common.{◌≡◌, ℕ, ◌<◌, Bool, true, false, not, cond, List, [], ◌∷◌, ◌++◌, map, Option, Some, None, refl, sym, ◌∙◌, ap, subst, option_and_then}
-use Rattle.std.proofs.lemmas.List.{append_assoc, append-nil}
-use Rattle.std.specs.Option.{option_map}
-use Rattle.names.specs.Names.{Texts, AreNames, text_of}
-use Rattle.names.specs.Sets.{is_void, raw_kind}
-use Rattle.names.specs.Tags.{tag_of, tag_named}
-use Rattle.hnodes.specs.Forest.{What, document, doctype, element, comment, text, Forest, none, tree, children_of}
-use Rattle.hnodes.specs.Edits.{AreCounted}
-use Rattle.hnodes.specs.Spelled.{spelled, spelled_what, spelled_attribute}
-use Rattle.hnodes.specs.Spots.{what_of, name_of, name_in}
-use Rattle.names.specs.declared.refusal.Refusal.{Refusal}
-use Rattle.hserialize.specs.Walk.{goes_in, visits}
-use Rattle.hserialize.specs.Written.{has_no_references, is_raw_in, start_tag_text, end_tag_text, node_text, written_among, written}
-use Rattle.hserialize.specs.Writing.{holds_raw, stands_raw, opening, closing, opening_of, closing_of, visit_text}
-use Rattle.hserialize.specs.declared.escaping.Escaping.{Escaping}
+use Rattle.hserialize.proofs.Names.{◌≡◌, ℕ, ◌<◌, Bool, true, false, cond, List, [], ◌∷◌, ◌++◌, map, Option, Some, None, refl, sym, ◌∙◌, ap, subst, option_and_then, append_assoc, append-nil, option_map, Texts, AreNames, text_of, is_void, tag_of, tag_named, What, document, doctype, element, comment, text, Forest, none, tree, children_of, AreCounted, spelled, spelled_attribute, what_of, name_in, Refusal, goes_in, visits, start_tag_text, end_tag_text, written_among, written, stands_raw, opening, opening_of, closing_of, Escaping, Visit, Enter, Leave, Taken, Adds, Fails}
+use Rattle.std.proofs.Common.{not}
+use Rattle.names.specs.Sets.{raw_kind}
+use Rattle.hnodes.specs.Spelled.{spelled_what}
+use Rattle.hnodes.specs.Spots.{name_of}
+use Rattle.hserialize.specs.Written.{has_no_references, is_raw_in, node_text}
+use Rattle.hserialize.specs.Writing.{holds_raw, closing, visit_text}
 use Rattle.hserialize.specs.declared.walk.Reach.TheVariants.{Written}
-use Rattle.hserialize.specs.declared.walk.Visit.{Visit}
-use Rattle.hserialize.specs.declared.walk.Visit.TheVariants.{Enter, Leave}
 use Rattle.hserialize.proofs.KnownNames.{tags-agree}
 use Rattle.hserialize.proofs.Runs.{run, walked, run-visits}
-use Rattle.hserialize.specs.Output.{Taken, Adds, Fails}
 use Rattle.hserialize.proofs.Output.{HasLeft, none_put, part_put, part_failed, all_put}
 use Rattle.hserialize.proofs.Seen.{Seen, IsSeen, seen}
 

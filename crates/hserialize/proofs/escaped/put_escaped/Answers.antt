@@ -1,4 +1,4 @@
-use Rattle.std.proofs.Common.{◌∙◌, ap, ◌+◌, arith}
+use Rattle.hserialize.proofs.Names.{◌∙◌, ap, ◌+◌, arith}
 use Rattle.std.specs.declared.str.CharIndices.{CharIndices}
 use Rattle.hserialize.proofs.Output.{last_put, passed_on}
 use Rattle.hserialize.proofs.Escapes.{begins_at, in_order, run_is, kept, replaced, put_failed, last_is}

@@ -1,4 +1,4 @@
-use Rattle.hserialize.specs.Output.{taken}
+use Rattle.hserialize.proofs.Names.{taken}
 use Rattle.hserialize.proofs.Escapes.{IsEscaping}
 use Rattle.hserialize.proofs.escaped.put_escaped.Given as goal
 

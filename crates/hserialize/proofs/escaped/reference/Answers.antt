@@ -1,4 +1,4 @@
-use Rattle.std.proofs.Common.{rules}
+use Rattle.hserialize.proofs.Names.{rules}
 use Rattle.hserialize.proofs.escaped.reference.Goals as goal
 
 pub returns-in_default-clause-none : goal.returns-in_default-clause-none

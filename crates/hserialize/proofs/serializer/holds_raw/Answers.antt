@@ -1,4 +1,4 @@
-use Rattle.std.proofs.Common.{rules}
+use Rattle.hserialize.proofs.Names.{rules}
 use Rattle.hserialize.proofs.serializer.holds_raw.Goals as goal
 
 pub returns-in_default : goal.returns-in_default

@@ -1,8 +1,4 @@
-use Rattle.std.proofs.Common.{◌≡◌, ℕ, List, ◌++◌, codes, refl}
-use Rattle.std.proofs.lemmas.List.{append_assoc}
-use Rattle.hserialize.specs.Escaping.{escaped}
-use Rattle.hserialize.specs.Written.{attribute_text}
-use Rattle.hserialize.specs.declared.escaping.Escaping.{Escaping}
+use Rattle.hserialize.proofs.Names.{◌≡◌, ℕ, List, ◌++◌, codes, refl, append_assoc, escaped, attribute_text, Escaping}
 use Rattle.hserialize.specs.declared.escaping.Setting.TheVariants.{Value}
 use Rattle.hserialize.proofs.Output.{first_failed, then_put}
 use Rattle.hserialize.proofs.serializer.put_attribute.Goals as goal

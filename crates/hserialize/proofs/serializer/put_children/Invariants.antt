@@ -1,4 +1,4 @@
-use Rattle.hserialize.specs.Output.{taken}
+use Rattle.hserialize.proofs.Names.{taken}
 use Rattle.hserialize.proofs.Wrote.{IsWriting}
 use Rattle.hserialize.proofs.serializer.put_children.Given as goal
 

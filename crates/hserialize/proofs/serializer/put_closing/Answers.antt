@@ -1,9 +1,4 @@
-use Rattle.std.proofs.Common.{[], cond, ◌∙◌, ap, subst}
-use Rattle.names.specs.Names.{text_of}
-use Rattle.names.specs.Sets.{is_void}
-use Rattle.hserialize.specs.Output.{Puts, taken}
-use Rattle.hserialize.specs.Written.{end_tag_text}
-use Rattle.hserialize.specs.Writing.{closing_of}
+use Rattle.hserialize.proofs.Names.{[], cond, ◌∙◌, ap, subst, text_of, is_void, Puts, taken, end_tag_text, closing_of}
 use Rattle.hserialize.proofs.Output.{put_for}
 use Rattle.hserialize.proofs.serializer.put_closing.Goals as goal
 

@@ -1,11 +1,4 @@
-use Rattle.std.proofs.Common.{Some, sym, ◌∙◌, ap, refl, option_and_then}
-use Rattle.hnodes.specs.Forest.{children_of}
-use Rattle.hnodes.specs.Spots.{name_in}
-use Rattle.names.specs.Names.{text_of}
-use Rattle.names.specs.Sets.{is_void}
-use Rattle.hserialize.specs.Output.{taken}
-use Rattle.hserialize.specs.Lent.{what_is}
-use Rattle.hserialize.specs.Writing.{ending_of}
+use Rattle.hserialize.proofs.Names.{Some, sym, ◌∙◌, ap, refl, option_and_then, children_of, name_in, text_of, is_void, taken, what_is, ending_of}
 use Rattle.hserialize.proofs.Outer.{ended}
 use Rattle.hserialize.proofs.Output.{first_failed, put_for, then_put}
 use Rattle.hserialize.proofs.serializer.put_ending.Goals as goal

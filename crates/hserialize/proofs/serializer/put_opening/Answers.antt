@@ -1,6 +1,4 @@
-use Rattle.hserialize.specs.Output.{taken}
-use Rattle.names.specs.Names.{text_of}
-use Rattle.hserialize.specs.Writing.{opening_of, stands_raw}
+use Rattle.hserialize.proofs.Names.{taken, text_of, opening_of, stands_raw}
 use Rattle.hserialize.proofs.Output.{put_for}
 use Rattle.hserialize.proofs.serializer.put_opening.Goals as goal
 

@@ -1,13 +1,4 @@
-use Rattle.std.proofs.Common.{◌≡◌, ◌∙◌, ℕ, List, ◌∷◌, ◌++◌, codes, map, sym, ap}
-use Rattle.std.proofs.lemmas.List.{append_assoc, drop_all}
-use Rattle.std.specs.List.{flat_map}
-use Rattle.names.specs.Names.{text_of}
-use Rattle.names.specs.declared.attr.Attr.{Attr}
-use Rattle.hnodes.specs.Forest.{Attribute}
-use Rattle.hnodes.specs.Rows.{attribute_of}
-use Rattle.hnodes.specs.Spelled.{spelled_attribute}
-use Rattle.hserialize.specs.Written.{attribute_text, start_tag_text}
-use Rattle.hserialize.specs.declared.escaping.Escaping.{Escaping}
+use Rattle.hserialize.proofs.Names.{◌≡◌, ◌∙◌, ℕ, List, ◌∷◌, ◌++◌, codes, map, sym, ap, append_assoc, drop_all, flat_map, text_of, Attr, Attribute, attribute_of, spelled_attribute, attribute_text, start_tag_text, Escaping}
 use Rattle.hserialize.proofs.Attributes.{next-text}
 use Rattle.hserialize.proofs.Output.{none_put, part_put, part_failed, last_put, passed_on}
 use Rattle.hserialize.proofs.serializer.put_start_tag.Goals as goal

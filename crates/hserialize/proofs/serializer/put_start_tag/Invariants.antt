@@ -1,10 +1,4 @@
-use Rattle.std.proofs.Common.{◌++◌, codes, drop, map}
-use Rattle.std.specs.List.{flat_map}
-use Rattle.names.specs.Names.{text_of}
-use Rattle.hnodes.specs.Rows.{attribute_of}
-use Rattle.hnodes.specs.Spelled.{spelled_attribute}
-use Rattle.hserialize.specs.Output.{taken}
-use Rattle.hserialize.specs.Written.{attribute_text, start_tag_text}
+use Rattle.hserialize.proofs.Names.{◌++◌, codes, drop, map, flat_map, text_of, attribute_of, spelled_attribute, taken, attribute_text, start_tag_text}
 use Rattle.hserialize.proofs.Output.{HasLeft}
 use Rattle.hserialize.proofs.serializer.put_start_tag.Given as goal
 

@@ -1,4 +1,4 @@
-use Rattle.std.proofs.Common.{◌∙◌, ap, rules}
+use Rattle.hserialize.proofs.Names.{◌∙◌, ap, rules}
 use Rattle.hserialize.proofs.Finished.{cut_short, finished}
 use Rattle.hserialize.proofs.serializer.serialize.Goals as goal
 

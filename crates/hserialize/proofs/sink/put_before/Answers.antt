@@ -1,5 +1,5 @@
-use Rattle.std.proofs.Common.{◌∙◌, ◌++◌, append-nil, ap, subst}
-use Rattle.hserialize.specs.Output.{Puts, taken}
+use Rattle.hserialize.proofs.Names.{◌∙◌, ◌++◌, ap, subst, Puts, taken}
+use Rattle.std.proofs.Common.{append-nil}
 use Rattle.hserialize.proofs.sink.put_before.Goals as goal
 
 pub returns : goal.returns

@@ -1,5 +1,4 @@
-use Rattle.std.proofs.Common.{subst}
-use Rattle.hserialize.specs.Output.{Puts, taken}
+use Rattle.hserialize.proofs.Names.{subst, Puts, taken}
 use Rattle.hserialize.proofs.Output.{between}
 use Rattle.hserialize.proofs.sink.put_between.Goals as goal
 

@@ -1,5 +1,4 @@
-use Rattle.std.proofs.Common.{ap}
-use Rattle.std.proofs.lemmas.List.{drop_all}
+use Rattle.hserialize.proofs.Names.{ap, drop_all}
 use Rattle.hserialize.proofs.Output.{all_parts, all_put, part_put, part_failed, passed_on, next_part}
 use Rattle.hserialize.proofs.sink.put_parts.Goals as goal
 

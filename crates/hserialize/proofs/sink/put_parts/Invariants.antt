@@ -1,5 +1,4 @@
-use Rattle.std.proofs.Common.{drop}
-use Rattle.hserialize.specs.Output.{taken}
+use Rattle.hserialize.proofs.Names.{drop, taken}
 use Rattle.hserialize.proofs.Output.{HasLeft, all_parts}
 use Rattle.hserialize.proofs.sink.put_parts.Given as goal
 

@@ -1,4 +1,4 @@
-use Rattle.std.proofs.Common.{[], refl}
+use Rattle.hserialize.proofs.Names.{[], refl}
 use Rattle.hserialize.proofs.Output.{none_put, both_added, part_put, part_failed, passed_on, last_put, passed_over}
 use Rattle.hserialize.proofs.sink.put_past.Goals as goal
 

@@ -1,6 +1,5 @@
 -- What is gone from the bytes was taken, and no call has failed yet.
-use Rattle.std.proofs.Common.{◌≡◌, ℕ, List, ◌++◌, length}
-use Rattle.std.specs.Io.KnownBytes.{Appends}
+use Rattle.hserialize.proofs.Names.{◌≡◌, ℕ, List, ◌++◌, length, Appends}
 use Rattle.hserialize.proofs.target.write_all.Given as goal
 
 abbrev pub invariant-loop-rest : goal.invariant-loop-rest

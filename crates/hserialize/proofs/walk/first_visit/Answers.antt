@@ -1,4 +1,4 @@
-use Rattle.std.proofs.Common.{sym, ◌∙◌}
+use Rattle.hserialize.proofs.Names.{sym, ◌∙◌}
 use Rattle.hserialize.proofs.Moves.{begins, begins-inside, begins-none}
 use Rattle.hserialize.proofs.walk.first_visit.Goals as goal
 

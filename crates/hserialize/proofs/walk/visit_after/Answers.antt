@@ -1,8 +1,4 @@
-use Rattle.std.proofs.Common.{sym, ◌∙◌, ap, ◌∷◌, Option, None, ℕ, ◌≡◌, rules}
-use Rattle.hnodes.specs.Passed.{way_up}
-use Rattle.hserialize.specs.Walk.{after_ends, visits_from}
-use Rattle.hserialize.specs.declared.walk.Reach.TheVariants.{Whole}
-use Rattle.hserialize.specs.declared.walk.Visit.TheVariants.{Leave}
+use Rattle.hserialize.proofs.Names.{sym, ◌∙◌, ap, ◌∷◌, Option, None, ℕ, ◌≡◌, rules, way_up, after_ends, visits_from, Whole, Leave}
 use Rattle.hserialize.proofs.Moves.{next, climbs, climbs-inside, ends}
 use Rattle.hserialize.proofs.walk.visit_after.Goals as goal
 

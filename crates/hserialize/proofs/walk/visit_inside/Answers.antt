@@ -1,4 +1,4 @@
-use Rattle.std.proofs.Common.{sym, ◌∙◌, rules}
+use Rattle.hserialize.proofs.Names.{sym, ◌∙◌, rules}
 use Rattle.hserialize.proofs.Moves.{descends, descends-inside}
 use Rattle.hserialize.proofs.walk.visit_inside.Goals as goal
 

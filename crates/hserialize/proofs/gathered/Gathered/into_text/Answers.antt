@@ -1,6 +1,4 @@
-use Rattle.std.proofs.Common.{subst}
-use Rattle.hserialize.specs.Gathered.{gathered, failures_of}
-use Rattle.hserialize.specs.Output.{WritesText}
+use Rattle.hserialize.proofs.Names.{subst, gathered, failures_of, WritesText}
 use Rattle.hserialize.proofs.InMemory.{all_written}
 use Rattle.hserialize.proofs.gathered.Gathered.into_text.Goals as goal
 

@@ -1,4 +1,4 @@
-use Rattle.std.proofs.Common.{refl}
+use Rattle.hserialize.proofs.Names.{refl}
 use Rattle.hserialize.proofs.Output.{not_handed, passed_on}
 use Rattle.hserialize.proofs.sink.Sink.hand_over.Goals as goal
 

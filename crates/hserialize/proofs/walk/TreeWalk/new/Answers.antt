@@ -1,4 +1,4 @@
-use Rattle.std.proofs.Common.{arith}
+use Rattle.hserialize.proofs.Names.{arith}
 use Rattle.hserialize.proofs.Seen.{made-visits}
 use Rattle.hserialize.proofs.Sizes.{walk-long}
 use Rattle.hserialize.proofs.walk.TreeWalk.new.Goals as goal
