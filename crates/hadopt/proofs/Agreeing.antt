@@ -1,14 +1,12 @@
 -- The numbers of a table of names agree with its texts.
-use Rattle.std.proofs.Common.{◌≡◌, length, refl, sym}
+use Rattle.hadopt.proofs.Names.{◌≡◌, length, refl, sym, number_of, tag_text, Tag, numbers, texts, Agree}
 use Rattle.names.proofs.AllTexts.{spelled}
 use Rattle.names.proofs.KnownNumbers.{text_of_first, text_of_known}
 use Rattle.names.specs.Names.{Texts, AreNames}
 use Rattle.names.specs.Spelling.{spelling}
-use Rattle.names.specs.Tags.{number_of, tag_text, tags, type_name}
-use Rattle.names.specs.declared.tag.Tag.{Tag}
+use Rattle.names.specs.Tags.{tags, type_name}
 use Rattle.names.specs.declared.tag.Tag.TheVariants.{Other}
-use Rattle.hadopt.specs.Naming.{named, numbers, texts}
-use Rattle.hadopt.specs.Spelled.{Agree}
+use Rattle.hadopt.specs.Naming.{named}
 
 is-named : (t : Tag) → named t ≡ Other → ⊥
 is-named Other e = cc

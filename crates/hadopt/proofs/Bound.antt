@@ -1,24 +1,6 @@
 -- One use of the adoption agency makes at most 32 nodes: three in the inner loop and one more in each of eight turns.
-use Rattle.std.proofs.Common.{◌≡◌, ℕ, zero, suc, ◌+◌, ◌-◌, ◌*◌, ◌≤◌, ◌<◌, Bool, true, false, not, cond, leb, List, [], ◌∷◌, Option, Some, None, refl, subst, arith, ◌⊎◌, inl, inr, find, drop}
-use Rattle.std.proofs.lemmas.Bool.{le-leb, cases_lt}
-use Rattle.std.specs.Option.{option_map_or}
-use Rattle.std.specs.Prelude.{◌==◌}
-use Rattle.hnodes.specs.Forest.{What, element}
-use Rattle.hnodes.specs.Edits.{make}
-use Rattle.hopen.specs.Stack.{OpenNode, is_node, is_open, above, current, in_scope, furthest_block}
-use Rattle.hopen.specs.Scopes.{stops, is_named}
-use Rattle.hopen.specs.declared.scope.Scope.TheVariants.{Default}
-use Rattle.hformat.specs.declared.bookmark.Bookmark.TheVariants.{InPlace}
-use Rattle.hchain.specs.Nearest.{before}
-use Rattle.hformat.specs.Formatting.{EntryOf, Listed, marker, entry, entries, is_of_node, entry_of, find_entry, without_entry}
-use Rattle.names.specs.declared.error.ErrorCode.TheVariants.{TreeInBody}
-use Rattle.names.specs.declared.refusal.Refusal.TheVariants.{TooManyNodes}
-use Rattle.names.specs.Sets.{is_special}
-use Rattle.hadopt.specs.Naming.{Naming}
-use Rattle.hadopt.specs.Site.{Outcome, Goes, Refused, and_then, SiteOf, stack, with_items, with_stack, with_error, error_unless, current_is}
-use Rattle.hadopt.specs.Inserts.{made}
-use Rattle.hadopt.specs.Closes.{closed, other_end, without_implied}
-use Rattle.hadopt.specs.Adopts.{Turn, Next, Ended, next_turn, InnerLoop, most_turns, entries_for, left, node_replaced, formatting_replaced, inner_turn, inner_loop, after_inner_loop, with_furthest_block, popped_with, with_formatting_element, outer_turn, outer_loop, is_unlisted, adopted}
+use Rattle.hadopt.proofs.Names.{◌≡◌, ℕ, zero, suc, ◌+◌, ◌-◌, ◌*◌, ◌≤◌, ◌<◌, Bool, true, false, not, cond, leb, List, [], ◌∷◌, Option, Some, None, refl, subst, arith, ◌⊎◌, inl, inr, find, drop, le-leb, option_map_or, ◌==◌, What, element, make, OpenNode, is_node, is_open, above, current, in_scope, furthest_block, stops, is_named, Default, InPlace, before, EntryOf, Listed, marker, entry, entries, is_of_node, entry_of, find_entry, without_entry, TreeInBody, TooManyNodes, is_special, Naming, Outcome, Goes, Refused, and_then, SiteOf, stack, with_items, with_stack, with_error, error_unless, current_is, made, closed, other_end, without_implied, Turn, Next, Ended, next_turn, InnerLoop, most_turns, entries_for, left, node_replaced, formatting_replaced, inner_turn, inner_loop, after_inner_loop, with_furthest_block, popped_with, with_formatting_element, outer_turn, outer_loop, is_unlisted, adopted}
+use Rattle.std.proofs.lemmas.Bool.{cases_lt}
 
 -- how many nodes were made, at most, where it was not refused
 abbrev IsWithin : {S : Type 0} → (S → ℕ) → ℕ → Outcome S → Type 0

@@ -1,23 +1,7 @@
 -- What the operations keep, and what the calls that do them keep so.
-use Rattle.std.proofs.Common.{◌≡◌, ℕ, Bool, true, false, cond, List, [], ◌∷◌, subst, Ok, Err, length, leb}
-use Rattle.std.specs.Char.{encode_utf8}
-use Rattle.std.specs.Prelude.{Result, IfOk}
-use Rattle.hnodes.specs.Forest.{Attribute, What, element, text}
-use Rattle.hnodes.specs.declared.node.Place.{Place}
-use Rattle.hformat.specs.Formatting.{Listed, marker, entry, entries, cleared, without_entry}
-use Rattle.hopen.specs.Stack.{OpenNode, current}
-use Rattle.names.specs.declared.tag.Tag.TheVariants.{Table}
-use Rattle.names.specs.declared.error.ErrorCode.{ErrorCode}
-use Rattle.names.specs.declared.placed.Placed.{Placed}
-use Rattle.names.specs.declared.refusal.Refusal.{Refusal}
-use Rattle.names.specs.declared.refusal.Refusal.TheVariants.{TooDeep}
-use Rattle.hadopt.specs.Closes.{closed, other_end}
-use Rattle.hadopt.specs.Gives.{Gives}
-use Rattle.hadopt.specs.Inserts.{added, pushed, inserted, listed, put, put_each, with_missing}
-use Rattle.hadopt.specs.Kept.{OpenStands, PlaceStands, Kept}
-use Rattle.hadopt.specs.Naming.{Naming}
-use Rattle.hadopt.specs.Reconstructs.{reconstructed}
-use Rattle.hadopt.specs.Site.{Outcome, Goes, Refused, and_then, SiteOf, stack, trees, with_trees, with_stack, with_items, with_error, node_of}
+use Rattle.hadopt.proofs.Names.{◌≡◌, ℕ, Bool, true, false, cond, List, [], ◌∷◌, subst, Ok, Err, length, leb, encode_utf8, Result, IfOk, Attribute, What, element, text, Place, Listed, marker, entry, entries, without_entry, OpenNode, current, Table, ErrorCode, Placed, Refusal, TooDeep, closed, other_end, Gives, added, pushed, inserted, listed, put, put_each, with_missing, PlaceStands, Kept, Naming, reconstructed, Outcome, Goes, Refused, and_then, SiteOf, stack, trees, with_trees, with_stack, with_items, with_error, node_of}
+use Rattle.hformat.specs.Formatting.{cleared}
+use Rattle.hadopt.specs.Kept.{OpenStands}
 use Rattle.hadopt.proofs.Climbing.{OnGoes, goes-then, Plain, PlainEntries, plain-without}
 use Rattle.hadopt.proofs.Inserting.{standing-fits, put-stands, added-well, inserted-well, put-well, missing-well, reconstructed-well}
 use Rattle.hadopt.proofs.Keeping.{goes-map, to-well, from-well}

@@ -1,24 +1,5 @@
 -- The inner loop of the adoption agency: the open nodes are in the document's tree or in that of the last node.
-use Rattle.std.proofs.Common.{◌≡◌, ◌≢◌, ℕ, zero, suc, ◌+◌, ◌<◌, ◌≤◌, Bool, true, false, not, leb, cond, List, [], ◌∷◌, ◌++◌, Option, Some, None, refl, sym, ◌∙◌, subst, arith, ◌⊎◌, inl, inr, find}
-use Rattle.std.proofs.lemmas.Bool.{eq-eqb, ne_eqb}
-use Rattle.std.specs.Prelude.{◌==◌}
-use Rattle.std.specs.Option.{option_map_or}
-use Rattle.hnodes.specs.Forest.{What, element, Forest, none, tree, times, join, tree_at}
-use Rattle.hnodes.specs.Edits.{AreCounted, graft_last, make}
-use Rattle.hnodes.specs.declared.node.Place.TheVariants.{LastIn}
-use Rattle.hchain.specs.Nearest.{without}
-use Rattle.hopen.specs.Stack.{OpenNode, is_node}
-use Rattle.hformat.specs.Formatting.{EntryOf, Listed, marker, entry, entries, is_of_node, entry_of, without_entry, for_node, with_node}
-use Rattle.names.specs.declared.tag.Tag.TheVariants.{Table}
-use Rattle.names.specs.declared.refusal.Refusal.TheVariants.{TooManyNodes}
-use Rattle.hnodes.proofs.Counted.{at-most, is-there, not-there, deep-there, times-new, counted-new, counted-graft}
-use Rattle.hnodes.proofs.Deep.{deep, deep-lower, deep-is, deep-self}
-use Rattle.hnodes.proofs.Outside.{deep-new, deep-newest, graft-deep, graft-apart, graft-below}
-use Rattle.hadopt.specs.Naming.{Naming}
-use Rattle.hadopt.specs.Site.{Outcome, Goes, Refused, and_then, stack, trees, with_items}
-use Rattle.hadopt.specs.Inserts.{made}
-use Rattle.hadopt.specs.Adopts.{InnerLoop, entries_for, left, node_replaced, inner_turn, inner_loop}
-use Rattle.hadopt.specs.Kept.{Each, Pairs}
+use Rattle.hadopt.proofs.Names.{◌≡◌, ◌≢◌, ℕ, zero, suc, ◌+◌, ◌<◌, ◌≤◌, Bool, true, false, not, leb, cond, List, [], ◌∷◌, ◌++◌, Option, Some, None, refl, sym, ◌∙◌, subst, arith, ◌⊎◌, inl, inr, find, eq-eqb, ne_eqb, ◌==◌, option_map_or, What, element, Forest, none, tree, times, join, tree_at, AreCounted, graft_last, make, LastIn, without, OpenNode, is_node, EntryOf, Listed, marker, entry, entries, is_of_node, entry_of, without_entry, for_node, with_node, Table, TooManyNodes, at-most, is-there, not-there, deep-there, times-new, counted-new, counted-graft, deep, deep-lower, deep-is, deep-self, deep-new, deep-newest, graft-deep, graft-apart, graft-below, Naming, Outcome, Goes, Refused, and_then, stack, trees, with_items, made, InnerLoop, entries_for, left, node_replaced, inner_turn, inner_loop, Each, Pairs}
 use Rattle.hadopt.proofs.Lists.{each-map, pairs-map, Among, empty, skip, keep, each-among, pairs-among, among-without, Front, front-next, front-pairs, front-map, front-each, front-without, front-changed, each-changed, pairs-changed}
 
 -- what holds where it goes on

@@ -1,16 +1,7 @@
 -- An entry that is pushed for a new element, which is the current node.
-use Rattle.std.proofs.Common.{◌≡◌, ℕ, Bool, true, false, cond, not, List, [], ◌∷◌, length, leb, filter, refl, sym, ◌∙◌, ap}
-use Rattle.std.specs.List.{list_any}
-use Rattle.std.specs.Prelude.{◌&&◌}
-use Rattle.hnodes.specs.Edits.{graft, make}
-use Rattle.hnodes.specs.Forest.{Attribute, element}
-use Rattle.hnodes.specs.declared.node.Place.{Place}
-use Rattle.hformat.specs.Formatting.{EntryOf, Listed, marker, entry, entries, after_marker, is_equal, most_equal, without_earliest, with_room, pushed as entry_pushed}
-use Rattle.hopen.specs.Stack.{OpenNode, current}
-use Rattle.names.specs.declared.refusal.Refusal.TheVariants.{TooManyNodes, TooDeep}
-use Rattle.hadopt.specs.Inserts.{pushed, inserted, listed}
-use Rattle.hadopt.specs.Naming.{Naming}
-use Rattle.hadopt.specs.Site.{Goes, Refused, and_then, SiteOf, stack, trees, with_items, with_stack, with_trees, node_of}
+use Rattle.hadopt.proofs.Names.{◌≡◌, ℕ, Bool, true, false, cond, not, List, [], ◌∷◌, length, leb, refl, sym, ◌∙◌, ap, list_any, ◌&&◌, graft, make, Attribute, element, Place, EntryOf, Listed, marker, entry, entries, after_marker, OpenNode, current, TooManyNodes, TooDeep, pushed, inserted, listed, Naming, Goes, Refused, and_then, SiteOf, stack, trees, with_items, with_stack, with_trees, node_of}
+use Rattle.std.proofs.Common.{filter}
+use Rattle.hformat.specs.Formatting.{is_equal, most_equal, without_earliest, with_room, pushed as entry_pushed}
 use Rattle.hadopt.proofs.Lists.{Among, skip, keep, among-all, empty}
 
 module _ {N : Type 0} where

@@ -1,13 +1,8 @@
 -- Going up the stack, and going back over the list.
-use Rattle.std.proofs.Common.{◌≡◌, ℕ, zero, suc, ◌+◌, Bool, true, false, not, ◌&&◌, ◌||◌, List, [], ◌∷◌, refl, arith, drop, length, Some, slice_get, sym, ◌==◌, if◌then◌else◌}
+use Rattle.hadopt.proofs.Names.{◌≡◌, ℕ, zero, suc, ◌+◌, Bool, true, false, not, ◌||◌, List, [], ◌∷◌, refl, arith, drop, length, Some, slice_get, sym, if◌then◌else◌, option_map_or, before, OpenNode, in_scope, is_open, Listed, marker, entry, entry_at, SiteOf, stack, stops_going_back}
+use Rattle.std.proofs.Common.{◌&&◌, ◌==◌}
 use Rattle.std.specs.List.{list_all}
-use Rattle.std.specs.Option.{option_map_or}
 use Rattle.std.proofs.Math.Dec.{eqb-suc-zero}
-use Rattle.hchain.specs.Nearest.{before}
-use Rattle.hopen.specs.Stack.{OpenNode, in_scope, is_open}
-use Rattle.hformat.specs.Formatting.{Listed, marker, entry, entry_at}
-use Rattle.hadopt.specs.Site.{SiteOf, stack}
-use Rattle.hadopt.specs.Reconstructs.{stops_going_back}
 
 pub in_scope-further : (stops sought : OpenNode ℕ → Bool) (stack : List (OpenNode ℕ)) (i : ℕ) (x : OpenNode ℕ) → slice_get stack i ≡ Some x → in_scope stops sought (drop i stack) ≡ (sought x || (not (stops x) && in_scope stops sought (drop (i + 1) stack)))
 in_scope-further stops sought [] i x is = cc

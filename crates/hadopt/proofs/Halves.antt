@@ -1,21 +1,8 @@
 -- The inner loop of the adoption agency in two parts.
-use Rattle.std.proofs.Common.{◌≡◌, ◌≢◌, ℕ, zero, suc, ◌+◌, ◌-◌, ◌<◌, ◌≤◌, Bool, true, false, cond, leb, eqb, List, [], ◌∷◌, ◌++◌, Option, Some, None, refl, sym, ◌∙◌, ap, subst, arith, ◌⊎◌, inl, inr, length, take, drop, slice_get}
+use Rattle.hadopt.proofs.Names.{◌≡◌, ◌≢◌, ℕ, zero, suc, ◌+◌, ◌-◌, ◌<◌, ◌≤◌, Bool, true, false, cond, leb, eqb, List, [], ◌∷◌, ◌++◌, Option, Some, None, refl, sym, ◌∙◌, ap, subst, arith, ◌⊎◌, inl, inr, length, take, drop, slice_get, option_map_or, eq-eqb, ne_eqb, le-leb, lt-leb, length-drop, element, make, before, without, OpenNode, is_node, EntryOf, entry_of, without_entry, TooManyNodes, InnerLoop, entries_for, left, node_replaced, inner_turn, inner_loop, AreDifferent, without_entries, way_after, way_left, made, Each, Pairs, numbers, Outcome, Goes, Refused, and_then, SiteOf, stack, with_stack, with_items}
 use Rattle.std.specs.List.{remove_range}
-use Rattle.std.specs.Option.{option_map_or}
-use Rattle.std.proofs.lemmas.Bool.{eq-eqb, ne_eqb, le-leb, lt-leb}
-use Rattle.std.proofs.lemmas.List.{take_at, drop_at, drop-drop, append-nil, length-append, length-drop}
-use Rattle.hnodes.specs.Forest.{element}
-use Rattle.hnodes.specs.Edits.{make}
-use Rattle.hchain.specs.Nearest.{before, without}
-use Rattle.hopen.specs.Stack.{OpenNode, is_node}
-use Rattle.hformat.specs.Formatting.{EntryOf, entry_of, without_entry}
-use Rattle.names.specs.declared.refusal.Refusal.TheVariants.{TooManyNodes}
-use Rattle.hadopt.specs.Adopts.{InnerLoop, entries_for, left, node_replaced, inner_turn, inner_loop}
-use Rattle.hadopt.specs.InnerLoops.{AreDifferent, without_entries, way_after, way_left, IsHalfway}
-use Rattle.hadopt.specs.Inserts.{made}
-use Rattle.hadopt.specs.Kept.{Each, Pairs}
-use Rattle.hadopt.specs.Naming.{numbers}
-use Rattle.hadopt.specs.Site.{Outcome, Goes, Refused, and_then, SiteOf, stack, with_stack, with_items}
+use Rattle.std.proofs.lemmas.List.{take_at, drop_at, drop-drop, append-nil, length-append}
+use Rattle.hadopt.specs.InnerLoops.{IsHalfway}
 use Rattle.hadopt.proofs.Bound.{entry_of-without}
 use Rattle.hadopt.proofs.Climbing.{OnGoes}
 use Rattle.hadopt.proofs.Lists.{Among, skip, keep, among-all, each-map, each-among, pairs-among, among-without, each-change, pairs-change}

@@ -1,32 +1,12 @@
 -- What is inserted keeps what the open nodes need.
-use Rattle.std.proofs.Common.{◌≡◌, ◌≢◌, ℕ, zero, suc, ◌+◌, ◌<◌, Bool, true, false, leb, cond, List, [], ◌∷◌, Option, Some, None, refl, sym, ◌∙◌, subst, arith, inl, inr, find, reverse, is_some, is_none, length}
-use Rattle.std.specs.Prelude.{◌&&◌, slice_get}
-use Rattle.std.specs.Char.{encode_utf8}
-use Rattle.std.specs.Option.{option_map_or}
+use Rattle.hadopt.proofs.Names.{◌≡◌, ◌≢◌, ℕ, zero, suc, ◌+◌, ◌<◌, Bool, true, false, leb, cond, List, [], ◌∷◌, Option, Some, None, refl, sym, ◌∙◌, subst, arith, inl, inr, find, reverse, is_some, is_none, length, ◌&&◌, encode_utf8, option_map_or, Attribute, What, document, element, text, Forest, times, change_what, parent_of, AreCounted, place_node, graft, make, char_into, with_char, text_before, Place, LastIn, Before, before, changed_at, OpenNode, current, above, is_named, InPlace, EntryOf, Listed, marker, entry, for_node, entry_at, Table, TooManyNodes, TooDeep, NotBefore, below-document, in-document, at-most, not-there, deep-there, times-new, counted-new, deep, deep-is, deep-self, deep-new, deep-newest, graft-apart, Naming, Goes, Refused, and_then, SiteOf, stack, trees, with_trees, with_stack, from_top, node_of, is_fostering, beside, foster_place, place, added, pushed, inserted, put, with_missing, stops_going_back, renewed, renewed_each, reconstructed, InnerLoop, PlaceStands}
+use Rattle.std.specs.Prelude.{slice_get}
 use Rattle.hnodes.specs.Attributes.{is_present}
-use Rattle.hnodes.specs.Forest.{Attribute, What, document, element, text, Forest, times, change_what}
-use Rattle.hnodes.specs.Spots.{parent_of, attributes_of}
-use Rattle.hnodes.specs.Edits.{AreCounted, place_node, graft, make, char_into, with_char, with_attribute, add_attribute, text_before}
+use Rattle.hnodes.specs.Spots.{attributes_of}
+use Rattle.hnodes.specs.Edits.{with_attribute, add_attribute}
 use Rattle.hnodes.proofs.Inside.{tree_at-among}
-use Rattle.hnodes.specs.declared.node.Place.{Place}
-use Rattle.hnodes.specs.declared.node.Place.TheVariants.{LastIn, Before}
-use Rattle.hchain.specs.Nearest.{before, changed_at}
-use Rattle.hopen.specs.Stack.{OpenNode, current, above}
-use Rattle.hopen.specs.Scopes.{is_named}
-use Rattle.hformat.specs.declared.bookmark.Bookmark.TheVariants.{InPlace}
-use Rattle.hformat.specs.Formatting.{EntryOf, Listed, marker, entry, for_node, entry_at}
-use Rattle.names.specs.declared.tag.Tag.TheVariants.{Table}
-use Rattle.names.specs.declared.refusal.Refusal.TheVariants.{TooManyNodes, TooDeep}
-use Rattle.hnodes.proofs.Counted.{counted-what, Begins, NotBefore, below-document, in-document, at-most, not-there, deep-there, times-new, counted-new}
-use Rattle.hnodes.proofs.Deep.{deep, deep-is, deep-self}
-use Rattle.hnodes.proofs.Outside.{deep-what, deep-new, deep-newest, graft-apart}
-use Rattle.hadopt.specs.Naming.{Naming}
-use Rattle.hadopt.specs.Site.{Goes, Refused, and_then, SiteOf, stack, trees, with_trees, with_stack, from_top, node_of}
-use Rattle.hadopt.specs.Places.{is_fostering, beside, foster_place, place}
-use Rattle.hadopt.specs.Inserts.{added, pushed, inserted, put, with_missing}
-use Rattle.hadopt.specs.Reconstructs.{stops_going_back, renewed, renewed_each, reconstructed}
-use Rattle.hadopt.specs.Adopts.{InnerLoop}
-use Rattle.hadopt.specs.Kept.{PlaceStands}
+use Rattle.hnodes.proofs.Counted.{counted-what, Begins}
+use Rattle.hnodes.proofs.Outside.{deep-what}
 use Rattle.hadopt.proofs.Lists.{each-map, pairs-map, among-all, among-after, here}
 use Rattle.hadopt.proofs.Climbing.{OnGoes, goes-then, PlainEntries, Climbing}
 use Rattle.hadopt.proofs.Searching.{Member, last-behind, found-member}

@@ -1,15 +1,6 @@
 -- What is kept, as it is stated and as the proofs use it.
-use Rattle.std.proofs.Common.{◌≡◌, ℕ, refl, sym, ◌∙◌}
-use Rattle.hnodes.proofs.Counted.{at-most, below-document, in-document}
-use Rattle.hnodes.proofs.Deep.{deep-is}
-use Rattle.hadopt.specs.Naming.{Naming, numbers, texts}
-use Rattle.names.specs.Tags.{number_of, tag_text}
-use Rattle.names.specs.declared.tag.Tag.TheVariants.{Table}
-use Rattle.std.proofs.lemmas.Bool.{eqb-true}
+use Rattle.hadopt.proofs.Names.{◌≡◌, ℕ, refl, sym, ◌∙◌, at-most, below-document, in-document, deep-is, Naming, numbers, texts, number_of, tag_text, Table, eqb-true, Outcome, Goes, Refused, SiteOf, stack, trees, adopted, TellsTables, Kept}
 use Rattle.std.proofs.lemmas.Slice.Eq.{bytes_eq-Decides}
-use Rattle.hadopt.specs.Site.{Outcome, Goes, Refused, SiteOf, stack, trees}
-use Rattle.hadopt.specs.Adopts.{adopted}
-use Rattle.hadopt.specs.Kept.{TellsTables, Kept}
 use Rattle.hadopt.proofs.Lists.{each-map, pairs-map}
 use Rattle.hadopt.proofs.Climbing.{OnGoes}
 use Rattle.hadopt.proofs.Settling.{Well}

@@ -1,18 +1,5 @@
 -- What a turn of the adoption agency's outer loop keeps, and what its steps ask.
-use Rattle.std.proofs.Common.{◌≡◌, ◌≢◌, ℕ, ◌<◌, Bool, true, false, List, [], ◌∷◌, Option, Some, None, find, nat_eq, cond, ◌||◌, refl, subst, arith, Ok, Err, drop, ◌⊎◌, inl, inr, sym, ◌∙◌, ap}
-use Rattle.std.specs.Prelude.{Result, IfOk, IfSome}
-use Rattle.names.specs.declared.refusal.Refusal.{Refusal}
-use Rattle.std.specs.List.{list_any}
-use Rattle.std.specs.Option.{option_map}
-use Rattle.std.proofs.lemmas.Bool.{eq-eqb, eqb-true, ne_eqb}
-use Rattle.hopen.specs.Stack.{OpenNode, is_node, is_open, in_scope, furthest_block, above, below, current}
-use Rattle.hchain.specs.Nearest.{before}
-use Rattle.hformat.specs.declared.bookmark.Bookmark.TheVariants.{InPlace}
-use Rattle.hnodes.specs.Forest.{Forest}
-use Rattle.hnodes.specs.Edits.{AreCounted, place_node}
-use Rattle.hnodes.proofs.Counted.{at-most, deep-there, is-there}
-use Rattle.hnodes.proofs.Deep.{deep, deep-is, deep-self}
-use Rattle.hadopt.specs.Places.{place_in}
+use Rattle.hadopt.proofs.Names.{◌≡◌, ◌≢◌, ℕ, ◌<◌, Bool, true, false, List, [], ◌∷◌, Option, Some, None, find, nat_eq, cond, ◌||◌, refl, subst, arith, Ok, Err, drop, ◌⊎◌, inl, inr, sym, ◌∙◌, ap, Result, IfOk, IfSome, Refusal, list_any, option_map, eq-eqb, eqb-true, ne_eqb, OpenNode, is_node, is_open, in_scope, furthest_block, above, below, current, before, InPlace, Forest, AreCounted, place_node, at-most, deep-there, is-there, deep, deep-is, deep-self, place_in, stops, Default, EntryOf, Listed, marker, entry, is_entry, after_marker, find_entry, tag_of, ErrorCode, numbers, Goes, SiteOf, stack, trees, with_stack, error_unless, InnerLoop, inner_loop, outer_turn, outer_loop, is_unlisted, adopted, most_turns, Gives, Each, Kept, AreDifferent, WithFurthestBlock}
 use Rattle.hadopt.proofs.Lists.{each-map, each-both, pairs-map, Among, skip, keep, among-after, each-among, front-among}
 use Rattle.hadopt.proofs.Climbing.{OnGoes, Plain, Climbing, inner-loop-climbs}
 use Rattle.hadopt.proofs.Searching.{any-after, any-each, pairs-after, scope-front, at-nearest, special-there}
@@ -20,21 +7,10 @@ use Rattle.hadopt.proofs.Settling.{Well, place-fits}
 use Rattle.hadopt.proofs.Turning.{not-table, WellAfter, outer-turn-well}
 use Rattle.hadopt.proofs.Keeping.{to-well, from-well, numbers-tell}
 use Rattle.hadopt.proofs.Booked.{Booked, inner-loop-booked, bookmark-there, way-others}
-use Rattle.hopen.specs.Scopes.{stops}
-use Rattle.hopen.specs.declared.scope.Scope.TheVariants.{Default}
-use Rattle.hformat.specs.Formatting.{EntryOf, Listed, marker, entry, is_entry, after_marker, find_entry}
-use Rattle.names.specs.Tags.{tag_of}
-use Rattle.names.specs.declared.error.ErrorCode.{ErrorCode}
-use Rattle.hadopt.specs.Naming.{numbers}
-use Rattle.hadopt.specs.Site.{Goes, SiteOf, stack, trees, with_stack, error_unless}
-use Rattle.hadopt.specs.Adopts.{InnerLoop, inner_loop, outer_turn, outer_loop, is_unlisted, adopted, most_turns}
-use Rattle.hadopt.specs.Gives.{Gives}
 use Rattle.hadopt.specs.declared.adopting.Turn as code
 use Rattle.hadopt.specs.declared.adopting.Turn.TheVariants as turn
 use Rattle.hadopt.specs.Meets.{turn_of, TurnGives}
-use Rattle.hadopt.specs.Kept.{Each, Kept}
-use Rattle.hadopt.specs.InnerLoops.{AreDifferent}
-use Rattle.hadopt.specs.AfterInnerLoop.{AfterInnerLoop, WithFurthestBlock}
+use Rattle.hadopt.specs.AfterInnerLoop.{AfterInnerLoop}
 
 before-each : {X : Type 0} (P : X → Type 0) (p : X → Bool) (xs : List X) → Each P xs → Each P (before p xs)
 before-each P p [] e = tt

@@ -1,18 +1,7 @@
 -- Open nodes that were made.
-use Rattle.std.proofs.Common.{◌≡◌, ℕ, zero, suc, ◌+◌, ◌<◌, ◌≤◌, Bool, true, false, cond, List, [], ◌∷◌, ◌++◌, Option, Some, None, refl, sym, subst, arith, drop, find, slice_get, reverse}
-use Rattle.std.proofs.lemmas.Grind.{reverse_onto}
-use Rattle.std.specs.Option.{option_map}
-use Rattle.std.specs.Prelude.{IfSome, OnOk, OnErr, Result, Ok, Err}
-use Rattle.hnodes.specs.Edits.{Nodes, AreNodes, make}
-use Rattle.hnodes.specs.Forest.{What}
-use Rattle.hchain.specs.Nearest.{changed, put_before}
-use Rattle.hopen.specs.Opens.{open_of}
-use Rattle.hopen.specs.Stack.{OpenNode, OpenNodes, current}
+use Rattle.hadopt.proofs.Names.{◌≡◌, ℕ, zero, suc, ◌+◌, ◌<◌, ◌≤◌, Bool, true, false, cond, List, [], ◌∷◌, ◌++◌, Option, Some, None, refl, sym, subst, arith, drop, find, slice_get, reverse, reverse_onto, option_map, IfSome, OnOk, OnErr, Result, Nodes, AreNodes, make, What, changed, put_before, open_of, OpenNode, OpenNodes, current, Refusal, past, Each, AreMade}
+use Rattle.std.specs.Prelude.{Ok, Err}
 use Rattle.hopen.specs.declared.stack.Open.{Open}
-use Rattle.names.specs.declared.refusal.Refusal.{Refusal}
-use Rattle.hadopt.specs.Closes.{past}
-use Rattle.hadopt.specs.Kept.{Each}
-use Rattle.hadopt.specs.Made.{AreMade}
 use Rattle.hadopt.proofs.Lists.{each-map}
 use Rattle.hadopt.proofs.Turning.{each-put-any}
 

@@ -1,27 +1,15 @@
 -- A run of characters is put as its characters are, one by one: behind the first one there is a text, so none of the others makes a node.
-use Rattle.std.proofs.Common.{◌≡◌, ℕ, zero, suc, ◌+◌, ◌<◌, ◌≤◌, Bool, true, false, leb, cond, List, [], ◌∷◌, Option, Some, None, is_none, length, map, refl, sym, ◌∙◌, ap, subst, arith, ◌⊎◌, inl, inr, Ok, Err}
-use Rattle.std.proofs.lemmas.Bool.{le-leb, leb-true}
+use Rattle.hadopt.proofs.Names.{◌≡◌, ℕ, zero, suc, ◌+◌, ◌<◌, ◌≤◌, Bool, true, false, leb, cond, List, [], ◌∷◌, Option, Some, None, is_none, length, map, refl, sym, ◌∙◌, ap, subst, arith, ◌⊎◌, inl, inr, Ok, Err, le-leb, encode_utf8, Result, IfErr, OnOk, OnErr, ◌&&◌, chars, not-there, Nodes, AreNodes, IsPlace, text_before, char_into, with_char, add_char, text, tree, none, change_what, Place, OpenNode, placed, Placed, Refusal, TooManyNodes, Memory, Gives, put_each, AreMade, Outcome, Goes, Refused, and_then, SiteOf, trees}
+use Rattle.std.proofs.lemmas.Bool.{leb-true}
 use Rattle.std.proofs.lemmas.List.{nil_from_length}
 use Rattle.std.proofs.lemmas.Str.{chars-nil, encodes-chars}
-use Rattle.std.specs.Char.{encode_utf8, len_utf8}
-use Rattle.std.specs.Prelude.{Result, IfErr, OnOk, OnErr, ◌&&◌, ◌↔◌}
-use Rattle.std.specs.Str.{chars, encode_utf8_all, IsUtf8}
-use Rattle.hnodes.proofs.Counted.{not-there}
+use Rattle.std.specs.Char.{len_utf8}
+use Rattle.std.specs.Prelude.{◌↔◌}
+use Rattle.std.specs.Str.{encode_utf8_all, IsUtf8}
 use Rattle.hnodes.proofs.Placed.{placed as placed_at, graft-made, placed-text}
 use Rattle.hnodes.proofs.Respots.{IsTextBefore, is-text_before, text_before-is, text_before-longer}
-use Rattle.hnodes.specs.Edits.{Nodes, AreNodes, IsPlace, text_before, char_into, with_char, add_char, add_chars}
-use Rattle.hnodes.specs.Forest.{text, tree, none, change_what}
-use Rattle.hnodes.specs.declared.node.Place.{Place}
-use Rattle.hopen.specs.Stack.{OpenNode}
-use Rattle.names.specs.Placed.{placed}
-use Rattle.names.specs.declared.placed.Placed.{Placed}
-use Rattle.names.specs.declared.refusal.Refusal.{Refusal}
-use Rattle.names.specs.declared.refusal.Refusal.TheVariants.{TooManyNodes, Memory}
-use Rattle.hadopt.specs.Gives.{Gives}
-use Rattle.hadopt.specs.Inserts.{put_each}
-use Rattle.hadopt.specs.Made.{AreMade}
+use Rattle.hnodes.specs.Edits.{add_chars}
 use Rattle.hadopt.proofs.Made.{more}
-use Rattle.hadopt.specs.Site.{Outcome, Goes, Refused, and_then, SiteOf, trees}
 
 abbrev pub characters : List Placed → List ℕ
 characters ps = map (λ p. p.ch) ps

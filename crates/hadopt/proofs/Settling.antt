@@ -1,28 +1,11 @@
 -- The steps of the adoption agency after its inner loop: the last node goes to its place, and the new element to its own.
-use Rattle.std.proofs.Common.{◌≡◌, ◌≢◌, ℕ, zero, suc, ◌+◌, ◌<◌, ◌≤◌, Bool, true, false, cond, List, [], ◌∷◌, Option, Some, None, refl, sym, ◌∙◌, subst, arith, ◌⊎◌, inl, inr, find, is_some}
-use Rattle.std.proofs.lemmas.Bool.{ne_eqb}
-use Rattle.std.specs.Prelude.{◌&&◌}
-use Rattle.std.specs.Option.{option_map_or}
-use Rattle.hnodes.specs.Forest.{What, Forest, none, tree, times, join, tree_at, children_of}
-use Rattle.hnodes.specs.Edits.{AreCounted, graft, graft_last, move_all, place_node}
-use Rattle.hnodes.specs.Spots.{parent_of}
+use Rattle.hadopt.proofs.Names.{◌≡◌, ◌≢◌, ℕ, zero, suc, ◌+◌, ◌<◌, ◌≤◌, Bool, true, false, cond, List, [], ◌∷◌, Option, Some, None, refl, sym, ◌∙◌, subst, arith, ◌⊎◌, inl, inr, find, is_some, ne_eqb, ◌&&◌, option_map_or, What, Forest, none, tree, times, join, tree_at, AreCounted, graft, graft_last, move_all, place_node, parent_of, Place, LastIn, Before, after, OpenNode, is_node, current, above, is_named, Table, NotBefore, at-most, is-there, not-there, deep-there, counted-new, counted-graft, deep, deep-lower, deep-is, deep-self, deep-new, deep-newest, graft-deep, graft-apart, graft-below, Naming, SiteOf, stack, trees, with_trees, from_top, node_of, is_fostering, beside, foster_place, place_in, InnerLoop, Each, Pairs}
+use Rattle.hnodes.specs.Forest.{children_of}
 use Rattle.hnodes.proofs.Forests.{children-apart}
-use Rattle.hnodes.specs.declared.node.Place.{Place}
-use Rattle.hnodes.specs.declared.node.Place.TheVariants.{LastIn, Before}
-use Rattle.hchain.specs.Nearest.{after}
-use Rattle.hopen.specs.Stack.{OpenNode, is_node, current, above}
-use Rattle.hopen.specs.Scopes.{is_named}
-use Rattle.names.specs.declared.tag.Tag.TheVariants.{Table}
-use Rattle.hnodes.proofs.Counted.{NotBefore, at-most, is-there, not-there, deep-there, document-out, counted-new, counted-graft, counted-move}
+use Rattle.hnodes.proofs.Counted.{document-out, counted-move}
 use Rattle.hnodes.proofs.Counts.{emptied, times-emptied-apart}
-use Rattle.hnodes.proofs.Deep.{deep, deep-lower, deep-is, deep-self, children-deep, deep-trans}
+use Rattle.hnodes.proofs.Deep.{children-deep, deep-trans}
 use Rattle.hnodes.proofs.DeepEdits.{deep-hung, deep-hung-apart, deep-hung-below, deep-emptied, deep-emptied-apart}
-use Rattle.hnodes.proofs.Outside.{deep-new, deep-newest, graft-deep, graft-apart, graft-below}
-use Rattle.hadopt.specs.Naming.{Naming}
-use Rattle.hadopt.specs.Site.{SiteOf, stack, trees, with_trees, from_top, node_of}
-use Rattle.hadopt.specs.Places.{is_fostering, beside, foster_place, place_in}
-use Rattle.hadopt.specs.Adopts.{InnerLoop}
-use Rattle.hadopt.specs.Kept.{Each, Pairs}
 use Rattle.hadopt.proofs.Lists.{each-map, pairs-map, Among, skip, among-all, among-after, Front, here, there, front-among, front-pairs, front-map, front-each}
 use Rattle.hadopt.proofs.Climbing.{Plain, PlainEntries, Climbing}
 use Rattle.hadopt.proofs.Searching.{Member, first, each-member, member-among, last-behind, found-behind, after-behind, found-member}

@@ -1,12 +1,5 @@
 -- The places that the rules name are in the document's tree.
-use Rattle.std.proofs.Common.{[]}
-use Rattle.hnodes.specs.Forest.{comment}
-use Rattle.hnodes.specs.declared.node.Place.TheVariants.{LastIn}
-use Rattle.hopen.specs.Stack.{current}
-use Rattle.hadopt.specs.Kept.{PlaceStands, Kept}
-use Rattle.hadopt.specs.Naming.{Naming}
-use Rattle.hadopt.specs.Places.{place}
-use Rattle.hadopt.specs.Site.{SiteOf, stack, trees, from_top, node_of}
+use Rattle.hadopt.proofs.Names.{[], comment, LastIn, current, PlaceStands, Kept, Naming, place, SiteOf, stack, trees, from_top, node_of}
 use Rattle.hadopt.proofs.Inserting.{first-fits, here-fits, root-fits, place-fits, fits-standing}
 use Rattle.hadopt.proofs.Keeping.{to-well}
 

@@ -1,31 +1,8 @@
 -- The adoption agency keeps what the open nodes need: a turn of its outer loop, and all turns.
-use Rattle.std.proofs.Common.{◌≡◌, ◌≢◌, ℕ, zero, suc, ◌<◌, Bool, true, false, not, leb, cond, List, [], ◌∷◌, Option, Some, None, refl, sym, ◌∙◌, ap, subst, arith, inl, find, drop}
-use Rattle.std.proofs.lemmas.Bool.{eqb-true}
-use Rattle.std.specs.Prelude.{◌&&◌, ◌||◌}
-use Rattle.std.specs.List.{list_any}
-use Rattle.std.specs.Option.{option_map_or}
-use Rattle.hnodes.specs.Forest.{What, element, Forest}
-use Rattle.hnodes.specs.Edits.{graft, make}
-use Rattle.hchain.specs.Nearest.{before, without, put_before}
-use Rattle.hopen.specs.Stack.{OpenNode, is_node, is_open, current, above, below, in_scope, furthest_block}
-use Rattle.hopen.specs.Scopes.{is_named, stops}
-use Rattle.hopen.specs.declared.scope.Scope.TheVariants.{Default}
-use Rattle.hformat.specs.declared.bookmark.Bookmark.{Bookmark}
-use Rattle.hformat.specs.declared.bookmark.Bookmark.TheVariants.{InPlace, After}
-use Rattle.hformat.specs.Formatting.{EntryOf, Listed, marker, entry, is_entry, find_entry, without_entry, for_node, booked}
-use Rattle.names.specs.declared.tag.Tag.TheVariants.{Table}
-use Rattle.names.specs.declared.error.ErrorCode.{ErrorCode}
-use Rattle.names.specs.declared.error.ErrorCode.TheVariants.{TreeInBody}
-use Rattle.names.specs.declared.refusal.Refusal.TheVariants.{TooManyNodes}
-use Rattle.names.specs.Sets.{is_special, stops_scope, has_implied_end}
-use Rattle.hnodes.proofs.Counted.{deep-there}
-use Rattle.hnodes.proofs.Deep.{deep}
-use Rattle.hadopt.specs.Naming.{Naming}
-use Rattle.hadopt.specs.Site.{Goes, Refused, and_then, SiteOf, stack, trees, with_trees, with_items, with_stack, with_error, error_unless, current_is}
-use Rattle.hadopt.specs.Places.{place_in}
-use Rattle.hadopt.specs.Closes.{past, popped_to, without_implied, closed, other_end}
-use Rattle.hadopt.specs.Adopts.{Turn, Next, Ended, next_turn, InnerLoop, most_turns, formatting_replaced, popped_with, inner_loop, after_inner_loop, with_furthest_block, with_formatting_element, outer_turn, outer_loop, is_unlisted, adopted}
-use Rattle.hadopt.specs.Kept.{Each, Pairs, TellsTables}
+use Rattle.hadopt.proofs.Names.{◌≡◌, ◌≢◌, ℕ, zero, suc, ◌<◌, Bool, true, false, not, leb, cond, List, [], ◌∷◌, Option, Some, None, refl, sym, ◌∙◌, ap, subst, arith, inl, find, drop, eqb-true, ◌&&◌, list_any, option_map_or, What, element, Forest, graft, make, before, without, put_before, OpenNode, is_node, is_open, current, above, below, in_scope, furthest_block, is_named, stops, Default, Bookmark, InPlace, After, EntryOf, Listed, marker, entry, is_entry, find_entry, without_entry, for_node, Table, ErrorCode, TreeInBody, TooManyNodes, is_special, has_implied_end, deep-there, deep, Naming, Goes, Refused, and_then, SiteOf, stack, trees, with_trees, with_items, with_stack, with_error, error_unless, current_is, place_in, past, popped_to, without_implied, closed, other_end, Turn, Next, Ended, next_turn, InnerLoop, most_turns, formatting_replaced, popped_with, inner_loop, after_inner_loop, with_furthest_block, with_formatting_element, outer_turn, outer_loop, is_unlisted, adopted, Each, Pairs, TellsTables}
+use Rattle.std.specs.Prelude.{◌||◌}
+use Rattle.hformat.specs.Formatting.{booked}
+use Rattle.names.specs.Sets.{stops_scope}
 use Rattle.hadopt.proofs.Lists.{each-map, each-both, pairs-map, Among, empty, skip, keep, among-all, among-after, each-among, pairs-among, among-without, Front, front-among, front-pairs, front-each, pairs-put}
 use Rattle.hadopt.proofs.Climbing.{OnGoes, goes-then, find-each, Plain, PlainEntries, plain-without, plain-with_node, Climbing, inner-loop-climbs}
 use Rattle.hadopt.proofs.Searching.{any-after, any-each, pairs-after, scope-front, at-nearest, special-there}

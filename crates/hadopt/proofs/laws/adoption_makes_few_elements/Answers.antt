@@ -1,4 +1,4 @@
-use Rattle.hadopt.specs.Naming.{texts}
+use Rattle.hadopt.proofs.Names.{texts}
 use Rattle.hadopt.proofs.Bound.{adopted-makes}
 use Rattle.hadopt.proofs.laws.adoption_makes_few_elements.Goals as goal
 

@@ -1,4 +1,4 @@
-use Rattle.hadopt.specs.Naming.{numbers, texts}
+use Rattle.hadopt.proofs.Names.{numbers, texts}
 use Rattle.hadopt.proofs.Spellings.{operations}
 use Rattle.hadopt.proofs.laws.operations_know_no_names.Goals as goal
 

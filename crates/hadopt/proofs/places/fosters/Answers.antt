@@ -1,4 +1,4 @@
-use Rattle.std.proofs.Common.{rules}
+use Rattle.hadopt.proofs.Names.{rules}
 use Rattle.hadopt.proofs.places.fosters.Goals as goal
 
 pub returns-in_default : goal.returns-in_default

@@ -1,7 +1,4 @@
-use Rattle.std.proofs.Common.{◌∙◌, ap, sym}
-use Rattle.std.specs.Option.{option_map}
-use Rattle.hopen.specs.Opens.{open_of}
-use Rattle.hadopt.specs.Passings.{passes}
+use Rattle.hadopt.proofs.Names.{◌∙◌, ap, sym, option_map, open_of, passes}
 use Rattle.hadopt.proofs.Made.{past-step}
 use Rattle.hadopt.proofs.popping.pop_past.Goals as goal
 

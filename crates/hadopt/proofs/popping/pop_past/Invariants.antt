@@ -1,6 +1,4 @@
-use Rattle.std.proofs.Common.{◌≡◌, length}
-use Rattle.hadopt.specs.Closes.{past}
-use Rattle.hadopt.specs.Passings.{passes}
+use Rattle.hadopt.proofs.Names.{◌≡◌, length, past, passes}
 use Rattle.hadopt.proofs.popping.pop_past.Given as goal
 
 abbrev pub invariant-loop-top : goal.invariant-loop-top

@@ -1,9 +1,5 @@
-use Rattle.std.proofs.Common.{arith, map, Ok}
+use Rattle.hadopt.proofs.Names.{arith, map, Ok, Result, attribute_of, Refusal, numbers}
 use Rattle.std.proofs.lemmas.Grind.{common_steps}
-use Rattle.std.specs.Prelude.{Result}
-use Rattle.hnodes.specs.Rows.{attribute_of}
-use Rattle.names.specs.declared.refusal.Refusal.{Refusal}
-use Rattle.hadopt.specs.Naming.{numbers}
 use Rattle.hadopt.proofs.Calls.{gives-kept, missing-kept}
 use Rattle.hadopt.proofs.site.Site.add_missing.Goals as goal
 

@@ -1,10 +1,5 @@
-use Rattle.std.proofs.Common.{◌≡◌, ◌<◌, map, ℕ}
+use Rattle.hadopt.proofs.Names.{◌≡◌, ◌<◌, map, ℕ, attribute_of, with_missing, AreMade, numbers, SiteOf, trees, with_trees}
 use Rattle.std.specs.Vec.Iter.{into_iter_items}
-use Rattle.hnodes.specs.Rows.{attribute_of}
-use Rattle.hadopt.specs.Inserts.{with_missing}
-use Rattle.hadopt.specs.Made.{AreMade}
-use Rattle.hadopt.specs.Naming.{numbers}
-use Rattle.hadopt.specs.Site.{SiteOf, trees, with_trees}
 use Rattle.hadopt.specs.declared.site.Site.TheInside.{Inside}
 use Rattle.hadopt.proofs.site.Site.add_missing.Given as goal
 

@@ -1,5 +1,4 @@
-use Rattle.std.proofs.Common.{rules, sym, ap, ◌∙◌}
-use Rattle.hadopt.specs.Site.{Goes}
+use Rattle.hadopt.proofs.Names.{rules, sym, ap, ◌∙◌, Goes}
 use Rattle.hadopt.proofs.Keeps.{adopted-gives, adopted-pops}
 use Rattle.hadopt.proofs.site.Site.adopt.Goals as goal
 

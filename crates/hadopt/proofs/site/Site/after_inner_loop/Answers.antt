@@ -1,4 +1,4 @@
-use Rattle.std.proofs.Common.{rules}
+use Rattle.hadopt.proofs.Names.{rules}
 use Rattle.hadopt.proofs.site.Site.after_inner_loop.Goals as goal
 
 pub returns-clause-done : goal.returns-clause-done

@@ -1,5 +1,4 @@
-use Rattle.std.proofs.Common.{rules}
-use Rattle.hopen.specs.Stack.{is_node, above}
+use Rattle.hadopt.proofs.Names.{rules, is_node, above}
 use Rattle.hadopt.proofs.Lists.{each-among, among-after}
 use Rattle.hadopt.proofs.Made.{each-current, within}
 use Rattle.hadopt.proofs.site.Site.beside.Goals as goal

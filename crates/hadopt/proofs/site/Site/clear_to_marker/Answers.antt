@@ -1,5 +1,4 @@
-use Rattle.std.proofs.Common.{rules}
-use Rattle.hadopt.specs.Naming.{numbers}
+use Rattle.hadopt.proofs.Names.{rules, numbers}
 use Rattle.hadopt.proofs.Calls.{cleared-kept}
 use Rattle.hadopt.proofs.site.Site.clear_to_marker.Goals as goal
 

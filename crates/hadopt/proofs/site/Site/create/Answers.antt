@@ -1,6 +1,4 @@
-use Rattle.std.proofs.Common.{map}
-use Rattle.hnodes.specs.Forest.{element}
-use Rattle.hnodes.specs.Rows.{attribute_of}
+use Rattle.hadopt.proofs.Names.{map, element, attribute_of}
 use Rattle.hadopt.proofs.Made.{made-after_make}
 use Rattle.hadopt.proofs.site.Site.create.Goals as goal
 

@@ -1,4 +1,4 @@
-use Rattle.hnodes.specs.Forest.{element}
+use Rattle.hadopt.proofs.Names.{element}
 use Rattle.hadopt.proofs.Made.{made-after_make}
 use Rattle.hadopt.proofs.site.Site.create_sharing.Goals as goal
 

@@ -1,12 +1,7 @@
 use Rattle.hadopt.proofs.Lists.{each-among, among-without}
 use Rattle.hadopt.proofs.Turning.{each-put-any}
-use Rattle.std.proofs.Common.{◌≡◌, ap, arith, ℕ, Bool, ◌<◌, Result, Ok, Err}
-use Rattle.std.specs.Prelude.{OnOk, OnErr}
-use Rattle.hchain.specs.Nearest.{without, put_before}
-use Rattle.hadopt.specs.Site.{SiteOf}
-use Rattle.hadopt.specs.Made.{AreMade}
-use Rattle.hopen.specs.Stack.{is_node, OpenNode, OpenNodes}
-use Rattle.hopen.specs.Opens.{open_of}
+use Rattle.hadopt.proofs.Names.{◌≡◌, ap, arith, ℕ, Bool, ◌<◌, Ok, Err, OnOk, OnErr, without, put_before, SiteOf, AreMade, is_node, OpenNode, OpenNodes, open_of}
+use Rattle.std.proofs.Common.{Result}
 use Rattle.hadopt.proofs.site.Site.exchange.Goals as goal
 
 -- one leaves, and one that was made comes, or nothing changes

@@ -1,14 +1,4 @@
-use Rattle.std.proofs.Common.{◌≡◌, ◌-◌, ◌∙◌, sym, ap, arith, subst, ℕ, Some, None, reverse, slice_get, length}
-use Rattle.std.specs.Option.{option_map}
-use Rattle.hopen.specs.Opens.{open_of}
-use Rattle.hformat.specs.declared.bookmark.Bookmark.TheVariants.{InPlace}
-use Rattle.hchain.specs.Nearest.{before}
-use Rattle.hopen.specs.Stack.{above, is_node}
-use Rattle.hadopt.specs.Adopts.{InnerLoop, inner_loop}
-use Rattle.hadopt.specs.InnerLoops.{AreDifferent}
-use Rattle.hadopt.specs.Naming.{numbers}
-use Rattle.hadopt.specs.Site.{SiteOf, Outcome}
-use Rattle.hadopt.specs.Meets.{inner_loop_of}
+use Rattle.hadopt.proofs.Names.{◌≡◌, ◌-◌, ◌∙◌, sym, ap, arith, subst, ℕ, Some, None, reverse, slice_get, length, option_map, open_of, InPlace, before, above, is_node, InnerLoop, inner_loop, AreDifferent, numbers, SiteOf, Outcome, inner_loop_of}
 use Rattle.hadopt.proofs.Climbing.{OnGoes}
 use Rattle.hadopt.proofs.Halves.{one-different, half-stops}
 use Rattle.hadopt.proofs.Refusals.{either-refused, err-half}

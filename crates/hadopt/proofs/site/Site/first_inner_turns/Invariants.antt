@@ -1,11 +1,4 @@
-use Rattle.std.proofs.Common.{◌<◌, ◌≤◌, ◌+◌}
-use Rattle.hchain.specs.Nearest.{before}
-use Rattle.hopen.specs.Stack.{is_node, above}
-use Rattle.hformat.specs.declared.bookmark.Bookmark.TheVariants.{InPlace}
-use Rattle.hadopt.specs.Naming.{numbers}
-use Rattle.hadopt.specs.Adopts.{inner_loop}
-use Rattle.hadopt.specs.InnerLoops.{AreDifferent}
-use Rattle.hadopt.specs.Meets.{inner_loop_of}
+use Rattle.hadopt.proofs.Names.{◌<◌, ◌≤◌, ◌+◌, before, is_node, above, InPlace, numbers, inner_loop, AreDifferent, inner_loop_of}
 use Rattle.hadopt.proofs.Ways.{OnWay}
 use Rattle.hadopt.proofs.site.Site.first_inner_turns.Given as goal
 

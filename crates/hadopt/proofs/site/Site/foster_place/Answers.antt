@@ -1,7 +1,4 @@
-use Rattle.std.proofs.Common.{ap, sym, nat_eq, reverse, Some, ◌∙◌}
-use Rattle.std.specs.Option.{option_map}
-use Rattle.hopen.specs.Opens.{open_of}
-use Rattle.hopen.specs.Scopes.{is_named}
+use Rattle.hadopt.proofs.Names.{ap, sym, nat_eq, reverse, Some, ◌∙◌, option_map, open_of, is_named}
 use Rattle.hadopt.proofs.Made.{each-found, each-got, each-reverse, within}
 use Rattle.hadopt.proofs.site.Site.foster_place.Goals as goal
 

@@ -1,4 +1,4 @@
-use Rattle.std.proofs.Common.{reverse}
+use Rattle.hadopt.proofs.Names.{reverse}
 use Rattle.hadopt.proofs.Made.{each-got, each-reverse}
 use Rattle.hadopt.proofs.site.Site.from_top.Goals as goal
 

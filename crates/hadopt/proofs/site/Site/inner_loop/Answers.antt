@@ -1,8 +1,4 @@
-use Rattle.std.proofs.Common.{◌≡◌, ◌-◌, ◌∙◌, ap, sym, ℕ, length}
-use Rattle.hadopt.specs.Adopts.{InnerLoop}
-use Rattle.hadopt.specs.InnerLoops.{way_left}
-use Rattle.hadopt.specs.Meets.{inner_loop_of}
-use Rattle.hadopt.specs.Site.{SiteOf, Goes, Outcome, stack}
+use Rattle.hadopt.proofs.Names.{◌≡◌, ◌-◌, ◌∙◌, ap, sym, ℕ, length, InnerLoop, way_left, inner_loop_of, SiteOf, Goes, Outcome, stack}
 use Rattle.hadopt.proofs.Halves.{half-goes}
 use Rattle.hadopt.proofs.site.Site.inner_loop.Goals as goal
 

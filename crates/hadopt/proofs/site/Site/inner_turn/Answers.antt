@@ -1,8 +1,4 @@
-use Rattle.std.proofs.Common.{◌∙◌, ap, sym}
-use Rattle.std.specs.Option.{option_map}
-use Rattle.hopen.specs.Opens.{open_of}
-use Rattle.hformat.specs.Items.{entry_is}
-use Rattle.hadopt.specs.Meets.{inner_loop_of}
+use Rattle.hadopt.proofs.Names.{◌∙◌, ap, sym, option_map, open_of, entry_is, inner_loop_of}
 use Rattle.hadopt.proofs.Halves.{first-some}
 use Rattle.hadopt.proofs.site.Site.inner_turn.Goals as goal
 

@@ -1,7 +1,5 @@
-use Rattle.std.proofs.Common.{rules}
-use Rattle.hadopt.specs.Naming.{numbers}
-use Rattle.std.specs.Prelude.{ℕ, Result, Ok}
-use Rattle.names.specs.declared.refusal.Refusal.{Refusal}
+use Rattle.hadopt.proofs.Names.{rules, numbers, Result, Refusal}
+use Rattle.std.specs.Prelude.{ℕ, Ok}
 use Rattle.hadopt.proofs.Calls.{gives-kept, added-kept}
 use Rattle.hadopt.proofs.site.Site.insert_comment.Goals as goal
 

@@ -1,8 +1,5 @@
-use Rattle.std.proofs.Common.{rules}
-use Rattle.hadopt.specs.Naming.{numbers}
-use Rattle.std.specs.Prelude.{ℕ, Result, Ok}
-use Rattle.names.specs.declared.refusal.Refusal.{Refusal}
-use Rattle.hnodes.specs.declared.node.Place.TheVariants.{LastIn}
+use Rattle.hadopt.proofs.Names.{rules, numbers, Result, Refusal, LastIn}
+use Rattle.std.specs.Prelude.{ℕ, Ok}
 use Rattle.hadopt.proofs.Standing.{root-stands}
 use Rattle.hadopt.proofs.Calls.{gives-kept, added-kept}
 use Rattle.hadopt.proofs.site.Site.insert_doctype.Goals as goal

@@ -1,8 +1,4 @@
-use Rattle.std.proofs.Common.{ℕ, map, Ok}
-use Rattle.std.specs.Prelude.{Result}
-use Rattle.hnodes.specs.Rows.{attribute_of}
-use Rattle.names.specs.declared.refusal.Refusal.{Refusal}
-use Rattle.hadopt.specs.Naming.{numbers}
+use Rattle.hadopt.proofs.Names.{ℕ, map, Ok, Result, attribute_of, Refusal, numbers}
 use Rattle.hadopt.proofs.Calls.{gives-kept, formatting-kept}
 use Rattle.hadopt.proofs.Entering.{listed-after}
 use Rattle.hadopt.proofs.site.Site.insert_formatting.Goals as goal

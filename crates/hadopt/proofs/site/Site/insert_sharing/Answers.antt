@@ -1,4 +1,4 @@
-use Rattle.std.proofs.Common.{rules}
+use Rattle.hadopt.proofs.Names.{rules}
 use Rattle.hadopt.proofs.site.Site.insert_sharing.Goals as goal
 
 pub returns-clause-done : goal.returns-clause-done

@@ -1,4 +1,4 @@
-use Rattle.std.proofs.Common.{◌∙◌}
+use Rattle.hadopt.proofs.Names.{◌∙◌}
 use Rattle.hadopt.proofs.Goings.{stopped-at-once}
 use Rattle.hadopt.proofs.site.Site.is_reconstructed.Goals as goal
 

@@ -1,4 +1,4 @@
-use Rattle.std.proofs.Common.{rules}
+use Rattle.hadopt.proofs.Names.{rules}
 use Rattle.hadopt.proofs.site.Site.is_unlisted.Goals as goal
 
 pub returns-then-eq : goal.returns-then-eq

@@ -1,9 +1,6 @@
-use Rattle.std.proofs.Common.{rules}
-use Rattle.hadopt.specs.Naming.{numbers}
+use Rattle.hadopt.proofs.Names.{rules, numbers, stack, is_node}
 use Rattle.hadopt.proofs.Calls.{fewer-kept}
 use Rattle.hadopt.proofs.Lists.{each-among, among-without}
-use Rattle.hadopt.specs.Site.{stack}
-use Rattle.hopen.specs.Stack.{is_node}
 use Rattle.hadopt.proofs.site.Site.leave.Goals as goal
 
 pub invariant_of-self : goal.invariant_of-self

@@ -1,4 +1,4 @@
-use Rattle.std.proofs.Common.{◌+◌, arith}
+use Rattle.hadopt.proofs.Names.{◌+◌, arith}
 use Rattle.hadopt.proofs.Lists.{each-among, among-run}
 use Rattle.hadopt.proofs.site.Site.leave_run.Goals as goal
 

@@ -1,5 +1,4 @@
-use Rattle.std.proofs.Common.{ap, arith, ℕ, length}
-use Rattle.hadopt.specs.Site.{SiteOf, stack}
+use Rattle.hadopt.proofs.Names.{ap, arith, ℕ, length, SiteOf, stack}
 use Rattle.hadopt.proofs.Halves.{way-fits}
 use Rattle.hadopt.proofs.site.Site.leave_way.Goals as goal
 

@@ -1,9 +1,4 @@
-use Rattle.std.proofs.Common.{◌≡◌, ◌∙◌, ap, sym, nat_eq, None, ℕ}
-use Rattle.hformat.specs.Formatting.{find_entry}
-use Rattle.hadopt.specs.Naming.{numbers}
-use Rattle.hadopt.specs.Site.{Goes, SiteOf}
-use Rattle.hadopt.specs.Closes.{other_end}
-use Rattle.hadopt.specs.Adopts.{Ended}
+use Rattle.hadopt.proofs.Names.{◌≡◌, ◌∙◌, ap, sym, nat_eq, None, ℕ, find_entry, numbers, Goes, SiteOf, other_end, Ended}
 use Rattle.hadopt.specs.declared.adopting.Turn.TheVariants as turn
 use Rattle.hadopt.proofs.Keeps.{found-node, found-none, turn-keeps, outer-turn-keeps}
 use Rattle.hadopt.proofs.site.Site.outer_turn.Goals as goal

@@ -1,5 +1,4 @@
-use Rattle.std.proofs.Common.{rules}
-use Rattle.hadopt.specs.Naming.{numbers}
+use Rattle.hadopt.proofs.Names.{rules, numbers}
 use Rattle.hadopt.proofs.Standing.{place-stands}
 use Rattle.hadopt.proofs.site.Site.place.Goals as goal
 

@@ -1,5 +1,4 @@
-use Rattle.std.proofs.Common.{rules}
-use Rattle.hadopt.specs.Naming.{numbers}
+use Rattle.hadopt.proofs.Names.{rules, numbers}
 use Rattle.hadopt.proofs.Standing.{here-stands}
 use Rattle.hadopt.proofs.site.Site.place_in_current.Goals as goal
 

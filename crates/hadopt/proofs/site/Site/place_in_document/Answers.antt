@@ -1,4 +1,4 @@
-use Rattle.hadopt.specs.Naming.{numbers}
+use Rattle.hadopt.proofs.Names.{numbers}
 use Rattle.hadopt.proofs.Standing.{root-stands}
 use Rattle.hadopt.proofs.site.Site.place_in_document.Goals as goal
 

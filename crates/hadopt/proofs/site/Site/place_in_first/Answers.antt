@@ -1,7 +1,5 @@
-use Rattle.std.proofs.Common.{reverse}
+use Rattle.hadopt.proofs.Names.{reverse, rules, numbers}
 use Rattle.hadopt.proofs.Made.{each-got, each-reverse, within}
-use Rattle.std.proofs.Common.{rules}
-use Rattle.hadopt.specs.Naming.{numbers}
 use Rattle.hadopt.proofs.Standing.{first-stands}
 use Rattle.hadopt.proofs.site.Site.place_in_first.Goals as goal
 

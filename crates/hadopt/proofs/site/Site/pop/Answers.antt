@@ -1,9 +1,7 @@
 use Rattle.hadopt.proofs.Lists.{each-among}
-use Rattle.std.proofs.Common.{rules}
-use Rattle.hadopt.specs.Naming.{numbers}
+use Rattle.hadopt.proofs.Names.{rules, numbers, stack}
 use Rattle.hadopt.proofs.Calls.{fewer-kept}
 use Rattle.hadopt.proofs.Turning.{among-drop}
-use Rattle.hadopt.specs.Site.{stack}
 use Rattle.hadopt.proofs.site.Site.pop.Goals as goal
 
 pub invariant_of-self : goal.invariant_of-self

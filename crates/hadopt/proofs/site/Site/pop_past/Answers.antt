@@ -1,10 +1,7 @@
 use Rattle.hadopt.proofs.Lists.{each-among}
-use Rattle.std.proofs.Common.{rules}
-use Rattle.hadopt.specs.Naming.{numbers}
+use Rattle.hadopt.proofs.Names.{rules, numbers, stack, passes}
 use Rattle.hadopt.proofs.Calls.{fewer-kept}
 use Rattle.hadopt.proofs.Turning.{among-past}
-use Rattle.hadopt.specs.Site.{stack}
-use Rattle.hadopt.specs.Passings.{passes}
 use Rattle.hadopt.proofs.site.Site.pop_past.Goals as goal
 
 pub invariant_of-self : goal.invariant_of-self

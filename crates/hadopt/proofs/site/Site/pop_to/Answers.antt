@@ -1,10 +1,6 @@
-use Rattle.std.proofs.Common.{rules}
-use Rattle.hadopt.specs.Naming.{numbers}
+use Rattle.hadopt.proofs.Names.{rules, numbers, stack, nat_eq, is_named}
 use Rattle.hadopt.proofs.Calls.{fewer-kept}
 use Rattle.hadopt.proofs.Lists.{each-among, among-after}
-use Rattle.hadopt.specs.Site.{stack}
-use Rattle.std.proofs.Common.{nat_eq}
-use Rattle.hopen.specs.Scopes.{is_named}
 use Rattle.hadopt.proofs.site.Site.pop_to.Goals as goal
 
 pub invariant_of-self : goal.invariant_of-self

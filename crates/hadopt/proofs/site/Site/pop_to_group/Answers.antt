@@ -1,10 +1,7 @@
-use Rattle.std.proofs.Common.{rules}
-use Rattle.hadopt.specs.Naming.{numbers}
+use Rattle.hadopt.proofs.Names.{rules, numbers, stack, tag_of}
 use Rattle.hadopt.proofs.Calls.{fewer-kept}
 use Rattle.hadopt.proofs.Lists.{each-among, among-after}
-use Rattle.hadopt.specs.Site.{stack}
 use Rattle.hopen.specs.Scopes.{is_of}
-use Rattle.names.specs.Tags.{tag_of}
 use Rattle.hadopt.proofs.site.Site.pop_to_group.Goals as goal
 
 pub invariant_of-self : goal.invariant_of-self

@@ -1,5 +1,5 @@
 use Rattle.hadopt.proofs.Lists.{each-among, among-after}
-use Rattle.hopen.specs.Stack.{is_node}
+use Rattle.hadopt.proofs.Names.{is_node}
 use Rattle.hadopt.proofs.site.Site.pop_to_node.Goals as goal
 
 pub invariant_of-self : goal.invariant_of-self

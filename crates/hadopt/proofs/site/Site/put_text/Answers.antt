@@ -1,11 +1,4 @@
-use Rattle.std.proofs.Common.{ℕ, subst, sym}
-use Rattle.std.specs.Str.{chars}
-use Rattle.hnodes.specs.Edits.{IsPlace}
-use Rattle.names.specs.Placed.{placed}
-use Rattle.hadopt.specs.Gives.{Gives}
-use Rattle.hadopt.specs.Inserts.{put_each}
-use Rattle.hadopt.specs.Naming.{numbers}
-use Rattle.hadopt.specs.Site.{SiteOf}
+use Rattle.hadopt.proofs.Names.{ℕ, subst, sym, chars, IsPlace, placed, Gives, put_each, numbers, SiteOf}
 use Rattle.hadopt.proofs.Calls.{gives-kept, each-kept}
 use Rattle.hadopt.proofs.Putting.{text-gives, made-after_text}
 use Rattle.hadopt.proofs.site.Site.put_text.Goals as goal

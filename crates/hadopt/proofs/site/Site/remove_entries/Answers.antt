@@ -1,11 +1,4 @@
-use Rattle.std.proofs.Common.{◌≡◌, ◌+◌, ◌∙◌, ap, sym, arith, ℕ, true, false, eqb, List, [], ◌∷◌, Some, slice_get, drop, length, refl}
-use Rattle.std.specs.Option.{option_map}
-use Rattle.hformat.specs.Formatting.{without_entry}
-use Rattle.hchain.specs.Nearest.{before}
-use Rattle.hopen.specs.Opens.{open_of}
-use Rattle.hopen.specs.Stack.{OpenNode, is_node}
-use Rattle.hadopt.specs.InnerLoops.{without_entries}
-use Rattle.hadopt.specs.Site.{SiteOf, stack, with_items}
+use Rattle.hadopt.proofs.Names.{◌≡◌, ◌+◌, ◌∙◌, ap, sym, arith, ℕ, true, false, eqb, List, [], ◌∷◌, Some, slice_get, drop, length, refl, option_map, without_entry, before, open_of, OpenNode, is_node, without_entries, SiteOf, stack, with_items}
 use Rattle.hadopt.proofs.Halves.{before-further}
 use Rattle.hadopt.proofs.site.Site.remove_entries.Goals as goal
 

@@ -1,8 +1,4 @@
-use Rattle.std.proofs.Common.{◌≡◌, ◌+◌, length, drop}
-use Rattle.hchain.specs.Nearest.{before}
-use Rattle.hopen.specs.Stack.{is_node}
-use Rattle.hadopt.specs.InnerLoops.{way_after, without_entries}
-use Rattle.hadopt.specs.Site.{stack, with_items}
+use Rattle.hadopt.proofs.Names.{◌≡◌, ◌+◌, length, drop, before, is_node, way_after, without_entries, stack, with_items}
 use Rattle.hadopt.proofs.site.Site.remove_entries.Given as goal
 
 abbrev pub invariant-loop-up : goal.invariant-loop-up

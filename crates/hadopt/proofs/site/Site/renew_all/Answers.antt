@@ -1,8 +1,4 @@
-use Rattle.std.proofs.Common.{◌∙◌, Ok, ap, sym}
-use Rattle.std.specs.Prelude.{Result}
-use Rattle.names.specs.declared.refusal.Refusal.{Refusal}
-use Rattle.hadopt.specs.Naming.{numbers}
-use Rattle.hadopt.specs.Reconstructs.{reconstructed}
+use Rattle.hadopt.proofs.Names.{◌∙◌, Ok, ap, sym, Result, Refusal, numbers, reconstructed}
 use Rattle.hadopt.proofs.Calls.{gives-kept, reconstructed-kept}
 use Rattle.hadopt.proofs.Going.{renewed-none}
 use Rattle.hadopt.proofs.site.Site.renew_all.Goals as goal

@@ -1,7 +1,4 @@
-use Rattle.std.proofs.Common.{ap, arith, ℕ}
-use Rattle.hadopt.specs.Site.{SiteOf}
-use Rattle.hopen.specs.Stack.{is_node}
-use Rattle.hopen.specs.Opens.{open_of}
+use Rattle.hadopt.proofs.Names.{ap, arith, ℕ, SiteOf, is_node, open_of}
 use Rattle.hadopt.proofs.Made.{made-after_change}
 use Rattle.hadopt.proofs.site.Site.replace.Goals as goal
 

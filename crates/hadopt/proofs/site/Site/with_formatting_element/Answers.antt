@@ -1,9 +1,4 @@
-use Rattle.std.proofs.Common.{◌≡◌, ◌∙◌, ap, sym, subst, nat_eq, ℕ, Option, Some, None}
-use Rattle.std.specs.Option.{option_map, option_map_or}
-use Rattle.hopen.specs.Opens.{open_of}
-use Rattle.hformat.specs.Formatting.{EntryOf, find_entry}
-use Rattle.hformat.specs.Items.{entry_is}
-use Rattle.hadopt.specs.AfterInnerLoop.{WithFurthestBlock}
+use Rattle.hadopt.proofs.Names.{◌≡◌, ◌∙◌, ap, sym, subst, nat_eq, ℕ, Option, Some, None, option_map, option_map_or, open_of, EntryOf, find_entry, entry_is, WithFurthestBlock}
 use Rattle.hadopt.proofs.Keeps.{found-node, has-node, unless-same, unless-furthest-block}
 use Rattle.hadopt.proofs.site.Site.with_formatting_element.Goals as goal
 

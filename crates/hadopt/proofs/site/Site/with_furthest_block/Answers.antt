@@ -1,8 +1,4 @@
-use Rattle.std.proofs.Common.{◌≡◌, ◌∙◌, ap, ℕ}
-use Rattle.std.specs.Option.{option_map}
-use Rattle.hopen.specs.Opens.{open_of}
-use Rattle.hopen.specs.Stack.{above, current}
-use Rattle.hadopt.specs.Site.{SiteOf}
+use Rattle.hadopt.proofs.Names.{◌≡◌, ◌∙◌, ap, ℕ, option_map, open_of, above, current, SiteOf}
 use Rattle.hadopt.proofs.site.Site.with_furthest_block.Goals as goal
 
 pub after_inner_loop-requires : goal.after_inner_loop-requires
