@@ -7,6 +7,7 @@ use Rattle.std.proofs.lemmas.List.Folds.{list_all_at}
 use Rattle.std.specs.Option.{IsNone, MatchOption}
 use Rattle.std.specs.Char.{is_ascii, len_utf8}
 use Rattle.std.specs.List.{starts_with, list_all}
+use Rattle.names.proofs.Words.{some_same}
 use Rattle.names.specs.declared.placed.Placed.{Placed}
 use Rattle.names.specs.Placed.{placed, characters, all, is_alphanumeric, is_empty}
 use Rattle.charref.specs.declared.reference.Reference.{Reference}
@@ -16,8 +17,7 @@ use Rattle.charref.specs.declared.last.Last.TheVariants.{Alphanumeric}
 use Rattle.charref.specs.declared.walk.Walk.{Walk}
 use Rattle.charref.specs.Reference.{Entry, Entities, IsTable, Piece, longest, is_key, is_key_name, ends_in_semicolon}
 use Rattle.charref.specs.Table.{IsAfterKey, IsSortedTable, IsRange, IsOver, GoesOn, HasNone, HasRead}
-use Rattle.charref.specs.declared.reference_state.ReferenceState.TheVariants.{Name}
-use Rattle.charref.specs.Held.{key_bytes, IsHeld, in_name}
+use Rattle.charref.specs.Held.{key_bytes}
 use Rattle.charref.specs.Open.{IsOpen}
 use Rattle.charref.specs.Pieces.{IsRead, characters_of, errors_of, unknown_of}
 use Rattle.charref.specs.Walk.{HasTaken, Takes}
@@ -25,7 +25,7 @@ use Rattle.charref.specs.AtOnce.{IsAfterKeyOf, HasWalked, HasWhole, Settles, Set
 use Rattle.charref.proofs.Keys.{longest-whole, longest-over, no_longer}
 use Rattle.charref.proofs.Core.{once}
 use Rattle.charref.proofs.Naming.{is_key_of, key_of}
-use Rattle.charref.proofs.Ranges.{only_first, some_same, within}
+use Rattle.charref.proofs.Ranges.{only_first, within}
 use Rattle.charref.proofs.Searching.{read_ampersand}
 use Rattle.charref.proofs.Fronts.{run_more}
 use Rattle.charref.proofs.Extending.{front_of, follows, ends, closes, continues, last_letter, best_before, settled_before}
@@ -231,20 +231,22 @@ after_key table place e search sorted at read goes =
     let here : place ≡ search.low = (only_first table e.key search.low search.high sorted read.range).here place e at refl in
     record { entry = e; stands = ap (slice_get table) (sym here) ∙ at; read = read; goes_on = goes }
 
-pub key_walked : (walk : Walk) (table : Entities) (bytes : List ℕ) (count : ℕ) (search : Search) → IsTable table → IsAfterKeyOf table bytes search → count ≡ search.depth - 1 → walk.table.now ≡ table → walk.in_value ≡ false → walk.state ≡ Name search
-    → HasWalked walk table bytes count
-key_walked walk table bytes count search is_table has size table-is value-is state-is =
+-- the next byte settles the key, where it does after the text of the key
+pub key_settles_before : (table : Entities) (bytes : List ℕ) (count : ℕ) (search : Search) (found : Reference) → IsTable table → IsAfterKeyOf table bytes search → count ≡ search.depth - 1 → count < length bytes
+    → is_ascii (get_or bytes count 0) ≡ true
+    → ((text : List Placed) (p : Placed) → HasRead search table (key_bytes text) → all is_alphanumeric text ≡ true → p.ch ≡ get_or bytes count 0 → (after : List Placed) → IsRead table false (text ++ p ∷ []) after found)
+    → Settles table bytes (count + 1) found
+key_settles_before table bytes count search found is_table has size within ascii reads =
     let front : IsAfterKey table search = has.read in
     let depth : search.depth ≡ length front.entry.key = front.read.depth in
     let at-front : StandsAt bytes front.entry.key count = key_stands bytes front.entry.key count (is_key_of table search.low front.entry is_table front.stands) has.opens (omega arith) in
     record {
-      few = at-front.few;
-      ascii = at-front.ascii;
-      taken = λ at. let text : List Placed = placed at (take count bytes) in
+      some = omega arith;
+      few = omega arith;
+      ascii = run_more is_ascii bytes count within at-front.ascii ascii;
+      read = λ at after. let text : List Placed = placed at (take count bytes) in
+          let last : Last at (take count bytes) (get_or bytes count 0) = last_placed at (take count bytes) (get_or bytes count 0) in
           let goes : GoesOn table (key_bytes text) = subst (GoesOn table) (at-front.is at) front.goes_on in
-          record {
-            table_is = table-is;
-            in_value_is = value-is;
-            held = subst (λ state. IsHeld table false state text) (sym state-is) (in_name search text (subst (HasRead search table) (at-front.is at) front.read) (front_of table text is_table goes) (λ outside some. goes));
-          };
+          subst (λ t. IsRead table false t after found) (sym (more_bytes bytes count within at last))
+          (reads text last.p (subst (HasRead search table) (at-front.is at) front.read) (front_of table text is_table goes) last.ch after);
     }

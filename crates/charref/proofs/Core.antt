@@ -4,10 +4,10 @@ use Rattle.std.proofs.lemmas.Slice.Eq.{bytes_eq-Decides}
 use Rattle.std.proofs.lemmas.Option.{slice_get_within, get_or_from_slice_get, slice_get-get_or}
 use Rattle.std.specs.List.{starts_with, AllByRecursion, IsDistinct}
 use Rattle.std.specs.List.Sorted.{IsStrictlySortedBy}
+use Rattle.names.proofs.Words.{some_same}
 use Rattle.charref.specs.Reference.{Entry, Entities, IsTable, longest, longer, core}
 use Rattle.charref.specs.Flat.{IsReadable}
 use Rattle.charref.proofs.Keys.{whole, longest-whole}
-use Rattle.charref.proofs.Ranges.{some_same}
 use Rattle.charref.proofs.Members.{readable_from_parts}
 
 -- the longest key is a key of the table that the text begins with

@@ -1,11 +1,13 @@
 -- A name that has been read: its key, or none.
-use Rattle.std.proofs.Common.{arith, ◌≡◌, ℕ, zero, suc, ◌-◌, ◌≤◌, ◌<◌, Bool, true, true≢false, nat_eq, List, [], ◌∷◌, ◌++◌, length, take, drop, slice_get, get_or, Some, refl, sym, ap, ◌∙◌, subst}
-use Rattle.std.proofs.lemmas.Bool.{and_parts, and_from}
+use Rattle.std.proofs.Common.{arith, ◌≡◌, ℕ, zero, suc, ◌-◌, ◌≤◌, ◌<◌, true, true≢false, nat_eq, List, [], ◌∷◌, ◌++◌, length, take, drop, slice_get, get_or, Some, refl, sym, ap, ◌∙◌, subst}
+use Rattle.std.proofs.lemmas.Bool.{and_parts}
 use Rattle.std.proofs.lemmas.Bool.Decides.{nat_tests}
 use Rattle.std.specs.List.{starts_with, list_all}
 use Rattle.names.specs.declared.placed.Placed.{Placed}
 use Rattle.names.specs.Placed.{characters, begins, all, past, is_alphanumeric}
 use Rattle.charref.specs.Reference.{Entry, Entities, IsTable, is_key, ends_in_semicolon}
+-- under the name by which the crates above cite it
+pub use Rattle.names.proofs.Words.{all-append}
 
 -- the last byte of a key
 pub ends_at : (xs : List ℕ) → 0 < length xs → ends_in_semicolon xs ≡ nat_eq (get_or xs (length xs - 1) 0) 59
@@ -29,14 +31,6 @@ pub take-map : (n : ℕ) (text : List Placed) → take n (characters text) ≡ c
 take-map zero text = refl
 take-map (suc n) [] = refl
 take-map (suc n) (p ∷ ps) = ap (λ cs. p.ch ∷ cs) (take-map n ps)
-
--- runs of alphanumerics
-pub all-append : (test : ℕ → Bool) (xs ys : List Placed) → all test xs ≡ true → all test ys ≡ true → all test (xs ++ ys) ≡ true
-all-append test [] ys h g = g
-all-append test (p ∷ ps) ys h g = and_from _ _ (and_parts _ _ h).0 (all-append test ps ys (and_parts _ _ h).1 g)
-
-pub all-snoc : (test : ℕ → Bool) (xs : List Placed) (p : Placed) → all test xs ≡ true → test p.ch ≡ true → all test (xs ++ p ∷ []) ≡ true
-all-snoc test xs p h is = all-append test xs (p ∷ []) h (and_from _ _ is refl)
 
 pub past-run : (xs ys : List Placed) → all is_alphanumeric xs ≡ true → past is_alphanumeric (xs ++ ys) ≡ past is_alphanumeric ys
 past-run [] ys h = refl

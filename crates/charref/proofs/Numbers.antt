@@ -4,6 +4,7 @@ use Rattle.std.proofs.lemmas.List.{append-nil}
 use Rattle.std.proofs.lemmas.Bool.{and_parts, and_from}
 use Rattle.std.proofs.lemmas.Bool.Decides.{nat_tests}
 use Rattle.std.specs.Char.{to_ascii_lowercase}
+use Rattle.names.proofs.Words.{all-one, begins-append}
 use Rattle.names.specs.declared.placed.Placed.{Placed}
 use Rattle.names.specs.declared.error.ErrorCode.TheVariants.{AbsenceOfDigitsInNumericCharacterReference, MissingSemicolonAfterCharacterReference}
 use Rattle.names.specs.Placed.{begins, stops, all, is_empty, is_digit, is_alphanumeric, error, error_if}
@@ -15,8 +16,8 @@ use Rattle.charref.specs.Reference.{Entities, is_hex_digit, digit_value, number_
 use Rattle.charref.specs.Number.{is_digit_of, radix}
 use Rattle.charref.specs.Held.{IsSign, number_sign, small_x, capital_x, IsHeld, after_sign, after_x, in_number}
 use Rattle.charref.specs.Pieces.{IsRead, errors_of, number_of}
-use Rattle.charref.proofs.Naming.{all-snoc, drop-seam}
-use Rattle.charref.proofs.Telling.{begins-append, no_run, read_text, drop-all}
+use Rattle.charref.proofs.Naming.{drop-seam}
+use Rattle.charref.proofs.Telling.{no_run, read_text, drop-all}
 
 -- SIGNS
 
@@ -138,7 +139,7 @@ pub next_digit : (table : Entities) (in_value : Bool) (base : Base) (value : ℕ
     → next ≡ min (value * radix base + d) 0x110000 → IsHeld table in_value (Number base next) (text ++ p ∷ [])
 next_digit table in_value _ _ _ p d next (in_number base value sign digits text text-is is opens run value-is) test d-is next-is =
     in_number base next sign (digits ++ p ∷ []) (text ++ p ∷ []) (ap (λ xs. xs ++ p ∷ []) text-is ∙ append_assoc sign digits (p ∷ [])) is
-    (begins-append (is_digit_of base) digits (p ∷ []) opens) (all-snoc (is_digit_of base) digits p run test)
+    (begins-append (is_digit_of base) digits (p ∷ []) opens) (all-one (is_digit_of base) digits p run test)
     (next-is ∙ ap (λ v. min (v * radix base + d) 0x110000) value-is ∙ min-more base (number_from 0 (radix base) digits) d ∙ ap (λ n. min (number_from 0 (radix base) digits * radix base + n) 0x110000) d-is
     ∙ ap (λ n. min n 0x110000) (sym (number_from-more 0 (radix base) digits p)))
 

@@ -5,11 +5,11 @@ use Rattle.std.proofs.lemmas.Bool.Decides.{nat_tests}
 use Rattle.std.proofs.lemmas.List.{length-map}
 use Rattle.std.proofs.Math.Seq.{drop-append_seam, take-append_seam}
 use Rattle.std.specs.Char.{to_ascii_lowercase}
+use Rattle.names.proofs.Words.{begins-append}
 use Rattle.names.specs.declared.placed.Placed.{Placed}
 use Rattle.names.specs.declared.error.ErrorCode.TheVariants.{UnknownNamedCharacterReference, AbsenceOfDigitsInNumericCharacterReference}
 use Rattle.names.specs.Placed.{characters, lowered, begins, stops, all, past, RunsTo, is_digit, is_alphanumeric, error, error_if}
 use Rattle.charref.specs.Reference.{Entry, Entities, Piece, longest, is_kept, is_hex_digit, begins_number, is_semicolon_if_any, ampersand, named_piece, numeric_piece, IsReference, named, kept, unknown, decimal, hexadecimal, no_digits, alone}
-use Rattle.charref.proofs.Telling.{begins-append}
 
 -- a run of characters that pass, and what follows it
 abbrev pub run : (ℕ → Bool) → List Placed → List Placed

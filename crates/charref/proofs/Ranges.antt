@@ -7,6 +7,7 @@ use Rattle.std.proofs.lemmas.List.{length-map}
 use Rattle.std.specs.Cmp.Lexicographic.{slice_cmp}
 use Rattle.std.specs.Ordering.{nat_cmp}
 use Rattle.std.specs.List.{starts_with}
+use Rattle.names.proofs.Words.{some_same}
 use Rattle.charref.specs.declared.entity.Entity.{Entity}
 use Rattle.charref.specs.Reference.{Entry, Entities}
 use Rattle.charref.specs.Table.{entry, entries, code_at, IsSortedTable, IsRange, IsRising, IsParted, IsOver}
@@ -21,9 +22,6 @@ entry_in text es table k d is less got =
     let size : length (entries text es) ≡ length es = length-map es (entry text) in
     let same : length (entries text es) ≡ length table = ap length is in
     ap (λ t. slice_get t k) (sym is) ∙ entry_at text es k d (omega arith) ∙ ap (λ x. Some (entry text x)) (sym got)
-
-pub some_same : {A : Type 0} (x y : A) → Some x ≡ Some y → x ≡ y
-some_same x y h = cc
 
 -- A search for the place that parts a range: it is known what is below `from`, and what is not below `to`.
 pub record IsPartedTo (table : Entities) (low from to high depth code : ℕ) : Type 0 where

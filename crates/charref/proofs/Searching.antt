@@ -4,12 +4,13 @@ use Rattle.std.proofs.lemmas.Bool.{and_parts}
 use Rattle.std.proofs.lemmas.Bool.Decides.{nat_tests}
 use Rattle.std.proofs.lemmas.Option.{slice_get_within}
 use Rattle.std.specs.List.{starts_with, list_all}
+use Rattle.names.proofs.Words.{some_same}
 use Rattle.charref.specs.declared.search.Search.{Search}
 use Rattle.charref.specs.Reference.{Entry, Entities, longest, longer, is_key}
 use Rattle.charref.specs.Table.{best_entry, IsSortedTable, IsRange, IsRising, IsParted, IsOver, GoesOn, HasRead}
 use Rattle.charref.proofs.Keys.{whole, no_longer, begins_itself, longest-whole, longest-more, longest-over}
 use Rattle.charref.proofs.Naming.{is_key_of}
-use Rattle.charref.proofs.Ranges.{range_rises, rises_later, range_more, range_over, only_first, within, inside, some_same}
+use Rattle.charref.proofs.Ranges.{range_rises, rises_later, range_more, range_over, only_first, within, inside}
 
 -- the empty text begins with no key
 longest-nothing : (table : Entities) → list_all (λ e. is_key e.key) table ≡ true → longest table [] ≡ None

@@ -4,6 +4,7 @@ use Rattle.std.proofs.lemmas.List.{append-nil, map-append, length-map, take-appe
 use Rattle.std.proofs.lemmas.Bool.{and_parts}
 use Rattle.std.proofs.lemmas.Bool.Decides.{nat_tests}
 use Rattle.std.specs.List.{starts_with}
+use Rattle.names.proofs.Words.{all-append, begins-append}
 use Rattle.names.specs.declared.placed.Placed.{Placed}
 use Rattle.names.specs.declared.error.ParseError.{ParseError}
 use Rattle.names.specs.declared.error.ErrorCode.TheVariants.{MissingSemicolonAfterCharacterReference, UnknownNamedCharacterReference}
@@ -18,15 +19,11 @@ use Rattle.charref.specs.Last.{IsSettled, last_of, goes_on_name, is_kept_before}
 use Rattle.charref.specs.Pieces.{IsRead, characters_of, errors_of, unknown_of}
 use Rattle.charref.proofs.Keys.{no_longer}
 use Rattle.charref.proofs.Core.{longest_among}
-use Rattle.charref.proofs.Naming.{all-append, key_of, take-map, past-run, begins-drop, drop-seam, drop-within, is_key_of, Opens, key_opens}
+use Rattle.charref.proofs.Naming.{key_of, take-map, past-run, begins-drop, drop-seam, drop-within, is_key_of, Opens, key_opens}
 
 begins_first : (test : ℕ → Bool) (name : List Placed) (c : ℕ) (cs : List ℕ) → characters name ≡ c ∷ cs → begins test name ≡ test c
 begins_first test [] c cs h = absurd (cc)
 begins_first test (p ∷ ps) c cs h = let first : p.ch ≡ c = cc in ap test first
-
-pub begins-append : (test : ℕ → Bool) (xs ys : List Placed) → begins test xs ≡ true → begins test (xs ++ ys) ≡ true
-begins-append test [] ys h = absurd (true≢false (sym h))
-begins-append test (p ∷ ps) ys h = h
 
 begins_or : (xs : List Placed) → begins is_alphanumeric xs ≡ true → begins (λ c. is_equals c || is_alphanumeric c) xs ≡ true
 begins_or [] h = absurd (true≢false (sym h))

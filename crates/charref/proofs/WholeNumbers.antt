@@ -3,6 +3,7 @@ use Rattle.std.proofs.Common.{arith, ◌≡◌, ℕ, ◌+◌, ◌*◌, ◌≤◌
 use Rattle.std.proofs.lemmas.Bool.Decides.{nat_tests}
 use Rattle.std.specs.Char.{is_ascii}
 use Rattle.std.specs.List.{list_all}
+use Rattle.names.proofs.Words.{some_same}
 use Rattle.names.specs.declared.placed.Placed.{Placed}
 use Rattle.names.specs.Placed.{placed}
 use Rattle.charref.specs.declared.number.Base.{Base}
@@ -16,7 +17,6 @@ use Rattle.charref.specs.Pieces.{IsRead, number_of}
 use Rattle.charref.specs.AtOnce.{HasSign, Settles}
 use Rattle.charref.proofs.Numbers.{two_signs, first_digit, next_digit, number_closed}
 use Rattle.charref.proofs.Taking.{held_x}
-use Rattle.charref.proofs.Ranges.{some_same}
 use Rattle.charref.proofs.AtOnce.{Last, last_placed, more_bytes}
 use Rattle.charref.proofs.Fronts.{run_more}
 

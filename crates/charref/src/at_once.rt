@@ -1,25 +1,26 @@
 //! What the bytes after an `&` settle of it, outside an attribute value.
 
-ghost use Rattle.std.specs.Prelude.{◌≡◌, ◌<◌, ◌≤◌, ℕ, List, true, false, length, take, IfSome, IsNone, MatchOption};
+ghost use Rattle.std.specs.Prelude.{◌≡◌, ◌<◌, ◌≤◌, ℕ, List, true, false, length, take, IfSome, IsNone, IsTrue, MatchOption};
 ghost use Rattle.std.specs.Char.{is_ascii};
 ghost use Rattle.std.specs.List.{list_all};
 ghost use Rattle.names.specs.declared.placed.Placed.{Placed};
 ghost use Rattle.names.specs.Placed.{placed};
 ghost use Rattle.charref.specs.Reference.{Entities, IsTable};
-ghost use Rattle.charref.specs.Pieces.{IsRead};
+ghost use Rattle.charref.specs.Pieces.{IsRead, number_of};
 ghost use Rattle.charref.specs.Table.{is_search_within};
-ghost use Rattle.charref.specs.AtOnce.{HasSign, HasWalked, HasWhole, Settles, SettlesNothing};
+ghost use Rattle.charref.specs.AtOnce.{HasSign, HasWhole, Settles, SettlesNothing};
 
+use crate::flat::Flat;
 use crate::key::is_alphanumeric;
 use crate::last::Last;
+use crate::next::Next;
 use crate::number::Base;
 use crate::reference::{Characters, Reference};
-use crate::reference_state::ReferenceState;
 use crate::search::Search;
 use crate::slots::is_whole;
 use crate::table::Table;
 use crate::walk::Walk;
-use crate::walking::{number, unknown};
+use crate::walking::{after_name, number, unknown};
 
 impl<'t> Walk<'t> {
     /// What is at an `&` outside an attribute value after which these bytes come, and how many of them settle it, whatever comes
@@ -37,20 +38,20 @@ impl<'t> Walk<'t> {
     }
 }
 
-/// The same: at once where it is a reference that ends in a `;`, or an `&` before a letter or digit with which no key begins.
+/// The same: at once where it is a key that ends in a `;`, or an `&` before a letter or digit with which no key begins.
 #[inline(always)]
 fn settled<'t>(table: &'t Table, bytes: &[u8]) -> Option<(Reference<'t>, usize)>
     ensures table { IsTable table.now }
     ensures settles { MatchOption result (SettlesNothing table.now bytes.now) (λ it. Settles table.now bytes.now it.1 it.0) }
 {
-    let flat = &table.flat;
     if let Some(first) = bytes.first() {
         let first = *first;
-        if first == b'#' {
-            return settled_number(table, bytes);
-        }
         if is_alphanumeric(first)
-            && let Some(search) = Search::after_first(flat, &table.starts, char::from(first))
+            && let Some(search) = Search::after_first(
+                &table.flat,
+                &table.starts,
+                char::from(first),
+            )
         {
             if search.is_over() {
                 return Some((unknown(1, Last::Alphanumeric), 1));
@@ -60,7 +61,7 @@ fn settled<'t>(table: &'t Table, bytes: &[u8]) -> Option<(Reference<'t>, usize)>
             }
         }
     }
-    settled_by_steps(table, bytes)
+    settled_otherwise(table, bytes)
 }
 
 /// The place of a key that ends in a `;` and with all of which, after its `&`, these bytes begin, if one is found at once: the
@@ -71,12 +72,59 @@ fn whole_place(table: &Table, search: Search, bytes: &[u8]) -> Option<usize>
     ensures { IfSome result (HasWhole table.now bytes.now) }
 {
     if search.high - search.low != 1 {
-        return table.slots.find(&table.flat, bytes);
+        return table.slots.place_of(&table.flat, bytes);
     }
-    if is_whole(&table.flat, search.low, bytes) {
+    if is_whole_by_itself(&table.flat, search.low, bytes) {
         Some(search.low)
     } else {
         None
+    }
+}
+
+/// Whether the key at this place ends in a `;`, and these bytes begin with all of it after its `&`; out of line, since what calls it
+/// is large.
+#[inline(never)]
+fn is_whole_by_itself(flat: &Flat, place: usize, bytes: &[u8]) -> bool
+    requires table { IsTable flat.now }
+    requires within { place < length flat.now }
+    ensures { IsTrue result → HasWhole flat.now bytes.now place }
+{
+    is_whole(flat, place, bytes)
+}
+
+/// What is at an `&` before these bytes, and how many of them settle it: a number, a key without a `;`, or what the steps of a walk
+/// give.
+#[inline(never)]
+fn settled_otherwise<'t>(table: &'t Table, bytes: &[u8]) -> Option<(Reference<'t>, usize)>
+    ensures { MatchOption result (SettlesNothing table.now bytes.now) (λ it. Settles table.now bytes.now it.1 it.0) }
+{
+    if let Some(first) = bytes.first() {
+        let first = *first;
+        if first == b'#' {
+            return settled_number(table, bytes);
+        }
+    }
+    match settled_by_key(table, bytes) {
+        Some(it) => Some(it),
+        None => settled_by_steps(table, bytes),
+    }
+}
+
+/// What is at an `&` before these bytes, and how many of them settle it, if they begin with a key without a `;` and the next of them
+/// with no longer one.
+#[inline(always)]
+fn settled_by_key<'t>(table: &'t Table, bytes: &[u8]) -> Option<(Reference<'t>, usize)>
+    ensures { IfSome result (λ it. Settles table.now bytes.now it.1 it.0) }
+{
+    let search = table.open_keys.find(&table.flat, bytes)?;
+    let count = search.depth - 1;
+    let byte = *bytes.get(count)?;
+    if !byte.is_ascii() {
+        return None;
+    }
+    match after_name(table, false, search, char::from(byte)) {
+        Next::Ended(found) => Some((found, count + 1)),
+        Next::Goes(_) => None,
     }
 }
 
@@ -96,32 +144,13 @@ fn whole_key<'t>(table: &'t Table, place: usize) -> (Reference<'t>, usize)
     (found, table.flat.key(place).len() - 1)
 }
 
-/// A walk that has taken a key at the front of these bytes, if one is found at once, or nothing yet; and how many bytes it has
-/// taken.
-#[inline(always)]
-fn begun<'t>(table: &'t Table, bytes: &[u8]) -> (Walk<'t>, usize)
-    ensures table { IsTable table.now }
-    ensures walked { HasWalked result.0 table.now bytes.now result.1 }
-{
-    match table.open_keys.find(&table.flat, bytes) {
-        Some(search) => {
-            let walk = Walk {
-                table,
-                in_value: false,
-                state: ReferenceState::Name(search),
-            };
-            (walk, search.depth - 1)
-        }
-        None => (Walk::new(table, false), 0),
-    }
-}
-
 /// What is at the `&` before these bytes, and how many of them settle it, by the steps of a walk.
 fn settled_by_steps<'t>(table: &'t Table, bytes: &[u8]) -> Option<(Reference<'t>, usize)>
     ensures table { IsTable table.now }
     ensures settles { MatchOption result (SettlesNothing table.now bytes.now) (λ it. Settles table.now bytes.now it.1 it.0) }
 {
-    let (mut walk, mut count) = begun(table, bytes);
+    let mut walk = Walk::new(table, false);
+    let mut count = 0;
     while count < bytes.len() && bytes[count].is_ascii() {
         if let Some(found) = walk.take(char::from(bytes[count])) {
             return Some((found, count + 1));
@@ -131,24 +160,24 @@ fn settled_by_steps<'t>(table: &'t Table, bytes: &[u8]) -> Option<(Reference<'t>
     None
 }
 
-/// What is at an `&` before these bytes, the first of them a `#`.
-#[inline(never)]
+/// What is at an `&` before these bytes, the first of them a `#`, and how many of them settle it.
+#[inline(always)]
 fn settled_number<'t>(table: &'t Table, bytes: &[u8]) -> Option<(Reference<'t>, usize)>
     requires { HasSign Base.Decimal bytes.now 1 }
     ensures { MatchOption result (SettlesNothing table.now bytes.now) (λ it. Settles table.now bytes.now it.1 it.0) }
 {
     match whole_number(bytes) {
-        Some(it) => Some(it),
+        Some((value, count)) => Some((number(value, 0, false), count)),
         None => settled_by_steps(table, bytes),
     }
 }
 
-/// A numeric reference, if these bytes, the first of them a `#`, begin with the rest of it after its `&`, and it has a digit
-/// and a `;`; and how many of the bytes are its own.
+/// The number of a numeric reference, if these bytes, the first of them a `#`, begin with the rest of it after its `&`, and it has a
+/// digit and a `;`; and how many of the bytes are its own.
 #[inline(always)]
-fn whole_number<'t>(bytes: &[u8]) -> Option<(Reference<'t>, usize)>
+fn whole_number(bytes: &[u8]) -> Option<(u32, usize)>
     requires { HasSign Base.Decimal bytes.now 1 }
-    ensures { IfSome result (λ it. (table : Entities) → Settles table bytes.now it.1 it.0) }
+    ensures { IfSome result (λ it. (table : Entities) → Settles table bytes.now it.1 (number_of it.0 0 false)) }
 {
     let second = *bytes.get(1)?;
     if second == b'x' || second == b'X' {
@@ -159,9 +188,9 @@ fn whole_number<'t>(bytes: &[u8]) -> Option<(Reference<'t>, usize)>
 
 /// The same, in this base, where the digits begin at `start`.
 #[inline(always)]
-fn number_after<'t>(base: Base, bytes: &[u8], start: usize) -> Option<(Reference<'t>, usize)>
+fn number_after(base: Base, bytes: &[u8], start: usize) -> Option<(u32, usize)>
     requires { HasSign base bytes.now start }
-    ensures { IfSome result (λ it. (table : Entities) → Settles table bytes.now it.1 it.0) }
+    ensures { IfSome result (λ it. (table : Entities) → Settles table bytes.now it.1 (number_of it.0 0 false)) }
 {
     let mut value = 0;
     let mut count = start;
@@ -176,5 +205,5 @@ fn number_after<'t>(base: Base, bytes: &[u8], start: usize) -> Option<(Reference
     if count == start || count == bytes.len() || bytes[count] != b';' {
         return None;
     }
-    Some((number(value, 0, false), count + 1))
+    Some((value, count + 1))
 }

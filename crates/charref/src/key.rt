@@ -32,7 +32,7 @@ fn is_key_name(name: &[u8]) -> bool
     ensures { result ≡ is_key_name name.now }
 {
     for (index, byte) in name.iter().enumerate() {
-        if !byte.is_ascii_alphanumeric() {
+        if !is_alphanumeric(*byte) {
             return index > 0 && *byte == b';' && index + 1 == name.len();
         }
     }

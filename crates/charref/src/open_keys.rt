@@ -14,7 +14,7 @@ use std::alloc::{AllocError, Global};
 const PAIRS: usize = 64 * 64;
 
 /// How many look-ups are tried for a name: in HTML's table no more than three keys without a `;` have the same first two letters.
-const TRIES: usize = 3;
+const KEYS_TRIED: usize = 3;
 
 /// For each key without a `;` with which a longer key begins, the look-up that has read it, in the order of the keys; and by the
 /// first two letters of a name, how many look-ups there are up to the last one of these letters.
@@ -26,7 +26,7 @@ pub(crate) struct OpenKeys {
 
 /// The number of a pair of letters or digits. Of letters, each pair has its own.
 #[inline(always)]
-fn pair_of(first: u8, second: u8) -> usize {
+fn pair_number(first: u8, second: u8) -> usize {
     usize::from(first % 64) * 64 + usize::from(second % 64)
 }
 
@@ -75,7 +75,7 @@ impl OpenKeys {
             self.counts.resize(PAIRS, 0)?;
         }
         if let [_, first, second, ..] = key
-            && let Some(slot) = self.counts.get_mut(pair_of(*first, *second))
+            && let Some(slot) = self.counts.get_mut(pair_number(*first, *second))
             && let Ok(count) = u16::try_from(self.read.len())
         {
             *slot = count;
@@ -93,8 +93,8 @@ impl OpenKeys {
         let [first, second, ..] = bytes else {
             return None;
         };
-        let count = usize::from(*self.counts.get(pair_of(*first, *second))?);
-        for tried in 1..=TRIES {
+        let count = usize::from(*self.counts.get(pair_number(*first, *second))?);
+        for tried in 1..=KEYS_TRIED {
             let search = *self.read.get(count.wrapping_sub(tried))?;
             if flat.opens(search.low, bytes) {
                 return Some(search);

@@ -1,6 +1,6 @@
 //! Reading a table from JSON text.
 
-ghost use Rattle.std.specs.Prelude.{◌≡◌, ◌⊎◌, ℕ, List, [], ◌∷◌, ◌++◌, Ok, Err, Some, IfOk, IfErr, option_map, option_and_then, bytes_eq, codes, string_bytes};
+ghost use Rattle.std.specs.Prelude.{◌≡◌, ◌⊎◌, ℕ, List, [], ◌∷◌, ◌++◌, Ok, Err, Some, IfOk, IfErr, OnOk, option_map, option_and_then, bytes_eq, codes, string_bytes};
 ghost use Rattle.std.specs.Prelude.{encode_utf8_all};
 ghost use Rattle.serde_json.specs.Find.{get, as_str, as_array};
 ghost use Rattle.names.specs.declared.refusal.TableFault.{TableFault};
@@ -41,22 +41,23 @@ fn codepoints(list: &[Value]) -> Option<OneOrTwo>
     }
 }
 
-/// The text of some characters.
-fn text_of(alloc: Global, characters: &[char]) -> Result<String, AllocError>
-    ensures { IfOk result (λ text. string_bytes text ≡ encode_utf8_all characters.now) }
+/// Writes the text of some characters, in place of what is there.
+fn write_text(room: &mut String, characters: &[char]) -> Result<(), AllocError>
+    ensures { OnOk result (string_bytes room.new ≡ encode_utf8_all characters.now) }
 {
-    let mut text = String::new(alloc);
+    room.clear();
     for character in characters {
-        text.push(*character)?;
+        room.push(*character)?;
     }
-    Ok(text)
+    Ok(())
 }
 
-/// Whether a text is that of some characters.
-fn is_text_of(alloc: Global, text: &str, characters: &[char]) -> Result<bool, AllocError>
+/// Whether a text is that of some characters, which is written to see it.
+fn is_text_of(room: &mut String, text: &str, characters: &[char]) -> Result<bool, AllocError>
     ensures { IfOk result (λ same. same ≡ bytes_eq text.now (encode_utf8_all characters.now)) }
 {
-    Ok(text == text_of(alloc, characters)?.as_str())
+    write_text(room, characters)?;
+    Ok(text == room.as_str())
 }
 
 /// The list of an entry, if it has one.
@@ -99,7 +100,7 @@ fn json_fault(error: Error) -> Refusal
 }
 
 /// The characters of an entry, by its list and its text.
-fn characters_with(alloc: Global, list: &[Value], text: &str) -> Result<OneOrTwo, Refusal>
+fn characters_with(room: &mut String, list: &[Value], text: &str) -> Result<OneOrTwo, Refusal>
     ensures ok { IfOk result (λ characters. (key : List ℕ) → entry_of_characters key text.now (codepoints (items_view list.now))
         ≡ Ok (record { key = key; stands_for = stands_for characters })) }
     ensures err { IfErr result (λ e. (key : List ℕ) → IsRefusedWith (entry_of_characters key text.now (codepoints (items_view list.now))) e) }
@@ -107,7 +108,7 @@ fn characters_with(alloc: Global, list: &[Value], text: &str) -> Result<OneOrTwo
     let Some(characters) = codepoints(list) else {
         return Err(fault(TableFault::Codepoints));
     };
-    if is_text_of(alloc, text, characters.as_slice())? {
+    if is_text_of(room, text, characters.as_slice())? {
         Ok(characters)
     } else {
         Err(fault(TableFault::Characters))
@@ -115,7 +116,7 @@ fn characters_with(alloc: Global, list: &[Value], text: &str) -> Result<OneOrTwo
 }
 
 /// The characters that a key stands for, by its value.
-fn characters_of(alloc: Global, key: &str, value: &Value) -> Result<OneOrTwo, Refusal>
+fn characters_of(room: &mut String, key: &str, value: &Value) -> Result<OneOrTwo, Refusal>
     ensures ok { IfOk result (λ characters. entry_of key.now (view value.now) ≡ Ok (record { key = key.now; stands_for = stands_for characters })) }
     ensures err { IfErr result (λ e. IsRefusedWith (entry_of key.now (view value.now)) e) }
 {
@@ -125,15 +126,15 @@ fn characters_of(alloc: Global, key: &str, value: &Value) -> Result<OneOrTwo, Re
     let Some((list, text)) = fields(value) else {
         return Err(fault(TableFault::Shape));
     };
-    characters_with(alloc, list, text)
+    characters_with(room, list, text)
 }
 
 /// Appends the entry of a key and its value to a flat form.
-fn add_entry(flat: &mut Vec<u8>, alloc: Global, key: &str, value: &Value) -> Result<(), Refusal>
+fn add_entry(flat: &mut Vec<u8>, room: &mut String, key: &str, value: &Value) -> Result<(), Refusal>
     ensures ok { IfOk result (λ _. (e : Entry) × (entry_of key.now (view value.now) ≡ Ok e) × (flat.new.items ≡ flat.old.items ++ flat_entry e)) }
     ensures err { IfErr result (λ e. IsRefusedWith (entry_of key.now (view value.now)) e) }
 {
-    let characters = characters_of(alloc, key, value)?;
+    let characters = characters_of(room, key, value)?;
     Ok(add_flat(flat, key.as_bytes(), characters.as_slice())?)
 }
 
@@ -144,8 +145,9 @@ fn flat_of(alloc: Global, members: &Map<String, Value>) -> Result<Vec<u8>, Refus
     ensures err { IfErr result (λ e. IsRefusedWith (entities_of (members_view members.now.entries)) e) }
 {
     let mut flat = Vec::from_slice(alloc, &[1])?;
+    let mut room = String::new(alloc);
     for (key, value) in members.iter() {
-        add_entry(&mut flat, alloc, key.as_str(), value)?;
+        add_entry(&mut flat, &mut room, key.as_str(), value)?;
     }
     Ok(flat)
 }

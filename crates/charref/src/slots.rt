@@ -5,9 +5,9 @@ ghost use Rattle.charref.specs.Reference.{IsTable};
 ghost use Rattle.charref.specs.AtOnce.{HasWhole};
 
 use crate::flat::Flat;
-use crate::key::alphanumerics;
 use crate::walking::ends_in_semicolon;
 use std::alloc::{AllocError, Global};
+use std::simd::prelude::*;
 
 /// A table of no more entries than this has no slots.
 const FEW: usize = 16;
@@ -16,7 +16,10 @@ const FEW: usize = 16;
 const MANY: usize = 32_768;
 
 /// How many slots are tried for a name.
-const TRIES: u32 = 8;
+const SLOTS_TRIED: u32 = 8;
+
+/// The `;` of a name is looked for among so many bytes: the longest name of HTML's table has one letter less.
+const LONGEST: usize = 32;
 
 /// For each name of two letters or more before a `;`, at one of the slots from its hash on, one more than the place of its key;
 /// 0 in a slot that is free. What is found here is compared with the key, and what is not found is looked up byte by byte.
@@ -39,10 +42,37 @@ fn hash_of(name: &[u8]) -> u32
     requires { 2 ≤ length name.now }
 {
     let len = name.len();
-    let ends = u32::from_le_bytes([name[0], name[1], name[len - 2], name[len - 1]]);
+    let first = u32::from(u16::from_le_bytes([name[0], name[1]]));
+    let last = u32::from(u16::from_le_bytes([name[len - 2], name[len - 1]])) << 16;
     let middle = u32::from(name[len / 2]) << 11;
-    let hash = (ends ^ middle ^ ((len & 31) as u32) << 3).wrapping_mul(0x9E37_79B1);
+    let hash = (first ^ last ^ middle ^ ((len & 31) as u32) << 3).wrapping_mul(0x9E37_79B1);
     hash ^ hash >> 15
+}
+
+/// Where the first `;` of these bytes is, if it is among the first ones; else any place. What is found by it is compared with the key.
+#[inline(always)]
+fn semicolon_place(bytes: &[u8]) -> usize {
+    let mut count = 0;
+    while count < LONGEST && bytes.len() - count >= 16 {
+        let found = u8x16::from_slice(&bytes[count..])
+            .simd_eq(u8x16::splat(b';'))
+            .to_bitmask();
+        if found != 0 {
+            return count + found.trailing_zeros() as usize;
+        }
+        count += 16;
+    }
+    semicolon_from(bytes, count)
+}
+
+/// The same, from `start` on, a byte at a time.
+#[inline(always)]
+fn semicolon_from(bytes: &[u8], start: usize) -> usize {
+    let mut place = start;
+    while place < LONGEST && place < bytes.len() && bytes[place] != b';' {
+        place += 1;
+    }
+    place
 }
 
 /// Whether the key at this place ends in a `;`, and these bytes begin with all of it after its `&`.
@@ -81,7 +111,7 @@ impl Slots {
 
     /// Puts a place into the first free slot for this hash, if one is near.
     fn put(&mut self, hash: u32, place: u16) {
-        for tried in 0..TRIES {
+        for tried in 0..SLOTS_TRIED {
             let slot = self.slot(hash, tried);
             if slot < self.places.len() && self.places[slot] == 0 {
                 self.places[slot] = place;
@@ -91,17 +121,17 @@ impl Slots {
     }
 
     /// The place of a key that ends in a `;` and with all of which, after its `&`, these bytes begin, if a slot has it.
-    #[inline(always)]
-    pub(crate) fn find(&self, flat: &Flat, bytes: &[u8]) -> Option<usize>
+    #[inline(never)]
+    pub(crate) fn place_of(&self, flat: &Flat, bytes: &[u8]) -> Option<usize>
         requires { IsTable flat.now }
         ensures { IfSome result (HasWhole flat.now bytes.now) }
     {
-        let count = alphanumerics(bytes);
-        if count < 2 || count == bytes.len() || bytes[count] != b';' {
+        let count = semicolon_place(bytes);
+        if count < 2 || count >= bytes.len() {
             return None;
         }
         let hash = hash_of(&bytes[..count]);
-        for tried in 0..TRIES {
+        for tried in 0..SLOTS_TRIED {
             let kept = *self.places.get(self.slot(hash, tried))?;
             if kept == 0 {
                 return None;

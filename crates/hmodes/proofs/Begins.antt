@@ -1,31 +1,10 @@
 -- Characters that are put after the formatting elements were reconstructed: the first of them reconstructs these.
-use Rattle.std.proofs.Common.{◌≡◌, ◌≢◌, inl, inr, ℕ, Bool, true, false, List, ◌∷◌, Option, None, Result, Ok, Err, refl, sym, ◌∙◌, ap, subst}
-use Rattle.std.specs.Prelude.{◌&&◌, ◌==◌, if◌then◌else◌, MatchOption}
-use Rattle.std.proofs.lemmas.Bool.{false≢true}
-use Rattle.names.specs.Placed.{is_space}
-use Rattle.names.specs.Sink.{Hands}
-use Rattle.names.specs.declared.placed.Placed.{Placed}
-use Rattle.names.specs.declared.refusal.Refusal.{Refusal}
-use Rattle.htoken.specs.Run.{run_tokens}
+use Rattle.hmodes.proofs.Vocabulary.{◌≡◌, ◌≢◌, inl, inr, ℕ, Bool, true, false, List, ◌∷◌, Option, None, Result, Ok, Err, refl, sym, ◌∙◌, ap, subst, ◌&&◌, ◌==◌, if◌then◌else◌, MatchOption, false≢true, is_space, characters, Hands, Placed, Refusal, run_tokens, Gives, put_each, numbers, reconstructed, Outcome, Goes, SiteOf, and_then, OnGoes, perform, flow_of, with_site, rule_of, State, Token, character, flow_then, Rule, Chain, ends, refuses, goes_again, Step, drops, goes, is_dropped, begun, put, Building, TakesToken, TakesOn, StaysRefused, StepGives, refused_by, AreSome, before_text, puts_in, put_all, Mode}
 use Rattle.htoken.specs.declared.token.Token.TheVariants as code
-use Rattle.hadopt.specs.Gives.{Gives}
-use Rattle.hadopt.specs.Inserts.{put_each}
-use Rattle.hadopt.specs.Naming.{numbers}
-use Rattle.hadopt.specs.Reconstructs.{reconstructed}
-use Rattle.hadopt.specs.Site.{Outcome, Goes, SiteOf, and_then}
 use Rattle.hadopt.specs.Site as site
-use Rattle.hadopt.proofs.Climbing.{OnGoes}
-use Rattle.hmodes.specs.Perform.{perform, flow_of, with_site}
-use Rattle.hmodes.specs.Rules.{rule_of}
-use Rattle.hmodes.specs.State.{State, Token, character, flow_then}
-use Rattle.hmodes.specs.Step.{Rule, Chain, ends, refuses, goes_again, Step, drops, goes, is_dropped, begun}
-use Rattle.hmodes.specs.Words.{put}
-use Rattle.hmodes.specs.Building.{Building, TakesToken, TakesOn, StaysRefused, StepGives, refused_by}
-use Rattle.hmodes.specs.Runs.{before_text, puts_in, put_all}
-use Rattle.hmodes.specs.declared.mode.Mode.{Mode}
 use Rattle.hmodes.specs.declared.mode.Mode.TheVariants as mode
 use Rattle.hmodes.specs.declared.token_kind.TokenKind.TheVariants.{Ws, Char, Nul}
-use Rattle.hmodes.proofs.InRun.{AreSome, run_put, taken}
+use Rattle.hmodes.proofs.InRun.{run_put, taken}
 use Rattle.hmodes.proofs.OnePut.{here, rule_puts, puts_now}
 use Rattle.hmodes.proofs.Renewed.{text-begins}
 
@@ -119,14 +98,14 @@ module _ (b : Building) (free : b.refused ≡ None) (off : b.state.site.foster �
           refused = on.refused;
         })
 
-    whole : (ps : List Placed) (answer : Result (Unit {0}) Refusal) (x : SiteOf ℕ) → AreSome (p ∷ ps) → Gives answer x (put_each (p ∷ ps) (here y) y) → Hands TakesToken b (run_tokens (p ∷ ps)) answer (after x answer)
+    whole : (ps : List Placed) (answer : Result (Unit {0}) Refusal) (x : SiteOf ℕ) → AreSome (characters (p ∷ ps)) → Gives answer x (put_each (p ∷ ps) (here y) y) → Hands TakesToken b (run_tokens (p ∷ ps)) answer (after x answer)
     whole ps answer x all g =
         let off-now : y.foster ≡ false = begins.0 ∙ off in
         let h = run_put (now y) free off-now refl begins.1 x p ps all answer g in
         (h.0, h.1, from-now h.0 h.1 h.2, h.3)
 
   -- all of them
-  pub begun_put : (ps : List Placed) (answer : Result (Unit {0}) Refusal) (x : SiteOf ℕ) → AreSome (p ∷ ps) → Gives answer x (put_all p.at (p ∷ ps) b.state) → Hands TakesToken b (run_tokens (p ∷ ps)) answer (after x answer)
+  pub begun_put : (ps : List Placed) (answer : Result (Unit {0}) Refusal) (x : SiteOf ℕ) → AreSome (characters (p ∷ ps)) → Gives answer x (put_all p.at (p ∷ ps) b.state) → Hands TakesToken b (run_tokens (p ∷ ps)) answer (after x answer)
   begun_put ps answer x all g = go before refl answer g
     where
       rest : SiteOf ℕ → Outcome (SiteOf ℕ)

@@ -1,23 +1,7 @@
 -- What holds of the state between two rules.
-use Rattle.std.proofs.Common.{◌≡◌, ℕ, ◌<◌, Bool, true, false, not, cond, List, Option, Some, None, refl, subst}
-use Rattle.std.specs.Prelude.{◌&&◌, IfSome}
-use Rattle.hmarkup.specs.Quirks.{QuirkLine}
-use Rattle.names.specs.declared.error.ErrorCode.TheVariants.{NonVoidHtmlElementStartTagWithTrailingSolidus}
+use Rattle.hmodes.proofs.Vocabulary.{◌≡◌, ℕ, ◌<◌, Bool, true, false, not, cond, List, Option, Some, None, refl, subst, ◌&&◌, IfSome, QuirkLine, NonVoidHtmlElementStartTagWithTrailingSolidus, deep-there, Naming, numbers, texts, Outcome, Goes, stack, trees, with_error, TellsTables, Kept, OnGoes, from-well, numbers-tell, texts-tell, Well, Mode, AfterHead, Limits, document_begins, fragment_begins, Reached, fragment, after, Token, State, Flow, Done, Again, Refused, is_self_closing, kind_of, TokenKind, Rule, Chain, Step, ends, refuses, goes_again, drops, goes, begun, finished}
 use Rattle.names.specs.declared.tag.Tag.TheVariants as tag
-use Rattle.hnodes.proofs.Counted.{deep-there}
-use Rattle.hadopt.specs.Naming.{Naming, numbers, texts}
-use Rattle.hadopt.specs.Site.{Outcome, Goes, stack, trees, with_error}
-use Rattle.hadopt.specs.Kept.{TellsTables, Kept}
-use Rattle.hadopt.proofs.Climbing.{OnGoes}
-use Rattle.hadopt.proofs.Keeping.{from-well, numbers-tell, texts-tell}
-use Rattle.hadopt.proofs.Settling.{Well}
-use Rattle.hmodes.specs.declared.mode.Mode.{Mode}
-use Rattle.hmodes.specs.declared.mode.Mode.TheVariants.{AfterHead}
-use Rattle.hmodes.specs.Beginning.{Limits, document_begins, fragment_begins}
-use Rattle.hmodes.specs.Reached.{Reached, document, fragment, after}
-use Rattle.hmodes.specs.State.{Token, State, Flow, Done, Again, Refused, is_self_closing, kind_of}
-use Rattle.hmodes.specs.Words.{TokenKind}
-use Rattle.hmodes.specs.Step.{Rule, Chain, Step, ends, refuses, goes_again, drops, goes, begun, finished}
+use Rattle.hmodes.specs.Reached.{document}
 use Rattle.hmodes.proofs.Down.{Sound, FlowHolds, Any, cap, rule-down}
 use Rattle.hmodes.proofs.Facts.{reset-found}
 use Rattle.hmodes.proofs.HeadFacts.{HeadFacts, FlowFacts, Facts, OutOf, late-facts}

@@ -1,22 +1,8 @@
 -- Each rule that has a token go again does so in a mode that is lower for it, or with fewer open tables.
-use Rattle.std.proofs.Common.{◌≡◌, ℕ, ◌+◌, ◌<◌, Bool, true, false, not, cond, if◌then◌else◌, List, [], ◌∷◌, Option, Some, None, refl, sym, ◌∙◌, subst, arith, leb, ltb}
-use Rattle.std.proofs.lemmas.Bool.{leb-true, ltb-true}
-use Rattle.std.specs.Prelude.{◌&&◌, ◌||◌, ◌==◌}
-use Rattle.names.specs.declared.placed.Placed.{Placed}
+use Rattle.hmodes.proofs.Vocabulary.{◌≡◌, ℕ, ◌+◌, ◌<◌, Bool, true, false, not, cond, if◌then◌else◌, List, [], ◌∷◌, Option, Some, None, refl, sym, ◌∙◌, subst, arith, leb, ltb, leb-true, ltb-true, ◌&&◌, ◌||◌, ◌==◌, Placed, is_space, Naming, Outcome, Goes, SiteOf, stack, Mode, Initial, BeforeHtml, BeforeHead, InHead, InHeadNoscript, AfterHead, InBody, Text, InTable, InTableText, InColumnGroup, InTableBody, InRow, AfterBody, AfterAfterBody, TokenKind, Nul, Ws, Char, Start, End, Do, ◌▸◌, when, unless, choose, fostered, each_pending, again, again_as, to, save_mode, to_saved, reset, insert, insert_named, insert_root, insert_root_named, insert_comment, comment_in_document, comment_in_first, insert_doctype, put, push_head, reconstruct, adopt, adopt_listed, Token, doctype, start, end, comment, character, eof, Control, State, Flow, Done, Again, Refused, flow_then, flow_map, kind_of, renamed, answer_of, perform, with_foster, with_control, each_of, flow_of, rule_of, Rule}
 use Rattle.names.specs.declared.tag.Tag.TheVariants as tag
-use Rattle.names.specs.Placed.{is_space}
-use Rattle.hadopt.specs.Naming.{Naming}
-use Rattle.hadopt.specs.Site.{Outcome, Goes, SiteOf, stack}
 use Rattle.hadopt.specs.Site as site
-use Rattle.hmodes.specs.declared.mode.Mode.{Mode}
-use Rattle.hmodes.specs.declared.mode.Mode.TheVariants.{Initial, BeforeHtml, BeforeHead, InHead, InHeadNoscript, AfterHead, InBody, Text, InTable, InTableText, InColumnGroup, InTableBody, InRow, AfterBody, AfterAfterBody}
 use Rattle.hmodes.specs.declared.family.Family.TheVariants as family
-use Rattle.hmodes.specs.Words.{TokenKind, Nul, Ws, Char, Start, End, Do, ◌▸◌, when, unless, choose, fostered, each_pending, again, again_as, to, save_mode, to_saved, reset, insert, insert_named, insert_root, insert_root_named, insert_comment, comment_in_document, comment_in_first, insert_doctype, put, push_head, reconstruct, adopt, adopt_listed}
-use Rattle.hmodes.specs.State.{Token, doctype, start, end, comment, character, eof, Control, State, Flow, Done, Again, Refused, flow_then, flow_map, kind_of, renamed}
-use Rattle.hmodes.specs.Questions.{answer_of}
-use Rattle.hmodes.specs.Perform.{perform, with_foster, with_control, each_of, flow_of}
-use Rattle.hmodes.specs.Rules.{rule_of}
-use Rattle.hmodes.specs.Step.{Rule}
 use Rattle.hmodes.proofs.Every.{never, both, other, in-each}
 use Rattle.hmodes.proofs.Facts.{is_texty, leaves, leaves-true, reset-found}
 

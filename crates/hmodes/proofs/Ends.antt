@@ -1,25 +1,10 @@
 -- The rules that process a token end: a number that falls with each.
-use Rattle.std.proofs.Common.{◌≡◌, ℕ, zero, suc, ◌+◌, ◌<◌, ◌≤◌, Bool, true, false, cond, if◌then◌else◌, List, [], ◌∷◌, Option, Some, leb, length, drop, refl, sym, ◌∙◌, ap, subst, arith}
-use Rattle.std.proofs.lemmas.Bool.{eqb-true, leb-true}
-use Rattle.std.specs.Prelude.{not, ◌&&◌, ◌||◌, ◌==◌}
+use Rattle.hmodes.proofs.Vocabulary.{◌≡◌, ℕ, zero, suc, ◌+◌, ◌<◌, ◌≤◌, Bool, true, false, cond, if◌then◌else◌, List, [], ◌∷◌, Option, Some, leb, length, drop, refl, sym, ◌∙◌, ap, subst, arith, eqb-true, leb-true, not, ◌&&◌, ◌||◌, ◌==◌, stops, OpenNode, in_scope, is, Naming, Outcome, Goes, stack, with_error, Mode, Text, InTable, InTableText, InColumnGroup, InTableBody, InRow, TokenKind, Nul, Ws, Char, Start, ◌▸◌, pop_to, reset, again, Token, State, Flow, Done, Again, Refused, kind_of, perform, with_site, rule_of, code_of, Rule, Chain, Step, ends, refuses, goes_again, drops, goes, is_dropped, begun, finished, in_table, in_table_text}
 use Rattle.hchain.specs.Nearest.{after}
-use Rattle.hopen.specs.Scopes.{stops}
-use Rattle.hopen.specs.Stack.{OpenNode, in_scope}
 use Rattle.hopen.specs.declared.scope.Scope.TheVariants as scope
 use Rattle.names.specs.declared.tag.Tag.TheVariants as tag
-use Rattle.hadopt.specs.Closes.{is}
-use Rattle.hadopt.specs.Naming.{Naming}
-use Rattle.hadopt.specs.Site.{Outcome, Goes, stack, with_error}
 use Rattle.hadopt.specs.Site as site
-use Rattle.hmodes.specs.declared.mode.Mode.{Mode}
-use Rattle.hmodes.specs.declared.mode.Mode.TheVariants.{Text, InTable, InTableText, InColumnGroup, InTableBody, InRow}
 use Rattle.hmodes.specs.declared.family.Family.TheVariants as family
-use Rattle.hmodes.specs.Words.{TokenKind, Nul, Ws, Char, Start, ◌▸◌, pop_to, reset, again}
-use Rattle.hmodes.specs.State.{Token, State, Flow, Done, Again, Refused, kind_of}
-use Rattle.hmodes.specs.Perform.{perform, with_site}
-use Rattle.hmodes.specs.Rules.{rule_of, code_of}
-use Rattle.hmodes.specs.Step.{Rule, Chain, Step, ends, refuses, goes_again, drops, goes, is_dropped, begun, finished}
-use Rattle.hmodes.specs.Table.{in_table, in_table_text}
 use Rattle.hmodes.proofs.Facts.{is_texty}
 use Rattle.hmodes.proofs.Once.{may_again, Ends, ends-calm}
 use Rattle.hmodes.proofs.Every.{never, other, each-mode, in-each}

@@ -1,21 +1,7 @@
 -- What each mode knows of the head.
-use Rattle.std.proofs.Common.{◌≡◌, ℕ, Bool, true, false, not, cond, List, [], ◌∷◌, Option, Some, None, refl, sym, ◌∙◌}
-use Rattle.std.specs.Prelude.{◌&&◌, ◌||◌, unwrap_or}
-use Rattle.hopen.specs.Stack.{OpenNode}
-use Rattle.names.specs.declared.placed.Placed.{Placed}
-use Rattle.names.specs.declared.tag.Tag.{Tag}
+use Rattle.hmodes.proofs.Vocabulary.{◌≡◌, ℕ, Bool, true, false, not, cond, List, [], ◌∷◌, Option, Some, None, refl, sym, ◌∙◌, ◌&&◌, ◌||◌, unwrap_or, OpenNode, Placed, Tag, Naming, Outcome, Goes, SiteOf, stack, Mode, BeforeHead, InHead, InHeadNoscript, AfterHead, InBody, Text, InTableText, TokenKind, Do, ◌▸◌, when, unless, choose, fostered, each_pending, again, again_as, to, save_mode, to_saved, reset, insert, insert_named, insert_root, insert_root_named, insert_comment, comment_in_document, comment_in_first, insert_doctype, put, push_head, reconstruct, adopt, adopt_listed, Token, character, Control, State, Flow, Done, Again, Refused, flow_then, flow_map, open_mode, context_mode, root_mode, reset_mode, answer_of, perform, with_foster, with_control, each_of, flow_of, rule_of}
 use Rattle.names.specs.declared.tag.Tag.TheVariants as tag
-use Rattle.hadopt.specs.Naming.{Naming}
-use Rattle.hadopt.specs.Site.{Outcome, Goes, SiteOf, stack, trees}
 use Rattle.hadopt.specs.Site as site
-use Rattle.hmodes.specs.declared.mode.Mode.{Mode}
-use Rattle.hmodes.specs.declared.mode.Mode.TheVariants.{BeforeHead, InHead, InHeadNoscript, AfterHead, InBody, Text, InTableText}
-use Rattle.hmodes.specs.Words.{TokenKind, Do, ◌▸◌, when, unless, choose, fostered, each_pending, again, again_as, to, save_mode, to_saved, reset, insert, insert_named, insert_root, insert_root_named, insert_comment, comment_in_document, comment_in_first, insert_doctype, put, push_head, reconstruct, adopt, adopt_listed}
-use Rattle.hmodes.specs.State.{Token, character, Control, State, Flow, Done, Again, Refused, flow_then, flow_map}
-use Rattle.hmodes.specs.Reset.{open_mode, context_mode, root_mode, reset_mode}
-use Rattle.hmodes.specs.Questions.{answer_of}
-use Rattle.hmodes.specs.Perform.{perform, with_foster, with_control, each_of, flow_of}
-use Rattle.hmodes.specs.Rules.{rule_of}
 use Rattle.hmodes.proofs.Every.{both, in-each}
 
 -- the modes that know something of the head, and those that go back to the saved one

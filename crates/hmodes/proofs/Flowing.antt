@@ -1,21 +1,6 @@
 -- What comes of the parts of a rule comes of the rule.
-use Rattle.std.proofs.Common.{◌≡◌, ℕ, refl, sym, subst, ap, ◌∙◌, inl, inr, nat_eq, Option, Some, None}
-use Rattle.std.specs.Prelude.{◌⊎◌, Result, Ok, Err}
-use Rattle.std.specs.Option.{option_map, option_map_or}
-use Rattle.std.specs.Result.{IsErrAnd}
-use Rattle.hformat.specs.Formatting.{EntryOf, find_entry}
-use Rattle.names.specs.declared.refusal.Refusal.{Refusal}
-use Rattle.names.specs.declared.refusal.Refusal.TheVariants.{Memory}
-use Rattle.hadopt.specs.Adopts.{adopted}
-use Rattle.hadopt.specs.Gives.{Gives}
-use Rattle.hadopt.specs.Naming.{numbers}
-use Rattle.hadopt.specs.Site.{Outcome, Goes, SiteOf, and_then}
+use Rattle.hmodes.proofs.Vocabulary.{◌≡◌, ℕ, refl, sym, subst, ap, ◌∙◌, inl, inr, nat_eq, Option, Some, None, ◌⊎◌, Result, Ok, Err, option_map, option_map_or, IsErrAnd, EntryOf, find_entry, Refusal, Memory, adopted, Gives, numbers, Outcome, Goes, SiteOf, and_then, FlowGives, StateGives, performed_for, perform, flow_of, with_site, forgotten, Token, State, Flow, Done, Refused, flow_then, Do, ◌▸◌, adopt_listed, Answer}
 use Rattle.hadopt.specs.Site as site
-use Rattle.hmodes.specs.Flows.{FlowGives, StateGives, performed_for}
-use Rattle.hmodes.specs.Perform.{perform, flow_of, with_site, forgotten}
-use Rattle.hmodes.specs.State.{Token, State, Flow, Done, Refused, flow_then}
-use Rattle.hmodes.specs.Words.{Do, ◌▸◌, adopt_listed}
-use Rattle.hmodes.specs.declared.tree_construction.Flow.{Flow as Answer}
 
 -- an operation on the site
 pub on-site : {A : Type 0} (r : Result A Refusal) (new : SiteOf ℕ) (s : State ℕ) (o : Outcome (SiteOf ℕ)) → Gives r new o → StateGives r (with_site new s) (flow_of s o)

@@ -1,40 +1,13 @@
 -- Nodes are made and never taken away: no token leads to fewer.
-use Rattle.std.proofs.Common.{ℕ, zero, suc, ◌≤◌, Bool, true, false, not, cond, leb, List, [], ◌∷◌, Option, Some, None, subst, length, drop, arith}
-use Rattle.std.specs.Prelude.{◌&&◌, is_none}
-use Rattle.std.specs.Option.{option_map_or}
+use Rattle.hmodes.proofs.Vocabulary.{ℕ, zero, suc, ◌≤◌, Bool, true, false, not, cond, leb, List, [], ◌∷◌, Option, Some, None, subst, length, drop, arith, ◌&&◌, is_none, option_map_or, TreeInBody, NonVoidHtmlElementStartTagWithTrailingSolidus, Placed, TooManyNodes, TooDeep, make, char_into, text_before, What, Attribute, element, Place, LastIn, before, stops, is_named, OpenNode, is_node, is_open, current, above, in_scope, furthest_block, Default, EntryOf, entry_of, entry_at, find_entry, without_entry, Turn, Next, Ended, next_turn, InnerLoop, most_turns, inner_turn, inner_loop, node_replaced, left, after_inner_loop, entries_for, with_furthest_block, popped_with, with_formatting_element, outer_turn, outer_loop, is_unlisted, adopted, is, closed, without_implied, made, added, pushed, inserted, Naming, place, renewed, renewed_each, stops_going_back, Outcome, Goes, SiteOf, and_then, stack, trees, with_stack, with_items, with_error, error_unless, current_is, from_top, node_of, OnGoes, goes-then, doctype_node, perform, with_foster, with_control, each_of, flow_of, forgotten, current_node, adopted_listed, head_pushed, answer_of, rule_of, Token, character, State, Flow, Done, Again, Refused, kind_of, flow_then, flow_map, token_name, token_attrs, token_text, token_char, is_self_closing, Chain, ends, refuses, goes_again, Step, drops, goes, begun, finished, Do, ◌▸◌, when, unless, choose, fostered, each_pending, insert, insert_named, insert_root, insert_root_named, insert_comment, comment_in_document, comment_in_first, insert_doctype, push_head, reconstruct, close_p, adopt, adopt_listed}
 use Rattle.names.specs.declared.error.ErrorCode.{ErrorCode}
-use Rattle.names.specs.declared.error.ErrorCode.TheVariants.{TreeInBody, NonVoidHtmlElementStartTagWithTrailingSolidus}
-use Rattle.names.specs.declared.placed.Placed.{Placed}
-use Rattle.names.specs.declared.refusal.Refusal.TheVariants.{TooManyNodes, TooDeep}
 use Rattle.names.specs.declared.tag.Tag.TheVariants as tag
 use Rattle.names.specs.Sets.{is_special}
-use Rattle.hnodes.specs.Edits.{make, char_into, text_before}
-use Rattle.hnodes.specs.Forest.{What, Attribute, element}
 use Rattle.hnodes.specs.Forest as forest
-use Rattle.hnodes.specs.declared.node.Place.{Place}
-use Rattle.hnodes.specs.declared.node.Place.TheVariants.{LastIn}
-use Rattle.hchain.specs.Nearest.{before}
-use Rattle.hopen.specs.Scopes.{stops, is_named}
-use Rattle.hopen.specs.Stack.{OpenNode, is_node, is_open, current, above, in_scope, furthest_block}
-use Rattle.hopen.specs.declared.scope.Scope.TheVariants.{Default}
-use Rattle.hformat.specs.Formatting.{EntryOf, entry_of, entry_at, find_entry, without_entry}
 use Rattle.hformat.specs.declared.bookmark.Bookmark.TheVariants.{InPlace}
-use Rattle.hadopt.specs.Adopts.{Turn, Next, Ended, next_turn, InnerLoop, most_turns, inner_turn, inner_loop, node_replaced, left, after_inner_loop, entries_for, with_furthest_block, popped_with, with_formatting_element, outer_turn, outer_loop, is_unlisted, adopted}
-use Rattle.hadopt.specs.Closes.{is, closed, other_end, without_implied}
-use Rattle.hadopt.specs.Inserts.{made, added, pushed, inserted, put}
-use Rattle.hadopt.specs.Naming.{Naming}
-use Rattle.hadopt.specs.Places.{place}
-use Rattle.hadopt.specs.Reconstructs.{renewed, renewed_each, stops_going_back}
-use Rattle.hadopt.specs.Site.{Outcome, Goes, SiteOf, and_then, stack, trees, with_stack, with_items, with_error, error_unless, current_is, from_top, node_of}
+use Rattle.hadopt.specs.Closes.{other_end}
+use Rattle.hadopt.specs.Inserts.{put}
 use Rattle.hadopt.specs.Site as site
-use Rattle.hadopt.proofs.Climbing.{OnGoes, goes-then}
-use Rattle.hmodes.specs.Doctypes.{doctype_node}
-use Rattle.hmodes.specs.Perform.{perform, with_foster, with_control, each_of, flow_of, forgotten, current_node, adopted_listed, head_pushed}
-use Rattle.hmodes.specs.Questions.{answer_of}
-use Rattle.hmodes.specs.Rules.{rule_of}
-use Rattle.hmodes.specs.State.{Token, character, State, Flow, Done, Again, Refused, kind_of, flow_then, flow_map, token_name, token_attrs, token_text, token_char, is_self_closing}
-use Rattle.hmodes.specs.Step.{Chain, ends, refuses, goes_again, Step, drops, goes, begun, finished}
-use Rattle.hmodes.specs.Words.{Do, ◌▸◌, when, unless, choose, fostered, each_pending, insert, insert_named, insert_root, insert_root_named, insert_comment, comment_in_document, comment_in_first, insert_doctype, push_head, reconstruct, close_p, adopt, adopt_listed}
 use Rattle.hmodes.specs.Words as word
 
 module _ {N : Type 0} (k : ℕ) where

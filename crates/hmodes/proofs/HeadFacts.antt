@@ -1,20 +1,7 @@
 -- What holds of the head pointer in each mode, and that every rule keeps it.
-use Rattle.std.proofs.Common.{◌≡◌, ℕ, ◌<◌, true, false, List, [], ◌∷◌, Option, Some, refl, ◌∙◌, drop}
-use Rattle.hnodes.specs.Forest.{Forest}
-use Rattle.hopen.specs.Stack.{OpenNode}
-use Rattle.hadopt.specs.Naming.{Naming}
-use Rattle.hadopt.specs.Site.{Outcome, Goes, SiteOf, stack, trees, with_stack, from_top, node_of}
+use Rattle.hmodes.proofs.Vocabulary.{◌≡◌, ℕ, ◌<◌, true, false, List, [], ◌∷◌, Option, Some, refl, ◌∙◌, drop, Forest, OpenNode, Naming, Outcome, Goes, SiteOf, stack, trees, Each, deep, OnGoes, Well, among-drop, Mode, InHead, InHeadNoscript, AfterHead, Text, InTableText, State, Flow, Done, Again, Refused, flow_then, flow_of}
 use Rattle.hadopt.specs.Site as site
-use Rattle.hadopt.specs.Kept.{Each}
-use Rattle.hnodes.proofs.Deep.{deep}
 use Rattle.hadopt.proofs.Lists.{each-both, each-among}
-use Rattle.hadopt.proofs.Climbing.{OnGoes}
-use Rattle.hadopt.proofs.Settling.{Well}
-use Rattle.hadopt.proofs.Turning.{among-drop}
-use Rattle.hmodes.specs.declared.mode.Mode.{Mode}
-use Rattle.hmodes.specs.declared.mode.Mode.TheVariants.{InHead, InHeadNoscript, AfterHead, Text, InTableText}
-use Rattle.hmodes.specs.State.{State, Flow, Done, Again, Refused, flow_then}
-use Rattle.hmodes.specs.Perform.{flow_of}
 use Rattle.hmodes.proofs.Stands.{FlowWell}
 use Rattle.hmodes.proofs.Facts.{is_early, is_texty, Late}
 use Rattle.hmodes.proofs.Heads.{Steady, steady-then}

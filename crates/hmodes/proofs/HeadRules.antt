@@ -1,35 +1,9 @@
 -- Every rule keeps what its mode knows of the head.
-use Rattle.std.proofs.Common.{◌≡◌, ◌≢◌, ℕ, ◌<◌, Bool, true, false, cond, leb, List, [], ◌∷◌, Option, Some, None, refl, sym, ◌∙◌, ap, subst, arith, drop, length}
-use Rattle.std.specs.Prelude.{◌&&◌}
-use Rattle.std.proofs.lemmas.Bool.{eq-eqb, ne_eqb}
-use Rattle.hnodes.specs.Forest.{Attribute, Forest, element}
+use Rattle.hmodes.proofs.Vocabulary.{◌≡◌, ◌≢◌, ℕ, ◌<◌, Bool, true, false, cond, leb, List, [], ◌∷◌, Option, Some, None, refl, sym, ◌∙◌, ap, subst, arith, drop, length, ◌&&◌, eq-eqb, ne_eqb, Attribute, element, LastIn, OpenNode, Refusal, TooDeep, Naming, Outcome, Goes, SiteOf, stack, trees, with_stack, with_error, from_top, node_of, place, inserted, Each, Pairs, TellsTables, deep, deep-there, OnGoes, Well, erred, inserted-well, place-fits, BeforeHead, InHead, InHeadNoscript, AfterHead, InBody, Text, TokenKind, Nul, Ws, Char, Comment, Doctype, Start, End, Eof, Do, ◌▸◌, nothing, again, error, to, save_mode, to_saved, head_pointer, insert, insert_named, insert_comment, put, pop, push_head, remove_head, add_missing_to_first, Token, State, Flow, Done, Again, Refused, flow_then, token_name, token_attrs, token_text, token_char, void, raw, html_again, code_of, before_head, head_unwritten, in_head, head_ends, in_head_noscript, noscript_ends, after_head, body_unwritten, late, text, perform, with_site, flow_of, current_node, head_pushed, removed}
 use Rattle.hnodes.specs.Forest as forest
-use Rattle.hnodes.specs.declared.node.Place.TheVariants.{LastIn}
-use Rattle.hopen.specs.Stack.{OpenNode}
-use Rattle.names.specs.declared.refusal.Refusal.{Refusal}
-use Rattle.names.specs.declared.refusal.Refusal.TheVariants.{TooDeep}
 use Rattle.names.specs.declared.tag.Tag.TheVariants as tag
-use Rattle.hadopt.specs.Naming.{Naming}
-use Rattle.hadopt.specs.Site.{Outcome, Goes, SiteOf, stack, trees, with_stack, with_error, from_top, node_of}
 use Rattle.hadopt.specs.Site as site
-use Rattle.hadopt.specs.Places.{place}
-use Rattle.hadopt.specs.Inserts.{inserted}
-use Rattle.hadopt.specs.Kept.{Each, Pairs, TellsTables}
-use Rattle.hnodes.proofs.Deep.{deep}
-use Rattle.hnodes.proofs.Counted.{deep-there}
-use Rattle.hadopt.proofs.Climbing.{OnGoes}
-use Rattle.hadopt.proofs.Settling.{Well}
-use Rattle.hadopt.proofs.Turning.{erred}
-use Rattle.hadopt.proofs.Inserting.{inserted-well, place-fits}
-use Rattle.hmodes.specs.declared.mode.Mode.TheVariants.{BeforeHead, InHead, InHeadNoscript, AfterHead, InBody, Text}
 use Rattle.hmodes.specs.declared.family.Family.TheVariants as family
-use Rattle.hmodes.specs.Words.{TokenKind, Nul, Ws, Char, Comment, Doctype, Start, End, Eof, Do, ◌▸◌, nothing, again, error, to, save_mode, to_saved, head_pointer, insert, insert_named, insert_comment, put, pop, push_head, remove_head, add_missing_to_first}
-use Rattle.hmodes.specs.State.{Token, State, Flow, Done, Again, Refused, flow_then, token_name, token_attrs, token_text, token_char}
-use Rattle.hmodes.specs.Programs.{void, raw, html_again}
-use Rattle.hmodes.specs.Rules.{code_of}
-use Rattle.hmodes.specs.Head.{before_head, head_unwritten, in_head, head_ends, in_head_noscript, noscript_ends, after_head, body_unwritten, late}
-use Rattle.hmodes.specs.Body.{text}
-use Rattle.hmodes.specs.Perform.{perform, with_site, flow_of, current_node, head_pushed, removed}
 use Rattle.hmodes.proofs.Every.{never, both}
 use Rattle.hmodes.proofs.Stands.{tame, perform-well}
 use Rattle.hmodes.proofs.Heads.{Steady, steady-same, steady-then, added-steady, Deeper, inserted-steady, put-steady, missing-steady}

@@ -1,22 +1,9 @@
 -- The modes of the head keep what they know of it.
-use Rattle.std.proofs.Common.{◌≡◌, ◌≢◌, ℕ, ◌+◌, ◌<◌, Bool, true, false, cond, leb, List, [], ◌∷◌, Option, Some, None, refl, sym, ◌∙◌, subst, arith, length, is_none}
-use Rattle.std.specs.Prelude.{◌&&◌}
-use Rattle.std.specs.Char.{encode_utf8}
-use Rattle.hnodes.specs.Attributes.{is_present}
-use Rattle.hnodes.specs.Forest.{Attribute, What, element, text, Forest, none, tree, join, change_what}
-use Rattle.hnodes.specs.Edits.{graft, make, char_into, with_char, with_attribute, add_attribute, text_before}
-use Rattle.hnodes.specs.Spots.{attributes_of}
-use Rattle.hnodes.specs.declared.node.Place.{Place}
-use Rattle.hopen.specs.Stack.{OpenNode}
-use Rattle.names.specs.declared.refusal.Refusal.TheVariants.{TooManyNodes, TooDeep}
-use Rattle.hadopt.specs.Naming.{Naming}
-use Rattle.hadopt.specs.Site.{Goes, Refused, SiteOf, and_then, stack, trees, with_stack, with_trees}
-use Rattle.hadopt.specs.Inserts.{added, inserted, pushed, put, with_missing}
-use Rattle.hnodes.proofs.Deep.{deep, deep-is}
-use Rattle.hnodes.proofs.Counted.{at-most, not-there, deep-there, counted-new}
+use Rattle.hmodes.proofs.Vocabulary.{◌≡◌, ◌≢◌, ℕ, ◌+◌, ◌<◌, Bool, true, false, cond, leb, List, [], ◌∷◌, Option, Some, None, refl, sym, ◌∙◌, subst, arith, length, is_none, ◌&&◌, encode_utf8, is_present, Attribute, What, element, Forest, tree, join, change_what, graft, make, char_into, with_char, with_attribute, add_attribute, text_before, attributes_of, Place, OpenNode, TooManyNodes, TooDeep, Naming, Goes, SiteOf, and_then, stack, trees, with_stack, with_trees, added, inserted, pushed, with_missing, deep, deep-is, at-most, not-there, deep-there, counted-new, OnGoes, Well}
+use Rattle.hnodes.specs.Forest.{text, none}
+use Rattle.hadopt.specs.Site.{Refused}
+use Rattle.hadopt.specs.Inserts.{put}
 use Rattle.hnodes.proofs.Outside.{deep-what, deep-new, deep-newest, graft-apart}
-use Rattle.hadopt.proofs.Climbing.{OnGoes}
-use Rattle.hadopt.proofs.Settling.{Well}
 
 module _ {N : Type 0} (n : Naming N) where
   -- what was in the document's tree is there still, as much outside of the others

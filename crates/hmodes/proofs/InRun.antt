@@ -1,26 +1,8 @@
 -- Characters of a run, each of which is put where the first one is.
-use Rattle.std.proofs.Common.{◌≡◌, ◌⊎◌, inl, inr, ℕ, Bool, true, false, List, [], ◌∷◌, Option, Some, None, Result, Ok, Err, refl, sym, ◌∙◌, ap, subst}
-use Rattle.std.specs.Prelude.{◌&&◌, ◌==◌, nat_le, is_none, if◌then◌else◌, MatchOption}
-use Rattle.std.specs.List.{AllByRecursion}
-use Rattle.names.specs.Sink.{Hands}
-use Rattle.names.specs.declared.placed.Placed.{Placed}
-use Rattle.names.specs.declared.refusal.Refusal.{Refusal}
-use Rattle.names.specs.declared.refusal.Refusal.TheVariants.{Memory, TooManyNodes}
-use Rattle.htoken.specs.Run.{run_tokens}
-use Rattle.htoken.specs.declared.token.Token.{Token as Given}
+use Rattle.hmodes.proofs.Vocabulary.{◌≡◌, ◌⊎◌, inl, inr, ℕ, Bool, true, false, List, [], ◌∷◌, Option, Some, None, Result, Ok, Err, refl, sym, ◌∙◌, ap, subst, ◌&&◌, ◌==◌, nat_le, is_none, if◌then◌else◌, MatchOption, characters, Hands, Placed, Refusal, Memory, TooManyNodes, run_tokens, Given, Nodes, add_char, text_before, Place, Gives, numbers, Outcome, Goes, SiteOf, flow_of, with_site, AreSome, State, Token, character, Rule, Chain, ends, refuses, Step, goes, begun, token_of, place_of, Building, Takes, TakesToken, TakesOn, StaysRefused, Stands, refused_by}
 use Rattle.htoken.specs.declared.token.Token.TheVariants as code
-use Rattle.hnodes.specs.Edits.{Nodes, add_char, text_before}
-use Rattle.hnodes.specs.declared.node.Place.{Place}
-use Rattle.hadopt.specs.Gives.{Gives}
-use Rattle.hadopt.specs.Naming.{numbers}
-use Rattle.hadopt.specs.Site.{Outcome, Goes, SiteOf}
 use Rattle.hadopt.specs.Site as site
 use Rattle.hadopt.specs.Inserts as inserts
-use Rattle.hmodes.specs.Perform.{flow_of, with_site}
-use Rattle.hmodes.specs.State.{State, Token, character}
-use Rattle.hmodes.specs.Step.{Rule, Chain, ends, refuses, Step, goes, begun}
-use Rattle.hmodes.specs.Tokens.{token_of, place_of}
-use Rattle.hmodes.specs.Building.{Building, Takes, TakesToken, TakesOn, StaysRefused, Stands, refused_by}
 use Rattle.hmodes.proofs.Looping.{stands-after}
 use Rattle.hmodes.proofs.OnePut.{here, rule_puts, puts_now, puts-nodes, place-here}
 
@@ -31,10 +13,6 @@ went x (site.Refused r) = x
 
 goes-not : (x : SiteOf ℕ) (r : Refusal) → site.Refused r ≡ Goes x → ⊥
 goes-not x r e = absurd cc
-
--- the characters are not NUL
-abbrev pub AreSome : List Placed → Type 0
-AreSome ps = AllByRecursion (λ p. (p.ch == 0) ≡ false) ps
 
 -- In a state in which no LF is dropped, nothing is reconstructed or foster parented. What is put makes other nodes, and nothing else.
 module _ (b : Building) (free : b.refused ≡ None) (off : b.state.site.foster ≡ false) (keeps_lf : b.state.control.drop_lf ≡ false) (puts : puts_now b.state.control.mode b.state.site ≡ true) where
@@ -121,7 +99,7 @@ module _ (b : Building) (free : b.refused ≡ None) (off : b.state.site.foster �
             let w : Nodes ℕ = add_char p.ch to v in
             (Ok tt, after_put (site_with w) None, took p v old h some (site_with w) (ap (Put p v) full), rest w (sym (ap (λ (b : Bool). site.and_then (Put p v b) (inserts.put_each ps to)) full) ∙ e))
 
-    put_rest : (ps : List Placed) → AreSome ps → (v : Nodes ℕ) → inserts.put_each ps to (site_with v) ≡ Goes x → PutRest ps v
+    put_rest : (ps : List Placed) → AreSome (characters ps) → (v : Nodes ℕ) → inserts.put_each ps to (site_with v) ≡ Goes x → PutRest ps v
     put_rest [] some v e = (refl, ap (λ (y : SiteOf ℕ). after_put y None) (ap (went (site_with v)) e))
     put_rest (p ∷ ps) some v e = put_first p ps v (after_put (site_with v) None) (later v) some.0 (put_rest ps some.1) e
 
@@ -141,12 +119,12 @@ module _ (b : Building) (free : b.refused ≡ None) (off : b.state.site.foster �
               let w : Nodes ℕ = add_char p.ch to v in
               (Ok tt, after_put (site_with w) None, took p v old h some (site_with w) (ap (Put p v) full), rest w (sym (ap (λ (b : Bool). site.and_then (Put p v b) (inserts.put_each ps to)) full) ∙ e))
 
-      wrong_rest : (ps : List Placed) → AreSome ps → (v : Nodes ℕ) → inserts.put_each ps to (site_with v) ≡ site.Refused r → WrongRest ps v
+      wrong_rest : (ps : List Placed) → AreSome (characters ps) → (v : Nodes ℕ) → inserts.put_each ps to (site_with v) ≡ site.Refused r → WrongRest ps v
       wrong_rest [] some v e = absurd (goes-not (site_with v) r (sym e))
       wrong_rest (p ∷ ps) some v e = wrong_first p ps v (after_put (site_with v) None) (later v) some.0 (wrong_rest ps some.1) e
 
     -- the whole run
-    pub run_put : (p : Placed) (ps : List Placed) → AreSome (p ∷ ps) → (answer : Result (Unit {0}) Refusal) → Gives answer x (inserts.put_each (p ∷ ps) to b.state.site)
+    pub run_put : (p : Placed) (ps : List Placed) → AreSome (characters (p ∷ ps)) → (answer : Result (Unit {0}) Refusal) → Gives answer x (inserts.put_each (p ∷ ps) to b.state.site)
         → Hands TakesToken b (run_tokens (p ∷ ps)) answer (after_put x (refused_by answer))
     run_put p ps some (Ok u) e = put_first p ps b.state.site.nodes b whole some.0 (put_rest ps some.1) e
     run_put p ps some (Err r) (inl m) = (Err r, after_put x (Some r), wrong p b.state.site.nodes b whole some.0 x r (inl m), (refl, refl))

@@ -1,18 +1,8 @@
 -- What holds between two rules of a token.
-use Rattle.std.proofs.Common.{◌≡◌, ◌⊎◌, inl, inr, ℕ, suc, ◌<◌, false, Result, Ok, Err, sym, subst}
-use Rattle.std.specs.Result.{IsErrAnd}
-use Rattle.names.specs.declared.refusal.Refusal.{Refusal}
-use Rattle.names.specs.declared.refusal.Refusal.TheVariants.{Memory}
-use Rattle.hadopt.specs.Gives.{Gives}
-use Rattle.hadopt.specs.Naming.{numbers}
-use Rattle.hadopt.specs.Site.{Outcome, Goes}
+use Rattle.hmodes.proofs.Vocabulary.{◌≡◌, ◌⊎◌, inl, inr, ℕ, suc, ◌<◌, false, Result, Ok, Err, sym, subst, IsErrAnd, Refusal, Memory, Gives, numbers, Outcome, Goes, after, Token, State, Done, Again, Refused, Rule, Chain, ends, refuses, goes_again, Step, goes, is_dropped, begun, finished, StepGives, ChainGives, HasBegun, Stands}
 use Rattle.hadopt.specs.Site as site
-use Rattle.hmodes.specs.Reached.{after}
-use Rattle.hmodes.specs.State.{Token, State, Done, Again, Refused}
-use Rattle.hmodes.specs.Step.{Rule, Chain, ends, refuses, goes_again, Step, goes, is_dropped, begun, finished}
 use Rattle.hmodes.proofs.Between.{Orderly, numbers-all, reached-orderly, orderly-begins, again-orderly}
 use Rattle.hmodes.proofs.Ends.{left, rule-falls}
-use Rattle.hmodes.specs.Building.{StepGives, ChainGives, HasBegun, Stands}
 use Rattle.hmodes.proofs.Growing.{step-holds}
 
 -- the rules from here on are rules from the beginning

@@ -1,31 +1,9 @@
 -- Programs that never have the token go again, save no mode and adopt nothing: what refuses them is a limit.
-use Rattle.std.proofs.Common.{◌≡◌, inl, inr, ℕ, zero, suc, Bool, true, false, cond, leb, List, [], ◌∷◌, Option, Some, None, refl, ◌∙◌, length, is_none}
-use Rattle.std.specs.Prelude.{◌&&◌}
-use Rattle.std.specs.Option.{option_map_or}
-use Rattle.hnodes.specs.Forest.{Attribute, What, element}
+use Rattle.hmodes.proofs.Vocabulary.{◌≡◌, inl, inr, ℕ, zero, suc, Bool, true, false, cond, leb, List, [], ◌∷◌, Option, Some, None, refl, ◌∙◌, length, is_none, ◌&&◌, option_map_or, Attribute, What, element, graft, make, add_char, text_before, Place, LastIn, before, changed_at, OpenNode, EntryOf, entry_at, for_node, Placed, TooManyNodes, TooDeep, Naming, Outcome, Goes, SiteOf, and_then, stack, trees, with_trees, with_stack, with_items, from_top, node_of, place, made, added, inserted, pushed, stops_going_back, renewed, renewed_each, Do, ◌▸◌, when, unless, choose, fostered, each_pending, again, again_as, save_mode, insert, insert_named, insert_root, insert_root_named, insert_comment, comment_in_document, comment_in_first, insert_doctype, put, push_head, reconstruct, adopt, adopt_listed, Token, character, State, Flow, Done, Again, Refused, flow_then, flow_map, token_name, token_attrs, token_text, token_char, doctype_node, answer_of, perform, with_foster, with_control, each_of, flow_of, head_pushed, current_node, IsLimit}
 use Rattle.hnodes.specs.Forest as forest
-use Rattle.hnodes.specs.Edits.{graft, make, add_char, text_before}
-use Rattle.hnodes.specs.declared.node.Place.{Place}
-use Rattle.hnodes.specs.declared.node.Place.TheVariants.{LastIn}
-use Rattle.hchain.specs.Nearest.{before, changed_at}
-use Rattle.hopen.specs.Stack.{OpenNode}
-use Rattle.hformat.specs.Formatting.{EntryOf, entry_at, for_node}
-use Rattle.names.specs.declared.placed.Placed.{Placed}
-use Rattle.names.specs.declared.refusal.Refusal.TheVariants.{TooManyNodes, TooDeep}
 use Rattle.names.specs.declared.tag.Tag.TheVariants as tag
-use Rattle.hadopt.specs.Naming.{Naming}
-use Rattle.hadopt.specs.Site.{Outcome, Goes, SiteOf, and_then, stack, trees, with_trees, with_stack, with_items, from_top, node_of}
 use Rattle.hadopt.specs.Site as site
-use Rattle.hadopt.specs.Places.{place}
-use Rattle.hadopt.specs.Inserts.{made, added, inserted, pushed}
 use Rattle.hadopt.specs.Inserts as inserts
-use Rattle.hadopt.specs.Reconstructs.{stops_going_back, renewed, renewed_each}
-use Rattle.hmodes.specs.Words.{Do, ◌▸◌, when, unless, choose, fostered, each_pending, again, again_as, save_mode, insert, insert_named, insert_root, insert_root_named, insert_comment, comment_in_document, comment_in_first, insert_doctype, put, push_head, reconstruct, adopt, adopt_listed}
-use Rattle.hmodes.specs.State.{Token, character, State, Flow, Done, Again, Refused, flow_then, flow_map, token_name, token_attrs, token_text, token_char}
-use Rattle.hmodes.specs.Doctypes.{doctype_node}
-use Rattle.hmodes.specs.Questions.{answer_of}
-use Rattle.hmodes.specs.Perform.{perform, with_foster, with_control, each_of, flow_of, head_pushed, current_node}
-use Rattle.hmodes.specs.RawFollows.{IsLimit}
 use Rattle.hmodes.proofs.Every.{never, both}
 
 abbrev pub is_mild : Do → Bool

@@ -1,54 +1,23 @@
 -- The rules under other names.
-use Rattle.std.proofs.Common.{◌≡◌, ℕ, Bool, true, false, not, ◌&&◌, ◌||◌, cond, List, [], ◌∷◌, ◌++◌, map, reverse, Option, Some, None, refl, sym, ◌∙◌, ap, subst}
-use Rattle.std.specs.Prelude.{is_some, slice_get, unwrap_or, codes}
-use Rattle.std.specs.List.{list_any, list_all}
-use Rattle.std.specs.Option.{option_map, option_map_or}
-use Rattle.std.specs.Str.{str_eq_ignore_ascii_case}
+use Rattle.hmodes.proofs.Vocabulary.{◌≡◌, ℕ, Bool, true, false, not, ◌&&◌, ◌||◌, cond, List, [], ◌∷◌, ◌++◌, map, reverse, Option, Some, None, refl, sym, ◌∙◌, ap, subst, is_some, slice_get, unwrap_or, codes, list_any, list_all, option_map, option_map_or, str_eq_ignore_ascii_case, is_present, Attribute, Forest, attributes_of, add_attribute, spelled_attribute, spelled_what, spelled, LastIn, OpenNode, is_node, current, stops, stops_item, is_of, is_of_group, stops_in, Default, EntryOf, find_entry, Tag, Placed, Naming, Outcome, Goes, SiteOf, and_then, stack, trees, with_trees, with_stack, with_items, from_top, node_of, place, is_fostering, added, inserted, listed, with_missing, is, is_table_context, is_body_context, is_row_context, popped_while_not, adopted, InBody, Start, End, Test, Do, ◌▸◌, when, unless, choose, fostered, each_pending, again, again_as, reset, head_pointer, form_pointer, judge_quirks, pend, insert, insert_named, insert_root, insert_root_named, insert_comment, comment_in_document, comment_in_first, insert_doctype, put, add_missing_to_first, add_missing_to_second, pop, pop_to, pop_to_name, pop_to_group, implied, implied_except, implied_except_name, clear_to_table, clear_to_body, clear_to_row, push_head, remove_head, remove_form, reconstruct, push_to_list, clear_to_marker, close_p, adopt, adopt_listed, other_end, has_in, has_name_in, has_group_in, has_form_in_scope, current_is_name, current_is_group, current_is_form, current_is_fostering, item_is_near, second_is_body, all_may_stay_open, name_is_listed, form_is_set, is_in_quirks, is_fragment, doctype_conforms, input_is_hidden, pending_is_ws, Token, doctype, start, end, comment, character, eof, PlacedToken, State, Flow, Done, Again, Refused, flow_then, flow_map, token_name, token_attrs, token_text, token_char, is_self_closing, renamed, kind_of, family_of, rule_of, open_mode, context_mode, reset_mode, conforms, forces_quirks, doctype_node, has, is_token_name, is_hidden, answer_of, with_site, with_control, with_foster, flow_of, each_of, removed, forgotten, current_node, inserted_here, completed, adopted_listed, head_pushed, perform, Rule, Chain, Step, Steps, is_dropped, begun, finished, ends, refuses, goes_again, drops, goes, none, and, refused, spelled_token, spelled_placed, spelled_state, spelled_flow, StepsKnowNoNames}
 use Rattle.std.proofs.lemmas.Option.{slice_get-map}
-use Rattle.hnodes.specs.Attributes.{is_present}
-use Rattle.hnodes.specs.Forest.{Attribute, Forest}
 use Rattle.hnodes.specs.Forest as forest
-use Rattle.hnodes.specs.Spots.{attributes_of}
-use Rattle.hnodes.specs.Edits.{add_attribute}
-use Rattle.hnodes.specs.Spelled.{spelled_attribute, spelled_what, spelled}
 use Rattle.hnodes.proofs.Spellings.{edits, questions}
-use Rattle.hnodes.specs.declared.node.Place.TheVariants.{LastIn}
-use Rattle.hopen.specs.Stack.{OpenNode, is_node, current}
-use Rattle.hopen.specs.Scopes.{stops, stops_item, is_of, is_of_group, stops_in}
 use Rattle.hopen.specs.declared.scope.Scope.{Scope}
-use Rattle.hopen.specs.declared.scope.Scope.TheVariants.{Default}
-use Rattle.hformat.specs.Formatting.{EntryOf, find_entry, pushed}
+use Rattle.hformat.specs.Formatting.{pushed}
 use Rattle.hopen.specs.Spelled.{spelled_open, spelled_stack, StackKnowsNoNames}
 use Rattle.hformat.specs.Spelled.{spelled_entry, spelled_items, FormattingKnowsNoNames}
 use Rattle.hopen.proofs.Spellings.{stack_spelled}
 use Rattle.hformat.proofs.Spellings.{formatting_spelled}
-use Rattle.names.specs.declared.tag.Tag.{Tag}
 use Rattle.names.specs.declared.tag.Tag.TheVariants as tag
-use Rattle.names.specs.declared.placed.Placed.{Placed}
 use Rattle.names.specs.Sets.{may_stay_open}
-use Rattle.hadopt.specs.Naming.{Naming}
-use Rattle.hadopt.specs.Site.{Outcome, Goes, SiteOf, and_then, stack, trees, with_trees, with_stack, with_items, from_top, node_of}
 use Rattle.hadopt.specs.Site as site
-use Rattle.hadopt.specs.Places.{place, is_fostering}
-use Rattle.hadopt.specs.Inserts.{added, inserted, listed, with_missing}
 use Rattle.hadopt.specs.Inserts as inserts
-use Rattle.hadopt.specs.Closes.{past, is, is_table_context, is_body_context, is_row_context, popped_while_not, without_implied, popped_to}
-use Rattle.hadopt.specs.Adopts.{adopted}
 use Rattle.hadopt.specs.Spelled.{Agree, spelled_site, outcome_map}
 use Rattle.hadopt.proofs.Spellings as site_names
-use Rattle.hmodes.specs.declared.mode.Mode.TheVariants.{InBody}
 use Rattle.names.specs.declared.error.ErrorCode.TheVariants as code
 use Rattle.hadopt.specs.Closes as closes
-use Rattle.hmodes.specs.Words.{Start, End, Test, Do, ◌▸◌, when, unless, choose, fostered, each_pending, again, again_as, reset, head_pointer, form_pointer, judge_quirks, pend, insert, insert_named, insert_root, insert_root_named, insert_comment, comment_in_document, comment_in_first, insert_doctype, put, add_missing_to_first, add_missing_to_second, pop, pop_to, pop_to_name, pop_to_group, implied, implied_except, implied_except_name, clear_to_table, clear_to_body, clear_to_row, push_head, remove_head, remove_form, reconstruct, push_to_list, clear_to_marker, close_p, adopt, adopt_listed, other_end, has_in, has_name_in, has_group_in, has_form_in_scope, current_is, current_is_name, current_is_group, current_is_form, current_is_fostering, item_is_near, second_is_body, all_may_stay_open, name_is_listed, form_is_set, is_in_quirks, is_fragment, doctype_conforms, input_is_hidden, pending_is_ws}
-use Rattle.hmodes.specs.State.{Token, doctype, start, end, comment, character, eof, PlacedToken, State, Flow, Done, Again, Refused, flow_then, flow_map, token_name, token_attrs, token_text, token_char, is_self_closing, renamed, kind_of}
-use Rattle.hmodes.specs.Families.{family_of}
-use Rattle.hmodes.specs.Rules.{rule_of}
-use Rattle.hmodes.specs.Reset.{open_mode, context_mode, reset_mode}
-use Rattle.hmodes.specs.Doctypes.{conforms, forces_quirks, doctype_node}
-use Rattle.hmodes.specs.Questions.{has, is_token_name, is_hidden, answer_of}
-use Rattle.hmodes.specs.Perform.{with_site, with_control, with_foster, flow_of, each_of, removed, forgotten, current_node, inserted_here, completed, adopted_listed, head_pushed, perform}
-use Rattle.hmodes.specs.Step.{Rule, Chain, Step, Steps, is_dropped, begun, finished, ends, refuses, goes_again, drops, goes, none, and, refused}
-use Rattle.hmodes.specs.Spelled.{spelled_token, spelled_placed, spelled_state, spelled_flow, StepsKnowNoNames}
+use Rattle.hmodes.specs.Words.{current_is}
 
 module _ {N M : Type 0} (g : N → M) where
   then-spelled : (f : Flow N) (k : State N → Flow N) (k' : State M → Flow M) → ((s : State N) → k' (spelled_state g s) ≡ spelled_flow g (k s)) → flow_then (spelled_flow g f) k' ≡ spelled_flow g (flow_then f k)

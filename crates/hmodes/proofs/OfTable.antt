@@ -1,26 +1,17 @@
 -- What is spelled alike by a table and by one with a text more has the names of the table.
-use Rattle.std.proofs.Common.{◌≡◌, ℕ, ◌<◌, false, List, [], ◌∷◌, map, length, Some, refl, sym, ap, ap₂, subst, arith}
-use Rattle.hnodes.specs.Forest.{Attribute, What, document, element, Forest, none, tree}
+use Rattle.hmodes.proofs.Vocabulary.{◌≡◌, ℕ, ◌<◌, false, List, [], ◌∷◌, map, length, Some, refl, sym, ap, ap₂, subst, arith, Attribute, What, document, element, Forest, tree, spelled_attribute, spelled_what, spelled, QuirkLine, Naming, numbers, texts, Outcome, Goes, trees, Limits, document_begins, fragment_begins, spelled_token, spelled_placed, spelled_state, Token, start, end, PlacedToken, State, Steps, none, and, refused, numbers-agree}
+use Rattle.hnodes.specs.Forest.{none}
 use Rattle.hnodes.specs.Named.{AttributesAreOf, NodeIsOf, AreOf}
-use Rattle.hnodes.specs.Spelled.{spelled_attribute, spelled_what, spelled}
-use Rattle.hmarkup.specs.Quirks.{QuirkLine}
 use Rattle.names.specs.Names.{Texts, AreNames, IsOf}
 use Rattle.names.specs.Spelling.{spelling}
 use Rattle.names.specs.Tags.{number_of}
 use Rattle.names.specs.declared.tag.Tag.TheVariants as tag
 use Rattle.names.proofs.Longer.{longer, longer-names, known-within, spelled-alike, alike-within}
-use Rattle.hadopt.specs.Naming.{Naming, numbers, texts}
-use Rattle.hadopt.specs.Site.{Outcome, Goes, trees}
 use Rattle.hadopt.specs.Site as site
-use Rattle.hmodes.specs.Beginning.{Limits, document_begins, fragment_begins}
 use Rattle.hmodes.specs.OfTable.{TokenIsOf, TokensAreOf}
-use Rattle.hmodes.specs.Spelled.{spelled_token, spelled_placed, spelled_state}
-use Rattle.hmodes.specs.State.{Token, start, end, PlacedToken, State}
-use Rattle.hmodes.specs.Step.{Steps, none, and, refused}
 use Rattle.hmodes.specs.Step as step
 use Rattle.hmodes.proofs.Names.{steps_spelled}
 use Rattle.hmodes.proofs.Single.{step-one}
-use Rattle.hadopt.proofs.Agreeing.{numbers-agree}
 
 -- tokens have one result at most
 module _ {N : Type 0} (n : Naming N) where

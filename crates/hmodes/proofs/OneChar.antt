@@ -1,22 +1,7 @@
 -- A character by the rules of a mode that puts it, maybe after the formatting elements, or keeps it as pending.
-use Rattle.std.proofs.Common.{◌≡◌, inl, inr, ℕ, Bool, true, false, Option, Some, None, Result, Ok, Err, refl, sym, ◌∙◌, ap, subst}
-use Rattle.std.specs.Prelude.{◌&&◌, ◌==◌, not, is_none, if◌then◌else◌, MatchOption}
-use Rattle.std.specs.Result.{result_err}
-use Rattle.std.proofs.lemmas.Bool.{false≢true}
-use Rattle.names.specs.Placed.{is_space}
-use Rattle.names.specs.declared.refusal.Refusal.{Refusal}
+use Rattle.hmodes.proofs.Vocabulary.{◌≡◌, inl, inr, ℕ, Bool, true, false, Option, Some, None, Result, Ok, Err, refl, sym, ◌∙◌, ap, subst, ◌&&◌, ◌==◌, not, is_none, if◌then◌else◌, MatchOption, result_err, false≢true, is_space, Refusal, numbers, StateGives, perform, rule_of, State, character, Rule, ends, refuses, goes, begun, Do, Building, TakesToken, TakesOn, StaysRefused, refused_by, is_for_text, char_rule, takes_char, Mode}
 use Rattle.htoken.specs.declared.token.Token.TheVariants as code
-use Rattle.hadopt.specs.Naming.{numbers}
-use Rattle.hmodes.specs.Flows.{StateGives}
-use Rattle.hmodes.specs.Perform.{perform}
-use Rattle.hmodes.specs.Rules.{rule_of}
-use Rattle.hmodes.specs.State.{State, character}
-use Rattle.hmodes.specs.Step.{Rule, ends, refuses, goes, begun}
-use Rattle.hmodes.specs.Words.{Do}
-use Rattle.hmodes.specs.Building.{Building, TakesToken, TakesOn, StaysRefused, refused_by}
-use Rattle.hmodes.specs.Runs.{is_for_text, char_rule, takes_char}
 use Rattle.hmodes.specs.declared.token_kind.TokenKind.TheVariants.{Ws, Char, Nul}
-use Rattle.hmodes.specs.declared.mode.Mode.{Mode}
 use Rattle.hmodes.specs.declared.mode.Mode.TheVariants as mode
 use Rattle.hmodes.proofs.TextRun.{err_is}
 

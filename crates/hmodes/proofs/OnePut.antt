@@ -1,27 +1,7 @@
 -- A character that is put as it is.
-use Rattle.std.proofs.Common.{◌≡◌, ℕ, Bool, true, false, List, [], ◌∷◌, length, refl, ◌∙◌, ap}
-use Rattle.std.specs.Prelude.{◌==◌, if◌then◌else◌}
-use Rattle.std.proofs.lemmas.Bool.{false≢true, eqb-true}
-use Rattle.names.specs.Placed.{is_space}
-use Rattle.hnodes.specs.Edits.{Nodes}
-use Rattle.hnodes.specs.declared.node.Place.{Place}
-use Rattle.hnodes.specs.declared.node.Place.TheVariants.{LastIn}
-use Rattle.hchain.specs.Nearest.{before}
-use Rattle.hopen.specs.Stack.{is_open, current}
-use Rattle.hformat.specs.Formatting.{Listed, marker, entry}
-use Rattle.hadopt.specs.Naming.{numbers}
-use Rattle.hadopt.specs.Site.{SiteOf, stack, node_of}
+use Rattle.hmodes.proofs.Vocabulary.{◌≡◌, ℕ, Bool, true, false, List, [], ◌∷◌, length, refl, ◌∙◌, ap, ◌==◌, if◌then◌else◌, false≢true, eqb-true, is_space, Nodes, Place, LastIn, before, is_open, current, Listed, marker, entry, numbers, SiteOf, stack, node_of, place, stops_going_back, renewed_each, character_in_body, perform, flow_of, rule_of, State, character, flow_then, Rule, put, Mode}
 use Rattle.hadopt.specs.Inserts as inserts
-use Rattle.hadopt.specs.Places.{place}
-use Rattle.hadopt.specs.Reconstructs.{stops_going_back, renewed_each}
-use Rattle.hmodes.specs.Body.{character_in_body}
-use Rattle.hmodes.specs.Perform.{perform, flow_of}
-use Rattle.hmodes.specs.Rules.{rule_of}
-use Rattle.hmodes.specs.State.{State, character, flow_then}
-use Rattle.hmodes.specs.Step.{Rule}
-use Rattle.hmodes.specs.Words.{put}
 use Rattle.hmodes.specs.declared.token_kind.TokenKind.TheVariants.{Ws, Char, Nul}
-use Rattle.hmodes.specs.declared.mode.Mode.{Mode}
 use Rattle.hmodes.specs.declared.mode.Mode.TheVariants as mode
 
 -- there is nothing to reconstruct

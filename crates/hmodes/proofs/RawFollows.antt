@@ -1,38 +1,10 @@
 -- A start tag of a raw kind leads to the mode "text", by a test on the programs of each mode.
-use Rattle.std.proofs.Common.{◌≡◌, ◌≢◌, ◌⊎◌, inl, inr, ℕ, ◌<◌, Bool, true, false, not, cond, leb, List, ◌∷◌, Option, Some, None, refl, sym, ◌∙◌, ap, subst, arith, length}
-use Rattle.std.specs.Prelude.{◌&&◌, ◌||◌, IfSome}
-use Rattle.std.proofs.lemmas.Bool.{ne_eqb}
-use Rattle.hnodes.specs.Forest.{Attribute}
-use Rattle.hopen.specs.Stack.{OpenNode, current}
+use Rattle.hmodes.proofs.Vocabulary.{◌≡◌, ◌≢◌, ◌⊎◌, inl, inr, ℕ, ◌<◌, Bool, true, false, not, cond, leb, List, ◌∷◌, Option, Some, None, refl, sym, ◌∙◌, ap, subst, arith, length, ◌&&◌, ◌||◌, IfSome, ne_eqb, Attribute, OpenNode, current, TooManyNodes, TooDeep, Tag, Naming, Outcome, Goes, SiteOf, and_then, stack, trees, with_stack, with_trees, with_error, OnGoes, Family, Mode, Initial, BeforeHtml, BeforeHead, InHead, InHeadNoscript, AfterHead, InBody, Text, InTable, InTableText, InCaption, InColumnGroup, InTableBody, InRow, InCell, AfterBody, AfterAfterBody, family_of, Do, Start, Char, ◌▸◌, choose, fostered, each_pending, again, to, to_saved, save_mode, insert, put, drop_lf, push_head, remove_head, pending_is_ws, raw, after_head, late, perform, with_foster, with_site, inserted_here, flow_of, head_pushed, removed, rule_of, code_of, NonVoidHtmlElementStartTagWithTrailingSolidus, Token, start, Control, State, Flow, Done, Again, Refused, flow_then, flow_map, Rule, Chain, ends, refuses, goes_again, drops, goes, begun, finished, is_ended, IsLimit, Inserts, at_once, in_first, in_second, in_fostered, RulesInsert, by_rule, by_next, IsInText, ComesToText, RawFollows, Place, element, graft, make, place, inserted, pushed, in_table_text, other_in_table}
 use Rattle.names.specs.Sets.{raw_kind}
-use Rattle.names.specs.declared.refusal.Refusal.TheVariants.{TooManyNodes, TooDeep}
-use Rattle.names.specs.declared.tag.Tag.{Tag}
 use Rattle.names.specs.declared.tag.Tag.TheVariants as tag
-use Rattle.hadopt.specs.Naming.{Naming}
-use Rattle.hadopt.specs.Site.{Outcome, Goes, SiteOf, and_then, stack, trees, with_stack, with_trees, with_error}
 use Rattle.hadopt.specs.Site as site
-use Rattle.hadopt.proofs.Climbing.{OnGoes}
-use Rattle.hmodes.specs.declared.family.Family.{Family}
 use Rattle.hmodes.specs.declared.family.Family.TheVariants.{Title, Noframes, Style, Script, Textarea, Xmp, Iframe}
-use Rattle.hmodes.specs.declared.mode.Mode.{Mode}
-use Rattle.hmodes.specs.declared.mode.Mode.TheVariants.{Initial, BeforeHtml, BeforeHead, InHead, InHeadNoscript, AfterHead, InBody, Text, InTable, InTableText, InCaption, InColumnGroup, InTableBody, InRow, InCell, AfterBody, AfterAfterBody}
-use Rattle.hmodes.specs.Families.{family_of}
-use Rattle.hmodes.specs.Words.{Do, Start, Char, ◌▸◌, choose, fostered, each_pending, again, to, to_saved, save_mode, insert, put, drop_lf, push_head, remove_head, pending_is_ws}
-use Rattle.hmodes.specs.Programs.{raw}
-use Rattle.hmodes.specs.Head.{after_head, late}
-use Rattle.hmodes.specs.Perform.{perform, with_foster, with_site, inserted_here, flow_of, head_pushed, removed}
-use Rattle.hmodes.specs.Rules.{rule_of, code_of}
-use Rattle.names.specs.declared.error.ErrorCode.TheVariants.{NonVoidHtmlElementStartTagWithTrailingSolidus}
-use Rattle.hmodes.specs.State.{Token, start, Control, State, Flow, Done, Again, Refused, flow_then, flow_map}
-use Rattle.hmodes.specs.Step.{Rule, Chain, ends, refuses, goes_again, drops, goes, begun, finished}
-use Rattle.hmodes.specs.RawFollows.{is_ended, IsLimit, Inserts, at_once, in_first, in_second, in_fostered, RulesInsert, by_rule, by_next, IsInText, ComesToText, RawFollows}
 use Rattle.hmodes.proofs.Mild.{is_mild, Mild, perform-mild}
-use Rattle.hnodes.specs.declared.node.Place.{Place}
-use Rattle.hnodes.specs.Forest.{element}
-use Rattle.hnodes.specs.Edits.{graft, make}
-use Rattle.hadopt.specs.Places.{place}
-use Rattle.hadopt.specs.Inserts.{inserted, pushed}
-use Rattle.hmodes.specs.Table.{in_table_text, other_in_table}
 use Rattle.hmodes.proofs.Facts.{is_texty}
 use Rattle.hmodes.proofs.Between.{Tells, Orderly, orderly-head, orderly-begins, again-orderly, reached-orderly}
 use Rattle.hmodes.proofs.Every.{never, both}

@@ -1,24 +1,6 @@
 -- Where the formatting elements are reconstructed, none is left to be.
-use Rattle.std.proofs.Common.{◌≡◌, ℕ, zero, suc, Bool, true, false, cond, leb, List, [], ◌∷◌, Option, Some, None, length, refl, ap, ◌∙◌}
-use Rattle.std.specs.Prelude.{◌==◌, ◌||◌, if◌then◌else◌}
-use Rattle.std.specs.Option.{option_map_or}
-use Rattle.std.proofs.lemmas.Bool.{eq-eqb}
-use Rattle.hnodes.specs.Edits.{make}
-use Rattle.hnodes.specs.Forest.{Attribute, element}
-use Rattle.hnodes.specs.declared.node.Place.{Place}
-use Rattle.hchain.specs.Nearest.{before, changed_at}
-use Rattle.hopen.specs.Stack.{is_open}
-use Rattle.hformat.specs.Formatting.{EntryOf, Listed, marker, entry, entry_at, for_node}
-use Rattle.names.specs.declared.refusal.Refusal.TheVariants.{TooManyNodes, TooDeep}
-use Rattle.hadopt.specs.Inserts.{made, added, pushed, inserted}
-use Rattle.hadopt.specs.Naming.{numbers}
-use Rattle.hadopt.specs.Places.{place}
-use Rattle.hadopt.specs.Reconstructs.{stops_going_back, renewed, renewed_each, reconstructed}
-use Rattle.hadopt.specs.Site.{Outcome, Goes, SiteOf, and_then, stack, trees, with_stack, with_items}
+use Rattle.hmodes.proofs.Vocabulary.{◌≡◌, ℕ, zero, suc, Bool, true, false, cond, leb, List, [], ◌∷◌, Option, Some, None, length, refl, ap, ◌∙◌, ◌==◌, ◌||◌, if◌then◌else◌, option_map_or, eq-eqb, make, Attribute, element, Place, before, changed_at, is_open, EntryOf, Listed, marker, entry, entry_at, for_node, TooManyNodes, TooDeep, made, added, pushed, inserted, numbers, place, stops_going_back, renewed, renewed_each, reconstructed, Outcome, Goes, SiteOf, stack, with_stack, OnGoes, goes-then, before_text, puts_in, Mode}
 use Rattle.hadopt.specs.Site as site
-use Rattle.hadopt.proofs.Climbing.{OnGoes, goes-then}
-use Rattle.hmodes.specs.Runs.{before_text, puts_in}
-use Rattle.hmodes.specs.declared.mode.Mode.{Mode}
 use Rattle.hmodes.specs.declared.mode.Mode.TheVariants as mode
 use Rattle.hmodes.proofs.OnePut.{is_reconstructed, puts_now}
 

@@ -1,23 +1,12 @@
 -- The mode that fits the open nodes, found by the nearest one that determines it.
-use Rattle.std.proofs.Common.{◌≡◌, ℕ, suc, ◌+◌, ◌<◌, ◌≤◌, Bool, true, false, not, cond, List, [], ◌∷◌, length, reverse, Option, Some, None, unwrap_or, refl, sym, ap, ◌∙◌, ltb, arith}
-use Rattle.std.specs.Prelude.{slice_get, option_and_then}
-use Rattle.std.specs.List.{position, position_or_len}
-use Rattle.std.specs.Option.{option_map_or}
-use Rattle.hopen.specs.Stack.{OpenNode}
-use Rattle.hopen.specs.Scopes.{is_of, tells_mode}
+use Rattle.hmodes.proofs.Vocabulary.{◌≡◌, ℕ, suc, ◌+◌, ◌<◌, ◌≤◌, Bool, true, false, not, cond, List, [], ◌∷◌, length, reverse, Option, Some, None, unwrap_or, refl, sym, ap, ◌∙◌, ltb, arith, slice_get, option_and_then, position, position_or_len, option_map_or, OpenNode, is_of, tells_mode, Tag, true≢false, false≢true, ltb-false, numbers, open_mode, root_mode, reset_mode, Mode, InBody}
 use Rattle.hopen.specs.declared.scope.Group.TheVariants as group
-use Rattle.names.specs.declared.tag.Tag.{Tag}
 use Rattle.names.specs.declared.tag.Tag.TheVariants as tag
 use Rattle.names.specs.Tags.{tag_of}
 use Rattle.names.proofs.Handing.{slice_get-append}
-use Rattle.std.proofs.lemmas.Bool.{true≢false, false≢true, ltb-false}
 use Rattle.std.proofs.lemmas.List.{reverse-append}
-use Rattle.hadopt.specs.Naming.{numbers}
 use Rattle.hadopt.proofs.Searching.{last-behind}
 use Rattle.hadopt.proofs.Lists.{here}
-use Rattle.hmodes.specs.Reset.{open_mode, root_mode, reset_mode}
-use Rattle.hmodes.specs.declared.mode.Mode.{Mode}
-use Rattle.hmodes.specs.declared.mode.Mode.TheVariants.{InBody}
 
 -- what an open node decides
 abbrev pub decided : List (OpenNode ℕ) → ℕ → Option Mode

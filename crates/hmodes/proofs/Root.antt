@@ -1,12 +1,6 @@
 -- A fragment's root element fits into each tree that may be built.
-use Rattle.std.proofs.Common.{◌≡◌, ℕ, ◌≤◌, Bool, true, false, List, length, refl, sym, ap, ◌∙◌, arith}
-use Rattle.std.specs.Prelude.{nat_le}
-use Rattle.std.proofs.lemmas.Bool.Decides.{nat_tests}
-use Rattle.names.specs.declared.refusal.Refusal.{Refusal}
-use Rattle.hnodes.specs.Forest.{Attribute}
-use Rattle.hnodes.specs.declared.node.Place.{Place}
-use Rattle.hadopt.specs.Inserts.{inserted}
-use Rattle.hadopt.specs.Site.{Outcome, Goes, Refused, SiteOf, stack}
+use Rattle.hmodes.proofs.Vocabulary.{◌≡◌, ℕ, ◌≤◌, Bool, true, false, List, length, refl, sym, ap, ◌∙◌, arith, nat_le, nat_tests, Refusal, Attribute, Place, inserted, Outcome, Goes, SiteOf, stack}
+use Rattle.hadopt.specs.Site.{Refused}
 
 pub above_one : (n : ℕ) → 16 ≤ n → nat_le n 1 ≡ false
 above_one n h = grind (arith, nat_tests)

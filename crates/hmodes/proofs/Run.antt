@@ -1,22 +1,7 @@
 -- A run keeps that the open nodes are, from the beginning of a document or a fragment on.
-use Rattle.std.proofs.Common.{◌≡◌, ℕ, zero, suc, ◌+◌, Bool, true, false, not, cond, eqb, ltb, if◌then◌else◌, List, [], ◌∷◌, refl, subst, arith}
-use Rattle.std.specs.Prelude.{◌&&◌}
-use Rattle.std.proofs.lemmas.Bool.{lt-leb, ne_eqb}
-use Rattle.hnodes.specs.Forest.{document, element, tree, times}
+use Rattle.hmodes.proofs.Vocabulary.{◌≡◌, ℕ, zero, suc, ◌+◌, Bool, true, false, not, cond, eqb, ltb, if◌then◌else◌, List, [], ◌∷◌, refl, subst, arith, ◌&&◌, lt-leb, ne_eqb, element, tree, QuirkLine, NonVoidHtmlElementStartTagWithTrailingSolidus, Naming, Outcome, Goes, with_error, TellsTables, OnGoes, Well, erred, AfterHead, Token, PlacedToken, State, Flow, Done, Again, Refused, is_self_closing, Rule, Chain, ends, refuses, goes_again, Step, drops, goes, Steps, none, and, refused, begun, finished, Limits, document_begins, fragment_begins}
 use Rattle.hnodes.specs.Forest as forest
-use Rattle.hmarkup.specs.Quirks.{QuirkLine}
 use Rattle.names.specs.declared.tag.Tag.TheVariants as tag
-use Rattle.names.specs.declared.error.ErrorCode.TheVariants.{NonVoidHtmlElementStartTagWithTrailingSolidus}
-use Rattle.hadopt.specs.Naming.{Naming}
-use Rattle.hadopt.specs.Site.{Outcome, Goes, with_error}
-use Rattle.hadopt.specs.Kept.{TellsTables}
-use Rattle.hadopt.proofs.Climbing.{OnGoes}
-use Rattle.hadopt.proofs.Settling.{Well}
-use Rattle.hadopt.proofs.Turning.{erred}
-use Rattle.hmodes.specs.declared.mode.Mode.TheVariants.{AfterHead}
-use Rattle.hmodes.specs.State.{Token, PlacedToken, State, Flow, Done, Again, Refused, is_self_closing}
-use Rattle.hmodes.specs.Step.{Rule, Chain, ends, refuses, goes_again, Step, drops, goes, Steps, none, and, refused, begun, finished}
-use Rattle.hmodes.specs.Beginning.{Limits, document_begins, fragment_begins}
 use Rattle.hmodes.proofs.Stands.{FlowWell, HeadOut, rule-well}
 
 module _ {N : Type 0} (n : Naming N) (tells : TellsTables n) (Fits : State N → Type 0) where

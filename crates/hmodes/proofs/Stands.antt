@@ -1,46 +1,13 @@
 -- Every rule keeps what the open nodes need: they are in the document's tree, each outside of those below it.
-use Rattle.std.proofs.Common.{◌≡◌, ℕ, ◌<◌, Bool, true, false, not, cond, leb, List, [], ◌∷◌, Option, Some, None, refl, subst, length, filter}
-use Rattle.std.specs.Prelude.{◌&&◌, ◌||◌, ◌==◌, nat_le}
-use Rattle.std.specs.Option.{option_map_or}
-use Rattle.std.specs.List.{list_any}
-use Rattle.hnodes.specs.Forest.{What, document, element}
+use Rattle.hmodes.proofs.Vocabulary.{◌≡◌, ℕ, ◌<◌, Bool, true, false, not, cond, leb, List, [], ◌∷◌, Option, Some, None, refl, subst, length, filter, ◌&&◌, ◌||◌, ◌==◌, nat_le, option_map_or, list_any, element, LastIn, is_node, EntryOf, Listed, entry, cleared, find_entry, without_entry, with_room, without_earliest, is_equal, after_marker, most_equal, Placed, Tag, is_space, TooDeep, Naming, Outcome, Goes, SiteOf, stack, trees, with_stack, with_error, from_top, node_of, place, listed, is, adopted, Each, TellsTables, deep, OnGoes, goes-then, Plain, PlainEntries, plain-without, Well, among-past, among-drop, fewer, listed-as, erred, closed-well, other-well, adopted-well, missing-well, first-fits, here-fits, root-fits, place-fits, added-well, inserted-well, put-well, reconstructed-well, Mode, AfterHead, family_of, TokenKind, Nul, Ws, Char, Start, Do, ◌▸◌, when, unless, choose, fostered, each_pending, error, insert, insert_named, insert_root, insert_root_named, insert_comment, comment_in_document, comment_in_first, insert_doctype, put, add_missing_to_first, add_missing_to_second, pop, pop_to, pop_to_name, pop_to_group, implied, implied_except, implied_except_name, clear_to_table, clear_to_body, clear_to_row, push_head, remove_head, remove_form, reconstruct, push_to_list, clear_to_marker, close_p, adopt, adopt_listed, other_end, Token, character, start, end, doctype, comment, eof, State, Flow, Done, Again, Refused, kind_of, flow_then, flow_map, token_name, token_attrs, token_text, token_char, answer_of, doctype_node, perform, with_foster, with_control, with_site, each_of, flow_of, removed, forgotten, current_node, adopted_listed, head_pushed, rule_of, code_of, Rule, in_head, after_head, late}
 use Rattle.hnodes.specs.Forest as forest
-use Rattle.hnodes.specs.declared.node.Place.TheVariants.{LastIn}
-use Rattle.hopen.specs.Stack.{is_node}
-use Rattle.hformat.specs.Formatting.{EntryOf, Listed, entry, entries, cleared, find_entry, without_entry, with_room, without_earliest, is_equal, after_marker, most_equal}
 use Rattle.hformat.specs.Formatting as list
-use Rattle.names.specs.declared.placed.Placed.{Placed}
-use Rattle.names.specs.declared.tag.Tag.{Tag}
 use Rattle.names.specs.declared.tag.Tag.TheVariants as tag
 use Rattle.names.specs.declared.tag.Tag.TheVariants.{Html}
-use Rattle.names.specs.Placed.{is_space}
-use Rattle.names.specs.declared.refusal.Refusal.TheVariants.{TooDeep}
-use Rattle.hadopt.specs.Naming.{Naming}
-use Rattle.hadopt.specs.Site.{Outcome, Goes, SiteOf, and_then, stack, trees, with_stack, with_error, with_items, from_top, node_of}
 use Rattle.hadopt.specs.Site as site
-use Rattle.hadopt.specs.Places.{place}
-use Rattle.hadopt.specs.Inserts.{listed}
-use Rattle.hadopt.specs.Closes.{is}
-use Rattle.hadopt.specs.Adopts.{adopted}
-use Rattle.hadopt.specs.Kept.{Each, TellsTables}
-use Rattle.hnodes.proofs.Deep.{deep}
 use Rattle.hadopt.proofs.Lists.{among-all, among-after, among-without}
-use Rattle.hadopt.proofs.Climbing.{OnGoes, goes-then, Plain, PlainEntries, plain-without}
-use Rattle.hadopt.proofs.Settling.{Well}
-use Rattle.hadopt.proofs.Turning.{among-past, among-drop, fewer, listed-as, erred, closed-well, other-well, adopted-well}
-use Rattle.hadopt.proofs.Inserting.{missing-well, first-fits, here-fits, root-fits, place-fits, added-well, inserted-well, put-well, reconstructed-well}
-use Rattle.hmodes.specs.declared.mode.Mode.{Mode}
-use Rattle.hmodes.specs.declared.mode.Mode.TheVariants.{AfterHead}
 use Rattle.hmodes.specs.declared.family.Family.TheVariants as family
-use Rattle.hmodes.specs.Families.{family_of}
-use Rattle.hmodes.specs.Words.{TokenKind, Nul, Ws, Char, Start, Do, ◌▸◌, when, unless, choose, fostered, each_pending, error, insert, insert_named, insert_root, insert_root_named, insert_comment, comment_in_document, comment_in_first, insert_doctype, put, add_missing_to_first, add_missing_to_second, pop, pop_to, pop_to_name, pop_to_group, implied, implied_except, implied_except_name, clear_to_table, clear_to_body, clear_to_row, push_head, remove_head, remove_form, reconstruct, push_to_list, marker, clear_to_marker, close_p, adopt, adopt_listed, other_end}
-use Rattle.hmodes.specs.State.{Token, character, start, end, doctype, comment, eof, State, Flow, Done, Again, Refused, kind_of, flow_then, flow_map, token_name, token_attrs, token_text, token_char}
-use Rattle.hmodes.specs.Questions.{answer_of}
-use Rattle.hmodes.specs.Doctypes.{doctype_node}
-use Rattle.hmodes.specs.Perform.{perform, with_foster, with_control, with_site, each_of, flow_of, removed, forgotten, current_node, adopted_listed, head_pushed}
-use Rattle.hmodes.specs.Rules.{rule_of, code_of}
-use Rattle.hmodes.specs.Step.{Rule}
-use Rattle.hmodes.specs.Head.{in_head, after_head, late}
+use Rattle.hmodes.specs.Words.{marker}
 use Rattle.hmodes.proofs.Every.{never, both, in-each}
 
 -- a program opens the head again nowhere, and lists the current node only where it may

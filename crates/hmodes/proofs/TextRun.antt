@@ -1,47 +1,28 @@
 -- Characters that are put as they are.
-use Rattle.std.proofs.Common.{◌≡◌, ◌<◌, ℕ, zero, suc, Bool, true, false, List, [], ◌∷◌, ◌++◌, ◌+◌, ◌-◌, length, Option, Some, None, Result, Ok, Err, refl, sym, ap, ◌∙◌, arith, subst}
-use Rattle.std.specs.List.{list_all}
-use Rattle.std.specs.Prelude.{◌&&◌, ◌==◌, not, is_none, is_some}
-use Rattle.std.specs.Result.{result_err}
-use Rattle.std.proofs.lemmas.Bool.{and_parts}
-use Rattle.std.proofs.lemmas.Bool.Decides.{nat_tests}
+use Rattle.hmodes.proofs.Vocabulary.{◌≡◌, ℕ, zero, suc, Bool, true, false, List, [], ◌∷◌, ◌++◌, ◌+◌, ◌-◌, length, Option, Some, None, Result, Ok, Err, refl, sym, ap, ◌∙◌, arith, subst, list_all, ◌&&◌, ◌==◌, not, is_none, result_err, and_parts, false≢true, nat_tests, placed, characters, Placed, one_more, one_refused, len_utf8, encode_utf8, repeat, chars, IsUtf8, IsUtf8-nil, IsUtf8-encode, IsUtf8-append, chars-nil, chars_past_char, AreNodes, IsPlace, Hands, Refusal, Place, run_tokens, replaced, StartsAt, IsSpread, Given, Gives, put_each, Outcome, SiteOf, with_site, State, Token, begun, Building, Stands, Takes, TakesToken, puts_run, refused_by, AreSome, puts_in, puts_each, put_all}
 use Rattle.std.proofs.lemmas.List.{length-append}
-use Rattle.names.specs.Placed.{placed}
-use Rattle.names.specs.declared.placed.Placed.{Placed}
 use Rattle.names.proofs.Handing.{Continues-all}
-use Rattle.htext.proofs.Wide.{one_more, one_refused}
 use Rattle.htext.specs.Run.{is_clean}
-use Rattle.std.specs.Char.{len_utf8, encode_utf8}
-use Rattle.std.specs.List.{repeat}
-use Rattle.std.specs.Str.{chars, IsUtf8}
-use Rattle.std.proofs.lemmas.Str.{IsUtf8-nil, IsUtf8-encode, IsUtf8-append, chars-nil, chars_past_char}
-use Rattle.hnodes.specs.Edits.{AreNodes, IsPlace}
-use Rattle.hadopt.proofs.Putting.{characters, each-same}
-use Rattle.names.specs.Sink.{Hands}
-use Rattle.names.specs.declared.refusal.Refusal.{Refusal}
-use Rattle.hnodes.specs.declared.node.Place.{Place}
-use Rattle.htoken.specs.Run.{run_tokens, replaced}
-use Rattle.htoken.specs.declared.token.Token.{Token as Given}
+use Rattle.htoken.specs.Run.{is_not_null}
+use Rattle.hadopt.proofs.Putting.{each-same}
+use Rattle.htag.proofs.InRun.{characters_placed}
 use Rattle.htoken.specs.declared.token.Token.TheVariants.{Char}
-use Rattle.hadopt.specs.Gives.{Gives}
-use Rattle.hadopt.specs.Inserts.{put_each}
-use Rattle.hadopt.specs.Site.{Outcome, SiteOf}
-use Rattle.hmodes.specs.Perform.{with_site}
-use Rattle.hmodes.specs.State.{State, Token}
-use Rattle.hmodes.specs.Step.{begun}
-use Rattle.hmodes.specs.Building.{Building, Stands, Takes, TakesToken, puts_run, refused_by}
-use Rattle.hmodes.specs.Runs.{puts_in, puts_each, put_all}
 use Rattle.hmodes.proofs.Begins.{begun_put}
-use Rattle.hmodes.proofs.InRun.{AreSome, taken, stands-on, stands-run}
+use Rattle.hmodes.proofs.InRun.{taken, stands-on, stands-run}
 
 clean_some : (x : ℕ) → is_clean x ≡ true → (x == 0) ≡ false
 clean_some x h = grind (arith, nat_tests)
 
-pub some_clean : (at : ℕ) (cs : List ℕ) → list_all is_clean cs ≡ true → AreSome (placed at cs)
-some_clean at [] h = tt
-some_clean at (c ∷ cs) h =
-    let k = and_parts (is_clean c) (list_all is_clean cs) h in
-    (clean_some c k.0, some_clean (at + len_utf8 c) cs k.1)
+pub some_clean : (cs : List ℕ) → list_all is_clean cs ≡ true → AreSome cs
+some_clean [] h = tt
+some_clean (c ∷ cs) h = let k = and_parts (is_clean c) (list_all is_clean cs) h in (clean_some c k.0, some_clean cs k.1)
+
+not_null_some : (x : ℕ) → is_not_null x ≡ true → (x == 0) ≡ false
+not_null_some x h = grind (arith, h, nat_tests)
+
+pub some_not_null : (cs : List ℕ) → list_all is_not_null cs ≡ true → AreSome cs
+some_not_null [] h = tt
+some_not_null (c ∷ cs) h = let k = and_parts (is_not_null c) (list_all is_not_null cs) h in (not_null_some c k.0, some_not_null cs k.1)
 
 -- what the test of a state says
 off-of : (a b c : Bool) → (not a && not b && c) ≡ true → (a ≡ false) × (b ≡ false) × (c ≡ true)
@@ -50,38 +31,39 @@ off-of false true c h = absurd cc
 off-of false false true h = (refl, refl, refl)
 off-of false false false h = absurd cc
 
-pub none-of : (o : Option Refusal) → is_some o ≡ false → o ≡ None
-none-of None h = refl
-none-of (Some r) h = absurd cc
-
 -- the building after characters were put, once a token has begun in it
 abbrev pub after_put : Building → SiteOf ℕ → Result (Unit {0}) Refusal → Building
 after_put b x answer = record { state = with_site x (begun b.state); root = b.root; told = b.told; refused = refused_by answer }
 
--- a run that is put as a whole is taken character by character
-pub run_taken : (b : Building) → b.refused ≡ None → puts_each b.state ≡ true → (at : ℕ) (run : List ℕ) → false ≡ (length run == 0) → list_all is_clean run ≡ true
-    → (answer : Result (Unit {0}) Refusal) (x : SiteOf ℕ) → Gives answer x (put_all at (placed at run) b.state)
-    → Hands TakesToken b (run_tokens (placed at run)) answer (after_put b x answer)
-run_taken b free puts at [] some plain answer x g = absurd cc
-run_taken b free puts at (c ∷ cs) some plain answer x g =
+-- a run that is put as a whole is taken character by character, wherever all but the first are
+pub run_taken : (b : Building) → b.refused ≡ None → puts_each b.state ≡ true → (at : ℕ) (run : List ℕ) (text : List Placed) → IsSpread text run at → false ≡ (length (chars run) == 0)
+    → AreSome (chars run) → (answer : Result (Unit {0}) Refusal) (x : SiteOf ℕ) → Gives answer x (put_all at text b.state) → Hands TakesToken b (run_tokens text) answer (after_put b x answer)
+run_taken b free puts at run [] spread has some answer x g = absurd (false≢true (has ∙ ap (λ (cs : List ℕ). length cs == 0) (sym spread.characters_are)))
+run_taken b free puts at run (p ∷ ps) spread has some answer x g =
     let facts = off-of b.state.site.foster b.state.control.drop_lf (puts_in b.state.control.mode) puts in
-    let all = some_clean at (c ∷ cs) plain in
-    begun_put b free facts.0 facts.1 facts.2 (record { ch = c; at = at }) all.0 (placed (at + len_utf8 c) cs) answer x all g
+    let all : AreSome (characters (p ∷ ps)) = subst AreSome (sym spread.characters_are) some in
+    begun_put b free facts.0 facts.1 facts.2 p all.0 ps answer x all (subst (λ (n : ℕ). Gives answer x (put_all n (p ∷ ps) b.state)) (sym spread.starts) g)
 
--- and so is one of characters that replace bad parts
-pub some_replaced : (count at : ℕ) → AreSome (replaced at count)
-some_replaced zero at = tt
-some_replaced (suc n) at = (refl, some_replaced n (at + 1))
+-- the characters of a run one after another are such a text
+pub is_spread : (at : ℕ) (run : List ℕ) → IsSpread (placed at (chars run)) run at
+is_spread at run = record { characters_are = characters_placed at (chars run); starts = by (chars run) }
+  where
+    by : (cs : List ℕ) → StartsAt (placed at cs) at
+    by [] = tt
+    by (c ∷ cs) = refl
 
-pub bad_taken : (b : Building) → b.refused ≡ None → puts_each b.state ≡ true → (at count : ℕ) → 0 < count → (answer : Result (Unit {0}) Refusal) (x : SiteOf ℕ)
-    → Gives answer x (put_all at (replaced at count) b.state) → Hands TakesToken b (run_tokens (replaced at count)) answer (after_put b x answer)
-bad_taken b free puts at zero some answer x g = absurd (omega (arith, some))
-bad_taken b free puts at (suc n) some answer x g =
-    let facts = off-of b.state.site.foster b.state.control.drop_lf (puts_in b.state.control.mode) puts in
-    let all = some_replaced (suc n) at in
-    begun_put b free facts.0 facts.1 facts.2 (record { ch = 0xFFFD; at = at }) all.0 (replaced (at + 1) n) answer x all g
+-- and the same is put for each
+pub spread_put : (text : List Placed) (run : List ℕ) (at : ℕ) (to : Place) (s : SiteOf ℕ) → IsSpread text run at → AreNodes s.nodes → IsPlace to s.nodes → put_each (placed at (chars run)) to s ≡ put_each text to s
+spread_put text run at to s spread nodes here = by (chars run) text spread.characters_are spread.starts
+  where
+    by : (cs : List ℕ) (text : List Placed) → characters text ≡ cs → StartsAt text at → put_each (placed at cs) to s ≡ put_each text to s
+    by [] [] is first = refl
+    by [] (p ∷ ps) is first = absurd cc
+    by (c ∷ cs) [] is first = absurd cc
+    by (c ∷ cs) (p ∷ ps) is first =
+        each-same to (record { ch = c; at = at }) p (placed (at + len_utf8 c) cs) ps s nodes here (sym first) (characters_placed at (c ∷ cs) ∙ sym is)
 
--- as their text is put
+-- and so are those that replace bad parts
 pub bad_bytes : 0xEF ∷ 0xBF ∷ 0xBD ∷ [] ≡ encode_utf8 0xFFFD
 unfolding encode_utf8
 bad_bytes = refl
@@ -93,17 +75,20 @@ bad_chars (suc n) at =
     let all = IsUtf8-append (encode_utf8 0xFFFD) (repeat n (encode_utf8 0xFFFD)) (IsUtf8-encode 0xFFFD refl) more.0 in
     (all, chars_past_char (repeat (suc n) (encode_utf8 0xFFFD)) (repeat n (encode_utf8 0xFFFD)) 0xFFFD all refl ∙ ap (λ (cs : List ℕ). 0xFFFD ∷ cs) more.1)
 
-placed_bad : (n at at' : ℕ) → characters (placed at (characters (replaced at' n))) ≡ characters (replaced at' n)
-placed_bad zero at at' = refl
-placed_bad (suc n) at at' = ap (λ (cs : List ℕ). 0xFFFD ∷ cs) (placed_bad n (at + len_utf8 0xFFFD) (at' + 1))
+module _ (at : ℕ) (run : List ℕ) where
+  pub bad_spread : (n : ℕ) → run ≡ repeat n (encode_utf8 0xFFFD) → IsSpread (replaced at n) run at
+  bad_spread n is = record { characters_are = sym (ap chars is ∙ (bad_chars n at).1); starts = by n }
+    where
+      by : (n : ℕ) → StartsAt (replaced at n) at
+      by zero = tt
+      by (suc n) = refl
 
-pub bad_put : (n at : ℕ) (run : List ℕ) (to : Place) (s : SiteOf ℕ) → 0 < n → run ≡ repeat n (encode_utf8 0xFFFD) → AreNodes s.nodes → IsPlace to s.nodes → put_each (placed at (chars run)) to s ≡ put_each (replaced at n) to s
-bad_put zero at run to s some is nodes here = absurd (omega (arith, some))
-bad_put (suc n) at run to s some is nodes here =
-    let rest : List ℕ = characters (replaced (at + 1) n) in
-    ap (λ (cs : List ℕ). put_each (placed at cs) to s) (ap chars is ∙ (bad_chars (suc n) at).1)
-    ∙ each-same to (record { ch = 0xFFFD; at = at }) (record { ch = 0xFFFD; at = at }) (placed (at + len_utf8 0xFFFD) rest) (replaced (at + 1) n) s nodes here refl
-    (ap (λ (cs : List ℕ). 0xFFFD ∷ cs) (placed_bad n (at + len_utf8 0xFFFD) (at + 1)))
+  pub bad_some : (n : ℕ) → run ≡ repeat n (encode_utf8 0xFFFD) → AreSome (chars run)
+  bad_some n is = subst AreSome (bad_spread n is).characters_are (by n at)
+    where
+      by : (n at : ℕ) → AreSome (characters (replaced at n))
+      by zero at = tt
+      by (suc n) at = (refl, by n (at + 1))
 
 -- what an answer says of later calls
 pub err_is : (answer : Result (Unit {0}) Refusal) → result_err answer ≡ refused_by answer
@@ -123,13 +108,6 @@ left_is b old s t x refused answer is begins rest errs = λ i. record {
   told = (is i).told;
   refused = (errs ∙ err_is answer) i;
 }
-
--- what the tests before it say
-pub free-of : (b old : Building) (r : Bool) → old ≡ b → r ≡ is_some old.refused → r ≡ false → b.refused ≡ None
-free-of b old r is says off = none-of b.refused (sym (ap (λ (o : Building). is_some o.refused) is) ∙ sym says ∙ off)
-
-pub puts-of : (b old : Building) (r : Bool) → old ≡ b → r ≡ puts_each old.state → r ≡ true → puts_each b.state ≡ true
-puts-of b old r is says on = sym (ap (λ (o : Building). puts_each o.state) is) ∙ sym says ∙ on
 
 -- the site that characters are put in is that of the building
 pub gives-of : (b old : Building) (s : State ℕ) (x : SiteOf ℕ) (answer : Result (Unit {0}) Refusal) (f : State ℕ → Outcome (SiteOf ℕ)) → old ≡ b → s ≡ begun old.state → Gives answer x (f s)

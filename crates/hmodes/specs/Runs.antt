@@ -1,5 +1,6 @@
 -- Where the characters of a run go one and the same way.
-use Rattle.std.specs.Prelude.{ℕ, Bool, true, false, not, ◌&&◌, List}
+use Rattle.std.specs.Prelude.{◌≡◌, ℕ, Bool, true, false, not, ◌&&◌, ◌==◌, List}
+use Rattle.std.specs.List.{AllByRecursion}
 use Rattle.names.specs.declared.placed.Placed.{Placed}
 use Rattle.hnodes.specs.declared.node.Place.TheVariants.{LastIn}
 use Rattle.hadopt.specs.Inserts.{put_each}
@@ -12,6 +13,10 @@ use Rattle.hmodes.specs.State.{State}
 use Rattle.hmodes.specs.Words.{Do, put, pend}
 use Rattle.hmodes.specs.declared.mode.Mode.{Mode}
 use Rattle.hmodes.specs.declared.mode.Mode.TheVariants.{InBody, Text, InTableText, InCaption, InCell}
+
+-- the characters are not NUL
+abbrev pub AreSome : List ℕ → Type 0
+AreSome cs = AllByRecursion (λ c. (c == 0) ≡ false) cs
 
 -- whether the rules of a mode put a character, maybe after the formatting elements
 abbrev pub puts_in : Mode → Bool

@@ -1,6 +1,6 @@
 //! The builder of a tree: it takes tokens and runs of text, and gives the tree with its errors, or one refusal.
 
-ghost use Rattle.std.specs.Prelude.{◌≡◌, ◌+◌, ◌-◌, ◌<◌, ◌≤◌, ◌++◌, ◌==◌, ◌&&◌, not, [], Some, None, true, Err, length, is_none, IfErr, IfOk, MatchResult};
+ghost use Rattle.std.specs.Prelude.{◌≡◌, ◌+◌, ◌-◌, ◌<◌, ◌≤◌, ◌++◌, ◌==◌, ◌&&◌, not, List, [], Some, None, true, Err, length, is_none, IfErr, IfOk, MatchResult};
 ghost use Rattle.std.specs.List.{list_all};
 ghost use Rattle.std.specs.Result.{result_err};
 ghost use Rattle.std.specs.Str.{chars};
@@ -10,11 +10,12 @@ ghost use Rattle.hadopt.specs.Naming.{numbers};
 ghost use Rattle.hmodes.specs.Beginning.{document_begins, fragment_begins};
 ghost use Rattle.hmodes.specs.Tokens.{token_of, place_of};
 ghost use Rattle.hmodes.specs.Building.{Takes, TakesToken, puts_run};
-ghost use Rattle.hmodes.specs.Runs.{takes_char};
+ghost use Rattle.hmodes.specs.Runs.{AreSome, puts_each, takes_char};
 ghost use Rattle.htext.specs.Run.{is_clean};
 ghost use Rattle.htext.specs.declared.decoder.TheConstants.{MAX_INPUT};
-ghost use Rattle.htoken.specs.Run.{run_tokens};
+ghost use Rattle.htoken.specs.Run.{run_tokens, IsSpread};
 ghost use Rattle.names.specs.Placed.{placed};
+ghost use Rattle.names.specs.declared.placed.Placed.{Placed};
 ghost use Rattle.names.specs.Sink.{Hands};
 
 use crate::limits::Limits;
@@ -101,6 +102,13 @@ impl<'q> Builder<'q> {
         })
     }
 
+    /// How many nodes were made.
+    pub fn made(&self) -> u32
+        ensures { result ≡ self.now.state.site.nodes.made }
+    {
+        self.state.site.tree().made()
+    }
+
     /// The tree, its root, and the parse errors. A builder that has refused gives the same refusal and no tree, since its tree may
     /// be between two edits of a token. Any other error is `Memory`.
     pub fn finish(self) -> Result<Built, Refusal>
@@ -163,7 +171,7 @@ impl<'q> Builder<'q> {
     fn puts_run(&self, run: &str) -> bool
         ensures { result ≡ puts_run run.now self.now }
     {
-        !run.is_empty() && self.refused.is_none() && self.state.puts_each()
+        !run.is_empty() && self.may_spread()
     }
 
     /// Whether a character is not NUL, nothing was refused, and the rules put or keep it at once.
@@ -174,12 +182,12 @@ impl<'q> Builder<'q> {
         ch != '\0' && self.refused.is_none() && self.state.takes_char()
     }
 
-    /// Puts a run whole.
+    /// Puts a run whole. The same comes of it wherever all characters but the first are.
     #[inline(always)]
     fn put_run(&mut self, run: &str, at: u64) -> Result<(), Refusal>
-        requires clean { list_all is_clean (chars run.now) ≡ true }
+        requires some { AreSome (chars run.now) }
         requires puts { puts_run run.now self.old ≡ true }
-        ensures { Hands TakesToken self.old (run_tokens (placed at (chars run.now))) result self.new }
+        ensures { (text : List Placed) → IsSpread text run.now at → Hands TakesToken self.old (run_tokens text) result self.new }
     {
         self.state.begin();
         let answer = self.state.put_run(run, at);
@@ -306,13 +314,25 @@ impl<'q> TokenSink for Builder<'q> {
         self.take_first(run, at)
     }
 
-    fn take_bad(&mut self, count: usize, at: u64) -> Result<(), Refusal> {
-        if count == 0 || self.refused.is_some() || !self.state.puts_each() {
-            return self.take_bad_by_one(count, at);
+    #[inline(always)]
+    fn may_spread(&self) -> bool
+        ensures { result ≡ (is_none self.now.refused && puts_each self.now.state) }
+    {
+        self.refused.is_none() && self.state.puts_each()
+    }
+
+    fn take_spread(&mut self, run: &str, at: u64) -> Result<bool, Refusal> {
+        if !self.puts_run(run) {
+            return Ok(false);
         }
-        self.state.begin();
-        let answer = self.state.put_bad(count, at);
-        keep(&mut self.refused, answer);
-        answer
+        self.put_run(run, at)?;
+        Ok(true)
+    }
+
+    fn take_bad(&mut self, count: usize, at: u64) -> Result<(), Refusal> {
+        match "\u{FFFD}".repeat(self.state.alloc, count) {
+            Ok(run) if self.puts_run(&run) => self.put_run(&run, at),
+            _ => self.take_bad_by_one(count, at),
+        }
     }
 }

@@ -1,15 +1,14 @@
 //! Characters of text, one alone or a run.
 
-ghost use Rattle.std.specs.Prelude.{◌≡◌, ◌<◌};
-ghost use Rattle.std.specs.Str.{chars};
-ghost use Rattle.names.specs.Placed.{placed};
+ghost use Rattle.std.specs.Prelude.{◌≡◌, List};
+ghost use Rattle.names.specs.declared.placed.Placed.{Placed};
 ghost use Rattle.hadopt.specs.Gives.{Gives};
 ghost use Rattle.hadopt.specs.Naming.{numbers};
 ghost use Rattle.hmodes.specs.Flows.{StateGives};
 ghost use Rattle.hmodes.specs.Perform.{perform, with_site};
 ghost use Rattle.hmodes.specs.State.{character};
 ghost use Rattle.hmodes.specs.States.{state_of};
-ghost use Rattle.htoken.specs.Run.{replaced};
+ghost use Rattle.htoken.specs.Run.{IsSpread};
 ghost use Rattle.hmodes.specs.Runs.{puts_each, before_text, put_all, takes_char, char_rule};
 
 use crate::mode::Mode;
@@ -44,28 +43,16 @@ impl<'q> TreeConstruction<'q> {
         }
     }
 
-    /// Puts the characters of a run at the current node, after the formatting elements.
+    /// Puts the characters of a run at the current node, after the formatting elements: the same wherever all but the first are.
     #[inline(always)]
     pub(crate) fn put_run(&mut self, run: &str, at: u64) -> Result<(), Refusal>
-        ensures gives { Gives result self.new.site (put_all at (placed at (chars run.now)) (state_of self.old)) }
-        ensures rest { state_of self.new ≡ with_site self.new.site (state_of self.old) }
-    {
-        self.begin_text(at)?;
-        let place = self.site.place_in_current();
-        self.site.put_text(run, place, at)
-    }
-
-    /// Puts the characters that replace this many bad parts at the current node, after the formatting elements.
-    pub(crate) fn put_bad(&mut self, count: usize, at: u64) -> Result<(), Refusal>
-        requires { 0 < count }
-        ensures gives { Gives result self.new.site (put_all at (replaced at count) (state_of self.old)) }
+        ensures gives { (text : List Placed) → IsSpread text run.now at → Gives result self.new.site (put_all at text (state_of self.old)) }
         ensures rest { state_of self.new ≡ with_site self.new.site (state_of self.old) }
     {
         self.begin_text(at)?;
         self.site.tree().are_nodes();
-        let run = "\u{FFFD}".repeat(self.alloc, count)?;
         let place = self.site.place_in_current();
-        self.site.put_text(&run, place, at)
+        self.site.put_text(run, place, at)
     }
 
     /// Whether the rules put a character other than NUL, maybe after the formatting elements, or keep it as pending, and drop no LF.

@@ -1,12 +1,12 @@
 -- Tags that stand whole in a run.
-use Rattle.std.proofs.Common.{◌≡◌, ◌≤◌, ◌<◌, ℕ, zero, suc, ◌+◌, ◌-◌, Bool, true, not, ◌||◌, List, [], ◌∷◌, ◌++◌, length, take, drop, sym, refl, ap, ◌∙◌, subst, append_assoc, append-nil, arith, false, eqb, Option, Some, None, Vec, Global}
+use Rattle.std.proofs.Common.{◌≡◌, inl, inr, ◌≤◌, ◌<◌, ℕ, zero, suc, ◌+◌, ◌-◌, Bool, true, not, ◌||◌, List, [], ◌∷◌, ◌++◌, length, take, drop, sym, refl, ap, ◌∙◌, subst, append_assoc, append-nil, arith, false, eqb, Some, None, Vec, Global}
 use Rattle.std.proofs.Math.Seq.{drop-cons, drop-nil}
 use Rattle.std.proofs.lemmas.Bool.{and_from, and_parts, eqb-true}
 use Rattle.std.proofs.lemmas.Bool.Decides.{nat_tests}
-use Rattle.std.proofs.lemmas.List.{length-append, length-drop, length-take-le, take-append-drop, take_at, drop_at}
+use Rattle.std.proofs.lemmas.List.{length-append, length-drop, length-take-le, take-append-drop, take_at, take_all, drop_at}
 use Rattle.std.proofs.lemmas.List.Folds.{list_all-append}
 use Rattle.std.proofs.lemmas.List.Sums.{prefix_len_stops}
-use Rattle.std.specs.Prelude.{codes, slice_get, slice_index}
+use Rattle.std.specs.Prelude.{◌⊎◌, slice_index}
 use Rattle.std.specs.String.{string_bytes}
 use Rattle.std.specs.List.{flat_map, list_all, prefix_len, slice_range}
 use Rattle.std.specs.Char.{is_ascii_lowercase, len_utf8}
@@ -14,30 +14,30 @@ use Rattle.names.specs.declared.error.ParseError.{ParseError}
 use Rattle.names.specs.declared.placed.Placed.{Placed}
 use Rattle.names.specs.declared.attr.Attr.{Attr}
 use Rattle.names.specs.declared.error.ErrorCode.TheVariants.{MissingWhitespaceBetweenAttributes, UnexpectedEqualsSignBeforeAttributeName}
-use Rattle.names.specs.Names.{Texts, Grows, AreNames}
-use Rattle.names.specs.Placed.{all, begins, stops, characters, error_if, is_equals, is_letter, is_space, name_bytes, place, placed}
+use Rattle.names.specs.Names.{Texts, Grows}
+use Rattle.names.specs.Placed.{all, begins, stops, characters, error_if, is_equals, is_greater, is_letter, is_quote, is_space, past, name_bytes, place, placed}
 use Rattle.htext.specs.Run.{is_plain_byte}
-use Rattle.htext.proofs.Runs.{placed-append, placed_part}
+use Rattle.names.proofs.Words.{all_weaker}
+use Rattle.htext.proofs.Runs.{all_placed, placed-append, placed_part, plain_drop}
 use Rattle.charref.specs.Reference.{Entities}
 use Rattle.htag.specs.declared.walk.TagWalk.{TagWalk}
-use Rattle.htag.specs.AtOnce.{AddsPart, ArePlainParts, IsAdded, IsBareName, IsName, IsPlainAttribute, IsPlainPart, IsRest}
+use Rattle.htag.specs.AtOnce.{HasReadPart, HasReadParts, IsAfterName, IsBareName, IsName, IsPlainAttribute, IsPlainPart, IsPlainValue, IsWritten, ReadsPart}
+use Rattle.htag.specs.declared.at_once.PlainAttribute.{PlainAttribute}
+use Rattle.htag.specs.declared.at_once.PlainValue.{PlainValue}
 use Rattle.htag.specs.Attributes.{AttrsMean}
 use Rattle.htag.specs.Seen.{HasSeen, has_number}
-use Rattle.htag.specs.Steps.{IsBegun}
 use Rattle.htag.specs.Value.{AreValue, IsPiece, pieces_text, value_bytes}
 use Rattle.htag.specs.ValueWalk.{plain_pieces}
 use Rattle.htag.specs.declared.seen.Seen.{Seen}
 use Rattle.htag.specs.declared.tag_state.TagState.{TagState}
 use Rattle.htag.specs.declared.tag_state.TagState.TheVariants as phase
 use Rattle.htag.specs.TagWalk.{HasAttributes, HasPhase, IsInTag, IsPast, IsWholeTag, WholeOrNot, names_after}
-use Rattle.htag.specs.Run.{is_word_byte}
-use Rattle.htag.specs.declared.kind.TagKind.{TagKind}
-use Rattle.htag.specs.Tag.{Attribute, AreParts, IsPart, IsTagFront, Part, attribute_name_errors, attributes_after, attribute_part, ends_attribute_name, ends_name, errors_after, name_errors_here, parts_text, quoted, repeated, space, tag_close, tag_errors, value_errors}
-use Rattle.htag.proofs.Ending.{first_ends}
+use Rattle.htag.specs.Run.{is_unquoted_byte, is_word_byte}
+use Rattle.htag.specs.Tag.{Attribute, AreParts, IsAttributeName, IsPart, IsTagFront, Part, attribute_name_errors, attributes_after, attribute_part, ends_attribute_name, ends_name, ends_unquoted, is_odd, errors_after, name_errors_here, parts_text, repeated, tag_close, tag_errors, unquoted_errors, value_errors}
 use Rattle.htag.proofs.Keeping.{attributes_grow}
 use Rattle.htag.proofs.Parts.{AreParts-snoc, errors-snoc, holds_plain, holds_same, parts_text-snoc}
 use Rattle.htag.proofs.Pieces.{alone_bytes, alone_errors, plain_text}
-use Rattle.htag.proofs.InRun.{all_weaker, characters_placed, counted_all, no_null, no_sign, placed_all, plain_run_bytes, word_bytes, word_errors, word_in_attribute, word_in_name, word_no_equals, word_nulls, word_plain}
+use Rattle.htag.proofs.InRun.{characters_placed, counted_all, no_null, no_sign, plain_run_bytes, word_bytes, word_errors, word_in_attribute, word_in_name, word_no_equals, word_nulls, word_plain}
 
 -- what is before a byte, the byte, and what is after it
 split : (n : ℕ) (run : List ℕ) (c : ℕ) → n < length run → slice_index run n ≡ c → run ≡ take n run ++ c ∷ drop (suc n) run
@@ -46,19 +46,32 @@ split n run c l is = sym (take-append-drop n run) ∙ ap (λ (x : List ℕ). tak
 small_letter : (c : ℕ) → is_ascii_lowercase c ≡ true → is_letter c ≡ true
 small_letter c h = grind (arith, h, nat_tests)
 
-pub bare_name_is : (run : List ℕ) (count : ℕ) → count ≡ prefix_len is_word_byte run → count < length run → slice_index run count ≡ 62 → is_ascii_lowercase (slice_index run 0) ≡ true → 0 < count → IsBareName run count
-bare_name_is [] count is l ends first some = absurd (omega (arith, l))
-bare_name_is (x ∷ xs) zero is l ends first some = absurd (omega (arith, some))
-bare_name_is (x ∷ xs) (suc n) is l ends first some =
-    let within : n < length xs = omega (arith, l) in
+pub name_is : (run : List ℕ) (count : ℕ) → count ≡ prefix_len is_word_byte run → count ≤ length run → is_ascii_lowercase (slice_index run 0) ≡ true → 0 < count → IsName run count
+name_is [] count is l first some = absurd (omega (arith, l, some))
+name_is (x ∷ xs) zero is l first some = absurd (omega (arith, some))
+name_is (x ∷ xs) (suc n) is l first some = record {
+  letter = x;
+  letters = take n xs;
+  others = drop n xs;
+  run_is = ap (λ (ys : List ℕ). x ∷ ys) (sym (take-append-drop n xs));
+  count_is = omega (arith, length-take-le n xs (omega (arith, l)));
+  first = small_letter x first;
+  words = counted_all is_word_byte (x ∷ xs) (suc n) is;
+}
+
+-- a `>` after it
+pub bare_name_is : (run : List ℕ) (count : ℕ) → IsName run count → count < length run → slice_index run count ≡ 62 → IsBareName run count
+bare_name_is run count is l ends =
+    let word = is.letter ∷ is.letters in
+    let name : take count run ≡ is.letter ∷ is.letters = ap (take count) is.run_is ∙ take_at word is.others count (omega (arith, is.count_is)) in
     record {
-      letter = x;
-      letters = take n xs;
-      others = drop (suc n) xs;
-      run_is = ap (λ (ys : List ℕ). x ∷ ys) (split n xs 62 within ends);
-      count_is = omega (arith, length-take-le n xs (omega (arith, within)));
-      first = small_letter x first;
-      words = counted_all is_word_byte (x ∷ xs) (suc n) is;
+      letter = is.letter;
+      letters = is.letters;
+      others = drop (suc count) run;
+      run_is = split count run 62 l ends ∙ ap (λ (x : List ℕ). x ++ 62 ∷ drop (suc count) run) name;
+      count_is = is.count_is;
+      first = is.first;
+      words = is.words;
     }
 
 module _ (run : List ℕ) (count : ℕ) (is : IsBareName run count) where
@@ -106,22 +119,9 @@ module _ (run : List ℕ) (count : ℕ) (is : IsBareName run count) where
     bare_front table end place mark opening rest opens = record {
       opens = opens;
       first = is.first;
-      runs = record { passes_none = placed_all (λ c. not (ends_name c)) at name (all_weaker is_word_byte (λ c. not (ends_name c)) word_in_name name is.words); stops_after = refl };
+      runs = record { passes_none = all_placed (λ c. not (ends_name c)) at name (all_weaker is_word_byte (λ c. not (ends_name c)) word_in_name name is.words); stops_after = refl };
       in_parts = tt;
     }
-
-pub name_is : (run : List ℕ) (count : ℕ) → count ≡ prefix_len is_word_byte run → count ≤ length run → is_ascii_lowercase (slice_index run 0) ≡ true → 0 < count → IsName run count
-name_is [] count is l first some = absurd (omega (arith, l, some))
-name_is (x ∷ xs) zero is l first some = absurd (omega (arith, some))
-name_is (x ∷ xs) (suc n) is l first some = record {
-  letter = x;
-  letters = take n xs;
-  others = drop n xs;
-  run_is = ap (λ (ys : List ℕ). x ∷ ys) (sym (take-append-drop n xs));
-  count_is = omega (arith, length-take-le n xs (omega (arith, l)));
-  first = small_letter x first;
-  words = counted_all is_word_byte (x ∷ xs) (suc n) is;
-}
 
 -- THE END OF A TAG
 
@@ -136,173 +136,270 @@ close_solidus (x ∷ y ∷ ys) some is then = ap (λ (c : ℕ). c ∷ y ∷ []) 
 
 -- AN ATTRIBUTE
 
-not_quote : (c : ℕ) → not (eqb c 34) ≡ false → c ≡ 34
-not_quote c h = grind (arith, h, nat_tests)
+drop_more : (n m : ℕ) (xs : List ℕ) → drop m (drop n xs) ≡ drop (n + m) xs
+drop_more zero m xs = let none : m ≡ 0 + m = omega arith in ap (λ (k : ℕ). drop k xs) none
+drop_more (suc n) m [] = drop-nil m ∙ sym (drop-nil (suc n + m))
+drop_more (suc n) m (x ∷ xs) = let long : suc n + m ≡ suc (n + m) = omega arith in drop_more n m xs ∙ ap (λ (k : ℕ). drop k (x ∷ xs)) (sym long)
 
-pub attribute_is : (run value : List ℕ) (size long : ℕ) → size ≡ prefix_len is_word_byte run → size + 2 ≤ length run → slice_index run size ≡ 61 → slice_index run (size + 1) ≡ 34 → value ≡ drop (size + 2) run
-    → long ≡ prefix_len (λ b. not (eqb b 34)) value → long + 1 < length value → ends_name (slice_index value (long + 1)) ≡ true → IsPlainAttribute run size long
-attribute_is run value size long is l equals quote value_is long_is l2 ends =
-    let within : size < length run = omega (arith, l) in
-    let two : suc (suc size) ≡ size + 2 = omega arith in
-    let one : suc size ≡ size + 1 = omega arith in
-    let inner : long < length value = omega (arith, l2) in
-    let end : suc long ≡ long + 1 = omega arith in
-    let quoted : slice_index value long ≡ 34 = not_quote (slice_index value long) (ap (λ (n : ℕ). not (eqb (slice_index value n) 34)) long_is ∙ prefix_len_stops (λ b. not (eqb b 34)) value 0 (omega (arith, sym long_is, inner))) in
+not_mark : (c mark : ℕ) → not (eqb c mark) ≡ false → c ≡ mark
+not_mark c mark h = eqb-true c mark (by (eqb c mark) h) where
+  by : (b : Bool) → not b ≡ false → b ≡ true
+  by true e = refl
+  by false e = absurd cc
+
+-- a value in quotes, one without, and a missing one
+pub quoted_is : (run rest : List ℕ) (n : ℕ) → rest ≡ drop 2 run → 1 < length run → slice_index run 0 ≡ 61 → is_quote (slice_index run 1) ≡ true → n ≡ prefix_len (λ b. not (eqb b (slice_index run 1))) rest → n + 1 < length rest
+    → ends_name (slice_index rest (n + 1)) ≡ true → IsPlainValue run (record { before = 2; value = n; after = 1 })
+quoted_is [] rest n rest_is l equals quote is within ends = absurd (omega (arith, l))
+quoted_is (x ∷ []) rest n rest_is l equals quote is within ends = absurd (omega (arith, l))
+quoted_is (x ∷ y ∷ others) rest n rest_is l equals quote is within ends =
+    let inner : n < length rest = omega (arith, within) in
+    let end : suc n ≡ n + 1 = omega arith in
+    let mark : slice_index rest n ≡ y = not_mark (slice_index rest n) y (ap (λ (k : ℕ). not (eqb (slice_index rest k) y)) is ∙ prefix_len_stops (λ b. not (eqb b y)) rest 0 (omega (arith, sym is, inner))) in
     record {
-      name = take size run;
-      value = take long value;
-      next = slice_index value (long + 1);
-      others = drop (suc (suc long)) value;
-      run_is = split size run 61 within equals
-          ∙ ap (λ (x : List ℕ). take size run ++ 61 ∷ x) (drop-cons run (suc size) 0 (omega (arith, l)) ∙ ap (λ (n : ℕ). slice_index run n ∷ drop (suc (suc size)) run) one ∙ ap (λ (c : ℕ). c ∷ drop (suc (suc size)) run) quote ∙ ap (λ (n : ℕ). 34 ∷ drop n run) two ∙ ap (λ (x : List ℕ). 34 ∷ x) (sym value_is))
-          ∙ ap (λ (x : List ℕ). take size run ++ 61 ∷ 34 ∷ x) (split long value 34 inner quoted ∙ ap (λ (x : List ℕ). take long value ++ 34 ∷ x) (drop-cons value (suc long) 0 (omega (arith, l2)) ∙ ap (λ (n : ℕ). slice_index value n ∷ drop (suc (suc long)) value) end))
-          ∙ sym (append_assoc (take size run) (61 ∷ 34 ∷ take long value) (34 ∷ slice_index value (long + 1) ∷ drop (suc (suc long)) value));
-      size_is = sym (length-take-le size run (omega (arith, within)));
-      long_is = sym (length-take-le long value (omega (arith, inner)));
-      words = counted_all is_word_byte run size is;
-      inside = counted_all (λ b. not (eqb b 34)) value long long_is;
-      ends = ends;
+      before = 61 ∷ y ∷ [];
+      value = take n rest;
+      after = y ∷ [];
+      next = slice_index rest (n + 1);
+      others = drop (suc (suc n)) rest;
+      run_is = ap (λ (c : ℕ). c ∷ y ∷ others) equals ∙ ap (λ (r : List ℕ). 61 ∷ y ∷ r)
+          (sym rest_is ∙ split n rest y inner mark ∙ ap (λ (r : List ℕ). take n rest ++ y ∷ r) (drop-cons rest (suc n) 0 (omega (arith, within)) ∙ ap (λ (k : ℕ). slice_index rest k ∷ drop (suc (suc n)) rest) end));
+      before_is = refl;
+      value_is = sym (length-take-le n rest (omega (arith, inner)));
+      after_is = refl;
+      written = IsWritten.quoted y quote refl (counted_all (λ b. not (eqb b y)) rest n is) refl ends;
     }
+
+pub unquoted_is : (run rest : List ℕ) (n : ℕ) → rest ≡ drop 1 run → 0 < length run → slice_index run 0 ≡ 61 → n ≡ prefix_len is_unquoted_byte rest → 0 < n → n < length rest
+    → ends_unquoted (slice_index rest n) ≡ true → IsPlainValue run (record { before = 1; value = n; after = 0 })
+unquoted_is [] rest n rest_is l equals is some within ends = absurd (omega (arith, l))
+unquoted_is (x ∷ others) rest n rest_is l equals is some within ends =
+    let long : n ≡ length (take n rest) = sym (length-take-le n rest (omega (arith, within))) in
+    record {
+      before = 61 ∷ [];
+      value = take n rest;
+      after = [];
+      next = slice_index rest n;
+      others = drop (suc n) rest;
+      run_is = ap (λ (c : ℕ). c ∷ others) equals ∙ ap (λ (r : List ℕ). 61 ∷ r) (sym rest_is ∙ split n rest (slice_index rest n) within refl);
+      before_is = refl;
+      value_is = long;
+      after_is = refl;
+      written = IsWritten.unquoted refl (omega (arith, some, long)) (counted_all is_unquoted_byte rest n is) refl ends;
+    }
+
+pub missing_is : (run : List ℕ) → (slice_index run 0 ≡ 47) ⊎ (slice_index run 0 ≡ 62) → IsPlainValue run (record { before = 0; value = 0; after = 0 })
+missing_is [] (inl e) = absurd cc
+missing_is [] (inr e) = absurd cc
+missing_is (x ∷ rest) ends = record {
+  before = [];
+  value = [];
+  after = [];
+  next = x;
+  others = rest;
+  run_is = refl;
+  before_is = refl;
+  value_is = refl;
+  after_is = refl;
+  written = IsWritten.missing refl refl refl (either ends);
+} where
+  either : (x ≡ 47) ⊎ (x ≡ 62) → (eqb x 47 || is_greater x) ≡ true
+  either (inl e) = rw e refl
+  either (inr e) = rw e refl
 
 plain_value : (table : Entities) (at : ℕ) (xs : List ℕ) → list_all is_plain_byte xs ≡ true → AreValue table (plain_pieces (placed at xs))
 plain_value table at [] h = tt
 plain_value table at (x ∷ xs) h = let k = and_parts (is_plain_byte x) (list_all is_plain_byte xs) h in (IsPiece.plain (record { ch = x; at = at }) (no_sign x k.0) refl, plain_value table (at + len_utf8 x) xs k.1)
 
 -- what follows begins with this character
-follows : (c : ℕ) (cs : List ℕ) (rest : List Placed) → ends_name c ≡ true → characters (take 1 rest) ≡ c ∷ cs → stops ends_name rest ≡ true
-follows c cs [] ends is = absurd cc
-follows c cs (p ∷ ps) ends is = let same : p.ch ≡ c = cc in ap ends_name same ∙ ends
+follows : (test : ℕ → Bool) (c : ℕ) (rest : List Placed) → test c ≡ true → characters (take 1 rest) ≡ c ∷ [] → stops test rest ≡ true
+follows test c [] passes is = absurd cc
+follows test c (p ∷ ps) passes is = let same : p.ch ≡ c = cc in ap test same ∙ passes
 
-module _ (run : List ℕ) (size long : ℕ) (is : IsPlainAttribute run size long) (plain : list_all is_plain_byte run ≡ true) (some : 0 < size) where
-  abbrev front : List ℕ
-  front = is.name ++ 61 ∷ 34 ∷ is.value ++ 34 ∷ []
+no_equals : (c : ℕ) (rest : List Placed) → (eqb c 47 || is_greater c) ≡ true → characters (take 1 rest) ≡ c ∷ [] → begins is_equals (past is_space rest) ≡ false
+no_equals c [] ends is = absurd cc
+no_equals c (p ∷ ps) ends is =
+    let same : p.ch ≡ c = cc in
+    let ends_here : (eqb p.ch 47 || is_greater p.ch) ≡ true = ap (λ (n : ℕ). eqb n 47 || is_greater n) same ∙ ends in
+    let space : is_space p.ch ≡ false = grind (arith, ends_here, nat_tests) in
+    let equals : is_equals p.ch ≡ false = grind (arith, ends_here, nat_tests) in
+    rw space equals
 
-  front_is : run ≡ is.name ++ 61 ∷ 34 ∷ is.value ++ 34 ∷ [] ++ is.next ∷ is.others
-  front_is = is.run_is ∙ sym (append_assoc (is.name ++ 61 ∷ 34 ∷ is.value) (34 ∷ []) (is.next ∷ is.others))
+ends_attribute : (c : ℕ) → (eqb c 47 || is_greater c) ≡ true → ends_attribute_name c ≡ true
+ends_attribute c h = grind (arith, h, nat_tests)
 
-  long_front : size + long + 3 ≡ length (is.name ++ 61 ∷ 34 ∷ is.value ++ 34 ∷ [])
-  long_front = omega (arith, is.size_is, is.long_is, length-append (is.name ++ 61 ∷ 34 ∷ is.value) (34 ∷ []), length-append is.name (61 ∷ 34 ∷ is.value))
+unquoted_begins : (c : ℕ) → is_unquoted_byte c ≡ true → not (ends_unquoted c || is_quote c) ≡ true
+unquoted_begins c h = grind (arith, h, nat_tests)
 
-  pub attribute_within : size + long + 3 ≤ length run
-  attribute_within = omega (arith, long_front, ap length front_is, length-append front (is.next ∷ is.others))
+unquoted_goes_on : (c : ℕ) → is_unquoted_byte c ≡ true → not (ends_unquoted c) ≡ true
+unquoted_goes_on c h = grind (arith, h, nat_tests)
 
-  attribute_taken : take (size + long + 3) run ≡ is.name ++ 61 ∷ 34 ∷ is.value ++ 34 ∷ []
-  attribute_taken = ap (take (size + long + 3)) front_is ∙ take_at front (is.next ∷ is.others) (size + long + 3) (sym long_front)
+unquoted_even : (c : ℕ) → is_unquoted_byte c ≡ true → is_odd c ≡ false
+unquoted_even c h = grind (arith, h, nat_tests)
 
-  attribute_left : drop (size + long + 3) run ≡ is.next ∷ is.others
-  attribute_left = ap (drop (size + long + 3)) front_is ∙ drop_at front (is.next ∷ is.others) (size + long + 3) (sym long_front)
+first_passes : (test other : ℕ → Bool) → ((c : ℕ) → test c ≡ true → other c ≡ true) → (at : ℕ) (xs : List ℕ) → 0 < length xs → list_all test xs ≡ true → begins other (placed at xs) ≡ true
+first_passes test other weaker at [] some h = absurd (omega (arith, some))
+first_passes test other weaker at (x ∷ xs) some h = weaker x (and_parts (test x) (list_all test xs) h).0
 
-  value_plain : list_all is_plain_byte is.value ≡ true
-  value_plain =
-      let all = sym (list_all-append is_plain_byte (is.name ++ 61 ∷ 34 ∷ is.value) (34 ∷ is.next ∷ is.others)) ∙ ap (list_all is_plain_byte) (sym is.run_is) ∙ plain in
-      let first = (and_parts (list_all is_plain_byte (is.name ++ 61 ∷ 34 ∷ is.value)) (list_all is_plain_byte (34 ∷ is.next ∷ is.others)) all).0 in
-      (and_parts (list_all is_plain_byte is.name) (list_all is_plain_byte is.value) (sym (list_all-append is_plain_byte is.name (61 ∷ 34 ∷ is.value)) ∙ first)).1
+-- a value that has neither `&` nor faults
+unquoted_quiet : (at : ℕ) (xs : List ℕ) → list_all is_plain_byte xs ≡ true → list_all is_unquoted_byte xs ≡ true → unquoted_errors (plain_pieces (placed at xs)) ≡ []
+unquoted_quiet at [] plain h = refl
+unquoted_quiet at (x ∷ xs) plain h =
+    let k = and_parts (is_unquoted_byte x) (list_all is_unquoted_byte xs) h in
+    let p = and_parts (is_plain_byte x) (list_all is_plain_byte xs) plain in
+    let some : eqb x 0 ≡ false = no_null x p.0 in
+    let even : is_odd x ≡ false = unquoted_even x k.0 in
+    rw (some, even) (unquoted_quiet (at + len_utf8 x) xs p.1 k.1)
 
-  pub attribute_name : take size run ≡ is.name
-  attribute_name = ap (take size) (is.run_is ∙ append_assoc is.name (61 ∷ 34 ∷ is.value) (34 ∷ is.next ∷ is.others)) ∙ take_at is.name (61 ∷ 34 ∷ is.value ++ 34 ∷ is.next ∷ is.others) size (sym is.size_is)
+pub attribute_is : (run : List ℕ) (n : ℕ) (value : PlainValue) → n ≡ prefix_len is_word_byte run → (n ≡ 0 → ⊥) → n ≤ length run → IsPlainValue (take (length run - n) (drop n run)) value → IsPlainAttribute run (record { name = n; value = value })
+attribute_is run n value is some few h = record {
+  some = omega (arith, some);
+  within = few;
+  words = counted_all is_word_byte run n is;
+  value = subst (λ (x : List ℕ). IsPlainValue x value) (take_all (length run - n) (drop n run) (omega (arith, length-drop n run))) h;
+}
 
-  pub attribute_value : take long (drop (size + 2) run) ≡ is.value
+-- an attribute: the length of its name, and what is right after that
+module _ (run : List ℕ) (found : PlainAttribute) (found_is : IsPlainAttribute run found) where
+  rest_is : run ≡ take found.name run ++ (found_is.value.before ++ (found_is.value.value ++ (found_is.value.after ++ found_is.value.next ∷ found_is.value.others)))
+  rest_is = sym (take-append-drop found.name run) ∙ ap (λ (x : List ℕ). take found.name run ++ x) found_is.value.run_is
+
+  front_is : run ≡ (take found.name run ++ (found_is.value.before ++ (found_is.value.value ++ found_is.value.after))) ++ found_is.value.next ∷ found_is.value.others
+  front_is = rest_is
+      ∙ ap (λ (x : List ℕ). take found.name run ++ (found_is.value.before ++ x)) (sym (append_assoc found_is.value.value found_is.value.after (found_is.value.next ∷ found_is.value.others)))
+      ∙ ap (λ (x : List ℕ). take found.name run ++ x) (sym (append_assoc found_is.value.before (found_is.value.value ++ found_is.value.after) (found_is.value.next ∷ found_is.value.others)))
+      ∙ sym (append_assoc (take found.name run) (found_is.value.before ++ (found_is.value.value ++ found_is.value.after)) (found_is.value.next ∷ found_is.value.others))
+
+  front_long : found.name + found.value.before + found.value.value + found.value.after ≡ length (take found.name run ++ (found_is.value.before ++ (found_is.value.value ++ found_is.value.after)))
+  front_long = omega (arith, length-take-le found.name run found_is.within, found_is.value.before_is, found_is.value.value_is, found_is.value.after_is, length-append (take found.name run) (found_is.value.before ++ (found_is.value.value ++ found_is.value.after)), length-append found_is.value.before (found_is.value.value ++ found_is.value.after), length-append found_is.value.value found_is.value.after)
+
+  pub attribute_within : found.name + found.value.before + found.value.value + found.value.after ≤ length run
+  attribute_within = omega (arith, front_long, ap length front_is, length-append (take found.name run ++ (found_is.value.before ++ (found_is.value.value ++ found_is.value.after))) (found_is.value.next ∷ found_is.value.others))
+
+  attribute_taken : take (found.name + found.value.before + found.value.value + found.value.after) run ≡ take found.name run ++ (found_is.value.before ++ (found_is.value.value ++ found_is.value.after))
+  attribute_taken = ap (take (found.name + found.value.before + found.value.value + found.value.after)) front_is ∙ take_at (take found.name run ++ (found_is.value.before ++ (found_is.value.value ++ found_is.value.after))) (found_is.value.next ∷ found_is.value.others) (found.name + found.value.before + found.value.value + found.value.after) (sym front_long)
+
+  attribute_left : drop (found.name + found.value.before + found.value.value + found.value.after) run ≡ found_is.value.next ∷ found_is.value.others
+  attribute_left = ap (drop (found.name + found.value.before + found.value.value + found.value.after)) front_is ∙ drop_at (take found.name run ++ (found_is.value.before ++ (found_is.value.value ++ found_is.value.after))) (found_is.value.next ∷ found_is.value.others) (found.name + found.value.before + found.value.value + found.value.after) (sym front_long)
+
+  pub attribute_value : take found.value.value (drop (found.name + found.value.before) run) ≡ found_is.value.value
   attribute_value =
-      let two : size + 2 ≡ length (is.name ++ 61 ∷ 34 ∷ []) = omega (arith, is.size_is, length-append is.name (61 ∷ 34 ∷ [])) in
-      let run_is : run ≡ is.name ++ 61 ∷ 34 ∷ [] ++ (is.value ++ 34 ∷ is.next ∷ is.others) =
-      is.run_is ∙ append_assoc is.name (61 ∷ 34 ∷ is.value) (34 ∷ is.next ∷ is.others) ∙ sym (append_assoc is.name (61 ∷ 34 ∷ []) (is.value ++ 34 ∷ is.next ∷ is.others)) in
-      ap (λ (x : List ℕ). take long (drop (size + 2) x)) run_is ∙ ap (take long) (drop_at (is.name ++ 61 ∷ 34 ∷ []) (is.value ++ 34 ∷ is.next ∷ is.others) (size + 2) (sym two)) ∙ take_at is.value (34 ∷ is.next ∷ is.others) long (sym is.long_is)
+      ap (take found.value.value) (sym (drop_more found.name found.value.before run) ∙ ap (drop found.value.before) found_is.value.run_is ∙ drop_at found_is.value.before (found_is.value.value ++ (found_is.value.after ++ found_is.value.next ∷ found_is.value.others)) found.value.before (sym found_is.value.before_is))
+      ∙ take_at found_is.value.value (found_is.value.after ++ found_is.value.next ∷ found_is.value.others) found.value.value (sym found_is.value.value_is)
 
-  -- at a place
-  module _ (at : ℕ) where
-    abbrev sign : List Placed
-    sign = record { ch = 61; at = at + size } ∷ []
+  module _ (plain : list_all is_plain_byte run ≡ true) where
+    rest_plain : (list_all is_plain_byte found_is.value.before ≡ true) × (list_all is_plain_byte (found_is.value.value ++ (found_is.value.after ++ found_is.value.next ∷ found_is.value.others)) ≡ true)
+    rest_plain = and_parts _ _ (sym (list_all-append is_plain_byte found_is.value.before (found_is.value.value ++ (found_is.value.after ++ found_is.value.next ∷ found_is.value.others))) ∙ ap (list_all is_plain_byte) (sym found_is.value.run_is) ∙ plain_drop found.name run plain)
 
-    abbrev opens : List Placed
-    opens = record { ch = 34; at = at + size + 1 } ∷ []
+    value_plain : list_all is_plain_byte found_is.value.value ≡ true
+    value_plain = (and_parts (list_all is_plain_byte found_is.value.value) (list_all is_plain_byte (found_is.value.after ++ found_is.value.next ∷ found_is.value.others)) (sym (list_all-append is_plain_byte found_is.value.value (found_is.value.after ++ found_is.value.next ∷ found_is.value.others)) ∙ rest_plain.1)).0
 
-    abbrev closes : List Placed
-    closes = record { ch = 34; at = at + size + 2 + long } ∷ []
+    -- at a place
+    module _ (at : ℕ) where
+      abbrev pub after_name : ℕ
+      after_name = at + length (take found.name run)
 
-    abbrev text : List Placed
-    text = placed (at + size + 2) is.value
+      abbrev in_value : ℕ
+      in_value = at + length (take found.name run) + length found_is.value.before
 
-    abbrev others : List Placed
-    others = sign ++ opens ++ pieces_text (plain_pieces text) ++ closes
+      abbrev text : List Placed
+      text = placed (at + length (take found.name run) + length found_is.value.before) found_is.value.value
 
-    name_plain : list_all is_plain_byte is.name ≡ true
-    name_plain = all_weaker is_word_byte is_plain_byte word_plain is.name is.words
+      front_placed : placed at (take (found.name + found.value.before + found.value.value + found.value.after) run)
+          ≡ placed at (take found.name run) ++ (placed (at + length (take found.name run)) found_is.value.before ++ (placed (at + length (take found.name run) + length found_is.value.before) found_is.value.value ++ placed (at + length (take found.name run) + length found_is.value.before + length found_is.value.value) found_is.value.after))
+      front_placed = ap (placed at) attribute_taken ∙ placed-append at (take found.name run) (found_is.value.before ++ (found_is.value.value ++ found_is.value.after)) (all_weaker is_word_byte is_plain_byte word_plain (take found.name run) found_is.words)
+          ∙ ap (λ (x : List Placed). placed at (take found.name run) ++ x) (placed-append (at + length (take found.name run)) found_is.value.before (found_is.value.value ++ found_is.value.after) rest_plain.0
+          ∙ ap (λ (x : List Placed). placed (at + length (take found.name run)) found_is.value.before ++ x) (placed-append (at + length (take found.name run) + length found_is.value.before) found_is.value.value found_is.value.after value_plain))
 
-    front_placed : placed at (is.name ++ 61 ∷ 34 ∷ is.value ++ 34 ∷ []) ≡ placed at is.name ++ (sign ++ opens ++ pieces_text (plain_pieces text) ++ closes)
-    front_placed =
-        let there : at + length is.name ≡ at + size = omega (arith, is.size_is) in
-        let two : at + size + 1 + 1 ≡ at + size + 2 = omega arith in
-        let end : at + size + 2 + length is.value ≡ at + size + 2 + long = omega (arith, is.long_is) in
-        ap (placed at) (append_assoc is.name (61 ∷ 34 ∷ is.value) (34 ∷ [])) ∙ placed-append at is.name (61 ∷ 34 ∷ is.value ++ 34 ∷ []) name_plain
-        ∙ ap (λ (n : ℕ). placed at is.name ++ placed n (61 ∷ 34 ∷ is.value ++ 34 ∷ [])) there
-        ∙ ap (λ (n : ℕ). placed at is.name ++ (sign ++ opens ++ placed n (is.value ++ 34 ∷ []))) two
-        ∙ ap (λ (x : List Placed). placed at is.name ++ (sign ++ opens ++ x)) (placed-append (at + size + 2) is.value (34 ∷ []) value_plain ∙ ap (λ (n : ℕ). text ++ record { ch = 34; at = n } ∷ []) end)
-        ∙ ap (λ (x : List Placed). placed at is.name ++ (sign ++ opens ++ (x ++ closes))) (sym (plain_text text))
+      abbrev pub attribute : Attribute
+      attribute = record { name = take found.name run; value = take found.value.value (drop (found.name + found.value.before) run); at = at }
 
-    abbrev pub attribute : Attribute
-    attribute = record { name = take size run; value = take long (drop (size + 2) run); at = at }
+      abbrev pub plain_part : Part
+      plain_part = record { text = placed at (take (found.name + found.value.before + found.value.value + found.value.after) run); attribute = Some attribute; errors = [] }
 
-    abbrev pub plain_part : Part
-    plain_part = record { text = placed at (take (size + long + 3) run); attribute = Some attribute; errors = [] }
+      name_some : 0 < length (take found.name run)
+      name_some = omega (arith, found_is.some, length-take-le found.name run found_is.within)
 
-    name_first : (test : ℕ → Bool) → ((c : ℕ) → is_word_byte c ≡ true → test c ≡ true) → begins test (placed at is.name) ≡ true
-    name_first test passes = by is.name is.size_is is.words where
-      by : (xs : List ℕ) → size ≡ length xs → list_all is_word_byte xs ≡ true → begins test (placed at xs) ≡ true
-      by [] e words = absurd (omega (arith, e, some))
-      by (x ∷ xs) e words = passes x (and_parts (is_word_byte x) (list_all is_word_byte xs) words).0
+      name_quiet : attribute_name_errors (placed at (take found.name run)) ≡ []
+      name_quiet = by (take found.name run) found_is.words where
+        by : (xs : List ℕ) → list_all is_word_byte xs ≡ true → attribute_name_errors (placed at xs) ≡ []
+        by [] words = refl
+        by (x ∷ xs) words =
+            ap (λ (b : Bool). error_if b UnexpectedEqualsSignBeforeAttributeName at ++ flat_map name_errors_here (placed at (x ∷ xs))) (word_no_equals x (and_parts (is_word_byte x) (list_all is_word_byte xs) words).0) ∙ word_errors at (x ∷ xs) words
 
-    name_quiet : attribute_name_errors (placed at is.name) ≡ []
-    name_quiet = by is.name is.words where
-      by : (xs : List ℕ) → list_all is_word_byte xs ≡ true → attribute_name_errors (placed at xs) ≡ []
-      by [] words = refl
-      by (x ∷ xs) words =
-          ap (λ (b : Bool). error_if b UnexpectedEqualsSignBeforeAttributeName at ++ flat_map name_errors_here (placed at (x ∷ xs))) (word_no_equals x (and_parts (is_word_byte x) (list_all is_word_byte xs) words).0) ∙ word_errors at (x ∷ xs) words
+      name_rest : all (λ c. not (ends_attribute_name c)) (drop 1 (placed at (take found.name run))) ≡ true
+      name_rest = by (take found.name run) found_is.words where
+        by : (xs : List ℕ) → list_all is_word_byte xs ≡ true → all (λ c. not (ends_attribute_name c)) (drop 1 (placed at xs)) ≡ true
+        by [] words = refl
+        by (x ∷ xs) words = all_placed (λ c. not (ends_attribute_name c)) (at + len_utf8 x) xs (all_weaker is_word_byte (λ c. not (ends_attribute_name c)) word_in_attribute xs (and_parts (is_word_byte x) (list_all is_word_byte xs) words).1)
 
-    name_rest : all (λ c. not (ends_attribute_name c)) (drop 1 (placed at is.name)) ≡ true
-    name_rest = by is.name is.words where
-      by : (xs : List ℕ) → list_all is_word_byte xs ≡ true → all (λ c. not (ends_attribute_name c)) (drop 1 (placed at xs)) ≡ true
-      by [] words = refl
-      by (x ∷ xs) words = placed_all (λ c. not (ends_attribute_name c)) (at + len_utf8 x) xs (all_weaker is_word_byte (λ c. not (ends_attribute_name c)) word_in_attribute xs (and_parts (is_word_byte x) (list_all is_word_byte xs) words).1)
+      name_place : place 0 (placed at (take found.name run)) ≡ at
+      name_place = by (take found.name run) name_some where
+        by : (xs : List ℕ) → 0 < length xs → place 0 (placed at xs) ≡ at
+        by [] e = absurd (omega (arith, e))
+        by (x ∷ xs) e = refl
 
-    name_place : place 0 (placed at is.name) ≡ at
-    name_place = by is.name is.size_is where
-      by : (xs : List ℕ) → size ≡ length xs → place 0 (placed at xs) ≡ at
-      by [] e = absurd (omega (arith, e, some))
-      by (x ∷ xs) e = refl
+      is_name : (after : List Placed) → stops ends_attribute_name after ≡ true → IsAttributeName (placed at (take found.name run)) after
+      is_name after stop = record { first = first_passes is_word_byte (λ c. not (ends_name c)) word_in_name at (take found.name run) name_some found_is.words; runs = record { passes_none = name_rest; stops_after = stop } }
 
-    part_is : (end : ℕ) (rest : List Placed) → stops ends_name rest ≡ true → plain_part ≡ attribute_part (placed at is.name) (sign ++ opens ++ pieces_text (plain_pieces text) ++ closes) (value_bytes (plain_pieces text))
-        (value_errors (plain_pieces text) ++ error_if (not (stops ends_name rest)) MissingWhitespaceBetweenAttributes (place end rest))
-    part_is end rest stop =
-        let bytes : take long (drop (size + 2) run) ≡ value_bytes (plain_pieces text) =
-        attribute_value ∙ sym (alone_bytes is_plain_byte no_sign no_null text (placed_all is_plain_byte (at + size + 2) is.value value_plain) ∙ plain_run_bytes (at + size + 2) is.value value_plain) in
-        let quiet : [] ≡ attribute_name_errors (placed at is.name) ++ (value_errors (plain_pieces text) ++ error_if (not (stops ends_name rest)) MissingWhitespaceBetweenAttributes (place end rest)) =
-        sym (ap (λ (x : List ParseError). x ++ (value_errors (plain_pieces text) ++ error_if (not (stops ends_name rest)) MissingWhitespaceBetweenAttributes (place end rest))) name_quiet
-        ∙ ap (λ (x : List ParseError). x ++ error_if (not (stops ends_name rest)) MissingWhitespaceBetweenAttributes (place end rest)) (alone_errors is_plain_byte no_sign no_null true (λ e. absurd cc) text (placed_all is_plain_byte (at + size + 2) is.value value_plain))
-        ∙ ap (λ (b : Bool). error_if (not b) MissingWhitespaceBetweenAttributes (place end rest)) stop) in
-        ap (λ (x : List Placed). record { text = x; attribute = Some attribute; errors = [] }) (ap (placed at) attribute_taken ∙ front_placed)
-        ∙ ap (λ (x : List ℕ). record { text = placed at is.name ++ others; attribute = Some (record { name = x; value = take long (drop (size + 2) run); at = at }); errors = [] }) (attribute_name ∙ sym (word_bytes at is.name is.words))
-        ∙ ap (λ (x : List ℕ). record { text = placed at is.name ++ others; attribute = Some (record { name = name_bytes (placed at is.name); value = x; at = at }); errors = [] }) bytes
-        ∙ ap (λ (n : ℕ). record { text = placed at is.name ++ others; attribute = Some (record { name = name_bytes (placed at is.name); value = value_bytes (plain_pieces text); at = n }); errors = [] }) (sym name_place)
-        ∙ ap (λ (x : List ParseError). record { text = placed at is.name ++ others; attribute = Some (record { name = name_bytes (placed at is.name); value = value_bytes (plain_pieces text); at = place 0 (placed at is.name) }); errors = x }) quiet
+      value_is : found_is.value.value ≡ value_bytes (plain_pieces text)
+      value_is = sym (alone_bytes is_plain_byte no_sign no_null text (all_placed is_plain_byte in_value found_is.value.value value_plain) ∙ plain_run_bytes in_value found_is.value.value value_plain)
 
-    pub attribute_plain : IsPlainPart run (size + long + 3) at plain_part
-    attribute_plain = record {
-      text_is = refl;
-      no_errors = refl;
-      is_part = λ table end rest next.
-          let stop = follows is.next [] rest is.ends (next ∙ ap (take 1) attribute_left) in
-          IsPart.quoted (placed at is.name) sign opens closes (plain_pieces text) 34
-          (record { first = name_first (λ c. not (ends_name c)) word_in_name; runs = record { passes_none = name_rest; stops_after = refl } }) refl refl refl
-          (ap (all (λ c. not (eqb c 34))) (plain_text text) ∙ placed_all (λ c. not (eqb c 34)) (at + size + 2) is.value is.inside) (plain_value table (at + size + 2) is.value value_plain) refl (part_is end rest stop);
-      is_free = λ one. absurd (omega (arith, one));
-    }
+      -- the part, by what follows the name
+      part_is : (others : List Placed) (value : List ℕ) (errors : List ParseError) → placed (at + length (take found.name run)) found_is.value.before ++ (placed (at + length (take found.name run) + length found_is.value.before) found_is.value.value ++ placed (at + length (take found.name run) + length found_is.value.before + length found_is.value.value) found_is.value.after) ≡ others
+          → found_is.value.value ≡ value → errors ≡ [] → plain_part ≡ attribute_part (placed at (take found.name run)) others value errors
+      part_is others value errors others_are bytes none =
+          ap (λ (x : List Placed). record { text = x; attribute = Some attribute; errors = [] }) (front_placed ∙ ap (λ (x : List Placed). placed at (take found.name run) ++ x) others_are)
+          ∙ ap (λ (x : List ℕ). record { text = placed at (take found.name run) ++ others; attribute = Some (record { name = x; value = take found.value.value (drop (found.name + found.value.before) run); at = at }); errors = [] }) (sym (word_bytes at (take found.name run) found_is.words))
+          ∙ ap (λ (x : List ℕ). record { text = placed at (take found.name run) ++ others; attribute = Some (record { name = name_bytes (placed at (take found.name run)); value = x; at = at }); errors = [] }) (attribute_value ∙ bytes)
+          ∙ ap (λ (n : ℕ). record { text = placed at (take found.name run) ++ others; attribute = Some (record { name = name_bytes (placed at (take found.name run)); value = value; at = n }); errors = [] }) (sym name_place)
+          ∙ ap (λ (x : List ParseError). record { text = placed at (take found.name run) ++ others; attribute = Some (record { name = name_bytes (placed at (take found.name run)); value = value; at = place 0 (placed at (take found.name run)) }); errors = x })
+          (sym (ap (λ (x : List ParseError). x ++ errors) name_quiet ∙ none))
+
+      part_here : IsWritten found_is.value.before found_is.value.value found_is.value.after found_is.value.next → (table : Entities) (end : ℕ) (rest : List Placed) → characters (take 1 rest) ≡ found_is.value.next ∷ [] → IsPart table end rest plain_part
+      part_here (IsWritten.quoted mark quote before_is inside after_is ends) table end rest next =
+          let sign : List Placed = record { ch = 61; at = after_name } ∷ [] in
+          let opens : List Placed = record { ch = mark; at = after_name + 1 } ∷ [] in
+          let closes : List Placed = record { ch = mark; at = in_value + length found_is.value.value } ∷ [] in
+          IsPart.quoted (placed at (take found.name run)) sign opens closes (plain_pieces text) mark (is_name sign refl) refl refl quote
+          (ap (all (λ c. not (eqb c mark))) (plain_text text) ∙ all_placed (λ c. not (eqb c mark)) in_value found_is.value.value inside) (plain_value table in_value found_is.value.value value_plain) refl
+          (part_is (sign ++ opens ++ pieces_text (plain_pieces text) ++ closes) (value_bytes (plain_pieces text)) (value_errors (plain_pieces text) ++ error_if (not (stops ends_name rest)) MissingWhitespaceBetweenAttributes (place end rest))
+          (ap (λ (x : List ℕ). placed after_name x ++ (text ++ placed (in_value + length found_is.value.value) found_is.value.after)) before_is ∙ ap (λ (x : List ℕ). sign ++ (opens ++ (text ++ placed (in_value + length found_is.value.value) x))) after_is ∙ ap (λ (x : List Placed). sign ++ (opens ++ (x ++ closes))) (sym (plain_text text)))
+          value_is
+          (ap (λ (x : List ParseError). x ++ error_if (not (stops ends_name rest)) MissingWhitespaceBetweenAttributes (place end rest)) (alone_errors is_plain_byte no_sign no_null true (λ e. absurd cc) text (all_placed is_plain_byte in_value found_is.value.value value_plain))
+          ∙ ap (λ (b : Bool). error_if (not b) MissingWhitespaceBetweenAttributes (place end rest)) (follows ends_name found_is.value.next rest ends next)))
+      part_here (IsWritten.unquoted before_is long inside after_is ends) table end rest next =
+          let sign : List Placed = record { ch = 61; at = after_name } ∷ [] in
+          IsPart.unquoted (placed at (take found.name run)) sign (plain_pieces text) (is_name sign refl) refl
+          (ap (begins (λ c. not (ends_unquoted c || is_quote c))) (plain_text text) ∙ first_passes is_unquoted_byte (λ c. not (ends_unquoted c || is_quote c)) unquoted_begins in_value found_is.value.value long inside)
+          (record {
+            passes_none = ap (all (λ c. not (ends_unquoted c))) (plain_text text) ∙ all_placed (λ c. not (ends_unquoted c)) in_value found_is.value.value (all_weaker is_unquoted_byte (λ c. not (ends_unquoted c)) unquoted_goes_on found_is.value.value inside);
+            stops_after = follows ends_unquoted found_is.value.next rest ends next;
+          })
+          (plain_value table in_value found_is.value.value value_plain)
+          (part_is (sign ++ pieces_text (plain_pieces text)) (value_bytes (plain_pieces text)) (unquoted_errors (plain_pieces text))
+          (ap (λ (x : List ℕ). placed after_name x ++ (text ++ placed (in_value + length found_is.value.value) found_is.value.after)) before_is ∙ ap (λ (x : List ℕ). sign ++ (text ++ placed (in_value + length found_is.value.value) x)) after_is ∙ ap (λ (x : List Placed). sign ++ x) (append-nil text ∙ sym (plain_text text)))
+          value_is (unquoted_quiet in_value found_is.value.value value_plain inside))
+      part_here (IsWritten.missing before_is none after_is ends) table end rest next =
+          IsPart.bare (placed at (take found.name run)) (is_name rest (follows ends_attribute_name found_is.value.next rest (ends_attribute found_is.value.next ends) next)) (no_equals found_is.value.next rest ends next)
+          (part_is [] [] []
+          (ap (λ (x : List ℕ). placed after_name x ++ (text ++ placed (in_value + length found_is.value.value) found_is.value.after)) before_is ∙ ap (λ (x : List ℕ). text ++ placed (in_value + length found_is.value.value) x) after_is ∙ append-nil text ∙ ap (placed in_value) none)
+          none refl)
+
+      pub attribute_plain : IsPlainPart run (found.name + found.value.before + found.value.value + found.value.after) false at plain_part
+      attribute_plain = record {
+        text_is = refl;
+        no_errors = refl;
+        is_part = λ table end rest next. part_here found_is.value.written table end rest (next ∙ ap (take 1) attribute_left);
+        is_free = λ never. absurd cc;
+      }
 
 -- a white space
-pub space_added : (names : Texts) (walk : TagWalk) (run : List ℕ) → 0 < length run → is_space (slice_index run 0) ≡ true → AddsPart names names walk walk run 1
+pub space_added : (names : Texts) (walk : TagWalk) (run : List ℕ) → 0 < length run → is_space (slice_index run 0) ≡ true → ReadsPart names names walk walk run 1 true
 space_added names walk [] some is = absurd (omega (arith, some))
 space_added names walk (x ∷ xs) some is = λ at parts h. record {
   part = record { text = record { ch = x; at = at } ∷ []; attribute = None; errors = [] };
-  plain = record { text_is = refl; no_errors = refl; is_part = λ table end rest next. IsPart.space (record { ch = x; at = at }) is refl; is_free = λ one table end rest. IsPart.space (record { ch = x; at = at }) is refl };
+  plain = record { text_is = refl; no_errors = refl; is_part = λ table end rest next. IsPart.space (record { ch = x; at = at }) is refl; is_free = λ free table end rest. IsPart.space (record { ch = x; at = at }) is refl };
   has = holds_plain names walk walk parts (record { text = record { ch = x; at = at } ∷ []; attribute = None; errors = [] }) refl refl refl refl h;
   first = refl;
 }
@@ -314,7 +411,7 @@ begun at [] n some l h = absurd (omega (arith, l))
 begun at (x ∷ xs) zero some l h = absurd (omega (arith, some))
 begun at (x ∷ xs) (suc n) some l h = h
 
-pub none_read : (names : Texts) (walk : TagWalk) (run : List ℕ) (at : ℕ) → HasSeen walk.seen [] → walk.attrs.items ≡ [] → walk.any ≡ false → ArePlainParts names walk run 0 false at
+pub none_read : (names : Texts) (walk : TagWalk) (run : List ℕ) (at : ℕ) → HasSeen walk.seen [] → walk.attrs.items ≡ [] → walk.any ≡ false → HasReadParts names walk run 0 false at
 none_read names walk run at seen none any = record {
   parts = [];
   text_is = refl;
@@ -324,23 +421,18 @@ none_read names walk run at seen none any = record {
   has = record { numbers = []; seen = seen; named = tt; attributes = subst (λ (x : List Attr). AttrsMean names x []) (sym none) tt; any = any };
 }
 
-drop_more : (n m : ℕ) (xs : List ℕ) → drop m (drop n xs) ≡ drop (n + m) xs
-drop_more zero m xs = let none : m ≡ 0 + m = omega arith in ap (λ (k : ℕ). drop k xs) none
-drop_more (suc n) m [] = drop-nil m ∙ sym (drop-nil (suc n + m))
-drop_more (suc n) m (x ∷ xs) = let long : suc n + m ≡ suc (n + m) = omega arith in drop_more n m xs ∙ ap (λ (k : ℕ). drop k (x ∷ xs)) (sym long)
-
 -- the first character of what was taken
 first_next : (at more : ℕ) (xs : List ℕ) (rest : List Placed) → 0 < more → 0 < length xs → characters (take 1 (placed at (take more xs) ++ rest)) ≡ take 1 xs
 first_next at zero xs rest some l = absurd (omega (arith, some))
 first_next at (suc n) [] rest some l = absurd (omega (arith, l))
 first_next at (suc n) (x ∷ xs) rest some l = refl
 
-module _ (run : List ℕ) (count at : ℕ) (plain : list_all is_plain_byte run ≡ true) (within : count < length run) (before : Texts) (old : TagWalk) (spaced : Bool) (so : ArePlainParts before old run count spaced at) where
+module _ (run : List ℕ) (count at : ℕ) (plain : list_all is_plain_byte run ≡ true) (within : count < length run) (before : Texts) (old : TagWalk) (leads_before : Bool) (so : HasReadParts before old run count leads_before at) where
   left_some : 0 < length (drop count run)
   left_some = omega (arith, length-drop count run, within)
 
-  pub part_read : (after : Texts) (new : TagWalk) (more : ℕ) → 0 < more → IsAdded after new (drop count run) more (at + count) so.parts → ArePlainParts after new run (count + more) (eqb more 1) at
-  part_read after new more some added = record {
+  pub part_read : (after : Texts) (new : TagWalk) (more : ℕ) (then_before : Bool) → 0 < more → HasReadPart after new (drop count run) more then_before (at + count) so.parts → HasReadParts after new run (count + more) then_before at
+  part_read after new more then_before some added = record {
     parts = so.parts ++ added.part ∷ [];
     text_is = placed_part at count more run plain (omega (arith, within)) ∙ ap (λ (x : List Placed). x ++ placed (at + count) (take more (drop count run))) so.text_is
         ∙ ap (λ (x : List Placed). parts_text so.parts ++ x) added.plain.text_is ∙ sym (parts_text-snoc so.parts added.part);
@@ -350,15 +442,15 @@ module _ (run : List ℕ) (count at : ℕ) (plain : list_all is_plain_byte run �
         AreParts-snoc table end so.parts added.part rest
         (so.are table end (added.part.text ++ rest) (ap (λ (x : List Placed). characters (take 1 (x ++ rest))) (sym added.plain.text_is) ∙ first_next (at + count) more (drop count run) rest some left_some))
         (added.plain.is_part table end rest (next ∙ ap (take 1) (sym (drop_more count more run))));
-    are_free = λ one table end rest.
+    are_free = λ free table end rest.
         AreParts-snoc table end so.parts added.part rest
         (so.are table end (added.part.text ++ rest) (ap (λ (x : List Placed). characters (take 1 (x ++ rest))) (sym added.plain.text_is) ∙ first_next (at + count) more (drop count run) rest some left_some))
-        (added.plain.is_free (eqb-true more 1 one) table end rest);
+        (added.plain.is_free free table end rest);
     has = added.has;
   }
 
   -- and then the end of the tag
-  pub end_read : (new : TagWalk) (close : ℕ) → 0 < close → new.seen ≡ old.seen → new.attrs ≡ old.attrs → new.any ≡ old.any → take close (drop count run) ≡ tag_close new.closing → ends_name (slice_index run 0) ≡ true → IsRest before new run (count + close) true at
+  pub end_read : (new : TagWalk) (close : ℕ) → 0 < close → new.seen ≡ old.seen → new.attrs ≡ old.attrs → new.any ≡ old.any → take close (drop count run) ≡ tag_close new.closing → ends_name (slice_index run 0) ≡ true → IsAfterName before new run (count + close) true at
   end_read new close some seen attrs any is ends =
       let text_is : placed at (take (count + close) run) ≡ parts_text so.parts ++ placed (at + count) (take close (drop count run)) =
       placed_part at count close run plain (omega (arith, within)) ∙ ap (λ (x : List Placed). x ++ placed (at + count) (take close (drop count run))) so.text_is in
@@ -377,8 +469,8 @@ pub range_after : (from long : ℕ) (run : List ℕ) → slice_range run from (f
 range_after from long run = let size : from + long - from ≡ long = omega arith in ap (λ (n : ℕ). take n (drop from run)) size
 
 -- up to before an attribute
-pub open_read : (run : List ℕ) (count at : ℕ) (names : Texts) (walk new : TagWalk) → 0 < count → 0 < length run → new.seen ≡ walk.seen → new.attrs ≡ walk.attrs → new.any ≡ walk.any → ends_name (slice_index run 0) ≡ true → ArePlainParts names walk run count true at
-    → IsRest names new run count false at
+pub open_read : (run : List ℕ) (count at : ℕ) (names : Texts) (walk new : TagWalk) → 0 < count → 0 < length run → new.seen ≡ walk.seen → new.attrs ≡ walk.attrs → new.any ≡ walk.any → ends_name (slice_index run 0) ≡ true → HasReadParts names walk run count true at
+    → IsAfterName names new run count false at
 open_read run count at names walk new some l seen attrs any ends so = record {
   parts = so.parts;
   close = [];
@@ -419,9 +511,9 @@ module _ (run : List ℕ) (size more at : ℕ) (is : IsName run size) (plain : l
   quiet parts none = sym (ap (λ (x : List ParseError). x ++ errors_after [] parts) (word_nulls at word is.words) ∙ none)
 
   passes : all (λ c. not (ends_name c)) (placed at (is.letter ∷ is.letters)) ≡ true
-  passes = placed_all (λ c. not (ends_name c)) at word (all_weaker is_word_byte (λ c. not (ends_name c)) word_in_name word is.words)
+  passes = all_placed (λ c. not (ends_name c)) at word (all_weaker is_word_byte (λ c. not (ends_name c)) word_in_name word is.words)
 
-  pub whole_read : (table : Entities) → IsRest names walk (drop size run) more true (at + size) → IsWholeTag table names walk (placed at (take (size + more) run)) []
+  pub whole_read : (table : Entities) → IsAfterName names walk (drop size run) more true (at + size) → IsWholeTag table names walk (placed at (take (size + more) run)) []
   whole_read table rest = record {
     name = placed at (is.letter ∷ is.letters);
     parts = rest.parts;
@@ -437,7 +529,7 @@ module _ (run : List ℕ) (size more at : ℕ) (is : IsName run size) (plain : l
     closes = rest.closes;
   }
 
-  pub part_way : (table : Entities) → walk.phase ≡ phase.BeforeAttribute → IsRest names walk (drop size run) more false (at + size) → IsInTag table names walk (placed at (take (size + more) run)) [] []
+  pub part_way : (table : Entities) → walk.phase ≡ phase.BeforeAttribute → IsAfterName names walk (drop size run) more false (at + size) → IsInTag table names walk (placed at (take (size + more) run)) [] []
   part_way table before rest =
       let none : rest.close ≡ [] = no_characters rest.close rest.closes in
       record {
@@ -459,7 +551,7 @@ module _ (run : List ℕ) (size more at : ℕ) (is : IsName run size) (plain : l
         no_characters [] e = refl
         no_characters (x ∷ xs) e = absurd cc
 
-  pub either_read : (table : Entities) (ended : Bool) → (ended ≡ false → walk.phase ≡ phase.BeforeAttribute) → IsRest names walk (drop size run) more ended (at + size) → WholeOrNot ended table names walk (placed at (take (size + more) run)) []
+  pub either_read : (table : Entities) (ended : Bool) → (ended ≡ false → walk.phase ≡ phase.BeforeAttribute) → IsAfterName names walk (drop size run) more ended (at + size) → WholeOrNot ended table names walk (placed at (take (size + more) run)) []
   either_read table true before rest = whole_read table rest
   either_read table false before rest = part_way table (before refl) rest
 
@@ -481,8 +573,8 @@ seen_stays before after grows old new parts id first seen attrs any again h =
       sure false e = absurd cc
 
 -- nothing was read
-pub parts_stay : (before after : Texts) (old new : TagWalk) (run : List ℕ) (count at : ℕ) (spaced : Bool) (so : ArePlainParts before old run count spaced at) → (HasAttributes before old so.parts → HasAttributes after new so.parts) → ArePlainParts after new run count spaced at
-parts_stay before after old new run count at spaced so stays = record {
+pub parts_stay : (before after : Texts) (old new : TagWalk) (run : List ℕ) (count at : ℕ) (leads_before : Bool) (so : HasReadParts before old run count leads_before at) → (HasAttributes before old so.parts → HasAttributes after new so.parts) → HasReadParts after new run count leads_before at
+parts_stay before after old new run count at leads_before so stays = record {
   parts = so.parts;
   text_is = so.text_is;
   no_errors = so.no_errors;
@@ -492,6 +584,6 @@ parts_stay before after old new run count at spaced so stays = record {
 }
 
 -- the tag goes on before an attribute
-pub open_rest : (run : List ℕ) (count result at : ℕ) (names : Texts) (walk : TagWalk) (spaced : Bool) → 0 < length run → ends_name (slice_index run 0) ≡ true → 0 < result → (spaced ≡ true) × (result ≡ count) → ArePlainParts names walk run count spaced at → IsRest names walk run result false at
-open_rest run count result at names walk spaced l ends some is so =
-    subst (λ (n : ℕ). IsRest names walk run n false at) (sym is.1) (open_read run count at names walk walk (omega (arith, some, is.1)) l refl refl refl ends (subst (λ (b : Bool). ArePlainParts names walk run count b at) is.0 so))
+pub open_rest : (run : List ℕ) (count result at : ℕ) (names : Texts) (walk : TagWalk) (leads_before : Bool) → 0 < length run → ends_name (slice_index run 0) ≡ true → 0 < result → (leads_before ≡ true) × (result ≡ count) → HasReadParts names walk run count leads_before at → IsAfterName names walk run result false at
+open_rest run count result at names walk leads_before l ends some is so =
+    subst (λ (n : ℕ). IsAfterName names walk run n false at) (sym is.1) (open_read run count at names walk walk (omega (arith, some, is.1)) l refl refl refl ends (subst (λ (b : Bool). HasReadParts names walk run count b at) is.0 so))

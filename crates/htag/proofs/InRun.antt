@@ -1,10 +1,10 @@
 -- A run of plain characters in a tag.
-use Rattle.std.proofs.Common.{◌≡◌, ◌≤◌, ◌<◌, ℕ, zero, suc, ◌+◌, Bool, true, false, true≢false, not, cond, eqb, List, [], ◌∷◌, ◌++◌, length, take, drop, map, sym, refl, ap, ◌∙◌, subst, append-nil, append_assoc, arith}
+use Rattle.std.proofs.Common.{◌≡◌, ◌≤◌, ◌<◌, ℕ, zero, suc, ◌+◌, Bool, true, false, true≢false, not, eqb, List, [], ◌∷◌, ◌++◌, length, take, drop, map, sym, refl, ap, ◌∙◌, subst, append-nil, append_assoc, arith}
 use Rattle.std.specs.Prelude.{encode_utf8_all, slice_index}
 use Rattle.std.specs.List.{flat_map, list_all, prefix_len}
 use Rattle.std.specs.Char.{len_utf8, to_ascii_lowercase}
 use Rattle.std.specs.String.{string_bytes}
-use Rattle.std.proofs.lemmas.Bool.{and_from, and_parts}
+use Rattle.std.proofs.lemmas.Bool.{and_parts}
 use Rattle.std.proofs.lemmas.List.{length-drop}
 use Rattle.std.proofs.lemmas.Bool.Decides.{nat_tests}
 use Rattle.names.specs.declared.error.ErrorCode.TheVariants.{UnexpectedEqualsSignBeforeAttributeName}
@@ -13,7 +13,10 @@ use Rattle.names.specs.declared.placed.Placed.{Placed}
 use Rattle.names.specs.Names.{Texts}
 use Rattle.names.specs.Placed.{characters, all, placed, is_equals, name_bytes, error_if, null_errors, without_null}
 use Rattle.htext.specs.Run.{is_plain_byte}
-use Rattle.htext.proofs.Runs.{plain_bytes, placed_part}
+use Rattle.htext.proofs.Runs.{all_placed, counted, plain_bytes, placed_part}
+-- under the name by which the crate above cites it
+pub use Rattle.htext.proofs.Runs.{counted as prefix_all}
+use Rattle.names.proofs.Words.{all_weaker}
 use Rattle.charref.specs.Reference.{Entities}
 use Rattle.htag.specs.declared.tag_state.TagState.{TagState}
 use Rattle.htag.specs.declared.tag_state.TagState.TheVariants as phase
@@ -62,25 +65,8 @@ module _ (c : ℕ) (h : is_word_byte c ≡ true) where
   word_lowered : to_ascii_lowercase (without_null c) ≡ c
   word_lowered = grind (arith, nat_tests)
 
--- characters that pass, as placed ones
-pub placed_all : (test : ℕ → Bool) (at : ℕ) (run : List ℕ) → list_all test run ≡ true → all test (placed at run) ≡ true
-placed_all test at [] h = refl
-placed_all test at (x ∷ xs) h = let k = and_parts (test x) (list_all test xs) h in and_from _ _ k.0 (placed_all test (at + len_utf8 x) xs k.1)
-
-pub all_weaker : (test other : ℕ → Bool) → ((c : ℕ) → test c ≡ true → other c ≡ true) → (xs : List ℕ) → list_all test xs ≡ true → list_all other xs ≡ true
-all_weaker test other f [] h = refl
-all_weaker test other f (x ∷ xs) h = let k = and_parts (test x) (list_all test xs) h in and_from _ _ (f x k.0) (all_weaker test other f xs k.1)
-
--- the bytes before the first that does not pass
-pub prefix_all : (test : ℕ → Bool) (xs : List ℕ) → list_all test (take (prefix_len test xs) xs) ≡ true
-prefix_all test [] = refl
-prefix_all test (x ∷ xs) = by (test x) refl (prefix_all test xs) where
-  by : (b : Bool) → test x ≡ b → list_all test (take (prefix_len test xs) xs) ≡ true → list_all test (take (cond b (1 + prefix_len test xs) 0) (x ∷ xs)) ≡ true
-  by true e more = let one : 1 + prefix_len test xs ≡ suc (prefix_len test xs) = omega arith in rw one (and_from _ _ e more)
-  by false e more = refl
-
 pub counted_all : (test : ℕ → Bool) (run : List ℕ) (count : ℕ) → count ≡ prefix_len test run → list_all test (take count run) ≡ true
-counted_all test run count is = ap (λ (n : ℕ). list_all test (take n run)) is ∙ prefix_all test run
+counted_all test run count is = ap (λ (n : ℕ). list_all test (take n run)) is ∙ counted test run
 
 pub characters_placed : (at : ℕ) (run : List ℕ) → characters (placed at run) ≡ run
 characters_placed at [] = refl
@@ -123,7 +109,7 @@ value_run : (table : Entities) (quoted : Bool) (test : ℕ → Bool) → ((c : �
     → (text : List Placed) (own : List ParseError) → IsInValue table quoted old text (placed at run) own → IsInValue table quoted new (text ++ placed at run) [] (own ++ [])
 value_run table quoted test plain even old new at run such nothing same adds text own h =
     let fed : List Placed = placed at run in
-    let quiet : all test fed ≡ true = placed_all test at run such in
+    let quiet : all test fed ≡ true = all_placed test at run such in
     let sign = λ (c : ℕ) (k : test c ≡ true). no_sign c (plain c k) in
     let null = λ (c : ℕ) (k : test c ≡ true). no_null c (plain c k) in
     let none = subst (λ (x : Pending). HasHeld x table old h.pieces h.held) nothing h.has_held in
@@ -151,25 +137,25 @@ module _ (table : Entities) (names : Texts) (walk : TagWalk) (body : List Placed
       → IsInTag table names new (body ++ placed at run) [] errors
   run_in_name words before new same seen attrs any adds =
       name_grows table names walk body (placed at run) errors ahead before new errors same seen attrs any (adds ∙ ap (λ (x : List ℕ). string_bytes walk.name ++ x) (sym (word_bytes at run words)))
-      (sym (append-nil errors) ∙ ap (λ (x : List ParseError). errors ++ x) (sym (word_nulls at run words))) (placed_all _ at run (all_weaker is_word_byte _ word_in_name run words))
+      (sym (append-nil errors) ∙ ap (λ (x : List ParseError). errors ++ x) (sym (word_nulls at run words))) (all_placed _ at run (all_weaker is_word_byte _ word_in_name run words))
 
   pub run_in_attribute : list_all is_word_byte run ≡ true → walk.phase ≡ phase.AttributeName → (new : TagWalk) → KeepsTag walk new → new.phase ≡ walk.phase → new.place ≡ walk.place → new.value ≡ walk.value → string_bytes new.attribute ≡ string_bytes walk.attribute ++ run
       → IsInTag table names new (body ++ placed at run) [] errors
   run_in_attribute words before new keeps same place value adds =
       letters_follow table names walk body (placed at run) errors ahead before new errors keeps same place value (adds ∙ ap (λ (x : List ℕ). string_bytes walk.attribute ++ x) (sym (word_bytes at run words)))
-      (sym (append-nil errors) ∙ ap (λ (x : List ParseError). errors ++ x) (sym (word_errors at run words))) (placed_all _ at run (all_weaker is_word_byte _ word_in_attribute run words))
+      (sym (append-nil errors) ∙ ap (λ (x : List ParseError). errors ++ x) (sym (word_errors at run words))) (all_placed _ at run (all_weaker is_word_byte _ word_in_attribute run words))
 
   pub run_in_quotes : (mark : ℕ) → list_all is_plain_byte run ≡ true → list_all (λ c. not (eqb c mark)) run ≡ true → walk.phase ≡ phase.Quoted mark → walk.value.reading ≡ reading.Nothing → (new : TagWalk) → KeepsTag walk new → new.attribute ≡ walk.attribute → new.place ≡ walk.place
       → new.phase ≡ walk.phase → new.value.reading ≡ walk.value.reading → string_bytes new.value.text ≡ string_bytes walk.value.text ++ run → IsInTag table names new (body ++ placed at run) [] errors
   run_in_quotes mark plain others before nothing new keeps attribute place same calm adds =
       quoted_goes_on table names walk body (placed at run) errors ahead new [] errors keeps attribute place same (sym (append-nil errors)) mark before
-      (value_run table true is_plain_byte (λ c k. k) (λ e. absurd cc) walk.value new.value at run plain nothing calm adds) (placed_all _ at run others)
+      (value_run table true is_plain_byte (λ c k. k) (λ e. absurd cc) walk.value new.value at run plain nothing calm adds) (all_placed _ at run others)
 
   pub run_in_unquoted : list_all is_word_byte run ≡ true → walk.phase ≡ phase.Unquoted → walk.value.reading ≡ reading.Nothing → (new : TagWalk) → KeepsTag walk new → new.attribute ≡ walk.attribute → new.place ≡ walk.place
       → new.phase ≡ walk.phase → new.value.reading ≡ walk.value.reading → string_bytes new.value.text ≡ string_bytes walk.value.text ++ run → IsInTag table names new (body ++ placed at run) [] errors
   run_in_unquoted words before nothing new keeps attribute place same calm adds =
       unquoted_goes_on table names walk body (placed at run) errors ahead new [] errors keeps attribute place same (sym (append-nil errors)) before
-      (value_run table false is_word_byte word_plain (λ e. word_odd) walk.value new.value at run words nothing calm adds) (placed_all _ at run (all_weaker is_word_byte _ word_in_value run words))
+      (value_run table false is_word_byte word_plain (λ e. word_odd) walk.value new.value at run words nothing calm adds) (all_placed _ at run (all_weaker is_word_byte _ word_in_value run words))
 
 -- an attribute begins with a run
 pub run_begins_attribute : (table : Entities) (names : Texts) (walk : TagWalk) (body : List Placed) (errors : List ParseError) (at : ℕ) (run : List ℕ) → IsInTag table names walk body [] errors → list_all is_word_byte run ≡ true → 1 ≤ length run → walk.phase ≡ phase.BeforeAttribute
@@ -183,7 +169,7 @@ run_begins_attribute table names walk body errors at (x ∷ xs) h words some bef
     goes_on table names walk body fed errors ahead new [] errors (sym (append-nil errors)) keeps.name_is keeps.seen_is keeps.attrs_are keeps.any_is (λ b e. subst (λ (y : TagState). IsPast y b) (sym then) e) (past_is table names walk body fed errors ahead phase.BeforeAttribute before)
     (subst (λ (y : TagState). HasPhase y table new ahead.parts (ahead.held ++ fed) (ahead.own ++ [])) (sym then)
     (subst (λ (y : List Placed). InName new (y ++ fed) (ahead.own ++ [])) (sym nothing.0) (record {
-      has_name = record { first = word_in_name x k.0; runs = placed_all _ (at + len_utf8 x) xs (all_weaker is_word_byte _ word_in_attribute xs k.1); is = is ∙ sym (word_bytes at (x ∷ xs) words); at_is = sym place };
+      has_name = record { first = word_in_name x k.0; runs = all_placed _ (at + len_utf8 x) xs (all_weaker is_word_byte _ word_in_attribute xs k.1); is = is ∙ sym (word_bytes at (x ∷ xs) words); at_is = sym place };
       no_value = none;
       own_is = append-nil ahead.own ∙ nothing.1 ∙ sym (ap (λ (b : Bool). error_if b UnexpectedEqualsSignBeforeAttributeName at ++ flat_map name_errors_here fed) (word_no_equals x k.0) ∙ word_errors at (x ∷ xs) words);
     })))

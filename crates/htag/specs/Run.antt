@@ -1,5 +1,5 @@
 -- Runs of plain characters in a tag.
-use Rattle.std.specs.Prelude.{◌≡◌, ℕ, ◌≤◌, Bool, ◌&&◌, ◌||◌, ◌==◌, nat_le, List, [], ◌++◌, length, take, Result, MatchResult}
+use Rattle.std.specs.Prelude.{◌≡◌, ℕ, ◌≤◌, Bool, not, ◌&&◌, ◌||◌, ◌==◌, nat_le, List, [], ◌++◌, length, take, Result, MatchResult}
 use Rattle.names.specs.declared.error.ParseError.{ParseError}
 use Rattle.names.specs.declared.placed.Placed.{Placed}
 use Rattle.names.specs.declared.refusal.Refusal.{Refusal}
@@ -8,11 +8,16 @@ use Rattle.names.specs.Names.{Texts}
 use Rattle.names.specs.Placed.{placed}
 use Rattle.charref.specs.Reference.{Entities}
 use Rattle.htag.specs.declared.walk.TagWalk.{TagWalk}
+use Rattle.htag.specs.Tag.{ends_unquoted, is_odd}
 use Rattle.htag.specs.TagWalk.{IsInTag}
 
 -- a byte that only stands for itself in a tag's name, in an attribute's and in a value without quotes: a small letter, a digit, `-`, `.`, `:` or `_`
 abbrev pub is_word_byte : ℕ → Bool
 is_word_byte byte = (nat_le 97 byte && nat_le byte 122) || (nat_le 48 byte && nat_le byte 58) || byte == 45 || byte == 46 || byte == 95
+
+-- a byte of a value without quotes that neither ends it nor is a fault in it
+abbrev pub is_unquoted_byte : ℕ → Bool
+is_unquoted_byte byte = not (ends_unquoted byte || is_odd byte)
 
 -- The tag goes on with the bytes of the run between these two places, the first byte of the run at this one, which changes neither names nor errors.
 pub record TakesPart (old : TagWalk) (run : List ℕ) (at from to : ℕ) (new : TagWalk) : Type 0 where

@@ -1,21 +1,21 @@
 //! Tags that stand whole in one run of the input.
 
-ghost use Rattle.std.specs.Prelude.{◌≡◌, ◌<◌, ◌≤◌, ◌==◌, ℕ, List, [], false, OnOk, IfErr, IfOk, length, take, true};
+ghost use Rattle.std.specs.Prelude.{◌≡◌, ◌<◌, ◌≤◌, ◌==◌, ◌+◌, ℕ, List, [], false, OnOk, IfErr, IfOk, IfSome, length, slice_index, take, true};
 ghost use Rattle.std.specs.List.{list_all};
 ghost use Rattle.names.specs.Names.{Grows};
 ghost use Rattle.names.specs.declared.refusal.Refusal.TheVariants.{Memory};
 ghost use Rattle.htext.specs.Run.{is_plain_byte};
 ghost use Rattle.charref.specs.Reference.{Entities};
-ghost use Rattle.names.specs.Placed.{placed};
+ghost use Rattle.names.specs.Placed.{is_quote, placed};
 ghost use Rattle.htag.specs.declared.kind.TagKind.TheVariants.{Start};
-ghost use Rattle.htag.specs.AtOnce.{AddsPart, IsBareName, IsName, IsPlainAttribute, IsRest};
+ghost use Rattle.htag.specs.AtOnce.{IsAfterName, IsBareName, IsName, IsPlainAttribute, IsPlainValue, ReadsPart};
 ghost use Rattle.htag.specs.Steps.{KeepsTag};
 ghost use Rattle.htag.specs.TagWalk.{HasAttributes, WholeOrNot};
-ghost use Rattle.htag.specs.Tag.{Part, ends_name, tag_close};
+ghost use Rattle.htag.specs.Tag.{Part, ends_name, ends_unquoted, tag_close};
 
 use crate::attribute::MAX_NUMBER;
 use crate::kind::TagKind;
-use crate::push::{push_front, rest_of, word_run};
+use crate::push::{push_front, rest_of, unquoted_run, word_run};
 use crate::tag_state::TagState;
 use crate::walk::TagWalk;
 use htext::run_before;
@@ -24,12 +24,12 @@ use names::{Attr, Names, Refusal};
 /// The length of a tag's name at the front of a run, where it begins with a small letter and its characters stand for themselves; 0 where
 /// something else is there.
 #[inline(always)]
-fn name_front(run: &[u8]) -> usize
+fn tag_name(run: &[u8]) -> usize
     ensures { 0 < result → IsName run.now result }
 {
-    let count = word_run(run);
-    if count > 0 && run[0].is_ascii_lowercase() {
-        return count;
+    let length = word_run(run);
+    if length > 0 && run[0].is_ascii_lowercase() {
+        return length;
     }
     0
 }
@@ -39,9 +39,9 @@ fn name_front(run: &[u8]) -> usize
 pub fn bare_name(run: &[u8]) -> usize
     ensures { 0 < result → IsBareName run.now result }
 {
-    let count = word_run(run);
-    if count < run.len() && run[count] == b'>' && run[0].is_ascii_lowercase() {
-        return count;
+    let length = tag_name(run);
+    if length < run.len() && run[length] == b'>' && length > 0 {
+        return length;
     }
     0
 }
@@ -52,6 +52,22 @@ fn ends(byte: u8) -> bool
     ensures { result ≡ ends_name byte }
 {
     byte == b'>' || byte == b'/' || byte.is_ascii_whitespace()
+}
+
+/// Whether a byte ends a value without quotes.
+#[inline(always)]
+fn ends_unquoted(byte: u8) -> bool
+    ensures { result ≡ ends_unquoted byte }
+{
+    byte == b'>' || byte.is_ascii_whitespace()
+}
+
+/// Whether a byte is a quote.
+#[inline(always)]
+fn is_mark(byte: u8) -> bool
+    ensures { result ≡ is_quote byte }
+{
+    byte == b'"' || byte == b'\''
 }
 
 /// The length of the `>` or `/>` at the front of a run, or 0.
@@ -69,40 +85,116 @@ fn close_front(run: &[u8]) -> usize
     0
 }
 
-/// This length where a white space is the last character of it, else 0.
+/// This length before an attribute's name, else 0.
 #[inline(always)]
-fn after_space(spaced: bool, count: usize) -> usize
-    ensures few { result ≤ count }
-    ensures spaced { 0 < result → (spaced ≡ true) × (result ≡ count) }
+fn unless_in_part(before_attribute: bool, length: usize) -> usize
+    ensures few { result ≤ length }
+    ensures before { 0 < result → (before_attribute ≡ true) × (result ≡ length) }
 {
-    if spaced {
-        return count;
+    if before_attribute {
+        return length;
     }
     0
 }
 
-/// The lengths of the name and of the value, in double quotes, of the attribute at the front of a run, where both stand for themselves and
-/// a character after it ends it; two zeros where something else is there.
+/// What follows an attribute's name: the lengths of what is before its value (`=` and a quote, `=` alone, or nothing), of the value, and of
+/// what is after it (the quote, if there is one).
+#[derive(Clone, Copy)]
+pub(crate) struct PlainValue {
+    pub before: usize,
+    pub value: usize,
+    pub after: usize,
+}
+
+/// Attribute value (double-quoted) and (single-quoted) state (`#attribute-value-(double-quoted)-state`): a value after `=` and a quote,
+/// where its characters stand for themselves and a character after the second quote ends the attribute.
 #[inline(always)]
-fn plain_attribute(run: &[u8]) -> (usize, usize)
-    ensures { 0 < result.0 → IsPlainAttribute run.now result.0 result.1 }
+fn quoted_value(run: &[u8]) -> Option<PlainValue>
+    requires long { 1 < length run.now }
+    requires equals { slice_index run.now 0 ≡ 61 }
+    requires quote { is_quote (slice_index run.now 1) ≡ true }
+    ensures { IfSome result (IsPlainValue run.now) }
 {
-    let size = word_run(run);
-    if size == 0 || size + 2 > run.len() || run[size] != b'=' || run[size + 1] != b'"' {
-        return (0, 0);
+    let mark = run[1];
+    let rest = &run[2..];
+    let value = run_before(mark, rest);
+    if value + 1 < rest.len() && ends(rest[value + 1]) {
+        return Some(PlainValue {
+            before: 2,
+            value,
+            after: 1,
+        });
     }
-    let value = &run[size + 2..];
-    let long = run_before(b'"', value);
-    if long + 1 < value.len() && ends(value[long + 1]) {
-        return (size, long);
+    None
+}
+
+/// Attribute value (unquoted) state (`#attribute-value-(unquoted)-state`): the same of a value after `=` alone.
+#[inline(always)]
+fn unquoted_value(run: &[u8]) -> Option<PlainValue>
+    requires long { 0 < length run.now }
+    requires equals { slice_index run.now 0 ≡ 61 }
+    ensures { IfSome result (IsPlainValue run.now) }
+{
+    let rest = &run[1..];
+    let value = unquoted_run(rest);
+    if value > 0 && value < rest.len() && ends_unquoted(rest[value]) {
+        return Some(PlainValue {
+            before: 1,
+            value,
+            after: 0,
+        });
     }
-    (0, 0)
+    None
+}
+
+/// After attribute name state (`#after-attribute-name-state`): what follows an attribute's name, where the value is plain, or where `/` or `>`
+/// comes in its place.
+#[inline(always)]
+fn plain_value(run: &[u8]) -> Option<PlainValue>
+    ensures { IfSome result (IsPlainValue run.now) }
+{
+    if run.is_empty() {
+        return None;
+    }
+    match run[0] {
+        b'=' if run.len() > 1 && is_mark(run[1]) => quoted_value(run),
+        b'=' => unquoted_value(run),
+        b'/' | b'>' => Some(PlainValue {
+            before: 0,
+            value: 0,
+            after: 0,
+        }),
+        _ => None,
+    }
+}
+
+/// An attribute: the length of its name, and what follows that.
+#[derive(Clone, Copy)]
+pub(crate) struct PlainAttribute {
+    pub name: usize,
+    pub value: PlainValue,
+}
+
+/// Attribute name state (`#attribute-name-state`): the attribute at the front of a run, where its name and its value stand for themselves.
+#[inline(always)]
+fn attribute_front(run: &[u8]) -> Option<PlainAttribute>
+    ensures front { IfSome result (IsPlainAttribute run.now) }
+    ensures few { IfSome result (λ it. it.name + it.value.before + it.value.value + it.value.after ≤ length run.now) }
+{
+    let name = word_run(run);
+    if name == 0 {
+        return None;
+    }
+    match plain_value(&run[name..]) {
+        Some(value) => Some(PlainAttribute { name, value }),
+        None => None,
+    }
 }
 
 impl<'t> TagWalk<'t> {
     /// Tag name state (`#tag-name-state`) and what follows it: reads a start tag after its `<` from a run of plain characters, as far as its
-    /// attributes have plain values in double quotes and each another name. Returns how many bytes it read, and whether the tag has ended
-    /// with them. Where these are none, another tag may begin.
+    /// attributes are plain and each has another name. Returns how many bytes it read, and whether the tag has ended with them. Where these are
+    /// none, another tag may begin.
     pub fn take_plain(&mut self, names: &mut Names, run: &str) -> Result<(usize, bool), Refusal>
         requires plain { list_all is_plain_byte run.now ≡ true }
         ensures few { IfOk result (λ it. it.0 ≤ length run.now) }
@@ -111,17 +203,17 @@ impl<'t> TagWalk<'t> {
         ensures memory { IfErr result (λ e. e ≡ Memory) }
         ensures grows { Grows names.old names.new }
     {
-        let size = name_front(run.as_bytes());
-        if size == 0 {
+        let length = tag_name(run.as_bytes());
+        if length == 0 {
             return Ok((0, false));
         }
         self.name.clear();
-        push_front(&mut self.name, run, size)?;
-        let (more, ended) = self.plain_parts(names, rest_of(run, size))?;
+        push_front(&mut self.name, run, length)?;
+        let (more, ended) = self.plain_parts(names, rest_of(run, length))?;
         if more == 0 {
             return Ok((0, false));
         }
-        Ok((size + more, ended))
+        Ok((length + more, ended))
     }
 
     /// Reads what follows the name, in the same way.
@@ -132,7 +224,7 @@ impl<'t> TagWalk<'t> {
         ensures kind { OnOk result (self.new.kind ≡ Start) }
         ensures name { self.new.name ≡ self.old.name }
         ensures phase { IfOk result (λ it. it.1 ≡ false → self.new.phase ≡ TagState.BeforeAttribute) }
-        ensures reads { IfOk result (λ it. 0 < it.0 → (at : ℕ) → IsRest names.new self.new run.now it.0 it.1 at) }
+        ensures reads { IfOk result (λ it. 0 < it.0 → (at : ℕ) → IsAfterName names.new self.new run.now it.0 it.1 at) }
         ensures memory { IfErr result (λ e. e ≡ Memory) }
         ensures grows { Grows names.old names.new }
     {
@@ -142,7 +234,7 @@ impl<'t> TagWalk<'t> {
             return Ok((0, false));
         }
         let mut count = 0;
-        let mut spaced = false;
+        let mut before_attribute = false;
         while count < run.len() {
             let rest = rest_of(run, count);
             let close = close_front(rest.as_bytes());
@@ -150,53 +242,53 @@ impl<'t> TagWalk<'t> {
                 self.closing = close == 2;
                 return Ok((count + close, true));
             }
-            let more = self.plain_part(names, rest)?;
+            let (more, then_before) = self.plain_part(names, rest)?;
             if more == 0 {
-                return Ok((after_space(spaced, count), false));
+                return Ok((unless_in_part(before_attribute, count), false));
             }
-            spaced = more == 1;
+            before_attribute = then_before;
             count += more;
         }
-        Ok((after_space(spaced, count), false))
+        Ok((unless_in_part(before_attribute, count), false))
     }
 
-    /// Before attribute name state (`#before-attribute-name-state`): reads a white space, or an attribute. Returns its length, or 0.
+    /// Before attribute name state (`#before-attribute-name-state`): reads a white space, or an attribute. Returns its length, or 0, and
+    /// whether the tag is then before an attribute's name again, whatever follows.
     #[inline(always)]
-    fn plain_part(&mut self, names: &mut Names, run: &str) -> Result<usize, Refusal>
+    fn plain_part(&mut self, names: &mut Names, run: &str) -> Result<(usize, bool), Refusal>
         requires plain { list_all is_plain_byte run.now ≡ true }
         requires some { 0 < length run.now }
-        ensures few { IfOk result (λ count. count ≤ length run.now) }
+        ensures few { IfOk result (λ it. it.0 ≤ length run.now) }
         ensures keeps { KeepsTag (record self.old { attrs = self.new.attrs; seen = self.new.seen; any = self.new.any }) self.new }
         ensures phase { self.new.phase ≡ self.old.phase }
-        ensures adds { IfOk result (λ count. 0 < count → AddsPart names.old names.new self.old self.new run.now count) }
-        ensures stays { IfOk result (λ count. count ≡ 0 → (parts : List Part) → HasAttributes names.old self.old parts → HasAttributes names.new self.new parts) }
+        ensures adds { IfOk result (λ it. 0 < it.0 → ReadsPart names.old names.new self.old self.new run.now it.0 it.1) }
+        ensures stays { IfOk result (λ it. it.0 ≡ 0 → (parts : List Part) → HasAttributes names.old self.old parts → HasAttributes names.new self.new parts) }
         ensures memory { IfErr result (λ e. e ≡ Memory) }
         ensures grows { Grows names.old names.new }
     {
         if run.as_bytes()[0].is_ascii_whitespace() {
-            return Ok(1);
+            return Ok((1, true));
         }
-        self.plain_attribute(names, run)
+        Ok((self.plain_attribute(names, run)?, false))
     }
 
-    /// Attribute name state (`#attribute-name-state`) and what follows it up to the after attribute value (quoted) state
-    /// (`#after-attribute-value-(quoted)-state`): reads an attribute. Returns its length, or 0.
+    /// Attribute name state (`#attribute-name-state`) and what follows it up to the attribute's end: reads an attribute. Returns its length,
+    /// or 0.
     #[inline(never)]
     fn plain_attribute(&mut self, names: &mut Names, run: &str) -> Result<usize, Refusal>
         requires plain { list_all is_plain_byte run.now ≡ true }
         ensures few { IfOk result (λ count. count ≤ length run.now) }
         ensures keeps { KeepsTag (record self.old { attrs = self.new.attrs; seen = self.new.seen; any = self.new.any }) self.new }
         ensures phase { self.new.phase ≡ self.old.phase }
-        ensures adds { IfOk result (λ count. 0 < count → AddsPart names.old names.new self.old self.new run.now count) }
+        ensures adds { IfOk result (λ count. 0 < count → ReadsPart names.old names.new self.old self.new run.now count false) }
         ensures stays { IfOk result (λ count. count ≡ 0 → (parts : List Part) → HasAttributes names.old self.old parts → HasAttributes names.new self.new parts) }
         ensures memory { IfErr result (λ e. e ≡ Memory) }
         ensures grows { Grows names.old names.new }
     {
-        let (size, long) = plain_attribute(run.as_bytes());
-        if size == 0 {
+        let Some(found) = attribute_front(run.as_bytes()) else {
             return Ok(0);
-        }
-        let name = names.intern(self.alloc, &run[..size])?;
+        };
+        let name = names.intern(self.alloc, &run[..found.name])?;
         if name.index() >= MAX_NUMBER {
             return Err(Refusal::Memory);
         }
@@ -204,8 +296,9 @@ impl<'t> TagWalk<'t> {
             return Ok(0);
         }
         self.any = true;
-        let value = String::from_str(self.alloc, &run[size + 2..size + 2 + long])?;
+        let from = found.name + found.value.before;
+        let value = String::from_str(self.alloc, &run[from..from + found.value.value])?;
         self.attrs.push(Attr { name, value })?;
-        Ok(size + long + 3)
+        Ok(from + found.value.value + found.value.after)
     }
 }

@@ -5,7 +5,7 @@ ghost use Rattle.std.specs.List.{list_all, prefix_len};
 ghost use Rattle.std.specs.Char.{encode_utf8, to_ascii_lowercase};
 ghost use Rattle.names.specs.Placed.{error_if, null_errors, without_null};
 ghost use Rattle.htext.specs.Run.{is_plain_byte};
-ghost use Rattle.htag.specs.Run.{is_word_byte};
+ghost use Rattle.htag.specs.Run.{is_unquoted_byte, is_word_byte};
 ghost use Rattle.htag.specs.Tag.{ends_name, is_odd};
 
 use names::{ErrorCode, ParseError};
@@ -107,6 +107,31 @@ pub(crate) fn word_run(bytes: &[u8]) -> usize
 {
     for (index, byte) in bytes.iter().enumerate() {
         if !is_word(*byte) {
+            return index;
+        }
+    }
+    bytes.len()
+}
+
+/// Whether a byte is one of a value without quotes, and no fault in it.
+#[inline(always)]
+fn is_unquoted(byte: u8) -> bool
+    ensures { result ≡ is_unquoted_byte byte }
+{
+    if byte.is_ascii_lowercase() {
+        return true;
+    }
+    !matches!(byte, b'"' | b'\'' | b'<' | b'=' | b'`' | b'>') && !byte.is_ascii_whitespace()
+}
+
+/// How many bytes are before the first one that ends a value without quotes, or is a fault in it.
+#[inline(always)]
+pub(crate) fn unquoted_run(bytes: &[u8]) -> usize
+    ensures counted { result ≡ prefix_len is_unquoted_byte bytes.now }
+    ensures few { result ≤ length bytes.now }
+{
+    for (index, byte) in bytes.iter().enumerate() {
+        if !is_unquoted(*byte) {
             return index;
         }
     }

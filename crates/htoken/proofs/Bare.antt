@@ -1,12 +1,12 @@
 -- An `&` that is text, and a whole reference, as a run shows them.
-use Rattle.std.proofs.Common.{◌≡◌, ◌≤◌, ◌<◌, ℕ, zero, suc, ◌+◌, ◌-◌, Bool, true, false, eqb, ◌&&◌, ◌||◌, List, [], ◌∷◌, ◌++◌, length, take, drop, reverse, sym, refl, ap, ◌∙◌, subst, arith, append_assoc, append-nil, Result, Ok, Err, Option}
+use Rattle.std.proofs.Common.{◌≡◌, ◌≤◌, ◌<◌, ℕ, zero, suc, ◌+◌, ◌-◌, Bool, true, false, eqb, ◌&&◌, ◌||◌, List, [], ◌∷◌, ◌++◌, map, length, take, drop, reverse, sym, refl, ap, ◌∙◌, subst, arith, append_assoc, append-nil, Result, Ok, Err, Option}
 use Rattle.std.specs.Prelude.{slice_index}
 use Rattle.std.specs.List.{list_all, prefix_len}
 use Rattle.std.specs.Char.{is_ascii, len_utf8, encode_utf8}
 use Rattle.std.specs.Str.{chars, IsUtf8}
 use Rattle.std.proofs.lemmas.Bool.{and_parts, and_from}
 use Rattle.std.proofs.lemmas.Bool.Decides.{nat_tests}
-use Rattle.std.proofs.lemmas.List.{get_or-drop, length-append, length-take-le, take-append-drop, take_all, take_at, drop_at}
+use Rattle.std.proofs.lemmas.List.{get_or-drop, reverse-append, length-append, length-drop, length-take-le, take-append-drop, take_all, take_at, drop_at}
 use Rattle.std.proofs.lemmas.Str.{chars-IsAscii, encode_ascii, len_utf8_ascii, IsAscii-take, IsAscii-drop, IsUtf8-from_ascii}
 use Rattle.std.proofs.lemmas.List.Sums.{prefix_len-le-length, prefix_len_stops}
 use Rattle.std.proofs.Math.Seq.{drop-length, get_or-append_seam}
@@ -27,12 +27,13 @@ use Rattle.htext.proofs.Wide.{cut_more}
 use Rattle.htoken.specs.declared.state.State.{State}
 use Rattle.htoken.specs.declared.state.State.TheVariants as state
 use Rattle.htoken.specs.declared.tokenizer.Tokenizer.{Tokenizer}
-use Rattle.htoken.specs.Front.{bare_errors, first_placed, IsBare, IsWhole}
-use Rattle.htoken.specs.Giving.{piece_events}
+use Rattle.htoken.specs.Front.{all_at, bare_errors, first_placed, IsBare, IsFront, IsWhole}
+use Rattle.htoken.specs.Giving.{known_errors, piece_events}
 use Rattle.htoken.specs.Handing.{HandsEvents}
 use Rattle.htoken.specs.Spans.{has_references}
 use Rattle.htoken.specs.Standing.{Standing}
-use Rattle.htoken.specs.Token.{Item, Event}
+use Rattle.htoken.specs.Run.{run_events}
+use Rattle.htoken.specs.Token.{Item, Event, Gives, Reports, Char}
 use Rattle.htoken.specs.Tokens.{AreFront}
 use Rattle.htoken.specs.Tokenizing.{after_place, holds, later_errors, next_place, IsBetween, IsHeld, IsIn, IsLast, Reads, Stands, Takes, take_sink_refused, take_took}
 use Rattle.htoken.proofs.AfterRun.{later_same}
@@ -40,7 +41,8 @@ use Rattle.htoken.proofs.Fronts.{takes_both}
 use Rattle.htoken.proofs.Going.{next_place-snoc}
 use Rattle.htoken.proofs.InReference.{same_between}
 use Rattle.htoken.proofs.InRun.{next_last}
-use Rattle.htoken.proofs.InText.{all_ascii, ascii_chars, ascii_placed, each_ascii, length_left, reads_front, unknown_is}
+use Rattle.hmarkup.specs.CommentWalk.{backwards}
+use Rattle.htoken.proofs.InText.{text_events, all_ascii, ascii_chars, ascii_placed, each_ascii, length_left, reads_front, unknown_is}
 use Rattle.htoken.proofs.Pending.{later_told}
 use Rattle.htoken.proofs.Referring.{run_errors, stands_piece}
 
@@ -378,6 +380,119 @@ module _ {S : Type 0} (gives : S → Item → Result (Unit {0}) Refusal → S �
           subst (λ (x : List Placed). Takes gives table start text x taken names old answer s after) (ap (λ (x : List Placed). (sign ∷ take own read) ++ x) (sym left_is) ∙ own_all)
           (takes_both gives table start text (sign ∷ take own read) (next_one ∷ []) taken events names old mid s answer after handed
           (takes (text ++ (sign ∷ take own read)) (taken ++ events) (subst (λ (x : List Placed). Reads table start new names (text ++ (sign ∷ take own read)) x (taken ++ events)) left_is own_read)))
+
+-- the characters of a reference as text
+given_is : (cs : List ℕ) (at : ℕ) → map Gives (map (λ c. Char c at) cs) ≡ run_events (all_at at cs)
+given_is [] at = refl
+given_is (c ∷ cs) at = ap (λ (x : List Event). Gives (Char c at) ∷ x) (given_is cs at)
+
+backwards_is : (seen xs : List Placed) → reverse xs ++ seen ≡ backwards seen xs
+backwards_is seen [] = refl
+backwards_is seen (x ∷ xs) = ap (λ (l : List Placed). l ++ seen) (reverse-append (x ∷ []) xs) ∙ append_assoc (reverse xs) (x ∷ []) seen ∙ backwards_is (x ∷ seen) xs
+
+-- what one ASCII character or none, and others after it, begin with
+first_ahead : (n : ℕ) (xs others : List ℕ) (more : List Placed) → length xs ≤ 1 → list_all is_ascii xs ≡ true → IsUtf8 (xs ++ others) → (rest : List Placed) × (placed n xs ++ rest ≡ first_placed n (xs ++ others) ++ more)
+first_ahead n [] others more few ascii u = (first_placed n others ++ more, refl)
+first_ahead n (x ∷ []) others more few ascii u = (more, ap (λ (cs : List ℕ). placed n (take 1 cs) ++ more) (sym (ascii_chars (x ∷ []) others ascii u).1))
+first_ahead n (x ∷ y ∷ xs) others more few ascii u = absurd (omega (arith, few))
+
+-- it is a front of the run: what it leaves comes next
+module _ (table : Entities) (kind : RawKind) (run : List ℕ) (at : ℕ) (u : IsUtf8 run) (found : Reference) (count : ℕ) (is : IsWhole table kind run found count) where
+  abbrev size : ℕ
+  size = count - found.left
+
+  abbrev mine : List ℕ
+  mine = take size is.shown
+
+  abbrev theirs : List ℕ
+  theirs = drop size is.shown
+
+  abbrev shown_text : List Placed
+  shown_text = placed (at + 1) is.shown
+
+  pub few_left : found.left ≤ count
+  few_left = omega (arith, (is.reads (at + 1) []).within, length-placed (at + 1) is.shown, is.count_is)
+
+  mine_long : length mine ≡ size
+  mine_long = length-take-le size is.shown (omega (arith, is.count_is))
+
+  own_size : length shown_text - found.left ≡ size
+  own_size = omega (arith, length-placed (at + 1) is.shown, is.count_is)
+
+  both : mine ++ theirs ≡ is.shown
+  both = take-append-drop size is.shown
+
+  ascii : (list_all is_ascii mine ≡ true) × (list_all is_ascii theirs ≡ true)
+  ascii = and_parts (list_all is_ascii mine) (list_all is_ascii theirs) (sym (list_all-append is_ascii mine theirs) ∙ ap (list_all is_ascii) both ∙ is.ascii)
+
+  run_split : run ≡ (38 ∷ mine) ++ (theirs ++ is.others)
+  run_split = is.run_is ∙ ap (λ (x : List ℕ). 38 ∷ x ++ is.others) (sym both) ∙ ap (λ (x : List ℕ). 38 ∷ x) (append_assoc mine theirs is.others)
+
+  after_mine : IsUtf8 (theirs ++ is.others)
+  after_mine = (ascii_chars (38 ∷ mine) (theirs ++ is.others) ascii.0 (subst IsUtf8 run_split u)).0
+
+  mine_size : length (38 ∷ mine) ≡ 1 + size
+  mine_size = omega (arith, mine_long)
+
+  mine_taken : take (1 + size) run ≡ 38 ∷ mine
+  mine_taken = ap (take (1 + size)) run_split ∙ take_at (38 ∷ mine) (theirs ++ is.others) (1 + size) mine_size
+
+  mine_left : drop (1 + size) run ≡ theirs ++ is.others
+  mine_left = ap (drop (1 + size)) run_split ∙ drop_at (38 ∷ mine) (theirs ++ is.others) (1 + size) mine_size
+
+  mine_part : placed at (chars (take (1 + size) run)) ≡ record { ch = 38; at = at } ∷ placed (at + 1) mine
+  mine_part = ap (λ (x : List ℕ). placed at (chars x)) mine_taken ∙ ap (placed at) (chars-IsAscii (38 ∷ mine) (each_ascii (38 ∷ mine) ascii.0))
+
+  text_split : shown_text ≡ placed (at + 1) mine ++ placed (at + (1 + size)) theirs
+  text_split =
+      let far : at + 1 + length mine ≡ at + (1 + size) = omega (arith, mine_long) in
+      ap (placed (at + 1)) (sym both) ∙ ascii_placed (at + 1) mine theirs ascii.0 ∙ ap (λ (n : ℕ). placed (at + 1) mine ++ placed n theirs) far
+
+  mine_placed : length (placed (at + 1) mine) ≡ size
+  mine_placed = length-placed (at + 1) mine ∙ mine_long
+
+  own_text : take (length shown_text - found.left) shown_text ≡ placed (at + 1) mine
+  own_text = ap (λ (n : ℕ). take n shown_text) own_size ∙ ap (take size) text_split ∙ take_at (placed (at + 1) mine) (placed (at + (1 + size)) theirs) size mine_placed
+
+  left_text : drop (length shown_text - found.left) shown_text ≡ placed (at + (1 + size)) theirs
+  left_text = ap (λ (n : ℕ). drop n shown_text) own_size ∙ ap (drop size) text_split ∙ drop_at (placed (at + 1) mine) (placed (at + (1 + size)) theirs) size mine_placed
+
+  first_of_whole : first_placed at run ≡ record { ch = 38; at = at } ∷ []
+  first_of_whole = ap (first_placed at) run_split ∙ ap (λ (x : List ℕ). placed at (take 1 x)) (ascii_chars (38 ∷ mine) (theirs ++ is.others) ascii.0 (subst IsUtf8 run_split u)).1
+
+  theirs_few : length theirs ≤ 1
+  theirs_few = omega (arith, is.left, few_left, is.count_is, length-drop size is.shown)
+
+  pub front_whole : IsFront table kind run at (1 + size) (known_errors found at) (all_at at (characters_of found.characters))
+  front_whole = record {
+    cut = record {
+      within = omega (arith, mine_long, ap length run_split, length-append (38 ∷ mine) (theirs ++ is.others));
+      front = subst IsUtf8 (sym mine_taken) (IsUtf8-from_ascii (38 ∷ mine) (each_ascii (38 ∷ mine) ascii.0));
+      back = subst IsUtf8 (sym mine_left) after_mine;
+    };
+    stands = λ start text here taken same s end more.
+        let sign : Placed = record { ch = 38; at = at } in
+        let own : ℕ = length shown_text - found.left in
+        let ahead : List Placed = first_placed (at + (1 + size)) (drop (1 + size) run) in
+        let next = first_ahead (at + (1 + size)) theirs is.others more theirs_few ascii.1 after_mine in
+        let rest : List Placed = next.0 in
+        let cs : List ℕ = characters_of found.characters in
+        let before : Stands table start end text ((sign ∷ take own shown_text) ++ (drop own shown_text ++ rest)) here taken [] =
+        subst (λ (x : List Placed). Stands table start end text x here taken []) (ap (λ (x : List Placed). x ++ (shown_text ++ rest)) first_of_whole ∙ ap (λ (x : List Placed). sign ∷ (x ++ rest)) (sym (take-append-drop own shown_text)) ∙ ap (λ (x : List Placed). sign ∷ x) (append_assoc (take own shown_text) (drop own shown_text) rest))
+        (s end (shown_text ++ rest)) in
+        let later : run_errors found at rest ≡ [] = ap (λ (b : Bool). error_if (b && begins (λ c. eqb c 59) (past is_alphanumeric rest)) UnknownNamedCharacterReference at) is.known in
+        let there : Standing = record here { front = reverse (sign ∷ take own shown_text) ++ here.front } in
+        let one : Stands table start end (text ++ (sign ∷ take own shown_text)) (drop own shown_text ++ rest) there (taken ++ piece_events found at) [] =
+        subst (λ (es : List ParseError). Stands table start end (text ++ (sign ∷ take own shown_text)) (drop own shown_text ++ rest) there (taken ++ piece_events found at) es) later
+        (stands_piece table start end text here taken at shown_text own found (ap has_references same ∙ is.may) is.is_table rest rest ((is.reads (at + 1) rest).reads sign refl) before) in
+        let part_is : sign ∷ take own shown_text ≡ placed at (chars (take (1 + size) run)) = ap (λ (x : List Placed). sign ∷ x) own_text ∙ sym mine_part in
+        let left_is : drop own shown_text ++ rest ≡ ahead ++ more = ap (λ (x : List Placed). x ++ rest) left_text ∙ next.1 ∙ ap (λ (x : List ℕ). first_placed (at + (1 + size)) x ++ more) (sym mine_left) in
+        let given : piece_events found at ≡ text_events (known_errors found at) (all_at at cs) = ap (λ (x : List Event). map Reports (known_errors found at) ++ x) (given_is cs at) in
+        subst (λ (x : List Placed). Stands table start end (text ++ x) (ahead ++ more) (record here { front = backwards here.front x }) (taken ++ text_events (known_errors found at) (all_at at cs)) []) part_is
+        (subst (λ (x : List Placed). Stands table start end (text ++ (sign ∷ take own shown_text)) (ahead ++ more) (record here { front = x }) (taken ++ text_events (known_errors found at) (all_at at cs)) []) (backwards_is here.front (sign ∷ take own shown_text))
+        (subst (λ (x : List Event). Stands table start end (text ++ (sign ∷ take own shown_text)) (ahead ++ more) there (taken ++ x) []) given
+        (subst (λ (x : List Placed). Stands table start end (text ++ (sign ∷ take own shown_text)) x there (taken ++ piece_events found at) []) left_is one)));
+  }
 
 -- AN ASCII CHARACTER
 

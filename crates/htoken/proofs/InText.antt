@@ -2,7 +2,7 @@
 use Rattle.std.proofs.Common.{◌≡◌, ◌≤◌, ◌<◌, ℕ, zero, suc, ◌+◌, true, false, eqb, ◌||◌, List, [], ◌∷◌, ◌++◌, map, length, take, drop, sym, refl, ap, ◌∙◌, subst, arith, Result, Ok, Err, Option, append_assoc, append-nil}
 use Rattle.std.proofs.lemmas.Bool.{and_parts, and_from}
 use Rattle.std.proofs.Math.Seq.{drop-length, drop-nil}
-use Rattle.std.proofs.lemmas.List.{length-append, length-take-le, map-append, take_all, take_at, drop_at}
+use Rattle.std.proofs.lemmas.List.{length-append, length-take-le, take_all, take_at, drop_at}
 use Rattle.std.proofs.lemmas.Bool.Decides.{nat_tests}
 use Rattle.std.proofs.lemmas.Str.{chars-IsAscii, chars-nil, encode_ascii, len_utf8_ascii, IsUtf8-from_ascii, IsUtf8-past_char, chars_past_char}
 use Rattle.std.specs.List.{list_all, prefix_len}
@@ -13,19 +13,22 @@ use Rattle.names.specs.declared.error.ErrorCode.TheVariants.{UnknownNamedCharact
 use Rattle.names.specs.declared.error.ParseError.{ParseError}
 use Rattle.names.specs.declared.placed.Placed.{Placed}
 use Rattle.names.specs.declared.raw.RawKind.{RawKind}
+use Rattle.names.specs.declared.raw.RawKind.TheVariants as kind
 use Rattle.names.specs.declared.refusal.Refusal.{Refusal}
 use Rattle.names.specs.Names.{Texts}
 use Rattle.names.specs.Placed.{all, begins, past, is_alphanumeric, placed, error_if}
 use Rattle.htext.specs.Run.{is_clean, is_plain, is_text_byte, IsCut}
-use Rattle.htext.proofs.Clean.{clean_rest, text_front}
+use Rattle.htext.proofs.Clean.{text_front}
 use Rattle.htext.proofs.Runs.{all_placed}
-use Rattle.htext.proofs.Wide.{chars_cut, has_characters, placed_cut, placed_more}
+use Rattle.htext.proofs.Wide.{chars_cut, cut_more, has_characters, placed_cut, placed_more}
 use Rattle.charref.specs.Reference.{Entities, Piece, IsReference, named, kept, unknown, decimal, hexadecimal, no_digits, alone, ampersand}
 use Rattle.hmarkup.specs.CommentWalk.{backwards}
+use Rattle.htoken.specs.declared.script.Script.{Script}
+use Rattle.htoken.specs.declared.spread.Spread.{Spread}
 use Rattle.htoken.specs.declared.state.State.{State}
 use Rattle.htoken.specs.declared.state.State.TheVariants as state
 use Rattle.htoken.specs.declared.tokenizer.Tokenizer.{Tokenizer}
-use Rattle.htoken.specs.Front.{bare_errors, first_placed, IsBare, IsTextFront}
+use Rattle.htoken.specs.Front.{bare_errors, first_placed, spread_events, IsBare, IsFront, IsTakenFront, RefusesFront, spread_ran_out, spread_refused}
 use Rattle.htoken.specs.Token.{Tok, Span, Item, Event, Gives, Reports, Char, piece_span}
 use Rattle.htoken.specs.Handing.{HandsEvents}
 use Rattle.htoken.specs.Raw.{is_script}
@@ -34,7 +37,7 @@ use Rattle.htoken.specs.Script.{FollowsAll}
 use Rattle.htoken.specs.Spans.{has_references}
 use Rattle.htoken.specs.Standing.{Standing, next}
 use Rattle.htoken.specs.Tokens.{tokens_in, errors_in, eof_of, AreFront}
-use Rattle.htoken.specs.Tokenizing.{Stands, Reads, holds, Takes, take_took, take_sink_refused, IsHeld, IsIn, IsLast, IsBetween, next_place}
+use Rattle.htoken.specs.Tokenizing.{Stands, Reads, holds, Takes, take_ran_out, take_took, take_sink_refused, IsHeld, IsIn, IsLast, IsBetween, next_place}
 use Rattle.htoken.proofs.Fronts.{takes_both}
 use Rattle.htoken.proofs.Cutting.{tokens_in-append, errors_in-append}
 use Rattle.htoken.proofs.Handing.{HandsEvents-append}
@@ -119,11 +122,9 @@ module _ (letters others : List ℕ) (next : ℕ) (plain : list_all is_alphanume
 pub bare_within : (table : Entities) (kind : RawKind) (r : List ℕ) (size : ℕ) → IsBare table kind r size → size < length r
 bare_within table kind r size is = omega (arith, is.count_is, ap length is.run_is, length-append is.letters (is.next ∷ is.others))
 
-pub bare_again : (table : Entities) (kind : RawKind) (r : List ℕ) (size : ℕ) (is : IsBare table kind r size) (count : ℕ) (run : List ℕ) → IsCut count run → r ≡ drop count run → IsCut size (drop count run)
-bare_again table kind r size is count run cut r_is =
-    let run_is : drop count run ≡ 38 ∷ is.letters ++ is.next ∷ is.others = sym r_is ∙ is.run_is in
-    subst (λ (n : ℕ). IsCut n (drop count run)) (sym is.count_is)
-    (subst (λ (x : List ℕ). IsCut (1 + length is.letters) x) (sym run_is) (bare_cut is.letters is.others is.next is.alphanumeric is.ascii (subst IsUtf8 run_is cut.back)))
+pub bare_cut_of : (table : Entities) (kind : RawKind) (run : List ℕ) (size : ℕ) → IsBare table kind run size → IsUtf8 run → IsCut size run
+bare_cut_of table kind run size is u =
+    subst (λ (n : ℕ). IsCut n run) (sym is.count_is) (subst (λ (x : List ℕ). IsCut (1 + length is.letters) x) (sym is.run_is) (bare_cut is.letters is.others is.next is.alphanumeric is.ascii (subst IsUtf8 is.run_is u)))
 
 -- EVENTS
 
@@ -135,7 +136,7 @@ errors_run : (ps : List Placed) → errors_in (run_events ps) ≡ []
 errors_run [] = refl
 errors_run (p ∷ ps) = errors_run ps
 
--- the errors of a text, and then the text
+-- the errors of a text, and then the characters that it gives
 abbrev pub text_events : List ParseError → List Placed → List Event
 text_events errors ps = map Reports errors ++ run_events ps
 
@@ -233,7 +234,7 @@ backwards_on : (seen xs ys : List Placed) → backwards (backwards seen xs) ys �
 backwards_on seen [] ys = refl
 backwards_on seen (x ∷ xs) ys = backwards_on (x ∷ seen) xs ys
 
-drop_on : (i n : ℕ) (xs : List ℕ) → drop n (drop i xs) ≡ drop (i + n) xs
+pub drop_on : (i n : ℕ) (xs : List ℕ) → drop n (drop i xs) ≡ drop (i + n) xs
 drop_on zero n xs = let e : 0 + n ≡ n = omega arith in ap (λ (k : ℕ). drop k xs) (sym e)
 drop_on (suc i) n [] = drop-nil n ∙ sym (drop-nil (suc i + n))
 drop_on (suc i) n (x ∷ xs) = let e : suc i + n ≡ suc (i + n) = omega arith in drop_on i n xs ∙ ap (λ (k : ℕ). drop k (x ∷ xs)) (sym e)
@@ -255,164 +256,152 @@ first_split at n run cut some =
     let is = first_of_some at (chars (take n run)) (chars (drop n run)) (has_characters (take n run) cut.front filled) in
     (is.0, is.1 ∙ ap (λ (l : List ℕ). placed at (take 1 l) ++ is.0) (sym (chars_cut n run cut)))
 
-module _ {S : Type 0} (gives : S → Item → Result (Unit {0}) Refusal → S → Type 0) (table : Entities) (start : RawKind) (names : Texts) (text : List Placed) (taken : List Event) (t : Tokenizer) (h : Reads table start t names text [] taken)
-    (run : List ℕ) (at : ℕ) (old : S) where
-  abbrev part : ℕ → List Placed
-  part count = placed at (chars (take count run))
+-- the same where nothing is in the front
+split_on : (at n : ℕ) (run : List ℕ) → IsCut n run → (tail : List Placed) × (placed at (chars (take n run)) ++ first_placed (at + n) (drop n run) ≡ first_placed at run ++ tail)
+split_on at zero run cut =
+    let same : at + 0 ≡ at = omega arith in
+    ([], ap (λ (cs : List ℕ). placed at cs ++ first_placed (at + 0) run) chars-nil ∙ ap (λ (n : ℕ). first_placed n run) same ∙ sym (append-nil (first_placed at run)))
+split_on at (suc n) run cut =
+    let ahead : List Placed = first_placed (at + suc n) (drop (suc n) run) in
+    let first = first_split at (suc n) run cut (omega arith) in
+    (first.0 ++ ahead, ap (λ (x : List Placed). x ++ ahead) first.1 ∙ append_assoc (first_placed at run) first.0 ahead)
 
-  abbrev ahead : ℕ → List Placed
-  ahead count = first_placed (at + count) (drop count run)
-
-  -- this many bytes are text, whose errors have been handed over
-  pub record SoFar (count : ℕ) (now : S) : Type 0 where
-    pub errors : List ParseError
-    pub handed : HandsEvents gives names old (map Reports errors) (Ok tt) now
-    pub stands : (end : ℕ) (more : List Placed) → Stands table start end (text ++ placed at (chars (take count run))) (first_placed (at + count) (drop count run) ++ more) (after_characters h.here (placed at (chars (take count run))))
-        (taken ++ text_events errors (placed at (chars (take count run)))) []
-
-  -- a part that has these errors comes after it, where what comes next is known to
-  module _ (count size : ℕ) (now next : S) (cut : IsCut count run) (again : IsCut size (drop count run)) (so : SoFar count now) (errors : List ParseError) (told : HandsEvents gives names now (map Reports errors) (Ok tt) next) where
-    abbrev more_part : List Placed
-    more_part = placed (at + count) (chars (take size (drop count run)))
-
-    part_is : part (count + size) ≡ part count ++ more_part
-    part_is = placed_more count size run cut again at
-
-    joined : ((end : ℕ) (more : List Placed) → Stands table start end ((text ++ part count) ++ more_part) (ahead (count + size) ++ more) (after_characters (after_characters h.here (part count)) more_part)
-        ((taken ++ text_events so.errors (part count)) ++ text_events errors more_part) []) → SoFar (count + size) next
-    joined s = record {
-      errors = so.errors ++ errors;
-      handed = subst (λ (x : List Event). HandsEvents gives names old x (Ok tt) next) (sym (map-append Reports so.errors errors)) (HandsEvents-append gives names old now next (map Reports so.errors) (map Reports errors) (Ok tt) so.handed told);
-      stands = λ end more.
-          subst (λ (x : List Placed). Stands table start end (text ++ x) (ahead (count + size) ++ more) (after_characters h.here x) (taken ++ text_events (so.errors ++ errors) x) []) (sym part_is)
-          (subst (λ (x : List Placed). Stands table start end x (ahead (count + size) ++ more) (after_characters h.here (part count ++ more_part)) (taken ++ text_events (so.errors ++ errors) (part count ++ more_part)) []) (append_assoc text (part count) more_part)
-          (subst (λ (x : List Placed). Stands table start end ((text ++ part count) ++ more_part) (ahead (count + size) ++ more) (record h.here { front = x }) (taken ++ text_events (so.errors ++ errors) (part count ++ more_part)) []) (backwards_on h.here.front (part count) more_part)
-          (both_stand taken so.errors errors (part count) more_part table start end ((text ++ part count) ++ more_part) (ahead (count + size) ++ more) (after_characters (after_characters h.here (part count)) more_part) (s end more))));
-    }
-
+module _ (table : Entities) (kind : RawKind) (run : List ℕ) (at : ℕ) where
   -- characters that stand for themselves
-  plain_part : (count size : ℕ) (now : S) → IsCut count run → IsCut size (drop count run) → 0 < size → SoFar count now → all is_itself (placed (at + count) (chars (take size (drop count run)))) ≡ true → SoFar (count + size) now
-  plain_part count size now cut again some so plain =
-      let first = first_split (at + count) size (drop count run) again some in
-      joined count size now now cut again so [] ([], tt, (refl, refl)) (λ end more.
-      run_stands table start end (placed (at + count) (chars (take size (drop count run)))) (text ++ part count) (ahead (count + size) ++ more) (after_characters h.here (part count)) (taken ++ text_events so.errors (part count)) plain
-      (subst (λ (x : List Placed). Stands table start end (text ++ part count) x (after_characters h.here (part count)) (taken ++ text_events so.errors (part count)) [])
-      (sym (append_assoc (ahead count) first.0 (ahead (count + size) ++ more)) ∙ ap (λ (x : List Placed). x ++ (ahead (count + size) ++ more)) (sym first.1)) (so.stands end (first.0 ++ (ahead (count + size) ++ more)))))
+  pub front_plain : (n : ℕ) → IsCut n run → all is_itself (placed at (chars (take n run))) ≡ true → IsFront table kind run at n [] (placed at (chars (take n run)))
+  front_plain n cut plain = record {
+    cut = cut;
+    stands = λ start text here taken is s end more.
+        let part : List Placed = placed at (chars (take n run)) in
+        let ahead : List Placed = first_placed (at + n) (drop n run) in
+        let split = split_on at n run cut in
+        run_stands table start end part text (ahead ++ more) here taken plain (subst (λ (x : List Placed). Stands table start end text x here taken [])
+        (sym (append_assoc (first_placed at run) split.0 more) ∙ ap (λ (x : List Placed). x ++ more) (sym split.1) ∙ append_assoc part ahead more) (s end (split.0 ++ more)));
+  }
+
+  pub front_text : IsUtf8 run → list_all is_clean (chars run) ≡ true → (n : ℕ) → n ≡ prefix_len is_text_byte run → IsFront table kind run at n [] (placed at (chars (take n run)))
+  front_text u clean n is =
+      let front = text_front run u clean in
+      let part : List ℕ = chars (take (prefix_len is_text_byte run) run) in
+      subst (λ (k : ℕ). IsFront table kind run at k [] (placed at (chars (take k run)))) (sym is) (front_plain (prefix_len is_text_byte run) front.0 (all_itself (placed at part) (all_placed is_plain at part front.1)))
 
   -- an `&` that is text, with the letters and digits after it
-  pub bare_part : (count size : ℕ) (now next : S) → IsCut count run → (r : List ℕ) → r ≡ drop count run → (is : IsBare t.table.now t.kind r size) → SoFar count now → HandsEvents gives names now (map Reports (bare_errors is.letters is.next (at + count))) (Ok tt) next
-      → SoFar (count + size) next
-  bare_part count size now next cut r r_is is so told =
-      let run_is : drop count run ≡ 38 ∷ is.letters ++ is.next ∷ is.others = sym r_is ∙ is.run_is in
-      let letters : List ℕ = is.letters in
+  pub front_bare : IsUtf8 run → (size : ℕ) (is : IsBare table kind run size) → IsFront table kind run at size (bare_errors is.letters is.next at) (placed at (chars (take size run)))
+  front_bare u size is =
       let after : List ℕ = is.next ∷ is.others in
-      let whole : List ℕ = 38 ∷ letters ++ after in
-      let u : IsUtf8 whole = subst IsUtf8 run_is cut.back in
-      let amp : Placed = record { ch = 38; at = at + count } in
-      let rest : List Placed = placed (at + count + 1) letters in
-      let again : IsCut size (drop count run) = bare_again t.table.now t.kind r size is count run cut r_is in
-      let part_of : placed (at + count) (chars (take size (drop count run))) ≡ amp ∷ rest =
-      ap (λ (n : ℕ). placed (at + count) (chars (take n (drop count run)))) is.count_is ∙ ap (λ (x : List ℕ). placed (at + count) (chars (take (1 + length letters) x))) run_is
-      ∙ ap (placed (at + count)) (bare_chars letters is.others is.next is.alphanumeric is.ascii u) in
-      let here_is : ahead count ≡ amp ∷ [] = ap (first_placed (at + count)) run_is ∙ bare_first letters is.others is.next is.alphanumeric is.ascii u (at + count) in
-      let left : drop (count + size) run ≡ after =
-      sym (drop_on count size run) ∙ ap (λ (n : ℕ). drop n (drop count run)) is.count_is ∙ ap (drop (1 + length letters)) run_is ∙ bare_left letters is.others is.next is.alphanumeric is.ascii u in
-      let same : at + (count + size) ≡ at + count + size = omega arith in
-      let next_is : ahead (count + size) ≡ record { ch = is.next; at = at + count + size } ∷ [] =
-      ap (λ (n : ℕ). first_placed n (drop (count + size) run)) same ∙ ap (first_placed (at + count + size)) left ∙ bare_next letters is.others is.next is.alphanumeric is.ascii u (at + count + size) in
-      let errors : List ParseError = bare_errors letters is.next (at + count) in
-      let table_is : (x : List Placed) → IsReference t.table.now false x (ampersand amp errors) → IsReference table false x (ampersand amp errors) = λ x r. subst (λ (y : Entities). IsReference y false x (ampersand amp errors)) h.table_is r in
-      joined count size now next cut again so errors told (λ end more.
-      subst (λ (x : List Placed). Stands table start end ((text ++ part count) ++ x) (ahead (count + size) ++ more) (after_characters (after_characters h.here (part count)) x) ((taken ++ text_events so.errors (part count)) ++ text_events errors x) []) (sym part_of)
-      (subst (λ (x : List Placed). Stands table start end ((text ++ part count) ++ (amp ∷ rest)) (x ++ more) (after_characters (after_characters h.here (part count)) (amp ∷ rest)) ((taken ++ text_events so.errors (part count)) ++ text_events errors (amp ∷ rest)) []) (sym next_is)
-      (bare_stands table start end (text ++ part count) (after_characters h.here (part count)) (taken ++ text_events so.errors (part count)) (ap has_references (sym h.kind_is) ∙ is.may) amp rest (record { ch = is.next; at = at + count + size } ∷ more) errors
-      (table_is (rest ++ record { ch = is.next; at = at + count + size } ∷ more) (is.is_text (at + count) more)) (all_placed is_alphanumeric (at + count + 1) letters is.alphanumeric)
-      (subst (λ (x : List Placed). Stands table start end (text ++ part count) (x ++ (rest ++ record { ch = is.next; at = at + count + size } ∷ more)) (after_characters h.here (part count)) (taken ++ text_events so.errors (part count)) []) here_is
-      (so.stands end (rest ++ record { ch = is.next; at = at + count + size } ∷ more))))))
-
-  module _ (clean : list_all is_clean (chars run) ≡ true) where
-    -- what is counted are characters that stand for themselves
-    counted_plain : (count : ℕ) → IsCut count run → all is_itself (placed (at + count) (chars (take (prefix_len is_text_byte (drop count run)) (drop count run)))) ≡ true
-    counted_plain count cut =
-        let part : List ℕ = chars (take (prefix_len is_text_byte (drop count run)) (drop count run)) in
-        all_itself (placed (at + count) part) (all_placed is_plain (at + count) part (text_front (drop count run) cut.back (clean_rest count run cut clean).1).1)
-
-    pub text_part : (count n : ℕ) (now : S) → IsCut count run → n ≡ prefix_len is_text_byte (drop count run) → SoFar count now → SoFar (count + n) now
-    text_part count zero now cut is so = let same : count + 0 ≡ count = omega arith in subst (λ (n : ℕ). SoFar n now) (sym same) so
-    text_part count (suc n) now cut is so =
-        let again : IsCut (suc n) (drop count run) = subst (λ (k : ℕ). IsCut k (drop count run)) (sym is) (text_front (drop count run) cut.back (clean_rest count run cut clean).1).0 in
-        plain_part count (suc n) now cut again (omega arith) so (subst (λ (k : ℕ). all is_itself (placed (at + count) (chars (take k (drop count run)))) ≡ true) (sym is) (counted_plain count cut))
-
-  module _ (in_text : t.state ≡ state.Text) where
-    none : (h.held ≡ []) × (t.raised.errors.items ≡ []) × IsBetween h.here t
-    none = subst (λ (x : State). IsHeld x table names h.here t h.held []) in_text h.is_held
-
-    text_is : text ≡ h.front
-    text_is = h.text_is ∙ ap (λ (x : List Placed). h.front ++ x) none.0 ∙ append-nil h.front
-
-    here_stands : (end : ℕ) (more : List Placed) → Stands table start end text more h.here taken []
-    here_stands end more = subst (λ (x : List Placed). Stands table start end x more h.here taken []) (sym text_is) (subst (λ (x : List Placed). Stands table start end h.front (x ++ more) h.here taken []) none.0 (h.stands end more))
-
-    -- at the beginning
-    pub first_part : (count : ℕ) → all is_itself (part count) ≡ true → SoFar count old
-    first_part count plain = record {
-      errors = [];
-      handed = ([], tt, (refl, refl));
-      stands = λ end more. run_stands table start end (part count) text (ahead count ++ more) h.here taken plain (here_stands end (part count ++ (ahead count ++ more)));
-    }
-
-    pub first_text : IsUtf8 run → list_all is_clean (chars run) ≡ true → (n : ℕ) → n ≡ prefix_len is_text_byte run → IsCut n run × SoFar n old
-    first_text u clean n is =
-        let front = text_front run u clean in
-        let part : List ℕ = chars (take (prefix_len is_text_byte run) run) in
-        subst (λ (k : ℕ). IsCut k run × SoFar k old) (sym is) (front.0, first_part (prefix_len is_text_byte run) (all_itself (placed at part) (all_placed is_plain at part front.1)))
-
-    -- the sink has refused an error
-    pub error_refused : (count : ℕ) (now s : S) (e : Refusal) (errors : List ParseError) → SoFar count now → HandsEvents gives names now (map Reports errors) (Err e) s → Takes gives table start text (placed at (chars run)) taken names old (Err e) s t
-    error_refused count now s e errors so told =
-        take_sink_refused e (map Reports so.errors ++ map Reports errors) refl (HandsEvents-append gives names old now s (map Reports so.errors) (map Reports errors) (Err e) so.handed told) (λ more end.
-        let rest : List Placed = placed at (chars run) ++ more in
-        let then = here_stands end rest in
-        record {
-          spans = then.spans;
-          rest = rest;
-          others = eof_of end rest;
-          text_is = ap (λ (x : List Placed). x ++ rest) then.front_is;
-          cut = then.cut;
-          in_profile = then.in_profile;
-          front_is = ap (λ (x : List Tok). x ++ eof_of end rest) (
-              tokens_in-append taken (map Reports so.errors ++ map Reports errors) ∙ ap (λ (x : List Tok). tokens_in taken ++ x) (tokens_in-append (map Reports so.errors) (map Reports errors)
-              ∙ ap (λ (x : List Tok). x ++ tokens_in (map Reports errors)) (no_tokens_told so.errors) ∙ no_tokens_told errors) ∙ append-nil (tokens_in taken) ∙ then.tokens_are);
-        })
-
-    -- the text has been handed over
-    module _ (count : ℕ) (now : S) (so : SoFar count now) (new : Tokenizer) (then : new ≡ record t { next = new.next; script = new.script }) where
-      front_reads : new.next ≡ next_place ((text ++ part count) ++ ahead count) → (is_script t.kind ≡ true → FollowsAll t.script (part count) new.script)
-          → Reads table start new names (text ++ part count) (ahead count) (taken ++ text_events so.errors (part count))
-      front_reads next follows = record {
-        accepts = ap (λ (x : Tokenizer). x.refused) then ∙ h.accepts;
-        front = text ++ part count;
-        held = [];
-        here = after_characters h.here (part count);
-        table_is = ap (λ (x : Tokenizer). x.table.now) then ∙ h.table_is;
-        text_is = sym (append-nil (text ++ part count));
-        next_is = next;
-        stands = λ end more. so.stands end more;
-        kind_is = ap (λ (x : Tokenizer). x.kind) then ∙ h.kind_is;
-        name_is = subst (λ (x : Option ℕ). IsLast names x h.here.name) (sym (ap (λ (x : Tokenizer). x.last) then)) h.name_is;
-        is_in = subst (λ (x : State). IsIn x h.here.kind) (sym (ap (λ (x : Tokenizer). x.state) then ∙ in_text)) tt;
-        is_held = subst (λ (x : State). IsHeld x table names (after_characters h.here (part count)) new [] (ahead count)) (sym (ap (λ (x : Tokenizer). x.state) then ∙ in_text)) (
-          refl,
-          ap (λ (x : Tokenizer). x.raised.errors.items) then ∙ none.1,
-          record {
-            named = λ raw name e. none.2.named raw name e ∙ ap (λ (x : Tokenizer). string_bytes x.tag.name) (sym then);
-            leveled = λ script. all_followed (part count) t.script new.script h.here.front (follows (ap is_script h.kind_is ∙ script)) (none.2.leveled script);
-          },
-        );
+      let whole : List ℕ = 38 ∷ is.letters ++ after in
+      let v : IsUtf8 whole = subst IsUtf8 is.run_is u in
+      let amp : Placed = record { ch = 38; at = at } in
+      let next : Placed = record { ch = is.next; at = at + size } in
+      let rest : List Placed = placed (at + 1) is.letters in
+      let errors : List ParseError = bare_errors is.letters is.next at in
+      let part_of : placed at (chars (take size run)) ≡ amp ∷ rest =
+      ap (λ (n : ℕ). placed at (chars (take n run))) is.count_is ∙ ap (λ (x : List ℕ). placed at (chars (take (1 + length is.letters) x))) is.run_is
+      ∙ ap (placed at) (bare_chars is.letters is.others is.next is.alphanumeric is.ascii v) in
+      let here_is : first_placed at run ≡ amp ∷ [] = ap (first_placed at) is.run_is ∙ bare_first is.letters is.others is.next is.alphanumeric is.ascii v at in
+      let left : drop size run ≡ after = ap (λ (n : ℕ). drop n run) is.count_is ∙ ap (drop (1 + length is.letters)) is.run_is ∙ bare_left is.letters is.others is.next is.alphanumeric is.ascii v in
+      let next_is : first_placed (at + size) (drop size run) ≡ next ∷ [] = ap (first_placed (at + size)) left ∙ bare_next is.letters is.others is.next is.alphanumeric is.ascii v (at + size) in
+      record {
+        cut = bare_cut_of table kind run size is u;
+        stands = λ start text here taken same s end more.
+            subst (λ (x : List Placed). Stands table start end (text ++ x) (first_placed (at + size) (drop size run) ++ more) (after_characters here x) (taken ++ text_events errors x) []) (sym part_of)
+            (subst (λ (x : List Placed). Stands table start end (text ++ (amp ∷ rest)) (x ++ more) (after_characters here (amp ∷ rest)) (taken ++ text_events errors (amp ∷ rest)) []) (sym next_is)
+            (bare_stands table start end text here taken (ap has_references same ∙ is.may) amp rest (next ∷ more) errors (is.is_text at more) (all_placed is_alphanumeric (at + 1) is.letters is.alphanumeric)
+            (subst (λ (x : List Placed). Stands table start end text (x ++ (rest ++ next ∷ more)) here taken []) here_is (s end (rest ++ next ∷ more)))));
       }
 
-    pub is_front : (count : ℕ) (now : S) → SoFar count now → IsTextFront gives table start t names text taken run at count old now
-    is_front count now so = record { errors = so.errors; handed = so.handed; reads = λ new then next follows. front_reads count now so new then next follows }
+  -- a front, and one after it
+  pub front_both : (n m : ℕ) (es fs : List ParseError) (gs hs : List Placed) → IsFront table kind run at n es gs → IsFront table kind (drop n run) (at + n) m fs hs → IsFront table kind run at (n + m) (es ++ fs) (gs ++ hs)
+  front_both n m es fs gs hs f g =
+      let part : List Placed = placed at (chars (take n run)) in
+      let more_part : List Placed = placed (at + n) (chars (take m (drop n run))) in
+      let ahead : List Placed = first_placed (at + (n + m)) (drop (n + m) run) in
+      let both : placed at (chars (take (n + m) run)) ≡ part ++ more_part = placed_more n m run f.cut g.cut at in
+      let far : at + n + m ≡ at + (n + m) = omega arith in
+      let ahead_is : first_placed (at + n + m) (drop m (drop n run)) ≡ ahead = ap (λ (k : ℕ). first_placed k (drop m (drop n run))) far ∙ ap (first_placed (at + (n + m))) (drop_on n m run) in
+      record {
+        cut = cut_more n m run f.cut g.cut;
+        stands = λ start text here taken is s end more.
+            let there : Standing = after_characters here part in
+            let last : Stands table start end ((text ++ part) ++ more_part) (first_placed (at + n + m) (drop m (drop n run)) ++ more) (after_characters there more_part) ((taken ++ text_events es gs) ++ text_events fs hs) [] =
+            g.stands start (text ++ part) there (taken ++ text_events es gs) is (f.stands start text here taken is s) end more in
+            subst (λ (x : List Placed). Stands table start end (text ++ x) (ahead ++ more) (after_characters here x) (taken ++ text_events (es ++ fs) (gs ++ hs)) []) (sym both)
+            (subst (λ (x : List Placed). Stands table start end x (ahead ++ more) (after_characters here (part ++ more_part)) (taken ++ text_events (es ++ fs) (gs ++ hs)) []) (append_assoc text part more_part)
+            (subst (λ (x : List Placed). Stands table start end ((text ++ part) ++ more_part) (ahead ++ more) (record here { front = x }) (taken ++ text_events (es ++ fs) (gs ++ hs)) []) (backwards_on here.front part more_part)
+            (both_stand taken es fs gs hs table start end ((text ++ part) ++ more_part) (ahead ++ more) (after_characters there more_part)
+            (subst (λ (x : List Placed). Stands table start end ((text ++ part) ++ more_part) (x ++ more) (after_characters there more_part) ((taken ++ text_events es gs) ++ text_events fs hs) []) ahead_is last))));
+      }
+
+  -- a front of text, and one after it
+  pub front_on : (n m : ℕ) (es fs : List ParseError) → IsFront table kind run at n es (placed at (chars (take n run))) → IsFront table kind (drop n run) (at + n) m fs (placed (at + n) (chars (take m (drop n run))))
+      → IsFront table kind run at (n + m) (es ++ fs) (placed at (chars (take (n + m) run)))
+  front_on n m es fs f g =
+      subst (IsFront table kind run at (n + m) (es ++ fs)) (sym (placed_more n m run f.cut g.cut at)) (front_both n m es fs (placed at (chars (take n run))) (placed (at + n) (chars (take m (drop n run)))) f g)
+
+-- where nothing is held, and this comes next
+module _ {S : Type 0} (gives : S → Item → Result (Unit {0}) Refusal → S → Type 0) (table : Entities) (start : RawKind) (names : Texts) (text ahead : List Placed) (taken : List Event) (t : Tokenizer) (h : Reads table start t names text ahead taken) (in_text : t.state ≡ state.Text) where
+  none : (h.held ≡ []) × (t.raised.errors.items ≡ []) × IsBetween h.here t
+  none = subst (λ (x : State). IsHeld x table names h.here t h.held ahead) in_text h.is_held
+
+  text_is : text ≡ h.front
+  text_is = h.text_is ∙ ap (λ (x : List Placed). h.front ++ x) none.0 ∙ append-nil h.front
+
+  here_stands : (end : ℕ) (more : List Placed) → Stands table start end text (ahead ++ more) h.here taken []
+  here_stands end more = subst (λ (x : List Placed). Stands table start end x (ahead ++ more) h.here taken []) (sym text_is) (subst (λ (x : List Placed). Stands table start end h.front (x ++ (ahead ++ more)) h.here taken []) none.0 (h.stands end more))
+
+  -- the sink has refused an error
+  pub error_refused : (run : List Placed) (tail : List Placed) → run ≡ ahead ++ tail → (old s : S) (e : Refusal) (errors : List ParseError) → HandsEvents gives names old (map Reports errors) (Err e) s → Takes gives table start text run taken names old (Err e) s t
+  error_refused run tail is old s e errors told =
+      take_sink_refused e (map Reports errors) refl told (λ more end.
+      let rest : List Placed = ahead ++ (tail ++ more) in
+      let then = here_stands end (tail ++ more) in
+      record {
+        spans = then.spans;
+        rest = rest;
+        others = eof_of end rest;
+        text_is = ap (λ (x : List Placed). text ++ (x ++ more)) is ∙ ap (λ (x : List Placed). text ++ x) (append_assoc ahead tail more) ∙ ap (λ (x : List Placed). x ++ rest) then.front_is;
+        cut = then.cut;
+        in_profile = then.in_profile;
+        front_is = ap (λ (x : List Tok). x ++ eof_of end rest) (tokens_in-append taken (map Reports errors) ∙ ap (λ (x : List Tok). tokens_in taken ++ x) (no_tokens_told errors) ∙ append-nil (tokens_in taken) ∙ then.tokens_are);
+      })
+
+  -- a front has been read
+  module _ (run : List ℕ) (at count : ℕ) (errors : List ParseError) (given : List Placed) (front : IsFront t.table.now t.kind run at count errors given) (tail : List Placed) (begins : first_placed at run ≡ ahead ++ tail) where
+    abbrev part : List Placed
+    part = placed at (chars (take count run))
+
+    abbrev next_ahead : List Placed
+    next_ahead = first_placed (at + count) (drop count run)
+
+    front_stands : (end : ℕ) (more : List Placed) → Stands table start end (text ++ part) (next_ahead ++ more) (after_characters h.here part) (taken ++ text_events errors given) []
+    front_stands = subst (λ (x : Entities). (end : ℕ) (more : List Placed) → Stands x start end (text ++ part) (next_ahead ++ more) (after_characters h.here part) (taken ++ text_events errors given) []) h.table_is
+        (front.stands start text h.here taken (sym h.kind_is) (λ end more.
+        subst (λ (x : Entities). Stands x start end text (first_placed at run ++ more) h.here taken []) (sym h.table_is)
+        (subst (λ (x : List Placed). Stands table start end text x h.here taken []) (sym (append_assoc ahead tail more) ∙ ap (λ (x : List Placed). x ++ more) (sym begins)) (here_stands end (tail ++ more)))))
+
+    pub front_reads : (new : Tokenizer) → new ≡ record t { next = new.next; script = new.script; spread = new.spread } → new.next ≡ next_place ((text ++ part) ++ next_ahead) → (is_script t.kind ≡ true → FollowsAll t.script part new.script)
+        → Reads table start new names (text ++ part) next_ahead (taken ++ text_events errors given)
+    front_reads new then next follows = record {
+      accepts = ap (λ (x : Tokenizer). x.refused) then ∙ h.accepts;
+      front = text ++ part;
+      held = [];
+      here = after_characters h.here part;
+      table_is = ap (λ (x : Tokenizer). x.table.now) then ∙ h.table_is;
+      text_is = sym (append-nil (text ++ part));
+      next_is = next;
+      stands = front_stands;
+      kind_is = ap (λ (x : Tokenizer). x.kind) then ∙ h.kind_is;
+      name_is = subst (λ (x : Option ℕ). IsLast names x h.here.name) (sym (ap (λ (x : Tokenizer). x.last) then)) h.name_is;
+      is_in = subst (λ (x : State). IsIn x h.here.kind) (sym (ap (λ (x : Tokenizer). x.state) then ∙ in_text)) tt;
+      is_held = subst (λ (x : State). IsHeld x table names (after_characters h.here part) new [] next_ahead) (sym (ap (λ (x : Tokenizer). x.state) then ∙ in_text)) (
+        refl,
+        ap (λ (x : Tokenizer). x.raised.errors.items) then ∙ none.1,
+        record {
+          named = λ raw name e. none.2.named raw name e ∙ ap (λ (x : Tokenizer). string_bytes x.tag.name) (sym then);
+          leveled = λ script. all_followed part t.script new.script h.here.front (follows (ap is_script h.kind_is ∙ script)) (none.2.leveled script);
+        },
+      );
+    }
 
 -- A FRONT, AND WHAT ENDS IT
 
@@ -431,86 +420,157 @@ reads_front table start t names text ahead taken h end more =
       front_is = ap (λ (x : List Tok). x ++ eof_of end rest) st.tokens_are;
     }
 
--- two steps, of which one sets the next place and the other the level of script data
-pub both_then : (t new : Tokenizer) (next : ℕ) → new ≡ record t { next = next; script = new.script } → new ≡ record t { next = new.next; script = new.script }
-both_then t new next then = then ∙ ap (λ (n : ℕ). record t { next = n; script = new.script }) (sym (ap (λ (x : Tokenizer). x.next) then))
-
-pub both_next : (t new : Tokenizer) (next : ℕ) → new ≡ record t { next = next; script = new.script } → new.next ≡ next
-both_next t new next then = ap (λ (x : Tokenizer). x.next) then
-
 first_then : (at : ℕ) (cs : List ℕ) → placed at cs ≡ placed at (take 1 cs) ++ drop 1 (placed at cs)
 first_then at [] = refl
 first_then at (c ∷ cs) = refl
 
+-- a front of a run, and what comes next in the run, are a front of the text
+pub run_front : (table : Entities) (start : RawKind) (t : Tokenizer) (names : Texts) (text : List Placed) (run : List ℕ) (at count : ℕ) (taken : List Event) → IsCut count run
+    → Reads table start t names (text ++ placed at (chars (take count run))) (first_placed (at + count) (drop count run)) taken → (more : List Placed) (end : ℕ) → AreFront table start (text ++ (placed at (chars run) ++ more)) end taken
+run_front table start t names text run at count taken cut h more end =
+    let part : List Placed = placed at (chars (take count run)) in
+    let left : List Placed = placed (at + count) (chars (drop count run)) in
+    let ahead : List Placed = first_placed (at + count) (drop count run) in
+    let tail : List Placed = drop 1 left in
+    let split : left ≡ ahead ++ tail = first_then (at + count) (chars (drop count run)) in
+    subst (λ (x : List Placed). AreFront table start x end taken)
+    (append_assoc text part (ahead ++ (tail ++ more))
+    ∙ ap (λ (x : List Placed). text ++ (part ++ x)) (sym (append_assoc ahead tail more) ∙ ap (λ (x : List Placed). x ++ more) (sym split))
+    ∙ ap (λ (x : List Placed). text ++ x) (sym (append_assoc part left more) ∙ ap (λ (x : List Placed). x ++ more) (sym (placed_cut count run cut at))))
+    (reads_front table start t names (text ++ part) ahead taken h end (tail ++ more))
+
+-- the same events in another order
+reads_same : (table : Entities) (start : RawKind) (t : Tokenizer) (names : Texts) (text ahead : List Placed) (taken others : List Event) → tokens_in others ≡ tokens_in taken → errors_in others ≡ errors_in taken → Reads table start t names text ahead taken
+    → Reads table start t names text ahead others
+reads_same table start t names text ahead taken others tokens errors h = record {
+  accepts = h.accepts;
+  front = h.front;
+  held = h.held;
+  here = h.here;
+  table_is = h.table_is;
+  text_is = h.text_is;
+  next_is = h.next_is;
+  stands = λ end more. stands_same table start end h.front (h.held ++ (ahead ++ more)) h.here taken others [] [] tokens (ap (λ (x : List ParseError). x ++ []) errors) (h.stands end more);
+  kind_is = h.kind_is;
+  name_is = h.name_is;
+  is_in = h.is_in;
+  is_held = h.is_held;
+}
+
+-- text was handed over, and before it its errors
+module _ {S : Type 0} (gives : S → Item → Result (Unit {0}) Refusal → S → Type 0) (table : Entities) (start : RawKind) (names : Texts) (text : List Placed) (taken : List Event) (t : Tokenizer) (h : Reads table start t names text [] taken) (in_text : t.state ≡ state.Text)
+    (run : List ℕ) (at count : ℕ) (errors : List ParseError) (front : IsFront t.table.now t.kind run at count errors (placed at (chars (take count run)))) (old mid : S) (told : HandsEvents gives names old (map Reports errors) (Ok tt) mid)
+    (new : Tokenizer) (then : new ≡ record t { script = new.script }) (follows : is_script t.kind ≡ true → FollowsAll t.script (placed at (chars (take count run))) new.script) where
+  abbrev text_part : List Placed
+  text_part = placed at (chars (take count run))
+
+  given_reads : (next : Tokenizer) → next ≡ record new { next = next.next } → next.next ≡ next_place ((text ++ placed at (chars (take count run))) ++ first_placed (at + count) (drop count run))
+      → Reads table start next names (text ++ placed at (chars (take count run))) (first_placed (at + count) (drop count run)) (taken ++ text_events errors (placed at (chars (take count run))))
+  given_reads next next_then place =
+      let is : next ≡ record t { next = next.next; script = new.script } = next_then ∙ ap (λ (x : Tokenizer). record x { next = next.next }) then in
+      let script_is : next.script ≡ new.script = ap (λ (x : Tokenizer). x.script) is in
+      let spread_is : next.spread ≡ t.spread = ap (λ (x : Tokenizer). x.spread) is in
+      front_reads gives table start names text [] taken t h in_text run at count errors text_part front (first_placed at run) refl next
+      (is ∙ ap (λ (x : Script). record t { next = next.next; script = x }) (sym script_is) ∙ ap (λ (x : Spread). record t { next = next.next; script = next.script; spread = x }) (sym spread_is)) place
+      (λ script. subst (FollowsAll t.script text_part) (sym script_is) (follows script))
+
+  both_told : (s : S) (answer : Result (Unit {0}) Refusal) → HandsEvents gives names mid (run_events (placed at (chars (take count run)))) answer s → HandsEvents gives names old (text_events errors (placed at (chars (take count run)))) answer s
+  both_told s answer given = HandsEvents-append gives names old mid s (map Reports errors) (run_events text_part) answer told given
+
+  pub text_given : (s : S) → HandsEvents gives names mid (run_events (placed at (chars (take count run)))) (Ok tt) s → IsTakenFront gives table start new names text taken run at count old s
+  text_given s given = record { events = text_events errors text_part; handed = both_told s (Ok tt) given; reads = given_reads }
+
+  pub text_refused : (s : S) (e : Refusal) (last : Tokenizer) → HandsEvents gives names mid (run_events (placed at (chars (take count run)))) (Err e) s → Takes gives table start text (placed at (chars run)) taken names old (Err e) s last
+  text_refused s e last given =
+      let next : Tokenizer = record new { next = next_place ((text ++ text_part) ++ first_placed (at + count) (drop count run)) } in
+      take_sink_refused e (text_events errors text_part) refl (both_told s (Err e) given) (run_front table start next names text run at count (taken ++ text_events errors text_part) front.cut (given_reads next refl refl))
+
+no_references : (k : RawKind) → has_references k ≡ true → is_script k ≡ true → ⊥
+no_references kind.None h s = absurd cc
+no_references kind.Rcdata h s = absurd cc
+no_references kind.Rawtext h s = absurd cc
+no_references kind.Script h s = absurd cc
+no_references kind.Plaintext h s = absurd cc
+
 module _ {S : Type 0} (gives : S → Item → Result (Unit {0}) Refusal → S → Type 0) (table : Entities) (start : RawKind) (names : Texts) (text : List Placed) (taken : List Event) (t : Tokenizer) (run : List ℕ) (at count : ℕ) (old mid : S)
-    (front : IsTextFront gives table start t names text taken run at count old mid) (new : Tokenizer) (then : new ≡ record t { next = new.next; script = new.script }) where
+    (front : IsTakenFront gives table start t names text taken run at count old mid) (cut : IsCut count run) where
   abbrev front_part : List Placed
   front_part = placed at (chars (take count run))
 
-  abbrev all_events : List Event
-  all_events = text_events front.errors front_part
+  abbrev next_part : List Placed
+  next_part = first_placed (at + count) (drop count run)
 
-  handed_all : (s : S) (answer : Result (Unit {0}) Refusal) → HandsEvents gives names mid (run_events front_part) answer s → HandsEvents gives names old all_events answer s
-  handed_all s answer given = HandsEvents-append gives names old mid s (map Reports front.errors) (run_events front_part) answer front.handed given
+  abbrev left : List Placed
+  left = placed (at + count) (chars (drop count run))
 
-  -- the whole run is text
-  module _ (all : count ≡ length run) (next : new.next ≡ next_place (text ++ placed at (chars run))) (follows : is_script t.kind ≡ true → FollowsAll t.script (placed at (chars run)) new.script) where
-    whole : take count run ≡ run
-    whole = take_all count run (omega (arith, all))
+  -- nothing comes after it
+  pub all_taken : count ≡ length run → (new : Tokenizer) → new ≡ record t { next = new.next } → new.next ≡ next_place (text ++ placed at (chars run)) → Takes gives table start text (placed at (chars (take count run))) taken names old (Ok tt) mid new
+  all_taken all new then next =
+      let whole : take count run ≡ run = take_all count run (omega (arith, all)) in
+      let none_next : next_part ≡ [] = ap (λ (x : List ℕ). placed (at + count) (take 1 (chars x))) (ap (λ (n : ℕ). drop n run) all ∙ drop-length run) ∙ ap (λ (x : List ℕ). placed (at + count) (take 1 x)) chars-nil in
+      take_took front.events refl front.handed (holds (subst (λ (x : List Placed). Reads table start new names (text ++ front_part) x (taken ++ front.events)) none_next
+      (front.reads new then (next ∙ ap (λ (x : List ℕ). next_place (text ++ placed at (chars x))) (sym whole) ∙ ap next_place (sym (append-nil (text ++ front_part))) ∙ ap (λ (x : List Placed). next_place ((text ++ front_part) ++ x)) (sym none_next)))))
 
-    none_next : first_placed (at + count) (drop count run) ≡ []
-    none_next = ap (λ (x : List ℕ). placed (at + count) (take 1 (chars x))) (ap (λ (n : ℕ). drop n run) all ∙ drop-length run) ∙ ap (λ (x : List ℕ). placed (at + count) (take 1 x)) chars-nil
+  -- something does
+  pub then_taken : (n : ℕ) (last : S) (after : Tokenizer) → IsCut n (drop count run)
+      → Takes gives table start (text ++ placed at (chars (take count run))) (placed (at + count) (chars (take n (drop count run)))) (taken ++ front.events) names mid (Ok tt) last after
+      → Takes gives table start text (placed at (chars (take (count + n) run))) taken names old (Ok tt) last after
+  then_taken n last after again h =
+      subst (λ (x : List Placed). Takes gives table start text x taken names old (Ok tt) last after) (sym (placed_more count n run cut again at))
+      (takes_both gives table start text front_part (placed (at + count) (chars (take n (drop count run)))) taken front.events names old mid last (Ok tt) after front.handed h)
 
-    whole_part_is : front_part ≡ placed at (chars run)
-    whole_part_is = ap (λ (x : List ℕ). placed at (chars x)) whole
+  pub then_refused : (e : Refusal) (last : S) (after : Tokenizer) → Takes gives table start (text ++ placed at (chars (take count run))) (placed (at + count) (chars (drop count run))) (taken ++ front.events) names mid (Err e) last after
+      → Takes gives table start text (placed at (chars run)) taken names old (Err e) last after
+  then_refused e last after h =
+      subst (λ (x : List Placed). Takes gives table start text x taken names old (Err e) last after) (sym (placed_cut count run cut at))
+      (takes_both gives table start text front_part left taken front.events names old mid last (Err e) after front.handed h)
 
-    reads_all : Reads table start new names (text ++ front_part) [] (taken ++ all_events)
-    reads_all = subst (λ (x : List Placed). Reads table start new names (text ++ front_part) x (taken ++ all_events)) none_next
-        (front.reads new then (next ∙ ap (λ (x : List Placed). next_place (text ++ x)) (sym whole_part_is) ∙ ap next_place (sym (append-nil (text ++ front_part))) ∙ ap (λ (x : List Placed). next_place ((text ++ front_part) ++ x)) (sym none_next))
-        (λ script. subst (λ (x : List Placed). FollowsAll t.script x new.script) (sym whole_part_is) (follows script)))
+  -- more was handed over as one text
+  module _ (in_text : t.state ≡ state.Text) (may : has_references t.kind ≡ true) where
+    abbrev there : Tokenizer
+    there = record t { next = next_place ((text ++ front_part) ++ next_part) }
 
-    given_all : (s : S) (answer : Result (Unit {0}) Refusal) → HandsEvents gives names mid (run_events (placed at (chars run))) answer s → HandsEvents gives names old all_events answer s
-    given_all s answer given = handed_all s answer (subst (λ (x : List Placed). HandsEvents gives names mid (run_events x) answer s) (sym whole_part_is) given)
+    here_reads : Reads table start there names (text ++ front_part) next_part (taken ++ front.events)
+    here_reads = front.reads there refl refl
 
-    pub whole_text : (s : S) → HandsEvents gives names mid (run_events (placed at (chars run))) (Ok tt) s → Takes gives table start text front_part taken names old (Ok tt) s new
-    whole_text s given = take_took all_events refl (given_all s (Ok tt) given) (holds reads_all)
+    module _ (size : ℕ) (errors : List ParseError) (given : List Placed) (more : IsFront t.table.now t.kind (drop count run) (at + count) size errors given) where
+      abbrev all_events : List Event
+      all_events = front.events ++ spread_events given errors
 
-    pub whole_refused : (s : S) (e : Refusal) → HandsEvents gives names mid (run_events (placed at (chars run))) (Err e) s → Takes gives table start text (placed at (chars run)) taken names old (Err e) s new
-    whole_refused s e given = take_sink_refused e all_events refl (given_all s (Err e) given) (λ more end.
-        subst (λ (x : List Placed). AreFront table start x end (taken ++ all_events)) (append_assoc text front_part more ∙ ap (λ (x : List Placed). text ++ (x ++ more)) whole_part_is)
-        (reads_front table start new names (text ++ front_part) [] (taken ++ all_events) reads_all end more))
+      on_reads : (new next : Tokenizer) → new ≡ record t { spread = new.spread } → next ≡ record new { next = next.next }
+          → next.next ≡ next_place ((text ++ placed at (chars (take (count + size) run))) ++ first_placed (at + (count + size)) (drop (count + size) run))
+          → Reads table start next names (text ++ placed at (chars (take (count + size) run))) (first_placed (at + (count + size)) (drop (count + size) run)) (taken ++ all_events)
+      on_reads new next then next_then place =
+          let more_part : List Placed = placed (at + count) (chars (take size (drop count run))) in
+          let far : at + count + size ≡ at + (count + size) = omega arith in
+          let ahead_is : first_placed (at + count + size) (drop size (drop count run)) ≡ first_placed (at + (count + size)) (drop (count + size) run) = ap (λ (k : ℕ). first_placed k (drop size (drop count run))) far ∙ ap (first_placed (at + (count + size))) (drop_on count size run) in
+          let text_is : (text ++ front_part) ++ more_part ≡ text ++ placed at (chars (take (count + size) run)) = append_assoc text front_part more_part ∙ ap (λ (x : List Placed). text ++ x) (sym (placed_more count size run cut more.cut at)) in
+          let is : next ≡ record t { next = next.next; spread = new.spread } = next_then ∙ ap (λ (x : Tokenizer). record x { next = next.next }) then in
+          let before : List Event = taken ++ front.events in
+          let same : (before ++ run_events given) ++ map Reports errors ≡ taken ++ all_events = append_assoc before (run_events given) (map Reports errors) ∙ append_assoc taken front.events (spread_events given errors) in
+          reads_same table start next names (text ++ placed at (chars (take (count + size) run))) (first_placed (at + (count + size)) (drop (count + size) run)) (before ++ text_events errors given) (taken ++ all_events)
+          (sym (text_first_tokens before errors given ∙ ap tokens_in same)) (sym (text_first_errors before errors given ∙ ap errors_in same))
+          (subst (λ (x : List Placed). Reads table start next names x (first_placed (at + (count + size)) (drop (count + size) run)) (before ++ text_events errors given)) text_is
+          (subst (λ (x : List Placed). Reads table start next names ((text ++ front_part) ++ more_part) x (before ++ text_events errors given)) ahead_is
+          (front_reads gives table start names (text ++ front_part) next_part before there here_reads in_text (drop count run) (at + count) size errors given more [] (sym (append-nil next_part)) next
+          (is ∙ ap (λ (x : Script). record t { next = next.next; script = x; spread = new.spread }) (sym (ap (λ (x : Tokenizer). x.script) is)) ∙ ap (λ (x : Spread). record t { next = next.next; script = next.script; spread = x }) (sym (ap (λ (x : Tokenizer). x.spread) is)))
+          (place ∙ ap next_place (ap (λ (x : List Placed). x ++ first_placed (at + (count + size)) (drop (count + size) run)) (sym text_is) ∙ ap (λ (x : List Placed). ((text ++ front_part) ++ more_part) ++ x) (sym ahead_is)))
+          (λ script. absurd (no_references t.kind may script)))))
 
-  -- something ends it
-  module _ (cut : IsCut count run) (next : new.next ≡ next_place ((text ++ front_part) ++ first_placed (at + count) (drop count run))) (follows : is_script t.kind ≡ true → FollowsAll t.script (placed at (chars (take count run))) new.script) where
-    pub reads_on : Reads table start new names (text ++ placed at (chars (take count run))) (first_placed (at + count) (drop count run)) (taken ++ text_events front.errors (placed at (chars (take count run))))
-    reads_on = front.reads new then next follows
+      pub spread_given : (new : Tokenizer) → new ≡ record t { spread = new.spread } → (s : S) → HandsEvents gives names mid (spread_events given errors) (Ok tt) s → IsTakenFront gives table start new names text taken run at (count + size) old s
+      spread_given new then s handed = record {
+        events = all_events;
+        handed = HandsEvents-append gives names old mid s front.events (spread_events given errors) (Ok tt) front.handed handed;
+        reads = λ next next_then place. on_reads new next then next_then place;
+      }
 
-    abbrev left : List Placed
-    left = placed (at + count) (chars (drop count run))
+      spread_not : (e : Refusal) (s : S) (last : Tokenizer) → HandsEvents gives names mid (spread_events given errors) (Err e) s → Takes gives table start text (placed at (chars run)) taken names old (Err e) s last
+      spread_not e s last handed =
+          let next : Tokenizer = record t { next = next_place ((text ++ placed at (chars (take (count + size) run))) ++ first_placed (at + (count + size)) (drop (count + size) run)) } in
+          take_sink_refused e all_events refl (HandsEvents-append gives names old mid s front.events (spread_events given errors) (Err e) front.handed handed)
+          (run_front table start next names text run at (count + size) (taken ++ all_events) (cut_more count size run cut more.cut) (on_reads t next refl refl refl))
 
-    run_is : placed at (chars run) ≡ front_part ++ left
-    run_is = placed_cut count run cut at
-
-    pub front_refused : (s : S) (e : Refusal) → HandsEvents gives names mid (run_events (placed at (chars (take count run)))) (Err e) s → (last : Tokenizer) → Takes gives table start text (placed at (chars run)) taken names old (Err e) s last
-    front_refused s e given last = take_sink_refused e all_events refl (handed_all s (Err e) given) (λ more end.
-        let tail : List Placed = drop 1 left in
-        let split : left ≡ first_placed (at + count) (drop count run) ++ tail = first_then (at + count) (chars (drop count run)) in
-        subst (λ (x : List Placed). AreFront table start x end (taken ++ all_events))
-        (append_assoc text front_part (first_placed (at + count) (drop count run) ++ (tail ++ more))
-        ∙ ap (λ (x : List Placed). text ++ (front_part ++ x)) (sym (append_assoc (first_placed (at + count) (drop count run)) tail more) ∙ ap (λ (x : List Placed). x ++ more) (sym split))
-        ∙ ap (λ (x : List Placed). text ++ x) (sym (append_assoc front_part left more) ∙ ap (λ (x : List Placed). x ++ more) (sym run_is)))
-        (reads_front table start new names (text ++ front_part) (first_placed (at + count) (drop count run)) (taken ++ all_events) reads_on end (tail ++ more)))
-
-    pub then_taken : (n : ℕ) (s last : S) (after : Tokenizer) → IsCut n (drop count run) → HandsEvents gives names mid (run_events (placed at (chars (take count run)))) (Ok tt) s
-        → Takes gives table start (text ++ placed at (chars (take count run))) (placed (at + count) (chars (take n (drop count run)))) (taken ++ text_events front.errors (placed at (chars (take count run)))) names s (Ok tt) last after
-        → Takes gives table start text (placed at (chars (take (count + n) run))) taken names old (Ok tt) last after
-    then_taken n s last after again given h =
-        subst (λ (x : List Placed). Takes gives table start text x taken names old (Ok tt) last after) (sym (placed_more count n run cut again at))
-        (takes_both gives table start text front_part (placed (at + count) (chars (take n (drop count run)))) taken all_events names old s last (Ok tt) after (handed_all s (Ok tt) given) h)
-
-    pub then_refused : (e : Refusal) (s last : S) (after : Tokenizer) → HandsEvents gives names mid (run_events (placed at (chars (take count run)))) (Ok tt) s
-        → Takes gives table start (text ++ placed at (chars (take count run))) (placed (at + count) (chars (drop count run))) (taken ++ text_events front.errors (placed at (chars (take count run)))) names s (Err e) last after
-        → Takes gives table start text (placed at (chars run)) taken names old (Err e) last after
-    then_refused e s last after given h =
-        subst (λ (x : List Placed). Takes gives table start text x taken names old (Err e) last after) (sym run_is)
-        (takes_both gives table start text front_part left taken all_events names old s last (Err e) after (handed_all s (Ok tt) given) h)
+    pub spread_fails : (e : Refusal) (s : S) (last : Tokenizer) → RefusesFront gives names t.table.now t.kind (drop count run) (at + count) mid e s → Takes gives table start text (placed at (chars run)) taken names old (Err e) s last
+    spread_fails e s last (spread_ran_out is same) =
+        take_ran_out front.events (ap (λ (x : Refusal). Err x) is) (subst (HandsEvents gives names old front.events (Ok tt)) (sym same) front.handed) (run_front table start there names text run at count (taken ++ front.events) cut here_reads)
+    spread_fails e s last (spread_refused size f) = spread_not size f.errors f.given f.front e s last f.handed

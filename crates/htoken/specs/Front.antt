@@ -1,5 +1,6 @@
 -- The text at the front of a run, and what ends it: contracts of the tokenizer's own functions.
-use Rattle.std.specs.Prelude.{◌≡◌, ℕ, ◌+◌, ◌≤◌, ◌==◌, true, false, List, [], ◌∷◌, ◌++◌, map, length, take, drop, Result, Ok}
+use Rattle.std.specs.Prelude.{◌≡◌, ℕ, ◌+◌, ◌≤◌, ◌<◌, ◌==◌, Bool, true, false, List, [], ◌∷◌, ◌++◌, map, length, take, drop, Result, Ok, Err}
+use Rattle.std.specs.Prelude.{string_bytes, encode_utf8_all}
 use Rattle.std.specs.Char.{is_ascii}
 use Rattle.std.specs.List.{list_all}
 use Rattle.std.specs.Str.{chars}
@@ -8,22 +9,26 @@ use Rattle.names.specs.declared.error.ParseError.{ParseError}
 use Rattle.names.specs.declared.placed.Placed.{Placed}
 use Rattle.names.specs.declared.raw.RawKind.{RawKind}
 use Rattle.names.specs.declared.refusal.Refusal.{Refusal}
+use Rattle.names.specs.declared.refusal.Refusal.TheVariants.{Memory}
 use Rattle.names.specs.Names.{Texts}
-use Rattle.names.specs.Placed.{placed, error_if, is_alphanumeric}
+use Rattle.names.specs.Placed.{characters, placed, error_if, is_alphanumeric}
+use Rattle.names.specs.Sink.{Hands}
+use Rattle.hmarkup.specs.CommentWalk.{backwards}
+use Rattle.htext.specs.Run.{IsCut}
 use Rattle.charref.specs.declared.reference.Reference.{Reference}
 use Rattle.charref.specs.Pieces.{IsRead}
 use Rattle.charref.specs.Reference.{Entities, IsReference, IsTable, ampersand}
 use Rattle.htoken.specs.declared.front.Ampersand.{Ampersand}
 use Rattle.htoken.specs.declared.front.Ampersand.TheVariants.{Text, Whole, Open}
+use Rattle.htoken.specs.declared.spread.Spread.{Spread}
 use Rattle.htoken.specs.declared.tokenizer.Tokenizer.{Tokenizer}
 use Rattle.htoken.specs.Token.{Item, Event, Reports}
 use Rattle.htoken.specs.Handing.{HandsEvents}
-use Rattle.htoken.specs.Raw.{is_script}
-use Rattle.htoken.specs.Run.{run_events}
-use Rattle.htoken.specs.Script.{FollowsAll}
+use Rattle.htoken.specs.Run.{is_not_null, run_events, StartsAt}
 use Rattle.htoken.specs.Spans.{has_references}
+use Rattle.htoken.specs.Standing.{Standing}
 use Rattle.htoken.specs.Steps.{TakesPart}
-use Rattle.htoken.specs.Tokenizing.{Reads, next_place}
+use Rattle.htoken.specs.Tokenizing.{Reads, Stands, next_place}
 
 -- the error of an `&` that is text, with these letters and digits after it and this character after those (#ambiguous-ampersand-state)
 abbrev pub bare_errors : List ℕ → ℕ → ℕ → List ParseError
@@ -63,22 +68,86 @@ Shows table kind run (Text size) = IsBare table kind run size
 Shows table kind run (Whole found count) = IsWhole table kind run found count
 Shows table kind run Open = Unit {0}
 
+-- characters that all are at this place
+abbrev pub all_at : ℕ → List ℕ → List Placed
+all_at at cs = map (λ c. record { ch = c; at = at }) cs
+
 -- the first character of a text, if it has one
 abbrev pub first_placed : ℕ → List ℕ → List Placed
 first_placed at text = placed at (take 1 (chars text))
 
--- This many bytes at the front of a run are text, whose errors were handed over: after them, what comes next in the run is known to.
-pub record IsTextFront {S : Type 0} (gives : S → Item → Result (Unit {0}) Refusal → S → Type 0) (table : Entities) (start : RawKind) (t : Tokenizer)
-    (names : Texts) (text : List Placed) (taken : List Event) (run : List ℕ) (at count : ℕ) (old new : S) : Type 0 where
-  pub errors : List ParseError
-  pub handed : HandsEvents gives names old (map Reports errors) (Ok tt) new
-  pub reads : (next : Tokenizer) → next ≡ record t { next = next.next; script = next.script }
-      → next.next ≡ next_place ((text ++ placed at (chars (take count run))) ++ first_placed (at + count) (drop count run))
-      → (is_script t.kind ≡ true → FollowsAll t.script (placed at (chars (take count run))) next.script)
-      → Reads table start next names (text ++ placed at (chars (take count run))) (first_placed (at + count) (drop count run))
-      (taken ++ (map Reports errors ++ run_events (placed at (chars (take count run)))))
+-- This many bytes at the front of a run are text and whole references: they have these errors and give these characters, whatever comes after
+-- what comes next in the run.
+pub record IsFront (table : Entities) (kind : RawKind) (run : List ℕ) (at count : ℕ) (errors : List ParseError) (given : List Placed) : Type 0 where
+  pub cut : IsCut count run
+  pub stands : (start : RawKind) (text : List Placed) (here : Standing) (taken : List Event) → here.kind ≡ kind
+      → ((end : ℕ) (more : List Placed) → Stands table start end text (first_placed at run ++ more) here taken []) → (end : ℕ) (more : List Placed)
+      → Stands table start end (text ++ placed at (chars (take count run))) (first_placed (at + count) (drop count run) ++ more)
+      (record here { front = backwards here.front (placed at (chars (take count run))) }) (taken ++ (map Reports errors ++ run_events given)) []
 
--- how a run is taken on, whose text at the front has this length, where the errors of that text were handed over
-abbrev pub TakesOn : {S : Type 0} → (S → Item → Result (Unit {0}) Refusal → S → Type 0) → Tokenizer → List ℕ → ℕ → ℕ → S → Result ℕ Refusal → S → Tokenizer → Type 0
+-- the text at the front of a run, whose errors were handed over
+pub record TellsText {S : Type 0} (gives : S → ParseError → Result (Unit {0}) Refusal → S → Type 0) (table : Entities) (kind : RawKind)
+    (run : List ℕ) (at count : ℕ) (old new : S) : Type 0 where
+  pub errors : List ParseError
+  pub handed : Hands gives old errors (Ok tt) new
+  pub front : IsFront table kind run at count errors (placed at (chars (take count run)))
+
+-- the events of a front that is handed over as one text
+abbrev pub spread_events : List Placed → List ParseError → List Event
+spread_events given errors = run_events given ++ map Reports errors
+
+-- A front of a run was handed over as one text, or the sink refused it, or memory ran out before.
+pub record GivesFront {S : Type 0} (gives : S → Item → Result (Unit {0}) Refusal → S → Type 0) (names : Texts) (table : Entities)
+    (kind : RawKind) (run : List ℕ) (at count : ℕ) (old : S) (answer : Result (Unit {0}) Refusal) (new : S) : Type 0 where
+  pub errors : List ParseError
+  pub given : List Placed
+  pub front : IsFront table kind run at count errors given
+  pub handed : HandsEvents gives names old (spread_events given errors) answer new
+
+pub data RefusesFront {S : Type 0} (gives : S → Item → Result (Unit {0}) Refusal → S → Type 0) (names : Texts) (table : Entities)
+    (kind : RawKind) (run : List ℕ) (at : ℕ) (old : S) (e : Refusal) (new : S) : Type 0 where
+  spread_ran_out : e ≡ Memory → new ≡ old → RefusesFront gives names table kind run at old e new
+  spread_refused : (count : ℕ) → GivesFront gives names table kind run at count old (Err e) new
+      → RefusesFront gives names table kind run at old e new
+
+-- What was gathered is handed over, unless the sink does not take it as one run.
+abbrev pub GivesSpread : {S : Type 0} → (S → Item → Result (Unit {0}) Refusal → S → Type 0) → Texts → List Placed → List ParseError → S → Result Bool Refusal → S
+    → Type 0
+GivesSpread gives names given errors old (Ok true) new = HandsEvents gives names old (spread_events given errors) (Ok tt) new
+GivesSpread gives names given errors old (Ok false) new = new ≡ old
+GivesSpread gives names given errors old (Err e) new = HandsEvents gives names old (spread_events given errors) (Err e) new
+
+-- A front of a run was added to what is gathered: it gives characters other than NUL, the first of which is at `at`.
+pub record Adds (table : Entities) (kind : RawKind) (run : List ℕ) (at count : ℕ) (old new : Spread) : Type 0 where
+  pub errors : List ParseError
+  pub given : List Placed
+  pub front : IsFront table kind run at count errors given
+  pub raised_is : new.raised.errors.items ≡ old.raised.errors.items ++ errors
+  pub text_is : string_bytes new.text ≡ string_bytes old.text ++ encode_utf8_all (characters given)
+  pub not_null : list_all is_not_null (characters given) ≡ true
+  pub starts : (p : Placed) × (ps : List Placed) × (given ≡ p ∷ ps) × (p.at ≡ at)
+  pub some : 0 < count
+
+-- This front of a run is what is gathered.
+pub record IsGathered (table : Entities) (kind : RawKind) (run : List ℕ) (at count : ℕ) (s : Spread) : Type 0 where
+  pub given : List Placed
+  pub front : IsFront table kind run at count s.raised.errors.items given
+  pub text_is : string_bytes s.text ≡ encode_utf8_all (characters given)
+  pub not_null : list_all is_not_null (characters given) ≡ true
+  pub starts : StartsAt given at
+  pub some : given ≡ [] → count ≡ 0
+
+-- A front of a run has been taken: what it gives was handed over, and what comes next in the run is known to.
+pub record IsTakenFront {S : Type 0} (gives : S → Item → Result (Unit {0}) Refusal → S → Type 0) (table : Entities) (start : RawKind)
+    (t : Tokenizer) (names : Texts) (text : List Placed) (taken : List Event) (run : List ℕ) (at count : ℕ) (old new : S) : Type 0 where
+  pub events : List Event
+  pub handed : HandsEvents gives names old events (Ok tt) new
+  pub reads : (next : Tokenizer) → next ≡ record t { next = next.next }
+      → next.next ≡ next_place ((text ++ placed at (chars (take count run))) ++ first_placed (at + count) (drop count run))
+      → Reads table start next names (text ++ placed at (chars (take count run))) (first_placed (at + count) (drop count run)) (taken ++ events)
+
+-- how a run is taken on, of which a front of this length has been taken
+abbrev pub TakesOn : {S : Type 0} → (S → Item → Result (Unit {0}) Refusal → S → Type 0) → Tokenizer → List ℕ → ℕ → ℕ → S → Result ℕ Refusal → S
+    → Tokenizer → Type 0
 TakesOn {S} gives t run at count mid answer new next = (table : Entities) (start : RawKind) (names : Texts) (text : List Placed) (taken : List Event) (old : S)
-    → IsTextFront gives table start t names text taken run at count old mid → TakesPart gives table start text at run taken names old answer new next
+    → IsTakenFront gives table start t names text taken run at count old mid → TakesPart gives table start text at run taken names old answer new next

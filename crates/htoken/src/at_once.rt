@@ -86,7 +86,7 @@ impl<'t> Tokenizer<'t> {
         let name = names.intern(self.alloc, &run[1..size + 1])?;
         self.next = at + size as u64 + 2;
         self.state = State::Text;
-        sink.take_token(Token::End { name, at: self.at })?;
+        sink.take_tag(Token::End { name, at: self.at }, names)?;
         Ok(size + 2)
     }
 
@@ -116,12 +116,13 @@ impl<'t> Tokenizer<'t> {
         self.next = at + size as u64 + 1;
         self.state = State::Text;
         self.last = Some(name);
-        sink.take_token(Token::Start {
+        let token = Token::Start {
             name,
             attrs: Vec::new(self.alloc),
             closing: false,
             at: self.at,
-        })?;
+        };
+        sink.take_tag(token, names)?;
         Ok(size + 1)
     }
 

@@ -1,8 +1,9 @@
 //! The text at the front of a run, and the `<` or `&` that ends it (HTML Standard, 13.2.5.1 to 13.2.5.5 and 13.2.5.72 to 13.2.5.74).
 
-ghost use Rattle.std.specs.Prelude.{◌≡◌, ◌≤◌, ◌<◌, ◌+◌, List, map, true, false, IfOk, IfSome, MatchResult, Err, drop, length, slice_index, take};
+ghost use Rattle.std.specs.Prelude.{◌≡◌, ◌≤◌, ◌<◌, ◌+◌, List, true, false, IfOk, IfSome, is_some, MatchResult, Err, drop, length, slice_index, take};
 ghost use Rattle.std.specs.List.{list_all};
 ghost use Rattle.std.specs.Str.{chars};
+ghost use Rattle.names.specs.declared.error.ParseError.{ParseError as Error};
 ghost use Rattle.names.specs.declared.placed.Placed.{Placed as Character};
 ghost use Rattle.names.specs.declared.raw.RawKind.{RawKind as Kind};
 ghost use Rattle.names.specs.Names.{Texts};
@@ -11,23 +12,24 @@ ghost use Rattle.names.specs.Sink.{Hands};
 ghost use Rattle.htext.specs.declared.decoder.TheConstants.{MAX_INPUT};
 ghost use Rattle.htext.specs.Run.{is_clean, is_text_byte, IsCut};
 ghost use Rattle.charref.specs.Reference.{Entities};
-ghost use Rattle.htoken.specs.Front.{bare_errors, first_placed, IsBare, IsTextFront, IsWhole, Shows, TakesOn};
+ghost use Rattle.htoken.specs.Front.{bare_errors, first_placed, GivesFront, IsBare, IsWhole, RefusesFront, Shows, TakesOn, TellsText};
 ghost use Rattle.htoken.specs.Raw.{is_script};
 ghost use Rattle.htoken.specs.Run.{run_tokens};
 ghost use Rattle.htoken.specs.Script.{FollowsAll};
 ghost use Rattle.htoken.specs.Steps.{TakesPart};
-ghost use Rattle.htoken.specs.Handing.{HandsEvents};
-ghost use Rattle.htoken.specs.Token.{Event, Reports, gives_item};
+ghost use Rattle.htoken.specs.Token.{Event, gives_item};
 ghost use Rattle.htoken.specs.Tokenizing.{HasTaken, Reads, Takes};
 
 use crate::hand::{give_piece, tell_unknown};
 use crate::run::last_start;
 use crate::sink::TokenSink;
 use crate::state::State;
+use crate::text::allows_references;
 use crate::tokenizer::{Tokenizer, after};
-use charref::{Reference, Walk};
+use charref::{Reference, Table, Walk};
+use hmarkup::ErrorSink;
 use htext::{alphanumeric_run, text_run};
-use names::Refusal;
+use names::{RawKind, Refusal};
 
 /// What the run after an `&` shows of it.
 enum Ampersand<'t> {
@@ -41,11 +43,11 @@ enum Ampersand<'t> {
 
 /// Hands over the error of an `&` that is text, if it has one: it is of this length with the letters and digits after it.
 #[inline(always)]
-fn tell_bare<S: TokenSink>(run: &str, size: usize, at: u64, sink: &mut S) -> Result<(), Refusal>
+fn tell_bare<S: ErrorSink>(run: &str, size: usize, at: u64, sink: &mut S) -> Result<(), Refusal>
     requires some { 0 < size }
     requires within { size < length run.now }
-    ensures { (table : Entities) (kind : Kind) (names : Texts) (is : IsBare table kind run.now size)
-        → HandsEvents (gives_item S.gives S.gives_token) names sink.old (map Reports (bare_errors is.letters is.next at)) result sink.new }
+    ensures { (table : Entities) (kind : Kind) (is : IsBare table kind run.now size)
+        → Hands S.gives sink.old (bare_errors is.letters is.next at) result sink.new }
 {
     if size == 1 {
         return Ok(());
@@ -53,9 +55,72 @@ fn tell_bare<S: TokenSink>(run: &str, size: usize, at: u64, sink: &mut S) -> Res
     tell_unknown(char::from(run.as_bytes()[size]), at, sink)
 }
 
+/// How many bytes at the front of a run are text: plain characters, and each `&` that is text, with the letters and digits after it.
+/// Hands over the errors of these. With it the whole reference that comes next, if the run shows one.
+#[inline(always)]
+pub(crate) fn text_before<'t, S: ErrorSink>(
+    table: &'t Table,
+    kind: RawKind,
+    run: &str,
+    at: u64,
+    sink: &mut S,
+) -> Result<(usize, Option<(Reference<'t>, usize)>), Refusal>
+    requires clean { list_all is_clean (chars run.now) ≡ true }
+    requires within { at + length run.now ≤ MAX_INPUT }
+    ensures front { MatchResult result (λ it. TellsText S.gives table.now kind run.now at it.0 sink.old sink.new)
+        (λ e. (errors : List Error) × Hands S.gives sink.old errors (Err e) sink.new) }
+    ensures ends { IfOk result (λ it. it.0 < length run.now → is_text_byte (slice_index run.now it.0) ≡ false) }
+    ensures whole { IfOk result (λ it. IfSome it.1 (λ next. IsWhole table.now kind (drop it.0 run.now) next.0 next.1)) }
+{
+    let mut count = text_run(run.as_bytes());
+    while count < run.len() {
+        let rest = &run[count..];
+        match at_ampersand(table, kind, rest) {
+            Ampersand::Text(size) => {
+                tell_bare(rest, size, at + count as u64, sink)?;
+                count += size;
+                count += text_run((&run[count..]).as_bytes());
+            }
+            Ampersand::Whole(found, size) => return Ok((count, Some((found, size)))),
+            Ampersand::Open => return Ok((count, None)),
+        }
+    }
+    Ok((count, None))
+}
+
+/// What an `&` at the front of a run is, as far as the run shows it.
+#[inline(always)]
+fn at_ampersand<'t>(table: &'t Table, kind: RawKind, run: &str) -> Ampersand<'t>
+    requires { 0 < length run.now }
+    ensures { Shows table.now kind run.now result }
+{
+    let bytes = run.as_bytes();
+    if bytes[0] != b'&' || bytes.len() < 2 || !allows_references(kind) {
+        return Ampersand::Open;
+    }
+    let first = bytes[1];
+    if !first.is_ascii() {
+        return Ampersand::Open;
+    }
+    if !first.is_ascii_alphanumeric() && first != b'#' {
+        return Ampersand::Text(1);
+    }
+    match Walk::settled(table, &bytes[1..]) {
+        Some((found, _)) if found.in_run => {
+            let size = 1 + alphanumeric_run(&bytes[1..]);
+            if size < bytes.len() && bytes[size].is_ascii() {
+                return Ampersand::Text(size);
+            }
+            Ampersand::Open
+        }
+        Some((found, count)) if found.left <= 1 => Ampersand::Whole(found, count),
+        _ => Ampersand::Open,
+    }
+}
+
 impl<'t> Tokenizer<'t> {
-    /// Takes the text at the front of a run where nothing is held, and what ends it: a `<`, or an `&`, and with it the whole reference if the
-    /// run shows it. Returns the length.
+    /// Takes the text at the front of a run where nothing is held, with the whole references in it as far as the sink takes them so, and what
+    /// ends it: a `<`, or an `&`, and with it the whole reference if the run shows it. Returns the length.
     pub(crate) fn part_of_text<S: TokenSink>(
         &mut self,
         run: &str,
@@ -71,31 +136,18 @@ impl<'t> Tokenizer<'t> {
             → TakesPart (gives_item S.gives S.gives_token) table start text at run.now taken names sink.old result sink.new self.new }
         ensures few { IfOk result (λ count. (0 < count) × IsCut count run.now) }
     {
-        let (count, whole) = self.text_before(run, at, sink)?;
-        if count == run.len() {
-            self.give_run(run, at, sink)
-        } else {
-            self.give_to_end(count, whole, run, at, sink)
+        let (count, whole) = text_before(self.table, self.kind, run, at, sink)?;
+        self.give_front(&run[..count], at, sink)?;
+        if whole.is_some() && sink.may_spread() {
+            return self.take_references(count, whole, run, at, sink);
         }
+        self.take_end(count, whole, run, at, sink)
     }
 
-    /// Gives a run that is text as a whole. Returns its length.
-    #[inline(always)]
-    fn give_run<S: TokenSink>(&mut self, run: &str, at: u64, sink: &mut S) -> Result<usize, Refusal>
-        requires some { 0 < length run.now }
-        requires clean { list_all is_clean (chars run.now) ≡ true }
-        requires within { at + length run.now ≤ MAX_INPUT }
-        ensures takes { TakesOn (gives_item S.gives S.gives_token) self.old run.now at (length run.now) sink.old result sink.new self.new }
-        ensures few { IfOk result (λ count. (0 < count) × IsCut count run.now) }
-    {
-        self.next = after(at + last_start(run) as u64);
-        self.give_front(run, at, sink)?;
-        Ok(run.len())
-    }
-
-    /// Gives this many bytes at the front of a run, which are text, and takes what ends them. Returns the length of both.
-    #[inline(always)]
-    fn give_to_end<S: TokenSink>(
+    /// Takes the whole reference after this many bytes of a run, which have been taken, and what comes after it: as one text as far as the sink takes
+    /// that. Returns the length of all.
+    #[inline(never)]
+    fn take_references<S: TokenSink>(
         &mut self,
         count: usize,
         whole: Option<(Reference<'t>, usize)>,
@@ -107,83 +159,72 @@ impl<'t> Tokenizer<'t> {
         requires clean { list_all is_clean (chars run.now) ≡ true }
         requires within { at + length run.now ≤ MAX_INPUT }
         requires cut { IsCut count run.now }
-        requires less { count < length run.now }
-        requires ends { is_text_byte (slice_index run.now count) ≡ false }
+        requires ends { count < length run.now → is_text_byte (slice_index run.now count) ≡ false }
+        requires some { is_some whole ≡ true }
         requires whole { IfSome whole (λ it. IsWhole self.old.table.now self.old.kind (drop count run.now) it.0 it.1) }
         ensures takes { TakesOn (gives_item S.gives S.gives_token) self.old run.now at count sink.old result sink.new self.new }
         ensures few { IfOk result (λ all. (0 < all) × IsCut all run.now) }
     {
-        let end = at + count as u64;
-        self.next = after(end);
-        self.give_front(&run[..count], at, sink)?;
-        let more = self.take_end(whole, &run[count..], end, sink)?;
-        Ok(count + more)
+        let (more, next) = self.spread_on(whole, &run[count..], at + count as u64, sink)?;
+        self.take_end(count + more, next, run, at, sink)
     }
 
-    /// How many bytes at the front of a run are text: plain characters, and each `&` that is text, with the letters and digits after it.
-    /// Hands over the errors of these. With it the whole reference that comes next, if the run shows one.
+    /// Takes the whole reference at the front of a run, if one is there, and the text and references after it, as one text, if the sink takes that.
+    /// Returns the length, and the whole reference that comes next, if the run shows one.
     #[inline(always)]
-    fn text_before<S: TokenSink>(
-        &self,
+    fn spread_on<S: TokenSink>(
+        &mut self,
+        whole: Option<(Reference<'t>, usize)>,
         run: &str,
         at: u64,
         sink: &mut S,
     ) -> Result<(usize, Option<(Reference<'t>, usize)>), Refusal>
-        requires text { self.now.state ≡ State.Text }
         requires clean { list_all is_clean (chars run.now) ≡ true }
         requires within { at + length run.now ≤ MAX_INPUT }
-        ensures front { (table : Entities) (start : Kind) (names : Texts) (text : List Character) (taken : List Event)
-            → HasTaken table start self.now names text taken → MatchResult result
-            (λ it. IsTextFront (gives_item S.gives S.gives_token) table start self.now names text taken run.now at it.0 sink.old sink.new)
-            (λ e. Takes (gives_item S.gives S.gives_token) table start text (placed at (chars run.now)) taken names sink.old (Err e) sink.new self.now) }
-        ensures cut { IfOk result (λ it. IsCut it.0 run.now) }
+        requires starts { 0 < length run.now → is_text_byte (slice_index run.now 0) ≡ false }
+        requires whole { IfSome whole (λ it. IsWhole self.old.table.now self.old.kind run.now it.0 it.1) }
+        ensures front { (names : Texts) → MatchResult result
+            (λ it. GivesFront (gives_item S.gives S.gives_token) names self.old.table.now self.old.kind run.now at it.0 sink.old (Ok tt) sink.new)
+            (λ e. RefusesFront (gives_item S.gives S.gives_token) names self.old.table.now self.old.kind run.now at sink.old e sink.new) }
+        ensures then { self.new ≡ record self.old { spread = self.new.spread } }
         ensures ends { IfOk result (λ it. it.0 < length run.now → is_text_byte (slice_index run.now it.0) ≡ false) }
-        ensures whole { IfOk result (λ it. IfSome it.1 (λ next. IsWhole self.now.table.now self.now.kind (drop it.0 run.now) next.0 next.1)) }
+        ensures whole { IfOk result (λ it. IfSome it.1 (λ next. IsWhole self.old.table.now self.old.kind (drop it.0 run.now) next.0 next.1)) }
     {
-        let mut count = text_run(run.as_bytes());
-        while count < run.len() {
-            let rest = &run[count..];
-            match self.ampersand(rest) {
-                Ampersand::Text(size) => {
-                    tell_bare(rest, size, at + count as u64, sink)?;
-                    count += size;
-                    count += text_run((&run[count..]).as_bytes());
-                }
-                Ampersand::Whole(found, size) => return Ok((count, Some((found, size)))),
-                Ampersand::Open => return Ok((count, None)),
-            }
+        let (size, next) = self.spread.gather(self.table, self.kind, whole, run, at)?;
+        if self.spread.give(at, sink)? {
+            return Ok((size, next));
         }
-        Ok((count, None))
+        Ok((0, whole))
     }
 
-    /// What an `&` at the front of a run is, as far as the run shows it.
+    /// Takes what comes after this many bytes of a run, which have been taken: nothing, a `<`, or an `&`, and with it the whole reference if the
+    /// run shows it. Returns the length of all.
     #[inline(always)]
-    fn ampersand(&self, run: &str) -> Ampersand<'t>
-        requires { 0 < length run.now }
-        ensures { Shows self.now.table.now self.now.kind run.now result }
+    fn take_end<S: TokenSink>(
+        &mut self,
+        count: usize,
+        whole: Option<(Reference<'t>, usize)>,
+        run: &str,
+        at: u64,
+        sink: &mut S,
+    ) -> Result<usize, Refusal>
+        requires text { self.old.state ≡ State.Text }
+        requires some { 0 < length run.now }
+        requires within { at + length run.now ≤ MAX_INPUT }
+        requires cut { IsCut count run.now }
+        requires ends { count < length run.now → is_text_byte (slice_index run.now count) ≡ false }
+        requires whole { IfSome whole (λ it. IsWhole self.old.table.now self.old.kind (drop count run.now) it.0 it.1) }
+        ensures takes { TakesOn (gives_item S.gives S.gives_token) self.old run.now at count sink.old result sink.new self.new }
+        ensures few { IfOk result (λ all. (0 < all) × IsCut all run.now) }
     {
-        let bytes = run.as_bytes();
-        if bytes[0] != b'&' || bytes.len() < 2 || !self.has_references() {
-            return Ampersand::Open;
+        if count == run.len() {
+            self.next = after(at + last_start(run) as u64);
+            return Ok(count);
         }
-        let first = bytes[1];
-        if !first.is_ascii() {
-            return Ampersand::Open;
-        }
-        if !first.is_ascii_alphanumeric() && first != b'#' {
-            return Ampersand::Text(1);
-        }
-        match Walk::settled(self.table, &bytes[1..]) {
-            Some((found, _)) if found.in_run => {
-                let size = 1 + alphanumeric_run(&bytes[1..]);
-                if size < bytes.len() && bytes[size].is_ascii() {
-                    return Ampersand::Text(size);
-                }
-                Ampersand::Open
-            }
-            Some((found, count)) if found.left <= 1 => Ampersand::Whole(found, count),
-            _ => Ampersand::Open,
-        }
+        let end = at + count as u64;
+        self.next = after(end);
+        let more = self.take_mark(whole, &run[count..], end, sink)?;
+        Ok(count + more)
     }
 
     /// Gives the text at the front of a run, if there is any.
@@ -209,7 +250,7 @@ impl<'t> Tokenizer<'t> {
 
     /// Takes the `<` or the `&` at the front of a run, or the whole reference if one is there. Returns the length.
     #[inline(always)]
-    fn take_end<S: TokenSink>(
+    fn take_mark<S: TokenSink>(
         &mut self,
         whole: Option<(Reference<'t>, usize)>,
         run: &str,

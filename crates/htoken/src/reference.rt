@@ -1,20 +1,17 @@
 //! References in text, and the runs of alphanumerics after an `&` (HTML Standard, 13.2.5.72 to 13.2.5.80).
 
-ghost use Rattle.std.specs.Prelude.{◌≡◌, ◌==◌, ◌∷◌, ◌+◌, ◌-◌, List, [], true, false, length, map, take, IfOk, OnOk};
-ghost use Rattle.std.specs.List.{list_all};
+ghost use Rattle.std.specs.Prelude.{◌≡◌, ◌==◌, ◌∷◌, ◌+◌, ◌-◌, List, [], true, false, length, map, OnOk};
 ghost use Rattle.names.specs.declared.placed.Placed.{Placed as Character};
 ghost use Rattle.names.specs.declared.raw.RawKind.{RawKind as Kind};
 ghost use Rattle.names.specs.Names.{Texts};
-ghost use Rattle.names.specs.Placed.{error_if, placed};
+ghost use Rattle.names.specs.Placed.{error_if};
 ghost use Rattle.names.specs.declared.error.ErrorCode.TheVariants as error_code;
-ghost use Rattle.htext.specs.declared.decoder.TheConstants.{MAX_INPUT};
-ghost use Rattle.htext.specs.Run.{is_plain_byte};
 ghost use Rattle.charref.specs.Reference.{Entities};
 ghost use Rattle.htoken.specs.Token.{Event, Reports, gives_item};
 ghost use Rattle.htoken.specs.Giving.{read_events};
 ghost use Rattle.htoken.specs.Handing.{HandsEvents};
-ghost use Rattle.htoken.specs.Tokenizing.{HasTaken, IsInRun, Reads, Takes};
-ghost use Rattle.htoken.specs.Steps.{BeginsReference, Finds, HoldsInReference, TakesFront};
+ghost use Rattle.htoken.specs.Tokenizing.{IsInRun, Reads, Takes};
+ghost use Rattle.htoken.specs.Steps.{BeginsReference, Finds, HoldsInReference};
 
 use crate::hand::{after_first, give, give_all, give_piece, tell_unknown};
 use crate::sink::TokenSink;

@@ -66,10 +66,10 @@ impl<'t> Tokenizer<'t> {
     {
         let name = names.intern(self.alloc, self.tag.name())?;
         match self.tag.kind() {
-            TagKind::Start => self.end_start_tag(name, sink),
+            TagKind::Start => self.end_start_tag(name, names, sink),
             TagKind::End => {
                 self.keep_faults()?;
-                self.end_end_tag(name, sink)
+                self.end_end_tag(name, names, sink)
             }
         }
     }
@@ -99,19 +99,29 @@ impl<'t> Tokenizer<'t> {
     }
 
     #[inline(always)]
-    fn end_end_tag<S: TokenSink>(&mut self, name: NameId, sink: &mut S) -> Result<(), Refusal>
+    fn end_end_tag<S: TokenSink>(
+        &mut self,
+        name: NameId,
+        names: &Names,
+        sink: &mut S,
+    ) -> Result<(), Refusal>
         ensures { (text : List ℕ) → GivesSpan (gives_item S.gives S.gives_token)
             (λ names token. slice_get names name ≡ Some text → TokenMeans names token (End text self.old.at)) (record self.old { kind = RawKind.None }) sink.old
             result self.new sink.new }
     {
         let at = self.at;
         self.kind = RawKind::None;
-        self.end_span(Token::End { name, at }, sink)
+        self.end_tag_span(Token::End { name, at }, names, sink)
     }
 
     /// Hands over a start tag of this name, unless it is left out of the profile.
     #[inline(always)]
-    fn end_start_tag<S: TokenSink>(&mut self, name: NameId, sink: &mut S) -> Result<(), Refusal>
+    fn end_start_tag<S: TokenSink>(
+        &mut self,
+        name: NameId,
+        names: &Names,
+        sink: &mut S,
+    ) -> Result<(), Refusal>
         ensures { (text : List ℕ) (attrs : List (List ℕ × List ℕ))
             → EndsStartTag (gives_item S.gives S.gives_token) self.old name text attrs sink.old result self.new sink.new }
     {
@@ -125,14 +135,12 @@ impl<'t> Tokenizer<'t> {
         self.script = Script::new();
         let closing = self.tag.is_closing();
         let attrs = self.tag.take_attributes()?;
-        self.end_span(
-            Token::Start {
-                name,
-                attrs,
-                closing,
-                at,
-            },
-            sink,
-        )
+        let token = Token::Start {
+            name,
+            attrs,
+            closing,
+            at,
+        };
+        self.end_tag_span(token, names, sink)
     }
 }

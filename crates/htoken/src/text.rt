@@ -18,6 +18,13 @@ use crate::state::State;
 use crate::tokenizer::Tokenizer;
 use names::{ErrorCode, RawKind, Refusal};
 
+/// Whether references may be in text of this kind.
+pub(crate) fn allows_references(kind: RawKind) -> bool
+    ensures { result ≡ has_references kind }
+{
+    matches!(kind, RawKind::None | RawKind::Rcdata)
+}
+
 impl<'t> Tokenizer<'t> {
     /// Takes a character where nothing is held.
     #[inline(always)]
@@ -86,7 +93,7 @@ impl<'t> Tokenizer<'t> {
                 self.give_raw(ch, at, sink)
             }
             '&' => {
-                if self.has_references() {
+                if allows_references(self.kind) {
                     self.begin_reference(at);
                     return Ok(());
                 }
@@ -125,13 +132,6 @@ impl<'t> Tokenizer<'t> {
         if self.is_in_script() {
             self.script = self.script.after(ch);
         }
-    }
-
-    /// Whether references may be here.
-    pub(crate) fn has_references(&self) -> bool
-        ensures { result ≡ has_references self.now.kind }
-    {
-        matches!(self.kind, RawKind::None | RawKind::Rcdata)
     }
 
     /// Whether script data is here.

@@ -14,9 +14,10 @@ ghost use Rattle.htoken.specs.Standing.{start_kind};
 ghost use Rattle.htoken.specs.Tokenizing.{after_place, HasTaken, Takes, Finishes};
 ghost use Rattle.htoken.specs.Steps.{EndsSpan};
 
-use crate::hand::hand_over;
+use crate::hand::hand_errors;
 use crate::script::Script;
 use crate::sink::TokenSink;
+use crate::spread::Spread;
 use crate::state::{Raised, State};
 use crate::token::{Start, Token};
 use charref::{Table, Walk};
@@ -43,6 +44,7 @@ pub struct Tokenizer<'t> {
     pub(crate) tag: TagWalk<'t>,
     pub(crate) script: Script,
     pub(crate) raised: Raised,
+    pub(crate) spread: Spread,
     pub(crate) refused: Option<Refusal>,
 }
 
@@ -76,6 +78,7 @@ impl<'t> Tokenizer<'t> {
             raised: Raised {
                 errors: Vec::new(alloc),
             },
+            spread: Spread::new(alloc),
             refused: None,
         }
     }
@@ -240,7 +243,32 @@ impl<'t> Tokenizer<'t> {
         ensures handed { Hands (gives_item S.gives S.gives_token) sink.old (items_of self.old.raised.errors.items (Some token)) result sink.new }
         ensures then { EndsSpan self.old self.new }
     {
-        let answer = hand_over(&self.raised.errors, token, sink);
+        self.end_errors(sink)?;
+        sink.take_token(token)
+    }
+
+    /// The same of a tag.
+    #[inline(always)]
+    pub(crate) fn end_tag_span<S: TokenSink>(
+        &mut self,
+        token: Token,
+        names: &Names,
+        sink: &mut S,
+    ) -> Result<(), Refusal>
+        ensures handed { Hands (gives_item S.gives S.gives_token) sink.old (items_of self.old.raised.errors.items (Some token)) result sink.new }
+        ensures then { EndsSpan self.old self.new }
+    {
+        self.end_errors(sink)?;
+        sink.take_tag(token, names)
+    }
+
+    /// Hands over the errors of the span that has ended.
+    #[inline(always)]
+    fn end_errors<S: TokenSink>(&mut self, sink: &mut S) -> Result<(), Refusal>
+        ensures handed { Hands S.gives sink.old self.old.raised.errors.items result sink.new }
+        ensures then { EndsSpan self.old self.new }
+    {
+        let answer = hand_errors(&self.raised.errors, sink);
         self.raised.errors.clear();
         self.state = State::Text;
         answer

@@ -1,14 +1,10 @@
-use Rattle.std.proofs.Common.{◌≡◌, [], ◌∷◌, Some, true, sym, ap, ◌∙◌, subst}
+use Rattle.std.proofs.Common.{◌≡◌, [], ◌∷◌, true, sym, ◌∙◌, subst}
 use Rattle.std.proofs.lemmas.Option.{slice_get_within}
 use Rattle.names.specs.Placed.{is_alphanumeric}
 use Rattle.charref.specs.Table.{HasRead, IsSortedTable}
 use Rattle.charref.specs.AtOnce.{Settles}
 use Rattle.charref.proofs.AtOnce.{no_first}
-use Rattle.charref.proofs.WholeNumbers.{sign_first}
 use Rattle.charref.proofs.at_once.settled.Goals as goal
-
-pub settled_number-requires : goal.settled_number-requires
-settled_number-requires c = sign_first c.args.bytes.now (sym c.in-Some.ensures.value ∙ ap Some c.if-first-eq35.true)
 
 pub returns-then-is_over-clause-settles : goal.returns-then-is_over-clause-settles
 returns-then-is_over-clause-settles c =

@@ -1,7 +1,10 @@
 use Rattle.std.proofs.Common.{false, sym, ◌∙◌, arith}
-use Rattle.charref.proofs.AtOnce.{nothing_settled, walk_settles, walked_more}
+use Rattle.charref.proofs.AtOnce.{nothing_settled, walk_settles, walked_more, walked_nothing}
 use Rattle.charref.proofs.at_once.settled_by_steps.Goals as goal
 use Rattle.charref.proofs.at_once.settled_by_steps.Goals.{then-loop-count-test+else-is_ascii, else-loop-count-test}
+
+pub loop-count-init : goal.loop-count-init
+loop-count-init c = walked_nothing _ c.args.table.now c.args.bytes.now c.new-walk.ensures.taken
 
 pub returns-in-Some-clause-settles : goal.returns-in-Some-clause-settles
 returns-in-Some-clause-settles c =
@@ -18,7 +21,7 @@ loop-count-preserved c =
 pub returns-clause-settles : goal.returns-clause-settles
 returns-clause-settles c =
     let l = c.loop-count in
-    nothing_settled l.walk c.args.table.now c.args.bytes.now l.count c.begun-count.ensures.table l.invariant (λ within. elim c.loop-count-test.branch [
+    nothing_settled l.walk c.args.table.now c.args.bytes.now l.count c.new-walk.ensures.table l.invariant (λ within. elim c.loop-count-test.branch [
       | then-loop-count-test+else-is_ascii w ↦ sym w.is_ascii.ensures ∙ w.if-is_ascii.false
       | else-loop-count-test w ↦ absurd (omega (arith, within, w.loop-count-test.false))
     ])

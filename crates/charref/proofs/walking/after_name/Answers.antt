@@ -1,5 +1,6 @@
 use Rattle.std.proofs.Common.{◌≡◌, [], ◌∷◌, ◌++◌, true, false, true≢false, ◌&&◌, refl, sym, ap, ◌∙◌, subst}
 use Rattle.std.proofs.lemmas.Bool.{and_parts}
+use Rattle.names.proofs.Words.{all-one}
 use Rattle.names.specs.Placed.{characters, is_empty, is_alphanumeric}
 use Rattle.charref.specs.Reference.{Entities, IsTable}
 use Rattle.charref.specs.Table.{is_whole, HasRead, HasNone, IsOver, GoesOn}
@@ -7,7 +8,6 @@ use Rattle.charref.specs.Held.{key_bytes, in_name}
 use Rattle.charref.specs.Last.{last_of, is_letter_or_digit}
 use Rattle.charref.specs.Walk.{NextIs}
 use Rattle.charref.proofs.Extending.{key_bytes-more, front_of, best_before, settled_before, best_after, settled_after, letter_of, nothing_read, something_read, count_read}
-use Rattle.charref.proofs.Naming.{all-snoc}
 use Rattle.charref.proofs.walking.after_name.Goals as goal
 use Rattle.charref.proofs.walking.after_name.Goals.{else-search-eq1-via-then-search-eq1+else-not-is_alphanumeric, else-search-eq1-via-else-search-eq1}
 
@@ -50,7 +50,7 @@ returns-then-waits-clause-next c = λ text p read run is.
     let parts : ((c.args.in_value && is_letter_or_digit c.of-last.result) ≡ true) × (is_whole c.table.inside.flat c.in-Some.next ≡ true) = and_parts _ _ (sym c.waits.ensures ∙ c.if-waits.true) in
     let more : (c.args.in_value ≡ true) × (is_letter_or_digit c.of-last.result ≡ true) = and_parts _ _ parts.0 in
     let letter : is_alphanumeric p.ch ≡ true = ap is_alphanumeric is ∙ sym (letter_of c.args.ch) ∙ ap is_letter_or_digit (sym c.of-last.ensures) ∙ more.1 in
-    in_name c.in-Some.next (text ++ p ∷ []) next' (all-snoc is_alphanumeric text p run letter) (λ outside some. absurd (true≢false (sym more.0 ∙ outside)))
+    in_name c.in-Some.next (text ++ p ∷ []) next' (all-one is_alphanumeric text p run letter) (λ outside some. absurd (true≢false (sym more.0 ∙ outside)))
 
 pub returns-clause-next : goal.returns-clause-next
 returns-clause-next c = λ text p read run is after.

@@ -1,10 +1,10 @@
 use Rattle.std.proofs.Common.{arith, ◌≡◌, ◌-◌, ◌≤◌, [], ◌∷◌, ◌++◌, length, slice_get, Some, None, true, false, sym, ap, ◌∙◌, subst}
+use Rattle.names.proofs.Words.{some_same}
 use Rattle.charref.specs.Reference.{Entry, IsTable, longest, ends_in_semicolon}
 use Rattle.charref.specs.Table.{best_entry}
 use Rattle.charref.specs.Held.{key_bytes}
 use Rattle.charref.specs.Last.{last_of, is_kept_before}
 use Rattle.charref.specs.Pieces.{IsRead, unknown_of}
-use Rattle.charref.proofs.Ranges.{some_same}
 use Rattle.charref.proofs.Searching.{best_found}
 use Rattle.charref.proofs.Telling.{read_unknown, kept_by, read_kept, read_named, some_key}
 use Rattle.charref.proofs.walking.decided.Goals as goal

@@ -1,6 +1,4 @@
-use Rattle.std.proofs.Common.{ℕ, inl, inr, ap, ◌∙◌, length}
-use Rattle.std.specs.Prelude.{nat_le}
-use Rattle.hadopt.specs.Site.{SiteOf, stack}
+use Rattle.hmodes.proofs.Vocabulary.{ℕ, inl, inr, ap, ◌∙◌, length, nat_le, SiteOf, stack}
 use Rattle.hmodes.proofs.Root.{above_one, above_none, fits}
 use Rattle.hmodes.proofs.beginning.fragment_site.Goals as goal
 

@@ -1,13 +1,7 @@
-use Rattle.std.proofs.Common.{sym, refl, ap, ◌∙◌}
-use Rattle.std.specs.List.{list_any}
+use Rattle.hmodes.proofs.Vocabulary.{sym, refl, ap, ◌∙◌, list_any, numbers, Given, is_hidden, token_attrs, token_of}
 use Rattle.hnodes.specs.Rows.{attribute_of}
 use Rattle.hchain.proofs.Images.{any-map}
 use Rattle.names.specs.declared.attr.Attr.{Attr}
-use Rattle.hadopt.specs.Naming.{numbers}
-use Rattle.htoken.specs.declared.token.Token.{Token as Given}
-use Rattle.hmodes.specs.Questions.{is_hidden}
-use Rattle.hmodes.specs.State.{token_attrs}
-use Rattle.hmodes.specs.Tokens.{token_of}
 use Rattle.hmodes.proofs.token.is_hidden.Goals as goal
 
 pub returns-in-Start : goal.returns-in-Start

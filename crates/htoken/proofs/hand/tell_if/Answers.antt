@@ -1,11 +1,10 @@
-use Rattle.std.proofs.Common.{sym, subst, map}
+use Rattle.std.proofs.Common.{sym, subst}
 use Rattle.names.specs.Placed.{error, error_if}
-use Rattle.htoken.specs.Handing.{HandsEvents}
-use Rattle.htoken.specs.Token.{gives_item, Reports}
-use Rattle.htoken.proofs.Handing.{error_given}
+use Rattle.names.specs.Sink.{Hands}
+use Rattle.hmarkup.proofs.Handing.{hand_one}
 use Rattle.htoken.proofs.hand.tell_if.Goals as goal
 
 pub returns-then-says : goal.returns-then-says
-returns-then-says g c = λ names.
-    subst (λ b. HandsEvents (gives_item g.S.ErrorSink.gives g.S.TokenSink.gives_token) names c.args.sink.now (map Reports (error_if b c.args.code c.args.at)) c.take_error.result c.take_error.new.self) (sym c.if-says.true)
-    (error_given g.S.ErrorSink.gives g.S.TokenSink.gives_token names (error c.args.code c.args.at) _ _ _ c.take_error.ensures)
+returns-then-says g c =
+    subst (λ b. Hands g.S.ErrorSink.gives c.args.sink.now (error_if b c.args.code c.args.at) c.take_error.result c.take_error.new.self) (sym c.if-says.true)
+    (hand_one g.S.ErrorSink.gives _ _ (error c.args.code c.args.at) _ c.take_error.ensures)

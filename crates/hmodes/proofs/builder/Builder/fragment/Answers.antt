@@ -1,7 +1,4 @@
-use Rattle.std.proofs.Common.{ℕ, sym, subst, arith}
-use Rattle.hmodes.specs.Reached.{fragment}
-use Rattle.hmodes.specs.States.{state_of}
-use Rattle.hmodes.specs.Building.{Stands}
+use Rattle.hmodes.proofs.Vocabulary.{ℕ, sym, subst, arith, fragment, state_of, Stands}
 use Rattle.hmodes.proofs.builder.Builder.fragment.Goals as goal
 
 pub invariant_of-result : goal.invariant_of-result

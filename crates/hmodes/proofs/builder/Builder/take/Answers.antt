@@ -1,9 +1,4 @@
-use Rattle.std.proofs.Common.{subst, sym, ◌∙◌}
-use Rattle.std.specs.Prelude.{Result}
-use Rattle.names.specs.declared.refusal.Refusal.{Refusal}
-use Rattle.hmodes.specs.States.{state_of}
-use Rattle.hmodes.specs.Tokens.{token_of}
-use Rattle.hmodes.specs.Building.{StepGives}
+use Rattle.hmodes.proofs.Vocabulary.{subst, sym, ◌∙◌, Result, Refusal, state_of, token_of, StepGives}
 use Rattle.hmodes.proofs.Looping.{stands-after}
 use Rattle.hmodes.proofs.TextRun.{ok-of}
 use Rattle.hmodes.proofs.builder.Builder.take.Goals as goal

@@ -1,14 +1,6 @@
-use Rattle.std.proofs.Common.{◌≡◌, ◌∙◌, ℕ, ◌+◌, ◌-◌, ◌++◌, List, length, ap, sym, subst, refl, Ok}
-use Rattle.std.specs.Char.{encode_utf8}
-use Rattle.std.specs.Str.{chars}
-use Rattle.std.proofs.lemmas.Result.{err_from_is_err_and}
+use Rattle.hmodes.proofs.Vocabulary.{◌≡◌, ◌∙◌, ℕ, ◌++◌, List, length, ap, sym, subst, refl, Ok, encode_utf8, chars, err_from_is_err_and, chars-nil, placed, Hands, run_tokens, TakesToken}
 use Rattle.std.proofs.lemmas.List.{nil_from_length}
-use Rattle.std.proofs.lemmas.Str.{chars-nil}
-use Rattle.names.specs.Placed.{placed}
-use Rattle.names.specs.Sink.{Hands}
-use Rattle.htoken.specs.Run.{run_tokens}
-use Rattle.hmodes.specs.Building.{TakesToken}
-use Rattle.hmodes.proofs.TextRun.{first_refused, rest_clean, rest_taken}
+use Rattle.hmodes.proofs.TextRun.{first_refused, is_spread, rest_clean, rest_taken, some_clean}
 use Rattle.hmodes.proofs.builder.Builder.take_first.Goals as goal
 
 pub returns-in_default : goal.returns-in_default
@@ -22,16 +14,17 @@ returns-in_err-take_text c =
     rw (e.1, e.2)
     (first_refused c.args.self.now c.take_text.new.self c.args.at c.args.run.now _ c.in-Some.ch c.utf8.run (sym c.chars-chars.ensures.rest ∙ c.in-Some.ensures.steps.0) c.in_err-take_text.field-0.0 c.in_err-take_text.ensures)
 
-pub put_run-requires-clause-clean : goal.put_run-requires-clause-clean
-put_run-requires-clause-clean c =
+pub put_run-requires-clause-some : goal.put_run-requires-clause-some
+put_run-requires-clause-some c =
     let is : c.args.run.now ≡ encode_utf8 c.in-Some.ch ++ c.as_str-rest.result.now = sym c.chars-chars.ensures.rest ∙ c.in-Some.ensures.steps.0 ∙ ap (λ (l : List ℕ). encode_utf8 c.in-Some.ch ++ l) (sym c.as_str-rest.ensures) in
-    rest_clean c.args.run.now c.as_str-rest.result.now c.in-Some.ch c.utf8.run is c.requires.clean
+    some_clean (chars c.as_str-rest.result.now) (rest_clean c.args.run.now c.as_str-rest.result.now c.in-Some.ch c.utf8.run is c.requires.clean)
 
 pub returns-then-puts_run : goal.returns-then-puts_run
 returns-then-puts_run c =
     let is : c.args.run.now ≡ encode_utf8 c.in-Some.ch ++ c.as_str-rest.result.now = sym c.chars-chars.ensures.rest ∙ c.in-Some.ensures.steps.0 ∙ ap (λ (l : List ℕ). encode_utf8 c.in-Some.ch ++ l) (sym c.as_str-rest.ensures) in
     rest_taken c.args.self.now c.take_text.new.self c.args.at c.args.run.now c.as_str-rest.result.now c.in-Some.ch c.utf8.run is
-    c.rest_place-next.result c.rest_place-next.ensures c.in_ok-take_text.ensures c.put_run.result c.put_run.new.self c.put_run.ensures
+    c.rest_place-next.result c.rest_place-next.ensures c.in_ok-take_text.ensures c.put_run.result c.put_run.new.self
+    (c.put_run.ensures (placed c.rest_place-next.result (chars c.as_str-rest.result.now)) (is_spread c.rest_place-next.result c.as_str-rest.result.now))
 
 pub returns : goal.returns
 returns c =

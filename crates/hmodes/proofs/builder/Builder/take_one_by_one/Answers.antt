@@ -1,11 +1,6 @@
-use Rattle.std.proofs.Common.{◌+◌, arith}
-use Rattle.std.proofs.lemmas.Result.{err_from_is_err_and}
-use Rattle.std.proofs.lemmas.Str.{IsUtf8-past_char}
-use Rattle.names.specs.declared.placed.Placed.{Placed}
-use Rattle.htext.proofs.Wide.{one_more, one_refused, none_left}
+use Rattle.hmodes.proofs.Vocabulary.{◌+◌, arith, err_from_is_err_and, IsUtf8-past_char, Placed, one_more, one_refused, none_left, TakesToken}
 use Rattle.htoken.specs.declared.token.Token.{Token}
 use Rattle.htoken.specs.declared.token.Token.TheVariants as code
-use Rattle.hmodes.specs.Building.{TakesToken}
 use Rattle.hmodes.proofs.builder.Builder.take_one_by_one.Goals as goal
 
 abbrev token : Placed → Token

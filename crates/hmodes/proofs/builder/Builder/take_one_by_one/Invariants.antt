@@ -1,9 +1,4 @@
-use Rattle.std.proofs.Common.{◌+◌}
-use Rattle.std.specs.Str.{chars, IsUtf8}
-use Rattle.names.specs.Placed.{placed}
-use Rattle.names.specs.Sink.{Continues}
-use Rattle.htoken.specs.Run.{run_tokens}
-use Rattle.hmodes.specs.Building.{TakesToken}
+use Rattle.hmodes.proofs.Vocabulary.{◌+◌, chars, IsUtf8, placed, Continues, run_tokens, TakesToken}
 use Rattle.hmodes.proofs.builder.Builder.take_one_by_one.Given as goal
 
 -- To take the rest of the run is to take all of it.

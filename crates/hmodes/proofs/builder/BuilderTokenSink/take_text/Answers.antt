@@ -1,7 +1,4 @@
-use Rattle.std.proofs.Common.{◌≡◌, None, ap, sym, subst, ◌∙◌}
-use Rattle.hmodes.specs.State.{character}
-use Rattle.hmodes.specs.States.{state_of}
-use Rattle.hmodes.specs.Building.{Building, Stands, Takes}
+use Rattle.hmodes.proofs.Vocabulary.{◌≡◌, None, ap, sym, subst, ◌∙◌, character, state_of, Building, Stands, Takes}
 use Rattle.hmodes.proofs.OneChar.{taken_by_rule, left_by_rule, gives_by_rule, char_parts}
 use Rattle.hmodes.proofs.TextRun.{stands_by_token}
 use Rattle.hmodes.proofs.builder.BuilderTokenSink.take_text.Goals as goal

@@ -1,8 +1,4 @@
-use Rattle.std.proofs.Common.{ℕ, subst}
-use Rattle.hmodes.specs.Flows.{StateGives, performed_for}
-use Rattle.hmodes.specs.States.{state_of}
-use Rattle.hmodes.specs.Tokens.{token_of}
-use Rattle.hmodes.specs.Words.{adopt}
+use Rattle.hmodes.proofs.Vocabulary.{ℕ, subst, StateGives, performed_for, state_of, token_of, adopt}
 use Rattle.hmodes.proofs.tree_construction.TreeConstruction.adopt.Goals as goal
 
 pub returns : goal.returns

@@ -1,8 +1,4 @@
-use Rattle.std.proofs.Common.{sym, ap, ◌∙◌}
-use Rattle.hmodes.specs.State.{Done, end}
-use Rattle.hmodes.specs.States.{state_of}
-use Rattle.hmodes.specs.Words.{error, adopt_listed}
-use Rattle.hmodes.specs.declared.mode.Mode.TheVariants.{InBody}
+use Rattle.hmodes.proofs.Vocabulary.{sym, ap, ◌∙◌, Done, end, state_of, error, adopt_listed, InBody}
 use Rattle.hmodes.proofs.Flowing.{goes-on, refused-as, err-state, listed-refused, listed-done}
 use Rattle.hmodes.proofs.tree_construction.TreeConstruction.adopt_listed.Goals as goal
 

@@ -1,13 +1,5 @@
-use Rattle.std.proofs.Common.{ℕ, sym, subst, ◌∙◌}
-use Rattle.hadopt.specs.Naming.{numbers}
-use Rattle.hadopt.specs.Reconstructs.{reconstructed}
-use Rattle.hmodes.specs.Flows.{StateGives}
-use Rattle.hmodes.specs.State.{Flow, end}
-use Rattle.hmodes.specs.States.{state_of}
-use Rattle.hmodes.specs.Words.{◌▸◌, error, adopt, reconstruct}
-use Rattle.hmodes.specs.declared.mode.Mode.TheVariants.{InBody}
+use Rattle.hmodes.proofs.Vocabulary.{ℕ, sym, subst, ◌∙◌, numbers, reconstructed, StateGives, Flow, end, state_of, ◌▸◌, error, adopt, reconstruct, InBody, perform}
 use Rattle.hmodes.proofs.Flowing.{on-site, goes-on, refused-then, refused-as, err-state}
-use Rattle.hmodes.specs.Perform.{perform}
 use Rattle.hmodes.proofs.tree_construction.TreeConstruction.adopt_nobr.Goals as goal
 
 pub returns-in_err-run_adoption : goal.returns-in_err-run_adoption

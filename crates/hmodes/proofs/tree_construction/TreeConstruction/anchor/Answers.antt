@@ -1,15 +1,4 @@
-use Rattle.std.proofs.Common.{◌≡◌, ℕ, sym, subst}
-use Rattle.std.specs.Prelude.{◌⊎◌}
-use Rattle.names.specs.declared.refusal.Refusal.TheVariants.{Memory}
-use Rattle.hadopt.specs.Naming.{numbers}
-use Rattle.hmodes.specs.Body.{formatting}
-use Rattle.hmodes.specs.Flows.{FlowGives, performed_for}
-use Rattle.hmodes.specs.Perform.{perform}
-use Rattle.hmodes.specs.State.{Flow, Done, Refused}
-use Rattle.hmodes.specs.States.{state_of}
-use Rattle.hmodes.specs.Tokens.{token_of}
-use Rattle.hmodes.specs.Words.{Do, ◌▸◌, when, name_is_listed, error, adopt_listed}
-use Rattle.hmodes.specs.declared.mode.Mode.TheVariants.{InBody}
+use Rattle.hmodes.proofs.Vocabulary.{◌≡◌, ℕ, sym, subst, ◌⊎◌, Memory, numbers, formatting, FlowGives, performed_for, perform, Flow, Done, Refused, state_of, token_of, Do, ◌▸◌, when, name_is_listed, error, adopt_listed, InBody}
 use Rattle.hmodes.proofs.Flowing.{goes-on, refused-then, err-flow}
 use Rattle.hmodes.proofs.tree_construction.TreeConstruction.anchor.Goals as goal
 

@@ -1,7 +1,4 @@
-use Rattle.std.proofs.Common.{◌∙◌, ℕ, rules, ap, sym, subst}
-use Rattle.hadopt.specs.Gives.{Gives}
-use Rattle.hadopt.specs.Site.{Outcome, SiteOf}
-use Rattle.hmodes.specs.Runs.{before_text}
+use Rattle.hmodes.proofs.Vocabulary.{◌∙◌, ℕ, rules, ap, sym, subst, Gives, Outcome, SiteOf, before_text}
 use Rattle.hmodes.proofs.Begins.{before-other}
 use Rattle.hmodes.proofs.tree_construction.TreeConstruction.begin_text.Goals as goal
 

@@ -1,11 +1,4 @@
-use Rattle.std.proofs.Common.{sym, subst}
-use Rattle.std.specs.Prelude.{Ok}
-use Rattle.hadopt.specs.Naming.{numbers}
-use Rattle.hmodes.specs.Flows.{FlowGives}
-use Rattle.hmodes.specs.Step.{Rule}
-use Rattle.hmodes.specs.States.{state_of}
-use Rattle.hmodes.specs.Tokens.{token_of}
-use Rattle.hmodes.specs.declared.tree_construction.Flow.{Flow as Answer}
+use Rattle.hmodes.proofs.Vocabulary.{sym, subst, Ok, numbers, FlowGives, Rule, state_of, token_of, Answer}
 use Rattle.hmodes.proofs.Between.{orderly-kept, orderly-head}
 use Rattle.hmodes.proofs.Looping.{goes-from, goes-on, goes-lower, goes-out, goes-wrong, wrong-chain}
 use Rattle.hmodes.proofs.tree_construction.TreeConstruction.by_rules.Goals as goal

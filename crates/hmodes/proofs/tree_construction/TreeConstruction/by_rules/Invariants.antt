@@ -1,6 +1,4 @@
-use Rattle.hadopt.specs.Naming.{numbers}
-use Rattle.hmodes.specs.States.{state_of}
-use Rattle.hmodes.specs.Tokens.{token_of}
+use Rattle.hmodes.proofs.Vocabulary.{numbers, state_of, token_of}
 use Rattle.hmodes.proofs.Ends.{left}
 use Rattle.hmodes.proofs.Looping.{GoesBy}
 use Rattle.hmodes.proofs.tree_construction.TreeConstruction.by_rules.Given as goal

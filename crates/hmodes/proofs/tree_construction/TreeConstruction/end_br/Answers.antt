@@ -1,14 +1,5 @@
-use Rattle.std.proofs.Common.{◌≡◌, ℕ, [], sym, subst, ap, ◌∙◌}
-use Rattle.std.specs.Prelude.{◌⊎◌}
-use Rattle.names.specs.declared.refusal.Refusal.TheVariants.{Memory}
-use Rattle.hadopt.specs.Naming.{numbers}
-use Rattle.hadopt.specs.Site.{SiteOf}
+use Rattle.hmodes.proofs.Vocabulary.{◌≡◌, ℕ, [], sym, subst, ap, ◌∙◌, ◌⊎◌, Memory, numbers, SiteOf, perform, flow_of, with_site, on_site, inserted_here, State, Done, Refused, state_of, ◌▸◌, error, reconstruct, insert_named, pop, InBody}
 use Rattle.names.specs.declared.tag.Tag.TheVariants.{Br}
-use Rattle.hmodes.specs.Perform.{perform, flow_of, with_site, on_site, inserted_here}
-use Rattle.hmodes.specs.State.{State, Done, Refused}
-use Rattle.hmodes.specs.States.{state_of}
-use Rattle.hmodes.specs.Words.{◌▸◌, error, reconstruct, insert_named, pop}
-use Rattle.hmodes.specs.declared.mode.Mode.TheVariants.{InBody}
 use Rattle.hmodes.proofs.Flowing.{goes-on, refused-as, refused-then, err-flow}
 use Rattle.hmodes.proofs.tree_construction.TreeConstruction.end_br.Goals as goal
 

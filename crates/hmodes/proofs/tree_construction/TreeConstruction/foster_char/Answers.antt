@@ -1,14 +1,4 @@
-use Rattle.std.proofs.Common.{◌≡◌, ℕ, false, true, sym, ◌∙◌, ap, inl, inr}
-use Rattle.std.specs.Prelude.{◌⊎◌}
-use Rattle.names.specs.declared.error.ErrorCode.TheVariants.{TreeInTable}
-use Rattle.names.specs.declared.refusal.Refusal.{Refusal}
-use Rattle.names.specs.declared.refusal.Refusal.TheVariants.{Memory}
-use Rattle.hadopt.specs.Naming.{numbers}
-use Rattle.hadopt.specs.Site.{SiteOf, with_error}
-use Rattle.hmodes.specs.Body.{character_in_body}
-use Rattle.hmodes.specs.Perform.{perform, with_foster, with_site}
-use Rattle.hmodes.specs.State.{character, State, Flow, Done, Refused, flow_map}
-use Rattle.hmodes.specs.States.{state_of}
+use Rattle.hmodes.proofs.Vocabulary.{◌≡◌, ℕ, false, true, sym, ◌∙◌, ap, inl, inr, ◌⊎◌, TreeInTable, Refusal, Memory, numbers, SiteOf, with_error, character_in_body, perform, with_foster, with_site, character, State, Flow, Done, Refused, flow_map, state_of}
 use Rattle.hmodes.proofs.Flowing.{err-state, refused-as}
 use Rattle.hmodes.proofs.tree_construction.TreeConstruction.foster_char.Goals as goal
 

@@ -1,16 +1,5 @@
-use Rattle.std.proofs.Common.{◌≡◌, ℕ, sym, subst, ap, ◌∙◌}
-use Rattle.std.specs.Prelude.{◌⊎◌}
+use Rattle.hmodes.proofs.Vocabulary.{◌≡◌, ℕ, sym, subst, ap, ◌∙◌, ◌⊎◌, Memory, Default, numbers, FlowGives, performed_for, perform, flow_of, with_site, State, Flow, Done, Refused, state_of, token_of, Do, ◌▸◌, when, has_in, error, adopt, reconstruct, insert, push_to_list, InBody}
 use Rattle.names.specs.declared.tag.Tag.TheVariants.{Nobr}
-use Rattle.names.specs.declared.refusal.Refusal.TheVariants.{Memory}
-use Rattle.hopen.specs.declared.scope.Scope.TheVariants.{Default}
-use Rattle.hadopt.specs.Naming.{numbers}
-use Rattle.hmodes.specs.Flows.{FlowGives, performed_for}
-use Rattle.hmodes.specs.Perform.{perform, flow_of, with_site}
-use Rattle.hmodes.specs.State.{State, Flow, Done, Refused}
-use Rattle.hmodes.specs.States.{state_of}
-use Rattle.hmodes.specs.Tokens.{token_of}
-use Rattle.hmodes.specs.Words.{Do, ◌▸◌, when, has_in, error, adopt, reconstruct, insert, push_to_list}
-use Rattle.hmodes.specs.declared.mode.Mode.TheVariants.{InBody}
 use Rattle.hmodes.proofs.Flowing.{goes-on, refused-as, refused-then, err-flow}
 use Rattle.hmodes.proofs.tree_construction.TreeConstruction.nobr.Goals as goal
 

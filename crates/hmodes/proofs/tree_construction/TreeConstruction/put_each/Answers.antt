@@ -1,5 +1,4 @@
-use Rattle.std.proofs.Common.{arith}
-use Rattle.std.proofs.lemmas.Grind.{common_steps}
+use Rattle.hmodes.proofs.Vocabulary.{arith, common_steps}
 use Rattle.hmodes.proofs.tree_construction.TreeConstruction.put_each.Goals as goal
 
 pub returns : goal.returns

@@ -1,10 +1,4 @@
-use Rattle.std.proofs.Common.{◌≡◌}
-use Rattle.std.specs.Vec.Iter.{into_iter_items}
-use Rattle.hadopt.specs.Naming.{numbers}
-use Rattle.hmodes.specs.Perform.{perform, each_of}
-use Rattle.hmodes.specs.State.{character}
-use Rattle.hmodes.specs.States.{state_of}
-use Rattle.hmodes.specs.Words.{put}
+use Rattle.hmodes.proofs.Vocabulary.{◌≡◌, into_iter_items, numbers, perform, each_of, character, state_of, put}
 use Rattle.hmodes.proofs.tree_construction.TreeConstruction.put_each.Given as goal
 
 abbrev pub invariant-loop-c : goal.invariant-loop-c

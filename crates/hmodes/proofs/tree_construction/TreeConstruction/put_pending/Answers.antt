@@ -1,14 +1,4 @@
-use Rattle.std.proofs.Common.{ℕ, List, if◌then◌else◌, subst}
-use Rattle.std.specs.List.{list_all}
-use Rattle.names.specs.declared.placed.Placed.{Placed}
-use Rattle.names.specs.Placed.{is_space}
-use Rattle.hadopt.specs.Naming.{numbers}
-use Rattle.hmodes.specs.Flows.{StateGives}
-use Rattle.hmodes.specs.Perform.{perform, each_of}
-use Rattle.hmodes.specs.State.{State, Flow, character}
-use Rattle.hmodes.specs.States.{state_of}
-use Rattle.hmodes.specs.Table.{other_in_table}
-use Rattle.hmodes.specs.Words.{Char, put}
+use Rattle.hmodes.proofs.Vocabulary.{ℕ, List, if◌then◌else◌, subst, list_all, Placed, is_space, numbers, StateGives, perform, each_of, State, Flow, character, state_of, other_in_table, Char, put}
 use Rattle.hmodes.proofs.tree_construction.TreeConstruction.put_pending.Goals as goal
 
 -- what comes of the characters

@@ -1,15 +1,12 @@
-use Rattle.std.proofs.Common.{subst}
-use Rattle.names.specs.Placed.{placed}
-use Rattle.std.specs.Str.{chars}
-use Rattle.hnodes.specs.declared.node.Place.{Place}
-use Rattle.hadopt.specs.Gives.{Gives}
-use Rattle.hadopt.specs.Inserts.{put_each}
-use Rattle.hmodes.specs.States.{state_of}
+use Rattle.hmodes.proofs.Vocabulary.{ℕ, subst, AreNodes, Place, Gives, put_each, Outcome, SiteOf, state_of}
 use Rattle.hmodes.proofs.Begins.{begun-gives}
+use Rattle.hmodes.proofs.TextRun.{spread_put}
 use Rattle.hmodes.proofs.tree_construction.TreeConstruction.put_run.Goals as goal
 
 pub returns-clause-gives : goal.returns-clause-gives
-returns-clause-gives c =
+returns-clause-gives c = λ text spread.
     let site = c.begin_text.new.self.site in
-    begun-gives c.args.at (placed c.args.at (chars c.args.run.now)) (state_of c.args.self.now) site c.put_text.result c.put_text.new.self c.in_ok-begin_text.ensures.gives
-    (subst (λ (p : Place). Gives c.put_text.result c.put_text.new.self (put_each (placed c.args.at (chars c.args.run.now)) p site)) c.place_in_current-place.ensures.place c.put_text.ensures.done)
+    let same = spread_put text c.args.run.now c.args.at c.place_in_current-place.result site spread (subst AreNodes c.tree.ensures c.are_nodes.ensures) c.place_in_current-place.ensures.within in
+    begun-gives c.args.at text (state_of c.args.self.now) site c.put_text.result c.put_text.new.self c.in_ok-begin_text.ensures.gives
+    (subst (λ (p : Place). Gives c.put_text.result c.put_text.new.self (put_each text p site)) c.place_in_current-place.ensures.place
+    (subst (λ (o : Outcome (SiteOf ℕ)). Gives c.put_text.result c.put_text.new.self o) same c.put_text.ensures.done))

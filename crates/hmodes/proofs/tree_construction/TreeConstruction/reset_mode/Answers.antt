@@ -1,7 +1,4 @@
-use Rattle.std.proofs.Common.{◌≡◌, ◌+◌, ◌≤◌, length, unwrap_or, sym, ap, ◌∙◌, arith}
-use Rattle.std.specs.List.{position_or_len}
-use Rattle.hadopt.specs.Site.{stack}
-use Rattle.hmodes.specs.declared.mode.Mode.TheVariants.{InBody}
+use Rattle.hmodes.proofs.Vocabulary.{◌≡◌, ◌+◌, ◌≤◌, length, unwrap_or, sym, ap, ◌∙◌, arith, position_or_len, stack, InBody}
 use Rattle.hmodes.proofs.Resetting.{decided, tells, reset-told, reset-root, place-told, place-none}
 use Rattle.hmodes.proofs.tree_construction.TreeConstruction.reset_mode.Goals.{in_default-via-in-Some+else-up-below_first, in_default-via-in_default}
 use Rattle.hmodes.proofs.tree_construction.TreeConstruction.reset_mode.Goals as goal

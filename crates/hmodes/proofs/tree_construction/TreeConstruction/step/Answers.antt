@@ -1,11 +1,4 @@
-use Rattle.std.proofs.Common.{ℕ, sym, ◌∙◌, subst}
-use Rattle.hadopt.specs.Naming.{numbers}
-use Rattle.hadopt.specs.Site.{Goes}
-use Rattle.hmodes.specs.State.{State}
-use Rattle.hmodes.specs.States.{state_of}
-use Rattle.hmodes.specs.Step.{Step, drops}
-use Rattle.hmodes.specs.Tokens.{token_of}
-use Rattle.hmodes.specs.Building.{ChainGives}
+use Rattle.hmodes.proofs.Vocabulary.{ℕ, sym, ◌∙◌, subst, numbers, Goes, State, state_of, Step, drops, token_of, ChainGives}
 use Rattle.hmodes.proofs.Looping.{step-of}
 use Rattle.hmodes.proofs.tree_construction.TreeConstruction.step.Goals as goal
 

@@ -1,4 +1,4 @@
-use Rattle.std.proofs.Common.{◌≡◌, ◌+◌, ◌≤◌, ◌<◌, ◌==◌, List, ℕ, true, length, take, drop, sym, refl, ap, ◌∙◌, subst, arith}
+use Rattle.std.proofs.Common.{◌+◌, ◌<◌, List, ℕ, length, take, sym, refl, ap, ◌∙◌, arith}
 use Rattle.std.proofs.lemmas.List.{length-drop}
 use Rattle.std.specs.Prelude.{slice_index}
 use Rattle.names.proofs.Handing.{grows_not, grows_on}
@@ -27,7 +27,7 @@ returns-then-close-gt0-clause-few c =
 
 pub returns-then-close-gt0-clause-reads : goal.returns-then-close-gt0-clause-reads
 returns-then-close-gt0-clause-reads c = λ some at.
-    end_read c.args.run.now c.loop-count.count at c.requires.plain c.loop-count-test.true c.loop-count.names c.loop-count.self c.loop-count.spaced (c.loop-count.invariant.parts at) _ c.close_front-close.result c.if-close-gt0.true refl refl refl
+    end_read c.args.run.now c.loop-count.count at c.requires.plain c.loop-count-test.true c.loop-count.names c.loop-count.self c.loop-count.before_attribute (c.loop-count.invariant.parts at) _ c.close_front-close.result c.if-close-gt0.true refl refl refl
     (ap (take c.close_front-close.result) (sym (c.as_bytes-in-loop-count.ensures.value ∙ c.rest_of-rest.ensures.value)) ∙ c.close_front-close.ensures.closes c.if-close-gt0.true)
     (ap (λ (x : List ℕ). ends_name (slice_index x 0)) (sym c.as_bytes.ensures.value) ∙ sym c.ends.ensures ∙ c.if-not-ends.false)
 
@@ -38,7 +38,7 @@ loop-count-preserved c =
     record {
       parts = λ at.
           let so = c.loop-count.invariant.parts at in
-          part_read c.args.run.now c.loop-count.count at c.requires.plain c.loop-count-test.true c.loop-count.names c.loop-count.self c.loop-count.spaced so c.plain_part.new.names c.plain_part.new.self c.in_ok-more.more some (adds (at + c.loop-count.count) so.parts so.has);
+          part_read c.args.run.now c.loop-count.count at c.requires.plain c.loop-count-test.true c.loop-count.names c.loop-count.self c.loop-count.before_attribute so c.plain_part.new.names c.plain_part.new.self c.in_ok-more.more c.in_ok-more.then_before some (adds (at + c.loop-count.count) so.parts so.has);
       within = omega (arith, c.in_ok-more.ensures.few, ap length c.rest_of-rest.ensures.value, length-drop c.loop-count.count c.args.run.now, c.loop-count.invariant.within);
       kind_is = c.in_ok-more.ensures.keeps.kind_is ∙ c.loop-count.invariant.kind_is;
       name_is = c.in_ok-more.ensures.keeps.name_is ∙ c.loop-count.invariant.name_is;
@@ -49,11 +49,11 @@ loop-count-preserved c =
 
 pub returns-then-more-eq0-clause-reads : goal.returns-then-more-eq0-clause-reads
 returns-then-more-eq0-clause-reads c = λ some at.
-    open_rest c.args.run.now c.loop-count.count c.after_space.result at c.plain_part.new.names c.plain_part.new.self c.loop-count.spaced (omega (arith, c.loop-count-test.true))
-    (ap (λ (x : List ℕ). ends_name (slice_index x 0)) (sym c.as_bytes.ensures.value) ∙ sym c.ends.ensures ∙ c.if-not-ends.false) some (c.after_space.ensures.spaced some)
-    (parts_stay c.loop-count.names c.plain_part.new.names c.loop-count.self c.plain_part.new.self c.args.run.now c.loop-count.count at c.loop-count.spaced (c.loop-count.invariant.parts at) (c.in_ok-more.ensures.stays c.if-more-eq0.true (c.loop-count.invariant.parts at).parts))
+    open_rest c.args.run.now c.loop-count.count c.unless_in_part.result at c.plain_part.new.names c.plain_part.new.self c.loop-count.before_attribute (omega (arith, c.loop-count-test.true))
+    (ap (λ (x : List ℕ). ends_name (slice_index x 0)) (sym c.as_bytes.ensures.value) ∙ sym c.ends.ensures ∙ c.if-not-ends.false) some (c.unless_in_part.ensures.before some)
+    (parts_stay c.loop-count.names c.plain_part.new.names c.loop-count.self c.plain_part.new.self c.args.run.now c.loop-count.count at c.loop-count.before_attribute (c.loop-count.invariant.parts at) (c.in_ok-more.ensures.stays c.if-more-eq0.true (c.loop-count.invariant.parts at).parts))
 
 pub returns-clause-reads : goal.returns-clause-reads
 returns-clause-reads c = λ some at.
-    open_rest c.args.run.now c.loop-count.count c.after_space-2.result at c.loop-count.names c.loop-count.self c.loop-count.spaced (omega (arith, c.loop-count.invariant.within, some, (c.after_space-2.ensures.spaced some).1))
-    (ap (λ (x : List ℕ). ends_name (slice_index x 0)) (sym c.as_bytes.ensures.value) ∙ sym c.ends.ensures ∙ c.if-not-ends.false) some (c.after_space-2.ensures.spaced some) (c.loop-count.invariant.parts at)
+    open_rest c.args.run.now c.loop-count.count c.unless_in_part-2.result at c.loop-count.names c.loop-count.self c.loop-count.before_attribute (omega (arith, c.loop-count.invariant.within, some, (c.unless_in_part-2.ensures.before some).1))
+    (ap (λ (x : List ℕ). ends_name (slice_index x 0)) (sym c.as_bytes.ensures.value) ∙ sym c.ends.ensures ∙ c.if-not-ends.false) some (c.unless_in_part-2.ensures.before some) (c.loop-count.invariant.parts at)

@@ -1,50 +1,60 @@
-use Rattle.std.proofs.Common.{◌≡◌, [], ◌+◌, List, ℕ, Option, Some, IfSome, sym, ap, ◌∙◌, subst, arith, Ok, Err}
+use Rattle.std.proofs.Common.{◌<◌, ◌+◌, ◌++◌, List, ℕ, length, take, refl, sym, ◌∙◌, subst, arith, Ok, Err}
 use Rattle.std.proofs.lemmas.Result.{err_from_is_err_and}
-use Rattle.std.specs.Prelude.{slice_index}
+use Rattle.std.specs.Str.{chars}
 use Rattle.names.specs.declared.placed.Placed.{Placed}
-use Rattle.names.specs.declared.raw.RawKind.{RawKind}
-use Rattle.charref.specs.Reference.{Entities}
-use Rattle.charref.specs.declared.reference.Reference.{Reference}
-use Rattle.htoken.specs.Front.{IsWhole}
+use Rattle.names.specs.Placed.{placed}
+use Rattle.htext.specs.Run.{IsCut}
+use Rattle.htext.proofs.Wide.{cut_more}
+use Rattle.htoken.specs.Front.{first_placed}
 use Rattle.htoken.specs.Token.{gives_item}
 use Rattle.htoken.specs.Tokenizing.{Reads, Takes}
-use Rattle.htoken.proofs.Bare.{mark_first, whole_cut}
-use Rattle.htoken.proofs.Fronts.{cut_refused}
+use Rattle.htoken.proofs.Bare.{mark_next}
+use Rattle.htoken.proofs.InRun.{next_last}
+use Rattle.htoken.proofs.InText.{all_taken, then_refused, then_taken}
 use Rattle.htoken.proofs.tokenizer.Tokenizer.take_end.Goals as goal
 
-whole_of : (table : Entities) (kind : RawKind) (run : List ℕ) (whole : Option (Reference × ℕ)) (found : Reference) (count : ℕ) → whole ≡ Some (found, count) → IfSome whole (λ it. IsWhole table kind run it.0 it.1)
-    → IsWhole table kind run found count
-whole_of table kind run whole found count is may = subst (λ w. IfSome w (λ it. IsWhole table kind run it.0 it.1)) is may
-
-pub returns-in_err-take_whole-clause-takes : goal.returns-in_err-take_whole-clause-takes
-returns-in_err-take_whole-clause-takes g c =
-    let e = err_from_is_err_and c.from_residual.result c.from_residual.ensures.1 in
-    let is = whole_of _ _ _ _ _ _ c.in-Some.is c.requires.whole in
-    rw (e.1, e.2) (λ table start names text taken h.
-    cut_refused (gives_item g.S.ErrorSink.gives g.S.TokenSink.gives_token) table start text c.args.at (c.in-Some.count + 1) c.args.run.now (whole_cut (gives_item g.S.ErrorSink.gives g.S.TokenSink.gives_token) table start names text taken c.args.self.now c.args.run.now c.args.at c.utf8.run c.in-Some.found c.in-Some.count is c.requires.text) taken _ _ _ _ c.take_whole.new.self _
-    (c.in_err-take_whole.ensures table start names text taken h))
-
-pub returns-in-Some-clause-few : goal.returns-in-Some-clause-few
-returns-in-Some-clause-few g c =
-    (omega arith, whole_cut (gives_item g.S.ErrorSink.gives g.S.TokenSink.gives_token) c.args.self.now.table.now c.args.self.now.kind [] [] [] c.args.self.now c.args.run.now c.args.at c.utf8.run c.in-Some.found c.in-Some.count (whole_of c.args.self.now.table.now c.args.self.now.kind c.args.run.now c.args.whole c.in-Some.found c.in-Some.count c.in-Some.is c.requires.whole) c.requires.text)
-
-pub returns-in_err-in_text-clause-takes : goal.returns-in_err-in_text-clause-takes
-returns-in_err-in_text-clause-takes g c =
-    let e = err_from_is_err_and c.from_residual-in_err-in_text.result c.from_residual-in_err-in_text.ensures.1 in
+pub returns-then-count-run-clause-takes : goal.returns-then-count-run-clause-takes
+returns-then-count-run-clause-takes g c = λ table start names text taken old front.
     let run = c.args.run.now in
-    let first = mark_first run c.args.at c.from.result c.utf8.run c.requires.some (c.from.ensures ∙ ap (λ (bs : List ℕ). slice_index bs 0) c.as_bytes.ensures.value) c.requires.ends in
-    rw (e.1, e.2) (λ table start names text taken h.
-    cut_refused (gives_item g.S.ErrorSink.gives g.S.TokenSink.gives_token) table start text c.args.at 1 run first.2 taken _ _ _ _ c.in_text.new.self _
-    (subst (λ (x : List Placed). Takes (gives_item g.S.ErrorSink.gives g.S.TokenSink.gives_token) table start text x taken names c.args.sink.now (Err c.in_err-in_text.field-0.0) c.in_text.new.sink c.in_text.new.self) (sym first.1)
-    (c.in_err-in_text.ensures table start names text taken (subst (λ (x : List Placed). Reads table start c.args.self.now names text x taken) first.0 h))))
+    let last = c.last_start.ensures.last in
+    all_taken (gives_item g.S.ErrorSink.gives g.S.TokenSink.gives_token) table start names text taken c.args.self.now run c.args.at c.args.count old c.args.sink.now front c.requires.cut c.if-count-run.true _ refl
+    (c.after-self.ensures ∙ next_last text c.args.at c.last_start.result run last.0 c.last_start.ensures.cut last.1)
+
+pub returns-in_err-more-clause-takes : goal.returns-in_err-more-clause-takes
+returns-in_err-more-clause-takes g c =
+    let e = err_from_is_err_and c.from_residual.result c.from_residual.ensures.1 in
+    let gives = gives_item g.S.ErrorSink.gives g.S.TokenSink.gives_token in
+    let t = c.args.self.now in
+    let run = c.args.run.now in
+    let count = c.args.count in
+    let left = c.range_from.ensures.value in
+    let less : count < length run = omega (arith, c.if-count-run.false, c.requires.cut.within) in
+    rw (e.1, e.2) (λ table start names text taken old front.
+    let part : List Placed = placed c.args.at (chars (take count run)) in
+    let new = record t { next = c.after-self-2.result } in
+    let reads = front.reads new refl (c.after-self-2.ensures ∙ mark_next (text ++ part) c.args.at count run c.requires.cut less (c.requires.ends less)) in
+    then_refused gives table start names text taken t run c.args.at count old c.args.sink.now front c.requires.cut _ c.take_mark.new.sink c.take_mark.new.self
+    (subst (λ (x : List ℕ). Takes gives table start (text ++ part) (placed (c.args.at + count) (chars x)) (taken ++ front.events) names c.args.sink.now (Err c.in_err-more.field-0.0) c.take_mark.new.sink c.take_mark.new.self) left
+    (c.in_err-more.ensures.takes table start names (text ++ part) (taken ++ front.events) (subst (λ (x : List ℕ). Reads table start new names (text ++ part) (first_placed (c.args.at + count) x) (taken ++ front.events)) (sym left) reads))))
 
 pub returns-clause-takes : goal.returns-clause-takes
-returns-clause-takes g c = λ table start names text taken h.
+returns-clause-takes g c =
+    let gives = gives_item g.S.ErrorSink.gives g.S.TokenSink.gives_token in
+    let t = c.args.self.now in
     let run = c.args.run.now in
-    let first = mark_first run c.args.at c.from.result c.utf8.run c.requires.some (c.from.ensures ∙ ap (λ (bs : List ℕ). slice_index bs 0) c.as_bytes.ensures.value) c.requires.ends in
-    subst (λ (x : List Placed). Takes (gives_item g.S.ErrorSink.gives g.S.TokenSink.gives_token) table start text x taken names c.args.sink.now (Ok tt) c.in_text.new.sink c.in_text.new.self) (sym first.1)
-    (c.in_ok-in_text.ensures table start names text taken (subst (λ (x : List Placed). Reads table start c.args.self.now names text x taken) first.0 h))
+    let count = c.args.count in
+    let left = c.range_from.ensures.value in
+    let less : count < length run = omega (arith, c.if-count-run.false, c.requires.cut.within) in
+    λ table start names text taken old front.
+    let part : List Placed = placed c.args.at (chars (take count run)) in
+    let new = record t { next = c.after-self-2.result } in
+    let reads = front.reads new refl (c.after-self-2.ensures ∙ mark_next (text ++ part) c.args.at count run c.requires.cut less (c.requires.ends less)) in
+    then_taken gives table start names text taken t run c.args.at count old c.args.sink.now front c.requires.cut c.in_ok-more.more c.take_mark.new.sink c.take_mark.new.self
+    (subst (λ (x : List ℕ). IsCut c.in_ok-more.more x) left c.in_ok-more.ensures.few.1)
+    (subst (λ (x : List ℕ). Takes gives table start (text ++ part) (placed (c.args.at + count) (chars (take c.in_ok-more.more x))) (taken ++ front.events) names c.args.sink.now (Ok tt) c.take_mark.new.sink c.take_mark.new.self) left
+    (c.in_ok-more.ensures.takes table start names (text ++ part) (taken ++ front.events) (subst (λ (x : List ℕ). Reads table start new names (text ++ part) (first_placed (c.args.at + count) x) (taken ++ front.events)) (sym left) reads)))
 
 pub returns-clause-few : goal.returns-clause-few
 returns-clause-few g c =
-    (omega arith, (mark_first c.args.run.now c.args.at c.from.result c.utf8.run c.requires.some (c.from.ensures ∙ ap (λ (bs : List ℕ). slice_index bs 0) c.as_bytes.ensures.value) c.requires.ends).2)
+    let few = c.in_ok-more.ensures.few in
+    (omega (arith, few.0), cut_more c.args.count c.in_ok-more.more c.args.run.now c.requires.cut (subst (λ (x : List ℕ). IsCut c.in_ok-more.more x) c.range_from.ensures.value few.1))

@@ -1,7 +1,0 @@
-use Rattle.std.proofs.Common.{sym, ◌∙◌}
-use Rattle.htag.proofs.AtOnce.{name_is}
-use Rattle.htag.proofs.at_once.name_front.Goals as goal
-
-pub returns-then-is_ascii_lowercase : goal.returns-then-is_ascii_lowercase
-returns-then-is_ascii_lowercase c = λ some.
-    name_is c.args.run.now c.word_run-count.result c.word_run-count.ensures.counted c.word_run-count.ensures.few (sym c.is_ascii_lowercase.ensures.value ∙ c.if-is_ascii_lowercase.true) some

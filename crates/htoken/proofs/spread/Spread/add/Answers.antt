@@ -1,0 +1,33 @@
+use Rattle.std.proofs.Common.{◌≡◌, true, ℕ, List, ◌++◌, sym, ap, ◌∙◌, subst, refl}
+use Rattle.std.specs.Prelude.{string_bytes, encode_utf8_all}
+use Rattle.std.specs.List.{list_all}
+use Rattle.std.specs.Str.{chars}
+use Rattle.std.proofs.lemmas.Result.{err_from_is_err_and}
+use Rattle.std.proofs.lemmas.Str.{IsCharBoundary-from_drop}
+use Rattle.htext.specs.Run.{is_clean}
+use Rattle.htext.proofs.Clean.{clean_rest}
+use Rattle.htext.proofs.Runs.{front_of}
+use Rattle.htoken.proofs.InMarkup.{refused}
+use Rattle.htoken.proofs.Spreading.{adds_is, own_front}
+use Rattle.htoken.proofs.spread.Spread.add.Goals as goal
+
+pub range_from-rest-requires : goal.range_from-rest-requires
+range_from-rest-requires c = λ _.
+    let cut = (own_front c.args.table.now c.args.kind c.args.run.now c.args.at c.utf8.run c.args.found.now c.args.size c.requires.whole _ refl).cut in
+    IsCharBoundary-from_drop c.args.run.now _ cut.within cut.back
+
+pub text_before-requires-clause-clean : goal.text_before-requires-clause-clean
+text_before-requires-clause-clean c =
+    let cut = (own_front c.args.table.now c.args.kind c.args.run.now c.args.at c.utf8.run c.args.found.now c.args.size c.requires.whole _ refl).cut in
+    subst (λ (x : List ℕ). list_all is_clean (chars x) ≡ true) (sym c.range_from-rest.ensures.value) (clean_rest _ c.args.run.now cut c.requires.clean).1
+
+pub returns-in_err-more-clause-adds : goal.returns-in_err-more-clause-adds
+returns-in_err-more-clause-adds c =
+    let e = err_from_is_err_and c.from_residual-in_err-more.result c.from_residual-in_err-more.ensures.1 in
+    rw (e.1, e.2) (refused _ _ _ _ c.in_err-more.ensures.front.1)
+
+pub returns-clause-adds : goal.returns-clause-adds
+returns-clause-adds c =
+    adds_is c.args.table.now c.args.kind c.args.run.now c.args.at c.utf8.run c.args.found.now c.args.size c.requires.whole _ refl c.requires.clean c.requires.some c.args.self.now _ c.tell_known.new.sink (string_bytes c.push_all.new.text)
+    c.range_from-rest.result.now c.in_ok-more.more c.range_from-rest.ensures.value c.in_ok-tell_known.ensures (c.in_ok-push_str.ensures.bytes ∙ ap (λ (x : List ℕ). string_bytes c.push_all.new.text ++ x) (c.range.ensures.value ∙ front_of c.in_ok-more.more c.range_from-rest.result.now))
+    (c.in_ok-push_all.ensures ∙ ap (λ (x : List ℕ). string_bytes c.args.self.now.text ++ encode_utf8_all x) c.as_slice.ensures) c.in_ok-more.ensures.front

@@ -1,0 +1,38 @@
+use Rattle.std.proofs.Common.{Bool, [], Ok, sym, subst, refl}
+use Rattle.std.proofs.lemmas.Result.{err_from_is_err_and}
+use Rattle.htoken.specs.Front.{GivesSpread, spread_ran_out, spread_refused}
+use Rattle.htoken.specs.Token.{gives_item}
+use Rattle.htoken.proofs.Spreading.{front_none, gathered_spread}
+use Rattle.htoken.proofs.tokenizer.Tokenizer.spread_on.Goals as goal
+
+pub give-requires : goal.give-requires
+give-requires g c = record { some = (gathered_spread c.args.self.now.table.now c.args.self.now.kind c.args.run.now c.args.at _ _ c.in_ok-size.ensures.gathered).0 }
+
+pub returns-in_err-size-clause-front : goal.returns-in_err-size-clause-front
+returns-in_err-size-clause-front g c =
+    let e = err_from_is_err_and c.from_residual.result c.from_residual.ensures.1 in
+    rw (e.1, e.2) (λ names. spread_ran_out c.in_err-size.ensures.gathered refl)
+
+pub returns-in_err-give-clause-front : goal.returns-in_err-give-clause-front
+returns-in_err-give-clause-front g c =
+    let e = err_from_is_err_and c.from_residual-in_err-give.result c.from_residual-in_err-give.ensures.1 in
+    let is = c.in_ok-size.ensures.gathered in
+    let spread = gathered_spread c.args.self.now.table.now c.args.self.now.kind c.args.run.now c.args.at _ _ is in
+    rw (e.1, e.2) (λ names. spread_refused _ (record { errors = _; given = is.given; front = is.front; handed = c.in_err-give.ensures names is.given spread.1 }))
+
+pub returns-then-branch-clause-front : goal.returns-then-branch-clause-front
+returns-then-branch-clause-front g c = λ names.
+    let is = c.in_ok-size.ensures.gathered in
+    let spread = gathered_spread c.args.self.now.table.now c.args.self.now.kind c.args.run.now c.args.at _ _ is in
+    record { errors = _; given = is.given; front = is.front; handed = (subst (λ (b : Bool). GivesSpread (gives_item g.S.ErrorSink.gives g.S.TokenSink.gives_token) names is.given c.gather.new.self.raised.errors.items c.args.sink.now (Ok b) c.give.new.sink) c.if-branch.true (c.in_ok-give.ensures names is.given spread.1)) }
+
+pub returns-clause-front : goal.returns-clause-front
+returns-clause-front g c = λ names.
+    let is = c.in_ok-size.ensures.gathered in
+    let spread = gathered_spread c.args.self.now.table.now c.args.self.now.kind c.args.run.now c.args.at _ _ is in
+    record {
+      errors = [];
+      given = [];
+      front = front_none c.args.self.now.table.now c.args.self.now.kind c.args.run.now c.args.at c.utf8.run;
+      handed = ([], tt, (refl, sym (subst (λ (b : Bool). GivesSpread (gives_item g.S.ErrorSink.gives g.S.TokenSink.gives_token) names is.given c.gather.new.self.raised.errors.items c.args.sink.now (Ok b) c.give.new.sink) c.if-branch.false (c.in_ok-give.ensures names is.given spread.1))));
+    }

@@ -1,0 +1,47 @@
+use Rattle.std.proofs.Common.{◌≡◌, ◌+◌, true, ℕ, List, [], drop, sym, subst, arith, Ok}
+use Rattle.std.proofs.lemmas.Result.{err_from_is_err_and}
+use Rattle.std.proofs.lemmas.Str.{IsCharBoundary-from_drop}
+use Rattle.std.specs.List.{list_all}
+use Rattle.std.specs.Str.{chars}
+use Rattle.htext.specs.Run.{is_clean, IsCut}
+use Rattle.htext.proofs.Clean.{clean_rest}
+use Rattle.htext.proofs.Wide.{cut_more}
+use Rattle.htoken.specs.Front.{GivesFront, RefusesFront}
+use Rattle.htoken.specs.Token.{gives_item}
+use Rattle.htoken.proofs.InText.{spread_fails, spread_given}
+use Rattle.htoken.proofs.Spreading.{may_of}
+use Rattle.htoken.proofs.tokenizer.Tokenizer.take_references.Goals as goal
+
+pub range_from-requires : goal.range_from-requires
+range_from-requires g c = λ _. IsCharBoundary-from_drop c.args.run.now c.args.count c.requires.cut.within c.requires.cut.back
+
+pub spread_on-requires-clause-clean : goal.spread_on-requires-clause-clean
+spread_on-requires-clause-clean g c =
+    subst (λ (x : List ℕ). list_all is_clean (chars x) ≡ true) (sym c.range_from.ensures.value) (clean_rest c.args.count c.args.run.now c.requires.cut c.requires.clean).1
+
+pub returns-in_err-more-clause-takes : goal.returns-in_err-more-clause-takes
+returns-in_err-more-clause-takes g c =
+    let e = err_from_is_err_and c.from_residual.result c.from_residual.ensures.1 in
+    let gives = gives_item g.S.ErrorSink.gives g.S.TokenSink.gives_token in
+    let t = c.args.self.now in
+    let may = may_of t.table.now t.kind (drop c.args.count c.args.run.now) c.args.whole c.requires.some c.requires.whole in
+    rw (e.1, e.2) (λ table start names text taken old front.
+    spread_fails gives table start names text taken t c.args.run.now c.args.at c.args.count old c.args.sink.now front c.requires.cut c.requires.text may _ c.spread_on.new.sink _
+    (subst (λ (x : List ℕ). RefusesFront gives names t.table.now t.kind x (c.args.at + c.args.count) c.args.sink.now c.in_err-more.field-0.0 c.spread_on.new.sink) c.range_from.ensures.value (c.in_err-more.ensures.front names)))
+
+pub take_end-requires-clause-cut : goal.take_end-requires-clause-cut
+take_end-requires-clause-cut g c =
+    cut_more c.args.count c.in_ok-more.more c.args.run.now c.requires.cut (subst (λ (x : List ℕ). IsCut c.in_ok-more.more x) c.range_from.ensures.value (c.in_ok-more.ensures.front []).front.cut)
+
+pub overflow_add-count : goal.overflow_add-count
+overflow_add-count g c = omega (arith, (c.in_ok-more.ensures.front []).front.cut.within, c.range_from.ensures.len, c.requires.cut.within, c.requires.within)
+
+pub returns-clause-takes : goal.returns-clause-takes
+returns-clause-takes g c =
+    let gives = gives_item g.S.ErrorSink.gives g.S.TokenSink.gives_token in
+    let t = c.args.self.now in
+    let may = may_of t.table.now t.kind (drop c.args.count c.args.run.now) c.args.whole c.requires.some c.requires.whole in
+    λ table start names text taken old front.
+    let more = subst (λ (x : List ℕ). GivesFront gives names t.table.now t.kind x (c.args.at + c.args.count) c.in_ok-more.more c.args.sink.now (Ok tt) c.spread_on.new.sink) c.range_from.ensures.value (c.in_ok-more.ensures.front names) in
+    c.take_end.ensures.takes table start names text taken old
+    (spread_given gives table start names text taken t c.args.run.now c.args.at c.args.count old c.args.sink.now front c.requires.cut c.requires.text may c.in_ok-more.more more.errors more.given more.front c.spread_on.new.self c.in_ok-more.ensures.then c.spread_on.new.sink more.handed)
