@@ -1,18 +1,8 @@
 -- What a builder has been handed, as steps of the rules.
-use Rattle.std.proofs.Common.{◌≡◌, List, [], ◌∷◌, ◌++◌, map, sym, ap, ◌∙◌, subst, Option, None, Result, Ok, Err, append-nil, append_assoc, inl, inr}
-use Rattle.std.specs.Prelude.{◌⊎◌, MatchOption}
-use Rattle.names.specs.declared.error.ParseError.{ParseError}
-use Rattle.names.specs.declared.refusal.Refusal.{Refusal}
-use Rattle.names.specs.declared.refusal.Refusal.TheVariants.{Memory}
-use Rattle.names.specs.Sink.{Hands}
-use Rattle.htoken.specs.declared.token.Token.{Token as Given}
-use Rattle.htoken.specs.Token.{Item, ItemToken, ItemError, gives_item}
-use Rattle.hadopt.specs.Naming.{numbers}
-use Rattle.hadopt.specs.Site.{Goes, Refused}
-use Rattle.hmodes.specs.Step.{Step, Steps, none, and, refused}
-use Rattle.hmodes.specs.Tokens.{token_of, place_of}
-use Rattle.hmodes.specs.Building.{Building, TakesOn, TakesToken, TakesError, Tells, StaysRefused}
-use Rattle.hparse.specs.Input.{tokens_handed, errors_handed}
+use Rattle.hparse.proofs.Names.{◌≡◌, List, [], ◌∷◌, ◌++◌, map, sym, ap, ◌∙◌, subst, Option, None, Result, Ok, Err, append-nil, append_assoc, inl, inr, ◌⊎◌, ParseError, Refusal, Memory, Hands, Given, Item, ItemToken, ItemError, gives_item, numbers, Goes, Refused, Steps, and, token_of, place_of, Building, TakesToken, tokens_handed, errors_handed}
+use Rattle.std.specs.Prelude.{MatchOption}
+use Rattle.hmodes.specs.Step.{Step, none, refused}
+use Rattle.hmodes.specs.Building.{TakesOn, TakesError, Tells, StaysRefused}
 use Rattle.hparse.proofs.Numbered.{placed_number}
 
 -- a step of the builder
@@ -20,10 +10,10 @@ abbrev pub builds : Building → Item → Result (Unit {0}) Refusal → Building
 builds = gives_item TakesError TakesToken
 
 -- a builder that has refused nothing took this token, or this error
-takes_on : (t : Given) (old new : Building) (answer : Result (Unit {0}) Refusal) → old.refused ≡ None → TakesToken old t answer new → TakesOn (place_of t) (token_of t) old answer new
+pub takes_on : (t : Given) (old new : Building) (answer : Result (Unit {0}) Refusal) → old.refused ≡ None → TakesToken old t answer new → TakesOn (place_of t) (token_of t) old answer new
 takes_on t old new answer is given = subst (λ (o : Option Refusal). MatchOption o (TakesOn (place_of t) (token_of t) old answer new) (λ r. StaysRefused r old answer new)) is given
 
-tells : (e : ParseError) (old new : Building) (answer : Result (Unit {0}) Refusal) → old.refused ≡ None → TakesError old e answer new → Tells e old answer new
+pub tells : (e : ParseError) (old new : Building) (answer : Result (Unit {0}) Refusal) → old.refused ≡ None → TakesError old e answer new → Tells e old answer new
 tells e old new answer is given = subst (λ (o : Option Refusal). MatchOption o (Tells e old answer new) (λ r. StaysRefused r old answer new)) is given
 
 -- What a builder has become.

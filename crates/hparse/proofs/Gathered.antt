@@ -1,16 +1,6 @@
 -- What a collection has been handed: it keeps all, and refuses for want of memory alone.
-use Rattle.std.proofs.Common.{◌≡◌, List, [], ◌∷◌, ◌++◌, sym, ap, ◌∙◌, subst, Result, Ok, Err, append-nil, append_assoc}
-use Rattle.std.specs.List.Sorted.{IsPermutation}
-use Rattle.names.specs.declared.error.ParseError.{ParseError}
-use Rattle.names.specs.declared.refusal.Refusal.{Refusal}
-use Rattle.names.specs.Names.{Texts}
-use Rattle.names.specs.Sink.{Hands}
-use Rattle.htoken.specs.declared.token.Token.{Token}
-use Rattle.htoken.specs.Token.{Tok, Item, ItemToken, ItemError, gives_item}
-use Rattle.hparse.specs.declared.collect.Collected.{Collected}
+use Rattle.hparse.proofs.Names.{◌≡◌, List, [], ◌∷◌, ◌++◌, sym, ap, ◌∙◌, subst, Result, Ok, Err, append-nil, append_assoc, IsPermutation, ParseError, Refusal, Texts, Hands, Token, Tok, Item, ItemToken, ItemError, gives_item, Collected, Began, Handed, tokens_handed, errors_handed, TokensMean}
 use Rattle.hparse.specs.Collecting.{KeepsError, KeepsToken}
-use Rattle.hparse.specs.Input.{Began, Handed, tokens_handed, errors_handed}
-use Rattle.hparse.specs.TokenRun.{TokensMean}
 use Rattle.hparse.proofs.Refusing.{RefusesForMemory}
 
 -- a step of the collection

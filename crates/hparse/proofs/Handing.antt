@@ -1,18 +1,8 @@
 -- What a sink has been handed, and what it is handed after that.
-use Rattle.std.proofs.Common.{◌≡◌, List, [], ◌∷◌, ◌++◌, sym, refl, ap, ◌∙◌, subst, Result, Ok}
-use Rattle.std.specs.List.Sorted.{IsPermutation}
-use Rattle.std.proofs.lemmas.List.Sorted.{IsPermutation-append_left, IsPermutation-refl, IsPermutation-trans}
-use Rattle.names.specs.declared.error.ParseError.{ParseError}
-use Rattle.names.specs.declared.refusal.Refusal.{Refusal}
-use Rattle.names.specs.Names.{Texts, Grows}
-use Rattle.names.proofs.Handing.{grows_not, grows_on, Hands-append}
-use Rattle.htoken.specs.declared.token.Token.{Token}
-use Rattle.htoken.specs.Token.{Tok, Item, ItemToken, ItemError, Event, Gives, Reports, Mean}
-use Rattle.htoken.specs.Tokens.{tokens_in, errors_in}
-use Rattle.htoken.specs.Handing.{HandsEvents}
+use Rattle.hparse.proofs.Names.{◌≡◌, List, [], ◌∷◌, ◌++◌, sym, refl, ap, ◌∙◌, subst, Result, Ok, IsPermutation, IsPermutation-append_left, IsPermutation-refl, IsPermutation-trans, ParseError, Refusal, Texts, Grows, grows_not, grows_on, Token, Tok, Item, ItemToken, ItemError, Event, Reports, tokens_in, errors_in, HandsEvents, Began, Handed, tokens_handed, errors_handed, TokensMean}
+use Rattle.names.proofs.Handing.{Hands-append}
+use Rattle.htoken.specs.Token.{Gives, Mean}
 use Rattle.htoken.proofs.Fronts.{token_kept}
-use Rattle.hparse.specs.Input.{Began, Handed, tokens_handed, errors_handed}
-use Rattle.hparse.specs.TokenRun.{TokensMean}
 
 module _ (old new : Texts) (grows : Grows old new) where
   -- tokens stand for the same ones when the table has grown

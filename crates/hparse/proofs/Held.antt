@@ -1,35 +1,16 @@
 -- What a feeding holds after more items, and after the end of the text.
-use Rattle.std.proofs.Common.{◌≡◌, ◌<◌, arith, ℕ, zero, suc, ◌+◌, true, false, length, List, [], ◌∷◌, ◌++◌, sym, refl, ap, ◌∙◌, subst, Result, Ok, Err, append-nil, append_assoc, map}
-use Rattle.std.specs.Prelude.{is_err, MatchResult}
+use Rattle.hparse.proofs.Names.{◌≡◌, ◌<◌, arith, ℕ, zero, suc, ◌+◌, true, false, length, List, [], ◌∷◌, ◌++◌, sym, refl, ap, ◌∙◌, subst, Result, Ok, Err, append-nil, append_assoc, map, MatchResult, IsPermutation, IsPermutation-refl, IsPermutation-append_right, IsPermutation-append_comm, ParseError, Placed, RawKind, Refusal, Texts, Grows, Hands, grows_not, CharItem, Character, InputError, characters_among, errors_among, items, bad_each, input_errors, run_items, start_kind, Token, replaced, Tok, Event, Reports, Item, gives_item, IsRefused, AreFront, tokens_in, errors_in, HandsEvents, Entities, HasTaken, Manner, Began, Handed, Intake, HoldsItems, TakesItems, items_ran_out, items_stopped, items_refused, items_taken, Proceeds, EndsText, text_ran_out, text_stopped, text_taken}
+use Rattle.std.specs.Prelude.{is_err}
 use Rattle.std.specs.Bool.{◌==◌}
 use Rattle.std.specs.Char.{len_utf8}
-use Rattle.std.specs.List.Sorted.{IsPermutation}
-use Rattle.std.proofs.lemmas.List.Sorted.{IsPermutation-refl, IsPermutation-append_right, IsPermutation-append_comm}
-use Rattle.names.specs.declared.error.ParseError.{ParseError}
-use Rattle.names.specs.declared.placed.Placed.{Placed}
-use Rattle.names.specs.declared.raw.RawKind.{RawKind}
-use Rattle.names.specs.declared.refusal.Refusal.{Refusal}
-use Rattle.names.specs.Names.{Texts, Grows}
-use Rattle.names.specs.Sink.{Hands}
 use Rattle.names.specs.Placed.{placed, error}
 use Rattle.names.specs.declared.error.ErrorCode.TheVariants.{ReplacedBytes}
-use Rattle.names.proofs.Handing.{grows_not}
-use Rattle.htext.specs.Items.{CharItem, Character, InputError, characters_among, errors_among, items, bad_each, input_errors}
-use Rattle.htext.specs.Run.{run_items}
-use Rattle.htoken.specs.Standing.{start_kind}
-use Rattle.htoken.specs.declared.token.Token.{Token}
-use Rattle.htoken.specs.Run.{replaced}
 use Rattle.htoken.proofs.Handing.{reports_given}
-use Rattle.htoken.specs.Token.{Tok, Event, Reports, Item, gives_item}
-use Rattle.htoken.specs.Tokens.{IsRefused, AreFront, eof_of, tokens_in, errors_in}
-use Rattle.htoken.specs.Handing.{HandsEvents}
-use Rattle.charref.specs.Reference.{Entities}
+use Rattle.htoken.specs.Tokens.{eof_of}
 use Rattle.htoken.specs.declared.tokenizer.Tokenizer.{Tokenizer}
-use Rattle.htoken.specs.Tokenizing.{HasTaken, holds, in_run, Takes, take_ran_out, take_refused, take_sink_refused, take_took, Finishes, finish_ran_out, finish_sink_refused, finish_took}
+use Rattle.htoken.specs.Tokenizing.{holds, in_run, Takes, take_ran_out, take_refused, take_sink_refused, take_took, Finishes, finish_ran_out, finish_sink_refused, finish_took}
 use Rattle.htoken.proofs.Cutting.{tokens_in-append, errors_in-append, tokens_in-map, errors_in-map}
-use Rattle.hparse.specs.Input.{Manner, Began, Handed}
-use Rattle.hparse.specs.Intake.{Intake}
-use Rattle.hparse.specs.Holding.{WasFed, HoldsItems, TakesItems, items_ran_out, items_stopped, items_refused, items_taken, Proceeds, EndsText, text_ran_out, text_stopped, text_taken}
+use Rattle.hparse.specs.Holding.{WasFed}
 use Rattle.hparse.proofs.Handing.{handed_more, handed_as}
 
 pub characters_among-append : (xs ys : List CharItem) → characters_among (xs ++ ys) ≡ characters_among xs ++ characters_among ys

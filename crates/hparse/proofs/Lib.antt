@@ -4,13 +4,16 @@ pub mod Handing
 pub mod Held
 pub mod Joined
 pub mod Meant
+pub mod Names
 pub mod Numbered
 pub mod OfNames
 pub mod Parsings
 pub mod Pieces
+pub mod Placed
 pub mod Refusing
 pub mod RunOf
 pub mod Sorting
+pub mod Told
 pub mod Trees
 pub mod Turns
 pub mod Unrefused

@@ -1,11 +1,6 @@
 -- The tokens that a run shows stand for some.
-use Rattle.std.proofs.Common.{◌≡◌, List, ℕ, Ok, subst}
-use Rattle.charref.specs.Reference.{Entities}
-use Rattle.htext.specs.Text.{Policy}
-use Rattle.htoken.specs.Token.{Tok}
-use Rattle.hparse.specs.declared.token_run.TokenRun.{TokenRun}
-use Rattle.hparse.specs.Shown.{Shows, ran_out, refuses, accepts}
-use Rattle.hparse.specs.TokenRun.{TokensMean}
+use Rattle.hparse.proofs.Names.{◌≡◌, List, ℕ, Ok, subst, Entities, Policy, Tok, TokenRun, Shows, TokensMean}
+use Rattle.hparse.specs.Shown.{ran_out, refuses, accepts}
 
 pub stand_for : (table : Entities) (how : Policy) (bytes : List ℕ) (run : TokenRun) → Shows table how bytes (Ok run) → (tokens : List Tok) × TokensMean run.names run.tokens.items tokens
 stand_for table how bytes run (ran_out e) = absurd cc

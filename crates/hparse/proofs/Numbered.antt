@@ -1,31 +1,16 @@
 -- The tokens of a text as numbers and as texts: what comes of them is the same.
-use Rattle.std.proofs.Common.{◌≡◌, ℕ, List, [], ◌∷◌, map, sym, refl, ap, ◌∙◌, Some, false}
-use Rattle.std.specs.Prelude.{slice_get}
-use Rattle.names.specs.declared.attr.Attr.{Attr}
+use Rattle.hparse.proofs.Names.{◌≡◌, ℕ, List, [], ◌∷◌, map, sym, refl, ap, ◌∙◌, Some, false, slice_get, Attr, Texts, AreNames, tag_named, spelling, AttrsMean, Given, Tok, TokenMeans, tree, none, attribute_of, numbers, texts, spelled_placed, spelled_state, PlacedToken, State, start, end, token_of, numbers-agree, TokensMean, placed}
 use Rattle.names.specs.declared.tag.Tag.{Tag}
 use Rattle.names.specs.declared.tag.Tag.TheVariants.{Html}
-use Rattle.names.specs.Names.{Texts, AreNames}
-use Rattle.names.specs.Tags.{tag_of, tag_named}
-use Rattle.names.specs.Spelling.{spelling}
+use Rattle.names.specs.Tags.{tag_of}
 use Rattle.names.proofs.AllTexts.{spelled as table_spelled}
-use Rattle.htag.specs.Attributes.{AttrsMean}
-use Rattle.htoken.specs.declared.token.Token.{Token as Given}
 use Rattle.htoken.specs.declared.token.Token.TheVariants as code
-use Rattle.htoken.specs.Token.{Tok, TokenMeans}
-use Rattle.hnodes.specs.Forest.{tree, document, element, none}
-use Rattle.hnodes.specs.Rows.{attribute_of}
+use Rattle.hnodes.specs.Forest.{document, element}
 use Rattle.hnodes.specs.Spelled.{spelled_attribute}
-use Rattle.hadopt.specs.Naming.{numbers, texts}
 use Rattle.hadopt.specs.Spelled.{Agree}
 use Rattle.hmodes.specs.Beginning.{Limits, fragment_begins, form_of, control_in}
 use Rattle.hmodes.specs.Reset.{context_mode}
-use Rattle.hmodes.specs.Spelled.{spelled_placed, spelled_state}
-use Rattle.hmodes.specs.State.{PlacedToken, State, start, end}
-use Rattle.hmodes.specs.Tokens.{token_of}
 use Rattle.hmodes.specs.Tokens as given
-use Rattle.hadopt.proofs.Agreeing.{numbers-agree}
-use Rattle.hparse.specs.TokenRun.{TokensMean}
-use Rattle.hparse.specs.Taken.{placed}
 
 -- a token of the program as the rules take it, and its place
 abbrev pub placed_number : Given → PlacedToken ℕ

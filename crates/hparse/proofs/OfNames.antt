@@ -1,18 +1,10 @@
 -- The names of what was parsed are of its table.
-use Rattle.std.proofs.Common.{◌≡◌, ℕ, Bool, true, false, cond, eqb, zero, suc, ◌<◌, List, [], ◌∷◌, map, length, Some, arith}
-use Rattle.std.specs.Prelude.{slice_get}
-use Rattle.names.specs.declared.attr.Attr.{Attr}
-use Rattle.names.specs.Names.{Texts, IsOf}
-use Rattle.htag.specs.Attributes.{AttrsMean}
-use Rattle.htoken.specs.declared.token.Token.{Token as Given}
+use Rattle.hparse.proofs.Names.{◌≡◌, ℕ, Bool, true, false, cond, eqb, zero, suc, ◌<◌, List, [], ◌∷◌, map, length, Some, arith, slice_get, Attr, Texts, AttrsMean, Given, Tok, TokenMeans, none, tree, attribute_of, AreOf, token_of, TokensAreOf, TokensMean}
+use Rattle.names.specs.Names.{IsOf}
 use Rattle.htoken.specs.declared.token.Token.TheVariants as code
-use Rattle.htoken.specs.Token.{Tok, TokenMeans}
-use Rattle.hnodes.specs.Forest.{Forest, none, tree, join, children_of}
-use Rattle.hnodes.specs.Rows.{attribute_of}
-use Rattle.hnodes.specs.Named.{AttributesAreOf, AreOf}
-use Rattle.hmodes.specs.Tokens.{token_of}
-use Rattle.hmodes.specs.OfTable.{TokenIsOf, TokensAreOf}
-use Rattle.hparse.specs.TokenRun.{TokensMean}
+use Rattle.hnodes.specs.Forest.{Forest, join, children_of}
+use Rattle.hnodes.specs.Named.{AttributesAreOf}
+use Rattle.hmodes.specs.OfTable.{TokenIsOf}
 use Rattle.hparse.proofs.Numbered.{placed_number}
 
 pub within : (names : Texts) (id : ℕ) (text : List ℕ) → slice_get names id ≡ Some text → IsOf names id

@@ -1,29 +1,16 @@
 -- What one piece more does to a reading, and what the input's end does.
-use Rattle.std.proofs.Common.{◌≡◌, ℕ, ◌-◌, Bool, true, false, cond, eqb, List, [], ◌∷◌, ◌++◌, length, Option, None, Some, sym, refl, ap, ◌∙◌, subst, Result, Ok, Err, append-nil, append_assoc, inl, inr}
-use Rattle.std.specs.Prelude.{◌⊎◌}
+use Rattle.hparse.proofs.Names.{◌≡◌, ℕ, ◌-◌, Bool, true, false, cond, eqb, List, [], ◌∷◌, ◌++◌, length, Option, None, Some, sym, refl, ap, ◌∙◌, subst, Result, Ok, Err, append-nil, append_assoc, inl, inr, ◌⊎◌, AreNames, ParseError, Placed, Refusal, Memory, Hands, BadBytes, Policy, Read, CharItem, items, characters_among, errors_among, HasFed, start_kind, Tok, Event, Item, IsRefused, AreFront, tokens_in, Reading, Manner, Began, settled_in, reads_in, Handed, IsRefusedFor, by_sink, by_tag, by_bytes, Comes, Intake, HoldsItems, TakesItems, items_ran_out, items_stopped, items_refused, items_taken, Proceeds, EndsText, text_ran_out, text_stopped, text_taken, Refuses, HasRead, FeedsPiece, piece_ran_out, piece_refused, piece_read, EndsInput, input_ran_out, input_comes, characters_among-items}
 use Rattle.std.specs.Str.Lossy.{utf8_valid_len}
 use Rattle.std.proofs.lemmas.Bool.{eqb-true}
-use Rattle.names.specs.Names.{AreNames}
-use Rattle.names.specs.declared.error.ParseError.{ParseError}
-use Rattle.names.specs.declared.placed.Placed.{Placed}
-use Rattle.names.specs.declared.refusal.Refusal.{Refusal}
-use Rattle.names.specs.declared.refusal.Refusal.TheVariants.{Memory, NotUtf8, TooLarge, OutOfProfile}
+use Rattle.names.specs.declared.refusal.Refusal.TheVariants.{NotUtf8, TooLarge, OutOfProfile}
 use Rattle.names.specs.declared.raw.RefusedName.{RefusedName}
-use Rattle.names.specs.Sink.{Hands}
-use Rattle.htext.specs.declared.BadBytes.{BadBytes}
 use Rattle.htext.specs.declared.BadBytes.TheVariants as bad
-use Rattle.htext.specs.Text.{Policy, Read, read_len, refusal_of, refusal_with}
-use Rattle.htext.specs.Items.{CharItem, items, characters_among, errors_among}
-use Rattle.htext.specs.Decoding.{HasFed, Feeds, ran_out, sink_refused, took_all, Ends, end_refused, end_reached, HandsOn, IsRefusedFrom, answer_at_end}
-use Rattle.htoken.specs.Standing.{start_kind}
-use Rattle.htoken.specs.Token.{Tok, Event, Item}
-use Rattle.htoken.specs.Tokens.{Tokens, IsRefused, AreFront, tokens_in}
-use Rattle.hparse.specs.declared.reading.Reading.{Reading}
-use Rattle.hparse.specs.Input.{Manner, Began, how_of, settled_in, reads_in, text_in, end_in, Handed, IsRefusedFor, by_sink, by_tag, by_bytes, Comes}
-use Rattle.hparse.specs.Intake.{Intake}
-use Rattle.hparse.specs.Holding.{HoldsItems, TakesItems, items_ran_out, items_stopped, items_refused, items_taken, Proceeds, EndsText, text_ran_out, text_stopped, text_taken, Refuses, refusing_ran_out, refusing}
-use Rattle.hparse.specs.Fed.{HasRead, FeedsPiece, piece_ran_out, piece_refused, piece_read, EndsInput, input_ran_out, input_comes}
-use Rattle.htext.proofs.Texts.{items-append, characters_among-items, errors_among-items}
+use Rattle.htext.specs.Text.{read_len, refusal_of, refusal_with}
+use Rattle.htext.specs.Decoding.{Feeds, ran_out, sink_refused, took_all, Ends, end_refused, end_reached, HandsOn, IsRefusedFrom, answer_at_end}
+use Rattle.htoken.specs.Tokens.{Tokens}
+use Rattle.hparse.specs.Input.{how_of, text_in, end_in}
+use Rattle.hparse.specs.Holding.{refusing_ran_out, refusing}
+use Rattle.htext.proofs.Texts.{items-append, errors_among-items}
 
 -- bytes are refused where what is read of them ends
 refusal_place : (b : Bool) (of : BadBytes) (more v at : ℕ) (r : Refusal) → cond b None (Some (refusal_with of more v)) ≡ Some r → (r ≡ NotUtf8 at) ⊎ (r ≡ TooLarge at) → at ≡ v

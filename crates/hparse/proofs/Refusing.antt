@@ -1,19 +1,6 @@
 -- A document that is read into a sink that refuses for want of memory alone.
-use Rattle.std.proofs.Common.{◌≡◌, ℕ, List, [], ◌∷◌, ◌++◌, refl, Result, Ok, Err, inl, inr}
-use Rattle.std.specs.Prelude.{◌⊎◌}
-use Rattle.names.specs.declared.error.ParseError.{ParseError}
-use Rattle.names.specs.declared.refusal.Refusal.{Refusal}
-use Rattle.names.specs.declared.refusal.Refusal.TheVariants.{Memory}
-use Rattle.names.specs.Names.{Texts}
-use Rattle.names.specs.Sink.{Hands}
-use Rattle.htext.specs.declared.BadBytes.{BadBytes}
-use Rattle.htext.specs.Items.{input_errors}
-use Rattle.htext.specs.Text.{decoded}
-use Rattle.charref.specs.Reference.{Entities}
-use Rattle.htoken.specs.Token.{Item}
-use Rattle.hparse.specs.Answer.{of_document, Answers, refused_text, refused_bytes, accepted}
-use Rattle.hparse.specs.Input.{Began, IsRefusedFor, by_sink, by_tag, by_bytes, IsTaken}
-use Rattle.hparse.specs.Into.{as_document}
+use Rattle.hparse.proofs.Names.{◌≡◌, ℕ, List, [], ◌∷◌, ◌++◌, refl, Result, Ok, Err, inl, inr, ◌⊎◌, ParseError, Refusal, Memory, Texts, Hands, BadBytes, input_errors, decoded, Entities, Item, of_document, Answers, accepted, Began, IsRefusedFor, by_sink, by_tag, by_bytes, IsTaken, as_document}
+use Rattle.hparse.specs.Answer.{refused_text, refused_bytes}
 use Rattle.hparse.proofs.Sorting.{in_order, order-permutes, order-sorted}
 
 -- it refuses for want of memory alone

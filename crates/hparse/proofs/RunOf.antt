@@ -1,27 +1,7 @@
 -- The answer that a collection of a document's tokens shows.
-use Rattle.std.proofs.Common.{◌≡◌, ℕ, List, [], ◌++◌, sym, refl, ap, subst, Result, Ok, Err, inl, inr}
-use Rattle.std.specs.Prelude.{◌⊎◌, MatchResult}
-use Rattle.std.proofs.lemmas.List.Sorted.{IsPermutation-trans}
-use Rattle.names.specs.declared.error.ParseError.{ParseError}
-use Rattle.names.specs.declared.refusal.Refusal.{Refusal}
-use Rattle.names.specs.declared.refusal.Refusal.TheVariants.{Memory}
-use Rattle.names.specs.Names.{Texts}
-use Rattle.htext.specs.declared.BadBytes.{BadBytes}
-use Rattle.htext.specs.Items.{input_errors}
-use Rattle.htext.specs.Text.{Policy, decoded}
-use Rattle.charref.specs.Reference.{Entities}
-use Rattle.htoken.specs.declared.token.Token.{Token}
-use Rattle.hparse.specs.declared.collect.Collected.{Collected}
-use Rattle.hparse.specs.declared.reading.Reading.{Reading}
-use Rattle.hparse.specs.declared.token_run.TokenRun.{TokenRun}
-use Rattle.hparse.specs.Answer.{of_document, Answers, accepted}
+use Rattle.hparse.proofs.Names.{◌≡◌, ℕ, List, [], ◌++◌, sym, refl, ap, subst, Result, Ok, Err, inl, inr, ◌⊎◌, MatchResult, IsPermutation-trans, ParseError, Refusal, Memory, Texts, BadBytes, input_errors, Policy, decoded, Entities, Token, Collected, Reading, TokenRun, of_document, Answers, accepted, FeedsPiece, piece_ran_out, piece_refused, piece_read, EndsInput, input_ran_out, input_comes, Began, IsRefusedFor, IsTaken, as_document, Shows, HasReadTokens, TokensMean}
 use Rattle.hparse.specs.Collecting.{IsRunOf}
-use Rattle.hparse.specs.Fed.{FeedsPiece, piece_ran_out, piece_refused, piece_read, EndsInput, input_ran_out, input_comes}
-use Rattle.hparse.specs.Input.{Began, IsRefusedFor, IsTaken}
-use Rattle.hparse.specs.Into.{as_document}
-use Rattle.hparse.specs.Shown.{Shows, HasReadTokens}
 use Rattle.hparse.specs.Shown as shown
-use Rattle.hparse.specs.TokenRun.{TokensMean}
 use Rattle.hparse.proofs.Gathered.{collects, collects-refuses, tokens_gathered, errors_gathered}
 use Rattle.hparse.proofs.Refusing.{answers_refused}
 use Rattle.hparse.proofs.Pieces.{has_read}

@@ -1,38 +1,13 @@
 -- What the input of a builder becomes, with names as texts.
-use Rattle.std.proofs.Common.{◌≡◌, ℕ, List, [], ◌++◌, map, sym, refl, ap, ◌∙◌, subst, None, Ok, Err, append_assoc, inl, inr}
-use Rattle.std.specs.Prelude.{◌⊎◌}
-use Rattle.std.specs.List.Sorted.{IsPermutation}
-use Rattle.std.proofs.lemmas.List.Sorted.{IsPermutation-trans, IsPermutation-append_left, IsPermutation-append_comm}
-use Rattle.names.specs.declared.error.ParseError.{ParseError}
-use Rattle.names.specs.declared.refusal.Refusal.{Refusal}
-use Rattle.names.specs.declared.refusal.Refusal.TheVariants.{Memory}
-use Rattle.names.specs.Names.{Texts, Grows, AreNames}
-use Rattle.names.specs.Spelling.{spelling}
-use Rattle.names.proofs.Handing.{text_kept, grows_on}
-use Rattle.htext.specs.Items.{input_errors}
-use Rattle.htoken.specs.declared.token.Token.{Token as Given}
-use Rattle.htoken.specs.Token.{Tok}
-use Rattle.htoken.specs.Tokens.{tokens_in}
+use Rattle.hparse.proofs.Names.{◌≡◌, ℕ, List, [], ◌++◌, map, sym, refl, ap, ◌∙◌, subst, Option, None, Ok, Err, append_assoc, inl, inr, ◌⊎◌, IsPermutation, IsPermutation-trans, IsPermutation-append_left, IsPermutation-append_comm, ParseError, Refusal, Memory, Texts, Grows, AreNames, spelling, grows_on, input_errors, Given, Tok, tokens_in, numbers, texts, Goes, Refused, spelled_state, State, PlacedToken, Steps, steps_spelled, numbers-agree, Building, Origin, Parsed, Began, Handed, reads_in, tokens_handed, errors_handed, IsRefusedFor, by_sink, by_tag, by_bytes, IsTaken, AreOf, TokensAreOf, ParseCase, document, fragment, ParseOptions, Parses, begins, manner, BeginsIn, a_document, a_fragment, AnswersParse, TellsPlaces, placed, TokensMean}
+use Rattle.names.proofs.Handing.{text_kept}
 use Rattle.hnodes.specs.Edits.{Nodes}
 use Rattle.hnodes.specs.Spelled.{spelled}
-use Rattle.hadopt.specs.Naming.{numbers, texts}
-use Rattle.hadopt.specs.Site.{Outcome, Goes, Refused}
+use Rattle.hadopt.specs.Site.{Outcome}
 use Rattle.hadopt.specs.Spelled.{outcome_map}
-use Rattle.hmodes.specs.Spelled.{spelled_state}
-use Rattle.hmodes.specs.State.{State, PlacedToken}
-use Rattle.hmodes.specs.Step.{Steps}
-use Rattle.hmodes.proofs.Names.{steps_spelled}
-use Rattle.hadopt.proofs.Agreeing.{numbers-agree}
-use Rattle.hmodes.specs.Building.{Building}
-use Rattle.hparse.specs.declared.parsed.Parsed.{Parsed}
-use Rattle.hparse.specs.Input.{Began, Handed, reads_in, tokens_handed, errors_handed, IsRefusedFor, by_sink, by_tag, by_bytes, IsTaken}
-use Rattle.hnodes.specs.Named.{AreOf}
-use Rattle.hmodes.specs.OfTable.{TokensAreOf}
-use Rattle.hparse.specs.Parse.{ParseCase, document, fragment, ParseOptions, Parses, refused_token, refused_tag, refused_bytes, accepted, begins, manner, root_of}
-use Rattle.hparse.specs.Parsing.{builds, BeginsIn, a_document, a_fragment, IsBuilt, AnswersParse}
-use Rattle.hparse.specs.Taken.{placed}
-use Rattle.hparse.specs.TokenRun.{TokensMean}
-use Rattle.hparse.proofs.Built.{Became, became, refused_by_rules}
+use Rattle.hparse.specs.Parse.{refused_token, refused_tag, refused_bytes, accepted, root_of}
+use Rattle.hparse.specs.Parsing.{IsMadeOf, places_in}
+use Rattle.hparse.proofs.Built.{Became, became, builds, refused_by_rules}
 use Rattle.hparse.proofs.Handing.{tokens_kept}
 use Rattle.hparse.proofs.OfNames.{within, tokens_of_table, children_are_of}
 use Rattle.hmodes.proofs.OfTable.{document-of, fragment-of}
@@ -45,7 +20,7 @@ trees_of_table opts first later document _ s' ts grows are a_document of steps =
 trees_of_table opts first later (fragment _) _ s' ts grows are (a_fragment context id is) of steps = fragment-of later are id opts.limits ts s' (within later id context (text_kept first later id context grows is)) of steps
 
 -- the state in which a parse begins
-begins_spelled : (opts : ParseOptions) (first later : Texts) (parse_case : ParseCase) (s : State ℕ) → Grows first later → AreNames later → BeginsIn opts first parse_case s → spelled_state (spelling later) s ≡ begins opts parse_case
+pub begins_spelled : (opts : ParseOptions) (first later : Texts) (parse_case : ParseCase) (s : State ℕ) → Grows first later → AreNames later → BeginsIn opts first parse_case s → spelled_state (spelling later) s ≡ begins opts parse_case
 begins_spelled opts first later document _ grows are a_document = refl
 begins_spelled opts first later (fragment _) _ grows are (a_fragment context id is) = fragment_spelled later are id context opts.limits (text_kept first later id context grows is)
 
@@ -77,8 +52,9 @@ module _ (opts : ParseOptions) (parse_case : ParseCase) (began : Began Building)
 
   module _ (none_told : began.sink.told ≡ []) (root_is : began.sink.root ≡ root_of parse_case) where
     -- what was built
-    pub parses_taken : (parsed : Parsed) → IsTaken builds (manner opts parse_case) began bytes names now → IsBuilt later now parsed → AnswersParse opts parse_case bytes (Ok parsed)
-    parses_taken parsed t r = (
+    pub parses_taken : (parsed : Parsed) → (places : Option (List Origin)) → IsTaken builds (manner opts parse_case) began bytes names now
+        → IsMadeOf later now.state.site.nodes now.root (now.state.site.errors ++ now.told) places parsed → TellsPlaces opts parse_case bytes (places_in parsed) → AnswersParse opts parse_case bytes (Ok parsed)
+    parses_taken parsed places t r told = (
       record { trees = spelled spell now.state.site.nodes.trees; errors = parsed.errors.items },
       record {
         table = subst AreNames (sym r.names_are) are;
@@ -88,6 +64,7 @@ module _ (opts : ParseOptions) (parse_case : ParseCase) (began : Began Building)
         errors = refl;
       },
       accepted t.errors parsed.errors.items (spelled_state spell now.state) (record { tokens = t.tokens; read = t.read; steps = gone t.tokens (given ++ t.errors) t.handed }) order r.sorted t.whole,
+      told,
     ) where
       given : List ParseError
       given = input_errors (reads_in (manner opts parse_case) bytes)

@@ -1,19 +1,14 @@
 -- What a reader's input has become, turn by turn.
-use Rattle.std.proofs.Common.{false, ◌≡◌, ℕ, ◌+◌, ◌-◌, ◌<◌, ◌≤◌, List, [], ◌++◌, length, take, refl, sym, ap, subst, ◌∙◌, append-nil, append_assoc, arith, length-append, length-drop, Option, Result, Ok, Err, inl, inr}
-use Rattle.std.specs.Prelude.{◌⊎◌}
-use Rattle.std.specs.Io.KnownBytes.{Consumes, IsAtEnd, Keeps}
+use Rattle.hparse.proofs.Names.{false, ◌≡◌, ℕ, ◌+◌, ◌-◌, ◌<◌, ◌≤◌, List, [], ◌++◌, length, take, refl, sym, ap, subst, ◌∙◌, append-nil, append_assoc, arith, Option, Result, Ok, Err, inl, inr, ◌⊎◌, Consumes, Refusal, Memory, Policy, HasFed, Item, Reading, Manner, Began, Comes, HasRead, WasRead, FeedsPiece, piece_ran_out, piece_refused, piece_read, EndsInput, input_ran_out, input_comes}
+use Rattle.std.proofs.Common.{length-append, length-drop}
+use Rattle.std.specs.Io.KnownBytes.{IsAtEnd, Keeps}
 use Rattle.std.proofs.Math.Seq.{take-append_seam}
 use Rattle.std.proofs.lemmas.List.{length-take-le}
 use Rattle.std.proofs.KnownBytes.{Consumes-nil, Consumes-trans, Consumes-kept}
-use Rattle.names.specs.declared.refusal.Refusal.{Refusal}
-use Rattle.names.specs.declared.refusal.Refusal.TheVariants.{Memory, Read}
-use Rattle.htext.specs.Text.{Policy, settled_len}
-use Rattle.htext.specs.Decoding.{Progress, HasFed}
+use Rattle.names.specs.declared.refusal.Refusal.TheVariants.{Read}
+use Rattle.htext.specs.Text.{settled_len}
+use Rattle.htext.specs.Decoding.{Progress}
 use Rattle.htext.proofs.Fronts.{front_le}
-use Rattle.htoken.specs.Token.{Item}
-use Rattle.hparse.specs.declared.reading.Reading.{Reading}
-use Rattle.hparse.specs.Input.{Manner, Began, Comes}
-use Rattle.hparse.specs.Fed.{HasRead, WasRead, FeedsPiece, piece_ran_out, piece_refused, piece_read, EndsInput, input_ran_out, input_comes}
 use Rattle.hparse.specs.Calls.{counted}
 use Rattle.hparse.specs.Reader.{IsRefusedFrom, ReadsInput, reading_ran_out, reading_failed, reading_stopped, read_to_end}
 use Rattle.hparse.proofs.Pieces.{has_read, is_memory}

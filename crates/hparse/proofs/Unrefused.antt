@@ -1,31 +1,14 @@
 -- What a reading was fed is unrefused: its tokenizer has handed over every span that is settled.
-use Rattle.std.proofs.Common.{◌≡◌, ℕ, List, [], ◌∷◌, ◌++◌, map, sym, ap, ◌∙◌, subst, append-nil, Result}
+use Rattle.hparse.proofs.Names.{◌≡◌, ℕ, List, [], ◌∷◌, ◌++◌, map, sym, ap, ◌∙◌, subst, append-nil, Result, Placed, Refusal, grows_not, Policy, CharItem, items, characters_among, characters_among-items, start_kind, Tok, Item, HasTaken, texts, Goes, State, PlacedToken, Steps, and, Parser, Reading, HasRead, WasRead, Manner, Began, settled_in, ParseCase, ParseOptions, begins, manner, places_item, HasParsed, placed, IsUnrefusedText, IsUnrefused}
 use Rattle.std.proofs.lemmas.List.{map-append}
-use Rattle.names.specs.declared.placed.Placed.{Placed}
-use Rattle.names.specs.declared.refusal.Refusal.{Refusal}
-use Rattle.names.proofs.Handing.{grows_not}
-use Rattle.htext.specs.Text.{Policy}
 use Rattle.htext.specs.Decoding.{IsUndecided}
-use Rattle.htext.specs.Items.{CharItem, items, characters_among}
-use Rattle.htext.proofs.Texts.{characters_among-items}
-use Rattle.htoken.specs.Standing.{start_kind}
-use Rattle.htoken.specs.Token.{Tok, Span, Item}
+use Rattle.htoken.specs.Token.{Span}
 use Rattle.htoken.specs.Tokens.{tokens_of}
-use Rattle.htoken.specs.Tokenizing.{HasTaken}
 use Rattle.hcuts.specs.Settled.{AreTaken}
 use Rattle.hcuts.proofs.Settled.{settled_are_taken}
-use Rattle.hadopt.specs.Naming.{texts}
-use Rattle.hadopt.specs.Site.{Goes}
-use Rattle.hmodes.specs.State.{State, PlacedToken}
-use Rattle.hmodes.specs.Step.{Steps, none, and}
-use Rattle.hparse.specs.declared.parser.Parser.{Parser}
-use Rattle.hparse.specs.declared.reading.Reading.{Reading}
-use Rattle.hparse.specs.Fed.{HasRead, WasRead}
-use Rattle.hparse.specs.Input.{Manner, Began, settled_in}
-use Rattle.hparse.specs.Parse.{ParseCase, ParseOptions, begins, manner}
-use Rattle.hparse.specs.Parsing.{builds, HasParsed}
-use Rattle.hparse.specs.Taken.{placed}
-use Rattle.hparse.specs.Unrefused.{AreSettledIn, IsUnrefusedText, IsUnrefused, settled_text}
+use Rattle.hmodes.specs.Step.{none}
+use Rattle.hparse.specs.Unrefused.{AreSettledIn, settled_text}
+use Rattle.hparse.proofs.Placed.{handed_inner, inner}
 use Rattle.hparse.proofs.Trees.{gone}
 
 -- what leads on from tokens leads on from the first of them
@@ -54,13 +37,14 @@ module _ {S : Type 0} (gives : S → Item → Result (Unit {0}) Refusal → S �
 
 module _ (opts : ParseOptions) (parse_case : ParseCase) (bytes : List ℕ) (old : Parser) (h : HasParsed opts parse_case old bytes) where
   -- what was read after that by what the parser reads
-  pub unrefused : (all : List ℕ) → WasRead builds (manner opts parse_case) h.began all → IsUnrefused opts parse_case all
+  pub unrefused : (all : List ℕ) → WasRead places_item (manner opts parse_case) h.began all → IsUnrefused opts parse_case all
   unrefused all (reading, read) =
       let fed = read.holds.was_fed in
       record {
-        text = unrefused_text builds (manner opts parse_case) h.began reading all read;
+        text = unrefused_text places_item (manner opts parse_case) h.began reading all read;
         steps = λ spans settled.
-            let t = are_taken builds (manner opts parse_case) h.began reading all read spans settled in
+            let t = are_taken places_item (manner opts parse_case) h.began reading all read spans settled in
             leads_on _ (tokens_of spans) t.others (begins opts parse_case) _ t.tokens_are
-            (gone opts parse_case h.began all reading.feeding.names reading.feeding.sink h.unrefused h.begins reading.feeding.names (grows_not reading.feeding.names) read.are_names _ _ fed.handed);
+            (gone opts parse_case (inner h.began) all reading.feeding.names reading.feeding.sink.builder h.unrefused h.begins reading.feeding.names (grows_not reading.feeding.names) read.are_names _ _
+            (handed_inner reading.feeding.names h.began reading.feeding.sink _ _ fed.handed));
       }

@@ -6,8 +6,10 @@ pub mod Holding
 pub mod Input
 pub mod Into
 pub mod Intake
+pub mod Origins
 pub mod Parse
 pub mod Parsing
+pub mod Placing
 pub mod Reader
 pub mod Shown
 pub mod Taken

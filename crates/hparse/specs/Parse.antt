@@ -34,14 +34,15 @@ pub data ParseCase : Type 0 where
   document : ParseCase
   fragment : (context : List ℕ) → ParseCase
 
--- the options of a parse: the references, the quirks list, what becomes of bad bytes, the most bytes, and how
--- large the tree may become
+-- the options of a parse: the references, the quirks list, what becomes of bad bytes, the most bytes, how large the tree may become, and
+-- whether it is asked where its nodes came from
 pub record ParseOptions : Type 0 where
   pub table : Entities
   pub quirks : List QuirkLine
   pub bad : BadBytes
   pub input : ℕ
   pub limits : Limits
+  pub places : Bool
 
 abbrev pub start_of : ParseCase → Start
 start_of document = start.Document

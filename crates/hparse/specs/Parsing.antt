@@ -1,5 +1,5 @@
 -- What a parser has been fed, and what its calls do.
-use Rattle.std.specs.Prelude.{◌≡◌, ℕ, List, [], ◌++◌, slice_get, Some, None, Result, Ok, Err}
+use Rattle.std.specs.Prelude.{◌≡◌, ℕ, true, false, List, [], ◌++◌, slice_get, Option, Some, None, option_map, Result, Ok, Err}
 use Rattle.std.specs.List.Sorted.{IsPermutation, IsSorted}
 use Rattle.names.specs.declared.error.ParseError.{ParseError}
 use Rattle.names.specs.declared.refusal.Refusal.{Refusal}
@@ -13,13 +13,16 @@ use Rattle.hnodes.specs.Spelled.{spelled}
 use Rattle.hadopt.specs.Naming.{numbers}
 use Rattle.hmodes.specs.Beginning.{document_begins, fragment_begins}
 use Rattle.hmodes.specs.State.{State}
-use Rattle.hmodes.specs.Building.{Building, TakesError, TakesToken}
 use Rattle.hparse.specs.declared.options.Options.{Options}
+use Rattle.hparse.specs.declared.origins.Origin.{Origin}
 use Rattle.hparse.specs.declared.parsed.Parsed.{Parsed}
 use Rattle.hparse.specs.declared.parser.Parser.{Parser}
+use Rattle.hparse.specs.declared.placing.Placing.{Placing}
 use Rattle.hparse.specs.Answer.{error_cmp}
 use Rattle.hparse.specs.Fed.{HasRead}
 use Rattle.hparse.specs.Input.{Began}
+use Rattle.hparse.specs.Origins.{AreOrigins}
+use Rattle.hparse.specs.Placing.{PlacesError, PlacesToken, origins_if}
 use Rattle.hnodes.specs.Named.{AreOf}
 use Rattle.hparse.specs.Parse.{ParseCase, document, fragment, ParseOptions, Parse, Parses, manner, root_of}
 
@@ -31,11 +34,12 @@ options_of options = record {
   bad = options.bad_bytes;
   input = options.limits.input;
   limits = options.limits.tree;
+  places = options.places;
 }
 
--- a step of the builder
-abbrev pub builds : Building → Item → Result (Unit {0}) Refusal → Building → Type 0
-builds = gives_item TakesError TakesToken
+-- a step of what takes the tokens and errors
+abbrev pub places_item : Placing → Item → Result (Unit {0}) Refusal → Placing → Type 0
+places_item = gives_item PlacesError PlacesToken
 
 -- the state in which a parse begins, where names are numbers of this table
 pub data BeginsIn (opts : ParseOptions) (names : Texts) : ParseCase → State ℕ → Type 0 where
@@ -45,12 +49,13 @@ pub data BeginsIn (opts : ParseOptions) (names : Texts) : ParseCase → State �
 -- The parser was fed these bytes, in any pieces, and has refused nothing.
 pub record HasParsed (opts : ParseOptions) (parse_case : ParseCase) (parser : Parser) (bytes : List ℕ) : Type 0 where
   pub accepts : parser.refused ≡ None
-  pub began : Began Building
-  pub unrefused : began.sink.refused ≡ None
-  pub none_told : began.sink.told ≡ []
-  pub root_is : began.sink.root ≡ root_of parse_case
-  pub begins : BeginsIn opts began.names parse_case began.sink.state
-  pub has_read : HasRead builds (manner opts parse_case) began parser.reading bytes
+  pub began : Began Placing
+  pub unrefused : began.sink.builder.refused ≡ None
+  pub none_told : began.sink.builder.told ≡ []
+  pub root_is : began.sink.builder.root ≡ root_of parse_case
+  pub begins : BeginsIn opts began.names parse_case began.sink.builder.state
+  pub places : began.sink.origins ≡ origins_if opts.places began.sink.builder.state
+  pub has_read : HasRead places_item (manner opts parse_case) began parser.reading bytes
 
 -- What feeding the last piece of these bytes does: memory ran out, or they are refused, whatever comes after, or they have been read.
 pub data FeedsParser (opts : ParseOptions) (parse_case : ParseCase) (bytes : List ℕ) (answer : Result (Unit {0}) Refusal) (new : Parser) : Type 0 where
@@ -59,17 +64,23 @@ pub data FeedsParser (opts : ParseOptions) (parse_case : ParseCase) (bytes : Lis
       → FeedsParser opts parse_case bytes answer new
   feed_read : answer ≡ Ok tt → HasParsed opts parse_case new bytes → FeedsParser opts parse_case bytes answer new
 
--- What was parsed has this tree and root, and these errors in their order.
-pub record IsMadeOf (names : Texts) (tree : Nodes ℕ) (root : ℕ) (errors : List ParseError) (parsed : Parsed) : Type 0 where
+-- the origins of its nodes, where it has them
+abbrev pub places_in : Parsed → Option (List Origin)
+places_in parsed = option_map (λ places. places.items) parsed.places
+
+-- What was parsed has this tree and root, these errors in their order, and these places.
+pub record IsMadeOf (names : Texts) (tree : Nodes ℕ) (root : ℕ) (errors : List ParseError) (places : Option (List Origin)) (parsed : Parsed) : Type 0 where
   pub names_are : parsed.names ≡ names
   pub tree_is : parsed.tree ≡ tree
   pub root_is : parsed.root ≡ root
   pub errors_are : IsPermutation errors parsed.errors.items
   pub sorted : IsSorted error_cmp parsed.errors.items
+  pub places_are : places_in parsed ≡ places
 
 -- what a builder has built
-abbrev pub IsBuilt : Texts → Building → Parsed → Type 0
-IsBuilt names built = IsMadeOf names built.state.site.nodes built.root (built.state.site.errors ++ built.told)
+abbrev pub IsBuilt : Texts → Placing → Parsed → Type 0
+IsBuilt names sink = IsMadeOf names sink.builder.state.site.nodes sink.builder.root (sink.builder.state.site.errors ++ sink.builder.told)
+    (option_map (λ made. made.list) sink.origins)
 
 -- What was parsed is this: the same tree, in which the names inside the root are numbers of its table, the same root and the same
 -- errors. The texts of the table are distinct, the known ones first.
@@ -80,9 +91,15 @@ pub record IsParse (parse_case : ParseCase) (parsed : Parsed) (parse : Parse) : 
   pub root : parsed.root ≡ root_of parse_case
   pub errors : parsed.errors.items ≡ parse.errors
 
+-- The places are told where they are asked for, and are those of these bytes.
+abbrev pub TellsPlaces : ParseOptions → ParseCase → List ℕ → Option (List Origin) → Type 0
+TellsPlaces opts parse_case bytes (Some list) = (opts.places ≡ true) × AreOrigins opts parse_case bytes list
+TellsPlaces opts parse_case bytes None = opts.places ≡ false
+
 -- It is what the bytes are parsed as.
 abbrev pub AnswersParse : ParseOptions → ParseCase → List ℕ → Result Parsed Refusal → Type 0
 AnswersParse opts parse_case bytes (Ok parsed) = (parse : Parse) × IsParse parse_case parsed parse × Parses opts parse_case bytes (Ok parse)
+    × TellsPlaces opts parse_case bytes (places_in parsed)
 AnswersParse opts parse_case bytes (Err refusal) = Parses opts parse_case bytes (Err refusal)
 
 -- the same, unless memory ran out

@@ -1,6 +1,6 @@
 //! The options of a parse.
 
-ghost use Rattle.std.specs.Prelude.{◌≡◌};
+ghost use Rattle.std.specs.Prelude.{◌≡◌, false};
 ghost use Rattle.htext.specs.declared.BadBytes.TheVariants as bad;
 ghost use Rattle.htext.specs.declared.decoder.TheConstants.{MAX_INPUT};
 ghost use Rattle.hparse.specs.Parse.{ParseOptions};
@@ -12,8 +12,8 @@ use hmodes::Limits;
 use htext::BadBytes;
 use names::Keys;
 
-/// The table of character references, the quirks list, what becomes of bytes that are not UTF-8, and how long an input and how large
-/// its tree may be.
+/// The table of character references, the quirks list, what becomes of bytes that are not UTF-8, how long an input and how large
+/// its tree may be, and whether it is asked where the tree's nodes came from: see [`Origin`](crate::Origin).
 /// The quirks list has a say in documents alone. No result depends on the keys: see [`Keys`].
 #[derive(Clone, Copy)]
 pub struct Options<'t> {
@@ -22,10 +22,12 @@ pub struct Options<'t> {
     pub bad_bytes: BadBytes,
     pub limits: Limits,
     pub keys: Keys,
+    pub places: bool,
 }
 
 impl<'t> Options<'t> {
-    /// Bad bytes are refused, with the greatest limits. The keys are [`Keys::random`] wherever the input may be a stranger's.
+    /// Bad bytes are refused, with the greatest limits, and no places are asked for. The keys are [`Keys::random`] wherever the input
+    /// may be a stranger's.
     pub fn new(table: &'t Table, quirks: &'t Quirks, keys: Keys) -> Options<'t>
         ensures { options_of result ≡ record {
           table = table.now;
@@ -34,6 +36,7 @@ impl<'t> Options<'t> {
           input = MAX_INPUT;
           limits =
               record { nodes = 16777216; depth = 1048576 };
+          places = false;
         } }
     {
         Options {
@@ -42,6 +45,7 @@ impl<'t> Options<'t> {
             bad_bytes: BadBytes::Refuse,
             limits: Limits::greatest(),
             keys,
+            places: false,
         }
     }
 }

@@ -1,6 +1,6 @@
 //! A parser that is fed bytes.
 
-ghost use Rattle.std.specs.Prelude.{◌≡◌, ◌<◌, ◌⊎◌, ℕ, List, [], ◌++◌, None, Some, true, false, Err, IfErr, MatchResult};
+ghost use Rattle.std.specs.Prelude.{◌≡◌, ◌<◌, ◌⊎◌, ℕ, List, [], ◌++◌, None, Some, true, false, Err, option_map, IfErr, MatchResult};
 ghost use Rattle.names.specs.declared.refusal.Refusal.{Refusal as Refused};
 ghost use Rattle.names.specs.declared.refusal.Refusal.TheVariants.{BadContext, Memory};
 ghost use Rattle.hparse.specs.Parse.{ParseCase, ParseOptions, document, fragment, is_context};
@@ -11,7 +11,9 @@ ghost use Rattle.hparse.specs.Unrefused.{IsUnrefused};
 use crate::context::is_context;
 use crate::errors::sort_errors;
 use crate::options::Options;
+use crate::origins::Origin;
 use crate::parsed::Parsed;
+use crate::placing::Placing;
 use crate::reader::read_to_end;
 use crate::reading::Reading;
 use crate::source::Source;
@@ -23,7 +25,7 @@ use std::alloc::Global;
 /// Parses a document or a fragment that comes in pieces. After a refusal each further call returns the same refusal.
 #[derive(Drop)]
 pub struct Parser<'t> {
-    pub(crate) reading: Reading<'t, Builder<'t>>,
+    pub(crate) reading: Reading<'t, Placing<'t>>,
     pub(crate) refused: Option<Refusal>,
 }
 
@@ -34,8 +36,9 @@ impl<'t> Parser<'t> {
     {
         let names = Names::new(alloc, options.keys);
         let builder = Builder::document(alloc, options.keys, options.quirks, options.limits)?;
+        let sink = Placing::new(alloc, builder, options.places)?;
         Ok(Parser {
-            reading: Reading::new(alloc, options, Start::Document, names, builder),
+            reading: Reading::new(alloc, options, Start::Document, names, sink),
             refused: None,
         })
     }
@@ -57,9 +60,10 @@ impl<'t> Parser<'t> {
         let mut names = Names::new(alloc, options.keys);
         let name = names.intern(alloc, context)?;
         let builder = Builder::fragment(alloc, options.keys, name, options.limits)?;
+        let sink = Placing::new(alloc, builder, options.places)?;
         let start = Start::Context(name.tag().raw_kind());
         Ok(Parser {
-            reading: Reading::new(alloc, options, start, names, builder),
+            reading: Reading::new(alloc, options, start, names, sink),
             refused: None,
         })
     }
@@ -105,7 +109,7 @@ impl<'t> Parser<'t> {
     }
 
     /// What it reads, or what it has refused.
-    fn into_reading(self) -> Result<Reading<'t, Builder<'t>>, Refusal>
+    fn into_reading(self) -> Result<Reading<'t, Placing<'t>>, Refusal>
         ensures { MatchResult result (λ reading. (self.entry.refused ≡ None) × (reading ≡ self.entry.reading))
             (λ refusal. self.entry.refused ≡ Some refusal) }
     {
@@ -146,25 +150,28 @@ pub fn parse_reader<R: Source>(
 }
 
 /// What a reading has built, with the errors in their order, or what its builder has refused.
-fn built_of(reading: Reading<Builder>) -> Result<Parsed, Refusal>
-    ensures built { reading.entry.feeding.sink.refused ≡ None
+fn built_of(reading: Reading<Placing>) -> Result<Parsed, Refusal>
+    ensures built { reading.entry.feeding.sink.builder.refused ≡ None
         → MatchResult result (IsBuilt reading.entry.feeding.names reading.entry.feeding.sink) (λ refusal. refusal ≡ Memory) }
-    ensures again { (refusal : Refused) → reading.entry.feeding.sink.refused ≡ Some refusal → result ≡ Err refusal }
+    ensures again { (refusal : Refused) → reading.entry.feeding.sink.builder.refused ≡ Some refusal → result ≡ Err refusal }
 {
-    let (names, builder) = reading.into_parts();
+    let (names, sink) = reading.into_parts();
+    let (builder, places) = sink.into_parts();
     match builder.finish() {
-        Ok(built) => in_order(names, built),
+        Ok(built) => in_order(names, built, places),
         Err(refusal) => {
             drop(names);
+            drop(places);
             Err(refusal)
         }
     }
 }
 
 /// What was built, with the errors in their order.
-fn in_order(names: Names, built: Built) -> Result<Parsed, Refusal>
+fn in_order(names: Names, built: Built, places: Option<Vec<Origin>>) -> Result<Parsed, Refusal>
     requires { built.root < built.tree.made }
-    ensures { MatchResult result (IsMadeOf names built.tree built.root built.errors.items) (λ refusal. refusal ≡ Memory) }
+    ensures { MatchResult result (IsMadeOf names built.tree built.root built.errors.items (option_map (λ list. list.items) places))
+        (λ refusal. refusal ≡ Memory) }
 {
     let Built {
         tree,
@@ -177,6 +184,7 @@ fn in_order(names: Names, built: Built) -> Result<Parsed, Refusal>
         root,
         names,
         errors,
+        places,
     };
     if sorted.is_err() {
         drop(parsed);

@@ -1,5 +1,5 @@
 -- What the words say, where they are read.
-use Rattle.std.proofs.Common.{◌≡◌, ◌⊎◌, ◌∙◌, inl, inr, ap, ap₂, sym, subst, codes, Option, option_map, ℕ, List, Ok, Err}
+use Rattle.std.proofs.Common.{◌≡◌, ◌⊎◌, ◌∙◌, inl, inr, ap, ap₂, sym, subst, codes, Option, option_map, ℕ, List, Ok, Err, false}
 use Rattle.std.proofs.Math.Nat.{le_refl}
 use Rattle.std.specs.Borrow.{Bor}
 use Rattle.clap.specs.Words.{Text}
@@ -28,7 +28,7 @@ told_with line table quirks limits = record {
   context = name_of line.command.context;
   escaping = line.command.escaping;
   piece = line.command.piece;
-  settings = record { table = table; quirks = quirks; bad = line.bad_bytes; input = limits.input; limits = limits.tree };
+  settings = record { table = table; quirks = quirks; bad = line.bad_bytes; input = limits.input; limits = limits.tree; places = false };
 }
 
 abbrev limits_from : ℕ → ℕ → Bounds

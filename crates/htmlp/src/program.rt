@@ -128,6 +128,7 @@ fn answer_with<'a, R: Surroundings, S: Source, W: Target>(
         bad_bytes: line.bad_bytes,
         limits,
         keys,
+        places: false,
     };
     match line.file {
         Some(name) => answer_file(surroundings, line.command, &options, name, output),

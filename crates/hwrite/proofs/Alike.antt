@@ -1,11 +1,10 @@
 -- A tree whose names are of a table reads the same by the texts of the table and by a spelling of all numbers.
-use Rattle.std.proofs.Common.{◌≡◌, ℕ, List, [], ◌∷◌, length, map, ap₂, refl, true, arith}
-use Rattle.std.specs.Prelude.{nat_lt}
-use Rattle.names.specs.Names.{Texts, IsOf, text_of}
-use Rattle.names.specs.Spelling.{spelling}
-use Rattle.hnodes.specs.Forest.{Attribute, What, document, doctype, element, comment, text, Forest, none, tree}
+use Rattle.hwrite.proofs.Vocabulary.{◌≡◌, ℕ, List, [], ◌∷◌, length, ap₂, refl, true, arith, nat_lt, Texts, spelling, Forest, spelled}
+use Rattle.std.proofs.Common.{map}
+use Rattle.names.specs.Names.{IsOf, text_of}
+use Rattle.hnodes.specs.Forest.{Attribute, What, document, doctype, element, comment, text, none, tree}
 use Rattle.hnodes.specs.Named.{AttributesAreOf, NodeIsOf, AreOf}
-use Rattle.hnodes.specs.Spelled.{spelled_attribute, spelled_what, spelled}
+use Rattle.hnodes.specs.Spelled.{spelled_attribute, spelled_what}
 
 name-alike : (names : Texts) (id : ℕ) → IsOf names id → text_of names id ≡ spelling names id
 name-alike names id is =

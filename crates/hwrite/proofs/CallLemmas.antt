@@ -1,14 +1,10 @@
 -- Calls one after another.
-use Rattle.std.proofs.Common.{◌≡◌, ℕ, List, [], ◌∷◌, ◌++◌, Option, Result, Ok, Err, refl, sym, ap, subst, ◌∙◌, append_assoc, OnOk, OnErr, IfErr}
-use Rattle.std.specs.Prelude.{◌≢◌, IsErrAnd}
-use Rattle.std.specs.Io.KnownBytes.{Appends}
+use Rattle.hwrite.proofs.Vocabulary.{◌≡◌, ℕ, List, [], ◌∷◌, ◌++◌, Option, Result, Ok, Err, refl, sym, ap, subst, ◌∙◌, append_assoc, OnOk, IfErr, ◌≢◌, Appends, Refusal, Write, counted, AppendsBeginning}
+use Rattle.std.proofs.Common.{OnErr}
+use Rattle.std.specs.Prelude.{IsErrAnd}
 use Rattle.std.proofs.KnownBytes.{Appends-nil, Appends-trans}
-use Rattle.names.specs.declared.refusal.Refusal.{Refusal}
-use Rattle.names.specs.declared.refusal.Refusal.TheVariants.{Write}
-use Rattle.hparse.specs.Calls.{counted}
 use Rattle.hwrite.specs.Calls.{WritesAll}
 use Rattle.hserialize.specs.Calls.{counted_by_result}
-use Rattle.hserialize.specs.Output.{AppendsBeginning}
 
 -- the clauses of `write_all` as one fact
 pub writes_all : (old new : Option (List ℕ)) (before after : ℕ) (bytes : List ℕ) (r : Result (Unit {0}) Refusal) → after ≡ counted_by_result before r

@@ -1,7 +1,5 @@
 -- The line of a doctype.
-use Rattle.std.proofs.Common.{◌≡◌, ℕ, Bool, List, Option, ◌++◌, append_assoc, if◌then◌else◌, codes, decimal}
-use Rattle.htoken.specs.Token.{Doctype}
-use Rattle.hwrite.specs.TokenLines.{quoted_or_none, line_of, line_text}
+use Rattle.hwrite.proofs.Vocabulary.{◌≡◌, ℕ, Bool, List, Option, ◌++◌, append_assoc, if◌then◌else◌, codes, decimal, Doctype, quoted_or_none, line_of, line_text}
 
 -- what is written before the end of the line
 pub before_end : (old opened named spaced public_named public_spaced new : List ℕ) (name public system : Option (List ℕ)) (forced : Bool) (at : ℕ) (end : List ℕ)

@@ -1,23 +1,16 @@
 -- What a draft becomes that was handed the tokens of a document.
-use Rattle.std.proofs.Common.{◌≡◌, ℕ, List, [], ◌∷◌, refl, sym, subst, Option, Result, Ok, Err, inr}
-use Rattle.names.specs.declared.refusal.Refusal.{Refusal}
-use Rattle.names.specs.Names.{Texts}
+use Rattle.hwrite.proofs.Vocabulary.{◌≡◌, ℕ, List, [], ◌∷◌, refl, sym, subst, Option, Result, Ok, Err, inr, Refusal, Texts, Tok, of_document, IsUnrefusedText, as_document, ReadsInput, TokensMean, Drafted, drafted, ComesTo, AnswersDraft, nothing, lines_of, token_lines}
 use Rattle.names.specs.Sink.{Hands}
 use Rattle.htext.specs.declared.BadBytes.{BadBytes}
 use Rattle.charref.specs.Reference.{Entities}
-use Rattle.htoken.specs.Token.{Tok, Item, ItemToken, ItemError, gives_item}
-use Rattle.hparse.specs.Answer.{of_document}
-use Rattle.hparse.specs.Unrefused.{IsUnrefusedText}
+use Rattle.htoken.specs.Token.{Item, ItemToken, ItemError, gives_item}
 use Rattle.hparse.specs.Input.{tokens_handed}
-use Rattle.hparse.specs.Into.{as_document, begins, ComesInto}
-use Rattle.hparse.specs.Reader.{ReadsInput}
-use Rattle.hparse.specs.TokenRun.{TokensMean}
+use Rattle.hparse.specs.Into.{begins, ComesInto}
 use Rattle.hparse.proofs.Refusing.{RefusesForMemory, answers_refused, answers_taken, errors_taken}
 use Rattle.hparse.proofs.Sorting.{in_order}
 use Rattle.hparse.proofs.Turns.{not_read, made}
 use Rattle.hwrite.specs.declared.draft.Draft.{Draft}
-use Rattle.hwrite.specs.Draft.{Drafted, drafted, empty, ComesTo, DraftsToken, PassesError, AnswersDraft, nothing}
-use Rattle.hwrite.specs.TokenLines.{lines_of, token_lines}
+use Rattle.hwrite.specs.Draft.{empty, DraftsToken, PassesError}
 
 -- a step of a draft
 abbrev pub drafts : Draft → Item → Result (Unit {0}) Refusal → Draft → Type 0

@@ -1,14 +1,8 @@
 -- What pieces of token lines add to a draft, and what a draft becomes then.
-use Rattle.std.proofs.Common.{◌≡◌, ℕ, ◌+◌, ◌≤◌, Bool, true, false, List, [], ◌∷◌, ◌++◌, length, drop, refl, sym, ap, subst, ◌∙◌, append_assoc, append-nil, if◌then◌else◌, codes, decimal, encode_utf8, Result, Ok, Err, OnOk}
-use Rattle.std.proofs.lemmas.List.{drop_all}
-use Rattle.std.specs.List.{flat_map}
-use Rattle.names.specs.Names.{Texts}
-use Rattle.htoken.specs.declared.token.Token.{Token}
+use Rattle.hwrite.proofs.Vocabulary.{◌≡◌, ℕ, ◌+◌, ◌≤◌, Bool, true, false, List, [], ◌∷◌, ◌++◌, length, drop, refl, sym, ap, subst, ◌∙◌, append_assoc, append-nil, if◌then◌else◌, codes, decimal, encode_utf8, Result, Ok, Err, OnOk, drop_all, flat_map, Texts, Token, Tok, TokenMeans, Start, Eof, Drafted, Extends, Adds, to_write, escaped, quoted, Line, Characters, attribute_words, joined, line_of, line_text}
 use Rattle.htoken.specs.declared.token.Token.TheVariants as code
-use Rattle.htoken.specs.Token.{Tok, TokenMeans, Start, End, Eof}
-use Rattle.hwrite.specs.Draft.{Drafted, Extends, Adds, AddsText, AddsCharacters, Drafts, beginning_of_characters, end_of_characters, to_write}
-use Rattle.hwrite.specs.Quoted.{escaped, quoted}
-use Rattle.hwrite.specs.TokenLines.{Line, Characters, attribute_words, joined, line_of, line_text}
+use Rattle.htoken.specs.Token.{End}
+use Rattle.hwrite.specs.Draft.{AddsText, AddsCharacters, Drafts, beginning_of_characters, end_of_characters}
 use Rattle.hwrite.proofs.Fills.{extends_none, extends_whole, extends_then, extends_as, fills_more}
 use Rattle.hwrite.proofs.Holes.{IsWhole, begun-whole, characters-whole, escaped-whole}
 use Rattle.hwrite.proofs.OpenLines.{IsWords, IsWords-line_of, first_character, next_character, first_words, next_words}

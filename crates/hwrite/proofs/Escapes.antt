@@ -1,13 +1,10 @@
 -- How bytes and characters are between quotes.
-use Rattle.std.proofs.Common.{◌≡◌, ◌≢◌, ℕ, ◌<◌, ◌≤◌, ◌-◌, ◌^◌, suc, List, [], ◌∷◌, ◌++◌, length, get_or, true, false, refl, sym, ap, arith, codes, append-nil}
-use Rattle.std.specs.Char.{encode_utf8}
-use Rattle.std.specs.List.{list_all}
-use Rattle.std.specs.Fmt.{digits, padded_integral, format_spec}
+use Rattle.hwrite.proofs.Vocabulary.{◌≡◌, ◌≢◌, ℕ, ◌<◌, ◌≤◌, suc, List, [], ◌∷◌, ◌++◌, length, get_or, true, false, refl, sym, ap, arith, codes, append-nil, encode_utf8, list_all, digits, nat_tests, escaped_byte, escaped, is_unescaped}
+use Rattle.std.proofs.Common.{◌-◌, ◌^◌}
+use Rattle.std.specs.Fmt.{padded_integral, format_spec}
 use Rattle.std.proofs.Math.Decide.{dec_lt}
-use Rattle.std.proofs.lemmas.Bool.Decides.{nat_tests}
 use Rattle.std.proofs.lemmas.Str.{inside_one, encode_ascii}
 use Rattle.std.proofs.lemmas.Fmt.{hex_byte}
-use Rattle.hwrite.specs.Quoted.{escaped_byte, escaped, is_unescaped}
 
 -- the bytes that are not escaped
 pub escaped_byte-plain : (b : ℕ) → 32 ≤ b → b ≢ 34 → b ≢ 92 → escaped_byte b ≡ b ∷ []

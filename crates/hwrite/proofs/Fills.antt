@@ -1,12 +1,8 @@
 -- Texts with names in their holes.
-use Rattle.std.proofs.Common.{◌≡◌, ◌≢◌, ℕ, ◌+◌, ◌<◌, List, [], ◌∷◌, ◌++◌, length, take, drop, slice_get, Some, refl, sym, ap, subst, ◌∙◌, arith, append_assoc, append-nil, inl, inr, add-one, Result, Ok, Err, OnOk}
-use Rattle.std.specs.Prelude.{◌⊎◌, if◌then◌else◌}
+use Rattle.hwrite.proofs.Vocabulary.{◌≡◌, ◌≢◌, ℕ, ◌+◌, ◌<◌, List, [], ◌∷◌, ◌++◌, length, drop, slice_get, Some, refl, sym, ap, subst, ◌∙◌, arith, append_assoc, append-nil, inl, inr, add-one, Result, Ok, Err, OnOk, ◌⊎◌, if◌then◌else◌, before_first, after_first, position_or_len, nat_tests, Texts, hole, is_hole, Fills, nothing, Extends, quoted}
+use Rattle.std.proofs.Common.{take}
 use Rattle.std.specs.Result.{is_ok}
-use Rattle.std.specs.List.{before_first, after_first, position_or_len}
-use Rattle.std.proofs.lemmas.Bool.Decides.{nat_tests}
-use Rattle.names.specs.Names.{Texts}
-use Rattle.hwrite.specs.Draft.{hole, is_hole, Fills, nothing, a_byte, a_name, Extends}
-use Rattle.hwrite.specs.Quoted.{quoted}
+use Rattle.hwrite.specs.Draft.{a_byte, a_name}
 use Rattle.hwrite.proofs.Holes.{IsWhole}
 
 module _ (names : Texts) where

@@ -1,5 +1,5 @@
 -- How appended lists group.
-use Rattle.std.proofs.Common.{◌≡◌, ℕ, List, ◌++◌, append_assoc}
+use Rattle.hwrite.proofs.Vocabulary.{◌≡◌, ℕ, List, ◌++◌, append_assoc}
 
 -- four appended one by one, and the rest, are appended at once
 pub regroup : (old a b c d rest : List ℕ) → old ++ a ++ b ++ c ++ d ++ rest ≡ old ++ (a ++ b ++ c ++ d ++ rest)

@@ -1,15 +1,10 @@
 -- Texts without holes: all that is printed.
-use Rattle.std.proofs.Common.{◌≡◌, ℕ, zero, suc, ◌/◌, ◌%◌, ◌<◌, Bool, true, false, cond, List, [], ◌∷◌, ◌++◌, refl, ◌∙◌, arith, eqb, ltb, codes, encode_utf8, decimal, Option, None, Some}
-use Rattle.std.specs.Prelude.{not, if◌then◌else◌}
+use Rattle.hwrite.proofs.Vocabulary.{◌≡◌, ℕ, zero, suc, ◌<◌, Bool, true, false, cond, List, [], ◌∷◌, ◌++◌, refl, ◌∙◌, arith, codes, encode_utf8, decimal, Option, None, Some, if◌then◌else◌, digits, list_all, nat_tests, hole, escaped_byte, escaped, quoted, Doctype, Comment, Char, Eof, quoted_or_none, line_of, line_text}
+use Rattle.std.proofs.Common.{◌/◌, ◌%◌, eqb, ltb}
+use Rattle.std.specs.Prelude.{not}
 use Rattle.std.specs.Char.{digit_char}
-use Rattle.std.specs.Fmt.{digits, digits_onto, digit_glyph}
-use Rattle.std.specs.List.{list_all}
-use Rattle.std.proofs.lemmas.Bool.Decides.{nat_tests}
+use Rattle.std.specs.Fmt.{digits_onto, digit_glyph}
 use Rattle.std.proofs.lemmas.List.Folds.{list_all-append}
-use Rattle.hwrite.specs.Draft.{hole}
-use Rattle.hwrite.specs.Quoted.{escaped_byte, escaped, quoted}
-use Rattle.htoken.specs.Token.{Doctype, Comment, Char, Eof}
-use Rattle.hwrite.specs.TokenLines.{quoted_or_none, line_of, line_text}
 
 abbrev pub is_no_hole : ℕ → Bool
 is_no_hole b = not (eqb b hole)

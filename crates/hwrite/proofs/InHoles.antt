@@ -1,12 +1,8 @@
 -- Texts that are written with names in their holes.
-use Rattle.std.proofs.Common.{◌≡◌, ℕ, ◌+◌, ◌<◌, ◌≤◌, Bool, true, false, cond, List, [], ◌∷◌, ◌++◌, length, get_or, drop, drop-cons, add-one, refl, sym, ap, subst, ◌∙◌, arith, None, Some}
-use Rattle.std.specs.Prelude.{nat_lt, position}
-use Rattle.std.specs.List.{position_or_len, before_first, after_first}
-use Rattle.std.proofs.lemmas.Bool.Decides.{nat_tests}
-use Rattle.std.proofs.lemmas.List.{drop_all, take_all}
-use Rattle.names.specs.Names.{Texts}
-use Rattle.hwrite.specs.Draft.{is_hole, Fills}
-use Rattle.hwrite.specs.Quoted.{escaped, escaped_byte}
+use Rattle.hwrite.proofs.Vocabulary.{◌≡◌, ℕ, ◌+◌, ◌<◌, ◌≤◌, Bool, true, false, cond, List, [], ◌∷◌, ◌++◌, length, get_or, drop, add-one, refl, sym, ap, subst, ◌∙◌, arith, None, Some, nat_lt, position_or_len, before_first, after_first, nat_tests, drop_all, Texts, is_hole, Fills, escaped, escaped_byte}
+use Rattle.std.proofs.Common.{drop-cons}
+use Rattle.std.specs.Prelude.{position}
+use Rattle.std.proofs.lemmas.List.{take_all}
 use Rattle.hwrite.proofs.Fills.{AtHole, at_hole, Fills-none}
 
 -- the next byte that is escaped

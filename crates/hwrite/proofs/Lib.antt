@@ -13,4 +13,5 @@ pub mod OpenLines
 pub mod Printed
 pub mod StartTag
 pub mod Tasks
+pub mod Vocabulary
 pub mod Written

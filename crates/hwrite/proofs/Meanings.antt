@@ -1,9 +1,7 @@
 -- What the members of a list stand for, one by one.
-use Rattle.std.proofs.Common.{◌≡◌, ℕ, zero, suc, ◌+◌, ◌<◌, List, [], ◌∷◌, length, get_or, drop, slice_get, Some, refl, sym, subst, arith, string_bytes, add-one}
+use Rattle.hwrite.proofs.Vocabulary.{◌≡◌, ℕ, zero, suc, ◌+◌, ◌<◌, List, [], ◌∷◌, length, get_or, drop, slice_get, Some, refl, sym, subst, arith, string_bytes, add-one, Texts, AttrsMean}
 use Rattle.std.specs.List.{AllZip}
 use Rattle.names.specs.declared.attr.Attr.{Attr}
-use Rattle.names.specs.Names.{Texts}
-use Rattle.htag.specs.Attributes.{AttrsMean}
 
 module _ {A B : Type 0} (R : A → B → Type 0) where
   -- a member, what it stands for, and what follows that

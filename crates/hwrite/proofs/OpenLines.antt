@@ -1,14 +1,9 @@
 -- Lines that are written while a line of characters may be open.
-use Rattle.std.proofs.Common.{◌≡◌, ℕ, Bool, true, false, List, [], ◌∷◌, ◌++◌, refl, sym, ap, subst, ◌∙◌, append_assoc, codes, decimal, encode_utf8}
-use Rattle.std.specs.List.{flat_map}
+use Rattle.hwrite.proofs.Vocabulary.{◌≡◌, ℕ, Bool, true, false, List, [], ◌∷◌, ◌++◌, refl, sym, ap, subst, ◌∙◌, append_assoc, codes, decimal, encode_utf8, flat_map, Texts, Token, to_write, escaped, escaped_byte, Tok, TokenMeans, Line, Characters, joined, line_of, line_text}
 use Rattle.std.proofs.lemmas.List.Concat.{flat_map-append}
-use Rattle.names.specs.Names.{Texts}
-use Rattle.htoken.specs.declared.token.Token.{Token}
 use Rattle.htoken.specs.declared.token.Token.TheVariants as code
-use Rattle.hwrite.specs.Draft.{after_characters, to_write}
-use Rattle.hwrite.specs.Quoted.{escaped, escaped_byte}
-use Rattle.htoken.specs.Token.{Tok, TokenMeans}
-use Rattle.hwrite.specs.TokenLines.{Line, Words, Characters, joined, line_of, line_text}
+use Rattle.hwrite.specs.Draft.{after_characters}
+use Rattle.hwrite.specs.TokenLines.{Words}
 use Rattle.hwrite.proofs.Grouping.{regroup}
 
 -- characters that are right after others

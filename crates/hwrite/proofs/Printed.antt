@@ -1,23 +1,20 @@
 -- What is printed of an answer.
-use Rattle.std.proofs.Common.{◌≡◌, ◌∙◌, ℕ, List, Option, Bool, None, Some, ap, ap₂, refl, sym, subst, option_map, Ok}
+use Rattle.hwrite.proofs.Vocabulary.{◌≡◌, ◌∙◌, ℕ, List, Option, Bool, None, Some, ap, ap₂, refl, sym, subst, Ok, Texts, spelling, Forest, spelled, error_lines, Escaping, Parsed, Parses, ParseOptions, AnswersParse, Prints, printed, plain_line}
+use Rattle.std.proofs.Common.{option_map}
 use Rattle.names.specs.declared.tag.Tag.{Tag}
-use Rattle.names.specs.Names.{AreNames, Texts, text_of}
+use Rattle.names.specs.Names.{AreNames, text_of}
 use Rattle.names.specs.Sets.{raw_kind}
-use Rattle.names.specs.Spelling.{spelling}
 use Rattle.names.proofs.AllTexts.{spelled as table_spelled}
-use Rattle.hnodes.specs.Forest.{Forest, children_of}
-use Rattle.hnodes.specs.Spelled.{spelled}
+use Rattle.hnodes.specs.Forest.{children_of}
 use Rattle.hnodes.specs.Spots.{name_of}
-use Rattle.hprint.specs.Lines.{tree_text, error_lines}
+use Rattle.hprint.specs.Lines.{tree_text}
 use Rattle.hserialize.specs.Written.{has_no_references, is_raw_in, written, written_among}
-use Rattle.hserialize.specs.declared.escaping.Escaping.{Escaping}
 use Rattle.hserialize.proofs.KnownNames.{tags-agree}
-use Rattle.hparse.specs.declared.parsed.Parsed.{Parsed}
-use Rattle.hparse.specs.Parse.{Parse, Parses, ParseCase, ParseOptions, root_of}
-use Rattle.hparse.specs.Parsing.{AnswersParse, IsParse}
+use Rattle.hparse.specs.Parse.{Parse, ParseCase, root_of}
+use Rattle.hparse.specs.Parsing.{IsParse}
 use Rattle.hnodes.proofs.Spellings.{questions, spelled-children_of}
 use Rattle.hwrite.proofs.Alike.{spelled-alike}
-use Rattle.hwrite.specs.Prints.{Prints, printed, nodes_text, errors_text, is_plain_in, plain_line, plain_text, written_text}
+use Rattle.hwrite.specs.Prints.{nodes_text, errors_text, is_plain_in, plain_text, written_text}
 
 -- what is in the root of a parse: each number of a name is read as its text
 abbrev children_spelled : Parsed → Forest (List ℕ)
@@ -30,7 +27,7 @@ children_are parse_case parsed parse is =
 
 pub tree_printed : (opts : ParseOptions) (parse_case : ParseCase) (bytes : List ℕ) (parsed : Parsed) (text : List ℕ) → AnswersParse opts parse_case bytes (Ok parsed)
     → text ≡ tree_text (children_spelled parsed) → Prints (Parses opts parse_case) (nodes_text parse_case) bytes (Ok text)
-tree_printed opts parse_case bytes parsed text (parse, is, parses) lines =
+tree_printed opts parse_case bytes parsed text (parse, is, parses, told) lines =
     subst (λ (t : List ℕ). Prints (Parses opts parse_case) (nodes_text parse_case) bytes (Ok t)) (sym (lines ∙ ap tree_text (children_are parse_case parsed parse is))) (printed parse parses)
 
 -- a number stands for the same known name by its text and by its spelling, so its texts are raw by both
@@ -46,19 +43,19 @@ name_is parse_case parsed parse is =
 
 pub html_printed : (how : Escaping) (opts : ParseOptions) (parse_case : ParseCase) (bytes : List ℕ) (parsed : Parsed) (text : List ℕ) → AnswersParse opts parse_case bytes (Ok parsed)
     → text ≡ written how (option_map (text_of parsed.names) (name_of parsed.root parsed.tree.trees)) (children_spelled parsed) → Prints (Parses opts parse_case) (written_text how parse_case) bytes (Ok text)
-html_printed how opts parse_case bytes parsed text (parse, is, parses) html =
+html_printed how opts parse_case bytes parsed text (parse, is, parses, told) html =
     let raw = raw-alike parsed.names is.table (name_of parsed.root parsed.tree.trees) ∙ ap is_raw_in (name_is parse_case parsed parse is) in
     subst (λ (t : List ℕ). Prints (Parses opts parse_case) (written_text how parse_case) bytes (Ok t)) (sym (html ∙ ap₂ (written_among how) raw (children_are parse_case parsed parse is)))
     (printed parse parses)
 
 pub plain_printed : (opts : ParseOptions) (parse_case : ParseCase) (bytes : List ℕ) (parsed : Parsed) (answer : Bool) (text : List ℕ) → AnswersParse opts parse_case bytes (Ok parsed)
     → answer ≡ is_plain_in parse_case (children_spelled parsed) → text ≡ plain_line answer → Prints (Parses opts parse_case) (plain_text parse_case) bytes (Ok text)
-plain_printed opts parse_case bytes parsed answer text (parse, is, parses) plain line =
+plain_printed opts parse_case bytes parsed answer text (parse, is, parses, told) plain line =
     let same = plain ∙ ap (is_plain_in parse_case) (children_are parse_case parsed parse is) in
     subst (λ (t : List ℕ). Prints (Parses opts parse_case) (plain_text parse_case) bytes (Ok t)) (sym (line ∙ ap plain_line same))
     (printed parse parses)
 
 pub errors_printed : (opts : ParseOptions) (parse_case : ParseCase) (bytes : List ℕ) (parsed : Parsed) (text : List ℕ) → AnswersParse opts parse_case bytes (Ok parsed)
     → text ≡ error_lines parsed.errors.items → Prints (Parses opts parse_case) errors_text bytes (Ok text)
-errors_printed opts parse_case bytes parsed text (parse, is, parses) lines =
+errors_printed opts parse_case bytes parsed text (parse, is, parses, told) lines =
     subst (λ (t : List ℕ). Prints (Parses opts parse_case) errors_text bytes (Ok t)) (sym (lines ∙ ap error_lines is.errors)) (printed parse parses)

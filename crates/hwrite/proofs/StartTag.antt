@@ -1,9 +1,5 @@
 -- The line of a start tag.
-use Rattle.std.proofs.Common.{◌≡◌, ℕ, Bool, List, ◌++◌, append_assoc, if◌then◌else◌, codes, decimal}
-use Rattle.std.specs.List.{flat_map}
-use Rattle.hwrite.specs.Quoted.{quoted}
-use Rattle.htoken.specs.Token.{Start}
-use Rattle.hwrite.specs.TokenLines.{attribute_words, line_of, line_text}
+use Rattle.hwrite.proofs.Vocabulary.{◌≡◌, ℕ, Bool, List, ◌++◌, append_assoc, if◌then◌else◌, codes, decimal, flat_map, quoted, Start, attribute_words, line_of, line_text}
 
 -- what is written before the end of the line
 pub before_end : (old opened named new name : List ℕ) (attrs : List (List ℕ × List ℕ)) (closing : Bool) (at : ℕ) (end : List ℕ)

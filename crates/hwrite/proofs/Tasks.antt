@@ -1,18 +1,11 @@
 -- A run of each task.
-use Rattle.std.proofs.Common.{◌≡◌, ◌∙◌, ◌⊎◌, inl, inr, ℕ, List, Option, Result, Ok, ap, refl, subst, sym}
-use Rattle.names.specs.declared.refusal.Refusal.{Refusal}
-use Rattle.hparse.specs.Answer.{Answers}
-use Rattle.hparse.specs.Parsing.{AnswersParse}
-use Rattle.hparse.specs.Unrefused.{IsUnrefused, IsUnrefusedText}
-use Rattle.hparse.specs.Parse.{Parses, ParseOptions, document, manner, policy}
-use Rattle.hparse.specs.declared.parsed.Parsed.{Parsed}
-use Rattle.hserialize.specs.Output.{WritesText}
-use Rattle.hserialize.specs.declared.escaping.Escaping.{Escaping}
-use Rattle.hwrite.specs.Context.{case_in}
+use Rattle.hwrite.proofs.Vocabulary.{◌≡◌, ◌∙◌, ◌⊎◌, inl, inr, ℕ, List, Option, Result, Ok, ap, refl, subst, sym, Refusal, Answers, AnswersParse, IsUnrefusedText, Parses, ParseOptions, Parsed, WritesText, Escaping, case_in, Prints, tokens_text, Runs, RunsIn, ran}
+use Rattle.hparse.specs.Unrefused.{IsUnrefused}
+use Rattle.hparse.specs.Parse.{document, manner, policy}
 use Rattle.hwrite.specs.declared.command.Task.{Task}
 use Rattle.hwrite.specs.declared.command.Task.TheVariants as task
-use Rattle.hwrite.specs.Prints.{Prints, parse_text, parsed_text, tokens_text}
-use Rattle.hwrite.specs.Running.{Runs, RunsIn, RunsTask, ran}
+use Rattle.hwrite.specs.Prints.{parse_text, parsed_text}
+use Rattle.hwrite.specs.Running.{RunsTask}
 use Rattle.hwrite.proofs.Printed.{errors_printed, html_printed, plain_printed, tree_printed}
 
 module _ {S W : Type 0} (left : S → Option (List ℕ)) (reads : S → ℕ) (written : W → Option (List ℕ)) (writes : W → ℕ) (context : Option (List ℕ)) (s : ParseOptions) (piece : ℕ)

@@ -1,16 +1,15 @@
 -- What a run does, from what its reading and its writing do.
-use Rattle.std.proofs.Common.{◌≡◌, ◌⊎◌, inl, inr, true, false, None, Some, MatchResult, ℕ, List, [], ◌++◌, refl, sym, ap, subst, ◌∙◌, append-nil, Option, Result, Ok, Err}
-use Rattle.std.specs.Io.KnownBytes.{Keeps, Appends, IsAtEnd}
+use Rattle.hwrite.proofs.Vocabulary.{◌≡◌, ◌⊎◌, inl, inr, true, false, None, Some, ℕ, List, [], ◌++◌, refl, sym, ap, subst, ◌∙◌, append-nil, Option, Result, Ok, Err, Appends, Refusal, Memory, Write, counted, AppendsBeginning, WritesText, ParseOptions, ReadsInput, Runs, RunsIn, ran, allowed, BeginsIn}
+use Rattle.std.proofs.Common.{MatchResult}
+use Rattle.std.specs.Io.KnownBytes.{Keeps, IsAtEnd}
 use Rattle.std.proofs.KnownBytes.{Keeps-refl, Appends-kept}
-use Rattle.names.specs.declared.refusal.Refusal.{Refusal}
-use Rattle.names.specs.declared.refusal.Refusal.TheVariants.{Memory, Read, Write, BadContext}
-use Rattle.hparse.specs.Calls.{counted}
-use Rattle.hserialize.specs.Output.{AppendsBeginning, WritesText, no_buffer, text_cut, text_written}
+use Rattle.names.specs.declared.refusal.Refusal.TheVariants.{Read, BadContext}
+use Rattle.hserialize.specs.Output.{no_buffer, text_cut, text_written}
 use Rattle.hparse.specs.declared.parser.Parser.{Parser}
-use Rattle.hparse.specs.Parse.{ParseOptions, document, fragment, is_context}
+use Rattle.hparse.specs.Parse.{document, fragment, is_context}
 use Rattle.hparse.specs.Parsing.{HasParsed}
-use Rattle.hparse.specs.Reader.{ReadsInput, reading_ran_out, reading_failed, reading_stopped, read_to_end, Gave}
-use Rattle.hwrite.specs.Running.{WritesNothing, Runs, run_ran_out, read_failed, stopped, refused, write_failed, wrote, RunsIn, context_refused, ran, ReadsIn, not_allowed, allowed, BeginsIn}
+use Rattle.hparse.specs.Reader.{reading_ran_out, reading_failed, reading_stopped, read_to_end, Gave}
+use Rattle.hwrite.specs.Running.{WritesNothing, run_ran_out, read_failed, stopped, refused, write_failed, wrote, context_refused, ReadsIn, not_allowed}
 
 module _ {W : Type 0} (written : W → Option (List ℕ)) (failed : W → ℕ) where
   -- a beginning was written

@@ -1,4 +1,5 @@
 pub mod Calls
+pub mod Columns
 pub mod Command
 pub mod Context
 pub mod Counted

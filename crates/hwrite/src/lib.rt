@@ -1,7 +1,11 @@
 //! The one crate that a user of the library depends on: parsing, writing, what comes back, and the program's engine, which reads an
 //! input from a reader and prints to a writer. What is in crates below is passed on.
+//!
+//! [`read_into`] hands tokens and parse errors to a [`TokenSink`] of the user's. Where the sink refuses one, it is handed no more, the
+//! reading ends, and `read_into` answers that refusal; `Refusal::Write` is one that no input brings.
 #![tactic(auto)]
 
+mod columns;
 pub mod command;
 pub mod counted;
 mod draft;
@@ -12,16 +16,19 @@ pub mod lines;
 mod quoted;
 mod words;
 
+pub use columns::line_column;
 pub use command::{Command, Task};
 pub use counted::Counted;
 pub use engine::{parser, run, write_text};
 pub use given_context::check_context;
+pub use hmarkup::ErrorSink;
 pub use hnodes::{
-    Ancestors, ChildElements, Children, Descendants, DocumentType, NodeId, NodeKind, Place, Tree,
+    Ancestors, AttributeTexts, ChildElements, Children, Descendants, DocumentType, NodeId,
+    NodeKind, Place, Tree,
 };
 pub use hparse::{
-    Limits, Options, Parsed, Parser, Quirks, Source, Table, TokenRun, is_context, parse_reader,
-    read_into, tokens,
+    Limits, Options, Origin, Parsed, Parser, Quirks, Source, Table, TokenRun, is_context,
+    parse_reader, read_into, tokens,
 };
 pub use hplain::is_plain;
 pub use hprint::{error_lines, print_errors, print_tree, tree_text};
@@ -29,7 +36,9 @@ pub use hserialize::{
     Escaping, Target, serialize, serialize_outer, serialize_outer_to_vec, serialize_to_vec,
     write_all,
 };
-pub use htext::BadBytes;
-pub use htoken::Token;
+pub use htext::{BadBytes, MAX_INPUT};
+pub use htoken::{Token, TokenSink};
 pub use lines::token_lines;
-pub use names::{Attr, ErrorCode, Keys, NameId, Names, ParseError, Refusal, RefusedName, Tag};
+pub use names::{
+    Attr, ErrorCode, Keys, NameId, Names, ParseError, Refusal, RefusedName, TableFault, Tag,
+};

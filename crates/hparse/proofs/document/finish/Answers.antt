@@ -1,4 +1,4 @@
-use Rattle.hparse.specs.Into.{as_document}
+use Rattle.hparse.proofs.Names.{as_document}
 use Rattle.hparse.proofs.RunOf.{shows_end, shows_all}
 use Rattle.hparse.proofs.document.finish.Goals as goal
 

@@ -1,9 +1,6 @@
-use Rattle.std.proofs.Common.{◌≡◌, ◌<◌, ◌+◌, ℕ, List, Bor, length, take, drop, sym, subst, arith}
+use Rattle.hparse.proofs.Names.{◌≡◌, ◌<◌, ◌+◌, ℕ, List, Bor, length, take, drop, sym, subst, arith, Shows, HasReadTokens, of_document, as_document}
 use Rattle.std.proofs.lemmas.List.{take_all}
-use Rattle.hparse.specs.Shown.{Shows, HasReadTokens}
 use Rattle.hparse.proofs.Joined.{joined, joined_more, joined_all}
-use Rattle.hparse.specs.Answer.{of_document}
-use Rattle.hparse.specs.Into.{as_document}
 use Rattle.hparse.proofs.RunOf.{shows_piece, has_read_tokens}
 use Rattle.hparse.proofs.document.tokens.Goals as goal
 

@@ -1,5 +1,4 @@
-use Rattle.std.proofs.Common.{take}
-use Rattle.hparse.specs.Shown.{HasReadTokens}
+use Rattle.hparse.proofs.Names.{take, HasReadTokens}
 use Rattle.hparse.proofs.Joined.{joined}
 use Rattle.hparse.proofs.document.tokens.Given as goal
 

@@ -1,6 +1,5 @@
-use Rattle.std.proofs.Common.{rules}
+use Rattle.hparse.proofs.Names.{rules, code_rank}
 use Rattle.std.proofs.lemmas.List.Sorted.{answers_always}
-use Rattle.names.specs.Codes.{code_rank}
 use Rattle.hparse.proofs.errors.sort_errors.Goals as goal
 
 pub returns-clause-sorted : goal.returns-clause-sorted

@@ -1,8 +1,4 @@
-use Rattle.std.proofs.Common.{List, arith, refl, sym, subst, Ok, Err}
-use Rattle.std.proofs.lemmas.Result.{err_from_is_err_and}
-use Rattle.names.specs.Sink.{Hands}
-use Rattle.htext.specs.Text.{Read}
-use Rattle.htext.specs.Items.{input_errors}
+use Rattle.hparse.proofs.Names.{List, arith, refl, sym, subst, Ok, Err, err_from_is_err_and, Hands, Read, input_errors}
 use Rattle.htext.proofs.Handing.{next_bad}
 use Rattle.hparse.proofs.feeding.tell_bad.Goals as goal
 

@@ -1,6 +1,4 @@
-use Rattle.std.proofs.Common.{◌+◌, ◌-◌, ◌≤◌}
-use Rattle.names.specs.Sink.{Continues}
-use Rattle.htext.specs.Items.{bad_each, input_errors}
+use Rattle.hparse.proofs.Names.{◌+◌, ◌-◌, ◌≤◌, Continues, bad_each, input_errors}
 use Rattle.hparse.proofs.feeding.tell_bad.Given as goal
 
 -- To take the rest of the errors is to take all of them.

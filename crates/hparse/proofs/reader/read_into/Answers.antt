@@ -1,10 +1,5 @@
-use Rattle.std.proofs.Common.{[], inr, sym, subst}
-use Rattle.names.specs.Names.{Texts}
-use Rattle.htoken.specs.Token.{gives_item}
-use Rattle.hparse.specs.Fed.{HasRead, WasRead}
-use Rattle.hparse.specs.Unrefused.{IsUnrefusedText}
-use Rattle.hparse.specs.Input.{Comes, IsTaken}
-use Rattle.hparse.specs.Into.{as_document, begins, ComesInto}
+use Rattle.hparse.proofs.Names.{[], inr, sym, subst, Texts, gives_item, HasRead, WasRead, IsUnrefusedText, Comes, IsTaken, as_document}
+use Rattle.hparse.specs.Into.{begins, ComesInto}
 use Rattle.hparse.proofs.Turns.{not_read, made}
 use Rattle.hparse.proofs.Unrefused.{unrefused_text}
 use Rattle.hparse.proofs.reader.read_into.Goals as goal

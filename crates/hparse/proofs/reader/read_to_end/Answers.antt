@@ -1,9 +1,5 @@
-use Rattle.std.proofs.Common.{◌≡◌, ℕ, ◌+◌, ◌<◌, ◌≤◌, List, [], length, take, drop, ap, subst, ◌∙◌, sym, arith, rules}
-use Rattle.std.proofs.lemmas.Result.{err_from_is_err_and}
-use Rattle.std.specs.Io.KnownBytes.{Consumes}
+use Rattle.hparse.proofs.Names.{◌≡◌, ℕ, ◌+◌, ◌<◌, ◌≤◌, List, [], length, take, drop, ap, subst, ◌∙◌, sym, arith, rules, err_from_is_err_and, Consumes, gives_item, Comes}
 use Rattle.htext.specs.declared.decoder.TheConstants.{MAX_INPUT}
-use Rattle.htoken.specs.Token.{gives_item}
-use Rattle.hparse.specs.Input.{Comes}
 use Rattle.hparse.proofs.Turns.{not_turned, no_turn, turned, refused_turn, failed_turn, ended, front_of_buffer, some_of_buffer, few_of_buffer}
 use Rattle.hparse.proofs.reader.read_to_end.Goals as goal
 

@@ -1,7 +1,5 @@
-use Rattle.std.proofs.Common.{◌≡◌, ℕ, List, vec_len}
-use Rattle.htoken.specs.Token.{gives_item}
-use Rattle.hparse.specs.Fed.{HasRead}
-use Rattle.hparse.specs.Input.{Manner, Began}
+use Rattle.hparse.proofs.Names.{◌≡◌, ℕ, List, gives_item, HasRead, Manner, Began}
+use Rattle.std.proofs.Common.{vec_len}
 use Rattle.hparse.proofs.Turns.{HasTurned}
 use Rattle.hparse.proofs.reader.read_to_end.Given as goal
 

@@ -1,9 +1,4 @@
-use Rattle.std.proofs.Common.{[]}
-use Rattle.std.proofs.lemmas.Result.{err_from_is_err_and}
-use Rattle.hparse.specs.Parsing.{options_of}
-use Rattle.hwrite.specs.Context.{case_in}
-use Rattle.hwrite.specs.Command.{name_of}
-use Rattle.hwrite.specs.Running.{allowed}
+use Rattle.hwrite.proofs.Vocabulary.{[], err_from_is_err_and, options_of, case_in, name_of, allowed}
 use Rattle.hwrite.proofs.Written.{not_begun}
 use Rattle.hwrite.proofs.engine.parse.Goals as goal
 

@@ -1,8 +1,5 @@
-use Rattle.std.proofs.Common.{Option, List, ℕ, sym, subst}
+use Rattle.hwrite.proofs.Vocabulary.{Option, List, ℕ, sym, subst, options_of, name_of, BeginsIn}
 use Rattle.std.specs.Borrow.{Bor}
-use Rattle.hparse.specs.Parsing.{options_of}
-use Rattle.hwrite.specs.Command.{name_of}
-use Rattle.hwrite.specs.Running.{BeginsIn}
 use Rattle.hwrite.proofs.Written.{begun_document, begun_fragment}
 use Rattle.hwrite.proofs.engine.parser.Goals as goal
 

@@ -1,7 +1,4 @@
-use Rattle.std.proofs.Common.{ap, inl, inr, refl, ◌∙◌}
-use Rattle.hprint.specs.Lines.{error_lines}
-use Rattle.hwrite.specs.Command.{name_of}
-use Rattle.hwrite.specs.Prints.{plain_line}
+use Rattle.hwrite.proofs.Vocabulary.{ap, inl, inr, refl, ◌∙◌, error_lines, name_of, plain_line}
 use Rattle.hwrite.specs.declared.command.Task.TheVariants as task
 use Rattle.hwrite.proofs.Tasks.{shown}
 use Rattle.hwrite.proofs.engine.print_parsed.Goals as goal

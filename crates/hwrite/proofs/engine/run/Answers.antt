@@ -1,5 +1,4 @@
-use Rattle.hparse.specs.Parsing.{options_of}
-use Rattle.hwrite.specs.Command.{name_of}
+use Rattle.hwrite.proofs.Vocabulary.{options_of, name_of}
 use Rattle.hwrite.proofs.Tasks.{as_parsed, as_tokens}
 use Rattle.hwrite.proofs.engine.run.Goals as goal
 

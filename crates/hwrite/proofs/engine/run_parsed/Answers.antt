@@ -1,7 +1,4 @@
-use Rattle.std.proofs.lemmas.Result.{err_from_is_err_and}
-use Rattle.hparse.specs.Parsing.{options_of}
-use Rattle.hwrite.specs.Command.{name_of}
-use Rattle.hwrite.specs.Prints.{not_printed}
+use Rattle.hwrite.proofs.Vocabulary.{err_from_is_err_and, options_of, name_of, not_printed}
 use Rattle.hwrite.proofs.Tasks.{parsed_printed}
 use Rattle.hwrite.proofs.Written.{not_read_in, comes_to_text_in}
 use Rattle.hwrite.proofs.engine.run_parsed.Goals as goal

@@ -1,9 +1,4 @@
-use Rattle.std.proofs.lemmas.Result.{err_from_is_err_and}
-use Rattle.hparse.specs.Answer.{Answers, of_document}
-use Rattle.hparse.specs.Unrefused.{IsUnrefusedText}
-use Rattle.hparse.specs.Into.{as_document}
-use Rattle.hwrite.specs.Draft.{AnswersDraft}
-use Rattle.hwrite.specs.Prints.{printed, not_printed, tokens_text, Prints}
+use Rattle.hwrite.proofs.Vocabulary.{err_from_is_err_and, Answers, of_document, IsUnrefusedText, as_document, AnswersDraft, printed, not_printed, tokens_text, Prints}
 use Rattle.hwrite.proofs.Written.{not_read, an_answer, comes_to_written}
 use Rattle.hwrite.proofs.engine.run_tokens.Goals as goal
 

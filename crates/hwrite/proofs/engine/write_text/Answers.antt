@@ -1,5 +1,4 @@
-use Rattle.std.proofs.Common.{ap, ◌∙◌}
-use Rattle.std.proofs.lemmas.Result.{err_from_is_err_and}
+use Rattle.hwrite.proofs.Vocabulary.{ap, ◌∙◌, err_from_is_err_and}
 use Rattle.hserialize.specs.Calls.{counted_unless}
 use Rattle.hwrite.proofs.Written.{cut_short, not_flushed}
 use Rattle.hwrite.proofs.engine.write_text.Goals as goal

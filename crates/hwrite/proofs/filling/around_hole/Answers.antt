@@ -1,4 +1,4 @@
-use Rattle.std.proofs.Common.{sym, ◌∙◌}
+use Rattle.hwrite.proofs.Vocabulary.{sym, ◌∙◌}
 use Rattle.hwrite.proofs.InHoles.{none_found}
 use Rattle.hwrite.proofs.filling.around_hole.Goals as goal
 

@@ -1,4 +1,4 @@
-use Rattle.std.proofs.Common.{◌∙◌, ap, rules}
+use Rattle.hwrite.proofs.Vocabulary.{◌∙◌, ap, rules}
 use Rattle.hserialize.proofs.Finished.{cut_short, finished}
 use Rattle.hwrite.proofs.filling.print_draft.Goals as goal
 

@@ -1,7 +1,4 @@
-use Rattle.std.proofs.Common.{ℕ, Bool, List, [], ◌++◌, sym, ap, subst, ◌∙◌, codes, string_bytes}
-use Rattle.hserialize.specs.Output.{taken}
-use Rattle.hserialize.proofs.Output.{none_put, part_put, part_failed, last_put, passed_on}
-use Rattle.hwrite.specs.Draft.{Fills, to_write}
+use Rattle.hwrite.proofs.Vocabulary.{ℕ, Bool, List, [], ◌++◌, sym, ap, subst, ◌∙◌, codes, string_bytes, taken, none_put, part_put, part_failed, last_put, passed_on, Fills, to_write}
 use Rattle.hwrite.proofs.filling.put_draft.Goals as goal
 
 pub returns-in_err-put_filled : goal.returns-in_err-put_filled

@@ -1,5 +1,5 @@
 use Rattle.hwrite.proofs.InHoles.{next_byte}
-use Rattle.hserialize.proofs.Output.{part_put, part_failed, passed_on}
+use Rattle.hwrite.proofs.Vocabulary.{part_put, part_failed, passed_on}
 use Rattle.hwrite.proofs.filling.put_escaped.Goals as goal
 
 pub returns-in_err-put_escaped_byte : goal.returns-in_err-put_escaped_byte

@@ -1,7 +1,4 @@
-use Rattle.std.proofs.Common.{drop}
-use Rattle.hserialize.specs.Output.{taken}
-use Rattle.hserialize.proofs.Output.{HasLeft}
-use Rattle.hwrite.specs.Quoted.{escaped}
+use Rattle.hwrite.proofs.Vocabulary.{drop, taken, HasLeft, escaped}
 use Rattle.hwrite.proofs.filling.put_escaped.Given as goal
 
 -- the bytes that are left

@@ -1,9 +1,5 @@
-use Rattle.std.proofs.Common.{◌≡◌, ℕ, ◌+◌, List, [], ◌++◌, drop, sym, ap, subst, ◌∙◌}
+use Rattle.hwrite.proofs.Vocabulary.{◌≡◌, ℕ, ◌+◌, List, [], ◌++◌, drop, sym, ap, subst, ◌∙◌, taken, none_put, part_put, part_failed, last_put, passed_on, Fills, quoted}
 use Rattle.std.proofs.lemmas.Option.{get_or_from_slice_get}
-use Rattle.hserialize.specs.Output.{taken}
-use Rattle.hserialize.proofs.Output.{none_put, part_put, part_failed, last_put, passed_on}
-use Rattle.hwrite.specs.Draft.{Fills}
-use Rattle.hwrite.specs.Quoted.{quoted}
 use Rattle.hwrite.proofs.InHoles.{next_hole, last_rest}
 use Rattle.hwrite.proofs.filling.put_filled.Goals as goal
 

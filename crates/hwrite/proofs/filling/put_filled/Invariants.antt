@@ -1,7 +1,4 @@
-use Rattle.std.proofs.Common.{ℕ, List, drop}
-use Rattle.hserialize.specs.Output.{taken}
-use Rattle.hserialize.proofs.Output.{HasLeft}
-use Rattle.hwrite.specs.Draft.{Fills}
+use Rattle.hwrite.proofs.Vocabulary.{ℕ, List, drop, taken, HasLeft, Fills}
 use Rattle.hwrite.proofs.filling.put_filled.Given as goal
 
 -- what is left to be written are the rest and its names

@@ -1,7 +1,4 @@
-use Rattle.std.proofs.Common.{refl, sym, ap, codes, ◌++◌}
-use Rattle.hserialize.specs.Output.{taken}
-use Rattle.hserialize.proofs.Output.{none_put, part_put, part_failed, last_put, passed_on}
-use Rattle.hwrite.specs.Quoted.{escaped, quoted}
+use Rattle.hwrite.proofs.Vocabulary.{refl, sym, ap, codes, ◌++◌, taken, none_put, part_put, part_failed, last_put, passed_on, escaped, quoted}
 use Rattle.hwrite.proofs.filling.put_quoted.Goals as goal
 
 pub returns-in_err-put : goal.returns-in_err-put

@@ -1,11 +1,4 @@
-use Rattle.std.proofs.Common.{◌+◌, List, drop, sym, subst, arith}
-use Rattle.std.proofs.lemmas.List.{drop_all}
-use Rattle.std.proofs.lemmas.Slice.Zip.{AllZip-long}
-use Rattle.htoken.specs.declared.token.Token.{Token}
-use Rattle.htoken.specs.Token.{Tok, TokenMeans}
-use Rattle.hparse.specs.TokenRun.{TokensMean}
-use Rattle.hwrite.specs.Draft.{ComesTo, drafted}
-use Rattle.hwrite.specs.TokenLines.{lines_of, token_lines}
+use Rattle.hwrite.proofs.Vocabulary.{◌+◌, List, drop, sym, subst, arith, drop_all, AllZip-long, Token, Tok, TokenMeans, TokensMean, ComesTo, drafted, lines_of, token_lines}
 use Rattle.hwrite.proofs.DraftRead.{none_drafted}
 use Rattle.hwrite.proofs.Meanings.{stands_at}
 use Rattle.hwrite.proofs.lines.draft_of.Goals as goal

@@ -1,8 +1,4 @@
-use Rattle.std.proofs.Common.{List, drop}
-use Rattle.htoken.specs.Token.{Tok}
-use Rattle.hparse.specs.TokenRun.{TokensMean}
-use Rattle.hwrite.specs.Draft.{ComesTo, drafted}
-use Rattle.hwrite.specs.TokenLines.{lines_of, token_lines}
+use Rattle.hwrite.proofs.Vocabulary.{List, drop, Tok, TokensMean, ComesTo, drafted, lines_of, token_lines}
 use Rattle.hwrite.proofs.lines.draft_of.Given as goal
 
 -- once the lines of the tokens that are left have come, the draft is all lines

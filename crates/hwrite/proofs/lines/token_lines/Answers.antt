@@ -1,10 +1,7 @@
-use Rattle.std.proofs.Common.{◌≡◌, ℕ, List, Result, Ok, Err, IfErr}
+use Rattle.hwrite.proofs.Vocabulary.{◌≡◌, ℕ, List, Result, Ok, Err, IfErr, Refusal, Memory, token_lines}
 use Rattle.std.specs.Prelude.{IfOk}
 use Rattle.std.specs.Global.{Vec}
-use Rattle.names.specs.declared.refusal.Refusal.{Refusal}
-use Rattle.names.specs.declared.refusal.Refusal.TheVariants.{Memory}
 use Rattle.hserialize.specs.Gathered.{Holds}
-use Rattle.hwrite.specs.TokenLines.{token_lines}
 use Rattle.hwrite.proofs.lines.token_lines.Goals as goal
 
 -- a text in memory, by its two clauses

@@ -1,6 +1,4 @@
-use Rattle.std.proofs.Common.{◌≡◌, ◌++◌}
-use Rattle.std.specs.String.{string_bytes}
-use Rattle.hwrite.specs.Quoted.{escaped}
+use Rattle.hwrite.proofs.Vocabulary.{◌≡◌, ◌++◌, string_bytes, escaped}
 use Rattle.hwrite.proofs.quoted.push_each.Given as goal
 
 -- what is written and what is still to come make up the whole text

@@ -1,4 +1,4 @@
-use Rattle.std.proofs.Common.{rules}
+use Rattle.hwrite.proofs.Vocabulary.{rules}
 use Rattle.hwrite.proofs.Escapes.{escaped-plain}
 use Rattle.hwrite.proofs.quoted.push_escaped.Goals as goal
 

@@ -1,6 +1,4 @@
-use Rattle.std.proofs.Common.{◌≡◌, ℕ, List, true, rules, sym, ◌∙◌, subst}
-use Rattle.std.specs.List.{list_all}
-use Rattle.hwrite.specs.Quoted.{is_unescaped}
+use Rattle.hwrite.proofs.Vocabulary.{◌≡◌, ℕ, List, true, rules, sym, ◌∙◌, subst, list_all, is_unescaped}
 use Rattle.hwrite.proofs.Escapes.{escaped-unescaped}
 use Rattle.hwrite.proofs.quoted.push_escaped_text.Goals as goal
 

@@ -1,8 +1,5 @@
-use Rattle.std.proofs.Common.{◌≡◌, ◌++◌, ℕ, List, rules, string_bytes, codes, refl, if◌then◌else◌}
-use Rattle.std.specs.Char.{encode_utf8}
+use Rattle.hwrite.proofs.Vocabulary.{◌≡◌, ◌++◌, ℕ, List, rules, string_bytes, codes, refl, if◌then◌else◌, encode_utf8, Doctype, line_of, line_text}
 use Rattle.hmarkup.specs.DoctypeWalk.{text_of}
-use Rattle.htoken.specs.Token.{Doctype}
-use Rattle.hwrite.specs.TokenLines.{line_of, line_text}
 use Rattle.hwrite.proofs.DoctypeLine.{before_end}
 use Rattle.hwrite.proofs.words.push_doctype.Goals as goal
 use Rattle.hwrite.proofs.words.push_doctype.Goals.{In_ok-push_optional-3}

@@ -1,5 +1,4 @@
-use Rattle.std.proofs.Common.{ap, sym}
-use Rattle.hparse.specs.Intake.{Intake}
+use Rattle.hparse.proofs.Names.{ap, sym, Intake}
 use Rattle.hparse.proofs.feeding.Feeding.all_fed.Goals as goal
 
 pub returns : goal.returns

@@ -1,6 +1,4 @@
-use Rattle.std.proofs.Common.{subst}
-use Rattle.names.specs.Names.{AreNames}
-use Rattle.hparse.specs.Intake.{Intake}
+use Rattle.hparse.proofs.Names.{subst, AreNames, Intake}
 use Rattle.hparse.proofs.feeding.Feeding.are_names.Goals as goal
 
 pub returns : goal.returns

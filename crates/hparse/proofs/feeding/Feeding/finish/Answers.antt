@@ -1,10 +1,4 @@
-use Rattle.std.proofs.Common.{[], subst, sym, ◌∙◌, append-nil}
-use Rattle.names.proofs.Handing.{grows_not}
-use Rattle.htext.specs.Items.{characters_among}
-use Rattle.htoken.specs.Standing.{start_kind}
-use Rattle.htoken.specs.Token.{gives_item}
-use Rattle.hparse.specs.Holding.{HoldsItems, EndsText}
-use Rattle.hparse.specs.Intake.{Intake}
+use Rattle.hparse.proofs.Names.{[], subst, sym, ◌∙◌, append-nil, grows_not, characters_among, start_kind, gives_item, HoldsItems, EndsText, Intake}
 use Rattle.hparse.proofs.Held.{ends_text}
 use Rattle.hparse.proofs.feeding.Feeding.finish.Goals as goal
 

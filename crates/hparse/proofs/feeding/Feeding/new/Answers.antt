@@ -1,8 +1,5 @@
-use Rattle.std.proofs.Common.{refl, sym, subst}
+use Rattle.hparse.proofs.Names.{refl, sym, subst, start_kind, gives_item, HasTaken}
 use Rattle.std.specs.Prelude.{[]}
-use Rattle.htoken.specs.Standing.{start_kind}
-use Rattle.htoken.specs.Token.{gives_item}
-use Rattle.htoken.specs.Tokenizing.{HasTaken}
 use Rattle.hparse.proofs.Handing.{handed_none}
 use Rattle.hparse.proofs.feeding.Feeding.new.Goals as goal
 

@@ -1,6 +1,4 @@
-use Rattle.std.proofs.Common.{sym, subst}
-use Rattle.htoken.specs.Token.{gives_item}
-use Rattle.hparse.specs.Holding.{Refuses}
+use Rattle.hparse.proofs.Names.{sym, subst, gives_item, Refuses}
 use Rattle.hparse.proofs.Pieces.{refuses_bytes, refuses_text}
 use Rattle.hparse.proofs.feeding.Feeding.refuse.Goals as goal
 

@@ -1,9 +1,4 @@
-use Rattle.std.proofs.Common.{[], true, Err, arith, refl, subst}
-use Rattle.names.specs.Sink.{Hands}
-use Rattle.htext.specs.Items.{items, bad_each}
-use Rattle.htoken.specs.Token.{gives_item}
-use Rattle.hparse.specs.Holding.{Proceeds}
-use Rattle.hparse.specs.Intake.{Intake}
+use Rattle.hparse.proofs.Names.{[], true, Err, arith, refl, subst, Hands, items, bad_each, gives_item, Proceeds, Intake}
 use Rattle.hparse.proofs.Held.{bad_untold, bad_fed}
 use Rattle.hparse.proofs.feeding.FeedingCharSink.take_bad.Goals as goal
 

@@ -1,10 +1,4 @@
-use Rattle.std.proofs.Common.{[], ◌∷◌, refl, subst, sym, ◌∙◌, append-nil}
-use Rattle.names.proofs.Handing.{grows_not}
-use Rattle.htext.specs.Items.{Character, characters_among}
-use Rattle.htoken.specs.Standing.{start_kind}
-use Rattle.htoken.specs.Token.{gives_item}
-use Rattle.hparse.specs.Holding.{Proceeds, TakesItems}
-use Rattle.hparse.specs.Intake.{Intake}
+use Rattle.hparse.proofs.Names.{[], ◌∷◌, refl, subst, sym, ◌∙◌, append-nil, grows_not, Character, characters_among, start_kind, gives_item, Proceeds, TakesItems, Intake}
 use Rattle.hparse.proofs.Held.{holds_characters}
 use Rattle.hparse.proofs.feeding.FeedingCharSink.take_char.Goals as goal
 

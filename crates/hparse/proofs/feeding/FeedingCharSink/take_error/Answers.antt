@@ -1,9 +1,5 @@
-use Rattle.std.proofs.Common.{[], ◌∷◌, refl, subst, sym, ◌∙◌, append-nil}
-use Rattle.htext.specs.Items.{InputError}
-use Rattle.htoken.specs.Token.{gives_item}
+use Rattle.hparse.proofs.Names.{[], ◌∷◌, refl, subst, sym, ◌∙◌, append-nil, InputError, gives_item, Proceeds, TakesItems, Intake}
 use Rattle.htoken.proofs.Handing.{error_given}
-use Rattle.hparse.specs.Holding.{Proceeds, TakesItems}
-use Rattle.hparse.specs.Intake.{Intake}
 use Rattle.hparse.proofs.Held.{holds_error}
 use Rattle.hparse.proofs.feeding.FeedingCharSink.take_error.Goals as goal
 

@@ -1,14 +1,5 @@
-use Rattle.std.proofs.Common.{[], List, ℕ, Ok, subst, sym, refl}
-use Rattle.std.specs.Str.{chars}
-use Rattle.names.specs.Sink.{Hands}
-use Rattle.names.proofs.Handing.{grows_not}
-use Rattle.htext.specs.Items.{characters_among}
-use Rattle.htext.specs.Run.{run_items}
+use Rattle.hparse.proofs.Names.{[], List, ℕ, Ok, subst, sym, refl, chars, Hands, grows_not, characters_among, run_items, start_kind, gives_item, Proceeds, Intake}
 use Rattle.htext.proofs.Wide.{has_characters, no_characters}
-use Rattle.htoken.specs.Standing.{start_kind}
-use Rattle.htoken.specs.Token.{gives_item}
-use Rattle.hparse.specs.Holding.{Proceeds}
-use Rattle.hparse.specs.Intake.{Intake}
 use Rattle.hparse.proofs.Held.{run_taken}
 use Rattle.hparse.proofs.feeding.FeedingCharSink.take_run.Goals as goal
 

@@ -1,7 +1,5 @@
-use Rattle.names.proofs.Handing.{grows_not}
-use Rattle.std.proofs.Common.{rules}
+use Rattle.hparse.proofs.Names.{grows_not, rules, manner}
 use Rattle.hparse.proofs.Parsings.{feeds_on, feeds_refused}
-use Rattle.hparse.specs.Parse.{manner}
 use Rattle.hparse.proofs.parser.Parser.feed.Goals as goal
 
 pub returns-in-Ok-clause-feeds : goal.returns-in-Ok-clause-feeds

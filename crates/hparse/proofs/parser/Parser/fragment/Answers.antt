@@ -1,21 +1,15 @@
-use Rattle.std.proofs.Common.{rules, ◌≡◌, [], true, refl, ap, sym, ◌∙◌, subst}
+use Rattle.hparse.proofs.Names.{rules, ◌≡◌, [], true, refl, ap, sym, ◌∙◌, subst, tag_named, RawKind, Building, Placing, HasRead, Began, fragment, BeginsIn, a_fragment, places_item, options_of, origins_if}
 use Rattle.names.specs.Sets.{raw_kind}
-use Rattle.names.specs.Tags.{tag_named}
-use Rattle.names.specs.declared.raw.RawKind.{RawKind}
 use Rattle.htoken.specs.declared.token.Start.TheVariants as start
-use Rattle.hmodes.specs.Building.{Building}
-use Rattle.hparse.specs.Fed.{HasRead}
-use Rattle.hparse.specs.Input.{Began}
-use Rattle.hparse.specs.Parse.{fragment, is_context}
-use Rattle.hparse.specs.Parsing.{BeginsIn, a_fragment, builds, options_of}
+use Rattle.hparse.specs.Parse.{is_context}
 use Rattle.hparse.proofs.parser.Parser.fragment.Goals as goal
 
 pub returns : goal.returns
 returns c =
-    let e = c.in_ok-builder.ensures in
+    let e = c.in_ok-sink.ensures.builder ∙ c.in_ok-builder.ensures in
     let allowed : is_context c.args.context.now ≡ true = search rules in
     let kind : c.raw_kind.result ≡ raw_kind (tag_named c.args.context.now) = c.raw_kind.ensures ∙ ap raw_kind (c.tag.ensures ∙ c.in_ok-name.ensures.tag) in
-    let began : Began Building = record { names = c.intern.new.self; sink = c.in_ok-builder.builder } in (
+    let began : Began Placing = record { names = c.intern.new.self; sink = c.in_ok-sink.sink } in (
       allowed,
       record {
         accepts = refl;
@@ -24,7 +18,8 @@ returns c =
         none_told = ap (λ (b : Building). b.told) e;
         root_is = ap (λ (b : Building). b.root) e;
         begins = subst (λ (b : Building). BeginsIn (options_of c.args.options.now) began.names (fragment c.args.context.now) b.state) (sym e) (a_fragment c.args.context.now c.in_ok-name.name c.in_ok-name.ensures.number);
-        has_read = subst (λ (k : RawKind). HasRead builds (record { table = c.args.options.now.table.now; start = start.Context k; bad = c.args.options.now.bad_bytes; limit = c.args.options.now.limits.input }) began c.new.result []) kind c.new.ensures;
+        places = c.in_ok-sink.ensures.origins ∙ ap (λ (b : Building). origins_if c.args.options.now.places b.state) (sym c.in_ok-sink.ensures.builder);
+        has_read = subst (λ (k : RawKind). HasRead places_item (record { table = c.args.options.now.table.now; start = start.Context k; bad = c.args.options.now.bad_bytes; limit = c.args.options.now.limits.input }) began c.new-2.result []) kind c.new-2.ensures;
       },
     )
 

@@ -1,7 +1,4 @@
-use Rattle.std.proofs.Common.{◌∙◌}
-use Rattle.htext.specs.Items.{items}
-use Rattle.htoken.specs.Token.{gives_item}
-use Rattle.hparse.specs.Input.{reads_in}
+use Rattle.hparse.proofs.Names.{◌∙◌, items, gives_item, reads_in}
 use Rattle.hparse.proofs.Pieces.{ends_refused, ends_input, holds_all}
 use Rattle.hparse.proofs.reading.Reading.end.Goals as goal
 

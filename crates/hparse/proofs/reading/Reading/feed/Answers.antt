@@ -1,4 +1,4 @@
-use Rattle.htoken.specs.Token.{gives_item}
+use Rattle.hparse.proofs.Names.{gives_item}
 use Rattle.hparse.proofs.Pieces.{reads_piece, refuses_piece}
 use Rattle.hparse.proofs.reading.Reading.feed.Goals as goal
 

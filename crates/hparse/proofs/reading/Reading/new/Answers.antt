@@ -1,4 +1,4 @@
-use Rattle.std.proofs.Common.{rules}
+use Rattle.hparse.proofs.Names.{rules}
 use Rattle.hparse.proofs.reading.Reading.new.Goals as goal
 
 pub returns : goal.returns

@@ -1,4 +1,4 @@
-use Rattle.std.proofs.Common.{rules}
+use Rattle.hwrite.proofs.Vocabulary.{rules}
 use Rattle.hwrite.proofs.command.Task.named.Goals as goal
 
 pub returns-in-write : goal.returns-in-write

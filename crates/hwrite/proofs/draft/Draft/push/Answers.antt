@@ -1,4 +1,4 @@
-use Rattle.hwrite.specs.Draft.{drafted}
+use Rattle.hwrite.proofs.Vocabulary.{drafted}
 use Rattle.hwrite.proofs.Drafting.{drafts_character, drafts_line_ok}
 use Rattle.hwrite.proofs.Fills.{on_ok}
 use Rattle.hwrite.proofs.draft.Draft.push.Goals as goal

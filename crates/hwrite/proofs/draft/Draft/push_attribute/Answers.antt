@@ -1,6 +1,4 @@
-use Rattle.std.proofs.Common.{◌≡◌, ℕ, List, refl, ap, ◌∙◌, rules, codes, string_bytes, ◌++◌}
-use Rattle.std.specs.Char.{encode_utf8}
-use Rattle.hwrite.specs.Quoted.{quoted}
+use Rattle.hwrite.proofs.Vocabulary.{◌≡◌, ℕ, List, refl, ap, ◌∙◌, rules, codes, string_bytes, ◌++◌, encode_utf8, quoted}
 use Rattle.hwrite.proofs.Fills.{extends_whole, extends_then, on_ok}
 use Rattle.hwrite.proofs.Holes.{quoted-whole}
 use Rattle.hwrite.proofs.draft.Draft.push_attribute.Goals as goal

@@ -1,7 +1,4 @@
-use Rattle.std.proofs.Common.{ℕ, List, arith, subst}
-use Rattle.std.proofs.lemmas.Slice.Zip.{AllZip-long}
-use Rattle.hwrite.specs.Draft.{Adds, drafted}
-use Rattle.hwrite.specs.TokenLines.{attribute_words}
+use Rattle.hwrite.proofs.Vocabulary.{ℕ, List, arith, subst, AllZip-long, Adds, drafted, attribute_words}
 use Rattle.hwrite.proofs.Drafting.{no_attribute, one_attribute, all_attributes}
 use Rattle.hwrite.proofs.Meanings.{AttrMeans, AttrsMean-zip, stands_at}
 use Rattle.hwrite.proofs.draft.Draft.push_attributes.Goals as goal

@@ -1,7 +1,4 @@
-use Rattle.std.proofs.Common.{ℕ, List}
-use Rattle.names.specs.Names.{Texts}
-use Rattle.htag.specs.Attributes.{AttrsMean}
-use Rattle.hwrite.specs.Draft.{drafted}
+use Rattle.hwrite.proofs.Vocabulary.{ℕ, List, Texts, AttrsMean, drafted}
 use Rattle.hwrite.proofs.Drafting.{HasAdded}
 use Rattle.hwrite.proofs.draft.Draft.push_attributes.Given as goal
 

@@ -1,4 +1,4 @@
-use Rattle.std.specs.Char.{encode_utf8}
+use Rattle.hwrite.proofs.Vocabulary.{encode_utf8}
 use Rattle.hwrite.proofs.Drafting.{end_line}
 use Rattle.hwrite.proofs.Fills.{on_ok, pushed}
 use Rattle.hwrite.proofs.draft.Draft.push_end_tag.Goals as goal

@@ -1,8 +1,5 @@
-use Rattle.std.proofs.Common.{◌≡◌, ℕ, List, ◌++◌, refl, subst, ap, ◌∙◌, rules, string_bytes}
+use Rattle.hwrite.proofs.Vocabulary.{◌≡◌, ℕ, List, ◌++◌, refl, subst, ap, ◌∙◌, rules, string_bytes, Token, Doctype, Comment, Char, Eof, TokenMeans, line_of, line_text}
 use Rattle.hmarkup.specs.DoctypeWalk.{text_of}
-use Rattle.htoken.specs.declared.token.Token.{Token}
-use Rattle.htoken.specs.Token.{Doctype, Comment, Char, Eof, TokenMeans}
-use Rattle.hwrite.specs.TokenLines.{line_of, line_text}
 use Rattle.hwrite.proofs.Drafting.{whole_line, eof_line}
 use Rattle.hwrite.proofs.Fills.{on_ok}
 use Rattle.hwrite.proofs.Holes.{doctype-whole, comment-whole, character-whole, eof-whole}

@@ -1,6 +1,4 @@
-use Rattle.std.proofs.Common.{◌≡◌, ℕ, ◌++◌, refl, ap, ◌∙◌, rules, string_bytes}
-use Rattle.std.specs.Char.{encode_utf8}
-use Rattle.hwrite.specs.Draft.{hole}
+use Rattle.hwrite.proofs.Vocabulary.{◌≡◌, ℕ, ◌++◌, refl, ap, ◌∙◌, rules, string_bytes, encode_utf8, hole}
 use Rattle.hwrite.proofs.Fills.{extends_name, on_ok, pushed}
 use Rattle.hwrite.proofs.draft.Draft.push_name.Goals as goal
 

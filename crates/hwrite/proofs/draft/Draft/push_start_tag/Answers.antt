@@ -1,5 +1,4 @@
-use Rattle.std.proofs.Common.{refl, codes, ◌∙◌}
-use Rattle.std.specs.Char.{encode_utf8}
+use Rattle.hwrite.proofs.Vocabulary.{refl, codes, ◌∙◌, encode_utf8}
 use Rattle.hwrite.proofs.Drafting.{start_line}
 use Rattle.hwrite.proofs.Fills.{on_ok, pushed}
 use Rattle.hwrite.proofs.draft.Draft.push_start_tag.Goals as goal

@@ -1,5 +1,4 @@
-use Rattle.std.proofs.Common.{arith}
-use Rattle.std.proofs.lemmas.Grind.{common_steps}
+use Rattle.hwrite.proofs.Vocabulary.{arith, common_steps}
 use Rattle.hwrite.proofs.draft.Draft.push_text.Goals as goal
 
 pub returns : goal.returns

@@ -1,6 +1,5 @@
-use Rattle.std.proofs.Common.{refl}
+use Rattle.hwrite.proofs.Vocabulary.{refl, drafted}
 use Rattle.htoken.specs.declared.token.Token.TheVariants as code
-use Rattle.hwrite.specs.Draft.{drafted}
 use Rattle.hwrite.proofs.Drafting.{drafts_character}
 use Rattle.hwrite.proofs.draft.DraftTokenSink.take_text.Goals as goal
 

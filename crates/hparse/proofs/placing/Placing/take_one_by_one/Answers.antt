@@ -1,0 +1,30 @@
+use Rattle.hparse.proofs.Names.{◌+◌, arith, err_from_is_err_and, Placed, Token, PlacesToken}
+use Rattle.std.proofs.lemmas.Str.{IsUtf8-past_char}
+use Rattle.htext.proofs.Wide.{one_more, one_refused, none_left}
+use Rattle.htoken.specs.declared.token.Token.TheVariants as code
+use Rattle.hparse.proofs.placing.Placing.take_one_by_one.Goals as goal
+
+abbrev token : Placed → Token
+token p = code.Char p.ch p.at
+
+pub loop-index-preserved : goal.loop-index-preserved
+loop-index-preserved c =
+    let so = c.loop-index.invariant in
+    let step = c.in-Some.ensures.steps in
+    record {
+      takes = one_more PlacesToken token _ _ c.loop-index.self (c.args.at + c.loop-index.index-iterator.at) _ so.takes c.in-Some.ch _ so.utf8 step.1 (c.args.at + c.in-Some.index) (omega (arith, step.0))
+          c.take_text.new.self (c.args.at + c.next.new.self.at) (omega (arith, step.2)) c.in_ok-take_text.ensures;
+      utf8 = IsUtf8-past_char _ _ c.in-Some.ch so.utf8 step.1;
+    }
+
+pub returns-in_err-take_text : goal.returns-in_err-take_text
+returns-in_err-take_text c =
+    let so = c.loop-index.invariant in
+    let step = c.in-Some.ensures.steps in
+    let e = err_from_is_err_and c.from_residual.result c.from_residual.ensures.1 in
+    rw (e.1, e.2) (one_refused PlacesToken token _ _ c.loop-index.self (c.args.at + c.loop-index.index-iterator.at) _ so.takes c.in-Some.ch _ so.utf8 step.1 (c.args.at + c.in-Some.index) (omega (arith, step.0))
+    c.take_text.new.self c.in_err-take_text.field-0.0 c.in_err-take_text.ensures)
+
+pub returns : goal.returns
+returns c =
+    none_left PlacesToken token _ _ c.loop-index.self (c.args.at + c.loop-index.index-iterator.at) _ c.loop-index.invariant.takes c.in-None.ensures.steps.0
