@@ -3,7 +3,7 @@
 use charref::Table;
 use hmarkup::{ErrorSink, Quirks};
 use hmodes::{Builder, Limits};
-use hparse::{Options, Parser, is_context};
+use hparse::{Options, Parsed, Parser, is_context};
 use htoken::{Token, TokenSink};
 use names::{ErrorCode, Keys, Names, ParseError, Refusal, RefusedName};
 use std::alloc::Global;
@@ -35,6 +35,42 @@ fn parser_stays(alloc: Global) -> Result<bool, Refusal> {
 #[test]
 fn of_a_parser(rt: HostRuntime) -> Result<(), Fail> {
     assert!(rt; parser_stays(rt.alloc())?);
+    Ok(())
+}
+
+/// A page in whose table characters wait, and where each of its nodes came from, by their numbers.
+const PLACED: &[u8] = b"<p><table>bc<td>d";
+
+const PLACES: [u64; 11] = [0, 0, 0, 0, 0, 3, 10, 12, 12, 12, 16];
+
+/// Whether it says so.
+fn tells_places(page: &Parsed) -> bool {
+    for (index, place) in PLACES.iter().enumerate() {
+        let Some(node) = page.tree.node(index) else {
+            return false;
+        };
+        if page.place(node) != Some(*place) {
+            return false;
+        }
+    }
+    page.tree.made() as usize == PLACES.len()
+}
+
+/// A page, with places or without.
+fn page(alloc: Global, places: bool) -> Result<Parsed, Refusal> {
+    let table = Table::core(alloc)?;
+    let quirks = Quirks::read(alloc, "")?;
+    let mut options = Options::new(&table, &quirks, Keys::for_tests());
+    options.places = places;
+    let mut parser = Parser::document(alloc, &options)?;
+    parser.feed(PLACED)?;
+    parser.finish()
+}
+
+#[test]
+fn of_places(rt: HostRuntime) -> Result<(), Fail> {
+    assert!(rt; tells_places(&page(rt.alloc(), true)?));
+    assert!(rt; page(rt.alloc(), false)?.places.is_none());
     Ok(())
 }
 

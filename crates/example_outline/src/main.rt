@@ -1,31 +1,61 @@
-//! An example of the library: prints the outline of a page: its title, its headings, its images without `alt`, and its parse errors.
+//! An example of the library: prints the outline of a page: its attributes, its title, its headings, its images without `alt`, the
+//! length of its texts, and its parse errors.
 #![tactic(auto)]
 
 use anyhow::Context;
 use hwrite::{
-    Escaping, Keys, Options, Parsed, Parser, Quirks, Refusal, Table, Tag, serialize_outer_to_vec,
+    Escaping, Keys, Options, Parsed, Parser, Quirks, Refusal, Table, Tag, line_column,
+    serialize_outer_to_vec,
 };
 use std::alloc::Global;
 use std::{env, fs};
 
 fn main(rt: HostRuntime) -> anyhow::Result<()> {
-    let name = env::args(&rt)?.nth(1).context("name a page")?;
-    let bytes = fs::read(&rt, name.as_str())?;
+    let bytes = fs::read(&rt, word(&rt, 1)?.as_str())?;
+    let entities = fs::read_to_string(&rt, word(&rt, 2)?.as_str())?;
+    let quirks = fs::read_to_string(&rt, word(&rt, 3)?.as_str())?;
     let keys = Keys::random(&rt)?;
-    let page = parse(rt.alloc(), keys, &bytes)?;
+    let page = parse(rt.alloc(), &entities, &quirks, keys, &bytes)?;
+    print_attributes(&rt, &page)?;
     print_title(&rt, &page)?;
     print_headings(&rt, &page)?;
-    print_images(&rt, &page)?;
-    print_errors(&rt, &page)
+    print_images(&rt, &page, &bytes)?;
+    print_length(&rt, &page)?;
+    print_errors(&rt, &page, &bytes)
 }
 
-/// Parses a page with the core table of character references and no quirks list.
-fn parse(alloc: Global, keys: Keys, bytes: &[u8]) -> Result<Parsed, Refusal> {
-    let table = Table::core(alloc)?;
-    let quirks = Quirks::read(alloc, "")?;
-    let mut parser = Parser::document(alloc, &Options::new(&table, &quirks, keys))?;
+/// A word of the command line.
+fn word(rt: &HostRuntime, at: usize) -> anyhow::Result<String> {
+    env::args(rt)?.nth(at).context(
+        "name a page, the table of character references and the quirks list",
+    )
+}
+
+/// Parses a page with these lists, and keeps where its nodes came from.
+fn parse(
+    alloc: Global,
+    entities: &str,
+    quirks: &str,
+    keys: Keys,
+    bytes: &[u8],
+) -> Result<Parsed, Refusal> {
+    let table = Table::read(alloc, entities)?;
+    let quirks = Quirks::read(alloc, quirks)?;
+    let mut options = Options::new(&table, &quirks, keys);
+    options.places = true;
+    let mut parser = Parser::document(alloc, &options)?;
     parser.feed(bytes)?;
     parser.finish()
+}
+
+/// Prints the attributes of the element that the page is in, such as its language.
+fn print_attributes(rt: &HostRuntime, page: &Parsed) -> anyhow::Result<()> {
+    if let Some(html) = page.tree.first_element_child(page.root) {
+        for (name, value) in page.tree.attributes(&page.names, html) {
+            println!(rt; "{name}: {value}")?;
+        }
+    }
+    Ok(())
 }
 
 /// Prints the title of a page, if it has one.
@@ -64,8 +94,8 @@ fn print_headings(rt: &HostRuntime, page: &Parsed) -> anyhow::Result<()> {
     Ok(())
 }
 
-/// Prints the images that have no `alt`, as HTML.
-fn print_images(rt: &HostRuntime, page: &Parsed) -> anyhow::Result<()> {
+/// Prints the images that have no `alt`, each with its line and its column, as HTML.
+fn print_images(rt: &HostRuntime, page: &Parsed, bytes: &[u8]) -> anyhow::Result<()> {
     for node in page.tree.descendants(page.root) {
         if page.tree.is(node, Tag::Img) && page.tree.attribute(&page.names, node, "alt").is_none() {
             let html = serialize_outer_to_vec(
@@ -75,16 +105,36 @@ fn print_images(rt: &HostRuntime, page: &Parsed) -> anyhow::Result<()> {
                 node,
                 Escaping::Two,
             )?;
-            println!(rt; "image without alt: {}", String::from_utf8(html)?)?;
+            let (line, column) = line_column(bytes, page.place(node).unwrap_or(0));
+            println!(rt;
+                "image without alt at line {line}, column {column}: {}",
+                String::from_utf8(html)?
+            )?;
         }
     }
     Ok(())
 }
 
-/// Prints the parse errors of a page, each with the byte at which it is.
-fn print_errors(rt: &HostRuntime, page: &Parsed) -> anyhow::Result<()> {
+/// Prints how many characters the texts of a page have.
+fn print_length(rt: &HostRuntime, page: &Parsed) -> anyhow::Result<()> {
+    let mut length = 0usize;
+    for node in page.tree.descendants(page.root) {
+        if page.tree.is_text(node) {
+            let text = page.tree.text(node).unwrap_or("");
+            length = length.saturating_add(text.chars().count());
+        }
+    }
+    Ok(println!(rt; "characters of text: {length}")?)
+}
+
+/// Prints the parse errors of a page, each with its line and its column.
+fn print_errors(rt: &HostRuntime, page: &Parsed, bytes: &[u8]) -> anyhow::Result<()> {
     for error in &page.errors {
-        println!(rt; "error at byte {}: {}", error.at, error.code.text())?;
+        let (line, column) = line_column(bytes, error.at);
+        println!(rt;
+            "error at line {line}, column {column}: {}",
+            error.code.text()
+        )?;
     }
     Ok(())
 }

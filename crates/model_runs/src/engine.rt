@@ -83,6 +83,7 @@ fn read_line(
             bad_bytes: bad_bytes(word(line, 6)),
             limits,
             keys: Keys::for_tests(),
+            places: false,
         },
         input: &input,
     };
