@@ -27,7 +27,7 @@ void *__real_malloc(size_t size);
 void *__real_realloc(void *block, size_t size);
 void __real_free(void *block);
 uint32_t __real_jz_text(uint32_t, const uint8_t *, size_t, const jz_options *, uint8_t *, size_t, jz_answer *);
-uint32_t __real_jz_page(uint32_t, const uint8_t *, size_t, const jz_options *, jz_row *, size_t, uint8_t *, size_t, uint8_t *, size_t,
+uint32_t __real_jz_page(uint32_t, const uint8_t *, size_t, const jz_options *, jz_row *, size_t, uint8_t *, size_t, jz_error *, size_t,
                         uint8_t *, size_t, jz_page_answer *);
 uint32_t __real_jz_table(const uint8_t *, size_t, uint8_t *, size_t, jz_answer *);
 
@@ -63,7 +63,7 @@ uint32_t __wrap_jz_text(uint32_t task, const uint8_t *page, size_t length, const
 }
 
 uint32_t __wrap_jz_page(uint32_t wants, const uint8_t *page, size_t length, const jz_options *options, jz_row *rows, size_t row_room,
-                        uint8_t *words, size_t word_room, uint8_t *errors, size_t error_room, uint8_t *text, size_t text_room,
+                        uint8_t *words, size_t word_room, jz_error *errors, size_t error_room, uint8_t *text, size_t text_room,
                         jz_page_answer *answer) {
     parses++;
     return __real_jz_page(wants, page, length, options, rows, row_room, words, word_room, errors, error_room, text, text_room, answer);
@@ -74,10 +74,11 @@ uint32_t __wrap_jz_table(const uint8_t *entities, size_t length, uint8_t *output
     return __real_jz_table(entities, length, output, room, answer);
 }
 
-/* The tasks of jz_text, and after them what the other functions make. A page has its words, its errors and its HTML one after another. */
-enum { ROOM = 1 << 16, ROWS = 1 << 12, TASKS = 5, TREE = 5, PAGE = 6, TABLE = 7, ALL = 8 };
+/* The tasks of jz_text, and after them what the other functions make. A page has its words and its HTML one after another. */
+enum { ROOM = 1 << 16, ROWS = 1 << 12, ERRORS = 1 << 10, TASKS = 5, TREE = 5, PAGE = 6, TABLE = 7, ALL = 8 };
 static uint8_t text[ROOM], plain[ROOM], input[ROOM];
 static jz_row rows[ROWS], plain_rows[ROWS];
+static jz_error errors[ERRORS], plain_errors[ERRORS];
 static jz_options options = JZ_DEFAULTS;
 static const uint8_t entities[] = "{\"&copy;\": {\"codepoints\": [169], \"characters\": \"\\u00a9\"}}";
 
@@ -89,16 +90,17 @@ static void check(int is_right, const char *what) {
 /* What a task reads is in a div, but for tokens, which are those of a document. */
 static void set_context(uint32_t task) { options.context = jz_lent((const uint8_t *)"div", task == JZ_TOKENS ? 0 : 3); }
 
-enum { PART = ROOM / 4 };
+enum { PART = ROOM / 2 };
 
 static uint32_t call(uint32_t task, size_t length, jz_answer *answer) {
     jz_page_answer page;
     memset(text, 'x', sizeof text);
     memset(rows, 'x', sizeof rows);
+    memset(errors, 'x', sizeof errors);
     if (task < TASKS) return jz_text(task, input, length, &options, text, sizeof text, answer);
     if (task == TREE) return jz_tree(input, length, &options, rows, ROWS, text, sizeof text, answer);
     if (task == TABLE) return jz_table(entities, sizeof entities - 1, text, sizeof text, answer);
-    answer->status = jz_page(3, input, length, &options, rows, ROWS, text, PART, text + PART, PART, text + 2 * PART, 2 * PART, &page);
+    answer->status = jz_page(3, input, length, &options, rows, ROWS, text, PART, errors, ERRORS, text + PART, PART, &page);
     check(answer->status == page.status, "the status of a page");
     return answer->status;
 }
@@ -109,12 +111,14 @@ static int is_untouched(void) {
         if (text[i] != 'x') return 0;
     for (size_t i = 0; i < sizeof rows; i++)
         if (((uint8_t *)rows)[i] != 'x') return 0;
+    for (size_t i = 0; i < sizeof errors; i++)
+        if (((uint8_t *)errors)[i] != 'x') return 0;
     return 1;
 }
 
 /* What the plain C makes: a text, a table, or a tree and with it its words. */
 typedef struct made {
-    uint8_t *bytes, *errors, *html;
+    uint8_t *bytes, *html;
     jz_doc doc;
     jz_page_answer page;
     jz_answer answer;
@@ -127,10 +131,10 @@ static uint32_t make(uint32_t task, const void *page, size_t length, made *it) {
     if (task == TABLE) return jz_make_table(entities, sizeof entities - 1, &it->bytes, &it->answer);
     uint32_t status;
     if (task == TREE) {
-        it->errors = it->html = NULL;
+        it->html = NULL;
         status = jz_parse(bytes, length, &options, &it->doc, &it->answer);
     } else {
-        status = jz_make_page(bytes, length, &options, &it->doc, &it->errors, &it->html, &it->page);
+        status = jz_make_page(bytes, length, &options, &it->doc, &it->html, &it->page);
         jz_answer told = { it->page.status, it->page.detail, it->page.at, it->page.words, it->page.nodes };
         it->answer = told;
     }
@@ -144,20 +148,30 @@ static void give_back(uint32_t task, made *it) {
     if (!is_tree(task)) free(it->bytes);
     else {
         jz_free(&it->doc);
-        free(it->errors);
         free(it->html);
     }
 }
 
-static int is_empty(const jz_doc *doc) { return !doc->nodes && !doc->words && !doc->count && !doc->root; }
+static int is_empty(const jz_doc *doc) {
+    return !doc->nodes && !doc->words && !doc->errors && !doc->count && !doc->root && !doc->error_count;
+}
+
+/* Whether these are the same errors, whatever lies between their fields. */
+static int are_same(const jz_error *some, const jz_error *others, size_t count) {
+    for (size_t i = 0; i < count; i++)
+        if (some[i].at != others[i].at || some[i].code != others[i].code) return 0;
+    return 1;
+}
 
 /* Whether it is what the call wrote, which is in `plain`. */
 static int is_whole(uint32_t task, const made *it) {
     if (memcmp(it->bytes, plain, (size_t)it->answer.length)) return 0;
-    return task != PAGE || (!memcmp(it->errors, plain + PART, it->page.errors) && !memcmp(it->html, plain + 2 * PART, it->page.text));
+    return task != PAGE
+        || (it->doc.error_count == it->page.errors && are_same(it->doc.errors, plain_errors, it->doc.error_count)
+            && !memcmp(it->html, plain + PART, it->page.text));
 }
 
-static int is_nothing(uint32_t task, const made *it) { return is_tree(task) ? is_empty(&it->doc) && !it->errors && !it->html : !it->bytes; }
+static int is_nothing(uint32_t task, const made *it) { return is_tree(task) ? is_empty(&it->doc) && !it->html : !it->bytes; }
 
 /* The plain C where allocations are refused: what it makes is in `plain`. */
 static void check_made(uint32_t task, size_t length) {
@@ -189,6 +203,7 @@ static void check_refused(uint32_t task, size_t length) {
     long all = calls;
     memcpy(plain, text, sizeof text);
     memcpy(plain_rows, rows, sizeof rows);
+    memcpy(plain_errors, errors, sizeof errors);
     for (long at = 0; at <= all; at++) {
         long before = alive;
         left = at;
@@ -196,9 +211,65 @@ static void check_refused(uint32_t task, size_t length) {
         left = -1;
         check(alive == before && status == answer.status
                   && (status == JZ_MEMORY ? at < all && is_untouched()
-                                          : status == wanted && !memcmp(text, plain, ROOM) && !memcmp(rows, plain_rows, sizeof rows)),
+                                          : status == wanted && !memcmp(text, plain, ROOM) && !memcmp(rows, plain_rows, sizeof rows)
+                                                && are_same(errors, plain_errors, ERRORS)),
               "a call where memory is refused");
     }
+}
+
+/* The rows of parse errors with just enough room are the lines of JZ_ERRORS; with less nothing is written, and their number is answered. */
+static void check_errors(size_t length) {
+    jz_answer lines;
+    jz_page_answer page;
+    size_t at = 0;
+    set_context(JZ_ERRORS);
+    call(JZ_ERRORS, length, &lines);
+    memcpy(plain, text, sizeof text);
+    jz_page(1, input, length, &options, rows, ROWS, text, PART, errors, 0, text, 0, &page);
+    check(page.status == JZ_TOO_SHORT && page.errors > 60 && page.errors < ERRORS && !page.text, "the number of errors");
+    for (size_t room = page.errors + 1; room + 2 > page.errors; room--) {
+        int fits = room >= page.errors;
+        memset(errors, 'x', sizeof errors);
+        memset(rows, 'x', sizeof rows);
+        memset(text, 'x', sizeof text);
+        uint32_t status = jz_page(1, input, length, &options, rows, ROWS, text, PART, errors, room, text + PART, 0, &page);
+        check(status == (fits ? JZ_OK : JZ_TOO_SHORT) && (fits || is_untouched()), "errors with so much room");
+        if (room == page.errors) memcpy(plain_errors, errors, sizeof errors);
+        if (room >= page.errors) check(*(uint8_t *)&errors[page.errors] == 'x', "what comes after the errors");
+    }
+    for (size_t i = 0; i < page.errors; i++)
+        at += (size_t)sprintf((char *)text + at, "%llu %s\n", (unsigned long long)plain_errors[i].at, jz_error_name(plain_errors[i].code));
+    check(plain[at] == 'x' && !memcmp(text, plain, at), "errors as lines");
+    check(!strcmp(jz_error_name(JZ_ERROR_EOF_IN_TAG), "eof-in-tag") && !strcmp(jz_error_name(JZ_ERROR_COUNT), "?"), "the name of a code");
+}
+
+/* Options of a size that the library does not know are refused, and not read any further. */
+static void check_sizes(size_t length) {
+    static const size_t sizes[] = { 0, 8, sizeof options - 8, sizeof options - 1, sizeof options + 1, sizeof options + 8, SIZE_MAX };
+    for (uint32_t task = 0; task < TABLE; task++)
+        for (size_t i = 0; i < sizeof sizes / sizeof *sizes; i++) {
+            jz_answer answer;
+            options.context = jz_lent((const uint8_t *)1, 5);
+            options.size = sizes[i];
+            check(call(task, length, &answer) == JZ_BAD_SIZE && is_untouched(), "options of another size");
+        }
+    options.size = sizeof options;
+    set_context(TREE);
+    check(!strcmp(jz_status_name(JZ_BAD_SIZE), "BadSize"), "the name of a status");
+}
+
+/* A file is read whole, or where there is none, no file or no memory, not at all. */
+static void check_file(const char *name, size_t length) {
+    long before = alive;
+    size_t got;
+    uint8_t *bytes = jz_read_file(name, &got);
+    check(bytes && got == length && !memcmp(bytes, input, length), "a file");
+    free(bytes);
+    check(!jz_read_file("no such file", &got) && !jz_read_file("/", &got), "a file that cannot be read");
+    left = 0;
+    check(!jz_read_file(name, &got), "a file where memory is refused");
+    left = -1;
+    check(alive == before, "what is kept of a file");
 }
 
 /* Nothing is left in a result that the caller then frees, whichever pointer is null. */
@@ -219,9 +290,9 @@ static void check_nulls(void) {
         statuses[1] = jz_parse(page, 1, to, tree, answer[1]);
         statuses[2] = which == 6 ? JZ_NULL : jz_text_room(JZ_TREE, page, 1, to, answer[2]);
         statuses[3] = which == 6 ? JZ_NULL : jz_tree_rooms(page, 1, to, answer[3]);
-        uint8_t *errors = text, *html = text;
+        uint8_t *html = text;
         jz_page_answer all;
-        check(jz_make_page(page, 1, to, tree, &errors, &html, which == 5 ? NULL : &all) == JZ_NULL && !errors && !html
+        check(jz_make_page(page, 1, to, tree, &html, which == 5 ? NULL : &all) == JZ_NULL && !html
                   && (which == 5 || (all.status == JZ_NULL && !all.nodes)) && (which == 6 || is_empty(&doc)), "a page with a null pointer");
         check(which > 2 || jz_make_table(which == 0 ? NULL : entities, 1, which == 1 ? NULL : &result, which == 2 ? NULL : answers) == JZ_NULL,
               "a table with a null pointer");
@@ -245,7 +316,7 @@ static void check_rooms(uint32_t task, const char *page, size_t length) {
                                  : jz_tree_rooms((const uint8_t *)page, length, &options, &asked);
     check(status == it.answer.status && told == status && memcmp(&asked, &it.answer, sizeof asked) == 0, "the room that is asked for");
     check((status == JZ_OK) == !is_nothing(task, &it), "what is made, or refused");
-    check(task != PAGE || status || (malloc_usable_size(it.errors) < it.page.errors + 8192 && malloc_usable_size(it.html) < it.page.text + 8192),
+    check(task != PAGE || status || (malloc_usable_size(it.doc.errors) < it.page.errors * sizeof(jz_error) + 8192 && malloc_usable_size(it.html) < it.page.text + 8192),
           "the memory that is kept of a page");
     check(!it.bytes || malloc_usable_size(it.bytes) < it.answer.length + 8192, "the memory that is kept");
     give_back(task, &it);
@@ -418,6 +489,9 @@ int main(int count, char **words) {
         check_rooms(task, "a<svg>", 6);
         check_rooms(task, "\xff", 1);
     }
+    check_errors(length);
+    check_sizes(length);
+    check_file(words[1], length);
     check_nulls();
     check_keys();
     check_lists();

@@ -56,7 +56,8 @@ enum {
     JZ_TOO_SHORT = 13,  /* there is too little room: the answer says how much is needed */
     JZ_NOT_TEXT = 14,   /* the context's name or a list is not UTF-8 */
     JZ_BAD_NUMBER = 15, /* a task, a wish, an escaping, a piece or a choice on bad bytes that is none */
-    JZ_NULL = 16        /* a null pointer where there must be none; returned by the plain C below, not by the library */
+    JZ_NULL = 16,       /* a null pointer where there must be none; returned by the plain C below, not by the library */
+    JZ_BAD_SIZE = 17    /* options of a size that the library does not know */
 };
 
 /* The tasks of jz_text: what is made of the input. The forms of the lines are in docs/PROFILE.md. */
@@ -77,8 +78,12 @@ typedef struct jz_bytes {
 #define JZ_NO_BYTES { (const uint8_t *)"", 0 }
 
 /* What is given with the input. Begin with JZ_STANDARD of jeanzircon_data.h, which has both of the Standard's lists, as browsers have,
- * draw the keys by jz_draw_keys, and change what you need. JZ_DEFAULTS has no list and no keys. */
+ * draw the keys by jz_draw_keys, and change what you need. JZ_DEFAULTS has no list and no keys.
+ *
+ * A later version may add fields at the end, and then takes each earlier size too. A size that a library does not know, as that of a later
+ * version, it refuses (JZ_BAD_SIZE) and reads no further, so that no wish is left out in silence. */
 typedef struct jz_options {
+    size_t size;        /* sizeof(jz_options) */
     jz_bytes context;   /* the name of the element in which a fragment is; empty: the input is a document */
     jz_bytes entities;  /* the table of character references: JSON (data/entities.json), or what jz_table made of it; empty: five of them */
     jz_bytes quirks;    /* the quirks list (data/quirks.txt); empty: no list */
@@ -91,7 +96,7 @@ typedef struct jz_options {
     uint32_t bad_bytes; /* 0 refuses bytes that are not UTF-8; 1 reads each bad part as U+FFFD */
 } jz_options;
 
-#define JZ_DEFAULTS { JZ_NO_BYTES, JZ_NO_BYTES, JZ_NO_BYTES, 16777216, 1048576, 65536, 0, 0, 1, 0 }
+#define JZ_DEFAULTS { sizeof(jz_options), JZ_NO_BYTES, JZ_NO_BYTES, JZ_NO_BYTES, 16777216, 1048576, 65536, 0, 0, 1, 0 }
 
 /* How a call went. */
 typedef struct jz_answer {
@@ -138,6 +143,86 @@ enum { JZ_DOCUMENT = 0, JZ_DOCTYPE = 1, JZ_ELEMENT = 2, JZ_COMMENT = 3, JZ_TEXT_
 uint32_t jz_tree(const uint8_t *input, size_t length, const jz_options *options, jz_row *rows, size_t row_room, uint8_t *words,
                  size_t word_room, jz_answer *answer);
 
+/* The codes of parse errors, each with its text, as the HTML Standard spells it (#parse-errors). A code of the tree rules, for which the
+ * Standard has none, is "tree-" and the insertion mode. A parse error refuses nothing. */
+#define JZ_ERROR_CODES(code) \
+    code(CONTROL_CHARACTER_IN_INPUT_STREAM, "control-character-in-input-stream") \
+    code(NONCHARACTER_IN_INPUT_STREAM, "noncharacter-in-input-stream") \
+    code(REPLACED_BYTES, "replaced-bytes") \
+    code(ABRUPT_CLOSING_OF_EMPTY_COMMENT, "abrupt-closing-of-empty-comment") \
+    code(ABRUPT_DOCTYPE_PUBLIC_IDENTIFIER, "abrupt-doctype-public-identifier") \
+    code(ABRUPT_DOCTYPE_SYSTEM_IDENTIFIER, "abrupt-doctype-system-identifier") \
+    code(ABSENCE_OF_DIGITS_IN_NUMERIC_CHARACTER_REFERENCE, "absence-of-digits-in-numeric-character-reference") \
+    code(CDATA_IN_HTML_CONTENT, "cdata-in-html-content") \
+    code(CHARACTER_REFERENCE_OUTSIDE_UNICODE_RANGE, "character-reference-outside-unicode-range") \
+    code(CONTROL_CHARACTER_REFERENCE, "control-character-reference") \
+    code(DUPLICATE_ATTRIBUTE, "duplicate-attribute") \
+    code(END_TAG_WITH_ATTRIBUTES, "end-tag-with-attributes") \
+    code(END_TAG_WITH_TRAILING_SOLIDUS, "end-tag-with-trailing-solidus") \
+    code(EOF_BEFORE_TAG_NAME, "eof-before-tag-name") \
+    code(EOF_IN_COMMENT, "eof-in-comment") \
+    code(EOF_IN_DOCTYPE, "eof-in-doctype") \
+    code(EOF_IN_SCRIPT_HTML_COMMENT_LIKE_TEXT, "eof-in-script-html-comment-like-text") \
+    code(EOF_IN_TAG, "eof-in-tag") \
+    code(INCORRECTLY_CLOSED_COMMENT, "incorrectly-closed-comment") \
+    code(INCORRECTLY_OPENED_COMMENT, "incorrectly-opened-comment") \
+    code(INVALID_CHARACTER_SEQUENCE_AFTER_DOCTYPE_NAME, "invalid-character-sequence-after-doctype-name") \
+    code(INVALID_FIRST_CHARACTER_OF_TAG_NAME, "invalid-first-character-of-tag-name") \
+    code(MISSING_ATTRIBUTE_VALUE, "missing-attribute-value") \
+    code(MISSING_DOCTYPE_NAME, "missing-doctype-name") \
+    code(MISSING_DOCTYPE_PUBLIC_IDENTIFIER, "missing-doctype-public-identifier") \
+    code(MISSING_DOCTYPE_SYSTEM_IDENTIFIER, "missing-doctype-system-identifier") \
+    code(MISSING_END_TAG_NAME, "missing-end-tag-name") \
+    code(MISSING_QUOTE_BEFORE_DOCTYPE_PUBLIC_IDENTIFIER, "missing-quote-before-doctype-public-identifier") \
+    code(MISSING_QUOTE_BEFORE_DOCTYPE_SYSTEM_IDENTIFIER, "missing-quote-before-doctype-system-identifier") \
+    code(MISSING_SEMICOLON_AFTER_CHARACTER_REFERENCE, "missing-semicolon-after-character-reference") \
+    code(MISSING_WHITESPACE_AFTER_DOCTYPE_PUBLIC_KEYWORD, "missing-whitespace-after-doctype-public-keyword") \
+    code(MISSING_WHITESPACE_AFTER_DOCTYPE_SYSTEM_KEYWORD, "missing-whitespace-after-doctype-system-keyword") \
+    code(MISSING_WHITESPACE_BEFORE_DOCTYPE_NAME, "missing-whitespace-before-doctype-name") \
+    code(MISSING_WHITESPACE_BETWEEN_ATTRIBUTES, "missing-whitespace-between-attributes") \
+    code(MISSING_WHITESPACE_BETWEEN_DOCTYPE_PUBLIC_AND_SYSTEM_IDENTIFIERS, "missing-whitespace-between-doctype-public-and-system-identifiers") \
+    code(NESTED_COMMENT, "nested-comment") \
+    code(NONCHARACTER_CHARACTER_REFERENCE, "noncharacter-character-reference") \
+    code(NULL_CHARACTER_REFERENCE, "null-character-reference") \
+    code(SURROGATE_CHARACTER_REFERENCE, "surrogate-character-reference") \
+    code(UNEXPECTED_CHARACTER_AFTER_DOCTYPE_SYSTEM_IDENTIFIER, "unexpected-character-after-doctype-system-identifier") \
+    code(UNEXPECTED_CHARACTER_IN_ATTRIBUTE_NAME, "unexpected-character-in-attribute-name") \
+    code(UNEXPECTED_CHARACTER_IN_UNQUOTED_ATTRIBUTE_VALUE, "unexpected-character-in-unquoted-attribute-value") \
+    code(UNEXPECTED_EQUALS_SIGN_BEFORE_ATTRIBUTE_NAME, "unexpected-equals-sign-before-attribute-name") \
+    code(UNEXPECTED_NULL_CHARACTER, "unexpected-null-character") \
+    code(UNEXPECTED_QUESTION_MARK_INSTEAD_OF_TAG_NAME, "unexpected-question-mark-instead-of-tag-name") \
+    code(UNEXPECTED_SOLIDUS_IN_TAG, "unexpected-solidus-in-tag") \
+    code(UNKNOWN_NAMED_CHARACTER_REFERENCE, "unknown-named-character-reference") \
+    code(NON_VOID_HTML_ELEMENT_START_TAG_WITH_TRAILING_SOLIDUS, "non-void-html-element-start-tag-with-trailing-solidus") \
+    code(TREE_AFTER_AFTER_BODY, "tree-after-after-body") \
+    code(TREE_AFTER_BODY, "tree-after-body") \
+    code(TREE_AFTER_HEAD, "tree-after-head") \
+    code(TREE_BEFORE_HEAD, "tree-before-head") \
+    code(TREE_BEFORE_HTML, "tree-before-html") \
+    code(TREE_IN_BODY, "tree-in-body") \
+    code(TREE_IN_CAPTION, "tree-in-caption") \
+    code(TREE_IN_CELL, "tree-in-cell") \
+    code(TREE_IN_COLUMN_GROUP, "tree-in-column-group") \
+    code(TREE_IN_HEAD, "tree-in-head") \
+    code(TREE_IN_HEAD_NOSCRIPT, "tree-in-head-noscript") \
+    code(TREE_IN_ROW, "tree-in-row") \
+    code(TREE_IN_TABLE, "tree-in-table") \
+    code(TREE_IN_TABLE_BODY, "tree-in-table-body") \
+    code(TREE_IN_TABLE_TEXT, "tree-in-table-text") \
+    code(TREE_INITIAL, "tree-initial") \
+    code(TREE_TEXT, "tree-text")
+
+#define JZ_ERROR_CODE(name, text) JZ_ERROR_##name,
+/* JZ_ERROR_CONTROL_CHARACTER_IN_INPUT_STREAM is 0, and so on; JZ_ERROR_COUNT is how many there are. */
+typedef enum jz_error_code { JZ_ERROR_CODES(JZ_ERROR_CODE) JZ_ERROR_COUNT } jz_error_code;
+#undef JZ_ERROR_CODE
+
+/* A parse error as jz_page writes it. */
+typedef struct jz_error {
+    uint64_t at;   /* its byte in the input; that of an error at the end is the input's length */
+    uint32_t code; /* a jz_error_code */
+} jz_error;
+
 /* What jz_page makes beside the tree: a sum of these, or 0. */
 enum { JZ_WANT_ERRORS = 1, JZ_WANT_TEXT = 2 };
 
@@ -148,17 +233,17 @@ typedef struct jz_page_answer {
     uint64_t at;
     uint64_t nodes;  /* the nodes of the tree */
     uint64_t words;  /* the bytes of their words */
-    uint64_t errors; /* the bytes of the lines of parse errors */
+    uint64_t errors; /* the parse errors */
     uint64_t text;   /* the bytes of the HTML */
 } jz_page_answer;
 
-/* Makes the tree of an input, and the lines of its parse errors and its HTML where they are wanted, all by one parse.
+/* Makes the tree of an input, and its parse errors and its HTML where they are wanted, all by one parse.
  *
- * Promised: rows and words are those of jz_tree, `errors` is the text of JZ_ERRORS, and `text` that of JZ_WRITE. Where the status is not
- * JZ_OK, nothing is written to any room; at JZ_TOO_SHORT the answer has the rooms that are needed.
- * Required, and not checked: as at jz_text, of all four rooms. No two of them overlap. */
+ * Promised: rows and words are those of jz_tree, `errors` has a row for each line of JZ_ERRORS, in the same order, and `text` is that of
+ * JZ_WRITE. Where the status is not JZ_OK, nothing is written to any room; at JZ_TOO_SHORT the answer has the rooms that are needed.
+ * Required, and not checked: as at jz_text, of all four rooms; `error_room` counts rows. No two of them overlap. */
 uint32_t jz_page(uint32_t wants, const uint8_t *input, size_t length, const jz_options *options, jz_row *rows, size_t row_room,
-                 uint8_t *words, size_t word_room, uint8_t *errors, size_t error_room, uint8_t *text, size_t text_room,
+                 uint8_t *words, size_t word_room, jz_error *errors, size_t error_room, uint8_t *text, size_t text_room,
                  jz_page_answer *answer);
 
 /* Writes the flat form of a table of character references to the beginning of `output`, if `room` is enough. `entities` is as in
@@ -180,10 +265,10 @@ uint32_t jz_table(const uint8_t *entities, size_t length, uint8_t *output, size_
 #define JZ_HAS(type, field, place, size) (offsetof(type, field) == place && sizeof(((type *)0)->field) == size)
 
 JZ_IS(jz_layout_of_bytes, sizeof(jz_bytes) == 16 && JZ_HAS(jz_bytes, bytes, 0, 8) && JZ_HAS(jz_bytes, length, 8, 8));
-JZ_IS(jz_layout_of_options, sizeof(jz_options) == 96 && JZ_HAS(jz_options, context, 0, 16) && JZ_HAS(jz_options, entities, 16, 16)
-      && JZ_HAS(jz_options, quirks, 32, 16) && JZ_HAS(jz_options, nodes, 48, 8) && JZ_HAS(jz_options, open, 56, 8)
-      && JZ_HAS(jz_options, piece, 64, 8) && JZ_HAS(jz_options, key_low, 72, 8) && JZ_HAS(jz_options, key_high, 80, 8)
-      && JZ_HAS(jz_options, escaping, 88, 4) && JZ_HAS(jz_options, bad_bytes, 92, 4));
+JZ_IS(jz_layout_of_options, sizeof(jz_options) == 104 && JZ_HAS(jz_options, size, 0, 8) && JZ_HAS(jz_options, context, 8, 16)
+      && JZ_HAS(jz_options, entities, 24, 16) && JZ_HAS(jz_options, quirks, 40, 16) && JZ_HAS(jz_options, nodes, 56, 8)
+      && JZ_HAS(jz_options, open, 64, 8) && JZ_HAS(jz_options, piece, 72, 8) && JZ_HAS(jz_options, key_low, 80, 8)
+      && JZ_HAS(jz_options, key_high, 88, 8) && JZ_HAS(jz_options, escaping, 96, 4) && JZ_HAS(jz_options, bad_bytes, 100, 4));
 JZ_IS(jz_layout_of_answer, sizeof(jz_answer) == 32 && JZ_HAS(jz_answer, status, 0, 4) && JZ_HAS(jz_answer, detail, 4, 4)
       && JZ_HAS(jz_answer, at, 8, 8) && JZ_HAS(jz_answer, length, 16, 8) && JZ_HAS(jz_answer, nodes, 24, 8));
 JZ_IS(jz_layout_of_page_answer, sizeof(jz_page_answer) == 48 && JZ_HAS(jz_page_answer, status, 0, 4)
@@ -191,10 +276,11 @@ JZ_IS(jz_layout_of_page_answer, sizeof(jz_page_answer) == 48 && JZ_HAS(jz_page_a
       && JZ_HAS(jz_page_answer, words, 24, 8) && JZ_HAS(jz_page_answer, errors, 32, 8) && JZ_HAS(jz_page_answer, text, 40, 8));
 JZ_IS(jz_layout_of_row, sizeof(jz_row) == 20 && JZ_HAS(jz_row, number, 0, 4) && JZ_HAS(jz_row, kind, 4, 4)
       && JZ_HAS(jz_row, parent, 8, 4) && JZ_HAS(jz_row, first_child, 12, 4) && JZ_HAS(jz_row, next, 16, 4));
+JZ_IS(jz_layout_of_error, sizeof(jz_error) == 16 && JZ_HAS(jz_error, at, 0, 8) && JZ_HAS(jz_error, code, 8, 4));
 #undef JZ_HAS
 #undef JZ_IS
 
-/* From here on plain C, which is not proved: keys, what asks for room or takes memory, the tree with an index, and names for numbers. */
+/* From here on plain C, which is not proved: keys, files, names for numbers, what asks for room or takes memory, the tree with an index. */
 
 /* Draws the keys of the hashes from the system. Once a program is enough. Returns 1, or 0 where the system gives no random bytes. */
 static inline int jz_draw_keys(jz_options *options) {
@@ -214,12 +300,44 @@ static inline int jz_draw_keys(jz_options *options) {
     return 1;
 }
 
+/* All bytes of a file, in memory that the caller frees with free(); null where it cannot be read, or memory runs out. */
+static inline uint8_t *jz_read_file(const char *name, size_t *length) {
+    FILE *file = fopen(name, "rb");
+    uint8_t *bytes = NULL, *more;
+    size_t room = 0, got = 1;
+    *length = 0;
+    if (!file) return NULL;
+    while (got) {
+        if (room - *length < 4096) {
+            room = 2 * room + 8192;
+            if (!(more = (uint8_t *)realloc(bytes, room))) break;
+            bytes = more;
+        }
+        got = fread(bytes + *length, 1, room - *length, file);
+        *length += got;
+    }
+    if (got || ferror(file)) {
+        free(bytes);
+        bytes = NULL;
+    }
+    fclose(file);
+    return bytes;
+}
+
 /* The name of a status, as "NotUtf8". */
 static inline const char *jz_status_name(uint32_t status) {
     static const char *const names[] = { "Ok", "NotUtf8", "OutOfProfile", "TooLarge", "TooManyNodes", "TooDeep", "Memory", "Read",
                                          "BadContext", "BadTable", "BadQuirks", "BadLimits", "Write", "TooShort", "NotText",
-                                         "BadNumber", "Null" };
+                                         "BadNumber", "Null", "BadSize" };
     return status < sizeof names / sizeof *names ? names[status] : "?";
+}
+
+/* The text of a parse error's code, as "eof-in-tag". */
+static inline const char *jz_error_name(uint32_t code) {
+#define JZ_ERROR_TEXT(name, text) text,
+    static const char *const texts[] = { JZ_ERROR_CODES(JZ_ERROR_TEXT) };
+#undef JZ_ERROR_TEXT
+    return code < sizeof texts / sizeof *texts ? texts[code] : "?";
 }
 
 /* What a refusal names: an element, or what is wrong with a table; "" if nothing. */
@@ -231,8 +349,8 @@ static inline const char *jz_detail_name(const jz_answer *answer) {
     return "";
 }
 
-/* A tree in the caller's memory, made by jz_parse and freed by jz_free. It lends its words until it is freed; to read it from several
- * threads at once is fine. Its fields are its own business. */
+/* A tree and its parse errors in the caller's memory, made by jz_parse or jz_make_page and freed by jz_free. It lends its words and errors
+ * until it is freed; to read it from several threads at once is fine. Its fields are its own business, but for the last two. */
 typedef struct jz_node {
     uint32_t kind, parent, first_child, next;
     size_t words, end;
@@ -243,6 +361,8 @@ typedef struct jz_doc {
     uint32_t count;
     uint32_t root; /* the document, or a fragment's root */
     uint8_t *words;
+    jz_error *errors; /* in the order of the input */
+    size_t error_count;
 } jz_doc;
 
 /* Whether all that must not be null is not. */
@@ -281,8 +401,8 @@ static inline uint32_t jz_tree_rooms(const uint8_t *input, size_t length, const 
 }
 
 /* The same block, with no more room than these bytes need. */
-static inline uint8_t *jz_cut(uint8_t *block, size_t length) {
-    uint8_t *cut = (uint8_t *)realloc(block, length + 1);
+static inline void *jz_cut(void *block, size_t length) {
+    void *cut = realloc(block, length + 1);
     return cut ? cut : block;
 }
 
@@ -291,7 +411,7 @@ static inline uint32_t jz_text_in(size_t room, uint32_t task, const uint8_t *inp
                                   uint8_t **text, jz_answer *answer) {
     uint8_t *block = (uint8_t *)malloc(room + 1);
     uint32_t status = block ? jz_text(task, input, length, options, block, room, answer) : jz_fault(answer, JZ_MEMORY);
-    if (status == JZ_OK) *text = jz_cut(block, (size_t)answer->length);
+    if (status == JZ_OK) *text = (uint8_t *)jz_cut(block, (size_t)answer->length);
     else free(block);
     return status;
 }
@@ -322,7 +442,7 @@ static inline uint32_t jz_make_table(const uint8_t *entities, size_t length, uin
     do {
         uint8_t *block = (uint8_t *)malloc(room);
         status = block ? jz_table(entities, length, block, room, answer) : jz_fault(answer, JZ_MEMORY);
-        if (status == JZ_OK) *table = jz_cut(block, (size_t)answer->length);
+        if (status == JZ_OK) *table = (uint8_t *)jz_cut(block, (size_t)answer->length);
         else free(block);
         room = (size_t)answer->length;
     } while (status == JZ_TOO_SHORT);
@@ -334,6 +454,7 @@ static inline void jz_free(jz_doc *doc) {
     if (!doc) return;
     free(doc->nodes);
     free(doc->words);
+    free(doc->errors);
     memset(doc, 0, sizeof *doc);
 }
 
@@ -363,68 +484,67 @@ static inline uint32_t jz_index(jz_doc *doc, const jz_row *rows, size_t count, s
     return JZ_OK;
 }
 
-/* How many rows, and how many bytes of the rest, there is room for. */
+/* How many rows, and how many bytes of words and of text, there is room for. */
 typedef struct jz_rooms {
     size_t rows, words, errors, text;
 } jz_rooms;
 
 /* A page made by way of these rooms. */
 static inline uint32_t jz_page_in(jz_rooms rooms, const uint8_t *input, size_t length, const jz_options *options, jz_doc *doc,
-                                  uint8_t **errors, uint8_t **text, jz_page_answer *answer) {
-    uint32_t wants = (errors ? JZ_WANT_ERRORS : 0) | (text ? JZ_WANT_TEXT : 0), status = JZ_MEMORY;
+                                  uint8_t **text, jz_page_answer *answer) {
+    uint32_t wants = JZ_WANT_ERRORS | (text ? JZ_WANT_TEXT : 0), status = JZ_MEMORY;
     jz_row *rows = (jz_row *)malloc((rooms.rows + 1) * sizeof *rows);
-    uint8_t *lines = (uint8_t *)malloc(rooms.errors + 1), *html = (uint8_t *)malloc(rooms.text + 1);
+    uint8_t *html = (uint8_t *)malloc(rooms.text + 1);
     doc->root = options->context.length ? 1 : 0;
     doc->words = (uint8_t *)malloc(rooms.words + 1);
-    if (rows && lines && html && doc->words)
-        status = jz_page(wants, input, length, options, rows, rooms.rows, doc->words, rooms.words, lines, rooms.errors, html, rooms.text,
-                         answer);
+    doc->errors = (jz_error *)malloc((rooms.errors + 1) * sizeof *doc->errors);
+    if (rows && html && doc->words && doc->errors)
+        status = jz_page(wants, input, length, options, rows, rooms.rows, doc->words, rooms.words, doc->errors, rooms.errors, html,
+                         rooms.text, answer);
     if (status == JZ_OK) {
-        doc->words = jz_cut(doc->words, (size_t)answer->words);
+        doc->words = (uint8_t *)jz_cut(doc->words, (size_t)answer->words);
+        doc->errors = (jz_error *)jz_cut(doc->errors, (size_t)answer->errors * sizeof *doc->errors);
+        doc->error_count = (size_t)answer->errors;
         status = jz_index(doc, rows, (size_t)answer->nodes, (size_t)answer->words);
     }
-    if (status == JZ_OK && errors) *errors = jz_cut(lines, (size_t)answer->errors);
-    else free(lines);
-    if (status == JZ_OK && text) *text = jz_cut(html, (size_t)answer->text);
+    if (status == JZ_OK && text) *text = (uint8_t *)jz_cut(html, (size_t)answer->text);
     else free(html);
     free(rows);
     if (status != JZ_OK) jz_free(doc);
     return status == JZ_MEMORY ? jz_page_fault(answer, status) : status;
 }
 
-/* Parses an input into a tree, and of the same parse makes the lines of JZ_ERRORS and the text of JZ_WRITE: each where its pointer is
- * not null, and for the caller to free with free(). Where the status is not JZ_OK the tree is of zeros and both are null. As with
- * jz_make_text one parse is enough for nearly every page, but not where there are very many nodes for the length, as in "<p><p><p>". */
-static inline uint32_t jz_make_page(const uint8_t *input, size_t length, const jz_options *options, jz_doc *doc, uint8_t **errors,
-                                    uint8_t **text, jz_page_answer *answer) {
-    jz_rooms rooms = { 64 + length / 4, 256 + length * 2, 0, 0 };
+/* Parses an input into a tree with its parse errors, and of the same parse makes the text of JZ_WRITE where `text` is not null, for the
+ * caller to free with free(). Where the status is not JZ_OK the tree is of zeros and *text is null. As with jz_make_text one parse is
+ * enough for nearly every page, but not where there are very many nodes or errors for the length, as in "<p><p><p>". */
+static inline uint32_t jz_make_page(const uint8_t *input, size_t length, const jz_options *options, jz_doc *doc, uint8_t **text,
+                                    jz_page_answer *answer) {
+    jz_rooms rooms = { 64 + length / 4, 256 + length * 2, 64 + length / 4, 0 };
     uint32_t status;
     if (doc) memset(doc, 0, sizeof *doc);
-    if (errors) *errors = NULL;
     if (text) *text = NULL;
     if (!answer) return JZ_NULL;
     if (!doc || !jz_is_whole(input, options)) return jz_page_fault(answer, JZ_NULL);
-    if (errors) rooms.errors = 1024 + length * 24;
     if (text) rooms.text = 1024 + length * 6;
-    status = jz_page_in(rooms, input, length, options, doc, errors, text, answer);
+    status = jz_page_in(rooms, input, length, options, doc, text, answer);
     if (status == JZ_MEMORY) {
         memset(&rooms, 0, sizeof rooms);
-        status = jz_page_in(rooms, input, length, options, doc, errors, text, answer);
+        status = jz_page_in(rooms, input, length, options, doc, text, answer);
     }
     if (status == JZ_TOO_SHORT) {
         rooms.rows = (size_t)answer->nodes;
         rooms.words = (size_t)answer->words;
         rooms.errors = (size_t)answer->errors;
         rooms.text = (size_t)answer->text;
-        status = jz_page_in(rooms, input, length, options, doc, errors, text, answer);
+        status = jz_page_in(rooms, input, length, options, doc, text, answer);
     }
     return status;
 }
 
-/* Parses an input into a tree alone; in the answer `length` is that of the words. */
+/* Parses an input into a tree with its parse errors, and no more; in the answer `length` is that of the words. */
 static inline uint32_t jz_parse(const uint8_t *input, size_t length, const jz_options *options, jz_doc *doc, jz_answer *answer) {
     jz_page_answer page;
-    uint32_t status = jz_make_page(input, length, options, doc, NULL, NULL, answer ? &page : NULL);
+    uint32_t status = jz_make_page(input, length, options, doc, NULL, answer ? &page : NULL);
     if (!answer) return status;
     answer->status = page.status;
     answer->detail = page.detail;

@@ -11,25 +11,6 @@ static void die(const char *what) {
     exit(3);
 }
 
-/* All bytes of a file, in pieces as they come. */
-static uint8_t *read_all(const char *name, size_t *length) {
-    FILE *file = fopen(name, "rb");
-    uint8_t *bytes = malloc(1), *more;
-    size_t got, room = 0;
-    *length = 0;
-    if (!file || !bytes) die("cannot read");
-    do {
-        if (room - *length < 4096) {
-            if (!(more = realloc(bytes, room = 2 * room + 8192))) die("out of memory");
-            bytes = more;
-        }
-        got = fread(bytes + *length, 1, room - *length, file);
-        *length += got;
-    } while (got);
-    fclose(file);
-    return bytes;
-}
-
 static int refused(const jz_answer *answer) {
     fprintf(stderr, "refused: %s %s at %llu\n", jz_status_name(answer->status), jz_detail_name(answer), (unsigned long long)answer->at);
     return 2;
@@ -102,7 +83,7 @@ int main(int count, char **words) {
     int status;
     if (count != 2 && !(count == 4 && strcmp(words[1], "--in") == 0)) die("name a page, or --in NAME and a fragment");
     if (!jz_draw_keys(&options)) die("no random bytes");
-    bytes = read_all(words[count - 1], &length);
+    if (!(bytes = jz_read_file(words[count - 1], &length))) die("cannot read");
     if (count == 4) options.context = jz_lent((const uint8_t *)words[2], strlen(words[2]));
     status = count == 4 ? print_plain(bytes, length, &options) : print_links(bytes, length, &options);
     free(bytes);

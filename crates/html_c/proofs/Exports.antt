@@ -1,5 +1,5 @@
 -- What a call gives, from what was given and what came of the input.
-use Rattle.std.proofs.Common.{◌≡◌, ℕ, Bool, true, false, List, [], Option, None, Some, Ok, Err, refl, subst, sym}
+use Rattle.std.proofs.Common.{◌≡◌, ℕ, Bool, true, false, List, [], Option, None, Some, Ok, Err, map, ap, refl, subst, sym, ◌∙◌}
 use Rattle.std.specs.Prelude.{if◌then◌else◌}
 use Rattle.names.specs.declared.refusal.Refusal.{Refusal}
 use Rattle.names.specs.declared.refusal.Refusal.TheVariants.{Memory}
@@ -14,10 +14,11 @@ use Rattle.hwrite.specs.declared.command.Task.{Task}
 use Rattle.hwrite.specs.declared.command.Task.TheVariants as task
 use Rattle.hwrite.proofs.Tasks.{parsed_printed}
 use Rattle.html_c.specs.Exports.{ComesToNone, none_for_memory, GivesText, GivesNone, comes_to_none, GivesNoRows, no_rows, prints}
-use Rattle.html_c.specs.Given.{IsCommand, Tells, context_told, escaping_told, may_be_in, task_told}
-use Rattle.html_c.specs.Page.{GivesPage, GivesWanted, wants_told}
+use Rattle.html_c.specs.Given.{IsCommand, Tells, context_told, escaping_told}
+use Rattle.html_c.specs.Page.{GivesErrors, GivesPage, GivesWanted, error_row, wants_told}
 use Rattle.html_c.specs.Parts.{parts_of}
 use Rattle.html_c.specs.Trees.{ComesToParse, GivesParse, IsPage}
+use Rattle.html_c.specs.declared.answer.ErrorRow.{ErrorRow}
 use Rattle.html_c.specs.declared.answer.Given.{Given}
 use Rattle.html_c.specs.declared.fault.CallFault.TheVariants as fault
 use Rattle.html_c.specs.declared.page.Page.{Page}
@@ -63,30 +64,33 @@ module _ (input : List ℕ) (given : Given) (parsed : Parsed) (h : GivesParse in
   pub no_memory : (refusal : Refusal) → refusal ≡ Memory → GivesNoRows input given (fault.Refused refusal)
   no_memory refusal is = no_rows h.opts refusal h.tells (none_for_memory is) refl
 
+  errors_where : (wants : Bool) (rows : List ErrorRow) → rows ≡ (if wants then map error_row parsed.errors.items else []) → GivesWanted wants (GivesErrors input given) rows
+  errors_where false rows is = is
+  errors_where true rows is =
+      let (parse, made, parses, told) = h.answers in record { opts = h.opts; tells = h.tells; parse = parse; parses = parses; rows_are = is ∙ ap (map error_row) made.errors }
+
   module _ (how : Escaping) (how_is : escaping_told given.escaping ≡ Some how) where
-    text_where : (wants : Bool) (number : ℕ) (t : Task) (text : List ℕ) → task_told number ≡ Some t → may_be_in t (context_told given.context.now) ≡ true
-        → prints t how given h.opts input (Ok (parsed_text how t None parsed)) → text ≡ (if wants then parsed_text how t None parsed else []) → GivesWanted wants number input given text
-    text_where false number t text task_is placed printed is = is
-    text_where true number t text task_is placed printed is = record {
-      task = t;
+    text_where : (wants : Bool) (text : List ℕ) → prints task.Write how given h.opts input (Ok (parsed_text how task.Write None parsed))
+        → text ≡ (if wants then parsed_text how task.Write None parsed else []) → GivesWanted wants (GivesText 3 input given) text
+    text_where false text printed is = is
+    text_where true text printed is = record {
+      task = task.Write;
       how = how;
       opts = h.opts;
-      task_is = task_is;
-      placed = placed;
+      task_is = refl;
+      placed = refl;
       how_is = how_is;
       tells = h.tells;
-      text_is = subst (λ (x : List ℕ). prints t how given h.opts input (Ok x)) (sym is) printed;
+      text_is = subst (λ (x : List ℕ). prints task.Write how given h.opts input (Ok x)) (sym is) printed;
     }
 
     pub a_page : (number : ℕ) (wants : Wants) (page : Page) → wants_told number ≡ Some wants → IsPage wants how parsed page → GivesPage number input given (parts_of page)
-    a_page number wants page wants_are is =
-        let printed = λ (t : Task). parsed_printed how t h.opts (context_told given.context.now) input parsed h.answers in
-        record {
-          wants = wants;
-          how = how;
-          wants_are = wants_are;
-          how_is = how_is;
-          tree = some_rows input given parsed page.tree h is.tree;
-          errors = text_where wants.errors 2 task.Errors (parts_of page).errors refl refl (printed task.Errors) is.errors_are;
-          text = text_where wants.text 3 task.Write (parts_of page).text refl refl (printed task.Write) is.text_is;
-        }
+    a_page number wants page wants_are is = record {
+      wants = wants;
+      how = how;
+      wants_are = wants_are;
+      how_is = how_is;
+      tree = some_rows input given parsed page.tree h is.tree;
+      errors = errors_where wants.errors (parts_of page).errors is.errors_are;
+      text = text_where wants.text (parts_of page).text (parsed_printed how task.Write h.opts (context_told given.context.now) input parsed h.answers) is.text_is;
+    }

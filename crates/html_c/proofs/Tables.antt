@@ -63,6 +63,7 @@ said bytes table (no_text is none same) = absurd cc
 
 told : (given other : Given) (opts : ParseOptions) → AreSameButTables given other → ReadsTable other.entities.now (Ok opts.table) → Tells given opts → Tells other opts
 told given other opts same read t = record {
+  size = sym same.size ∙ t.size;
   context = subst (λ c. AllowsContext (context_told c)) same.context t.context;
   piece = subst IsPiece same.piece t.piece;
   table = read;
@@ -75,6 +76,7 @@ told given other opts same read t = record {
 
 flipped : (given other : Given) → AreSameButTables given other → AreSameButTables other given
 flipped given other same = record {
+  size = sym same.size;
   context = sym same.context;
   quirks = sym same.quirks;
   nodes = sym same.nodes;

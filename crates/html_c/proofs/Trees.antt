@@ -71,7 +71,7 @@ children_are parse_case parsed parse is =
 
 pub some_rows : (input : List ℕ) (given : Given) (parsed : Parsed) (rows : Rows) → GivesParse input given parsed → HasRows parsed rows → GivesRows input given rows.nodes.items rows.words.items
 some_rows input given parsed rows h has =
-    let (parse, is, parses) = h.answers in let its = case_given given in
+    let (parse, is, parses, told) = h.answers in let its = case_given given in
     record {
       opts = h.opts;
       tells = h.tells;

@@ -50,6 +50,7 @@ abbrev pub status_of : CallFault → ℕ
 status_of (fault.Refused why) = refusal_number why
 status_of fault.NotText = 14
 status_of fault.BadNumber = 15
+status_of fault.BadSize = 17
 
 -- the number of the element or of the cause that it names
 abbrev pub detail_of : CallFault → ℕ

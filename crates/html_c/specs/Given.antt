@@ -48,6 +48,10 @@ may_be_in _ _ = true
 abbrev pub NoEscaping : Given → CallFault → Type 0
 NoEscaping given why = (escaping_told given.escaping ≡ None) × (why ≡ fault.BadNumber)
 
+-- options of this many bytes are those that the library knows
+abbrev pub IsSize : ℕ → Type 0
+IsSize size = size ≡ 104
+
 -- this many bytes may be fed at a time
 abbrev pub IsPiece : ℕ → Type 0
 IsPiece piece = (0 < piece) × (piece ≤ 65536)
@@ -58,6 +62,7 @@ bounds_told given = record { input = MAX_INPUT; tree = record { nodes = given.no
 
 -- What is given, where all of it is accepted.
 pub record Tells (given : Given) (opts : ParseOptions) : Type 0 where
+  pub size : IsSize given.size
   pub context : AllowsContext (context_told given.context.now)
   pub piece : IsPiece given.piece
   pub table : ReadsTable given.entities.now (Ok opts.table)
@@ -69,6 +74,7 @@ pub record Tells (given : Given) (opts : ParseOptions) : Type 0 where
 
 -- Two givens are the same, but for their tables of character references.
 pub record AreSameButTables (given other : Given) : Type 0 where
+  pub size : given.size ≡ other.size
   pub context : given.context.now ≡ other.context.now
   pub quirks : given.quirks.now ≡ other.quirks.now
   pub nodes : given.nodes ≡ other.nodes
@@ -79,6 +85,7 @@ pub record AreSameButTables (given other : Given) : Type 0 where
 
 -- Something that is given is not accepted, for this reason.
 pub data Unmet (given : Given) (why : CallFault) : Type 0 where
+  no_size : (IsSize given.size → ⊥) → why ≡ fault.BadSize → Unmet given why
   no_bad_bytes : bad_told given.bad_bytes ≡ None → why ≡ fault.BadNumber → Unmet given why
   no_piece : (IsPiece given.piece → ⊥) → why ≡ fault.BadNumber → Unmet given why
   no_context : (IsUtf8 given.context.now → ⊥) → why ≡ fault.NotText → Unmet given why
@@ -98,6 +105,7 @@ HasLimits given limits = AreLimits (bounds_told given) × (limits ≡ bounds_tol
 
 -- A command is what is given, with the task of this number.
 pub record IsCommand (number : ℕ) (given : Given) (command : Command) : Type 0 where
+  pub size : IsSize given.size
   pub task : task_told number ≡ Some command.task
   pub placed : may_be_in command.task (context_told given.context.now) ≡ true
   pub escaping : escaping_told given.escaping ≡ Some command.escaping

@@ -1,10 +1,14 @@
--- A page: the tree of an input, its parse errors and its HTML.
-use Rattle.std.specs.Prelude.{◌≡◌, ◌==◌, ◌%◌, ℕ, Bool, true, false, ◌&&◌, if◌then◌else◌, List, [], length, nat_le, nat_lt, Option, None, Some}
+-- A page: the tree of an input, its parse errors as rows, and its HTML.
+use Rattle.std.specs.Prelude.{◌≡◌, ◌==◌, ◌%◌, ℕ, Bool, true, false, ◌&&◌, if◌then◌else◌, List, [], length, map, nat_le, nat_lt, Option, None, Some, Ok}
+use Rattle.names.specs.Codes.{code_rank}
+use Rattle.names.specs.declared.error.ParseError.{ParseError}
+use Rattle.hparse.specs.Parse.{Parse, Parses, ParseOptions}
 use Rattle.hserialize.specs.declared.escaping.Escaping.{Escaping}
-use Rattle.html_c.specs.Exports.{GivesRows, GivesNoRows, GivesText}
+use Rattle.html_c.specs.Exports.{GivesRows, GivesNoRows, GivesText, case_given}
 use Rattle.html_c.specs.Faults.{at_of, detail_of, status_of}
-use Rattle.html_c.specs.Given.{escaping_told, NoEscaping}
+use Rattle.html_c.specs.Given.{escaping_told, NoEscaping, Tells}
 use Rattle.html_c.specs.Room.{fit_status, put_over}
+use Rattle.html_c.specs.declared.answer.ErrorRow.{ErrorRow}
 use Rattle.html_c.specs.declared.answer.Given.{Given}
 use Rattle.html_c.specs.declared.answer.NodeRow.{NodeRow}
 use Rattle.html_c.specs.declared.answer.PageAnswer.{PageAnswer}
@@ -16,10 +20,10 @@ use Rattle.html_c.specs.declared.page.Wants.{Wants}
 pub record Parts : Type 0 where
   pub rows : List NodeRow
   pub words : List ℕ
-  pub errors : List ℕ
+  pub errors : List ErrorRow
   pub text : List ℕ
 
-abbrev pub parts : List NodeRow → (words errors text : List ℕ) → Parts
+abbrev pub parts : List NodeRow → (words : List ℕ) → List ErrorRow → (text : List ℕ) → Parts
 parts rows words errors text = record { rows = rows; words = words; errors = errors; text = text }
 
 -- whether all parts fit their rooms
@@ -54,20 +58,32 @@ page_fault fault = record { status = status_of fault; detail = detail_of fault; 
 abbrev pub wants_told : ℕ → Option Wants
 wants_told number = if nat_lt number 4 then Some (record { errors = number % 2 == 1; text = nat_le 2 number }) else None
 
--- the text of the task of a number where it is wanted, and nothing where it is not
-abbrev pub GivesWanted : Bool → ℕ → List ℕ → Given → List ℕ → Type 0
-GivesWanted true number input given text = GivesText number input given text
-GivesWanted false number input given text = text ≡ []
+-- a parse error as a row
+abbrev pub error_row : ParseError → ErrorRow
+error_row error = record { at = error.at; code = code_rank error.code }
 
--- What is given is accepted, and this is the page: the tree, the text of the task Errors (2) and that of Write (3).
+-- What is given is accepted, and these are the rows of the parse errors, in their order.
+pub record GivesErrors (input : List ℕ) (given : Given) (rows : List ErrorRow) : Type 0 where
+  pub opts : ParseOptions
+  pub tells : Tells given opts
+  pub parse : Parse
+  pub parses : Parses opts (case_given given) input (Ok parse)
+  pub rows_are : rows ≡ map error_row parse.errors
+
+-- a part that is given where it is wanted, and nothing where it is not
+abbrev pub GivesWanted : {A : Type 0} → Bool → (List A → Type 0) → List A → Type 0
+GivesWanted true gives items = gives items
+GivesWanted false gives items = items ≡ []
+
+-- What is given is accepted, and this is the page: the tree, the parse errors, and the text of the task Write (3).
 pub record GivesPage (number : ℕ) (input : List ℕ) (given : Given) (page : Parts) : Type 0 where
   pub wants : Wants
   pub how : Escaping
   pub wants_are : wants_told number ≡ Some wants
   pub how_is : escaping_told given.escaping ≡ Some how
   pub tree : GivesRows input given page.rows page.words
-  pub errors : GivesWanted wants.errors 2 input given page.errors
-  pub text : GivesWanted wants.text 3 input given page.text
+  pub errors : GivesWanted wants.errors (GivesErrors input given) page.errors
+  pub text : GivesWanted wants.text (GivesText 3 input given) page.text
 
 -- There is no page, for this reason.
 pub data GivesNoPage (number : ℕ) (input : List ℕ) (given : Given) (why : CallFault) : Type 0 where

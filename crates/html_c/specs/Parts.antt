@@ -4,4 +4,4 @@ use Rattle.html_c.specs.Page.{Parts}
 use Rattle.html_c.specs.declared.page.Page.{Page}
 
 abbrev pub parts_of : Page → Parts
-parts_of page = record { rows = page.tree.nodes.items; words = page.tree.words.items; errors = text_of page.errors; text = text_of page.text }
+parts_of page = record { rows = page.tree.nodes.items; words = page.tree.words.items; errors = page.errors.items; text = text_of page.text }

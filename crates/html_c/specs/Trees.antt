@@ -1,5 +1,5 @@
 -- What parsing an input gives, and what is made of it.
-use Rattle.std.specs.Prelude.{◌≡◌, if◌then◌else◌, ℕ, List, [], Option, None, Result, Ok, Err}
+use Rattle.std.specs.Prelude.{◌≡◌, if◌then◌else◌, ℕ, List, [], map, Option, None, Result, Ok, Err}
 use Rattle.names.specs.declared.refusal.Refusal.{Refusal}
 use Rattle.hnodes.specs.Forest.{children_of}
 use Rattle.hserialize.specs.declared.escaping.Escaping.{Escaping}
@@ -12,6 +12,7 @@ use Rattle.hwrite.specs.declared.command.Task.TheVariants as task
 use Rattle.html_c.specs.Exports.{ComesToNone, case_given}
 use Rattle.html_c.specs.Fitted.{text_of}
 use Rattle.html_c.specs.Given.{Tells}
+use Rattle.html_c.specs.Page.{error_row}
 use Rattle.html_c.specs.Rows.{rows_of, words_of}
 use Rattle.html_c.specs.declared.answer.Given.{Given}
 use Rattle.html_c.specs.declared.page.Page.{Page}
@@ -37,5 +38,5 @@ pub record HasRows (parsed : Parsed) (rows : Rows) : Type 0 where
 -- These are the parts of what was parsed.
 pub record IsPage (wants : Wants) (how : Escaping) (parsed : Parsed) (page : Page) : Type 0 where
   pub tree : HasRows parsed page.tree
-  pub errors_are : text_of page.errors ≡ (if wants.errors then parsed_text how task.Errors None parsed else [])
+  pub errors_are : page.errors.items ≡ (if wants.errors then map error_row parsed.errors.items else [])
   pub text_is : text_of page.text ≡ (if wants.text then parsed_text how task.Write None parsed else [])

@@ -7,6 +7,8 @@ use std::mem::size_of;
 #[repr(C)]
 #[derive(Clone, Copy)]
 pub struct Given<'a> {
+    /// The bytes of this struct. A later version may add fields at its end.
+    pub size: usize,
     /// The name of the element in which a fragment is.
     pub context: &'a [u8],
     /// The table of character references: JSON, or a flat form of `jz_table`.
@@ -56,6 +58,14 @@ pub struct NodeRow {
     pub next: u32,
 }
 
+/// A parse error: its byte in the input, and the number of its code, which is its rank.
+#[repr(C)]
+#[derive(Clone, Copy)]
+pub struct ErrorRow {
+    pub at: u64,
+    pub code: u32,
+}
+
 /// How a call for a page went. The lengths are answered whether there was room or not; that of a part that is not wanted is 0.
 #[repr(C)]
 #[derive(Clone, Copy)]
@@ -68,17 +78,19 @@ pub struct PageAnswer {
     pub nodes: u64,
     /// The bytes of their words.
     pub words: u64,
-    /// The bytes of the lines of the parse errors.
+    /// The parse errors.
     pub errors: u64,
     /// The bytes of the HTML.
     pub text: u64,
 }
 
 // The sizes that the header asserts.
-const _: () = prove!(size_of::<Given<'static>>() == 96);
+const _: () = prove!(size_of::<Given<'static>>() == 104);
 
 const _: () = prove!(size_of::<Answer>() == 32);
 
 const _: () = prove!(size_of::<NodeRow>() == 20);
+
+const _: () = prove!(size_of::<ErrorRow>() == 16);
 
 const _: () = prove!(size_of::<PageAnswer>() == 48);

@@ -15,6 +15,8 @@ pub enum CallFault {
     NotText,
     /// A number that is given has no meaning.
     BadNumber,
+    /// The library knows no options of the size that they say.
+    BadSize,
 }
 
 impl From<Refusal> for CallFault {
@@ -34,6 +36,8 @@ impl CallFault {
             CallFault::Refused(refusal) => refusal_number(refusal),
             CallFault::NotText => 14,
             CallFault::BadNumber => 15,
+            // 16 is of the header alone.
+            CallFault::BadSize => 17,
         }
     }
 

@@ -6,7 +6,7 @@ ghost use Rattle.hparse.specs.Parsing.{options_of};
 ghost use Rattle.hwrite.specs.Command.{name_of};
 ghost use Rattle.hwrite.specs.Context.{AllowsContext};
 ghost use Rattle.html_c.specs.Given.{bad_told, context_told, escaping_told, may_be_in, task_told};
-ghost use Rattle.html_c.specs.Given.{HasLimits, HasLists, IsCommand, IsPiece, NoCommand, NoEscaping, Tells, Unmet};
+ghost use Rattle.html_c.specs.Given.{HasLimits, HasLists, IsCommand, IsPiece, IsSize, NoCommand, NoEscaping, Tells, Unmet};
 ghost use Rattle.html_c.specs.declared.fault.CallFault.TheVariants as fault;
 
 use crate::answer::Given;
@@ -20,6 +20,9 @@ use htext::{BadBytes, MAX_INPUT};
 use hwrite::{Command, Escaping, Task, check_context};
 use names::{Keys, Refusal};
 use std::alloc::Global;
+
+/// The bytes of options that the library knows.
+const SIZE: usize = 104;
 
 /// The most bytes that are fed at a time.
 const MOST_PIECE: u64 = 65_536;
@@ -79,6 +82,17 @@ pub(crate) struct Lists {
 }
 
 impl<'a> Given<'a> {
+    /// Sees that the options are of a size that is known. Before that nothing else of them is read.
+    pub(crate) fn check_size(&self) -> Result<(), CallFault>
+        ensures { MatchResult result (λ _. IsSize self.now.size) (Unmet self.now) }
+    {
+        if self.size == SIZE {
+            Ok(())
+        } else {
+            Err(CallFault::BadSize)
+        }
+    }
+
     /// How `Write` escapes.
     pub(crate) fn escaping(&self) -> Result<Escaping, CallFault>
         ensures { MatchResult result (λ how. escaping_told self.now.escaping ≡ Some how) (NoEscaping self.now) }
@@ -137,6 +151,7 @@ impl<'a> Given<'a> {
     pub(crate) fn command(&self, number: u32) -> Result<Command<'a>, CallFault>
         ensures { MatchResult result (IsCommand number self.now) (NoCommand number self.now) }
     {
+        self.check_size()?;
         let Some(task) = task_of(number) else {
             return Err(CallFault::BadNumber);
         };
@@ -191,6 +206,7 @@ impl<'a> Given<'a> {
         bad_bytes: BadBytes,
         limits: Limits,
     ) -> Options<'t>
+        requires size { IsSize self.now.size }
         requires context { AllowsContext (context_told self.now.context.now) }
         requires piece { IsPiece self.now.piece }
         requires lists { HasLists self.now lists.now }
@@ -204,6 +220,7 @@ impl<'a> Given<'a> {
             bad_bytes,
             limits,
             keys: self.keys(),
+            places: false,
         }
     }
 }

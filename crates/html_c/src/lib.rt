@@ -22,7 +22,7 @@ mod table;
 mod text;
 mod tree;
 
-use crate::answer::{Answer, Given, NodeRow, PageAnswer};
+use crate::answer::{Answer, ErrorRow, Given, NodeRow, PageAnswer};
 use crate::page::page_of;
 use crate::room::{fault_answer, page_fault, put_bytes, put_rows, put_text};
 use crate::table::table_of;
@@ -72,7 +72,7 @@ pub extern "C" fn jz_tree(
     answer.status
 }
 
-/// Makes the tree of an input, and the lines of its parse errors (1), its HTML (2) or both (3) where they are wanted, by one parse. Each
+/// Makes the tree of an input, and the rows of its parse errors (1), its HTML (2) or both (3) where they are wanted, by one parse. Each
 /// part is written to the beginning of its room, where all of them fit. Returns the status, which is that of the answer.
 #[unsafe(no_mangle)]
 pub extern "C" fn jz_page(
@@ -82,7 +82,7 @@ pub extern "C" fn jz_page(
     given: &Given,
     rows: &mut [NodeRow],
     words: &mut [u8],
-    errors: &mut [u8],
+    errors: &mut [ErrorRow],
     text: &mut [u8],
     answer: &mut PageAnswer,
 ) -> u32
@@ -90,7 +90,7 @@ pub extern "C" fn jz_page(
         (parts rows.new words.new errors.new text.new) answer.new }
     ensures status { result ≡ answer.new.status }
 {
-    *answer = match page_of(alloc, wants, input, given, errors.len(), text.len()) {
+    *answer = match page_of(alloc, wants, input, given, text.len()) {
         Ok(page) => page.put(rows, words, errors, text),
         Err(fault) => page_fault(fault),
     };

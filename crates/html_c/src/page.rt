@@ -1,25 +1,24 @@
-//! A page: the tree of an input, its parse errors and its HTML, by one parse.
+//! A page: the tree of an input, its parse errors as rows, and its HTML, by one parse.
 
-ghost use Rattle.std.specs.Prelude.{◌≡◌, if◌then◌else◌, ℕ, List, [], length, None, IfOk, MatchResult};
+ghost use Rattle.std.specs.Prelude.{◌≡◌, if◌then◌else◌, ℕ, List, [], length, map, None, IfOk, MatchResult};
 ghost use Rattle.names.specs.declared.refusal.Refusal.TheVariants.{Memory};
-ghost use Rattle.hprint.specs.Lines.{error_lines};
 ghost use Rattle.hwrite.specs.Prints.{parsed_text};
 ghost use Rattle.hwrite.specs.declared.command.Task.TheVariants as task;
 ghost use Rattle.html_c.specs.Fitted.{IsFitted};
-ghost use Rattle.html_c.specs.Page.{all_fit, page_answer, parts, put_parts, wants_told, GivesNoPage, GivesPage};
+ghost use Rattle.html_c.specs.Page.{all_fit, error_row, page_answer, parts, put_parts, wants_told, GivesNoPage, GivesPage};
 ghost use Rattle.html_c.specs.Parts.{parts_of};
 ghost use Rattle.html_c.specs.Trees.{IsPage};
 
-use crate::answer::{Given, NodeRow, PageAnswer};
+use crate::answer::{ErrorRow, Given, NodeRow, PageAnswer};
 use crate::fault::CallFault;
 use crate::fitted::Fitted;
 use crate::room::{put, status};
 use crate::rows::Rows;
 use crate::tree::{parse_of, rows_in};
 use hparse::Parsed;
-use hwrite::{Escaping, print_errors, serialize};
+use hwrite::{Escaping, serialize};
 use names::{ParseError, Refusal};
-use std::alloc::Global;
+use std::alloc::{AllocError, Global};
 
 /// What is wanted of a page beside its tree.
 #[derive(Clone, Copy)]
@@ -32,7 +31,7 @@ pub(crate) struct Wants {
 #[derive(Drop)]
 pub(crate) struct Page {
     pub(crate) tree: Rows,
-    pub(crate) errors: Fitted,
+    pub(crate) errors: Vec<ErrorRow>,
     pub(crate) text: Fitted,
 }
 
@@ -50,21 +49,36 @@ fn wants_of(number: u32) -> Option<Wants>
     }
 }
 
-/// The lines of parse errors, if they are wanted.
+/// The row of a parse error.
+fn error_row(error: &ParseError) -> ErrorRow
+    ensures { result ≡ error_row error.now }
+{
+    ErrorRow {
+        at: error.at,
+        code: u32::from(error.code.rank()),
+    }
+}
+
+/// The rows of parse errors.
+fn error_rows(alloc: Global, errors: &[ParseError]) -> Result<Vec<ErrorRow>, AllocError>
+    ensures { IfOk result (λ rows. rows.items ≡ map error_row errors.now) }
+{
+    errors.iter().map(|error| error_row(error)).collect(alloc)
+}
+
+/// The same, if they are wanted.
 fn errors_in(
     alloc: Global,
     wanted: bool,
     errors: &[ParseError],
-    room: usize,
-) -> Result<Fitted, Refusal>
-    ensures { IsFitted room (if wanted then error_lines errors.now else []) result }
+) -> Result<Vec<ErrorRow>, AllocError>
+    ensures { IfOk result (λ rows. rows.items ≡ (if wanted then map error_row errors.now else [])) }
 {
-    let mut text = Fitted::new(alloc, room);
-    if !wanted {
-        return Ok(text);
+    if wanted {
+        error_rows(alloc, errors)
+    } else {
+        Ok(Vec::new(alloc))
     }
-    let answer = print_errors(alloc, errors, &mut text);
-    text.written(answer)
 }
 
 /// What was parsed as HTML, if it is wanted.
@@ -98,15 +112,14 @@ fn page_in(
     wants: Wants,
     escaping: Escaping,
     parsed: &Parsed,
-    error_room: usize,
-    text_room: usize,
+    room: usize,
 ) -> Result<Page, Refusal>
     ensures made { MatchResult result (IsPage wants escaping parsed.now) (λ refusal. refusal ≡ Memory) }
-    ensures rooms { IfOk result (λ page. (page.errors.room ≡ error_room) × (page.text.room ≡ text_room)) }
+    ensures room { IfOk result (λ page. page.text.room ≡ room) }
 {
     let tree = rows_in(alloc, parsed)?;
-    let errors = errors_in(alloc, wants.errors, &parsed.errors, error_room)?;
-    let text = html_in(alloc, wants.text, escaping, parsed, text_room)?;
+    let errors = errors_in(alloc, wants.errors, &parsed.errors)?;
+    let text = html_in(alloc, wants.text, escaping, parsed, room)?;
     Ok(Page { tree, errors, text })
 }
 
@@ -116,32 +129,30 @@ pub(crate) fn page_of(
     number: u32,
     input: &[u8],
     given: &Given,
-    error_room: usize,
-    text_room: usize,
+    room: usize,
 ) -> Result<Page, CallFault>
     ensures says { MatchResult result (λ page. GivesPage number input.now given.now (parts_of page)) (GivesNoPage number input.now given.now) }
-    ensures rooms { IfOk result (λ page. (page.errors.room ≡ error_room) × (page.text.room ≡ text_room)) }
+    ensures room { IfOk result (λ page. page.text.room ≡ room) }
 {
     let Some(wants) = wants_of(number) else {
         return Err(CallFault::BadNumber);
     };
     let escaping = given.escaping()?;
     let parsed = parse_of(alloc, input, given)?;
-    let page = page_in(alloc, wants, escaping, &parsed, error_room, text_room);
+    let page = page_in(alloc, wants, escaping, &parsed, room);
     drop(parsed);
     Ok(page?)
 }
 
 impl Page {
     /// Whether all parts fit their rooms.
-    fn fits(&self, rows: &[NodeRow], words: &[u8], errors: &[u8], text: &[u8]) -> bool
-        requires errors { self.now.errors.room ≡ length errors.now }
-        requires text { self.now.text.room ≡ length text.now }
+    fn fits(&self, rows: &[NodeRow], words: &[u8], errors: &[ErrorRow], text: &[u8]) -> bool
+        requires { self.now.text.room ≡ length text.now }
         ensures { result ≡ all_fit (parts_of self.now) (parts rows.now words.now errors.now text.now) }
     {
         self.tree.nodes.len() <= rows.len()
             && self.tree.words.len() <= words.len()
-            && self.errors.fits(errors)
+            && self.errors.len() <= errors.len()
             && self.text.fits(text)
     }
 
@@ -155,7 +166,7 @@ impl Page {
             at: 0,
             nodes: self.tree.nodes.len() as u64,
             words: self.tree.words.len() as u64,
-            errors: self.errors.count as u64,
+            errors: self.errors.len() as u64,
             text: self.text.count as u64,
         }
     }
@@ -165,18 +176,17 @@ impl Page {
         &self,
         rows: &mut [NodeRow],
         words: &mut [u8],
-        errors: &mut [u8],
+        errors: &mut [ErrorRow],
         text: &mut [u8],
     ) -> PageAnswer
-        requires errors { self.now.errors.room ≡ length errors.old }
-        requires text { self.now.text.room ≡ length text.old }
+        requires { self.now.text.room ≡ length text.old }
         ensures put { parts rows.new words.new errors.new text.new ≡ put_parts (parts_of self.now) (parts rows.old words.old errors.old text.old) }
         ensures answer { result ≡ page_answer (all_fit (parts_of self.now) (parts rows.old words.old errors.old text.old)) (parts_of self.now) }
     {
         let fits = self.fits(rows, words, errors, text);
         put(fits, &self.tree.nodes, rows);
         put(fits, &self.tree.words, words);
-        self.errors.put(fits, errors);
+        put(fits, &self.errors, errors);
         self.text.put(fits, text);
         self.answer(fits)
     }

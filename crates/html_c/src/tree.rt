@@ -6,7 +6,7 @@ ghost use Rattle.hparse.specs.Parsing.{options_of};
 ghost use Rattle.hwrite.specs.Command.{name_of};
 ghost use Rattle.hwrite.specs.Context.{AllowsContext};
 ghost use Rattle.html_c.specs.Exports.{GivesNoRows, GivesRows};
-ghost use Rattle.html_c.specs.Given.{HasLists, IsPiece, context_told};
+ghost use Rattle.html_c.specs.Given.{HasLists, IsPiece, IsSize, context_told};
 ghost use Rattle.html_c.specs.Trees.{ComesToParse, GivesParse, HasRows};
 
 use crate::answer::Given;
@@ -40,6 +40,7 @@ pub(crate) fn rows_in(alloc: Global, parsed: &Parsed) -> Result<Rows, Refusal>
 pub(crate) fn parse_of(alloc: Global, input: &[u8], given: &Given) -> Result<Parsed, CallFault>
     ensures { MatchResult result (GivesParse input.now given.now) (GivesNoRows input.now given.now) }
 {
+    given.check_size()?;
     let context = given.context()?;
     let piece = given.piece()?;
     let lists = given.lists(alloc)?;
@@ -57,6 +58,7 @@ fn parse_with(
     given: &Given,
     lists: &Lists,
 ) -> Result<Parsed, CallFault>
+    requires size { IsSize given.now.size }
     requires context { name_of context ≡ context_told given.now.context.now }
     requires allowed { AllowsContext (context_told given.now.context.now) }
     requires piece { (piece ≡ given.now.piece) × IsPiece piece }

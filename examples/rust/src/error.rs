@@ -1,5 +1,6 @@
 //! Why an input is refused, and the parse errors of one that is not.
 
+use crate::codes::TEXTS;
 use crate::raw;
 use std::{error, fmt};
 
@@ -29,7 +30,7 @@ pub struct Error {
     pub at: u64,
 }
 
-const STATUSES: [&str; 16] = [
+const STATUSES: [&str; 18] = [
     "Ok",
     "NotUtf8",
     "OutOfProfile",
@@ -46,6 +47,8 @@ const STATUSES: [&str; 16] = [
     "TooShort",
     "NotText",
     "BadNumber",
+    "Null",
+    "BadSize",
 ];
 const ELEMENTS: [&str; 10] = [
     "", "math", "svg", "template", "select", "option", "optgroup", "frame", "frameset", "keygen",
@@ -139,24 +142,42 @@ impl fmt::Display for Error {
 
 impl error::Error for Error {}
 
-/// A parse error, which refuses nothing.
-#[derive(Clone, Debug, PartialEq, Eq, Hash)]
+/// The code of a parse error.
+#[repr(transparent)]
+#[derive(Clone, Copy, PartialEq, Eq, Hash)]
+pub struct ErrorCode(u32);
+
+impl ErrorCode {
+    /// As the HTML Standard spells it, as `eof-in-tag`; a code of the tree rules is `tree-` and the insertion mode.
+    pub fn text(self) -> &'static str {
+        TEXTS.get(self.0 as usize).copied().unwrap_or("?")
+    }
+
+    /// Its number in `jeanzircon.h`.
+    pub fn number(self) -> u32 {
+        self.0
+    }
+}
+
+impl fmt::Display for ErrorCode {
+    fn fmt(&self, f: &mut fmt::Formatter) -> fmt::Result {
+        f.write_str(self.text())
+    }
+}
+
+impl fmt::Debug for ErrorCode {
+    fn fmt(&self, f: &mut fmt::Formatter) -> fmt::Result {
+        f.write_str(self.text())
+    }
+}
+
+/// A parse error, which refuses nothing, as the library writes it.
+#[repr(C)]
+#[derive(Clone, Copy, Debug, PartialEq, Eq, Hash)]
 pub struct ParseError {
     /// Its byte in the input, from 0.
     pub at: u64,
-    /// Its code, as `eof-in-tag`.
-    pub code: String,
-}
-
-impl ParseError {
-    /// That of a line of `Task::Errors`.
-    pub(crate) fn of(line: &str) -> ParseError {
-        let (at, code) = line.split_once(' ').expect("a byte and a code");
-        ParseError {
-            at: at.parse().expect("a byte is a number"),
-            code: code.to_string(),
-        }
-    }
+    pub code: ErrorCode,
 }
 
 /// As the program says it: `2 eof-in-tag`.

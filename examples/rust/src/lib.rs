@@ -4,15 +4,17 @@
 //! The library's functions are proved; this crate is not, and keeps what they require: slices are Rust's, and no buffer overlaps
 //! another.
 
+mod codes;
 mod error;
 mod raw;
 mod table;
 
-pub use error::{Error, ErrorKind, ParseError};
+pub use error::{Error, ErrorCode, ErrorKind, ParseError};
 pub use table::{Table, QUIRKS};
 
 use std::collections::hash_map::RandomState;
 use std::hash::{BuildHasher, Hash, Hasher};
+use std::mem::size_of;
 use std::sync::OnceLock;
 use std::{fmt, ptr, str};
 
@@ -91,6 +93,7 @@ impl Default for Options<'_> {
 impl Options<'_> {
     fn raw(&self) -> raw::Options {
         raw::Options {
+            size: size_of::<raw::Options>(),
             context: raw::Bytes::of(self.context.as_bytes()),
             entities: raw::Bytes::of(self.entities.flat()),
             quirks: raw::Bytes::of(self.quirks.as_bytes()),
@@ -167,13 +170,9 @@ fn text_room(task: Task, input: &[u8]) -> usize {
     input.len() * if task == Task::Errors { 24 } else { 6 } + 1024
 }
 
-/// The parse errors of an input, in the order in which they are found.
+/// The parse errors of an input, in the order of their places.
 pub fn errors(input: &[u8], options: &Options) -> Result<Vec<ParseError>, Error> {
-    Ok(errors_of(&text(Task::Errors, input, options)?))
-}
-
-fn errors_of(lines: &str) -> Vec<ParseError> {
-    lines.lines().map(ParseError::of).collect()
+    Ok(parsed(WANT_ERRORS, input, options)?.errors)
 }
 
 /// Whether a fragment is plain in its context: it comes back when what is written of it is parsed.
@@ -220,7 +219,7 @@ pub struct Tree {
 #[derive(Debug)]
 pub struct Page {
     pub tree: Tree,
-    /// As `errors` gives them.
+    /// In the order of their places.
     pub errors: Vec<ParseError>,
     /// As `Task::Write` makes it.
     pub html: String,
@@ -229,30 +228,32 @@ pub struct Page {
 impl Page {
     /// Parses an input.
     pub fn parse(input: &[u8], options: &Options) -> Result<Page, Error> {
-        let (tree, errors, html) = parsed(true, input, options)?;
-        Ok(Page {
-            tree,
-            errors: errors_of(&utf8(errors)),
-            html: utf8(html),
-        })
+        parsed(WANT_ERRORS | WANT_HTML, input, options)
     }
 }
 
-/// The tree of an input, and where all is wanted the lines of its errors and its HTML.
-fn parsed(all: bool, input: &[u8], options: &Options) -> Result<(Tree, Vec<u8>, Vec<u8>), Error> {
+const WANT_ERRORS: u32 = 1;
+const WANT_HTML: u32 = 2;
+
+/// The tree of an input, and its errors and its HTML where they are wanted.
+fn parsed(wants: u32, input: &[u8], options: &Options) -> Result<Page, Error> {
     let (given, mut answer) = (options.raw(), raw::PageAnswer::default());
-    let mut rooms = [input.len() / 4 + 64, input.len() * 2 + 256, 0, 0];
-    if all {
-        rooms[2] = text_room(Task::Errors, input);
+    let few = input.len() / 4 + 64;
+    let mut rooms = [few, input.len() * 2 + 256, 0, 0];
+    if wants & WANT_ERRORS != 0 {
+        rooms[2] = few;
+    }
+    if wants & WANT_HTML != 0 {
         rooms[3] = text_room(Task::Write, input);
     }
     loop {
         let mut rows = with_room::<raw::Row>(rooms[0]);
-        let [mut words, mut errors, mut html] = [1, 2, 3].map(|it| with_room::<u8>(rooms[it]));
+        let mut errors = with_room::<ParseError>(rooms[2]);
+        let [mut words, mut html] = [1, 3].map(|it| with_room::<u8>(rooms[it]));
         // SAFETY: the memory is Rust's and does not overlap, and lives through the call.
         unsafe {
             raw::jz_page(
-                if all { 3 } else { 0 },
+                wants,
                 input.as_ptr(),
                 input.len(),
                 &given,
@@ -279,9 +280,14 @@ fn parsed(all: bool, input: &[u8], options: &Options) -> Result<(Tree, Vec<u8>, 
                     html.set_len(needed[3]);
                 }
                 words.shrink_to_fit();
+                errors.shrink_to_fit();
                 html.shrink_to_fit();
                 let root = u32::from(!options.context.is_empty());
-                return Ok((Tree::index(rows, words, root), errors, html));
+                return Ok(Page {
+                    tree: Tree::index(rows, words, root),
+                    errors,
+                    html: utf8(html),
+                });
             }
             TOO_SHORT if rooms != needed => rooms = needed,
             TOO_SHORT => return Err(Error::memory()),
@@ -293,7 +299,7 @@ fn parsed(all: bool, input: &[u8], options: &Options) -> Result<(Tree, Vec<u8>, 
 impl Tree {
     /// Parses an input.
     pub fn parse(input: &[u8], options: &Options) -> Result<Tree, Error> {
-        Ok(parsed(false, input, options)?.0)
+        Ok(parsed(0, input, options)?.tree)
     }
 
     /// Puts rows into their places by number, and finds their words.

@@ -1,5 +1,7 @@
 //! The library's functions and structs, as `include/jeanzircon.h` has them. Nothing compares the two.
 
+use crate::ParseError;
+
 #[repr(C)]
 #[derive(Clone, Copy)]
 pub struct Bytes {
@@ -18,6 +20,7 @@ impl Bytes {
 
 #[repr(C)]
 pub struct Options {
+    pub size: usize,
     pub context: Bytes,
     pub entities: Bytes,
     pub quirks: Bytes,
@@ -84,7 +87,7 @@ extern "C" {
         row_room: usize,
         words: *mut u8,
         word_room: usize,
-        errors: *mut u8,
+        errors: *mut ParseError,
         error_room: usize,
         text: *mut u8,
         text_room: usize,

@@ -2,7 +2,7 @@
 
 use jeanzircon::{
     errors, is_plain, links, text, version, BadBytes, Doctype, Error, ErrorKind, Kind, Options,
-    Page, ParseError, Parser, Table, Task, Tree,
+    Page, Parser, Table, Task, Tree,
 };
 use std::collections::HashSet;
 
@@ -105,18 +105,14 @@ fn a_deep_tree_is_shown() {
 #[test]
 fn parse_errors_are_values() {
     let found = errors(b"<p>&\0<p", &div()).unwrap();
-    let of = |at, code: &str| ParseError {
-        at,
-        code: code.to_string(),
-    };
-    assert_eq!(
-        found,
-        [
-            of(4, "unexpected-null-character"),
-            of(4, "tree-in-body"),
-            of(7, "eof-in-tag")
-        ]
-    );
+    let told: Vec<_> = found.iter().map(|it| (it.at, it.code.text())).collect();
+    let wanted = [
+        (4, "unexpected-null-character"),
+        (4, "tree-in-body"),
+        (7, "eof-in-tag"),
+    ];
+    assert_eq!(told, wanted);
+    assert_eq!(found[2].code.number(), 17);
     assert_eq!(found[2].to_string(), "7 eof-in-tag");
     assert_eq!(errors(b"<p>", &div()).unwrap(), []);
     assert_eq!(errors(b"<svg>", &div()).unwrap_err().at(), Some(0));
@@ -233,6 +229,8 @@ fn one_parse_gives_all() {
             let tree = Tree::parse(page, &options).unwrap();
             assert_eq!(format!("{:?}", all.tree), format!("{tree:?}"));
             assert_eq!(all.errors, errors(page, &options).unwrap());
+            let lines: String = all.errors.iter().map(|it| format!("{it}\n")).collect();
+            assert_eq!(lines, text(Task::Errors, page, &options).unwrap());
             assert_eq!(all.html, text(Task::Write, page, &options).unwrap());
         }
     }

@@ -4,6 +4,7 @@ use Rattle.html_c.proofs.answer.Given.options.Goals as goal
 
 pub returns : goal.returns
 returns c = record {
+  size = c.requires.size;
   context = c.requires.context;
   piece = c.requires.piece;
   table = c.requires.lists.0;
