@@ -1,11 +1,8 @@
 -- What is kept of a list of numbers, under each change.
-use Rattle.std.proofs.Common.{◌≡◌, ◌≢◌, ℕ, suc, ◌<◌, ◌≤◌, ◌%◌, false, List, [], ◌∷◌, ◌++◌, length, map, take, get_or, set, inl, inr, refl, sym, ◌∙◌, ap, subst, arith}
-use Rattle.std.proofs.lemmas.Bool.{cases_eq, cases_lt}
-use Rattle.std.proofs.lemmas.List.{get_or-set_same, get_or-set_other, get_or-map, get_or-take, get_or_push}
-use Rattle.std.proofs.lemmas.List.{length-map, length-set, length-take-le, length_push, take-map, take-append-le, take_all}
-use Rattle.hchain.specs.Chains.{none, last_up}
-use Rattle.hchain.specs.Linked.{number_of, before_of, numbers_of, befores_of, is_in, Keep, Says, IsChained}
-use Rattle.hchain.specs.declared.chains.Link.{Link}
+use Rattle.hchain.proofs.Names.{◌≡◌, ◌≢◌, ℕ, suc, ◌<◌, ◌≤◌, ◌%◌, false, List, [], ◌∷◌, ◌++◌, length, map, take, get_or, set, inl, inr, refl, sym, ◌∙◌, ap, subst, arith, cases_lt, get_or-set_same, get_or-set_other, get_or-map, length-map, length-set, length-take-le, length_push, take-map, take-append-le, none, last_up, number_of, before_of, numbers_of, befores_of, is_in, Keep, Says, IsChained, Link}
+use Rattle.std.proofs.lemmas.Bool.{cases_eq}
+use Rattle.std.proofs.lemmas.List.{get_or-take, get_or_push}
+use Rattle.std.proofs.lemmas.List.{take_all}
 use Rattle.hchain.proofs.Groups.{nearest, own_nearest, in-group, not-in-group, none-in-group}
 use Rattle.hchain.proofs.LastUp.{up-sought, up-other, up-within, up-alike}
 

@@ -1,9 +1,5 @@
 -- A number is taken out of a list that keeps where its groups are, or comes in where nothing is.
-use Rattle.std.proofs.Common.{◌≡◌, ◌≢◌, ℕ, suc, ◌<◌, ◌≤◌, ◌%◌, Bool, List, length, get_or, set, refl, sym, ◌∙◌, ap, subst, add-one, arith}
-use Rattle.std.proofs.lemmas.List.{get_or-set_same, get_or-set_other, length-set}
-use Rattle.hchain.specs.Chains.{none, last_up}
-use Rattle.hchain.specs.Linked.{numbers_of, is_in, IsChained}
-use Rattle.hchain.specs.declared.chains.Link.{Link}
+use Rattle.hchain.proofs.Names.{◌≡◌, ◌≢◌, ℕ, suc, ◌<◌, ◌≤◌, ◌%◌, Bool, List, length, get_or, set, refl, sym, ◌∙◌, ap, subst, add-one, arith, get_or-set_same, get_or-set_other, length-set, none, last_up, numbers_of, is_in, IsChained, Link}
 use Rattle.hchain.proofs.LastUp.{up-sought, up-other, up-within, up-alike}
 use Rattle.hchain.proofs.Relinked.{nth, IsNext, Fit, Differ, next-same, differ-set, not-in, group-in, length-numbers, number-at, before-at}
 

@@ -1,9 +1,6 @@
 -- Groups of numbers, and where one is last among the first links.
-use Rattle.std.proofs.Common.{◌≡◌, ◌≢◌, ℕ, ◌%◌, true, false, not, eqb, List, get_or}
-use Rattle.std.proofs.lemmas.Bool.{eqb-true, eqb-false, eq-eqb, ne_eqb, and_parts, and_from, and_left, and_right, not_from_false, not_from_true, not-true}
-use Rattle.hchain.specs.Chains.{none, last_up}
-use Rattle.hchain.specs.Linked.{is_in, numbers_of}
-use Rattle.hchain.specs.declared.chains.Link.{Link}
+use Rattle.hchain.proofs.Names.{◌≡◌, ◌≢◌, ℕ, ◌%◌, true, false, not, eqb, List, get_or, eqb-true, eqb-false, eq-eqb, ne_eqb, not_from_false, not_from_true, none, last_up, is_in, numbers_of, Link}
+use Rattle.std.proofs.lemmas.Bool.{and_parts, and_from, and_left, and_right, not-true}
 
 abbrev pub nearest : List Link → (width group : ℕ) → ℕ → ℕ
 nearest links width group k = last_up (is_in width group) (numbers_of links) k

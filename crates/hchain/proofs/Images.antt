@@ -1,10 +1,8 @@
 -- A list and its image, where a test of the image is a test of the list.
-use Rattle.std.proofs.Common.{◌≡◌, ℕ, ◌+◌, zero, suc, Bool, true, false, cond, not, ◌&&◌, ◌||◌, List, [], ◌∷◌, map, Option, Some, None, refl, ◌∙◌}
+use Rattle.hchain.proofs.Names.{◌≡◌, ℕ, ◌+◌, zero, suc, Bool, true, false, cond, not, ◌&&◌, ◌||◌, List, [], ◌∷◌, map, Option, Some, None, refl, ◌∙◌, list_any, list_all, length-map, before, after, without, changed, put_before, changed_at}
 use Rattle.std.specs.Prelude.{if◌then◌else◌, filter, find, nat_lt, position}
-use Rattle.std.specs.List.{list_any, list_all, prefix_len}
+use Rattle.std.specs.List.{prefix_len}
 use Rattle.std.specs.Option.{option_map}
-use Rattle.std.proofs.lemmas.List.{length-map}
-use Rattle.hchain.specs.Nearest.{before, after, without, changed, put_before, changed_at}
 
 module _ {X Y : Type 0} (h : X → Y) (p : X → Bool) (q : Y → Bool) (e : (x : X) → q (h x) ≡ p x) where
   pub before-map : (xs : List X) → before q (map h xs) ≡ map h (before p xs)

@@ -1,7 +1,5 @@
 -- Where a number that is sought is last among the first of a list.
-use Rattle.std.proofs.Common.{◌≡◌, ℕ, zero, suc, ◌-◌, ◌<◌, ◌≤◌, Bool, true, false, cond, List, get_or, ◌⊎◌, inl, inr, refl, sym, ◌∙◌, ap, arith}
-use Rattle.std.proofs.lemmas.Bool.{cases_Bool, cases_lt, false≢true}
-use Rattle.hchain.specs.Chains.{last_up}
+use Rattle.hchain.proofs.Names.{◌≡◌, ℕ, zero, suc, ◌-◌, ◌<◌, ◌≤◌, Bool, true, false, cond, List, get_or, ◌⊎◌, inl, inr, refl, sym, ◌∙◌, ap, arith, cases_Bool, cases_lt, false≢true, last_up}
 
 module _ (s : ℕ → Bool) (xs : List ℕ) where
   -- the next number is sought, or it is not

@@ -1,9 +1,7 @@
 -- The fields of a list of numbers as an edit of them is given them, and as it leaves them.
-use Rattle.std.proofs.Common.{◌≡◌, ℕ, ◌<◌, Result, Ok, Err, List, length, sym, subst, ap, arith}
+use Rattle.hchain.proofs.Names.{◌≡◌, ℕ, ◌<◌, List, length, sym, subst, ap, arith, length-map, number_of, numbers_of, AreChains, Link}
+use Rattle.std.proofs.Common.{Result, Ok, Err}
 use Rattle.std.specs.Result.{OnErr}
-use Rattle.std.proofs.lemmas.List.{length-map}
-use Rattle.hchain.specs.Linked.{number_of, numbers_of, AreChains}
-use Rattle.hchain.specs.declared.chains.Link.{Link}
 
 pub lent : (last last' : List ℕ) (links links' : List Link) → last' ≡ last → links' ≡ links → AreChains last links → AreChains last' links'
 lent last last' links links' e f are =

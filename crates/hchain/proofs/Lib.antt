@@ -1,3 +1,4 @@
+pub mod Names
 pub mod LastUp
 pub mod Groups
 pub mod Walked

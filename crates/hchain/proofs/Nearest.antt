@@ -1,12 +1,12 @@
 -- A vector whose last member is the nearest, and what an edit of it is in the words on lists.
-use Rattle.std.proofs.Common.{◌≡◌, ℕ, zero, suc, ◌+◌, ◌<◌, ◌≤◌, Bool, true, false, cond, ltb, not, List, [], ◌∷◌, ◌++◌, Option, Some, None, length, get_or, set, take, drop, map, reverse, ◌||◌, ◌⊎◌, inl, inr, refl, sym, ◌∙◌, ap, arith}
-use Rattle.std.specs.List.{find, insert, remove, remove_range, slice_get, position, position_or_len, list_any}
+use Rattle.hchain.proofs.Names.{◌≡◌, ℕ, zero, suc, ◌+◌, ◌<◌, ◌≤◌, Bool, true, false, cond, not, List, [], ◌∷◌, ◌++◌, Option, Some, None, length, get_or, set, take, drop, map, ◌||◌, ◌⊎◌, inl, inr, refl, sym, ◌∙◌, ap, arith, position, position_or_len, list_any, lt-ltb, le-ltb, cases_lt, map-append, length-map, length-drop, get_or-map, before, after, without, changed, put_before, changed_at}
+use Rattle.std.proofs.Common.{ltb, reverse}
+use Rattle.std.specs.List.{find, insert, remove, remove_range, slice_get}
 use Rattle.std.specs.Option.{is_some, IfSome}
-use Rattle.std.proofs.lemmas.Bool.{ltb-true, ltb-false, lt-ltb, le-ltb, cases_lt}
-use Rattle.std.proofs.lemmas.List.{map-append, reverse-append, append_assoc, length-map, length-reverse, length-drop, take-append-drop, set_split, take_at, drop_at, get_or-map, get_or-reverse}
+use Rattle.std.proofs.lemmas.Bool.{ltb-true, ltb-false}
+use Rattle.std.proofs.lemmas.List.{reverse-append, append_assoc, length-reverse, take-append-drop, set_split, take_at, drop_at, get_or-reverse}
 use Rattle.std.proofs.lemmas.Option.{slice_get-get_or, cond_some}
 use Rattle.hchain.proofs.Images.{position-map}
-use Rattle.hchain.specs.Nearest.{before, after, without, changed, put_before, changed_at}
 
 module _ {Y : Type 0} (sought : Y → Bool) where
   -- the words where the nearest that is sought has this many before it

@@ -1,10 +1,7 @@
 -- The place of the nearest that is sought, and the searches of std.
-use Rattle.std.proofs.Common.{◌≡◌, ℕ, suc, ◌+◌, ◌-◌, ◌<◌, ◌≤◌, Bool, true, false, cond, not, ◌&&◌, List, [], ◌∷◌, Some, None, length, refl, arith}
+use Rattle.hchain.proofs.Names.{◌≡◌, ℕ, suc, ◌+◌, ◌-◌, ◌<◌, ◌≤◌, Bool, true, false, cond, not, ◌&&◌, List, [], ◌∷◌, Some, None, length, refl, arith, list_all, position, position_or_len, lt-ltb, le-ltb, last_place}
 use Rattle.std.specs.Prelude.{nat_eq}
-use Rattle.std.specs.List.{list_all, position, position_or_len}
 use Rattle.std.proofs.Math.Dec.{eqb-suc-zero}
-use Rattle.std.proofs.lemmas.Bool.{lt-ltb, le-ltb}
-use Rattle.hchain.specs.Places.{last_place}
 
 module _ {X : Type 0} (sought : X → Bool) where
   pub last_place-le : (xs : List X) → last_place sought xs ≤ length xs

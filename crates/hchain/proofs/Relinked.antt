@@ -1,11 +1,6 @@
 -- A list of numbers that keeps where its groups are, where one number changes.
-use Rattle.std.proofs.Common.{◌≡◌, ◌≢◌, ℕ, zero, suc, ◌+◌, ◌-◌, ◌<◌, ◌≤◌, ◌%◌, eqb, Bool, true, false, cond, not, ◌&&◌, List, length, get_or, set, ◌⊎◌, inl, inr, refl, sym, ◌∙◌, ap, subst, add-one, arith}
-use Rattle.std.proofs.lemmas.Bool.{cases_Bool, cases_lt, false≢true, eqb-true, eqb-false, eq-eqb, false_from_ne_true}
-use Rattle.std.proofs.lemmas.List.{get_or-set_same, get_or-set_other, length-map, length-set, map-set}
+use Rattle.hchain.proofs.Names.{◌≡◌, ◌≢◌, ℕ, zero, suc, ◌+◌, ◌-◌, ◌<◌, ◌≤◌, ◌%◌, eqb, Bool, true, false, cond, not, ◌&&◌, List, length, get_or, set, ◌⊎◌, inl, inr, refl, sym, ◌∙◌, ap, subst, add-one, arith, cases_Bool, cases_lt, false≢true, eqb-true, eqb-false, eq-eqb, false_from_ne_true, get_or-set_same, get_or-set_other, length-map, length-set, map-set, none, last_up, number_of, before_of, numbers_of, befores_of, is_in, Keep, Says, IsChained, Link}
 use Rattle.std.proofs.Math.ListN.{get_or-map}
-use Rattle.hchain.specs.Chains.{none, last_up}
-use Rattle.hchain.specs.Linked.{number_of, before_of, numbers_of, befores_of, is_in, Keep, Says, IsChained}
-use Rattle.hchain.specs.declared.chains.Link.{Link}
 use Rattle.hchain.proofs.LastUp.{up-within, up-found, up-least, up-past, up-alike, up-alike-from}
 
 -- a link, or an empty one past the end
@@ -35,9 +30,6 @@ pub record IsNext (s : ℕ → Bool) (xs : List ℕ) (i next : ℕ) : Type 0 whe
   pub least : (j : ℕ) → i < j → j < length xs → s (get_or xs j 0) ≡ true → (0 < next) × (next ≤ suc j)
 
 module _ (w g : ℕ) where
-  pub in-none : is_in w g none ≡ false
-  in-none = refl
-
   -- what is in a group
   pub in-group : (n : ℕ) → is_in w g n ≡ true → (n ≢ none) × (n % w ≡ g)
   in-group n e = go (eqb n 1) (eqb (n % w) g) refl refl e

@@ -1,10 +1,6 @@
 -- What numbers keep where they move to a neighbouring place.
-use Rattle.std.proofs.Common.{◌≡◌, ◌≢◌, ℕ, suc, ◌+◌, ◌-◌, ◌<◌, ◌≤◌, ◌%◌, Bool, true, false, List, length, get_or, set, ◌⊎◌, inl, inr, refl, sym, ◌∙◌, ap, subst, add-one, arith}
-use Rattle.std.proofs.lemmas.Bool.{cases_lt, false≢true}
-use Rattle.std.proofs.lemmas.List.{get_or-set_same, get_or-set_other, length-set, set-set, set_comm}
-use Rattle.hchain.specs.Chains.{none, last_up}
-use Rattle.hchain.specs.Linked.{is_in}
-use Rattle.hchain.specs.declared.chains.Link.{Link}
+use Rattle.hchain.proofs.Names.{◌≡◌, ◌≢◌, ℕ, suc, ◌+◌, ◌-◌, ◌<◌, ◌≤◌, ◌%◌, Bool, true, false, List, length, get_or, set, ◌⊎◌, inl, inr, refl, sym, ◌∙◌, ap, subst, add-one, arith, cases_lt, false≢true, get_or-set_same, get_or-set_other, length-set, set_comm, none, last_up, is_in, Link}
+use Rattle.std.proofs.lemmas.List.{set-set}
 use Rattle.hchain.proofs.LastUp.{up-sought, up-other, up-alike}
 use Rattle.hchain.proofs.Relinked.{IsNext, Fit, next-same, group-in, not-in}
 

@@ -1,8 +1,6 @@
 -- Lists whose tail is written anew.
-use Rattle.std.proofs.Common.{◌≡◌, ℕ, ◌+◌, ◌≤◌, Bool, true, false, cond, List, [], ◌∷◌, ◌++◌, length, map, take, refl, sym, ◌∙◌, ap}
-use Rattle.std.proofs.lemmas.List.{take-append-le, length-take-le}
+use Rattle.hchain.proofs.Names.{◌≡◌, ℕ, ◌+◌, ◌≤◌, Bool, true, false, cond, List, [], ◌∷◌, ◌++◌, length, map, take, refl, sym, ◌∙◌, ap, take-append-le, length-take-le, filter}
 use Rattle.std.proofs.Math.Seq.{take-append-add}
-use Rattle.std.specs.List.{filter}
 
 -- what is left of a list whose tail begins anew
 pub take-anew : {X : Type 0} (a k : ℕ) (xs ys zs : List X) → a ≤ length xs → k ≤ length ys → take (a + k) (take a xs ++ (ys ++ zs)) ≡ take a xs ++ take k ys

@@ -1,10 +1,6 @@
 -- The walk down a group to where a number is.
-use Rattle.std.proofs.Common.{◌≡◌, ◌≢◌, ℕ, zero, suc, ◌<◌, ◌≤◌, ◌-◌, ◌%◌, Bool, true, false, eqb, List, length, get_or, refl, sym, ◌∙◌, ap, subst, arith}
-use Rattle.std.proofs.lemmas.Bool.{eqb-true, eq-eqb, ne_eqb, cond_both, both_ways, false_from_ne_true}
-use Rattle.std.proofs.lemmas.List.{get_or-map, get_or_default, length-map}
-use Rattle.hchain.specs.Chains.{none, last_up}
-use Rattle.hchain.specs.Linked.{number_of, before_of, numbers_of, befores_of, is_in, Keep, IsChained}
-use Rattle.hchain.specs.declared.chains.Link.{Link}
+use Rattle.hchain.proofs.Names.{◌≡◌, ◌≢◌, ℕ, zero, suc, ◌<◌, ◌≤◌, ◌-◌, ◌%◌, Bool, true, false, eqb, List, length, get_or, refl, sym, ◌∙◌, ap, subst, arith, eqb-true, eq-eqb, ne_eqb, false_from_ne_true, get_or-map, get_or_default, length-map, none, last_up, number_of, before_of, numbers_of, befores_of, is_in, Keep, IsChained, Link}
+use Rattle.std.proofs.lemmas.Bool.{cond_both, both_ways}
 use Rattle.hchain.proofs.Groups.{nearest, in-group, group-of}
 use Rattle.hchain.proofs.LastUp.{up-sought, up-other, up-within, up-found}
 

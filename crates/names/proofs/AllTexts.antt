@@ -1,16 +1,9 @@
 -- Texts for all numbers.
-use Rattle.std.proofs.Common.{◌≡◌, ℕ, ◌+◌, ◌<◌, ◌≤◌, zero, suc, Bool, true, false, cond, List, [], ◌∷◌, length, map, sym, refl, ap, ◌∙◌, subst, arith, inl, inr}
-use Rattle.std.specs.Prelude.{bytes_eq, replicate, nat_eq, nat_le}
-use Rattle.std.specs.List.{list_all}
-use Rattle.std.proofs.lemmas.List.{length-replicate, length-append, get_or_past}
-use Rattle.std.proofs.lemmas.Bool.{cases_lt, leb-true, lt-ltb, le-ltb, and_parts}
+use Rattle.names.proofs.Vocabulary.{◌≡◌, ℕ, ◌+◌, ◌<◌, ◌≤◌, zero, suc, Bool, true, false, cond, List, [], ◌∷◌, length, map, sym, refl, ap, ◌∙◌, subst, arith, inl, inr, bytes_eq, replicate, nat_le, list_all, length-replicate, length-append, get_or_past, cases_lt, leb-true, and_parts, slice_get-get_or, slice_get_within, get_or_from_slice_get, Tag, Other, tag_text, tags, tag_of, tag_named, tag_among, type_name, Texts, text_of, AreDistinct, AreNames, total, spelling}
+use Rattle.std.specs.Prelude.{nat_eq}
+use Rattle.std.proofs.lemmas.Bool.{lt-ltb, le-ltb}
 use Rattle.std.proofs.lemmas.Bool.Decides.{eqb_tells}
-use Rattle.std.proofs.lemmas.Option.{slice_get-get_or, slice_get_within, get_or_from_slice_get}
-use Rattle.names.specs.declared.tag.Tag.{Tag}
-use Rattle.names.specs.declared.tag.Tag.TheVariants.{Other}
-use Rattle.names.specs.Tags.{tag_text, tags, tag_of, tag_named, tag_among, type_name}
-use Rattle.names.specs.Names.{Texts, text_of, AreDistinct, AreNames}
-use Rattle.names.specs.Spelling.{IsSpelled, total, spelling}
+use Rattle.names.specs.Spelling.{IsSpelled}
 use Rattle.names.proofs.KnownTags.{different, after_tags, tag_of-named}
 use Rattle.names.proofs.TableLemmas.{bytes_eq-same}
 

@@ -1,7 +1,7 @@
 -- Laws of handing items to a sink, and of tables that grow.
-use Rattle.std.proofs.Common.{◌≡◌, ℕ, zero, suc, List, [], ◌∷◌, ◌++◌, sym, refl, ap, ◌∙◌, subst, Result, Ok, Err, Some, append-nil, append_assoc}
-use Rattle.std.specs.Prelude.{slice_get}
-use Rattle.names.specs.Names.{Texts, Grows}
+use Rattle.names.proofs.Vocabulary.{◌≡◌, ℕ, zero, suc, List, [], ◌∷◌, ◌++◌, sym, ap, ◌∙◌, subst, Some, append-nil, append_assoc, slice_get, Texts}
+use Rattle.std.proofs.Common.{Result, Ok, Err}
+use Rattle.names.specs.Names.{Grows}
 use Rattle.names.specs.Sink.{Hands, Continues}
 
 -- a number keeps its text
@@ -30,20 +30,9 @@ module _ {S X E : Type 0} (gives : S → X → Result (Unit {0}) E → S → Typ
   Hands-append old mid new (x ∷ xs) ys answer (Ok u, next, given, more) k = (Ok u, next, given, Hands-append next mid new xs ys answer more k)
   Hands-append old mid new (x ∷ xs) ys answer (Err e, next, given, more) k = let no_way = more.0 in absurd cc
 
-  -- one item alone
-  pub Hands-one : (old new : S) (x : X) → gives old x (Ok tt) new → Hands gives old (x ∷ []) (Ok tt) new
-  Hands-one old new x given = (Ok tt, new, given, (refl, refl))
-
-  pub Hands-refused : (old new : S) (x : X) (e : E) → gives old x (Err e) new → Hands gives old (x ∷ []) (Err e) new
-  Hands-refused old new x e given = (Err e, new, given, (refl, refl))
-
   -- more items were handed over, and what is left goes on from there
   pub Continues-more : (old now next : S) (items xs rest : List X) → Continues gives old items now (xs ++ rest) → Hands gives now xs (Ok tt) next → Continues gives old items next rest
   Continues-more old now next items xs rest continues given = λ answer new h. continues answer new (Hands-append now next new xs rest answer given h)
-
-  -- all is handed over where nothing is left
-  pub Continues-none : (old now : S) (items : List X) → Continues gives old items now [] → Hands gives old items (Ok tt) now
-  Continues-none old now items continues = continues (Ok tt) now (refl, refl)
 
   pub Continues-all : (old : S) (items : List X) → Continues gives old items old items
   Continues-all old items = λ answer new h. h

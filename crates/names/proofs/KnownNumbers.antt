@@ -1,16 +1,8 @@
 -- A known name and its number determine each other.
-use Rattle.std.proofs.Common.{◌≡◌, ℕ, List, ◌++◌, drop, length, map, get_or, Some, sym, refl, ap, ◌∙◌, subst, zero-add, inl, inr}
-use Rattle.std.proofs.lemmas.List.{take-append-drop, get_or_past, get_or-map}
-use Rattle.std.proofs.lemmas.List.FromFn.{get_or-range_with_len}
-use Rattle.std.proofs.lemmas.Bool.{cases_lt}
-use Rattle.std.specs.Prelude.{slice_get}
-use Rattle.std.specs.List.{range_with_len}
+use Rattle.names.proofs.Vocabulary.{◌≡◌, ℕ, List, ◌++◌, drop, length, map, get_or, Some, sym, refl, ap, ◌∙◌, subst, zero-add, inl, inr, take-append-drop, get_or_past, get_or-map, get_or-range_with_len, cases_lt, slice_get, range_with_len, Tag, Other, tag_text, tags, known, tag_of, Texts, AreNames}
 use denote.Enum.Declared as enum
 use Rattle.names.specs.contracts.tag.Tag as contract
-use Rattle.names.specs.declared.tag.Tag.{Tag}
-use Rattle.names.specs.declared.tag.Tag.TheVariants.{Other}
-use Rattle.names.specs.Tags.{tag_text, tags, known, tag_of, number_of}
-use Rattle.names.specs.Names.{Texts, AreNames}
+use Rattle.names.specs.Tags.{number_of}
 use Rattle.names.proofs.Handing.{slice_get-append}
 
 -- the known names are in the order of their numbers

@@ -1,14 +1,6 @@
 -- The known name of a number is the one of its text.
-use Rattle.std.proofs.Common.{◌≡◌, ℕ, ◌<◌, Bool, true, false, List, [], ◌∷◌, ◌++◌, take, drop, length, map, get_or, Some, sym, refl, ap, ◌∙◌, subst, append_assoc, arith, cond, suc, zero}
-use Rattle.std.proofs.lemmas.List.{take-append-drop, get_or_past}
-use Rattle.std.proofs.lemmas.Option.{slice_get_within, get_or_from_slice_get}
-use Rattle.std.proofs.lemmas.Slice.Eq.{bytes_eq-Decides}
-use Rattle.std.specs.List.{list_any}
-use Rattle.std.specs.Prelude.{bytes_eq, slice_get, ◌||◌}
-use Rattle.names.specs.declared.tag.Tag.{Tag}
-use Rattle.names.specs.declared.tag.Tag.TheVariants.{Other}
-use Rattle.names.specs.Tags.{tag_text, tags, tag_of, tag_named, tag_among, type_name}
-use Rattle.names.specs.Names.{Texts, text_of, AreDistinct, AreNames}
+use Rattle.names.proofs.Vocabulary.{◌≡◌, ℕ, ◌<◌, Bool, true, false, List, [], ◌∷◌, ◌++◌, drop, length, map, get_or, Some, sym, refl, ap, ◌∙◌, subst, append_assoc, arith, cond, suc, zero, take-append-drop, get_or_past, slice_get_within, get_or_from_slice_get, bytes_eq-Decides, list_any, bytes_eq, slice_get, ◌||◌, Tag, Other, tag_text, tags, tag_of, tag_named, tag_among, type_name, Texts, text_of, AreDistinct, AreNames}
+use Rattle.std.proofs.Common.{take}
 
 pub different : (a b : List ℕ) → (a ≡ b → ⊥) → bytes_eq a b ≡ false
 different a b h = elim (bytes_eq a b) as (λ v. bytes_eq a b ≡ v → v ≡ false) [ true ↦ λ e. absurd (h ((bytes_eq-Decides a b).0 e)) | false ↦ λ e. refl ] refl

@@ -1,18 +1,9 @@
 -- The known names as they are in every table.
-use Rattle.std.proofs.Common.{subst, ◌≡◌, ℕ, suc, ◌+◌, ◌<◌, ◌≤◌, Bool, true, false, ◌&&◌, ◌||◌, nat_lt, List, [], ◌∷◌, length, map, sym, refl, ap, ◌∙◌, arith, inl, inr, get_or, Option, Some, None, zero-add, replicate, subst}
-use Rattle.std.proofs.lemmas.Bool.{and_parts, cases_lt, false≢true, leb-true, ltb-true}
-use Rattle.std.proofs.lemmas.List.{get_or-map, get_or-replicate}
-use Rattle.std.proofs.lemmas.List.FromFn.{get_or-range_with_len}
-use Rattle.std.proofs.lemmas.Option.{get_or_from_slice_get, slice_get-get_or, slice_get-map}
-use Rattle.std.proofs.lemmas.Slice.Eq.{bytes_eq-Decides}
-use Rattle.std.specs.Prelude.{bytes_eq, nat_le, option_map, slice_get}
-use Rattle.std.specs.List.{list_any, position, range_with_len}
-use Rattle.names.specs.Names.{Texts, text_of, AreDistinct}
+use Rattle.names.proofs.Vocabulary.{◌≡◌, ℕ, suc, ◌+◌, ◌<◌, ◌≤◌, Bool, true, false, ◌&&◌, ◌||◌, nat_lt, List, [], ◌∷◌, length, map, sym, refl, ap, ◌∙◌, arith, inl, inr, get_or, Option, Some, None, zero-add, replicate, and_parts, cases_lt, leb-true, get_or-map, get_or-range_with_len, get_or_from_slice_get, slice_get-get_or, slice_get-map, bytes_eq-Decides, bytes_eq, nat_le, option_map, slice_get, list_any, position, range_with_len, Texts, text_of, AreDistinct, known, tags, tag_text, type_name, Tag, A}
+use Rattle.std.proofs.lemmas.Bool.{false≢true, ltb-true}
+use Rattle.std.proofs.lemmas.List.{get_or-replicate}
 use Rattle.names.specs.Table.{letter_of}
-use Rattle.names.specs.Tags.{known, tags, tag_text, type_name}
 use Rattle.names.specs.declared.known.TheConstants.{FIRST}
-use Rattle.names.specs.declared.tag.Tag.{Tag}
-use Rattle.names.specs.declared.tag.Tag.TheVariants.{A}
 use Rattle.names.proofs.Handing.{slice_get-append}
 use Rattle.names.proofs.KnownTags.{different}
 
@@ -100,6 +91,3 @@ none_known text h other = none_any (bytes_eq text) known (λ i within. elim (cas
       false≢true (sym (none_at text i (letter_of text) h s) ∙ (bytes_eq-Decides (text_of known i) text).1 (sym e)))
   | inr past ↦ let e : i ≡ 127 = omega (arith, within, past) in ap (λ (n : ℕ). bytes_eq text (text_of known n)) e ∙ other
 ])
-
-pub none_without : (text : List ℕ) → letter_of text ≡ None → list_any (bytes_eq text) known ≡ false
-none_without text h = none_known text (subst (λ o. IsNoneOf o text) (sym h) tt) (different text type_name (λ e. let k : Some 19 ≡ None = sym (ap letter_of e) ∙ h in cc))

@@ -1,11 +1,6 @@
 -- A table with one text more spells the numbers of the table as it did, and all others differently.
-use Rattle.std.proofs.Common.{◌≡◌, ℕ, zero, suc, ◌+◌, ◌<◌, ◌≤◌, List, [], ◌∷◌, ◌++◌, length, sym, refl, ap, ◌∙◌, arith, inl, inr}
-use Rattle.std.specs.Prelude.{replicate}
-use Rattle.std.proofs.lemmas.List.{length-replicate, length-append, length-take, take-append-le}
-use Rattle.std.proofs.lemmas.Bool.{cases_lt}
-use Rattle.names.specs.Names.{Texts, text_of, AreDistinct, AreNames}
-use Rattle.names.specs.Tags.{known}
-use Rattle.names.specs.Spelling.{total, spelling}
+use Rattle.names.proofs.Vocabulary.{◌≡◌, ℕ, zero, suc, ◌+◌, ◌<◌, ◌≤◌, List, [], ◌∷◌, ◌++◌, length, sym, refl, ap, ◌∙◌, arith, inl, inr, replicate, length-replicate, length-append, cases_lt, Texts, text_of, AreDistinct, AreNames, known, total, spelling}
+use Rattle.std.proofs.lemmas.List.{length-take, take-append-le}
 use Rattle.names.proofs.AllTexts.{length-text_of, spelled_within, spelled_beyond}
 
 text_of-first : (names : Texts) (x : List ℕ) (id : ℕ) → id < length names → text_of (names ++ x ∷ []) id ≡ text_of names id

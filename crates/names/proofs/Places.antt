@@ -1,10 +1,7 @@
 -- Where a text is among the texts of a table.
-use Rattle.std.proofs.Common.{◌≡◌, ℕ, suc, ◌+◌, Bool, true, false, ◌||◌, cond, List, [], ◌∷◌, ◌++◌, length, map, sym, refl, ap, ◌∙◌, arith, Some, string_bytes}
+use Rattle.names.proofs.Vocabulary.{◌≡◌, ℕ, suc, ◌+◌, Bool, true, false, ◌||◌, cond, List, [], ◌∷◌, ◌++◌, length, map, sym, refl, ap, ◌∙◌, arith, Some, string_bytes, get_or_from_slice_get, slice_get_within, String, bytes_eq, option_map, slice_get, list_any, position, known}
 use Rattle.std.proofs.lemmas.Iterator.Adapters.{position_from-zero}
-use Rattle.std.proofs.lemmas.Option.{get_or_from_slice_get, slice_get_within}
-use Rattle.std.specs.Prelude.{String, bytes_eq, option_map, slice_get}
-use Rattle.std.specs.List.{list_any, position, position_from}
-use Rattle.names.specs.Tags.{known}
+use Rattle.std.specs.List.{position_from}
 use Rattle.names.proofs.KnownTexts.{place_of}
 
 module _ {X : Type 0} (test : X → Bool) where

@@ -1,26 +1,21 @@
 -- Laws of a table's texts.
-use Rattle.std.proofs.Common.{◌≡◌, ℕ, zero, suc, ◌+◌, ◌-◌, ◌<◌, ◌≤◌, ◌^◌, true, false, List, [], ◌∷◌, ◌++◌, length, map, get_or, Option, Some, None, sym, refl, ap, ◌∙◌, arith, rules}
-use Rattle.std.proofs.lemmas.List.{append_assoc, map-append, get_or_append_left, length-append}
+use Rattle.names.proofs.Vocabulary.{◌≡◌, ℕ, zero, suc, ◌+◌, ◌<◌, ◌≤◌, true, false, List, [], ◌∷◌, ◌++◌, length, map, get_or, Option, Some, None, sym, refl, ap, ◌∙◌, arith, length-append, bytes_eq-Decides, String, option_map, slice_get, position, list_all, list_any, append-nil, zero-add, cond, nat_lt, not, ◌&&◌, cases_lt, and_parts, slice_get-get_or, slice_get-map, inl, inr, Texts, text_of, AreDistinct, AreNames, known, AreOthers}
+use Rattle.std.proofs.Common.{◌-◌, ◌^◌, rules}
+use Rattle.std.proofs.lemmas.List.{append_assoc, map-append, get_or_append_left}
 use Rattle.std.proofs.lemmas.Map.Keys.{apart_from_distinct}
-use Rattle.std.proofs.lemmas.Slice.Eq.{bytes_eq-Decides}
 use Rattle.std.proofs.lemmas.List.Quantifiers.{position-Some}
 use Rattle.std.proofs.lemmas.Grind.{common_steps}
-use Rattle.std.specs.Prelude.{String, option_map, slice_get}
-use Rattle.std.specs.List.{IsDistinct, position, list_all, list_any}
+use Rattle.std.specs.List.{IsDistinct}
 use Rattle.indexmap.specs.IndexSet.{insert_key}
-use Rattle.std.proofs.Common.{append-nil, zero-add, cond, is_some, nat_lt, not, ◌&&◌, true≢false}
+use Rattle.std.proofs.Common.{is_some, true≢false}
 use Rattle.std.proofs.lemmas.Bool.Decides.{nat_tests}
 use Rattle.std.specs.Str.{bytes_eq}
 use Rattle.std.specs.String.{string_bytes, string_eq}
 use Rattle.std.proofs.Math.ListN.{length-map}
 use Rattle.std.proofs.Math.Seq.{take-append_seam}
 use Rattle.std.proofs.lemmas.List.Folds.{list_all-append, list_any_at}
-use Rattle.std.proofs.lemmas.Bool.{cases_lt, and_parts}
-use Rattle.std.proofs.lemmas.Option.{slice_get-get_or, slice_get-map}
-use Rattle.std.proofs.Common.{inl, inr}
-use Rattle.names.specs.Names.{Texts, interned, text_of, AreDistinct, AreNames}
-use Rattle.names.specs.Tags.{known}
-use Rattle.names.specs.Table.{AreOthers, is_other}
+use Rattle.names.specs.Names.{interned}
+use Rattle.names.specs.Table.{is_other}
 use Rattle.names.proofs.Handing.{slice_get-append}
 use Rattle.names.proofs.KnownTexts.{known-distinct}
 

@@ -1,7 +1,5 @@
-use Rattle.std.proofs.Common.{◌≡◌, ◌-◌, get_or, sym, ◌∙◌, ap, arith}
-use Rattle.std.proofs.lemmas.List.{get_or_default}
-use Rattle.hchain.specs.declared.chains.Link.{Link}
-use Rattle.hchain.proofs.Walked.{IsAt, sought_up, walk-here, walk-le, walk-on, walk-not}
+use Rattle.hchain.proofs.Names.{◌-◌, get_or, sym, ◌∙◌, arith, get_or_default, Link}
+use Rattle.hchain.proofs.Walked.{IsAt, walk-here, walk-le, walk-on, walk-not}
 use Rattle.hchain.proofs.chains.find_down.Goals as goal
 
 abbrev nothing : Link

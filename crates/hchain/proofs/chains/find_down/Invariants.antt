@@ -1,6 +1,4 @@
-use Rattle.std.proofs.Common.{◌≡◌, ◌==◌, ◌≤◌, length}
-use Rattle.hchain.specs.Chains.{last_up}
-use Rattle.hchain.specs.Linked.{numbers_of}
+use Rattle.hchain.proofs.Names.{◌≡◌, ◌==◌, ◌≤◌, length, last_up, numbers_of}
 use Rattle.hchain.proofs.Walked.{Walks}
 use Rattle.hchain.proofs.chains.find_down.Given as goal
 

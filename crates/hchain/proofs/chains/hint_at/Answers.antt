@@ -1,7 +1,4 @@
-use Rattle.std.proofs.Common.{◌-◌, get_or, refl}
-use Rattle.std.proofs.Math.Seq.{map-set_same}
-use Rattle.hchain.specs.Linked.{number_of, before_of}
-use Rattle.hchain.specs.declared.chains.Link.{Link}
+use Rattle.hchain.proofs.Names.{◌-◌, get_or, refl, map-set_same, number_of, before_of, Link}
 use Rattle.hchain.proofs.chains.hint_at.Goals as goal
 
 pub returns-then-place-gt0-clause-numbers : goal.returns-then-place-gt0-clause-numbers

@@ -1,7 +1,5 @@
-use Rattle.std.proofs.Common.{ℕ, ◌+◌, ◌*◌, ◌<◌, List, length, sym, ◌∙◌, ap, subst, arith}
-use Rattle.std.proofs.lemmas.Bool.{le-ltb}
-use Rattle.std.proofs.lemmas.List.{with_items_is}
-use Rattle.hchain.specs.Linked.{IsChained}
+use Rattle.hchain.proofs.Names.{ℕ, ◌+◌, ◌<◌, List, length, sym, ◌∙◌, ap, subst, arith, le-ltb, with_items_is, IsChained}
+use Rattle.std.proofs.Common.{◌*◌}
 use Rattle.hchain.proofs.chains.make_room.Goals as goal
 
 pub returns-clause-chained : goal.returns-clause-chained

@@ -1,8 +1,5 @@
-use Rattle.std.proofs.Common.{◌≡◌, ℕ, ◌+◌, ◌<◌, ◌%◌, length, get_or, set, ap, sym, ◌∙◌, subst, refl, arith}
-use Rattle.std.proofs.lemmas.List.{get_or_default, get_or-set_same, length-set, take-set-le}
-use Rattle.std.proofs.Math.Seq.{map-set_same}
-use Rattle.hchain.specs.Linked.{number_of}
-use Rattle.hchain.specs.declared.chains.Link.{Link}
+use Rattle.hchain.proofs.Names.{◌≡◌, ℕ, ◌+◌, ◌<◌, ◌%◌, length, get_or, set, ap, sym, ◌∙◌, subst, refl, arith, get_or_default, get_or-set_same, length-set, map-set_same, number_of, Link}
+use Rattle.std.proofs.lemmas.List.{take-set-le}
 use Rattle.hchain.proofs.Chained.{ChainedTo, is_chained-all, chained-to, chained-front, chained_to-same, says-le, more-none, more-some}
 use Rattle.hchain.proofs.chains.rewind.Goals as goal
 use Rattle.hchain.proofs.chains.rewind.Goals.{then-number-ne-NONE, else-number-ne-NONE}

@@ -1,5 +1,4 @@
-use Rattle.std.proofs.Common.{◌≡◌, ◌≤◌, length}
-use Rattle.hchain.specs.Linked.{numbers_of}
+use Rattle.hchain.proofs.Names.{◌≡◌, ◌≤◌, length, numbers_of}
 use Rattle.hchain.proofs.Chained.{ChainedTo}
 use Rattle.hchain.proofs.chains.rewind.Given as goal
 

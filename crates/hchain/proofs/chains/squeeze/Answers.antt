@@ -1,9 +1,5 @@
-use Rattle.std.proofs.Common.{◌≡◌, ◌<◌, not, eqb, true, false, length, get_or, arith}
-use Rattle.std.proofs.lemmas.Bool.{ne_eqb, eq-eqb, not_from_false, not_from_true}
-use Rattle.std.proofs.lemmas.List.{get_or_default}
+use Rattle.hchain.proofs.Names.{◌≡◌, ◌<◌, not, eqb, true, false, length, get_or, arith, ne_eqb, eq-eqb, not_from_false, not_from_true, get_or_default, none, Link}
 use Rattle.std.proofs.lemmas.List.Filters.{FiltersInPlace-more_no, FiltersInPlace-more_set}
-use Rattle.hchain.specs.Chains.{none}
-use Rattle.hchain.specs.declared.chains.Link.{Link}
 use Rattle.hchain.proofs.chains.squeeze.Goals as goal
 use Rattle.hchain.proofs.chains.squeeze.Goals.{then-link-ne-NONE, else-link-ne-NONE}
 

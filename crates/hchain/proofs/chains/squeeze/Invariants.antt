@@ -1,6 +1,5 @@
-use Rattle.std.proofs.Common.{◌==◌, not}
+use Rattle.hchain.proofs.Names.{◌==◌, not, none}
 use Rattle.std.proofs.lemmas.List.Filters.{FiltersInPlace}
-use Rattle.hchain.specs.Chains.{none}
 use Rattle.hchain.proofs.chains.squeeze.Given as goal
 
 abbrev pub invariant-loop-index : goal.invariant-loop-index

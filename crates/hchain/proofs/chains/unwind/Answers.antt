@@ -1,7 +1,5 @@
-use Rattle.std.proofs.Common.{◌≡◌, ℕ, ◌-◌, ◌<◌, length, get_or, subst, arith}
+use Rattle.hchain.proofs.Names.{◌≡◌, ℕ, ◌-◌, ◌<◌, length, get_or, subst, arith, get_or_default, Link}
 use Rattle.std.proofs.lemmas.Grind.{common_steps}
-use Rattle.std.proofs.lemmas.List.{get_or_default}
-use Rattle.hchain.specs.declared.chains.Link.{Link}
 use Rattle.hchain.proofs.Chained.{ChainedTo, is_chained-to, less-none, less-some}
 use Rattle.hchain.proofs.chains.unwind.Goals as goal
 

@@ -1,4 +1,4 @@
-use Rattle.std.proofs.Common.{◌≤◌, ◌-◌, length}
+use Rattle.hchain.proofs.Names.{◌≤◌, ◌-◌, length}
 use Rattle.hchain.proofs.Chained.{ChainedTo}
 use Rattle.hchain.proofs.chains.unwind.Given as goal
 

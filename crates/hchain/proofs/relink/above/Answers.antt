@@ -1,6 +1,5 @@
-use Rattle.std.proofs.Common.{ℕ, ◌%◌, List, length, get_or, sym, subst}
-use Rattle.hchain.specs.Linked.{NoneBetween, StandsAfter, group_of, is_in, numbers_of}
-use Rattle.hchain.specs.declared.chains.Link.{Link}
+use Rattle.hchain.proofs.Names.{ℕ, ◌%◌, List, length, get_or, sym, subst, is_in, numbers_of, Link}
+use Rattle.hchain.specs.Linked.{NoneBetween, StandsAfter, group_of}
 use Rattle.hchain.proofs.Relinked.{hint-next, next-found, next-least, length-numbers, number-at}
 use Rattle.hchain.proofs.relink.above.Goals as goal
 

@@ -1,6 +1,4 @@
-use Rattle.std.proofs.Common.{set, sym, ◌∙◌, ap}
-use Rattle.std.proofs.lemmas.List.{set-get_or}
-use Rattle.hchain.specs.Linked.{numbers_of}
+use Rattle.hchain.proofs.Names.{set, sym, ◌∙◌, ap, set-get_or, numbers_of}
 use Rattle.hchain.proofs.Relinked.{number-at}
 use Rattle.hchain.proofs.relink.clear_at.Goals as goal
 

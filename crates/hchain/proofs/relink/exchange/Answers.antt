@@ -1,8 +1,4 @@
-use Rattle.std.proofs.Common.{◌≡◌, ◌≢◌, ℕ, ◌+◌, ◌<◌, ◌%◌, List, length, get_or, set, sym, ◌∙◌, ap, arith}
-use Rattle.std.proofs.lemmas.List.{get_or-set_other}
-use Rattle.hchain.specs.Chains.{none}
-use Rattle.hchain.specs.Linked.{is_in, numbers_of}
-use Rattle.hchain.specs.declared.chains.Link.{Link}
+use Rattle.hchain.proofs.Names.{◌≡◌, ◌≢◌, ℕ, ◌+◌, ◌<◌, ◌%◌, List, length, get_or, set, sym, ◌∙◌, ap, arith, get_or-set_other, none, is_in, numbers_of, Link}
 use Rattle.hchain.proofs.Relinked.{Fit, fit, next-found, next-least, length-numbers}
 use Rattle.hchain.proofs.Swapped.{Pair, fit-width, free-lower, fit-lower, free-upper, fit-same, fit-other, exchanged}
 use Rattle.hchain.proofs.relink.exchange.Goals as goal

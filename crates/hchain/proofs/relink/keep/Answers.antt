@@ -1,8 +1,4 @@
-use Rattle.std.proofs.Common.{◌≡◌, ◌+◌, ◌-◌, ◌<◌, ℕ, List, Bool, true, false, eqb, cond, length, get_or, set, refl, ◌∙◌, ap, arith}
-use Rattle.std.proofs.Math.Seq.{map-set_same}
-use Rattle.std.proofs.lemmas.Bool.{eqb-true, eqb-false}
-use Rattle.std.proofs.lemmas.List.{get_or-set_same, get_or-set_other, map-set, length-map}
-use Rattle.hchain.specs.Linked.{number_of, before_of, befores_of}
+use Rattle.hchain.proofs.Names.{◌≡◌, ◌+◌, ◌-◌, ◌<◌, ℕ, List, Bool, true, false, eqb, cond, length, get_or, set, refl, ◌∙◌, ap, arith, map-set_same, eqb-true, eqb-false, get_or-set_same, get_or-set_other, map-set, length-map, number_of, before_of, befores_of}
 use Rattle.hchain.proofs.relink.keep.Goals as goal
 
 pub returns-then-next-gt0-clause-numbers : goal.returns-then-next-gt0-clause-numbers

@@ -1,6 +1,4 @@
-use Rattle.std.proofs.Common.{◌<◌, ◌%◌, length, sym, ◌∙◌, ap, add-one, arith}
-use Rattle.hchain.specs.Chains.{last_up}
-use Rattle.hchain.specs.Linked.{is_in, numbers_of}
+use Rattle.hchain.proofs.Names.{◌<◌, ◌%◌, length, sym, ◌∙◌, ap, add-one, arith, last_up, is_in, numbers_of}
 use Rattle.hchain.proofs.Relinked.{next-found, next-least, walk-before, walk-next, length-numbers, down-within, down-less, down-walk}
 use Rattle.hchain.proofs.relink.link_at.Goals as goal
 

@@ -1,5 +1,4 @@
-use Rattle.std.proofs.Common.{◌%◌, length}
-use Rattle.hchain.specs.Linked.{is_in, numbers_of}
+use Rattle.hchain.proofs.Names.{◌%◌, length, is_in, numbers_of}
 use Rattle.hchain.proofs.Relinked.{Walk}
 use Rattle.hchain.proofs.relink.link_at.Given as goal
 

@@ -1,7 +1,4 @@
-use Rattle.std.proofs.Common.{ℕ, ◌+◌, ◌%◌, length, sym, ◌∙◌, add-one, arith}
-use Rattle.std.proofs.lemmas.List.{length-set, map-set}
-use Rattle.hchain.specs.Linked.{number_of, numbers_of}
-use Rattle.hchain.specs.declared.chains.Link.{Link}
+use Rattle.hchain.proofs.Names.{ℕ, ◌+◌, ◌%◌, length, sym, ◌∙◌, add-one, arith, length-set, map-set, number_of, numbers_of, Link}
 use Rattle.hchain.proofs.Relinked.{fit, Rewritten, rewritten, length-numbers}
 use Rattle.hchain.proofs.Edited.{In, in-differ, in-group-less, in-here, in-within, in-keeps}
 use Rattle.hchain.proofs.relink.put_in.Goals as goal

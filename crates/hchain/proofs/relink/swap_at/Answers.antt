@@ -1,8 +1,4 @@
-use Rattle.std.proofs.Common.{◌≡◌, ◌≢◌, ℕ, ◌+◌, List, get_or, set, sym, ◌∙◌, ap}
-use Rattle.std.proofs.lemmas.List.{set-get_or}
-use Rattle.hchain.specs.Chains.{none}
-use Rattle.hchain.specs.Linked.{numbers_of}
-use Rattle.hchain.specs.declared.chains.Link.{Link}
+use Rattle.hchain.proofs.Names.{◌≡◌, ◌≢◌, ℕ, ◌+◌, List, get_or, set, sym, ◌∙◌, ap, set-get_or, none, numbers_of, Link}
 use Rattle.hchain.proofs.Relinked.{nth, number-at}
 use Rattle.hchain.proofs.relink.swap_at.Goals as goal
 

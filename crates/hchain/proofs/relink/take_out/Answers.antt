@@ -1,8 +1,4 @@
-use Rattle.std.proofs.Common.{◌≡◌, ◌≢◌, ℕ, ◌+◌, ◌-◌, ◌<◌, ◌≤◌, ◌%◌, true, List, length, get_or, set, refl, sym, ◌∙◌, ap, subst, add-one, arith}
-use Rattle.std.proofs.lemmas.List.{length-set, map-set}
-use Rattle.hchain.specs.Chains.{none, last_up}
-use Rattle.hchain.specs.Linked.{is_in, number_of, numbers_of, IsChained}
-use Rattle.hchain.specs.declared.chains.Link.{Link}
+use Rattle.hchain.proofs.Names.{◌≡◌, ◌≢◌, ℕ, ◌+◌, ◌-◌, ◌<◌, ◌≤◌, ◌%◌, true, List, length, get_or, set, refl, sym, ◌∙◌, ap, subst, add-one, arith, length-set, map-set, none, last_up, is_in, number_of, numbers_of, IsChained, Link}
 use Rattle.hchain.proofs.Relinked.{IsNext, is-next, Rewritten, rewritten, next-found, next-least, length-numbers, number-at}
 use Rattle.hchain.proofs.Edited.{Out, out-differ, out-group, out-before, out-within, out-next}
 use Rattle.hchain.proofs.relink.take_out.Goals as goal

@@ -1,6 +1,4 @@
-use Rattle.std.proofs.Common.{ap, sym, ◌∙◌, arith, subst}
-use Rattle.std.specs.Prelude.{ℕ, List, Some, bytes_eq}
-use Rattle.names.specs.declared.tag.Tag.TheVariants.{A}
+use Rattle.names.proofs.Vocabulary.{ap, sym, ◌∙◌, arith, subst, ℕ, List, Some, bytes_eq, A}
 use Rattle.names.proofs.KnownTexts.{IsNoneOf, tag_within, known_tag, none_known, passed_more, passed_none}
 use Rattle.names.proofs.TableLemmas.{bytes_eq-true}
 use Rattle.names.proofs.known.known_number.Goals as goal

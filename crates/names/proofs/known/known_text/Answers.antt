@@ -1,8 +1,5 @@
-use Rattle.std.proofs.Common.{arith, ap, sym, ◌∙◌}
+use Rattle.names.proofs.Vocabulary.{arith, ap, sym, ◌∙◌, Some, known, A}
 use Rattle.std.proofs.lemmas.Option.{slice_get_past}
-use Rattle.std.specs.Prelude.{Some}
-use Rattle.names.specs.Tags.{known}
-use Rattle.names.specs.declared.tag.Tag.TheVariants.{A}
 use Rattle.names.proofs.KnownTexts.{known_tag}
 use Rattle.names.proofs.known.known_text.Goals as goal
 

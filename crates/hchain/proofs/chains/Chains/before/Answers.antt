@@ -1,8 +1,4 @@
-use Rattle.std.proofs.Common.{◌≡◌, ◌≢◌, ℕ, ◌-◌, ◌≤◌, ◌<◌, ◌==◌, List, length, get_or, ap, sym, ◌∙◌, subst, arith}
-use Rattle.std.proofs.lemmas.List.{length-map}
-use Rattle.hchain.specs.Chains.{none, last_up}
-use Rattle.hchain.specs.Linked.{number_of, numbers_of, IsChained}
-use Rattle.hchain.specs.declared.chains.Link.{Link}
+use Rattle.hchain.proofs.Names.{◌≡◌, ◌≢◌, ℕ, ◌-◌, ◌≤◌, ◌<◌, ◌==◌, List, length, get_or, ap, sym, ◌∙◌, subst, arith, length-map, none, last_up, number_of, numbers_of, IsChained, Link}
 use Rattle.hchain.proofs.Walked.{IsAt, number-at, walk-from, walk-le, walk-on, walk-down}
 use Rattle.hchain.proofs.chains.Chains.before.Goals as goal
 

@@ -1,7 +1,4 @@
-use Rattle.std.proofs.Common.{set, ap, ◌∙◌, arith}
-use Rattle.std.proofs.lemmas.List.{with_items_is}
-use Rattle.hchain.specs.Chains.{none}
-use Rattle.hchain.specs.Linked.{numbers_of}
+use Rattle.hchain.proofs.Names.{set, ap, ◌∙◌, arith, with_items_is, none, numbers_of}
 use Rattle.hchain.proofs.Lent.{lent, lent-within}
 use Rattle.hchain.proofs.chains.Chains.clear.Goals as goal
 

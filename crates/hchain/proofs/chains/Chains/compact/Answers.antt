@@ -1,11 +1,7 @@
-use Rattle.std.proofs.Common.{◌≡◌, ◌+◌, ◌-◌, ◌≤◌, ◌==◌, not, List, length, take, drop, ◌++◌, ap, sym, ◌∙◌, arith}
-use Rattle.std.proofs.lemmas.List.{with_items_is, take_rest, map-append, take-map, drop-map, length-append, length-take-le, length-drop, length-map}
-use Rattle.std.specs.List.{filter}
+use Rattle.hchain.proofs.Names.{◌≡◌, ◌+◌, ◌-◌, ◌≤◌, ◌==◌, not, List, length, take, drop, ◌++◌, ap, sym, ◌∙◌, arith, with_items_is, map-append, take-map, length-take-le, length-drop, length-map, filter, none, number_of, numbers_of, Link}
+use Rattle.std.proofs.lemmas.List.{take_rest, drop-map, length-append}
 use Rattle.std.specs.Vec.{with_items}
 use borrow.Rule.Slice.PartMut.{post_of}
-use Rattle.hchain.specs.Chains.{none}
-use Rattle.hchain.specs.Linked.{number_of, numbers_of}
-use Rattle.hchain.specs.declared.chains.Link.{Link}
 use Rattle.hchain.proofs.Lent.{lent}
 use Rattle.hchain.proofs.Tails.{take-anew, map-filter}
 use Rattle.hchain.proofs.chains.Chains.compact.Goals as goal

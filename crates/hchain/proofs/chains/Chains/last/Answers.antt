@@ -1,7 +1,4 @@
-use Rattle.std.proofs.Common.{◌≡◌, ◌<◌, ◌%◌, ◌==◌, List, length, get_or, ap, sym, ◌∙◌, subst, rules}
-use Rattle.hchain.specs.Chains.{last_up}
-use Rattle.hchain.specs.Linked.{numbers_of, IsChained}
-use Rattle.hchain.specs.declared.chains.Link.{Link}
+use Rattle.hchain.proofs.Names.{◌≡◌, ◌<◌, ◌%◌, ◌==◌, List, length, get_or, ap, sym, ◌∙◌, subst, rules, last_up, numbers_of, IsChained, Link}
 use Rattle.hchain.proofs.Walked.{last-le, last-walks, last-found}
 use Rattle.hchain.proofs.chains.Chains.last.Goals as goal
 

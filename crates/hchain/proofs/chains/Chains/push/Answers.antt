@@ -1,7 +1,4 @@
-use Rattle.std.proofs.Common.{◌≡◌, ℕ, ◌<◌, ◌%◌, List, [], ◌∷◌, ◌++◌, suc, length, get_or, set, refl, ap, sym, ◌∙◌, subst, arith, rules}
-use Rattle.std.proofs.lemmas.List.{with_items_is, length_push, get_or_default, map-append}
-use Rattle.hchain.specs.Linked.{number_of, numbers_of, IsChained, AreChains}
-use Rattle.hchain.specs.declared.chains.Link.{Link}
+use Rattle.hchain.proofs.Names.{◌≡◌, ℕ, ◌<◌, ◌%◌, List, [], ◌∷◌, ◌++◌, suc, length, get_or, set, refl, ap, sym, ◌∙◌, subst, arith, rules, with_items_is, length_push, get_or_default, map-append, number_of, numbers_of, IsChained, AreChains, Link}
 use Rattle.hchain.proofs.Chained.{chained-push, chained-same}
 use Rattle.hchain.proofs.Lent.{lent, on_err}
 use Rattle.hchain.proofs.Walked.{last-le}

@@ -1,6 +1,4 @@
-use Rattle.std.proofs.Common.{◌+◌, get_or, set, ap, ◌∙◌, arith}
-use Rattle.std.proofs.lemmas.List.{with_items_is}
-use Rattle.hchain.specs.Linked.{numbers_of}
+use Rattle.hchain.proofs.Names.{◌+◌, get_or, set, ap, ◌∙◌, arith, with_items_is, numbers_of}
 use Rattle.hchain.proofs.Lent.{lent, lent-within}
 use Rattle.hchain.proofs.chains.Chains.swap.Goals as goal
 

@@ -1,6 +1,5 @@
-use Rattle.std.proofs.Common.{ap, sym, ◌∙◌, length, map, take, arith}
-use Rattle.std.proofs.lemmas.List.{take-map, with_items_is, length-map, length-take}
-use Rattle.hchain.specs.Linked.{number_of}
+use Rattle.hchain.proofs.Names.{ap, sym, ◌∙◌, length, map, take, arith, take-map, with_items_is, length-map, number_of}
+use Rattle.std.proofs.lemmas.List.{length-take}
 use Rattle.hchain.proofs.Lent.{lent}
 use Rattle.hchain.proofs.chains.Chains.truncate.Goals as goal
 

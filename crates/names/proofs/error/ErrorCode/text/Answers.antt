@@ -1,4 +1,4 @@
-use Rattle.std.proofs.Common.{◌≡◌, [], ◌++◌, map, get_or, refl}
+use Rattle.names.proofs.Vocabulary.{◌≡◌, [], ◌++◌, map, get_or, refl}
 use denote.Enum.Declared as enum
 use Rattle.names.specs.contracts.error.ErrorCode as contract
 use Rattle.names.specs.declared.error.ErrorCode.{ErrorCode}

@@ -1,7 +1,5 @@
-use Rattle.std.proofs.Common.{sym, ap, ◌∙◌}
-use Rattle.std.proofs.lemmas.List.{get_or_past, get_or_default}
-use Rattle.names.specs.Tags.{tags, tag_of}
-use Rattle.names.specs.declared.tag.Tag.TheVariants.{A, Other}
+use Rattle.names.proofs.Vocabulary.{sym, ap, ◌∙◌, get_or_past, tags, tag_of, A, Other}
+use Rattle.std.proofs.lemmas.List.{get_or_default}
 use Rattle.names.proofs.table.NameId.tag.Goals as goal
 
 pub returns-else-index-lt127 : goal.returns-else-index-lt127

@@ -1,5 +1,4 @@
-use Rattle.std.proofs.Common.{refl}
-use Rattle.names.specs.Tags.{type_name}
+use Rattle.names.proofs.Vocabulary.{refl, type_name}
 use Rattle.names.proofs.KnownNumbers.{text_of_first}
 use Rattle.names.proofs.table.NameId.type_attribute.Goals as goal
 

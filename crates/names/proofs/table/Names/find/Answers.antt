@@ -1,7 +1,4 @@
-use Rattle.std.proofs.Common.{◌+◌, ap, sym, ◌∙◌}
-use Rattle.std.specs.Prelude.{bytes_eq, option_map}
-use Rattle.std.specs.List.{position}
-use Rattle.names.specs.Names.{Texts}
+use Rattle.names.proofs.Vocabulary.{◌+◌, ap, sym, ◌∙◌, bytes_eq, option_map, position, Texts}
 use Rattle.names.proofs.TableLemmas.{are_names}
 use Rattle.names.proofs.Places.{place_of_known, place_of_other}
 use Rattle.names.proofs.table.Names.find.Goals as goal

@@ -1,4 +1,4 @@
-use Rattle.std.proofs.lemmas.Option.{slice_get_within}
+use Rattle.names.proofs.Vocabulary.{slice_get_within}
 use Rattle.names.proofs.KnownTags.{tag_of-named}
 use Rattle.names.proofs.TableLemmas.{are_names, interned-there}
 use Rattle.names.proofs.table.Names.intern.Goals as goal

@@ -1,10 +1,5 @@
-use Rattle.std.proofs.Common.{◌≡◌, ℕ, ◌+◌, ◌++◌, ◌∷◌, [], map, sym, ◌∙◌, ap, string_bytes, refl, Global, subst, arith, length}
-use Rattle.std.proofs.lemmas.Option.{slice_get_within}
-use Rattle.std.specs.Prelude.{List, String, Some, slice_get, bytes_eq}
-use Rattle.std.specs.List.{list_any}
-use Rattle.names.specs.Names.{AreNames}
-use Rattle.names.specs.Table.{AreOthers}
-use Rattle.names.specs.Tags.{known}
+use Rattle.names.proofs.Vocabulary.{◌≡◌, ℕ, ◌+◌, ◌++◌, ◌∷◌, [], map, sym, ◌∙◌, ap, string_bytes, refl, subst, arith, length, slice_get_within, List, String, Some, slice_get, bytes_eq, list_any, AreNames, AreOthers, known}
+use Rattle.std.proofs.Common.{Global}
 use Rattle.names.proofs.TableLemmas.{interned-there, interned-last, number_after, number_after_all, table_length, table_grown, others_grown, grown, absent, are_names}
 use Rattle.names.proofs.Handing.{grows_not, grows_same}
 use Rattle.names.proofs.KnownTags.{tag_of-named}

@@ -1,6 +1,4 @@
-use Rattle.std.specs.Prelude.{Some, slice_get}
-use Rattle.std.proofs.Common.{◌≡◌}
-use Rattle.std.proofs.lemmas.Option.{slice_get_within}
+use Rattle.names.proofs.Vocabulary.{Some, slice_get, ◌≡◌, slice_get_within}
 use Rattle.names.proofs.KnownNumbers.{text_of_first}
 use Rattle.names.proofs.KnownTags.{tag_of-named}
 use Rattle.names.proofs.TableLemmas.{interned-there}

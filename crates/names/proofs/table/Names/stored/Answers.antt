@@ -1,7 +1,4 @@
-use Rattle.std.proofs.Common.{ap, map, sym, ◌∙◌, string_bytes}
-use Rattle.std.specs.Prelude.{None, Some, option_map, slice_get}
-use Rattle.names.specs.Names.{Texts}
-use Rattle.names.specs.Tags.{known}
+use Rattle.names.proofs.Vocabulary.{ap, map, sym, ◌∙◌, string_bytes, None, Some, option_map, slice_get, Texts, known}
 use Rattle.names.proofs.TableLemmas.{are_names, other_at, slice_get-within}
 use Rattle.names.proofs.table.Names.stored.Goals as goal
 

@@ -1,7 +1,5 @@
-use Rattle.std.proofs.Common.{List, ℕ, Option, [], ◌∙◌, ap}
+use Rattle.names.proofs.Vocabulary.{List, ℕ, Option, [], ◌∙◌, ap, Bor, unwrap_or}
 use Rattle.std.proofs.lemmas.Option.{unwrap_or-slice_get}
-use Rattle.std.specs.Borrow.{Bor}
-use Rattle.std.specs.Prelude.{unwrap_or}
 use Rattle.names.proofs.TextTables.{text-or}
 use Rattle.names.proofs.table.Names.text.Goals as goal
 

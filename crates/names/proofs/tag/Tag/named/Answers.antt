@@ -1,5 +1,4 @@
-use Rattle.std.proofs.Common.{[], ◌∷◌, sym, refl, ◌∙◌}
-use Rattle.names.specs.Tags.{known, tags, type_name}
+use Rattle.names.proofs.Vocabulary.{[], ◌∷◌, sym, refl, ◌∙◌, known, tags, type_name}
 use Rattle.names.proofs.KnownTags.{none_named, tag_of-named}
 use Rattle.names.proofs.KnownTexts.{known-distinct}
 use Rattle.names.proofs.tag.Tag.named.Goals as goal

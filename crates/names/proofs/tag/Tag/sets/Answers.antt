@@ -1,13 +1,9 @@
-use Rattle.std.proofs.Common.{◌≡◌, ℕ, Bool, true, List, [], ◌∷◌, get_or, refl}
+use Rattle.names.proofs.Vocabulary.{◌≡◌, ℕ, Bool, true, List, [], ◌∷◌, get_or, refl, and_parts, list_all, Tag, Other}
 use Rattle.std.proofs.Math.Bool.{beq}
-use Rattle.std.proofs.lemmas.Bool.{and_parts}
 use Rattle.std.specs.Cmp.{booleans_Decides}
-use Rattle.std.specs.List.{list_all}
 use denote.Enum.Declared as enum
 use Rattle.names.specs.contracts.tag.Tag as contract
 use Rattle.names.specs.declared.sets.TheConstants.{SETS, SPECIAL, FORMATTING, IMPLIED_END, SCOPE, LIST_ITEM_SCOPE, BUTTON_SCOPE, TABLE_SCOPE, ITEM_STOP, MAY_STAY_OPEN, HEADING, TABLE_SECTION, CELL, TELLS_MODE, VOID}
-use Rattle.names.specs.declared.tag.Tag.{Tag}
-use Rattle.names.specs.declared.tag.Tag.TheVariants.{Other}
 use Rattle.names.specs.Sets.{has_implied_end, is_cell, is_formatting, is_heading, is_special, is_table_section, is_void, may_stay_open, stops_button_scope, stops_item, stops_list_item_scope, stops_scope, stops_table_scope, tells_mode}
 use Rattle.names.specs.TagSets.{has_set}
 use Rattle.names.proofs.tag.Tag.sets.Goals as goal

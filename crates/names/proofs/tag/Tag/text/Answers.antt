@@ -1,9 +1,6 @@
-use Rattle.std.proofs.Common.{◌≡◌, [], ◌∷◌, ◌++◌, map, get_or, refl}
+use Rattle.names.proofs.Vocabulary.{◌≡◌, [], ◌∷◌, ◌++◌, map, get_or, refl, Tag, Other, tags, tag_text}
 use denote.Enum.Declared as enum
 use Rattle.names.specs.contracts.tag.Tag as contract
-use Rattle.names.specs.declared.tag.Tag.{Tag}
-use Rattle.names.specs.declared.tag.Tag.TheVariants.{Other}
-use Rattle.names.specs.Tags.{tags, tag_text}
 use Rattle.names.proofs.TextTables.{text-at}
 use Rattle.names.proofs.tag.Tag.text.Goals as goal
 
