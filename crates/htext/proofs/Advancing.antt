@@ -1,5 +1,5 @@
 -- How a front of bytes is read, and the bytes after it.
-use Rattle.htext.proofs.Names.{◌≡◌, ℕ, zero, suc, ◌<◌, ◌≤◌, ◌+◌, ◌-◌, Bool, true, false, List, [], ◌∷◌, ◌++◌, length, map, take, drop, sym, refl, ap, ◌∙◌, subst, arith, append_assoc, append-nil, None, Some, Result, Ok, Err, drop_at, take_at, take-take, take-append-le, length-append, length-take-le, take-append-drop, length-drop, drop-drop, take_all, IsUtf8-nil, chars, IsUtf8, utf8_valid_len, utf8_error_len, utf8_invalid_len, placed, Hands, Refusal, Bom, BadBytes, Refuse, Replace, Front, NextBad, Waits, Refused, next_of, AreBad, Policy, Read, Whole, Bad, reads, normalized, ends_in_return, text_of, valid_len, front_len, decoded, settled, refusal_of, reads_at, CharItem, items, bad_each, HasRead, IsReading, IsRefusedFrom, IsUndecided, HandsOn, Feeds, sink_refused, took_all}
+use Rattle.htext.proofs.Names.{◌≡◌, ℕ, zero, suc, ◌<◌, ◌≤◌, ◌+◌, ◌-◌, Bool, true, false, List, [], ◌∷◌, ◌++◌, length, map, take, drop, sym, refl, ap, ◌∙◌, subst, arith, append_assoc, append-nil, None, Some, Result, Ok, Err, drop_at, take_at, take-take, take-append-le, length-append, length-take-le, take-append-drop, length-drop, drop-drop, take_all, IsUtf8-nil, chars, IsUtf8, utf8_valid_len, utf8_error_len, utf8_invalid_len, placed, Hands, Refusal, Bom, BadBytes, Refuse, Replace, NextBad, Waits, Refused, next_of, AreBad, Policy, Read, Whole, Bad, reads, normalized, ends_in_return, text_of, valid_len, front_len, decoded, settled, refusal_of, reads_at, CharItem, items, bad_each, HasRead, IsReading, IsRefusedFrom, IsUndecided, HandsOn, Feeds, sink_refused, took_all}
 use Rattle.std.proofs.lemmas.List.{drop-append-le}
 use Rattle.htext.specs.Next.{AreReplaced}
 use Rattle.htext.specs.Decoding.{Stops, by_sink, by_bytes}
@@ -268,10 +268,6 @@ module _ (bom : Bom) (bad : BadBytes) (limit : ℕ) (all : List ℕ) where
 -- THE SINK
 
 module _ {S : Type 0} (gives : S → CharItem → Result (Unit {0}) Refusal → S → Type 0) where
-  -- it was handed what follows one text in another
-  pub handed_on : (before more after : List Read) (old : S) (answer : Result (Unit {0}) Refusal) (new : S) → after ≡ before ++ more → Hands gives old (items more) answer new → HandsOn gives before after old answer new
-  handed_on before more after old answer new is handed = (more, is, handed)
-
   pub sink_stops : (how : Policy) (before text : List Read) (all : List ℕ) (old : S) (e : Refusal) (new : S) → ((more : List ℕ) → (rest : List Read) × (decoded how (all ++ more) ≡ text ++ rest)) → HandsOn gives before text old (Err e) new → Stops gives how before all old e new
   sink_stops how before text all old e new on handed = by_sink (λ more. let k = on more in HandsOn-goes_on gives before text (decoded how (all ++ more)) k.0 old e new k.1 handed)
 
@@ -291,14 +287,14 @@ module _ (bom : Bom) (bad : BadBytes) (limit : ℕ) where
   nothing_settled = ap (λ (n : ℕ). text_of bom (take n [])) no_front ∙ ap (normalized bom false) (reads_nil 0)
 
 pub nothing_decided : (bom : Bom) (bad : BadBytes) (limit : ℕ) → IsUndecided (policy bom bad limit) []
-nothing_decided bom Refuse limit refusal stays =
-    let none : refusal_of (policy bom Refuse limit) [] ≡ None = (accepted limit []).1 (IsUtf8-nil, omega arith) in
-    let some : refusal_of (policy bom Refuse limit) [] ≡ Some refusal = stays [] in
+nothing_decided bom bad limit refusal stays =
+    let none : refusal_of (policy bom bad limit) [] ≡ None = nothing_refused bad in
+    let some : refusal_of (policy bom bad limit) [] ≡ Some refusal = stays [] in
     cc
-nothing_decided bom Replace limit refusal stays =
-    let none : refusal_of (policy bom Replace limit) [] ≡ None = (replaced bom limit []).1 (omega arith) in
-    let some : refusal_of (policy bom Replace limit) [] ≡ Some refusal = stays [] in
-    cc
+  where
+    nothing_refused : (bad : BadBytes) → refusal_of (policy bom bad limit) [] ≡ None
+    nothing_refused Refuse = (accepted limit []).1 (IsUtf8-nil, omega arith)
+    nothing_refused Replace = (replaced bom limit []).1 (omega arith)
 
 -- ONE TURN OF THE LOOP
 
@@ -312,23 +308,16 @@ text_is n count bytes fit text e is =
     let left : List ℕ = drop count bytes in
     is ∙ ap (λ (x : List ℕ). take (utf8_valid_len x) x) (e ∙ ap (take n) (left_is count bytes)) ∙ take-take (valid_len n left) n left (valid_len_le n left).0
 
-pub text_short : (n count : ℕ) (bytes text : List ℕ) → text ≡ valid_front n (drop count bytes) → count ≤ length bytes → count + length text ≤ length bytes
-text_short n count bytes text is within = omega (arith, ap length is, length-valid_front n (drop count bytes), valid_len_le n (drop count bytes), length-drop count bytes)
+-- it is within the bytes, and so is what is found after it
+pub within_all : (n count k : ℕ) (bytes fit text : List ℕ) → fit ≡ take n (take (length bytes - count) (drop count bytes)) → text ≡ take (utf8_valid_len fit) fit → count ≤ length bytes
+    → k ≤ length (take (length bytes - (count + length text)) (drop (count + length text) bytes)) → count + length text + k ≤ length bytes
+within_all n count k bytes fit text e is within fits =
+    let rest : List ℕ = drop count bytes in
+    let short : length text ≤ length rest = omega (arith, ap length (text_is n count bytes fit text e is), length-valid_front n rest, valid_len_le n rest) in
+    omega (arith, fits, within, short, length-drop count bytes, ap length (left_is (count + length text) bytes), length-drop (count + length text) bytes)
 
 pub later : (i j n : ℕ) (xs ys : List ℕ) → drop i xs ≡ drop j ys → drop (i + n) xs ≡ drop (j + n) ys
 later i j n xs ys e = sym (drop-drop n i xs) ∙ ap (drop n) e ∙ drop-drop n j ys
-
-pub same_next : (result next : Front) (bad bad' : BadBytes) (count : ℕ) (bytes xs : List ℕ) (limit limit' read read' : ℕ) → result ≡ next_of bad (take (length bytes - count) (drop count bytes)) (limit - read) read → result ≡ next
-    → bad ≡ bad' → drop count bytes ≡ xs → limit ≡ limit' → read ≡ read' → next_of bad' xs (limit' - read') read' ≡ next
-same_next result next bad bad' count bytes xs limit limit' read read' is given a b c d =
-    sym (ap (λ (x : BadBytes). next_of x (take (length bytes - count) (drop count bytes)) (limit - read) read) a
-    ∙ ap (λ (x : List ℕ). next_of bad' x (limit - read) read) (left_is count bytes ∙ b)
-    ∙ ap (λ (x : ℕ). next_of bad' xs (x - read) read) c
-    ∙ ap (λ (x : ℕ). next_of bad' xs (limit' - x) x) d) ∙ sym is ∙ given
-
-pub same_each : (n : ℕ) (bad bad' : BadBytes) (count : ℕ) (bytes xs : List ℕ) (limit limit' read read' : ℕ) → AreReplaced bad (take (length bytes - count) (drop count bytes)) (limit - read) n
-    → bad ≡ bad' → drop count bytes ≡ xs → limit ≡ limit' → read ≡ read' → AreReplaced bad' xs (limit' - read') n
-same_each n bad bad' count bytes xs limit limit' read read' are a b c d = rw (sym a, sym b, sym c, sym d, sym (left_is count bytes)) are
 
 module _ {S : Type 0} (gives : S → CharItem → Result (Unit {0}) Refusal → S → Type 0) (bom : Bom) (bad : BadBytes) (limit read : ℕ) (after_return : Bool) (all : List ℕ) (before : List Read) (old now : S)
     (h : IsReading (policy bom bad limit) read after_return all) (so_far : HandsOn gives before (text_of bom (take read all)) old (Ok tt) now) (text : List ℕ) (is : text ≡ valid_front (limit - read) (drop read all)) (new : S) where
@@ -337,7 +326,7 @@ module _ {S : Type 0} (gives : S → CharItem → Result (Unit {0}) Refusal → 
 
   text_handed : (answer : Result (Unit {0}) Refusal) → Hands gives now (items (normalized bom after_return (map Whole (placed read (chars text))))) answer new → HandsOn gives before (text_of bom (take (read + length text) all)) old answer new
   text_handed answer handed =
-      HandsOn-append gives before (text_of bom (take read all)) _ old now answer new so_far (handed_on gives _ _ _ now answer new (text_text bom bad limit read after_return all h text is) handed)
+      HandsOn-append gives before (text_of bom (take read all)) _ old now answer new so_far (_, text_text bom bad limit read after_return all h text is, handed)
 
   pub text_stops : (e : Refusal) → Hands gives now (items (normalized bom after_return (map Whole (placed read (chars text))))) (Err e) new → Stops gives (policy bom bad limit) before all old e new
   text_stops e handed = sink_stops gives (policy bom bad limit) before (text_of bom (take (read + length text) all)) all old e new (goes_on_here bom bad limit _ _ all now_reading) (text_handed (Err e) handed)
@@ -368,7 +357,7 @@ module _ {S : Type 0} (gives : S → CharItem → Result (Unit {0}) Refusal → 
       pub replaced_handed : (answer : Result (Unit {0}) Refusal) → Hands gives new (items (Bad (read + length text) ∷ [])) answer last → HandsOn gives before (text_of bom (take (read + length text + n) all)) old answer last
       replaced_handed answer handed_bad =
           HandsOn-append gives before (text_of bom (take (read + length text) all)) _ old new answer last (text_handed (Ok tt) handed)
-          (handed_on gives _ _ _ new answer last (bad_text bom bad limit _ _ all now_reading n (what_is_bad bad _ _ _ n e)) handed_bad)
+          (_, bad_text bom bad limit _ _ all now_reading n (what_is_bad bad _ _ _ n e), handed_bad)
 
       pub replaced_stops : (r : Refusal) → Hands gives new (items (Bad (read + length text) ∷ [])) (Err r) last → Stops gives (policy bom bad limit) before all old r last
       replaced_stops r handed_bad =
@@ -381,7 +370,7 @@ module _ {S : Type 0} (gives : S → CharItem → Result (Unit {0}) Refusal → 
       pub each_handed : (answer : Result (Unit {0}) Refusal) → Hands gives new (items (bad_each (read + length text) n)) answer last → HandsOn gives before (text_of bom (take (read + length text + n) all)) old answer last
       each_handed answer handed_bad =
           HandsOn-append gives before (text_of bom (take (read + length text) all)) _ old new answer last (text_handed (Ok tt) handed)
-          (handed_on gives _ _ _ new answer last (after_each bom bad limit all n _ _ now_reading are some).1 handed_bad)
+          (_, (after_each bom bad limit all n _ _ now_reading are some).1, handed_bad)
 
       pub each_stops : (r : Refusal) → Hands gives new (items (bad_each (read + length text) n)) (Err r) last → Stops gives (policy bom bad limit) before all old r last
       each_stops r handed_bad =

@@ -1,49 +1,33 @@
 -- Bytes that are bad parts by themselves.
-use Rattle.htext.proofs.Names.{◌≡◌, ℕ, zero, suc, ◌<◌, ◌≤◌, ◌+◌, ◌/◌, ◌%◌, Bool, true, false, List, [], ◌∷◌, ◌++◌, length, drop, sym, refl, ap, ◌∙◌, subst, arith, inl, inr, None, Some, ◌↔◌, is_in_range, cases_lt, drop-drop, encode_ascii, low_scalar, utf8_valid_len, utf8_error_len, second_byte_min, second_byte_max, IsScalar, encode_utf8, BeginsNoCharacter, AreBad, IsBadAlone}
+use Rattle.htext.proofs.Names.{nat_tests, ◌≡◌, ℕ, zero, suc, ◌<◌, ◌≤◌, ◌+◌, Bool, true, false, List, [], ◌∷◌, ◌++◌, length, drop, sym, refl, ap, ◌∙◌, subst, arith, None, Some, ◌↔◌, is_in_range, drop-drop, encode_ascii, low_scalar, utf8_valid_len, utf8_error_len, second_byte_min, second_byte_max, IsScalar, encode_utf8, BeginsNoCharacter, AreBad, IsBadAlone}
 use Rattle.std.proofs.Common.{slice_index_or}
 use Rattle.std.specs.Prelude.{not, IsTrue}
 use Rattle.htext.proofs.Valid.{starts_back, none_valid}
 use Rattle.htext.proofs.Errors.{error_first, error_second, error_follows}
-use Rattle.htext.proofs.Beginnings.{MayFollow, follows_tested, two_bytes, three_bytes, four_bytes, second_of_two, second_of_three, second_of_four, below_all, in_range, from_range, one_open}
+use Rattle.htext.proofs.Beginnings.{MayFollow, follows_tested, BytesOf, takes_one, takes_two, takes_three, takes_four, bytes_of, second_of_two, second_of_three, second_of_four, below_all, in_range, one_open}
 use Rattle.htext.proofs.Fronts.{settled_bad, undecided_bad}
 
--- a character of more than one byte begins with two of which the second may follow the first
-first_two : (c : ℕ) → IsScalar c → 128 ≤ c → (x : ℕ) × (y : ℕ) × (ys : List ℕ) × (encode_utf8 c ≡ x ∷ y ∷ ys) × (0xC2 ≤ x) × (x ≤ 0xF4) × MayFollow x y
-first_two c s more = elim (cases_lt c 2048) [
-  | inl two ↦ (192 + c / 64, 128 + c % 64, [], two_bytes c more two, omega arith, omega arith, second_of_two c more two)
-  | inr some ↦ elim (cases_lt c 65536) [
-    | inl three ↦ (224 + c / 4096, 128 + c / 64 % 64, (128 + c % 64) ∷ [], three_bytes c some three, omega arith, omega arith, second_of_three c some three s)
-    | inr four ↦
-        let most : c < 1114112 = below_all c s in
-        (240 + c / 262144, 128 + c / 4096 % 64, (128 + c / 64 % 64) ∷ (128 + c % 64) ∷ [], four_bytes c four, omega arith, omega arith, second_of_four c four most)
-  ]
-]
-
 none_begins : (x : ℕ) (xs : List ℕ) → 128 ≤ x → utf8_error_len (x ∷ xs) ≡ Some 1 → BeginsNoCharacter (x ∷ xs)
-none_begins x xs high bad = λ c r s e. elim (cases_lt c 128) [
-  | inl one ↦
-      let same : x ∷ xs ≡ c ∷ r = e ∙ ap (λ (v : List ℕ). v ++ r) (encode_ascii c one) in
-      let is : x ≡ c = cc in
-      omega (arith, high, one)
-  | inr more ↦
-      let (y, z, ys, is, low, most, follows) = first_two c s more in
-      let same : x ∷ xs ≡ y ∷ z ∷ (ys ++ r) = e ∙ ap (λ (v : List ℕ). v ++ r) is in
-      let longer : 2 ≤ 1 = error_follows y z (ys ++ r) 1 (in_range 0xC2 0xF4 y low most) (follows_tested y z follows) (sym (ap utf8_error_len same) ∙ bad) in
+none_begins x xs high bad = λ c r s e. by c (encode_utf8 c) r s e (bytes_of c) where
+  -- the second byte of a character of more than one may follow the first
+  follows : (y z : ℕ) (ys : List ℕ) → x ∷ xs ≡ y ∷ z ∷ ys → 0xC2 ≤ y → y ≤ 0xF4 → MayFollow y z → ⊥
+  follows y z ys e low most may =
+      let longer : 2 ≤ 1 = error_follows y z ys 1 (in_range 0xC2 0xF4 y low most) (follows_tested y z may) (sym (ap utf8_error_len e) ∙ bad) in
       omega (arith, longer)
-]
+
+  by : (c : ℕ) (bytes r : List ℕ) → IsScalar c → x ∷ xs ≡ bytes ++ r → BytesOf c bytes → ⊥
+  by c _ r s e (takes_one a) = let is : x ≡ c = cc in omega (arith, high, a)
+  by c _ r s e (takes_two a b) = follows _ _ r e (omega arith) (omega arith) (second_of_two c a b)
+  by c _ r s e (takes_three a b) = follows _ _ _ e (omega arith) (omega arith) (second_of_three c a b s)
+  by c _ r s e (takes_four a) = let top : c < 1114112 = below_all c s in follows _ _ _ e (omega arith) (omega arith) (second_of_four c a top)
 
 alone : (x : ℕ) (xs : List ℕ) → 128 ≤ x → utf8_error_len (x ∷ xs) ≡ Some 1 → IsBadAlone (x ∷ xs)
 alone x xs high bad = settled_bad false (x ∷ xs) 1 (none_valid (x ∷ xs) (none_begins x xs high bad)) bad
 
 -- no character begins with it
-first_by : (x : ℕ) (xs : List ℕ) (t : Bool) → (0xC2 ≤ x → x ≤ 0xF4 → ⊥) → is_in_range 0xC2 0xF4 x ≡ t → utf8_error_len (x ∷ xs) ≡ Some 1
-first_by x xs true out e = let r = from_range 0xC2 0xF4 x e in absurd (out r.0 r.1)
-first_by x xs false out e = error_first x xs e
-
 pub alone_first : (bytes : List ℕ) (b : ℕ) → 0 < length bytes → b ≡ slice_index_or bytes 0 0 → 128 ≤ b → (0xC2 ≤ b → b ≤ 0xF4 → ⊥) → IsBadAlone bytes
 alone_first [] b some is high out = absurd (omega (arith, some))
-alone_first (x ∷ xs) b some is high out =
-    alone x xs (omega (arith, is, high)) (first_by x xs (is_in_range 0xC2 0xF4 x) (λ low most. out (omega (arith, is, low)) (omega (arith, is, most))) refl)
+alone_first (x ∷ xs) b some is high out = alone x xs (omega (arith, is, high)) (error_first x xs (grind (arith, nat_tests, out)))
 
 -- a character of one byte is none
 pub not_ascii : (bytes : List ℕ) (b : ℕ) → 0 < length bytes → b ≡ slice_index_or bytes 0 0 → b < 128 → IsBadAlone bytes → ⊥
@@ -55,12 +39,11 @@ not_ascii (x ∷ xs) b some is low h =
 
 -- A byte that begins a character is a bad part where the next can't follow it. The last of the bytes is none yet.
 pub not_last : (bytes : List ℕ) (b : ℕ) → 0 < length bytes → length bytes ≤ 1 → b ≡ slice_index_or bytes 0 0 → 0xC2 ≤ b → b ≤ 0xF4 → IsBadAlone bytes → ⊥
-not_last [] b some one is low most h = omega (arith, some)
-not_last (x ∷ y ∷ ys) b some one is low most h = omega (arith, one)
 not_last (x ∷ []) b some one is low most h =
     let open' : utf8_error_len (x ∷ []) ≡ None = one_open x (omega (arith, is, low)) (omega (arith, is, most)) in
     let bad : utf8_error_len (x ∷ []) ≡ Some 1 = (undecided_bad (x ∷ []) 1 h).1 in
     absurd cc
+not_last _ b some one is low most h = absurd (omega (arith, some, one))
 
 by_second : (t : Bool) (x y : ℕ) (ys : List ℕ) → 0xC2 ≤ x → x ≤ 0xF4 → is_in_range (second_byte_min x) (second_byte_max x) y ≡ t → IsTrue (not t) ↔ IsBadAlone (x ∷ y ∷ ys)
 by_second true x y ys low most e = (
@@ -71,10 +54,9 @@ by_second false x y ys low most e = (λ _. alone x (y ∷ ys) (omega (arith, low
 
 pub by_next : (bytes : List ℕ) (b y : ℕ) (t : Bool) → 1 < length bytes → b ≡ slice_index_or bytes 0 0 → y ≡ slice_index_or bytes 1 0 → 0xC2 ≤ b → b ≤ 0xF4
     → t ≡ is_in_range (second_byte_min b) (second_byte_max b) y → IsTrue (not t) ↔ IsBadAlone bytes
-by_next [] b y t some is next low most e = absurd (omega (arith, some))
-by_next (x ∷ []) b y t some is next low most e = absurd (omega (arith, some))
 by_next (x ∷ z ∷ zs) b y t some is next low most e =
     by_second t x z zs (omega (arith, is, low)) (omega (arith, is, most)) (sym (e ∙ ap (λ (v : ℕ). is_in_range (second_byte_min v) (second_byte_max v) y) is ∙ ap (is_in_range (second_byte_min x) (second_byte_max x)) next))
+by_next _ b y t some is next low most e = absurd (omega (arith, some))
 
 -- one more of them
 pub are_bad_more : (n : ℕ) (bytes : List ℕ) → AreBad n bytes → IsBadAlone (drop n bytes) → AreBad (n + 1) bytes

@@ -1,5 +1,5 @@
 -- The bad part at the front of bytes.
-use Rattle.htext.proofs.Names.{◌≡◌, ℕ, ◌<◌, ◌≤◌, ◌+◌, Bool, true, false, cond, List, [], ◌∷◌, ◌++◌, length, map, take, drop, sym, refl, ap, ◌∙◌, subst, arith, inl, inr, append-nil, Option, None, Some, ◌⊎◌, ◌↔◌, nat_lt, cases_lt, nat_tests, take_all, take-append-drop, length-take-le, unwrap_or, chars, IsUtf8, utf8_valid_len, utf8_error_len, utf8_invalid_len, some_same, placed, Read, Whole, Bad, reads_at, or_rest, bad_len, BeginsNoCharacter, BeginsCharacter}
+use Rattle.htext.proofs.Names.{◌≡◌, ℕ, ◌<◌, ◌≤◌, ◌+◌, true, false, List, [], ◌∷◌, ◌++◌, length, map, take, drop, sym, refl, ap, ◌∙◌, subst, arith, inl, inr, append-nil, Option, None, Some, ◌⊎◌, ◌↔◌, nat_tests, take_all, take-append-drop, length-take-le, unwrap_or, chars, IsUtf8, utf8_valid_len, utf8_error_len, utf8_invalid_len, some_same, placed, Read, Whole, Bad, reads_at, bad_len, BeginsNoCharacter, BeginsCharacter}
 use Rattle.htext.specs.Text.{IsBadPart}
 use Rattle.htext.proofs.Valid.{starts_back, none_valid}
 use Rattle.htext.proofs.Errors.{error_bounds, error_short, error_more, error_open}
@@ -63,26 +63,16 @@ not_less bytes m n a b less = elim b.begins [
 
 -- there is one
 same_part : (bytes : List ℕ) (m n : ℕ) → IsBadPart bytes m → IsBadPart bytes n → m ≡ n
-same_part bytes m n a b = elim (cases_lt m n) [
-  | inl less ↦ absurd (not_less bytes m n a b less)
-  | inr le ↦ elim (cases_lt n m) [
-    | inl more ↦ absurd (not_less bytes n m b a more)
-    | inr ge ↦ omega arith
-  ]
-]
+same_part bytes m n a b = grind (arith, not_less bytes m n a b, not_less bytes n m b a)
 
 invalid_is : (bytes : List ℕ) (n : ℕ) → IsBadPart bytes n → utf8_invalid_len bytes ≡ n
 invalid_is bytes n h = same_part bytes (utf8_invalid_len bytes) n (part_by (utf8_error_len bytes) bytes refl (none_valid bytes h.none) (omega (arith, h.some, h.within))) h
 
 -- the length that reading looks for
-no_valid : (b : Bool) (bytes : List ℕ) (o : Option ℕ) (n : ℕ) → nat_lt 0 (utf8_valid_len bytes) ≡ b → cond b None o ≡ Some n → utf8_valid_len bytes ≡ 0
-no_valid true bytes o n e h = absurd cc
-no_valid false bytes o n e h = grind (arith, nat_tests)
-
 pub at_end : (bytes : List ℕ) (n : ℕ) → (bad_len true bytes ≡ Some n) ↔ IsBadPart bytes n
 at_end bytes n = (
   λ h.
-      let none : utf8_valid_len bytes ≡ 0 = no_valid (nat_lt 0 (utf8_valid_len bytes)) bytes (or_rest true bytes (utf8_error_len bytes)) n refl h in
+      let none : utf8_valid_len bytes ≡ 0 = grind (arith, nat_tests) in
       let some : 0 < length bytes = omega (arith, bad_bounds true bytes n h) in
       let is : utf8_invalid_len bytes ≡ n = some_same _ n (sym (last_part bytes none some) ∙ h) in
       subst (IsBadPart bytes) is (part_by (utf8_error_len bytes) bytes refl none some),

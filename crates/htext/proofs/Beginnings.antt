@@ -1,7 +1,8 @@
 -- Bytes that may still become a character, and bytes that no more can.
-use Rattle.htext.proofs.Names.{◌≡◌, ℕ, ◌<◌, ◌≤◌, ◌+◌, ◌-◌, ◌*◌, ◌/◌, ◌%◌, Bool, true, false, cond, eqb, List, [], ◌∷◌, ◌++◌, length, take, drop, sym, refl, ap, ◌∙◌, subst, arith, inl, inr, append_assoc, Option, None, Some, is_in_range, nat_tests, cases_lt, cases_eq, lt-ltb, le-ltb, le-leb, leb-true, eqb-true, and_parts, take_at, take-append-drop, take-append-le, low_scalar, utf8_valid_len, utf8_error_len, second_byte_min, second_byte_max, IsScalar, encode_utf8, valid_len, BeginsCharacter}
+use Rattle.htext.proofs.Names.{encode_ascii, length-append, nil_from_length, ◌≡◌, ℕ, ◌<◌, ◌≤◌, ◌+◌, ◌-◌, ◌*◌, ◌/◌, ◌%◌, true, List, [], ◌∷◌, ◌++◌, length, take, drop, sym, refl, ap, ◌∙◌, subst, arith, inl, inr, append_assoc, Option, None, Some, is_in_range, nat_tests, cases_lt, lt-ltb, le-ltb, le-leb, leb-true, and_parts, take_at, take-append-drop, take-append-le, low_scalar, utf8_valid_len, utf8_error_len, second_byte_min, second_byte_max, IsScalar, encode_utf8, valid_len, BeginsCharacter}
 use Rattle.std.proofs.Math.Utf8.{scalar_cases}
-use Rattle.htext.proofs.Valid.{starts, starts_back}
+use Rattle.htext.proofs.Valid.{starts_back, none_valid}
+use Rattle.htext.proofs.Errors.{tested, next_tests, is_by_bytes, test_passed, tested_short, error_more}
 
 pub in_range : (low high c : ℕ) → low ≤ c → c ≤ high → is_in_range low high c ≡ true
 in_range low high c a b = rw (le-leb low c a, le-leb c high b) refl
@@ -18,36 +19,18 @@ pub record MayFollow (first byte : ℕ) : Type 0 where
   pub after_f0 : first ≡ 0xF0 → 0x90 ≤ byte
   pub after_f4 : first ≡ 0xF4 → byte ≤ 0x8F
 
-least_by : (a b : Bool) (x y : ℕ) → eqb x 0xE0 ≡ a → eqb x 0xF0 ≡ b → MayFollow x y → cond a 0xA0 (cond b 0x90 0x80) ≤ y
-least_by true b x y e f h = h.after_e0 (eqb-true x 0xE0 e)
-least_by false true x y e f h = h.after_f0 (eqb-true x 0xF0 f)
-least_by false false x y e f h = h.least
-
-most_by : (a b : Bool) (x y : ℕ) → eqb x 0xED ≡ a → eqb x 0xF4 ≡ b → MayFollow x y → y ≤ cond a 0x9F (cond b 0x8F 0xBF)
-most_by true b x y e f h = h.after_ed (eqb-true x 0xED e)
-most_by false true x y e f h = h.after_f4 (eqb-true x 0xF4 f)
-most_by false false x y e f h = h.most
-
 pub follows_tested : (x y : ℕ) → MayFollow x y → is_in_range (second_byte_min x) (second_byte_max x) y ≡ true
-follows_tested x y h =
-    in_range (second_byte_min x) (second_byte_max x) y (least_by (eqb x 0xE0) (eqb x 0xF0) x y refl refl h) (most_by (eqb x 0xED) (eqb x 0xF4) x y refl refl h)
-
-least_back : (a b : Bool) (x y : ℕ) → eqb x 0xE0 ≡ a → eqb x 0xF0 ≡ b → cond a 0xA0 (cond b 0x90 0x80) ≤ y → (128 ≤ y) × (x ≡ 0xE0 → 0xA0 ≤ y) × (x ≡ 0xF0 → 0x90 ≤ y)
-least_back true b x y e f h = (omega arith, λ _. h, λ k. let never : ⊥ = omega (arith, k, eqb-true x 0xE0 e) in absurd never)
-least_back false true x y e f h = (omega arith, λ k. absurd (grind (arith, nat_tests)), λ _. h)
-least_back false false x y e f h = (h, λ k. absurd (grind (arith, nat_tests)), λ k. absurd (grind (arith, nat_tests)))
-
-most_back : (a b : Bool) (x y : ℕ) → eqb x 0xED ≡ a → eqb x 0xF4 ≡ b → y ≤ cond a 0x9F (cond b 0x8F 0xBF) → (y ≤ 191) × (x ≡ 0xED → y ≤ 0x9F) × (x ≡ 0xF4 → y ≤ 0x8F)
-most_back true b x y e f h = (omega arith, λ _. h, λ k. let never : ⊥ = omega (arith, k, eqb-true x 0xED e) in absurd never)
-most_back false true x y e f h = (omega arith, λ k. absurd (grind (arith, nat_tests)), λ _. h)
-most_back false false x y e f h = (h, λ k. absurd (grind (arith, nat_tests)), λ k. absurd (grind (arith, nat_tests)))
+follows_tested x y h = grind (arith, nat_tests, h.least, h.most, h.after_e0, h.after_ed, h.after_f0, h.after_f4)
 
 pub tested_follows : (x y : ℕ) → is_in_range (second_byte_min x) (second_byte_max x) y ≡ true → MayFollow x y
-tested_follows x y h =
-    let k = from_range (second_byte_min x) (second_byte_max x) y h in
-    let a = least_back (eqb x 0xE0) (eqb x 0xF0) x y refl refl k.0 in
-    let b = most_back (eqb x 0xED) (eqb x 0xF4) x y refl refl k.1 in
-    record { least = a.0; most = b.0; after_e0 = a.1; after_ed = b.1; after_f0 = a.2; after_f4 = b.2 }
+tested_follows x y h = record {
+  least = grind (arith, nat_tests);
+  most = grind (arith, nat_tests);
+  after_e0 = λ e. grind (arith, nat_tests);
+  after_ed = λ e. grind (arith, nat_tests);
+  after_f0 = λ e. grind (arith, nat_tests);
+  after_f4 = λ e. grind (arith, nat_tests);
+}
 
 -- FRONTS OF A CHARACTER
 
@@ -82,14 +65,7 @@ four_bytes c a =
     rw (le-ltb c 128 d, le-ltb c 2048 e, le-ltb c 65536 a) refl
 
 pub second_of_two : (c : ℕ) → 128 ≤ c → c < 2048 → MayFollow (192 + c / 64) (128 + c % 64)
-second_of_two c a b = record {
-  least = omega arith;
-  most = omega arith;
-  after_e0 = λ e. absurd (omega arith);
-  after_ed = λ e. absurd (omega arith);
-  after_f0 = λ e. absurd (omega arith);
-  after_f4 = λ e. absurd (omega arith);
-}
+second_of_two c a b = grind arith
 
 pub second_of_three : (c : ℕ) → 2048 ≤ c → c < 65536 → IsScalar c → MayFollow (224 + c / 4096) (128 + c / 64 % 64)
 second_of_three c a b s = record {
@@ -102,65 +78,48 @@ second_of_three c a b s = record {
 }
 
 pub second_of_four : (c : ℕ) → 65536 ≤ c → c < 1114112 → MayFollow (240 + c / 262144) (128 + c / 4096 % 64)
-second_of_four c a b = record {
-  least = omega arith;
-  most = omega arith;
-  after_e0 = λ e. absurd (omega arith);
-  after_ed = λ e. absurd (omega arith);
-  after_f0 = λ e. omega arith;
-  after_f4 = λ e. omega arith;
-}
+second_of_four c a b = grind arith
 
 pub below_all : (c : ℕ) → IsScalar c → c < 1114112
 below_all c s = elim (scalar_cases c s) [ inl low ↦ omega arith | inr high ↦ high.1 ]
 
-abbrev IsOpenFront : List ℕ → Type 0
-IsOpenFront bytes = (n : ℕ) → 0 < n → n < length bytes → utf8_error_len (take n bytes) ≡ None
+-- the bytes of a character, by how many there are
+pub data BytesOf (c : ℕ) : List ℕ → Type 0 where
+  takes_one : c < 128 → BytesOf c (c ∷ [])
+  takes_two : 128 ≤ c → c < 2048 → BytesOf c ((192 + c / 64) ∷ (128 + c % 64) ∷ [])
+  takes_three : 2048 ≤ c → c < 65536 → BytesOf c ((224 + c / 4096) ∷ (128 + c / 64 % 64) ∷ (128 + c % 64) ∷ [])
+  takes_four : 65536 ≤ c → BytesOf c ((240 + c / 262144) ∷ (128 + c / 4096 % 64) ∷ (128 + c / 64 % 64) ∷ (128 + c % 64) ∷ [])
 
--- two, three and four bytes of which each front is open
-fronts_of_two : (x y : ℕ) → 0xC2 ≤ x → x ≤ 0xF4 → IsOpenFront (x ∷ y ∷ [])
-fronts_of_two x y a b n some short =
-    let one : n ≡ 1 = omega (arith, short) in
-    rw one (one_open x a b)
-
-fronts_of_three : (x y z : ℕ) → 0xC2 ≤ x → x ≤ 0xF4 → MayFollow x y → IsOpenFront (x ∷ y ∷ z ∷ [])
-fronts_of_three x y z a b h n some short = elim (cases_lt n 2) [
-  | inl less ↦ let one : n ≡ 1 = omega arith in rw one (one_open x a b)
-  | inr more ↦ let two : n ≡ 2 = omega (arith, short) in rw two (two_open x y a b h)
-]
-
-fronts_of_four : (x y z w : ℕ) → 0xC2 ≤ x → x ≤ 0xF4 → MayFollow x y → 128 ≤ z → z ≤ 191 → IsOpenFront (x ∷ y ∷ z ∷ w ∷ [])
-fronts_of_four x y z w a b h d e n some short = elim (cases_lt n 2) [
-  | inl less ↦ let one : n ≡ 1 = omega arith in rw one (one_open x a b)
-  | inr more ↦ elim (cases_lt n 3) [
-    | inl less ↦ let two : n ≡ 2 = omega arith in rw two (two_open x y a b h)
-    | inr many ↦ let three : n ≡ 3 = omega (arith, short) in rw three (three_open x y z a b h d e)
-  ]
-]
-
-one_byte : (c : ℕ) → c < 128 → encode_utf8 c ≡ c ∷ []
-unfolding encode_utf8
-one_byte c a = rw (lt-ltb c 128 a) refl
-
-fronts_of_one : (x : ℕ) → IsOpenFront (x ∷ [])
-fronts_of_one x n some short = absurd (omega (arith, short))
-
--- each front of a character that is not all of it is open
-fronts_open : (c : ℕ) → IsScalar c → IsOpenFront (encode_utf8 c)
-fronts_open c s = elim (cases_lt c 128) [
-  | inl one ↦ subst IsOpenFront (sym (one_byte c one)) (fronts_of_one c)
+pub bytes_of : (c : ℕ) → BytesOf c (encode_utf8 c)
+bytes_of c = elim (cases_lt c 128) [
+  | inl below ↦ subst (BytesOf c) (sym (encode_ascii c below)) (takes_one below)
   | inr more ↦ elim (cases_lt c 2048) [
-    | inl two ↦ subst IsOpenFront (sym (two_bytes c more two)) (fronts_of_two (192 + c / 64) (128 + c % 64) (omega arith) (omega arith))
+    | inl below ↦ subst (BytesOf c) (sym (two_bytes c more below)) (takes_two more below)
     | inr many ↦ elim (cases_lt c 65536) [
-      | inl three ↦ subst IsOpenFront (sym (three_bytes c many three))
-          (fronts_of_three (224 + c / 4096) (128 + c / 64 % 64) (128 + c % 64) (omega arith) (omega arith) (second_of_three c many three s))
-      | inr four ↦
-          let top : c < 1114112 = below_all c s in
-          subst IsOpenFront (sym (four_bytes c four))
-          (fronts_of_four (240 + c / 262144) (128 + c / 4096 % 64) (128 + c / 64 % 64) (128 + c % 64) (omega arith) (omega arith) (second_of_four c four top) (omega arith) (omega arith))
+      | inl below ↦ subst (BytesOf c) (sym (three_bytes c many below)) (takes_three many below)
+      | inr most ↦ subst (BytesOf c) (sym (four_bytes c most)) (takes_four most)
     ]
   ]
 ]
+
+abbrev IsOpenFront : List ℕ → Type 0
+IsOpenFront bytes = (n : ℕ) → 0 < n → n < length bytes → utf8_error_len (take n bytes) ≡ None
+
+-- each front of open bytes is open
+open_before : (o : Option ℕ) (xs : List ℕ) (n : ℕ) → utf8_error_len xs ≡ None → utf8_error_len (take n xs) ≡ o → o ≡ None
+open_before None xs n h e = refl
+open_before (Some k) xs n h e = let on : utf8_error_len xs ≡ Some k = ap utf8_error_len (sym (take-append-drop n xs)) ∙ error_more (take n xs) (drop n xs) k e in absurd cc
+
+open_but_last : (xs : List ℕ) (y : ℕ) → utf8_error_len xs ≡ None → IsOpenFront (xs ++ y ∷ [])
+open_but_last xs y h n some short =
+    ap utf8_error_len (take-append-le n xs (y ∷ []) (omega (arith, short, length-append xs (y ∷ [])))) ∙ open_before (utf8_error_len (take n xs)) xs n h refl
+
+-- each front of a character that is not all of it is open
+fronts_open : (c : ℕ) (bytes : List ℕ) → IsScalar c → BytesOf c bytes → IsOpenFront bytes
+fronts_open c _ s (takes_one a) = λ n some short. absurd (omega (arith, some, short))
+fronts_open c _ s (takes_two a b) = open_but_last (_ ∷ []) _ (one_open _ (omega arith) (omega arith))
+fronts_open c _ s (takes_three a b) = open_but_last (_ ∷ _ ∷ []) _ (two_open _ _ (omega arith) (omega arith) (second_of_three c a b s))
+fronts_open c _ s (takes_four a) = let top : c < 1114112 = below_all c s in open_but_last (_ ∷ _ ∷ _ ∷ []) _ (three_open _ _ _ (omega arith) (omega arith) (second_of_four c a top) (omega arith) (omega arith))
 
 -- what begins a character, and is not one or more, is open
 pub front_of : (c : ℕ) (rest more r : List ℕ) → IsScalar c → rest ++ more ≡ encode_utf8 c ++ r → 0 < length rest → utf8_valid_len rest ≡ 0 → utf8_error_len rest ≡ None
@@ -168,7 +127,7 @@ front_of c rest more r s e some none = elim (cases_lt (length rest) (length (enc
   | inl less ↦
       let front : rest ≡ take (length rest) (encode_utf8 c) =
       sym (take_at rest more (length rest) refl) ∙ ap (take (length rest)) e ∙ take-append-le (length rest) (encode_utf8 c) r (omega arith) in
-      ap utf8_error_len front ∙ fronts_open c s (length rest) some less
+      ap utf8_error_len front ∙ fronts_open c (encode_utf8 c) s (bytes_of c) (length rest) some less
   | inr le ↦
       let k : ℕ = length (encode_utf8 c) in
       let whole : take k rest ≡ encode_utf8 c = sym (take-append-le k rest more le) ∙ ap (take k) e ∙ take_at (encode_utf8 c) r k refl in
@@ -186,7 +145,7 @@ complete_two x y a b d e =
     let c : ℕ = (x - 192) * 64 + (y - 128) in
     let first : 192 + c / 64 ≡ x = omega arith in
     let second : 128 + c % 64 ≡ y = omega arith in
-    (c, low_scalar c (omega arith), two_bytes c (omega arith) (omega arith) ∙ ap (λ (n : ℕ). n ∷ (128 + c % 64) ∷ []) first ∙ ap (λ (n : ℕ). x ∷ n ∷ []) second)
+    (c, low_scalar c (omega arith), two_bytes c (omega arith) (omega arith) ∙ rw (first, second) refl)
 
 three_scalar : (x y z c : ℕ) → 0xE0 ≤ x → x ≤ 0xEF → MayFollow x y → 128 ≤ z → z ≤ 191 → c ≡ (x - 224) * 4096 + (y - 128) * 64 + (z - 128) → IsScalar c
 three_scalar x y z c a b h d e is = elim (cases_lt x 237) [
@@ -198,10 +157,7 @@ three_scalar x y z c a b h d e is = elim (cases_lt x 237) [
 ]
 
 three_least : (x y z c : ℕ) → 0xE0 ≤ x → MayFollow x y → c ≡ (x - 224) * 4096 + (y - 128) * 64 + (z - 128) → 2048 ≤ c
-three_least x y z c a h is = elim (cases_lt 224 x) [
-  | inl above ↦ omega arith
-  | inr le ↦ let same : x ≡ 224 = omega arith in omega (arith, h.after_e0 same)
-]
+three_least x y z c a h is = grind (arith, h.after_e0)
 
 complete_three : (x y z : ℕ) → 0xE0 ≤ x → x ≤ 0xEF → MayFollow x y → 128 ≤ z → z ≤ 191 → (c : ℕ) × IsScalar c × (encode_utf8 c ≡ x ∷ y ∷ z ∷ [])
 complete_three x y z a b h d e =
@@ -213,21 +169,11 @@ complete_three x y z a b h d e =
     let third : 128 + c % 64 ≡ z = omega arith in (
       c,
       three_scalar x y z c a b h d e refl,
-      three_bytes c (three_least x y z c a h refl) (omega arith)
-          ∙ ap (λ (n : ℕ). n ∷ (128 + c / 64 % 64) ∷ (128 + c % 64) ∷ []) first ∙ ap (λ (n : ℕ). x ∷ n ∷ (128 + c % 64) ∷ []) second ∙ ap (λ (n : ℕ). x ∷ y ∷ n ∷ []) third,
+      three_bytes c (three_least x y z c a h refl) (omega arith) ∙ rw (first, second, third) refl,
     )
 
 four_range : (x y z w c : ℕ) → 0xF0 ≤ x → x ≤ 0xF4 → MayFollow x y → z ≤ 191 → w ≤ 191 → c ≡ (x - 240) * 262144 + (y - 128) * 4096 + (z - 128) * 64 + (w - 128) → (65536 ≤ c) × (c < 1114112)
-four_range x y z w c a b h d e is = (
-  elim (cases_lt 240 x) [
-    | inl above ↦ omega arith
-    | inr le ↦ let same : x ≡ 240 = omega arith in omega (arith, h.after_f0 same)
-  ],
-  elim (cases_lt x 244) [
-    | inl below ↦ omega (arith, h.most)
-    | inr ge ↦ let same : x ≡ 244 = omega arith in omega (arith, h.after_f4 same)
-  ],
-)
+four_range x y z w c a b h d e is = (grind (arith, h.least, h.after_f0), grind (arith, h.most, h.after_f4))
 
 complete_four : (x y z w : ℕ) → 0xF0 ≤ x → x ≤ 0xF4 → MayFollow x y → 128 ≤ z → z ≤ 191 → 128 ≤ w → w ≤ 191 → (c : ℕ) × IsScalar c × (encode_utf8 c ≡ x ∷ y ∷ z ∷ w ∷ [])
 complete_four x y z w a b h d e f g =
@@ -241,11 +187,7 @@ complete_four x y z w a b h d e f g =
     let fourth : 128 + c % 64 ≡ w = omega arith in (
       c,
       high_scalar c (omega (arith, range.0)) range.1,
-      four_bytes c range.0
-          ∙ ap (λ (n : ℕ). n ∷ (128 + c / 4096 % 64) ∷ (128 + c / 64 % 64) ∷ (128 + c % 64) ∷ []) first
-          ∙ ap (λ (n : ℕ). x ∷ n ∷ (128 + c / 64 % 64) ∷ (128 + c % 64) ∷ []) second
-          ∙ ap (λ (n : ℕ). x ∷ y ∷ n ∷ (128 + c % 64) ∷ []) third
-          ∙ ap (λ (n : ℕ). x ∷ y ∷ z ∷ n ∷ []) fourth,
+      four_bytes c range.0 ∙ rw (first, second, third, fourth) refl,
     )
 
 -- one, two and three bytes that are open
@@ -265,94 +207,38 @@ after_two x y a b h = elim (cases_lt x 224) [
 ]
 
 after_one : (x : ℕ) → 0xC2 ≤ x → x ≤ 0xF4 → BeginsCharacter (x ∷ [])
-after_one x a b = elim (cases_eq x 0xE0) [
-  | inl is ↦ with_more (x ∷ []) 0xA0 (after_two x 0xA0 a b (record {
-    least = omega arith;
-    most = omega arith;
-    after_e0 = λ _. omega arith;
-    after_ed = λ e. absurd (omega arith);
-    after_f0 = λ e. absurd (omega arith);
-    after_f4 = λ e. absurd (omega arith);
-  }))
-  | inr other ↦ elim (cases_eq x 0xF0) [
-    | inl is ↦ with_more (x ∷ []) 0x90 (after_two x 0x90 a b (record {
-      least = omega arith;
-      most = omega arith;
-      after_e0 = λ e. absurd (omega arith);
-      after_ed = λ e. absurd (omega arith);
-      after_f0 = λ _. omega arith;
-      after_f4 = λ e. absurd (omega arith);
-    }))
-    | inr another ↦ with_more (x ∷ []) 0x80 (after_two x 0x80 a b (record {
-      least = omega arith;
-      most = omega arith;
-      after_e0 = λ e. absurd (other e);
-      after_ed = λ _. omega arith;
-      after_f0 = λ e. absurd (another e);
-      after_f4 = λ _. omega arith;
-    }))
-  ]
-]
-
-one_test : (r : Bool) → cond {A = Option ℕ} r None (Some 1) ≡ None → r ≡ true
-one_test true h = refl
-one_test false h = absurd cc
-
-two_tests : (r s : Bool) → cond {A = Option ℕ} r (cond s None (Some 1)) (Some 1) ≡ None → (r ≡ true) × (s ≡ true)
-two_tests true true h = (refl, refl)
-two_tests true false h = absurd cc
-two_tests false s h = absurd cc
-
-three_tests : (r s t : Bool) → cond {A = Option ℕ} r (cond s (cond t None (Some 2)) (Some 1)) (Some 1) ≡ None → (r ≡ true) × (s ≡ true) × (t ≡ true)
-three_tests true true true h = (refl, refl, refl)
-three_tests true true false h = absurd cc
-three_tests true false t h = absurd cc
-three_tests false s t h = absurd cc
-
-no_test : (r s t : Bool) → cond {A = Option ℕ} r (cond s (cond t (Some 3) (Some 2)) (Some 1)) (Some 1) ≡ None → ⊥
-no_test true true true h = cc
-no_test true true false h = cc
-no_test true false t h = cc
-no_test false s t h = cc
-
-many_are_not : (x y z w : ℕ) (ws : List ℕ) → utf8_error_len (x ∷ y ∷ z ∷ w ∷ ws) ≡ None → ⊥
-unfolding utf8_error_len
-many_are_not x y z w ws h =
-    let bytes : List ℕ = x ∷ y ∷ z ∷ w ∷ ws in
-    let two : 2 ≤ length bytes = omega arith in
-    let three : 3 ≤ length bytes = omega arith in
-    let four : 4 ≤ length bytes = omega arith in
-    let begun : eqb (length bytes) 0 ≡ false = grind (arith, nat_tests) in
-    let tests = rw (begun, le-ltb (length bytes) 2 two, le-ltb (length bytes) 3 three, le-ltb (length bytes) 4 four) at h in
-    no_test (is_in_range 0xC2 0xF4 x) (is_in_range (second_byte_min x) (second_byte_max x) y) (is_in_range 0x80 0xBF z) tests
+after_one x a b =
+    with_more (x ∷ []) (second_byte_min x) (after_two x (second_byte_min x) a b (tested_follows x (second_byte_min x) (grind (arith, nat_tests))))
 
 -- open bytes are three at most
 pub open_short : (bytes : List ℕ) → utf8_error_len bytes ≡ None → length bytes ≤ 3
 open_short [] h = omega arith
-open_short (x ∷ []) h = omega arith
-open_short (x ∷ y ∷ []) h = omega arith
-open_short (x ∷ y ∷ z ∷ []) h = omega arith
-open_short (x ∷ y ∷ z ∷ w ∷ ws) h = absurd (many_are_not x y z w ws h)
+open_short (x ∷ xs) h = let (_, on) = test_passed _ (tested (next_tests x) 1 xs) 1 (sym (is_by_bytes (x ∷ xs)) ∙ h) in omega (arith, tested_short (next_tests x) 1 xs on)
 
 -- open bytes, if there are any, become a character with some more
-pub completed : (bytes : List ℕ) → 0 < length bytes → utf8_valid_len bytes ≡ 0 → utf8_error_len bytes ≡ None → BeginsCharacter bytes
-unfolding utf8_error_len
-completed [] some none open' = absurd (omega (arith, some))
-completed (x ∷ []) some none open' = let r = from_range 0xC2 0xF4 x (one_test _ open') in after_one x r.0 r.1
-completed (x ∷ y ∷ []) some none open' = let t = two_tests _ _ open' in let r = from_range 0xC2 0xF4 x t.0 in after_two x y r.0 r.1 (tested_follows x y t.1)
-completed (x ∷ y ∷ z ∷ []) some none open' =
-    let t = three_tests _ _ _ open' in
-    let r = from_range 0xC2 0xF4 x t.0 in
-    let s = tested_follows x y t.1 in
-    let u = from_range 0x80 0xBF z t.2 in
-    elim (cases_lt x 224) [
+completed_by : (x : ℕ) (xs : List ℕ) → 0xC2 ≤ x → x ≤ 0xF4 → utf8_valid_len (x ∷ xs) ≡ 0 → tested (next_tests x) 1 xs ≡ None → BeginsCharacter (x ∷ xs)
+completed_by x [] a b none h = after_one x a b
+completed_by x (y ∷ []) a b none h = after_two x y a b (tested_follows x y (test_passed (is_in_range (second_byte_min x) (second_byte_max x) y) _ 1 h).0)
+completed_by x (y ∷ z ∷ zs) a b none h =
+    let (second, on) = test_passed (is_in_range (second_byte_min x) (second_byte_max x) y) _ 1 h in
+    let (third, last) = test_passed (is_in_range 0x80 0xBF z) _ 2 on in
+    let s = tested_follows x y second in
+    let u = from_range 0x80 0xBF z third in
+    let nil : zs ≡ [] = nil_from_length zs (omega (arith, tested_short [] 3 zs last)) in
+    rw nil (elim (cases_lt x 224) [
       | inl two ↦
-          let c = complete_two x y r.0 (omega arith) s.least s.most in
-          let begun : 0 < utf8_valid_len (x ∷ y ∷ z ∷ []) = starts_back (x ∷ y ∷ z ∷ []) (z ∷ []) c.0 c.1 (ap (λ (xs : List ℕ). xs ++ z ∷ []) (sym c.2)) in
-          absurd (omega (arith, begun))
-      | inr more ↦ after_three x y z more r.1 s u.0 u.1
-    ]
-completed (x ∷ y ∷ z ∷ w ∷ ws) some none open' = absurd (many_are_not x y z w ws open')
+          let c = complete_two x y a (omega arith) s.least s.most in
+          let begun : 0 < utf8_valid_len (x ∷ y ∷ z ∷ zs) = starts_back (x ∷ y ∷ z ∷ zs) (z ∷ zs) c.0 c.1 (ap (λ (xs : List ℕ). xs ++ z ∷ zs) (sym c.2)) in
+          absurd (omega (arith, begun, none))
+      | inr more ↦ after_three x y z more b s u.0 u.1
+    ])
+
+pub completed : (bytes : List ℕ) → 0 < length bytes → utf8_valid_len bytes ≡ 0 → utf8_error_len bytes ≡ None → BeginsCharacter bytes
+completed [] some none open' = absurd (omega (arith, some))
+completed (x ∷ xs) some none open' =
+    let (first, on) = test_passed _ (tested (next_tests x) 1 xs) 1 (sym (is_by_bytes (x ∷ xs)) ∙ open') in
+    let r = from_range 0xC2 0xF4 x first in
+    completed_by x xs r.0 r.1 none on
 
 -- WHATEVER COMES AFTER
 
@@ -363,21 +249,12 @@ some_left (x ∷ xs) k h = omega arith
 
 -- no character begins in what stays without one, whatever comes after
 pub none_after : (rest more : List ℕ) (k : ℕ) → utf8_valid_len rest ≡ 0 → utf8_error_len rest ≡ Some k → utf8_valid_len (rest ++ more) ≡ 0
-none_after rest more k none fault = elim (cases_lt 0 (utf8_valid_len (rest ++ more))) [
-  | inl begun ↦
-      let (c, r, s, e) = starts (rest ++ more) begun in
-      let open' : utf8_error_len rest ≡ None = front_of c rest more r s e (some_left rest k fault) none in
-      absurd cc
-  | inr nothing ↦ omega arith
-]
+none_after rest more k none fault = none_valid (rest ++ more) (λ c r s e.
+    let open' : utf8_error_len rest ≡ None = front_of c rest more r s e (some_left rest k fault) none in
+    absurd cc)
 
 -- what begins with no character does so under a limit too
 pub under_limit : (n : ℕ) (bytes : List ℕ) → utf8_valid_len bytes ≡ 0 → valid_len n bytes ≡ 0
-under_limit n bytes none = elim (cases_lt 0 (valid_len n bytes)) [
-  | inl some ↦
-      let (c, r, s, e) = starts (take n bytes) some in
-      let begun : 0 < utf8_valid_len bytes = starts_back bytes (r ++ drop n bytes) c s
-      (sym (take-append-drop n bytes) ∙ ap (λ (x : List ℕ). x ++ drop n bytes) e ∙ append_assoc (encode_utf8 c) r (drop n bytes)) in
-      absurd (omega (arith, begun))
-  | inr nothing ↦ omega arith
-]
+under_limit n bytes none = none_valid (take n bytes) (λ c r s e.
+    let whole = sym (take-append-drop n bytes) ∙ ap (λ (x : List ℕ). x ++ drop n bytes) e ∙ append_assoc (encode_utf8 c) r (drop n bytes) in
+    omega (arith, starts_back bytes (r ++ drop n bytes) c s whole, none))

@@ -1,58 +1,79 @@
 -- When bytes are refused whatever comes after them.
-use Rattle.htext.proofs.Names.{◌≡◌, ℕ, ◌<◌, ◌≤◌, ◌+◌, ◌-◌, Bool, false, cond, eqb, List, [], ◌∷◌, ◌++◌, length, take, drop, sym, refl, ap, ◌∙◌, arith, inl, inr, append_assoc, append-nil, Option, None, Some, cases_lt, lt-ltb, le-ltb, nat_tests, length-append, length-take, take-append-drop, take-take, take_at, nil_from_length, length-encode, encode_same, utf8_valid_len_le, utf8_valid_len-IsUtf8, IsUtf8-encode, IsUtf8-append, IsUtf8, utf8_valid_len, utf8_error_len, encode_utf8, len_utf8, Refusal, NotUtf8, TooLarge, Keep, BadBytes, Refuse, Replace, Front, Waits, Refused, next_of, Policy, valid_len, refusal_with, StaysRefused, BeginsCharacter}
+use Rattle.htext.proofs.Names.{subst, take-append-le, ◌≡◌, ℕ, ◌<◌, ◌≤◌, ◌+◌, ◌-◌, Bool, false, cond, eqb, List, [], ◌∷◌, ◌++◌, length, take, drop, sym, refl, ap, ◌∙◌, arith, inl, inr, append_assoc, append-nil, Option, None, Some, cases_lt, lt-ltb, le-ltb, nat_tests, length-append, length-take, take-append-drop, take-take, take_at, nil_from_length, length-encode, encode_same, utf8_valid_len_le, utf8_valid_len-IsUtf8, IsUtf8-encode, IsUtf8-append, IsUtf8, utf8_valid_len, utf8_error_len, encode_utf8, len_utf8, Refusal, NotUtf8, TooLarge, Keep, BadBytes, Refuse, Replace, Front, Waits, Refused, next_of, Policy, valid_len, refusal_with, StaysRefused, BeginsCharacter}
 use Rattle.htext.specs.declared.progress.Front.TheVariants.{Bad}
 use Rattle.htext.specs.Next.{next_part}
-use Rattle.htext.proofs.Valid.{refusal_within, starts, starts_back, going_on, refusal_past}
+use Rattle.htext.proofs.Valid.{refusal_within, starts, starts_back, none_valid, going_on, refusal_past}
 use Rattle.htext.proofs.Beginnings.{completed, some_left, none_after, under_limit}
 use Rattle.htext.proofs.Refusals.{accepted, too_large}
 
 abbrev refusing : ℕ → Policy
 refusing limit = record { bom = Keep; bad = Refuse; limit = limit }
 
--- What is left stays refused for one of two causes.
-pub data IsSettled (rest : List ℕ) (at : ℕ) (refusal : Refusal) : Type 0 where
-  too_long : 0 < utf8_valid_len rest → refusal ≡ TooLarge at → IsSettled rest at refusal
-  no_character : (k : ℕ) → utf8_valid_len rest ≡ 0 → utf8_error_len rest ≡ Some k → refusal ≡ NotUtf8 at → IsSettled rest at refusal
+-- The next of what is left, for one of these causes.
+pub data NextIs (rest : List ℕ) (room at : ℕ) : BadBytes → Front → Type 0 where
+  a_character : (bad : BadBytes) → 0 < utf8_valid_len rest → NextIs rest room at bad (Refused (TooLarge at))
+  none_can : (k : ℕ) → utf8_valid_len rest ≡ 0 → utf8_error_len rest ≡ Some k → NextIs rest room at Refuse (Refused (NotUtf8 at))
+  a_part : (k : ℕ) → utf8_valid_len rest ≡ 0 → utf8_error_len rest ≡ Some k → k ≤ room → NextIs rest room at Replace (Bad k)
+  a_long_part : (k : ℕ) → utf8_valid_len rest ≡ 0 → utf8_error_len rest ≡ Some k → room < k → NextIs rest room at Replace (Refused (TooLarge at))
+  not_yet : (bad : BadBytes) → utf8_valid_len rest ≡ 0 → utf8_error_len rest ≡ None → (bad ≡ Replace → length rest ≤ room) → NextIs rest room at bad Waits
+  too_much : utf8_valid_len rest ≡ 0 → utf8_error_len rest ≡ None → room < length rest → NextIs rest room at Replace (Refused (TooLarge at))
+
+next_by : (bad : BadBytes) (o : Option ℕ) (rest : List ℕ) (room at : ℕ) → utf8_valid_len rest ≡ 0 → utf8_error_len rest ≡ o → NextIs rest room at bad (next_part bad o (length rest) room at)
+next_by Refuse (Some k) rest room at none e = none_can k none e
+next_by Refuse None rest room at none e = not_yet Refuse none e (λ is. absurd cc)
+next_by Replace (Some k) rest room at none e = elim (cases_lt room k) [
+  | inl long ↦ rw (lt-ltb room k long) (a_long_part k none e long)
+  | inr fits ↦ rw (le-ltb room k fits) (a_part k none e fits)
+]
+next_by Replace None rest room at none e = elim (cases_lt room (length rest)) [
+  | inl long ↦ rw (lt-ltb room (length rest) long) (too_much none e long)
+  | inr fits ↦ rw (le-ltb room (length rest) fits) (not_yet Replace none e (λ _. fits))
+]
+
+pub next_is : (bad : BadBytes) (rest : List ℕ) (room at : ℕ) (next : Front) → next_of bad rest room at ≡ next → NextIs rest room at bad next
+next_is bad rest room at next is = subst (NextIs rest room at bad) is (elim (cases_lt 0 (utf8_valid_len rest)) [
+  | inl begun ↦ rw (lt-ltb 0 (utf8_valid_len rest) begun) (a_character bad begun)
+  | inr none ↦ rw (le-ltb 0 (utf8_valid_len rest) none) (next_by bad (utf8_error_len rest) rest room at (omega arith) refl)
+])
 
 -- a character that doesn't fit does not, whatever comes after it
 pub too_long_after : (n : ℕ) (rest more : List ℕ) → 0 < utf8_valid_len rest → valid_len n rest ≡ 0 → valid_len n (rest ++ more) ≡ 0
-too_long_after n rest more begun none = elim (cases_lt 0 (valid_len n (rest ++ more))) [
-  | inl some ↦
-      let (d, t, scalar, is) = starts rest begun in
-      let (c, r, other, e) = starts (take n (rest ++ more)) some in
-      let same = encode_same d c (t ++ more) (r ++ drop n (rest ++ more))
-      (sym (append_assoc (encode_utf8 d) t more) ∙ ap (λ (x : List ℕ). x ++ more) (sym is) ∙ sym (take-append-drop n (rest ++ more))
-      ∙ ap (λ (x : List ℕ). x ++ drop n (rest ++ more)) e ∙ append_assoc (encode_utf8 c) r (drop n (rest ++ more))) in
-      let k : ℕ = length (encode_utf8 d) in
-      let fits : k ≤ n = omega (arith, ap (λ (x : ℕ). length (encode_utf8 x)) same.0, ap length e, length-append (encode_utf8 c) r, length-take n (rest ++ more)) in
-      let front : take k (take n rest) ≡ encode_utf8 d = take-take k n rest fits ∙ ap (take k) is ∙ take_at (encode_utf8 d) t k refl in
-      let stands : 0 < valid_len n rest = starts_back (take n rest) (drop k (take n rest)) d scalar (sym (take-append-drop k (take n rest)) ∙ ap (λ (x : List ℕ). x ++ drop k (take n rest)) front) in
-      absurd (omega (arith, stands))
-  | inr nothing ↦ omega arith
-]
+too_long_after n rest more begun none = none_valid (take n (rest ++ more)) (λ c r other e.
+    let (d, t, scalar, is) = starts rest begun in
+    let same = encode_same d c (t ++ more) (r ++ drop n (rest ++ more))
+    (sym (append_assoc (encode_utf8 d) t more) ∙ ap (λ (x : List ℕ). x ++ more) (sym is) ∙ sym (take-append-drop n (rest ++ more))
+    ∙ ap (λ (x : List ℕ). x ++ drop n (rest ++ more)) e ∙ append_assoc (encode_utf8 c) r (drop n (rest ++ more))) in
+    let k : ℕ = length (encode_utf8 d) in
+    let fits : k ≤ n = omega (arith, ap (λ (x : ℕ). length (encode_utf8 x)) same.0, ap length e, length-append (encode_utf8 c) r, length-take n (rest ++ more)) in
+    let front : take k (take n rest) ≡ encode_utf8 d = take-take k n rest fits ∙ ap (take k) is ∙ take_at (encode_utf8 d) t k refl in
+    let stands : 0 < valid_len n rest = starts_back (take n rest) (drop k (take n rest)) d scalar (sym (take-append-drop k (take n rest)) ∙ ap (λ (x : List ℕ). x ++ drop k (take n rest)) front) in
+    omega (arith, stands, none))
 
-stuck_after : (limit : ℕ) (rest more : List ℕ) (at : ℕ) (refusal : Refusal) → IsSettled rest at refusal → valid_len limit rest ≡ 0 → valid_len limit (rest ++ more) ≡ 0
-stuck_after limit rest more at refusal (too_long begun is) none = too_long_after limit rest more begun none
-stuck_after limit rest more at refusal (no_character k nothing fault is) none = under_limit limit (rest ++ more) (none_after rest more k nothing fault)
+-- what is refused stays so
+pub some_next : (rest : List ℕ) (room at : ℕ) (bad : BadBytes) (r : Refusal) → NextIs rest room at bad (Refused r) → 0 < length rest
+some_next rest room at _ _ (a_character bad begun) = omega (arith, utf8_valid_len_le rest)
+some_next rest room at _ _ (none_can k none fault) = some_left rest k fault
+some_next rest room at _ _ (a_long_part k none fault long) = some_left rest k fault
+some_next rest room at _ _ (too_much none open' long) = omega arith
 
-same_after : (rest more : List ℕ) (at : ℕ) (refusal : Refusal) → IsSettled rest at refusal → refusal_with Refuse (utf8_valid_len (rest ++ more)) at ≡ refusal
-same_after rest more at refusal (too_long begun is) =
-    let some : 0 < utf8_valid_len (rest ++ more) = going_on rest more begun in
-    let test : eqb (utf8_valid_len (rest ++ more)) 0 ≡ false = grind (arith, nat_tests) in
-    ap (λ (b : Bool). cond b (NotUtf8 at) (TooLarge at)) test ∙ sym is
-same_after rest more at refusal (no_character k nothing fault is) = ap (λ (n : ℕ). refusal_with Refuse n at) (none_after rest more k nothing fault) ∙ sym is
+pub valid_next : (rest : List ℕ) (room at : ℕ) (bad : BadBytes) (r : Refusal) → NextIs rest room at bad (Refused r) → valid_len room rest ≡ 0 → (more : List ℕ) → valid_len room (rest ++ more) ≡ 0
+valid_next rest room at _ _ (a_character bad begun) stuck more = too_long_after room rest more begun stuck
+valid_next rest room at _ _ (none_can k none fault) stuck more = under_limit room (rest ++ more) (none_after rest more k none fault)
+valid_next rest room at _ _ (a_long_part k none fault long) stuck more = under_limit room (rest ++ more) (none_after rest more k none fault)
+valid_next rest room at _ _ (too_much none open' long) stuck more = ap utf8_valid_len (take-append-le room rest more (omega arith)) ∙ stuck
 
-some_after : (rest : List ℕ) (at : ℕ) (refusal : Refusal) → IsSettled rest at refusal → 0 < length rest
-some_after rest at refusal (too_long begun is) = omega (arith, utf8_valid_len_le rest)
-some_after rest at refusal (no_character k nothing fault is) = some_left rest k fault
+same_after : (rest more : List ℕ) (room at : ℕ) (r : Refusal) → NextIs rest room at Refuse (Refused r) → refusal_with Refuse (utf8_valid_len (rest ++ more)) at ≡ r
+same_after rest more room at _ (a_character bad begun) =
+    let test : eqb (utf8_valid_len (rest ++ more)) 0 ≡ false = grind (arith, nat_tests, going_on rest more begun) in
+    ap (λ (b : Bool). cond b (NotUtf8 at) (TooLarge at)) test
+same_after rest more room at _ (none_can k none fault) = ap (λ (n : ℕ). refusal_with Refuse n at) (none_after rest more k none fault)
 
 module _ (limit : ℕ) (front rest : List ℕ) (u : IsUtf8 front) (within : length front ≤ limit) (stuck : valid_len (limit - length front) rest ≡ 0) where
-  -- what is settled stays so
-  pub stays_refused : (refusal : Refusal) → IsSettled rest (length front) refusal → StaysRefused (refusing limit) (front ++ rest) refusal
-  stays_refused refusal s more =
+  pub stays_refused : (r : Refusal) → NextIs rest (limit - length front) (length front) Refuse (Refused r) → StaysRefused (refusing limit) (front ++ rest) r
+  stays_refused r s more =
       ap (refusal_within limit) (append_assoc front rest more)
-      ∙ refusal_past limit front (rest ++ more) u within (stuck_after (limit - length front) rest more (length front) refusal s stuck) (omega (arith, length-append rest more, some_after rest (length front) refusal s))
-      ∙ ap Some (same_after rest more (length front) refusal s)
+      ∙ refusal_past limit front (rest ++ more) u within (valid_next rest _ _ _ r s stuck more) (omega (arith, length-append rest more, some_next rest _ _ _ r s))
+      ∙ ap Some (same_after rest more _ _ r s)
 
   -- what is open is accepted with some more bytes, or too large with them, and no UTF-8 without them
   cut_off : 0 < length rest → utf8_valid_len rest ≡ 0 → refusal_within limit ((front ++ rest) ++ []) ≡ Some (NotUtf8 (length front))
@@ -88,35 +109,6 @@ module _ (limit : ℕ) (front rest : List ℕ) (u : IsUtf8 front) (within : leng
             let some : refusal_within limit ((front ++ rest) ++ []) ≡ Some refusal = stays [] in
             cc
       ]
-
--- WHAT STANDS THERE
-
--- The next of what is left, for one of these causes.
-pub data NextIs (bad : BadBytes) (rest : List ℕ) (room at : ℕ) (next : Front) : Type 0 where
-  a_character : 0 < utf8_valid_len rest → next ≡ Refused (TooLarge at) → NextIs bad rest room at next
-  none_can : (k : ℕ) → bad ≡ Refuse → utf8_valid_len rest ≡ 0 → utf8_error_len rest ≡ Some k → next ≡ Refused (NotUtf8 at) → NextIs bad rest room at next
-  a_part : (k : ℕ) → bad ≡ Replace → utf8_valid_len rest ≡ 0 → utf8_error_len rest ≡ Some k → k ≤ room → next ≡ Bad k → NextIs bad rest room at next
-  a_long_part : (k : ℕ) → bad ≡ Replace → utf8_valid_len rest ≡ 0 → utf8_error_len rest ≡ Some k → room < k → next ≡ Refused (TooLarge at) → NextIs bad rest room at next
-  not_yet : utf8_valid_len rest ≡ 0 → utf8_error_len rest ≡ None → (bad ≡ Replace → length rest ≤ room) → next ≡ Waits → NextIs bad rest room at next
-  too_much : bad ≡ Replace → utf8_valid_len rest ≡ 0 → utf8_error_len rest ≡ None → room < length rest → next ≡ Refused (TooLarge at) → NextIs bad rest room at next
-
-next_by : (bad : BadBytes) (o : Option ℕ) (rest : List ℕ) (room at : ℕ) → utf8_valid_len rest ≡ 0 → utf8_error_len rest ≡ o → NextIs bad rest room at (next_part bad o (length rest) room at)
-next_by Refuse (Some k) rest room at none e = none_can k refl none e refl
-next_by Refuse None rest room at none e = not_yet none e (λ is. absurd cc) refl
-next_by Replace (Some k) rest room at none e = elim (cases_lt room k) [
-  | inl long ↦ a_long_part k refl none e long (rw (lt-ltb room k long) refl)
-  | inr fits ↦ a_part k refl none e fits (rw (le-ltb room k fits) refl)
-]
-next_by Replace None rest room at none e = elim (cases_lt room (length rest)) [
-  | inl long ↦ too_much refl none e long (rw (lt-ltb room (length rest) long) refl)
-  | inr fits ↦ not_yet none e (λ _. fits) (rw (le-ltb room (length rest) fits) refl)
-]
-
-pub next_is : (bad : BadBytes) (rest : List ℕ) (room at : ℕ) → NextIs bad rest room at (next_of bad rest room at)
-next_is bad rest room at = elim (cases_lt 0 (utf8_valid_len rest)) [
-  | inl begun ↦ a_character begun (rw (lt-ltb 0 (utf8_valid_len rest) begun) refl)
-  | inr none ↦ rw (le-ltb 0 (utf8_valid_len rest) none) (next_by bad (utf8_error_len rest) rest room at (omega arith) refl)
-]
 
 pub nothing_next : (bad : BadBytes) (room at : ℕ) → next_of bad [] room at ≡ next_part bad None 0 room at
 unfolding utf8_valid_len utf8_error_len

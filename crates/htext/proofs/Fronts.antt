@@ -1,5 +1,5 @@
 -- Fronts of bytes that end where a character or a bad part ends.
-use Rattle.htext.proofs.Names.{◌≡◌, ℕ, zero, suc, ◌<◌, ◌≤◌, ◌+◌, ◌-◌, Bool, true, false, ◌&&◌, cond, List, [], ◌∷◌, ◌++◌, length, map, take, drop, sym, refl, ap, ◌∙◌, subst, arith, inl, inr, append_assoc, append-nil, Option, None, Some, nat_le, nat_lt, nat_tests, cases_lt, lt-ltb, le-leb, leb-true, length-append, length-drop, length-take-le, take-append-drop, drop-drop, take-append-add, drop-append-add, IsUtf8-append, chars, IsUtf8, utf8_valid_len, utf8_error_len, placed, BadBytes, Refuse, Replace, Read, Whole, Bad, valid_len, or_rest, bad_len, after_part, fitting_within, fitting, front_len, reads_at}
+use Rattle.htext.proofs.Names.{drop_at, take-add, ◌≡◌, ℕ, zero, suc, ◌<◌, ◌≤◌, ◌+◌, ◌-◌, Bool, true, false, cond, List, [], ◌∷◌, ◌++◌, length, map, take, drop, sym, refl, ap, ◌∙◌, subst, arith, append_assoc, append-nil, Option, None, Some, nat_le, nat_lt, nat_tests, le-leb, length-append, length-drop, length-take-le, take-append-drop, drop-drop, drop-append-add, IsUtf8-append, chars, IsUtf8, utf8_valid_len, utf8_error_len, placed, BadBytes, Refuse, Replace, Read, Whole, Bad, valid_len, or_rest, bad_len, after_part, fitting_within, fitting, front_len, reads_at}
 use Rattle.htext.proofs.Valid.{valid_len_le, valid_len-append, valid_front_utf8, going_on}
 use Rattle.htext.proofs.Errors.{error_bounds, error_more, error_cut}
 use Rattle.htext.proofs.Beginnings.{none_after, under_limit}
@@ -39,10 +39,7 @@ Parts-more _ rest more (after_bad part b r none bad q) =
 
 -- how much is read after a front, and what
 pub cut_none : (xs ys : List ℕ) → utf8_valid_len (xs ++ ys) ≡ 0 → utf8_valid_len xs ≡ 0
-cut_none xs ys none = elim (cases_lt 0 (utf8_valid_len xs)) [
-  | inl some ↦ absurd (omega (arith, going_on xs ys some))
-  | inr nothing ↦ omega arith
-]
+cut_none xs ys none = grind (arith, going_on xs ys)
 
 reads_after_part : (at : ℕ) (part ys rest : List ℕ) → utf8_valid_len (part ++ (ys ++ rest)) ≡ 0 → utf8_error_len (part ++ (ys ++ rest)) ≡ Some (length part) → (n : ℕ) → reads_at at (part ++ (ys ++ take n rest)) ≡ Bad at ∷ reads_at (at + length part) (ys ++ take n rest)
 reads_after_part at part ys rest none bad n =
@@ -77,21 +74,12 @@ reads_after at _ rest n (after_bad part b r none bad q) =
 
 -- HOW MUCH IS READ
 
-rest_by : (e : Bool) (rest : List ℕ) (m : ℕ) → cond (e && nat_lt 0 (length rest)) (Some (length rest)) None ≡ Some m → (1 ≤ m) × (m ≤ length rest)
-rest_by false rest m h = absurd cc
-rest_by true [] m h = absurd cc
-rest_by true (x ∷ xs) m h =
-    let g = rw (lt-ltb 0 (length (x ∷ xs)) (omega arith)) at h in
-    let is : length (x ∷ xs) ≡ m = cc in
-    (omega arith, omega arith)
-
-bad_by : (b e : Bool) (rest : List ℕ) (o : Option ℕ) (m : ℕ) → utf8_error_len rest ≡ o → cond b None (or_rest e rest o) ≡ Some m → (1 ≤ m) × (m ≤ length rest)
-bad_by true e rest o m h g = absurd cc
-bad_by false e rest (Some k) m h g = let is : k ≡ m = cc in subst (λ (x : ℕ). (1 ≤ x) × (x ≤ length rest)) is (error_bounds rest k h)
-bad_by false e rest None m h g = rest_by e rest m g
+bad_by : (e : Bool) (rest : List ℕ) (o : Option ℕ) (m : ℕ) → utf8_error_len rest ≡ o → cond (nat_lt 0 (utf8_valid_len rest)) None (or_rest e rest o) ≡ Some m → (1 ≤ m) × (m ≤ length rest)
+bad_by e rest (Some k) m h g = let bounds = error_bounds rest k h in (grind (arith, nat_tests), grind (arith, nat_tests))
+bad_by e rest None m h g = (grind (arith, nat_tests), grind (arith, nat_tests))
 
 pub bad_bounds : (e : Bool) (rest : List ℕ) (m : ℕ) → bad_len e rest ≡ Some m → (1 ≤ m) × (m ≤ length rest)
-bad_bounds e rest m h = bad_by (nat_lt 0 (utf8_valid_len rest)) e rest (utf8_error_len rest) m refl h
+bad_bounds e rest m h = bad_by e rest (utf8_error_len rest) m refl h
 
 zero_plus : (n : ℕ) → 0 + n ≡ n
 zero_plus n = omega arith
@@ -122,33 +110,25 @@ fit_text e k room xs ys u within =
     let n : ℕ = valid_len (room - length xs) ys in
     let less : room - (length xs + n) ≡ room - length xs - n = omega arith in
     let sum : length xs + n + fit_after e k (room - length xs) ys n ≡ length xs + (n + fit_after e k (room - length xs) ys n) = omega arith in
-    ap (λ (x : ℕ). x + fit_after e k room (xs ++ ys) x) (valid_len-append room xs ys u within)
-    ∙ ap (λ (x : ℕ). length xs + n + x)
-    (ap (λ (x : List ℕ). after_part (bad_len e x) (room - (length xs + n)) (λ m. fitting_within e k (room - (length xs + n + m)) (drop (length xs + n + m) (xs ++ ys)))) (drop-append-add xs ys n)
-    ∙ same_after (bad_len e (drop n ys)) (room - (length xs + n)) _ (λ m. fitting_within e k (room - length xs - (n + m)) (drop (n + m) ys))
+    rw (valid_len-append room xs ys u within, drop-append-add xs ys n, less)
+    (ap (λ (x : ℕ). length xs + n + x) (same_after (bad_len e (drop n ys)) (room - length xs - n) _ _
     (λ m h.
     let left : room - (length xs + n + m) ≡ room - length xs - (n + m) = omega arith in
     let place : length xs + n + m ≡ length xs + (n + m) = omega arith in
-    ap (λ (x : ℕ). fitting_within e k x (drop (length xs + n + m) (xs ++ ys))) left
-    ∙ ap (fitting_within e k (room - length xs - (n + m))) (ap (λ (x : ℕ). drop x (xs ++ ys)) place ∙ drop-append-add xs ys (n + m)))
-    ∙ ap (λ (x : ℕ). after_part (bad_len e (drop n ys)) x (λ m. fitting_within e k (room - length xs - (n + m)) (drop (n + m) ys))) less)
-    ∙ sum
+    rw (left, place, drop-append-add xs ys (n + m)) refl))
+    ∙ sum)
 
 fit_bad : (e : Bool) (k room : ℕ) (part ys : List ℕ) → utf8_valid_len (part ++ ys) ≡ 0 → bad_len e (part ++ ys) ≡ Some (length part) → length part ≤ room → fitting_within e (suc k) room (part ++ ys) ≡ length part + fitting_within e k (room - length part) ys
 unfolding fitting_within
 fit_bad e k room part ys none bad within =
-    let test : nat_le (length part) (room - 0) ≡ true = le-leb (length part) (room - 0) (omega arith) in
-    let place : 0 + length part ≡ length part + 0 = omega arith in
-    ap (λ (x : ℕ). x + fit_after e k room (part ++ ys) x) (under_limit room (part ++ ys) none)
-    ∙ ap (λ (o : Option ℕ). 0 + after_part o (room - 0) (λ m. fitting_within e k (room - (0 + m)) (drop (0 + m) (part ++ ys)))) bad
-    ∙ ap (λ (b : Bool). 0 + cond b (length part + fitting_within e k (room - (0 + length part)) (drop (0 + length part) (part ++ ys))) 0) test
-    ∙ ap (λ (x : List ℕ). 0 + (length part + fitting_within e k (room - (0 + length part)) x)) (ap (λ (x : ℕ). drop x (part ++ ys)) place ∙ drop-append-add part ys 0)
-    ∙ ap (λ (x : ℕ). 0 + (length part + fitting_within e k (room - x) ys)) (zero_plus (length part))
-    ∙ zero_plus _
+    rw (under_limit room (part ++ ys) none, bad, le-leb (length part) (room - 0) (omega arith), zero_plus (length part), drop_at part ys (length part) refl) (zero_plus _)
 
 -- what is read of bytes that begin with a front, in whole parts
 pub settled_bad : (e : Bool) (rest : List ℕ) (m : ℕ) → utf8_valid_len rest ≡ 0 → utf8_error_len rest ≡ Some m → bad_len e rest ≡ Some m
 settled_bad e rest m none bad = ap (λ (n : ℕ). cond (nat_lt 0 n) None (or_rest e rest (utf8_error_len rest))) none ∙ ap (or_rest e rest) bad
+
+sum_of : (i j k n : ℕ) → k ≡ i + j → i + (j + n) ≡ k + n
+sum_of i j k n is = omega arith
 
 fit_past : (e : Bool) (room : ℕ) (front rest : List ℕ) → Parts front rest → length front ≤ room → fitting e room (front ++ rest) ≡ length front + fitting e (room - length front) rest
 fit_past e room _ rest (no_part r) within = let same : room ≡ room - 0 = omega arith in ap (λ (x : ℕ). fitting e x rest) same ∙ sym (zero_plus _)
@@ -162,9 +142,6 @@ fit_past e room _ rest (after_text a b r u q) within =
     ∙ fit_past e (room - length a) b rest q (omega arith)
     ∙ ap (λ (x : ℕ). length b + fitting e x rest) left)
     ∙ sum_of (length a) (length b) (length (a ++ b)) _ len
-  where
-    sum_of : (i j k n : ℕ) → k ≡ i + j → i + (j + n) ≡ k + n
-    sum_of i j k n is = omega arith
 fit_past e room _ rest (after_bad part b r none bad q) within =
     let len : length (part ++ b) ≡ length part + length b = length-append part b in
     let whole : List ℕ = part ++ (b ++ rest) in
@@ -181,42 +158,29 @@ fit_past e room _ rest (after_bad part b r none bad q) within =
     ∙ fit_past e (room - length part) b rest q (omega arith)
     ∙ ap (λ (x : ℕ). length b + fitting e x rest) left)
     ∙ sum_of (length part) (length b) (length (part ++ b)) _ len
-  where
-    sum_of : (i j k n : ℕ) → k ≡ i + j → i + (j + n) ≡ k + n
-    sum_of i j k n is = omega arith
 
 -- the front that is read is such a one
 text_then : (n m : ℕ) (bytes : List ℕ) → n ≤ length bytes → IsUtf8 (take n bytes) → Parts (take m (drop n bytes)) (drop m (drop n bytes)) → Parts (take (n + m) bytes) (drop (n + m) bytes)
-text_then n m bytes within u p =
-    let xs : List ℕ = take n bytes in
-    let zs : List ℕ = drop n bytes in
-    let len : length xs ≡ n = length-take-le n bytes within in
-    let front : take (n + m) bytes ≡ xs ++ take m zs = ap (λ (x : ℕ). take (x + m) bytes) (sym len) ∙ ap (take (length xs + m)) (sym (take-append-drop n bytes)) ∙ take-append-add xs zs m in
-    let rest : drop (n + m) bytes ≡ drop m zs = ap (λ (x : ℕ). drop (x + m) bytes) (sym len) ∙ ap (drop (length xs + m)) (sym (take-append-drop n bytes)) ∙ drop-append-add xs zs m in
-    rw (front, rest) (after_text xs (take m zs) (drop m zs) u p)
+text_then n m bytes within u p = rw (take-add n m bytes, sym (drop-drop m n bytes)) (after_text (take n bytes) (take m (drop n bytes)) (drop m (drop n bytes)) u p)
 
 bad_then : (n m : ℕ) (bytes : List ℕ) → utf8_valid_len bytes ≡ 0 → utf8_error_len bytes ≡ Some n → Parts (take m (drop n bytes)) (drop m (drop n bytes)) → Parts (take (n + m) bytes) (drop (n + m) bytes)
 bad_then n m bytes none bad p =
-    let xs : List ℕ = take n bytes in
-    let zs : List ℕ = drop n bytes in
-    let len : length xs ≡ n = length-take-le n bytes (error_bounds bytes n bad).1 in
-    let front : take (n + m) bytes ≡ xs ++ take m zs = ap (λ (x : ℕ). take (x + m) bytes) (sym len) ∙ ap (take (length xs + m)) (sym (take-append-drop n bytes)) ∙ take-append-add xs zs m in
-    let rest : drop (n + m) bytes ≡ drop m zs = ap (λ (x : ℕ). drop (x + m) bytes) (sym len) ∙ ap (drop (length xs + m)) (sym (take-append-drop n bytes)) ∙ drop-append-add xs zs m in
-    let whole : xs ++ (take m zs ++ drop m zs) ≡ bytes = ap (λ (x : List ℕ). xs ++ x) (take-append-drop m zs) ∙ take-append-drop n bytes in
-    rw (front, rest) (after_bad xs (take m zs) (drop m zs) (ap utf8_valid_len whole ∙ none) (ap utf8_error_len whole ∙ bad ∙ ap Some (sym len)) p)
+    let whole : take n bytes ++ (take m (drop n bytes) ++ drop m (drop n bytes)) ≡ bytes = ap (λ (x : List ℕ). take n bytes ++ x) (take-append-drop m (drop n bytes)) ∙ take-append-drop n bytes in
+    let len : n ≡ length (take n bytes) = sym (length-take-le n bytes (error_bounds bytes n bad).1) in
+    rw (take-add n m bytes, sym (drop-drop m n bytes))
+    (after_bad (take n bytes) (take m (drop n bytes)) (drop m (drop n bytes)) (ap utf8_valid_len whole ∙ none) (ap utf8_error_len whole ∙ bad ∙ ap Some len) p)
 
 parts_after : (b : Bool) (m room : ℕ) (f : ℕ → ℕ) (bytes : List ℕ) → utf8_valid_len bytes ≡ 0 → utf8_error_len bytes ≡ Some m → Parts (take (f m) (drop m bytes)) (drop (f m) (drop m bytes))
     → Parts (take (cond b (m + f m) 0) bytes) (drop (cond b (m + f m) 0) bytes)
 parts_after true m room f bytes none bad p = bad_then m (f m) bytes none bad p
 parts_after false m room f bytes none bad p = no_part bytes
 
-undecided_by : (b : Bool) (rest : List ℕ) (o : Option ℕ) (n : ℕ) → nat_lt 0 (utf8_valid_len rest) ≡ b → utf8_error_len rest ≡ o → cond b None (or_rest false rest o) ≡ Some n → (utf8_valid_len rest ≡ 0) × (utf8_error_len rest ≡ Some n)
-undecided_by true rest o n e is h = absurd cc
-undecided_by false rest None n e is h = absurd cc
-undecided_by false rest (Some m) n e is h = (grind (arith, nat_tests), cc)
+undecided_by : (rest : List ℕ) (o : Option ℕ) (n : ℕ) → utf8_error_len rest ≡ o → cond (nat_lt 0 (utf8_valid_len rest)) None (or_rest false rest o) ≡ Some n → (utf8_valid_len rest ≡ 0) × (utf8_error_len rest ≡ Some n)
+undecided_by rest None n is h = absurd (grind arith)
+undecided_by rest (Some m) n is h = (grind (arith, nat_tests), grind arith)
 
 pub undecided_bad : (rest : List ℕ) (n : ℕ) → bad_len false rest ≡ Some n → (utf8_valid_len rest ≡ 0) × (utf8_error_len rest ≡ Some n)
-undecided_bad rest n h = undecided_by (nat_lt 0 (utf8_valid_len rest)) rest (utf8_error_len rest) n refl refl h
+undecided_bad rest n h = undecided_by rest (utf8_error_len rest) n refl h
 
 parts_by : (o : Option ℕ) (room : ℕ) (f : ℕ → ℕ) (bytes : List ℕ) → bad_len false bytes ≡ o → ((m : ℕ) → Parts (take (f m) (drop m bytes)) (drop (f m) (drop m bytes)))
     → Parts (take (after_part o room f) bytes) (drop (after_part o room f) bytes)
@@ -273,8 +237,7 @@ reads_past bad front rest n h = reads_after 0 front rest n (parts_of_front bad f
 
 -- it fits, and is one of the bytes
 part_le : (b : Bool) (m n room len : ℕ) → nat_le m room ≡ b → (m ≤ room → n ≤ room - m) → m + n ≤ len → (cond b (m + n) 0 ≤ room) × (cond b (m + n) 0 ≤ len)
-part_le true m n room len e fits within = let le : m ≤ room = leb-true m room e in let l = fits le in (omega arith, within)
-part_le false m n room len e fits within = (omega arith, omega arith)
+part_le b m n room len e fits within = (grind (arith, nat_tests, fits), grind (arith, nat_tests))
 
 after_le : (o : Option ℕ) (room len : ℕ) (f : ℕ → ℕ) → ((m : ℕ) → o ≡ Some m → (m ≤ room → f m ≤ room - m) × (m + f m ≤ len)) → (after_part o room f ≤ room) × (after_part o room f ≤ len)
 after_le None room len f h = (omega arith, omega arith)

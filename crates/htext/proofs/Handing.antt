@@ -1,5 +1,5 @@
 -- How items are handed to a sink.
-use Rattle.htext.proofs.Names.{◌≡◌, ℕ, suc, ◌+◌, ◌-◌, ◌<◌, ◌≤◌, Bool, eqb, List, [], ◌∷◌, ◌++◌, sym, refl, ap, ◌∙◌, subst, Result, Ok, Err, append_assoc, append-nil, map, true, false, length, arith, length-append, nil_from_length, chars_past_char, chars-nil, chars, IsUtf8, encode_utf8, len_utf8, placed, Hands, Continues, Refusal, Bom, Policy, Read, Whole, Bad, read_as, normalized, refusal_of, decoded, settled, CharItem, Character, InputError, items, bad_each, HandsOn, Feeds, IsRefusedFrom, sink_refused, took_all}
+use Rattle.htext.proofs.Names.{◌≡◌, ℕ, suc, ◌+◌, ◌-◌, ◌<◌, Bool, eqb, List, [], ◌∷◌, ◌++◌, sym, refl, ap, ◌∙◌, subst, Result, Ok, Err, append_assoc, append-nil, map, true, false, length, arith, length-append, nil_from_length, chars_past_char, chars-nil, chars, IsUtf8, encode_utf8, len_utf8, placed, Hands, Continues, Refusal, Bom, Policy, Read, Whole, Bad, read_as, normalized, refusal_of, decoded, settled, CharItem, Character, InputError, items, bad_each, HandsOn, Feeds, IsRefusedFrom, sink_refused, took_all}
 use Rattle.std.proofs.Common.{MatchResult}
 use Rattle.std.specs.Prelude.{⊤}
 use Rattle.names.specs.Placed.{error}
@@ -125,24 +125,19 @@ next_bad at count taken less =
     let place : at + taken + 1 ≡ at + (taken + 1) = omega arith in
     ap (bad_each (at + taken)) more ∙ ap (λ (n : ℕ). Bad (at + taken) ∷ bad_each n (count - (taken + 1))) place
 
-pub no_bad : (at count taken : ℕ) → count ≤ taken → bad_each (at + taken) (count - taken) ≡ []
-no_bad at count taken most = let none : count - taken ≡ 0 = omega (arith, most) in ap (bad_each (at + taken)) none
-
 module _ {S : Type 0} (gives : S → CharItem → Result (Unit {0}) Refusal → S → Type 0) (old now : S) (at count taken : ℕ)
     (takes : Continues gives old (items (bad_each at count)) now (items (bad_each (at + taken) (count - taken)))) where
+  -- the next of them
+  bad_first : taken < count → Continues gives old (items (bad_each at count)) now (items (Bad (at + taken) ∷ bad_each (at + (taken + 1)) (count - (taken + 1))))
+  bad_first less = λ answer new h. takes answer new (subst (λ (rs : List Read). Hands gives now (items rs) answer new) (sym (next_bad at count taken less)) h)
+
   pub bad_goes_on : (mid then : S) → taken < count → gives now (InputError (error ReplacedBytes (at + taken))) (Ok tt) mid → gives mid (Character (record { ch = 0xFFFD; at = at + taken })) (Ok tt) then
       → Continues gives old (items (bad_each at count)) then (items (bad_each (at + (taken + 1)) (count - (taken + 1))))
-  bad_goes_on mid then less told given = λ answer new h.
-      takes answer new (subst (λ (rs : List Read). Hands gives now (items rs) answer new) (sym (next_bad at count taken less)) (Ok tt, mid, told, (Ok tt, then, given, h)))
+  bad_goes_on mid then less told given = λ answer new h. bad_first less answer new (Ok tt, mid, told, (Ok tt, then, given, h))
 
   pub bad_untold : (e : Refusal) (new : S) → taken < count → gives now (InputError (error ReplacedBytes (at + taken))) (Err e) new → Hands gives old (items (bad_each at count)) (Err e) new
-  bad_untold e new less told =
-      takes (Err e) new (subst (λ (rs : List Read). Hands gives now (items rs) (Err e) new) (sym (next_bad at count taken less)) (Err e, new, told, (refl, refl)))
+  bad_untold e new less told = bad_first less (Err e) new (Err e, new, told, (refl, refl))
 
   pub bad_ungiven : (mid new : S) (e : Refusal) → taken < count → gives now (InputError (error ReplacedBytes (at + taken))) (Ok tt) mid → gives mid (Character (record { ch = 0xFFFD; at = at + taken })) (Err e) new
       → Hands gives old (items (bad_each at count)) (Err e) new
-  bad_ungiven mid new e less told given =
-      takes (Err e) new (subst (λ (rs : List Read). Hands gives now (items rs) (Err e) new) (sym (next_bad at count taken less)) (Ok tt, mid, told, (Err e, new, given, (refl, refl))))
-
-  pub bad_taken : count ≤ taken → Hands gives old (items (bad_each at count)) (Ok tt) now
-  bad_taken most = takes (Ok tt) now (subst (λ (rs : List Read). Hands gives now (items rs) (Ok tt) now) (sym (no_bad at count taken most)) (refl, refl))
+  bad_ungiven mid new e less told given = bad_first less (Err e) new (Ok tt, mid, told, (Err e, new, given, (refl, refl)))

@@ -1,9 +1,10 @@
 -- Runs of bytes, seen a vector at a time through the mask of those that end them.
-use Rattle.htext.proofs.Names.{◌≡◌, ℕ, zero, suc, ◌+◌, ◌*◌, ◌/◌, ◌%◌, ◌<◌, ◌≤◌, Bool, true, false, not, cond, eqb, ◌&&◌, List, [], ◌∷◌, map, length, drop, get_or, replicate, bit_and, refl, sym, ap, ◌∙◌, subst, arith, zip2_splat, map-map, length-map, and_le_r, prefix_len-le-length, eqb-true, prefix_len, zip2, count_trailing_zeros}
+use Rattle.htext.proofs.Names.{nat_tests, ◌≡◌, ℕ, zero, suc, ◌+◌, ◌*◌, ◌/◌, ◌%◌, ◌<◌, ◌≤◌, Bool, true, false, not, cond, eqb, ◌&&◌, List, [], ◌∷◌, map, length, drop, get_or, replicate, bit_and, refl, sym, ap, ◌∙◌, subst, arith, zip2_splat, map-map, length-map, and_le_r, prefix_len-le-length, eqb-true, prefix_len, zip2, count_trailing_zeros}
 use Rattle.std.proofs.Common.{◌^◌, T, ap₂, w8, Fits}
 use Rattle.std.proofs.lemmas.Simd.{chunk-drop, length-chunk, mask_l-mod, leading_from_mask_l, trailing_mask_l, swz_l, SwzOk, SwzOk-from_below, length-swz_l, get_or-swz_l_below, length-zip2, Each1-all, Each1-weaker, Each1-zip2, Each1-get_or, Each2-splat, below_from_Fits}
 use Rattle.std.proofs.lemmas.List.{get_or-map, ext_get_or}
 use Rattle.std.proofs.lemmas.List.Folds.{prefix_len-append}
+use Rattle.std.proofs.Math.Bool.{not-not}
 use Rattle.std.proofs.lemmas.Bool.{eq-eqb, ne_eqb, eqb-false}
 use lib.Lanes.{chunk, mask_l, top, Each1}
 
@@ -67,8 +68,7 @@ both false b h = absurd h
 same_is : (a b : Bool) → T (same a b) → a ≡ b
 same_is true true h = refl
 same_is false false h = refl
-same_is true false h = absurd h
-same_is false true h = absurd h
+same_is _ _ h = absurd h
 
 here_or_below : (p : ℕ → Bool) (n i : ℕ) (b : Bool) → eqb i n ≡ b → i < suc n → T (p n) → ((i < n) → T (p i)) → T (p i)
 here_or_below p n i true e lt here more = subst (λ (x : ℕ). T (p x)) (sym (eqb-true i n e)) here
@@ -99,29 +99,20 @@ masked_by f p v z short e agree = ap (λ l. mask_l l % 2 ^ 64) (ap (map (top 7))
 
 -- the top bit of a comparison
 pub hit_top : (x y : ℕ) → top 7 (hit x y) ≡ not (not (eqb x y))
-hit_top x y = by (eqb x y)
-  where
-    by : (b : Bool) → top 7 (cond b 255 0) ≡ not (not b)
-    by true = refl
-    by false = refl
+hit_top x y = grind arith
 
 -- RUNS
 
 none_fails : (b : Bool) (n l m : ℕ) → n ≤ l → cond (not b) (1 + n) 0 ≡ 1 + l → (n ≡ l → m ≡ 0) → cond b 1 0 + 2 * m ≡ 0
-none_fails true n l m le e ih = let no : ⊥ = omega arith in absurd no
-none_fails false n l m le e ih = let z = ih (omega arith) in omega arith
+none_fails b n l m le e ih = grind (arith, nat_tests, ih)
 
 module _ (q : ℕ → Bool) where
   abbrev pub fails : ℕ → Bool
   fails x = not (q x)
 
-  twice : (b : Bool) → b ≡ not (not b)
-  twice true = refl
-  twice false = refl
-
   same_run : (xs : List ℕ) → prefix_len q xs ≡ prefix_len (λ x. not (fails x)) xs
   same_run [] = refl
-  same_run (x ∷ xs) = ap₂ (λ b n. cond b (1 + n) 0) (twice (q x)) (same_run xs)
+  same_run (x ∷ xs) = ap₂ (λ b n. cond b (1 + n) 0) (sym (not-not (q x))) (same_run xs)
 
   all_pass : (xs : List ℕ) → prefix_len (λ x. not (fails x)) xs ≡ length xs → mask_l (map fails xs) ≡ 0
   all_pass [] e = refl

@@ -18,4 +18,3 @@ pub mod Wide
 pub mod Clean
 pub mod Advancing
 pub mod Ending
-pub mod Whole

@@ -1,5 +1,5 @@
 -- Characters and bad parts, one after another.
-use Rattle.htext.proofs.Names.{◌≡◌, ℕ, zero, suc, ◌<◌, ◌≤◌, ◌+◌, ◌-◌, Bool, true, false, cond, eqb, List, [], ◌∷◌, ◌++◌, length, map, take, drop, sym, refl, ap, ◌∙◌, arith, inl, inr, append_assoc, append-nil, nat_tests, cases_eq, length-append, length-drop, take-append-add, drop-append-add, chars-append, chars-nil, encodes-chars, length-encode, utf8_valid_len_le, chars, IsUtf8, utf8_valid_len, utf8_invalid_len, encode_utf8, len_utf8, placed, Placed, Read, Whole, Bad, reads_within, reads_at}
+use Rattle.htext.proofs.Names.{drop_at, ◌≡◌, ℕ, zero, suc, ◌<◌, ◌≤◌, ◌+◌, ◌-◌, Bool, true, false, cond, eqb, List, [], ◌∷◌, ◌++◌, length, map, take, drop, sym, refl, ap, ◌∙◌, arith, append_assoc, append-nil, nat_tests, length-append, length-drop, take-append-add, drop-append-add, chars-append, chars-nil, encodes-chars, length-encode, utf8_valid_len_le, chars, IsUtf8, utf8_valid_len, utf8_invalid_len, encode_utf8, len_utf8, placed, Placed, Read, Whole, Bad, reads_within, reads_at}
 use Rattle.std.proofs.lemmas.List.{map-append}
 use Rattle.std.specs.Str.{encode_utf8_all}
 use Rattle.htext.proofs.Valid.{utf8_valid_len-append}
@@ -55,16 +55,7 @@ placed-append at (c ∷ cs) ds =
     (placed-append (at + len_utf8 c) cs ds ∙ ap (λ (x : ℕ). placed (at + len_utf8 c) cs ++ placed x ds) (omega (arith, length-append (encode_utf8 c) (encode_utf8_all cs), length-encode c)))
 
 same_sum : (a m n : ℕ) → eqb (a + m) (a + n) ≡ eqb m n
-same_sum a m n = elim (cases_eq m n) [
-  | inl is ↦
-      let s : eqb (a + m) (a + n) ≡ true = grind (arith, nat_tests) in
-      let t : eqb m n ≡ true = grind (arith, nat_tests) in
-      s ∙ sym t
-  | inr is_not ↦
-      let s : eqb (a + m) (a + n) ≡ false = grind (arith, nat_tests) in
-      let t : eqb m n ≡ false = grind (arith, nat_tests) in
-      s ∙ sym t
-]
+same_sum a m n = grind (arith, nat_tests)
 
 tail_past : (k at : ℕ) (xs ys : List ℕ) (n : ℕ) → n ≤ length ys → tail_at k at (xs ++ ys) (length xs + n) ≡ tail_at k (at + length xs) ys n
 tail_past k at xs ys n within =
@@ -80,14 +71,8 @@ unfolding reads_within
 reads_text k at xs ys u =
     let n : ℕ = utf8_valid_len ys in
     let t : List ℕ = take n ys in
-    let texts : map Whole (placed at (chars (xs ++ t))) ≡ map Whole (placed at (chars xs)) ++ map Whole (placed (at + length xs) (chars t)) =
-    ap (λ (x : List ℕ). map Whole (placed at x)) (chars-append xs t u) ∙ ap (map Whole) (placed-append at (chars xs) (chars t)) ∙ map-append Whole (placed at (chars xs)) _
-    ∙ ap (λ (x : List ℕ). map Whole (placed at (chars xs)) ++ map Whole (placed (at + length x) (chars t))) (encodes-chars xs u) in
-    ap (λ (x : ℕ). map Whole (placed at (chars (take x (xs ++ ys)))) ++ tail_at k at (xs ++ ys) x) (utf8_valid_len-append xs ys u)
-    ∙ ap (λ (x : List ℕ). map Whole (placed at (chars x)) ++ tail_at k at (xs ++ ys) (length xs + n)) (take-append-add xs ys n)
-    ∙ ap (λ (x : List Read). map Whole (placed at (chars (xs ++ t))) ++ x) (tail_past k at xs ys n (utf8_valid_len_le ys))
-    ∙ ap (λ (x : List Read). x ++ tail_at k (at + length xs) ys n) texts
-    ∙ append_assoc (map Whole (placed at (chars xs))) _ _
+    rw (utf8_valid_len-append xs ys u, take-append-add xs ys n, chars-append xs t u, placed-append at (chars xs) (chars t), encodes-chars xs u, map-append Whole (placed at (chars xs)) (placed (at + length xs) (chars t)))
+    (ap (λ (x : List Read). (map Whole (placed at (chars xs)) ++ map Whole (placed (at + length xs) (chars t))) ++ x) (tail_past k at xs ys n (utf8_valid_len_le ys)) ∙ append_assoc (map Whole (placed at (chars xs))) _ _)
 
 -- characters, and what is after them
 pub reads_after_text : (at : ℕ) (xs ys : List ℕ) → IsUtf8 xs → reads_at at (xs ++ ys) ≡ map Whole (placed at (chars xs)) ++ reads_at (at + length xs) ys
@@ -104,12 +89,9 @@ reads_bad : (k at : ℕ) (part ys : List ℕ) → utf8_valid_len (part ++ ys) �
 unfolding reads_within
 reads_bad k at part ys none bad some =
     let test : eqb 0 (length (part ++ ys)) ≡ false = let l = length-append part ys in grind (arith, nat_tests) in
-    ap (λ (x : ℕ). map Whole (placed at (chars (take x (part ++ ys)))) ++ tail_at k at (part ++ ys) x) none
-    ∙ ap (λ (cs : List ℕ). map Whole (placed at cs) ++ tail_at k at (part ++ ys) 0) chars-nil
-    ∙ ap (λ (b : Bool). cond b [] (Bad (at + 0) ∷ reads_within k (at + 0 + utf8_invalid_len (part ++ ys)) (drop (0 + utf8_invalid_len (part ++ ys)) (part ++ ys)))) test
-    ∙ ap (λ (x : ℕ). Bad (at + 0) ∷ reads_within k (at + 0 + x) (drop (0 + x) (part ++ ys))) bad
-    ∙ ap (λ (x : ℕ). Bad x ∷ reads_within k (x + length part) (drop (0 + length part) (part ++ ys))) (omega arith)
-    ∙ ap (λ (x : List ℕ). Bad at ∷ reads_within k (at + length part) x) (ap (λ (x : ℕ). drop x (part ++ ys)) (omega arith) ∙ drop-append-add part ys 0)
+    let place : 0 + length part ≡ length part = omega arith in
+    let start : at + 0 ≡ at = omega arith in
+    rw (none, chars-nil, test, bad, place, start, drop_at part ys (length part) refl) refl
 
 pub reads_after_bad : (at : ℕ) (part ys : List ℕ) → utf8_valid_len (part ++ ys) ≡ 0 → utf8_invalid_len (part ++ ys) ≡ length part → 0 < length part → reads_at at (part ++ ys) ≡ Bad at ∷ reads_at (at + length part) ys
 reads_after_bad at part ys none bad some =

@@ -1,11 +1,11 @@
 -- Plain and clean characters, and the bytes of characters in UTF-8.
-use Rattle.htext.proofs.Names.{◌≡◌, ℕ, ◌<◌, ◌≤◌, ◌+◌, ◌/◌, ◌%◌, Bool, true, false, cond, eqb, List, [], ◌∷◌, refl, ap, ◌∙◌, arith, inl, inr, nat_le, list_all, cases_lt, nat_tests, encode_ascii, encode_utf8, Placed, Bom, Keep, Whole, read_as, Character, items_of, is_plain_byte, is_plain, is_clean, is_clean_byte, is_inner_byte, is_text_byte}
-use Rattle.std.specs.Prelude.{◌&&◌, ◌||◌}
+use Rattle.htext.proofs.Names.{◌≡◌, ℕ, ◌<◌, ◌≤◌, ◌+◌, ◌/◌, ◌%◌, Bool, true, false, eqb, List, [], ◌∷◌, refl, ◌∙◌, arith, nat_le, list_all, nat_tests, encode_utf8, Bom, Keep, Whole, read_as, Character, items_of, is_plain_byte, is_plain, is_clean, is_clean_byte, is_inner_byte, is_text_byte}
+use Rattle.std.specs.Prelude.{◌&&◌}
 use Rattle.std.proofs.lemmas.Bool.{or_left}
 use Rattle.names.specs.Placed.{is_noncharacter}
 use Rattle.htext.specs.declared.Bom.TheVariants.{Drop}
 use Rattle.htext.specs.Items.{is_stray_control}
-use Rattle.htext.proofs.Beginnings.{two_bytes, three_bytes, four_bytes}
+use Rattle.htext.proofs.Beginnings.{BytesOf, takes_one, takes_two, takes_three, takes_four, bytes_of}
 
 -- a plain byte is ASCII, and a plain character
 pub plain_small : (x : ℕ) → is_plain_byte x ≡ true → x < 127
@@ -42,12 +42,8 @@ no_nonchar x h =
     let last : nat_le 0xFFFE (x % 0x10000) ≡ false = grind (arith, nat_tests) in
     rw (low, last) refl
 
-no_drop : (b : Bool) (ps : List Placed) → cond {A = List Placed} ((b && false) || false) [] ps ≡ ps
-no_drop true ps = refl
-no_drop false ps = refl
-
 pub as_it_came : (bom : Bom) (x at : ℕ) → is_clean x ≡ true → read_as bom false (record { ch = x; at = at }) ≡ record { ch = x; at = at } ∷ []
-as_it_came Drop x at h = rw (no_mark x h, no_return x h) (no_drop (eqb at 0) (record { ch = x; at = at } ∷ []))
+as_it_came Drop x at h = rw (no_mark x h, no_return x h) (grind (arith, nat_tests))
 as_it_came Keep x at h = rw (no_return x h) refl
 
 pub item_alone : (x at : ℕ) → is_clean x ≡ true → items_of (Whole (record { ch = x; at = at })) ≡ Character (record { ch = x; at = at }) ∷ []
@@ -55,104 +51,64 @@ item_alone x at h = rw (no_stray x h, no_nonchar x h) refl
 
 -- IN UTF-8
 
-continues : (b : ℕ) → 128 ≤ b → b ≤ 191 → is_clean_byte b ≡ true
-continues b l m = grind (arith, nat_tests)
-
-leads : (b : ℕ) → 195 ≤ b → b ≤ 238 → is_clean_byte b ≡ true
-leads b l m = grind (arith, nat_tests)
-
-leads_early : (b : ℕ) → 192 ≤ b → b < 195 → is_clean_byte b ≡ false
-leads_early b l m = grind (arith, nat_tests)
-
-leads_late : (b : ℕ) → 239 ≤ b → is_clean_byte b ≡ false
-leads_late b l = grind (arith, nat_tests)
-
 high : (c : ℕ) → 128 ≤ c → is_clean c ≡ true → (192 ≤ c) × (c ≤ 0xEFFF)
 high c l h = (grind (arith, nat_tests), grind (arith, nat_tests))
 
-high_not : (c : ℕ) → 192 ≤ c → c ≤ 0xEFFF → is_clean c ≡ true
-high_not c l m = grind (arith, nat_tests)
-
-or_none : (a b d : Bool) → ((((a || b) || d) || false) || false) ≡ (((a || false) || b) || d)
-or_none true b d = refl
-or_none false true d = refl
-or_none false false true = refl
-or_none false false false = refl
-
 small_clean : (c : ℕ) → c < 128 → is_clean_byte c ≡ is_clean c
-small_clean c l =
-    let a : nat_le 0x80 c ≡ false = grind (arith, nat_tests) in
-    let b : nat_le 0xC3 c ≡ false = grind (arith, nat_tests) in
-    let d : nat_le 0xC0 c ≡ false = grind (arith, nat_tests) in
-    rw (a, b, d) (or_none (is_plain_byte c) (eqb c 60) (eqb c 38))
+small_clean c l = grind (arith, nat_tests)
 
 next_clean : (n : ℕ) → is_clean_byte (128 + n % 64) ≡ true
-next_clean n = let l : n % 64 < 64 = omega arith in continues (128 + n % 64) (omega arith) (omega (arith, l))
+next_clean n = let l : n % 64 < 64 = omega arith in grind (arith, nat_tests)
 
 -- the bytes of a clean character are clean
+clean_by : (c : ℕ) (bytes : List ℕ) → is_clean c ≡ true → BytesOf c bytes → list_all is_clean_byte bytes ≡ true
+clean_by c _ h (takes_one a) = rw (small_clean c a, h) refl
+clean_by c _ h (takes_two a b) = let is = high c a h in let lead : is_clean_byte (192 + c / 64) ≡ true = grind (arith, nat_tests) in rw (lead, next_clean c) refl
+clean_by c _ h (takes_three a b) =
+    let is = high c (omega arith) h in
+    let lead : is_clean_byte (224 + c / 4096) ≡ true = grind (arith, nat_tests, is.1) in
+    rw (lead, next_clean (c / 64), next_clean c) refl
+clean_by c _ h (takes_four a) = absurd (omega (arith, high c (omega arith) h))
+
 pub clean_bytes : (c : ℕ) → is_clean c ≡ true → list_all is_clean_byte (encode_utf8 c) ≡ true
-clean_bytes c h = elim (cases_lt c 128) [
-  | inl one ↦ ap (list_all is_clean_byte) (encode_ascii c one) ∙ rw (small_clean c one, h) refl
-  | inr above ↦ elim (cases_lt c 2048) [
-    | inl two ↦
-        let is = high c above h in
-        let lead : is_clean_byte (192 + c / 64) ≡ true = leads (192 + c / 64) (omega (arith, is.0)) (omega (arith, two)) in
-        ap (list_all is_clean_byte) (two_bytes c above two) ∙ rw (lead, next_clean c) refl
-    | inr more ↦
-        let is = high c above h in
-        let lead : is_clean_byte (224 + c / 4096) ≡ true = leads (224 + c / 4096) (omega arith) (omega (arith, is.1)) in
-        ap (list_all is_clean_byte) (three_bytes c more (omega (arith, is.1))) ∙ rw (lead, next_clean (c / 64), next_clean c) refl
-  ]
-]
+clean_bytes c h = clean_by c (encode_utf8 c) h (bytes_of c)
 
 -- the first byte of another one is not
 abbrev pub BeginsOutside : (ℕ → Bool) → List ℕ → Type 0
 BeginsOutside test bytes = (b : ℕ) × (bs : List ℕ) × (bytes ≡ b ∷ bs) × (test b ≡ false)
 
+other_by : (c : ℕ) (bytes : List ℕ) → is_clean c ≡ false → BytesOf c bytes → BeginsOutside is_clean_byte bytes
+other_by c _ h (takes_one a) = (_, _, refl, small_clean c a ∙ h)
+other_by c _ h (takes_two a b) = (_, _, refl, grind (arith, nat_tests))
+other_by c _ h (takes_three a b) = (_, _, refl, grind (arith, nat_tests))
+other_by c _ h (takes_four a) = (_, _, refl, grind (arith, nat_tests))
+
 pub other_bytes : (c : ℕ) → is_clean c ≡ false → BeginsOutside is_clean_byte (encode_utf8 c)
-other_bytes c h = elim (cases_lt c 128) [
-  | inl one ↦ (c, [], encode_ascii c one, small_clean c one ∙ h)
-  | inr above ↦ elim (cases_lt c 2048) [
-    | inl two ↦ (_, _, two_bytes c above two, leads_early (192 + c / 64) (omega arith) (elim (cases_lt c 192) [ inl low ↦ omega (arith, low) | inr up ↦ (let no : is_clean c ≡ true = high_not c up (omega (arith, two)) in absurd cc) ]))
-    | inr more ↦ elim (cases_lt c 65536) [
-      | inl three ↦ (_, _, three_bytes c more three, leads_late (224 + c / 4096) (elim (cases_lt 0xEFFF c) [ inl late ↦ omega (arith, late) | inr up ↦ (let no : is_clean c ≡ true = high_not c (omega (arith, more)) up in absurd cc) ]))
-      | inr four ↦ (_, _, four_bytes c four, leads_late (240 + c / 262144) (omega arith))
-    ]
-  ]
-]
+other_bytes c h = other_by c (encode_utf8 c) h (bytes_of c)
 
 -- the bytes of a character that is not in ASCII are not either
 module _ (test : ℕ → Bool) (passes : (b : ℕ) → 128 ≤ b → test b ≡ true) where
   next_passes : (n : ℕ) → test (128 + n % 64) ≡ true
   next_passes n = passes (128 + n % 64) (omega arith)
 
+  long_by : (c : ℕ) (bytes : List ℕ) → 128 ≤ c → BytesOf c bytes → list_all test bytes ≡ true
+  long_by c _ l (takes_one a) = absurd (omega (arith, l, a))
+  long_by c _ l (takes_two a b) = rw (passes (192 + c / 64) (omega arith), next_passes c) refl
+  long_by c _ l (takes_three a b) = rw (passes (224 + c / 4096) (omega arith), next_passes (c / 64), next_passes c) refl
+  long_by c _ l (takes_four a) = rw (passes (240 + c / 262144) (omega arith), next_passes (c / 4096), next_passes (c / 64), next_passes c) refl
+
   pub long_bytes : (c : ℕ) → 128 ≤ c → list_all test (encode_utf8 c) ≡ true
-  long_bytes c l = elim (cases_lt c 2048) [
-    | inl two ↦ (
-        let lead : test (192 + c / 64) ≡ true = passes (192 + c / 64) (omega arith) in
-        ap (list_all test) (two_bytes c l two) ∙ rw (lead, next_passes c) refl)
-    | inr more ↦ elim (cases_lt c 65536) [
-      | inl three ↦ (
-          let lead : test (224 + c / 4096) ≡ true = passes (224 + c / 4096) (omega arith) in
-          ap (list_all test) (three_bytes c more three) ∙ rw (lead, next_passes (c / 64), next_passes c) refl)
-      | inr four ↦ (
-          let lead : test (240 + c / 262144) ≡ true = passes (240 + c / 262144) (omega arith) in
-          ap (list_all test) (four_bytes c four) ∙ rw (lead, next_passes (c / 4096), next_passes (c / 64), next_passes c) refl)
-    ]
-  ]
+  long_bytes c l = long_by c (encode_utf8 c) l (bytes_of c)
 
 -- the first byte of a character is no other byte of one
 abbrev pub BeginsAnew : List ℕ → Type 0
 BeginsAnew bytes = (b : ℕ) × (bs : List ℕ) × (bytes ≡ b ∷ bs) × (128 ≤ b → 192 ≤ b)
 
+anew_by : (c : ℕ) (bytes : List ℕ) → BytesOf c bytes → BeginsAnew bytes
+anew_by c _ (takes_one a) = (_, _, refl, λ l. absurd (omega (arith, l, a)))
+anew_by c _ (takes_two a b) = (_, _, refl, λ l. omega arith)
+anew_by c _ (takes_three a b) = (_, _, refl, λ l. omega arith)
+anew_by c _ (takes_four a) = (_, _, refl, λ l. omega arith)
+
 pub begins_anew : (c : ℕ) → BeginsAnew (encode_utf8 c)
-begins_anew c = elim (cases_lt c 128) [
-  | inl one ↦ (c, [], encode_ascii c one, λ l. absurd (omega (arith, l)))
-  | inr above ↦ elim (cases_lt c 2048) [
-    | inl two ↦ (_, _, two_bytes c above two, λ l. omega arith)
-    | inr more ↦ elim (cases_lt c 65536) [
-      | inl three ↦ (_, _, three_bytes c more three, λ l. omega arith)
-      | inr four ↦ (_, _, four_bytes c four, λ l. omega arith)
-    ]
-  ]
-]
+begins_anew c = anew_by c (encode_utf8 c) (bytes_of c)

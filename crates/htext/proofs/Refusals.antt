@@ -1,19 +1,15 @@
 -- Which bytes are refused, and how.
-use Rattle.htext.proofs.Names.{◌≡◌, ℕ, ◌<◌, ◌≤◌, ◌+◌, ◌-◌, Bool, true, false, cond, eqb, List, ◌++◌, length, take, drop, sym, refl, ap, ◌∙◌, subst, arith, inl, inr, append_assoc, None, Some, Option, zero, suc, cases_lt, eqb-true, lt-ltb, le-leb, nat_tests, take_all, take-append-drop, length-append, length-take, length-take-le, length-drop, encode_same, length-encode, utf8_valid_len-IsUtf8, ◌↔◌, nat_lt, nat_le, IsScalar, encode_utf8, len_utf8, IsUtf8, utf8_valid_len, utf8_error_len, utf8_invalid_len, unwrap_or, Refusal, Bom, NotUtf8, TooLarge, Refuse, Replace, valid_len, bad_len, or_rest, after_part, fitting_within, fitting, refusal_with, refusal_of, BeginsNoCharacter}
-use Rattle.htext.proofs.Valid.{refusal_within, valid_len_le, valid_front_utf8, utf8_valid_len-append, starts, starts_back, none_valid, refusal_same, refusal_past}
+use Rattle.htext.proofs.Names.{◌≡◌, ℕ, ◌<◌, ◌≤◌, ◌+◌, ◌-◌, Bool, true, false, cond, eqb, List, ◌++◌, length, take, drop, sym, refl, ap, ◌∙◌, subst, arith, inl, inr, append_assoc, None, Some, Option, zero, suc, cases_lt, lt-ltb, le-leb, nat_tests, take_all, take-append-drop, length-append, length-take, length-take-le, length-drop, encode_same, length-encode, utf8_valid_len-IsUtf8, ◌↔◌, nat_lt, nat_le, IsScalar, encode_utf8, len_utf8, IsUtf8, utf8_valid_len, utf8_error_len, utf8_invalid_len, unwrap_or, Bom, NotUtf8, TooLarge, Refuse, Replace, valid_len, bad_len, or_rest, after_part, fitting_within, fitting, refusal_with, refusal_of, BeginsNoCharacter}
+use Rattle.htext.proofs.Valid.{refusal_within, valid_len_le, valid_front_utf8, utf8_valid_len-append, starts_back, none_valid, refusal_same, refusal_past}
 use Rattle.htext.proofs.Errors.{invalid_bounds}
 use Rattle.htext.proofs.Beginnings.{under_limit}
 use Rattle.htext.proofs.Fronts.{Parts, front_le, front_past, fit_le}
 
 -- the valid front is all of what is accepted
-all_valid : (b : Bool) (limit : ℕ) (bytes : List ℕ) → eqb (valid_len limit bytes) (length bytes) ≡ b → cond b None (Some (refusal_with Refuse (utf8_valid_len bytes - valid_len limit bytes) (valid_len limit bytes))) ≡ None → valid_len limit bytes ≡ length bytes
-all_valid true limit bytes e h = eqb-true _ _ e
-all_valid false limit bytes e h = absurd cc
-
 pub accepted : (limit : ℕ) (bytes : List ℕ) → (refusal_within limit bytes ≡ None) ↔ (IsUtf8 bytes × (length bytes ≤ limit))
 accepted limit bytes = (
   λ h.
-      let all : valid_len limit bytes ≡ length bytes = all_valid (eqb (valid_len limit bytes) (length bytes)) limit bytes refl h in
+      let all : valid_len limit bytes ≡ length bytes = grind (arith, nat_tests) in
       (subst IsUtf8 (ap (λ (n : ℕ). take n bytes) all ∙ take_all (length bytes) bytes (omega arith)) (valid_front_utf8 limit bytes), omega (arith, all, valid_len_le limit bytes)),
   λ h.
       let all : valid_len limit bytes ≡ length bytes = ap utf8_valid_len (take_all limit bytes h.1) ∙ utf8_valid_len-IsUtf8 bytes h.0 in
@@ -27,21 +23,18 @@ not_utf8 limit front rest u within some none =
     refusal_past limit front rest u within (under_limit (limit - length front) rest nothing) some ∙ ap (λ (n : ℕ). Some (refusal_with Refuse n (length front))) nothing
 
 -- a character that is longer than the limit is not in the valid front
-too_long : (limit ch : ℕ) (rest : List ℕ) → limit < len_utf8 ch → (c : ℕ) × (more : List ℕ) × IsScalar c × (take limit (encode_utf8 ch ++ rest) ≡ encode_utf8 c ++ more) → ⊥
-too_long limit ch rest longer (c, more, scalar, is) =
+too_long : (limit ch : ℕ) (rest : List ℕ) → limit < len_utf8 ch → BeginsNoCharacter (take limit (encode_utf8 ch ++ rest))
+too_long limit ch rest longer c more scalar is =
     let same = encode_same ch c rest (more ++ drop limit (encode_utf8 ch ++ rest))
     (sym (take-append-drop limit (encode_utf8 ch ++ rest)) ∙ ap (λ (x : List ℕ). x ++ drop limit (encode_utf8 ch ++ rest)) is ∙ append_assoc (encode_utf8 c) more (drop limit (encode_utf8 ch ++ rest))) in
-    absurd (omega (arith, ap len_utf8 same.0, ap length is, length-append (encode_utf8 c) more, length-encode c, length-take limit (encode_utf8 ch ++ rest)))
+    omega (arith, longer, ap len_utf8 same.0, ap length is, length-append (encode_utf8 c) more, length-encode c, length-take limit (encode_utf8 ch ++ rest))
 
 pub too_large : (limit : ℕ) (front : List ℕ) (ch : ℕ) (rest : List ℕ) → IsUtf8 front → IsScalar ch → length front ≤ limit → limit < length front + len_utf8 ch → refusal_within limit (front ++ (encode_utf8 ch ++ rest)) ≡ Some (TooLarge (length front))
 too_large limit front ch rest u scalar within longer =
     let what : List ℕ = encode_utf8 ch ++ rest in
     let begun : 0 < utf8_valid_len what = starts_back what rest ch scalar refl in
     let long : 0 < length what = omega (arith, length-append (encode_utf8 ch) rest, length-encode ch, longer) in
-    let stuck : valid_len (limit - length front) what ≡ 0 = elim (cases_lt 0 (valid_len (limit - length front) what)) [
-      | inl some ↦ absurd (too_long (limit - length front) ch rest (omega arith) (starts (take (limit - length front) what) some))
-      | inr nothing ↦ omega arith
-    ] in
+    let stuck : valid_len (limit - length front) what ≡ 0 = none_valid _ (too_long (limit - length front) ch rest (omega arith)) in
     refusal_past limit front what u within stuck long ∙ ap Some (refusal_same (utf8_valid_len what) 1 (length front) (λ _. omega arith) (λ _. begun))
 
 -- WHERE BAD BYTES ARE REPLACED
@@ -86,14 +79,10 @@ all_within (suc k) limit bytes within fuel = all_step (suc k) limit bytes within
 pub all_read : (limit : ℕ) (bytes : List ℕ) → length bytes ≤ limit → fitting true limit bytes ≡ length bytes
 all_read limit bytes within = all_within (length bytes) limit bytes within (omega arith)
 
-replaced_by : (b : Bool) (n len : ℕ) (r : Refusal) → eqb n len ≡ b → cond b None (Some r) ≡ None → n ≡ len
-replaced_by true n len r e h = eqb-true n len e
-replaced_by false n len r e h = absurd cc
-
 pub replaced : (bom : Bom) (limit : ℕ) (bytes : List ℕ) → (refusal_of (record { bom = bom; bad = Replace; limit = limit }) bytes ≡ None) ↔ (length bytes ≤ limit)
 replaced bom limit bytes = (
   λ h.
-      let all : fitting true limit bytes ≡ length bytes = replaced_by (eqb (fitting true limit bytes) (length bytes)) _ _ (TooLarge (fitting true limit bytes)) refl h in
+      let all : fitting true limit bytes ≡ length bytes = grind (arith, nat_tests) in
       omega (arith, all, front_le true Replace limit bytes),
   λ within.
       let all : fitting true limit bytes ≡ length bytes = all_read limit bytes within in

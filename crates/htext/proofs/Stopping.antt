@@ -1,33 +1,24 @@
 -- What is left of bytes after a front, and doesn't fit or isn't settled.
-use Rattle.htext.proofs.Names.{◌≡◌, ℕ, suc, ◌<◌, ◌≤◌, ◌+◌, ◌-◌, Bool, true, false, cond, List, [], ◌++◌, length, take, drop, sym, refl, ap, ◌∙◌, subst, arith, append_assoc, append-nil, Option, None, Some, nat_lt, nat_le, lt-ltb, nat_tests, length-append, take-append-le, take_at, utf8_valid_len_le, utf8_valid_len, utf8_error_len, Refusal, TooLarge, Bom, BadBytes, Refuse, Replace, Front, Waits, Refused, next_of, valid_len, bad_len, or_rest, after_part, fitting_within, front_len, refusal_of, StaysRefused, text_of, IsRefusedFrom, IsUndecided}
+use Rattle.htext.proofs.Names.{◌≡◌, ℕ, suc, ◌<◌, ◌≤◌, ◌+◌, ◌-◌, Bool, true, false, cond, List, [], ◌++◌, length, take, drop, sym, refl, ap, ◌∙◌, arith, append_assoc, append-nil, Option, None, Some, nat_lt, lt-ltb, nat_tests, length-append, take_at, utf8_valid_len, utf8_error_len, Refusal, TooLarge, Bom, BadBytes, Refuse, Replace, Waits, Refused, next_of, valid_len, bad_len, or_rest, after_part, fitting_within, front_len, refusal_of, StaysRefused, text_of, IsRefusedFrom, IsUndecided}
 use Rattle.htext.specs.declared.progress.Front.TheVariants.{Bad}
 use Rattle.htext.proofs.Valid.{going_on}
 use Rattle.htext.proofs.Errors.{error_bounds, error_more, error_open}
-use Rattle.htext.proofs.Beginnings.{some_left, none_after, under_limit}
 use Rattle.htext.proofs.Fronts.{IsFront, Parts-more, front_more, front_past, fit_after, undecided_bad}
 use Rattle.htext.proofs.Refusals.{replaced, replaced_past}
-use Rattle.htext.proofs.Deciding.{IsSettled, too_long, no_character, stays_refused, undecided, too_long_after, NextIs, a_character, none_can, a_part, a_long_part, not_yet, too_much, next_is}
+use Rattle.htext.proofs.Deciding.{stays_refused, undecided, NextIs, a_character, a_part, a_long_part, not_yet, too_much, next_is, some_next, valid_next}
 
 -- how long a bad part is at least
-rest_is : (b : Bool) (len m : ℕ) → cond b (Some len) None ≡ Some m → len ≡ m
-rest_is true len m h = cc
-rest_is false len m h = absurd cc
-
-long_by : (b e : Bool) (bs : List ℕ) (o : Option ℕ) (m n : ℕ) → utf8_error_len bs ≡ o → cond b None (or_rest e bs o) ≡ Some m → n ≤ length bs → ((k : ℕ) → utf8_error_len bs ≡ Some k → n ≤ k) → n ≤ m
-long_by true e bs o m n is h within part = absurd cc
-long_by false e bs (Some k) m n is h within part = let same : k ≡ m = cc in omega (arith, part k is)
-long_by false e bs None m n is h within part = omega (arith, rest_is _ (length bs) m h)
+long_by : (e : Bool) (bs : List ℕ) (o : Option ℕ) (m n : ℕ) → utf8_error_len bs ≡ o → cond (nat_lt 0 (utf8_valid_len bs)) None (or_rest e bs o) ≡ Some m → n ≤ length bs → ((k : ℕ) → utf8_error_len bs ≡ Some k → n ≤ k) → n ≤ m
+long_by e bs (Some k) m n is h within part = let least : n ≤ k = part k is in grind (arith, nat_tests)
+long_by e bs None m n is h within part = grind (arith, nat_tests)
 
 part_long : (e : Bool) (bs : List ℕ) (m n : ℕ) → bad_len e bs ≡ Some m → n ≤ length bs → ((k : ℕ) → utf8_error_len bs ≡ Some k → n ≤ k) → n ≤ m
-part_long e bs m n h within part = long_by (nat_lt 0 (utf8_valid_len bs)) e bs (utf8_error_len bs) m n refl h within part
+part_long e bs m n h within part = long_by e bs (utf8_error_len bs) m n refl h within part
 
 -- nothing is read of what begins with no character and no bad part that fits
 none_fits : (o : Option ℕ) (room : ℕ) (f : ℕ → ℕ) → ((m : ℕ) → o ≡ Some m → room < m) → after_part o room f ≡ 0
 none_fits None room f long = refl
-none_fits (Some m) room f long =
-    let less : room < m = long m refl in
-    let test : nat_le m room ≡ false = grind (arith, nat_tests) in
-    ap (λ (b : Bool). cond b (m + f m) 0) test
+none_fits (Some m) room f long = grind (arith, nat_tests, long m)
 
 fit_stuck : (e : Bool) (k room : ℕ) (bytes : List ℕ) → valid_len room bytes ≡ 0 → ((m : ℕ) → bad_len e bytes ≡ Some m → room < m) → fitting_within e (suc k) room bytes ≡ 0
 unfolding fitting_within
@@ -37,68 +28,34 @@ fit_stuck e k room bytes stuck long =
 
 -- WHAT IS REFUSED
 
-module _ (bad : BadBytes) (rest : List ℕ) (room at : ℕ) (stuck : valid_len room rest ≡ 0) (r : Refusal) where
-  some_next : (next : Front) → NextIs bad rest room at next → next ≡ Refused r → 0 < length rest
-  some_next next (a_character begun is) e = omega (arith, utf8_valid_len_le rest)
-  some_next next (none_can k how none fault is) e = some_left rest k fault
-  some_next next (a_part k how none fault fits is) e = absurd cc
-  some_next next (a_long_part k how none fault long is) e = some_left rest k fault
-  some_next next (not_yet none open' fits is) e = absurd cc
-  some_next next (too_much how none open' long is) e = omega arith
-
-  valid_next : (next : Front) → NextIs bad rest room at next → next ≡ Refused r → (more : List ℕ) → valid_len room (rest ++ more) ≡ 0
-  valid_next next (a_character begun is) e more = too_long_after room rest more begun stuck
-  valid_next next (none_can k how none fault is) e more = under_limit room (rest ++ more) (none_after rest more k none fault)
-  valid_next next (a_part k how none fault fits is) e more = absurd cc
-  valid_next next (a_long_part k how none fault long is) e more = under_limit room (rest ++ more) (none_after rest more k none fault)
-  valid_next next (not_yet none open' fits is) e more = absurd cc
-  valid_next next (too_much how none open' long is) e more = ap utf8_valid_len (take-append-le room rest more (omega arith)) ∙ stuck
-
-  part_next : (next : Front) → NextIs bad rest room at next → next ≡ Refused r → bad ≡ Replace → (e : Bool) (more : List ℕ) (m : ℕ) → bad_len e (rest ++ more) ≡ Some m → room < m
-  part_next next (a_character begun is) e how b more m h =
-      let some : 0 < utf8_valid_len (rest ++ more) = going_on rest more begun in
-      let g = rw (lt-ltb 0 (utf8_valid_len (rest ++ more)) some) at h in absurd cc
-  part_next next (none_can k how' none fault is) e how b more m h = absurd cc
-  part_next next (a_part k how' none fault fits is) e how b more m h = absurd cc
-  part_next next (a_long_part k how' none fault long is) e how b more m h =
-      let on : utf8_error_len (rest ++ more) ≡ Some k = error_more rest more k fault in
-      omega (arith, long, part_long b (rest ++ more) m k h (omega (arith, error_bounds (rest ++ more) k on)) (λ j g. let same : j ≡ k = cc in omega arith))
-  part_next next (not_yet none open' fits is) e how b more m h = absurd cc
-  part_next next (too_much how' none open' long is) e how b more m h =
-      omega (arith, long, part_long b (rest ++ more) m (length rest) h (omega (arith, length-append rest more)) (λ j g. error_open rest more j open' g))
+part_next : (rest : List ℕ) (room at : ℕ) (r : Refusal) → NextIs rest room at Replace (Refused r) → (e : Bool) (more : List ℕ) (m : ℕ) → bad_len e (rest ++ more) ≡ Some m → room < m
+part_next rest room at _ (a_character _ begun) e more m h = let g = rw (lt-ltb 0 (utf8_valid_len (rest ++ more)) (going_on rest more begun)) at h in absurd cc
+part_next rest room at _ (a_long_part k none fault long) e more m h =
+    let on : utf8_error_len (rest ++ more) ≡ Some k = error_more rest more k fault in
+    omega (arith, long, part_long e (rest ++ more) m k h (omega (arith, error_bounds (rest ++ more) k on)) (λ j g. let same : j ≡ k = cc in omega arith))
+part_next rest room at _ (too_much none open' long) e more m h =
+    omega (arith, long, part_long e (rest ++ more) m (length rest) h (omega (arith, length-append rest more)) (λ j g. error_open rest more j open' g))
 
 pub stuck_by : (bad : BadBytes) (rest : List ℕ) (room at : ℕ) → valid_len room rest ≡ 0 → (r : Refusal) → next_of bad rest room at ≡ Refused r → (e : Bool) (more : List ℕ) → front_len e bad room (rest ++ more) ≡ 0
-stuck_by Refuse rest room at stuck r is e more = valid_next Refuse rest room at stuck r _ (next_is Refuse rest room at) is more
+stuck_by Refuse rest room at stuck r is e more = valid_next rest room at Refuse r (next_is Refuse rest room at _ is) stuck more
 stuck_by Replace rest room at stuck r is e more =
-    fit_stuck e (length (rest ++ more)) room (rest ++ more) (valid_next Replace rest room at stuck r _ (next_is Replace rest room at) is more)
-    (part_next Replace rest room at stuck r _ (next_is Replace rest room at) is refl e more)
+    let next = next_is Replace rest room at _ is in
+    fit_stuck e (length (rest ++ more)) room (rest ++ more) (valid_next rest room at Replace r next stuck more) (part_next rest room at r next e more)
 
-settled_next : (rest : List ℕ) (room at : ℕ) (r : Refusal) (next : Front) → NextIs Refuse rest room at next → next ≡ Refused r → IsSettled rest at r
-settled_next rest room at r next (a_character begun is) e = too_long begun cc
-settled_next rest room at r next (none_can k how none fault is) e = no_character k none fault cc
-settled_next rest room at r next (a_part k how none fault fits is) e = absurd cc
-settled_next rest room at r next (a_long_part k how none fault long is) e = absurd cc
-settled_next rest room at r next (not_yet none open' fits is) e = absurd cc
-settled_next rest room at r next (too_much how none open' long is) e = absurd cc
-
-too_large_next : (rest : List ℕ) (room at : ℕ) (r : Refusal) (next : Front) → NextIs Replace rest room at next → next ≡ Refused r → r ≡ TooLarge at
-too_large_next rest room at r next (a_character begun is) e = cc
-too_large_next rest room at r next (none_can k how none fault is) e = absurd cc
-too_large_next rest room at r next (a_part k how none fault fits is) e = absurd cc
-too_large_next rest room at r next (a_long_part k how none fault long is) e = cc
-too_large_next rest room at r next (not_yet none open' fits is) e = absurd cc
-too_large_next rest room at r next (too_much how none open' long is) e = cc
+too_large_next : (rest : List ℕ) (room at : ℕ) (r : Refusal) → NextIs rest room at Replace (Refused r) → r ≡ TooLarge at
+too_large_next rest room at _ (a_character _ begun) = refl
+too_large_next rest room at _ (a_long_part k none fault long) = refl
+too_large_next rest room at _ (too_much none open' long) = refl
 
 pub refused_by : (bom : Bom) (bad : BadBytes) (limit : ℕ) (front rest : List ℕ) → IsFront bad front rest → length front ≤ limit → valid_len (limit - length front) rest ≡ 0 → (r : Refusal) → next_of bad rest (limit - length front) (length front) ≡ Refused r
     → StaysRefused (record { bom = bom; bad = bad; limit = limit }) (front ++ rest) r
-refused_by bom Refuse limit front rest u within stuck r is more =
-    stays_refused limit front rest u within stuck r (settled_next rest (limit - length front) (length front) r _ (next_is Refuse rest (limit - length front) (length front)) is) more
+refused_by bom Refuse limit front rest u within stuck r is more = stays_refused limit front rest u within stuck r (next_is Refuse rest _ _ _ is) more
 refused_by bom Replace limit front rest p within stuck r is more =
-    let next = next_is Replace rest (limit - length front) (length front) in
+    let next = next_is Replace rest _ _ _ is in
     ap (refusal_of (record { bom = bom; bad = Replace; limit = limit })) (append_assoc front rest more)
-    ∙ replaced_past bom limit front (rest ++ more) (Parts-more front rest more p) within (stuck_by Replace rest (limit - length front) (length front) stuck r is true more)
-    (omega (arith, length-append rest more, some_next Replace rest (limit - length front) (length front) stuck r _ next is))
-    ∙ ap Some (sym (too_large_next rest (limit - length front) (length front) r _ next is))
+    ∙ replaced_past bom limit front (rest ++ more) (Parts-more front rest more p) within (stuck_by Replace rest _ _ stuck r is true more)
+    (omega (arith, length-append rest more, some_next rest _ _ _ r next))
+    ∙ ap Some (sym (too_large_next rest _ _ r next))
 
 -- no more of the bytes is read then
 pub only_front : (e : Bool) (bad : BadBytes) (limit : ℕ) (front rest : List ℕ) → IsFront bad front rest → length front ≤ limit → front_len e bad (limit - length front) rest ≡ 0 → take (front_len e bad limit (front ++ rest)) (front ++ rest) ≡ front
@@ -129,29 +86,17 @@ pub record WhatIsBad (bad : BadBytes) (rest : List ℕ) (room n : ℕ) : Type 0 
   pub is_bad : utf8_error_len rest ≡ Some n
   pub fits : n ≤ room
 
-waits_by : (bad : BadBytes) (rest : List ℕ) (room at : ℕ) (next : Front) → NextIs bad rest room at next → next ≡ Waits → WhatWaits bad rest room
-waits_by bad rest room at next (a_character begun is) e = absurd cc
-waits_by bad rest room at next (none_can k how none fault is) e = absurd cc
-waits_by bad rest room at next (a_part k how none fault fits is) e = absurd cc
-waits_by bad rest room at next (a_long_part k how none fault long is) e = absurd cc
-waits_by bad rest room at next (not_yet none open' fits is) e = record { none = none; is_open = open'; fits = fits }
-waits_by bad rest room at next (too_much how none open' long is) e = absurd cc
+waits_by : (rest : List ℕ) (room at : ℕ) (bad : BadBytes) → NextIs rest room at bad Waits → WhatWaits bad rest room
+waits_by rest room at _ (not_yet bad none open' fits) = record { none = none; is_open = open'; fits = fits }
 
 pub what_waits : (bad : BadBytes) (rest : List ℕ) (room at : ℕ) → next_of bad rest room at ≡ Waits → WhatWaits bad rest room
-what_waits bad rest room at e = waits_by bad rest room at _ (next_is bad rest room at) e
+what_waits bad rest room at e = waits_by rest room at bad (next_is bad rest room at _ e)
 
-bad_by : (bad : BadBytes) (rest : List ℕ) (room at n : ℕ) (next : Front) → NextIs bad rest room at next → next ≡ Bad n → WhatIsBad bad rest room n
-bad_by bad rest room at n next (a_character begun is) e = absurd cc
-bad_by bad rest room at n next (none_can k how none fault is) e = absurd cc
-bad_by bad rest room at n next (a_part k how none fault fits is) e =
-    let same : k ≡ n = cc in
-    subst (WhatIsBad bad rest room) same (record { how = how; none = none; is_bad = fault; fits = fits })
-bad_by bad rest room at n next (a_long_part k how none fault long is) e = absurd cc
-bad_by bad rest room at n next (not_yet none open' fits is) e = absurd cc
-bad_by bad rest room at n next (too_much how none open' long is) e = absurd cc
+bad_by : (rest : List ℕ) (room at n : ℕ) (bad : BadBytes) → NextIs rest room at bad (Bad n) → WhatIsBad bad rest room n
+bad_by rest room at _ _ (a_part k none fault fits) = record { how = refl; none = none; is_bad = fault; fits = fits }
 
 pub what_is_bad : (bad : BadBytes) (rest : List ℕ) (room at n : ℕ) → next_of bad rest room at ≡ Bad n → WhatIsBad bad rest room n
-what_is_bad bad rest room at n e = bad_by bad rest room at n _ (next_is bad rest room at) e
+what_is_bad bad rest room at n e = bad_by rest room at n bad (next_is bad rest room at _ e)
 
 -- nothing is read of what waits
 pub waits_unread : (bad : BadBytes) (rest : List ℕ) (room : ℕ) → valid_len room rest ≡ 0 → WhatWaits bad rest room → front_len false bad room rest ≡ 0

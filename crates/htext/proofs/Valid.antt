@@ -1,5 +1,5 @@
 -- Laws of the valid front.
-use Rattle.htext.proofs.Names.{◌≡◌, ℕ, zero, suc, ◌<◌, ◌≤◌, ◌+◌, ◌-◌, Bool, true, false, cond, List, [], ◌∷◌, ◌++◌, length, take, drop, sym, refl, ap, ◌∙◌, subst, arith, inl, inr, append_assoc, eqb, None, Some, Option, nat_tests, cases_lt, and_parts, take_at, take-take, drop_at, length-append, length-take, length-take-le, take-append-drop, take-append-add, IsUtf8-nil, IsUtf8-append, IsUtf8-drop, utf8_valid_len_le, length-encode, len_utf8_bounds, IsUtf8-encode, scalars, IsUtf8, utf8_valid_len, IsScalar, encode_utf8, NotUtf8, TooLarge, Refusal, Refuse, Keep, valid_len, refusal_with, refusal_of, BeginsNoCharacter}
+use Rattle.htext.proofs.Names.{cases_eq, ◌≡◌, ℕ, zero, suc, ◌<◌, ◌≤◌, ◌+◌, ◌-◌, Bool, true, false, cond, List, [], ◌∷◌, ◌++◌, length, take, drop, sym, refl, ap, ◌∙◌, subst, arith, inl, inr, append_assoc, eqb, None, Some, Option, nat_tests, cases_lt, and_parts, take_at, take-take, drop_at, length-append, length-take, length-take-le, take-append-drop, take-append-add, IsUtf8-nil, IsUtf8-append, IsUtf8-drop, utf8_valid_len_le, length-encode, len_utf8_bounds, IsUtf8-encode, scalars, IsUtf8, utf8_valid_len, IsScalar, encode_utf8, Refusal, Refuse, Keep, valid_len, refusal_with, refusal_of, BeginsNoCharacter}
 use Rattle.std.proofs.lemmas.Str.{IsCharBoundary-from_take, IsUtf8-from_is_utf8, is_utf8-from_IsUtf8}
 use Rattle.std.specs.Str.{is_utf8, encode_utf8_all}
 use Rattle.std.specs.Str.Lossy.{valid_len_up_to}
@@ -19,60 +19,49 @@ tail_utf8 xs zs u v =
     let le : length xs ≤ length (xs ++ zs) = omega (arith, length-append xs zs) in
     subst IsUtf8 back (IsUtf8-drop (xs ++ zs) (length xs) v (IsCharBoundary-from_take (xs ++ zs) (length xs) v le (subst IsUtf8 (sym front) u)))
 
--- one step of the search for the valid length
-step_utf8 : (b : Bool) (bs : List ℕ) (m n : ℕ) → is_utf8 (take m bs) ≡ b → IsUtf8 (take n bs) → IsUtf8 (take (cond b m n) bs)
-step_utf8 true bs m n e h = IsUtf8-from_is_utf8 _ e
-step_utf8 false bs m n e h = h
+-- the front of `k` bytes is UTF-8, and nothing longer of up to `n` bytes is
+record IsLongest (bs : List ℕ) (n k : ℕ) : Type 0 where
+  front : IsUtf8 (take k bs)
+  longest : (m : ℕ) → k < m → m ≤ n → IsUtf8 (take m bs) → ⊥
 
-up_to_utf8 : (bs : List ℕ) (n : ℕ) → IsUtf8 (take (valid_len_up_to bs n) bs)
-up_to_utf8 bs zero = IsUtf8-nil
-up_to_utf8 bs (suc n) = step_utf8 (is_utf8 (take (suc n) bs)) bs (suc n) (valid_len_up_to bs n) refl (up_to_utf8 bs n)
+step_longest : (b : Bool) (bs : List ℕ) (k n : ℕ) → is_utf8 (take (suc n) bs) ≡ b → IsLongest bs n k → IsLongest bs (suc n) (cond b (suc n) k)
+step_longest true bs k n e h = record { front = IsUtf8-from_is_utf8 _ e; longest = λ m less within u. omega (arith, less, within) }
+step_longest false bs k n e h = record {
+  front = h.front;
+  longest = λ m less within u. elim (cases_eq m (suc n)) [
+    | inl same ↦ let valid = is_utf8-from_IsUtf8 _ (rw same at u) in absurd cc
+    | inr other ↦ h.longest m less (omega arith) u
+  ];
+}
+
+up_to_longest : (bs : List ℕ) (n : ℕ) → IsLongest bs n (valid_len_up_to bs n)
+up_to_longest bs zero = record { front = IsUtf8-nil; longest = λ m less within u. omega (arith, less, within) }
+up_to_longest bs (suc n) = step_longest (is_utf8 (take (suc n) bs)) bs (valid_len_up_to bs n) n refl (up_to_longest bs n)
+
+front_longest : (bs : List ℕ) → IsLongest bs (length bs) (utf8_valid_len bs)
+unfolding utf8_valid_len
+front_longest bs = up_to_longest bs (length bs)
 
 -- the longest front that is UTF-8 is so
 pub front_utf8 : (bs : List ℕ) → IsUtf8 (take (utf8_valid_len bs) bs)
-unfolding utf8_valid_len
-front_utf8 bs = up_to_utf8 bs (length bs)
-
--- nothing longer than the valid front is one
-step_longest : (b : Bool) (bs : List ℕ) (k n m : ℕ) → is_utf8 (take (suc n) bs) ≡ b → cond b (suc n) k < m → m ≤ suc n → (k < m → m ≤ n → IsUtf8 (take m bs) → ⊥) → IsUtf8 (take m bs) → ⊥
-step_longest true bs k n m e less within longest u = absurd (omega arith)
-step_longest false bs k n m e less within longest u =
-    elim (cases_lt n m) [
-      | inl above ↦
-          let same : m ≡ suc n = omega arith in
-          let valid : is_utf8 (take (suc n) bs) ≡ true = subst (λ (x : ℕ). is_utf8 (take x bs) ≡ true) same (is_utf8-from_IsUtf8 _ u) in
-          absurd cc
-      | inr le ↦ longest less le u
-    ]
-
-up_to_longest : (bs : List ℕ) (n m : ℕ) → valid_len_up_to bs n < m → m ≤ n → IsUtf8 (take m bs) → ⊥
-up_to_longest bs zero m less within u = absurd (omega arith)
-up_to_longest bs (suc n) m less within u = step_longest (is_utf8 (take (suc n) bs)) bs (valid_len_up_to bs n) n m refl less within (up_to_longest bs n m) u
-
-front_longest : (bs : List ℕ) (m : ℕ) → utf8_valid_len bs < m → m ≤ length bs → IsUtf8 (take m bs) → ⊥
-unfolding utf8_valid_len
-front_longest bs m less within u = up_to_longest bs (length bs) m less within u
+front_utf8 bs = (front_longest bs).front
 
 -- the valid length by what it says
-valid_len_is : (bs : List ℕ) (n : ℕ) → n ≤ length bs → IsUtf8 (take n bs) → ((m : ℕ) → n < m → m ≤ length bs → IsUtf8 (take m bs) → ⊥) → utf8_valid_len bs ≡ n
-valid_len_is bs n within front longest =
-    elim (cases_lt (utf8_valid_len bs) n) [
-      | inl below ↦ absurd (front_longest bs n below within front)
-      | inr le ↦ elim (cases_lt n (utf8_valid_len bs)) [
-        | inl above ↦ absurd (longest (utf8_valid_len bs) above (utf8_valid_len_le bs) (front_utf8 bs))
-        | inr ge ↦ omega arith
-      ]
-    ]
+valid_len_is : (bs : List ℕ) (n : ℕ) → n ≤ length bs → IsLongest bs (length bs) n → utf8_valid_len bs ≡ n
+valid_len_is bs n within h =
+    let not_below : utf8_valid_len bs < n → ⊥ = λ less. (front_longest bs).longest n less within h.front in
+    let not_above : n < utf8_valid_len bs → ⊥ = λ more. h.longest (utf8_valid_len bs) more (utf8_valid_len_le bs) (front_utf8 bs) in
+    grind (arith, not_below, not_above)
 
 -- after a text the valid front goes on
 pub utf8_valid_len-append : (xs ys : List ℕ) → IsUtf8 xs → utf8_valid_len (xs ++ ys) ≡ length xs + utf8_valid_len ys
-utf8_valid_len-append xs ys u = valid_len_is (xs ++ ys) (length xs + utf8_valid_len ys)
-    (omega (arith, length-append xs ys, utf8_valid_len_le ys))
-    (subst IsUtf8 (sym (take-append-add xs ys (utf8_valid_len ys))) (IsUtf8-append _ _ u (front_utf8 ys)))
-    (λ m less within v.
-    let k : m ≡ length xs + (m - length xs) = omega arith in
-    let w : IsUtf8 (xs ++ take (m - length xs) ys) = subst IsUtf8 (ap (λ (x : ℕ). take x (xs ++ ys)) k ∙ take-append-add xs ys (m - length xs)) v in
-    front_longest ys (m - length xs) (omega arith) (omega (arith, length-append xs ys)) (tail_utf8 xs _ u w))
+utf8_valid_len-append xs ys u = valid_len_is (xs ++ ys) (length xs + utf8_valid_len ys) (omega (arith, length-append xs ys, utf8_valid_len_le ys)) (record {
+  front = rw (take-append-add xs ys (utf8_valid_len ys)) (IsUtf8-append _ _ u (front_utf8 ys));
+  longest = λ m less within v.
+      let k : m ≡ length xs + (m - length xs) = omega arith in
+      let w : IsUtf8 (xs ++ take (m - length xs) ys) = subst IsUtf8 (ap (λ (x : ℕ). take x (xs ++ ys)) k ∙ take-append-add xs ys (m - length xs)) v in
+      (front_longest ys).longest (m - length xs) (omega arith) (omega (arith, length-append xs ys)) (tail_utf8 xs _ u w);
+})
 
 pub valid_len-append : (limit : ℕ) (xs ys : List ℕ) → IsUtf8 xs → length xs ≤ limit → valid_len limit (xs ++ ys) ≡ length xs + valid_len (limit - length xs) ys
 valid_len-append limit xs ys u within =
@@ -84,13 +73,6 @@ valid_len-append limit xs ys u within =
 pub valid_len_le : (limit : ℕ) (bs : List ℕ) → (valid_len limit bs ≤ limit) × (valid_len limit bs ≤ length bs)
 valid_len_le limit bs = (omega (arith, utf8_valid_len_le (take limit bs), length-take limit bs), omega (arith, utf8_valid_len_le (take limit bs), length-take limit bs))
 
-pub valid_len-nil : (limit : ℕ) → valid_len limit [] ≡ 0
-valid_len-nil limit = omega (arith, valid_len_le limit [])
-
-pub valid_front-append : (limit : ℕ) (xs ys : List ℕ) → IsUtf8 xs → length xs ≤ limit → valid_front limit (xs ++ ys) ≡ xs ++ valid_front (limit - length xs) ys
-valid_front-append limit xs ys u within =
-    ap (λ (x : ℕ). take x (xs ++ ys)) (valid_len-append limit xs ys u within) ∙ take-append-add xs ys (valid_len (limit - length xs) ys)
-
 pub valid_front_utf8 : (limit : ℕ) (bs : List ℕ) → IsUtf8 (valid_front limit bs)
 valid_front_utf8 limit bs = subst IsUtf8 (take-take (valid_len limit bs) limit bs (valid_len_le limit bs).0) (front_utf8 (take limit bs))
 
@@ -98,19 +80,19 @@ pub length-valid_front : (limit : ℕ) (bs : List ℕ) → length (valid_front l
 length-valid_front limit bs = length-take-le (valid_len limit bs) bs (valid_len_le limit bs).1
 
 -- a character that begins bytes is in their valid front, and nothing else begins one
-starts_by : (bs : List ℕ) (cs : List ℕ) (n : ℕ) → scalars cs ≡ true → encode_utf8_all cs ≡ take n bs → 0 < length (take n bs) → (c : ℕ) × (more : List ℕ) × IsScalar c × (bs ≡ encode_utf8 c ++ more)
-starts_by bs [] n s e h = absurd (omega (arith, ap length e))
-starts_by bs (c ∷ cs) n s e h = (
-  c,
-  encode_utf8_all cs ++ drop n bs,
-  (and_parts _ _ s).0,
-  sym (take-append-drop n bs) ∙ ap (λ (x : List ℕ). x ++ drop n bs) (sym e) ∙ append_assoc (encode_utf8 c) (encode_utf8_all cs) (drop n bs),
-)
-
 pub starts : (bs : List ℕ) → 0 < utf8_valid_len bs → (c : ℕ) × (more : List ℕ) × IsScalar c × (bs ≡ encode_utf8 c ++ more)
-starts bs h =
-    let u = front_utf8 bs in
-    starts_by bs u.0 (utf8_valid_len bs) u.1.0 u.1.1 (omega (arith, length-take-le (utf8_valid_len bs) bs (utf8_valid_len_le bs)))
+starts bs h = by (front_utf8 bs).0 (front_utf8 bs).1.0 (front_utf8 bs).1.1 where
+  n : ℕ
+  n = utf8_valid_len bs
+
+  by : (cs : List ℕ) → scalars cs ≡ true → encode_utf8_all cs ≡ take n bs → (c : ℕ) × (more : List ℕ) × IsScalar c × (bs ≡ encode_utf8 c ++ more)
+  by [] s e = absurd (omega (arith, h, ap length e, length-take-le n bs (utf8_valid_len_le bs)))
+  by (c ∷ cs) s e = (
+    c,
+    encode_utf8_all cs ++ drop n bs,
+    (and_parts _ _ s).0,
+    sym (take-append-drop n bs) ∙ ap (λ (x : List ℕ). x ++ drop n bs) (sym e) ∙ append_assoc (encode_utf8 c) (encode_utf8_all cs) (drop n bs),
+  )
 
 pub starts_back : (bs more : List ℕ) (c : ℕ) → IsScalar c → bs ≡ encode_utf8 c ++ more → 0 < utf8_valid_len bs
 starts_back bs more c s e =
@@ -123,32 +105,16 @@ none_valid bs none = elim (cases_lt 0 (utf8_valid_len bs)) [
   | inr nothing ↦ omega arith
 ]
 
-going_on_by : (rest more : List ℕ) → (c : ℕ) × (r : List ℕ) × IsScalar c × (rest ≡ encode_utf8 c ++ r) → 0 < utf8_valid_len (rest ++ more)
-going_on_by rest more (c, r, s, e) = starts_back (rest ++ more) (r ++ more) c s (ap (λ (x : List ℕ). x ++ more) e ∙ append_assoc (encode_utf8 c) r more)
-
 -- what begins with a character does so whatever comes after
 pub going_on : (rest more : List ℕ) → 0 < utf8_valid_len rest → 0 < utf8_valid_len (rest ++ more)
-going_on rest more h = going_on_by rest more (starts rest h)
+going_on rest more h = let (c, r, s, e) = starts rest h in starts_back (rest ++ more) (r ++ more) c s (ap (λ (x : List ℕ). x ++ more) e ∙ append_assoc (encode_utf8 c) r more)
 
 -- the refusal depends on whether a character follows, and not on how many do
 pub refusal_same : (j k at : ℕ) → (0 < j → 0 < k) → (0 < k → 0 < j) → refusal_with Refuse j at ≡ refusal_with Refuse k at
-refusal_same j k at to from = elim (cases_lt 0 j) [
-  | inl some ↦
-      let a : eqb j 0 ≡ false = grind (arith, nat_tests) in
-      let h : 0 < k = to some in
-      let b : eqb k 0 ≡ false = grind (arith, nat_tests) in
-      ap (λ (x : Bool). cond x (NotUtf8 at) (TooLarge at)) (a ∙ sym b)
-  | inr none ↦ elim (cases_lt 0 k) [
-    | inl some ↦ absurd (omega (arith, from some))
-    | inr none_more ↦ ap (λ (x : ℕ). refusal_with Refuse x at) (omega arith)
-  ]
-]
+refusal_same j k at to from = grind (arith, nat_tests, to, from)
 
 refusal_value : (v len u w r k : ℕ) → v ≡ w → len ≡ w + r → 0 < r → u ≡ w + k → cond (eqb v len) None (Some (refusal_with Refuse (u - v) v)) ≡ Some (refusal_with Refuse k w)
-refusal_value v len u w r k a b c d =
-    let less : eqb v len ≡ false = grind (arith, nat_tests) in
-    let e : u - v ≡ k = omega arith in
-    rw (less, e, a) refl
+refusal_value v len u w r k a b c d = let e : u - v ≡ k = omega arith in grind (arith, nat_tests)
 
 -- where the valid front ends before the bytes do
 pub refusal_past : (limit : ℕ) (front rest : List ℕ) → IsUtf8 front → length front ≤ limit → valid_len (limit - length front) rest ≡ 0 → 0 < length rest → refusal_within limit (front ++ rest) ≡ Some (refusal_with Refuse (utf8_valid_len rest) (length front))

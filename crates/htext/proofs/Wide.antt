@@ -1,19 +1,18 @@
 -- Runs of characters in a text, by its bytes.
-use Rattle.htext.proofs.Names.{◌≡◌, ℕ, ◌≤◌, ◌+◌, Bool, true, false, eqb, List, [], ◌∷◌, ◌++◌, map, length, take, drop, get_or, sym, refl, ap, ◌∙◌, subst, arith, append-nil, Result, Ok, Err, encode_utf8_all, list_all, nat_tests, and_parts, and_from, eqb-true, take_at, drop_at, take-append-drop, length-append, length-take-le, length-drop, drop-drop, take_all, nil_from_length, list_all-append, take-add, chars-append, encodes-chars, IsUtf8-append, IsUtf8-nil, IsUtf8-encode, IsUtf8-drop, length-encode, chars_past_char, chars-nil, scalars, chars, IsUtf8, IsScalar, encode_utf8, len_utf8, placed, Hands, Continues, Placed, Refusal, Bom, Whole, normalized, ends_in_return, CharItem, Character, items, items_of, is_plain_byte, is_plain, is_clean, run_items, IsCut, IsCleanFront}
-use Rattle.std.proofs.lemmas.List.{drop_all}
+use Rattle.htext.proofs.Names.{◌≡◌, ℕ, ◌≤◌, ◌+◌, true, false, eqb, List, [], ◌∷◌, ◌++◌, map, length, take, drop, get_or, sym, refl, ap, ◌∙◌, subst, arith, append-nil, Result, Ok, Err, encode_utf8_all, list_all, nat_tests, and_parts, eqb-true, take_at, drop_at, take-append-drop, length-append, length-take-le, length-drop, drop-drop, nil_from_length, take-add, chars-append, encodes-chars, IsUtf8-append, IsUtf8-encode, IsUtf8-drop, length-encode, chars_past_char, chars-nil, scalars, chars, IsUtf8, IsScalar, encode_utf8, len_utf8, placed, Hands, Continues, Placed, Refusal, Bom, Whole, normalized, ends_in_return, CharItem, Character, items, is_plain_byte, is_plain, is_clean, run_items, IsCut, IsCleanFront}
 use Rattle.std.proofs.Math.Seq.{get_or-append_seam}
 use Rattle.std.proofs.lemmas.Str.{scalars-chars, IsUtf8-take}
 use Rattle.std.specs.Str.{IsCharBoundary}
 use Rattle.names.proofs.Handing.{Continues-more}
 use Rattle.htext.proofs.Handing.{Hands-front}
 use Rattle.htext.proofs.Parts.{placed-append}
+use Rattle.names.proofs.Words.{all_weaker}
 use Rattle.htext.proofs.Plain.{byte_plain, no_return, as_it_came, item_alone, begins_anew}
 use Rattle.htext.proofs.Runs.{plain_chars}
 
 -- a run of plain bytes as one of plain characters
 pub bytes_plain : (xs : List ℕ) → list_all is_plain_byte xs ≡ true → list_all is_plain xs ≡ true
-bytes_plain [] h = refl
-bytes_plain (x ∷ xs) h = let k = and_parts (is_plain_byte x) (list_all is_plain_byte xs) h in and_from _ _ (byte_plain x k.0) (bytes_plain xs k.1)
+bytes_plain = all_weaker is_plain_byte is_plain byte_plain
 
 pub run_plain : (xs : List ℕ) → list_all is_plain_byte xs ≡ true → IsUtf8 xs → list_all is_plain (chars xs) ≡ true
 run_plain xs h u = ap (list_all is_plain) (plain_chars xs h u) ∙ bytes_plain xs h
@@ -46,13 +45,6 @@ module _ (n m : ℕ) (bytes : List ℕ) (cut : IsCut n bytes) (again : IsCut m (
   placed_more at =
       ap (λ (l : List ℕ). placed at (chars l)) (take-add n m bytes) ∙ ap (placed at) (chars-append (take n bytes) (take m (drop n bytes)) cut.front)
       ∙ placed-append at (chars (take n bytes)) (chars (take m (drop n bytes))) ∙ ap (λ (k : ℕ). placed at (chars (take n bytes)) ++ placed (at + k) (chars (take m (drop n bytes)))) (front_long n bytes cut)
-
-pub cut_all : (bytes : List ℕ) → IsUtf8 bytes → IsCut (length bytes) bytes
-cut_all bytes u = record { within = omega arith; front = subst IsUtf8 (sym (take_all (length bytes) bytes (omega arith))) u; back = subst IsUtf8 (sym (drop_all (length bytes) bytes (omega arith))) IsUtf8-nil }
-
-pub plain_after : (n : ℕ) (bytes : List ℕ) → IsCut n bytes → list_all is_plain (chars bytes) ≡ true → list_all is_plain (chars (drop n bytes)) ≡ true
-plain_after n bytes cut h =
-    (and_parts (list_all is_plain (chars (take n bytes))) _ (sym (list_all-append is_plain (chars (take n bytes)) (chars (drop n bytes))) ∙ ap (list_all is_plain) (sym (chars_cut n bytes cut)) ∙ h)).1
 
 -- a text that is empty has no characters, and another one has some
 pub no_characters : (bytes : List ℕ) → true ≡ eqb (length bytes) 0 → chars bytes ≡ []
@@ -105,18 +97,11 @@ text_of : (bom : Bom) (at : ℕ) (cs : List ℕ) (ps : List Placed) → list_all
 text_of bom at [] ps a = refl
 text_of bom at (x ∷ xs) ps a =
     let k = and_parts (is_clean x) (list_all is_clean xs) a in
-    let p : Placed = record { ch = x; at = at } in
-    let n : ℕ = at + len_utf8 x in
-    ap (λ (r : List Placed). items (map Whole r ++ normalized bom (eqb x 13) (map Whole (placed n xs ++ ps)))) (as_it_came bom x at k.0)
-    ∙ ap (λ (b : Bool). items_of (Whole p) ++ items (normalized bom b (map Whole (placed n xs ++ ps)))) (no_return x k.0)
-    ∙ ap (λ (i : List CharItem). i ++ items (normalized bom false (map Whole (placed n xs ++ ps)))) (item_alone x at k.0)
-    ∙ ap (λ (i : List CharItem). Character p ∷ i) (text_of bom n xs ps k.1)
+    rw (as_it_came bom x at k.0, no_return x k.0, item_alone x at k.0) (ap (λ (i : List CharItem). Character (record { ch = x; at = at }) ∷ i) (text_of bom (at + len_utf8 x) xs ps k.1))
 
 end_of : (at : ℕ) (cs : List ℕ) (ps : List Placed) → list_all is_clean cs ≡ true → ends_in_return false (map Whole (placed at cs ++ ps)) ≡ ends_in_return false (map Whole ps)
 end_of at [] ps a = refl
-end_of at (x ∷ xs) ps a =
-    let k = and_parts (is_clean x) (list_all is_clean xs) a in
-    ap (λ (b : Bool). ends_in_return b (map Whole (placed (at + len_utf8 x) xs ++ ps))) (no_return x k.0) ∙ end_of (at + len_utf8 x) xs ps k.1
+end_of at (x ∷ xs) ps a = let k = and_parts (is_clean x) (list_all is_clean xs) a in rw (ends_in_return, no_return x k.0) (end_of (at + len_utf8 x) xs ps k.1)
 
 pub ends_after : (n at : ℕ) (bytes : List ℕ) → IsCleanFront n bytes → ends_in_return false (map Whole (placed at (chars bytes))) ≡ ends_in_return false (map Whole (placed (at + n) (chars (drop n bytes))))
 ends_after n at bytes is = ap (λ (ps : List Placed). ends_in_return false (map Whole ps)) (placed_cut n bytes is.cut at) ∙ end_of at (chars (take n bytes)) _ is.clean

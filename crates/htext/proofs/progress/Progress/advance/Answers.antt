@@ -1,8 +1,8 @@
-use Rattle.htext.proofs.Names.{◌≡◌, ◌≤◌, ◌+◌, ◌-◌, ℕ, List, length, take, drop, sym, ap, ◌∙◌, arith, Ok, err_from_is_err_and, length-drop}
+use Rattle.htext.proofs.Names.{◌≡◌, ◌≤◌, ◌+◌, ℕ, List, length, sym, ap, ◌∙◌, arith, Ok, err_from_is_err_and, length-drop}
 use Rattle.htext.proofs.Beginnings.{open_short}
 use Rattle.htext.proofs.Errors.{error_bounds}
 use Rattle.htext.proofs.Stopping.{what_waits, what_is_bad}
-use Rattle.htext.proofs.Advancing.{left_is, text_is, text_short, later, same_next, same_each, each_reading, each_handed, each_stops, text_stops, refused_stops, waits_now, replaced_reading, replaced_handed, replaced_stops}
+use Rattle.htext.proofs.Advancing.{left_is, text_is, within_all, later, each_reading, each_handed, each_stops, text_stops, refused_stops, waits_now, replaced_reading, replaced_handed, replaced_stops}
 use Rattle.htext.proofs.progress.Progress.advance.Goals as goal
 
 pub returns-in_err-hand_text-clause-reads : goal.returns-in_err-hand_text-clause-reads
@@ -19,8 +19,7 @@ returns-in-Refused-clause-reads g c = λ all h j.
     let text = rw (c.loop-count.invariant.limit, so_far.2) at (text_is _ c.loop-count.count c.args.bytes.now _ _ c.fitting.ensures c.valid_text-text.ensures) in
     let handed = rw (c.loop-count.invariant.bom) at c.in_ok-hand_text.ensures.handed in
     let n : ℕ = length c.valid_text-text.result.now in
-    let next = same_next _ _ _ c.args.self.now.bad_bytes (c.loop-count.count + n) c.args.bytes.now (drop (c.loop-count.self.read + n) all) _ c.args.self.now.limit _ (c.loop-count.self.read + n)
-    c.next.ensures c.in-Refused.is (c.hand_text.ensures.bad ∙ c.loop-count.invariant.bad) (later c.loop-count.count c.loop-count.self.read n c.args.bytes.now all so_far.2) (c.hand_text.ensures.limit ∙ c.loop-count.invariant.limit) c.in_ok-hand_text.ensures.read in
+    let next = rw (left_is _ c.args.bytes.now, (later c.loop-count.count c.loop-count.self.read n c.args.bytes.now all so_far.2), c.hand_text.ensures.bad ∙ c.loop-count.invariant.bad, c.hand_text.ensures.limit ∙ c.loop-count.invariant.limit, c.in_ok-hand_text.ensures.read) at (sym c.next.ensures ∙ c.in-Refused.is) in
     refused_stops g.S.CharSink.gives _ _ _ _ _ all _ _ _ so_far.1 so_far.0 _ text _ handed c.in-Refused.refusal next
 
 pub returns-in-Waits-clause-reads : goal.returns-in-Waits-clause-reads
@@ -30,8 +29,7 @@ returns-in-Waits-clause-reads g c = λ all h j.
     let handed = rw (c.loop-count.invariant.bom) at c.in_ok-hand_text.ensures.handed in
     let n : ℕ = length c.valid_text-text.result.now in
     let left = later c.loop-count.count c.loop-count.self.read n c.args.bytes.now all so_far.2 in
-    let next = same_next _ _ _ c.args.self.now.bad_bytes (c.loop-count.count + n) c.args.bytes.now (drop (c.loop-count.self.read + n) all) _ c.args.self.now.limit _ (c.loop-count.self.read + n)
-    c.next.ensures c.in-Waits.is (c.hand_text.ensures.bad ∙ c.loop-count.invariant.bad) left (c.hand_text.ensures.limit ∙ c.loop-count.invariant.limit) c.in_ok-hand_text.ensures.read in
+    let next = rw (left_is _ c.args.bytes.now, left, c.hand_text.ensures.bad ∙ c.loop-count.invariant.bad, c.hand_text.ensures.limit ∙ c.loop-count.invariant.limit, c.in_ok-hand_text.ensures.read) at (sym c.next.ensures ∙ c.in-Waits.is) in
     let waits = waits_now g.S.CharSink.gives _ _ _ _ _ all _ _ _ so_far.1 so_far.0 _ text _ handed next in
     (waits.0, rw (c.in_ok-hand_text.ensures.read, c.in_ok-hand_text.ensures.end) waits.1, rw (c.in_ok-hand_text.ensures.read) left, waits.2)
 
@@ -39,10 +37,9 @@ pub returns-in-Waits-clause-few : goal.returns-in-Waits-clause-few
 returns-in-Waits-clause-few g c =
     let bytes : List ℕ = c.args.bytes.now in
     let count : ℕ = c.loop-count.count + length c.valid_text-text.result.now in
-    let text = text_is _ c.loop-count.count bytes _ _ c.fitting.ensures c.valid_text-text.ensures in
-    let within : count ≤ length bytes = text_short _ c.loop-count.count bytes _ text c.loop-count.invariant.within in
+    let within : count + 0 ≤ length bytes = within_all _ _ 0 bytes _ _ c.fitting.ensures c.valid_text-text.ensures c.loop-count.invariant.within (omega arith) in
     let w = what_waits _ _ _ _ (sym c.next.ensures ∙ c.in-Waits.is) in
-    (within, omega (arith, open_short _ w.is_open, ap length (left_is count bytes), length-drop count bytes))
+    (omega arith, omega (arith, open_short _ w.is_open, ap length (left_is count bytes), length-drop count bytes))
 
 pub hand_bad-requires-clause-some : goal.hand_bad-requires-clause-some
 hand_bad-requires-clause-some g c =
@@ -51,13 +48,8 @@ hand_bad-requires-clause-some g c =
 
 pub loop-count-smaller : goal.loop-count-smaller
 loop-count-smaller g c =
-    let bytes : List ℕ = c.args.bytes.now in
-    let count : ℕ = c.loop-count.count + length c.valid_text-text.result.now in
-    let w = what_is_bad _ _ _ _ _ (sym c.next.ensures ∙ c.in-Bad.is) in
-    let bounds = error_bounds _ c.in-Bad.len w.is_bad in
-    let some : 1 ≤ c.in-Bad.len = bounds.0 in
-    let most : c.in-Bad.len ≤ length (take (length bytes - count) (drop count bytes)) = bounds.1 in
-    omega (arith, some, most, ap length (left_is count bytes), length-drop count bytes)
+    let bounds = error_bounds _ c.in-Bad.len (what_is_bad _ _ _ _ _ (sym c.next.ensures ∙ c.in-Bad.is)).is_bad in
+    omega (arith, bounds.0, within_all _ _ c.in-Bad.len c.args.bytes.now _ _ c.fitting.ensures c.valid_text-text.ensures c.loop-count.invariant.within bounds.1)
 
 pub returns-in_err-hand_bad-clause-reads : goal.returns-in_err-hand_bad-clause-reads
 returns-in_err-hand_bad-clause-reads g c = λ all h j.
@@ -66,8 +58,7 @@ returns-in_err-hand_bad-clause-reads g c = λ all h j.
     let text = rw (c.loop-count.invariant.limit, so_far.2) at (text_is _ c.loop-count.count c.args.bytes.now _ _ c.fitting.ensures c.valid_text-text.ensures) in
     let handed = rw (c.loop-count.invariant.bom) at c.in_ok-hand_text.ensures.handed in
     let n : ℕ = length c.valid_text-text.result.now in
-    let next = same_next _ _ _ c.args.self.now.bad_bytes (c.loop-count.count + n) c.args.bytes.now (drop (c.loop-count.self.read + n) all) _ c.args.self.now.limit _ (c.loop-count.self.read + n)
-    c.next.ensures c.in-Bad.is (c.hand_text.ensures.bad ∙ c.loop-count.invariant.bad) (later c.loop-count.count c.loop-count.self.read n c.args.bytes.now all so_far.2) (c.hand_text.ensures.limit ∙ c.loop-count.invariant.limit) c.in_ok-hand_text.ensures.read in
+    let next = rw (left_is _ c.args.bytes.now, (later c.loop-count.count c.loop-count.self.read n c.args.bytes.now all so_far.2), c.hand_text.ensures.bad ∙ c.loop-count.invariant.bad, c.hand_text.ensures.limit ∙ c.loop-count.invariant.limit, c.in_ok-hand_text.ensures.read) at (sym c.next.ensures ∙ c.in-Bad.is) in
     let handed_bad = rw (c.in_ok-hand_text.ensures.read) at c.in_err-hand_bad.ensures.handed in
     rw (e.1, e.2) (replaced_stops g.S.CharSink.gives _ _ _ _ _ all _ _ _ so_far.1 so_far.0 _ text _ handed c.in-Bad.len next _ c.in_err-hand_bad.field-0.0 handed_bad)
 
@@ -76,13 +67,11 @@ loop-count-preserved g c =
     let bytes : List ℕ = c.args.bytes.now in
     let n : ℕ = length c.valid_text-text.result.now in
     let count : ℕ = c.loop-count.count + n in
-    let w = what_is_bad _ _ _ _ _ (sym c.next.ensures ∙ c.in-Bad.is) in
-    let most : c.in-Bad.len ≤ length (take (length bytes - count) (drop count bytes)) = (error_bounds _ c.in-Bad.len w.is_bad).1 in
+    let most = (error_bounds _ c.in-Bad.len (what_is_bad _ _ _ _ _ (sym c.next.ensures ∙ c.in-Bad.is)).is_bad).1 in
     let front = text_is _ c.loop-count.count bytes _ _ c.fitting.ensures c.valid_text-text.ensures in
-    let within : count ≤ length bytes = text_short _ c.loop-count.count bytes _ front c.loop-count.invariant.within in
     let read : c.hand_bad.new.self.read ≡ c.loop-count.self.read + n + c.in-Bad.len = c.in_ok-hand_bad.ensures.read ∙ ap (λ (x : ℕ). x + c.in-Bad.len) c.in_ok-hand_text.ensures.read in
     record {
-      within = omega (arith, most, within, ap length (left_is count bytes), length-drop count bytes);
+      within = within_all _ _ c.in-Bad.len bytes _ _ c.fitting.ensures c.valid_text-text.ensures c.loop-count.invariant.within most;
       bom = c.hand_bad.ensures.bom ∙ c.hand_text.ensures.bom ∙ c.loop-count.invariant.bom;
       bad = c.hand_bad.ensures.bad ∙ c.hand_text.ensures.bad ∙ c.loop-count.invariant.bad;
       limit = c.hand_bad.ensures.limit ∙ c.hand_text.ensures.limit ∙ c.loop-count.invariant.limit;
@@ -91,8 +80,7 @@ loop-count-preserved g c =
           let text = rw (c.loop-count.invariant.limit, so_far.2) at front in
           let handed = rw (c.loop-count.invariant.bom) at c.in_ok-hand_text.ensures.handed in
           let left = later c.loop-count.count c.loop-count.self.read n bytes all so_far.2 in
-          let next = same_next _ _ _ c.args.self.now.bad_bytes count bytes (drop (c.loop-count.self.read + n) all) _ c.args.self.now.limit _ (c.loop-count.self.read + n)
-          c.next.ensures c.in-Bad.is (c.hand_text.ensures.bad ∙ c.loop-count.invariant.bad) left (c.hand_text.ensures.limit ∙ c.loop-count.invariant.limit) c.in_ok-hand_text.ensures.read in
+          let next = rw (left_is _ c.args.bytes.now, left, c.hand_text.ensures.bad ∙ c.loop-count.invariant.bad, c.hand_text.ensures.limit ∙ c.loop-count.invariant.limit, c.in_ok-hand_text.ensures.read) at (sym c.next.ensures ∙ c.in-Bad.is) in
           let handed_bad = rw (c.in_ok-hand_text.ensures.read) at c.in_ok-hand_bad.ensures.handed in (
             rw read (replaced_handed g.S.CharSink.gives _ _ _ _ _ all _ _ _ so_far.1 so_far.0 _ text _ handed c.in-Bad.len next _ (Ok tt) handed_bad),
             rw (read, c.in_ok-hand_bad.ensures.end) (replaced_reading g.S.CharSink.gives _ _ _ _ _ all _ _ _ so_far.1 so_far.0 _ text _ handed c.in-Bad.len next c.hand_bad.new.sink),
@@ -111,8 +99,7 @@ returns-in_err-hand_each-clause-reads g c = λ all h j.
     let text = rw (c.loop-count.invariant.limit, so_far.2) at (text_is _ c.loop-count.count c.args.bytes.now _ _ c.fitting.ensures c.valid_text-text.ensures) in
     let handed = rw (c.loop-count.invariant.bom) at c.in_ok-hand_text.ensures.handed in
     let n : ℕ = length c.valid_text-text.result.now in
-    let each = same_each c.bad_alone-alone.result _ c.args.self.now.bad_bytes (c.loop-count.count + n) c.args.bytes.now (drop (c.loop-count.self.read + n) all) _ c.args.self.now.limit _ (c.loop-count.self.read + n)
-    c.bad_alone-alone.ensures.replaced (c.hand_text.ensures.bad ∙ c.loop-count.invariant.bad) (later c.loop-count.count c.loop-count.self.read n c.args.bytes.now all so_far.2) (c.hand_text.ensures.limit ∙ c.loop-count.invariant.limit) c.in_ok-hand_text.ensures.read in
+    let each = rw (left_is _ c.args.bytes.now, (later c.loop-count.count c.loop-count.self.read n c.args.bytes.now all so_far.2), c.hand_text.ensures.bad ∙ c.loop-count.invariant.bad, c.hand_text.ensures.limit ∙ c.loop-count.invariant.limit, c.in_ok-hand_text.ensures.read) at c.bad_alone-alone.ensures.replaced in
     let handed_bad = rw (c.in_ok-hand_text.ensures.read) at c.in_err-hand_each.ensures.handed in
     rw (e.1, e.2) (each_stops g.S.CharSink.gives _ _ _ _ _ all _ _ _ so_far.1 so_far.0 _ text _ handed c.bad_alone-alone.result each c.if-alone-gt0.true _ c.in_err-hand_each.field-0.0 handed_bad)
 
@@ -122,12 +109,10 @@ loop-count-preserved-then-alone-gt0 g c =
     let n : ℕ = length c.valid_text-text.result.now in
     let alone : ℕ = c.bad_alone-alone.result in
     let count : ℕ = c.loop-count.count + n in
-    let most : alone ≤ length (take (length bytes - count) (drop count bytes)) = c.bad_alone-alone.ensures.replaced.within in
     let front = text_is _ c.loop-count.count bytes _ _ c.fitting.ensures c.valid_text-text.ensures in
-    let within : count ≤ length bytes = text_short _ c.loop-count.count bytes _ front c.loop-count.invariant.within in
     let read : c.hand_each.new.self.read ≡ c.loop-count.self.read + n + alone = c.in_ok-hand_each.ensures.read ∙ ap (λ (x : ℕ). x + alone) c.in_ok-hand_text.ensures.read in
     record {
-      within = omega (arith, most, within, ap length (left_is count bytes), length-drop count bytes);
+      within = within_all _ _ alone bytes _ _ c.fitting.ensures c.valid_text-text.ensures c.loop-count.invariant.within c.bad_alone-alone.ensures.replaced.within;
       bom = c.hand_each.ensures.bom ∙ c.hand_text.ensures.bom ∙ c.loop-count.invariant.bom;
       bad = c.hand_each.ensures.bad ∙ c.hand_text.ensures.bad ∙ c.loop-count.invariant.bad;
       limit = c.hand_each.ensures.limit ∙ c.hand_text.ensures.limit ∙ c.loop-count.invariant.limit;
@@ -136,8 +121,7 @@ loop-count-preserved-then-alone-gt0 g c =
           let text = rw (c.loop-count.invariant.limit, so_far.2) at front in
           let handed = rw (c.loop-count.invariant.bom) at c.in_ok-hand_text.ensures.handed in
           let left = later c.loop-count.count c.loop-count.self.read n bytes all so_far.2 in
-          let same = same_each alone _ c.args.self.now.bad_bytes count bytes (drop (c.loop-count.self.read + n) all) _ c.args.self.now.limit _ (c.loop-count.self.read + n)
-          c.bad_alone-alone.ensures.replaced (c.hand_text.ensures.bad ∙ c.loop-count.invariant.bad) left (c.hand_text.ensures.limit ∙ c.loop-count.invariant.limit) c.in_ok-hand_text.ensures.read in
+          let same = rw (left_is _ c.args.bytes.now, left, c.hand_text.ensures.bad ∙ c.loop-count.invariant.bad, c.hand_text.ensures.limit ∙ c.loop-count.invariant.limit, c.in_ok-hand_text.ensures.read) at c.bad_alone-alone.ensures.replaced in
           let handed_bad = rw (c.in_ok-hand_text.ensures.read) at c.in_ok-hand_each.ensures.handed in (
             rw read (each_handed g.S.CharSink.gives _ _ _ _ _ all _ _ _ so_far.1 so_far.0 _ text _ handed alone same c.if-alone-gt0.true _ (Ok tt) handed_bad),
             rw (read, c.in_ok-hand_each.ensures.end) (each_reading g.S.CharSink.gives _ _ _ _ _ all _ _ _ so_far.1 so_far.0 _ text _ handed alone same c.if-alone-gt0.true c.hand_each.new.sink),
