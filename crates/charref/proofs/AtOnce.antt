@@ -1,27 +1,12 @@
 -- What the bytes after an `&` settle of it.
-use Rattle.std.proofs.Common.{arith, ◌≡◌, ℕ, zero, suc, ◌+◌, ◌-◌, ◌≤◌, ◌<◌, min, Bool, true, false, true≢false, not, nat_eq, nat_le, nat_lt, List, [], ◌∷◌, ◌++◌, length, take, drop, slice_get, get_or, Option, Some, None, Bor, refl, sym, ap, ◌∙◌, subst, length-append, append_assoc, take-take, take-append-drop}
-use Rattle.std.proofs.lemmas.Bool.{and_parts, and_from}
-use Rattle.std.proofs.lemmas.Bool.Decides.{nat_tests}
-use Rattle.std.proofs.lemmas.List.{take_more, length-map, length-take, length-take-le, get_or-take}
+use Rattle.charref.proofs.Names.{arith, ◌≡◌, ℕ, zero, suc, ◌+◌, ◌-◌, ◌≤◌, ◌<◌, min, Bool, true, false, true≢false, not, nat_eq, nat_le, nat_lt, List, [], ◌∷◌, ◌++◌, length, take, drop, slice_get, get_or, Option, Some, None, refl, sym, ap, ◌∙◌, subst, length-append, append_assoc, and_parts, and_from, nat_tests, take_more, length-map, is_ascii, starts_with, list_all, some_same, Placed, placed, characters, all, is_alphanumeric, is_empty, Reference, Characters, Search, Alphanumeric, Walk, Entry, Entities, IsTable, Piece, longest, is_key, is_key_name, ends_in_semicolon, IsAfterKey, IsSortedTable, IsRange, IsOver, GoesOn, HasNone, HasRead, key_bytes, IsOpen, IsRead, characters_of, errors_of, unknown_of, HasTaken, IsAfterKeyOf, HasWalked, Settles, SettlesNothing}
+use Rattle.std.proofs.Common.{take-take, take-append-drop}
+use Rattle.std.proofs.lemmas.List.{length-take, length-take-le, get_or-take}
 use Rattle.std.proofs.lemmas.List.Folds.{list_all_at}
 use Rattle.std.specs.Option.{IsNone, MatchOption}
-use Rattle.std.specs.Char.{is_ascii, len_utf8}
-use Rattle.std.specs.List.{starts_with, list_all}
-use Rattle.names.proofs.Words.{some_same}
-use Rattle.names.specs.declared.placed.Placed.{Placed}
-use Rattle.names.specs.Placed.{placed, characters, all, is_alphanumeric, is_empty}
-use Rattle.charref.specs.declared.reference.Reference.{Reference}
-use Rattle.charref.specs.declared.reference.Characters.TheVariants.{Named}
-use Rattle.charref.specs.declared.search.Search.{Search}
-use Rattle.charref.specs.declared.last.Last.TheVariants.{Alphanumeric}
-use Rattle.charref.specs.declared.walk.Walk.{Walk}
-use Rattle.charref.specs.Reference.{Entry, Entities, IsTable, Piece, longest, is_key, is_key_name, ends_in_semicolon}
-use Rattle.charref.specs.Table.{IsAfterKey, IsSortedTable, IsRange, IsOver, GoesOn, HasNone, HasRead}
-use Rattle.charref.specs.Held.{key_bytes}
-use Rattle.charref.specs.Open.{IsOpen}
-use Rattle.charref.specs.Pieces.{IsRead, characters_of, errors_of, unknown_of}
-use Rattle.charref.specs.Walk.{HasTaken, Takes}
-use Rattle.charref.specs.AtOnce.{IsAfterKeyOf, HasWalked, HasWhole, Settles, SettlesNothing}
+use Rattle.std.specs.Char.{len_utf8}
+use Rattle.charref.specs.Walk.{Takes}
+use Rattle.charref.specs.AtOnce.{HasWhole}
 use Rattle.charref.proofs.Keys.{longest-whole, longest-over, no_longer}
 use Rattle.charref.proofs.Core.{once}
 use Rattle.charref.proofs.Naming.{is_key_of, key_of}
@@ -170,17 +155,17 @@ closed_over table text is_table closed = record { no_more = λ k e at opens. by 
         absurd (no_semicolon_after text (front_of table text is_table goes) closed)
 
 -- so what it stands for comes, whatever follows
-abbrev whole : Bor (List ℕ) → Reference
-whole lent = record { characters = Named lent; left = 0; missing_semicolon = false; fault = None; in_run = false }
+abbrev whole : Characters → Reference
+whole cs = record { characters = cs; left = 0; missing_semicolon = false; fault = None; in_run = false }
 
-read_closed : (table : Entities) (text after : List Placed) (k : ℕ) (e : Entry) (lent : Bor (List ℕ)) → IsTable table → slice_get table k ≡ Some e → e.key ≡ key_bytes text → ends_in_semicolon e.key ≡ true → lent.now ≡ e.stands_for
-    → IsRead table false text after (whole lent)
-read_closed table text after k e lent is_table at is closed stands =
+read_closed : (table : Entities) (text after : List Placed) (k : ℕ) (e : Entry) (cs : Characters) → IsTable table → slice_get table k ≡ Some e → e.key ≡ key_bytes text → ends_in_semicolon e.key ≡ true → characters_of cs ≡ e.stands_for
+    → IsRead table false text after (whole cs)
+read_closed table text after k e cs is_table at is closed stands =
     let found : longest table (key_bytes text) ≡ Some e = longest-whole table (key_bytes text) k e (record { here = λ j f q same. once table is_table.distinct j k f e q at (same ∙ sym is) }) at is in
     let over : IsOver table (key_bytes text) = closed_over table text is_table (subst (λ bs. ends_in_semicolon bs ≡ true) is closed) in
     let none : 0 ≡ length text - (length e.key - 1) = (let size : length e.key ≡ length (key_bytes text) = ap length is in let count : length (characters text) ≡ length text = length-map text (λ p. p.ch) in omega arith) in
-    subst (λ b. IsRead table false text after (record { characters = Named lent; left = 0; missing_semicolon = not b; fault = None; in_run = false })) closed
-    (read_named table false text after is_table e found (longest-over table (key_bytes text) (characters after) over) lent 0 stands none refl)
+    subst (λ b. IsRead table false text after (record { characters = cs; left = 0; missing_semicolon = not b; fault = None; in_run = false })) closed
+    (read_named table false text after is_table e found (longest-over table (key_bytes text) (characters after) over) cs 0 stands none refl)
 
 -- it is ASCII
 key_name_ascii : (name : List ℕ) → is_key_name name ≡ true → list_all is_ascii name ≡ true
@@ -214,7 +199,7 @@ key_stands bytes (c ∷ d ∷ ds) count key opens size =
       is = λ at. ap (λ x. x ∷ d ∷ ds) amp ∙ ap (λ xs. 38 ∷ xs) (name ∙ sym (characters-placed at (take (length (d ∷ ds)) bytes)));
     })
 
-pub key_settles : (table : Entities) (bytes : List ℕ) (place count : ℕ) (lent : Bor (List ℕ)) → (has : HasWhole table bytes place) → count ≡ length has.entry.key - 1 → lent.now ≡ has.entry.stands_for → Settles table bytes count (whole lent)
+pub key_settles : (table : Entities) (bytes : List ℕ) (place count : ℕ) (cs : Characters) → (has : HasWhole table bytes place) → count ≡ length has.entry.key - 1 → characters_of cs ≡ has.entry.stands_for → Settles table bytes count (whole cs)
 key_settles table bytes place count lent has size stands =
     let at-front : StandsAt bytes has.entry.key count = key_stands bytes has.entry.key count (is_key_of table place has.entry has.is_table has.stands) has.opens size in
     record {

@@ -1,12 +1,8 @@
 -- One key and its characters, looked up.
-use Rattle.std.proofs.Common.{◌≡◌, ℕ, zero, suc, Bool, true, false, true≢false, cond, nat_eq, nat_lt, bytes_eq, List, [], ◌∷◌, map, length, slice_get, Contains, Option, Some, None, refl, sym, ap, ◌∙◌, subst}
-use Rattle.std.proofs.lemmas.Slice.Eq.{bytes_eq-Decides}
-use Rattle.std.proofs.lemmas.Option.{slice_get_within, get_or_from_slice_get, slice_get-get_or}
-use Rattle.std.specs.List.{starts_with, AllByRecursion, IsDistinct}
+use Rattle.charref.proofs.Names.{◌≡◌, ℕ, zero, suc, Bool, true, false, true≢false, cond, nat_eq, nat_lt, bytes_eq, List, [], ◌∷◌, map, length, slice_get, Option, Some, None, refl, sym, ap, ◌∙◌, subst, bytes_eq-Decides, slice_get_within, get_or_from_slice_get, slice_get-get_or, starts_with, AllByRecursion, some_same, Entry, Entities, IsTable, longest, longer, core, IsReadable}
 use Rattle.std.specs.List.Sorted.{IsStrictlySortedBy}
-use Rattle.names.proofs.Words.{some_same}
-use Rattle.charref.specs.Reference.{Entry, Entities, IsTable, longest, longer, core}
-use Rattle.charref.specs.Flat.{IsReadable}
+use Rattle.std.specs.List.{IsDistinct}
+use Rattle.std.proofs.Common.{Contains}
 use Rattle.charref.proofs.Keys.{whole, longest-whole}
 use Rattle.charref.proofs.Members.{readable_from_parts}
 

@@ -1,15 +1,6 @@
 -- The table of digits, checked at each ASCII character.
-use Rattle.std.proofs.Common.{arith, ◌≡◌, ℕ, ◌<◌, ◌≤◌, true, false, not, ◌||◌, nat_eq, nat_lt, refl, sym, ◌∙◌, subst}
-use Rattle.std.proofs.lemmas.Bool.{agree_below_at}
-use Rattle.std.proofs.lemmas.Bool.Decides.{nat_tests}
-use Rattle.std.specs.Char.{is_ascii}
-use Rattle.std.specs.Prelude.{slice_index}
-use Rattle.names.specs.Placed.{is_digit}
+use Rattle.charref.proofs.Names.{arith, ◌≡◌, ℕ, ◌<◌, ◌≤◌, true, false, not, ◌||◌, nat_eq, nat_lt, refl, sym, ◌∙◌, subst, agree_below_at, nat_tests, is_ascii, slice_index, is_digit, Base, Decimal, Hexadecimal, is_hex_digit, digit_value, is_digit_of, radix}
 use Rattle.charref.specs.declared.number.TheConstants.{DIGITS}
-use Rattle.charref.specs.declared.number.Base.{Base}
-use Rattle.charref.specs.declared.number.Base.TheVariants.{Decimal, Hexadecimal}
-use Rattle.charref.specs.Reference.{is_hex_digit, digit_value}
-use Rattle.charref.specs.Number.{is_digit_of, radix}
 
 abbrev pub at : ℕ → ℕ
 at c = slice_index DIGITS c

@@ -1,18 +1,6 @@
 -- A name with one character more.
-use Rattle.std.proofs.Common.{arith, ◌≡◌, ℕ, ◌+◌, ◌≤◌, ◌<◌, Bool, true, false, true≢false, not, ◌&&◌, ◌||◌, ◌==◌, cond, nat_eq, bytes_eq, codes, List, [], ◌∷◌, ◌++◌, length, slice_get, Some, refl, sym, ap, ◌∙◌, subst, length-append}
-use Rattle.std.proofs.lemmas.List.{append-nil, map-append, length-map}
-use Rattle.std.proofs.lemmas.Slice.Eq.{bytes_eq-Decides}
-use Rattle.std.proofs.lemmas.Bool.{and_parts, and_from}
-use Rattle.std.proofs.lemmas.Bool.Decides.{nat_tests}
-use Rattle.std.specs.List.{starts_with}
-use Rattle.names.specs.declared.placed.Placed.{Placed}
-use Rattle.names.specs.Placed.{characters, all, is_empty, is_alphanumeric, is_equals}
-use Rattle.charref.specs.declared.last.Last.TheVariants.{Alphanumeric, Semicolon, Equals, Other}
-use Rattle.charref.specs.declared.search.Search.{Search}
-use Rattle.charref.specs.Reference.{Entry, Entities, IsTable, longest, is_key, is_key_name, is_empty_list, ends_in_semicolon, is_kept}
-use Rattle.charref.specs.Table.{best_entry, is_whole, is_as_long, IsOver, GoesOn, HasNone, HasRead}
-use Rattle.charref.specs.Held.{key_bytes}
-use Rattle.charref.specs.Last.{IsSettled, last_of, is_letter_or_digit}
+use Rattle.charref.proofs.Names.{arith, ◌≡◌, ℕ, ◌+◌, ◌≤◌, ◌<◌, Bool, true, false, true≢false, not, ◌&&◌, ◌||◌, ◌==◌, cond, nat_eq, bytes_eq, codes, List, [], ◌∷◌, ◌++◌, length, slice_get, Some, refl, sym, ap, ◌∙◌, subst, length-append, append-nil, map-append, length-map, bytes_eq-Decides, and_parts, and_from, nat_tests, starts_with, Placed, characters, all, is_empty, is_alphanumeric, is_equals, Alphanumeric, Semicolon, Equals, Other, Search, Entry, Entities, IsTable, longest, is_key, is_key_name, is_empty_list, ends_in_semicolon, is_kept, best_entry, is_whole, IsOver, GoesOn, HasNone, HasRead, key_bytes, IsSettled, last_of, is_letter_or_digit}
+use Rattle.charref.specs.Table.{is_as_long}
 use Rattle.charref.proofs.Keys.{no_longer, longest-over, longest-more, begins_itself, whole}
 use Rattle.charref.proofs.Core.{longest_among}
 use Rattle.charref.proofs.Naming.{is_key_of}

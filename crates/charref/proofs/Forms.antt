@@ -1,20 +1,10 @@
 -- A flat form is of one table only.
-use Rattle.std.proofs.Common.{arith, ◌≡◌, ℕ, ◌+◌, ◌≤◌, ◌<◌, ◌^◌, Bool, true, not, ◌&&◌, ◌||◌, nat_lt, nat_le, nat_eq, ◌==◌, List, [], ◌∷◌, ◌++◌, length, take, get_or, Result, Ok, Err, IfOk, IfErr, inl, inr, refl, sym, ap, ◌∙◌, subst, append_assoc}
-use Rattle.std.proofs.lemmas.Bool.{and_parts, and_from}
-use Rattle.std.proofs.lemmas.Bool.Decides.{nat_tests}
+use Rattle.charref.proofs.Names.{arith, ◌≡◌, ℕ, ◌+◌, ◌≤◌, ◌<◌, Bool, true, not, ◌&&◌, ◌||◌, nat_lt, nat_le, nat_eq, ◌==◌, List, [], ◌∷◌, ◌++◌, length, take, get_or, Result, Ok, Err, inl, inr, refl, sym, ap, ◌∙◌, subst, append_assoc, and_parts, and_from, nat_tests, append-nil, take_more, list_all, flat_map, is_alphanumeric, Refusal, TableFault, Memory, Entry, Entities, is_key, is_key_name, is_character, IsRefusedWith, is_one_or_two, flat_character, flat_characters, flat_entry, flat_of, IsReadable, is_count, is_entry}
+use Rattle.std.proofs.Common.{◌^◌, IfOk, IfErr}
 use Rattle.std.proofs.lemmas.Nat.{from_le_bytes-to_le_bytes_4}
-use Rattle.std.proofs.lemmas.List.{append-nil, take_more}
 use Rattle.std.proofs.lemmas.List.Concat.{flat_map-append}
 use Rattle.std.specs.Int.{w32, from_le_bytes}
-use Rattle.std.specs.List.{list_all, flat_map}
-use Rattle.names.specs.Placed.{is_alphanumeric}
-use Rattle.names.specs.declared.refusal.Refusal.{Refusal}
-use Rattle.names.specs.declared.refusal.TableFault.{TableFault}
-use Rattle.names.specs.declared.refusal.Refusal.TheVariants.{Memory}
-use Rattle.charref.specs.Reference.{Entry, Entities, is_key, is_key_name}
-use Rattle.charref.specs.Reading.{is_character, IsRefusedWith}
-use Rattle.charref.specs.Flat.{is_one_or_two, flat_character, flat_characters, flat_entry, flat_of, IsReadable, IsRefusedFlat}
-use Rattle.charref.specs.Front.{is_count, is_entry}
+use Rattle.charref.specs.Flat.{IsRefusedFlat}
 use Rattle.charref.proofs.Extending.{follows, ends, closes, continues}
 
 -- CHARACTERS
@@ -51,15 +41,6 @@ counted cs is = let few : (nat_eq (length cs) 1 || nat_eq (length cs) 2) ≡ tru
 
 pub few : (cs : List ℕ) → is_one_or_two cs ≡ true → length cs ≤ 2
 few cs is = let test : is_count (length cs) ≡ true = counted cs is in grind (arith, nat_tests)
-
--- one character more
-pub characters_more : (before : List ℕ) (count : ℕ) (cs : List ℕ) (i c : ℕ) → i < length cs → c ≡ get_or cs i c
-    → (before ++ count ∷ flat_map flat_character (take i cs)) ++ flat_character c ≡ before ++ count ∷ flat_map flat_character (take (i + 1) cs)
-characters_more before count cs i c less is =
-    let more : flat_map flat_character (take (i + 1) cs) ≡ flat_map flat_character (take i cs) ++ flat_character c =
-    ap (flat_map flat_character) (take_more cs i c less) ∙ ap (λ b. flat_map flat_character (take i cs ++ b ∷ [])) (sym is) ∙ flat_map-append flat_character (take i cs) (c ∷ [])
-    ∙ ap (λ bs. flat_map flat_character (take i cs) ++ bs) (append-nil (flat_character c)) in
-    append_assoc before (count ∷ flat_map flat_character (take i cs)) (flat_character c) ∙ ap (λ bs. before ++ count ∷ bs) (sym more)
 
 -- KEYS
 

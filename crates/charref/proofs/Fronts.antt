@@ -1,14 +1,7 @@
 -- The names and keys that bytes begin with.
-use Rattle.std.proofs.Common.{arith, ◌≡◌, ℕ, zero, suc, ◌+◌, ◌<◌, ◌⊎◌, inl, inr, Bool, true, false, true≢false, nat_eq, ◌||◌, ◌==◌, bytes_eq, codes, List, [], ◌∷◌, ◌++◌, length, take, slice_get, get_or, refl, sym, ◌∙◌, subst}
-use Rattle.std.proofs.lemmas.Bool.{and_parts, and_from, agree_below_at}
-use Rattle.std.proofs.lemmas.Bool.Decides.{nat_tests}
+use Rattle.charref.proofs.Names.{arith, ◌≡◌, ℕ, zero, suc, ◌+◌, ◌<◌, ◌⊎◌, inl, inr, Bool, true, false, true≢false, nat_eq, ◌||◌, ◌==◌, bytes_eq, codes, List, [], ◌∷◌, ◌++◌, length, take, slice_get, get_or, refl, sym, ◌∙◌, subst, and_parts, and_from, agree_below_at, nat_tests, list_all, slice_index, is_alphanumeric, ALPHANUMERICS, is_key, is_key_name, is_empty_list, passes, is_count, IsCounted, HasNoCounted}
 use Rattle.std.proofs.lemmas.List.Folds.{list_all_more}
-use Rattle.std.specs.List.{list_all}
-use Rattle.std.specs.Prelude.{slice_index}
-use Rattle.names.specs.Placed.{is_alphanumeric}
-use Rattle.charref.specs.declared.key.TheConstants.{ALPHANUMERICS}
-use Rattle.charref.specs.Reference.{is_key, is_key_name, is_empty_list}
-use Rattle.charref.specs.Front.{passes, is_count, is_semicolon, IsCounted, HasNoCounted}
+use Rattle.charref.specs.Front.{is_semicolon}
 use Rattle.charref.proofs.Extending.{follows, ends, closes, continues}
 
 pub told : (byte : ℕ) → byte < 256 → nat_eq (slice_index ALPHANUMERICS byte) 1 ≡ is_alphanumeric byte
@@ -106,14 +99,6 @@ closed_counted bytes end some run close counted = record { within = passes_withi
         let name : is_key_name (take (suc (suc end)) (d ∷ ds)) ≡ true = by (d ∷ ds) (suc end) (omega arith) (and_parts (is_alphanumeric c) _ run).1 close in
         and_from (is_alphanumeric c) _ (and_parts (is_alphanumeric c) _ run).0 (goes_on d (take (suc end) ds) name)
 
--- an `&` before a name makes it a key
-pub key_counted : (name : List ℕ) (size : ℕ) → IsCounted is_key_name name size → IsCounted is_key (38 ∷ name) (size + 1)
-key_counted name size is = subst (λ n. IsCounted is_key (38 ∷ name) n) (let e : suc size ≡ size + 1 = omega arith in e) (record { within = (let less : size < length name = is.within in omega arith); passing = is.passing; counted = is.counted })
-
 pub no_key : (name : List ℕ) → HasNoCounted is_key_name name → HasNoCounted is_key (38 ∷ name)
 no_key name none [] rest count is counts same = true≢false (sym is)
 no_key name none (c ∷ cs) rest count is counts same = none cs rest count (and_parts _ _ is).1 counts (let tail : name ≡ cs ++ count ∷ rest = cc in tail)
-
-pub no_ampersand : (first : ℕ) (bytes : List ℕ) → (first ≡ 38 → ⊥) → HasNoCounted is_key (first ∷ bytes)
-no_ampersand first bytes other [] rest count is counts same = true≢false (sym is)
-no_ampersand first bytes other (c ∷ cs) rest count is counts same = other (let head : first ≡ c = cc in head ∙ (let t : (c == 38) ≡ true = (and_parts _ _ is).0 in grind (arith, nat_tests)))

@@ -1,17 +1,11 @@
 -- The index of the bytes after the `&`.
-use Rattle.std.proofs.Common.{arith, ◌≡◌, inl, inr, ℕ, ◌+◌, ◌≤◌, ◌<◌, Bool, true, false, nat_lt, List, [], ◌∷◌, ◌++◌, length, slice_get, get_or, Option, Some, None, IfSome, nat_le, refl, sym, ap, ◌∙◌, subst, length-append}
-use Rattle.std.proofs.lemmas.Bool.{and_from}
-use Rattle.std.proofs.lemmas.Bool.Decides.{nat_tests}
+use Rattle.charref.proofs.Names.{arith, ◌≡◌, inl, inr, ℕ, ◌+◌, ◌≤◌, ◌<◌, Bool, true, false, nat_lt, List, [], ◌∷◌, ◌++◌, length, slice_get, get_or, Option, Some, None, nat_le, refl, sym, ap, ◌∙◌, subst, length-append, and_from, nat_tests, slice_get_within, slice_get-get_or, get_or_from_slice_get, Search, Entry, Entities, code_at, IsSortedTable, IsRange, IsRising, IsStart, IsIndex, HasRead}
+use Rattle.std.proofs.Common.{IfSome}
 use Rattle.std.proofs.lemmas.List.{get_or_append_left, get_or-append-add}
-use Rattle.std.proofs.lemmas.Option.{slice_get_within, slice_get_cases, slice_get-get_or, get_or_from_slice_get}
-use Rattle.charref.specs.declared.search.Search.{Search}
-use Rattle.charref.specs.Reference.{Entry, Entities}
-use Rattle.charref.specs.Table.{code_at, IsSortedTable, IsRange, IsRising, IsStart, IsIndex, HasRead, is_place, is_search_within}
+use Rattle.std.proofs.lemmas.Option.{slice_get_cases}
+use Rattle.charref.specs.Table.{is_place, is_search_within}
 use Rattle.charref.proofs.Ranges.{range_rises, range_more}
 use Rattle.charref.proofs.Searching.{read_ampersand}
-
-pub no_starts : (table : Entities) → IsIndex table [] 0
-no_starts table = record { size = refl; at = λ code place got. absurd (cc) }
 
 -- one start more
 pub start_more : (table : Entities) (starts : List ℕ) (count place : ℕ) → IsIndex table starts count → IsStart table place count → IsIndex table (starts ++ place ∷ []) (count + 1)

@@ -1,7 +1,5 @@
 -- What of the text that a walk has taken may be read again.
-use Rattle.std.proofs.Common.{arith, ◌≡◌, ℕ, ◌+◌, ◌-◌, ◌≤◌, Bool, true, false, cond, List, [], length, drop, refl, sym, ap, ◌∙◌}
-use Rattle.names.specs.declared.placed.Placed.{Placed}
-use Rattle.charref.specs.declared.reference_state.ReferenceState.{ReferenceState}
+use Rattle.charref.proofs.Names.{arith, ◌≡◌, ℕ, ◌+◌, ◌-◌, ◌≤◌, Bool, true, false, cond, List, [], length, drop, refl, sym, ap, ◌∙◌, Placed, ReferenceState}
 use Rattle.charref.specs.Held.{is_number, kept}
 use Rattle.charref.proofs.Telling.{drop-all}
 

@@ -1,14 +1,8 @@
 -- Keys and the texts of characters, read from the left.
-use Rattle.std.proofs.Common.{arith, ◌≡◌, ℕ, zero, suc, ◌+◌, ◌≤◌, ◌<◌, Bool, true, false, ◌||◌, nat_eq, bytes_eq, codes, List, [], ◌∷◌, ◌++◌, length, take, drop, get_or, None, encode_utf8_all, refl, sym, ap, ◌∙◌, subst, append_assoc}
+use Rattle.charref.proofs.Names.{arith, ◌≡◌, ℕ, zero, suc, ◌+◌, ◌≤◌, ◌<◌, Bool, true, false, ◌||◌, nat_eq, bytes_eq, codes, List, [], ◌∷◌, ◌++◌, length, take, drop, get_or, None, encode_utf8_all, refl, sym, ap, ◌∙◌, subst, append_assoc, take_more, append-nil, nat_tests, is_alphanumeric, Value, is_key_name, is_empty_list, codepoints}
 use Rattle.std.specs.Char.{encode_utf8}
-use Rattle.std.proofs.lemmas.List.{take_more, append-nil}
 use Rattle.std.proofs.Math.Seq.{drop-cons}
-use Rattle.std.proofs.lemmas.Bool.Decides.{nat_tests}
-use Rattle.names.specs.Placed.{is_alphanumeric}
-use Rattle.serde_json.specs.declared.value.Value.{Value}
 use Rattle.serde_json.specs.View.{items_view}
-use Rattle.charref.specs.Reference.{is_key_name, is_empty_list}
-use Rattle.charref.specs.Reading.{codepoints}
 
 -- what may follow a character of a name
 abbrev pub goes_on : List ℕ → Bool

@@ -1,14 +1,8 @@
 -- Keys that begin with some bytes, in a list whose keys are in order.
-use Rattle.std.proofs.Common.{arith, ◌≡◌, ℕ, zero, suc, ◌+◌, ◌≤◌, ◌<◌, ◌⊎◌, inl, inr, Bool, true, false, true≢false, ◌&&◌, nat_eq, nat_lt, cond, List, [], ◌∷◌, ◌++◌, map, length, slice_get, Option, Some, None, Less, Equal, Greater, refl, sym, ap, ◌∙◌, subst, length-append}
-use Rattle.std.proofs.lemmas.Bool.{and_parts, and_from}
-use Rattle.std.proofs.lemmas.Bool.Decides.{nat_tests}
-use Rattle.std.specs.Cmp.{nat_cmp_is}
-use Rattle.std.specs.Cmp.Lexicographic.{slice_cmp}
-use Rattle.std.specs.Ordering.{nat_cmp, ordering_then}
-use Rattle.std.specs.List.{starts_with, AllByRecursion}
+use Rattle.charref.proofs.Names.{arith, ◌≡◌, ℕ, zero, suc, ◌+◌, ◌≤◌, ◌<◌, ◌⊎◌, inl, inr, Bool, true, false, true≢false, ◌&&◌, nat_eq, nat_lt, cond, List, [], ◌∷◌, ◌++◌, map, length, slice_get, Option, Some, None, Less, Equal, Greater, refl, sym, ap, ◌∙◌, subst, length-append, and_parts, and_from, nat_tests, slice_cmp, nat_cmp, starts_with, AllByRecursion, Entry, Entities, longest, longer, code_at, IsOver}
 use Rattle.std.specs.List.Sorted.{IsStrictlySortedBy}
-use Rattle.charref.specs.Reference.{Entry, Entities, longest, longer}
-use Rattle.charref.specs.Table.{code_at, IsOver}
+use Rattle.std.specs.Cmp.{nat_cmp_is}
+use Rattle.std.specs.Ordering.{ordering_then}
 
 nat_same : (x y : ℕ) → nat_eq x y ≡ true → x ≡ y
 nat_same x y h = grind (arith, nat_tests)
@@ -87,9 +81,6 @@ in_order (x ∷ xs) sorted zero (suc k) e f p q h =
 in_order (x ∷ xs) sorted (suc j) (suc k) e f p q h = in_order xs sorted.1 j k e f p q (omega arith)
 
 -- THE LONGEST KEY
-
-pub refuses_true : {b : Bool} → b ≡ true → b ≡ false → ⊥
-refuses_true p q = true≢false (sym p ∙ q)
 
 -- a text begins with itself
 pub begins_itself : (xs : List ℕ) → starts_with nat_eq xs xs ≡ true

@@ -1,25 +1,17 @@
 -- The members of an object, one after another.
-use Rattle.std.proofs.Common.{◌≡◌, inl, ℕ, Bool, true, false, true≢false, not, ◌&&◌, cond, bytes_eq, List, [], ◌∷◌, ◌++◌, map, Option, Some, None, option_map, option_and_then, encode_utf8_all, Result, Ok, Err, String, Global, string_bytes, Less, refl, sym, ap, ◌∙◌, subst, append_assoc}
-use Rattle.std.proofs.lemmas.Bool.{and_parts, and_from}
+use Rattle.charref.proofs.Names.{◌≡◌, inl, ℕ, Bool, true, false, true≢false, not, ◌&&◌, cond, bytes_eq, List, [], ◌∷◌, ◌++◌, map, Option, Some, None, option_map, encode_utf8_all, Result, Ok, Err, string_bytes, Less, refl, sym, ap, ◌∙◌, subst, append_assoc, and_parts, and_from, list_all, AllByRecursion, slice_cmp, nat_cmp, TableFault, view, members_view, Value, Entry, Entities, is_key, is_empty_list, is_character, codepoints, entry_of, entities_of, IsRefusedWith, Refusal, Memory, is_one_or_two, IsReadable}
+use Rattle.std.specs.List.Sorted.{IsStrictlySortedBy}
+use Rattle.std.specs.List.{IsDistinct}
+use Rattle.std.proofs.Common.{option_and_then, String, Global}
 use Rattle.std.proofs.lemmas.Map.Keys.{IsDistinct-from_sorted}
 use Rattle.std.proofs.lemmas.Map.Text.{is_eq-slice_cmp}
-use Rattle.std.specs.List.{list_all, AllByRecursion, IsDistinct}
-use Rattle.std.specs.List.Sorted.{IsStrictlySortedBy}
 use Rattle.std.specs.Map.{keys_of}
 use Rattle.std.specs.String.{string_cmp}
-use Rattle.std.specs.Cmp.Lexicographic.{slice_cmp}
-use Rattle.std.specs.Ordering.{nat_cmp, eq_by_cmp}
-use Rattle.names.specs.declared.refusal.TableFault.{TableFault}
+use Rattle.std.specs.Ordering.{eq_by_cmp}
 use Rattle.names.specs.declared.refusal.TableFault.TheVariants.{Key, Characters}
 use Rattle.serde_json.specs.Data.{Data, Items, no_items, item}
 use Rattle.serde_json.specs.Find.{as_number, as_u64}
-use Rattle.serde_json.specs.View.{view, members_view}
-use Rattle.serde_json.specs.declared.value.Value.{Value}
-use Rattle.charref.specs.Reference.{Entry, Entities, is_key, is_empty_list}
-use Rattle.charref.specs.Reading.{is_character, codepoint, codepoints, fields, entry_of, entry_of_characters, entry_of_fields, entities_of, and_then, IsRefusedWith}
-use Rattle.names.specs.declared.refusal.Refusal.{Refusal}
-use Rattle.names.specs.declared.refusal.Refusal.TheVariants.{Memory}
-use Rattle.charref.specs.Flat.{is_one_or_two, IsReadable}
+use Rattle.charref.specs.Reading.{codepoint, fields, entry_of_characters, entry_of_fields, and_then}
 
 abbrev pub Pair : Type 0
 Pair = String Global × Value

@@ -1,21 +1,8 @@
 -- Numbers, digit by digit.
-use Rattle.std.proofs.Common.{arith, ◌≡◌, ◌⊎◌, inl, inr, ℕ, zero, suc, ◌+◌, ◌-◌, ◌*◌, ◌≤◌, ◌<◌, min, Bool, true, false, not, ◌&&◌, ◌||◌, ◌==◌, nat_eq, nat_lt, nat_le, List, [], ◌∷◌, ◌++◌, map, length, take, drop, Some, None, option_to_list, refl, sym, ap, ◌∙◌, append_assoc, length-append}
-use Rattle.std.proofs.lemmas.List.{append-nil}
-use Rattle.std.proofs.lemmas.Bool.{and_parts, and_from}
-use Rattle.std.proofs.lemmas.Bool.Decides.{nat_tests}
-use Rattle.std.specs.Char.{to_ascii_lowercase}
-use Rattle.names.proofs.Words.{all-one, begins-append}
-use Rattle.names.specs.declared.placed.Placed.{Placed}
-use Rattle.names.specs.declared.error.ErrorCode.TheVariants.{AbsenceOfDigitsInNumericCharacterReference, MissingSemicolonAfterCharacterReference}
-use Rattle.names.specs.Placed.{begins, stops, all, is_empty, is_digit, is_alphanumeric, error, error_if}
-use Rattle.charref.specs.declared.number.Base.{Base}
-use Rattle.charref.specs.declared.number.Base.TheVariants.{Decimal, Hexadecimal}
-use Rattle.charref.specs.declared.reference.Characters.TheVariants.{One}
-use Rattle.charref.specs.declared.reference_state.ReferenceState.TheVariants.{NumberSign, HexadecimalSign, Number}
-use Rattle.charref.specs.Reference.{Entities, is_hex_digit, digit_value, number_from, begins_number, numbered, number_fault, is_semicolon_if_any, IsReference, decimal, hexadecimal, no_digits, alone}
-use Rattle.charref.specs.Number.{is_digit_of, radix}
-use Rattle.charref.specs.Held.{IsSign, number_sign, small_x, capital_x, IsHeld, after_sign, after_x, in_number}
-use Rattle.charref.specs.Pieces.{IsRead, errors_of, number_of}
+use Rattle.charref.proofs.Names.{arith, ◌≡◌, ◌⊎◌, inl, inr, ℕ, zero, suc, ◌+◌, ◌-◌, ◌*◌, ◌≤◌, ◌<◌, min, Bool, true, false, not, ◌&&◌, ◌||◌, ◌==◌, nat_eq, nat_lt, nat_le, List, [], ◌∷◌, ◌++◌, map, length, take, drop, Some, None, refl, sym, ap, ◌∙◌, append_assoc, length-append, append-nil, and_parts, and_from, nat_tests, to_ascii_lowercase, all-one, begins-append, Placed, AbsenceOfDigitsInNumericCharacterReference, MissingSemicolonAfterCharacterReference, begins, stops, all, is_empty, is_digit, is_alphanumeric, error, error_if, Base, Decimal, Hexadecimal, One, NumberSign, HexadecimalSign, Number, Entities, is_hex_digit, digit_value, begins_number, is_semicolon_if_any, IsReference, decimal, hexadecimal, no_digits, alone, is_digit_of, radix, IsSign, number_sign, IsHeld, after_sign, after_x, in_number, IsRead, errors_of, number_of}
+use Rattle.std.proofs.Common.{option_to_list}
+use Rattle.charref.specs.Reference.{number_from, numbered, number_fault}
+use Rattle.charref.specs.Held.{small_x, capital_x}
 use Rattle.charref.proofs.Naming.{drop-seam}
 use Rattle.charref.proofs.Telling.{no_run, read_text, drop-all}
 

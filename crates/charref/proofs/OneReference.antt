@@ -1,15 +1,8 @@
 -- A text has one reference at most at its front: the one that a function with a case for each production reads.
-use Rattle.std.proofs.Common.{arith, ◌≡◌, ℕ, ◌+◌, ◌-◌, Bool, true, false, not, ◌&&◌, ◌||◌, ◌==◌, cond, nat_lt, List, [], ◌∷◌, ◌++◌, length, take, drop, Option, Some, None, refl, sym, ap, ◌∙◌, subst, append_assoc, codes}
-use Rattle.std.proofs.lemmas.Bool.{and_parts, false≢true}
-use Rattle.std.proofs.lemmas.Bool.Decides.{nat_tests}
-use Rattle.std.proofs.lemmas.List.{length-map}
+use Rattle.charref.proofs.Names.{arith, ◌≡◌, ℕ, ◌+◌, ◌-◌, Bool, true, false, not, ◌&&◌, ◌||◌, ◌==◌, cond, nat_lt, List, [], ◌∷◌, ◌++◌, length, take, drop, Option, Some, None, refl, sym, ap, ◌∙◌, subst, append_assoc, codes, and_parts, false≢true, nat_tests, length-map, to_ascii_lowercase, begins-append, Placed, UnknownNamedCharacterReference, AbsenceOfDigitsInNumericCharacterReference, characters, begins, stops, all, past, is_digit, is_alphanumeric, error, error_if, Entry, Entities, Piece, longest, is_kept, is_hex_digit, begins_number, is_semicolon_if_any, named_piece, IsReference, named, kept, unknown, decimal, hexadecimal, no_digits, alone}
 use Rattle.std.proofs.Math.Seq.{drop-append_seam, take-append_seam}
-use Rattle.std.specs.Char.{to_ascii_lowercase}
-use Rattle.names.proofs.Words.{begins-append}
-use Rattle.names.specs.declared.placed.Placed.{Placed}
-use Rattle.names.specs.declared.error.ErrorCode.TheVariants.{UnknownNamedCharacterReference, AbsenceOfDigitsInNumericCharacterReference}
-use Rattle.names.specs.Placed.{characters, lowered, begins, stops, all, past, RunsTo, is_digit, is_alphanumeric, error, error_if}
-use Rattle.charref.specs.Reference.{Entry, Entities, Piece, longest, is_kept, is_hex_digit, begins_number, is_semicolon_if_any, ampersand, named_piece, numeric_piece, IsReference, named, kept, unknown, decimal, hexadecimal, no_digits, alone}
+use Rattle.names.specs.Placed.{lowered, RunsTo}
+use Rattle.charref.specs.Reference.{ampersand, numeric_piece}
 
 -- a run of characters that pass, and what follows it
 abbrev pub run : (ℕ → Bool) → List Placed → List Placed

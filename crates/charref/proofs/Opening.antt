@@ -1,22 +1,5 @@
 -- A walk outside of a value goes on only while what it has taken may become a reference.
-use Rattle.std.proofs.Common.{arith, ◌≡◌, ℕ, ◌-◌, ◌<◌, true, false, nat_eq, List, [], ◌∷◌, ◌++◌, map, length, drop, Some, refl, sym, ap, ◌∙◌, append_assoc}
-use Rattle.std.proofs.lemmas.List.{append-nil, map-append, take-append-drop}
-use Rattle.std.proofs.lemmas.Bool.{and_parts}
-use Rattle.std.proofs.lemmas.Option.{slice_get_within, get_or_from_slice_get}
-use Rattle.std.specs.List.{starts_with}
-use Rattle.names.specs.declared.placed.Placed.{Placed}
-use Rattle.names.specs.Placed.{characters, all, is_empty, is_alphanumeric}
-use Rattle.charref.specs.declared.number.Base.{Base}
-use Rattle.charref.specs.declared.number.Base.TheVariants.{Decimal, Hexadecimal}
-use Rattle.charref.specs.declared.reference_state.ReferenceState.{ReferenceState}
-use Rattle.charref.specs.declared.reference_state.ReferenceState.TheVariants.{NumberSign, Number}
-use Rattle.charref.specs.declared.walk.Walk.{Walk}
-use Rattle.charref.specs.Reference.{Entry, Entities, IsTable, longest, named, named_piece}
-use Rattle.charref.specs.Table.{GoesOn}
-use Rattle.charref.specs.Held.{key_bytes, IsSign, IsHeld, in_name, after_sign, after_x, in_number}
-use Rattle.charref.specs.Open.{IsOpen}
-use Rattle.charref.specs.Pieces.{IsRead, number_of}
-use Rattle.charref.specs.Walk.{HasTaken}
+use Rattle.charref.proofs.Names.{arith, ◌≡◌, ℕ, ◌-◌, ◌<◌, true, false, nat_eq, List, [], ◌∷◌, ◌++◌, map, length, drop, Some, refl, sym, ap, ◌∙◌, append_assoc, append-nil, map-append, take-append-drop, and_parts, slice_get_within, get_or_from_slice_get, starts_with, Placed, characters, all, is_empty, is_alphanumeric, Base, Decimal, Hexadecimal, ReferenceState, NumberSign, Number, Walk, Entry, Entities, IsTable, longest, named, named_piece, GoesOn, key_bytes, IsSign, IsHeld, in_name, after_sign, after_x, in_number, IsOpen, IsRead, number_of, HasTaken}
 use Rattle.charref.proofs.Core.{has_found}
 use Rattle.charref.proofs.Naming.{key_of}
 use Rattle.charref.proofs.Numbers.{one_number_sign, first_digit, number_closed, take-all}

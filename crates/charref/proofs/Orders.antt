@@ -1,9 +1,8 @@
 -- Keys in order, one after another.
-use Rattle.std.proofs.Common.{arith, ◌≡◌, ℕ, zero, suc, ◌≤◌, ◌<◌, true, false, List, [], ◌∷◌, ◌++◌, length, drop, is_lt, nat_cmp, Less, refl, ap, ◌∙◌}
-use Rattle.std.proofs.lemmas.Cmp.{nat_list_cmp_total}
-use Rattle.std.specs.Cmp.Lexicographic.{slice_cmp}
-use Rattle.std.specs.List.{AllByRecursion}
+use Rattle.charref.proofs.Names.{arith, ◌≡◌, ℕ, zero, suc, ◌≤◌, ◌<◌, true, false, List, [], ◌∷◌, ◌++◌, length, drop, is_lt, Less, refl, ap, ◌∙◌, slice_cmp, AllByRecursion}
 use Rattle.std.specs.List.Sorted.{IsStrictlySortedBy}
+use Rattle.std.proofs.Common.{nat_cmp}
+use Rattle.std.proofs.lemmas.Cmp.{nat_list_cmp_total}
 
 -- the beginning of a longer key is before it; no key is before its own beginning
 pub shorter_before : (a b : List ℕ) (n : ℕ) → n ≡ length a → n < length b → is_lt (slice_cmp nat_cmp (drop n a) (drop n b)) ≡ true

@@ -1,16 +1,6 @@
 -- The range of the keys that begin with what was read, and how a byte narrows it.
-use Rattle.std.proofs.Common.{arith, ◌≡◌, ℕ, ◌+◌, ◌≤◌, ◌<◌, Bool, true, false, ◌&&◌, nat_eq, nat_lt, nat_le, List, [], ◌∷◌, ◌++◌, length, slice_get, get_or, Option, Some, None, option_map, Less, refl, sym, ap, ◌∙◌, subst}
-use Rattle.std.proofs.lemmas.Bool.{and_parts, and_from}
-use Rattle.std.proofs.lemmas.Bool.Decides.{nat_tests}
-use Rattle.std.proofs.lemmas.Option.{slice_get-map, slice_get-get_or, slice_get_within}
-use Rattle.std.proofs.lemmas.List.{length-map}
-use Rattle.std.specs.Cmp.Lexicographic.{slice_cmp}
-use Rattle.std.specs.Ordering.{nat_cmp}
-use Rattle.std.specs.List.{starts_with}
-use Rattle.names.proofs.Words.{some_same}
-use Rattle.charref.specs.declared.entity.Entity.{Entity}
-use Rattle.charref.specs.Reference.{Entry, Entities}
-use Rattle.charref.specs.Table.{entry, entries, code_at, IsSortedTable, IsRange, IsRising, IsParted, IsOver}
+use Rattle.charref.proofs.Names.{arith, ◌≡◌, ℕ, ◌+◌, ◌≤◌, ◌<◌, Bool, true, false, ◌&&◌, nat_eq, nat_lt, nat_le, List, [], ◌∷◌, ◌++◌, length, slice_get, get_or, Option, Some, None, option_map, Less, refl, sym, ap, ◌∙◌, subst, and_parts, and_from, nat_tests, slice_get-get_or, slice_get_within, length-map, slice_cmp, nat_cmp, starts_with, some_same, Entity, Entry, Entities, entry, entries, code_at, IsSortedTable, IsRange, IsRising, IsParted, IsOver}
+use Rattle.std.proofs.lemmas.Option.{slice_get-map}
 use Rattle.charref.proofs.Keys.{code_at-le, starts_with-more, begins_later, in_order, begins_itself, IsOnly}
 
 -- what a slice of entities has at a place

@@ -1,19 +1,10 @@
 -- Reading a flat form, entry by entry.
-use Rattle.std.proofs.Common.{arith, ◌≡◌, ℕ, zero, suc, ◌+◌, ◌-◌, ◌*◌, ◌≤◌, ◌<◌, Bool, true, false, true≢false, ◌&&◌, nat_le, List, [], ◌∷◌, ◌++◌, map, length, take, drop, slice_get, get_or, is_lt, nat_cmp, Ordering, Less, Equal, Greater, refl, sym, ap, ◌∙◌, subst, append_assoc}
-use Rattle.std.proofs.lemmas.Bool.{and_parts, and_from}
-use Rattle.std.proofs.lemmas.Bool.Decides.{nat_tests}
-use Rattle.std.proofs.lemmas.List.{append-nil, take-append-drop, take_rest, drop-drop, drop_all, drop_more, length-drop, map-append}
-use Rattle.std.proofs.lemmas.List.Folds.{list_all-append}
-use Rattle.std.specs.Cmp.Lexicographic.{slice_cmp}
-use Rattle.std.specs.List.{list_all, flat_map}
+use Rattle.charref.proofs.Names.{arith, ◌≡◌, ℕ, zero, suc, ◌+◌, ◌-◌, ◌*◌, ◌≤◌, ◌<◌, Bool, true, false, true≢false, ◌&&◌, nat_le, List, [], ◌∷◌, ◌++◌, map, length, take, drop, slice_get, get_or, is_lt, Less, Equal, Greater, refl, sym, ap, ◌∙◌, subst, append_assoc, and_parts, and_from, nat_tests, append-nil, take-append-drop, take_rest, drop-drop, length-drop, map-append, slice_cmp, list_all, flat_map, Entity, Characters, characters_of, Entry, Entities, is_key, is_character, key_at, entry, entries, is_one_or_two, flat_character, flat_characters, flat_entry, flat_of, IsReadable, passes, is_count, BeginsWith, BeginsWithNone, IsCounted, HasNoCounted, IsEntryAt, is_entry}
 use Rattle.std.specs.List.Sorted.{IsStrictlySortedBy}
-use Rattle.charref.specs.declared.entity.Entity.{Entity}
-use Rattle.charref.specs.declared.entity.OneOrTwo.{OneOrTwo}
-use Rattle.charref.specs.Reference.{Entry, Entities, is_key}
-use Rattle.charref.specs.Reading.{is_character}
-use Rattle.charref.specs.Table.{key_at, is_inside, stands_for, entry, entries}
-use Rattle.charref.specs.Flat.{is_one_or_two, flat_character, flat_characters, flat_entry, flat_of, IsReadable}
-use Rattle.charref.specs.Front.{passes, is_count, BeginsWith, BeginsWithNone, IsCounted, HasNoCounted, IsEntryAt, is_entry}
+use Rattle.std.proofs.Common.{nat_cmp, Ordering}
+use Rattle.std.proofs.lemmas.List.{drop_all, drop_more}
+use Rattle.std.proofs.lemmas.List.Folds.{list_all-append}
+use Rattle.charref.specs.Table.{is_inside}
 use Rattle.charref.proofs.Members.{readable_from_parts}
 use Rattle.charref.proofs.Orders.{last_key, last_key-more, sorted_more, last_below}
 use Rattle.charref.proofs.Forms.{flat_more, counted, key_past, same_key, same_entries, entry_split, are_entries, Rest, rest_of, tail_of}
@@ -56,8 +47,8 @@ no_entry_characters bytes n key none e rest is same =
     at.3 (counted e.stands_for (and_parts (is_key e.key) _ is).1) (ap (λ bs. take n bytes ++ bs) (sym at.2) ∙ take-append-drop n bytes ∙ same ∙ entry_split e rest) in
     none e.stands_for rest (and_parts (is_key e.key) _ is).1 (at.2 ∙ parts.1)
 
-pub entry_stands : (text : List ℕ) (start n : ℕ) (cs : OneOrTwo) → start ≤ length text → IsCounted is_key (drop start text) n → is_one_or_two (stands_for cs) ≡ true
-    → BeginsWith (flat_characters (stands_for cs)) (drop (start + n) text) (1 + 4 * length (stands_for cs)) → IsEntryAt text start (record { start = start; end = start + n; characters = cs }) (start + n + 1 + 4 * length (stands_for cs))
+pub entry_stands : (text : List ℕ) (start n : ℕ) (cs : Characters) → start ≤ length text → IsCounted is_key (drop start text) n → is_one_or_two (characters_of cs) ≡ true
+    → BeginsWith (flat_characters (characters_of cs)) (drop (start + n) text) (1 + 4 * length (characters_of cs)) → IsEntryAt text start (record { start = start; end = start + n; characters = cs }) (start + n + 1 + 4 * length (characters_of cs))
 entry_stands text start n cs within key ones chars =
     let left : length (drop start text) ≡ length text - start = length-drop start text in
     let less : n < length (drop start text) = key.within in
@@ -66,18 +57,18 @@ entry_stands text start n cs within key ones chars =
     let size : start + n - start ≡ n = omega arith in
     let d : Entity = record { start = start; end = start + n; characters = cs } in
     let key-is : key_at text d ≡ take n (drop start text) = ap (λ k. take k (drop start text)) size in
-    let count : ℕ = 1 + 4 * length (stands_for cs) in
-    let end-is : start + n + count ≡ start + n + 1 + 4 * length (stands_for cs) = omega arith in
+    let count : ℕ = 1 + 4 * length (characters_of cs) in
+    let end-is : start + n + count ≡ start + n + 1 + 4 * length (characters_of cs) = omega arith in
     let room : length (drop (start + n) text) ≡ length text - (start + n) = length-drop (start + n) text in
-    let fits : 1 + 4 * length (stands_for cs) ≤ length (drop (start + n) text) = chars.within in
+    let fits : 1 + 4 * length (characters_of cs) ≤ length (drop (start + n) text) = chars.within in
     record {
       passing = and_from (is_key (key_at text d)) _ (ap is_key key-is ∙ key.passing) ones;
       inside = and_from (nat_le start (start + n)) (nat_le (start + n) (length text)) first last;
       some = omega arith;
       within = omega arith;
-      is = sym (take-append-drop n (drop start text)) ∙ ap (λ bs. take n (drop start text) ++ bs) (drop-drop n start text ∙ chars.is ∙ ap (λ bs. flat_characters (stands_for cs) ++ bs) (drop-drop count (start + n) text ∙ ap (λ k. drop k text) end-is))
-          ∙ sym (append_assoc (take n (drop start text)) (flat_characters (stands_for cs)) (drop (start + n + 1 + 4 * length (stands_for cs)) text))
-          ∙ ap (λ k. (k ++ flat_characters (stands_for cs)) ++ drop (start + n + 1 + 4 * length (stands_for cs)) text) (sym key-is);
+      is = sym (take-append-drop n (drop start text)) ∙ ap (λ bs. take n (drop start text) ++ bs) (drop-drop n start text ∙ chars.is ∙ ap (λ bs. flat_characters (characters_of cs) ++ bs) (drop-drop count (start + n) text ∙ ap (λ k. drop k text) end-is))
+          ∙ sym (append_assoc (take n (drop start text)) (flat_characters (characters_of cs)) (drop (start + n + 1 + 4 * length (characters_of cs)) text))
+          ∙ ap (λ k. (k ++ flat_characters (characters_of cs)) ++ drop (start + n + 1 + 4 * length (characters_of cs)) text) (sym key-is);
     }
 
 -- TABLES
@@ -144,10 +135,6 @@ whole_read text es last start was end = sym (was.is ∙ ap (λ bs. flat_of (entr
 -- No readable table has this flat form.
 abbrev pub HasNoTable : List ℕ → Type 0
 HasNoTable bytes = (table : Entities) → IsReadable table → flat_of table ≡ bytes → ⊥
-
-pub no_version : (text : List ℕ) → (1 ≤ length text → get_or text 0 0 ≡ 1 → ⊥) → HasNoTable text
-no_version text other table readable is =
-    other (let size : length (flat_of table) ≡ length text = ap length is in omega arith) (sym (ap (λ bs. get_or bs 0 0) is))
 
 others : (text : List ℕ) (es : List Entity) (last : List ℕ) (start : ℕ) (table : Entities) → HasReadTo text es last start → IsReadable table → flat_of table ≡ text → Rest (entries text es) table (drop start text)
 others text es last start table was readable is = rest_of (entries text es) table (drop start text) (are_entries (entries text es) was.readable) (are_entries table readable) (tail_of 1 _ _ (is ∙ was.is))

@@ -1,13 +1,5 @@
 -- A search, byte by byte.
-use Rattle.std.proofs.Common.{arith, ◌≡◌, ℕ, ◌+◌, ◌-◌, ◌≤◌, ◌<◌, ◌==◌, true, false, true≢false, nat_eq, cond, List, [], ◌∷◌, ◌++◌, length, slice_get, Option, Some, None, refl, sym, ap, ◌∙◌, subst, length-append}
-use Rattle.std.proofs.lemmas.Bool.{and_parts}
-use Rattle.std.proofs.lemmas.Bool.Decides.{nat_tests}
-use Rattle.std.proofs.lemmas.Option.{slice_get_within}
-use Rattle.std.specs.List.{starts_with, list_all}
-use Rattle.names.proofs.Words.{some_same}
-use Rattle.charref.specs.declared.search.Search.{Search}
-use Rattle.charref.specs.Reference.{Entry, Entities, longest, longer, is_key}
-use Rattle.charref.specs.Table.{best_entry, IsSortedTable, IsRange, IsRising, IsParted, IsOver, GoesOn, HasRead}
+use Rattle.charref.proofs.Names.{arith, ◌≡◌, ℕ, ◌+◌, ◌-◌, ◌≤◌, ◌<◌, ◌==◌, true, false, true≢false, nat_eq, cond, List, [], ◌∷◌, ◌++◌, length, slice_get, Option, Some, None, refl, sym, ap, ◌∙◌, subst, length-append, and_parts, nat_tests, slice_get_within, starts_with, list_all, some_same, Search, Entry, Entities, longest, longer, is_key, best_entry, IsSortedTable, IsRange, IsRising, IsParted, IsOver, GoesOn, HasRead}
 use Rattle.charref.proofs.Keys.{whole, no_longer, begins_itself, longest-whole, longest-more, longest-over}
 use Rattle.charref.proofs.Naming.{is_key_of}
 use Rattle.charref.proofs.Ranges.{range_rises, rises_later, range_more, range_over, only_first, within, inside}

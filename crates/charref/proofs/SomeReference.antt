@@ -1,12 +1,5 @@
 -- Each text that begins with `&` begins with a reference.
-use Rattle.std.proofs.Common.{arith, ◌≡◌, ℕ, zero, suc, ◌-◌, ◌≤◌, Bool, true, false, not, ◌&&◌, ◌||◌, ◌==◌, cond, List, [], ◌∷◌, ◌++◌, length, take, drop, Option, Some, None, refl, sym, ap, ◌∙◌, subst, append_assoc}
-use Rattle.std.proofs.lemmas.Bool.{and_parts, false≢true}
-use Rattle.std.proofs.lemmas.Bool.Decides.{nat_tests}
-use Rattle.std.proofs.lemmas.List.{take-append-drop}
-use Rattle.std.specs.Char.{to_ascii_lowercase}
-use Rattle.names.specs.declared.placed.Placed.{Placed}
-use Rattle.names.specs.Placed.{characters, begins, stops, all, is_digit, is_alphanumeric}
-use Rattle.charref.specs.Reference.{Entry, Entities, IsTable, longest, is_kept, is_hex_digit, begins_number, is_semicolon_if_any, named, kept, unknown, decimal, hexadecimal, no_digits, alone}
+use Rattle.charref.proofs.Names.{arith, ◌≡◌, ℕ, zero, suc, ◌-◌, ◌≤◌, Bool, true, false, not, ◌&&◌, ◌||◌, ◌==◌, cond, List, [], ◌∷◌, ◌++◌, length, take, drop, Option, Some, None, refl, sym, ap, ◌∙◌, subst, append_assoc, and_parts, false≢true, nat_tests, take-append-drop, to_ascii_lowercase, Placed, characters, begins, stops, all, is_digit, is_alphanumeric, Entry, Entities, IsTable, longest, is_kept, is_hex_digit, begins_number, is_semicolon_if_any, named, kept, unknown, decimal, hexadecimal, no_digits, alone}
 use Rattle.charref.specs.Open.{HasReference}
 use Rattle.charref.proofs.Core.{longest_among}
 use Rattle.charref.proofs.Naming.{key_of, take-map, is_key_of, key_opens}

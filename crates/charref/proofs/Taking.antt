@@ -1,16 +1,5 @@
 -- A walk and what it has been handed.
-use Rattle.std.proofs.Common.{◌≡◌, Bool, true, List, sym, subst}
-use Rattle.names.specs.declared.placed.Placed.{Placed}
-use Rattle.names.specs.Placed.{all, is_alphanumeric}
-use Rattle.charref.specs.declared.number.Base.TheVariants.{Decimal, Hexadecimal}
-use Rattle.charref.specs.declared.search.Search.{Search}
-use Rattle.charref.specs.declared.reference_state.ReferenceState.{ReferenceState}
-use Rattle.charref.specs.declared.reference_state.ReferenceState.TheVariants.{Name, NumberSign, HexadecimalSign}
-use Rattle.charref.specs.declared.walk.Walk.{Walk}
-use Rattle.charref.specs.Reference.{Entities}
-use Rattle.charref.specs.Table.{HasRead}
-use Rattle.charref.specs.Held.{key_bytes, IsSign, IsHeld, in_name, after_sign, after_x}
-use Rattle.charref.specs.Walk.{HasTaken}
+use Rattle.charref.proofs.Names.{◌≡◌, Bool, true, List, sym, subst, Placed, all, is_alphanumeric, Decimal, Hexadecimal, Search, ReferenceState, Name, NumberSign, HexadecimalSign, Walk, Entities, HasRead, key_bytes, IsSign, IsHeld, in_name, after_sign, after_x, HasTaken}
 
 pub held_name : (table : Entities) (in_value : Bool) (search : Search) (text : List Placed) → IsHeld table in_value (Name search) text → HasRead search table (key_bytes text) × (all is_alphanumeric text ≡ true)
 held_name table in_value _ _ (in_name search text read run goes) = (read, run)

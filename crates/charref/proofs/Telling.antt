@@ -1,22 +1,9 @@
 -- A reference that was reported, as the definition has it.
-use Rattle.std.proofs.Common.{arith, ◌≡◌, ℕ, zero, suc, ◌+◌, ◌-◌, ◌≤◌, ◌<◌, Bool, true, false, true≢false, not, ◌&&◌, ◌||◌, ◌==◌, cond, nat_eq, nat_lt, List, [], ◌∷◌, ◌++◌, length, take, drop, slice_get, Some, None, Bor, refl, sym, ap, ◌∙◌, subst, append_assoc, length-append}
-use Rattle.std.proofs.lemmas.List.{append-nil, map-append, length-map, take-append-drop}
-use Rattle.std.proofs.lemmas.Bool.{and_parts}
-use Rattle.std.proofs.lemmas.Bool.Decides.{nat_tests}
-use Rattle.std.specs.List.{starts_with}
-use Rattle.names.proofs.Words.{all-append, begins-append}
-use Rattle.names.specs.declared.placed.Placed.{Placed}
+use Rattle.charref.proofs.Names.{arith, ◌≡◌, ℕ, zero, suc, ◌+◌, ◌-◌, ◌≤◌, ◌<◌, Bool, true, false, true≢false, not, ◌&&◌, ◌||◌, ◌==◌, cond, nat_eq, nat_lt, List, [], ◌∷◌, ◌++◌, length, take, drop, slice_get, Some, None, refl, sym, ap, ◌∙◌, subst, append_assoc, length-append, append-nil, map-append, length-map, take-append-drop, and_parts, nat_tests, starts_with, begins-append, Placed, MissingSemicolonAfterCharacterReference, UnknownNamedCharacterReference, characters, begins, all, is_empty, past, is_alphanumeric, is_equals, error_if, Alphanumeric, Semicolon, Equals, Other, Reference, Characters, One, Entry, Entities, IsTable, longest, ends_in_semicolon, is_kept, IsReference, named, kept, unknown, key_bytes, IsSettled, last_of, is_kept_before, IsRead, characters_of, errors_of, unknown_of}
+use Rattle.names.proofs.Words.{all-append}
 use Rattle.names.specs.declared.error.ParseError.{ParseError}
-use Rattle.names.specs.declared.error.ErrorCode.TheVariants.{MissingSemicolonAfterCharacterReference, UnknownNamedCharacterReference}
-use Rattle.names.specs.Placed.{characters, begins, all, is_empty, past, is_alphanumeric, is_equals, error_if}
 use Rattle.charref.specs.declared.last.Last.{Last}
-use Rattle.charref.specs.declared.last.Last.TheVariants.{Alphanumeric, Semicolon, Equals, Other}
-use Rattle.charref.specs.declared.reference.Reference.{Reference}
-use Rattle.charref.specs.declared.reference.Characters.TheVariants.{Named, One}
-use Rattle.charref.specs.Reference.{Entry, Entities, IsTable, longest, ends_in_semicolon, is_kept, IsReference, named, kept, unknown}
-use Rattle.charref.specs.Held.{key_bytes}
-use Rattle.charref.specs.Last.{IsSettled, last_of, goes_on_name, is_kept_before}
-use Rattle.charref.specs.Pieces.{IsRead, characters_of, errors_of, unknown_of}
+use Rattle.charref.specs.Last.{goes_on_name}
 use Rattle.charref.proofs.Keys.{no_longer}
 use Rattle.charref.proofs.Core.{longest_among}
 use Rattle.charref.proofs.Naming.{key_of, take-map, past-run, begins-drop, drop-seam, drop-within, is_key_of, Opens, key_opens}
@@ -95,9 +82,9 @@ module _ (table : Entities) (in_value : Bool) (text after : List Placed) (is_tab
   no_more : (xs : List ParseError) → xs ++ [] ++ [] ≡ xs
   no_more xs = append-nil (xs ++ []) ∙ append-nil xs
 
-  pub read_named : (lent : Bor (List ℕ)) (left : ℕ) → lent.now ≡ e.stands_for → left ≡ length text - (length e.key - 1) → is_kept in_value e.key (drop (length e.key - 1) text ++ after) ≡ false
-      → IsRead table in_value text after (record { characters = Named lent; left = left; missing_semicolon = not (ends_in_semicolon e.key); fault = None; in_run = false })
-  read_named lent left stands left-is free =
+  pub read_named : (cs : Characters) (left : ℕ) → characters_of cs ≡ e.stands_for → left ≡ length text - (length e.key - 1) → is_kept in_value e.key (drop (length e.key - 1) text ++ after) ≡ false
+      → IsRead table in_value text after (record { characters = cs; left = left; missing_semicolon = not (ends_in_semicolon e.key); fault = None; in_run = false })
+  read_named cs left stands left-is free =
       let size : length e.key ≤ length text + 1 = most in
       let two : 2 ≤ length e.key = least in
       let belongs : length text - left ≡ length e.key - 1 = omega arith in

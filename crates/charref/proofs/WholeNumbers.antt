@@ -1,20 +1,6 @@
 -- A numeric reference that stands whole in a run of the input, outside a value.
-use Rattle.std.proofs.Common.{arith, ◌≡◌, ℕ, ◌+◌, ◌*◌, ◌≤◌, ◌<◌, min, Bool, true, false, nat_eq, List, [], ◌∷◌, ◌++◌, length, take, slice_get, get_or, Some, inl, inr, ◌⊎◌, refl, sym, ap, ◌∙◌, subst}
-use Rattle.std.proofs.lemmas.Bool.Decides.{nat_tests}
-use Rattle.std.specs.Char.{is_ascii}
-use Rattle.std.specs.List.{list_all}
-use Rattle.names.proofs.Words.{some_same}
-use Rattle.names.specs.declared.placed.Placed.{Placed}
-use Rattle.names.specs.Placed.{placed}
-use Rattle.charref.specs.declared.number.Base.{Base}
-use Rattle.charref.specs.declared.number.Base.TheVariants.{Decimal, Hexadecimal}
-use Rattle.charref.specs.declared.reference.Reference.{Reference}
-use Rattle.charref.specs.declared.reference_state.ReferenceState.TheVariants.{Number}
-use Rattle.charref.specs.Reference.{Entities, digit_value}
-use Rattle.charref.specs.Number.{is_digit_of, radix}
-use Rattle.charref.specs.Held.{IsHeld, IsSign, number_sign}
-use Rattle.charref.specs.Pieces.{IsRead, number_of}
-use Rattle.charref.specs.AtOnce.{HasSign, Settles}
+use Rattle.charref.proofs.Names.{arith, ◌≡◌, ℕ, ◌+◌, ◌*◌, ◌≤◌, ◌<◌, min, Bool, true, false, nat_eq, List, [], ◌∷◌, ◌++◌, length, take, slice_get, get_or, Some, inl, inr, ◌⊎◌, refl, sym, ap, ◌∙◌, subst, nat_tests, is_ascii, list_all, some_same, Placed, placed, Base, Decimal, Hexadecimal, Reference, Number, Entities, digit_value, is_digit_of, radix, IsHeld, IsSign, number_sign, IsRead, number_of, Settles}
+use Rattle.charref.specs.AtOnce.{HasSign}
 use Rattle.charref.proofs.Numbers.{two_signs, first_digit, next_digit, number_closed}
 use Rattle.charref.proofs.Taking.{held_x}
 use Rattle.charref.proofs.AtOnce.{Last, last_placed, more_bytes}
@@ -59,10 +45,6 @@ pub record HasDigits (base : Base) (bytes : List ℕ) (start count value : ℕ) 
   pub ascii : list_all is_ascii (take count bytes) ≡ true
   pub none : count ≡ start → value ≡ 0
   pub some : start < count → (table : Entities) (at : ℕ) → IsHeld table false (Number base value) (placed at (take count bytes))
-
-pub no_digits_yet : (base : Base) (bytes : List ℕ) (start : ℕ) → HasSign base bytes start → HasDigits base bytes start start 0
-no_digits_yet base bytes start sign =
-    record { after = omega arith; few = sign.few; small = omega arith; ascii = sign.ascii; none = λ same. refl; some = λ less. absurd (omega arith) }
 
 pub one_digit_more : (base : Base) (bytes : List ℕ) (start count value byte d next : ℕ) → HasSign base bytes start → HasDigits base bytes start count value → count < length bytes → byte ≡ get_or bytes count 0
     → is_digit_of base byte ≡ true → d ≡ digit_value byte → d < 16 → next ≡ min (value * radix base + d) 0x110000 → HasDigits base bytes start (count + 1) next

@@ -7,13 +7,13 @@ use Rattle.names.specs.Placed.{all, begins, past, is_alphanumeric, error, error_
 use Rattle.charref.specs.declared.last.Last.{Last}
 use Rattle.charref.specs.declared.last.Last.TheVariants.{Alphanumeric, Semicolon, Equals, Other}
 use Rattle.charref.specs.declared.reference.Characters.{Characters}
-use Rattle.charref.specs.declared.reference.Characters.TheVariants.{Named, One}
+use Rattle.charref.specs.declared.reference.Characters.TheVariants.{One, Two}
 use Rattle.charref.specs.declared.reference.Reference.{Reference}
 use Rattle.charref.specs.Reference.{Entities, IsReference, numbered, number_fault}
 
 abbrev pub characters_of : Characters → List ℕ
-characters_of (Named characters) = characters.now
-characters_of (One character) = character ∷ []
+characters_of (One only) = only ∷ []
+characters_of (Two first second) = first ∷ second ∷ []
 
 -- the errors of a reference at this place, where `after` follows all characters taken
 abbrev pub errors_of : Reference → ℕ → List Placed → List ParseError

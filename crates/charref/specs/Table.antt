@@ -6,9 +6,8 @@ use Rattle.std.specs.List.Sorted.{IsStrictlySortedBy}
 use Rattle.std.specs.Cmp.Lexicographic.{slice_cmp}
 use Rattle.std.specs.Ordering.{nat_cmp}
 use Rattle.charref.specs.declared.entity.Entity.{Entity}
-use Rattle.charref.specs.declared.entity.OneOrTwo.{OneOrTwo}
-use Rattle.charref.specs.declared.entity.OneOrTwo.TheVariants.{One, Two}
 use Rattle.charref.specs.declared.search.Search.{Search}
+use Rattle.charref.specs.Pieces.{characters_of}
 use Rattle.charref.specs.Reference.{Entry, Entities, IsTable, longest}
 
 -- whether the ends of an entry's key are in this order in this text
@@ -19,12 +18,8 @@ is_inside text entity = nat_le entity.start entity.end && nat_le entity.end (len
 abbrev pub key_at : List ℕ → Entity → List ℕ
 key_at text entity = slice_range text entity.start entity.end
 
-abbrev pub stands_for : OneOrTwo → List ℕ
-stands_for (One characters) = characters
-stands_for (Two characters) = characters
-
 abbrev pub entry : List ℕ → Entity → Entry
-entry text entity = record { key = key_at text entity; stands_for = stands_for entity.characters }
+entry text entity = record { key = key_at text entity; stands_for = characters_of entity.characters }
 
 abbrev pub entries : List ℕ → List Entity → Entities
 entries text entities = map (entry text) entities

@@ -15,7 +15,7 @@ use crate::key::is_alphanumeric;
 use crate::last::Last;
 use crate::next::Next;
 use crate::number::Base;
-use crate::reference::{Characters, Reference};
+use crate::reference::Reference;
 use crate::search::Search;
 use crate::slots::is_whole;
 use crate::table::Table;
@@ -26,7 +26,7 @@ impl<'t> Walk<'t> {
     /// What is at an `&` outside an attribute value after which these bytes come, and how many of them settle it, whatever comes
     /// after them; `None` where they settle nothing, as also where a character that is not ASCII comes before they do.
     #[inline(always)]
-    pub fn settled(table: &'t Table, bytes: &[u8]) -> Option<(Reference<'t>, usize)>
+    pub fn settled(table: &Table, bytes: &[u8]) -> Option<(Reference, usize)>
         ensures table { IsTable table.now }
         ensures few { IfSome result (λ it. (0 < it.1) × (it.1 ≤ length bytes.now)) }
         ensures ascii { IfSome result (λ it. list_all is_ascii (take it.1 bytes.now) ≡ true) }
@@ -40,7 +40,7 @@ impl<'t> Walk<'t> {
 
 /// The same: at once where it is a key that ends in a `;`, or an `&` before a letter or digit with which no key begins.
 #[inline(always)]
-fn settled<'t>(table: &'t Table, bytes: &[u8]) -> Option<(Reference<'t>, usize)>
+fn settled(table: &Table, bytes: &[u8]) -> Option<(Reference, usize)>
     ensures table { IsTable table.now }
     ensures settles { MatchOption result (SettlesNothing table.now bytes.now) (λ it. Settles table.now bytes.now it.1 it.0) }
 {
@@ -95,7 +95,7 @@ fn is_whole_by_itself(flat: &Flat, place: usize, bytes: &[u8]) -> bool
 /// What is at an `&` before these bytes, and how many of them settle it: a number, a key without a `;`, or what the steps of a walk
 /// give.
 #[inline(never)]
-fn settled_otherwise<'t>(table: &'t Table, bytes: &[u8]) -> Option<(Reference<'t>, usize)>
+fn settled_otherwise(table: &Table, bytes: &[u8]) -> Option<(Reference, usize)>
     ensures { MatchOption result (SettlesNothing table.now bytes.now) (λ it. Settles table.now bytes.now it.1 it.0) }
 {
     if let Some(first) = bytes.first() {
@@ -113,7 +113,7 @@ fn settled_otherwise<'t>(table: &'t Table, bytes: &[u8]) -> Option<(Reference<'t
 /// What is at an `&` before these bytes, and how many of them settle it, if they begin with a key without a `;` and the next of them
 /// with no longer one.
 #[inline(always)]
-fn settled_by_key<'t>(table: &'t Table, bytes: &[u8]) -> Option<(Reference<'t>, usize)>
+fn settled_by_key(table: &Table, bytes: &[u8]) -> Option<(Reference, usize)>
     ensures { IfSome result (λ it. Settles table.now bytes.now it.1 it.0) }
 {
     let search = table.open_keys.find(&table.flat, bytes)?;
@@ -130,12 +130,12 @@ fn settled_by_key<'t>(table: &'t Table, bytes: &[u8]) -> Option<(Reference<'t>, 
 
 /// The reference that the key at this place is, which ends in a `;`, and how many bytes of it come after the `&`.
 #[inline(always)]
-fn whole_key<'t>(table: &'t Table, place: usize) -> (Reference<'t>, usize)
+fn whole_key(table: &Table, place: usize) -> (Reference, usize)
     requires { place < length table.now }
     ensures { (bytes : List ℕ) → HasWhole table.now bytes place → Settles table.now bytes result.1 result.0 }
 {
     let found = Reference {
-        characters: Characters::Named(table.flat.characters(place)),
+        characters: table.flat.characters(place),
         left: 0,
         missing_semicolon: false,
         fault: None,
@@ -145,7 +145,7 @@ fn whole_key<'t>(table: &'t Table, place: usize) -> (Reference<'t>, usize)
 }
 
 /// What is at the `&` before these bytes, and how many of them settle it, by the steps of a walk.
-fn settled_by_steps<'t>(table: &'t Table, bytes: &[u8]) -> Option<(Reference<'t>, usize)>
+fn settled_by_steps(table: &Table, bytes: &[u8]) -> Option<(Reference, usize)>
     ensures table { IsTable table.now }
     ensures settles { MatchOption result (SettlesNothing table.now bytes.now) (λ it. Settles table.now bytes.now it.1 it.0) }
 {
@@ -162,7 +162,7 @@ fn settled_by_steps<'t>(table: &'t Table, bytes: &[u8]) -> Option<(Reference<'t>
 
 /// What is at an `&` before these bytes, the first of them a `#`, and how many of them settle it.
 #[inline(always)]
-fn settled_number<'t>(table: &'t Table, bytes: &[u8]) -> Option<(Reference<'t>, usize)>
+fn settled_number(table: &Table, bytes: &[u8]) -> Option<(Reference, usize)>
     requires { HasSign Base.Decimal bytes.now 1 }
     ensures { MatchOption result (SettlesNothing table.now bytes.now) (λ it. Settles table.now bytes.now it.1 it.0) }
 {

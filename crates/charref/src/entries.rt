@@ -3,12 +3,14 @@
 ghost use Rattle.std.specs.Prelude.{◌≡◌, ◌+◌, ◌*◌, ◌≤◌, Some, None, length, drop, if◌then◌else◌, true, IfOk, IfErr, MatchOption};
 ghost use Rattle.charref.specs.Reading.{is_character};
 ghost use Rattle.std.specs.List.{list_all};
-ghost use Rattle.charref.specs.Table.{entries, is_inside, stands_for};
+ghost use Rattle.charref.specs.Pieces.{characters_of};
+ghost use Rattle.charref.specs.Table.{entries, is_inside};
 ghost use Rattle.charref.specs.Flat.{is_one_or_two, flat_character, flat_characters, flat_entry, flat_of, IsReadable, IsRefusedFlat};
 ghost use Rattle.charref.specs.Front.{BeginsWith, BeginsWithNone, is_entry, IsEntryAt};
 
-use crate::entity::{Entity, OneOrTwo};
+use crate::entity::Entity;
 use crate::key::{is_before, key_at_front};
+use crate::reference::Characters;
 use names::{Refusal, TableFault};
 use std::alloc::Global;
 
@@ -37,19 +39,19 @@ fn character_at_front(bytes: &[u8]) -> Option<char>
 
 /// The characters at the front, after their count.
 #[inline(always)]
-fn characters_at_front(bytes: &[u8]) -> Option<OneOrTwo>
+fn characters_at_front(bytes: &[u8]) -> Option<Characters>
     ensures { MatchOption result (BeginsWithNone is_one_or_two flat_characters bytes.now)
-        (λ it. (is_one_or_two (stands_for it) ≡ true) × BeginsWith (flat_characters (stands_for it)) bytes.now (1 + 4 * length (stands_for it))) }
+        (λ it. (is_one_or_two (characters_of it) ≡ true) × BeginsWith (flat_characters (characters_of it)) bytes.now (1 + 4 * length (characters_of it))) }
 {
     let [count, characters @ ..] = bytes else {
         return None;
     };
     let first = character_at_front(characters)?;
     match count {
-        1 => Some(OneOrTwo::One([first])),
+        1 => Some(Characters::One(first)),
         2 => {
             let second = character_at_front(&characters[4..])?;
-            Some(OneOrTwo::Two([first, second]))
+            Some(Characters::Two(first, second))
         }
         _ => None,
     }
@@ -70,7 +72,7 @@ fn entity_at(text: &[u8], start: usize) -> Option<(Entity, usize)>
         end,
         characters,
     };
-    Some((entity, end + 1 + 4 * characters.as_slice().len()))
+    Some((entity, end + 1 + 4 * characters.count()))
 }
 
 /// An entry has seldom fewer bytes than this.

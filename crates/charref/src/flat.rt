@@ -5,10 +5,12 @@ ghost use Rattle.std.specs.List.{list_all, starts_with};
 ghost use Rattle.charref.specs.Reference.{Entry, Entities};
 ghost use Rattle.charref.specs.Table.{entry, entries, is_inside};
 ghost use Rattle.charref.specs.Flat.{flat_of, IsReadable, IsRefusedFlat};
+ghost use Rattle.charref.specs.Pieces.{characters_of};
 
 use crate::entity::Entity;
 use crate::entries::entities_of;
 use crate::key::begin_with;
+use crate::reference::Characters;
 use names::Refusal;
 use std::alloc::Global;
 use std::marker::Model;
@@ -66,11 +68,11 @@ impl Flat {
 
     /// The characters that the key of an entry stands for.
     #[inline(always)]
-    pub(crate) fn characters(&self, at: usize) -> &[char]
+    pub(crate) fn characters(&self, at: usize) -> Characters
         requires { at < length self.now }
-        ensures { (e : Entry) × (slice_get self.now at ≡ Some e) × (result.now ≡ e.stands_for) }
+        ensures { (e : Entry) × (slice_get self.now at ≡ Some e) × (characters_of result ≡ e.stands_for) }
     {
-        self.entities[at].characters.as_slice()
+        self.entities[at].characters
     }
 
     /// Whether these bytes begin with all of the key of an entry after its `&`.

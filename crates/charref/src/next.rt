@@ -5,7 +5,7 @@ use crate::reference_state::ReferenceState;
 
 /// The walk continues in a state, or has found the end of a reference.
 #[derive(Clone, Copy)]
-pub(crate) enum Next<'t> {
+pub(crate) enum Next {
     Goes(ReferenceState),
-    Ended(Reference<'t>),
+    Ended(Reference),
 }

@@ -8,15 +8,15 @@ ghost use Rattle.serde_json.specs.View.{view, items_view, members_view};
 ghost use Rattle.serde_json.specs.Errors.{IsMemory};
 ghost use Rattle.charref.specs.Reference.{Entry, Entities};
 ghost use Rattle.charref.specs.Reading.{codepoint, codepoints, fields, entry_of, entry_of_characters, entities_of, table_of, table_of_members, IsRefusedWith};
-ghost use Rattle.charref.specs.Table.{stands_for};
+ghost use Rattle.charref.specs.Pieces.{characters_of};
 ghost use Rattle.charref.specs.Flat.{flat_entry, flat_of};
 ghost use Rattle.std.specs.List.Sorted.{IsStrictlySortedBy};
 ghost use Rattle.std.specs.Map.{keys_of};
 ghost use Rattle.std.specs.String.{string_cmp};
 
-use crate::entity::OneOrTwo;
 use crate::entries::character;
 use crate::key::is_key;
+use crate::reference::Characters;
 use crate::table::Table;
 use crate::writing::add_flat;
 use names::{Refusal, TableFault};
@@ -31,32 +31,22 @@ fn codepoint(value: &Value) -> Option<char>
 }
 
 /// The characters of a list of one or two numbers.
-fn codepoints(list: &[Value]) -> Option<OneOrTwo>
-    ensures { option_map stands_for result ≡ codepoints (items_view list.now) }
+fn codepoints(list: &[Value]) -> Option<Characters>
+    ensures { option_map characters_of result ≡ codepoints (items_view list.now) }
 {
     match list {
-        [only] => Some(OneOrTwo::One([codepoint(only)?])),
-        [first, second] => Some(OneOrTwo::Two([codepoint(first)?, codepoint(second)?])),
+        [only] => Some(Characters::One(codepoint(only)?)),
+        [first, second] => Some(Characters::Two(codepoint(first)?, codepoint(second)?)),
         _ => None,
     }
 }
 
-/// Writes the text of some characters, in place of what is there.
-fn write_text(room: &mut String, characters: &[char]) -> Result<(), AllocError>
-    ensures { OnOk result (string_bytes room.new ≡ encode_utf8_all characters.now) }
+/// Whether a text is that of some characters, which is written to see it.
+fn is_text_of(room: &mut String, text: &str, characters: Characters) -> Result<bool, AllocError>
+    ensures { IfOk result (λ same. same ≡ bytes_eq text.now (encode_utf8_all (characters_of characters))) }
 {
     room.clear();
-    for character in characters {
-        room.push(*character)?;
-    }
-    Ok(())
-}
-
-/// Whether a text is that of some characters, which is written to see it.
-fn is_text_of(room: &mut String, text: &str, characters: &[char]) -> Result<bool, AllocError>
-    ensures { IfOk result (λ same. same ≡ bytes_eq text.now (encode_utf8_all characters.now)) }
-{
-    write_text(room, characters)?;
+    characters.push_to(room)?;
     Ok(text == room.as_str())
 }
 
@@ -100,15 +90,15 @@ fn json_fault(error: Error) -> Refusal
 }
 
 /// The characters of an entry, by its list and its text.
-fn characters_with(room: &mut String, list: &[Value], text: &str) -> Result<OneOrTwo, Refusal>
+fn characters_with(room: &mut String, list: &[Value], text: &str) -> Result<Characters, Refusal>
     ensures ok { IfOk result (λ characters. (key : List ℕ) → entry_of_characters key text.now (codepoints (items_view list.now))
-        ≡ Ok (record { key = key; stands_for = stands_for characters })) }
+        ≡ Ok (record { key = key; stands_for = characters_of characters })) }
     ensures err { IfErr result (λ e. (key : List ℕ) → IsRefusedWith (entry_of_characters key text.now (codepoints (items_view list.now))) e) }
 {
     let Some(characters) = codepoints(list) else {
         return Err(fault(TableFault::Codepoints));
     };
-    if is_text_of(room, text, characters.as_slice())? {
+    if is_text_of(room, text, characters)? {
         Ok(characters)
     } else {
         Err(fault(TableFault::Characters))
@@ -116,8 +106,8 @@ fn characters_with(room: &mut String, list: &[Value], text: &str) -> Result<OneO
 }
 
 /// The characters that a key stands for, by its value.
-fn characters_of(room: &mut String, key: &str, value: &Value) -> Result<OneOrTwo, Refusal>
-    ensures ok { IfOk result (λ characters. entry_of key.now (view value.now) ≡ Ok (record { key = key.now; stands_for = stands_for characters })) }
+fn characters_of(room: &mut String, key: &str, value: &Value) -> Result<Characters, Refusal>
+    ensures ok { IfOk result (λ characters. entry_of key.now (view value.now) ≡ Ok (record { key = key.now; stands_for = characters_of characters })) }
     ensures err { IfErr result (λ e. IsRefusedWith (entry_of key.now (view value.now)) e) }
 {
     if !is_key(key.as_bytes()) {
@@ -135,7 +125,7 @@ fn add_entry(flat: &mut Vec<u8>, room: &mut String, key: &str, value: &Value) ->
     ensures err { IfErr result (λ e. IsRefusedWith (entry_of key.now (view value.now)) e) }
 {
     let characters = characters_of(room, key, value)?;
-    Ok(add_flat(flat, key.as_bytes(), characters.as_slice())?)
+    Ok(add_flat(flat, key.as_bytes(), characters)?)
 }
 
 /// The flat form of an object's members.

@@ -1,16 +1,16 @@
 //! The result of a walk.
 
-ghost use Rattle.std.specs.Prelude.{◌≡◌};
+ghost use Rattle.std.specs.Prelude.{◌≡◌, [], ◌∷◌, ◌++◌, OnOk, bytes_eq, length, string_bytes, encode_utf8_all};
 ghost use Rattle.charref.specs.Pieces.{characters_of};
 
 use names::ErrorCode;
-use std::slice;
+use std::alloc::AllocError;
 
-/// The characters that a reference stands for: borrowed from the table, or a single one.
+/// The characters that a reference stands for.
 #[derive(Clone, Copy)]
-pub enum Characters<'t> {
-    Named(&'t [char]),
+pub enum Characters {
     One(char),
+    Two(char, char),
 }
 
 /// What is at an `&`: a reference, or an `&` that is text.
@@ -19,8 +19,8 @@ pub enum Characters<'t> {
 /// then `fault`. If `in_run` is set, no key matches, all characters taken are alphanumerics to be read again, and their run may
 /// go on (`#ambiguous-ampersand-state`): the error is unknown-named-character-reference if a `;` follows that run.
 #[derive(Clone, Copy)]
-pub struct Reference<'t> {
-    pub characters: Characters<'t>,
+pub struct Reference {
+    pub characters: Characters,
     /// How many characters at the end of those taken are not part of it and must be read again. The `&` is part of it.
     pub left: usize,
     pub missing_semicolon: bool,
@@ -28,14 +28,39 @@ pub struct Reference<'t> {
     pub in_run: bool,
 }
 
-impl<'t> Characters<'t> {
-    /// The characters in order.
-    pub fn as_slice(&self) -> &[char]
-        ensures { result.now ≡ characters_of self.now }
+impl Characters {
+    /// How many there are.
+    #[inline(always)]
+    pub fn count(self) -> usize
+        ensures { result ≡ length (characters_of self) }
     {
         match self {
-            Characters::Named(characters) => characters,
-            Characters::One(character) => slice::from_ref(character),
+            Characters::One(_) => 1,
+            Characters::Two(_, _) => 2,
+        }
+    }
+
+    /// Whether they are this one alone.
+    pub(crate) fn is_only(self, character: char) -> bool
+        ensures { result ≡ bytes_eq (characters_of self) (character ∷ []) }
+    {
+        match self {
+            Characters::One(only) => only == character,
+            Characters::Two(_, _) => false,
+        }
+    }
+
+    /// Adds them to a text.
+    #[inline(always)]
+    pub fn push_to(self, text: &mut String) -> Result<(), AllocError>
+        ensures { OnOk result (string_bytes text.new ≡ string_bytes text.old ++ encode_utf8_all (characters_of self)) }
+    {
+        match self {
+            Characters::One(only) => text.push(only),
+            Characters::Two(first, second) => {
+                text.push(first)?;
+                text.push(second)
+            }
         }
     }
 }

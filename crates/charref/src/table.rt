@@ -5,9 +5,11 @@ ghost use Rattle.std.specs.List.{All};
 ghost use Rattle.charref.specs.Reference.{Entry, Entities, IsTable, HasCore, core, longest};
 ghost use Rattle.charref.specs.Table.{IsAfterKey, IsIndex};
 ghost use Rattle.charref.specs.Flat.{flat_of, IsReadable, IsRefusedFlat};
+ghost use Rattle.charref.specs.Pieces.{characters_of};
 
 use crate::flat::Flat;
 use crate::open_keys::OpenKeys;
+use crate::reference::Characters;
 use crate::search::search_for;
 use crate::slots::Slots;
 use crate::starts::starts_of;
@@ -39,9 +41,9 @@ impl Model for Table {
 
 /// A key that a text begins with: its length in bytes, including the `&`, and the characters that it stands for.
 #[derive(Clone, Copy)]
-pub struct Match<'t> {
+pub struct Match {
     pub length: usize,
-    pub characters: &'t [char],
+    pub characters: Characters,
 }
 
 /// The flat form of [`Table::core`].
@@ -95,10 +97,10 @@ impl Table {
     }
 
     /// The longest key that this text, which starts at the `&`, begins with.
-    pub fn longest(&self, text: &[u8]) -> Option<Match<'_>>
+    pub fn longest(&self, text: &[u8]) -> Option<Match>
         ensures table { IsTable self.now }
         ensures found { MatchOption result (longest self.now text.now ≡ None)
-            (λ found. (e : Entry) × (longest self.now text.now ≡ Some e) × (found.length ≡ length e.key) × (found.characters.now ≡ e.stands_for)) }
+            (λ found. (e : Entry) × (longest self.now text.now ≡ Some e) × (found.length ≡ length e.key) × (characters_of found.characters ≡ e.stands_for)) }
     {
         let best = search_for(&self.flat, text).best?;
         Some(Match {
@@ -113,7 +115,7 @@ impl Table {
         ensures has { IsTrue result ↔ Contains self.now (record { key = key.now; stands_for = character ∷ [] }) }
     {
         match self.longest(key) {
-            Some(found) => found.length == key.len() && found.characters == [character].as_slice(),
+            Some(found) => found.length == key.len() && found.characters.is_only(character),
             None => false,
         }
     }

@@ -37,7 +37,7 @@ impl<'t> Walk<'t> {
     /// Takes the next character. Returns `None` while the reference is not known yet; once it is, the walk is over, and is
     /// left unchanged.
     #[inline(always)]
-    pub fn take(&mut self, ch: char) -> Option<Reference<'t>>
+    pub fn take(&mut self, ch: char) -> Option<Reference>
         ensures ended { IsSome result → self.new ≡ self.old }
         ensures taken { (table : Entities) (in_value : Bool) (text : List Placed) (p : Placed)
             → HasTaken self.old table in_value text → p.ch ≡ ch → Takes table in_value (text ++ p ∷ []) result self.new }
@@ -67,7 +67,7 @@ impl<'t> Walk<'t> {
     }
 
     #[inline(never)]
-    fn step(&self, ch: char) -> Next<'t>
+    fn step(&self, ch: char) -> Next
         ensures within { is_next_within result (length self.now.table.now) ≡ true }
         ensures next { (table : Entities) (in_value : Bool) (text : List Placed) (p : Placed)
             → HasTaken self.now table in_value text → p.ch ≡ ch → NextIs table in_value (text ++ p ∷ []) result }
@@ -82,7 +82,7 @@ impl<'t> Walk<'t> {
     }
 
     /// What is at the `&` if the text ends after the characters taken.
-    pub fn end(&self) -> Reference<'t>
+    pub fn end(&self) -> Reference
         ensures read { (table : Entities) (in_value : Bool) (text : List Placed)
             → HasTaken self.now table in_value text → IsRead table in_value text [] result }
         ensures number { is_number self.now.state ≡ true → result.left ≡ 0 }
@@ -105,7 +105,7 @@ impl<'t> Walk<'t> {
 }
 
 /// An `&` that is text, where `left` characters were read after it.
-fn as_text<'t>(left: usize, fault: Option<ErrorCode>, in_run: bool) -> Reference<'t>
+fn as_text(left: usize, fault: Option<ErrorCode>, in_run: bool) -> Reference
     ensures { result ≡ record { characters = Characters.One 38; left = left; missing_semicolon = false; fault = fault; in_run = in_run } }
 {
     Reference {
@@ -125,7 +125,7 @@ pub(crate) fn ends_in_semicolon(key: &[u8]) -> bool
 }
 
 /// An `&` that is text because no key matches (`#named-character-reference-state`, `#ambiguous-ampersand-state`).
-pub(crate) fn unknown<'t>(left: usize, last: Last) -> Reference<'t>
+pub(crate) fn unknown(left: usize, last: Last) -> Reference
     ensures { result ≡ unknown_of left last }
 {
     match last {
@@ -137,13 +137,7 @@ pub(crate) fn unknown<'t>(left: usize, last: Last) -> Reference<'t>
 
 /// The outcome once no further character can change the longest match, the entry at `best`: `read` characters were read
 /// after the `&`, and `last` is the kind of the last one (`#named-character-reference-state`).
-fn decided<'t>(
-    table: &'t Table,
-    in_value: bool,
-    best: Option<usize>,
-    read: usize,
-    last: Last,
-) -> Reference<'t>
+fn decided(table: &Table, in_value: bool, best: Option<usize>, read: usize, last: Last) -> Reference
     requires { IfSome best (λ k. k < length table.now) }
     ensures { (front : List Placed) (p : Placed) (after : List Placed) → all is_alphanumeric front ≡ true
         → (is_empty front ≡ true → is_alphanumeric p.ch ≡ true) → read ≡ length (front ++ p ∷ []) → last ≡ last_of p.ch
@@ -160,7 +154,7 @@ fn decided<'t>(
         return as_text(read, None, false);
     }
     Reference {
-        characters: Characters::Named(table.flat.characters(best)),
+        characters: table.flat.characters(best),
         left,
         missing_semicolon: !semicolon,
         fault: None,
@@ -169,7 +163,7 @@ fn decided<'t>(
 }
 
 /// A numeric reference: the numeric character reference end state (`#numeric-character-reference-end-state`).
-pub(crate) fn number<'t>(value: u32, left: usize, missing_semicolon: bool) -> Reference<'t>
+pub(crate) fn number(value: u32, left: usize, missing_semicolon: bool) -> Reference
     ensures { result ≡ number_of value left missing_semicolon }
 {
     Reference {
@@ -183,7 +177,7 @@ pub(crate) fn number<'t>(value: u32, left: usize, missing_semicolon: bool) -> Re
 
 /// After `#` (`#numeric-character-reference-state`, `#decimal-character-reference-start-state`).
 #[inline(always)]
-fn after_sign<'t>(ch: char) -> Next<'t>
+fn after_sign(ch: char) -> Next
     ensures within { (count : ℕ) → is_next_within result count ≡ true }
     ensures next { (table : Entities) (in_value : Bool) (text : List Placed) (p : Placed) → IsSign Base.Decimal text
         → p.ch ≡ ch → NextIs table in_value (text ++ p ∷ []) result }
@@ -202,7 +196,7 @@ fn after_sign<'t>(ch: char) -> Next<'t>
 }
 
 /// After `#x` (`#hexadecimal-character-reference-start-state`).
-fn after_x<'t>(ch: char) -> Next<'t>
+fn after_x(ch: char) -> Next
     ensures within { (count : ℕ) → is_next_within result count ≡ true }
     ensures next { (table : Entities) (in_value : Bool) (text : List Placed) (p : Placed) → IsSign Base.Hexadecimal text
         → p.ch ≡ ch → NextIs table in_value (text ++ p ∷ []) result }
@@ -220,7 +214,7 @@ fn after_x<'t>(ch: char) -> Next<'t>
 /// After the digits of a number: the hexadecimal and decimal character reference states (`#hexadecimal-character-reference-state`,
 /// `#decimal-character-reference-state`).
 #[inline(always)]
-fn after_digits<'t>(base: Base, value: u32, ch: char) -> Next<'t>
+fn after_digits(base: Base, value: u32, ch: char) -> Next
     requires { value ≤ TOO_GREAT }
     ensures within { (count : ℕ) → is_next_within result count ≡ true }
     ensures next { (table : Entities) (in_value : Bool) (text : List Placed) (p : Placed)
@@ -236,7 +230,7 @@ fn after_digits<'t>(base: Base, value: u32, ch: char) -> Next<'t>
 
 /// Right after the `&`, before a character that is no alphanumeric (`#character-reference-state`).
 #[inline(always)]
-fn after_ampersand<'t>(ch: char) -> Next<'t>
+fn after_ampersand(ch: char) -> Next
     ensures within { (count : ℕ) → is_next_within result count ≡ true }
     ensures next { (table : Entities) (in_value : Bool) (p : Placed) → p.ch ≡ ch → is_alphanumeric ch ≡ false
         → NextIs table in_value (p ∷ []) result }
@@ -293,7 +287,7 @@ pub(crate) fn longer(table: &Table, search: Search, ch: char) -> Option<Search>
 
 /// The named character reference state (`#named-character-reference-state`), after the beginning of a name.
 #[inline(always)]
-pub(crate) fn after_name<'t>(table: &'t Table, in_value: bool, search: Search, ch: char) -> Next<'t>
+pub(crate) fn after_name(table: &Table, in_value: bool, search: Search, ch: char) -> Next
     requires { is_search_within search (length table.now) ≡ true }
     ensures within { is_next_within result (length table.now) ≡ true }
     ensures next { (text : List Placed) (p : Placed) → HasRead search table.now (key_bytes text)
@@ -316,7 +310,7 @@ pub(crate) fn after_name<'t>(table: &'t Table, in_value: bool, search: Search, c
 }
 
 /// The beginning of a name, at the end of the text.
-fn name_at_end<'t>(table: &'t Table, in_value: bool, search: Search) -> Reference<'t>
+fn name_at_end(table: &Table, in_value: bool, search: Search) -> Reference
     requires { is_search_within search (length table.now) ≡ true }
     ensures { (text : List Placed) → HasRead search table.now (key_bytes text) → all is_alphanumeric text ≡ true
         → IsRead table.now in_value text [] result }

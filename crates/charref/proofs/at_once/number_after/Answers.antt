@@ -1,5 +1,4 @@
-use Rattle.std.proofs.Common.{arith, ◌<◌, length, refl}
-use Rattle.std.proofs.lemmas.Bool.Decides.{nat_tests}
+use Rattle.charref.proofs.Names.{arith, ◌<◌, length, refl, nat_tests}
 use Rattle.charref.proofs.WholeNumbers.{HasDigits, one_digit_more, number_settles}
 use Rattle.charref.proofs.at_once.number_after.Goals as goal
 

@@ -1,4 +1,4 @@
-use Rattle.std.proofs.Common.{◌-◌, length}
+use Rattle.charref.proofs.Names.{◌-◌, length}
 use Rattle.charref.proofs.WholeNumbers.{HasDigits}
 use Rattle.charref.proofs.at_once.number_after.Given as goal
 

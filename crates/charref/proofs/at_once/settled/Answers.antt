@@ -1,8 +1,4 @@
-use Rattle.std.proofs.Common.{◌≡◌, [], ◌∷◌, true, sym, ◌∙◌, subst}
-use Rattle.std.proofs.lemmas.Option.{slice_get_within}
-use Rattle.names.specs.Placed.{is_alphanumeric}
-use Rattle.charref.specs.Table.{HasRead, IsSortedTable}
-use Rattle.charref.specs.AtOnce.{Settles}
+use Rattle.charref.proofs.Names.{◌≡◌, [], ◌∷◌, true, sym, ◌∙◌, subst, slice_get_within, is_alphanumeric, HasRead, IsSortedTable, Settles}
 use Rattle.charref.proofs.AtOnce.{no_first}
 use Rattle.charref.proofs.at_once.settled.Goals as goal
 

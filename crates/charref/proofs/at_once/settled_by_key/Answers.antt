@@ -1,7 +1,4 @@
-use Rattle.std.proofs.Common.{◌≡◌, ◌-◌, ◌≤◌, length, get_or, refl, sym, ap, ◌∙◌, subst, arith}
-use Rattle.std.specs.Char.{is_ascii}
-use Rattle.charref.specs.Reference.{IsTable}
-use Rattle.charref.specs.AtOnce.{IsAfterKeyOf}
+use Rattle.charref.proofs.Names.{◌≡◌, ◌-◌, ◌≤◌, length, get_or, refl, sym, ap, ◌∙◌, subst, arith, is_ascii, IsTable, IsAfterKeyOf}
 use Rattle.charref.proofs.AtOnce.{key_settles_before}
 use Rattle.charref.proofs.Telling.{some_key}
 use Rattle.charref.proofs.at_once.settled_by_key.Goals as goal

@@ -1,7 +1,6 @@
-use Rattle.std.proofs.Common.{false, sym, ◌∙◌, arith}
+use Rattle.charref.proofs.Names.{false, sym, ◌∙◌, arith}
 use Rattle.charref.proofs.AtOnce.{nothing_settled, walk_settles, walked_more, walked_nothing}
 use Rattle.charref.proofs.at_once.settled_by_steps.Goals as goal
-use Rattle.charref.proofs.at_once.settled_by_steps.Goals.{then-loop-count-test+else-is_ascii, else-loop-count-test}
 
 pub loop-count-init : goal.loop-count-init
 loop-count-init c = walked_nothing _ c.args.table.now c.args.bytes.now c.new-walk.ensures.taken
@@ -18,10 +17,12 @@ loop-count-preserved c =
     walked_more c.args.table.now c.args.bytes.now l.count l.walk c.take.new.self c.loop-count-test.true (sym c.is_ascii.ensures ∙ c.if-is_ascii.true) l.invariant
     (λ text p taken is. c.in_default.ensures.taken c.args.table.now false text p taken (is ∙ sym c.from.ensures))
 
-pub returns-clause-settles : goal.returns-clause-settles
-returns-clause-settles c =
+pub returns-else-is_ascii-clause-settles : goal.returns-else-is_ascii-clause-settles
+returns-else-is_ascii-clause-settles c =
     let l = c.loop-count in
-    nothing_settled l.walk c.args.table.now c.args.bytes.now l.count c.new-walk.ensures.table l.invariant (λ within. elim c.loop-count-test.branch [
-      | then-loop-count-test+else-is_ascii w ↦ sym w.is_ascii.ensures ∙ w.if-is_ascii.false
-      | else-loop-count-test w ↦ absurd (omega (arith, within, w.loop-count-test.false))
-    ])
+    nothing_settled l.walk c.args.table.now c.args.bytes.now l.count c.new-walk.ensures.table l.invariant (λ within. sym c.is_ascii.ensures ∙ c.if-is_ascii.false)
+
+pub returns-after-loop-count-clause-settles : goal.returns-after-loop-count-clause-settles
+returns-after-loop-count-clause-settles c =
+    let l = c.loop-count in
+    nothing_settled l.walk c.args.table.now c.args.bytes.now l.count c.new-walk.ensures.table l.invariant (λ within. absurd (omega (arith, within, c.loop-count-test.false)))

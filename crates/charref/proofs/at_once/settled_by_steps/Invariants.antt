@@ -1,5 +1,4 @@
-use Rattle.std.proofs.Common.{◌-◌, length}
-use Rattle.charref.specs.AtOnce.{HasWalked}
+use Rattle.charref.proofs.Names.{◌-◌, length, HasWalked}
 use Rattle.charref.proofs.at_once.settled_by_steps.Given as goal
 
 abbrev pub invariant-loop-count : goal.invariant-loop-count

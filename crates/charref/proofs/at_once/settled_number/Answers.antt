@@ -1,5 +1,4 @@
-use Rattle.std.proofs.Common.{sym, subst}
-use Rattle.charref.specs.AtOnce.{Settles}
+use Rattle.charref.proofs.Names.{sym, subst, Settles}
 use Rattle.charref.proofs.at_once.settled_number.Goals as goal
 
 pub returns-in-Some : goal.returns-in-Some

@@ -1,4 +1,4 @@
-use Rattle.std.proofs.Common.{Some, sym, ap, ◌∙◌}
+use Rattle.charref.proofs.Names.{Some, sym, ap, ◌∙◌}
 use Rattle.charref.proofs.WholeNumbers.{sign_first}
 use Rattle.charref.proofs.at_once.settled_otherwise.Goals as goal
 

@@ -1,6 +1,4 @@
-use Rattle.std.proofs.Common.{◌≡◌, ◌-◌, ◌≤◌, length, slice_get, Some, sym, ap, ◌∙◌, subst, arith}
-use Rattle.names.proofs.Words.{some_same}
-use Rattle.charref.specs.Reference.{Entry, IsTable}
+use Rattle.charref.proofs.Names.{◌≡◌, ◌-◌, ◌≤◌, length, slice_get, Some, sym, ap, ◌∙◌, subst, arith, some_same, Entry, IsTable}
 use Rattle.charref.proofs.AtOnce.{key_settles}
 use Rattle.charref.proofs.Telling.{some_key}
 use Rattle.charref.proofs.at_once.whole_key.Goals as goal

@@ -1,4 +1,4 @@
-use Rattle.std.proofs.Common.{inl, inr}
+use Rattle.charref.proofs.Names.{inl, inr}
 use Rattle.charref.proofs.WholeNumbers.{x_taken}
 use Rattle.charref.proofs.at_once.whole_number.Goals as goal
 use Rattle.charref.proofs.at_once.whole_number.Goals.{then-second-eq120-via-then-second-eq120, then-second-eq120-via-else-second-eq120+then-second-eq88}

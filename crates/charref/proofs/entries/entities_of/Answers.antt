@@ -1,6 +1,4 @@
-use Rattle.std.proofs.Common.{arith, ◌≡◌, ◌≤◌, length, false, inr, refl, sym, ◌∙◌, subst, []}
-use Rattle.std.proofs.lemmas.Bool.Decides.{nat_tests}
-use Rattle.charref.specs.Table.{key_at}
+use Rattle.charref.proofs.Names.{arith, ◌≡◌, ◌≤◌, length, false, inr, refl, sym, ◌∙◌, subst, [], nat_tests, key_at}
 use Rattle.charref.proofs.ReadingFlat.{HasReadTo, begun, one_more, no_entry, no_order}
 use Rattle.charref.proofs.entries.entities_of.Goals as goal
 

@@ -1,4 +1,4 @@
-use Rattle.std.proofs.Common.{length, ◌-◌}
+use Rattle.charref.proofs.Names.{length, ◌-◌}
 use Rattle.charref.proofs.ReadingFlat.{HasReadTo}
 use Rattle.charref.proofs.entries.entities_of.Given as goal
 

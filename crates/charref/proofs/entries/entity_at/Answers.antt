@@ -1,9 +1,4 @@
-use Rattle.std.proofs.Common.{◌≡◌, ℕ, List, ◌+◌, ◌*◌, length, drop, take, ◌-◌, sym, ap, ◌∙◌, subst}
-use Rattle.std.proofs.lemmas.List.{take_rest, drop-drop}
-use Rattle.charref.specs.Reference.{is_key}
-use Rattle.charref.specs.Table.{stands_for}
-use Rattle.charref.specs.Flat.{is_one_or_two, flat_characters, flat_entry}
-use Rattle.charref.specs.Front.{BeginsWith, BeginsWithNone, IsCounted, IsEntryAt, is_entry}
+use Rattle.charref.proofs.Names.{◌≡◌, ℕ, List, ◌+◌, ◌*◌, length, drop, take, ◌-◌, sym, ap, ◌∙◌, subst, take_rest, drop-drop, is_key, characters_of, is_one_or_two, flat_characters, flat_entry, BeginsWith, BeginsWithNone, IsCounted, IsEntryAt, is_entry}
 use Rattle.charref.proofs.ReadingFlat.{no_entry_key, no_entry_characters, entry_stands}
 use Rattle.charref.proofs.entries.entity_at.Goals as goal
 
@@ -23,9 +18,9 @@ returns c =
     let start = c.args.start in
     let size = c.in_ok-size.size in
     let rest : List ℕ = take (length text - start) (drop start text) in
-    let form : List ℕ = flat_characters (stands_for c.in_ok-characters.characters) in
-    let count : ℕ = 1 + 4 * length (stands_for c.in_ok-characters.characters) in
+    let form : List ℕ = flat_characters (characters_of c.in_ok-characters.characters) in
+    let count : ℕ = 1 + 4 * length (characters_of c.in_ok-characters.characters) in
     let after : take (length rest - size) (drop size rest) ≡ drop (start + size) text = take_rest rest size ∙ ap (drop size) (take_rest text start) ∙ drop-drop size start text in
-    subst (λ cs. IsEntryAt text start (record { start = start; end = start + size; characters = c.in_ok-characters.characters }) (start + size + 1 + 4 * length cs)) (sym c.as_slice.ensures)
+    subst (λ n. IsEntryAt text start (record { start = start; end = start + size; characters = c.in_ok-characters.characters }) (start + size + 1 + 4 * n)) (sym c.count.ensures)
     (entry_stands text start size c.in_ok-characters.characters c.requires (subst (λ bs. IsCounted is_key bs size) (take_rest text start) c.in_ok-size.ensures)
     c.in_ok-characters.ensures.0 (subst (λ bs. BeginsWith form bs count) after c.in_ok-characters.ensures.1))

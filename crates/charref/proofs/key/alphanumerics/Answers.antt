@@ -1,5 +1,4 @@
-use Rattle.std.proofs.Common.{◌∙◌, sym}
-use Rattle.names.specs.Placed.{is_alphanumeric}
+use Rattle.charref.proofs.Names.{◌∙◌, sym, is_alphanumeric}
 use Rattle.charref.proofs.Fronts.{stopped, run_more, past_end}
 use Rattle.charref.proofs.key.alphanumerics.Goals as goal
 

@@ -1,5 +1,4 @@
-use Rattle.std.proofs.Common.{◌≡◌, drop, nat_eq}
-use Rattle.std.specs.List.{starts_with}
+use Rattle.charref.proofs.Names.{◌≡◌, drop, nat_eq, starts_with}
 use Rattle.charref.proofs.key.begin_with.Given as goal
 
 abbrev pub invariant-loop-index : goal.invariant-loop-index

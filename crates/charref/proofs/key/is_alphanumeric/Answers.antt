@@ -1,7 +1,4 @@
-use Rattle.std.proofs.Common.{◌≡◌, nat_eq, ap, ◌∙◌}
-use Rattle.std.specs.Prelude.{slice_index}
-use Rattle.names.specs.Placed.{is_alphanumeric}
-use Rattle.charref.specs.declared.key.TheConstants.{ALPHANUMERICS}
+use Rattle.charref.proofs.Names.{◌≡◌, nat_eq, ap, ◌∙◌, slice_index, is_alphanumeric, ALPHANUMERICS}
 use Rattle.charref.proofs.Fronts.{told}
 use Rattle.charref.proofs.key.is_alphanumeric.Goals as goal
 

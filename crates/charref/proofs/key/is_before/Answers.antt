@@ -1,4 +1,4 @@
-use Rattle.std.proofs.Common.{◌∙◌, sym, ap, is_lt}
+use Rattle.charref.proofs.Names.{◌∙◌, sym, ap, is_lt}
 use Rattle.charref.proofs.Orders.{shorter_before, never_before}
 use Rattle.charref.proofs.key.is_before.Goals as goal
 

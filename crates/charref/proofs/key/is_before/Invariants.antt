@@ -1,6 +1,4 @@
-use Rattle.std.proofs.Common.{◌≡◌, ◌≤◌, drop, length}
-use Rattle.std.specs.Ordering.{nat_cmp}
-use Rattle.std.specs.Cmp.Lexicographic.{slice_cmp}
+use Rattle.charref.proofs.Names.{◌≡◌, ◌≤◌, drop, length, nat_cmp, slice_cmp}
 use Rattle.charref.proofs.key.is_before.Given as goal
 
 abbrev pub invariant-loop-index : goal.invariant-loop-index

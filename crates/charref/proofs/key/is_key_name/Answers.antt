@@ -1,4 +1,4 @@
-use Rattle.std.proofs.Common.{sym, ◌∙◌}
+use Rattle.charref.proofs.Names.{sym, ◌∙◌}
 use Rattle.charref.proofs.KeyTexts.{key_step}
 use Rattle.charref.proofs.key.is_key_name.Goals as goal
 

@@ -1,5 +1,4 @@
-use Rattle.std.proofs.Common.{◌≡◌, ◌<◌, ◌||◌, bytes_eq, codes, drop}
-use Rattle.charref.specs.Reference.{is_key_name, is_empty_list}
+use Rattle.charref.proofs.Names.{◌≡◌, ◌<◌, ◌||◌, bytes_eq, codes, drop, is_key_name, is_empty_list}
 use Rattle.charref.proofs.key.is_key_name.Given as goal
 
 abbrev pub invariant-loop-index : goal.invariant-loop-index

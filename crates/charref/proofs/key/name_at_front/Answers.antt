@@ -1,5 +1,4 @@
-use Rattle.std.proofs.Common.{arith, ◌≡◌, ◌+◌, inl, inr, suc, true, true≢false, slice_get, sym, ◌∙◌, subst}
-use Rattle.charref.specs.Front.{passes, is_count}
+use Rattle.charref.proofs.Names.{arith, ◌≡◌, ◌+◌, inl, inr, suc, true, true≢false, slice_get, sym, ◌∙◌, subst, passes, is_count}
 use Rattle.charref.proofs.Fronts.{no_name, run_counted, closed_counted}
 use Rattle.charref.proofs.key.name_at_front.Goals as goal
 use Rattle.charref.proofs.key.name_at_front.Goals.{else-is_semicolon-via-then-is_semicolon+else-is_count-2, else-is_semicolon-via-else-is_semicolon}

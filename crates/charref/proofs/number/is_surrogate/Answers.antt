@@ -1,4 +1,4 @@
-use Rattle.std.proofs.Common.{rules}
+use Rattle.charref.proofs.Names.{rules}
 use Rattle.charref.proofs.number.is_surrogate.Goals as goal
 
 pub returns-then-value-ge55296 : goal.returns-then-value-ge55296

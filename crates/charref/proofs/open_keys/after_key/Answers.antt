@@ -1,5 +1,4 @@
-use Rattle.std.proofs.Common.{subst}
-use Rattle.charref.specs.Table.{HasRead}
+use Rattle.charref.proofs.Names.{subst, HasRead}
 use Rattle.charref.proofs.AtOnce.{after_key}
 use Rattle.charref.proofs.open_keys.after_key.Goals as goal
 

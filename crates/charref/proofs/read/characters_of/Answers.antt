@@ -1,4 +1,4 @@
-use Rattle.std.proofs.Common.{rules}
+use Rattle.charref.proofs.Names.{rules}
 use Rattle.charref.proofs.read.characters_of.Goals as goal
 
 pub returns-in_default-clause-err : goal.returns-in_default-clause-err

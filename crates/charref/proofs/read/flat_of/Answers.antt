@@ -1,9 +1,5 @@
-use Rattle.std.proofs.Common.{rules, ◌≡◌, [], ◌∷◌, ◌++◌, string_bytes, sym, ap, ◌∙◌, subst}
+use Rattle.charref.proofs.Names.{rules, ◌≡◌, [], ◌∷◌, ◌++◌, string_bytes, sym, ap, ◌∙◌, subst, Entities, entry_of, IsRefusedWith, flat_entry, view}
 use Rattle.std.proofs.lemmas.Result.{err_from_is_err_and}
-use Rattle.charref.specs.Reference.{Entities}
-use Rattle.charref.specs.Reading.{entry_of, IsRefusedWith}
-use Rattle.charref.specs.Flat.{flat_entry}
-use Rattle.serde_json.specs.View.{view}
 use Rattle.charref.proofs.Forms.{flat_more}
 use Rattle.charref.proofs.Members.{Pair, HasReadMembers, read_no_members, read_member, read_refused, read_all}
 use Rattle.charref.proofs.read.flat_of.Goals as goal

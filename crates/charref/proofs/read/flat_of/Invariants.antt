@@ -1,6 +1,4 @@
-use Rattle.std.proofs.Common.{◌≡◌}
-use Rattle.charref.specs.Reference.{Entities}
-use Rattle.charref.specs.Flat.{flat_of}
+use Rattle.charref.proofs.Names.{◌≡◌, Entities, flat_of}
 use Rattle.charref.proofs.Members.{HasReadMembers}
 use Rattle.charref.proofs.read.flat_of.Given as goal
 

@@ -1,6 +1,5 @@
-use Rattle.std.proofs.Common.{arith, ◌+◌, ◌-◌, ◌/◌, ◌<◌, ◌≤◌, ℕ, subst}
-use Rattle.charref.specs.Reference.{Entry}
-use Rattle.charref.specs.Table.{code_at}
+use Rattle.charref.proofs.Names.{arith, ◌+◌, ◌-◌, ◌<◌, ◌≤◌, ℕ, subst, Entry, code_at}
+use Rattle.std.proofs.Common.{◌/◌}
 use Rattle.charref.proofs.Ranges.{parted_up, parted_down}
 use Rattle.charref.proofs.search.first_from.Goals as goal
 

@@ -1,5 +1,4 @@
-use Rattle.std.proofs.Common.{◌-◌, ◌≤◌}
-use Rattle.charref.specs.Table.{IsRising}
+use Rattle.charref.proofs.Names.{◌-◌, ◌≤◌, IsRising}
 use Rattle.charref.proofs.Ranges.{IsPartedTo}
 use Rattle.charref.proofs.search.first_from.Given as goal
 

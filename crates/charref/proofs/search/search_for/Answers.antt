@@ -1,6 +1,4 @@
-use Rattle.std.proofs.Common.{take, drop, sym, subst}
-use Rattle.std.proofs.lemmas.List.{take-append-drop, take_more}
-use Rattle.charref.specs.Table.{HasRead}
+use Rattle.charref.proofs.Names.{take, drop, sym, subst, take-append-drop, take_more, HasRead}
 use Rattle.charref.proofs.Searching.{read_over}
 use Rattle.charref.proofs.search.search_for.Goals as goal
 

@@ -1,6 +1,4 @@
-use Rattle.std.proofs.Common.{take, sym, subst}
-use Rattle.std.proofs.lemmas.List.{take_more}
-use Rattle.charref.specs.Table.{HasRead}
+use Rattle.charref.proofs.Names.{take, sym, subst, take_more, HasRead}
 use Rattle.charref.proofs.search.search_of.Goals as goal
 
 pub loop-byte-preserved : goal.loop-byte-preserved

@@ -1,5 +1,4 @@
-use Rattle.std.proofs.Common.{take}
-use Rattle.charref.specs.Table.{HasRead}
+use Rattle.charref.proofs.Names.{take, HasRead}
 use Rattle.charref.proofs.search.search_of.Given as goal
 
 abbrev pub invariant-loop-byte : goal.invariant-loop-byte

@@ -1,6 +1,4 @@
-use Rattle.std.proofs.Common.{◌≡◌, true, sym, ap, ◌∙◌, subst}
-use Rattle.names.proofs.Words.{some_same}
-use Rattle.charref.specs.Reference.{Entry, ends_in_semicolon}
+use Rattle.charref.proofs.Names.{◌≡◌, true, sym, ap, ◌∙◌, subst, some_same, Entry, ends_in_semicolon}
 use Rattle.charref.proofs.slots.is_whole.Goals as goal
 
 pub returns-then-ends_in_semicolon : goal.returns-then-ends_in_semicolon

@@ -1,4 +1,4 @@
-use Rattle.std.proofs.Common.{◌-◌, length}
+use Rattle.charref.proofs.Names.{◌-◌, length}
 use Rattle.charref.proofs.slots.semicolon_from.Given as goal
 
 abbrev pub decreases-loop-place : goal.decreases-loop-place

@@ -1,4 +1,4 @@
-use Rattle.std.proofs.Common.{◌-◌, ◌≤◌, length}
+use Rattle.charref.proofs.Names.{◌-◌, ◌≤◌, length}
 use Rattle.charref.proofs.slots.semicolon_place.Given as goal
 
 abbrev pub invariant-loop-count : goal.invariant-loop-count

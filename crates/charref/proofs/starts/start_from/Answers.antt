@@ -1,7 +1,4 @@
-use Rattle.std.proofs.Common.{◌≤◌, sym, ◌∙◌, subst}
-use Rattle.names.proofs.Words.{some_same}
-use Rattle.charref.specs.Reference.{Entry}
-use Rattle.charref.specs.Table.{code_at}
+use Rattle.charref.proofs.Names.{◌≤◌, sym, ◌∙◌, subst, some_same, Entry, code_at}
 use Rattle.charref.proofs.Indexing.{start_at}
 use Rattle.charref.proofs.starts.start_from.Goals as goal
 

@@ -1,4 +1,4 @@
-use Rattle.std.proofs.Common.{◌-◌, ◌≤◌, length}
+use Rattle.charref.proofs.Names.{◌-◌, ◌≤◌, length}
 use Rattle.charref.proofs.Indexing.{AreBelow}
 use Rattle.charref.proofs.starts.start_from.Given as goal
 

@@ -1,5 +1,4 @@
-use Rattle.std.proofs.Common.{◌+◌, sym, subst}
-use Rattle.charref.specs.Table.{IsIndex, IsStart}
+use Rattle.charref.proofs.Names.{◌+◌, sym, subst, IsIndex, IsStart}
 use Rattle.charref.proofs.Indexing.{start_more, below_next}
 use Rattle.charref.proofs.starts.starts_of.Goals as goal
 

@@ -1,5 +1,4 @@
-use Rattle.std.proofs.Common.{◌≤◌, length}
-use Rattle.charref.specs.Table.{IsIndex}
+use Rattle.charref.proofs.Names.{◌≤◌, length, IsIndex}
 use Rattle.charref.proofs.Indexing.{AreBelow}
 use Rattle.charref.proofs.starts.starts_of.Given as goal
 

@@ -1,7 +1,4 @@
-use Rattle.std.proofs.Common.{arith, ◌≡◌, [], ◌∷◌, false, nat_eq, sym, ap, ◌∙◌, subst}
-use Rattle.std.proofs.lemmas.Bool.Decides.{nat_tests}
-use Rattle.names.specs.Placed.{is_alphanumeric}
-use Rattle.charref.specs.Pieces.{IsRead}
+use Rattle.charref.proofs.Names.{arith, ◌≡◌, [], ◌∷◌, false, nat_eq, sym, ap, ◌∙◌, subst, nat_tests, is_alphanumeric, IsRead}
 use Rattle.charref.proofs.Numbers.{one_number_sign, alone_before}
 use Rattle.charref.proofs.walking.after_ampersand.Goals as goal
 

@@ -1,8 +1,4 @@
-use Rattle.std.proofs.Common.{arith, [], ◌∷◌, ◌++◌, sym, ap, ◌∙◌, subst}
-use Rattle.std.proofs.lemmas.Bool.Decides.{nat_tests}
-use Rattle.charref.specs.Reference.{digit_value}
-use Rattle.charref.specs.Number.{is_digit_of}
-use Rattle.charref.specs.Pieces.{IsRead}
+use Rattle.charref.proofs.Names.{arith, [], ◌∷◌, ◌++◌, sym, ap, ◌∙◌, subst, nat_tests, digit_value, is_digit_of, IsRead}
 use Rattle.charref.proofs.Numbers.{next_digit, number_closed, number_open}
 use Rattle.charref.proofs.walking.after_digits.Goals as goal
 

@@ -1,12 +1,4 @@
-use Rattle.std.proofs.Common.{◌≡◌, [], ◌∷◌, ◌++◌, true, false, true≢false, ◌&&◌, refl, sym, ap, ◌∙◌, subst}
-use Rattle.std.proofs.lemmas.Bool.{and_parts}
-use Rattle.names.proofs.Words.{all-one}
-use Rattle.names.specs.Placed.{characters, is_empty, is_alphanumeric}
-use Rattle.charref.specs.Reference.{Entities, IsTable}
-use Rattle.charref.specs.Table.{is_whole, HasRead, HasNone, IsOver, GoesOn}
-use Rattle.charref.specs.Held.{key_bytes, in_name}
-use Rattle.charref.specs.Last.{last_of, is_letter_or_digit}
-use Rattle.charref.specs.Walk.{NextIs}
+use Rattle.charref.proofs.Names.{◌≡◌, [], ◌∷◌, ◌++◌, true, false, true≢false, ◌&&◌, refl, sym, ap, ◌∙◌, subst, and_parts, all-one, characters, is_empty, is_alphanumeric, Entities, IsTable, is_whole, HasRead, HasNone, IsOver, GoesOn, key_bytes, in_name, last_of, is_letter_or_digit, NextIs}
 use Rattle.charref.proofs.Extending.{key_bytes-more, front_of, best_before, settled_before, best_after, settled_after, letter_of, nothing_read, something_read, count_read}
 use Rattle.charref.proofs.walking.after_name.Goals as goal
 use Rattle.charref.proofs.walking.after_name.Goals.{else-search-eq1-via-then-search-eq1+else-not-is_alphanumeric, else-search-eq1-via-else-search-eq1}

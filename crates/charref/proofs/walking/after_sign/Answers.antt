@@ -1,9 +1,4 @@
-use Rattle.std.proofs.Common.{arith, [], ◌∷◌, ◌++◌, inl, inr, sym, ap, ◌∙◌, subst}
-use Rattle.std.proofs.lemmas.Bool.Decides.{nat_tests}
-use Rattle.names.specs.Placed.{is_digit}
-use Rattle.charref.specs.declared.number.Base.TheVariants.{Decimal}
-use Rattle.charref.specs.Reference.{digit_value}
-use Rattle.charref.specs.Pieces.{IsRead}
+use Rattle.charref.proofs.Names.{arith, [], ◌∷◌, ◌++◌, inl, inr, sym, ap, ◌∙◌, subst, nat_tests, is_digit, Decimal, digit_value, IsRead}
 use Rattle.charref.proofs.Numbers.{two_signs, first_digit, no_decimal}
 use Rattle.charref.proofs.walking.after_sign.Goals as goal
 use Rattle.charref.proofs.walking.after_sign.Goals.{then-ch-eq120-via-then-ch-eq120, then-ch-eq120-via-else-ch-eq120+then-ch-eq88}

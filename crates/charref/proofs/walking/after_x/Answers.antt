@@ -1,7 +1,4 @@
-use Rattle.std.proofs.Common.{[], ◌∷◌, ◌++◌, sym, ap, ◌∙◌, subst}
-use Rattle.charref.specs.declared.number.Base.TheVariants.{Hexadecimal}
-use Rattle.charref.specs.Reference.{digit_value, is_hex_digit}
-use Rattle.charref.specs.Pieces.{IsRead}
+use Rattle.charref.proofs.Names.{[], ◌∷◌, ◌++◌, sym, ap, ◌∙◌, subst, Hexadecimal, digit_value, is_hex_digit, IsRead}
 use Rattle.charref.proofs.Numbers.{first_digit, no_hexadecimal}
 use Rattle.charref.proofs.walking.after_x.Goals as goal
 

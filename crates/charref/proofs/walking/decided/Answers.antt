@@ -1,10 +1,4 @@
-use Rattle.std.proofs.Common.{arith, ◌≡◌, ◌-◌, ◌≤◌, [], ◌∷◌, ◌++◌, length, slice_get, Some, None, true, false, sym, ap, ◌∙◌, subst}
-use Rattle.names.proofs.Words.{some_same}
-use Rattle.charref.specs.Reference.{Entry, IsTable, longest, ends_in_semicolon}
-use Rattle.charref.specs.Table.{best_entry}
-use Rattle.charref.specs.Held.{key_bytes}
-use Rattle.charref.specs.Last.{last_of, is_kept_before}
-use Rattle.charref.specs.Pieces.{IsRead, unknown_of}
+use Rattle.charref.proofs.Names.{arith, ◌≡◌, ◌-◌, ◌≤◌, [], ◌∷◌, ◌++◌, length, slice_get, Some, None, true, false, sym, ap, ◌∙◌, subst, some_same, Entry, IsTable, longest, ends_in_semicolon, best_entry, key_bytes, last_of, is_kept_before, IsRead, characters_of, unknown_of}
 use Rattle.charref.proofs.Searching.{best_found}
 use Rattle.charref.proofs.Telling.{read_unknown, kept_by, read_kept, read_named, some_key}
 use Rattle.charref.proofs.walking.decided.Goals as goal
@@ -49,7 +43,7 @@ returns c = λ front p after run first read last best settled.
     let semicolon : c.ends_in_semicolon-semicolon.result ≡ ends_in_semicolon e.key = c.ends_in_semicolon-semicolon.ensures ∙ ap ends_in_semicolon c.key-key.ensures.2 in
     let test : is_kept_before c.args.in_value (ends_in_semicolon e.key) c.saturating_sub-left.result (last_of p.ch) ≡ false =
     subst (λ s. is_kept_before c.args.in_value s c.saturating_sub-left.result (last_of p.ch) ≡ false) semicolon (subst (λ l. is_kept_before c.args.in_value c.ends_in_semicolon-semicolon.result c.saturating_sub-left.result l ≡ false) last (sym c.is_kept.ensures ∙ c.if-is_kept.false)) in
-    let stands : c.characters.result.now ≡ e.stands_for = c.characters.ensures.2 ∙ ap (λ (y : Entry). y.stands_for) (some_same c.characters.ensures.0 e (sym c.characters.ensures.1 ∙ c.key-key.ensures.1)) in
+    let stands : characters_of c.characters.result ≡ e.stands_for = c.characters.ensures.2 ∙ ap (λ (y : Entry). y.stands_for) (some_same c.characters.ensures.0 e (sym c.characters.ensures.1 ∙ c.key-key.ensures.1)) in
     rw semicolon
     (read_named c.args.table.now c.args.in_value (front ++ p ∷ []) after is_table e found settled.same c.characters.result c.saturating_sub-left.result stands left
     (kept_by c.args.table.now c.args.in_value front p after e c.saturating_sub-left.result is_table run found settled left ∙ test))

@@ -1,5 +1,4 @@
-use Rattle.std.proofs.Common.{arith, ◌<◌, ◌∙◌, length, sym}
-use Rattle.std.proofs.lemmas.Bool.Decides.{nat_tests}
+use Rattle.charref.proofs.Names.{arith, ◌<◌, ◌∙◌, length, sym, nat_tests}
 use Rattle.charref.proofs.Naming.{ends_at}
 use Rattle.charref.proofs.walking.ends_in_semicolon.Goals as goal
 

@@ -1,8 +1,4 @@
-use Rattle.std.proofs.Common.{◌≡◌, [], ◌∷◌, ◌++◌, sym, ap, ◌∙◌, subst}
-use Rattle.names.specs.Placed.{characters}
-use Rattle.charref.specs.Reference.{Entities, IsTable}
-use Rattle.charref.specs.Table.{HasRead, GoesOn}
-use Rattle.charref.specs.Held.{key_bytes, in_name}
+use Rattle.charref.proofs.Names.{◌≡◌, [], ◌∷◌, ◌++◌, sym, ap, ◌∙◌, subst, characters, Entities, IsTable, HasRead, GoesOn, key_bytes, in_name}
 use Rattle.charref.proofs.Extending.{key_bytes-more, front_of}
 use Rattle.charref.proofs.walking.longer.Goals as goal
 

@@ -1,12 +1,4 @@
-use Rattle.std.proofs.Common.{arith, ◌≡◌, ◌-◌, [], ◌∷◌, ◌++◌, List, false, None, length, sym, ap, ◌∙◌, subst}
-use Rattle.std.proofs.lemmas.List.{length-map}
-use Rattle.names.specs.declared.placed.Placed.{Placed}
-use Rattle.names.specs.Placed.{characters}
-use Rattle.charref.specs.declared.reference.Characters.TheVariants.{One}
-use Rattle.charref.specs.Reference.{longest}
-use Rattle.charref.specs.Table.{best_entry}
-use Rattle.charref.specs.Held.{key_bytes}
-use Rattle.charref.specs.Pieces.{IsRead}
+use Rattle.charref.proofs.Names.{arith, ◌≡◌, ◌-◌, [], ◌∷◌, ◌++◌, List, false, None, length, sym, ap, ◌∙◌, subst, length-map, Placed, characters, One, longest, best_entry, key_bytes, IsRead}
 use Rattle.charref.proofs.Numbers.{alone_at_end}
 use Rattle.charref.proofs.Extending.{nothing_read, Snoc, some_snoc, settled_at_end, last_letter}
 use Rattle.charref.proofs.walking.name_at_end.Goals as goal

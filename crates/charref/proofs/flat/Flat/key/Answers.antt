@@ -1,5 +1,4 @@
-use Rattle.std.proofs.Common.{ap}
-use Rattle.charref.specs.Table.{key_at, entry}
+use Rattle.charref.proofs.Names.{ap, key_at, entry}
 use Rattle.charref.proofs.Ranges.{entry_in}
 use Rattle.charref.proofs.flat.Flat.key.Goals as goal
 

@@ -1,7 +1,5 @@
-use Rattle.std.proofs.Common.{◌≡◌, ◌-◌, nat_eq, length, take, drop, ap, ◌∙◌, arith}
-use Rattle.std.proofs.lemmas.List.{take_all, length-drop}
-use Rattle.std.specs.List.{starts_with}
-use Rattle.charref.specs.Reference.{Entry}
+use Rattle.charref.proofs.Names.{◌≡◌, ◌-◌, nat_eq, length, take, drop, ap, ◌∙◌, arith, length-drop, starts_with, Entry}
+use Rattle.std.proofs.lemmas.List.{take_all}
 use Rattle.charref.proofs.flat.Flat.opens.Goals as goal
 
 pub returns-in-len1-up : goal.returns-in-len1-up

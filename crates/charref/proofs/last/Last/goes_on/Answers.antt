@@ -1,4 +1,4 @@
-use Rattle.std.proofs.Common.{rules}
+use Rattle.charref.proofs.Names.{rules}
 use Rattle.charref.proofs.last.Last.goes_on.Goals as goal
 
 pub returns-in_default : goal.returns-in_default

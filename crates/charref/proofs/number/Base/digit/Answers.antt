@@ -1,5 +1,4 @@
-use Rattle.std.proofs.Common.{arith, ◌≡◌, ◌<◌, ◌∙◌, sym}
-use Rattle.charref.specs.Number.{radix}
+use Rattle.charref.proofs.Names.{arith, ◌≡◌, ◌<◌, ◌∙◌, sym, radix}
 use Rattle.charref.proofs.Digits.{at, below_128, is_one, is_none}
 use Rattle.charref.proofs.number.Base.digit.Goals as goal
 

@@ -1,9 +1,5 @@
-use Rattle.std.proofs.Common.{◌≡◌, true, nat_eq, drop, sym, ◌∙◌, subst}
+use Rattle.charref.proofs.Names.{◌≡◌, true, nat_eq, drop, sym, ◌∙◌, subst, All, starts_with, some_same, Entry, IsAfterKey}
 use Rattle.std.proofs.lemmas.List.Elements.{All-get_or}
-use Rattle.std.specs.List.{All, starts_with}
-use Rattle.names.proofs.Words.{some_same}
-use Rattle.charref.specs.Reference.{Entry}
-use Rattle.charref.specs.Table.{IsAfterKey}
 use Rattle.charref.proofs.open_keys.OpenKeys.find.Goals as goal
 
 pub returns-then-opens : goal.returns-then-opens

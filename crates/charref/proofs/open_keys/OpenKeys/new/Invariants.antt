@@ -1,5 +1,4 @@
-use Rattle.std.specs.List.{All}
-use Rattle.charref.specs.Table.{IsAfterKey}
+use Rattle.charref.proofs.Names.{All, IsAfterKey}
 use Rattle.charref.proofs.open_keys.OpenKeys.new.Given as goal
 
 abbrev pub invariant-loop-place : goal.invariant-loop-place

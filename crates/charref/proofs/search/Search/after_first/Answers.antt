@@ -1,7 +1,4 @@
-use Rattle.std.proofs.Common.{arith, ◌≡◌, ◌+◌, ◌<◌, ◌≤◌, [], ◌∷◌, length, true, false, get_or, sym, ◌∙◌}
-use Rattle.std.proofs.lemmas.Bool.Decides.{nat_tests}
-use Rattle.std.specs.Char.{is_ascii}
-use Rattle.charref.specs.Table.{IsRange}
+use Rattle.charref.proofs.Names.{arith, ◌≡◌, ◌+◌, ◌<◌, ◌≤◌, [], ◌∷◌, length, true, false, get_or, sym, ◌∙◌, nat_tests, is_ascii, IsRange}
 use Rattle.charref.proofs.Extending.{none_past_names}
 use Rattle.charref.proofs.Indexing.{range_of, search_within}
 use Rattle.charref.proofs.search.Search.after_first.Goals as goal

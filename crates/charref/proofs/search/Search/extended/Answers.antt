@@ -1,4 +1,4 @@
-use Rattle.std.proofs.Common.{◌∷◌, sym, ◌∙◌}
+use Rattle.charref.proofs.Names.{◌∷◌, sym, ◌∙◌}
 use Rattle.charref.proofs.Extending.{none_past_over, none_past_names}
 use Rattle.charref.proofs.search.Search.extended.Goals as goal
 use Rattle.charref.proofs.search.Search.extended.Goals.{else-is_in_names-via-then-is_in_names+else-goes_on, else-is_in_names-via-else-is_in_names}

@@ -1,6 +1,4 @@
-use Rattle.std.proofs.Common.{arith, ◌≡◌, ◌<◌, ◌≤◌, length, ap}
-use Rattle.std.proofs.lemmas.Bool.Decides.{nat_tests}
-use Rattle.charref.specs.Reference.{Entry}
+use Rattle.charref.proofs.Names.{arith, ◌≡◌, ◌<◌, ◌≤◌, length, ap, nat_tests, Entry}
 use Rattle.charref.proofs.Searching.{last_longer, last_over, none_over}
 use Rattle.charref.proofs.search.Search.goes_on.Goals as goal
 

@@ -1,6 +1,4 @@
-use Rattle.std.proofs.Common.{arith, length, ap, sym, ◌∙◌}
-use Rattle.names.proofs.Words.{some_same}
-use Rattle.charref.specs.Reference.{Entry}
+use Rattle.charref.proofs.Names.{arith, length, ap, sym, ◌∙◌, some_same, Entry}
 use Rattle.charref.proofs.Searching.{read_key, read_no_key}
 use Rattle.charref.proofs.search.Search.narrowed.Goals as goal
 use Rattle.charref.proofs.search.Search.narrowed.Goals.{else-low-high-via-then-low-high+else-key-depth, else-low-high-via-else-low-high}

@@ -1,5 +1,4 @@
-use Rattle.std.proofs.Common.{sym}
-use Rattle.charref.specs.Reference.{core}
+use Rattle.charref.proofs.Names.{sym, core}
 use Rattle.charref.proofs.Core.{core_readable}
 use Rattle.charref.proofs.Forms.{reads_table, refuses_memory}
 use Rattle.charref.proofs.table.Table.core.Goals as goal

@@ -1,7 +1,4 @@
-use Rattle.std.proofs.Common.{arith, ◌≡◌, [], ◌∷◌, Some, None, length, sym, ap, ◌∙◌, true≢false, bytes_eq}
-use Rattle.std.proofs.lemmas.Slice.Eq.{bytes_eq-Decides}
-use Rattle.std.proofs.lemmas.Bool.Decides.{nat_tests}
-use Rattle.charref.specs.Reference.{Entry, longest}
+use Rattle.charref.proofs.Names.{arith, ◌≡◌, [], ◌∷◌, Some, None, length, sym, ap, ◌∙◌, true≢false, bytes_eq, bytes_eq-Decides, nat_tests, Entry, longest}
 use Rattle.charref.proofs.Core.{has_true, has_found, has_only}
 use Rattle.charref.proofs.table.Table.has.Goals as goal
 
@@ -10,8 +7,7 @@ returns-then-found-key-clause-has c =
     let e : Entry = c.in-Some.ensures.found.0 in
     let found : longest c.args.self.now c.args.key.now ≡ Some e = c.in-Some.ensures.found.1 in
     let size : length e.key ≡ length c.args.key.now = sym c.in-Some.ensures.found.2 ∙ c.if-found-key.true in
-    let stands : c.in-Some.found.characters.now ≡ e.stands_for = c.in-Some.ensures.found.3 in
-    let test : c.eq.result ≡ bytes_eq e.stands_for (c.args.character ∷ []) = c.eq.ensures ∙ ap (λ xs. bytes_eq xs c.as_slice.result.now) stands ∙ ap (bytes_eq e.stands_for) c.as_slice.ensures in (
+    let test : c.is_only.result ≡ bytes_eq e.stands_for (c.args.character ∷ []) = c.is_only.ensures ∙ ap (λ xs. bytes_eq xs (c.args.character ∷ [])) c.in-Some.ensures.found.3 in (
       (λ is. has_true c.args.self.now c.args.key.now (c.args.character ∷ []) e found size ((bytes_eq-Decides e.stands_for (c.args.character ∷ [])).0 (sym test ∙ is))),
       (λ contains. test ∙ (bytes_eq-Decides e.stands_for (c.args.character ∷ [])).1 (has_only c.args.self.now c.args.key.now (c.args.character ∷ []) e c.in-Some.ensures.table found contains).1),
     )

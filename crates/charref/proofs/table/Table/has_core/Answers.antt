@@ -1,4 +1,4 @@
-use Rattle.std.proofs.Common.{rules}
+use Rattle.charref.proofs.Names.{rules}
 use Rattle.charref.proofs.table.Table.has_core.Goals as goal
 
 pub returns-then-has-4-clause-core : goal.returns-then-has-4-clause-core

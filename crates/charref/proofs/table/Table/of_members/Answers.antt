@@ -1,5 +1,4 @@
-use Rattle.serde_json.specs.View.{members_view}
-use Rattle.charref.specs.Reading.{entities_of}
+use Rattle.charref.proofs.Names.{members_view, entities_of}
 use Rattle.charref.proofs.Forms.{reads_parsed, refuses_parsed}
 use Rattle.charref.proofs.Members.{readable_table}
 use Rattle.charref.proofs.table.Table.of_members.Goals as goal

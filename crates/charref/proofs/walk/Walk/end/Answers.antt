@@ -1,7 +1,4 @@
-use Rattle.std.proofs.Common.{[], true, sym, subst}
-use Rattle.charref.specs.declared.reference_state.ReferenceState.TheVariants.{Name, NumberSign, HexadecimalSign, Number}
-use Rattle.charref.specs.Held.{IsHeld}
-use Rattle.charref.specs.Pieces.{IsRead, number_of}
+use Rattle.charref.proofs.Names.{[], true, sym, subst, Name, NumberSign, HexadecimalSign, Number, IsHeld, IsRead, number_of}
 use Rattle.charref.proofs.Numbers.{no_sign, no_x, number_at_end}
 use Rattle.charref.proofs.Taking.{held_name, held_sign, held_x, own, by_own}
 use Rattle.charref.proofs.walk.Walk.end.Goals as goal

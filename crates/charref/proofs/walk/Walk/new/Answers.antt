@@ -1,6 +1,4 @@
-use Rattle.std.proofs.Common.{[], ◌∷◌, true≢false, refl, subst}
-use Rattle.charref.specs.Table.{HasRead}
-use Rattle.charref.specs.Held.{in_name}
+use Rattle.charref.proofs.Names.{[], ◌∷◌, true≢false, refl, subst, HasRead, in_name}
 use Rattle.charref.proofs.walk.Walk.new.Goals as goal
 
 pub returns-clause-taken : goal.returns-clause-taken

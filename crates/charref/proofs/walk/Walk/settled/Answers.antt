@@ -1,4 +1,4 @@
-use Rattle.charref.specs.AtOnce.{SettlesNothing}
+use Rattle.charref.proofs.Names.{SettlesNothing}
 use Rattle.charref.proofs.AtOnce.{if_none}
 use Rattle.charref.proofs.walk.Walk.settled.Goals as goal
 

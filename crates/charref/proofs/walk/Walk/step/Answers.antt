@@ -1,6 +1,4 @@
-use Rattle.std.proofs.Common.{[], ◌∷◌, ◌++◌}
-use Rattle.charref.specs.declared.reference_state.ReferenceState.TheVariants.{Name, NumberSign, HexadecimalSign, Number}
-use Rattle.charref.specs.Walk.{NextIs}
+use Rattle.charref.proofs.Names.{[], ◌∷◌, ◌++◌, Name, NumberSign, HexadecimalSign, Number, NextIs}
 use Rattle.charref.proofs.Taking.{held_name, held_sign, held_x, own, by_own}
 use Rattle.charref.proofs.walk.Walk.step.Goals as goal
 

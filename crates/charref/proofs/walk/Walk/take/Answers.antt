@@ -1,6 +1,4 @@
-use Rattle.std.proofs.Common.{[], ◌∷◌, ◌++◌}
-use Rattle.charref.specs.declared.reference_state.ReferenceState.TheVariants.{Name}
-use Rattle.charref.specs.Held.{IsHeld}
+use Rattle.charref.proofs.Names.{[], ◌∷◌, ◌++◌, Name, IsHeld}
 use Rattle.charref.proofs.Taking.{held_name, own, by_own}
 use Rattle.charref.proofs.walk.Walk.take.Goals as goal
 
