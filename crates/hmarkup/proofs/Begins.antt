@@ -9,10 +9,8 @@ use Rattle.hmarkup.proofs.InBogus.{before-bogus, bogus_kept}
 -- a mark that closes a comment right at its start
 once_closed : (dash close more : List Placed) → is_front dash (codes "-") ≡ true → characters close ≡ codes ">" → closes_at_once ((dash ++ close) ++ more) ≡ true
 once_closed dash [] more f c = absurd cc
-once_closed [] (q ∷ qs) more f c = subst (λ (n : ℕ). ((eqb n 62 && true) || (eqb n 45 && spells (codes ">") (qs ++ more))) ≡ true) (sym (first_is q qs 62 [] c)) refl
-once_closed (d ∷ []) (q ∷ qs) more f c =
-    subst (λ (m : ℕ). ((eqb m 62 && true) || (eqb m 45 && (eqb q.ch 62 && true))) ≡ true) (sym (eqb-true d.ch 45 (and_parts (eqb d.ch 45) true f).0))
-    (subst (λ (n : ℕ). (eqb n 62 && true) ≡ true) (sym (first_is q qs 62 [] c)) refl)
+once_closed [] (q ∷ qs) more f c = rw (first_is q qs 62 [] c) refl
+once_closed (d ∷ []) (q ∷ qs) more f c = rw (eqb-true d.ch 45 (and_parts (eqb d.ch 45) true f).0, first_is q qs 62 [] c) refl
 once_closed (d ∷ e ∷ ds) (q ∷ qs) more f c = absurd (false≢true (and_parts (eqb d.ch 45) false f).1)
 
 some_of : (close : List Placed) (c : ℕ) (cs : List ℕ) (more : List Placed) → characters close ≡ c ∷ cs → 1 ≤ length (close ++ more)
@@ -55,10 +53,7 @@ comment_errors end rest span d es (unclosed r s b data_is errors_are) = (error E
 no_null : (close : List Placed) → characters close ≡ codes ">" → null_errors close ≡ []
 no_null [] c = refl
 no_null (q ∷ r ∷ qs) c = absurd cc
-no_null (q ∷ []) c =
-    let is : q.ch ≡ 62 = first_is q [] 62 [] c in
-    let not : eqb q.ch 0 ≡ false = rw is refl in
-    simp not
+no_null (q ∷ []) c = rw (first_is q [] 62 [] c) refl
 
 bogus_errors : (rest span : List Placed) (d : List ℕ) (es : List ParseError) → IsBogus rest span d es → es ≡ null_errors span
 bogus_errors rest span d es (closed_bogus inner close t b c data_is errors_are) =

@@ -1,13 +1,14 @@
 -- Classes of characters that exclude each other, and the errors of characters that are not NUL.
+use Rattle.std.proofs.lemmas.Bool.{cases_eq}
+use Rattle.std.proofs.Common.{inl, inr}
 use Rattle.hmarkup.proofs.Names.{◌≡◌, ℕ, ◌≤◌, ◌+◌, Bool, true, false, cond, nat_lt, ◌||◌, eqb, [], ◌∷◌, sym, refl, subst, arith, false≢true, eqb-true, nat_tests, to_ascii_lowercase, Placed, is_space, is_greater, is_quote, null_errors}
-
-quote_of : (c : ℕ) (a : Bool) → eqb c 34 ≡ a → (a || eqb c 39) ≡ true → (P : ℕ → Type 0) → P 34 → P 39 → P c
-quote_of c true e h P x y = subst P (sym (eqb-true c 34 e)) x
-quote_of c false e h P x y = subst P (sym (eqb-true c 39 h)) y
 
 -- what holds of both quotes
 pub quote_is : (c : ℕ) → is_quote c ≡ true → (P : ℕ → Type 0) → P 34 → P 39 → P c
-quote_is c h P x y = quote_of c (eqb c 34) refl h P x y
+quote_is c h P x y = elim (cases_eq c 34) [
+  | inl is ↦ rw is x
+  | inr other ↦ let is : c ≡ 39 = grind (arith, nat_tests) in rw is y
+]
 
 pub quote_not_space : (c : ℕ) → is_quote c ≡ true → is_space c ≡ false
 quote_not_space c h = quote_is c h (λ n. is_space n ≡ false) refl refl
@@ -24,20 +25,12 @@ greater_not_space c h = subst (λ (n : ℕ). is_space n ≡ false) (sym (eqb-tru
 pub greater_not_null : (c : ℕ) → is_greater c ≡ true → eqb c 0 ≡ false
 greater_not_null c h = subst (λ (n : ℕ). eqb n 0 ≡ false) (sym (eqb-true c 62 h)) refl
 
-space_null : (c : ℕ) (b : Bool) → eqb c 0 ≡ b → is_space c ≡ true → b ≡ false
-space_null c true e h = absurd (false≢true (subst (λ (n : ℕ). is_space n ≡ true) (eqb-true c 0 e) h))
-space_null c false e h = refl
-
 pub space_not_null : (c : ℕ) → is_space c ≡ true → eqb c 0 ≡ false
-space_not_null c h = space_null c (eqb c 0) refl h
+space_not_null c h = grind (arith, nat_tests)
 
 -- letters of a keyword
-lower_far : (c k : ℕ) (a b : Bool) → nat_lt c 65 ≡ a → cond a c (cond b (c + 32) c) ≡ k → 97 ≤ k → 65 ≤ c
-lower_far c k true b e h l = absurd (grind (arith, nat_tests))
-lower_far c k false b e h l = grind (arith, nat_tests)
-
 pub lower_is_far : (c k : ℕ) → to_ascii_lowercase c ≡ k → 97 ≤ k → 65 ≤ c
-lower_is_far c k h l = lower_far c k (nat_lt c 65) (nat_lt c 91) refl h l
+lower_is_far c k h l = grind (arith, nat_tests)
 
 pub far_not_space : (c : ℕ) → 65 ≤ c → is_space c ≡ false
 far_not_space c h = grind (arith, nat_tests)

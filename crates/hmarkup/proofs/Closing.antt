@@ -14,9 +14,7 @@ use Rattle.hmarkup.proofs.Walking.{kept_other, closed_now}
 -- two dashes after any ending
 two_dashes : (ending : Ending) → next_ending (next_ending ending 45) 45 ≡ Dashes
 two_dashes Plain = refl
-two_dashes Dash = refl
-two_dashes Dashes = refl
-two_dashes Bang = refl
+two_dashes _ = refl
 
 -- what completes a longer text completes the text, with the characters between them in front
 closed_sooner : {V : Type 0} (IsSpan : ℕ → List Placed → List Placed → V → List ParseError → Type 0) (text front closing : List Placed) → ClosedBy IsSpan (text ++ front) closing → ClosedBy IsSpan text (front ++ closing)
@@ -53,18 +51,13 @@ module _ (w : Progress) (text : List Placed) (errs : List ParseError) (h : IsInC
       }))
 
 pub closed_span : (kind : CommentKind) (w : Progress) (text closing : List Placed) (errs : List ParseError) → HasReadOf kind w text errs → characters closing ≡ closing_mark kind → ClosedBy (IsSpan kind) text closing
-closed_span Comment w text [] errs h is = absurd cc
-closed_span Comment w text (a ∷ []) errs h is = absurd cc
-closed_span Comment w text (a ∷ b ∷ []) errs h is = absurd cc
 closed_span Comment w text (a ∷ b ∷ c ∷ []) errs h is =
     let a_is : a.ch ≡ 45 = cc in
     let b_is : b.ch ≡ 45 = cc in
     let c_is : c.ch ≡ 62 = cc in
     closed_by_dashes w text errs h a b c a_is b_is c_is
-closed_span Comment w text (a ∷ b ∷ c ∷ d ∷ more) errs h is = absurd cc
-closed_span Bogus w text [] errs h is = absurd cc
 closed_span Bogus w text (p ∷ []) errs h is = record { value = _; errors = _; is_span = bogus_closed w text errs p.ch p.at h (first_is p [] 62 [] is) }
-closed_span Bogus w text (p ∷ q ∷ more) errs h is = absurd cc
+closed_span _ w text _ errs h is = absurd cc
 
 -- `>` ends a doctype in each phase
 no_quote : (mark : ℕ) → is_quote mark ≡ true → eqb 62 mark ≡ false
@@ -74,15 +67,9 @@ no_letter : (letters : Letters) → letters.read < 6 → eqb 62 (next_letter let
 no_letter letters fits = let far = next_is_letter letters fits in ne_eqb 62 (next_letter letters) (λ e. absurd (omega (arith, e)))
 
 ends_doctype : (phase : DoctypeState) (known : Found) (at : ℕ) → Fits phase known → (step phase (record { ch = 62; at = at })).next ≡ None
-ends_doctype (phase.BeforeName spaced) known at fits = refl
-ends_doctype phase.Name known at fits = refl
-ends_doctype phase.AfterName known at fits = refl
 ends_doctype (phase.Keyword letters first) known at fits = simp (no_letter letters fits)
-ends_doctype (phase.AfterKeyword which spaced) known at fits = refl
 ends_doctype (phase.Quoted which mark) known at fits = simp (no_quote mark fits.0)
-ends_doctype (phase.AfterPublic spaced) known at fits = refl
-ends_doctype phase.AfterSystem known at fits = refl
-ends_doctype phase.Skipped known at fits = refl
+ends_doctype _ known at fits = refl
 
 closed_by_greater : (w : Reading) (text : List Placed) (errs : List ParseError) (ch at : ℕ) → ch ≡ 62 → HasReadDoctype w text errs → (step w.phase (record { ch = ch; at = at })).next ≡ None
 closed_by_greater w text errs ch at is h = subst (λ (c : ℕ). (step w.phase (record { ch = c; at = at })).next ≡ None) (sym is) (ends_doctype w.phase w.found at h.fits)

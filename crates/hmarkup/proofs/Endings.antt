@@ -89,8 +89,7 @@ module _ (known : Found) (end : ℕ) (rest : List Placed) (found : Found) where
           empty_is : (xs : List Placed) → is_empty xs ≡ true → xs ≡ []
           empty_is [] h = refl
           empty_is (x ∷ xs) h = absurd (false≢true h)
-      none_left [] (q ∷ qs) t c f e = absurd cc
-      none_left (s ∷ ss) close t c f e = absurd cc
+      none_left _ _ t c f e = absurd cc
 
 pub skips_at : (known : Found) (end : ℕ) (rest : List Placed) (found : Found) (p : Placed) (ps : List Placed) (errors : List ParseError) (test : List Placed → Bool) (fault : ErrorCode) → Skips test fault known end rest (p ∷ ps) found errors
     → (is_space p.ch ≡ false) × (is_greater p.ch ≡ false) × (test (p ∷ ps) ≡ false) × ((later : List ParseError) × (errors ≡ (error fault p.at ∷ null_errors (p ∷ [])) ++ later) × IsSkipped known end rest ps found later)

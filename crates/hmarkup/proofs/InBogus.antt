@@ -1,5 +1,5 @@
 -- A bogus comment that has not ended, and one more character or the end.
-use Rattle.hmarkup.proofs.Names.{◌≡◌, ℕ, Bool, true, false, not, ◌&&◌, ◌||◌, eqb, List, [], ◌∷◌, ◌++◌, sym, refl, ap, ◌∙◌, append-nil, false≢true, encode_utf8, ParseError, Placed, all, before, Avoids, null_errors, text_bytes, without_null, Bogus, errors_here, closes_bogus, IsBogus, closed_bogus, unclosed_bogus, Progress, begun, IsInBogus}
+use Rattle.hmarkup.proofs.Names.{arith, ◌≡◌, ℕ, Bool, true, false, not, ◌&&◌, ◌||◌, eqb, List, [], ◌∷◌, ◌++◌, sym, refl, ap, ◌∙◌, append-nil, false≢true, encode_utf8, ParseError, Placed, all, before, Avoids, null_errors, text_bytes, without_null, Bogus, errors_here, closes_bogus, IsBogus, closed_bogus, unclosed_bogus, Progress, begun, IsInBogus}
 use Rattle.hmarkup.specs.Comment.{is_plain_in_bogus}
 use Rattle.hmarkup.proofs.Marks.{Avoids-more, Avoids-append, before-avoids, text_bytes-append, null_errors-append}
 
@@ -35,9 +35,7 @@ bogus_unclosed w text errs h = unclosed_bogus refl (before-bogus w text errs h) 
 
 -- plain characters have been read: they close nothing, and none is an error
 plain_parts : (greater null others : Bool) → (not (greater || null) && others) ≡ true → (greater ≡ false) × (null ≡ false) × (others ≡ true)
-plain_parts true null others h = absurd (false≢true h)
-plain_parts false true others h = absurd (false≢true h)
-plain_parts false false others h = (refl, refl, h)
+plain_parts greater null others h = (grind arith, grind arith, grind arith)
 
 plain_avoids : (text : List Placed) → all is_plain_in_bogus text ≡ true → Avoids closes_bogus text []
 plain_avoids [] h = tt

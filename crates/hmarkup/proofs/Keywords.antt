@@ -11,7 +11,7 @@ use Rattle.hmarkup.proofs.Marks.{eqb_self}
 use Rattle.hmarkup.proofs.Characters.{lower_is_far, far_not_space, far_not_greater, far_not_null, no_null_error}
 use Rattle.hmarkup.proofs.Spaces.{past_space, at_once, with_space, with_none, any_space}
 use Rattle.hmarkup.proofs.Endings.{greater_spells, end_at, end_not_space, skipped_ends, skipped_goes, skipped_more, skips_at, skips_from, skips_not_space}
-use Rattle.hmarkup.proofs.Stepping.{Goes, Stepped, plain_errors, space_error, greater_error}
+use Rattle.hmarkup.proofs.Stepping.{Goes, Stepped, passed, plain_errors, space_error, greater_error}
 
 -- keywords, a letter at a time
 pub left_after : Option Letters → List ℕ
@@ -118,19 +118,11 @@ module _ (known : Found) (end : ℕ) (rest : List Placed) (p : Placed) (ps : Lis
   skips_by errors true b ea eb none later e h =
       let c : to_ascii_lowercase p.ch ≡ 112 = eqb-true (to_ascii_lowercase p.ch) 112 ea in
       let n : null_errors (p ∷ []) ≡ [] = letter_error p 112 c (omega arith) in
-      record {
-        later = errors;
-        errors_are = sym (plain_errors p n None errors);
-        goes = fails later (rest_no (eqb (to_ascii_lowercase p.ch) 112) (spells_in_any_case (codes "ublic") ps) ea (or_parts _ _ none).0) h (e ∙ plain_errors p n (Some (error InvalidCharacterSequenceAfterDoctypeName p.at)) later);
-      }
+      passed _ known end rest p ps found errors n (fails later (rest_no (eqb (to_ascii_lowercase p.ch) 112) (spells_in_any_case (codes "ublic") ps) ea (or_parts _ _ none).0) h (e ∙ plain_errors p n (Some (error InvalidCharacterSequenceAfterDoctypeName p.at)) later))
   skips_by errors false true ea eb none later e h =
       let c : to_ascii_lowercase p.ch ≡ 115 = eqb-true (to_ascii_lowercase p.ch) 115 eb in
       let n : null_errors (p ∷ []) ≡ [] = letter_error p 115 c (omega arith) in
-      record {
-        later = errors;
-        errors_are = sym (plain_errors p n None errors);
-        goes = fails later (rest_no (eqb (to_ascii_lowercase p.ch) 115) (spells_in_any_case (codes "ystem") ps) eb (or_parts _ _ none).1) h (e ∙ plain_errors p n (Some (error InvalidCharacterSequenceAfterDoctypeName p.at)) later);
-      }
+      passed _ known end rest p ps found errors n (fails later (rest_no (eqb (to_ascii_lowercase p.ch) 115) (spells_in_any_case (codes "ystem") ps) eb (or_parts _ _ none).1) h (e ∙ plain_errors p n (Some (error InvalidCharacterSequenceAfterDoctypeName p.at)) later))
   skips_by errors false false ea eb none later e h = record { later = later; errors_are = e; goes = h }
 
   keyword_by : (errors : List ParseError) (which : Identifier) (word after : List Placed) (a b : Bool) → eqb (to_ascii_lowercase p.ch) 112 ≡ a → eqb (to_ascii_lowercase p.ch) 115 ≡ b
@@ -139,21 +131,12 @@ module _ (known : Found) (end : ℕ) (rest : List Placed) (p : Placed) (ps : Lis
   keyword_by errors Public word after a b ea eb t w k =
       let v : Worded p ps 112 (codes "ublic") after = worded p ps word after 112 (codes "ublic") t w in
       let is : a ≡ true = sym ea ∙ ap (λ (n : ℕ). eqb n 112) v.letter in
-      subst (λ (x : Bool). Stepped (begins_keyword (first_by x b) p.at) known end rest p ps found errors) (sym is) (record {
-        later = errors;
-        errors_are = sym (plain_errors p (letter_error p 112 v.letter (omega arith)) None errors);
-        goes = whole v.more after v.text_is v.others k;
-      })
+      rw is (passed _ known end rest p ps found errors (letter_error p 112 v.letter (omega arith)) (whole v.more after v.text_is v.others k))
   keyword_by errors System word after a b ea eb t w k =
       let v : Worded p ps 115 (codes "ystem") after = worded p ps word after 115 (codes "ystem") t w in
       let is : a ≡ false = sym ea ∙ ap (λ (n : ℕ). eqb n 112) v.letter in
       let is_s : b ≡ true = sym eb ∙ ap (λ (n : ℕ). eqb n 115) v.letter in
-      subst (λ (x : Bool). Stepped (begins_keyword (first_by x b) p.at) known end rest p ps found errors) (sym is)
-      (subst (λ (x : Bool). Stepped (begins_keyword (first_by false x) p.at) known end rest p ps found errors) (sym is_s) (record {
-        later = errors;
-        errors_are = sym (plain_errors p (letter_error p 115 v.letter (omega arith)) None errors);
-        goes = whole v.more after v.text_is v.others k;
-      }))
+      rw (is, is_s) (passed _ known end rest p ps found errors (letter_error p 115 v.letter (omega arith)) (whole v.more after v.text_is v.others k))
 
   -- after the name, neither white space nor `>`
   from_name_core : (errors : List ParseError) (g a b : Bool) → is_greater p.ch ≡ g → eqb (to_ascii_lowercase p.ch) 112 ≡ a → eqb (to_ascii_lowercase p.ch) 115 ≡ b
@@ -169,11 +152,7 @@ module _ (known : Found) (end : ℕ) (rest : List Placed) (p : Placed) (ps : Lis
 
   pub from_after_name : (errors : List ParseError) (s g : Bool) → is_space p.ch ≡ s → is_greater p.ch ≡ g → FollowsName known end rest (p ∷ ps) found errors
       → Stepped (after_name s g (first_letter p.ch) p.at) known end rest p ps found errors
-  from_after_name errors true g es eg h = record {
-    later = errors;
-    errors_are = sym (plain_errors p (space_error p es) None errors);
-    goes = any_space (AfterName known) true false end rest ps found errors (past_space (λ spaced. AfterName known) false end rest found errors p ps h es (λ b text. name_not_space known end rest found text errors));
-  }
+  from_after_name errors true g es eg h = passed _ known end rest p ps found errors (space_error p es) (any_space (AfterName known) true false end rest ps found errors (past_space (λ spaced. AfterName known) false end rest found errors p ps h es (λ b text. name_not_space known end rest found text errors)))
   from_after_name errors false g es eg h = from_name_core errors g _ _ eg refl refl (at_once (λ spaced. AfterName known) false end rest found errors (p ∷ ps) h es)
 
   -- backwards
@@ -232,26 +211,14 @@ module _ (known : Found) (end : ℕ) (rest : List Placed) (p : Placed) (ps : Lis
       → Stepped (goes_on_with letters.which next first) known end rest p ps found errors
   unfolding left_after
   keyword_goes letters first errors None (x ∷ xs) after w t l k n = absurd cc
-  keyword_goes letters first errors None [] after w t l k n = record {
-    later = errors;
-    errors_are = sym (plain_errors p n None errors);
-    goes = subst (λ (x : List Placed). FollowsKeyword letters.which known end rest x found errors) (sym t) k;
-  }
-  keyword_goes letters first errors (Some next) word after w t l k n = record {
-    later = errors;
-    errors_are = sym (plain_errors p n None errors);
-    goes = whole word after t l (subst (λ (x : Identifier). FollowsKeyword x known end rest after found errors) (sym w.0) k);
-  }
+  keyword_goes letters first errors None [] after w t l k n = passed _ known end rest p ps found errors n (subst (λ (x : List Placed). FollowsKeyword letters.which known end rest x found errors) (sym t) k)
+  keyword_goes letters first errors (Some next) word after w t l k n = passed _ known end rest p ps found errors n (whole word after t l (subst (λ (x : Identifier). FollowsKeyword x known end rest after found errors) (sym w.0) k))
 
   keyword_fails : (letters : Letters) (first : ℕ) (errors later : List ParseError) (next : Option Letters) → spells_in_any_case (left_after next) ps ≡ false → IsSkipped (force known) end rest ps found later
       → errors ≡ error InvalidCharacterSequenceAfterDoctypeName first ∷ later → null_errors (p ∷ []) ≡ [] → Stepped (goes_on_with letters.which next first) known end rest p ps found errors
   unfolding left_after
   keyword_fails letters first errors later None sp h e n = absurd (false≢true (sym sp))
-  keyword_fails letters first errors later (Some next) sp h e n = record {
-    later = errors;
-    errors_are = sym (plain_errors p n None errors);
-    goes = fails later sp h e;
-  }
+  keyword_fails letters first errors later (Some next) sp h e n = passed _ known end rest p ps found errors n (fails later sp h e)
 
   pub from_keyword : (letters : Letters) (first : ℕ) (errors : List ParseError) → letters.read < 6 → (m g : Bool) → eqb (to_ascii_lowercase p.ch) (next_letter letters) ≡ m → is_greater p.ch ≡ g
       → IsInKeyword letters first known end rest (p ∷ ps) found errors → Stepped (in_keyword letters first m g) known end rest p ps found errors

@@ -1,5 +1,5 @@
 -- Lines of a text, and texts that are cut at a mark.
-use Rattle.hmarkup.proofs.Names.{◌≡◌, ℕ, ◌+◌, ◌<◌, suc, Bool, false, ◌||◌, eqb, cond, List, [], ◌∷◌, ◌++◌, length, get_or, sym, refl, ap, ◌∙◌, subst, Option, Some, None, Ok, Err, append-nil, arith, false≢true, eqb-true, false_from_ne_true, or_parts, lines, AreQuirkLines}
+use Rattle.hmarkup.proofs.Names.{nat_tests, ◌≡◌, ℕ, ◌+◌, ◌<◌, suc, Bool, false, ◌||◌, eqb, cond, List, [], ◌∷◌, ◌++◌, length, get_or, sym, refl, ap, ◌∙◌, subst, Option, Some, None, Ok, Err, append-nil, arith, false≢true, eqb-true, false_from_ne_true, or_parts, lines, AreQuirkLines}
 use Rattle.std.proofs.Common.{◌≢◌, Bor}
 use Rattle.std.specs.Prelude.{MatchOption}
 use Rattle.std.specs.List.{list_any}
@@ -46,11 +46,9 @@ last_of (c ∷ d ∷ cs) h l =
 one_cut : (c : ℕ) (xs ys zs ws : List ℕ) → Lacks c xs → Lacks c zs → xs ++ c ∷ ys ≡ zs ++ c ∷ ws → (xs ≡ zs) × (ys ≡ ws)
 one_cut c [] ys [] ws h k e = (refl, cc)
 one_cut c [] ys (z ∷ zs) ws h k e =
-    let head : z ≡ c = cc in
-    absurd (false≢true (sym (or_parts (eqb z c) (list_any (λ d. eqb d c) zs) k).0 ∙ ap (λ (n : ℕ). eqb n c) head ∙ eqb_self c))
+    let head : z ≡ c = cc in absurd (grind (arith, nat_tests))
 one_cut c (x ∷ xs) ys [] ws h k e =
-    let head : x ≡ c = cc in
-    absurd (false≢true (sym (or_parts (eqb x c) (list_any (λ d. eqb d c) xs) h).0 ∙ ap (λ (n : ℕ). eqb n c) head ∙ eqb_self c))
+    let head : x ≡ c = cc in absurd (grind (arith, nat_tests))
 one_cut c (x ∷ xs) ys (z ∷ zs) ws h k e =
     let head : x ≡ z = cc in
     let tail : xs ++ c ∷ ys ≡ zs ++ c ∷ ws = cc in
@@ -59,9 +57,7 @@ one_cut c (x ∷ xs) ys (z ∷ zs) ws h k e =
 
 word_lacks : (kind : QuirkKind) → Lacks 32 (quirk_word kind)
 word_lacks PublicIs = refl
-word_lacks PublicBegins = refl
-word_lacks SystemIs = refl
-word_lacks PublicBeginsWithoutSystem = refl
+word_lacks _ = refl
 
 -- lines of the list
 cut_is : (line word text : List ℕ) → HasParts 32 line word text → (quirk : QuirkLine) → IsQuirkLine line quirk → (word ≡ quirk_word quirk.kind) × (text ≡ quirk.text)
@@ -73,15 +69,13 @@ no_word_none line word text h none quirk k = none quirk.kind (cut_is line word t
 -- one line more
 pub are_more : (before : List (List ℕ)) (line : List ℕ) (quirks : List QuirkLine) (quirk : QuirkLine) → AreQuirkLines before quirks → IsQuirkLine line quirk → AreQuirkLines (before ++ line ∷ []) (quirks ++ quirk ∷ [])
 are_more [] line [] quirk h k = (k, tt)
-are_more [] line (q ∷ qs) quirk h k = absurd h
-are_more (b ∷ bs) line [] quirk h k = absurd h
 are_more (b ∷ bs) line (q ∷ qs) quirk h k = (h.0, are_more bs line qs quirk h.1 k)
+are_more _ line _ quirk h k = absurd h
 
 pub are_as_many : (before : List (List ℕ)) (quirks : List QuirkLine) → AreQuirkLines before quirks → length quirks ≡ length before
 are_as_many [] [] h = refl
-are_as_many [] (q ∷ qs) h = absurd h
-are_as_many (b ∷ bs) [] h = absurd h
 are_as_many (b ∷ bs) (q ∷ qs) h = let e = are_as_many bs qs h.1 in omega (arith, e)
+are_as_many _ _ h = absurd h
 
 -- the outcomes of reading a list
 pub at_bad_line : (text rest line after : List ℕ) (before : List (List ℕ)) (quirks : List QuirkLine) (n : ℕ) → lines text ≡ before ++ lines rest → AreQuirkLines before quirks → lines rest ≡ line ∷ lines after → IsNoQuirkLine line

@@ -16,8 +16,7 @@ before-here mark (x ∷ xs) h = ap (λ (b : Bool). cond b [] (x ∷ before mark 
 
 -- which is no longer than what is before one place of the mark
 shorter : (b : Bool) (x : Placed) (front xs : List Placed) → length front ≤ length xs → length (cond b [] (x ∷ front)) ≤ length (x ∷ xs)
-shorter true x front xs h = omega arith
-shorter false x front xs h = omega (arith, h)
+shorter b x front xs h = grind (arith, nat_tests)
 
 pub before-short : (mark : List Placed → Bool) (xs ys : List Placed) → mark ys ≡ true → length (before mark (xs ++ ys)) ≤ length xs
 before-short mark [] ys h = omega (arith, ap length (before-here mark ys h))
@@ -63,8 +62,7 @@ front-longer (x ∷ xs) (c ∷ cs) n h =
     and_from (eqb x.ch c) (is_front xs (cs ++ n)) k.0 (front-longer xs cs n k.1)
 
 under : (b f s t : Bool) → (f ≡ false → s ≡ false → t ≡ false) → (b && f) ≡ false → (b && s) ≡ false → (b && t) ≡ false
-under true f s t go h k = go h k
-under false f s t go h k = refl
+under b f s t go h k = grind (arith, go)
 
 -- A mark of one more character is avoided by a longer text too, unless the text is a beginning of it.
 pub spells-more : (m : List ℕ) (k : ℕ) (xs : List Placed) (p : Placed) → is_front xs m ≡ false → spells (m ++ k ∷ []) xs ≡ false → spells (m ++ k ∷ []) (xs ++ p ∷ []) ≡ false

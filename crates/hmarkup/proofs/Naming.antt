@@ -7,7 +7,7 @@ use Rattle.hmarkup.proofs.Characters.{greater_not_space}
 use Rattle.hmarkup.proofs.Parts.{named-cons, named_not}
 use Rattle.hmarkup.proofs.Spaces.{past_space, at_once, with_space, with_none, any_space}
 use Rattle.hmarkup.proofs.Endings.{only_greater, greater_spells, neither_of, not_either}
-use Rattle.hmarkup.proofs.Stepping.{Goes, Stepped, plain_errors, space_error, greater_error, fault_if}
+use Rattle.hmarkup.proofs.Stepping.{Goes, Stepped, passed, plain_errors, space_error, greater_error, fault_if}
 use Rattle.hmarkup.proofs.Keywords.{name_not_space, name_ended}
 
 module _ (known : Found) (end : ℕ) (rest : List Placed) (p : Placed) (ps : List Placed) (found : Found) where
@@ -55,11 +55,7 @@ module _ (known : Found) (end : ℕ) (rest : List Placed) (p : Placed) (ps : Lis
       → Stepped (in_name s g) known end rest p ps found errors
   from_name errors true g es eg begun h =
       let k : FollowsName known end rest (p ∷ ps) found errors = name_stops errors h (or_left (is_space p.ch) (is_greater p.ch) es) begun in
-      record {
-        later = errors;
-        errors_are = sym (plain_errors p (space_error p es) None errors);
-        goes = any_space (AfterName known) true false end rest ps found errors (past_space (λ spaced. AfterName known) false end rest found errors p ps k es (λ b text. name_not_space known end rest found text errors));
-      }
+      passed _ known end rest p ps found errors (space_error p es) (any_space (AfterName known) true false end rest ps found errors (past_space (λ spaced. AfterName known) false end rest found errors p ps k es (λ b text. name_not_space known end rest found text errors)))
   from_name errors false true es eg begun h =
       let k : FollowsName known end rest (p ∷ ps) found errors = name_stops errors h (or_right (is_space p.ch) (is_greater p.ch) eg) begun in
       let m = name_ended known end rest p ps found errors eg (at_once (λ spaced. AfterName known) false end rest found errors (p ∷ ps) k es) in
@@ -131,11 +127,7 @@ module _ (known : Found) (end : ℕ) (rest : List Placed) (p : Placed) (ps : Lis
 
   pub from_before : (errors : List ParseError) (spaced s g : Bool) → is_space p.ch ≡ s → is_greater p.ch ≡ g → AfterSpace (AfterOpening known) spaced end rest (p ∷ ps) found errors
       → Stepped (before_name spaced s g p.at) known end rest p ps found errors
-  from_before errors spaced true g es eg h = record {
-    later = errors;
-    errors_are = sym (plain_errors p (space_error p es) None errors);
-    goes = past_space (AfterOpening known) spaced end rest found errors p ps h es (λ b text. opening_not_space b text errors);
-  }
+  from_before errors spaced true g es eg h = passed _ known end rest p ps found errors (space_error p es) (past_space (AfterOpening known) spaced end rest found errors p ps h es (λ b text. opening_not_space b text errors))
   from_before errors spaced false g es eg h = from_opening errors spaced g es eg (at_once (AfterOpening known) spaced end rest found errors (p ∷ ps) h es)
 
   pub to_before : (later : List ParseError) (spaced s g : Bool) → is_space p.ch ≡ s → is_greater p.ch ≡ g → Goes (before_name spaced s g p.at).next (found_by (before_name spaced s g p.at) p known) end rest ps found later

@@ -17,9 +17,8 @@ Avoids-any [] after others h = tt
 Avoids-any (x ∷ xs) after others h = (h.0, Avoids-any xs after others h.1)
 
 one_char : (close rest : List Placed) → characters close ≡ codes ">" → length (take 1 (close ++ rest)) ≡ length close
-one_char [] rest c = absurd cc
-one_char (q ∷ r ∷ qs) rest c = absurd cc
 one_char (q ∷ []) rest c = refl
+one_char _ rest c = absurd cc
 
 told_bogus : (rest text : List Placed) (d : List ℕ) (es : List ParseError) → IsBogus rest text d es → IsToldBogus rest text d es
 told_bogus rest text d es (closed_bogus inner close t b c data_is errors_are) =

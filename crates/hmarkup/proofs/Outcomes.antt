@@ -18,41 +18,21 @@ module _ {S : Type 0} (gives : S → ParseError → Result (Unit {0}) Refusal �
     pub take_goes_on : (next : DoctypeState) (found : Found) → Hands gives old (step_errors s p) (Ok tt) new → s.next ≡ Some next → found ≡ found_by s p w.found
         → Takes gives HasReadDoctype IsDoctype text errs p old (Ok false) (record { phase = next; found = found }) found new
     take_goes_on next found given is f =
-        goes_on (step_errors s p) refl given
-        (subst (λ (x : Found). HasReadDoctype (record { phase = next; found = x }) (text ++ p ∷ []) (errs ++ step_errors s p)) (sym f)
-        (subst (λ (x : Step). HasReadDoctype (record { phase = next; found = found_by x p w.found }) (text ++ p ∷ []) (errs ++ step_errors x p)) (sym s_is)
-        (read_more w text errs p h next (ap (λ (x : Step). x.next) (sym s_is) ∙ is))))
+        goes_on (step_errors s p) refl given (rw (f, s_is) (read_more w text errs p h next (ap (λ (x : Step). x.next) (sym s_is) ∙ is)))
 
     pub take_ended : (walk : Reading) (found : Found) → Hands gives old (step_errors s p) (Ok tt) new → s.next ≡ None → found ≡ found_by s p w.found
         → Takes gives HasReadDoctype IsDoctype text errs p old (Ok true) walk found new
     take_ended walk found given is f =
-        ended (step_errors s p) refl given
-        (λ end rest. subst (λ (x : Found). IsDoctype end rest (text ++ p ∷ []) x (errs ++ step_errors s p)) (sym f)
-        (subst (λ (x : Step). IsDoctype end rest (text ++ p ∷ []) (found_by x p w.found) (errs ++ step_errors x p)) (sym s_is)
-        (read_whole w text errs p h (ap (λ (x : Step). x.next) (sym s_is) ∙ is) end rest)))
+        ended (step_errors s p) refl given (λ end rest. rw (f, s_is) (read_whole w text errs p h (ap (λ (x : Step). x.next) (sym s_is) ∙ is) end rest))
 
   -- the end of input
   forced_at : (phase : DoctypeState) (end : ℕ) (fault : ParseError) → end_fault phase end ≡ Some fault → (known : Found) → found_at_end phase known ≡ force known
-  forced_at (phase.BeforeName spaced) end fault e known = refl
-  forced_at phase.Name end fault e known = refl
-  forced_at phase.AfterName end fault e known = refl
-  forced_at (phase.Keyword letters first) end fault e known = refl
-  forced_at (phase.AfterKeyword which spaced) end fault e known = refl
-  forced_at (phase.Quoted which mark) end fault e known = refl
-  forced_at (phase.AfterPublic spaced) end fault e known = refl
-  forced_at phase.AfterSystem end fault e known = refl
   forced_at phase.Skipped end fault e known = absurd cc
+  forced_at _ end fault e known = refl
 
   as_it_was : (phase : DoctypeState) (end : ℕ) → end_fault phase end ≡ None → (known : Found) → found_at_end phase known ≡ known
-  as_it_was (phase.BeforeName spaced) end e known = absurd cc
-  as_it_was phase.Name end e known = absurd cc
-  as_it_was phase.AfterName end e known = absurd cc
-  as_it_was (phase.Keyword letters first) end e known = absurd cc
-  as_it_was (phase.AfterKeyword which spaced) end e known = absurd cc
-  as_it_was (phase.Quoted which mark) end e known = absurd cc
-  as_it_was (phase.AfterPublic spaced) end e known = absurd cc
-  as_it_was phase.AfterSystem end e known = absurd cc
   as_it_was phase.Skipped end e known = refl
+  as_it_was _ end e known = absurd cc
 
   pub end_faulty : (end : ℕ) (fault : ParseError) (found : Found) (old new : S) (answer : Result (Unit {0}) Refusal) → end_fault w.phase end ≡ Some fault → found ≡ force w.found → gives old fault answer new
       → Ends gives IsDoctype text errs end found old answer new

@@ -39,6 +39,3 @@ named-cons p ps known = ap (λ (x : List ℕ). named x known) (name_bytes-append
 
 pub identified-cons : (which : Identifier) (p : Placed) (ps : List Placed) (known : Found) → identified which (text_bytes (p ∷ ps)) known ≡ identified which (text_bytes ps) (identified which (text_bytes (p ∷ [])) known)
 identified-cons which p ps known = ap (λ (x : List ℕ). identified which x known) (text_bytes-append (p ∷ []) ps) ∙ sym (identified-twice which (text_bytes (p ∷ [])) (text_bytes ps) known)
-
-pub identified-begun : (which : Identifier) (bytes : List ℕ) (known : Found) → identified which bytes (identified which [] known) ≡ identified which bytes known
-identified-begun which bytes known = identified-twice which [] bytes known

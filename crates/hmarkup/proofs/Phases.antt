@@ -1,6 +1,7 @@
 -- Each character of a doctype, and its end, in each phase.
-use Rattle.hmarkup.proofs.Names.{◌≡◌, ◌<◌, ℕ, arith, eqb, Bool, true, false, List, [], ◌∷◌, ◌++◌, sym, refl, ap, ◌∙◌, subst, Option, Some, None, is_some, to_ascii_lowercase, false≢true, ParseError, EofInDoctype, InvalidCharacterSequenceAfterDoctypeName, Placed, spells_in_any_case, is_quote, error, null_errors, text_bytes, name_bytes, Identifier, Public, System, Letters, DoctypeState, Found, IsEnd, cut_off, force, named, IsInside, quoted, abrupt, AfterSystemIdentifier, system_ends, system_skips, AfterPublicIdentifier, public_ends, public_skips, second, Follows, AfterKeyword, identifier, missing, keyword_skips, keyword_cut_off, AfterName, name_ends, name_skips, names_identifier, FollowsName, AfterOpening, begins_name, nameless, unfinished, first_letter, before_name, in_name, begins_keyword, after_name, goes_on_with, in_keyword, after_keyword, follows, in_quotes, after_public, after_system, in_skipped, step, step_errors, found_by, fault_errors, end_fault, found_at_end, letters_after, GoesOn, Fits, identifier_of, IsInKeyword, whole, fails}
+use Rattle.hmarkup.proofs.Names.{if◌then◌else◌, is_greater, length-append, is_space, Step, length, ◌≡◌, ◌<◌, ℕ, arith, eqb, Bool, true, false, List, [], ◌∷◌, ◌++◌, sym, refl, ap, ◌∙◌, subst, Option, Some, None, is_some, to_ascii_lowercase, false≢true, ParseError, EofInDoctype, InvalidCharacterSequenceAfterDoctypeName, Placed, spells_in_any_case, is_quote, error, null_errors, text_bytes, name_bytes, Identifier, Public, System, Letters, DoctypeState, Found, IsEnd, cut_off, force, named, IsInside, quoted, abrupt, AfterSystemIdentifier, system_ends, system_skips, AfterPublicIdentifier, public_ends, public_skips, second, Follows, AfterKeyword, identifier, missing, keyword_skips, keyword_cut_off, AfterName, name_ends, name_skips, names_identifier, FollowsName, AfterOpening, begins_name, nameless, unfinished, first_letter, before_name, in_name, begins_keyword, after_name, goes_on_with, in_keyword, after_keyword, follows, in_quotes, after_public, after_system, in_skipped, step, step_errors, found_by, fault_errors, end_fault, found_at_end, letters_after, GoesOn, Fits, identifier_of, IsInKeyword, whole, fails}
 use Rattle.hmarkup.specs.declared.doctype_state.DoctypeState.TheVariants as phase
+use Rattle.std.proofs.lemmas.List.{length-map}
 use Rattle.hmarkup.specs.Doctype.{unclosed}
 use Rattle.hmarkup.proofs.Parts.{named_not, identified_not, is_identified}
 use Rattle.hmarkup.proofs.Spaces.{at_once, with_none}
@@ -50,79 +51,39 @@ first_left : (c : ℕ) → AreLeft (first_letter c)
 first_left c = by (eqb (to_ascii_lowercase c) 112) (eqb (to_ascii_lowercase c) 115)
   where
     by : (a b : Bool) → AreLeft (first_by a b)
-    by true b = omega arith
-    by false true = omega arith
     by false false = tt
+    by _ _ = omega arith
 
 module _ (known : Found) (p : Placed) where
-  fits_before : (spaced s g : Bool) → FitsNext (before_name spaced s g p.at).next (found_by (before_name spaced s g p.at) p known)
-  fits_before spaced true g = tt
-  fits_before spaced false true = tt
-  fits_before spaced false false = refl
+  abbrev FitsAfter : Step → Type 0
+  FitsAfter s = FitsNext s.next (found_by s p known)
 
-  fits_name : (s g : Bool) → FitsNext (in_name s g).next (found_by (in_name s g) p known)
-  fits_name true g = tt
-  fits_name false true = tt
-  fits_name false false = refl
+  fits_if : (b : Bool) (x y : Step) → (b ≡ true → FitsAfter x) → FitsAfter y → FitsAfter (if b then x else y)
+  fits_if true x y f g = f refl
+  fits_if false x y f g = g
 
-  fits_letters : (letters : Option Letters) → AreLeft letters → FitsNext (begins_keyword letters p.at).next (found_by (begins_keyword letters p.at) p known)
+  fits_letters : (letters : Option Letters) → AreLeft letters → FitsAfter (begins_keyword letters p.at)
   fits_letters None left = tt
   fits_letters (Some letters) left = left
 
-  fits_after_name : (s g : Bool) (letters : Option Letters) → AreLeft letters → FitsNext (after_name s g letters p.at).next (found_by (after_name s g letters p.at) p known)
-  fits_after_name true g letters left = tt
-  fits_after_name false true letters left = tt
-  fits_after_name false false letters left = fits_letters letters left
-
-  fits_goes_on : (which : Identifier) (letters : Option Letters) (first : ℕ) → GoesOnAs which letters → FitsNext (goes_on_with which letters first).next (found_by (goes_on_with which letters first) p known)
+  fits_goes_on : (which : Identifier) (letters : Option Letters) (first : ℕ) → GoesOnAs which letters → FitsAfter (goes_on_with which letters first)
   fits_goes_on which None first same = tt
   fits_goes_on which (Some letters) first same = same.1
-
-  fits_keyword : (letters : Letters) (first : ℕ) (m g : Bool) → FitsNext (in_keyword letters first m g).next (found_by (in_keyword letters first m g) p known)
-  fits_keyword letters first true g = fits_goes_on letters.which (letters_after letters) first (goes_on_as letters)
-  fits_keyword letters first false true = tt
-  fits_keyword letters first false false = tt
-
-  fits_after_keyword : (which : Identifier) (spaced s g q : Bool) → is_quote p.ch ≡ q → FitsNext (after_keyword which spaced s g q p.ch p.at).next (found_by (after_keyword which spaced s g q p.ch p.at) p known)
-  fits_after_keyword which spaced true g q e = tt
-  fits_after_keyword which spaced false true q e = tt
-  fits_after_keyword which spaced false false true e = (e, is_identified which [] known)
-  fits_after_keyword which spaced false false false e = tt
 
   fits_follows : (which : Identifier) → Fits (follows which) known
   fits_follows Public = tt
   fits_follows System = tt
 
-  fits_quotes : (which : Identifier) (mark : ℕ) (c g : Bool) → is_quote mark ≡ true → FitsNext (in_quotes which mark c g p.at).next (found_by (in_quotes which mark c g p.at) p known)
-  fits_quotes which mark true g e = fits_follows which
-  fits_quotes which mark false true e = tt
-  fits_quotes which mark false false e = (e, is_identified which (text_bytes (p ∷ [])) known)
-
-  fits_public : (spaced s g q : Bool) → is_quote p.ch ≡ q → FitsNext (after_public spaced s g q p.ch p.at).next (found_by (after_public spaced s g q p.ch p.at) p known)
-  fits_public spaced true g q e = tt
-  fits_public spaced false true q e = tt
-  fits_public spaced false false true e = (e, refl)
-  fits_public spaced false false false e = tt
-
-  fits_system : (s g : Bool) → FitsNext (after_system s g p.at).next (found_by (after_system s g p.at) p known)
-  fits_system true g = tt
-  fits_system false true = tt
-  fits_system false false = tt
-
-  fits_skipped : (g : Bool) → FitsNext (in_skipped g).next (found_by (in_skipped g) p known)
-  fits_skipped true = tt
-  fits_skipped false = tt
-
   pub fits_next : (phase : DoctypeState) → Fits phase known → FitsNext (step phase p).next (found_by (step phase p) p known)
-  fits_next (phase.BeforeName spaced) fits = fits_before spaced _ _
-  fits_next phase.Name fits = fits_name _ _
-  fits_next phase.AfterName fits = fits_after_name _ _ _ (first_left p.ch)
-  fits_next (phase.Keyword letters first) fits = fits_keyword letters first _ _
-  fits_next (phase.AfterKeyword which spaced) fits = fits_after_keyword which spaced _ _ _ refl
-  fits_next (phase.Quoted which mark) fits = fits_quotes which mark _ _ fits.0
-  fits_next (phase.AfterPublic spaced) fits = fits_public spaced _ _ _ refl
-  fits_next phase.AfterSystem fits = fits_system _ _
-  fits_next phase.Skipped fits = fits_skipped _
+  fits_next phase.AfterName fits = fits_if (is_space p.ch) _ _ (λ _. tt) (fits_if (is_greater p.ch) _ _ (λ _. tt) (fits_letters _ (first_left p.ch)))
+  fits_next (phase.Keyword letters first) fits = fits_if _ _ _ (λ _. fits_goes_on letters.which (letters_after letters) first (goes_on_as letters)) (fits_if (is_greater p.ch) _ _ (λ _. tt) tt)
+  fits_next (phase.AfterKeyword which spaced) fits =
+      fits_if (is_space p.ch) _ _ (λ _. tt) (fits_if (is_greater p.ch) _ _ (λ _. tt) (fits_if (is_quote p.ch) _ _ (λ quote. (quote, is_identified which [] known)) tt))
+  fits_next (phase.Quoted which mark) fits = fits_if (eqb p.ch mark) _ _ (λ _. fits_follows which) (fits_if (is_greater p.ch) _ _ (λ _. tt) (fits.0, is_identified which (text_bytes (p ∷ [])) known))
+  fits_next (phase.AfterPublic spaced) fits = fits_if (is_space p.ch) _ _ (λ _. tt) (fits_if (is_greater p.ch) _ _ (λ _. tt) (fits_if (is_quote p.ch) _ _ (λ quote. (quote, refl)) tt))
+  fits_next phase.AfterSystem fits = fits_if (is_space p.ch) _ _ (λ _. tt) (fits_if (is_greater p.ch) _ _ (λ _. tt) tt)
+  fits_next phase.Skipped fits = fits_if (is_greater p.ch) _ _ (λ _. tt) tt
+  fits_next _ fits = fits_if (is_space p.ch) _ _ (λ _. tt) (fits_if (is_greater p.ch) _ _ (λ _. tt) refl)
 
 -- the end of input: each phase, from its production
 abbrev pub AtEnd : DoctypeState → Found → ℕ → List Placed → Found → List ParseError → Type 0
@@ -156,12 +117,9 @@ module _ (known : Found) (end : ℕ) (rest : List Placed) (found : Found) (error
   keyword_at_end which spaced (keyword_cut_off r t f e) = (r, f, e)
 
   inside_at_end : (which : Identifier) (mark : ℕ) → is_some (identifier_of which known) ≡ true → IsInside which mark (Follows which) known end rest [] found errors → CutOff
-  inside_at_end which mark begun (quoted [] [] after later t a m h e) = absurd cc
-  inside_at_end which mark begun (quoted [] (x ∷ xs) after later t a m h e) = absurd cc
-  inside_at_end which mark begun (quoted (x ∷ xs) close after later t a m h e) = absurd cc
-  inside_at_end which mark begun (abrupt [] [] t a m f e) = absurd cc
-  inside_at_end which mark begun (abrupt [] (x ∷ xs) t a m f e) = absurd cc
-  inside_at_end which mark begun (abrupt (x ∷ xs) close t a m f e) = absurd cc
+  inside_at_end which mark begun (quoted inside close after later t a m h e) =
+      absurd (omega (arith, ap length t, length-append inside (close ++ after), length-append close after, ap length m, length-map close (λ (p : Placed). p.ch)))
+  inside_at_end which mark begun (abrupt inside close t a m f e) = absurd (omega (arith, ap length t, length-append inside close, ap length m, length-map close (λ (p : Placed). p.ch)))
   inside_at_end which mark begun (unclosed r a f e) = (r, f ∙ ap force (identified_not which known begun), e)
 
   public_at_end : (spaced : Bool) → AfterPublicIdentifier known spaced end rest [] found errors → CutOff

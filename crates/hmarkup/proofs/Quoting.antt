@@ -1,12 +1,15 @@
 -- The identifiers of a doctype, and what is before them: each character.
-use Rattle.hmarkup.proofs.Names.{◌≡◌, ℕ, Bool, true, false, not, ◌||◌, eqb, if◌then◌else◌, List, [], ◌∷◌, ◌++◌, sym, refl, ap, ◌∙◌, subst, codes, Some, None, append_assoc, is_some, false≢true, eqb-true, and_from, and_parts, ParseError, ErrorCode, EofInDoctype, MissingWhitespaceBetweenDoctypePublicAndSystemIdentifiers, Placed, characters, place, begins, all, is_space, is_greater, is_quote, error, error_if, null_errors, text_bytes, Identifier, Public, System, Found, Stands, closed, force, identified, AfterSpace, IsInside, quoted, abrupt, AfterPublicIdentifier, public_ends, public_skips, second, Follows, AfterKeyword, identifier, missing, keyword_skips, keyword_cut_off, after_keyword, after_public, follows, in_quotes, step_errors, fault_errors, found_by, GoesOn, identifier_of}
+use Rattle.hmarkup.proofs.Names.{Step, ◌≡◌, ℕ, Bool, true, false, not, ◌||◌, eqb, if◌then◌else◌, List, [], ◌∷◌, ◌++◌, sym, refl, ap, ◌∙◌, subst, codes, Some, None, append_assoc, is_some, false≢true, eqb-true, and_from, and_parts, ParseError, ErrorCode, EofInDoctype, MissingWhitespaceBetweenDoctypePublicAndSystemIdentifiers, Placed, characters, place, begins, all, is_space, is_greater, is_quote, error, error_if, null_errors, text_bytes, Identifier, Public, System, Found, Stands, closed, force, identified, AfterSpace, IsInside, quoted, abrupt, AfterPublicIdentifier, public_ends, public_skips, second, Follows, AfterKeyword, identifier, missing, keyword_skips, keyword_cut_off, after_keyword, after_public, follows, in_quotes, step_errors, fault_errors, found_by, GoesOn, identifier_of}
 use Rattle.hmarkup.specs.Doctype.{no_space_after_keyword, no_identifier, no_quote, abrupt_identifier, unclosed, IsIdentifier, FollowsSystem}
+use Rattle.hmarkup.specs.DoctypeSteps.{faulty}
+use Rattle.hmarkup.specs.declared.doctype_state.Keeps.TheVariants as keeps
+use Rattle.hmarkup.specs.declared.doctype_state.DoctypeState.TheVariants as phase
 use Rattle.hmarkup.proofs.Marks.{null_errors-append, eqb_self}
 use Rattle.hmarkup.proofs.Characters.{quote_not_space, quote_not_greater, greater_not_space}
 use Rattle.hmarkup.proofs.Parts.{identified-cons, identified_not}
 use Rattle.hmarkup.proofs.Spaces.{past_space, at_once, with_space, with_none}
 use Rattle.hmarkup.proofs.Endings.{only_greater, greater_spells, neither_of, not_either, end_at, end_not_space, skips_at, skips_from, skips_not_space}
-use Rattle.hmarkup.proofs.Stepping.{Goes, Stepped, plain_errors, space_error, greater_error, quote_error, fault_if}
+use Rattle.hmarkup.proofs.Stepping.{Goes, Stepped, passed, plain_errors, space_error, greater_error, quote_error, fault_if}
 
 -- a quote that begins an identifier
 module _ (which : Identifier) (code : ErrorCode) (After : Found → Stands) (known : Found) (spaced : Bool) (end : ℕ) (rest : List Placed) (found : Found) where
@@ -82,8 +85,6 @@ module _ (which : Identifier) (mark : ℕ) (known : Found) (end : ℕ) (rest : L
   module _ (is_mark : is_quote mark ≡ true) (begun : is_some (identifier_of which known) ≡ true) where
     closed_by : (errors : List ParseError) (c g : Bool) → eqb p.ch mark ≡ c → (close after : List Placed) → p ∷ ps ≡ close ++ after → characters close ≡ mark ∷ []
         → Follows which (identified which [] known) end rest after found errors → Stepped (in_quotes which mark c g p.at) known end rest p ps found errors
-    closed_by errors c g ec [] after t m h = absurd cc
-    closed_by errors c g ec (x ∷ y ∷ ys) after t m h = absurd cc
     closed_by errors c g ec (x ∷ []) after t m h =
         let head : p ≡ x = cc in
         let tail : after ≡ ps = cc in
@@ -91,11 +92,8 @@ module _ (which : Identifier) (mark : ℕ) (known : Found) (end : ℕ) (rest : L
         let is : p.ch ≡ mark = ap (λ (q : Placed). q.ch) head ∙ is_x in
         let same : c ≡ true = sym ec ∙ ap (λ (n : ℕ). eqb n mark) is ∙ eqb_self mark in
         let quote : is_quote p.ch ≡ true = ap is_quote is ∙ is_mark in
-        subst (λ (b : Bool). Stepped (in_quotes which mark b g p.at) known end rest p ps found errors) (sym same) (record {
-          later = errors;
-          errors_are = sym (plain_errors p (quote_error p quote) None errors);
-          goes = goes_follows which known end rest ps found errors (subst (λ (x : Found). Follows which x end rest ps found errors) (identified_not which known begun) (subst (λ (x : List Placed). Follows which (identified which [] known) end rest x found errors) tail h));
-        })
+        subst (λ (b : Bool). Stepped (in_quotes which mark b g p.at) known end rest p ps found errors) (sym same) (passed _ known end rest p ps found errors (quote_error p quote) (goes_follows which known end rest ps found errors (subst (λ (x : Found). Follows which x end rest ps found errors) (identified_not which known begun) (subst (λ (x : List Placed). Follows which (identified which [] known) end rest x found errors) tail h))))
+    closed_by errors c g ec _ after t m h = absurd cc
 
     greater_now : (errors : List ParseError) (c g : Bool) → eqb p.ch mark ≡ c → is_greater p.ch ≡ g → characters (p ∷ ps) ≡ codes ">" → found ≡ force (identified which [] known) → errors ≡ error (abrupt_identifier which) p.at ∷ []
         → Stepped (in_quotes which mark c g p.at) known end rest p ps found errors
@@ -158,32 +156,29 @@ module _ (which : Identifier) (mark : ℕ) (known : Found) (end : ℕ) (rest : L
         (plain_errors p (greater_error p eg) (Some (error (abrupt_identifier which) p.at)) later ∙ ap (λ (x : List ParseError). error (abrupt_identifier which) p.at ∷ x) e)
     to_inside later false false ec eg h = inside_more later ec eg h
 
+-- a quote where an identifier may be, after other steps at `>` and at what is neither
+quote_by : (which : Identifier) (code : ErrorCode) (known : Found) (spaced : Bool) (end : ℕ) (rest : List Placed) (p : Placed) (ps : List Placed) (found : Found) (errors : List ParseError) (closes other : Step) (g q : Bool)
+    → is_greater p.ch ≡ g → is_quote p.ch ≡ q → IsIdentifier which code (Follows which) known spaced end rest (p ∷ ps) found errors
+    → Stepped (if g then closes else (if q then faulty (keeps.Quote which) spaced code p.at (phase.Quoted which p.ch) else other)) known end rest p ps found errors
+quote_by which code known spaced end rest p ps found errors closes other true q eg eq h =
+    absurd (false≢true (sym (quote_not_greater p.ch (quote_at which code _ known spaced end rest found p ps errors h).is_mark) ∙ eg))
+quote_by which code known spaced end rest p ps found errors closes other false false eg eq h = absurd (false≢true (sym eq ∙ (quote_at which code _ known spaced end rest found p ps errors h).is_mark))
+quote_by which code known spaced end rest p ps found errors closes other false true eg eq h =
+    let k = quote_at which code _ known spaced end rest found p ps errors h in
+    record { later = k.later; errors_are = k.errors_are; goes = k.inside }
+
 -- after a keyword
 module _ (which : Identifier) (known : Found) (end : ℕ) (rest : List Placed) (p : Placed) (ps : List Placed) (found : Found) where
   keyword_not_space : (spaced : Bool) (text : List Placed) (errors : List ParseError) → AfterKeyword which known spaced end rest text found errors → begins is_space text ≡ false
   keyword_not_space spaced text errors (identifier h) = identifier_not_space which _ _ known spaced end rest found text errors h
-  keyword_not_space spaced [] errors (missing c f e) = refl
   keyword_not_space spaced (q ∷ qs) errors (missing c f e) = greater_not_space q.ch (only_greater q qs c).0
   keyword_not_space spaced text errors (keyword_skips h) = skips_not_space _ _ (force known) end rest text found errors h
-  keyword_not_space spaced [] errors (keyword_cut_off r t f e) = refl
   keyword_not_space spaced (q ∷ qs) errors (keyword_cut_off r t f e) = absurd cc
-
-  -- a quote
-  quote_by : (errors : List ParseError) (spaced g q : Bool) → is_greater p.ch ≡ g → is_quote p.ch ≡ q → IsIdentifier which (no_space_after_keyword which) (Follows which) known spaced end rest (p ∷ ps) found errors
-      → Stepped (after_keyword which spaced false g q p.ch p.at) known end rest p ps found errors
-  quote_by errors spaced true q eg eq h =
-      let k = quote_at which _ _ known spaced end rest found p ps errors h in
-      absurd (false≢true (sym (quote_not_greater p.ch k.is_mark) ∙ eg))
-  quote_by errors spaced false false eg eq h =
-      let k = quote_at which _ _ known spaced end rest found p ps errors h in
-      absurd (false≢true (sym eq ∙ k.is_mark))
-  quote_by errors spaced false true eg eq h =
-      let k = quote_at which _ _ known spaced end rest found p ps errors h in
-      record { later = k.later; errors_are = k.errors_are; goes = k.inside }
+  keyword_not_space spaced [] errors _ = refl
 
   from_keyword_core : (errors : List ParseError) (spaced g q : Bool) → is_greater p.ch ≡ g → is_quote p.ch ≡ q → AfterKeyword which known spaced end rest (p ∷ ps) found errors
       → Stepped (after_keyword which spaced false g q p.ch p.at) known end rest p ps found errors
-  from_keyword_core errors spaced g q eg eq (identifier h) = quote_by errors spaced g q eg eq h
+  from_keyword_core errors spaced g q eg eq (identifier h) = quote_by which (no_space_after_keyword which) known spaced end rest p ps found errors _ _ g q eg eq h
   from_keyword_core errors spaced true q eg eq (missing c f e) =
       record { later = []; errors_are = e ∙ sym (plain_errors p (greater_error p eg) (Some (error (no_identifier which) p.at)) []); goes = ((only_greater p ps c).1, f, refl) }
   from_keyword_core errors spaced false q eg eq (missing c f e) = absurd (false≢true (sym eg ∙ (only_greater p ps c).0))
@@ -196,11 +191,7 @@ module _ (which : Identifier) (known : Found) (end : ℕ) (rest : List Placed) (
 
   pub from_after_keyword : (errors : List ParseError) (spaced s g q : Bool) → is_space p.ch ≡ s → is_greater p.ch ≡ g → is_quote p.ch ≡ q → AfterSpace (AfterKeyword which known) spaced end rest (p ∷ ps) found errors
       → Stepped (after_keyword which spaced s g q p.ch p.at) known end rest p ps found errors
-  from_after_keyword errors spaced true g q es eg eq h = record {
-    later = errors;
-    errors_are = sym (plain_errors p (space_error p es) None errors);
-    goes = past_space (AfterKeyword which known) spaced end rest found errors p ps h es (λ b text. keyword_not_space b text errors);
-  }
+  from_after_keyword errors spaced true g q es eg eq h = passed _ known end rest p ps found errors (space_error p es) (past_space (AfterKeyword which known) spaced end rest found errors p ps h es (λ b text. keyword_not_space b text errors))
   from_after_keyword errors spaced false g q es eg eq h = from_keyword_core errors spaced g q eg eq (at_once (AfterKeyword which known) spaced end rest found errors (p ∷ ps) h es)
 
   pub to_after_keyword : (later : List ParseError) (spaced s g q : Bool) → is_space p.ch ≡ s → is_greater p.ch ≡ g → is_quote p.ch ≡ q
@@ -225,19 +216,6 @@ module _ (known : Found) (end : ℕ) (rest : List Placed) (p : Placed) (ps : Lis
   public_not_space spaced text errors (public_skips h) = skips_not_space _ _ (force known) end rest text found errors h
   public_not_space spaced text errors (second h) = identifier_not_space System _ _ known spaced end rest found text errors h
 
-  second_by : (errors : List ParseError) (spaced g q : Bool) → is_greater p.ch ≡ g → is_quote p.ch ≡ q
-      → IsIdentifier System MissingWhitespaceBetweenDoctypePublicAndSystemIdentifiers FollowsSystem known spaced end rest (p ∷ ps) found errors
-      → Stepped (after_public spaced false g q p.ch p.at) known end rest p ps found errors
-  second_by errors spaced true q eg eq h =
-      let k = quote_at System _ _ known spaced end rest found p ps errors h in
-      absurd (false≢true (sym (quote_not_greater p.ch k.is_mark) ∙ eg))
-  second_by errors spaced false false eg eq h =
-      let k = quote_at System _ _ known spaced end rest found p ps errors h in
-      absurd (false≢true (sym eq ∙ k.is_mark))
-  second_by errors spaced false true eg eq h =
-      let k = quote_at System _ _ known spaced end rest found p ps errors h in
-      record { later = k.later; errors_are = k.errors_are; goes = k.inside }
-
   from_public_core : (errors : List ParseError) (spaced g q : Bool) → is_greater p.ch ≡ g → is_quote p.ch ≡ q → AfterPublicIdentifier known spaced end rest (p ∷ ps) found errors
       → Stepped (after_public spaced false g q p.ch p.at) known end rest p ps found errors
   from_public_core errors spaced true q eg eq (public_ends h) =
@@ -249,15 +227,11 @@ module _ (known : Found) (end : ℕ) (rest : List Placed) (p : Placed) (ps : Lis
   from_public_core errors spaced false false eg eq (public_skips h) =
       let k = skips_at (force known) end rest found p ps errors _ _ h in
       record { later = k.3.0; errors_are = k.3.1; goes = k.3.2 }
-  from_public_core errors spaced g q eg eq (second h) = second_by errors spaced g q eg eq h
+  from_public_core errors spaced g q eg eq (second h) = quote_by System _ known spaced end rest p ps found errors _ _ g q eg eq h
 
   pub from_public : (errors : List ParseError) (spaced s g q : Bool) → is_space p.ch ≡ s → is_greater p.ch ≡ g → is_quote p.ch ≡ q → AfterSpace (AfterPublicIdentifier known) spaced end rest (p ∷ ps) found errors
       → Stepped (after_public spaced s g q p.ch p.at) known end rest p ps found errors
-  from_public errors spaced true g q es eg eq h = record {
-    later = errors;
-    errors_are = sym (plain_errors p (space_error p es) None errors);
-    goes = past_space (AfterPublicIdentifier known) spaced end rest found errors p ps h es (λ b text. public_not_space b text errors);
-  }
+  from_public errors spaced true g q es eg eq h = passed _ known end rest p ps found errors (space_error p es) (past_space (AfterPublicIdentifier known) spaced end rest found errors p ps h es (λ b text. public_not_space b text errors))
   from_public errors spaced false g q es eg eq h = from_public_core errors spaced g q eg eq (at_once (AfterPublicIdentifier known) spaced end rest found errors (p ∷ ps) h es)
 
   pub to_public : (later : List ParseError) (spaced s g q : Bool) → is_space p.ch ≡ s → is_greater p.ch ≡ g → is_quote p.ch ≡ q

@@ -29,9 +29,7 @@ module _ (w : Reading) (text : List Placed) (errs : List ParseError) (p : Placed
   on_from : (end : ℕ) (rest more : List Placed) (found : Found) (later : List ParseError) → Goes its.next (found_by its p w.found) end rest more found later
       → IsDoctype end rest ((text ++ p ∷ []) ++ more) found (now ++ later)
   on_from end rest more found later g =
-      subst (λ (x : List Placed). IsDoctype end rest x found (now ++ later)) (sym (append_assoc text (p ∷ []) more))
-      (subst (λ (x : List ParseError). IsDoctype end rest (text ++ p ∷ more) found x) (sym (append_assoc errs (step_errors its p) later))
-      (h.goes_on end rest (p ∷ more) found (step_errors its p ++ later) (to_phase w.found end rest p more found w.phase later h.fits g)))
+      rw (append_assoc text (p ∷ []) more, append_assoc errs (step_errors its p) later) (h.goes_on end rest (p ∷ more) found (step_errors its p ++ later) (to_phase w.found end rest p more found w.phase later h.fits g))
 
   past_of : (end : ℕ) (after rest span : List Placed) (found : Found) (all : List ParseError) (more : List Placed) (later : List ParseError) → span ≡ text ++ more → p ∷ after ≡ more ++ rest → all ≡ errs ++ later
       → GoesOn w.phase w.found end rest more found later → Past (text ++ p ∷ []) now its.next (found_by its p w.found) end after rest span found all

@@ -2,7 +2,7 @@
 use Rattle.hmarkup.proofs.Names.{◌≡◌, ℕ, Bool, true, false, List, [], ◌∷◌, ◌++◌, sym, refl, ap, ◌∙◌, subst, None, false≢true, and_from, ParseError, UnexpectedCharacterAfterDoctypeSystemIdentifier, Placed, characters, begins, is_space, is_greater, is_greater_or_end, Found, closed, AfterSpace, IsSkipped, AfterSystemIdentifier, system_ends, system_skips, in_skipped, after_system, step_errors, found_by}
 use Rattle.hmarkup.proofs.Spaces.{past_space, at_once, with_space, with_none, any_space}
 use Rattle.hmarkup.proofs.Endings.{end_at, end_not_space, greater_spells, skipped_ends, skipped_goes, skipped_more, skips_at, skips_from, skips_not_space}
-use Rattle.hmarkup.proofs.Stepping.{Goes, Stepped, plain_errors, space_error, greater_error}
+use Rattle.hmarkup.proofs.Stepping.{Goes, Stepped, passed, plain_errors, space_error, greater_error}
 
 module _ (known : Found) (end : ℕ) (rest : List Placed) (p : Placed) (ps : List Placed) (found : Found) where
   -- a skipped rest
@@ -42,11 +42,7 @@ module _ (known : Found) (end : ℕ) (rest : List Placed) (p : Placed) (ps : Lis
       record { later = k.3.0; errors_are = k.3.1; goes = k.3.2 }
 
   pub from_system : (errors : List ParseError) (s g : Bool) → is_space p.ch ≡ s → is_greater p.ch ≡ g → AfterSpace (λ spaced. AfterSystemIdentifier known) false end rest (p ∷ ps) found errors → Stepped (after_system s g p.at) known end rest p ps found errors
-  from_system errors true g es eg h = record {
-    later = errors;
-    errors_are = sym (plain_errors p (space_error p es) None errors);
-    goes = any_space (AfterSystemIdentifier known) true false end rest ps found errors (past_space (λ spaced. AfterSystemIdentifier known) false end rest found errors p ps h es (λ b text. system_not_space b text errors));
-  }
+  from_system errors true g es eg h = passed _ known end rest p ps found errors (space_error p es) (any_space (AfterSystemIdentifier known) true false end rest ps found errors (past_space (λ spaced. AfterSystemIdentifier known) false end rest found errors p ps h es (λ b text. system_not_space b text errors)))
   from_system errors false g es eg h = from_system_core errors g eg (at_once (λ spaced. AfterSystemIdentifier known) false end rest found errors (p ∷ ps) h es)
 
   pub to_system : (later : List ParseError) (s g : Bool) → is_space p.ch ≡ s → is_greater p.ch ≡ g → Goes (after_system s g p.at).next (found_by (after_system s g p.at) p known) end rest ps found later

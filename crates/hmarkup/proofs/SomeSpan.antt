@@ -61,10 +61,9 @@ module _ (end : ℕ) where
         (from _ _ (kept_past w text errs p.ch p.at (is_whole w.opening) refl h e (λ z. absurd (false≢true (sym some ∙ ap (λ (n : ℕ). eqb n 0) z)))))
 
     greater_by : p.ch ≡ 62 → (ending : Ending) → w.ending ≡ ending → HasComment (text ++ p ∷ ps)
-    greater_by is Plain e = open_by is (ap closes e) (eqb (length w.data) 0) refl
-    greater_by is Dash e = open_by is (ap closes e) (eqb (length w.data) 0) refl
     greater_by is Dashes e = ends_now (IsSpan Comment) end text p ps _ _ (closed_now w text errs p.ch p.at (is_whole w.opening) refl h is e end ps)
     greater_by is Bang e = ends_now (IsSpan Comment) end text p ps _ _ (bang_closed_now w text errs p.ch p.at (is_whole w.opening) refl h is e end ps)
+    greater_by is _ e = open_by is (ap closes e) (eqb (length w.data) 0) refl
 
     comment_by : (greater : Bool) → eqb p.ch 62 ≡ greater → HasComment (text ++ p ∷ ps)
     comment_by true is = greater_by (eqb-true p.ch 62 is) w.ending refl

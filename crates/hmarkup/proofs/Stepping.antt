@@ -1,5 +1,6 @@
 -- A character of a doctype: what goes on after it.
-use Rattle.hmarkup.proofs.Names.{◌≡◌, ℕ, Bool, true, false, not, if◌then◌else◌, List, [], ◌∷◌, ◌++◌, refl, ap, ◌∙◌, Option, Some, None, append-nil, ParseError, ErrorCode, Placed, is_space, is_greater, is_quote, error, error_if, null_errors, DoctypeState, Step, Found, Stands, found_by, step_errors, fault_errors, GoesOn}
+use Rattle.hmarkup.proofs.Names.{sym, ◌≡◌, ℕ, Bool, true, false, not, if◌then◌else◌, List, [], ◌∷◌, ◌++◌, refl, ap, ◌∙◌, Option, Some, None, append-nil, ParseError, ErrorCode, Placed, is_space, is_greater, is_quote, error, error_if, null_errors, DoctypeState, Step, Found, Stands, found_by, step_errors, fault_errors, GoesOn}
+use Rattle.hmarkup.specs.DoctypeSteps.{goes_to}
 use Rattle.hmarkup.proofs.Characters.{space_not_null, greater_not_null, quote_not_null, no_null_error}
 
 -- what is after the character: the rest of the doctype, or nothing
@@ -15,6 +16,11 @@ pub record Stepped (step : Step) (known : Found) (end : ℕ) (rest : List Placed
 -- a character that is not NUL has no error but the step's
 pub plain_errors : (p : Placed) → null_errors (p ∷ []) ≡ [] → (fault : Option ParseError) (later : List ParseError) → (fault_errors fault ++ null_errors (p ∷ [])) ++ later ≡ fault_errors fault ++ later
 plain_errors p n fault later = ap (λ (x : List ParseError). (fault_errors fault ++ x) ++ later) n ∙ ap (λ (x : List ParseError). x ++ later) (append-nil (fault_errors fault))
+
+-- which is passed over where the step says no more than how the doctype goes on
+pub passed : (next : DoctypeState) (known : Found) (end : ℕ) (rest : List Placed) (p : Placed) (ps : List Placed) (found : Found) (errors : List ParseError) → null_errors (p ∷ []) ≡ [] → GoesOn next known end rest ps found errors
+    → Stepped (goes_to next) known end rest p ps found errors
+passed next known end rest p ps found errors n g = record { later = errors; errors_are = sym (plain_errors p n None errors); goes = g }
 
 pub space_error : (p : Placed) → is_space p.ch ≡ true → null_errors (p ∷ []) ≡ []
 space_error p h = no_null_error p (space_not_null p.ch h)

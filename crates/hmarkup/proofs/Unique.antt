@@ -1,5 +1,5 @@
 -- A text begins with at most one comment.
-use Rattle.hmarkup.proofs.Names.{◌≡◌, ℕ, ◌≤◌, ◌+◌, Bool, true, false, ◌&&◌, eqb, List, [], ◌∷◌, ◌++◌, length, sym, refl, ap, ◌∙◌, subst, codes, arith, length-append, append_assoc, append-nil, if◌then◌else◌, drop, false≢true, eqb-true, and_parts, and_right, or_from, or_left, or_parts, or_right, drop_at, drop_all, map-append, ParseError, AbruptClosingOfEmptyComment, EofInComment, IncorrectlyClosedComment, Placed, characters, place, spells, is_front, before, Avoids, error, text_bytes, closes_comment, closes_at_once, is_ending, errors_after, IsComment, closed_at_once, closed_with_bang, unclosed, IsOneSpan}
+use Rattle.hmarkup.proofs.Names.{nat_tests, ◌≡◌, ℕ, ◌≤◌, ◌+◌, Bool, true, false, ◌&&◌, eqb, List, [], ◌∷◌, ◌++◌, length, sym, refl, ap, ◌∙◌, subst, codes, arith, length-append, append_assoc, append-nil, if◌then◌else◌, drop, false≢true, eqb-true, and_parts, and_right, or_from, or_left, or_parts, or_right, drop_at, drop_all, map-append, ParseError, AbruptClosingOfEmptyComment, EofInComment, IncorrectlyClosedComment, Placed, characters, place, spells, is_front, before, Avoids, error, text_bytes, closes_comment, closes_at_once, is_ending, errors_after, IsComment, closed_at_once, closed_with_bang, unclosed, IsOneSpan}
 use Rattle.std.proofs.lemmas.List.{length-map}
 use Rattle.hmarkup.specs.Comment.{closed}
 use Rattle.hmarkup.proofs.Marks.{before-avoids, before-here, avoids-before, spells-long, spells-characters, first_is}
@@ -53,19 +53,13 @@ Avoids-long (q ∷ qs) close rest l h = (
 )
 
 once-long : (xs ys : List Placed) → 2 ≤ length xs → closes_at_once xs ≡ false → closes_at_once (xs ++ ys) ≡ false
-once-long [] ys l h = absurd (omega (arith, l))
-once-long (x ∷ []) ys l h = absurd (omega (arith, l))
 once-long (x ∷ y ∷ xs) ys l h = h
+once-long _ ys l h = absurd (omega (arith, l))
 
 -- `--!>` is no `-->`
 no_arrow : (xs rest : List Placed) → characters xs ≡ codes "--!>" → spells (codes "-->") (xs ++ rest) ≡ false
-no_arrow [] rest h = absurd cc
-no_arrow (x ∷ []) rest h = absurd cc
-no_arrow (x ∷ y ∷ []) rest h = absurd cc
-no_arrow (x ∷ y ∷ z ∷ xs) rest h =
-    let third : z.ch ≡ 33 = cc in
-    let not : eqb z.ch 62 ≡ false = rw third refl in
-    and_right (eqb x.ch 45) (eqb y.ch 45 && (eqb z.ch 62 && true)) (and_right (eqb y.ch 45) (eqb z.ch 62 && true) (ap (λ (b : Bool). b && true) not))
+no_arrow (x ∷ y ∷ z ∷ xs) rest h = let third : z.ch ≡ 33 = cc in grind (arith, nat_tests)
+no_arrow _ rest h = absurd cc
 
 -- a comment that a mark closes
 told_closed : (end : ℕ) (inner close rest : List Placed) → 3 ≤ length close → closes_at_once (inner ++ close) ≡ false → inner ≡ before closes_comment (inner ++ close) → closes_comment (close ++ rest) ≡ true
@@ -83,20 +77,10 @@ told_closed end inner close rest l s b c =
 
 told_empty : (end : ℕ) (dash close rest : List Placed) → is_front dash (codes "-") ≡ true → characters close ≡ codes ">"
     → told end ((dash ++ close) ++ rest) ≡ record { size = length (dash ++ close); bytes = []; last = error AbruptClosingOfEmptyComment (place end close) ∷ [] }
-told_empty end dash [] rest f c = absurd cc
-told_empty end dash (q ∷ r ∷ qs) rest f c = absurd cc
-told_empty end [] (q ∷ []) rest f c =
-    let is : q.ch ≡ 62 = first_is q [] 62 [] c in
-    let here : eqb q.ch 62 ≡ true = rw is refl in
-    rw here refl
-told_empty end (d ∷ []) (q ∷ []) rest f c =
-    let is : q.ch ≡ 62 = first_is q [] 62 [] c in
-    let dash_is : d.ch ≡ 45 = eqb-true d.ch 45 (and_parts (eqb d.ch 45) true f).0 in
-    let here : eqb q.ch 62 ≡ true = rw is refl in
-    let there : eqb d.ch 45 ≡ true = rw dash_is refl in
-    let not : eqb d.ch 62 ≡ false = rw dash_is refl in
-    rw (not, there, here) refl
+told_empty end [] (q ∷ []) rest f c = rw (first_is q [] 62 [] c) refl
+told_empty end (d ∷ []) (q ∷ []) rest f c = rw (first_is q [] 62 [] c, eqb-true d.ch 45 (and_parts (eqb d.ch 45) true f).0) refl
 told_empty end (d ∷ e ∷ ds) (q ∷ []) rest f c = absurd (false≢true (and_parts (eqb d.ch 45) false f).1)
+told_empty end dash _ rest f c = absurd cc
 
 told_is_same : (n m : ℕ) (bytes bytes' : List ℕ) (last last' : List ParseError) → n ≡ m → bytes ≡ bytes' → last ≡ last'
     → let a : Told = record { size = n; bytes = bytes; last = last } in let b : Told = record { size = m; bytes = bytes'; last = last' } in a ≡ b
@@ -121,8 +105,7 @@ told_of end rest text d es (closed inner close t s b c data_is errors_are) =
       last = [];
       told_is = ap (λ (x : List Placed). told end (x ++ rest)) t
           ∙ told_closed end inner close rest (omega (arith, size)) (sym (ap closes_at_once t) ∙ s) (b ∙ ap (before closes_comment) t) at_close
-          ∙ ap (λ (x : Bool). told_by x (spells (codes "--!>") (close ++ rest)) end ((inner ++ close) ++ rest) inner (close ++ rest)) arrow
-          ∙ told_is_same _ _ _ _ _ _ long (sym data_is) refl;
+          ∙ rw arrow (told_is_same _ _ _ _ _ _ long (sym data_is) refl);
       errors_are = errors_are ∙ sym (append-nil (errors_after [] text));
     }
 told_of end rest text d es (closed_with_bang inner dashes close t s b c1 c data_is errors_are) =
@@ -139,9 +122,7 @@ told_of end rest text d es (closed_with_bang inner dashes close t s b c1 c data_
       last = error IncorrectlyClosedComment (place end close) ∷ [];
       told_is = ap (λ (x : List Placed). told end (x ++ rest)) t'
           ∙ told_closed end inner (dashes ++ close) rest (omega (arith, size)) (sym (ap closes_at_once t') ∙ s) (b ∙ ap (before closes_comment) t') at_close
-          ∙ ap (λ (x : Bool). told_by x (spells (codes "--!>") ((dashes ++ close) ++ rest)) end ((inner ++ (dashes ++ close)) ++ rest) inner ((dashes ++ close) ++ rest)) no_way
-          ∙ ap (λ (x : Bool). told_by false x end ((inner ++ (dashes ++ close)) ++ rest) inner ((dashes ++ close) ++ rest)) bang
-          ∙ told_is_same _ _ _ _ _ _ long (sym data_is) (ap (λ (n : ℕ). error IncorrectlyClosedComment n ∷ []) (ap (place end) past ∙ place-front end close rest c));
+          ∙ rw (no_way, bang) (told_is_same _ _ _ _ _ _ long (sym data_is) (ap (λ (n : ℕ). error IncorrectlyClosedComment n ∷ []) (ap (place end) past ∙ place-front end close rest c)));
       errors_are = errors_are;
     }
 told_of end rest text d es (unclosed r s b data_is errors_are) =

@@ -28,17 +28,11 @@ comment_begins = record {
 -- how much of an inner `<!--` was read
 opening_dash : (o : Opening) (at : ℕ) (seen : List Placed) → IsOpening o seen → IsOpening (opening_by_dash o) (record { ch = 45; at = at } ∷ seen)
 opening_dash Outside at seen h = record { less = refl; less_bang = refl; less_bang_dash = h.less_bang; whole = h.less_bang_dash }
-opening_dash Less at seen h = record { less = refl; less_bang = refl; less_bang_dash = h.less_bang; whole = h.less_bang_dash }
-opening_dash LessBang at seen h = record { less = refl; less_bang = refl; less_bang_dash = h.less_bang; whole = h.less_bang_dash }
-opening_dash LessBangDash at seen h = record { less = refl; less_bang = refl; less_bang_dash = h.less_bang; whole = h.less_bang_dash }
-opening_dash Whole at seen h = record { less = refl; less_bang = refl; less_bang_dash = h.less_bang; whole = h.less_bang_dash }
+opening_dash _ at seen h = record { less = refl; less_bang = refl; less_bang_dash = h.less_bang; whole = h.less_bang_dash }
 
 opening_bang : (o : Opening) (at : ℕ) (seen : List Placed) → IsOpening o seen → IsOpening (opening_by_bang o) (record { ch = 33; at = at } ∷ seen)
 opening_bang Outside at seen h = record { less = refl; less_bang = h.less; less_bang_dash = refl; whole = refl }
-opening_bang Less at seen h = record { less = refl; less_bang = h.less; less_bang_dash = refl; whole = refl }
-opening_bang LessBang at seen h = record { less = refl; less_bang = h.less; less_bang_dash = refl; whole = refl }
-opening_bang LessBangDash at seen h = record { less = refl; less_bang = h.less; less_bang_dash = refl; whole = refl }
-opening_bang Whole at seen h = record { less = refl; less_bang = h.less; less_bang_dash = refl; whole = refl }
+opening_bang _ at seen h = record { less = refl; less_bang = h.less; less_bang_dash = refl; whole = refl }
 
 opening_on_tests : (o : Opening) (seen : List Placed) (ch at : ℕ) → IsOpening o seen → (dash bang less : Bool) → eqb ch 45 ≡ dash → eqb ch 33 ≡ bang → eqb ch 60 ≡ less
     → IsOpening (next_opening o ch) (record { ch = ch; at = at } ∷ seen)
@@ -80,9 +74,8 @@ not_first true b h = absurd (false≢true (sym h))
 not_first false b h = refl
 
 once-long : (text : List Placed) (p : Placed) → 2 ≤ length text → closes_at_once text ≡ false → closes_at_once (text ++ p ∷ []) ≡ false
-once-long [] p l h = absurd (omega (arith, l))
-once-long (q ∷ []) p l h = absurd (omega (arith, l))
 once-long (q ∷ r ∷ more) p l h = h
+once-long _ p l h = absurd (omega (arith, l))
 
 once-other : (text : List Placed) (p : Placed) → eqb p.ch 62 ≡ false → closes_at_once text ≡ false → closes_at_once (text ++ p ∷ []) ≡ false
 once-other [] p e h = or_from (eqb p.ch 62 && true) (eqb p.ch 45 && false) (ap (λ (b : Bool). b && true) e) (and_right (eqb p.ch 45) false refl)
@@ -92,8 +85,7 @@ once-other (q ∷ r ∷ more) p e h = h
 once-past : (inner held : List Placed) (p : Placed) → (length inner ≡ 0 → ⊥) → Avoids is_ending inner held → closes_at_once (inner ++ held) ≡ false → closes_at_once ((inner ++ held) ++ p ∷ []) ≡ false
 once-past [] held p some k h = absurd (some refl)
 once-past (q ∷ []) [] p some k h = or_from (eqb q.ch 62 && true) (eqb q.ch 45 && (eqb p.ch 62 && true)) (or_parts (eqb q.ch 62 && true) (eqb q.ch 45 && false) h).0 (not_first (eqb q.ch 45) (eqb p.ch 62 && true) k.0)
-once-past (q ∷ []) (r ∷ rs) p some k h = h
-once-past (q ∷ r ∷ more) held p some k h = h
+once-past _ _ p some k h = h
 
 module _ (w : Progress) (text : List Placed) (errs : List ParseError) (ch at : ℕ) (nested : Bool) (nested_is : nested ≡ is_whole w.opening) (h : IsInComment w text errs) where
   abbrev p : Placed
