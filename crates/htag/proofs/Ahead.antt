@@ -1,18 +1,6 @@
 -- An attribute without a value, and the white space that was read after it.
-use Rattle.std.proofs.Common.{◌≡◌, ℕ, true, false, List, [], ◌∷◌, ◌++◌, sym, refl, ap, ◌∙◌, subst, append_assoc, append-nil, Some}
-use Rattle.std.specs.String.{string_bytes}
-use Rattle.names.specs.declared.error.ParseError.{ParseError}
-use Rattle.names.specs.declared.placed.Placed.{Placed}
-use Rattle.names.specs.Names.{Texts}
-use Rattle.names.specs.Placed.{begins, stops, all, past, place, is_space, is_equals, null_errors}
-use Rattle.hmarkup.proofs.Marks.{and_parts}
-use Rattle.charref.specs.Reference.{Entities}
-use Rattle.htag.specs.declared.tag_state.TagState.{TagState}
+use Rattle.htag.proofs.Vocabulary.{◌≡◌, ℕ, true, false, List, [], ◌∷◌, ◌++◌, sym, refl, ap, ◌∙◌, subst, append_assoc, append-nil, Some, string_bytes, ParseError, Placed, Texts, begins, stops, all, past, place, is_space, is_equals, null_errors, and_parts, Entities, TagState, TagWalk, Part, IsPart, AreParts, parts_text, errors_after, tag_errors, ends_name, ends_attribute_name, attribute_name_errors, attribute_part, repeated, names_after, HasPhase, IsPast, IsInTag, EndsAttribute, attribute_of}
 use Rattle.htag.specs.declared.tag_state.TagState.TheVariants as phase
-use Rattle.htag.specs.declared.walk.TagWalk.{TagWalk}
-use Rattle.htag.specs.Tag.{Part, IsPart, AreParts, parts_text, errors_after, tag_errors, ends_name, ends_attribute_name, attribute_name_errors, attribute_part, repeated}
-use Rattle.htag.specs.TagWalk.{names_after, HasPhase, IsPast, IsInTag}
-use Rattle.htag.specs.Steps.{EndsAttribute, attribute_of}
 use Rattle.htag.proofs.Parts.{begins_stops, parts_text-snoc, AreParts-snoc, errors-snoc, holds_plain, past-space}
 use Rattle.htag.proofs.Going.{past_is, held_in}
 use Rattle.htag.proofs.Phases.{space_part, errors_then}

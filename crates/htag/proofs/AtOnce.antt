@@ -1,39 +1,20 @@
 -- Tags that stand whole in a run.
-use Rattle.std.proofs.Common.{◌≡◌, inl, inr, ◌≤◌, ◌<◌, ℕ, zero, suc, ◌+◌, ◌-◌, Bool, true, not, ◌||◌, List, [], ◌∷◌, ◌++◌, length, take, drop, sym, refl, ap, ◌∙◌, subst, append_assoc, append-nil, arith, false, eqb, Some, None, Vec, Global}
+use Rattle.htag.proofs.Vocabulary.{◌≡◌, ◌≤◌, ◌<◌, ℕ, zero, suc, ◌+◌, ◌-◌, Bool, true, not, ◌||◌, List, [], ◌∷◌, ◌++◌, length, take, drop, sym, refl, ap, ◌∙◌, subst, append_assoc, append-nil, arith, false, eqb, Some, None, Vec, Global, eqb-true, nat_tests, length-drop, length-take-le, take-append-drop, take_all, slice_index, string_bytes, flat_map, list_all, prefix_len, len_utf8, ParseError, Placed, Attr, MissingWhitespaceBetweenAttributes, UnexpectedEqualsSignBeforeAttributeName, Texts, Grows, all, begins, stops, characters, error_if, is_equals, is_greater, is_letter, is_quote, is_space, past, name_bytes, place, placed, is_plain_byte, all_weaker, all_placed, placed_part, plain_drop, Entities, TagWalk, HasReadParts, AttrsMean, HasSeen, has_number, AreValue, IsPiece, pieces_text, value_bytes, plain_pieces, Seen, TagState, HasAttributes, HasPhase, IsInTag, IsPast, IsWholeTag, WholeOrNot, names_after, is_unquoted_byte, is_word_byte, Attribute, AreParts, IsPart, Part, attribute_name_errors, attributes_after, attribute_part, ends_attribute_name, ends_name, ends_unquoted, is_odd, errors_after, name_errors_here, parts_text, repeated, tag_close, tag_errors, unquoted_errors, value_errors}
+use Rattle.std.proofs.Common.{inl, inr}
 use Rattle.std.proofs.Math.Seq.{drop-cons, drop-nil}
-use Rattle.std.proofs.lemmas.Bool.{and_from, and_parts, eqb-true}
-use Rattle.std.proofs.lemmas.Bool.Decides.{nat_tests}
-use Rattle.std.proofs.lemmas.List.{length-append, length-drop, length-take-le, take-append-drop, take_at, take_all, drop_at}
+use Rattle.std.proofs.lemmas.Bool.{and_from, and_parts}
+use Rattle.std.proofs.lemmas.List.{length-append, take_at, drop_at}
 use Rattle.std.proofs.lemmas.List.Folds.{list_all-append}
 use Rattle.std.proofs.lemmas.List.Sums.{prefix_len_stops}
-use Rattle.std.specs.Prelude.{◌⊎◌, slice_index}
-use Rattle.std.specs.String.{string_bytes}
-use Rattle.std.specs.List.{flat_map, list_all, prefix_len, slice_range}
-use Rattle.std.specs.Char.{is_ascii_lowercase, len_utf8}
-use Rattle.names.specs.declared.error.ParseError.{ParseError}
-use Rattle.names.specs.declared.placed.Placed.{Placed}
-use Rattle.names.specs.declared.attr.Attr.{Attr}
-use Rattle.names.specs.declared.error.ErrorCode.TheVariants.{MissingWhitespaceBetweenAttributes, UnexpectedEqualsSignBeforeAttributeName}
-use Rattle.names.specs.Names.{Texts, Grows}
-use Rattle.names.specs.Placed.{all, begins, stops, characters, error_if, is_equals, is_greater, is_letter, is_quote, is_space, past, name_bytes, place, placed}
-use Rattle.htext.specs.Run.{is_plain_byte}
-use Rattle.names.proofs.Words.{all_weaker}
-use Rattle.htext.proofs.Runs.{all_placed, placed-append, placed_part, plain_drop}
-use Rattle.charref.specs.Reference.{Entities}
-use Rattle.htag.specs.declared.walk.TagWalk.{TagWalk}
-use Rattle.htag.specs.AtOnce.{HasReadPart, HasReadParts, IsAfterName, IsBareName, IsName, IsPlainAttribute, IsPlainPart, IsPlainValue, IsWritten, ReadsPart}
+use Rattle.std.specs.Prelude.{◌⊎◌}
+use Rattle.std.specs.List.{slice_range}
+use Rattle.std.specs.Char.{is_ascii_lowercase}
+use Rattle.htext.proofs.Runs.{placed-append}
+use Rattle.htag.specs.AtOnce.{HasReadPart, IsAfterName, IsBareName, IsName, IsPlainAttribute, IsPlainPart, IsPlainValue, IsWritten, ReadsPart}
 use Rattle.htag.specs.declared.at_once.PlainAttribute.{PlainAttribute}
 use Rattle.htag.specs.declared.at_once.PlainValue.{PlainValue}
-use Rattle.htag.specs.Attributes.{AttrsMean}
-use Rattle.htag.specs.Seen.{HasSeen, has_number}
-use Rattle.htag.specs.Value.{AreValue, IsPiece, pieces_text, value_bytes}
-use Rattle.htag.specs.ValueWalk.{plain_pieces}
-use Rattle.htag.specs.declared.seen.Seen.{Seen}
-use Rattle.htag.specs.declared.tag_state.TagState.{TagState}
 use Rattle.htag.specs.declared.tag_state.TagState.TheVariants as phase
-use Rattle.htag.specs.TagWalk.{HasAttributes, HasPhase, IsInTag, IsPast, IsWholeTag, WholeOrNot, names_after}
-use Rattle.htag.specs.Run.{is_unquoted_byte, is_word_byte}
-use Rattle.htag.specs.Tag.{Attribute, AreParts, IsAttributeName, IsPart, IsTagFront, Part, attribute_name_errors, attributes_after, attribute_part, ends_attribute_name, ends_name, ends_unquoted, is_odd, errors_after, name_errors_here, parts_text, repeated, tag_close, tag_errors, unquoted_errors, value_errors}
+use Rattle.htag.specs.Tag.{IsAttributeName, IsTagFront}
 use Rattle.htag.proofs.Keeping.{attributes_grow}
 use Rattle.htag.proofs.Parts.{AreParts-snoc, errors-snoc, holds_plain, holds_same, parts_text-snoc}
 use Rattle.htag.proofs.Pieces.{alone_bytes, alone_errors, plain_text}

@@ -1,20 +1,7 @@
 -- A tag that the input's end cuts off.
-use Rattle.std.proofs.Common.{◌≡◌, ℕ, true, false, not, ◌||◌, eqb, List, [], ◌∷◌, ◌++◌, map, sym, refl, ap, ◌∙◌, subst, append-nil, append_assoc, Some, None}
-use Rattle.std.specs.String.{string_bytes}
-use Rattle.names.specs.declared.error.ParseError.{ParseError}
-use Rattle.names.specs.declared.placed.Placed.{Placed}
-use Rattle.names.specs.Names.{Texts}
-use Rattle.names.specs.Placed.{begins, stops, all, past, place, is_space, is_equals, is_quote, null_errors}
-use Rattle.hmarkup.proofs.Marks.{and_parts}
-use Rattle.charref.specs.Reference.{Entities}
-use Rattle.htag.specs.declared.tag_state.TagState.{TagState}
+use Rattle.htag.proofs.Vocabulary.{◌≡◌, ℕ, true, false, not, ◌||◌, eqb, List, [], ◌∷◌, ◌++◌, map, sym, refl, ap, ◌∙◌, subst, append-nil, append_assoc, Some, None, string_bytes, ParseError, Placed, Texts, begins, stops, all, past, place, is_space, is_equals, is_quote, null_errors, and_parts, Entities, TagState, TagWalk, pieces_text, value_bytes, EndsValue, Part, IsPart, AreParts, parts_text, errors_after, tag_errors, ends_name, ends_attribute_name, ends_unquoted, attribute_name_errors, value_errors, unquoted_errors, attribute_part, repeated, KeepsTag, EndsAttribute, attribute_of, names_after, HasName, HasPhase, IsPast, IsInTag}
 use Rattle.htag.specs.declared.tag_state.TagState.TheVariants as phase
-use Rattle.htag.specs.declared.walk.TagWalk.{TagWalk}
-use Rattle.htag.specs.Value.{pieces_text, value_bytes}
-use Rattle.htag.specs.ValueWalk.{EndsValue}
-use Rattle.htag.specs.Tag.{Part, IsPart, AreParts, parts_text, errors_after, tag_errors, ends_name, ends_attribute_name, ends_unquoted, attribute_name_errors, value_errors, unquoted_errors, attribute_part, repeated}
-use Rattle.htag.specs.Steps.{KeepsTag, EndsAttribute, attribute_of}
-use Rattle.htag.specs.TagWalk.{names_after, HasName, HasPhase, IsPast, IsInTag, IsCutTag}
+use Rattle.htag.specs.TagWalk.{IsCutTag}
 use Rattle.htag.proofs.Parts.{parts_text-append, parts_text-snoc, AreParts-append, AreParts-snoc, holds_same}
 use Rattle.htag.proofs.Phases.{space_part, part_errors, keeps_self}
 use Rattle.htag.proofs.Values.{sign_stops}

@@ -1,16 +1,6 @@
 -- The end of an attribute.
-use Rattle.std.proofs.Common.{◌≡◌, ℕ, Bool, true, false, not, ◌||◌, List, [], ◌∷◌, ◌++◌, sym, refl, ap, ◌∙◌, subst, append-nil, Option, Some, is_some, Vec, Global}
-use Rattle.std.specs.Prelude.{slice_get, if◌then◌else◌}
-use Rattle.std.specs.String.{string_bytes}
-use Rattle.names.specs.declared.attr.Attr.{Attr}
+use Rattle.htag.proofs.Vocabulary.{◌≡◌, ℕ, Bool, true, false, not, ◌||◌, List, [], ◌∷◌, ◌++◌, sym, refl, ap, ◌∙◌, subst, append-nil, Option, Some, is_some, Vec, Global, slice_get, if◌then◌else◌, string_bytes, Attr, Texts, Grows, AreNames, error, TagWalk, AttrsMean, HasSeen, has_number, Attribute, Part, attributes_after, has_attribute, is_known, kept, repeated, named_by, names_after, NumbersMean, HasAttributes}
 use Rattle.names.specs.declared.error.ErrorCode.TheVariants.{DuplicateAttribute}
-use Rattle.names.specs.Names.{Texts, Grows, AreNames}
-use Rattle.names.specs.Placed.{error}
-use Rattle.htag.specs.declared.walk.TagWalk.{TagWalk}
-use Rattle.htag.specs.Attributes.{AttrsMean}
-use Rattle.htag.specs.Seen.{HasSeen, has_number}
-use Rattle.htag.specs.Tag.{Attribute, Part, attributes_after, has_attribute, is_known, kept, repeated, named_by}
-use Rattle.htag.specs.TagWalk.{names_after, NumbersMean, HasAttributes}
 use Rattle.htag.proofs.Naming.{numbers_kept, attrs_kept, attrs-snoc, known_number}
 use Rattle.htag.proofs.Parts.{names-snoc, attributes-snoc, any-snoc}
 

@@ -1,21 +1,13 @@
 -- What a reference is written with.
-use Rattle.std.proofs.Common.{◌≡◌, ℕ, Bool, true, false, not, ◌||◌, ◌&&◌, eqb, List, [], ◌∷◌, ◌++◌, sym, refl, ap, ◌∙◌, subst, arith}
-use Rattle.std.proofs.lemmas.Bool.Decides.{nat_tests}
-use Rattle.std.specs.Prelude.{codes, bytes_eq}
-use Rattle.std.specs.List.{list_all}
-use Rattle.std.specs.Char.{to_ascii_lowercase}
-use Rattle.names.specs.declared.placed.Placed.{Placed}
-use Rattle.names.specs.Placed.{characters, lowered, all, is_digit, is_alphanumeric}
-use Rattle.hmarkup.proofs.Marks.{and_parts, and_both}
+use Rattle.htag.proofs.Vocabulary.{◌≡◌, ℕ, Bool, true, false, not, ◌||◌, ◌&&◌, eqb, List, [], ◌∷◌, ◌++◌, sym, refl, ap, ◌∙◌, subst, arith, nat_tests, codes, bytes_eq, list_all, to_ascii_lowercase, Placed, characters, lowered, all, is_alphanumeric, and_parts, and_both, Entities, Piece, IsReference, IsTable, longest_among, all-append, is_odd}
+use Rattle.names.specs.Placed.{is_digit}
 use Rattle.charref.specs.declared.number.Base.{Base}
 use Rattle.charref.specs.declared.number.Base.TheVariants.{Decimal, Hexadecimal}
 use Rattle.charref.specs.declared.reference_state.ReferenceState.{ReferenceState}
 use Rattle.charref.specs.Number.{is_digit_of}
 use Rattle.charref.specs.Held.{IsHeld, IsSign}
-use Rattle.charref.specs.Reference.{Entities, Piece, IsReference, IsTable, is_hex_digit, is_key, is_key_name, is_empty_list, is_semicolon_if_any}
-use Rattle.charref.proofs.Core.{longest_among}
-use Rattle.charref.proofs.Naming.{all-append, is_key_of}
-use Rattle.htag.specs.Tag.{is_odd}
+use Rattle.charref.specs.Reference.{is_hex_digit, is_key, is_key_name, is_empty_list, is_semicolon_if_any}
+use Rattle.charref.proofs.Naming.{is_key_of}
 use Rattle.htag.proofs.Pieces.{is_even, is_quiet, quiet_run, quiet_odd}
 
 quiet_digit : (base : Base) (c : ℕ) → is_digit_of base c ≡ true → is_quiet c ≡ true

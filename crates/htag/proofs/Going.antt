@@ -1,23 +1,6 @@
 -- A tag goes on with characters that its phase keeps: with one, or with a run of them.
-use Rattle.std.proofs.Common.{◌≡◌, ℕ, Bool, true, false, not, eqb, List, [], ◌∷◌, ◌++◌, drop, sym, refl, ap, ◌∙◌, subst, append_assoc, append-nil}
-use Rattle.std.specs.List.{flat_map}
-use Rattle.std.specs.String.{string_bytes}
-use Rattle.std.proofs.lemmas.Grind.{flat_map-append}
-use Rattle.names.specs.declared.error.ErrorCode.TheVariants.{UnexpectedEqualsSignBeforeAttributeName}
-use Rattle.names.specs.declared.error.ParseError.{ParseError}
-use Rattle.names.specs.declared.placed.Placed.{Placed}
-use Rattle.names.specs.Names.{Texts}
-use Rattle.names.specs.Placed.{begins, all, place, is_equals, error_if, name_bytes}
-use Rattle.hmarkup.proofs.Parts.{name_bytes-append}
-use Rattle.charref.specs.Reference.{Entities}
-use Rattle.charref.proofs.Naming.{all-append}
-use Rattle.htag.specs.declared.tag_state.TagState.{TagState}
+use Rattle.htag.proofs.Vocabulary.{◌≡◌, ℕ, Bool, true, false, not, eqb, List, [], ◌∷◌, ◌++◌, drop, sym, refl, ap, ◌∙◌, subst, append_assoc, append-nil, flat_map, string_bytes, flat_map-append, UnexpectedEqualsSignBeforeAttributeName, ParseError, Placed, Texts, begins, all, place, is_equals, error_if, name_bytes, name_bytes-append, Entities, all-append, TagState, TagWalk, IsInValue, AreParts, parts_text, tag_errors, ends_name, ends_attribute_name, ends_unquoted, attribute_name_errors, name_errors_here, NoValue, HasName, HasPhase, IsPast, IsInTag, KeepsTag}
 use Rattle.htag.specs.declared.tag_state.TagState.TheVariants as phase
-use Rattle.htag.specs.declared.walk.TagWalk.{TagWalk}
-use Rattle.htag.specs.ValueWalk.{IsInValue}
-use Rattle.htag.specs.Tag.{AreParts, parts_text, tag_errors, ends_name, ends_attribute_name, ends_unquoted, attribute_name_errors, name_errors_here}
-use Rattle.htag.specs.TagWalk.{NoValue, HasName, HasPhase, IsPast, IsInTag}
-use Rattle.htag.specs.Steps.{KeepsTag}
 use Rattle.htag.proofs.InValue.{looks_ahead}
 use Rattle.htag.proofs.Parts.{begins-more, holds_same}
 

@@ -1,35 +1,11 @@
 -- A run of plain characters in a tag.
-use Rattle.std.proofs.Common.{◌≡◌, ◌≤◌, ◌<◌, ℕ, zero, suc, ◌+◌, Bool, true, false, true≢false, not, eqb, List, [], ◌∷◌, ◌++◌, length, take, drop, map, sym, refl, ap, ◌∙◌, subst, append-nil, append_assoc, arith}
-use Rattle.std.specs.Prelude.{encode_utf8_all, slice_index}
-use Rattle.std.specs.List.{flat_map, list_all, prefix_len}
-use Rattle.std.specs.Char.{len_utf8, to_ascii_lowercase}
-use Rattle.std.specs.String.{string_bytes}
+use Rattle.htag.proofs.Vocabulary.{◌≡◌, ◌≤◌, ◌<◌, ℕ, zero, suc, ◌+◌, Bool, true, false, true≢false, not, eqb, List, [], ◌∷◌, ◌++◌, length, take, drop, map, sym, refl, ap, ◌∙◌, subst, append-nil, append_assoc, arith, encode_utf8_all, slice_index, flat_map, list_all, prefix_len, len_utf8, to_ascii_lowercase, string_bytes, length-drop, nat_tests, UnexpectedEqualsSignBeforeAttributeName, ParseError, Placed, Texts, characters, all, placed, is_equals, name_bytes, error_if, null_errors, without_null, is_plain_byte, all_placed, placed_part, all_weaker, Entities, TagState, Pending, ValueWalk, TagWalk, pieces_text, value_bytes, Begins, HasHeld, IsInValue, pieces_errors, plain_pieces, parts_text, tag_close, is_odd, ends_name, ends_attribute_name, ends_unquoted, name_errors_here, NoValue, InName, HasPhase, IsPast, IsInTag, WholeOrNot, is_word_byte, TakesPart, KeepsTag}
 use Rattle.std.proofs.lemmas.Bool.{and_parts}
-use Rattle.std.proofs.lemmas.List.{length-drop}
-use Rattle.std.proofs.lemmas.Bool.Decides.{nat_tests}
-use Rattle.names.specs.declared.error.ErrorCode.TheVariants.{UnexpectedEqualsSignBeforeAttributeName}
-use Rattle.names.specs.declared.error.ParseError.{ParseError}
-use Rattle.names.specs.declared.placed.Placed.{Placed}
-use Rattle.names.specs.Names.{Texts}
-use Rattle.names.specs.Placed.{characters, all, placed, is_equals, name_bytes, error_if, null_errors, without_null}
-use Rattle.htext.specs.Run.{is_plain_byte}
-use Rattle.htext.proofs.Runs.{all_placed, counted, plain_bytes, placed_part}
+use Rattle.htext.proofs.Runs.{counted, plain_bytes}
 -- under the name by which the crate above cites it
 pub use Rattle.htext.proofs.Runs.{counted as prefix_all}
-use Rattle.names.proofs.Words.{all_weaker}
-use Rattle.charref.specs.Reference.{Entities}
-use Rattle.htag.specs.declared.tag_state.TagState.{TagState}
 use Rattle.htag.specs.declared.tag_state.TagState.TheVariants as phase
-use Rattle.htag.specs.declared.pending.Pending.{Pending}
 use Rattle.htag.specs.declared.pending.Pending.TheVariants as reading
-use Rattle.htag.specs.declared.value.ValueWalk.{ValueWalk}
-use Rattle.htag.specs.declared.walk.TagWalk.{TagWalk}
-use Rattle.htag.specs.Value.{pieces_text, value_bytes}
-use Rattle.htag.specs.ValueWalk.{Begins, HasHeld, IsInValue, pieces_errors, plain_pieces}
-use Rattle.htag.specs.Tag.{parts_text, tag_close, is_odd, ends_name, ends_attribute_name, ends_unquoted, name_errors_here}
-use Rattle.htag.specs.TagWalk.{NoValue, InName, HasPhase, IsPast, IsInTag, WholeOrNot}
-use Rattle.htag.specs.Run.{is_word_byte, TakesPart}
-use Rattle.htag.specs.Steps.{KeepsTag}
 use Rattle.htag.proofs.Going.{past_is, held_in, goes_on, letters_follow, quoted_goes_on, unquoted_goes_on}
 use Rattle.htag.proofs.Keeping.{looks_ahead}
 use Rattle.htag.proofs.Names.{name_grows}

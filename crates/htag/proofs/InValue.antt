@@ -1,30 +1,14 @@
 -- A value, a character at a time.
-use Rattle.std.proofs.Common.{◌≡◌, ℕ, zero, suc, ◌+◌, ◌-◌, ◌≤◌, Bool, true, false, true≢false, ◌&&◌, eqb, List, [], ◌∷◌, ◌++◌, length, take, drop, map, sym, refl, ap, ◌∙◌, subst, append-nil, append_assoc, arith, length-append, Option, Some, None, Vec, Global}
-use Rattle.std.specs.Prelude.{encode_utf8_all, option_to_list}
-use Rattle.std.specs.Char.{encode_utf8}
-use Rattle.std.specs.String.{string_bytes}
-use Rattle.std.proofs.lemmas.List.{take-append-drop, take-append-le, drop-append-le}
-use Rattle.std.proofs.lemmas.Str.{encodes-append}
-use Rattle.names.specs.declared.error.ErrorCode.TheVariants.{MissingSemicolonAfterCharacterReference, UnknownNamedCharacterReference}
-use Rattle.names.specs.declared.error.ErrorCode.{ErrorCode}
-use Rattle.names.specs.declared.error.ParseError.{ParseError}
-use Rattle.names.specs.declared.placed.Placed.{Placed}
-use Rattle.names.specs.Placed.{characters, begins, all, past, is_alphanumeric, error, error_if, without_null}
-use Rattle.hmarkup.proofs.Marks.{and_parts, and_both}
-use Rattle.charref.specs.declared.reference.Reference.{Reference}
+use Rattle.htag.proofs.Vocabulary.{◌≡◌, ℕ, zero, suc, ◌+◌, ◌-◌, ◌≤◌, Bool, true, false, true≢false, ◌&&◌, eqb, List, [], ◌∷◌, ◌++◌, length, take, drop, map, sym, refl, ap, ◌∙◌, subst, append-nil, append_assoc, arith, Option, Some, None, Vec, Global, encode_utf8_all, option_to_list, encode_utf8, string_bytes, take-append-drop, encodes-append, MissingSemicolonAfterCharacterReference, UnknownNamedCharacterReference, ErrorCode, ParseError, Placed, characters, begins, all, past, is_alphanumeric, error, error_if, without_null, and_parts, and_both, Reference, IsRead, characters_of, errors_of, Entities, Piece, IsReference, IsTable, ampersand, all-append, Pending, ValueWalk, IsPiece, AreValue, pieces_text, plain_piece, value_bytes, Begins, HasHeld, IsInValue, pieces_errors, plain_pieces, told}
+use Rattle.std.proofs.Common.{length-append}
+use Rattle.std.proofs.lemmas.List.{take-append-le, drop-append-le}
 use Rattle.charref.specs.declared.walk.Walk.{Walk}
-use Rattle.charref.specs.Pieces.{IsRead, characters_of, errors_of}
-use Rattle.charref.specs.Reference.{Entities, Piece, IsReference, IsTable, ampersand}
 use Rattle.charref.specs.declared.reference_state.ReferenceState.{ReferenceState as WalkState}
 use Rattle.charref.specs.Held.{is_number, kept}
 use Rattle.charref.specs.Walk.{HasTaken, LeavesLast}
 use Rattle.charref.proofs.Keeping.{kept_all, kept_nothing, is_other, drop-kept, drop-kept-end}
-use Rattle.charref.proofs.Naming.{all-append}
-use Rattle.htag.specs.declared.pending.Pending.{Pending}
 use Rattle.htag.specs.declared.pending.Pending.TheVariants as reading
-use Rattle.htag.specs.declared.value.ValueWalk.{ValueWalk}
-use Rattle.htag.specs.Value.{IsPiece, AreValue, pieces_text, plain_piece, value_bytes}
-use Rattle.htag.specs.ValueWalk.{Begins, InReference, InRun, HasHeld, IsInValue, IsWholeValue, pieces_errors, plain_pieces, told, TellsReference}
+use Rattle.htag.specs.ValueWalk.{InReference, InRun, IsWholeValue, TellsReference}
 use Rattle.htag.proofs.Pieces.{pieces_text-append, pieces_text-one, value_bytes-append, value_bytes-one, pieces_errors-append, is_even, errors-even, is_quiet, quiet_run, quiet_plain, plain_text, plain_bytes, plain_errors, begins_further, begins_piece, begins_plain}
 use Rattle.htag.proofs.Even.{quiet_held, reference_even, alone_even}
 use Rattle.htag.proofs.Running.{IsRunRead, characters-append, run_read}

@@ -1,15 +1,6 @@
 -- What a walk has read stays read: where more is known of what follows, and where names are added.
-use Rattle.std.proofs.Common.{◌≡◌, Bool, true, List, [], ◌++◌, sym, ap, ◌∙◌, append-nil, append_assoc}
-use Rattle.names.specs.declared.error.ParseError.{ParseError}
-use Rattle.names.specs.declared.placed.Placed.{Placed}
-use Rattle.names.specs.Names.{Texts, Grows}
-use Rattle.names.specs.Placed.{begins}
-use Rattle.charref.specs.Reference.{Entities}
-use Rattle.htag.specs.declared.tag_state.TagState.{TagState}
+use Rattle.htag.proofs.Vocabulary.{◌≡◌, Bool, true, List, [], ◌++◌, sym, ap, ◌∙◌, append-nil, append_assoc, ParseError, Placed, Texts, Grows, begins, Entities, TagState, TagWalk, Part, parts_text, attributes_after, ends_name, names_after, HasAttributes, IsPast, IsInTag}
 use Rattle.htag.specs.declared.tag_state.TagState.TheVariants as phase
-use Rattle.htag.specs.declared.walk.TagWalk.{TagWalk}
-use Rattle.htag.specs.Tag.{Part, parts_text, attributes_after, ends_name}
-use Rattle.htag.specs.TagWalk.{names_after, HasAttributes, IsPast, IsInTag}
 use Rattle.htag.proofs.Parts.{begins-more}
 use Rattle.htag.proofs.Naming.{numbers_kept, attrs_kept}
 

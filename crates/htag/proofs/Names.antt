@@ -1,23 +1,8 @@
 -- The tag's name.
-use Rattle.std.proofs.Common.{◌≡◌, ℕ, eqb, arith, true, false, not, List, [], ◌∷◌, ◌++◌, sym, refl, ap, ◌∙◌, subst, append-nil}
-use Rattle.std.specs.String.{string_bytes}
-use Rattle.names.specs.declared.error.ParseError.{ParseError}
-use Rattle.names.specs.declared.placed.Placed.{Placed}
-use Rattle.names.specs.Names.{Texts}
-use Rattle.names.specs.Placed.{begins, all, is_letter, null_errors, name_bytes}
-use Rattle.std.proofs.lemmas.Bool.Decides.{nat_tests}
-use Rattle.names.specs.declared.attr.Attr.{Attr}
-use Rattle.hmarkup.proofs.Marks.{and_parts, and_both, null_errors-append}
-use Rattle.hmarkup.proofs.Parts.{name_bytes-append}
-use Rattle.charref.specs.Reference.{Entities}
-use Rattle.charref.proofs.Naming.{all-append}
+use Rattle.htag.proofs.Vocabulary.{◌≡◌, ℕ, eqb, arith, true, false, not, List, [], ◌∷◌, ◌++◌, sym, refl, ap, ◌∙◌, subst, append-nil, string_bytes, ParseError, Placed, Texts, begins, all, is_letter, null_errors, name_bytes, nat_tests, Attr, and_parts, and_both, name_bytes-append, Entities, all-append, TagState, TagWalk, Part, parts_text, tag_errors, ends_name, HasAttributes, HasPhase, IsPast, IsInTag, AttrsMean}
+use Rattle.hmarkup.proofs.Marks.{null_errors-append}
 use Rattle.htag.specs.declared.kind.TagKind.{TagKind}
-use Rattle.htag.specs.declared.tag_state.TagState.{TagState}
 use Rattle.htag.specs.declared.tag_state.TagState.TheVariants as phase
-use Rattle.htag.specs.declared.walk.TagWalk.{TagWalk}
-use Rattle.htag.specs.Tag.{Part, parts_text, tag_errors, ends_name}
-use Rattle.htag.specs.TagWalk.{HasAttributes, HasPhase, IsPast, IsInTag}
-use Rattle.htag.specs.Attributes.{AttrsMean}
 use Rattle.htag.specs.Steps.{IsBegun}
 use Rattle.htag.proofs.Parts.{begins-more, holds_same}
 

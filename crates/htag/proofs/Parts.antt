@@ -1,19 +1,5 @@
 -- Parts of a tag, one by one.
-use Rattle.std.proofs.Common.{◌≡◌, ℕ, Bool, true, false, ◌||◌, List, [], ◌∷◌, ◌++◌, sym, refl, ap, ◌∙◌, subst, append_assoc, append-nil, Option, None, is_some, Vec, Global}
-use Rattle.std.proofs.lemmas.Grind.{flat_map-append}
-use Rattle.names.specs.declared.error.ParseError.{ParseError}
-use Rattle.names.specs.declared.placed.Placed.{Placed}
-use Rattle.names.specs.Placed.{begins, stops, all, is_space, past}
-use Rattle.names.specs.Names.{Texts}
-use Rattle.hmarkup.proofs.Marks.{and_parts, and_both}
-use Rattle.charref.specs.Reference.{Entities}
-use Rattle.names.specs.declared.attr.Attr.{Attr}
-use Rattle.htag.specs.declared.seen.Seen.{Seen}
-use Rattle.htag.specs.declared.walk.TagWalk.{TagWalk}
-use Rattle.htag.specs.Attributes.{AttrsMean}
-use Rattle.htag.specs.Seen.{HasSeen}
-use Rattle.htag.specs.Tag.{Attribute, Part, IsPart, AreParts, parts_text, errors_after, attributes_after, has_attribute, named_by, kept, repeated}
-use Rattle.htag.specs.TagWalk.{names_after, NumbersMean, HasAttributes}
+use Rattle.htag.proofs.Vocabulary.{◌≡◌, ℕ, Bool, true, false, ◌||◌, List, [], ◌∷◌, ◌++◌, sym, refl, ap, ◌∙◌, subst, append_assoc, append-nil, Option, None, is_some, Vec, Global, flat_map-append, ParseError, Placed, begins, stops, all, is_space, past, Texts, and_parts, and_both, Entities, Attr, Seen, TagWalk, AttrsMean, HasSeen, Attribute, Part, IsPart, AreParts, parts_text, errors_after, attributes_after, has_attribute, named_by, kept, repeated, names_after, NumbersMean, HasAttributes}
 
 pub begins-more : (test : ℕ → Bool) (xs ys : List Placed) → begins test xs ≡ true → begins test (xs ++ ys) ≡ true
 begins-more test [] ys h = absurd cc

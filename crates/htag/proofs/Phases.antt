@@ -1,20 +1,8 @@
 -- A tag, a character at a time.
-use Rattle.std.proofs.Common.{◌≡◌, ℕ, true, false, not, List, [], ◌∷◌, ◌++◌, sym, refl, ap, ◌∙◌, subst, append_assoc, append-nil, Some, None}
-use Rattle.std.specs.Char.{encode_utf8, to_ascii_lowercase}
-use Rattle.std.specs.String.{string_bytes}
-use Rattle.names.specs.declared.error.ErrorCode.TheVariants.{UnexpectedEqualsSignBeforeAttributeName, UnexpectedSolidusInTag}
-use Rattle.names.specs.declared.error.ParseError.{ParseError}
-use Rattle.names.specs.declared.placed.Placed.{Placed}
-use Rattle.names.specs.Names.{Texts}
-use Rattle.names.specs.Placed.{characters, begins, place, is_space, is_equals, is_greater, error, error_if, null_errors, without_null}
-use Rattle.hmarkup.proofs.Marks.{and_both}
-use Rattle.charref.specs.Reference.{Entities}
-use Rattle.htag.specs.declared.tag_state.TagState.{TagState}
+use Rattle.htag.proofs.Vocabulary.{◌≡◌, ℕ, true, false, not, List, [], ◌∷◌, ◌++◌, sym, refl, ap, ◌∙◌, subst, append_assoc, append-nil, Some, None, encode_utf8, to_ascii_lowercase, string_bytes, UnexpectedEqualsSignBeforeAttributeName, ParseError, Placed, Texts, characters, begins, place, is_space, is_equals, is_greater, error, error_if, null_errors, without_null, and_both, Entities, TagState, TagWalk, Part, IsPart, AreParts, parts_text, errors_after, tag_errors, tag_close, ends_name, ends_attribute_name, attribute_name_errors, name_errors_here, attribute_part, repeated, names_after, HasAttributes, HasName, InName, HasPhase, IsPast, IsInTag, IsWholeTag, KeepsTag, EndsAttribute, attribute_of}
+use Rattle.names.specs.declared.error.ErrorCode.TheVariants.{UnexpectedSolidusInTag}
 use Rattle.htag.specs.declared.tag_state.TagState.TheVariants as phase
-use Rattle.htag.specs.declared.walk.TagWalk.{TagWalk}
-use Rattle.htag.specs.Tag.{Part, IsPart, AreParts, parts_text, errors_after, tag_errors, tag_close, ends_name, ends_attribute_name, attribute_name_errors, name_errors_here, attribute_part, repeated}
-use Rattle.htag.specs.TagWalk.{names_after, HasAttributes, HasName, InName, HasPhase, IsPast, IsInTag, IsWholeTag}
-use Rattle.htag.specs.Steps.{KeepsTag, AddsToName, BeginsAttribute, EndsAttribute, attribute_of}
+use Rattle.htag.specs.Steps.{AddsToName, BeginsAttribute}
 use Rattle.htag.proofs.Going.{Past, past_is, held_in, body_more, goes_on, letters_follow}
 use Rattle.htag.proofs.Parts.{parts_text-snoc, AreParts-snoc, errors-snoc, holds_plain, holds_same, past-space}
 

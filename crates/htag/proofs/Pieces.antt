@@ -1,20 +1,6 @@
 -- Pieces of a value, one after another.
-use Rattle.std.proofs.Common.{◌≡◌, ℕ, Bool, true, false, not, ◌&&◌, ◌||◌, eqb, List, [], ◌∷◌, ◌++◌, sym, refl, ap, ◌∙◌, subst, append_assoc, append-nil, arith}
-use Rattle.std.specs.Prelude.{encode_utf8_all}
-use Rattle.std.specs.Char.{encode_utf8}
-use Rattle.std.specs.List.{flat_map}
-use Rattle.std.proofs.lemmas.Bool.Decides.{nat_tests}
-use Rattle.std.proofs.lemmas.Grind.{flat_map-append}
-use Rattle.std.proofs.lemmas.Str.{encodes-append}
-use Rattle.names.specs.declared.error.ErrorCode.TheVariants.{UnexpectedCharacterInUnquotedAttributeValue}
-use Rattle.names.specs.declared.error.ParseError.{ParseError}
-use Rattle.names.specs.declared.placed.Placed.{Placed}
-use Rattle.names.specs.Placed.{characters, all, is_alphanumeric, errors_at, error_if, null_errors, without_null}
-use Rattle.hmarkup.proofs.Marks.{and_parts, and_both}
-use Rattle.charref.specs.Reference.{Entities, Piece}
-use Rattle.htag.specs.Value.{IsPiece, AreValue, pieces_text, plain_piece, value_bytes}
-use Rattle.htag.specs.Tag.{is_odd}
-use Rattle.htag.specs.ValueWalk.{Begins, pieces_errors, plain_pieces}
+use Rattle.htag.proofs.Vocabulary.{◌≡◌, ℕ, Bool, true, false, not, ◌&&◌, ◌||◌, eqb, List, [], ◌∷◌, ◌++◌, sym, refl, ap, ◌∙◌, subst, append_assoc, append-nil, arith, encode_utf8_all, encode_utf8, flat_map, nat_tests, flat_map-append, encodes-append, UnexpectedCharacterInUnquotedAttributeValue, ParseError, Placed, characters, all, is_alphanumeric, error_if, null_errors, without_null, and_parts, and_both, Entities, Piece, IsPiece, AreValue, pieces_text, plain_piece, value_bytes, is_odd, Begins, pieces_errors, plain_pieces}
+use Rattle.names.specs.Placed.{errors_at}
 
 pub pieces_text-append : (xs ys : List Piece) → pieces_text (xs ++ ys) ≡ pieces_text xs ++ pieces_text ys
 pieces_text-append xs ys = flat_map-append (λ (x : Piece). x.text) xs ys

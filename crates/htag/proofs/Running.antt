@@ -1,18 +1,10 @@
 -- A reference of which no key is known when its walk ends: its run of alphanumerics goes on.
-use Rattle.std.proofs.Common.{◌≡◌, ℕ, zero, suc, ◌-◌, ◌≤◌, Bool, true, false, true≢false, not, ◌||◌, ◌&&◌, eqb, nat_eq, nat_lt, cond, List, [], ◌∷◌, ◌++◌, length, take, drop, map, slice_get, sym, refl, ap, ◌∙◌, subst, append-nil, arith, Option, Some, None}
-use Rattle.std.specs.Prelude.{if◌then◌else◌, option_to_list, codes}
+use Rattle.htag.proofs.Vocabulary.{◌≡◌, ℕ, zero, suc, ◌-◌, ◌≤◌, Bool, true, false, true≢false, not, ◌||◌, ◌&&◌, eqb, List, [], ◌∷◌, ◌++◌, length, take, drop, map, slice_get, sym, refl, ap, ◌∙◌, subst, append-nil, arith, Option, Some, None, if◌then◌else◌, option_to_list, codes, ErrorCode, MissingSemicolonAfterCharacterReference, UnknownNamedCharacterReference, ParseError, Placed, characters, lowered, place, begins, all, past, is_alphanumeric, is_space, error, error_if, Reference, IsRead, characters_of, errors_of, Entities, Piece, IsReference, ampersand, and_parts, and_both, longest_among, told}
+use Rattle.std.proofs.Common.{nat_eq, nat_lt, cond}
 use Rattle.std.specs.List.{starts_with}
-use Rattle.names.specs.declared.error.ErrorCode.{ErrorCode}
-use Rattle.names.specs.declared.error.ErrorCode.TheVariants.{CharacterReferenceOutsideUnicodeRange, ControlCharacterReference, MissingSemicolonAfterCharacterReference, NoncharacterCharacterReference, NullCharacterReference, SurrogateCharacterReference, UnknownNamedCharacterReference}
-use Rattle.names.specs.declared.error.ParseError.{ParseError}
-use Rattle.names.specs.declared.placed.Placed.{Placed}
-use Rattle.names.specs.Placed.{characters, lowered, place, begins, all, past, is_alphanumeric, is_empty, is_noncharacter, is_space, error, error_if}
-use Rattle.charref.specs.declared.reference.Reference.{Reference}
-use Rattle.charref.specs.Pieces.{IsRead, characters_of, errors_of}
-use Rattle.charref.specs.Reference.{Entities, Entry, Piece, IsReference, longest, longer, ends_in_semicolon, number_from, number_fault, is_surrogate, is_control, ampersand}
-use Rattle.hmarkup.proofs.Marks.{and_parts, and_both}
-use Rattle.charref.proofs.Core.{longest_among}
-use Rattle.htag.specs.ValueWalk.{told}
+use Rattle.names.specs.declared.error.ErrorCode.TheVariants.{CharacterReferenceOutsideUnicodeRange, ControlCharacterReference, NoncharacterCharacterReference, NullCharacterReference, SurrogateCharacterReference}
+use Rattle.names.specs.Placed.{is_empty, is_noncharacter}
+use Rattle.charref.specs.Reference.{Entry, longest, longer, ends_in_semicolon, number_from, number_fault, is_surrogate, is_control}
 
 -- a key that begins a text begins a longer one
 starts-more : (xs ys key : List ℕ) → starts_with nat_eq xs key ≡ true → starts_with nat_eq (xs ++ ys) key ≡ true

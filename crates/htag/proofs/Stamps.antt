@@ -1,12 +1,8 @@
 -- Stamps of the names that a tag has had.
-use Rattle.std.proofs.Common.{◌≡◌, ℕ, zero, suc, ◌<◌, ◌≤◌, Bool, true, false, not, ◌||◌, eqb, List, [], ◌∷◌, ◌++◌, length, replicate, take, get_or, sym, refl, ap, ◌∙◌, arith}
+use Rattle.htag.proofs.Vocabulary.{◌≡◌, ℕ, zero, suc, ◌<◌, ◌≤◌, Bool, true, false, not, ◌||◌, eqb, List, [], ◌∷◌, ◌++◌, length, take, get_or, sym, refl, ap, ◌∙◌, arith, take_all, eqb-true, nat_tests, eqb_self, Seen, has_number, HasSeen}
+use Rattle.std.proofs.Common.{replicate}
 use Rattle.std.specs.Prelude.{slice_set}
-use Rattle.std.proofs.lemmas.List.{take_all}
-use Rattle.std.proofs.lemmas.Bool.{eqb-true}
-use Rattle.std.proofs.lemmas.Bool.Decides.{nat_tests}
-use Rattle.hmarkup.proofs.Marks.{eqb_self}
-use Rattle.htag.specs.declared.seen.Seen.{Seen}
-use Rattle.htag.specs.Seen.{has_number, stamp, HasSeen}
+use Rattle.htag.specs.Seen.{stamp}
 
 zeros : (k m : ℕ) → let none : ℕ = 0 in get_or (replicate k none) m none ≡ none
 zeros zero m = refl

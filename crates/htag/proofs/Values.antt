@@ -1,24 +1,10 @@
 -- What follows an attribute's name: `=` and a value.
-use Rattle.std.proofs.Common.{◌≡◌, ℕ, Bool, true, false, not, ◌||◌, ◌&&◌, eqb, List, [], ◌∷◌, ◌++◌, sym, refl, ap, ◌∙◌, subst, append_assoc, append-nil}
-use Rattle.std.proofs.lemmas.Bool.{eqb-true}
-use Rattle.names.specs.declared.error.ErrorCode.TheVariants.{MissingAttributeValue, MissingWhitespaceBetweenAttributes}
-use Rattle.names.specs.declared.error.ParseError.{ParseError}
-use Rattle.names.specs.declared.placed.Placed.{Placed}
-use Rattle.names.specs.Names.{Texts}
-use Rattle.names.specs.Placed.{begins, stops, all, is_space, is_equals, is_greater, is_quote, error, error_if}
-use Rattle.hmarkup.proofs.Marks.{and_parts, and_both}
-use Rattle.charref.specs.Reference.{Entities}
-use Rattle.htag.specs.declared.tag_state.TagState.{TagState}
+use Rattle.htag.proofs.Vocabulary.{◌≡◌, ℕ, Bool, true, false, not, ◌||◌, ◌&&◌, eqb, List, [], ◌∷◌, ◌++◌, sym, refl, ap, ◌∙◌, subst, append_assoc, append-nil, eqb-true, MissingWhitespaceBetweenAttributes, ParseError, Placed, Texts, begins, stops, all, is_space, is_equals, is_greater, is_quote, error, error_if, and_parts, and_both, Entities, TagState, TagWalk, Pending, ValueWalk, pieces_text, value_bytes, HasHeld, IsInValue, EndsValue, pieces_errors, IsPart, ends_name, ends_attribute_name, ends_unquoted, attribute_name_errors, value_errors, unquoted_errors, NoValue, HasPhase, IsPast, IsInTag, KeepsTag, EndsAttribute}
+use Rattle.names.specs.declared.error.ErrorCode.TheVariants.{MissingAttributeValue}
 use Rattle.htag.specs.declared.tag_state.TagState.TheVariants as phase
-use Rattle.htag.specs.declared.walk.TagWalk.{TagWalk}
-use Rattle.htag.specs.declared.pending.Pending.{Pending}
-use Rattle.htag.specs.declared.value.ValueWalk.{ValueWalk}
-use Rattle.htag.specs.Value.{pieces_text, value_bytes}
-use Rattle.htag.specs.ValueWalk.{HasHeld, IsInValue, TakesInValue, EndsValue, pieces_errors}
+use Rattle.htag.specs.ValueWalk.{TakesInValue}
 use Rattle.htag.proofs.InValue.{looks_ahead}
-use Rattle.htag.specs.Tag.{IsPart, is_sign, ends_name, ends_attribute_name, ends_unquoted, attribute_name_errors, value_errors, unquoted_errors}
-use Rattle.htag.specs.TagWalk.{NoValue, HasPhase, IsPast, IsInTag}
-use Rattle.htag.specs.Steps.{KeepsTag, EndsAttribute}
+use Rattle.htag.specs.Tag.{is_sign}
 use Rattle.htag.proofs.Parts.{begins-more, all-snoc}
 use Rattle.htag.proofs.Going.{Past, past_is, held_in, goes_on, name_stays, quoted_goes_on as value_goes_on, unquoted_goes_on as word_goes_on}
 use Rattle.htag.proofs.Phases.{keeps_self, attribute_ends}

@@ -281,7 +281,8 @@ impl<'t> TagWalk<'t> {
         ensures keeps { KeepsTag (record self.old { attrs = self.new.attrs; seen = self.new.seen; any = self.new.any }) self.new }
         ensures phase { self.new.phase ≡ self.old.phase }
         ensures adds { IfOk result (λ count. 0 < count → ReadsPart names.old names.new self.old self.new run.now count false) }
-        ensures stays { IfOk result (λ count. count ≡ 0 → (parts : List Part) → HasAttributes names.old self.old parts → HasAttributes names.new self.new parts) }
+        ensures stays { IfOk result (λ count. count ≡ 0 → (parts : List Part) → HasAttributes names.old self.old parts
+            → HasAttributes names.new self.new parts) }
         ensures memory { IfErr result (λ e. e ≡ Memory) }
         ensures grows { Grows names.old names.new }
     {

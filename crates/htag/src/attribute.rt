@@ -74,7 +74,8 @@ impl<'t> TagWalk<'t> {
         errors: &mut Vec<ParseError>,
     ) -> Result<bool, Refusal>
         requires { self.old.phase ≡ TagState.AttributeName }
-        ensures takes { (table : Entities) → StepsInTag table names.old names.new self.old (record { ch = ch; at = at }) errors.old.items result self.new errors.new.items }
+        ensures takes { (table : Entities) → StepsInTag table names.old names.new self.old (record { ch = ch; at = at })
+            errors.old.items result self.new errors.new.items }
         ensures grows { Grows names.old names.new }
         ensures kind { OnOk result (self.new.kind ≡ self.old.kind) }
     {
@@ -103,7 +104,8 @@ impl<'t> TagWalk<'t> {
         errors: &mut Vec<ParseError>,
     ) -> Result<bool, Refusal>
         requires { self.old.phase ≡ TagState.AfterAttributeName }
-        ensures takes { (table : Entities) → StepsInTag table names.old names.new self.old (record { ch = ch; at = at }) errors.old.items result self.new errors.new.items }
+        ensures takes { (table : Entities) → StepsInTag table names.old names.new self.old (record { ch = ch; at = at })
+            errors.old.items result self.new errors.new.items }
         ensures grows { Grows names.old names.new }
         ensures kind { OnOk result (self.new.kind ≡ self.old.kind) }
     {
@@ -160,7 +162,8 @@ impl<'t> TagWalk<'t> {
         errors: &mut Vec<ParseError>,
     ) -> Result<bool, Refusal>
         requires { self.old.phase ≡ TagState.Quoted mark }
-        ensures takes { (names : Texts) → StepsInTag table.now names names self.old (record { ch = ch; at = at }) errors.old.items result self.new errors.new.items }
+        ensures takes { (names : Texts) → StepsInTag table.now names names self.old (record { ch = ch; at = at })
+            errors.old.items result self.new errors.new.items }
         ensures kind { OnOk result (self.new.kind ≡ self.old.kind) }
     {
         if ch == mark {
@@ -204,7 +207,8 @@ impl<'t> TagWalk<'t> {
         errors: &mut Vec<ParseError>,
     ) -> Result<bool, Refusal>
         requires { self.old.phase ≡ TagState.AfterQuoted }
-        ensures takes { (table : Entities) → StepsInTag table names.old names.new self.old (record { ch = ch; at = at }) errors.old.items result self.new errors.new.items }
+        ensures takes { (table : Entities) → StepsInTag table names.old names.new self.old (record { ch = ch; at = at })
+            errors.old.items result self.new errors.new.items }
         ensures grows { Grows names.old names.new }
         ensures kind { OnOk result (self.new.kind ≡ self.old.kind) }
     {

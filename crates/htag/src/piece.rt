@@ -201,8 +201,8 @@ impl<'t> ValueWalk<'t> {
     }
 
     /// Adds the characters of a reference, and keeps its errors.
-    fn tell(&mut self, found: Reference<'t>, errors: &mut Vec<ParseError>) -> Result<(), AllocError>
-        ensures { OnOk result (TellsReference found.entry self.old errors.old.items self.new errors.new.items) }
+    fn tell(&mut self, found: Reference, errors: &mut Vec<ParseError>) -> Result<(), AllocError>
+        ensures { OnOk result (TellsReference found self.old errors.old.items self.new errors.new.items) }
     {
         keep_if(
             found.missing_semicolon,
@@ -213,8 +213,7 @@ impl<'t> ValueWalk<'t> {
         if let Some(code) = found.fault {
             keep_if(true, code, self.place, errors)?;
         }
-        push_all(&mut self.text, found.characters.as_slice())?;
-        Ok(())
+        found.characters.push_to(&mut self.text)
     }
 
     /// Adds the last `count` characters that were held.

@@ -20,7 +20,8 @@ impl<'t> TagWalk<'t> {
         errors: &mut Vec<ParseError>,
     ) -> Result<bool, Refusal>
         requires { self.old.phase ≡ TagState.Name }
-        ensures takes { (table : Entities) (names : Texts) → StepsInTag table names names self.old (record { ch = ch; at = at }) errors.old.items result self.new errors.new.items }
+        ensures takes { (table : Entities) (names : Texts) → StepsInTag table names names self.old (record { ch = ch; at = at })
+            errors.old.items result self.new errors.new.items }
         ensures kind { OnOk result (self.new.kind ≡ self.old.kind) }
     {
         if ch == '>' || ch == '/' || ch.is_ascii_whitespace() {
@@ -41,7 +42,8 @@ impl<'t> TagWalk<'t> {
         errors: &mut Vec<ParseError>,
     ) -> Result<bool, Refusal>
         requires { self.old.phase ≡ TagState.BeforeAttribute }
-        ensures takes { (table : Entities) (names : Texts) → StepsInTag table names names self.old (record { ch = ch; at = at }) errors.old.items result self.new errors.new.items }
+        ensures takes { (table : Entities) (names : Texts) → StepsInTag table names names self.old (record { ch = ch; at = at })
+            errors.old.items result self.new errors.new.items }
         ensures kind { OnOk result (self.new.kind ≡ self.old.kind) }
     {
         if ch == '>' {
@@ -67,7 +69,8 @@ impl<'t> TagWalk<'t> {
         errors: &mut Vec<ParseError>,
     ) -> Result<bool, Refusal>
         requires { self.old.phase ≡ TagState.Solidus }
-        ensures takes { (table : Entities) (names : Texts) → StepsInTag table names names self.old (record { ch = ch; at = at }) errors.old.items result self.new errors.new.items }
+        ensures takes { (table : Entities) (names : Texts) → StepsInTag table names names self.old (record { ch = ch; at = at })
+            errors.old.items result self.new errors.new.items }
         ensures kind { OnOk result (self.new.kind ≡ self.old.kind) }
     {
         if ch == '>' {

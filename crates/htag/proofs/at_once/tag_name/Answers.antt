@@ -1,4 +1,4 @@
-use Rattle.std.proofs.Common.{sym, ◌∙◌}
+use Rattle.htag.proofs.Vocabulary.{sym, ◌∙◌}
 use Rattle.htag.proofs.AtOnce.{name_is}
 use Rattle.htag.proofs.at_once.tag_name.Goals as goal
 

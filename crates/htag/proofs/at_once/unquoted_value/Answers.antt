@@ -1,5 +1,4 @@
-use Rattle.std.proofs.Common.{◌-◌, length, take, drop, sym, ◌∙◌, arith}
-use Rattle.std.proofs.lemmas.List.{length-drop, take_all}
+use Rattle.htag.proofs.Vocabulary.{◌-◌, length, take, drop, sym, ◌∙◌, arith, length-drop, take_all}
 use Rattle.htag.proofs.AtOnce.{unquoted_is}
 use Rattle.htag.proofs.at_once.unquoted_value.Goals as goal
 

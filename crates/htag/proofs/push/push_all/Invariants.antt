@@ -1,6 +1,4 @@
-use Rattle.std.proofs.Common.{◌≡◌, ◌++◌, take}
-use Rattle.std.specs.Prelude.{encode_utf8_all}
-use Rattle.std.specs.String.{string_bytes}
+use Rattle.htag.proofs.Vocabulary.{◌≡◌, ◌++◌, take, encode_utf8_all, string_bytes}
 use Rattle.htag.proofs.push.push_all.Given as goal
 
 abbrev pub invariant-loop-character : goal.invariant-loop-character

@@ -1,7 +1,4 @@
-use Rattle.std.proofs.Common.{ap, ◌∙◌}
-use Rattle.std.specs.List.{list_all}
-use Rattle.htext.specs.Run.{is_plain_byte}
-use Rattle.htext.proofs.Runs.{plain_drop}
+use Rattle.htag.proofs.Vocabulary.{ap, ◌∙◌, list_all, is_plain_byte, plain_drop}
 use Rattle.htag.proofs.push.rest_of.Goals as goal
 
 pub returns-clause-plain : goal.returns-clause-plain

@@ -1,6 +1,4 @@
-use Rattle.std.proofs.Common.{◌≡◌, ◌+◌, drop}
-use Rattle.std.specs.List.{prefix_len}
-use Rattle.htag.specs.Run.{is_word_byte}
+use Rattle.htag.proofs.Vocabulary.{◌≡◌, ◌+◌, drop, prefix_len, is_word_byte}
 use Rattle.htag.proofs.push.word_run.Given as goal
 
 abbrev pub invariant-loop-index : goal.invariant-loop-index

@@ -1,4 +1,5 @@
-use Rattle.std.proofs.Common.{◌≡◌, ◌≤◌, ◌+◌, ◌∙◌, ℕ, length, get_or, refl, arith, get_or-set_same, get_or-set_other}
+use Rattle.htag.proofs.Vocabulary.{◌≡◌, ◌≤◌, ◌+◌, ◌∙◌, ℕ, length, get_or, refl, arith}
+use Rattle.std.proofs.Common.{get_or-set_same, get_or-set_other}
 use Rattle.htag.proofs.Stamps.{resized, stamped, marked, no_stamp}
 use Rattle.htag.proofs.seen.Seen.add.Goals as goal
 

@@ -1,4 +1,4 @@
-use Rattle.std.proofs.Common.{[], refl, sym, append-nil}
+use Rattle.htag.proofs.Vocabulary.{[], refl, sym, append-nil}
 use Rattle.htag.proofs.InValue.{ends_plain, ends_run}
 use Rattle.htag.proofs.value.ValueWalk.end.Goals as goal
 

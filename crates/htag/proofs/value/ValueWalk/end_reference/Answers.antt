@@ -1,5 +1,4 @@
-use Rattle.std.proofs.Common.{true}
-use Rattle.std.proofs.lemmas.Result.{on_ok_weaker}
+use Rattle.htag.proofs.Vocabulary.{true, on_ok_weaker}
 use Rattle.htag.proofs.InValue.{ends_reference, told_then_given}
 use Rattle.htag.proofs.value.ValueWalk.end_reference.Goals as goal
 

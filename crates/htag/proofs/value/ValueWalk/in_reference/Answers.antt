@@ -1,13 +1,5 @@
-use Rattle.std.proofs.Common.{◌++◌, ◌≤◌, [], List, ℕ, refl, sym, ap, ◌∙◌, append-nil, append_assoc, arith, subst, Vec, Global}
-use Rattle.std.proofs.lemmas.Result.{on_ok_weaker}
-use Rattle.std.specs.Prelude.{encode_utf8_all}
-use Rattle.std.specs.Char.{encode_utf8}
-use Rattle.std.specs.String.{string_bytes}
-use Rattle.charref.specs.Pieces.{characters_of}
+use Rattle.htag.proofs.Vocabulary.{◌++◌, ◌≤◌, [], List, ℕ, refl, sym, ap, ◌∙◌, append-nil, append_assoc, arith, subst, Vec, Global, on_ok_weaker, encode_utf8_all, encode_utf8, string_bytes, characters_of, characters, ParseError, IsInValue}
 use Rattle.charref.proofs.Keeping.{kept_none}
-use Rattle.names.specs.Placed.{characters}
-use Rattle.names.specs.declared.error.ParseError.{ParseError}
-use Rattle.htag.specs.ValueWalk.{IsInValue}
 use Rattle.htag.proofs.InValue.{other_kept, reference_on, reference_ends, reference_read, run_begins, told_then_given}
 use Rattle.htag.proofs.value.ValueWalk.in_reference.Goals as goal
 

@@ -1,9 +1,4 @@
-use Rattle.std.proofs.Common.{◌≡◌, ◌++◌, [], List, true, false, refl, sym, ap, ◌∙◌, append-nil, append_assoc, arith, subst}
-use Rattle.std.proofs.lemmas.Bool.Decides.{nat_tests}
-use Rattle.std.proofs.lemmas.Result.{on_ok_weaker}
-use Rattle.names.specs.declared.error.ParseError.{ParseError}
-use Rattle.names.specs.Placed.{is_alphanumeric}
-use Rattle.htag.specs.ValueWalk.{IsInValue}
+use Rattle.htag.proofs.Vocabulary.{◌≡◌, ◌++◌, [], List, true, false, refl, sym, ap, ◌∙◌, append-nil, append_assoc, arith, subst, nat_tests, on_ok_weaker, ParseError, is_alphanumeric, IsInValue}
 use Rattle.htag.proofs.InValue.{run_on, run_ends}
 use Rattle.htag.proofs.value.ValueWalk.in_run.Goals as goal
 

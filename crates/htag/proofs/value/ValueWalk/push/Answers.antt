@@ -1,8 +1,4 @@
-use Rattle.std.proofs.Common.{◌++◌, ◌∷◌, [], Bool, List, refl, sym, ap, ◌∙◌, append_assoc}
-use Rattle.std.proofs.lemmas.Result.{on_ok_weaker}
-use Rattle.names.specs.declared.error.ErrorCode.TheVariants.{UnexpectedCharacterInUnquotedAttributeValue}
-use Rattle.names.specs.declared.error.ParseError.{ParseError}
-use Rattle.names.specs.Placed.{error_if, null_errors}
+use Rattle.htag.proofs.Vocabulary.{◌++◌, ◌∷◌, [], Bool, List, refl, sym, ap, ◌∙◌, append_assoc, on_ok_weaker, UnexpectedCharacterInUnquotedAttributeValue, ParseError, error_if, null_errors}
 use Rattle.htag.proofs.Pieces.{plain_raises}
 use Rattle.htag.proofs.value.ValueWalk.push.Goals as goal
 

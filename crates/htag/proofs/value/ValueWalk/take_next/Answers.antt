@@ -1,6 +1,4 @@
-use Rattle.std.proofs.Common.{◌≡◌, [], false, eqb, refl, sym, append-nil, arith}
-use Rattle.std.proofs.lemmas.Bool.Decides.{nat_tests}
-use Rattle.std.proofs.lemmas.Result.{on_ok_weaker}
+use Rattle.htag.proofs.Vocabulary.{◌≡◌, [], false, eqb, refl, sym, append-nil, arith, nat_tests, on_ok_weaker}
 use Rattle.htag.proofs.InValue.{plain_step, amp_step}
 use Rattle.htag.proofs.value.ValueWalk.take_next.Goals as goal
 

@@ -1,6 +1,4 @@
-use Rattle.std.proofs.Common.{◌≡◌, true, false, refl, arith}
-use Rattle.std.proofs.lemmas.Bool.Decides.{nat_tests}
-use Rattle.names.specs.Placed.{is_space, is_equals}
+use Rattle.htag.proofs.Vocabulary.{◌≡◌, true, false, refl, arith, nat_tests, is_space, is_equals}
 use Rattle.htag.proofs.Ahead.{bare_ends_early}
 use Rattle.htag.proofs.Values.{space_again, equals_after_space}
 use Rattle.htag.proofs.walk.TagWalk.after_attribute_name.Goals as goal

@@ -1,6 +1,4 @@
-use Rattle.std.proofs.Common.{◌∙◌, ap, Bool, ◌++◌, not}
-use Rattle.names.specs.declared.error.ErrorCode.TheVariants.{MissingWhitespaceBetweenAttributes}
-use Rattle.names.specs.Placed.{error_if}
+use Rattle.htag.proofs.Vocabulary.{◌∙◌, ap, Bool, ◌++◌, not, MissingWhitespaceBetweenAttributes, error_if}
 use Rattle.htag.proofs.Values.{quoted_ends}
 use Rattle.htag.proofs.walk.TagWalk.after_quotes.Goals as goal
 

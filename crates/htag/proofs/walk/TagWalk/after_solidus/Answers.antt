@@ -1,6 +1,4 @@
-use Rattle.std.proofs.Common.{◌≡◌, false, refl, arith}
-use Rattle.std.proofs.lemmas.Bool.Decides.{nat_tests}
-use Rattle.names.specs.Placed.{is_greater}
+use Rattle.htag.proofs.Vocabulary.{◌≡◌, false, refl, arith, nat_tests, is_greater}
 use Rattle.htag.proofs.Phases.{closing_ends, solidus_ends}
 use Rattle.htag.proofs.walk.TagWalk.after_solidus.Goals as goal
 

@@ -1,7 +1,4 @@
-use Rattle.std.proofs.Common.{◌≡◌, true, false, refl, arith}
-use Rattle.std.proofs.lemmas.Bool.Decides.{nat_tests}
-use Rattle.names.specs.Placed.{is_space}
-use Rattle.htag.specs.Tag.{ends_name}
+use Rattle.htag.proofs.Vocabulary.{◌≡◌, true, false, refl, arith, nat_tests, is_space, ends_name}
 use Rattle.htag.proofs.Phases.{tag_ends, space_follows, solidus_follows, attribute_begins}
 use Rattle.htag.proofs.walk.TagWalk.before_attribute.Goals as goal
 

@@ -1,7 +1,4 @@
-use Rattle.std.proofs.Common.{◌≡◌, true, not, ◌||◌, refl, arith}
-use Rattle.std.proofs.lemmas.Bool.Decides.{nat_tests}
-use Rattle.names.specs.Placed.{is_space, is_quote, is_greater}
-use Rattle.htag.specs.Tag.{ends_unquoted}
+use Rattle.htag.proofs.Vocabulary.{◌≡◌, true, not, ◌||◌, refl, arith, nat_tests, is_space, is_quote, is_greater, ends_unquoted}
 use Rattle.htag.proofs.Values.{space_after_equals, quote_follows, no_value_ends, unquoted_begins}
 use Rattle.htag.proofs.walk.TagWalk.before_value.Goals as goal
 

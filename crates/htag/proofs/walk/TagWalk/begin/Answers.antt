@@ -1,8 +1,4 @@
-use Rattle.std.proofs.Common.{◌≡◌, ℕ, true, List, [], ◌∷◌, ◌++◌, ap, sym, ◌∙◌, append-nil, refl}
-use Rattle.std.specs.Char.{encode_utf8, to_ascii_lowercase}
-use Rattle.std.specs.String.{string_bytes}
-use Rattle.hmarkup.proofs.Marks.{and_both}
-use Rattle.names.specs.Placed.{is_letter, without_null}
+use Rattle.htag.proofs.Vocabulary.{◌≡◌, ℕ, true, List, [], ◌∷◌, ◌++◌, ap, sym, ◌∙◌, append-nil, refl, encode_utf8, to_ascii_lowercase, string_bytes, and_both, is_letter, without_null}
 use Rattle.htag.proofs.Names.{begun_in_tag}
 use Rattle.htag.proofs.walk.TagWalk.begin.Goals as goal
 

@@ -1,5 +1,4 @@
-use Rattle.std.proofs.Common.{◌∙◌, ap}
-use Rattle.std.specs.String.{string_bytes}
+use Rattle.htag.proofs.Vocabulary.{◌∙◌, ap, string_bytes}
 use Rattle.htag.proofs.Names.{begun_in_tag}
 use Rattle.htag.proofs.walk.TagWalk.begin_end.Goals as goal
 

@@ -1,6 +1,4 @@
-use Rattle.std.proofs.Common.{◌≤◌, ◌++◌, ℕ, List, length, take, refl, ap, ◌∙◌, arith}
-use Rattle.std.proofs.lemmas.List.{length-take-le}
-use Rattle.htag.specs.Run.{is_word_byte}
+use Rattle.htag.proofs.Vocabulary.{◌≤◌, ◌++◌, ℕ, List, length, take, refl, ap, ◌∙◌, arith, length-take-le, is_word_byte}
 use Rattle.htag.proofs.InRun.{counted_all, run_begins_attribute, part_goes_on}
 use Rattle.htag.proofs.walk.TagWalk.begin_part.Goals as goal
 

@@ -1,5 +1,4 @@
-use Rattle.std.proofs.Common.{◌∙◌, ℕ, List, [], refl, sym, ap, arith, append-nil}
-use Rattle.std.specs.Prelude.{slice_index}
+use Rattle.htag.proofs.Vocabulary.{◌∙◌, ℕ, List, [], refl, sym, ap, arith, append-nil, slice_index}
 use Rattle.htag.proofs.InValue.{ends_plain}
 use Rattle.htag.proofs.Values.{quote_closes}
 use Rattle.htag.proofs.InRun.{mark_goes_on}

@@ -1,5 +1,4 @@
-use Rattle.std.proofs.Common.{refl}
-use Rattle.std.proofs.lemmas.Result.{MatchResult-weaker}
+use Rattle.htag.proofs.Vocabulary.{refl, MatchResult-weaker}
 use Rattle.htag.proofs.Cut.{cut_in_name, cut_before_attribute, cut_after_solidus, cut_in_attribute_name, cut_after_attribute_name, cut_before_value, cut_in_quotes, cut_in_unquoted, cut_after_quotes}
 use Rattle.htag.proofs.walk.TagWalk.end.Goals as goal
 

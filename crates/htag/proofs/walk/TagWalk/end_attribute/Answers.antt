@@ -1,7 +1,4 @@
-use Rattle.std.proofs.Common.{ℕ, List, sym, refl, ap, ◌∙◌, Some, append-nil, ◌++◌}
-use Rattle.std.specs.String.{string_bytes}
-use Rattle.names.specs.declared.error.ParseError.{ParseError}
-use Rattle.htag.specs.Steps.{attribute_of}
+use Rattle.htag.proofs.Vocabulary.{ℕ, List, sym, refl, ap, ◌∙◌, Some, append-nil, ◌++◌, string_bytes, ParseError, attribute_of}
 use Rattle.htag.proofs.Ending.{first_ends, repeated_ends}
 use Rattle.htag.proofs.walk.TagWalk.end_attribute.Goals as goal
 

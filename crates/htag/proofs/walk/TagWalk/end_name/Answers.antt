@@ -1,5 +1,4 @@
-use Rattle.std.proofs.Common.{◌≡◌, ℕ, List, refl, ap, arith}
-use Rattle.std.specs.Prelude.{slice_index}
+use Rattle.htag.proofs.Vocabulary.{◌≡◌, ℕ, List, refl, ap, arith, slice_index}
 use Rattle.htag.proofs.Names.{name_ends}
 use Rattle.htag.proofs.Phases.{space_follows}
 use Rattle.htag.proofs.InRun.{mark_goes_on}

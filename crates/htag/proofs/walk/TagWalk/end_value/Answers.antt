@@ -1,4 +1,4 @@
-use Rattle.std.proofs.lemmas.Result.{MatchResult-weaker}
+use Rattle.htag.proofs.Vocabulary.{MatchResult-weaker}
 use Rattle.htag.proofs.walk.TagWalk.end_value.Goals as goal
 
 pub returns-clause-ended : goal.returns-clause-ended

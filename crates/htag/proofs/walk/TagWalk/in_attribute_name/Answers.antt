@@ -1,7 +1,4 @@
-use Rattle.std.proofs.Common.{◌≡◌, true, false, refl, arith}
-use Rattle.std.proofs.lemmas.Bool.Decides.{nat_tests}
-use Rattle.names.specs.Placed.{is_space, is_equals}
-use Rattle.htag.specs.Tag.{ends_attribute_name}
+use Rattle.htag.proofs.Vocabulary.{◌≡◌, true, false, refl, arith, nat_tests, is_space, is_equals, ends_attribute_name}
 use Rattle.htag.proofs.Phases.{bare_ends, name_goes_on}
 use Rattle.htag.proofs.Values.{space_after_name, equals_after_name}
 use Rattle.htag.proofs.walk.TagWalk.in_attribute_name.Goals as goal

@@ -1,8 +1,4 @@
-use Rattle.std.proofs.Common.{◌≡◌, ◌∙◌, ◌++◌, ℕ, List, true, false, not, refl, sym, ap, arith, append-nil}
-use Rattle.std.specs.String.{string_bytes}
-use Rattle.std.proofs.lemmas.Bool.Decides.{nat_tests}
-use Rattle.hmarkup.proofs.Marks.{and_both}
-use Rattle.htag.specs.Tag.{ends_name}
+use Rattle.htag.proofs.Vocabulary.{◌≡◌, ◌∙◌, ◌++◌, ℕ, List, true, false, not, refl, sym, ap, arith, append-nil, string_bytes, nat_tests, and_both, ends_name}
 use Rattle.htag.proofs.Names.{name_grows, name_ends}
 use Rattle.htag.proofs.walk.TagWalk.in_name.Goals as goal
 

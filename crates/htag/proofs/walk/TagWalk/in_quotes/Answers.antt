@@ -1,5 +1,4 @@
-use Rattle.std.proofs.Common.{◌≡◌, false, eqb, refl, arith}
-use Rattle.std.proofs.lemmas.Bool.Decides.{nat_tests}
+use Rattle.htag.proofs.Vocabulary.{◌≡◌, false, eqb, refl, arith, nat_tests}
 use Rattle.htag.proofs.Values.{quote_closes, quoted_goes_on}
 use Rattle.htag.proofs.walk.TagWalk.in_quotes.Goals as goal
 

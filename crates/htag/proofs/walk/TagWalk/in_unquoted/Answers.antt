@@ -1,6 +1,4 @@
-use Rattle.std.proofs.Common.{◌≡◌, true, not, refl, arith}
-use Rattle.std.proofs.lemmas.Bool.Decides.{nat_tests}
-use Rattle.htag.specs.Tag.{ends_unquoted}
+use Rattle.htag.proofs.Vocabulary.{◌≡◌, true, not, refl, arith, nat_tests, ends_unquoted}
 use Rattle.htag.proofs.Values.{unquoted_goes_on, unquoted_ends}
 use Rattle.htag.proofs.walk.TagWalk.in_unquoted.Goals as goal
 

@@ -1,5 +1,4 @@
-use Rattle.std.proofs.Common.{refl}
-use Rattle.htag.specs.Run.{is_word_byte}
+use Rattle.htag.proofs.Vocabulary.{refl, is_word_byte}
 use Rattle.htag.proofs.InRun.{counted_all, run_in_name, part_goes_on}
 use Rattle.htag.proofs.walk.TagWalk.more_of_name.Goals as goal
 

@@ -1,7 +1,4 @@
-use Rattle.std.proofs.Common.{◌≡◌, ◌∙◌, true, ℕ, List, refl, ap, arith}
-use Rattle.std.specs.Prelude.{slice_index}
-use Rattle.std.proofs.lemmas.Bool.Decides.{nat_tests}
-use Rattle.names.specs.Placed.{is_quote}
+use Rattle.htag.proofs.Vocabulary.{◌≡◌, ◌∙◌, true, ℕ, List, refl, ap, arith, slice_index, nat_tests, is_quote}
 use Rattle.htag.proofs.Values.{quote_follows}
 use Rattle.htag.proofs.InRun.{mark_goes_on}
 use Rattle.htag.proofs.walk.TagWalk.open_value.Goals as goal

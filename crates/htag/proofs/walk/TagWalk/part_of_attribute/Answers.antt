@@ -1,6 +1,5 @@
-use Rattle.std.proofs.Common.{ℕ}
+use Rattle.htag.proofs.Vocabulary.{ℕ, TakesPart}
 use Rattle.std.proofs.lemmas.Result.{IfOk-weaker}
-use Rattle.htag.specs.Run.{TakesPart}
 use Rattle.htag.proofs.walk.TagWalk.part_of_attribute.Goals as goal
 
 pub returns-in-AttributeName : goal.returns-in-AttributeName

@@ -1,5 +1,4 @@
-use Rattle.std.proofs.Common.{◌≡◌, ◌≤◌, length, refl, eqb, not, subst, ap, arith}
-use Rattle.std.specs.List.{prefix_len}
+use Rattle.htag.proofs.Vocabulary.{◌≡◌, ◌≤◌, length, refl, eqb, not, subst, ap, arith, prefix_len}
 use Rattle.htext.proofs.Runs.{plain_take}
 use Rattle.htag.proofs.InRun.{counted_all, run_in_quotes, part_goes_on}
 use Rattle.htag.proofs.walk.TagWalk.part_of_quoted.Goals as goal

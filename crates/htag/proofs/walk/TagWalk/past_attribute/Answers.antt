@@ -1,5 +1,4 @@
-use Rattle.std.proofs.Common.{◌∙◌}
-use Rattle.std.proofs.lemmas.Result.{on_ok_weaker}
+use Rattle.htag.proofs.Vocabulary.{◌∙◌, on_ok_weaker}
 use Rattle.htag.proofs.walk.TagWalk.past_attribute.Goals as goal
 
 pub returns-clause-takes : goal.returns-clause-takes

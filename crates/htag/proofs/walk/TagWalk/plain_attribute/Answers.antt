@@ -1,4 +1,4 @@
-use Rattle.std.proofs.Common.{refl, ap, ◌∙◌, ◌+◌, List, ℕ, Some}
+use Rattle.htag.proofs.Vocabulary.{refl, ap, ◌∙◌, ◌+◌, List, ℕ, Some}
 use Rattle.htext.proofs.Runs.{front_of}
 use Rattle.htag.proofs.AtOnce.{attribute, attribute_plain, plain_part, range_after, seen_stays}
 use Rattle.htag.proofs.Ending.{first_ends}

@@ -1,6 +1,4 @@
-use Rattle.std.proofs.Common.{sym, ap, ◌∙◌, List, ℕ}
-use Rattle.std.specs.Prelude.{slice_index}
-use Rattle.names.specs.Placed.{is_space}
+use Rattle.htag.proofs.Vocabulary.{sym, ap, ◌∙◌, List, ℕ, slice_index, is_space}
 use Rattle.htag.proofs.AtOnce.{space_added}
 use Rattle.htag.proofs.walk.TagWalk.plain_part.Goals as goal
 

@@ -1,8 +1,4 @@
-use Rattle.std.proofs.Common.{◌+◌, ◌<◌, List, ℕ, length, take, sym, refl, ap, ◌∙◌, arith}
-use Rattle.std.proofs.lemmas.List.{length-drop}
-use Rattle.std.specs.Prelude.{slice_index}
-use Rattle.names.proofs.Handing.{grows_not, grows_on}
-use Rattle.htag.specs.Tag.{ends_name}
+use Rattle.htag.proofs.Vocabulary.{◌+◌, ◌<◌, List, ℕ, length, take, sym, refl, ap, ◌∙◌, arith, length-drop, slice_index, grows_not, grows_on, ends_name}
 use Rattle.htag.proofs.AtOnce.{end_read, none_read, open_rest, part_read, parts_stay}
 use Rattle.htag.proofs.walk.TagWalk.plain_parts.Goals as goal
 

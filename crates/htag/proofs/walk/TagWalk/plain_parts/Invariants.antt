@@ -1,8 +1,6 @@
-use Rattle.std.proofs.Common.{◌≡◌, ◌-◌, ◌≤◌, ◌<◌, ℕ, true, length}
-use Rattle.names.specs.Names.{Grows}
+use Rattle.htag.proofs.Vocabulary.{◌≡◌, ◌-◌, ◌≤◌, ◌<◌, ℕ, true, length, Grows, HasReadParts}
 use Rattle.htag.specs.declared.kind.TagKind.TheVariants.{Start}
 use Rattle.htag.specs.declared.tag_state.TagState.TheVariants as phase
-use Rattle.htag.specs.AtOnce.{HasReadParts}
 use Rattle.htag.proofs.walk.TagWalk.plain_parts.Given as goal
 
 -- This many bytes of the run are parts of the tag.

@@ -1,10 +1,4 @@
-use Rattle.std.proofs.Common.{◌≡◌, false, eqb, ◌+◌, ◌++◌, ◌∷◌, [], ℕ, List, ap, ◌∙◌, subst, take, arith}
-use Rattle.std.specs.Prelude.{slice_index}
-use Rattle.std.proofs.lemmas.Bool.Decides.{nat_tests}
-use Rattle.std.proofs.lemmas.Result.{err_from_is_err_and}
-use Rattle.names.specs.declared.placed.Placed.{Placed}
-use Rattle.names.specs.Placed.{placed}
-use Rattle.htag.specs.TagWalk.{IsInTag}
+use Rattle.htag.proofs.Vocabulary.{◌≡◌, false, eqb, ◌+◌, ◌++◌, ◌∷◌, [], ℕ, List, ap, ◌∙◌, subst, take, arith, slice_index, nat_tests, err_from_is_err_and, Placed, placed, IsInTag}
 use Rattle.htag.proofs.InRun.{one_at, more_taken, other_stays, part_taken}
 use Rattle.htag.proofs.Keeping.{looks_ahead}
 use Rattle.htag.proofs.walk.TagWalk.take_front.Goals as goal

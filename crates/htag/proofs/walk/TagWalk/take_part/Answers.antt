@@ -1,6 +1,4 @@
-use Rattle.std.proofs.Common.{ℕ, List, ◌∙◌}
-use Rattle.htag.specs.declared.walk.TagWalk.{TagWalk}
-use Rattle.htag.specs.Run.{TakesPart}
+use Rattle.htag.proofs.Vocabulary.{ℕ, List, ◌∙◌, TagWalk, TakesPart}
 use Rattle.htag.proofs.walk.TagWalk.take_part.Goals as goal
 
 -- a part after another

@@ -1,5 +1,4 @@
-use Rattle.std.proofs.Common.{◌++◌, ◌+◌, ◌<◌, ℕ, List, take, ap, ◌∙◌, arith}
-use Rattle.std.specs.String.{string_bytes}
+use Rattle.htag.proofs.Vocabulary.{◌++◌, ◌+◌, ◌<◌, ℕ, List, take, ap, ◌∙◌, arith, string_bytes}
 use Rattle.htag.proofs.AtOnce.{either_read}
 use Rattle.htag.proofs.walk.TagWalk.take_plain.Goals as goal
 

@@ -1,10 +1,4 @@
-use Rattle.std.proofs.Common.{◌+◌, ◌++◌, [], ℕ, List, refl, sym, ap, ◌∙◌, append-nil, subst, length, take, arith}
-use Rattle.std.proofs.lemmas.List.{length-drop}
-use Rattle.std.proofs.lemmas.Result.{err_from_is_err_and}
-use Rattle.names.specs.declared.placed.Placed.{Placed}
-use Rattle.names.specs.Placed.{placed}
-use Rattle.names.proofs.Handing.{grows_not, grows_on}
-use Rattle.htag.specs.TagWalk.{IsInTag}
+use Rattle.htag.proofs.Vocabulary.{◌+◌, ◌++◌, [], ℕ, List, refl, sym, ap, ◌∙◌, append-nil, subst, length, take, arith, length-drop, err_from_is_err_and, Placed, placed, grows_not, grows_on, IsInTag}
 use Rattle.htag.proofs.InRun.{more_taken}
 use Rattle.htag.proofs.walk.TagWalk.take_run.Goals as goal
 

@@ -1,8 +1,4 @@
-use Rattle.std.proofs.Common.{◌≡◌, ◌-◌, ◌≤◌, ◌++◌, List, [], length, take}
-use Rattle.names.specs.declared.placed.Placed.{Placed}
-use Rattle.names.specs.Names.{Grows}
-use Rattle.names.specs.Placed.{placed}
-use Rattle.htag.specs.TagWalk.{IsInTag}
+use Rattle.htag.proofs.Vocabulary.{◌≡◌, ◌-◌, ◌≤◌, ◌++◌, List, [], length, take, Placed, Grows, placed, IsInTag}
 use Rattle.htag.proofs.walk.TagWalk.take_run.Given as goal
 
 -- This many bytes of the run have been taken.
