@@ -1,19 +1,5 @@
 -- After a run of characters: an error that is still to come, and what a refusal of the sink leaves.
-use Rattle.std.proofs.Common.{◌≡◌, ℕ, true, List, [], ◌∷◌, ◌++◌, sym, refl, ap, ◌∙◌, Result, Err, append_assoc}
-use Rattle.names.specs.declared.error.ParseError.{ParseError}
-use Rattle.names.specs.declared.placed.Placed.{Placed}
-use Rattle.names.specs.declared.raw.RawKind.{RawKind}
-use Rattle.names.specs.declared.refusal.Refusal.{Refusal}
-use Rattle.names.specs.Names.{Texts}
-use Rattle.names.specs.Placed.{all, is_alphanumeric}
-use Rattle.charref.specs.Reference.{Entities}
-use Rattle.hmarkup.proofs.Marks.{and_parts}
-use Rattle.htoken.specs.declared.tokenizer.Tokenizer.{Tokenizer}
-use Rattle.htoken.specs.Token.{Tok, Item, Event}
-use Rattle.htoken.specs.Standing.{Standing}
-use Rattle.htoken.specs.Tokens.{eof_of}
-use Rattle.htoken.specs.Handing.{HandsEvents}
-use Rattle.htoken.specs.Tokenizing.{Stands, Takes, take_sink_refused, later_errors}
+use Rattle.htoken.proofs.Names.{◌≡◌, ℕ, true, List, [], ◌∷◌, ◌++◌, sym, refl, ap, ◌∙◌, Result, Err, append_assoc, ParseError, Placed, RawKind, Refusal, Texts, all, is_alphanumeric, Entities, and_parts, Tokenizer, Tok, Item, Event, Standing, eof_of, HandsEvents, Stands, Takes, take_sink_refused, later_errors}
 use Rattle.htoken.proofs.Pending.{later_on}
 
 -- letters and digits leave the error as it is

@@ -1,19 +1,7 @@
 -- What is held is a span where the input ends.
-use Rattle.std.proofs.Common.{◌≡◌, ℕ, true, false, List, [], ◌++◌, sym, ap, ◌∙◌, subst, append-nil}
-use Rattle.names.specs.declared.placed.Placed.{Placed}
-use Rattle.names.specs.declared.raw.RawKind.{RawKind}
+use Rattle.htoken.proofs.Names.{◌≡◌, ℕ, true, false, List, [], ◌++◌, sym, ap, ◌∙◌, subst, append-nil, Placed, RawKind, Texts, Entities, State, Tokenizer, Span, Event, next, is_script, IsSpan, events_of, has_refused, Stands, Reads, IsHeld, IsIn}
 use Rattle.names.specs.declared.raw.RawKind.TheVariants as kind
-use Rattle.names.specs.Names.{Texts}
-use Rattle.charref.specs.Reference.{Entities}
-use Rattle.htoken.specs.declared.state.State.{State}
 use Rattle.htoken.specs.declared.state.State.TheVariants as state
-use Rattle.htoken.specs.declared.tokenizer.Tokenizer.{Tokenizer}
-use Rattle.htoken.specs.Token.{Span, Event}
-use Rattle.htoken.specs.Standing.{next}
-use Rattle.htoken.specs.Raw.{is_script}
-use Rattle.htoken.specs.Spans.{IsSpan}
-use Rattle.htoken.specs.Tokens.{events_of, has_refused}
-use Rattle.htoken.specs.Tokenizing.{Stands, Reads, IsHeld, IsIn}
 use Rattle.htoken.proofs.Cutting.{stands_more}
 
 -- in data there is no script

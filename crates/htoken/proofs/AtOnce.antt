@@ -1,45 +1,13 @@
 -- Tags that stand whole in a run.
-use Rattle.std.proofs.Common.{◌≡◌, ◌≤◌, ◌<◌, ℕ, suc, ◌+◌, ◌-◌, true, false, ◌||◌, List, [], ◌∷◌, ◌++◌, length, take, drop, sym, refl, ap, ◌∙◌, subst, Result, Ok, Err, Option, Some, None, append-nil, append_assoc, arith}
-use Rattle.std.proofs.lemmas.Bool.{and_from, and_parts}
-use Rattle.std.proofs.lemmas.Bool.Decides.{nat_tests}
-use Rattle.std.proofs.lemmas.List.{length-take-le, take-append-drop}
-use Rattle.std.proofs.lemmas.Str.{IsUtf8-from_ascii, chars-nil}
-use Rattle.std.specs.Prelude.{codes, is_some, slice_get, slice_index}
-use Rattle.std.specs.Char.{is_ascii}
-use Rattle.std.specs.List.{list_all, slice_range}
-use Rattle.std.specs.Str.{chars, IsUtf8}
-use Rattle.names.specs.declared.error.ParseError.{ParseError}
-use Rattle.names.specs.declared.placed.Placed.{Placed}
-use Rattle.names.specs.declared.raw.RawKind.{RawKind}
+use Rattle.htoken.proofs.Names.{◌≡◌, ◌≤◌, ◌<◌, ℕ, suc, ◌+◌, ◌-◌, true, false, ◌||◌, List, [], ◌∷◌, ◌++◌, length, take, drop, sym, refl, ap, ◌∙◌, subst, Result, Ok, Err, Option, Some, None, append-nil, append_assoc, arith, and_from, nat_tests, length-take-le, take-append-drop, IsUtf8-from_ascii, chars-nil, codes, is_some, slice_get, slice_index, is_ascii, list_all, chars, IsUtf8, ParseError, Placed, RawKind, RefusedName, Refusal, Memory, Texts, Grows, name_bytes, placed, raw_kind, refused_name, tag_named, is_plain_byte, IsCut, plain_chars, hand_one, Entities, TagWalk, IsInTag, IsWholeTag, State, Token, Tokenizer, IsSpan, IsSpanOf, next, EndsTag, TakesFront, TakesPart, IsTag, start_tag, end_tag, tag_mark, Tok, Span, Start, End, Item, ItemToken, Event, TokenMeans, gives_item, has_refused, AreFront, Reads, Stands, HasTaken, holds, Takes, take_ran_out, take_took, IsHeld, IsIn, IsLast, less, next_place}
+use Rattle.std.proofs.lemmas.Bool.{and_parts}
+use Rattle.std.specs.List.{slice_range}
 use Rattle.names.specs.declared.raw.RawKind.TheVariants as kind
-use Rattle.names.specs.declared.raw.RefusedName.{RefusedName}
-use Rattle.names.specs.declared.refusal.Refusal.{Refusal}
-use Rattle.names.specs.declared.refusal.Refusal.TheVariants.{Memory}
-use Rattle.names.specs.Names.{Texts, Grows}
-use Rattle.names.specs.Placed.{name_bytes, placed}
-use Rattle.names.specs.Sets.{raw_kind, refused_name}
-use Rattle.names.specs.Tags.{tag_named}
-use Rattle.htext.specs.Run.{is_plain_byte, IsCut}
-use Rattle.htext.proofs.Runs.{plain_chars}
-use Rattle.hmarkup.proofs.Handing.{hand_one}
-use Rattle.charref.specs.Reference.{Entities}
 use Rattle.htag.specs.declared.kind.TagKind.TheVariants as which
-use Rattle.htag.specs.declared.walk.TagWalk.{TagWalk}
 use Rattle.htag.specs.AtOnce.{IsBareName}
-use Rattle.htag.specs.TagWalk.{IsInTag, IsWholeTag}
 use Rattle.htag.proofs.AtOnce.{bare_bytes, bare_front, bare_no_errors, bare_placed, bare_plain, bare_within}
-use Rattle.htoken.specs.declared.state.State.{State}
 use Rattle.htoken.specs.declared.state.State.TheVariants as state
-use Rattle.htoken.specs.declared.token.Token.{Token}
-use Rattle.htoken.specs.declared.tokenizer.Tokenizer.{Tokenizer}
 use Rattle.htoken.specs.Data.{tag}
-use Rattle.htoken.specs.Spans.{IsSpan, IsSpanOf}
-use Rattle.htoken.specs.Standing.{next}
-use Rattle.htoken.specs.Steps.{EndsTag, TakesFront, TakesPart}
-use Rattle.htoken.specs.Tag.{IsTag, start_tag, end_tag, tag_mark}
-use Rattle.htoken.specs.Token.{Tok, Span, Start, End, Item, ItemToken, Event, TokenMeans, gives_item}
-use Rattle.htoken.specs.Tokens.{has_refused, AreFront}
-use Rattle.htoken.specs.Tokenizing.{Reads, Stands, HasTaken, holds, Takes, take_ran_out, take_took, IsHeld, IsIn, IsLast, less, next_place}
 use Rattle.htoken.proofs.Fronts.{part_taken, takes_nothing}
 use Rattle.htoken.proofs.Going.{spans_end}
 use Rattle.htoken.proofs.Handing.{span_given}

@@ -1,47 +1,16 @@
 -- An `&` that is text, and a whole reference, as a run shows them.
-use Rattle.std.proofs.Common.{◌≡◌, ◌≤◌, ◌<◌, ℕ, zero, suc, ◌+◌, ◌-◌, Bool, true, false, eqb, ◌&&◌, ◌||◌, List, [], ◌∷◌, ◌++◌, map, length, take, drop, reverse, sym, refl, ap, ◌∙◌, subst, arith, append_assoc, append-nil, Result, Ok, Err, Option}
-use Rattle.std.specs.Prelude.{slice_index}
-use Rattle.std.specs.List.{list_all, prefix_len}
-use Rattle.std.specs.Char.{is_ascii, len_utf8, encode_utf8}
-use Rattle.std.specs.Str.{chars, IsUtf8}
-use Rattle.std.proofs.lemmas.Bool.{and_parts, and_from}
-use Rattle.std.proofs.lemmas.Bool.Decides.{nat_tests}
-use Rattle.std.proofs.lemmas.List.{get_or-drop, reverse-append, length-append, length-drop, length-take-le, take-append-drop, take_all, take_at, drop_at}
-use Rattle.std.proofs.lemmas.Str.{chars-IsAscii, encode_ascii, len_utf8_ascii, IsAscii-take, IsAscii-drop, IsUtf8-from_ascii}
-use Rattle.std.proofs.lemmas.List.Sums.{prefix_len-le-length, prefix_len_stops}
-use Rattle.std.proofs.Math.Seq.{drop-length, get_or-append_seam}
-use Rattle.names.specs.declared.error.ErrorCode.TheVariants.{UnknownNamedCharacterReference}
-use Rattle.names.specs.declared.error.ParseError.{ParseError}
-use Rattle.names.specs.declared.placed.Placed.{Placed}
-use Rattle.names.specs.declared.raw.RawKind.{RawKind}
-use Rattle.names.specs.declared.refusal.Refusal.{Refusal}
-use Rattle.names.specs.Names.{Texts}
-use Rattle.names.specs.Placed.{all, begins, past, is_alphanumeric, placed, error_if}
-use Rattle.charref.specs.declared.reference.Reference.{Reference}
-use Rattle.charref.specs.Pieces.{IsRead, errors_of, characters_of}
-use Rattle.charref.specs.Reference.{Entities, Piece, IsReference, IsTable, alone, ampersand}
-use Rattle.htext.specs.Run.{is_plain_byte, is_text_byte, IsCut}
-use Rattle.std.proofs.lemmas.List.Folds.{list_all-append}
-use Rattle.htext.proofs.Runs.{all_placed, counted, take_more}
-use Rattle.htext.proofs.Wide.{cut_more}
-use Rattle.htoken.specs.declared.state.State.{State}
+use Rattle.htoken.proofs.Names.{◌≡◌, ◌≤◌, ◌<◌, ℕ, zero, suc, ◌+◌, ◌-◌, Bool, true, false, eqb, ◌&&◌, ◌||◌, List, [], ◌∷◌, ◌++◌, map, length, take, drop, reverse, sym, refl, ap, ◌∙◌, subst, arith, append_assoc, append-nil, Result, Ok, Err, Option, slice_index, list_all, prefix_len, is_ascii, len_utf8, encode_utf8, chars, IsUtf8, and_from, nat_tests, get_or-drop, length-append, length-drop, length-take-le, take-append-drop, take_all, take_at, drop_at, chars-IsAscii, encode_ascii, len_utf8_ascii, IsUtf8-from_ascii, prefix_len-le-length, prefix_len_stops, drop-length, UnknownNamedCharacterReference, ParseError, Placed, RawKind, Refusal, Texts, all, begins, past, is_alphanumeric, placed, error_if, Reference, IsRead, errors_of, characters_of, Entities, Piece, IsReference, IsTable, alone, ampersand, is_plain_byte, is_text_byte, IsCut, list_all-append, all_placed, cut_more, State, Tokenizer, all_at, bare_errors, first_placed, IsBare, IsFront, IsWhole, known_errors, piece_events, HandsEvents, has_references, Standing, run_events, Item, Event, Gives, Reports, Char, AreFront, after_place, holds, later_errors, next_place, IsBetween, IsHeld, IsIn, IsLast, Reads, Stands, Takes, take_sink_refused, take_took, backwards}
+use Rattle.std.proofs.lemmas.Bool.{and_parts}
+use Rattle.std.proofs.lemmas.List.{reverse-append}
+use Rattle.std.proofs.lemmas.Str.{IsAscii-take, IsAscii-drop}
+use Rattle.std.proofs.Math.Seq.{get_or-append_seam}
+use Rattle.htext.proofs.Runs.{counted, take_more}
 use Rattle.htoken.specs.declared.state.State.TheVariants as state
-use Rattle.htoken.specs.declared.tokenizer.Tokenizer.{Tokenizer}
-use Rattle.htoken.specs.Front.{all_at, bare_errors, first_placed, IsBare, IsFront, IsWhole}
-use Rattle.htoken.specs.Giving.{known_errors, piece_events}
-use Rattle.htoken.specs.Handing.{HandsEvents}
-use Rattle.htoken.specs.Spans.{has_references}
-use Rattle.htoken.specs.Standing.{Standing}
-use Rattle.htoken.specs.Run.{run_events}
-use Rattle.htoken.specs.Token.{Item, Event, Gives, Reports, Char}
-use Rattle.htoken.specs.Tokens.{AreFront}
-use Rattle.htoken.specs.Tokenizing.{after_place, holds, later_errors, next_place, IsBetween, IsHeld, IsIn, IsLast, Reads, Stands, Takes, take_sink_refused, take_took}
 use Rattle.htoken.proofs.AfterRun.{later_same}
 use Rattle.htoken.proofs.Fronts.{takes_both}
 use Rattle.htoken.proofs.Going.{next_place-snoc}
 use Rattle.htoken.proofs.InReference.{same_between}
 use Rattle.htoken.proofs.InRun.{next_last}
-use Rattle.hmarkup.specs.CommentWalk.{backwards}
 use Rattle.htoken.proofs.InText.{text_events, all_ascii, ascii_chars, ascii_placed, each_ascii, length_left, reads_front, unknown_is}
 use Rattle.htoken.proofs.Pending.{later_told}
 use Rattle.htoken.proofs.Referring.{run_errors, stands_piece}

@@ -1,23 +1,14 @@
 -- What the characters after `<!` begin, and what they do not.
-use Rattle.std.proofs.Common.{◌≡◌, ℕ, zero, suc, ◌+◌, ◌<◌, get_or, take, Bool, true, false, ◌&&◌, ◌||◌, eqb, List, [], ◌∷◌, ◌++◌, map, length, sym, refl, ap, ◌∙◌, subst, Some, arith, append_assoc, append-nil}
-use Rattle.std.proofs.lemmas.Bool.{eqb-true, eq-eqb}
+use Rattle.htoken.proofs.Names.{◌≡◌, ℕ, zero, suc, ◌+◌, ◌<◌, get_or, take, Bool, true, false, ◌&&◌, ◌||◌, eqb, List, [], ◌∷◌, ◌++◌, map, length, sym, refl, ap, ◌∙◌, subst, Some, arith, append_assoc, append-nil, eqb-true, eq-eqb, codes, slice_get, is_some, to_ascii_lowercase, list_all, Placed, characters, lowered, all, is_letter, begins, place, spells_in_any_case, nat_tests, is_plain_in_bogus, and_no, and_parts, and_both, Opened, is_declaration, front_at, IsOpened}
 use Rattle.std.proofs.Math.Seq.{take-suc}
-use Rattle.std.specs.Prelude.{codes, slice_get, is_some}
-use Rattle.std.specs.Char.{to_ascii_lowercase}
-use Rattle.std.specs.List.{list_all}
-use Rattle.names.specs.declared.placed.Placed.{Placed}
-use Rattle.names.specs.Placed.{characters, lowered, all, is_letter, begins, place, spells, spells_in_any_case}
-use Rattle.std.proofs.lemmas.Bool.Decides.{nat_tests}
-use Rattle.hmarkup.specs.Comment.{is_plain_in_bogus}
-use Rattle.hmarkup.proofs.Marks.{and_no, and_parts, and_both}
-use Rattle.htoken.specs.declared.declaration.Opened.{Opened}
+use Rattle.names.specs.Placed.{spells}
 use Rattle.htoken.specs.declared.declaration.Opened.TheVariants as opened
 use Rattle.htoken.specs.declared.declaration.Opens.{Opens}
 use Rattle.htoken.specs.declared.declaration.Opens.TheVariants as opens
 use Rattle.htoken.specs.declared.declaration.Spelled.{Spelled}
 use Rattle.htoken.specs.declared.declaration.Spelled.TheVariants as spelled
-use Rattle.htoken.specs.Data.{is_declaration, is_cdata}
-use Rattle.htoken.specs.Declaration.{front_at, front_of, IsFrontOf, IsOpened, OpensAs}
+use Rattle.htoken.specs.Data.{is_cdata}
+use Rattle.htoken.specs.Declaration.{front_of, IsFrontOf, OpensAs}
 
 -- whether a text begins with a word, as each of its characters is read
 abbrev pub spells_as : (ℕ → ℕ) → List ℕ → List Placed → Bool

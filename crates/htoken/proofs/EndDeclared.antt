@@ -1,28 +1,7 @@
 -- The input's end after `<!`: what came after it is read as a comment.
-use Rattle.std.proofs.Common.{◌≡◌, ℕ, true, false, List, [], ◌∷◌, ◌++◌, sym, refl, ap, ◌∙◌, subst, Result, Ok, Err, append-nil}
-use Rattle.names.specs.declared.error.ErrorCode.TheVariants.{IncorrectlyOpenedComment}
-use Rattle.names.specs.declared.error.ParseError.{ParseError}
-use Rattle.names.specs.declared.placed.Placed.{Placed}
-use Rattle.names.specs.declared.raw.RawKind.{RawKind}
+use Rattle.htoken.proofs.Names.{◌≡◌, ℕ, true, false, List, [], ◌∷◌, ◌++◌, sym, refl, ap, ◌∙◌, subst, Result, Ok, Err, append-nil, IncorrectlyOpenedComment, ParseError, Placed, RawKind, Refusal, Texts, all, place, error, is_plain_in_bogus, Entities, Bogus, IsCommentOf, WalkEnds, Opened, Raised, State, Token, Tokenizer, IsDataSpan, is_declaration, bogus_declaration, Span, Event, Comment, TokenMeans, gives_item, Reads, IsHeld, IsIn, EndsHeld, held_ran_out, held_ended, less, Keeps, BeginsBogus, GivesSpan}
 use Rattle.names.specs.declared.raw.RawKind.TheVariants as kind
-use Rattle.names.specs.declared.refusal.Refusal.{Refusal}
-use Rattle.names.specs.Names.{Texts}
-use Rattle.names.specs.Placed.{all, place, error}
-use Rattle.hmarkup.specs.Comment.{is_plain_in_bogus}
-use Rattle.charref.specs.Reference.{Entities}
-use Rattle.hmarkup.specs.declared.comment.CommentKind.TheVariants.{Bogus}
-use Rattle.hmarkup.specs.CommentWalk.{IsSpan as IsCommentOf}
-use Rattle.hmarkup.specs.Walk.{Ends as WalkEnds}
-use Rattle.htoken.specs.declared.declaration.Opened.{Opened}
-use Rattle.htoken.specs.declared.state.Raised.{Raised}
-use Rattle.htoken.specs.declared.state.State.{State}
 use Rattle.htoken.specs.declared.state.State.TheVariants as state
-use Rattle.htoken.specs.declared.token.Token.{Token}
-use Rattle.htoken.specs.declared.tokenizer.Tokenizer.{Tokenizer}
-use Rattle.htoken.specs.Data.{IsDataSpan, is_declaration, bogus_declaration}
-use Rattle.htoken.specs.Token.{Span, Event, Comment, TokenMeans, gives_item}
-use Rattle.htoken.specs.Tokenizing.{Reads, IsHeld, IsIn, EndsHeld, held_ran_out, held_ended, less}
-use Rattle.htoken.specs.Steps.{Keeps, BeginsBogus, GivesSpan}
 use Rattle.htoken.proofs.AtEnd.{no_script, stands_at_end}
 use Rattle.htoken.proofs.Declaring.{nothing_at_end, opened_plain}
 use Rattle.htoken.proofs.Handing.{span_given}

@@ -1,9 +1,5 @@
 -- The errors of an end tag, kept one after the other.
-use Rattle.std.proofs.Common.{◌≡◌, Bool, List, ◌++◌, ap, ◌∙◌, append_assoc}
-use Rattle.names.specs.declared.error.ErrorCode.TheVariants.{EndTagWithAttributes, EndTagWithTrailingSolidus}
-use Rattle.names.specs.declared.error.ParseError.{ParseError}
-use Rattle.names.specs.Placed.{error_if}
-use Rattle.htoken.specs.declared.tokenizer.Tokenizer.{Tokenizer}
+use Rattle.htoken.proofs.Names.{◌≡◌, Bool, List, ◌++◌, ap, ◌∙◌, append_assoc, EndTagWithAttributes, EndTagWithTrailingSolidus, ParseError, error_if, Tokenizer}
 use Rattle.htoken.specs.SmallSteps.{KeepsIf}
 use Rattle.htoken.specs.Steps.{KeepsFaults}
 

@@ -1,31 +1,11 @@
 -- A run of characters, a part after another.
-use Rattle.std.proofs.Common.{◌≡◌, ◌≤◌, ◌<◌, ℕ, zero, suc, ◌+◌, List, [], ◌∷◌, ◌++◌, length, take, drop, sym, refl, ap, ◌∙◌, subst, Result, Ok, Err, append_assoc, append-nil, arith}
-use Rattle.std.specs.Prelude.{true, slice_index, IfOk, MatchResult}
-use Rattle.std.specs.List.{list_all}
-use Rattle.std.specs.Str.{chars, IsAscii, IsCharBoundary}
+use Rattle.htoken.proofs.Names.{◌≡◌, ◌≤◌, ◌<◌, ℕ, zero, suc, ◌+◌, List, [], ◌∷◌, ◌++◌, length, take, drop, sym, refl, ap, ◌∙◌, subst, Result, Ok, Err, append_assoc, append-nil, arith, true, slice_index, MatchResult, list_all, chars, IsAscii, nat_tests, length-take-le, take_all, IsCharBoundary-from_drop, IsUtf8-from_ascii, Placed, RawKind, Refusal, Texts, Grows, placed, text_kept, is_plain_byte, IsCut, plain_chars, plain_drop, placed_cut, placed_more, Entities, Token, Tokenizer, Tok, Item, ItemToken, ItemError, Event, Gives, Reports, TokenMeans, Mean, tokens_in, IsRefused, AreFront, HandsEvents, TakesFront, TakesPart, HasTaken, Takes, take_ran_out, take_refused, take_sink_refused, take_took}
+use Rattle.std.specs.Prelude.{IfOk}
+use Rattle.std.specs.Str.{IsCharBoundary}
 use Rattle.std.proofs.lemmas.Bool.{and_parts}
-use Rattle.std.proofs.lemmas.Bool.Decides.{nat_tests}
-use Rattle.std.proofs.lemmas.List.{length-take-le, take_all}
-use Rattle.std.proofs.lemmas.Str.{IsCharBoundary-from_drop, IsUtf8-from_ascii}
-use Rattle.names.specs.declared.placed.Placed.{Placed}
-use Rattle.names.specs.declared.raw.RawKind.{RawKind}
-use Rattle.names.specs.declared.refusal.Refusal.{Refusal}
-use Rattle.names.specs.Names.{Texts, Grows}
-use Rattle.names.specs.Placed.{placed}
-use Rattle.names.proofs.Handing.{text_kept}
-use Rattle.htext.specs.Run.{is_plain_byte, IsCut}
-use Rattle.htext.proofs.Runs.{placed_part, placed_rest, plain_chars, plain_drop}
-use Rattle.htext.proofs.Wide.{placed_cut, placed_more}
-use Rattle.charref.specs.Reference.{Entities}
+use Rattle.htext.proofs.Runs.{placed_part, placed_rest}
 use Rattle.htag.proofs.Naming.{attrs_kept}
-use Rattle.htoken.specs.declared.token.Token.{Token}
 use Rattle.htoken.specs.declared.token.Token.TheVariants as code
-use Rattle.htoken.specs.declared.tokenizer.Tokenizer.{Tokenizer}
-use Rattle.htoken.specs.Token.{Tok, Item, ItemToken, ItemError, Event, Gives, Reports, TokenMeans, Mean}
-use Rattle.htoken.specs.Tokens.{tokens_in, IsRefused, AreFront}
-use Rattle.htoken.specs.Handing.{HandsEvents}
-use Rattle.htoken.specs.Steps.{TakesFront, TakesPart}
-use Rattle.htoken.specs.Tokenizing.{HasTaken, Takes, take_ran_out, take_refused, take_sink_refused, take_took}
 use Rattle.htoken.proofs.Handing.{HandsEvents-append}
 
 -- what was handed over stands for the same when the table of names has grown

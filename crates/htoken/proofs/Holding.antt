@@ -1,17 +1,6 @@
 -- From where on a tokenizer holds its text.
-use Rattle.std.proofs.Common.{◌≡◌, ℕ, List, [], sym, ap, ◌∙◌, append-nil}
-use Rattle.names.specs.declared.placed.Placed.{Placed}
-use Rattle.names.specs.declared.raw.RawKind.{RawKind}
-use Rattle.names.specs.Names.{Texts}
-use Rattle.names.specs.Placed.{place}
-use Rattle.charref.specs.Reference.{Entities}
-use Rattle.htoken.specs.declared.state.State.{State}
+use Rattle.htoken.proofs.Names.{◌≡◌, ℕ, List, [], sym, ap, ◌∙◌, append-nil, Placed, RawKind, Texts, place, Entities, State, Tokenizer, Event, Standing, HoldsFrom, from_of, HasTaken, holds, in_ambiguous_ampersand, IsHeld, next_place}
 use Rattle.htoken.specs.declared.state.State.TheVariants as state
-use Rattle.htoken.specs.declared.tokenizer.Tokenizer.{Tokenizer}
-use Rattle.htoken.specs.Token.{Event}
-use Rattle.htoken.specs.Standing.{Standing}
-use Rattle.htoken.specs.HeldFrom.{HoldsFrom, from_of}
-use Rattle.htoken.specs.Tokenizing.{HasTaken, holds, in_run, IsHeld, next_place}
 
 pub held_place : (s : State) (table : Entities) (names : Texts) (here : Standing) (t : Tokenizer) (held : List Placed) → IsHeld s table names here t held [] → from_of s t ≡ place t.next held
 held_place state.Text table names here t held h = ap (place t.next) (sym h.0)
@@ -22,7 +11,7 @@ held_place state.Comment table names here t held (kind, h) = ap (place t.next) (
 held_place state.Doctype table names here t held h = ap (place t.next) (sym h.starts)
 held_place state.Tag table names here t held h = ap (place t.next) (sym h.held_is)
 held_place state.Reference table names here t held h = ap (place t.next) (sym h.held_is)
-held_place (state.Run amp) table names here t held h = absurd h
+held_place (state.AmbiguousAmpersand amp) table names here t held h = absurd h
 held_place state.RawLess table names here t held h = ap (place t.next) (sym h.held_is)
 held_place (state.RawName at) table names here t held h = ap (place t.next) (sym h.held_is)
 
@@ -34,7 +23,7 @@ holds_from table start t names text taken (holds h) = record {
   from_is = held_place t.state table names h.here t h.held h.is_held ∙ ap (λ (n : ℕ). place n h.held) (h.next_is ∙ ap next_place (append-nil text));
   cuts = λ end more. let s = h.stands end more in record { spans = s.spans; front_is = s.front_is; cut = s.cut; tokens_are = s.tokens_are; in_profile = s.in_profile };
 }
-holds_from table start t names text taken (in_run h) = record {
+holds_from table start t names text taken (in_ambiguous_ampersand h) = record {
   front = text;
   held = [];
   text_is = sym (append-nil text);

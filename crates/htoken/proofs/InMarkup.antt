@@ -1,25 +1,8 @@
 -- A character of a comment or a doctype, and the input's end in it.
-use Rattle.std.proofs.Common.{◌≡◌, ℕ, Bool, true, false, List, [], ◌∷◌, ◌++◌, sym, refl, ap, ◌∙◌, subst, Result, Ok, Err, Option, append_assoc, append-nil}
-use Rattle.names.specs.declared.error.ParseError.{ParseError}
-use Rattle.names.specs.declared.placed.Placed.{Placed}
-use Rattle.names.specs.declared.raw.RawKind.{RawKind}
+use Rattle.htoken.proofs.Names.{◌≡◌, ℕ, Bool, true, false, List, [], ◌∷◌, ◌++◌, sym, refl, ap, ◌∙◌, subst, Result, Ok, Err, Option, append_assoc, append-nil, ParseError, Placed, RawKind, Refusal, Memory, Texts, Hands, Entities, WalkEnds, Raised, Token, Tokenizer, Tok, Span, Event, TokenMeans, gives_item, Standing, next, has_refused, IsDataSpan, Reads, Takes, IsHeld, IsIn, IsLast, IsInMarkup, EndsHeld, held_ran_out, held_ended, Keeps, GivesSpan}
 use Rattle.names.specs.declared.raw.RawKind.TheVariants as kind
-use Rattle.names.specs.declared.refusal.Refusal.{Refusal}
-use Rattle.names.specs.declared.refusal.Refusal.TheVariants.{Memory}
-use Rattle.names.specs.Names.{Texts}
-use Rattle.names.specs.Sink.{Hands}
-use Rattle.charref.specs.Reference.{Entities}
-use Rattle.hmarkup.specs.Walk.{Ends as WalkEnds, Takes as WalkTakes, ran_out as walk_ran_out, sink_refused, goes_on as walk_goes_on, ended as walk_ended}
-use Rattle.htoken.specs.declared.state.Raised.{Raised}
-use Rattle.htoken.specs.declared.token.Token.{Token}
-use Rattle.htoken.specs.declared.tokenizer.Tokenizer.{Tokenizer}
-use Rattle.htoken.specs.Token.{Tok, Span, Event, TokenMeans, gives_item}
-use Rattle.htoken.specs.Standing.{Standing, next}
-use Rattle.htoken.specs.Tokens.{has_refused}
-use Rattle.htoken.specs.Data.{IsDataSpan}
+use Rattle.hmarkup.specs.Walk.{Takes as WalkTakes, ran_out as walk_ran_out, sink_refused, goes_on as walk_goes_on, ended as walk_ended}
 use Rattle.htoken.specs.Giving.{raises}
-use Rattle.htoken.specs.Tokenizing.{Reads, Takes, IsHeld, IsIn, IsLast, IsInMarkup, EndsHeld, held_ran_out, held_ended}
-use Rattle.htoken.specs.Steps.{Keeps, GivesSpan}
 use Rattle.htoken.proofs.Going.{stays_both, ran_out, goes_on, span_ends}
 use Rattle.htoken.proofs.Handing.{span_given}
 use Rattle.htoken.proofs.InData.{in_data, between_data}

@@ -1,43 +1,12 @@
 -- Characters of raw text, and its end tag.
-use Rattle.std.proofs.Common.{◌≡◌, ℕ, Bool, true, false, cond, ◌&&◌, eqb, List, [], ◌∷◌, ◌++◌, map, length, sym, refl, ap, ◌∙◌, subst, Result, Ok, Err, Option, Some, None, arith, append_assoc, append-nil}
-use Rattle.std.proofs.lemmas.Bool.{eqb-true}
-use Rattle.std.specs.Prelude.{slice_get, is_some, nat_lt, MatchResult}
-use Rattle.names.specs.declared.refusal.Refusal.TheVariants.{Memory}
-use Rattle.std.specs.Char.{to_ascii_lowercase}
-use Rattle.std.specs.String.{string_bytes}
-use Rattle.names.specs.declared.error.ErrorCode.TheVariants.{UnexpectedNullCharacter}
-use Rattle.names.specs.declared.error.ParseError.{ParseError}
-use Rattle.names.specs.declared.placed.Placed.{Placed}
-use Rattle.names.specs.declared.raw.RawKind.{RawKind}
+use Rattle.htoken.proofs.Names.{◌≡◌, ℕ, Bool, true, false, cond, ◌&&◌, eqb, List, [], ◌∷◌, ◌++◌, map, length, sym, refl, ap, ◌∙◌, subst, Result, Ok, Err, Option, Some, None, arith, append_assoc, append-nil, eqb-true, slice_get, is_some, nat_lt, MatchResult, Memory, to_ascii_lowercase, string_bytes, UnexpectedNullCharacter, ParseError, Placed, RawKind, Refusal, Texts, lowered, begins, all, is_letter, name_bytes, without_null, error, Entities, backwards, and_parts, and_no, no_null_error, State, TagWalk, Script, HasFront, level_number, Tokenizer, Span, Item, Event, Gives, Reports, Char, piece_span, Standing, is_raw, is_script, may_end, is_raw_end, name_ends, IsSpan, IsSpanOf, IsRawSpan, has_references, raw_character, raw_end, events_of, tokens_in, tokens_of, HandsEvents, run_events, ends_name, Stands, Reads, Takes, take_sink_refused, IsHeld, IsIn, IsLast, IsBetween, less, Stays, Keeps, IsInTag, tag_mark, tag_ahead}
 use Rattle.names.specs.declared.raw.RawKind.TheVariants as kind
-use Rattle.names.specs.declared.refusal.Refusal.{Refusal}
-use Rattle.names.specs.Names.{Texts}
-use Rattle.names.specs.Placed.{lowered, begins, all, is_letter, name_bytes, without_null, error}
-use Rattle.charref.specs.Reference.{Entities}
-use Rattle.hmarkup.specs.CommentWalk.{backwards}
-use Rattle.hmarkup.proofs.Marks.{and_parts, and_no}
-use Rattle.hmarkup.proofs.Characters.{no_null_error}
-use Rattle.htoken.specs.declared.state.State.{State}
 use Rattle.htoken.specs.declared.state.State.TheVariants as state
 use Rattle.htag.specs.declared.kind.TagKind.TheVariants as tag
-use Rattle.htag.specs.declared.walk.TagWalk.{TagWalk}
-use Rattle.htoken.specs.declared.script.Script.{Script}
-use Rattle.htoken.specs.Script.{HasFront, level_number}
-use Rattle.htoken.specs.declared.tokenizer.Tokenizer.{Tokenizer}
-use Rattle.htoken.specs.Token.{Span, Item, Event, Gives, Reports, Char, piece_span}
-use Rattle.htoken.specs.Standing.{Standing}
 use Rattle.htag.specs.Value.{plain_piece}
-use Rattle.htoken.specs.Raw.{is_raw, is_script, ends_by, may_end, is_raw_end, name_ends}
-use Rattle.htoken.specs.Spans.{IsSpan, IsSpanOf, IsRawSpan, has_references, raw_character, raw_end}
-use Rattle.htoken.specs.Tokens.{events_of, tokens_in, tokens_of}
-use Rattle.htoken.specs.Handing.{HandsEvents}
-use Rattle.htoken.specs.Run.{run_events}
-use Rattle.htag.specs.Tag.{ends_name}
-use Rattle.htoken.specs.Tokenizing.{Stands, Reads, Takes, take_sink_refused, IsHeld, IsIn, IsLast, IsBetween, IsAfterRawLess, IsInRawName, less}
-use Rattle.htoken.specs.Steps.{Stays, Keeps, Holds}
-use Rattle.htag.specs.TagWalk.{IsInTag}
-use Rattle.htoken.specs.Tag.{tag_mark}
-use Rattle.htag.proofs.Keeping.{looks_ahead as tag_ahead}
+use Rattle.htoken.specs.Raw.{ends_by}
+use Rattle.htoken.specs.Tokenizing.{IsAfterRawLess, IsInRawName}
+use Rattle.htoken.specs.Steps.{Holds}
 use Rattle.htoken.proofs.Cutting.{stands_more}
 use Rattle.htoken.proofs.Going.{ran_out, goes_on, span_ends}
 use Rattle.htag.proofs.Parts.{all-snoc}

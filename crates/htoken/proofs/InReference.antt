@@ -1,39 +1,16 @@
 -- A character after an `&`, and the input's end there.
-use Rattle.std.proofs.Common.{◌≡◌, ℕ, ◌+◌, ◌-◌, ◌≤◌, Bool, true, false, true≢false, ◌&&◌, eqb, List, [], ◌∷◌, ◌++◌, map, length, drop, take, reverse, sym, refl, ap, ◌∙◌, subst, Result, Ok, Err, Option, arith, append_assoc, append-nil}
+use Rattle.htoken.proofs.Names.{◌≡◌, ℕ, ◌+◌, ◌-◌, ◌≤◌, Bool, true, false, true≢false, ◌&&◌, eqb, List, [], ◌∷◌, ◌++◌, map, length, drop, take, reverse, sym, refl, ap, ◌∙◌, subst, Result, Ok, Err, Option, arith, append_assoc, append-nil, string_bytes, UnknownNamedCharacterReference, ParseError, Placed, RawKind, Refusal, Texts, all, begins, past, is_alphanumeric, error_if, Reference, IsRead, characters_of, errors_of, Entities, IsTable, IsReference, WalkState, and_no, and_parts, State, Tokenizer, Tok, Span, Item, Event, Gives, Reports, Char, piece_span, Standing, next, is_raw, is_script, has_references, known_errors, piece_events, read_events, tokens_in, eof_of, tokens_of, HandsEvents, run_events, Stays, Stands, Reads, IsInAmbiguousAmpersand, Takes, take_took, take_sink_refused, in_ambiguous_ampersand, IsHeld, IsIn, IsLast, IsBetween, EndsHeld, held_ended, later_errors, next_place}
 use Rattle.std.proofs.lemmas.List.{drop-append-le, take-append-le}
 use Rattle.std.proofs.Math.Seq.{drop-append_seam, take-append_seam}
 use Rattle.std.proofs.Math.ListN.{length-append}
-use Rattle.std.specs.String.{string_bytes}
-use Rattle.names.specs.declared.error.ErrorCode.TheVariants.{UnknownNamedCharacterReference}
-use Rattle.names.specs.declared.error.ParseError.{ParseError}
-use Rattle.names.specs.declared.placed.Placed.{Placed}
-use Rattle.names.specs.declared.raw.RawKind.{RawKind}
 use Rattle.names.specs.declared.raw.RawKind.TheVariants as kind
-use Rattle.names.specs.declared.refusal.Refusal.{Refusal}
-use Rattle.names.specs.Names.{Texts}
-use Rattle.names.specs.Placed.{all, begins, past, is_alphanumeric, error_if}
-use Rattle.charref.specs.declared.reference.Reference.{Reference}
-use Rattle.charref.specs.Pieces.{IsRead, characters_of, errors_of}
-use Rattle.charref.specs.Reference.{Entities, IsTable, IsReference}
-use Rattle.charref.specs.declared.reference_state.ReferenceState.{ReferenceState as WalkState}
 use Rattle.charref.specs.declared.walk.Walk.{Walk as CharWalk}
 use Rattle.charref.specs.Held.{is_number, kept}
 use Rattle.charref.specs.Walk.{HasTaken as WalkHasTaken, LeavesLast}
 use Rattle.charref.proofs.Keeping.{kept_none, kept_all, kept_nothing, is_other, drop-kept, drop-kept-end}
-use Rattle.hmarkup.proofs.Marks.{and_no, and_parts}
-use Rattle.htoken.specs.declared.state.State.{State}
 use Rattle.htoken.specs.declared.state.State.TheVariants as state
-use Rattle.htoken.specs.declared.tokenizer.Tokenizer.{Tokenizer}
-use Rattle.htoken.specs.Token.{Tok, Span, Item, Event, Gives, Reports, Char, piece_span}
-use Rattle.htoken.specs.Standing.{Standing, next}
-use Rattle.htoken.specs.Raw.{is_raw, is_script}
-use Rattle.htoken.specs.Spans.{has_references}
-use Rattle.htoken.specs.Giving.{known_errors, piece_events, read_events}
-use Rattle.htoken.specs.Tokens.{tokens_in, eof_of, tokens_of}
-use Rattle.htoken.specs.Handing.{HandsEvents}
-use Rattle.htoken.specs.Run.{run_events}
-use Rattle.htoken.specs.Steps.{Stays, BeginsReference, Finds, HoldsInReference}
-use Rattle.htoken.specs.Tokenizing.{Stands, Reads, IsInRun, Takes, take_took, take_sink_refused, in_run, IsHeld, IsIn, IsLast, IsBetween, IsInReference, EndsHeld, held_ended, later_errors, next_place}
+use Rattle.htoken.specs.Steps.{BeginsReference, Finds, HoldsInReference}
+use Rattle.htoken.specs.Tokenizing.{IsInReference}
 use Rattle.htoken.proofs.Going.{goes_on, span_ends}
 use Rattle.htoken.proofs.Pending.{stands_on, stands_told, later_on, later_told}
 use Rattle.htoken.proofs.Referring.{is_kept, all-drop, held_kept, run_errors, after_reference, stands_read, plain_span, plain_is, alphanumeric_kept, reference_is, no_tag, gives_some, next_is}
@@ -229,8 +206,8 @@ module _ {S : Type 0} (gives : S → Item → Result (Unit {0}) Refusal → S �
       }
 
       -- a run of alphanumerics goes on, and its error comes later
-      pub run_begins : (new : Tokenizer) → found.in_run ≡ true → is_alphanumeric p.ch ≡ true → Stays t new → new.kind ≡ t.kind → new.last ≡ t.last → new.state ≡ state.Run t.at → new.raised.errors.items ≡ t.raised.errors.items → new.tag ≡ t.tag
-          → IsInRun table start new names text (p ∷ []) (taken ++ given)
+      pub run_begins : (new : Tokenizer) → found.in_run ≡ true → is_alphanumeric p.ch ≡ true → Stays t new → new.kind ≡ t.kind → new.last ≡ t.last → new.state ≡ state.AmbiguousAmpersand t.at → new.raised.errors.items ≡ t.raised.errors.items → new.tag ≡ t.tag
+          → IsInAmbiguousAmpersand table start new names text (p ∷ []) (taken ++ given)
       run_begins new told letter stays kind last is_run raised tag = record {
         accepts = stays.0 ∙ h.accepts;
         here = after;
@@ -293,9 +270,9 @@ reference_begins gives table start text p names taken t h new s in_text refers i
 
 -- IN A RUN
 
-module _ {S : Type 0} (gives : S → Item → Result (Unit {0}) Refusal → S → Type 0) (table : Entities) (start : RawKind) (text : List Placed) (p : Placed) (names : Texts) (taken : List Event) (t : Tokenizer) (amp : ℕ) (same : t.state ≡ state.Run amp) (h : IsInRun table start t names text (p ∷ []) taken) where
+module _ {S : Type 0} (gives : S → Item → Result (Unit {0}) Refusal → S → Type 0) (table : Entities) (start : RawKind) (text : List Placed) (p : Placed) (names : Texts) (taken : List Event) (t : Tokenizer) (amp : ℕ) (same : t.state ≡ state.AmbiguousAmpersand amp) (h : IsInAmbiguousAmpersand table start t names text (p ∷ []) taken) where
   amp_is : h.amp ≡ amp
-  amp_is = let e : state.Run h.amp ≡ state.Run amp = sym h.state_is ∙ same in cc
+  amp_is = let e : state.AmbiguousAmpersand h.amp ≡ state.AmbiguousAmpersand amp = sym h.state_is ∙ same in cc
 
   stands_now : (end : ℕ) (more : List Placed) → Stands table start end text (p ∷ more) h.here taken (later_errors amp (p ∷ more))
   stands_now end more = subst (λ (a : ℕ). Stands table start end text (p ∷ more) h.here taken (later_errors a (p ∷ more))) amp_is (h.stands end more)
@@ -310,7 +287,7 @@ module _ {S : Type 0} (gives : S → Item → Result (Unit {0}) Refusal → S �
         (stands_on table start end text more h.here taken (plain_span p) (later_errors amp (p ∷ more)) (stands_now end more) (plain_is table end h.here more p h.may (alphanumeric_kept p.ch letter)) refl)
 
     pub run_goes_on : (old s : S) (answer : Result (Unit {0}) Refusal) → HandsEvents gives names old one answer s → Takes gives table start text (p ∷ []) taken names old answer s t
-    run_goes_on old s (Ok u) handed = take_took one refl handed (in_run (record {
+    run_goes_on old s (Ok u) handed = take_took one refl handed (in_ambiguous_ampersand (record {
       accepts = h.accepts;
       here = record h.here { front = p ∷ h.here.front };
       amp = amp;

@@ -1,44 +1,12 @@
 -- A run of plain characters, taken as a whole.
-use Rattle.std.proofs.Common.{◌≡◌, ◌≤◌, ◌<◌, ℕ, zero, suc, ◌+◌, Bool, true, false, cond, eqb, List, [], ◌∷◌, ◌++◌, length, take, sym, refl, ap, ◌∙◌, subst, arith, drop, Result, Ok, Err, Option, append_assoc, append-nil}
-use Rattle.std.proofs.lemmas.Bool.Decides.{nat_tests}
-use Rattle.std.specs.List.{list_all}
-use Rattle.std.specs.Prelude.{not, ◌&&◌, ◌||◌, ◌==◌}
-use Rattle.std.proofs.lemmas.Bool.{and_from}
-use Rattle.std.proofs.lemmas.List.{length-take-le}
-use Rattle.std.specs.Char.{len_utf8, encode_utf8}
-use Rattle.std.specs.Str.{chars}
-use Rattle.std.specs.String.{string_bytes}
-use Rattle.names.specs.declared.error.ParseError.{ParseError}
-use Rattle.names.specs.declared.placed.Placed.{Placed}
-use Rattle.names.specs.declared.raw.RawKind.{RawKind}
+use Rattle.htoken.proofs.Names.{◌≡◌, ◌≤◌, ◌<◌, ℕ, zero, suc, ◌+◌, Bool, true, false, cond, eqb, List, [], ◌∷◌, ◌++◌, length, take, sym, refl, ap, ◌∙◌, subst, arith, drop, Result, Ok, Err, Option, append_assoc, append-nil, nat_tests, list_all, not, ◌&&◌, ◌||◌, and_from, length-take-le, len_utf8, encode_utf8, chars, string_bytes, ParseError, Placed, RawKind, Refusal, Memory, Texts, Grows, all, placed, null_errors, is_clean, is_plain_byte, is_plain, IsCut, all_placed, plain_take, Entities, and_parts, and_no, no_null_error, HasReadOf, IsCommentOf, TakesRun, IsInTag, State, Tokenizer, Tok, Span, Item, Event, Gives, Char, Comment, Standing, is_script, FollowsAll, IsDataSpan, character, character_span, IsSpanOf, IsRawSpan, raw_character, has_references, tokens_in, eof_of, HandsEvents, run_events, replaced, tag_mark, after_place, next_from, next_place, less, Stands, Reads, HasTaken, holds, Takes, take_ran_out, take_sink_refused, take_took, IsHeld, IsIn, IsLast, IsBetween, IsInMarkup, IsInMarkedTag}
+use Rattle.std.specs.Prelude.{◌==◌}
 use Rattle.names.specs.declared.raw.RawKind.TheVariants as kind
-use Rattle.names.specs.declared.refusal.Refusal.{Refusal}
-use Rattle.names.specs.declared.refusal.Refusal.TheVariants.{Memory}
-use Rattle.names.specs.Names.{Texts, Grows}
-use Rattle.names.specs.Placed.{all, placed, null_errors}
-use Rattle.htext.specs.Run.{is_clean, is_plain_byte, is_plain, IsCut}
-use Rattle.htext.proofs.Runs.{all_placed, one_long, plain_take}
+use Rattle.htext.proofs.Runs.{one_long}
 use Rattle.htext.proofs.Wide.{bytes_plain, last_char}
-use Rattle.charref.specs.Reference.{Entities}
-use Rattle.hmarkup.proofs.Marks.{and_parts, and_no}
-use Rattle.hmarkup.proofs.Characters.{no_null_error}
-use Rattle.hmarkup.specs.CommentWalk.{HasReadOf, IsSpan as IsCommentOf}
-use Rattle.hmarkup.specs.Walk.{TakesRun, run_ran_out, run_refused, run_goes_on}
-use Rattle.htag.specs.TagWalk.{IsInTag}
-use Rattle.htoken.specs.declared.state.State.{State}
+use Rattle.hmarkup.specs.Walk.{run_ran_out, run_refused, run_goes_on}
 use Rattle.htoken.specs.declared.state.State.TheVariants as state
-use Rattle.htoken.specs.declared.tokenizer.Tokenizer.{Tokenizer}
-use Rattle.htoken.specs.Token.{Tok, Span, Item, Event, Gives, Char, Comment}
-use Rattle.htoken.specs.Standing.{Standing}
-use Rattle.htoken.specs.Raw.{is_script}
-use Rattle.htoken.specs.Script.{FollowsAll}
-use Rattle.htoken.specs.Data.{IsDataSpan, character, character_span}
-use Rattle.htoken.specs.Spans.{IsSpanOf, IsRawSpan, raw_character, has_references}
-use Rattle.htoken.specs.Tokens.{tokens_in, eof_of}
-use Rattle.htoken.specs.Handing.{HandsEvents}
-use Rattle.htoken.specs.Run.{run_events, replaced, is_text}
-use Rattle.htoken.specs.Tag.{tag_mark}
-use Rattle.htoken.specs.Tokenizing.{after_place, next_from, next_place, less, Stands, Reads, HasTaken, holds, Takes, take_ran_out, take_sink_refused, take_took, IsHeld, IsIn, IsLast, IsBetween, IsInMarkup, IsInMarkedTag}
+use Rattle.htoken.specs.Run.{is_text}
 use Rattle.htoken.proofs.Cutting.{stands_more}
 use Rattle.htoken.proofs.InMarkup.{keeps, kept, refused}
 use Rattle.htoken.proofs.InRaw.{raw_span, after_characters}
@@ -97,7 +65,7 @@ ready_text state.Comment script h = absurd cc
 ready_text state.Doctype script h = absurd cc
 ready_text state.Tag script h = absurd cc
 ready_text state.Reference script h = absurd cc
-ready_text (state.Run x) script h = absurd cc
+ready_text (state.AmbiguousAmpersand x) script h = absurd cc
 ready_text state.RawLess script h = absurd cc
 ready_text (state.RawName x) script h = absurd cc
 

@@ -1,43 +1,12 @@
 -- The text at the front of a run, and what ends it.
-use Rattle.std.proofs.Common.{◌≡◌, ◌≤◌, ◌<◌, ℕ, zero, suc, ◌+◌, true, false, eqb, ◌||◌, List, [], ◌∷◌, ◌++◌, map, length, take, drop, sym, refl, ap, ◌∙◌, subst, arith, Result, Ok, Err, Option, append_assoc, append-nil}
-use Rattle.std.proofs.lemmas.Bool.{and_parts, and_from}
-use Rattle.std.proofs.Math.Seq.{drop-length, drop-nil}
-use Rattle.std.proofs.lemmas.List.{length-append, length-take-le, take_all, take_at, drop_at}
-use Rattle.std.proofs.lemmas.Bool.Decides.{nat_tests}
-use Rattle.std.proofs.lemmas.Str.{chars-IsAscii, chars-nil, encode_ascii, len_utf8_ascii, IsUtf8-from_ascii, IsUtf8-past_char, chars_past_char}
-use Rattle.std.specs.List.{list_all, prefix_len}
-use Rattle.std.specs.Char.{is_ascii, encode_utf8, len_utf8}
-use Rattle.std.specs.Str.{chars, IsAscii, IsUtf8}
-use Rattle.std.specs.String.{string_bytes}
-use Rattle.names.specs.declared.error.ErrorCode.TheVariants.{UnknownNamedCharacterReference}
-use Rattle.names.specs.declared.error.ParseError.{ParseError}
-use Rattle.names.specs.declared.placed.Placed.{Placed}
-use Rattle.names.specs.declared.raw.RawKind.{RawKind}
+use Rattle.htoken.proofs.Names.{◌≡◌, ◌≤◌, ◌<◌, ℕ, zero, suc, ◌+◌, true, false, eqb, ◌||◌, List, [], ◌∷◌, ◌++◌, map, length, take, drop, sym, refl, ap, ◌∙◌, subst, arith, Result, Ok, Err, Option, append_assoc, append-nil, and_from, drop-length, length-append, length-take-le, take_all, take_at, drop_at, nat_tests, chars-IsAscii, chars-nil, encode_ascii, len_utf8_ascii, IsUtf8-from_ascii, IsUtf8-past_char, chars_past_char, list_all, prefix_len, is_ascii, encode_utf8, len_utf8, chars, IsAscii, IsUtf8, string_bytes, UnknownNamedCharacterReference, ParseError, Placed, RawKind, Refusal, Texts, all, begins, past, is_alphanumeric, placed, error_if, is_clean, is_plain, is_text_byte, IsCut, all_placed, cut_more, placed_cut, placed_more, Entities, Piece, IsReference, named, kept, unknown, decimal, hexadecimal, no_digits, alone, ampersand, backwards, Script, Spread, State, Tokenizer, bare_errors, first_placed, IsBare, IsFront, RefusesFront, spread_ran_out, spread_refused, Tok, Span, Item, Event, Gives, Reports, Char, piece_span, HandsEvents, is_script, run_events, FollowsAll, has_references, Standing, next, tokens_in, errors_in, eof_of, AreFront, Stands, Reads, holds, Takes, take_ran_out, take_took, take_sink_refused, IsHeld, IsIn, IsLast, IsBetween, next_place}
+use Rattle.std.proofs.lemmas.Bool.{and_parts}
+use Rattle.std.proofs.Math.Seq.{drop-nil}
 use Rattle.names.specs.declared.raw.RawKind.TheVariants as kind
-use Rattle.names.specs.declared.refusal.Refusal.{Refusal}
-use Rattle.names.specs.Names.{Texts}
-use Rattle.names.specs.Placed.{all, begins, past, is_alphanumeric, placed, error_if}
-use Rattle.htext.specs.Run.{is_clean, is_plain, is_text_byte, IsCut}
 use Rattle.htext.proofs.Clean.{text_front}
-use Rattle.htext.proofs.Runs.{all_placed}
-use Rattle.htext.proofs.Wide.{chars_cut, cut_more, has_characters, placed_cut, placed_more}
-use Rattle.charref.specs.Reference.{Entities, Piece, IsReference, named, kept, unknown, decimal, hexadecimal, no_digits, alone, ampersand}
-use Rattle.hmarkup.specs.CommentWalk.{backwards}
-use Rattle.htoken.specs.declared.script.Script.{Script}
-use Rattle.htoken.specs.declared.spread.Spread.{Spread}
-use Rattle.htoken.specs.declared.state.State.{State}
+use Rattle.htext.proofs.Wide.{chars_cut, has_characters}
 use Rattle.htoken.specs.declared.state.State.TheVariants as state
-use Rattle.htoken.specs.declared.tokenizer.Tokenizer.{Tokenizer}
-use Rattle.htoken.specs.Front.{bare_errors, first_placed, spread_events, IsBare, IsFront, IsTakenFront, RefusesFront, spread_ran_out, spread_refused}
-use Rattle.htoken.specs.Token.{Tok, Span, Item, Event, Gives, Reports, Char, piece_span}
-use Rattle.htoken.specs.Handing.{HandsEvents}
-use Rattle.htoken.specs.Raw.{is_script}
-use Rattle.htoken.specs.Run.{run_events}
-use Rattle.htoken.specs.Script.{FollowsAll}
-use Rattle.htoken.specs.Spans.{has_references}
-use Rattle.htoken.specs.Standing.{Standing, next}
-use Rattle.htoken.specs.Tokens.{tokens_in, errors_in, eof_of, AreFront}
-use Rattle.htoken.specs.Tokenizing.{Stands, Reads, holds, Takes, take_ran_out, take_took, take_sink_refused, IsHeld, IsIn, IsLast, IsBetween, next_place}
+use Rattle.htoken.specs.Front.{spread_events, IsTakenFront}
 use Rattle.htoken.proofs.Fronts.{takes_both}
 use Rattle.htoken.proofs.Cutting.{tokens_in-append, errors_in-append}
 use Rattle.htoken.proofs.Handing.{HandsEvents-append}

@@ -1,7 +1,5 @@
 -- What a list has at an index.
-use Rattle.std.proofs.Common.{◌≡◌, ◌≤◌, ◌<◌, ℕ, zero, suc, List, [], ◌∷◌, length, get_or, Some, None, refl, sym, ap, ◌∙◌, arith}
-use Rattle.std.proofs.lemmas.Bool.Decides.{nat_tests}
-use Rattle.std.specs.Prelude.{is_some, nat_lt, slice_get}
+use Rattle.htoken.proofs.Names.{◌≡◌, ◌≤◌, ◌<◌, ℕ, zero, suc, List, [], ◌∷◌, length, get_or, Some, None, refl, sym, ap, ◌∙◌, arith, nat_tests, is_some, nat_lt, slice_get}
 
 pub at_item : (xs : List ℕ) (i x : ℕ) → i < length xs → x ≡ get_or xs i 0 → slice_get xs i ≡ Some x
 at_item [] i x within is = absurd (omega (arith, within))

@@ -1,20 +1,9 @@
 -- The names of raw texts are lower letters: wherever raw text is after a start tag, its name says the kind.
-use Rattle.std.proofs.Common.{◌≡◌, ℕ, zero, suc, Bool, true, false, not, cond, ◌||◌, ◌&&◌, eqb, List, [], ◌∷◌, length, sym, refl, ap, ◌∙◌, subst, Some, arith}
-use Rattle.std.proofs.lemmas.Bool.Decides.{nat_tests}
+use Rattle.htoken.proofs.Names.{◌≡◌, ℕ, zero, suc, Bool, true, false, not, cond, ◌||◌, ◌&&◌, eqb, List, [], ◌∷◌, length, sym, refl, ap, ◌∙◌, subst, Some, arith, nat_tests, slice_get, to_ascii_lowercase, list_all, Placed, RawKind, Tag, lowered, is_letter, raw_kind, and_parts, Tok, Span, Start, End, Char, Comment, Doctype, Eof, Standing, at_start, next, standing_after, is_raw}
 use Rattle.names.proofs.TableLemmas.{bytes_eq-true}
-use Rattle.std.specs.Prelude.{slice_get, bytes_eq}
-use Rattle.std.specs.Char.{to_ascii_lowercase}
-use Rattle.std.specs.List.{list_all}
-use Rattle.names.specs.declared.placed.Placed.{Placed}
-use Rattle.names.specs.declared.raw.RawKind.{RawKind}
-use Rattle.names.specs.declared.tag.Tag.{Tag}
-use Rattle.names.specs.Placed.{lowered, is_letter}
-use Rattle.names.specs.Sets.{raw_kind}
+use Rattle.std.specs.Prelude.{bytes_eq}
 use Rattle.names.specs.Tags.{tag_text, tags, tag_among}
-use Rattle.hmarkup.proofs.Marks.{and_parts}
-use Rattle.htoken.specs.Token.{Tok, Span, Start, End, Char, Comment, Doctype, Eof}
-use Rattle.htoken.specs.Standing.{Standing, at_start, after_tokens, next, standing_after}
-use Rattle.htoken.specs.Raw.{is_raw}
+use Rattle.htoken.specs.Standing.{after_tokens}
 
 -- a lower letter
 abbrev pub is_lower : ℕ → Bool

@@ -1,35 +1,14 @@
 -- Where a reference is, and what follows it as text.
-use Rattle.std.proofs.Common.{◌≡◌, ℕ, suc, Bool, true, false, not, cond, ◌&&◌, ◌||◌, eqb, List, [], ◌∷◌, ◌++◌, map, length, drop, take, reverse, zero, sym, refl, ap, ◌∙◌, subst, Option, Some, None, arith, append_assoc, append-nil}
-use Rattle.std.proofs.lemmas.Bool.Decides.{nat_tests}
-use Rattle.std.proofs.lemmas.List.{take-append-drop}
-use Rattle.std.specs.Prelude.{nat_eq, nat_lt}
-use Rattle.std.specs.List.{list_all, starts_with}
-use Rattle.names.specs.declared.error.ErrorCode.TheVariants.{UnknownNamedCharacterReference}
-use Rattle.names.specs.declared.error.ParseError.{ParseError}
-use Rattle.names.specs.declared.placed.Placed.{Placed}
-use Rattle.names.specs.declared.raw.RawKind.{RawKind}
+use Rattle.htoken.proofs.Names.{◌≡◌, ℕ, suc, Bool, true, false, not, cond, ◌&&◌, ◌||◌, eqb, List, [], ◌∷◌, ◌++◌, map, length, drop, take, reverse, zero, sym, refl, ap, ◌∙◌, subst, Option, Some, None, arith, append_assoc, append-nil, nat_tests, take-append-drop, nat_lt, list_all, UnknownNamedCharacterReference, ParseError, Placed, RawKind, all, begins, past, is_alphanumeric, error_if, Reference, WalkState, characters_of, errors_of, Entities, Piece, IsTable, IsReference, named, kept, unknown, decimal, hexadecimal, no_digits, alone, backwards, and_parts, and_both, and_no, no_null_error, Tok, Span, Event, Gives, Char, piece_span, Standing, next, character_span, IsSpan, IsSpanOf, has_references, raw_character, raw_reference, known_errors, piece_events, read_events, run_events, has_refused, tokens_in, errors_in, Stands}
+use Rattle.std.specs.Prelude.{nat_eq}
+use Rattle.std.specs.List.{starts_with}
 use Rattle.names.specs.declared.raw.RawKind.TheVariants as kind
-use Rattle.names.specs.Placed.{all, begins, past, is_alphanumeric, error_if}
 use Rattle.charref.specs.declared.number.Base.{Base}
 use Rattle.charref.specs.declared.number.Base.TheVariants.{Decimal, Hexadecimal}
-use Rattle.charref.specs.declared.reference.Reference.{Reference}
-use Rattle.charref.specs.declared.reference_state.ReferenceState.{ReferenceState as WalkState}
 use Rattle.charref.specs.Held.{IsHeld as IsWalkHeld, IsSign, in_name, after_sign, after_x, in_number, number_sign, small_x, capital_x}
 use Rattle.charref.specs.Number.{is_digit_of}
-use Rattle.charref.specs.Pieces.{characters_of, errors_of}
-use Rattle.charref.specs.Reference.{Entities, Entry, Piece, IsTable, IsReference, longest, longer, is_empty_list, named, kept, unknown, decimal, hexadecimal, no_digits, alone}
-use Rattle.hmarkup.specs.CommentWalk.{backwards}
-use Rattle.hmarkup.proofs.Marks.{and_parts, and_both, and_no}
-use Rattle.hmarkup.proofs.Characters.{no_null_error}
-use Rattle.htoken.specs.Token.{Tok, Span, Event, Gives, Char, piece_span}
-use Rattle.htoken.specs.Standing.{Standing, next}
+use Rattle.charref.specs.Reference.{Entry, longest, longer, is_empty_list}
 use Rattle.htoken.specs.Data as d
-use Rattle.htoken.specs.Data.{character_span}
-use Rattle.htoken.specs.Spans.{IsSpan, IsSpanOf, has_references, raw_character, raw_reference}
-use Rattle.htoken.specs.Giving.{known_errors, piece_events, read_events}
-use Rattle.htoken.specs.Run.{run_events}
-use Rattle.htoken.specs.Tokens.{has_refused, tokens_in, errors_in}
-use Rattle.htoken.specs.Tokenizing.{Stands}
 use Rattle.htoken.proofs.Cutting.{tokens_in-append, errors_in-append, tokens_in-map, errors_in-map}
 use Rattle.htoken.proofs.InRaw.{after_characters, raw_span}
 use Rattle.htoken.proofs.Pending.{stands_on, stands_same}

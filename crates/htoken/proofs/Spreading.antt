@@ -1,32 +1,13 @@
 -- What is gathered of a run, to be handed over as one text.
-use Rattle.std.proofs.Common.{◌≡◌, ◌+◌, ◌-◌, ℕ, true, List, [], ◌∷◌, ◌++◌, take, drop, sym, refl, ap, ◌∙◌, subst, arith, append_assoc, Ok, Option, None, Some, IfSome, is_some}
-use Rattle.std.proofs.lemmas.Bool.{and_from}
-use Rattle.std.proofs.lemmas.Bool.Decides.{nat_tests}
+use Rattle.htoken.proofs.Names.{◌≡◌, ◌+◌, ◌-◌, ℕ, true, List, [], ◌∷◌, ◌++◌, take, drop, sym, refl, ap, ◌∙◌, subst, arith, append_assoc, Ok, Option, None, Some, IfSome, is_some, and_from, nat_tests, list_all-append, chars-nil, encode_utf8_all, list_all, chars, IsUtf8, ParseError, Placed, RawKind, all, characters, placed, characters_of, Entities, Reference, is_clean, clean_rest, Hands, Spread, Raised, all_at, Adds, IsFront, IsGathered, IsWhole, TellsText, known_errors, IsSpread, has_references}
 use Rattle.std.proofs.lemmas.List.{map-append}
-use Rattle.std.proofs.lemmas.List.Folds.{list_all-append}
-use Rattle.std.proofs.lemmas.Str.{chars_from_encodes, chars-nil, encodes-chars, IsUtf8-string_bytes}
-use Rattle.std.specs.Prelude.{string_bytes, encode_utf8_all}
-use Rattle.std.specs.List.{list_all}
-use Rattle.std.specs.Str.{chars, IsUtf8}
-use Rattle.names.specs.declared.error.ParseError.{ParseError}
-use Rattle.names.specs.declared.placed.Placed.{Placed}
-use Rattle.names.specs.declared.raw.RawKind.{RawKind}
-use Rattle.names.specs.Placed.{all, characters, placed}
+use Rattle.std.proofs.lemmas.Str.{chars_from_encodes, encodes-chars, IsUtf8-string_bytes}
+use Rattle.std.specs.Prelude.{string_bytes}
 use Rattle.charref.proofs.KeyTexts.{encode_utf8_all-append}
-use Rattle.charref.specs.Pieces.{characters_of}
-use Rattle.charref.specs.Reference.{Entities}
-use Rattle.charref.specs.declared.reference.Reference.{Reference}
 use Rattle.htag.proofs.InRun.{characters_placed}
-use Rattle.htext.specs.Run.{is_clean}
-use Rattle.htext.proofs.Clean.{clean_rest, nothing_front}
+use Rattle.htext.proofs.Clean.{nothing_front}
 use Rattle.names.proofs.Words.{all_weaker}
-use Rattle.names.specs.Sink.{Hands}
-use Rattle.htoken.specs.declared.spread.Spread.{Spread}
-use Rattle.htoken.specs.declared.state.Raised.{Raised}
-use Rattle.htoken.specs.Front.{all_at, Adds, IsFront, IsGathered, IsWhole, TellsText}
-use Rattle.htoken.specs.Giving.{known_errors}
-use Rattle.htoken.specs.Run.{is_not_null, IsSpread, StartsAt}
-use Rattle.htoken.specs.Spans.{has_references}
+use Rattle.htoken.specs.Run.{is_not_null, StartsAt}
 use Rattle.htoken.proofs.Bare.{few_left, front_whole}
 use Rattle.htoken.proofs.InMarkup.{keeps, kept}
 use Rattle.htoken.proofs.InRun.{is_itself}

@@ -96,7 +96,7 @@ pub record TellsText {S : Type 0} (gives : S → ParseError → Result (Unit {0}
 abbrev pub spread_events : List Placed → List ParseError → List Event
 spread_events given errors = run_events given ++ map Reports errors
 
--- A front of a run was handed over as one text, or the sink refused it, or memory ran out before.
+-- A front of a run was handed over as one text, or the sink refused it.
 pub record GivesFront {S : Type 0} (gives : S → Item → Result (Unit {0}) Refusal → S → Type 0) (names : Texts) (table : Entities)
     (kind : RawKind) (run : List ℕ) (at count : ℕ) (old : S) (answer : Result (Unit {0}) Refusal) (new : S) : Type 0 where
   pub errors : List ParseError
@@ -104,6 +104,7 @@ pub record GivesFront {S : Type 0} (gives : S → Item → Result (Unit {0}) Ref
   pub front : IsFront table kind run at count errors given
   pub handed : HandsEvents gives names old (spread_events given errors) answer new
 
+-- While it was read, memory ran out before anything was handed over, or the sink refused.
 pub data RefusesFront {S : Type 0} (gives : S → Item → Result (Unit {0}) Refusal → S → Type 0) (names : Texts) (table : Entities)
     (kind : RawKind) (run : List ℕ) (at : ℕ) (old : S) (e : Refusal) (new : S) : Type 0 where
   spread_ran_out : e ≡ Memory → new ≡ old → RefusesFront gives names table kind run at old e new
@@ -111,8 +112,8 @@ pub data RefusesFront {S : Type 0} (gives : S → Item → Result (Unit {0}) Ref
       → RefusesFront gives names table kind run at old e new
 
 -- What was gathered is handed over, unless the sink does not take it as one run.
-abbrev pub GivesSpread : {S : Type 0} → (S → Item → Result (Unit {0}) Refusal → S → Type 0) → Texts → List Placed → List ParseError → S → Result Bool Refusal → S
-    → Type 0
+abbrev pub GivesSpread : {S : Type 0} → (S → Item → Result (Unit {0}) Refusal → S → Type 0) → Texts → List Placed → List ParseError
+    → S → Result Bool Refusal → S → Type 0
 GivesSpread gives names given errors old (Ok true) new = HandsEvents gives names old (spread_events given errors) (Ok tt) new
 GivesSpread gives names given errors old (Ok false) new = new ≡ old
 GivesSpread gives names given errors old (Err e) new = HandsEvents gives names old (spread_events given errors) (Err e) new

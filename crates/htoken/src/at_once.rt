@@ -1,18 +1,10 @@
 //! Tags that stand whole in one run of the input (HTML Standard, 13.2.5.6 to 13.2.5.8).
 
-ghost use Rattle.std.specs.Prelude.{◌≡◌, ◌≤◌, ◌<◌, ◌+◌, List, true, None, IfOk, length, drop, slice_index};
+ghost use Rattle.std.specs.Prelude.{◌≡◌, ◌≤◌, ◌<◌, ◌+◌, List, true, IfOk, length, drop, slice_index, None};
 ghost use Rattle.std.specs.List.{list_all};
-ghost use Rattle.names.specs.declared.placed.Placed.{Placed as Character};
-ghost use Rattle.names.specs.declared.raw.RawKind.{RawKind as Kind};
-ghost use Rattle.names.specs.Names.{Texts, Grows};
+ghost use Rattle.htoken.specs.Vocabulary.{Character, Kind, Texts, Grows, MAX_INPUT, is_plain_byte, IsCut, Entities, TakesFront, TakesPart, Event, gives_item, HasTaken};
 ghost use Rattle.names.specs.Sets.{raw_kind, refused_name};
-ghost use Rattle.htext.specs.declared.decoder.TheConstants.{MAX_INPUT};
-ghost use Rattle.htext.specs.Run.{is_plain_byte, IsCut};
-ghost use Rattle.charref.specs.Reference.{Entities};
 ghost use Rattle.htag.specs.AtOnce.{IsBareName};
-ghost use Rattle.htoken.specs.Steps.{TakesFront, TakesPart};
-ghost use Rattle.htoken.specs.Token.{Event, gives_item};
-ghost use Rattle.htoken.specs.Tokenizing.{HasTaken};
 
 use crate::sink::TokenSink;
 use crate::state::State;

@@ -1,9 +1,7 @@
 //! What `<!` begins: a comment, a doctype, or what is read as a comment (HTML Standard, 13.2.5.42).
 
 ghost use Rattle.std.specs.Prelude.{◌≡◌, ◌∷◌, ◌++◌, [], List, length, true};
-ghost use Rattle.names.specs.declared.placed.Placed.{Placed as Character};
-ghost use Rattle.names.specs.Placed.{all};
-ghost use Rattle.hmarkup.specs.Comment.{is_plain_in_bogus};
+ghost use Rattle.htoken.specs.Vocabulary.{Character, all, is_plain_in_bogus};
 ghost use Rattle.htoken.specs.Declaration.{IsOpened, OpensAs, front_of};
 
 use names::Placed;

@@ -1,21 +1,13 @@
 //! The end of the input, in each state (HTML Standard, 13.2.5).
 
 ghost use Rattle.std.specs.Prelude.{◌≡◌, ◌∷◌, ◌++◌, ℕ, List, [], true, ◌&&◌, map, nat_lt};
-ghost use Rattle.names.specs.declared.placed.Placed.{Placed as Character};
-ghost use Rattle.names.specs.declared.raw.RawKind.{RawKind as Kind};
-ghost use Rattle.names.specs.Names.{Texts, Grows};
-ghost use Rattle.names.specs.Placed.{error};
-ghost use Rattle.charref.specs.Reference.{Entities};
-ghost use Rattle.htoken.specs.Script.{HasFront, level_number};
-ghost use Rattle.htoken.specs.Token.{Event, Gives, Reports, Eof, gives_item};
+ghost use Rattle.htoken.specs.Vocabulary.{Character, Kind, Texts, Grows, error, Entities, HasFront, level_number, Event, Gives, Reports, gives_item, HandsEvents, is_script, run_events, Reads, HasTaken, Finishes};
+ghost use Rattle.htoken.specs.Token.{Eof};
 ghost use Rattle.names.specs.declared.error.ErrorCode.TheVariants.{EofBeforeTagName};
 ghost use Rattle.htoken.specs.Data.{character_span, less_span};
-ghost use Rattle.htoken.specs.Handing.{HandsEvents};
 ghost use Rattle.htoken.specs.Tokens.{events_of};
-ghost use Rattle.htoken.specs.Raw.{is_script};
-ghost use Rattle.htoken.specs.Run.{run_events};
 ghost use Rattle.htag.specs.TagWalk.{IsInTag};
-ghost use Rattle.htoken.specs.Tokenizing.{Reads, HasTaken, Finishes, EndsHeld, less};
+ghost use Rattle.htoken.specs.Tokenizing.{EndsHeld, less};
 ghost use Rattle.htoken.specs.Steps.{script_errors, CutsOff};
 
 use crate::declaration::Opened;
@@ -63,7 +55,7 @@ impl<'t> Tokenizer<'t> {
             State::Comment => self.end_in_comment(end, sink),
             State::Doctype => self.end_in_doctype(end, sink),
             State::Reference => self.end_in_reference(sink),
-            State::Run(_) => Ok(()),
+            State::AmbiguousAmpersand(_) => Ok(()),
             State::Tag => self.cut_off(names, end, sink),
             State::RawLess => self.end_raw_less(sink),
             State::RawName(solidus) => self.give_held(solidus, sink),

@@ -3,22 +3,9 @@
 ghost use Rattle.std.specs.Prelude.{◌≡◌, ◌≤◌, ◌<◌, ◌+◌, List, true, false, IfOk, IfSome, is_some, MatchResult, Err, drop, length, slice_index, take};
 ghost use Rattle.std.specs.List.{list_all};
 ghost use Rattle.std.specs.Str.{chars};
+ghost use Rattle.htoken.specs.Vocabulary.{Character, Kind, Texts, placed, Hands, MAX_INPUT, is_clean, is_text_byte, IsCut, Entities, IsWhole, is_script, run_tokens, FollowsAll, TakesPart, Event, gives_item, HasTaken, Reads, Takes};
 ghost use Rattle.names.specs.declared.error.ParseError.{ParseError as Error};
-ghost use Rattle.names.specs.declared.placed.Placed.{Placed as Character};
-ghost use Rattle.names.specs.declared.raw.RawKind.{RawKind as Kind};
-ghost use Rattle.names.specs.Names.{Texts};
-ghost use Rattle.names.specs.Placed.{placed};
-ghost use Rattle.names.specs.Sink.{Hands};
-ghost use Rattle.htext.specs.declared.decoder.TheConstants.{MAX_INPUT};
-ghost use Rattle.htext.specs.Run.{is_clean, is_text_byte, IsCut};
-ghost use Rattle.charref.specs.Reference.{Entities};
-ghost use Rattle.htoken.specs.Front.{bare_errors, first_placed, GivesFront, IsBare, IsWhole, RefusesFront, Shows, TakesOn, TellsText};
-ghost use Rattle.htoken.specs.Raw.{is_script};
-ghost use Rattle.htoken.specs.Run.{run_tokens};
-ghost use Rattle.htoken.specs.Script.{FollowsAll};
-ghost use Rattle.htoken.specs.Steps.{TakesPart};
-ghost use Rattle.htoken.specs.Token.{Event, gives_item};
-ghost use Rattle.htoken.specs.Tokenizing.{HasTaken, Reads, Takes};
+ghost use Rattle.htoken.specs.Front.{bare_errors, first_placed, GivesFront, IsBare, RefusesFront, Shows, TakesOn, TellsText};
 
 use crate::hand::{give_piece, tell_unknown};
 use crate::run::last_start;
@@ -32,11 +19,11 @@ use htext::{alphanumeric_run, text_run};
 use names::{RawKind, Refusal};
 
 /// What the run after an `&` shows of it.
-enum Ampersand<'t> {
+enum Ampersand {
     /// It is text: its length with the letters and digits after it.
     Text(usize),
     /// It begins a whole reference: that, and how many bytes after the `&` show it. The last may be one that it leaves.
-    Whole(Reference<'t>, usize),
+    Whole(Reference, usize),
     /// The run does not show how it ends, or no references may be here.
     Open,
 }
@@ -58,13 +45,13 @@ fn tell_bare<S: ErrorSink>(run: &str, size: usize, at: u64, sink: &mut S) -> Res
 /// How many bytes at the front of a run are text: plain characters, and each `&` that is text, with the letters and digits after it.
 /// Hands over the errors of these. With it the whole reference that comes next, if the run shows one.
 #[inline(always)]
-pub(crate) fn text_before<'t, S: ErrorSink>(
-    table: &'t Table,
+pub(crate) fn text_before<S: ErrorSink>(
+    table: &Table,
     kind: RawKind,
     run: &str,
     at: u64,
     sink: &mut S,
-) -> Result<(usize, Option<(Reference<'t>, usize)>), Refusal>
+) -> Result<(usize, Option<(Reference, usize)>), Refusal>
     requires clean { list_all is_clean (chars run.now) ≡ true }
     requires within { at + length run.now ≤ MAX_INPUT }
     ensures front { MatchResult result (λ it. TellsText S.gives table.now kind run.now at it.0 sink.old sink.new)
@@ -90,7 +77,7 @@ pub(crate) fn text_before<'t, S: ErrorSink>(
 
 /// What an `&` at the front of a run is, as far as the run shows it.
 #[inline(always)]
-fn at_ampersand<'t>(table: &'t Table, kind: RawKind, run: &str) -> Ampersand<'t>
+fn at_ampersand<'t>(table: &Table, kind: RawKind, run: &str) -> Ampersand
     requires { 0 < length run.now }
     ensures { Shows table.now kind run.now result }
 {
@@ -150,7 +137,7 @@ impl<'t> Tokenizer<'t> {
     fn take_references<S: TokenSink>(
         &mut self,
         count: usize,
-        whole: Option<(Reference<'t>, usize)>,
+        whole: Option<(Reference, usize)>,
         run: &str,
         at: u64,
         sink: &mut S,
@@ -174,11 +161,11 @@ impl<'t> Tokenizer<'t> {
     #[inline(always)]
     fn spread_on<S: TokenSink>(
         &mut self,
-        whole: Option<(Reference<'t>, usize)>,
+        whole: Option<(Reference, usize)>,
         run: &str,
         at: u64,
         sink: &mut S,
-    ) -> Result<(usize, Option<(Reference<'t>, usize)>), Refusal>
+    ) -> Result<(usize, Option<(Reference, usize)>), Refusal>
         requires clean { list_all is_clean (chars run.now) ≡ true }
         requires within { at + length run.now ≤ MAX_INPUT }
         requires starts { 0 < length run.now → is_text_byte (slice_index run.now 0) ≡ false }
@@ -203,7 +190,7 @@ impl<'t> Tokenizer<'t> {
     fn take_end<S: TokenSink>(
         &mut self,
         count: usize,
-        whole: Option<(Reference<'t>, usize)>,
+        whole: Option<(Reference, usize)>,
         run: &str,
         at: u64,
         sink: &mut S,
@@ -252,7 +239,7 @@ impl<'t> Tokenizer<'t> {
     #[inline(always)]
     fn take_mark<S: TokenSink>(
         &mut self,
-        whole: Option<(Reference<'t>, usize)>,
+        whole: Option<(Reference, usize)>,
         run: &str,
         at: u64,
         sink: &mut S,

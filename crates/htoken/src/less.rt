@@ -1,13 +1,8 @@
 //! After `<` and `</` in data (HTML Standard, 13.2.5.6 and 13.2.5.7).
 
 ghost use Rattle.std.specs.Prelude.{◌≡◌, ◌∷◌, ℕ, List, [], true};
-ghost use Rattle.names.specs.declared.placed.Placed.{Placed as Character};
-ghost use Rattle.names.specs.declared.raw.RawKind.{RawKind as Kind};
-ghost use Rattle.names.specs.Names.{Texts};
-ghost use Rattle.charref.specs.Reference.{Entities};
+ghost use Rattle.htoken.specs.Vocabulary.{Character, Kind, Texts, Entities, Event, gives_item, Reads, Takes};
 ghost use Rattle.htoken.specs.Data.{is_no_markup};
-ghost use Rattle.htoken.specs.Token.{Event, gives_item};
-ghost use Rattle.htoken.specs.Tokenizing.{Reads, Takes};
 
 use crate::declaration::Opened;
 use crate::hand::give_faulty;

@@ -1,17 +1,13 @@
 //! What follows `<!`, comments and doctypes (HTML Standard, 13.2.5.41 to 13.2.5.68).
 
 ghost use Rattle.std.specs.Prelude.{◌≡◌, ◌∷◌, List, [], true, OnOk, length, MatchResult};
-ghost use Rattle.names.specs.declared.placed.Placed.{Placed as Character};
-ghost use Rattle.names.specs.declared.raw.RawKind.{RawKind as Kind};
-ghost use Rattle.names.specs.Names.{Texts};
-ghost use Rattle.names.specs.Placed.{all, error, place};
-ghost use Rattle.charref.specs.Reference.{Entities};
-ghost use Rattle.hmarkup.specs.Comment.{is_plain_in_bogus};
+ghost use Rattle.htoken.specs.Vocabulary.{Character, Kind, Texts, all, error, Entities, is_plain_in_bogus, Event, TokenMeans, gives_item, Reads, Takes, GivesSpan};
+ghost use Rattle.names.specs.Placed.{place};
 ghost use Rattle.htoken.specs.declared.tokenizer.Tokenizer.{Tokenizer as Reader};
-ghost use Rattle.htoken.specs.Token.{Event, Comment, TokenMeans, gives_item};
-ghost use Rattle.htoken.specs.Tokenizing.{Reads, Takes, doctype_token};
+ghost use Rattle.htoken.specs.Token.{Comment};
+ghost use Rattle.htoken.specs.Tokenizing.{doctype_token};
 ghost use Rattle.htoken.specs.SmallSteps.{BeginsComment, BeginsDoctype};
-ghost use Rattle.htoken.specs.Steps.{BeginsBogus, GivesSpan};
+ghost use Rattle.htoken.specs.Steps.{BeginsBogus};
 
 use crate::declaration::{Opened, Opens, plain_front};
 use crate::sink::TokenSink;

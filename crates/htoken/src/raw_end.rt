@@ -1,17 +1,8 @@
 //! The end tag of raw text (HTML Standard, 13.2.5.9 to 13.2.5.17).
 
 ghost use Rattle.std.specs.Prelude.{◌≡◌, ◌∷◌, ◌++◌, List, [], slice_get, true, false, length, string_bytes, MatchResult};
-ghost use Rattle.names.specs.declared.placed.Placed.{Placed as Character};
-ghost use Rattle.names.specs.declared.raw.RawKind.{RawKind as Kind};
-ghost use Rattle.names.specs.Names.{Texts, Grows};
-ghost use Rattle.charref.specs.Reference.{Entities};
-ghost use Rattle.htoken.specs.Script.{HasFront};
-ghost use Rattle.hmarkup.specs.CommentWalk.{backwards};
-ghost use Rattle.htoken.specs.Token.{Event, gives_item};
-ghost use Rattle.htoken.specs.Handing.{HandsEvents};
-ghost use Rattle.htoken.specs.Raw.{is_script, name_ends};
-ghost use Rattle.htoken.specs.Run.{run_events};
-ghost use Rattle.htoken.specs.Tokenizing.{Reads, Takes};
+ghost use Rattle.htoken.specs.Vocabulary.{Character, Kind, Texts, Grows, Entities, HasFront, backwards, Event, gives_item, HandsEvents, is_script, run_events, Reads, Takes};
+ghost use Rattle.htoken.specs.Raw.{name_ends};
 ghost use Rattle.htoken.specs.Steps.{held_in_raw, Holds};
 
 use crate::hand::{give, give_all};

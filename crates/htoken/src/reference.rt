@@ -1,16 +1,10 @@
 //! References in text, and the runs of alphanumerics after an `&` (HTML Standard, 13.2.5.72 to 13.2.5.80).
 
 ghost use Rattle.std.specs.Prelude.{◌≡◌, ◌==◌, ◌∷◌, ◌+◌, ◌-◌, List, [], true, false, length, map, OnOk};
-ghost use Rattle.names.specs.declared.placed.Placed.{Placed as Character};
-ghost use Rattle.names.specs.declared.raw.RawKind.{RawKind as Kind};
-ghost use Rattle.names.specs.Names.{Texts};
-ghost use Rattle.names.specs.Placed.{error_if};
+ghost use Rattle.htoken.specs.Vocabulary.{Character, Kind, Texts, error_if, Entities, Event, Reports, gives_item, HandsEvents, Reads, Takes};
 ghost use Rattle.names.specs.declared.error.ErrorCode.TheVariants as error_code;
-ghost use Rattle.charref.specs.Reference.{Entities};
-ghost use Rattle.htoken.specs.Token.{Event, Reports, gives_item};
 ghost use Rattle.htoken.specs.Giving.{read_events};
-ghost use Rattle.htoken.specs.Handing.{HandsEvents};
-ghost use Rattle.htoken.specs.Tokenizing.{IsInRun, Reads, Takes};
+ghost use Rattle.htoken.specs.Tokenizing.{IsInAmbiguousAmpersand};
 ghost use Rattle.htoken.specs.Steps.{BeginsReference, Finds, HoldsInReference};
 
 use crate::hand::{after_first, give, give_all, give_piece, tell_unknown};
@@ -80,7 +74,7 @@ impl<'t> Tokenizer<'t> {
             → Takes (gives_item S.gives S.gives_token) table start text (record { ch = ch; at = at } ∷ []) taken names sink.old result sink.new self.new }
     {
         if found.in_run {
-            self.end_in_run(found, ch, at, sink)
+            self.end_in_ambiguous_ampersand(found, ch, at, sink)
         } else {
             self.end_known(found, ch, at, sink)
         }
@@ -140,7 +134,7 @@ impl<'t> Tokenizer<'t> {
     }
 
     /// Ends an `&` that no key begins, in the run of alphanumerics after it.
-    fn end_in_run<S: TokenSink>(
+    fn end_in_ambiguous_ampersand<S: TokenSink>(
         &mut self,
         found: &Reference,
         ch: char,
@@ -155,35 +149,40 @@ impl<'t> Tokenizer<'t> {
             → Takes (gives_item S.gives S.gives_token) table start text (record { ch = ch; at = at } ∷ []) taken names sink.old result sink.new self.new }
     {
         let amp = self.at;
-        self.state = State::Run(amp);
+        self.state = State::AmbiguousAmpersand(amp);
         self.give_reference(found, self.given_back(found.left), sink)?;
-        self.in_run(amp, ch, at, sink)
+        self.in_ambiguous_ampersand(amp, ch, at, sink)
     }
 
     /// The ambiguous ampersand state (`#ambiguous-ampersand-state`), in the run of alphanumerics after an `&` that no key begins.
     #[inline(always)]
-    pub(crate) fn in_run<S: TokenSink>(
+    pub(crate) fn in_ambiguous_ampersand<S: TokenSink>(
         &mut self,
         amp: u64,
         ch: char,
         at: u64,
         sink: &mut S,
     ) -> Result<(), Refusal>
-        requires { self.old.state ≡ State.Run amp }
+        requires { self.old.state ≡ State.AmbiguousAmpersand amp }
         ensures { (table : Entities) (start : Kind) (names : Texts) (text : List Character) (taken : List Event)
-            → IsInRun table start self.old names text (record { ch = ch; at = at } ∷ []) taken
+            → IsInAmbiguousAmpersand table start self.old names text (record { ch = ch; at = at } ∷ []) taken
             → Takes (gives_item S.gives S.gives_token) table start text (record { ch = ch; at = at } ∷ []) taken names sink.old result sink.new self.new }
     {
         if ch.is_ascii_alphanumeric() {
             return give(ch, at, sink);
         }
-        self.end_run(amp, ch, sink)?;
+        self.end_ambiguous_ampersand(amp, ch, sink)?;
         self.in_text(ch, at, sink)
     }
 
     /// Ends the run of alphanumerics after an `&` that no key begins, before this character.
     #[inline(always)]
-    fn end_run<S: TokenSink>(&mut self, amp: u64, ch: char, sink: &mut S) -> Result<(), Refusal>
+    fn end_ambiguous_ampersand<S: TokenSink>(
+        &mut self,
+        amp: u64,
+        ch: char,
+        sink: &mut S,
+    ) -> Result<(), Refusal>
         ensures then { self.new ≡ record self.old { state = State.Text } }
         ensures handed { (names : Texts) → HandsEvents (gives_item S.gives S.gives_token) names sink.old
             (map Reports (error_if (ch == 59) error_code.UnknownNamedCharacterReference amp)) result sink.new }

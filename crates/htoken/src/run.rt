@@ -2,23 +2,11 @@
 
 ghost use Rattle.std.specs.Prelude.{◌≡◌, ◌≤◌, ◌<◌, ◌+◌, ◌∷◌, ◌++◌, ℕ, List, true, Some, Err, IfErr, IfOk, length, take, drop};
 ghost use Rattle.std.specs.List.{list_all, prefix_len};
-ghost use Rattle.std.specs.Char.{encode_utf8};
 ghost use Rattle.std.specs.Str.{chars};
-ghost use Rattle.names.specs.declared.placed.Placed.{Placed as Character};
-ghost use Rattle.names.specs.declared.raw.RawKind.{RawKind as Kind};
-ghost use Rattle.names.specs.declared.refusal.Refusal.{Refusal as Refused};
-ghost use Rattle.names.specs.Names.{Texts, Grows};
-ghost use Rattle.names.specs.Placed.{placed};
-ghost use Rattle.htext.specs.declared.decoder.TheConstants.{MAX_INPUT};
-ghost use Rattle.htext.specs.Run.{is_clean, is_plain_byte, IsCut};
-ghost use Rattle.charref.specs.Reference.{Entities};
+ghost use Rattle.htoken.specs.Vocabulary.{Character, Kind, Refused, Texts, Grows, placed, MAX_INPUT, is_clean, is_plain_byte, IsCut, Entities, is_script, FollowsAll, TakesFront, TakesPart, Event, gives_item, HasTaken, Takes};
+ghost use Rattle.std.specs.Char.{encode_utf8};
 ghost use Rattle.hmarkup.specs.Comment.{is_only_data};
-ghost use Rattle.htoken.specs.Raw.{is_script};
 ghost use Rattle.htoken.specs.Run.{replaced, takes_bad};
-ghost use Rattle.htoken.specs.Script.{FollowsAll};
-ghost use Rattle.htoken.specs.Steps.{TakesFront, TakesPart};
-ghost use Rattle.htoken.specs.Token.{Event, gives_item};
-ghost use Rattle.htoken.specs.Tokenizing.{HasTaken, Takes};
 
 use crate::sink::TokenSink;
 use crate::state::State;

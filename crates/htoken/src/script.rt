@@ -1,13 +1,11 @@
 //! The level of script data (HTML Standard, 13.2.5.15 to 13.2.5.31).
 
-ghost use Rattle.std.specs.Prelude.{◌≡◌, [], ◌∷◌, ◌==◌, ◌&&◌, ℕ, List, IsTrue, nat_lt};
-ghost use Rattle.std.specs.Char.{to_ascii_lowercase};
+ghost use Rattle.std.specs.Prelude.{◌≡◌, [], ◌∷◌, ◌==◌, ◌&&◌, ℕ, List, nat_lt, IsTrue};
 ghost use Rattle.std.specs.Str.{chars};
-ghost use Rattle.names.specs.declared.placed.Placed.{Placed as Character};
-ghost use Rattle.names.specs.Placed.{placed};
-ghost use Rattle.hmarkup.specs.CommentWalk.{backwards};
+ghost use Rattle.htoken.specs.Vocabulary.{Character, placed, backwards, HasFront, FollowsAll, level_number};
+ghost use Rattle.std.specs.Char.{to_ascii_lowercase};
 ghost use Rattle.htag.specs.Tag.{ends_name};
-ghost use Rattle.htoken.specs.Script.{HasFront, FollowsAll, level_number, mark_after, word_after, next_word, level_after, is_dashes, is_less_bang_dash, idle};
+ghost use Rattle.htoken.specs.Script.{mark_after, word_after, next_word, level_after, is_dashes, is_less_bang_dash, idle};
 ghost use Rattle.htoken.specs.Script.{is_read};
 
 use names::Placed;

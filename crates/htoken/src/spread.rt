@@ -3,23 +3,18 @@
 ghost use Rattle.std.specs.Prelude.{◌≡◌, ◌≤◌, ◌<◌, ◌+◌, ◌-◌, ◌++◌, List, true, false, IfOk, IfSome, MatchResult, OnOk, drop, length, slice_index, string_bytes, encode_utf8_all};
 ghost use Rattle.std.specs.List.{list_all};
 ghost use Rattle.std.specs.Str.{chars};
-ghost use Rattle.names.specs.declared.placed.Placed.{Placed as Character};
-ghost use Rattle.names.specs.Names.{Texts};
+ghost use Rattle.htoken.specs.Vocabulary.{Character, Texts, MAX_INPUT, is_clean, is_text_byte, characters_of, IsWhole, gives_item};
 ghost use Rattle.names.specs.declared.refusal.Refusal.TheVariants.{Memory};
-ghost use Rattle.htext.specs.declared.decoder.TheConstants.{MAX_INPUT};
-ghost use Rattle.htext.specs.Run.{is_clean, is_text_byte};
-ghost use Rattle.charref.specs.Pieces.{characters_of};
-ghost use Rattle.htoken.specs.Front.{Adds, GivesSpread, IsGathered, IsWhole};
+ghost use Rattle.htoken.specs.Front.{Adds, GivesSpread, IsGathered};
 ghost use Rattle.htoken.specs.Run.{is_not_null, IsSpread};
-ghost use Rattle.htoken.specs.Token.{gives_item};
 
 use crate::front::text_before;
 use crate::hand::{hand_errors, tell_known};
 use crate::sink::TokenSink;
 use crate::state::Raised;
-use charref::{Reference, Table};
+use charref::{Characters, Reference, Table};
 use names::{RawKind, Refusal};
-use std::alloc::{AllocError, Global};
+use std::alloc::Global;
 
 /// Characters of text, some of which stood as references, and the errors of these.
 #[derive(Drop)]
@@ -30,26 +25,13 @@ pub(crate) struct Spread {
 
 /// Whether none of these characters is NUL.
 #[inline(always)]
-fn are_some(characters: &[char]) -> bool
-    ensures { result ≡ true → list_all is_not_null characters.now ≡ true }
+fn are_some(characters: Characters) -> bool
+    ensures { result ≡ true → list_all is_not_null (characters_of characters) ≡ true }
 {
-    for ch in characters {
-        if *ch == '\0' {
-            return false;
-        }
+    match characters {
+        Characters::One(only) => only != '\0',
+        Characters::Two(first, second) => first != '\0' && second != '\0',
     }
-    true
-}
-
-/// Adds characters to a text.
-#[inline(always)]
-fn push_all(text: &mut String, characters: &[char]) -> Result<(), AllocError>
-    ensures { OnOk result (string_bytes text.new ≡ string_bytes text.old ++ encode_utf8_all characters.now) }
-{
-    for ch in characters {
-        text.push(*ch)?;
-    }
-    Ok(())
 }
 
 impl Spread {
@@ -66,14 +48,14 @@ impl Spread {
     /// Gathers what is at the front of a run, from the whole reference on that begins it: text, and whole references that do not stand for NUL.
     /// Returns the length, and the whole reference that comes next, if the run shows one.
     #[inline(always)]
-    pub(crate) fn gather<'t>(
+    pub(crate) fn gather(
         &mut self,
-        table: &'t Table,
+        table: &Table,
         kind: RawKind,
-        whole: Option<(Reference<'t>, usize)>,
+        whole: Option<(Reference, usize)>,
         run: &str,
         at: u64,
-    ) -> Result<(usize, Option<(Reference<'t>, usize)>), Refusal>
+    ) -> Result<(usize, Option<(Reference, usize)>), Refusal>
         requires starts { 0 < length run.now → is_text_byte (slice_index run.now 0) ≡ false }
         requires whole { IfSome whole (λ it. IsWhole table.now kind run.now it.0 it.1) }
         requires clean { list_all is_clean (chars run.now) ≡ true }
@@ -87,7 +69,7 @@ impl Spread {
         let mut count = 0;
         let mut whole = whole;
         while let Some((found, size)) = whole {
-            if !are_some(found.characters.as_slice()) {
+            if !are_some(found.characters) {
                 break;
             }
             let (more, next) = self.add(
@@ -107,15 +89,15 @@ impl Spread {
     /// Adds the whole reference at the front of a run, and the text after it. Returns the length of both, and the whole reference that comes next,
     /// if the run shows one.
     #[inline(always)]
-    fn add<'t>(
+    fn add(
         &mut self,
-        table: &'t Table,
+        table: &Table,
         kind: RawKind,
         found: &Reference,
         size: usize,
         run: &str,
         at: u64,
-    ) -> Result<(usize, Option<(Reference<'t>, usize)>), Refusal>
+    ) -> Result<(usize, Option<(Reference, usize)>), Refusal>
         requires whole { IsWhole table.now kind run.now found.now size }
         requires some { list_all is_not_null (characters_of found.now.characters) ≡ true }
         requires clean { list_all is_clean (chars run.now) ≡ true }
@@ -125,7 +107,7 @@ impl Spread {
         ensures whole { IfOk result (λ it. IfSome it.1 (λ next. IsWhole table.now kind (drop it.0 run.now) next.0 next.1)) }
     {
         tell_known(found, at, &mut self.raised)?;
-        push_all(&mut self.text, found.characters.as_slice())?;
+        found.characters.push_to(&mut self.text)?;
         let own = 1 + size - found.left;
         let rest = &run[own..];
         let (more, next) = text_before(table, kind, rest, at + own as u64, &mut self.raised)?;

@@ -1,14 +1,10 @@
 //! Tags (HTML Standard, 13.2.5.8 and 13.2.5.32 to 13.2.5.40).
 
 ghost use Rattle.std.specs.Prelude.{◌≡◌, ◌∷◌, ℕ, List, [], slice_get, Some, OnOk};
-ghost use Rattle.names.specs.declared.placed.Placed.{Placed as Character};
-ghost use Rattle.names.specs.declared.raw.RawKind.{RawKind as Kind};
-ghost use Rattle.names.specs.Names.{Texts, Grows};
-ghost use Rattle.charref.specs.Reference.{Entities};
-ghost use Rattle.htoken.specs.Token.{Event, End, TokenMeans, gives_item};
-ghost use Rattle.htoken.specs.Tokenizing.{Reads, Takes};
+ghost use Rattle.htoken.specs.Vocabulary.{Character, Kind, Texts, Grows, Entities, Event, TokenMeans, gives_item, Reads, Takes, GivesSpan};
+ghost use Rattle.htoken.specs.Token.{End};
 ghost use Rattle.htoken.specs.SmallSteps.{KeepsIf};
-ghost use Rattle.htoken.specs.Steps.{KeepsFaults, BeginsTag, GivesSpan, EndsStartTag, EndsTag};
+ghost use Rattle.htoken.specs.Steps.{KeepsFaults, BeginsTag, EndsStartTag, EndsTag};
 
 use crate::script::Script;
 use crate::sink::TokenSink;

@@ -1,16 +1,9 @@
 //! Text: data, RCDATA, RAWTEXT, script data and PLAINTEXT (HTML Standard, 13.2.5.1 to 13.2.5.5).
 
 ghost use Rattle.std.specs.Prelude.{◌≡◌, ◌∷◌, ℕ, List, [], true, ◌&&◌, is_some};
-ghost use Rattle.names.specs.declared.placed.Placed.{Placed as Character};
-ghost use Rattle.names.specs.declared.raw.RawKind.{RawKind as Kind};
-ghost use Rattle.names.specs.Names.{Texts};
-ghost use Rattle.charref.specs.Reference.{Entities};
-ghost use Rattle.htoken.specs.Script.{HasFront, level_number};
-ghost use Rattle.htoken.specs.Handing.{HandsEvents};
-ghost use Rattle.htoken.specs.Token.{Char, Event, Gives, gives_item};
-ghost use Rattle.htoken.specs.Raw.{is_raw, is_script, ends_by};
+ghost use Rattle.htoken.specs.Vocabulary.{Character, Kind, Texts, Entities, HasFront, level_number, HandsEvents, Char, Event, Gives, gives_item, is_script, Reads, Takes};
+ghost use Rattle.htoken.specs.Raw.{is_raw, ends_by};
 ghost use Rattle.htoken.specs.Spans.{has_references};
-ghost use Rattle.htoken.specs.Tokenizing.{Reads, Takes};
 
 use crate::hand::{give, give_faulty};
 use crate::sink::TokenSink;

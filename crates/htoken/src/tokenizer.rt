@@ -1,17 +1,11 @@
 //! Characters in, tokens out: a tokenizer, and which state takes a character (HTML Standard, 13.2.5).
 
 ghost use Rattle.std.specs.Prelude.{◌≡◌, ◌∷◌, List, [], Some, Err, IfErr, MatchBool};
-ghost use Rattle.names.specs.declared.placed.Placed.{Placed as Character};
-ghost use Rattle.names.specs.declared.raw.RawKind.{RawKind as Kind};
-ghost use Rattle.names.specs.declared.refusal.Refusal.{Refusal as Refused};
-ghost use Rattle.names.specs.Names.{Texts, Grows};
-ghost use Rattle.names.specs.Sink.{Hands};
-ghost use Rattle.charref.specs.Reference.{Entities, IsTable};
-ghost use Rattle.htoken.specs.Token.{Event, gives_item};
+ghost use Rattle.htoken.specs.Vocabulary.{Character, Kind, Refused, Texts, Grows, Hands, Entities, Event, gives_item, start_kind, HasTaken, Takes, Finishes};
+ghost use Rattle.charref.specs.Reference.{IsTable};
 ghost use Rattle.htoken.specs.Giving.{items_of};
 ghost use Rattle.htoken.specs.HeldFrom.{HoldsFrom, from_of};
-ghost use Rattle.htoken.specs.Standing.{start_kind};
-ghost use Rattle.htoken.specs.Tokenizing.{after_place, HasTaken, Takes, Finishes};
+ghost use Rattle.htoken.specs.Tokenizing.{after_place};
 ghost use Rattle.htoken.specs.Steps.{EndsSpan};
 
 use crate::hand::hand_errors;
@@ -125,7 +119,7 @@ impl<'t> Tokenizer<'t> {
     {
         match self.state {
             State::Text => self.next,
-            State::Run(_) => self.next,
+            State::AmbiguousAmpersand(_) => self.next,
             State::Less => self.at,
             State::LessSolidus(_) => self.at,
             State::Declaration(_, _) => self.at,
@@ -226,7 +220,7 @@ impl<'t> Tokenizer<'t> {
             State::Comment => self.in_comment(ch, at, sink),
             State::Doctype => self.in_doctype(ch, at, sink),
             State::Reference => self.in_reference(ch, at, sink),
-            State::Run(amp) => self.in_run(amp, ch, at, sink),
+            State::AmbiguousAmpersand(amp) => self.in_ambiguous_ampersand(amp, ch, at, sink),
             State::Tag => self.in_tag(names, ch, at, sink),
             State::RawLess => self.after_raw_less(ch, at, sink),
             State::RawName(solidus) => self.in_raw_name(solidus, names, ch, at, sink),

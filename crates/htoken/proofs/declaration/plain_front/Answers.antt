@@ -1,4 +1,4 @@
-use Rattle.std.proofs.Common.{◌≡◌, true, false, true≢false, refl, sym}
+use Rattle.htoken.proofs.Names.{◌≡◌, true, false, true≢false, refl, sym}
 use Rattle.htoken.proofs.Declaring.{plain_at, plain_take}
 use Rattle.htoken.proofs.declaration.plain_front.Goals as goal
 use Rattle.htoken.proofs.declaration.plain_front.Goals.{then-p-eq62-via-then-p-eq62, then-p-eq62-via-else-p-eq62+then-p-eq0}

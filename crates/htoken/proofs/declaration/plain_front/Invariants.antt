@@ -1,6 +1,4 @@
-use Rattle.std.proofs.Common.{◌≡◌, true, take}
-use Rattle.names.specs.Placed.{all}
-use Rattle.hmarkup.specs.Comment.{is_plain_in_bogus}
+use Rattle.htoken.proofs.Names.{◌≡◌, true, take, all, is_plain_in_bogus}
 use Rattle.htoken.proofs.declaration.plain_front.Given as goal
 
 abbrev pub invariant-loop-index : goal.invariant-loop-index

@@ -1,7 +1,4 @@
-use Rattle.std.proofs.Common.{ℕ, Option, sym, ap, arith}
-use Rattle.std.specs.Prelude.{◌+◌, is_some, slice_get}
-use Rattle.std.proofs.lemmas.Grind.{common_steps}
-use Rattle.htoken.specs.Declaration.{front_at}
+use Rattle.htoken.proofs.Names.{ℕ, Option, sym, ap, arith, ◌+◌, is_some, slice_get, common_steps, front_at}
 use Rattle.htoken.proofs.Items.{at_item, past_items, some_item}
 use Rattle.htoken.proofs.declaration.spell.Goals as goal
 

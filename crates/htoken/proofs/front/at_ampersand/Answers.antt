@@ -1,13 +1,4 @@
-use Rattle.std.proofs.Common.{◌≡◌, true, false, ℕ, ◌+◌, ◌<◌, ◌≤◌, List, length, take, drop, sym, ap, ◌∙◌, subst, arith, rules}
-use Rattle.std.specs.Prelude.{slice_index}
-use Rattle.std.specs.Char.{is_ascii}
-use Rattle.std.specs.List.{list_all, prefix_len}
-use Rattle.std.proofs.lemmas.List.{get_or-drop}
-use Rattle.std.proofs.lemmas.List.Sums.{prefix_len-le-length}
-use Rattle.names.specs.Placed.{is_alphanumeric, placed}
-use Rattle.charref.specs.Pieces.{IsRead}
-use Rattle.htoken.specs.Front.{IsBare}
-use Rattle.htoken.specs.Spans.{has_references}
+use Rattle.htoken.proofs.Names.{◌≡◌, true, false, ℕ, ◌+◌, ◌<◌, ◌≤◌, List, length, take, drop, sym, ap, ◌∙◌, subst, arith, rules, slice_index, is_ascii, list_all, prefix_len, get_or-drop, prefix_len-le-length, is_alphanumeric, placed, IsRead, IsBare, has_references}
 use Rattle.htoken.proofs.Bare.{alone_bare, letters_bare, opens, rest_long, rest_of, whole_is}
 use Rattle.htoken.proofs.front.at_ampersand.Goals as goal
 

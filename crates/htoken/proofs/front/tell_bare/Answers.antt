@@ -1,9 +1,4 @@
-use Rattle.std.proofs.Common.{eqb, List, ℕ, sym, ap, ◌∙◌, subst, arith}
-use Rattle.std.specs.Prelude.{slice_index}
-use Rattle.names.specs.declared.error.ErrorCode.TheVariants.{UnknownNamedCharacterReference}
-use Rattle.names.specs.declared.error.ParseError.{ParseError}
-use Rattle.names.specs.Placed.{error_if}
-use Rattle.names.specs.Sink.{Hands}
+use Rattle.htoken.proofs.Names.{eqb, List, ℕ, sym, ap, ◌∙◌, subst, arith, slice_index, UnknownNamedCharacterReference, ParseError, error_if, Hands}
 use Rattle.htoken.proofs.Bare.{after_bare, bare_error}
 use Rattle.htoken.proofs.front.tell_bare.Goals as goal
 

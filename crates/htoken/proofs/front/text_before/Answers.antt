@@ -1,18 +1,4 @@
-use Rattle.std.proofs.Common.{◌≡◌, ◌<◌, ℕ, ◌+◌, List, [], ◌++◌, length, take, drop, sym, refl, ap, ◌∙◌, subst, arith, append-nil}
-use Rattle.std.proofs.lemmas.List.{get_or-drop}
-use Rattle.std.proofs.lemmas.List.Sums.{prefix_len-le-length, prefix_len_stops}
-use Rattle.std.proofs.lemmas.Result.{err_from_is_err_and}
-use Rattle.std.proofs.lemmas.Str.{IsCharBoundary-from_drop}
-use Rattle.std.specs.Prelude.{slice_index}
-use Rattle.std.specs.List.{prefix_len}
-use Rattle.std.specs.Str.{chars, IsUtf8}
-use Rattle.names.specs.declared.error.ParseError.{ParseError}
-use Rattle.names.specs.Placed.{placed}
-use Rattle.names.proofs.Handing.{Hands-append}
-use Rattle.htext.specs.Run.{is_text_byte}
-use Rattle.htext.proofs.Clean.{clean_rest}
-use Rattle.htext.proofs.Wide.{cut_more}
-use Rattle.htoken.specs.Front.{bare_errors, IsBare, IsFront}
+use Rattle.htoken.proofs.Names.{◌≡◌, ◌<◌, ℕ, ◌+◌, List, [], ◌++◌, length, take, drop, sym, refl, ap, ◌∙◌, subst, arith, append-nil, get_or-drop, prefix_len-le-length, prefix_len_stops, err_from_is_err_and, IsCharBoundary-from_drop, slice_index, prefix_len, chars, IsUtf8, ParseError, placed, Hands-append, is_text_byte, clean_rest, cut_more, bare_errors, IsBare, IsFront}
 use Rattle.htoken.proofs.InText.{bare_cut_of, bare_within, front_bare, front_on, front_text, length_left}
 use Rattle.htoken.proofs.front.text_before.Goals as goal
 

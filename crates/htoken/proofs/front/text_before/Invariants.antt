@@ -1,7 +1,4 @@
-use Rattle.std.proofs.Common.{◌≡◌, ◌<◌, ◌-◌, length, false}
-use Rattle.std.specs.Prelude.{slice_index}
-use Rattle.htext.specs.Run.{is_text_byte}
-use Rattle.htoken.specs.Front.{TellsText}
+use Rattle.htoken.proofs.Names.{◌≡◌, ◌<◌, ◌-◌, length, false, slice_index, is_text_byte, TellsText}
 use Rattle.htoken.proofs.front.text_before.Given as goal
 
 -- This many bytes are text, whose errors have been handed over.

@@ -1,6 +1,4 @@
-use Rattle.std.proofs.Common.{ap, refl}
-use Rattle.std.proofs.lemmas.Result.{err_from_is_err_and}
-use Rattle.htoken.specs.Run.{run_tokens}
+use Rattle.htoken.proofs.Names.{ap, refl, err_from_is_err_and, run_tokens}
 use Rattle.htoken.proofs.Running.{item_next, item_refused, item_taken}
 use Rattle.htoken.proofs.hand.give_all.Goals as goal
 

@@ -1,10 +1,4 @@
-use Rattle.std.proofs.Common.{ℕ, List, map, subst}
-use Rattle.std.proofs.lemmas.Result.{err_from_is_err_and}
-use Rattle.names.specs.Sink.{Hands}
-use Rattle.charref.specs.Pieces.{characters_of}
-use Rattle.htoken.specs.declared.token.Token.TheVariants as code
-use Rattle.htoken.specs.Giving.{known_errors}
-use Rattle.htoken.specs.Token.{gives_item, Reports}
+use Rattle.htoken.proofs.Names.{map, err_from_is_err_and, characters_of, known_errors, gives_item, Reports}
 use Rattle.htoken.proofs.Handing.{HandsEvents-append, reports_given}
 use Rattle.htoken.proofs.Running.{place_given, tokens_left}
 use Rattle.htoken.proofs.hand.give_piece.Goals as goal
@@ -19,4 +13,4 @@ returns-in_err-tell_known g c =
 pub returns : goal.returns
 returns g c = λ names.
     HandsEvents-append (gives_item g.S.ErrorSink.gives g.S.TokenSink.gives_token) names _ _ _ _ _ _ (reports_given g.S.ErrorSink.gives g.S.TokenSink.gives_token names (known_errors c.args.found.now c.args.at) _ _ _ c.in_ok-tell_known.ensures)
-    (place_given g.S.ErrorSink.gives g.S.TokenSink.gives_token names _ _ (characters_of c.args.found.now.characters) c.args.at _ (subst (λ (x : List ℕ). Hands g.S.TokenSink.gives_token c.tell_known.new.sink (map (λ y. code.Char y c.args.at) x) c.give_each.result c.give_each.new.sink) c.as_slice.ensures c.give_each.ensures))
+    (place_given g.S.ErrorSink.gives g.S.TokenSink.gives_token names _ _ (characters_of c.args.found.now.characters) c.args.at _ c.give_each.ensures)

@@ -1,5 +1,4 @@
-use Rattle.std.proofs.Common.{refl}
-use Rattle.std.proofs.lemmas.Result.{err_from_is_err_and}
+use Rattle.htoken.proofs.Names.{refl, err_from_is_err_and}
 use Rattle.htoken.proofs.Running.{item_next, item_refused, item_taken}
 use Rattle.htoken.proofs.hand.hand_errors.Goals as goal
 

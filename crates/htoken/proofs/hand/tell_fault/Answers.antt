@@ -1,8 +1,4 @@
-use Rattle.std.proofs.Common.{sym, subst, map}
-use Rattle.std.specs.Prelude.{option_to_list}
-use Rattle.names.specs.Placed.{error}
-use Rattle.names.specs.Sink.{Hands}
-use Rattle.hmarkup.proofs.Handing.{hand_one}
+use Rattle.htoken.proofs.Names.{sym, subst, map, option_to_list, error, Hands, hand_one}
 use Rattle.htoken.proofs.hand.tell_fault.Goals as goal
 
 pub returns-in-Some : goal.returns-in-Some

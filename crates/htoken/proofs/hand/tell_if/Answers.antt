@@ -1,7 +1,4 @@
-use Rattle.std.proofs.Common.{sym, subst}
-use Rattle.names.specs.Placed.{error, error_if}
-use Rattle.names.specs.Sink.{Hands}
-use Rattle.hmarkup.proofs.Handing.{hand_one}
+use Rattle.htoken.proofs.Names.{sym, subst, error, error_if, Hands, hand_one}
 use Rattle.htoken.proofs.hand.tell_if.Goals as goal
 
 pub returns-then-says : goal.returns-then-says

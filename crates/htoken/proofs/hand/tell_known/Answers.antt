@@ -1,8 +1,4 @@
-use Rattle.std.proofs.Common.{map}
-use Rattle.std.specs.Prelude.{option_to_list}
-use Rattle.std.proofs.lemmas.Result.{err_from_is_err_and}
-use Rattle.names.specs.Placed.{error}
-use Rattle.names.proofs.Handing.{Hands-append}
+use Rattle.htoken.proofs.Names.{map, option_to_list, err_from_is_err_and, error, Hands-append}
 use Rattle.htoken.proofs.Handing.{Hands-more}
 use Rattle.htoken.proofs.hand.tell_known.Goals as goal
 

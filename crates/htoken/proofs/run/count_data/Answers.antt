@@ -1,5 +1,4 @@
-use Rattle.std.proofs.Common.{arith}
-use Rattle.std.proofs.lemmas.Grind.{common_steps}
+use Rattle.htoken.proofs.Names.{arith, common_steps}
 use Rattle.htoken.proofs.run.count_data.Goals as goal
 
 pub loop-index-preserved : goal.loop-index-preserved

@@ -1,6 +1,4 @@
-use Rattle.std.proofs.Common.{◌≡◌, ◌+◌, drop}
-use Rattle.std.specs.List.{prefix_len}
-use Rattle.hmarkup.specs.Comment.{is_only_data}
+use Rattle.htoken.proofs.Names.{◌≡◌, ◌+◌, drop, prefix_len, is_only_data}
 use Rattle.htoken.proofs.run.count_data.Given as goal
 
 abbrev pub invariant-loop-index : goal.invariant-loop-index

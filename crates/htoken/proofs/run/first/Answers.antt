@@ -1,6 +1,4 @@
-use Rattle.std.proofs.Common.{◌≡◌, ℕ, List, [], ◌∷◌, ◌∙◌, sym, ap, Some}
-use Rattle.std.specs.Prelude.{slice_get}
-use Rattle.std.specs.Str.{chars}
+use Rattle.htoken.proofs.Names.{◌≡◌, ℕ, List, [], ◌∷◌, ◌∙◌, sym, ap, Some, slice_get, chars}
 use Rattle.htoken.proofs.run.first.Goals as goal
 
 begins_with : (cs : List ℕ) (c : ℕ) → slice_get cs 0 ≡ Some c → (rest : List ℕ) × (cs ≡ c ∷ rest)

@@ -1,4 +1,4 @@
-use Rattle.std.proofs.Common.{◌∙◌, sym, arith}
+use Rattle.htoken.proofs.Names.{◌∙◌, sym, arith}
 use Rattle.htext.proofs.Wide.{cut_last}
 use Rattle.htoken.proofs.run.last_start.Goals as goal
 

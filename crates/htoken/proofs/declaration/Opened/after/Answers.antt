@@ -1,9 +1,6 @@
-use Rattle.std.proofs.Common.{◌≡◌, true, false, eqb, ap, ◌∙◌, subst, arith}
-use Rattle.std.proofs.lemmas.Bool.Decides.{nat_tests}
-use Rattle.std.specs.Prelude.{codes}
-use Rattle.std.specs.Char.{to_ascii_lowercase}
+use Rattle.htoken.proofs.Names.{◌≡◌, true, false, eqb, ap, ◌∙◌, subst, arith, nat_tests, codes, to_ascii_lowercase, IsOpened}
 use Rattle.htoken.specs.declared.declaration.Spelled.TheVariants as spelled
-use Rattle.htoken.specs.Declaration.{IsOpened, front_of}
+use Rattle.htoken.specs.Declaration.{front_of}
 use Rattle.htoken.proofs.Declaring.{first_doctype, first_bracket, dash_alone, doctype_after, cdata_after}
 use Rattle.htoken.proofs.declaration.Opened.after.Goals as goal
 

@@ -1,9 +1,5 @@
-use Rattle.std.proofs.Common.{subst, sym, ap, List, ℕ, ◌∙◌, refl}
+use Rattle.htoken.proofs.Names.{subst, sym, ap, List, ℕ, ◌∙◌, refl, IsUtf8-past_char, chars-nil, chars, placed, FollowsAll}
 use Rattle.std.proofs.lemmas.List.{nil_from_length}
-use Rattle.std.proofs.lemmas.Str.{IsUtf8-past_char, chars-nil}
-use Rattle.std.specs.Str.{chars}
-use Rattle.names.specs.Placed.{placed}
-use Rattle.htoken.specs.Script.{FollowsAll}
 use Rattle.htoken.proofs.Scripting.{follow_char}
 use Rattle.htoken.proofs.script.Script.after_text.Goals as goal
 

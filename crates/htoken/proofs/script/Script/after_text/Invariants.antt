@@ -1,8 +1,4 @@
-use Rattle.std.proofs.Common.{ℕ}
-use Rattle.std.specs.Str.{chars, IsUtf8}
-use Rattle.names.specs.Placed.{placed}
-use Rattle.htoken.specs.declared.script.Script.{Script}
-use Rattle.htoken.specs.Script.{FollowsAll}
+use Rattle.htoken.proofs.Names.{ℕ, chars, IsUtf8, placed, Script, FollowsAll}
 use Rattle.htoken.proofs.script.Script.after_text.Given as goal
 
 abbrev pub invariant-loop-ch : goal.invariant-loop-ch

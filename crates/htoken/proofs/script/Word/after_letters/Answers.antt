@@ -1,7 +1,6 @@
-use Rattle.std.proofs.Common.{ℕ, Bool, Option, sym, ap, ◌∙◌}
-use Rattle.std.specs.Prelude.{◌+◌, if◌then◌else◌}
+use Rattle.htoken.proofs.Names.{ℕ, Bool, Option, sym, ap, ◌∙◌, ◌+◌, is_letter_of}
+use Rattle.std.specs.Prelude.{if◌then◌else◌}
 use Rattle.htoken.specs.declared.script.Word.TheVariants as word
-use Rattle.htoken.specs.Script.{is_letter_of}
 use Rattle.htoken.proofs.Items.{at_item, past_items}
 use Rattle.htoken.proofs.script.Word.after_letters.Goals as goal
 

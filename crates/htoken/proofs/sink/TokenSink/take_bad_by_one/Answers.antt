@@ -1,5 +1,4 @@
-use Rattle.std.proofs.Common.{arith}
-use Rattle.std.proofs.lemmas.Result.{err_from_is_err_and}
+use Rattle.htoken.proofs.Names.{arith, err_from_is_err_and}
 use Rattle.htoken.proofs.Running.{bad_goes_on, bad_refused}
 use Rattle.htoken.proofs.sink.TokenSink.take_bad_by_one.Goals as goal
 

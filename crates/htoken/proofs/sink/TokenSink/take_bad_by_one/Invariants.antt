@@ -1,6 +1,4 @@
-use Rattle.std.proofs.Common.{◌+◌, ◌-◌, ◌≤◌}
-use Rattle.names.specs.Sink.{Continues}
-use Rattle.htoken.specs.Run.{run_tokens, replaced}
+use Rattle.htoken.proofs.Names.{◌+◌, ◌-◌, ◌≤◌, Continues, run_tokens, replaced}
 use Rattle.htoken.proofs.sink.TokenSink.take_bad_by_one.Given as goal
 
 -- To take the rest of the characters is to take all of them.

@@ -1,12 +1,5 @@
-use Rattle.std.proofs.Common.{◌≡◌, true, ℕ, List, ◌++◌, sym, ap, ◌∙◌, subst, refl}
-use Rattle.std.specs.Prelude.{string_bytes, encode_utf8_all}
-use Rattle.std.specs.List.{list_all}
-use Rattle.std.specs.Str.{chars}
-use Rattle.std.proofs.lemmas.Result.{err_from_is_err_and}
-use Rattle.std.proofs.lemmas.Str.{IsCharBoundary-from_drop}
-use Rattle.htext.specs.Run.{is_clean}
-use Rattle.htext.proofs.Clean.{clean_rest}
-use Rattle.htext.proofs.Runs.{front_of}
+use Rattle.htoken.proofs.Names.{◌≡◌, true, ℕ, List, ◌++◌, sym, ap, ◌∙◌, subst, refl, encode_utf8_all, list_all, chars, err_from_is_err_and, IsCharBoundary-from_drop, is_clean, clean_rest, front_of}
+use Rattle.std.specs.Prelude.{string_bytes}
 use Rattle.htoken.proofs.InMarkup.{refused}
 use Rattle.htoken.proofs.Spreading.{adds_is, own_front}
 use Rattle.htoken.proofs.spread.Spread.add.Goals as goal
@@ -28,6 +21,6 @@ returns-in_err-more-clause-adds c =
 
 pub returns-clause-adds : goal.returns-clause-adds
 returns-clause-adds c =
-    adds_is c.args.table.now c.args.kind c.args.run.now c.args.at c.utf8.run c.args.found.now c.args.size c.requires.whole _ refl c.requires.clean c.requires.some c.args.self.now _ c.tell_known.new.sink (string_bytes c.push_all.new.text)
-    c.range_from-rest.result.now c.in_ok-more.more c.range_from-rest.ensures.value c.in_ok-tell_known.ensures (c.in_ok-push_str.ensures.bytes ∙ ap (λ (x : List ℕ). string_bytes c.push_all.new.text ++ x) (c.range.ensures.value ∙ front_of c.in_ok-more.more c.range_from-rest.result.now))
-    (c.in_ok-push_all.ensures ∙ ap (λ (x : List ℕ). string_bytes c.args.self.now.text ++ encode_utf8_all x) c.as_slice.ensures) c.in_ok-more.ensures.front
+    adds_is c.args.table.now c.args.kind c.args.run.now c.args.at c.utf8.run c.args.found.now c.args.size c.requires.whole _ refl c.requires.clean c.requires.some c.args.self.now _ c.tell_known.new.sink (string_bytes c.push_to.new.text)
+    c.range_from-rest.result.now c.in_ok-more.more c.range_from-rest.ensures.value c.in_ok-tell_known.ensures (c.in_ok-push_str.ensures.bytes ∙ ap (λ (x : List ℕ). string_bytes c.push_to.new.text ++ x) (c.range.ensures.value ∙ front_of c.in_ok-more.more c.range_from-rest.result.now))
+    c.in_ok-push_to.ensures c.in_ok-more.ensures.front

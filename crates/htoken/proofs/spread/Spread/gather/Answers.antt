@@ -1,11 +1,4 @@
-use Rattle.std.proofs.Common.{◌≡◌, ◌<◌, ◌+◌, true, false, ℕ, List, IfSome, length, drop, sym, ap, ◌∙◌, subst, arith}
-use Rattle.std.specs.Prelude.{slice_index}
-use Rattle.std.specs.List.{list_all}
-use Rattle.std.specs.Str.{chars}
-use Rattle.std.proofs.lemmas.List.{get_or-drop}
-use Rattle.htext.specs.Run.{is_clean, is_text_byte}
-use Rattle.htext.proofs.Clean.{clean_rest}
-use Rattle.htoken.specs.Front.{Adds, IsWhole}
+use Rattle.htoken.proofs.Names.{◌≡◌, ◌<◌, ◌+◌, true, false, ℕ, List, IfSome, length, drop, sym, ap, ◌∙◌, subst, arith, slice_index, list_all, chars, get_or-drop, is_clean, is_text_byte, clean_rest, Adds, IsWhole}
 use Rattle.htoken.proofs.InText.{drop_on, length_left}
 use Rattle.htoken.proofs.Spreading.{gathered_more, gathered_none}
 use Rattle.htoken.proofs.spread.Spread.gather.Goals as goal

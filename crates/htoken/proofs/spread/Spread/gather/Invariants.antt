@@ -1,7 +1,4 @@
-use Rattle.std.proofs.Common.{◌≡◌, ◌<◌, ◌-◌, length, drop, false, IfSome}
-use Rattle.std.specs.Prelude.{slice_index}
-use Rattle.htext.specs.Run.{is_text_byte}
-use Rattle.htoken.specs.Front.{IsGathered, IsWhole}
+use Rattle.htoken.proofs.Names.{◌≡◌, ◌<◌, ◌-◌, length, drop, false, IfSome, slice_index, is_text_byte, IsGathered, IsWhole}
 use Rattle.htoken.proofs.spread.Spread.gather.Given as goal
 
 abbrev pub invariant-loop-whole : goal.invariant-loop-whole

@@ -1,9 +1,5 @@
-use Rattle.std.proofs.Common.{Bool, ℕ, List, sym, subst, Ok, Err}
-use Rattle.std.proofs.lemmas.Result.{err_from_is_err_and}
-use Rattle.names.specs.declared.error.ParseError.{ParseError}
-use Rattle.names.specs.Sink.{Hands}
-use Rattle.htoken.specs.Run.{run_events, IsSpread, TakesSpread}
-use Rattle.htoken.specs.Token.{gives_item}
+use Rattle.htoken.proofs.Names.{Bool, ℕ, List, sym, subst, Ok, Err, err_from_is_err_and, ParseError, Hands, run_events, IsSpread, gives_item}
+use Rattle.htoken.specs.Run.{TakesSpread}
 use Rattle.htoken.proofs.Handing.{HandsEvents-append, reports_given}
 use Rattle.htoken.proofs.Running.{errors_left, run_given}
 use Rattle.htoken.proofs.spread.Spread.give.Goals as goal

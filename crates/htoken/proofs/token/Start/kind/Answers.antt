@@ -1,4 +1,4 @@
-use Rattle.std.proofs.Common.{rules}
+use Rattle.htoken.proofs.Names.{rules}
 use Rattle.htoken.proofs.token.Start.kind.Goals as goal
 
 pub returns-in-Context : goal.returns-in-Context

@@ -1,5 +1,4 @@
-use Rattle.std.proofs.lemmas.Result.{err_from_is_err_and}
-use Rattle.htoken.specs.Token.{gives_item}
+use Rattle.htoken.proofs.Names.{err_from_is_err_and, gives_item}
 use Rattle.htoken.proofs.Going.{takes_after}
 use Rattle.htoken.proofs.InRaw.{name_given, name_refused}
 use Rattle.htoken.proofs.tokenizer.Tokenizer.after_held.Goals as goal

@@ -1,7 +1,4 @@
-use Rattle.std.proofs.Common.{◌+◌, arith, refl, sym, subst}
-use Rattle.htoken.specs.Raw.{is_script}
-use Rattle.htoken.specs.Run.{replaced}
-use Rattle.htoken.specs.Token.{gives_item}
+use Rattle.htoken.proofs.Names.{◌+◌, arith, refl, sym, subst, is_script, replaced, gives_item}
 use Rattle.htoken.proofs.Fronts.{refused_any}
 use Rattle.htoken.proofs.InRun.{ready_text, next_replaced, replaced_itself, text_taken}
 use Rattle.htoken.proofs.Running.{run_given}

@@ -1,10 +1,4 @@
-use Rattle.std.proofs.Common.{◌+◌, ◌-◌, ◌≡◌, ℕ, List, arith, ◌∙◌, sym, subst, ap, Ok, Err}
-use Rattle.std.proofs.lemmas.Result.{err_from_is_err_and}
-use Rattle.names.specs.declared.placed.Placed.{Placed}
-use Rattle.names.proofs.Handing.{grows_not, grows_on}
-use Rattle.htoken.specs.Run.{replaced}
-use Rattle.htoken.specs.Token.{gives_item}
-use Rattle.htoken.specs.Tokenizing.{Takes}
+use Rattle.htoken.proofs.Names.{◌+◌, ◌-◌, ◌≡◌, ℕ, List, arith, ◌∙◌, sym, subst, ap, Ok, Err, err_from_is_err_and, Placed, grows_not, grows_on, replaced, gives_item, Takes}
 use Rattle.htoken.proofs.Fronts.{takes_nothing, part_taken, refused_longer}
 use Rattle.htoken.proofs.InRun.{replaced_more}
 use Rattle.htoken.proofs.Taking.{taken_kept}

@@ -1,11 +1,4 @@
-use Rattle.std.proofs.Common.{◌-◌, ◌≤◌, List, Ok}
-use Rattle.names.specs.declared.placed.Placed.{Placed}
-use Rattle.names.specs.declared.raw.RawKind.{RawKind}
-use Rattle.names.specs.Names.{Texts, Grows}
-use Rattle.charref.specs.Reference.{Entities}
-use Rattle.htoken.specs.Run.{replaced}
-use Rattle.htoken.specs.Token.{Event, gives_item}
-use Rattle.htoken.specs.Tokenizing.{HasTaken, Takes}
+use Rattle.htoken.proofs.Names.{◌-◌, ◌≤◌, List, Ok, Placed, RawKind, Texts, Grows, Entities, replaced, Event, gives_item, HasTaken, Takes}
 use Rattle.htoken.proofs.tokenizer.Tokenizer.bad_by_one.Given as goal
 
 -- This many of them have been taken.

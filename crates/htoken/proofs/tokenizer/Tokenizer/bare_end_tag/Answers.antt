@@ -1,7 +1,4 @@
-use Rattle.std.proofs.Common.{◌+◌, ◌∙◌, List, ℕ, Some, take, drop, sym, refl, ap, subst, arith}
-use Rattle.std.proofs.lemmas.Result.{err_from_is_err_and}
-use Rattle.names.proofs.Handing.{grows_on}
-use Rattle.htoken.specs.Token.{gives_item}
+use Rattle.htoken.proofs.Names.{◌+◌, ◌∙◌, List, ℕ, Some, take, drop, sym, refl, ap, subst, arith, err_from_is_err_and, grows_on, gives_item}
 use Rattle.htoken.proofs.AtOnce.{end_cut, end_given, first_is, memory_out, range_after_first}
 use Rattle.htoken.proofs.Fronts.{cut_refused}
 use Rattle.htoken.proofs.Taking.{IsCalm, taken_now}

@@ -1,11 +1,4 @@
-use Rattle.std.proofs.Common.{◌+◌, ◌∙◌, List, ℕ, Some, [], take, sym, refl, ap, subst, arith}
-use Rattle.std.proofs.lemmas.Result.{err_from_is_err_and}
-use Rattle.names.specs.Sets.{raw_kind, refused_name}
-use Rattle.names.specs.Tags.{tag_named}
-use Rattle.names.proofs.Handing.{grows_on}
-use Rattle.htext.proofs.Runs.{front_of}
-use Rattle.htag.specs.Attributes.{AttrsMean}
-use Rattle.htoken.specs.Token.{gives_item}
+use Rattle.htoken.proofs.Names.{◌+◌, ◌∙◌, List, ℕ, Some, [], take, sym, refl, ap, subst, arith, err_from_is_err_and, raw_kind, refused_name, tag_named, grows_on, front_of, AttrsMean, gives_item}
 use Rattle.htoken.proofs.AtOnce.{memory_out, nothing_taken, start_cut, start_given}
 use Rattle.htoken.proofs.Fronts.{cut_refused}
 use Rattle.htoken.proofs.Taking.{IsCalm, taken_kept, taken_now}

@@ -1,5 +1,4 @@
-use Rattle.std.proofs.Common.{rules}
-use Rattle.htoken.specs.Token.{gives_item}
+use Rattle.htoken.proofs.Names.{rules, gives_item}
 use Rattle.htoken.proofs.Going.{ran_out}
 use Rattle.htoken.proofs.tokenizer.Tokenizer.begin_bogus_at.Goals as goal
 

@@ -1,4 +1,4 @@
-use Rattle.std.proofs.Common.{refl}
+use Rattle.htoken.proofs.Names.{refl}
 use Rattle.htoken.proofs.tokenizer.Tokenizer.begin_doctype.Goals as goal
 
 pub returns : goal.returns

@@ -1,11 +1,4 @@
-use Rattle.std.proofs.Common.{List, refl, ap, ◌∙◌, subst, Err, None}
-use Rattle.std.proofs.lemmas.Result.{err_from_is_err_and}
-use Rattle.names.specs.declared.error.ParseError.{ParseError}
-use Rattle.names.specs.declared.refusal.Refusal.{Refusal}
-use Rattle.names.specs.Sink.{Hands}
-use Rattle.htoken.specs.Giving.{items_of}
-use Rattle.htoken.specs.Token.{gives_item}
-use Rattle.htoken.specs.Steps.{cut_ran_out, cut_given}
+use Rattle.htoken.proofs.Names.{List, refl, ap, ◌∙◌, subst, Err, None, err_from_is_err_and, ParseError, Refusal, Hands, items_of, gives_item, cut_ran_out, cut_given}
 use Rattle.htoken.proofs.Handing.{no_token}
 use Rattle.htoken.proofs.tokenizer.Tokenizer.cut_off.Goals as goal
 

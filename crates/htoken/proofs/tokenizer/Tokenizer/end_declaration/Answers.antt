@@ -1,6 +1,4 @@
-use Rattle.std.proofs.Common.{refl, []}
-use Rattle.std.proofs.lemmas.Result.{err_from_is_err_and}
-use Rattle.hmarkup.specs.declared.comment.CommentKind.TheVariants.{Bogus}
+use Rattle.htoken.proofs.Names.{refl, [], err_from_is_err_and, Bogus}
 use Rattle.htoken.proofs.EndDeclared.{declared_plain, declared_stopped, declared_cut}
 use Rattle.htoken.proofs.tokenizer.Tokenizer.end_declaration.Goals as goal
 

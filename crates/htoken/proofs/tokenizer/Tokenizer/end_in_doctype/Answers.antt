@@ -1,8 +1,4 @@
-use Rattle.std.proofs.Common.{refl}
-use Rattle.std.proofs.lemmas.Result.{err_from_is_err_and}
-use Rattle.htoken.specs.Tokenizing.{doctype_token}
-use Rattle.hmarkup.specs.Doctype.{IsDoctype}
-use Rattle.hmarkup.specs.DoctypeWalk.{HasReadDoctype}
+use Rattle.htoken.proofs.Names.{refl, err_from_is_err_and, doctype_token, IsDoctype, HasReadDoctype}
 use Rattle.htoken.proofs.AtEnd.{doctype_end, doctype_end_here}
 use Rattle.htoken.proofs.InMarkup.{markup_end_stopped, markup_cut}
 use Rattle.htoken.proofs.tokenizer.Tokenizer.end_in_doctype.Goals as goal

@@ -1,7 +1,4 @@
-use Rattle.std.proofs.Common.{refl, subst}
-use Rattle.htoken.specs.Giving.{read_events}
-use Rattle.htoken.specs.Handing.{HandsEvents}
-use Rattle.htoken.specs.Token.{gives_item}
+use Rattle.htoken.proofs.Names.{refl, subst, read_events, HandsEvents, gives_item}
 use Rattle.htoken.proofs.InReference.{at_end, reference_cut}
 use Rattle.htoken.proofs.tokenizer.Tokenizer.end_in_reference.Goals as goal
 

@@ -1,8 +1,4 @@
-use Rattle.std.proofs.Common.{refl, subst, Ok, Err}
-use Rattle.std.proofs.lemmas.Result.{err_from_is_err_and}
-use Rattle.htoken.specs.Giving.{read_events}
-use Rattle.htoken.specs.Handing.{HandsEvents}
-use Rattle.htoken.specs.Token.{gives_item}
+use Rattle.htoken.proofs.Names.{refl, subst, Ok, Err, err_from_is_err_and, read_events, HandsEvents, gives_item}
 use Rattle.htoken.proofs.Going.{takes_after}
 use Rattle.htoken.proofs.InReference.{reference_ends, reference_refused, reference_ended}
 use Rattle.htoken.proofs.tokenizer.Tokenizer.end_known.Goals as goal

@@ -1,5 +1,4 @@
-use Rattle.std.proofs.Common.{Some}
-use Rattle.std.proofs.lemmas.Result.{err_from_is_err_and}
+use Rattle.htoken.proofs.Names.{Some, err_from_is_err_and}
 use Rattle.htoken.proofs.Handing.{error_refused, token_handed}
 use Rattle.htoken.proofs.tokenizer.Tokenizer.end_span.Goals as goal
 

@@ -1,8 +1,4 @@
-use Rattle.std.proofs.Common.{List, subst, sym}
-use Rattle.names.specs.declared.placed.Placed.{Placed}
-use Rattle.names.proofs.Handing.{grows_not}
-use Rattle.htoken.specs.Token.{gives_item}
-use Rattle.htoken.specs.Tokenizing.{Takes}
+use Rattle.htoken.proofs.Names.{List, subst, sym, Placed, grows_not, gives_item, Takes}
 use Rattle.htoken.proofs.Fronts.{first_of}
 use Rattle.htoken.proofs.Taking.{IsCalm, stands_ahead}
 use Rattle.htoken.proofs.tokenizer.Tokenizer.first_in_tag.Goals as goal

@@ -1,9 +1,5 @@
-use Rattle.std.proofs.Common.{List, ℕ, sym, subst, refl, Ok}
-use Rattle.names.specs.Placed.{placed}
-use Rattle.names.specs.Sink.{Hands}
+use Rattle.htoken.proofs.Names.{List, ℕ, sym, subst, refl, Ok, placed, Hands, run_tokens, FollowsAll}
 use Rattle.htext.proofs.Wide.{no_characters}
-use Rattle.htoken.specs.Run.{run_tokens}
-use Rattle.htoken.specs.Script.{FollowsAll}
 use Rattle.htoken.proofs.tokenizer.Tokenizer.give_front.Goals as goal
 
 pub returns-then-is_empty-clause-handed : goal.returns-then-is_empty-clause-handed

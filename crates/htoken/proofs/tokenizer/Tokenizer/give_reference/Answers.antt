@@ -1,8 +1,4 @@
-use Rattle.std.proofs.Common.{subst, drop, ◌∙◌, ap}
-use Rattle.std.proofs.lemmas.Result.{err_from_is_err_and}
-use Rattle.names.specs.Sink.{Hands}
-use Rattle.htoken.specs.Run.{run_tokens}
-use Rattle.htoken.specs.Token.{gives_item}
+use Rattle.htoken.proofs.Names.{subst, drop, ◌∙◌, ap, err_from_is_err_and, Hands, run_tokens, gives_item}
 use Rattle.htoken.proofs.Handing.{HandsEvents-append}
 use Rattle.htoken.proofs.Running.{run_given, first_refused}
 use Rattle.htoken.proofs.tokenizer.Tokenizer.give_reference.Goals as goal

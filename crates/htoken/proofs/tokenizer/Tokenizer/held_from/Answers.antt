@@ -1,13 +1,12 @@
-use Rattle.std.proofs.Common.{rules, ap, subst}
-use Rattle.htoken.specs.HeldFrom.{HoldsFrom, from_of}
+use Rattle.htoken.proofs.Names.{rules, ap, subst, HoldsFrom, from_of}
 use Rattle.htoken.proofs.Holding.{holds_from}
 use Rattle.htoken.proofs.tokenizer.Tokenizer.held_from.Goals as goal
 
 pub returns-in-Text-clause-holds : goal.returns-in-Text-clause-holds
 returns-in-Text-clause-holds c = λ table start names text taken h. subst (HoldsFrom table start text taken) (ap (λ s. from_of s c.args.self.now) c.in-Text.is) (holds_from table start c.args.self.now names text taken h)
 
-pub returns-in-Run-clause-holds : goal.returns-in-Run-clause-holds
-returns-in-Run-clause-holds c = λ table start names text taken h. subst (HoldsFrom table start text taken) (ap (λ s. from_of s c.args.self.now) c.in-Run.is) (holds_from table start c.args.self.now names text taken h)
+pub returns-in-AmbiguousAmpersand-clause-holds : goal.returns-in-AmbiguousAmpersand-clause-holds
+returns-in-AmbiguousAmpersand-clause-holds c = λ table start names text taken h. subst (HoldsFrom table start text taken) (ap (λ s. from_of s c.args.self.now) c.in-AmbiguousAmpersand.is) (holds_from table start c.args.self.now names text taken h)
 
 pub returns-in-Less-clause-holds : goal.returns-in-Less-clause-holds
 returns-in-Less-clause-holds c = λ table start names text taken h. subst (HoldsFrom table start text taken) (ap (λ s. from_of s c.args.self.now) c.in-Less.is) (holds_from table start c.args.self.now names text taken h)

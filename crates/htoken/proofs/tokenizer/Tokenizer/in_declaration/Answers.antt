@@ -1,11 +1,8 @@
-use Rattle.std.proofs.Common.{[], ◌∷◌, Ok, refl, rules, subst, sym}
-use Rattle.htoken.specs.Token.{gives_item}
+use Rattle.htoken.proofs.Names.{[], ◌∷◌, Ok, refl, rules, subst, sym, gives_item, Tokenizer, Takes}
 use Rattle.htoken.proofs.Declaring.{opened_plain}
 use Rattle.htoken.proofs.Going.{held_or_out, ran_out}
 use Rattle.htoken.proofs.InData.{opened_by, front_grows, comment_begins, doctype_begins, cdata_opened, declaration_follows}
 use Rattle.htoken.specs.declared.state.State.TheVariants as state
-use Rattle.htoken.specs.declared.tokenizer.Tokenizer.{Tokenizer}
-use Rattle.htoken.specs.Tokenizing.{Takes}
 use Rattle.htoken.proofs.tokenizer.Tokenizer.in_declaration.Goals as goal
 
 pub returns-in-Front : goal.returns-in-Front

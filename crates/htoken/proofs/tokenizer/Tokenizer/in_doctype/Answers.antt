@@ -1,11 +1,4 @@
-use Rattle.std.proofs.Common.{refl, sym, subst, [], ◌∷◌, ◌++◌}
-use Rattle.std.proofs.lemmas.Result.{err_from_is_err_and}
-use Rattle.htoken.specs.declared.state.State.{State}
-use Rattle.htoken.specs.Tokenizing.{IsHeld, IsIn}
-use Rattle.htoken.specs.Token.{gives_item}
-use Rattle.htoken.specs.Tokenizing.{doctype_token}
-use Rattle.hmarkup.specs.Doctype.{IsDoctype}
-use Rattle.hmarkup.specs.DoctypeWalk.{HasReadDoctype}
+use Rattle.htoken.proofs.Names.{refl, sym, subst, [], ◌∷◌, ◌++◌, err_from_is_err_and, State, IsHeld, IsIn, gives_item, doctype_token, IsDoctype, HasReadDoctype}
 use Rattle.htoken.proofs.InData.{doctype_in, doctype_here}
 use Rattle.htoken.proofs.InMarkup.{markup_stopped, markup_goes_on, markup_ends}
 use Rattle.htoken.proofs.tokenizer.Tokenizer.in_doctype.Goals as goal

@@ -1,6 +1,4 @@
-use Rattle.std.proofs.Common.{refl, rules, false, subst, sym, [], ◌∷◌}
-use Rattle.htoken.specs.Token.{gives_item}
-use Rattle.htoken.specs.Tokenizing.{Reads}
+use Rattle.htoken.proofs.Names.{refl, rules, false, subst, sym, [], ◌∷◌, gives_item, Reads}
 use Rattle.htoken.proofs.Going.{ran_out}
 use Rattle.htoken.proofs.InReference.{taken_by_walk, found_with, reference_goes_on}
 use Rattle.htoken.proofs.tokenizer.Tokenizer.in_reference.Goals as goal

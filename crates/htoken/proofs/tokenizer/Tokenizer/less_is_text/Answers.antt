@@ -1,6 +1,4 @@
-use Rattle.std.proofs.Common.{refl}
-use Rattle.std.proofs.lemmas.Result.{err_from_is_err_and}
-use Rattle.htoken.specs.Token.{gives_item}
+use Rattle.htoken.proofs.Names.{refl, err_from_is_err_and, gives_item}
 use Rattle.htoken.proofs.Going.{takes_after}
 use Rattle.htoken.proofs.InData.{other_follows, other_refused}
 use Rattle.htoken.proofs.tokenizer.Tokenizer.less_is_text.Goals as goal

@@ -1,7 +1,4 @@
-use Rattle.std.proofs.Common.{arith}
-use Rattle.std.proofs.lemmas.Result.{err_from_is_err_and}
-use Rattle.names.proofs.Handing.{grows_not}
-use Rattle.htoken.specs.Token.{gives_item}
+use Rattle.htoken.proofs.Names.{arith, err_from_is_err_and, grows_not, gives_item}
 use Rattle.htoken.proofs.AtOnce.{nothing_then}
 use Rattle.htoken.proofs.tokenizer.Tokenizer.part_after_less.Goals as goal
 

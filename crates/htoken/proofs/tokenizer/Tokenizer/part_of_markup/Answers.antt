@@ -1,9 +1,4 @@
-use Rattle.std.proofs.Common.{◌∙◌, ap, arith}
-use Rattle.std.proofs.lemmas.Str.{IsCharBoundary-from_drop}
-use Rattle.std.specs.List.{list_all}
-use Rattle.htext.specs.Run.{is_plain_byte}
-use Rattle.htext.proofs.Runs.{front_of}
-use Rattle.htoken.specs.Token.{gives_item}
+use Rattle.htoken.proofs.Names.{◌∙◌, ap, arith, IsCharBoundary-from_drop, list_all, is_plain_byte, front_of, gives_item}
 use Rattle.htoken.proofs.Fronts.{few_of, part_of}
 use Rattle.htoken.proofs.tokenizer.Tokenizer.part_of_markup.Goals as goal
 

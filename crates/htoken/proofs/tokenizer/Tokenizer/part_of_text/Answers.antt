@@ -1,16 +1,4 @@
-use Rattle.std.proofs.Common.{ℕ, List, [], refl, sym, ap, ◌∙◌, subst, Ok, Err}
-use Rattle.std.proofs.lemmas.Result.{err_from_is_err_and}
-use Rattle.std.proofs.lemmas.Str.{IsCharBoundary-from_drop}
-use Rattle.std.specs.List.{list_all}
-use Rattle.std.specs.Str.{chars}
-use Rattle.names.specs.Placed.{placed}
-use Rattle.htext.specs.Run.{is_clean}
-use Rattle.htext.proofs.Clean.{clean_rest}
-use Rattle.htext.proofs.Runs.{front_of}
-use Rattle.htoken.specs.Handing.{HandsEvents}
-use Rattle.htoken.specs.Run.{run_events}
-use Rattle.htoken.specs.Script.{FollowsAll}
-use Rattle.htoken.specs.Token.{gives_item}
+use Rattle.htoken.proofs.Names.{ℕ, List, [], refl, sym, ap, ◌∙◌, subst, Ok, Err, err_from_is_err_and, IsCharBoundary-from_drop, list_all, chars, placed, is_clean, clean_rest, front_of, HandsEvents, run_events, FollowsAll, gives_item}
 use Rattle.htoken.proofs.Handing.{reports_given}
 use Rattle.htoken.proofs.InText.{error_refused, text_given, text_refused}
 use Rattle.htoken.proofs.Running.{run_given}

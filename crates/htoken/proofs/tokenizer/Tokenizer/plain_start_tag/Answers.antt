@@ -1,7 +1,4 @@
-use Rattle.std.proofs.Common.{◌+◌, ◌<◌, sym, subst, arith}
-use Rattle.std.proofs.lemmas.Result.{err_from_is_err_and}
-use Rattle.names.proofs.Handing.{grows_on}
-use Rattle.htoken.specs.Token.{gives_item}
+use Rattle.htoken.proofs.Names.{◌+◌, ◌<◌, sym, subst, arith, err_from_is_err_and, grows_on, gives_item}
 use Rattle.htoken.proofs.AtOnce.{any_walk, memory_out, plain_ends, plain_goes_on}
 use Rattle.htoken.proofs.Fronts.{front_refused, takes_nothing}
 use Rattle.htoken.proofs.InRun.{next_front}

@@ -1,13 +1,4 @@
-use Rattle.std.proofs.Common.{ℕ, List, take, refl, sym, ap, ◌∙◌, subst, Ok, Err, arith}
-use Rattle.std.specs.List.{list_all}
-use Rattle.std.specs.Str.{chars, IsUtf8}
-use Rattle.std.proofs.lemmas.Result.{err_from_is_err_and}
-use Rattle.names.specs.Placed.{placed}
-use Rattle.hmarkup.specs.Comment.{is_only_data}
-use Rattle.hmarkup.specs.CommentWalk.{HasReadOf, IsSpan as IsCommentOf}
-use Rattle.hmarkup.specs.Walk.{TakesRun}
-use Rattle.htext.proofs.Runs.{front_of, plain_take, plain_chars}
-use Rattle.htoken.specs.Token.{gives_item}
+use Rattle.htoken.proofs.Names.{ℕ, List, take, refl, sym, ap, ◌∙◌, subst, Ok, Err, arith, list_all, chars, IsUtf8, err_from_is_err_and, placed, is_only_data, HasReadOf, IsCommentOf, TakesRun, front_of, plain_take, plain_chars, gives_item}
 use Rattle.htoken.proofs.InMarkup.{keeps}
 use Rattle.htag.proofs.InRun.{prefix_all}
 use Rattle.htoken.proofs.InRun.{next_front, comment_here, comment_stopped, comment_goes_on}

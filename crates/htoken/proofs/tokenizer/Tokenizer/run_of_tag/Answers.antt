@@ -1,9 +1,4 @@
-use Rattle.std.proofs.Common.{◌+◌, ◌++◌, [], refl, sym, subst, take, arith}
-use Rattle.std.proofs.lemmas.Result.{err_from_is_err_and}
-use Rattle.names.specs.Placed.{placed}
-use Rattle.names.proofs.Handing.{grows_not, grows_on}
-use Rattle.htoken.specs.Token.{gives_item}
-use Rattle.htoken.specs.Tokenizing.{next_place}
+use Rattle.htoken.proofs.Names.{◌+◌, ◌++◌, [], refl, sym, subst, take, arith, err_from_is_err_and, placed, grows_not, grows_on, gives_item, next_place}
 use Rattle.htoken.proofs.Fronts.{front_refused, one_taken, plain_boundary}
 use Rattle.htoken.proofs.InRun.{next_front, tag_read, tag_goes_on, tag_stopped}
 use Rattle.htoken.proofs.Taking.{IsCalm, taken_now}

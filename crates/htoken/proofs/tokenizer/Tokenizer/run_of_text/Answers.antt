@@ -1,16 +1,5 @@
-use Rattle.std.proofs.Common.{◌≡◌, List, ℕ, Ok, Err, true, length, sym, subst, arith}
-use Rattle.std.specs.Str.{chars}
-use Rattle.std.proofs.lemmas.List.{take_all}
-use Rattle.std.proofs.lemmas.Result.{err_from_is_err_and}
-use Rattle.names.specs.Placed.{placed}
-use Rattle.names.specs.Sink.{Hands}
-use Rattle.htext.proofs.Runs.{plain_chars}
+use Rattle.htoken.proofs.Names.{◌≡◌, List, ℕ, Ok, Err, true, length, sym, subst, arith, chars, take_all, err_from_is_err_and, placed, Hands, plain_chars, is_script, run_tokens, FollowsAll, gives_item, Takes}
 use Rattle.htext.proofs.Wide.{run_plain}
-use Rattle.htoken.specs.Raw.{is_script}
-use Rattle.htoken.specs.Run.{run_tokens}
-use Rattle.htoken.specs.Script.{FollowsAll}
-use Rattle.htoken.specs.Token.{gives_item}
-use Rattle.htoken.specs.Tokenizing.{Takes}
 use Rattle.htoken.proofs.InRun.{bytes_taken, plain_is_clean}
 use Rattle.htoken.proofs.Running.{run_given}
 use Rattle.htoken.proofs.Taking.{IsCalm, in_state}

@@ -1,7 +1,5 @@
-use Rattle.std.proofs.Common.{Bool, [], Ok, sym, subst, refl}
-use Rattle.std.proofs.lemmas.Result.{err_from_is_err_and}
-use Rattle.htoken.specs.Front.{GivesSpread, spread_ran_out, spread_refused}
-use Rattle.htoken.specs.Token.{gives_item}
+use Rattle.htoken.proofs.Names.{Bool, [], Ok, sym, subst, refl, err_from_is_err_and, spread_ran_out, spread_refused, gives_item}
+use Rattle.htoken.specs.Front.{GivesSpread}
 use Rattle.htoken.proofs.Spreading.{front_none, gathered_spread}
 use Rattle.htoken.proofs.tokenizer.Tokenizer.spread_on.Goals as goal
 

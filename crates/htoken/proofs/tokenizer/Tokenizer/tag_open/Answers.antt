@@ -1,4 +1,4 @@
-use Rattle.htoken.specs.Token.{gives_item}
+use Rattle.htoken.proofs.Names.{gives_item}
 use Rattle.htoken.proofs.AtOnce.{nothing_taken}
 use Rattle.htoken.proofs.Taking.{taken_kept}
 use Rattle.htoken.proofs.tokenizer.Tokenizer.tag_open.Goals as goal

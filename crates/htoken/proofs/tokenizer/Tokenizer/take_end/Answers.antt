@@ -1,13 +1,4 @@
-use Rattle.std.proofs.Common.{◌<◌, ◌+◌, ◌++◌, List, ℕ, length, take, refl, sym, ◌∙◌, subst, arith, Ok, Err}
-use Rattle.std.proofs.lemmas.Result.{err_from_is_err_and}
-use Rattle.std.specs.Str.{chars}
-use Rattle.names.specs.declared.placed.Placed.{Placed}
-use Rattle.names.specs.Placed.{placed}
-use Rattle.htext.specs.Run.{IsCut}
-use Rattle.htext.proofs.Wide.{cut_more}
-use Rattle.htoken.specs.Front.{first_placed}
-use Rattle.htoken.specs.Token.{gives_item}
-use Rattle.htoken.specs.Tokenizing.{Reads, Takes}
+use Rattle.htoken.proofs.Names.{◌<◌, ◌+◌, ◌++◌, List, ℕ, length, take, refl, sym, ◌∙◌, subst, arith, Ok, Err, err_from_is_err_and, chars, Placed, placed, IsCut, cut_more, first_placed, gives_item, Reads, Takes}
 use Rattle.htoken.proofs.Bare.{mark_next}
 use Rattle.htoken.proofs.InRun.{next_last}
 use Rattle.htoken.proofs.InText.{all_taken, then_refused, then_taken}

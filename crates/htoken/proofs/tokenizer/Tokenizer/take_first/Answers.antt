@@ -1,6 +1,4 @@
-use Rattle.std.proofs.Common.{Ok, Err}
-use Rattle.std.proofs.lemmas.Result.{err_from_is_err_and}
-use Rattle.htoken.specs.Token.{gives_item}
+use Rattle.htoken.proofs.Names.{Ok, Err, err_from_is_err_and, gives_item}
 use Rattle.htoken.proofs.Fronts.{first_of, first_front}
 use Rattle.htoken.proofs.tokenizer.Tokenizer.take_first.Goals as goal
 

@@ -1,11 +1,4 @@
-use Rattle.std.proofs.Common.{arith, ◌∙◌, ap, length}
-use Rattle.std.specs.List.{list_all}
-use Rattle.std.proofs.lemmas.List.{length-drop}
-use Rattle.std.proofs.lemmas.Result.{err_from_is_err_and}
-use Rattle.names.proofs.Handing.{grows_not, grows_on}
-use Rattle.htext.specs.Run.{is_plain_byte}
-use Rattle.htext.proofs.Runs.{plain_drop}
-use Rattle.htoken.specs.Token.{gives_item}
+use Rattle.htoken.proofs.Names.{arith, ◌∙◌, ap, length, list_all, length-drop, err_from_is_err_and, grows_not, grows_on, is_plain_byte, plain_drop, gives_item}
 use Rattle.htoken.proofs.Fronts.{plain_boundary, takes_nothing, more_taken, more_refused}
 use Rattle.htoken.proofs.Taking.{taken_kept}
 use Rattle.htoken.proofs.tokenizer.Tokenizer.take_fronts.Goals as goal

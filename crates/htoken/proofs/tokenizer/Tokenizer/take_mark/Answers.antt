@@ -1,13 +1,4 @@
-use Rattle.std.proofs.Common.{◌≡◌, [], ◌+◌, List, ℕ, Option, Some, IfSome, sym, ap, ◌∙◌, subst, arith, Ok, Err}
-use Rattle.std.proofs.lemmas.Result.{err_from_is_err_and}
-use Rattle.std.specs.Prelude.{slice_index}
-use Rattle.names.specs.declared.placed.Placed.{Placed}
-use Rattle.names.specs.declared.raw.RawKind.{RawKind}
-use Rattle.charref.specs.Reference.{Entities}
-use Rattle.charref.specs.declared.reference.Reference.{Reference}
-use Rattle.htoken.specs.Front.{IsWhole}
-use Rattle.htoken.specs.Token.{gives_item}
-use Rattle.htoken.specs.Tokenizing.{Reads, Takes}
+use Rattle.htoken.proofs.Names.{◌≡◌, [], ◌+◌, List, ℕ, Option, Some, IfSome, sym, ap, ◌∙◌, subst, arith, Ok, Err, err_from_is_err_and, slice_index, Placed, RawKind, Entities, Reference, IsWhole, gives_item, Reads, Takes}
 use Rattle.htoken.proofs.Bare.{mark_first, whole_cut}
 use Rattle.htoken.proofs.Fronts.{cut_refused}
 use Rattle.htoken.proofs.tokenizer.Tokenizer.take_mark.Goals as goal

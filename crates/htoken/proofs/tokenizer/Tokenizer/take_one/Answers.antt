@@ -1,14 +1,6 @@
-use Rattle.std.proofs.Common.{List, ℕ, ◌∙◌, Ok, Err, ap, sym, subst, take, arith}
-use Rattle.std.proofs.lemmas.Result.{err_from_is_err_and}
+use Rattle.htoken.proofs.Names.{List, ℕ, ◌∙◌, Ok, Err, ap, sym, subst, take, arith, err_from_is_err_and, len_utf8, chars, placed, Placed, IsCut, gives_item, Takes}
 use Rattle.std.proofs.lemmas.Str.{len_utf8_bounds}
-use Rattle.std.specs.Char.{len_utf8}
-use Rattle.std.specs.Str.{chars}
-use Rattle.names.specs.Placed.{placed}
-use Rattle.names.specs.declared.placed.Placed.{Placed}
-use Rattle.htext.specs.Run.{IsCut}
 use Rattle.htext.proofs.Wide.{first_cut, first_char}
-use Rattle.htoken.specs.Token.{gives_item}
-use Rattle.htoken.specs.Tokenizing.{Takes}
 use Rattle.htoken.proofs.Fronts.{cut_refused}
 use Rattle.htoken.proofs.tokenizer.Tokenizer.take_one.Goals as goal
 

@@ -1,15 +1,5 @@
-use Rattle.std.proofs.Common.{◌+◌, arith, ◌∙◌, sym, subst, ap, List, ℕ, take, Ok, Err}
-use Rattle.std.specs.List.{list_all}
-use Rattle.std.specs.Str.{chars}
-use Rattle.std.proofs.lemmas.Result.{err_from_is_err_and}
-use Rattle.std.proofs.lemmas.Str.{IsCharBoundary-from_drop, IsUtf8-nil, chars-nil}
-use Rattle.names.specs.Placed.{placed}
-use Rattle.names.proofs.Handing.{grows_not, grows_on}
-use Rattle.htext.specs.Run.{is_clean, IsCut}
-use Rattle.htext.proofs.Clean.{clean_rest}
-use Rattle.htext.proofs.Wide.{cut_more}
-use Rattle.htoken.specs.Token.{gives_item}
-use Rattle.htoken.specs.Tokenizing.{Takes}
+use Rattle.htoken.proofs.Names.{◌+◌, arith, ◌∙◌, sym, subst, ap, List, ℕ, take, Ok, Err, list_all, chars, err_from_is_err_and, IsCharBoundary-from_drop, chars-nil, placed, grows_not, grows_on, is_clean, IsCut, clean_rest, cut_more, gives_item, Takes}
+use Rattle.std.proofs.lemmas.Str.{IsUtf8-nil}
 use Rattle.htoken.proofs.Fronts.{takes_nothing, cut_more_taken, cut_more_refused, cut_all_taken}
 use Rattle.htoken.proofs.Taking.{taken_kept}
 use Rattle.htoken.proofs.tokenizer.Tokenizer.take_parts.Goals as goal

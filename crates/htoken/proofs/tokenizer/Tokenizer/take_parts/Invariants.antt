@@ -1,13 +1,4 @@
-use Rattle.std.proofs.Common.{◌-◌, List, length, take, Ok}
-use Rattle.std.specs.Str.{chars}
-use Rattle.names.specs.declared.placed.Placed.{Placed}
-use Rattle.names.specs.declared.raw.RawKind.{RawKind}
-use Rattle.names.specs.Names.{Texts, Grows}
-use Rattle.names.specs.Placed.{placed}
-use Rattle.htext.specs.Run.{IsCut}
-use Rattle.charref.specs.Reference.{Entities}
-use Rattle.htoken.specs.Token.{Event, gives_item}
-use Rattle.htoken.specs.Tokenizing.{HasTaken, Takes}
+use Rattle.htoken.proofs.Names.{◌-◌, List, length, take, Ok, chars, Placed, RawKind, Texts, Grows, placed, IsCut, Entities, Event, gives_item, HasTaken, Takes}
 use Rattle.htoken.proofs.tokenizer.Tokenizer.take_parts.Given as goal
 
 -- This many bytes of the run have been taken.

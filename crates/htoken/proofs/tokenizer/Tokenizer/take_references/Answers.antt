@@ -1,13 +1,5 @@
-use Rattle.std.proofs.Common.{◌≡◌, ◌+◌, true, ℕ, List, [], drop, sym, subst, arith, Ok}
-use Rattle.std.proofs.lemmas.Result.{err_from_is_err_and}
-use Rattle.std.proofs.lemmas.Str.{IsCharBoundary-from_drop}
-use Rattle.std.specs.List.{list_all}
-use Rattle.std.specs.Str.{chars}
-use Rattle.htext.specs.Run.{is_clean, IsCut}
-use Rattle.htext.proofs.Clean.{clean_rest}
-use Rattle.htext.proofs.Wide.{cut_more}
-use Rattle.htoken.specs.Front.{GivesFront, RefusesFront}
-use Rattle.htoken.specs.Token.{gives_item}
+use Rattle.htoken.proofs.Names.{◌≡◌, ◌+◌, true, ℕ, List, [], drop, sym, subst, arith, Ok, err_from_is_err_and, IsCharBoundary-from_drop, list_all, chars, is_clean, IsCut, clean_rest, cut_more, RefusesFront, gives_item}
+use Rattle.htoken.specs.Front.{GivesFront}
 use Rattle.htoken.proofs.InText.{spread_fails, spread_given}
 use Rattle.htoken.proofs.Spreading.{may_of}
 use Rattle.htoken.proofs.tokenizer.Tokenizer.take_references.Goals as goal

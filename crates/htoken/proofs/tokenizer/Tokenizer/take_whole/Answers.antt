@@ -1,7 +1,4 @@
-use Rattle.std.proofs.Common.{List, ℕ, refl, ap, ◌∙◌}
-use Rattle.std.proofs.lemmas.Result.{err_from_is_err_and}
-use Rattle.std.specs.Prelude.{slice_index}
-use Rattle.htoken.specs.Token.{gives_item}
+use Rattle.htoken.proofs.Names.{List, ℕ, refl, ap, ◌∙◌, err_from_is_err_and, slice_index, gives_item}
 use Rattle.htoken.proofs.Bare.{whole_ends, whole_refused, whole_then}
 use Rattle.htoken.proofs.tokenizer.Tokenizer.take_whole.Goals as goal
 

@@ -1,9 +1,5 @@
-use Rattle.std.proofs.Common.{◌+◌}
-use Rattle.std.specs.Str.{chars, IsUtf8}
-use Rattle.names.specs.Placed.{placed}
-use Rattle.names.specs.Sink.{Continues}
-use Rattle.htoken.specs.Run.{run_tokens}
-use Rattle.htoken.proofs.sink.TokenSink.take_run.Given as goal
+use Rattle.htoken.proofs.Names.{◌+◌, chars, IsUtf8, placed, Continues, run_tokens}
+use Rattle.htoken.proofs.sink.TokenSink.take_run_by_one.Given as goal
 
 -- To take the rest of the run is to take all of it.
 abbrev pub invariant-loop-index : goal.invariant-loop-index

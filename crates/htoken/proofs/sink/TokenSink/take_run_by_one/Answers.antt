@@ -1,11 +1,7 @@
-use Rattle.std.proofs.Common.{◌+◌, arith}
-use Rattle.std.proofs.lemmas.Result.{err_from_is_err_and}
-use Rattle.std.proofs.lemmas.Str.{IsUtf8-past_char}
-use Rattle.names.specs.declared.placed.Placed.{Placed}
+use Rattle.htoken.proofs.Names.{◌+◌, arith, err_from_is_err_and, IsUtf8-past_char, Placed, Token}
 use Rattle.htext.proofs.Wide.{one_more, one_refused, none_left}
-use Rattle.htoken.specs.declared.token.Token.{Token}
 use Rattle.htoken.specs.declared.token.Token.TheVariants as code
-use Rattle.htoken.proofs.sink.TokenSink.take_run.Goals as goal
+use Rattle.htoken.proofs.sink.TokenSink.take_run_by_one.Goals as goal
 
 abbrev token : Placed → Token
 token p = code.Char p.ch p.at

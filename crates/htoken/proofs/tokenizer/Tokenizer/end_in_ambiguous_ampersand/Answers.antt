@@ -1,11 +1,7 @@
-use Rattle.std.proofs.Common.{refl, subst, Ok, Err}
-use Rattle.std.proofs.lemmas.Result.{err_from_is_err_and}
-use Rattle.htoken.specs.Giving.{read_events}
-use Rattle.htoken.specs.Handing.{HandsEvents}
-use Rattle.htoken.specs.Token.{gives_item}
+use Rattle.htoken.proofs.Names.{refl, subst, Ok, Err, err_from_is_err_and, read_events, HandsEvents, gives_item}
 use Rattle.htoken.proofs.Going.{takes_after}
 use Rattle.htoken.proofs.InReference.{in_letters, reference_refused, run_begins}
-use Rattle.htoken.proofs.tokenizer.Tokenizer.end_in_run.Goals as goal
+use Rattle.htoken.proofs.tokenizer.Tokenizer.end_in_ambiguous_ampersand.Goals as goal
 
 pub returns-in_err-give_reference : goal.returns-in_err-give_reference
 returns-in_err-give_reference g c =
@@ -18,4 +14,4 @@ pub returns : goal.returns
 returns g c = λ table start names text taken r h.
     let letters = in_letters (gives_item g.S.ErrorSink.gives g.S.TokenSink.gives_token) table start text (record { ch = c.args.ch; at = c.args.at }) names taken _ h c.requires.state c.args.found.now r c.requires.run in
     takes_after (gives_item g.S.ErrorSink.gives g.S.TokenSink.gives_token) table start text _ names taken _ _ _ _ _ _ (subst (λ n. HandsEvents (gives_item g.S.ErrorSink.gives g.S.TokenSink.gives_token) names c.args.sink.now (read_events c.args.found.now c.args.self.now.at c.args.self.now.held.items n) (Ok tt) c.give_reference.new.sink) c.given_back.ensures (c.in_ok-give_reference.ensures names))
-    (c.in_run.ensures table start names text _ (run_begins (gives_item g.S.ErrorSink.gives g.S.TokenSink.gives_token) table start text (record { ch = c.args.ch; at = c.args.at }) names taken _ h c.requires.state c.args.found.now r letters.0 _ c.requires.run letters.1 (refl, refl, refl) refl refl refl refl refl))
+    (c.in_ambiguous_ampersand.ensures table start names text _ (run_begins (gives_item g.S.ErrorSink.gives g.S.TokenSink.gives_token) table start text (record { ch = c.args.ch; at = c.args.at }) names taken _ h c.requires.state c.args.found.now r letters.0 _ c.requires.run letters.1 (refl, refl, refl) refl refl refl refl refl))
