@@ -81,9 +81,8 @@ pub past_bang : (p q : Placed) (rest : List Placed) → p.ch ≡ 60 → q.ch ≡
 past_bang p q rest h k = past_less p (q ∷ rest) h ∙ ap (λ (c : ℕ). class_after c rest) k
 
 pub alone_class : (a b : Bool) (more : List Placed) → (a || b) ≡ false → class_first a b more ≡ Alone
-alone_class true b more h = absurd (false≢true (sym h))
-alone_class false true more h = absurd (false≢true (sym h))
 alone_class false false more h = refl
+alone_class _ _ more h = absurd (false≢true (sym h))
 
 amp_first : (p : Placed) (more : List Placed) → p.ch ≡ 38 → class_of (p ∷ more) ≡ Ampersand
 amp_first p more h = ap (λ (c : ℕ). class_first (eqb c 60) (eqb c 38) more) h
@@ -93,21 +92,16 @@ amp_class [] more h = absurd (false≢true h)
 amp_class (p ∷ ps) more h = amp_first p (ps ++ more) (eqb-true p.ch 38 h)
 
 pub opens_less : (opening rest : List Placed) → characters opening ≡ codes "<" → class_of (opening ++ rest) ≡ class_less rest
-opens_less [] rest h = absurd cc
 opens_less (p ∷ []) rest h = let is : p.ch ≡ 60 = cc in past_less p rest is
-opens_less (p ∷ q ∷ ps) rest h = absurd cc
+opens_less _ rest h = absurd cc
 
 pub opens_solidus : (opening rest : List Placed) → characters opening ≡ codes "</" → class_of (opening ++ rest) ≡ class_solidus rest
-opens_solidus [] rest h = absurd cc
-opens_solidus (p ∷ []) rest h = absurd cc
 opens_solidus (p ∷ q ∷ []) rest h = let is : p.ch ≡ 60 = cc in let then : q.ch ≡ 47 = cc in past_solidus p q rest is then
-opens_solidus (p ∷ q ∷ r ∷ ps) rest h = absurd cc
+opens_solidus _ rest h = absurd cc
 
 pub opens_bang : (opening rest : List Placed) → characters opening ≡ codes "<!" → class_of (opening ++ rest) ≡ class_bang rest
-opens_bang [] rest h = absurd cc
-opens_bang (p ∷ []) rest h = absurd cc
 opens_bang (p ∷ q ∷ []) rest h = let is : p.ch ≡ 60 = cc in let then : q.ch ≡ 33 = cc in past_bang p q rest is then
-opens_bang (p ∷ q ∷ r ∷ ps) rest h = absurd cc
+opens_bang _ rest h = absurd cc
 
 dashes_class : (r s : Placed) (rest : List Placed) → r.ch ≡ 45 → s.ch ≡ 45 → class_bang (r ∷ s ∷ rest) ≡ AComment
 dashes_class r s rest h k =
@@ -115,17 +109,13 @@ dashes_class r s rest h k =
     ∙ ap (λ (c : ℕ). class_declaration false (eqb c 45 && true) false) k
 
 pub opens_comment : (opening rest : List Placed) → characters opening ≡ codes "<!--" → class_of (opening ++ rest) ≡ AComment
-opens_comment [] rest h = absurd cc
-opens_comment (p ∷ []) rest h = absurd cc
-opens_comment (p ∷ q ∷ []) rest h = absurd cc
-opens_comment (p ∷ q ∷ r ∷ []) rest h = absurd cc
 opens_comment (p ∷ q ∷ r ∷ s ∷ []) rest h =
     let is : p.ch ≡ 60 = cc in
     let then : q.ch ≡ 33 = cc in
     let dash : r.ch ≡ 45 = cc in
     let other : s.ch ≡ 45 = cc in
     past_bang p q (r ∷ s ∷ rest) is then ∙ dashes_class r s rest dash other
-opens_comment (p ∷ q ∷ r ∷ s ∷ t ∷ ps) rest h = absurd cc
+opens_comment _ rest h = absurd cc
 
 spells_low : (xs rest : List Placed) → spells_in_any_case (lowered xs) (xs ++ rest) ≡ true
 spells_low [] rest = refl
@@ -160,10 +150,8 @@ pub cdata_more : (body rest : List Placed) → is_cdata body ≡ true → class_
 cdata_more body rest h = cdata_follows (body ++ rest) (spells_more (codes "[CDATA[") body rest h)
 
 none_of : (a b c : Bool) → (a || b || c) ≡ false → class_declaration b a c ≡ BogusDeclaration
-none_of true b c h = absurd (false≢true (sym h))
-none_of false true c h = absurd (false≢true (sym h))
-none_of false false true h = absurd (false≢true (sym h))
 none_of false false false h = refl
+none_of _ _ _ h = absurd (false≢true (sym h))
 
 pub declaration_follows : (text : List Placed) → is_declaration text ≡ false → class_bang text ≡ BogusDeclaration
 declaration_follows text h = none_of (spells (codes "--") text) (spells_in_any_case (codes "doctype") text) (is_cdata text) h
@@ -207,9 +195,8 @@ end_follows [] h = refl
 end_follows (p ∷ ps) h = absurd cc
 
 pub solidus_and_end_follow : (rest : List Placed) → characters rest ≡ codes "/" → class_less rest ≡ LessLast
-solidus_and_end_follow [] h = absurd cc
 solidus_and_end_follow (p ∷ []) h = let is : p.ch ≡ 47 = cc in ap (λ (c : ℕ). class_after c []) is
-solidus_and_end_follow (p ∷ q ∷ ps) h = absurd cc
+solidus_and_end_follow _ h = absurd cc
 
 -- a tag's mark and a letter
 pub tag_class : (side : Side) (opening rest : List Placed) → characters opening ≡ mark_of side → begins is_letter rest ≡ true → class_of (opening ++ rest) ≡ ATag side

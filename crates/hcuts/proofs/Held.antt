@@ -1,6 +1,6 @@
 -- What a tokenizer holds back is a beginning of a span.
-use Rattle.hcuts.proofs.Names.{◌≡◌, ℕ, Bool, true, false, not, ◌||◌, ◌&&◌, eqb, List, [], ◌∷◌, ◌++◌, sym, refl, ap, ◌∙◌, subst, append_assoc, append-nil, eqb-true, false≢true, to_ascii_lowercase, IncorrectlyOpenedComment, ParseError, Placed, RawKind, Texts, characters, lowered, all, begins, is_letter, is_empty, place, stops, spells, spells_in_any_case, error, name_bytes, Entities, IsTable, CommentKind, IsBogus, closed_bogus, IsDoctype, and_parts, and_both, neither, parts_text, attributes_after, ends_name, tag_errors, end_tag_errors, Tok, Span, Event, Start, End, Comment, piece_span, is_declaration, is_cdata, comment_span, may_end, is_raw_end, IsSpanOf, has_references, raw_reference, raw_end, IsTag, start_tag, end_tag, inside, CanEnd}
-use Rattle.std.specs.Prelude.{codes, if◌then◌else◌, map, Some}
+use Rattle.hcuts.proofs.Names.{arith, nat_tests, ◌≡◌, ℕ, Bool, true, false, not, ◌||◌, eqb, List, [], ◌∷◌, ◌++◌, sym, refl, ap, ◌∙◌, subst, append_assoc, append-nil, eqb-true, false≢true, to_ascii_lowercase, IncorrectlyOpenedComment, ParseError, Placed, RawKind, Texts, characters, lowered, all, begins, is_letter, is_empty, place, stops, spells, spells_in_any_case, error, name_bytes, Entities, IsTable, CommentKind, IsBogus, closed_bogus, IsDoctype, and_parts, and_both, neither, parts_text, attributes_after, ends_name, tag_errors, end_tag_errors, Tok, Span, Event, Start, End, Comment, piece_span, is_declaration, is_cdata, comment_span, may_end, is_raw_end, IsSpanOf, has_references, raw_reference, raw_end, IsTag, start_tag, end_tag, inside, CanEnd}
+use Rattle.std.specs.Prelude.{codes, map, Some}
 use Rattle.std.specs.String.{string_bytes}
 use Rattle.std.specs.List.{list_all}
 use Rattle.names.specs.declared.raw.RawKind.TheVariants as kind
@@ -24,7 +24,7 @@ use Rattle.htoken.specs.Declaration.{IsOpened}
 use Rattle.htoken.specs.HeldFrom.{from_of}
 use Rattle.htoken.specs.Raw.{is_raw, name_ends}
 use Rattle.htoken.specs.Tag.{tag_mark}
-use Rattle.htoken.specs.Tokenizing.{Reads, holds, in_run, IsHeld, IsIn, IsInMarkup, IsInMarkedTag, IsInReference, less, doctype_token, next_place}
+use Rattle.htoken.specs.Tokenizing.{Reads, holds, in_ambiguous_ampersand, IsHeld, IsIn, IsInMarkup, IsInMarkedTag, IsInReference, less, doctype_token, next_place}
 use Rattle.htoken.proofs.Declaring.{nothing_at_end}
 use Rattle.htoken.proofs.Holding.{held_place}
 use Rattle.htoken.proofs.InData.{in_data}
@@ -85,25 +85,13 @@ least table = record {
 
 spells_not : (cs : List ℕ) (text more : List Placed) → list_all (λ c. not (eqb 62 c)) cs ≡ true → spells cs text ≡ false → spells cs (text ++ (greater ∷ more)) ≡ false
 spells_not [] text more h e = absurd (false≢true (sym e))
-spells_not (c ∷ cs) [] more h e = first (eqb 62 c) (and_parts (not (eqb 62 c)) (list_all (λ x. not (eqb 62 x)) cs) h).0 where
-  first : (b : Bool) → not b ≡ true → b && spells cs more ≡ false
-  first true n = absurd cc
-  first false n = refl
-spells_not (c ∷ cs) (p ∷ ps) more h e = next (eqb p.ch c) e (spells_not cs ps more (and_parts (not (eqb 62 c)) (list_all (λ x. not (eqb 62 x)) cs) h).1) where
-  next : (b : Bool) → b && spells cs ps ≡ false → (spells cs ps ≡ false → spells cs (ps ++ (greater ∷ more)) ≡ false) → b && spells cs (ps ++ (greater ∷ more)) ≡ false
-  next true n goes = goes n
-  next false n goes = refl
+spells_not (c ∷ cs) [] more h e = grind (arith, nat_tests)
+spells_not (c ∷ cs) (p ∷ ps) more h e = grind (arith, nat_tests, spells_not cs ps more)
 
 any_case_not : (cs : List ℕ) (text more : List Placed) → list_all (λ c. not (eqb 62 c)) cs ≡ true → spells_in_any_case cs text ≡ false → spells_in_any_case cs (text ++ (greater ∷ more)) ≡ false
 any_case_not [] text more h e = absurd (false≢true (sym e))
-any_case_not (c ∷ cs) [] more h e = first (eqb 62 c) (and_parts (not (eqb 62 c)) (list_all (λ x. not (eqb 62 x)) cs) h).0 where
-  first : (b : Bool) → not b ≡ true → b && spells_in_any_case cs more ≡ false
-  first true n = absurd cc
-  first false n = refl
-any_case_not (c ∷ cs) (p ∷ ps) more h e = next (eqb (to_ascii_lowercase p.ch) c) e (any_case_not cs ps more (and_parts (not (eqb 62 c)) (list_all (λ x. not (eqb 62 x)) cs) h).1) where
-  next : (b : Bool) → b && spells_in_any_case cs ps ≡ false → (spells_in_any_case cs ps ≡ false → spells_in_any_case cs (ps ++ (greater ∷ more)) ≡ false) → b && spells_in_any_case cs (ps ++ (greater ∷ more)) ≡ false
-  next true n goes = goes n
-  next false n goes = refl
+any_case_not (c ∷ cs) [] more h e = grind (arith, nat_tests)
+any_case_not (c ∷ cs) (p ∷ ps) more h e = grind (arith, nat_tests, any_case_not cs ps more)
 
 no_declaration : (text more : List Placed) → is_declaration text ≡ false → is_declaration (text ++ (greater ∷ more)) ≡ false
 no_declaration text more e =
@@ -126,10 +114,7 @@ lowered_close : (text : List Placed) → list_all (λ c. not (eqb c 62)) (lowere
 lowered_close [] h = refl
 lowered_close (p ∷ ps) h =
     let k = and_parts (not (eqb (to_ascii_lowercase p.ch) 62)) (list_all (λ c. not (eqb c 62)) (lowered ps)) h in
-    and_both (not (eqb p.ch 62)) (no_close ps) (by (eqb p.ch 62) refl k.0) (lowered_close ps k.1) where
-      by : (b : Bool) → eqb p.ch 62 ≡ b → not (eqb (to_ascii_lowercase p.ch) 62) ≡ true → not b ≡ true
-      by false e n = refl
-      by true e n = sym (ap (λ (c : ℕ). not (eqb (to_ascii_lowercase c) 62)) (eqb-true p.ch 62 e)) ∙ n
+    and_both (not (eqb p.ch 62)) (no_close ps) (grind (arith, nat_tests)) (lowered_close ps k.1)
 
 opened_close : (so : Opened) (text : List Placed) → IsOpened so text → no_close text ≡ true
 opened_close opened.Nothing text h = ap no_close h
@@ -139,12 +124,7 @@ opened_close opened.Cdata text (first, (c, left, is)) = list_front (characters t
 
 before_close : (text : List Placed) → no_close text ≡ true → text ≡ before closes_bogus (text ++ greater ∷ [])
 before_close [] h = refl
-before_close (p ∷ ps) h =
-    let k = and_parts (not (eqb p.ch 62)) (no_close ps) h in
-    by (eqb p.ch 62) k.0 (before_close ps k.1) where
-      by : (b : Bool) → not b ≡ true → ps ≡ before closes_bogus (ps ++ greater ∷ []) → p ∷ ps ≡ (if b && true then [] else p ∷ before closes_bogus (ps ++ greater ∷ []))
-      by true n e = absurd cc
-      by false n e = ap (λ (x : List Placed). p ∷ x) e
+before_close (p ∷ ps) h = grind (arith, nat_tests, before_close ps)
 
 -- NAMES OF RAW TEXT
 
@@ -271,9 +251,7 @@ module _ (table : Entities) (is_table : IsTable table) (start : RawKind) (names 
       let o = open_taken t.reference table i.read (record { ch = 38; at = t.at }) is_table i.has_taken refl in
       inside o.more o.rest 0 (piece_span o.piece) o.is_more (o.text_is ∙ ap (λ (x : List Placed). x ++ o.more) (sym i.held_is))
       (subst (λ (x : RawKind). IsSpanOf x table 0 h.here o.rest (piece_span o.piece)) (sym e) (raw_reference o.piece (ap has_references e) o.is_reference refl))
-  referring kind.Rawtext e may i = absurd cc
-  referring kind.Script e may i = absurd cc
-  referring kind.Plaintext e may i = absurd cc
+  referring _ e may i = absurd cc
 
   -- in raw text: with what is left of the name and a `>` it is the end tag
   module _ (raw : is_raw h.here.kind ≡ true) (may : may_end h.here.kind h.here.front ≡ true) (named : h.here.name ≡ Some (string_bytes t.tag.name)) where
@@ -282,10 +260,7 @@ module _ (table : Entities) (is_table : IsTable table) (start : RawKind) (names 
 
     end_span : (k : RawKind) → h.here.kind ≡ k → is_raw k ≡ true → (span : Span) → is_raw_end h.here (span.text ++ []) ≡ true → IsTag table 0 [] span → IsSpanOf k table 0 h.here [] span
     end_span kind.None e r span ends is_tag = absurd cc
-    end_span kind.Rcdata e r span ends is_tag = raw_end ends is_tag
-    end_span kind.Rawtext e r span ends is_tag = raw_end ends is_tag
-    end_span kind.Script e r span ends is_tag = raw_end ends is_tag
-    end_span kind.Plaintext e r span ends is_tag = raw_end ends is_tag
+    end_span _ e r span ends is_tag = raw_end ends is_tag
 
     raw_ends : (at : ℕ) (held letters : List Placed) (left : List ℕ) (more : List Placed) → h.held ≡ held → is_empty more ≡ false → held ++ more ≡ less t ∷ solidus at ∷ (letters ++ (spelled left ++ greater ∷ []))
         → all is_letter letters ≡ true → lowered letters ++ left ≡ string_bytes t.tag.name → Begins
@@ -311,7 +286,7 @@ module _ (table : Entities) (is_table : IsTable table) (start : RawKind) (names 
   by_state state.Doctype is_in has = in_doctype has is_in
   by_state state.Tag is_in has = in_tag has
   by_state state.Reference is_in has = referring h.here.kind refl is_in has
-  by_state (state.Run amp) is_in has = absurd has
+  by_state (state.AmbiguousAmpersand amp) is_in has = absurd has
   by_state state.RawLess is_in has =
       raw_ends is_in has.may has.named 0 (less t ∷ []) [] (string_bytes t.tag.name) (solidus 0 ∷ (spelled (string_bytes t.tag.name) ++ greater ∷ [])) has.held_is refl refl refl refl
   by_state (state.RawName at) is_in has =
@@ -327,7 +302,7 @@ held_begins table start t names text taken is_table (holds h) = record {
   from_is = held_place t.state table names h.here t h.held h.is_held ∙ ap (λ (n : ℕ). place n h.held) (h.next_is ∙ ap next_place (append-nil text));
   begins = by_state table is_table start names text taken t h t.state h.is_in h.is_held;
 }
-held_begins table start t names text taken is_table (in_run h) = record {
+held_begins table start t names text taken is_table (in_ambiguous_ampersand h) = record {
   front = text;
   held = [];
   here = h.here;

@@ -36,10 +36,8 @@ nothing_kind [] h = (refl, refl)
 nothing_kind (p ∷ ps) h = (ap (λ (b : Bool). kind_by b (is_quote p.ch)) h, ap is_space (eqb-true p.ch 62 h))
 
 plain_by : (a b c : Bool) → not ((a || b) || c) ≡ true → (kind_by b c ≡ Plain) × (a ≡ false)
-plain_by true b c h = absurd (false≢true h)
-plain_by false true c h = absurd (false≢true h)
-plain_by false false true h = absurd (false≢true h)
 plain_by false false false h = (refl, refl)
+plain_by _ _ _ h = absurd (false≢true h)
 
 plain_kind : (text : List Placed) → begins (λ c. not (ends_unquoted c || is_quote c)) text ≡ true → (kind_of text ≡ Plain) × (begins is_space text ≡ false)
 plain_kind [] h = absurd (false≢true h)
@@ -55,12 +53,17 @@ record IsSame (rest rest' tail tail' : List Placed) (value value' : List ℕ) (e
   errors_are : errors ≡ errors'
 
 module _ (table : Entities) (end : ℕ) where
-  tail_kind : (rest tail : List Placed) (value : List ℕ) (errors : List ParseError) → IsTail table end rest tail value errors → begins is_space (tail ++ rest) ≡ false
-  tail_kind rest tail value errors (nothing t s v es) = ap (λ (x : List Placed). begins is_space (x ++ rest)) t ∙ (nothing_kind rest s).1
-  tail_kind rest tail value errors (plain pieces t b runs are v es) =
-      ap (λ (x : List Placed). begins is_space (x ++ rest)) t ∙ (plain_kind (pieces_text pieces ++ rest) (begins_more _ (pieces_text pieces) rest b)).1
-  tail_kind rest tail value errors (closed q close pieces t is a are c v es) = ap (λ (x : List Placed). begins is_space (x ++ rest)) t ∙ quote_not_space q.ch is
-  tail_kind rest tail value errors (unended q pieces t is a are r v es) = ap (λ (x : List Placed). begins is_space (x ++ rest)) t ∙ quote_not_space q.ch is
+  abbrev kind : (rest tail : List Placed) (value : List ℕ) (errors : List ParseError) → IsTail table end rest tail value errors → PartKind
+  kind rest tail value errors (nothing t s v es) = Nothing
+  kind rest tail value errors (plain pieces t b runs are v es) = Plain
+  kind rest tail value errors (closed q close pieces t is a are c v es) = Quoted
+  kind rest tail value errors (unended q pieces t is a are r v es) = Quoted
+
+  tail_kind : (rest tail : List Placed) (value : List ℕ) (errors : List ParseError) (h : IsTail table end rest tail value errors) → (kind_of (tail ++ rest) ≡ kind rest tail value errors h) × (begins is_space (tail ++ rest) ≡ false)
+  tail_kind rest tail value errors (nothing t s v es) = rw t (nothing_kind rest s)
+  tail_kind rest tail value errors (plain pieces t b runs are v es) = rw t (plain_kind (pieces_text pieces ++ rest) (begins_more _ (pieces_text pieces) rest b))
+  tail_kind rest tail value errors (closed q close pieces t is a are c v es) = rw t (quoted_kind q ((pieces_text pieces ++ close) ++ rest) is)
+  tail_kind rest tail value errors (unended q pieces t is a are r v es) = rw t (quoted_kind q (pieces_text pieces ++ rest) is)
 
   not_mark : (q : Placed) (close rest : List Placed) → characters close ≡ q.ch ∷ [] → begins (λ c. not (c == q.ch)) (close ++ rest) ≡ false
   not_mark q [] rest h = absurd cc
@@ -79,25 +82,16 @@ module _ (table : Entities) (end : ℕ) where
       (first, one_value table pieces pieces' are are' same.0, same.1)
 
   module _ (rest rest' tail tail' : List Placed) (value value' : List ℕ) (errors errors' : List ParseError) (e : tail ++ rest ≡ tail' ++ rest') where
-    clash : (a b : PartKind) → kind_of (tail ++ rest) ≡ a → kind_of (tail' ++ rest') ≡ b → a ≡ b
-    clash a b h k = sym h ∙ ap kind_of e ∙ k
-
-    kind_at : (x y : List Placed) (k : PartKind) → x ≡ y → kind_of (y ++ rest) ≡ k → kind_of (x ++ rest) ≡ k
-    kind_at x y k t h = ap (λ (z : List Placed). kind_of (z ++ rest)) t ∙ h
-
-    kind_at' : (x y : List Placed) (k : PartKind) → x ≡ y → kind_of (y ++ rest') ≡ k → kind_of (x ++ rest') ≡ k
-    kind_at' x y k t h = ap (λ (z : List Placed). kind_of (z ++ rest')) t ∙ h
-
-    one_tail : IsTail table end rest tail value errors → IsTail table end rest' tail' value' errors' → IsSame rest rest' tail tail' value value' errors errors'
-    one_tail (nothing t s v es) (nothing t' s' v' es') =
+    one_by : (h : IsTail table end rest tail value errors) (h' : IsTail table end rest' tail' value' errors') → kind rest tail value errors h ≡ kind rest' tail' value' errors' h' → IsSame rest rest' tail tail' value value' errors errors'
+    one_by (nothing t s v es) (nothing t' s' v' es') same_kind =
         let rests : rest ≡ rest' = ap (λ (x : List Placed). x ++ rest) (sym t) ∙ e ∙ ap (λ (x : List Placed). x ++ rest') t' in
         record { tails_are = t ∙ sym t'; rests = rests; values = v ∙ sym v'; errors_are = es ∙ ap (λ (x : List Placed). error_if (not (is_empty x)) MissingAttributeValue (place end x)) rests ∙ sym es' }
-    one_tail (plain pieces t b runs are v es) (plain pieces' t' b' runs' are' v' es') =
+    one_by (plain pieces t b runs are v es) (plain pieces' t' b' runs' are' v' es') same_kind =
         let whole : pieces_text pieces ++ rest ≡ pieces_text pieces' ++ rest' = ap (λ (x : List Placed). x ++ rest) (sym t) ∙ e ∙ ap (λ (x : List Placed). x ++ rest') t' in
         let same = one_run (λ c. not (ends_unquoted c)) (pieces_text pieces) rest (pieces_text pieces') rest' runs.passes_none (goes_no_further ends_unquoted rest runs.stops_after) runs'.passes_none (goes_no_further ends_unquoted rest' runs'.stops_after) whole in
         let value_is : pieces ≡ pieces' = one_value table pieces pieces' are are' same.0 in
         record { tails_are = t ∙ same.0 ∙ sym t'; rests = same.1; values = v ∙ ap value_bytes value_is ∙ sym v'; errors_are = es ∙ ap unquoted_errors value_is ∙ sym es' }
-    one_tail (closed q close pieces t is a are c v es) (closed q' close' pieces' t' is' a' are' c' v' es') =
+    one_by (closed q close pieces t is a are c v es) (closed q' close' pieces' t' is' a' are' c' v' es') same_kind =
         let whole : q ∷ (pieces_text pieces ++ (close ++ rest)) ≡ q' ∷ (pieces_text pieces' ++ (close' ++ rest')) =
         ap (λ (x : List Placed). q ∷ x) (sym (append_assoc (pieces_text pieces) close rest)) ∙ ap (λ (x : List Placed). x ++ rest) (sym t) ∙ e ∙ ap (λ (x : List Placed). x ++ rest') t' ∙ ap (λ (x : List Placed). q' ∷ x) (append_assoc (pieces_text pieces') close' rest') in
         let same = inside q q' pieces pieces' (close ++ rest) (close' ++ rest') a a' are are' (not_mark q close rest c) (not_mark q' close' rest' c') whole in
@@ -109,7 +103,7 @@ module _ (table : Entities) (end : ℕ) where
           errors_are = es ∙ ap (λ (ps : List Piece). value_errors ps ++ error_if (not (stops ends_name rest)) MissingWhitespaceBetweenAttributes (place end rest)) same.1
               ∙ ap (λ (x : List Placed). value_errors pieces' ++ error_if (not (stops ends_name x)) MissingWhitespaceBetweenAttributes (place end x)) closes.1 ∙ sym es';
         }
-    one_tail (unended q pieces t is a are r v es) (unended q' pieces' t' is' a' are' r' v' es') =
+    one_by (unended q pieces t is a are r v es) (unended q' pieces' t' is' a' are' r' v' es') same_kind =
         let whole : q ∷ (pieces_text pieces ++ []) ≡ q' ∷ (pieces_text pieces' ++ []) =
         ap (λ (x : List Placed). q ∷ (pieces_text pieces ++ x)) (sym r) ∙ ap (λ (x : List Placed). x ++ rest) (sym t) ∙ e ∙ ap (λ (x : List Placed). x ++ rest') t' ∙ ap (λ (x : List Placed). q' ∷ (pieces_text pieces' ++ x)) r' in
         let same = inside q q' pieces pieces' [] [] a a' are are' refl refl whole in
@@ -119,36 +113,20 @@ module _ (table : Entities) (end : ℕ) where
           values = v ∙ ap value_bytes same.1 ∙ sym v';
           errors_are = es ∙ ap value_errors same.1 ∙ sym es';
         }
-    one_tail (closed q close pieces t is a are c v es) (unended q' pieces' t' is' a' are' r' v' es') =
+    one_by (closed q close pieces t is a are c v es) (unended q' pieces' t' is' a' are' r' v' es') same_kind =
         let whole : q ∷ (pieces_text pieces ++ (close ++ rest)) ≡ q' ∷ (pieces_text pieces' ++ []) =
         ap (λ (x : List Placed). q ∷ x) (sym (append_assoc (pieces_text pieces) close rest)) ∙ ap (λ (x : List Placed). x ++ rest) (sym t) ∙ e ∙ ap (λ (x : List Placed). x ++ rest') t' ∙ ap (λ (x : List Placed). q' ∷ (pieces_text pieces' ++ x)) r' in
         let same = inside q q' pieces pieces' (close ++ rest) [] a a' are are' (not_mark q close rest c) refl whole in
         absurd (no_mark q.ch close rest c (sym same.2))
-    one_tail (unended q pieces t is a are r v es) (closed q' close' pieces' t' is' a' are' c' v' es') =
+    one_by (unended q pieces t is a are r v es) (closed q' close' pieces' t' is' a' are' c' v' es') same_kind =
         let whole : q ∷ (pieces_text pieces ++ []) ≡ q' ∷ (pieces_text pieces' ++ (close' ++ rest')) =
         ap (λ (x : List Placed). q ∷ (pieces_text pieces ++ x)) (sym r) ∙ ap (λ (x : List Placed). x ++ rest) (sym t) ∙ e ∙ ap (λ (x : List Placed). x ++ rest') t' ∙ ap (λ (x : List Placed). q' ∷ x) (append_assoc (pieces_text pieces') close' rest') in
         let same = inside q q' pieces pieces' [] (close' ++ rest') a a' are are' refl (not_mark q' close' rest' c') whole in
         absurd (no_mark q'.ch close' rest' c' same.2)
-    one_tail (nothing t s v es) (plain pieces' t' b' runs' are' v' es') =
-        let no_way = clash Nothing Plain (kind_at tail [] Nothing t (nothing_kind rest s).0) (kind_at' tail' (pieces_text pieces') Plain t' (plain_kind (pieces_text pieces' ++ rest') (begins_more _ (pieces_text pieces') rest' b')).0) in absurd cc
-    one_tail (nothing t s v es) (closed q' close' pieces' t' is' a' are' c' v' es') =
-        let no_way = clash Nothing Quoted (kind_at tail [] Nothing t (nothing_kind rest s).0) (kind_at' tail' (q' ∷ (pieces_text pieces' ++ close')) Quoted t' (quoted_kind q' ((pieces_text pieces' ++ close') ++ rest') is').0) in absurd cc
-    one_tail (nothing t s v es) (unended q' pieces' t' is' a' are' r' v' es') =
-        let no_way = clash Nothing Quoted (kind_at tail [] Nothing t (nothing_kind rest s).0) (kind_at' tail' (q' ∷ pieces_text pieces') Quoted t' (quoted_kind q' (pieces_text pieces' ++ rest') is').0) in absurd cc
-    one_tail (plain pieces t b runs are v es) (nothing t' s' v' es') =
-        let no_way = clash Plain Nothing (kind_at tail (pieces_text pieces) Plain t (plain_kind (pieces_text pieces ++ rest) (begins_more _ (pieces_text pieces) rest b)).0) (kind_at' tail' [] Nothing t' (nothing_kind rest' s').0) in absurd cc
-    one_tail (plain pieces t b runs are v es) (closed q' close' pieces' t' is' a' are' c' v' es') =
-        let no_way = clash Plain Quoted (kind_at tail (pieces_text pieces) Plain t (plain_kind (pieces_text pieces ++ rest) (begins_more _ (pieces_text pieces) rest b)).0) (kind_at' tail' (q' ∷ (pieces_text pieces' ++ close')) Quoted t' (quoted_kind q' ((pieces_text pieces' ++ close') ++ rest') is').0) in absurd cc
-    one_tail (plain pieces t b runs are v es) (unended q' pieces' t' is' a' are' r' v' es') =
-        let no_way = clash Plain Quoted (kind_at tail (pieces_text pieces) Plain t (plain_kind (pieces_text pieces ++ rest) (begins_more _ (pieces_text pieces) rest b)).0) (kind_at' tail' (q' ∷ pieces_text pieces') Quoted t' (quoted_kind q' (pieces_text pieces' ++ rest') is').0) in absurd cc
-    one_tail (closed q close pieces t is a are c v es) (nothing t' s' v' es') =
-        let no_way = clash Quoted Nothing (kind_at tail (q ∷ (pieces_text pieces ++ close)) Quoted t (quoted_kind q ((pieces_text pieces ++ close) ++ rest) is).0) (kind_at' tail' [] Nothing t' (nothing_kind rest' s').0) in absurd cc
-    one_tail (closed q close pieces t is a are c v es) (plain pieces' t' b' runs' are' v' es') =
-        let no_way = clash Quoted Plain (kind_at tail (q ∷ (pieces_text pieces ++ close)) Quoted t (quoted_kind q ((pieces_text pieces ++ close) ++ rest) is).0) (kind_at' tail' (pieces_text pieces') Plain t' (plain_kind (pieces_text pieces' ++ rest') (begins_more _ (pieces_text pieces') rest' b')).0) in absurd cc
-    one_tail (unended q pieces t is a are r v es) (nothing t' s' v' es') =
-        let no_way = clash Quoted Nothing (kind_at tail (q ∷ pieces_text pieces) Quoted t (quoted_kind q (pieces_text pieces ++ rest) is).0) (kind_at' tail' [] Nothing t' (nothing_kind rest' s').0) in absurd cc
-    one_tail (unended q pieces t is a are r v es) (plain pieces' t' b' runs' are' v' es') =
-        let no_way = clash Quoted Plain (kind_at tail (q ∷ pieces_text pieces) Quoted t (quoted_kind q (pieces_text pieces ++ rest) is).0) (kind_at' tail' (pieces_text pieces') Plain t' (plain_kind (pieces_text pieces' ++ rest') (begins_more _ (pieces_text pieces') rest' b')).0) in absurd cc
+    one_by _ _ same_kind = absurd cc
+
+    one_tail : IsTail table end rest tail value errors → IsTail table end rest' tail' value' errors' → IsSame rest rest' tail tail' value value' errors errors'
+    one_tail h h' = one_by h h' (sym (tail_kind rest tail value errors h).0 ∙ ap kind_of e ∙ (tail_kind rest' tail' value' errors' h').0)
 
 -- WHAT A SIGN IS
 
@@ -219,7 +197,7 @@ module _ (table : Entities) (end : ℕ) (rest rest' others others' : List Placed
   one_attribute (valued sign tail o s t) (valued sign' tail' o' s' t') =
       let whole : sign ++ (tail ++ rest) ≡ sign' ++ (tail' ++ rest') =
       sym (append_assoc sign tail rest) ∙ ap (λ (x : List Placed). x ++ rest) (sym o) ∙ e ∙ ap (λ (x : List Placed). x ++ rest') o' ∙ append_assoc sign' tail' rest' in
-      let signs = one_sign sign sign' (tail ++ rest) (tail' ++ rest') s s' (tail_kind table end rest tail value errors t) (tail_kind table end rest' tail' value' errors' t') whole in
+      let signs = one_sign sign sign' (tail ++ rest) (tail' ++ rest') s s' (tail_kind table end rest tail value errors t).1 (tail_kind table end rest' tail' value' errors' t').1 whole in
       let same = one_tail table end rest rest' tail tail' value value' errors errors' signs.1 t t' in
       record { tails_are = o ∙ ap (λ (x : List Placed). x ++ tail) signs.0 ∙ ap (λ (x : List Placed). sign' ++ x) same.tails_are ∙ sym o'; rests = same.rests; values = same.values; errors_are = same.errors_are }
 
@@ -298,10 +276,8 @@ class_of [] = End
 class_of (p ∷ ps) = class_by (is_space p.ch) (eqb p.ch 47) (is_greater p.ch)
 
 name_by : (a b c : Bool) → not ((a || b) || c) ≡ true → class_by a b c ≡ Name
-name_by true b c h = absurd (false≢true h)
-name_by false true c h = absurd (false≢true h)
-name_by false false true h = absurd (false≢true h)
 name_by false false false h = refl
+name_by _ _ _ h = absurd (false≢true h)
 
 name_class : (name more : List Placed) → begins (λ c. not (ends_name c)) name ≡ true → class_of (name ++ more) ≡ Name
 name_class [] more h = absurd (false≢true h)
@@ -317,8 +293,7 @@ attribute_whole : (name others rest : List Placed) (value : List ℕ) (errors : 
 attribute_whole name others rest value errors part is = ap (λ (x : Part). x.text ++ rest) is ∙ append_assoc name others rest
 
 attribute_same : (name name' others others' : List Placed) (value value' : List ℕ) (errors errors' : List ParseError) → name ≡ name' → others ≡ others' → value ≡ value' → errors ≡ errors' → attribute_part name others value errors ≡ attribute_part name' others' value' errors'
-attribute_same name name' others others' value value' errors errors' a b c d =
-    ap (λ (x : List Placed). attribute_part x others value errors) a ∙ ap (λ (x : List Placed). attribute_part name' x value errors) b ∙ ap (λ (x : List ℕ). attribute_part name' others' x errors) c ∙ ap (attribute_part name' others' value') d
+attribute_same name name' others others' value value' errors errors' a b c d = cc
 
 module _ (table : Entities) (end : ℕ) where
   module _ (rest rest' : List Placed) (part part' : Part) (e : part.text ++ rest ≡ part'.text ++ rest') where

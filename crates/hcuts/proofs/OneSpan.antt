@@ -47,10 +47,7 @@ module _ (table : Entities) (end : ℕ) (here : Standing) where
 
     one_span_of : (k : RawKind) → IsSpanOf k table end here rest span → IsSpanOf k table end here rest' span' → (span ≡ span') × (rest ≡ rest')
     one_span_of kind.None h h' = one_data_span table end rest rest' span span' h h' e
-    one_span_of kind.Rcdata h h' = one_raw h h'
-    one_span_of kind.Rawtext h h' = one_raw h h'
-    one_span_of kind.Script h h' = one_raw h h'
-    one_span_of kind.Plaintext h h' = one_raw h h'
+    one_span_of _ h h' = one_raw h h'
 
   module _ (rest : List Placed) (span : Span) (e : [] ≡ span.text ++ rest) where
     some_raw : IsRawSpan table end here rest span → ⊥
@@ -60,10 +57,7 @@ module _ (table : Entities) (end : ℕ) (here : Standing) where
 
     some_span_of : (k : RawKind) → IsSpanOf k table end here rest span → ⊥
     some_span_of kind.None h = some_data table end rest span h e
-    some_span_of kind.Rcdata h = some_raw h
-    some_span_of kind.Rawtext h = some_raw h
-    some_span_of kind.Script h = some_raw h
-    some_span_of kind.Plaintext h = some_raw h
+    some_span_of _ h = some_raw h
 
 pub one_span : (table : Entities) (end : ℕ) (here : Standing) (rest rest' : List Placed) (span span' : Span) → IsSpan table end here rest span → IsSpan table end here rest' span' → span.text ++ rest ≡ span'.text ++ rest' → (span ≡ span') × (rest ≡ rest')
 one_span table end here rest rest' span span' h h' e = one_span_of table end here rest rest' span span' e here.kind h h'

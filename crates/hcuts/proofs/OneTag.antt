@@ -76,10 +76,9 @@ no_part table end side opening name parts after rest span (cut_off a r is) part 
 
 -- one closing
 no_clash : (close close' rest rest' : List Placed) → characters close ≡ codes "/>" → characters close' ≡ codes ">" → close ++ rest ≡ close' ++ rest' → ⊥
-no_clash [] close' rest rest' c c' e = absurd cc
-no_clash (q ∷ qs) [] rest rest' c c' e = absurd cc
 no_clash (q ∷ qs) (r ∷ rs) rest rest' c c' e =
     false≢true (sym (ap (λ (n : ℕ). eqb n 62) (first_is q qs 47 (62 ∷ []) c)) ∙ ap (λ (p : Placed). eqb p.ch 62) (heads q r (qs ++ rest) (rs ++ rest') e) ∙ ap (λ (n : ℕ). eqb n 62) (first_is r rs 62 [] c'))
+no_clash _ _ rest rest' c c' e = absurd cc
 
 one_close : (closing closing' : Bool) (close close' rest rest' : List Placed) → characters close ≡ tag_close closing → characters close' ≡ tag_close closing' → close ++ rest ≡ close' ++ rest' → (closing ≡ closing') × (close ≡ close') × (rest ≡ rest')
 one_close true true close close' rest rest' c c' e = let same = same_mark (codes "/>") close rest close' rest' c c' e in (refl, same.0, same.1)

@@ -1,17 +1,12 @@
 -- A value is cut into pieces in one way.
-use Rattle.hcuts.proofs.Names.{arith, ◌≡◌, ℕ, ◌+◌, Bool, true, false, eqb, cond, nat_lt, List, [], ◌∷◌, ◌++◌, sym, refl, ap, ◌∙◌, subst, codes, false≢true, nat_tests, to_ascii_lowercase, Placed, characters, lowered, begins, Entities, Piece, IsReference, IsPiece, plain, plain_piece, pieces_text, AreValue, one_of}
+use Rattle.hcuts.proofs.Names.{arith, ◌≡◌, ℕ, Bool, true, false, eqb, nat_lt, List, [], ◌∷◌, ◌++◌, sym, refl, ap, ◌∙◌, subst, codes, false≢true, nat_tests, to_ascii_lowercase, Placed, characters, lowered, begins, Entities, Piece, IsReference, IsPiece, plain, plain_piece, pieces_text, AreValue, one_of}
 use Rattle.charref.specs.Reference.{named, kept, unknown, decimal, hexadecimal, no_digits, alone}
 use Rattle.htag.specs.Value.{reference}
 use Rattle.hcuts.proofs.Words.{heads, tails, begins_more}
 
-lower_near : (c k : ℕ) (a b : Bool) → nat_lt c 65 ≡ a → cond a c (cond b (c + 32) c) ≡ k → nat_lt k 97 ≡ true → c ≡ k
-lower_near c k true b e h l = h
-lower_near c k false true e h l = absurd (grind (arith, nat_tests))
-lower_near c k false false e h l = h
-
 -- what is lowered to no letter is that
 pub lower_is : (c k : ℕ) → to_ascii_lowercase c ≡ k → nat_lt k 97 ≡ true → c ≡ k
-lower_is c k h l = lower_near c k (nat_lt c 65) (nat_lt c 91) refl h l
+lower_is c k h l = grind (arith, nat_tests)
 
 abbrev pub is_amp : ℕ → Bool
 is_amp c = eqb c 38

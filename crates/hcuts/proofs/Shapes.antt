@@ -1,12 +1,12 @@
 -- What tokens a span gives: one start tag, whose name begins with a letter, or none that is refused.
-use Rattle.hcuts.proofs.Names.{arith, ◌≡◌, ℕ, ◌+◌, Bool, true, false, cond, nat_lt, eqb, List, [], ◌∷◌, ◌++◌, sym, refl, ap, ◌∙◌, subst, false≢true, nat_tests, to_ascii_lowercase, Placed, RawKind, begins, is_letter, name_bytes, Entities, Piece, Tok, Start, End, Comment, Eof, Span, piece_span, Standing, IsTag, start_tag, end_tag, unfinished, IsDataSpan, character, reference, less_than_last, less_than_solidus_last, less_than, nothing, tag, comment, bogus_end_tag, bogus_question, bogus_cdata, bogus_declaration, doctype, IsRawSpan, IsSpanOf, IsSpan, raw_character, raw_reference, raw_end, has_refused, IsName}
+use Rattle.hcuts.proofs.Names.{arith, ◌≡◌, ℕ, Bool, true, false, cond, eqb, List, [], ◌∷◌, ◌++◌, sym, refl, ap, ◌∙◌, subst, false≢true, nat_tests, to_ascii_lowercase, Placed, RawKind, begins, is_letter, name_bytes, Entities, Piece, Tok, Start, Span, piece_span, Standing, IsTag, start_tag, end_tag, unfinished, IsDataSpan, character, reference, less_than_last, less_than_solidus_last, less_than, nothing, tag, comment, bogus_end_tag, bogus_question, bogus_cdata, bogus_declaration, doctype, IsRawSpan, IsSpanOf, IsSpan, raw_character, raw_reference, raw_end, has_refused, IsName}
 use Rattle.std.proofs.Common.{◌<◌, map}
 use Rattle.std.proofs.lemmas.Str.{encode_ascii}
 use Rattle.std.specs.Prelude.{encode_utf8_all}
 use Rattle.std.specs.Char.{encode_utf8}
 use Rattle.names.specs.declared.raw.RawKind.TheVariants as kind
 use Rattle.names.specs.Placed.{without_null}
-use Rattle.htoken.specs.Token.{Doctype, Char}
+use Rattle.htoken.specs.Token.{Char}
 use Rattle.htoken.specs.Standing.{after_tokens}
 use Rattle.hcuts.specs.SomeCut.{begins_letter}
 
@@ -18,13 +18,8 @@ not_null c h = grind (arith, nat_tests)
 letter_ascii : (c : ℕ) → is_letter c ≡ true → c < 128
 letter_ascii c h = grind (arith, nat_tests)
 
-lower_by : (c : ℕ) (a b : Bool) → nat_lt c 65 ≡ a → nat_lt c 91 ≡ b → is_letter c ≡ true → is_letter (cond a c (cond b (c + 32) c)) ≡ true
-lower_by c true b e f h = h
-lower_by c false true e f h = grind (arith, nat_tests)
-lower_by c false false e f h = h
-
 lower_letter : (c : ℕ) → is_letter c ≡ true → is_letter (to_ascii_lowercase c) ≡ true
-lower_letter c h = lower_by c (nat_lt c 65) (nat_lt c 91) refl refl h
+lower_letter c h = grind (arith, nat_tests)
 
 first_letter : (c : ℕ) (others : List ℕ) → is_letter c ≡ true → begins_letter (encode_utf8_all (to_ascii_lowercase (without_null c) ∷ others)) ≡ true
 first_letter c others h =
@@ -40,9 +35,8 @@ name_letter (p ∷ ps) h = first_letter p.ch (map (λ (q : Placed). to_ascii_low
 -- TOKENS
 
 abbrev NoStart : List Tok → Type 0
-NoStart [] = Unit {0}
 NoStart (Start name attrs closing at ∷ others) = ⊥
-NoStart (other ∷ others) = Unit {0}
+NoStart _ = Unit {0}
 
 pub data IsShape (tokens : List Tok) : Type 0 where
   others : has_refused tokens ≡ false → NoStart tokens → IsShape tokens
@@ -91,23 +85,15 @@ module _ (table : Entities) (end : ℕ) (rest : List Placed) (span : Span) where
 
     shape_by : (k : RawKind) → IsSpanOf k table end here rest span → IsShape span.tokens
     shape_by kind.None h = data_shape h
-    shape_by kind.Rcdata h = raw_shape h
-    shape_by kind.Rawtext h = raw_shape h
-    shape_by kind.Script h = raw_shape h
-    shape_by kind.Plaintext h = raw_shape h
+    shape_by _ h = raw_shape h
 
 pub span_shape : (table : Entities) (end : ℕ) (here : Standing) (rest : List Placed) (span : Span) → IsSpan table end here rest span → IsShape span.tokens
 span_shape table end here rest span h = shape_by table end rest span here here.kind h
 
 -- a name stays one
 no_start_name : (here : Standing) (text : List Placed) (tokens : List Tok) → IsName here.name → NoStart tokens → IsName (after_tokens here text tokens).name
-no_start_name here text [] h n = h
-no_start_name here text (Doctype name public system forced at ∷ ts) h n = h
 no_start_name here text (Start name attrs closing at ∷ ts) h n = absurd n
-no_start_name here text (End name at ∷ ts) h n = h
-no_start_name here text (Comment bytes at ∷ ts) h n = h
-no_start_name here text (Char ch at ∷ ts) h n = h
-no_start_name here text (Eof at ∷ ts) h n = h
+no_start_name here text _ h n = h
 
 pub next_name : (here : Standing) (text : List Placed) (tokens : List Tok) → IsName here.name → IsShape tokens → IsName (after_tokens here text tokens).name
 next_name here text tokens h (others r n) = no_start_name here text tokens h n

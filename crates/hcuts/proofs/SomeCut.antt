@@ -1,5 +1,5 @@
 -- Each text is cut, and has an answer.
-use Rattle.hcuts.proofs.Names.{arith, ◌≡◌, ℕ, zero, suc, ◌+◌, ◌≤◌, Bool, true, false, ◌&&◌, ◌||◌, cond, nat_lt, eqb, List, [], ◌∷◌, ◌++◌, length, Option, Some, None, sym, refl, ap, ◌∙◌, subst, append_assoc, append-nil, false≢true, eqb-true, nat_tests, is_some, to_ascii_lowercase, Placed, RawKind, RefusedName, spells, spells_in_any_case, is_letter, refused_name, tag_named, and_parts, or_none, Entities, IsTable, Tok, Eof, Span, Standing, at_start, next, standing_after, is_end_tag_of, is_raw_end, may_end, end_errors, IsRawSpan, IsSpanOf, IsSpan, has_references, raw_character, raw_reference, raw_end, spans_text, Cut, tokens_of, errors_of, is_refused_tag, has_refused, IsOut, HasTag, IsName, some_of}
+use Rattle.hcuts.proofs.Names.{arith, ◌≡◌, ℕ, zero, suc, ◌≤◌, Bool, true, false, ◌&&◌, ◌||◌, eqb, List, [], ◌∷◌, ◌++◌, length, Option, Some, None, sym, refl, ap, ◌∙◌, subst, append_assoc, append-nil, false≢true, eqb-true, nat_tests, is_some, to_ascii_lowercase, Placed, RawKind, RefusedName, spells, spells_in_any_case, is_letter, refused_name, tag_named, and_parts, or_none, Entities, IsTable, Tok, Eof, Span, Standing, at_start, next, standing_after, is_end_tag_of, is_raw_end, may_end, end_errors, IsRawSpan, IsSpanOf, IsSpan, has_references, raw_character, raw_reference, raw_end, spans_text, Cut, tokens_of, errors_of, is_refused_tag, has_refused, IsOut, HasTag, IsName, some_of}
 use Rattle.names.proofs.Words.{or_second}
 use Rattle.names.specs.declared.raw.RawKind.TheVariants as kind
 use Rattle.hcuts.specs.SomeCut.{HasCut, HasAnswer, gives, refuses, SomeSpan, SomeCut, SomeAnswer}
@@ -19,18 +19,11 @@ record HasRaw (table : Entities) (end : ℕ) (here : Standing) (text : List Plac
   is_span : IsRawSpan table end here rest span
   long : 1 ≤ length span.text
 
-letter_by : (r c : ℕ) (a b : Bool) → nat_lt r 65 ≡ a → nat_lt r 91 ≡ b → cond a r (cond b (r + 32) r) ≡ c → is_letter c ≡ true → is_letter r ≡ true
-letter_by r c true b e f g h = ap is_letter g ∙ h
-letter_by r c false true e f g h = grind (arith, nat_tests)
-letter_by r c false false e f g h = ap is_letter g ∙ h
-
 letter_of : (r c : ℕ) → to_ascii_lowercase r ≡ c → is_letter c ≡ true → is_letter r ≡ true
-letter_of r c g h = letter_by r c (nat_lt r 65) (nat_lt r 91) refl refl g h
+letter_of r c g h = grind (arith, nat_tests)
 
 three_parts : (a b c : Bool) → (a && b && c) ≡ true → (a ≡ true) × (b ≡ true)
-three_parts true true c h = (refl, refl)
-three_parts true false c h = absurd (false≢true h)
-three_parts false b c h = absurd (false≢true h)
+three_parts a b c h = (grind (arith, nat_tests), grind (arith, nat_tests))
 
 module _ (table : Entities) (is_table : IsTable table) (end : ℕ) where
   tag_here : (p q r : Placed) (rs : List Placed) (c : ℕ) → p.ch ≡ 60 → q.ch ≡ 47 → to_ascii_lowercase r.ch ≡ c → is_letter c ≡ true → HasTag table end (p ∷ q ∷ r ∷ rs)
@@ -38,9 +31,7 @@ module _ (table : Entities) (is_table : IsTable table) (end : ℕ) where
 
   -- an end tag of a name that begins with a letter is a tag
   end_tag_here : (name : Option (List ℕ)) (text : List Placed) → IsName name → is_end_tag_of name text ≡ true → HasTag table end text
-  end_tag_here None text n h = absurd (false≢true h)
   end_tag_here (Some []) text n h = absurd (false≢true n)
-  end_tag_here (Some (c ∷ cs)) [] n h = absurd (false≢true h)
   end_tag_here (Some (c ∷ cs)) (p ∷ []) n h = absurd (false≢true (and_parts (eqb p.ch 60) false (three_parts (spells (60 ∷ 47 ∷ []) (p ∷ [])) (spells_in_any_case (c ∷ cs) []) _ h).0).1)
   end_tag_here (Some (c ∷ cs)) (p ∷ q ∷ []) n h = absurd (false≢true (three_parts (spells (60 ∷ 47 ∷ []) (p ∷ q ∷ [])) (spells_in_any_case (c ∷ cs) []) _ h).1)
   end_tag_here (Some (c ∷ cs)) (p ∷ q ∷ r ∷ rs) n h =
@@ -48,6 +39,7 @@ module _ (table : Entities) (is_table : IsTable table) (end : ℕ) where
       let marks = and_parts (eqb p.ch 60) (eqb q.ch 47 && true) k.0 in
       tag_here p q r rs c (eqb-true p.ch 60 marks.0) (eqb-true q.ch 47 (and_parts (eqb q.ch 47) true marks.1).0)
       (eqb-true (to_ascii_lowercase r.ch) c (and_parts (eqb (to_ascii_lowercase r.ch) c) (spells_in_any_case cs rs) k.1).0) n
+  end_tag_here _ _ n h = absurd (false≢true h)
 
   module _ (here : Standing) (named : IsName here.name) where
     raw_char : (p : Placed) (ps : List Placed) (amp : Bool) → (has_references here.kind && eqb p.ch 38) ≡ amp → is_raw_end here (p ∷ ps) ≡ false → HasRaw table end here (p ∷ ps)
@@ -68,10 +60,7 @@ module _ (table : Entities) (is_table : IsTable table) (end : ℕ) where
 
     span_by : (p : Placed) (ps : List Placed) (k : RawKind) → (span : Span) × (rest : List Placed) × (p ∷ ps ≡ span.text ++ rest) × IsSpanOf k table end here rest span × (1 ≤ length span.text)
     span_by p ps kind.None = let k = some_data_span table is_table end p ps in (k.span, k.rest, k.text_is, k.is_span, k.long)
-    span_by p ps kind.Rcdata = let k = raw_here p ps in (k.span, k.rest, k.text_is, k.is_span, k.long)
-    span_by p ps kind.Rawtext = let k = raw_here p ps in (k.span, k.rest, k.text_is, k.is_span, k.long)
-    span_by p ps kind.Script = let k = raw_here p ps in (k.span, k.rest, k.text_is, k.is_span, k.long)
-    span_by p ps kind.Plaintext = let k = raw_here p ps in (k.span, k.rest, k.text_is, k.is_span, k.long)
+    span_by p ps _ = let k = raw_here p ps in (k.span, k.rest, k.text_is, k.is_span, k.long)
 
 pub some_span : SomeSpan
 some_span table end here p text is_table named =

@@ -1,5 +1,5 @@
 -- A part of a tag is at the front of each text where a tag does not end.
-use Rattle.hcuts.proofs.Names.{arith, ◌≡◌, ℕ, zero, suc, ◌≤◌, Bool, true, false, not, ◌&&◌, ◌||◌, ◌==◌, eqb, if◌then◌else◌, List, [], ◌∷◌, ◌++◌, length, drop, sym, refl, ap, ◌∙◌, subst, append_assoc, append-nil, length-append, false≢true, eqb-true, not_second, Placed, begins, stops, all, RunsTo, past, is_space, is_equals, is_greater, is_quote, and_both, or_none, Entities, Piece, IsTable, IsPiece, plain, plain_piece, AreValue, pieces_text, Part, IsPart, AreParts, parts_text, IsAttributeName, ends_name, ends_attribute_name, ends_unquoted, is_sign, space, solidus, bare, no_value, unquoted, quoted, unclosed, some_of}
+use Rattle.hcuts.proofs.Names.{nat_tests, arith, ◌≡◌, ℕ, zero, suc, ◌≤◌, Bool, true, false, not, ◌&&◌, ◌||◌, ◌==◌, eqb, if◌then◌else◌, List, [], ◌∷◌, ◌++◌, length, drop, sym, refl, ap, ◌∙◌, subst, append_assoc, append-nil, length-append, false≢true, eqb-true, not_second, Placed, begins, stops, all, RunsTo, past, is_space, is_equals, is_greater, is_quote, and_both, or_none, Entities, Piece, IsTable, IsPiece, plain, plain_piece, AreValue, pieces_text, Part, IsPart, AreParts, parts_text, IsAttributeName, ends_name, ends_attribute_name, ends_unquoted, is_sign, space, solidus, bare, no_value, unquoted, quoted, unclosed, some_of}
 use Rattle.std.proofs.lemmas.Bool.{or_parts, not-true}
 use Rattle.hmarkup.proofs.Endings.{not_either}
 use Rattle.htag.specs.Value.{reference}
@@ -73,13 +73,9 @@ module _ (table : Entities) (is_table : IsTable table) where
 
 -- SIGNS
 
-twice_by : (a b d : Bool) → (not (not a) && b) ≡ true → (b ≡ true → d ≡ true) → (a && d) ≡ true
-twice_by true b d h next = next h
-twice_by false b d h next = absurd (false≢true h)
-
 all_twice : (test : ℕ → Bool) (xs : List Placed) → all (λ c. not (not (test c))) xs ≡ true → all test xs ≡ true
 all_twice test [] h = refl
-all_twice test (x ∷ xs) h = twice_by (test x.ch) (all (λ c. not (not (test c))) xs) (all test xs) h (all_twice test xs)
+all_twice test (x ∷ xs) h = grind (arith, nat_tests, all_twice test xs)
 
 stops_twice : (test : ℕ → Bool) (xs : List Placed) → stops (λ c. not (test c)) xs ≡ true → begins test xs ≡ false
 stops_twice test [] h = refl
@@ -121,10 +117,7 @@ stops_less test [] tail s h = absurd (false≢true s)
 stops_less test (p ∷ ps) tail s h = h
 
 none_of : (a b c : Bool) → a ≡ false → b ≡ false → c ≡ false → not (a || b || c) ≡ true
-none_of true b c h k l = absurd (false≢true (sym h))
-none_of false true c h k l = absurd (false≢true (sym k))
-none_of false false true h k l = absurd (false≢true (sym l))
-none_of false false false h k l = refl
+none_of a b c h k l = grind (arith, nat_tests)
 
 module _ (table : Entities) (is_table : IsTable table) (end : ℕ) (name sign : List Placed) (n : IsAttributeName name sign) (s : is_sign sign ≡ true) where
   long_name : (others : List Placed) → 1 ≤ length (name ++ others)
