@@ -1,5 +1,5 @@
 -- To move the first child of a node until none is left is to move them all.
-use Rattle.hnodes.proofs.Names.{◌≡◌, ◌≢◌, ℕ, zero, suc, ◌+◌, ◌<◌, ◌≤◌, Bool, true, false, eqb, cond, Some, None, refl, sym, ◌∙◌, ap, subst, arith, eqb-true, eq-eqb, ne_eqb, What, document, Forest, none, tree, size, times, join, tree_at, cut, children_of, change_children, IsOutside, first_or, first_child_of, Nodes, AreNodes, graft_last, move_all}
+use Rattle.hnodes.proofs.Names.{◌≡◌, ◌≢◌, ℕ, zero, suc, ◌+◌, ◌<◌, Bool, cond, Some, None, refl, sym, ◌∙◌, ap, subst, arith, eqb-true, eq-eqb, ne_eqb, What, Forest, none, tree, size, times, join, tree_at, cut, children_of, change_children, IsOutside, first_or, first_child_of, Nodes, AreNodes, graft_last, move_all}
 use Rattle.hnodes.proofs.Forests.{some_inj, join-none, join-assoc, times-join, tree_at-absent, children_of-absent, change_children-absent, times-changed, times-cut, children-apart, change-const}
 use Rattle.hnodes.proofs.Counted.{at-most, is-there}
 use Rattle.hnodes.proofs.Families.{Sited, at_root, in_kids, in_rest, sited, family, first-cut, first_child-is, children-among}
@@ -12,15 +12,7 @@ module _ {N : Type 0} where
   -- what comes under p does not show in the tree of m, which p is not in
   tree_at-elsewhere : (m p : ℕ) (T f : Forest N) → times m T ≡ 0 → times p (tree_at m f) ≡ 0 → tree_at m (change_children p (λ k. join k T) f) ≡ tree_at m f
   tree_at-elsewhere m p T none t h = refl
-  tree_at-elsewhere m p T (tree b w kids rest) t h = go (tree_at-elsewhere m p T kids t) (tree_at-elsewhere m p T rest t) (eqb b m) (eqb b p) refl refl h
-    where
-      go : (times p (tree_at m kids) ≡ 0 → tree_at m (change_children p (λ k. join k T) kids) ≡ tree_at m kids) → (times p (tree_at m rest) ≡ 0 → tree_at m (change_children p (λ k. join k T) rest) ≡ tree_at m rest)
-          → (u v : Bool) → eqb b m ≡ u → eqb b p ≡ v → times p (cond u (tree b w kids none) (join (tree_at m kids) (tree_at m rest))) ≡ 0
-          → tree_at m (cond v (tree b w (join kids T) rest) (tree b w (change_children p (λ k. join k T) kids) (change_children p (λ k. join k T) rest))) ≡ cond u (tree b w kids none) (join (tree_at m kids) (tree_at m rest))
-      go l r true true e i z = let o : 1 + (times p kids + 0) ≡ 0 = subst (λ (x : Bool). cond x 1 0 + (times p kids + 0) ≡ 0) i z in absurd (omega arith)
-      go l r true false e i z = rw (e, change_children-absent p (λ k. join k T) kids (omega arith)) refl
-      go l r false true e i z = rw (e, tree_at-front m kids T t) refl
-      go l r false false e i z = rw (e, l (omega (arith, times-join p (tree_at m kids) (tree_at m rest))), r (omega (arith, times-join p (tree_at m kids) (tree_at m rest)))) refl
+  tree_at-elsewhere m p T (tree b w kids rest) t h = grind (arith, tree_at-elsewhere m p T kids t, tree_at-elsewhere m p T rest t, change_children-absent, tree_at-front, times-join)
 
   -- the tree of m has the new children of m
   tree_at-changed : (m : ℕ) (R f : Forest N) → times m f ≡ 1 → (w : What N) × (tree_at m (change_children m (λ _. R) f) ≡ tree m w R none)
@@ -35,59 +27,24 @@ module _ {N : Type 0} where
 
   change-change : (p : ℕ) (a b : Forest N → Forest N) (f : Forest N) → change_children p a (change_children p b f) ≡ change_children p (λ k. a (b k)) f
   change-change p a b none = refl
-  change-change p a b (tree d w kids rest) = go (change-change p a b kids) (change-change p a b rest) (eqb d p) refl
-    where
-      go : change_children p a (change_children p b kids) ≡ change_children p (λ k. a (b k)) kids → change_children p a (change_children p b rest) ≡ change_children p (λ k. a (b k)) rest → (v : Bool) → eqb d p ≡ v
-          → change_children p a (cond v (tree d w (b kids) rest) (tree d w (change_children p b kids) (change_children p b rest))) ≡ cond v (tree d w (a (b kids)) rest) (tree d w (change_children p (λ k. a (b k)) kids) (change_children p (λ k. a (b k)) rest))
-      go l r true e = rw e refl
-      go l r false e = rw e (λ i. tree d w (l i) (r i))
+  change-change p a b (tree d w kids rest) = grind (arith, change-change p a b kids, change-change p a b rest)
 
   change-join : (m : ℕ) (g : Forest N → Forest N) (f T : Forest N) → times m T ≡ 0 → change_children m g (join f T) ≡ join (change_children m g f) T
   change-join m g none T h = change_children-absent m g T h
-  change-join m g (tree b w kids rest) T h = go (change-join m g rest T h) (eqb b m)
-    where
-      go : change_children m g (join rest T) ≡ join (change_children m g rest) T → (v : Bool) → cond v (tree b w (g kids) (join rest T)) (tree b w (change_children m g kids) (change_children m g (join rest T))) ≡ join (cond v (tree b w (g kids) rest) (tree b w (change_children m g kids) (change_children m g rest))) T
-      go r true = refl
-      go r false = λ i. tree b w (change_children m g kids) (r i)
+  change-join m g (tree b w kids rest) T h = grind (arith, change-join m g rest T h)
 
   -- m is emptied before something comes under p, or after
   empty-elsewhere : (m p : ℕ) (T f : Forest N) → m ≢ p → times m T ≡ 0 → change_children m (λ _. none) (change_children p (λ k. join k T) f) ≡ change_children p (λ k. join k T) (change_children m (λ _. none) f)
   empty-elsewhere m p T none h t = refl
-  empty-elsewhere m p T (tree b w kids rest) h t = go (empty-elsewhere m p T kids h t) (empty-elsewhere m p T rest h t) (eqb b m) (eqb b p) refl refl
-    where
-      go : change_children m (λ _. none) (change_children p (λ k. join k T) kids) ≡ change_children p (λ k. join k T) (change_children m (λ _. none) kids)
-          → change_children m (λ _. none) (change_children p (λ k. join k T) rest) ≡ change_children p (λ k. join k T) (change_children m (λ _. none) rest)
-          → (u v : Bool) → eqb b m ≡ u → eqb b p ≡ v
-          → change_children m (λ _. none) (cond v (tree b w (join kids T) rest) (tree b w (change_children p (λ k. join k T) kids) (change_children p (λ k. join k T) rest)))
-          ≡ change_children p (λ k. join k T) (cond u (tree b w none rest) (tree b w (change_children m (λ _. none) kids) (change_children m (λ _. none) rest)))
-      go l r true true e i = absurd (h (sym (eqb-true b m e) ∙ eqb-true b p i))
-      go l r true false e i = rw (e, i) refl
-      go l r false true e i = rw (e, i, change-join m (λ _. none) kids T t) refl
-      go l r false false e i = rw (e, i) (λ j. tree b w (l j) (r j))
+  empty-elsewhere m p T (tree b w kids rest) h t = grind (arith, empty-elsewhere m p T kids h t, empty-elsewhere m p T rest h t, change-join)
 
   change-same : (m : ℕ) (X f : Forest N) → times m f ≡ 1 → children_of m f ≡ X → change_children m (λ _. X) f ≡ f
   change-same m X none h e = refl
-  change-same m X (tree b w kids rest) h e = go (change-same m X kids) (change-same m X rest) (sited m b kids rest h)
-    where
-      go : (times m kids ≡ 1 → children_of m kids ≡ X → change_children m (λ _. X) kids ≡ kids) → (times m rest ≡ 1 → children_of m rest ≡ X → change_children m (λ _. X) rest ≡ rest)
-          → Sited m b kids rest → change_children m (λ _. X) (tree b w kids rest) ≡ tree b w kids rest
-      go l r (at_root i a z) =
-          let same : kids ≡ X = subst (λ (u : Bool). cond u kids (join (children_of m kids) (children_of m rest)) ≡ X) i e in
-          rw i (λ j. tree b w (sym same j) rest)
-      go l r (in_kids i a z) =
-          let same : children_of m kids ≡ X = sym (join-none (children_of m kids)) ∙ ap (join (children_of m kids)) (sym (children_of-absent m rest z)) ∙ subst (λ (u : Bool). cond u kids (join (children_of m kids) (children_of m rest)) ≡ X) i e in
-          rw (i, change_children-absent m (λ _. X) rest z) (λ j. tree b w (l a same j) rest)
-      go l r (in_rest i a z) =
-          let same : children_of m rest ≡ X = ap (λ g. join g (children_of m rest)) (sym (children_of-absent m kids a)) ∙ subst (λ (u : Bool). cond u kids (join (children_of m kids) (children_of m rest)) ≡ X) i e in
-          rw (i, change_children-absent m (λ _. X) kids a) (λ j. tree b w kids (r z same j))
+  change-same m X (tree b w kids rest) h e = grind (arith, change-same m X kids, change-same m X rest, join-none, children_of-absent, change_children-absent)
 
   change-id : (p : ℕ) (f : Forest N) → change_children p (λ k. k) f ≡ f
   change-id p none = refl
-  change-id p (tree b w kids rest) = go (change-id p kids) (change-id p rest) (eqb b p)
-    where
-      go : change_children p (λ k. k) kids ≡ kids → change_children p (λ k. k) rest ≡ rest → (v : Bool) → cond v (tree b w kids rest) (tree b w (change_children p (λ k. k) kids) (change_children p (λ k. k) rest)) ≡ tree b w kids rest
-      go l r true = refl
-      go l r false = λ i. tree b w (l i) (r i)
+  change-id p (tree b w kids rest) = grind (arith, change-id p kids, change-id p rest)
 
   -- no children are left
   pub none-left : (v : Nodes N) (m p : ℕ) → AreNodes v → m < v.made → first_child_of m v.trees ≡ None → move_all m p v.trees ≡ v.trees
@@ -103,15 +60,7 @@ module _ {N : Type 0} where
 
   -- the document is no child
   not_zero : (v : Nodes N) (m : ℕ) → AreNodes v → times 0 (children_of m v.trees) ≡ 0
-  not_zero v m a =
-      let o : times 0 (tree 0 document a.counted.begins.0 a.counted.begins.1) ≤ 1 = subst (λ (f : Forest N). times 0 f ≤ 1) a.counted.begins.2 (at-most v.made v.trees a.counted 0) in
-      let c : times 0 (children_of m (tree 0 document a.counted.begins.0 a.counted.begins.1)) ≡ 0 = go (eqb 0 m) (children-among 0 m a.counted.begins.0) (children-among 0 m a.counted.begins.1) o in
-      rw a.counted.begins.2 c
-    where
-      go : (u : Bool) → times 0 (children_of m a.counted.begins.0) ≤ times 0 a.counted.begins.0 → times 0 (children_of m a.counted.begins.1) ≤ times 0 a.counted.begins.1 → 1 + (times 0 a.counted.begins.0 + times 0 a.counted.begins.1) ≤ 1
-          → times 0 (cond u a.counted.begins.0 (join (children_of m a.counted.begins.0) (children_of m a.counted.begins.1))) ≡ 0
-      go true x y o = omega arith
-      go false x y o = omega (arith, times-join 0 (children_of m a.counted.begins.0) (children_of m a.counted.begins.1))
+  not_zero v m a = grind (arith, children-among, times-join)
 
   -- what there is to show of the move of a first child
   pub record Moves (v : Nodes N) (m p c : ℕ) : Type 0 where

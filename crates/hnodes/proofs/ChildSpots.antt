@@ -1,5 +1,5 @@
 -- Where a child of a node is.
-use Rattle.hnodes.proofs.Names.{◌≡◌, ℕ, ◌+◌, ◌<◌, ◌≤◌, Bool, true, false, eqb, cond, Option, Some, None, refl, sym, ◌∙◌, ap, subst, arith, eqb-true, eq-eqb, What, Forest, none, tree, times, join, children_of, Spot, spot_below, spot_of, either_of, last_or}
+use Rattle.hnodes.proofs.Names.{◌≡◌, ℕ, ◌+◌, ◌<◌, ◌≤◌, Bool, true, false, eqb, cond, Option, Some, None, refl, sym, ◌∙◌, ap, subst, arith, eqb-true, eq-eqb, What, Forest, none, tree, times, join, children_of, Spot, spot_below, spot_of, last_or}
 use Rattle.hnodes.proofs.Forests.{times-join, join-none, children_of-absent}
 use Rattle.hnodes.proofs.Spots.{either-none, spot_below-absent, spot_of-absent}
 use Rattle.hnodes.proofs.Fresh.{spot_of-join}
@@ -59,18 +59,10 @@ module _ {N : Type 0} (n q : ℕ) (w : What N) (L k R : Forest N) where
 module _ {N : Type 0} (n q : ℕ) (w : What N) where
   spot-row : (p x : Option ℕ) (L k R : Forest N) → times n L ≡ 0 → spot_below n p x (join L (tree n w k R)) ≡ Some (spot_among n q w L k R p x)
   spot-row p x none k R h = rw (eq-eqb n n refl) refl
-  spot-row p x (tree b v kids rest) k R h = go (spot-row p (Some b) rest k R) (eqb b n) refl h
-    where
-      go : (times n rest ≡ 0 → spot_below n p (Some b) (join rest (tree n w k R)) ≡ Some (spot_among n q w rest k R p (Some b))) → (u : Bool) → eqb b n ≡ u → cond u 1 0 + (times n kids + times n rest) ≡ 0
-          → spot_below n p x (tree b v kids (join rest (tree n w k R))) ≡ Some (spot_among n q w rest k R p (Some b))
-      go r true e h' = absurd (omega arith)
-      go r false e h' = rw (e, spot_below-absent n (Some b) None kids (omega arith)) (r (omega arith))
+  spot-row p x (tree b v kids rest) k R h = grind (arith, spot-row p (Some b) rest k R, spot_below-absent)
 
   pub left-apart : (L k R : Forest N) → times n (join L (tree n w k R)) ≡ 1 → times n L ≡ 0
-  left-apart L k R h = go (times-join n L (tree n w k R))
-    where
-      go : times n (join L (tree n w k R)) ≡ times n L + times n (tree n w k R) → times n L ≡ 0
-      go e = let one : 0 < times n (tree n w k R) = rw (eq-eqb n n refl) (omega arith) in omega arith
+  left-apart L k R h = grind (arith, times-join)
 
   child-below : (p x : Option ℕ) (L k R f : Forest N) → times q f ≡ 1 → times n f ≡ 1 → children_of q f ≡ join L (tree n w k R) → spot_below n p x f ≡ Some (spot_among n q w L k R (Some q) None)
   child-below p x L k R none one once is = absurd (omega arith)
@@ -106,10 +98,4 @@ module _ {N : Type 0} (n q : ℕ) (w : What N) where
 
 -- a root has neither parent nor siblings
 pub root-spot : {N : Type 0} (n : ℕ) (w : What N) (L k R f : Forest N) → times n f ≤ 1 → f ≡ join L (tree n w k R) → spot_of n f ≡ Some (record { parent = None; before = None; what = w; children = k; after = none })
-root-spot {N} n w L k R f few is = ap (spot_of n) is ∙ spot_of-join n L (tree n w k R) ∙ alone (left_out (ap (times n) is))
-  where
-    left_out : times n f ≡ times n (join L (tree n w k R)) → times n L ≡ 0
-    left_out e = let one : times n (tree n w k R) ≡ 1 + (times n k + times n R) = rw (eq-eqb n n refl) refl in omega (arith, times-join n L (tree n w k R))
-
-    alone : times n L ≡ 0 → either_of (spot_of n L) (spot_of n (tree n w k R)) ≡ Some (record { parent = None; before = None; what = w; children = k; after = none })
-    alone out = rw (spot_of-absent n L out, eq-eqb n n refl) refl
+root-spot {N} n w L k R f few is = grind (arith, spot_of-join, times-join, spot_of-absent)

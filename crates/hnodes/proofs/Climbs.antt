@@ -1,5 +1,5 @@
 -- From a node to its parent.
-use Rattle.hnodes.proofs.Names.{◌≡◌, ◌≢◌, ℕ, Bool, true, false, not, eqb, ◌-◌, ◌<◌, Some, None, length, get_or, refl, sym, ◌∙◌, ap, arith, eqb-true, eq-eqb, size, times, tree_at, IsOutside, Nodes, parent_in, look_in, row_of, nodes_of, IsTree, Node, Inside}
+use Rattle.hnodes.proofs.Names.{◌≡◌, ◌≢◌, ℕ, true, false, not, eqb, ◌-◌, ◌<◌, Some, None, length, get_or, sym, ◌∙◌, ap, arith, eq-eqb, size, times, tree_at, IsOutside, Nodes, parent_in, look_in, row_of, nodes_of, IsTree, Node, Inside}
 use Rattle.hnodes.proofs.Forests.{some_inj}
 use Rattle.hnodes.proofs.Within.{one-of, once-of}
 use Rattle.hnodes.proofs.Rows.{row_seen}
@@ -10,11 +10,7 @@ pub unlike : (a b : ℕ) → true ≡ not (eqb a b) → a ≢ b
 unlike a b e j = let z : true ≡ not true = e ∙ ap not (eq-eqb a b j) in cc
 
 pub alike : (a b : ℕ) → false ≡ not (eqb a b) → a ≡ b
-alike a b e = go (eqb a b) refl e
-  where
-    go : (u : Bool) → eqb a b ≡ u → false ≡ not u → a ≡ b
-    go true i j = eqb-true a b i
-    go false i j = cc
+alike a b e = grind arith
 
 -- what a step up does
 pub record Step (v : Nodes ℕ) (n q top : ℕ) : Type 0 where
@@ -36,10 +32,7 @@ module _ (t : Inside) (v : Nodes ℕ) (n k top : ℕ) (x : Node) (e : nodes_of t
   stepped q is = go above
     where
       go : Up (look_in t.nodes.items) v.trees n top → Step v n q top
-      go (at_end a b) = absurd (no (sym is ∙ sym (ap parent_in seen) ∙ a))
-        where
-          no : Some q ≡ None → ⊥
-          no j = cc
+      go (at_end a b) = grind (arith, seen)
       go (higher p a b c) =
           let same : p ≡ q = some_inj (sym a ∙ ap parent_in seen ∙ is) in
           let there : q < length t.nodes.items = (linked t v n o h).0 q (ap parent_in seen ∙ is) in
@@ -50,14 +43,7 @@ module _ (t : Inside) (v : Nodes ℕ) (n k top : ℕ) (x : Node) (e : nodes_of t
           }
 
   pub ended : x.parent ≡ None → IsOutside n top v.trees
-  ended is = go above
-    where
-      go : Up (look_in t.nodes.items) v.trees n top → IsOutside n top v.trees
-      go (at_end a b) = b
-      go (higher p a b c) = absurd (no (sym a ∙ ap parent_in seen ∙ is))
-        where
-          no : Some p ≡ None → ⊥
-          no j = cc
+  ended is = grind (arith, above, seen)
 
 pub reached : (t : Inside) (v : Nodes ℕ) (top : ℕ) → nodes_of t ≡ v → IsTree t → top < v.made → times top (tree_at top v.trees) ≢ 0
 reached t v top e s h = let o = opened t v e s in top-inside top v.trees (one-of (length t.nodes.items) (look_in t.nodes.items) v.trees top o.stands (omega (arith, o.made)))

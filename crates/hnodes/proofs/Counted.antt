@@ -1,5 +1,5 @@
 -- What the edits keep: each node is in the forest once, and the document's tree comes first.
-use Rattle.hnodes.proofs.Names.{◌≡◌, ◌≢◌, ℕ, zero, suc, ◌+◌, ◌<◌, ◌≤◌, Bool, true, false, eqb, ltb, cond, if◌then◌else◌, refl, ◌∙◌, subst, arith, ◌⊎◌, inl, inr, eq-eqb, ne_eqb, cases_lt, le-leb, lt-leb, What, document, Forest, none, tree, times, join, tree_at, cut, children_of, change_children, change_what, put_before, AreCounted, place_node, graft, move_all, Place, LastIn, Before}
+use Rattle.hnodes.proofs.Names.{◌≡◌, ◌≢◌, ℕ, zero, suc, ◌+◌, ◌<◌, ◌≤◌, Bool, true, false, eqb, ltb, cond, if◌then◌else◌, refl, ◌∙◌, subst, arith, ne_eqb, le-leb, lt-leb, What, document, Forest, none, tree, times, join, tree_at, cut, children_of, change_children, change_what, put_before, AreCounted, place_node, graft, move_all, Place, LastIn, Before}
 use Rattle.hnodes.proofs.Forests.{times-join, times-cut, times-emptied, children-apart}
 use Rattle.hnodes.proofs.Whats.{times-what}
 use Rattle.hnodes.proofs.Counts.{emptied, times-hung, times-put, times-emptied-apart}
@@ -39,11 +39,7 @@ module _ {N : Type 0} where
 
   module _ (made : ℕ) (f : Forest N) (counted : AreCounted made f) where
     pub at-most : (x : ℕ) → times x f ≤ 1
-    at-most x = rw (counted.once x) (go (ltb x made))
-      where
-        go : (v : Bool) → cond v 1 0 ≤ 1
-        go true = omega arith
-        go false = omega arith
+    at-most x = grind arith
 
     pub is-there : (x : ℕ) → x < made → times x f ≡ 1
     is-there x h = rw (counted.once x, le-leb (suc x) made (omega arith)) refl
@@ -52,48 +48,21 @@ module _ {N : Type 0} where
     not-there x h = rw (counted.once x, lt-leb (suc x) made (omega arith)) refl
 
     pub was-made : (x : ℕ) → 0 < times x f → x < made
-    was-made x h = go (cases_lt x made)
-      where
-        go : (x < made) ⊎ (made ≤ x) → x < made
-        go (inl a) = a
-        go (inr a) = absurd (omega (arith, not-there x a))
+    was-made x h = grind arith
 
     pub one-there : (x : ℕ) → 0 < times x f → times x f ≡ 1
     one-there x h = omega (arith, at-most x)
 
     pub deep-there : (x y : ℕ) → 0 < deep x y f → (x < made) × (y < made)
-    deep-there x y h = (was-made x (go (times x f) refl), was-made y (go' (times y f) refl))
-      where
-        go : (j : ℕ) → times x f ≡ j → 0 < times x f
-        go zero a = absurd (omega (arith, deep-lower x y f a))
-        go (suc j) a = omega arith
-
-        go' : (j : ℕ) → times y f ≡ j → 0 < times y f
-        go' zero a = absurd (omega (arith, deep-upper x y f a))
-        go' (suc j) a = omega arith
+    deep-there x y h = grind (arith, deep-lower, deep-upper)
 
     -- the document is in nothing else
     pub document-out : (y : ℕ) → 0 < y → deep 0 y f ≡ 0
-    document-out y h = go counted.begins
-      where
-        go : Begins f → deep 0 y f ≡ 0
-        go (kids, rest, is) =
-            let one : 1 + (times 0 kids + times 0 rest) ≤ 1 = subst (λ (g : Forest N). times 0 g ≤ 1) is (at-most 0) in
-            rw (is, ne_eqb 0 y (λ e. omega arith)) (omega (arith, deep-lower 0 y kids (omega arith), deep-lower 0 y rest (omega arith)))
+    document-out y h = grind (arith, deep-lower)
 
     -- what is below the document
     pub below-document : (x : ℕ) → times x (children_of 0 f) ≡ 1 → (0 < deep x 0 f) × (0 < x)
-    below-document x h = (omega (arith, children-deep x 0 f), go x refl)
-      where
-        go : (j : ℕ) → x ≡ j → 0 < x
-        go zero a = absurd (let z = children-apart 0 f (at0 counted.begins) in let z' : times x (children_of 0 f) ≡ 0 = rw a z in omega arith)
-          where
-            at0 : Begins f → times 0 f ≡ 1
-            at0 (kids, rest, is) = omega (arith, at-most 0, is0)
-              where
-                is0 : 0 < times 0 f
-                is0 = rw is (omega arith)
-        go (suc j) a = omega arith
+    below-document x h = grind (arith, children-deep, children-apart)
 
     pub in-document : (x : ℕ) → 0 < deep x 0 f → 0 < x → times x (children_of 0 f) ≡ 1
     in-document x h pos = go counted.begins
@@ -109,22 +78,14 @@ module _ {N : Type 0} where
 
   -- a new node is there once
   pub times-new : (new : ℕ) (w : What N) (f : Forest N) → times new f ≡ 0 → times new (join f (tree new w none none)) ≡ 1
-  times-new new w f z = omega (arith, times-join new f (tree new w none none), is)
-    where
-      is : times new (tree new w none none) ≡ 1
-      is = rw (eq-eqb new new refl) refl
+  times-new new w f z = grind (arith, times-join)
 
   -- a node is made
   pub counted-new : (made : ℕ) (w : What N) (f : Forest N) → AreCounted made f → AreCounted (made + 1) (join f (tree made w none none))
   counted-new made w f s = record { once = one; begins = begins-join (tree made w none none) f s.begins }
     where
       one : (x : ℕ) → times x (join f (tree made w none none)) ≡ (if ltb x (made + 1) then 1 else 0)
-      one x = go (cases_lt x made) (cases_lt made x)
-        where
-          go : (x < made) ⊎ (made ≤ x) → (made < x) ⊎ (x ≤ made) → times x (join f (tree made w none none)) ≡ (if ltb x (made + 1) then 1 else 0)
-          go (inl a) c = rw (le-leb (suc x) (made + 1) (omega arith), times-join x f (tree made w none none), is-there made f s x a, ne_eqb made x (λ e. omega arith)) refl
-          go (inr a) (inl c) = rw (lt-leb (suc x) (made + 1) (omega arith), times-join x f (tree made w none none), not-there made f s x a, ne_eqb made x (λ e. omega arith)) refl
-          go (inr a) (inr c) = let e : made ≡ x = omega arith in rw (le-leb (suc x) (made + 1) (omega arith), times-join x f (tree made w none none), not-there made f s x a, eq-eqb made x e) refl
+      one x = grind (arith, times-join)
 
   -- a node is put at a place
   pub counted-graft : (made n : ℕ) (place : Place) (f : Forest N) → AreCounted made f → 0 < n → NotBefore 0 place → times (place_node place) f ≡ 1 → times (place_node place) (tree_at n f) ≡ 0 → AreCounted made (graft n place f)

@@ -15,52 +15,26 @@ module _ {N : Type 0} where
   -- no node is inside another unless both are in the forest
   pub deep-lower : (x y : ℕ) (f : Forest N) → times x f ≡ 0 → deep x y f ≡ 0
   deep-lower x y none h = refl
-  deep-lower x y (tree b w kids rest) h = go (deep-lower x y kids) (deep-lower x y rest) (eqb b y) (eqb b x) h
-    where
-      go : (times x kids ≡ 0 → deep x y kids ≡ 0) → (times x rest ≡ 0 → deep x y rest ≡ 0) → (u v : Bool) → cond v 1 0 + (times x kids + times x rest) ≡ 0
-          → cond u (cond v 1 0 + times x kids) 0 + (deep x y kids + deep x y rest) ≡ 0
-      go l r u true h' = absurd (omega arith)
-      go l r true false h' = omega (arith, l (omega arith), r (omega arith))
-      go l r false false h' = omega (arith, l (omega arith), r (omega arith))
+  deep-lower x y (tree b w kids rest) h = grind (arith, deep-lower x y kids, deep-lower x y rest)
 
   pub deep-upper : (x y : ℕ) (f : Forest N) → times y f ≡ 0 → deep x y f ≡ 0
   deep-upper x y none h = refl
-  deep-upper x y (tree b w kids rest) h = go (deep-upper x y kids) (deep-upper x y rest) (eqb b y) h
-    where
-      go : (times y kids ≡ 0 → deep x y kids ≡ 0) → (times y rest ≡ 0 → deep x y rest ≡ 0) → (u : Bool) → cond u 1 0 + (times y kids + times y rest) ≡ 0
-          → cond u ((if eqb b x then 1 else 0) + times x kids) 0 + (deep x y kids + deep x y rest) ≡ 0
-      go l r true h' = absurd (omega arith)
-      go l r false h' = omega (arith, l (omega arith), r (omega arith))
+  deep-upper x y (tree b w kids rest) h = grind (arith, deep-upper x y kids, deep-upper x y rest)
 
   -- it is the count in the tree of y
   pub deep-is : (x y : ℕ) (f : Forest N) → times y f ≤ 1 → deep x y f ≡ times x (tree_at y f)
   deep-is x y none h = refl
-  deep-is x y (tree b w kids rest) h = go (deep-is x y kids) (deep-is x y rest) (deep-upper x y kids) (deep-upper x y rest) (eqb b y) h
-    where
-      go : (times y kids ≤ 1 → deep x y kids ≡ times x (tree_at y kids)) → (times y rest ≤ 1 → deep x y rest ≡ times x (tree_at y rest))
-          → (times y kids ≡ 0 → deep x y kids ≡ 0) → (times y rest ≡ 0 → deep x y rest ≡ 0) → (u : Bool) → cond u 1 0 + (times y kids + times y rest) ≤ 1
-          → cond u ((if eqb b x then 1 else 0) + times x kids) 0 + (deep x y kids + deep x y rest) ≡ times x (cond u (tree b w kids none) (join (tree_at y kids) (tree_at y rest)))
-      go l r l0 r0 true h' = omega (arith, l0 (omega arith), r0 (omega arith))
-      go l r l0 r0 false h' = omega (arith, l (omega arith), r (omega arith), times-join x (tree_at y kids) (tree_at y rest))
+  deep-is x y (tree b w kids rest) h = grind (arith, deep-is x y kids, deep-is x y rest, deep-upper, times-join)
 
   -- a node is inside itself
   pub deep-self : (y : ℕ) (f : Forest N) → times y f ≤ deep y y f
   deep-self y none = omega arith
-  deep-self y (tree b w kids rest) = go (deep-self y kids) (deep-self y rest) (eqb b y)
-    where
-      go : times y kids ≤ deep y y kids → times y rest ≤ deep y y rest → (u : Bool) → cond u 1 0 + (times y kids + times y rest) ≤ cond u (cond u 1 0 + times y kids) 0 + (deep y y kids + deep y y rest)
-      go l r true = omega arith
-      go l r false = omega arith
+  deep-self y (tree b w kids rest) = grind (arith, deep-self y kids, deep-self y rest)
 
   -- a node's children are inside it
   pub children-deep : (x m : ℕ) (f : Forest N) → times x (children_of m f) ≤ deep x m f
   children-deep x m none = omega arith
-  children-deep x m (tree b w kids rest) = go (children-deep x m kids) (children-deep x m rest) (eqb b m)
-    where
-      go : times x (children_of m kids) ≤ deep x m kids → times x (children_of m rest) ≤ deep x m rest → (u : Bool)
-          → times x (cond u kids (join (children_of m kids) (children_of m rest))) ≤ cond u ((if eqb b x then 1 else 0) + times x kids) 0 + (deep x m kids + deep x m rest)
-      go l r true = omega arith
-      go l r false = omega (arith, times-join x (children_of m kids) (children_of m rest))
+  children-deep x m (tree b w kids rest) = grind (arith, children-deep x m kids, children-deep x m rest, times-join)
 
   -- what is inside m is inside all that m is inside of
   pub deep-trans : (x m y : ℕ) (f : Forest N) → times m f ≤ 1 → 0 < deep m y f → deep x m f ≤ deep x y f
@@ -80,8 +54,4 @@ module _ {N : Type 0} where
           under : (j : ℕ) → times m kids ≡ j → 0 + (deep x m kids + deep x m rest) ≤ (some + times x kids) + (deep x y kids + deep x y rest)
           under zero a = omega (arith, r (omega arith) (omega (arith, deep-lower m y kids a)), deep-upper x m kids a)
           under (suc j) a = omega (arith, deep-is x m kids (omega arith), times-cut x m kids, deep-upper x m rest (omega arith))
-      top l r false e false i h' o = under (times m kids) refl
-        where
-          under : (j : ℕ) → times m kids ≡ j → 0 + (deep x m kids + deep x m rest) ≤ 0 + (deep x y kids + deep x y rest)
-          under zero a = omega (arith, r (omega arith) (omega (arith, deep-lower m y kids a)), deep-upper x m kids a)
-          under (suc j) a = omega (arith, l (omega arith) (omega (arith, deep-lower m y rest (omega arith))), deep-upper x m rest (omega arith))
+      top l r false e false i h' o = grind (arith, deep-lower, deep-upper)

@@ -1,5 +1,5 @@
 -- Attributes whose names differ, and their names in ascending order.
-use Rattle.hnodes.proofs.Names.{◌≡◌, ℕ, ◌+◌, ◌-◌, ◌<◌, ◌≤◌, Bool, true, false, not, eqb, nat_eq, List, [], ◌∷◌, ◌++◌, length, length-drop, map, get_or, refl, sym, ◌∙◌, ap, subst, arith, drop, take, Vec, Global, lt-ltb, Decides-eqb, take_all, map-append, list_any-append, list_any, IsTrue, Attr, names_differ, Attribute, names_of, numbers_of, attribute_of}
+use Rattle.hnodes.proofs.Names.{◌≡◌, ℕ, ◌+◌, ◌-◌, ◌<◌, ◌≤◌, Bool, true, false, not, eqb, nat_eq, List, [], ◌∷◌, ◌++◌, length, length-drop, map, get_or, refl, sym, ◌∙◌, ap, subst, arith, drop, take, Vec, Global, lt-ltb, take_all, map-append, list_any-append, list_any, IsTrue, Attr, names_differ, Attribute, names_of, numbers_of, attribute_of}
 use Rattle.std.proofs.Common.{◌↔◌, drop-cons, add-one}
 use Rattle.std.proofs.lemmas.Bool.{ltb-true}
 use Rattle.std.proofs.lemmas.List.{drop_all, take-append-le}
@@ -15,13 +15,7 @@ use Rattle.hnodes.specs.declared.attributes.Indexed.TheInside.{Inside}
 use Rattle.hnodes.proofs.Indexed.{searched-is, within}
 
 flips : (x y : ℕ) → nat_eq x y ≡ nat_eq y x
-flips x y = go (nat_eq x y) (nat_eq y x) refl refl
-  where
-    go : (u v : Bool) → nat_eq x y ≡ u → nat_eq y x ≡ v → u ≡ v
-    go true true e f = refl
-    go false false e f = refl
-    go true false e f = sym ((Decides-eqb y x).1 (sym ((Decides-eqb x y).0 e))) ∙ f
-    go false true e f = sym e ∙ (Decides-eqb x y).1 (sym ((Decides-eqb y x).0 f))
+flips x y = grind arith
 
 -- an attribute more at the end
 pub differ-last : (attrs : List (Attribute ℕ)) (a : Attribute ℕ) → names_differ nat_eq (attrs ++ a ∷ []) ≡ (names_differ nat_eq attrs && not (list_any (λ b. nat_eq b.0 a.0) attrs))
@@ -47,12 +41,7 @@ among n attrs = list_any (λ b. nat_eq b.0 n) (map attribute_of attrs)
 
 others : (n : ℕ) (attrs : List Attr) → among n attrs ≡ false → AllByRecursion (λ m. eqb n m ≡ false) (names_of attrs)
 others n [] h = tt
-others n (a ∷ attrs) h = go (nat_eq a.name n) refl (others n attrs) h
-  where
-    go : (u : Bool) → nat_eq a.name n ≡ u → (among n attrs ≡ false → AllByRecursion (λ m. eqb n m ≡ false) (names_of attrs)) → (u || among n attrs) ≡ false
-        → AllByRecursion (λ m. eqb n m ≡ false) (names_of (a ∷ attrs))
-    go true e more h' = absurd (let no : true ≡ false = h' in cc)
-    go false e more h' = (flips n a.name ∙ e, more h')
+others n (a ∷ attrs) h = grind (arith, others n attrs)
 
 no-other : (n : ℕ) (attrs : List Attr) → AllByRecursion (λ m. eqb n m ≡ false) (names_of attrs) → among n attrs ≡ false
 no-other n [] h = refl

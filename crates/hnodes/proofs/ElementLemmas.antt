@@ -1,5 +1,5 @@
 -- The numbers that stand for a text, and the elements among siblings.
-use Rattle.hnodes.proofs.Names.{◌≡◌, ℕ, ◌<◌, Bool, true, false, cond, nat_eq, List, [], ◌∷◌, ◌++◌, length, get_or, Option, Some, None, refl, sym, ◌∙◌, ap, subst, arith, option_and_then, Decides-eqb, All-cons, All-head, All-nil, All, option_eq, option_map_or, AreCounted, elements_among, is_element, stands_for, Attribute, Forest, none, tree, roots, children_of, order, value_in, siblings_from, spot_of, IfSome, IsTrue}
+use Rattle.hnodes.proofs.Names.{◌≡◌, ℕ, ◌<◌, Bool, true, false, cond, nat_eq, List, [], ◌∷◌, ◌++◌, length, get_or, Option, Some, None, refl, sym, ◌∙◌, ap, subst, arith, option_and_then, Decides-eqb, All-cons, All-head, All-nil, All, option_eq, AreCounted, elements_among, is_element, stands_for, Attribute, Forest, none, tree, roots, children_of, order, value_in, siblings_from, spot_of, IfSome, IsTrue}
 use Rattle.std.proofs.Common.{nat_lt}
 use Rattle.std.proofs.lemmas.Bool.{false_from_ne_true}
 use Rattle.std.proofs.lemmas.Bool.Decides.{Decides-like, same_from_decides, nat_tests}
@@ -14,15 +14,10 @@ use Rattle.std.specs.List.{position, position_or_len}
 use Rattle.std.specs.Prelude.{bytes_eq, slice_get}
 use Rattle.names.specs.Names.{Texts, AreNames}
 use Rattle.hnodes.specs.Passed.{following}
-use Rattle.hnodes.proofs.Forests.{some_inj}
 use Rattle.hnodes.proofs.TextOrder.{within-order}
 
 stands-Decides : (names : Texts) (text : List ℕ) (id : ℕ) → Decides (stands_for names text id) (slice_get names id ≡ Some text)
-stands-Decides names text id = go (slice_get names id)
-  where
-    go : (o : Option (List ℕ)) → Decides (option_map_or (bytes_eq text) o false) (o ≡ Some text)
-    go None = ((λ e. cc), (λ e. cc))
-    go (Some t) = ((λ e. ap Some (sym ((bytes_eq-Decides text t).0 e))), (λ e. (bytes_eq-Decides text t).1 (sym (some_inj e))))
+stands-Decides names text id = grind (arith, bytes_eq-Decides)
 
 module _ (names : Texts) (text : List ℕ) where
   -- the number that a table has for a text stands for it, and no other does

@@ -11,15 +11,7 @@ module _ {N : Type 0} where
     in_rest : eqb b m ≡ false → times m kids ≡ 0 → times m rest ≡ 1 → Sited m b kids rest
 
   pub sited : (m b : ℕ) (kids rest : Forest N) → cond (eqb b m) 1 0 + (times m kids + times m rest) ≡ 1 → Sited m b kids rest
-  sited m b kids rest h = go (eqb b m) refl h
-    where
-      under : eqb b m ≡ false → (j : ℕ) → times m kids ≡ j → j + times m rest ≡ 1 → Sited m b kids rest
-      under e zero a z = in_rest e a (omega arith)
-      under e (suc j) a z = in_kids e (omega arith) (omega arith)
-
-      go : (v : Bool) → eqb b m ≡ v → cond v 1 0 + (times m kids + times m rest) ≡ 1 → Sited m b kids rest
-      go true e h' = at_root e (omega arith) (omega arith)
-      go false e h' = under e (times m kids) refl (omega arith)
+  sited m b kids rest h = grind arith
 
   -- the tree of a node is the node and its children
   pub family : (m : ℕ) (f : Forest N) → times m f ≡ 1 → (w : What N) × (tree_at m f ≡ tree m w (children_of m f) none)
@@ -34,11 +26,7 @@ module _ {N : Type 0} where
 
   pub children-among : (c m : ℕ) (f : Forest N) → times c (children_of m f) ≤ times c f
   children-among c m none = omega arith
-  children-among c m (tree b v kids rest) = go (eqb b m) (children-among c m kids) (children-among c m rest)
-    where
-      go : (u : Bool) → times c (children_of m kids) ≤ times c kids → times c (children_of m rest) ≤ times c rest → times c (cond u kids (join (children_of m kids) (children_of m rest))) ≤ cond (eqb b c) 1 0 + (times c kids + times c rest)
-      go true x y = omega arith
-      go false x y = omega (arith, times-join c (children_of m kids) (children_of m rest))
+  children-among c m (tree b v kids rest) = grind (arith, children-among c m kids, children-among c m rest, times-join)
 
   -- a first child is cut
   pub first-cut : (m c : ℕ) (w : What N) (k R f : Forest N) → times m f ≡ 1 → times c f ≡ 1 → children_of m f ≡ tree c w k R
@@ -84,13 +72,7 @@ module _ {N : Type 0} where
   -- the first child that is asked for is the first of the children
   below-children : (m : ℕ) (p x : Option ℕ) (f : Forest N) → times m f ≡ 1 → option_map (λ s. s.children) (spot_below m p x f) ≡ Some (children_of m f)
   below-children m p x none h = absurd (omega arith)
-  below-children m p x (tree b w kids rest) h = go (below-children m (Some b) None kids) (below-children m p (Some b) rest) (sited m b kids rest h)
-    where
-      go : (times m kids ≡ 1 → option_map (λ s. s.children) (spot_below m (Some b) None kids) ≡ Some (children_of m kids)) → (times m rest ≡ 1 → option_map (λ s. s.children) (spot_below m p (Some b) rest) ≡ Some (children_of m rest))
-          → Sited m b kids rest → option_map (λ s. s.children) (spot_below m p x (tree b w kids rest)) ≡ Some (children_of m (tree b w kids rest))
-      go l r (at_root e a z) = rw e refl
-      go l r (in_kids e a z) = rw (e, spot_below-absent m p (Some b) rest z, either-none (spot_below m (Some b) None kids), children_of-absent m rest z, join-none (children_of m kids)) (l a)
-      go l r (in_rest e a z) = rw (e, spot_below-absent m (Some b) None kids a, children_of-absent m kids a) (r z)
+  below-children m p x (tree b w kids rest) h = grind (arith, below-children m (Some b) None kids, below-children m p (Some b) rest, spot_below-absent, children_of-absent, join-none)
 
   pub spot-children : (m : ℕ) (f : Forest N) → times m f ≡ 1 → option_map (λ s. s.children) (spot_of m f) ≡ Some (children_of m f)
   spot-children m none h = absurd (omega arith)
@@ -98,13 +80,7 @@ module _ {N : Type 0} where
     where
       go : (times m rest ≡ 1 → option_map (λ s. s.children) (spot_of m rest) ≡ Some (children_of m rest)) → (j : ℕ) → times m rest ≡ j → option_map (λ s. s.children) (spot_of m (tree b w kids rest)) ≡ Some (children_of m (tree b w kids rest))
       go r zero a = rw (spot_of-absent m rest a, either-none (spot_below m None None (tree b w kids none))) (below-children m None None (tree b w kids none) (omega arith) ∙ ap (λ g. Some g) (rw (children_of-absent m rest a) refl))
-      go r (suc j) a =
-          let no : times m (tree b w kids none) ≡ 0 = omega arith in
-          rw (spot_below-absent m None None (tree b w kids none) no) (r (omega arith) ∙ ap (λ g. Some g) (under (eqb b m) refl no))
-        where
-          under : (v : Bool) → eqb b m ≡ v → cond v 1 0 + (times m kids + 0) ≡ 0 → children_of m rest ≡ children_of m (tree b w kids rest)
-          under true e z = absurd (omega arith)
-          under false e z = rw (e, children_of-absent m kids (omega arith)) refl
+      go r (suc j) a = grind (arith, spot_below-absent, children_of-absent)
 
   pub first_child-is : (m : ℕ) (f : Forest N) → times m f ≡ 1 → first_child_of m f ≡ first_or (children_of m f) None
   first_child-is m f h = go (spot_of m f) (spot-children m f h)

@@ -1,7 +1,6 @@
 -- A node that was just made is outside of every place.
-use Rattle.hnodes.proofs.Names.{◌≡◌, ◌≢◌, ℕ, suc, ◌+◌, ◌<◌, Bool, true, false, eqb, cond, [], ◌∷◌, ◌++◌, length, Option, Some, None, refl, sym, ◌∙◌, ap, subst, arith, option_and_then, IsSome, eq-eqb, ne_eqb, lt-leb, What, Forest, none, tree, times, join, tree_at, IsOutside, spot_of, spot_below, either_of, parent_of, Nodes, make, IsPlace, place_node, Place, LastIn, Before, alone, whole, row_of, look_in, nodes_of, IsTree, Node, Inside}
+use Rattle.hnodes.proofs.Names.{◌≡◌, ◌≢◌, ℕ, suc, ◌<◌, [], ◌∷◌, ◌++◌, length, Option, Some, None, refl, sym, ◌∙◌, ap, subst, arith, IsSome, eq-eqb, ne_eqb, lt-leb, What, Forest, none, tree, times, join, tree_at, IsOutside, spot_of, spot_below, either_of, parent_of, Nodes, make, IsPlace, place_node, Place, LastIn, Before, alone, whole, row_of, look_in, nodes_of, IsTree, Node, Inside}
 use Rattle.hnodes.proofs.Forests.{tree_at-absent}
-use Rattle.hnodes.proofs.Spots.{either-none}
 use Rattle.hnodes.proofs.Inside.{tree_at-joined, tree_at-among}
 use Rattle.hnodes.proofs.Opened.{Opened, opened}
 use Rattle.hnodes.proofs.Makes.{made_view}
@@ -13,11 +12,7 @@ either-assoc (Some a) y z = refl
 module _ {N : Type 0} where
   pub tree_at-join : (n : ℕ) (f g : Forest N) → times n f ≡ 0 → tree_at n (join f g) ≡ tree_at n g
   tree_at-join n none g h = refl
-  tree_at-join n (tree b w kids rest) g h = go (tree_at-join n rest g) (eqb b n) h
-    where
-      go : (times n rest ≡ 0 → tree_at n (join rest g) ≡ tree_at n g) → (v : Bool) → cond v 1 0 + (times n kids + times n rest) ≡ 0 → cond v (tree b w kids none) (join (tree_at n kids) (tree_at n (join rest g))) ≡ tree_at n g
-      go r true h' = absurd (omega arith)
-      go r false h' = rw (tree_at-absent n kids (omega arith)) (r (omega arith))
+  tree_at-join n (tree b w kids rest) g h = grind (arith, tree_at-join n rest g, tree_at-absent)
 
   pub spot_of-join : (n : ℕ) (f g : Forest N) → spot_of n (join f g) ≡ either_of (spot_of n f) (spot_of n g)
   spot_of-join n none g = refl
@@ -26,11 +21,7 @@ module _ {N : Type 0} where
 
   -- a node made later is no node's parent
   parent-made : (n m : ℕ) (f : Forest N) (w : What N) → n ≢ m → parent_of n (join f (tree m w none none)) ≡ parent_of n f
-  parent-made n m f w h =
-      ap (option_and_then (λ s. s.parent)) (spot_of-join n f (tree m w none none) ∙ alone)
-    where
-      alone : either_of (spot_of n f) (spot_of n (tree m w none none)) ≡ spot_of n f
-      alone = rw (ne_eqb m n (λ e. h (sym e))) (either-none (spot_of n f))
+  parent-made n m f w h = grind (arith, spot_of-join)
 
 pub place-made : (place : Place) (v : Nodes ℕ) (w : What ℕ) → IsPlace place v → IsPlace place (make w v)
 place-made (LastIn p) v w h = omega arith

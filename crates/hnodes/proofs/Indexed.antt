@@ -1,5 +1,5 @@
 -- Where a number is last in a list of numbers, and whether an attribute of a name is there.
-use Rattle.hnodes.proofs.Names.{◌≡◌, ℕ, zero, suc, ◌-◌, ◌<◌, ◌≤◌, Bool, true, false, cond, ltb, nat_eq, List, [], ◌∷◌, length, length-drop, map, get_or, take, drop, refl, sym, ◌∙◌, ap, arith, lt-ltb, map-append, take_all, list_any-append, list_any, Attr, Attribute, numbers_of, attribute_of}
+use Rattle.hnodes.proofs.Names.{◌≡◌, ℕ, zero, suc, ◌-◌, ◌<◌, ◌≤◌, Bool, true, false, cond, ltb, nat_eq, List, [], ◌∷◌, length, length-drop, map, take, drop, refl, sym, ◌∙◌, ap, arith, lt-ltb, map-append, take_all, list_any-append, list_any, Attr, Attribute, numbers_of, attribute_of}
 use Rattle.std.proofs.Common.{◌==◌, ◌||◌}
 use Rattle.std.proofs.Math.Dec.{eqb-suc-suc}
 use Rattle.std.proofs.lemmas.Bool.{le-ltb}
@@ -14,11 +14,7 @@ module _ (s : ℕ → Bool) where
 
   up-front : (x : ℕ) (xs : List ℕ) (k : ℕ) → last_up s (x ∷ xs) (suc k) ≡ up (s x) (last_up s xs k)
   up-front x xs zero = refl
-  up-front x xs (suc k) = go (s (get_or xs k 0)) (up-front x xs k)
-    where
-      go : (v : Bool) → last_up s (x ∷ xs) (suc k) ≡ up (s x) (last_up s xs k) → cond v (suc (suc k)) (last_up s (x ∷ xs) (suc k)) ≡ up (s x) (cond v (suc k) (last_up s xs k))
-      go true e = refl
-      go false e = e
+  up-front x xs (suc k) = grind (arith, up-front x xs k)
 
   last-any : (xs : List ℕ) → ltb 0 (last_up s xs (length xs)) ≡ list_any s xs
   last-any [] = refl

@@ -11,12 +11,7 @@ module _ {N : Type 0} where
 
   pub tree_at-joined : (n top : ℕ) (f g : Forest N) → times n (tree_at top (join f g)) ≤ times n (tree_at top f) + times n (tree_at top g)
   tree_at-joined n top none g = omega arith
-  tree_at-joined n top (tree b w kids rest) g = go (eqb b top) (tree_at-joined n top rest g)
-    where
-      go : (v : Bool) → times n (tree_at top (join rest g)) ≤ times n (tree_at top rest) + times n (tree_at top g)
-          → times n (cond v (tree b w kids none) (join (tree_at top kids) (tree_at top (join rest g)))) ≤ times n (cond v (tree b w kids none) (join (tree_at top kids) (tree_at top rest))) + times n (tree_at top g)
-      go true r = omega arith
-      go false r = omega (arith, times-join n (tree_at top kids) (tree_at top (join rest g)), times-join n (tree_at top kids) (tree_at top rest))
+  tree_at-joined n top (tree b w kids rest) g = grind (arith, tree_at-joined n top rest g, times-join)
 
   -- one of the roots is in no other tree
   root-outside : (n top : ℕ) (L : Forest N) (w : What N) (k R : Forest N) → n ≢ top → times n L ≡ 0 → times n k ≡ 0 → times n R ≡ 0 → times n (tree_at top (join L (tree n w k R))) ≡ 0

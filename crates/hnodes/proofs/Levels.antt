@@ -5,12 +5,7 @@ use Rattle.hnodes.proofs.Forests.{join-none, cut-absent, tree_at-absent, childre
 module _ {N : Type 0} where
   pub put_before-absent : (n : ℕ) (t f : Forest N) → times n f ≡ 0 → put_before n t f ≡ f
   put_before-absent n t none h = refl
-  put_before-absent n t (tree b w kids rest) h = go (put_before-absent n t kids) (put_before-absent n t rest) (eqb b n) h
-    where
-      go : (times n kids ≡ 0 → put_before n t kids ≡ kids) → (times n rest ≡ 0 → put_before n t rest ≡ rest) → (v : Bool) → cond v 1 0 + (times n kids + times n rest) ≡ 0
-          → cond v (join t (tree b w kids rest)) (tree b w (put_before n t kids) (put_before n t rest)) ≡ tree b w kids rest
-      go l r true h' = absurd (omega arith)
-      go l r false h' = λ i. tree b w (l (omega arith) i) (r (omega arith) i)
+  put_before-absent n t (tree b w kids rest) h = grind (arith, put_before-absent n t kids, put_before-absent n t rest)
 
   -- n is one of the trees themselves
   pub record Here (n : ℕ) (f : Forest N) : Type 0 where
@@ -42,18 +37,10 @@ module _ {N : Type 0} where
   level n (tree b w kids rest) h once = go (level n kids) (level n rest) (eqb b n) refl h
     where
       kids-alone : (q : ℕ) → times q kids ≡ 1 → (eqb b q ≡ false) × (times q rest ≡ 0)
-      kids-alone q k = ap_false (eqb b q) refl (once q)
-        where
-          ap_false : (v : Bool) → eqb b q ≡ v → cond v 1 0 + (times q kids + times q rest) ≤ 1 → (eqb b q ≡ false) × (times q rest ≡ 0)
-          ap_false true e o = absurd (omega arith)
-          ap_false false e o = (e, omega arith)
+      kids-alone q k = grind arith
 
       rest-alone : (q : ℕ) → times q rest ≡ 1 → (eqb b q ≡ false) × (times q kids ≡ 0)
-      rest-alone q k = ap_false (eqb b q) refl (once q)
-        where
-          ap_false : (v : Bool) → eqb b q ≡ v → cond v 1 0 + (times q kids + times q rest) ≤ 1 → (eqb b q ≡ false) × (times q kids ≡ 0)
-          ap_false true e o = absurd (omega arith)
-          ap_false false e o = (e, omega arith)
+      rest-alone q k = grind arith
 
       in_kids : times n kids ≡ 1 → Here n kids ⊎ Below n kids → Here n (tree b w kids rest) ⊎ Below n (tree b w kids rest)
       in_kids k (inl p) =

@@ -52,19 +52,11 @@ module _ {N : Type 0} where
 
   first_or-change : (q : ℕ) (g : Forest N → Forest N) (f : Forest N) (y : Option ℕ) → first_or (change_children q g f) y ≡ first_or f y
   first_or-change q g none y = refl
-  first_or-change q g (tree b w kids rest) y = go (eqb b q)
-    where
-      go : (v : Bool) → first_or (cond v (tree b w (g kids) rest) (tree b w (change_children q g kids) (change_children q g rest))) y ≡ Some b
-      go true = refl
-      go false = refl
+  first_or-change q g (tree b w kids rest) y = grind arith
 
   last_or-change : (q : ℕ) (g : Forest N → Forest N) (x : Option ℕ) (f : Forest N) → last_or x (change_children q g f) ≡ last_or x f
   last_or-change q g x none = refl
-  last_or-change q g x (tree b w kids rest) = go (last_or-change q g (Some b) rest) (eqb b q)
-    where
-      go : last_or (Some b) (change_children q g rest) ≡ last_or (Some b) rest → (v : Bool) → last_or x (cond v (tree b w (g kids) rest) (tree b w (change_children q g kids) (change_children q g rest))) ≡ last_or (Some b) rest
-      go r true = refl
-      go r false = r
+  last_or-change q g x (tree b w kids rest) = grind (arith, last_or-change q g (Some b) rest)
 
   -- the children of q are others
   pub Linked-children : (look new : Look N) (q : ℕ) (Y : Forest N) → Linked new (Some q) None Y None → new q ≡ option_map (with_ends (first_or Y None) (last_or None Y)) (look q)

@@ -1,5 +1,5 @@
 -- A node more.
-use Rattle.hnodes.proofs.Names.{◌≡◌, ℕ, suc, ◌+◌, ◌<◌, ◌≤◌, eqb, ltb, cond, List, [], ◌∷◌, ◌++◌, Some, None, length, refl, ◌∙◌, ap, subst, arith, ◌⊎◌, inl, inr, eq-eqb, ne_eqb, lt-leb, le-leb, cases_lt, What, document, Forest, join, tree, none, make, Look, StandsIn, standing, whole, alone, is_loose, row_of, look_in, nodes_of, IsTree, Node, Inside}
+use Rattle.hnodes.proofs.Names.{◌≡◌, ℕ, suc, ◌+◌, ◌<◌, ◌≤◌, eqb, ltb, cond, List, [], ◌∷◌, ◌++◌, Some, None, length, refl, ◌∙◌, ap, subst, arith, What, document, Forest, join, tree, none, make, Look, StandsIn, standing, whole, alone, is_loose, row_of, look_in, nodes_of, IsTree, Node, Inside}
 use Rattle.std.proofs.lemmas.List.{length_push}
 use Rattle.hnodes.proofs.Forests.{times-join, size-join, roots-join}
 use Rattle.hnodes.proofs.Linked.{Loose-agree, seen_loose}
@@ -9,12 +9,7 @@ use Rattle.hnodes.proofs.Within.{test_under}
 use Rattle.hnodes.proofs.Rows.{look_in-before, look_in-last}
 
 one_more : (n count : ℕ) → cond (ltb n count) 1 0 + cond (eqb count n) 1 0 ≡ cond (ltb n (suc count)) 1 0
-one_more n count = go (cases_lt n count) (cases_lt count n)
-  where
-    go : (n < count) ⊎ (count ≤ n) → (count < n) ⊎ (n ≤ count) → cond (ltb n count) 1 0 + cond (eqb count n) 1 0 ≡ cond (ltb n (suc count)) 1 0
-    go (inl a) q = rw (le-leb (suc n) count (omega arith), ne_eqb count n (λ e. absurd (omega arith)), le-leb (suc n) (suc count) (omega arith)) refl
-    go (inr a) (inl b) = rw (lt-leb (suc n) count (omega arith), ne_eqb count n (λ e. absurd (omega arith)), lt-leb (suc n) (suc count) (omega arith)) refl
-    go (inr a) (inr b) = rw (lt-leb (suc n) count (omega arith), eq-eqb count n (omega arith), le-leb (suc n) (suc count) (omega arith)) refl
+one_more n count = grind arith
 
 module _ {N : Type 0} where
   -- what is there is seen

@@ -1,5 +1,5 @@
 -- What the edits do to what is inside and what is outside.
-use Rattle.hnodes.proofs.Names.{◌≡◌, ◌≢◌, ℕ, ◌+◌, ◌<◌, ◌≤◌, Bool, true, false, eqb, cond, if◌then◌else◌, refl, sym, ◌∙◌, arith, eq-eqb, ne_eqb, What, document, Forest, none, tree, times, join, tree_at, cut, children_of, change_what, IsOutside, AreCounted, place_node, graft, move_all, Place, LastIn, Before}
+use Rattle.hnodes.proofs.Names.{◌≡◌, ◌≢◌, ℕ, ◌+◌, ◌<◌, ◌≤◌, refl, sym, ◌∙◌, arith, What, document, Forest, none, tree, times, join, tree_at, cut, children_of, change_what, IsOutside, AreCounted, place_node, graft, move_all, Place, LastIn, Before}
 use Rattle.hnodes.proofs.Forests.{times-cut, children-apart}
 use Rattle.hnodes.proofs.Whats.{times-what}
 use Rattle.hnodes.proofs.Counts.{emptied, times-emptied-less}
@@ -11,17 +11,11 @@ module _ {N : Type 0} where
   -- A node is made.
 
   pub deep-new : (x y new : ℕ) (w : What N) (f : Forest N) → y ≢ new → deep x y (join f (tree new w none none)) ≡ deep x y f
-  deep-new x y new w f h = omega (arith, deep-join x y f (tree new w none none), is)
-    where
-      is : deep x y (tree new w none none) ≡ 0
-      is = rw (ne_eqb new y (λ e. h (sym e))) refl
+  deep-new x y new w f h = grind (arith, deep-join)
 
   -- nothing that was there is inside the new one
   pub deep-newest : (x new : ℕ) (w : What N) (f : Forest N) → times new f ≡ 0 → x ≢ new → deep x new (join f (tree new w none none)) ≡ 0
-  deep-newest x new w f z h = omega (arith, deep-join x new f (tree new w none none), deep-upper x new f z, is)
-    where
-      is : deep x new (tree new w none none) ≡ 0
-      is = rw (ne_eqb new x (λ e. h (sym e)), eq-eqb new new refl) refl
+  deep-newest x new w f z h = grind (arith, deep-join, deep-upper)
 
   -- A node is put at a place.
 
@@ -60,12 +54,7 @@ module _ {N : Type 0} where
 
   pub deep-what : (x y n : ℕ) (g : What N → What N) (f : Forest N) → deep x y (change_what n g f) ≡ deep x y f
   deep-what x y n g none = refl
-  deep-what x y n g (tree b w kids rest) = go (deep-what x y n g kids) (deep-what x y n g rest) (eqb b y)
-    where
-      go : deep x y (change_what n g kids) ≡ deep x y kids → deep x y (change_what n g rest) ≡ deep x y rest → (u : Bool)
-          → cond u ((if eqb b x then 1 else 0) + times x (change_what n g kids)) 0 + (deep x y (change_what n g kids) + deep x y (change_what n g rest)) ≡ cond u ((if eqb b x then 1 else 0) + times x kids) 0 + (deep x y kids + deep x y rest)
-      go l r true = omega (arith, times-what n g x kids)
-      go l r false = omega arith
+  deep-what x y n g (tree b w kids rest) = grind (arith, deep-what x y n g kids, deep-what x y n g rest, times-what)
 
   -- The same of nodes that are counted: what is outside stays outside.
 

@@ -1,8 +1,8 @@
 -- A new node at a place: where it is, and that a change of it changes what came there.
-use Rattle.hnodes.proofs.Names.{◌≡◌, ◌≢◌, ℕ, ◌+◌, ◌<◌, Bool, true, false, eqb, cond, List, Option, Some, None, refl, sym, ◌∙◌, ap, subst, arith, option_and_then, IsSome, ◌⊎◌, inl, inr, eq-eqb, ne_eqb, option_map, What, text, Forest, none, tree, times, join, tree_at, cut, children_of, change_children, change_what, put_before, Spot, last_or, parent_of, last_child_of, Nodes, AreCounted, graft, IsPlace, Place, LastIn, Before}
+use Rattle.hnodes.proofs.Names.{◌≡◌, ◌≢◌, ℕ, ◌<◌, true, false, eqb, cond, List, Option, Some, None, refl, sym, ◌∙◌, ap, subst, arith, option_and_then, IsSome, ◌⊎◌, inl, inr, eq-eqb, ne_eqb, option_map, What, text, Forest, none, tree, times, join, tree_at, cut, children_of, change_children, change_what, put_before, Spot, last_or, parent_of, last_child_of, Nodes, AreCounted, graft, IsPlace, Place, LastIn, Before}
 use Rattle.hnodes.proofs.Forests.{join-none, join-assoc, cut-absent, children_of-absent, change_children-absent, last_or-join}
 use Rattle.hnodes.proofs.Levels.{level, Here, Below}
-use Rattle.hnodes.proofs.Families.{Sited, at_root, in_kids, in_rest, sited, last_child-is}
+use Rattle.hnodes.proofs.Families.{last_child-is}
 use Rattle.hnodes.proofs.Counts.{hung, times-hung, times-put}
 use Rattle.hnodes.proofs.Counted.{at-most, is-there, not-there}
 use Rattle.hnodes.proofs.Fresh.{tree_at-join}
@@ -17,12 +17,7 @@ module _ {N : Type 0} where
 
   cut-join : (n : ℕ) (w : What N) (f : Forest N) → times n f ≡ 0 → cut n (join f (tree n w none none)) ≡ f
   cut-join n w none h = rw (eq-eqb n n refl) refl
-  cut-join n w (tree b v kids rest) h = go (cut-join n w rest) (eqb b n) h
-    where
-      go : (times n rest ≡ 0 → cut n (join rest (tree n w none none)) ≡ rest) → (u : Bool) → cond u 1 0 + (times n kids + times n rest) ≡ 0
-          → cond u (join rest (tree n w none none)) (tree b v (cut n kids) (cut n (join rest (tree n w none none)))) ≡ tree b v kids rest
-      go r true h' = absurd (omega arith)
-      go r false h' = let l = cut-absent n kids (omega arith) in λ i. tree b v (l i) (r (omega arith) i)
+  cut-join n w (tree b v kids rest) h = grind (arith, cut-join n w rest, cut-absent)
 
   tree-made : (n : ℕ) (w : What N) (f : Forest N) → times n f ≡ 0 → tree_at n (join f (tree n w none none)) ≡ tree n w none none
   tree-made n w f h = tree_at-join n f (tree n w none none) h ∙ rw (eq-eqb n n refl) refl
@@ -34,13 +29,7 @@ module _ {N : Type 0} where
 
   children_of-changed : (p : ℕ) (g : Forest N → Forest N) (f : Forest N) → times p f ≡ 1 → children_of p (change_children p g f) ≡ g (children_of p f)
   children_of-changed p g none h = absurd (omega arith)
-  children_of-changed p g (tree b w kids rest) h = go (children_of-changed p g kids) (children_of-changed p g rest) (sited p b kids rest h)
-    where
-      go : (times p kids ≡ 1 → children_of p (change_children p g kids) ≡ g (children_of p kids)) → (times p rest ≡ 1 → children_of p (change_children p g rest) ≡ g (children_of p rest))
-          → Sited p b kids rest → children_of p (change_children p g (tree b w kids rest)) ≡ g (children_of p (tree b w kids rest))
-      go l r (at_root e a z) = rw (e, e) refl
-      go l r (in_kids e a z) = rw (e, e, change_children-absent p g rest z, children_of-absent p rest z, join-none (children_of p (change_children p g kids)), join-none (children_of p kids)) (l a)
-      go l r (in_rest e a z) = rw (e, e, change_children-absent p g kids a, children_of-absent p kids a) (r z)
+  children_of-changed p g (tree b w kids rest) h = grind (arith, children_of-changed p g kids, children_of-changed p g rest, change_children-absent, children_of-absent, join-none)
 
   -- What it is then.
 
@@ -117,12 +106,7 @@ module _ {N : Type 0} where
   module _ (n : ℕ) (g : What N → What N) where
     what-absent : (f : Forest N) → times n f ≡ 0 → change_what n g f ≡ f
     what-absent none h = refl
-    what-absent (tree b w kids rest) h = go (what-absent kids) (what-absent rest) (eqb b n) h
-      where
-        go : (times n kids ≡ 0 → change_what n g kids ≡ kids) → (times n rest ≡ 0 → change_what n g rest ≡ rest) → (u : Bool) → cond u 1 0 + (times n kids + times n rest) ≡ 0
-            → tree b (cond u (g w) w) (change_what n g kids) (change_what n g rest) ≡ tree b w kids rest
-        go l r true h' = absurd (omega arith)
-        go l r false h' = λ i. tree b w (l (omega arith) i) (r (omega arith) i)
+    what-absent (tree b w kids rest) h = grind (arith, what-absent kids, what-absent rest)
 
     what-join : (f t : Forest N) → change_what n g (join f t) ≡ join (change_what n g f) (change_what n g t)
     what-join none t = refl
@@ -130,23 +114,11 @@ module _ {N : Type 0} where
 
     what-hung : (p : ℕ) (t f : Forest N) → change_what n g (hung p t f) ≡ hung p (change_what n g t) (change_what n g f)
     what-hung p t none = refl
-    what-hung p t (tree b w kids rest) = go (what-hung p t kids) (what-hung p t rest) (eqb b p)
-      where
-        go : change_what n g (hung p t kids) ≡ hung p (change_what n g t) (change_what n g kids) → change_what n g (hung p t rest) ≡ hung p (change_what n g t) (change_what n g rest) → (u : Bool)
-            → change_what n g (cond u (tree b w (join kids t) rest) (tree b w (hung p t kids) (hung p t rest)))
-            ≡ cond u (tree b (cond (eqb b n) (g w) w) (join (change_what n g kids) (change_what n g t)) (change_what n g rest)) (tree b (cond (eqb b n) (g w) w) (hung p (change_what n g t) (change_what n g kids)) (hung p (change_what n g t) (change_what n g rest)))
-        go l r true = let j = what-join kids t in λ i. tree b (cond (eqb b n) (g w) w) (j i) (change_what n g rest)
-        go l r false = λ i. tree b (cond (eqb b n) (g w) w) (l i) (r i)
+    what-hung p t (tree b w kids rest) = grind (arith, what-hung p t kids, what-hung p t rest, what-join)
 
     what-put : (s : ℕ) (t f : Forest N) → change_what n g (put_before s t f) ≡ put_before s (change_what n g t) (change_what n g f)
     what-put s t none = refl
-    what-put s t (tree b w kids rest) = go (what-put s t kids) (what-put s t rest) (eqb b s)
-      where
-        go : change_what n g (put_before s t kids) ≡ put_before s (change_what n g t) (change_what n g kids) → change_what n g (put_before s t rest) ≡ put_before s (change_what n g t) (change_what n g rest) → (u : Bool)
-            → change_what n g (cond u (join t (tree b w kids rest)) (tree b w (put_before s t kids) (put_before s t rest)))
-            ≡ cond u (join (change_what n g t) (change_what n g (tree b w kids rest))) (tree b (cond (eqb b n) (g w) w) (put_before s (change_what n g t) (change_what n g kids)) (put_before s (change_what n g t) (change_what n g rest)))
-        go l r true = what-join t (tree b w kids rest)
-        go l r false = λ i. tree b (cond (eqb b n) (g w) w) (l i) (r i)
+    what-put s t (tree b w kids rest) = grind (arith, what-put s t kids, what-put s t rest, what-join)
 
     what-new : (w : What N) → change_what n g (tree n w none none) ≡ tree n (g w) none none
     what-new w = rw (eq-eqb n n refl) refl

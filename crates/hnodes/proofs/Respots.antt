@@ -1,5 +1,5 @@
 -- Where a node is once another one has become something else.
-use Rattle.hnodes.proofs.Names.{◌≡◌, ℕ, Bool, true, false, eqb, cond, if◌then◌else◌, List, ◌++◌, Option, Some, None, refl, sym, ◌∙◌, ap, option_and_then, eqb-true, eq-eqb, option_map, What, document, doctype, element, comment, text, Forest, none, tree, change_what, Spot, spot_below, spot_of, either_of, last_or, what_of, last_child_of, previous_of, with_text, before_place, if_text, text_before, Place, LastIn, Before}
+use Rattle.hnodes.proofs.Names.{arith, ◌≡◌, ℕ, eqb, if◌then◌else◌, List, ◌++◌, Option, Some, None, refl, sym, ◌∙◌, ap, option_and_then, eq-eqb, option_map, What, document, doctype, element, comment, text, Forest, none, tree, change_what, Spot, spot_below, spot_of, either_of, what_of, last_child_of, previous_of, with_text, before_place, if_text, text_before, Place, LastIn, Before}
 use Rattle.hnodes.proofs.Whats.{last_or-what}
 
 module _ {N : Type 0} (n : ℕ) (g : What N → What N) where
@@ -13,14 +13,7 @@ module _ {N : Type 0} (n : ℕ) (g : What N → What N) where
 
   below-what : (m : ℕ) (p x : Option ℕ) (f : Forest N) → spot_below m p x (change_what n g f) ≡ option_map (changed_spot m) (spot_below m p x f)
   below-what m p x none = refl
-  below-what m p x (tree b w kids rest) = go (below-what m (Some b) None kids) (below-what m p (Some b) rest) (eqb b m) refl
-    where
-      go : spot_below m (Some b) None (change_what n g kids) ≡ option_map (changed_spot m) (spot_below m (Some b) None kids) → spot_below m p (Some b) (change_what n g rest) ≡ option_map (changed_spot m) (spot_below m p (Some b) rest)
-          → (v : Bool) → eqb b m ≡ v
-          → cond v (Some (record { parent = p; before = x; what = if eqb b n then g w else w; children = change_what n g kids; after = change_what n g rest })) (either_of (spot_below m (Some b) None (change_what n g kids)) (spot_below m p (Some b) (change_what n g rest)))
-          ≡ option_map (changed_spot m) (cond v (Some (record { parent = p; before = x; what = w; children = kids; after = rest })) (either_of (spot_below m (Some b) None kids) (spot_below m p (Some b) rest)))
-      go l r true e = ap (λ (k : ℕ). Some (record { parent = p; before = x; what = if eqb k n then g w else w; children = change_what n g kids; after = change_what n g rest })) (eqb-true b m e)
-      go l r false e = (λ i. either_of (l i) (r i)) ∙ either-changed m (spot_below m (Some b) None kids) (spot_below m p (Some b) rest)
+  below-what m p x (tree b w kids rest) = grind (arith, below-what m (Some b) None kids, below-what m p (Some b) rest)
 
   pub spot-what : (m : ℕ) (f : Forest N) → spot_of m (change_what n g f) ≡ option_map (changed_spot m) (spot_of m f)
   spot-what m none = refl
@@ -30,25 +23,13 @@ module _ {N : Type 0} (n : ℕ) (g : What N → What N) where
       (λ i. either_of (l i) (r i)) ∙ either-changed m (spot_below m None None (tree b w kids none)) (spot_of m rest)
 
   pub what_of-what : (m : ℕ) (f : Forest N) → what_of m (change_what n g f) ≡ option_map (λ w. if eqb m n then g w else w) (what_of m f)
-  what_of-what m f = ap (option_map (λ s. s.what)) (spot-what m f) ∙ go (spot_of m f)
-    where
-      go : (o : Option (Spot N)) → option_map (λ s. s.what) (option_map (changed_spot m) o) ≡ option_map (λ w. if eqb m n then g w else w) (option_map (λ s. s.what) o)
-      go None = refl
-      go (Some s) = refl
+  what_of-what m f = grind (arith, spot-what)
 
   pub last_child-what : (m : ℕ) (f : Forest N) → last_child_of m (change_what n g f) ≡ last_child_of m f
-  last_child-what m f = ap (option_and_then (λ s. last_or None s.children)) (spot-what m f) ∙ go (spot_of m f)
-    where
-      go : (o : Option (Spot N)) → option_and_then (λ s. last_or None s.children) (option_map (changed_spot m) o) ≡ option_and_then (λ s. last_or None s.children) o
-      go None = refl
-      go (Some s) = last_or-what n g None s.children
+  last_child-what m f = grind (arith, spot-what, last_or-what)
 
   pub previous-what : (m : ℕ) (f : Forest N) → previous_of m (change_what n g f) ≡ previous_of m f
-  previous-what m f = ap (option_and_then (λ s. s.before)) (spot-what m f) ∙ go (spot_of m f)
-    where
-      go : (o : Option (Spot N)) → option_and_then (λ s. s.before) (option_map (changed_spot m) o) ≡ option_and_then (λ s. s.before) o
-      go None = refl
-      go (Some s) = refl
+  previous-what m f = grind (arith, spot-what)
 
   pub before_place-what : (place : Place) (f : Forest N) → before_place place (change_what n g f) ≡ before_place place f
   before_place-what (LastIn p) f = last_child-what p f

@@ -1,8 +1,8 @@
 -- Which nodes are loose.
-use Rattle.hnodes.proofs.Names.{◌≡◌, ◌≢◌, ℕ, zero, suc, ◌<◌, ◌≤◌, Bool, true, false, eqb, cond, List, [], ◌∷◌, ◌++◌, Option, Some, None, is_none, refl, sym, ◌∙◌, ap, arith, eqb-true, eq-eqb, ne_eqb, eqb-false, option_map, What, Row, Look, standing, loose, is_loose, at_row, after_link, before_link, spliced, hooked, with_place, with_last, with_first, with_next, with_previous}
+use Rattle.hnodes.proofs.Names.{◌≡◌, ◌≢◌, ℕ, zero, suc, ◌<◌, ◌≤◌, Bool, true, false, eqb, cond, List, [], ◌∷◌, ◌++◌, Option, Some, None, refl, sym, ◌∙◌, ap, arith, eqb-true, eq-eqb, ne_eqb, eqb-false, Row, Look, standing, loose, is_loose, at_row, after_link, before_link, spliced, hooked, with_last, with_first, with_next, with_previous}
 use Rattle.std.proofs.Common.{append-nil}
 use Rattle.hnodes.specs.Links.{leave}
-use Rattle.hnodes.proofs.Forests.{some_inj, without}
+use Rattle.hnodes.proofs.Forests.{without}
 
 assoc : (xs ys zs : List ℕ) → (xs ++ ys) ++ zs ≡ xs ++ (ys ++ zs)
 assoc [] ys zs = refl
@@ -10,29 +10,17 @@ assoc (x ∷ xs) ys zs = ap (λ l. x ∷ l) (assoc xs ys zs)
 
 without-end : (n c : ℕ) (xs : List ℕ) → c ≢ n → without n (xs ++ c ∷ []) ≡ without n xs ++ c ∷ []
 without-end n c [] h = rw (ne_eqb c n h) refl
-without-end n c (x ∷ xs) h = go (without-end n c xs h) (eqb x n)
-  where
-    go : without n (xs ++ c ∷ []) ≡ without n xs ++ c ∷ [] → (v : Bool) → cond v (xs ++ c ∷ []) (x ∷ without n (xs ++ c ∷ [])) ≡ cond v xs (x ∷ without n xs) ++ c ∷ []
-    go r true = refl
-    go r false = ap (λ l. x ∷ l) r
+without-end n c (x ∷ xs) h = grind (arith, without-end n c xs h)
 
 module _ {N : Type 0} where
   standing-loose : (o u : Option (Row N)) → standing o ≡ standing u → is_loose o ≡ is_loose u
   standing-loose None None e = refl
   standing-loose None (Some r) e = cc
   standing-loose (Some r) None e = cc
-  standing-loose (Some r) (Some s) e = ap is_none (same e)
-    where
-      same : standing (Some r) ≡ standing (Some s) → r.parent ≡ s.parent
-      same j = ap (λ (m : What N × Option ℕ). m.1) (some_inj j)
+  standing-loose (Some r) (Some s) e = grind arith
 
   pub keeps : (f : Row N → Row N) → ((r : Row N) → standing (Some (f r)) ≡ standing (Some r)) → (k : ℕ) (look : Look N) (b : ℕ) → standing (at_row k f look b) ≡ standing (look b)
-  keeps f h k look b = go (eqb b k) (look b)
-    where
-      go : (v : Bool) (o : Option (Row N)) → standing (cond v (option_map f o) o) ≡ standing o
-      go true None = refl
-      go true (Some r) = h r
-      go false o = refl
+  keeps f h k look b = grind arith
 
   keeps-after : (q : ℕ) (x y : Option ℕ) (look : Look N) (b : ℕ) → standing (after_link q x y look b) ≡ standing (look b)
   keeps-after q None y look b = keeps (with_first y) (λ r. refl) q look b
@@ -54,11 +42,7 @@ module _ {N : Type 0} where
   keeps-hooked n q x y look b h = rw (ne_eqb b n h) (keeps-spliced q x y (Some n) (Some n) look b)
 
   hooked-bound : (n q : ℕ) (x y : Option ℕ) (look : Look N) → is_loose (hooked n q x y look n) ≡ false
-  hooked-bound n q x y look = rw (eq-eqb n n refl) (go (spliced q x y (Some n) (Some n) look n))
-    where
-      go : (o : Option (Row N)) → is_loose (option_map (with_place (Some q) x y) o) ≡ false
-      go None = refl
-      go (Some r) = refl
+  hooked-bound n q x y look = grind arith
 
   -- a number from c on is not among the loose ones before c
   past : (n : ℕ) (look : Look N) (c : ℕ) (ys : List ℕ) → c ≤ n → without n (loose c look ++ ys) ≡ loose c look ++ without n ys

@@ -1,5 +1,5 @@
 -- What the rows say after a write, and after a push.
-use Rattle.hnodes.proofs.Names.{◌≡◌, ◌≢◌, ℕ, zero, suc, ◌<◌, Bool, true, false, eqb, cond, List, [], ◌∷◌, ◌++◌, Some, length, get_or, set, refl, sym, ◌∙◌, ap, arith, eqb-true, eqb-false, option_map, Row, at_row, row_of, look_in, IsChanged, Node}
+use Rattle.hnodes.proofs.Names.{◌≡◌, ◌≢◌, ℕ, zero, suc, ◌<◌, List, [], ◌∷◌, ◌++◌, Some, length, get_or, set, refl, sym, ◌∙◌, ap, arith, option_map, Row, at_row, row_of, look_in, IsChanged, Node}
 use Rattle.std.proofs.lemmas.List.{length-set}
 
 look_in-other : (xs : List Node) (k : ℕ) (y : Node) (n : ℕ) → n ≢ k → look_in (set xs k y) n ≡ look_in xs n
@@ -15,11 +15,7 @@ look_in-same (z ∷ zs) zero x y f h e r = ap (λ m. Some m) (r ∙ ap (λ m. f 
 look_in-same (z ∷ zs) (suc k) x y f h e r = look_in-same zs k x y f (omega arith) e r
 
 look_in-set : (xs : List Node) (k : ℕ) (x y : Node) (f : Row ℕ → Row ℕ) → k < length xs → x ≡ get_or xs k x → row_of y ≡ f (row_of x) → (n : ℕ) → look_in (set xs k y) n ≡ at_row k f (look_in xs) n
-look_in-set xs k x y f h e r n = go (eqb n k) refl
-  where
-    go : (v : Bool) → eqb n k ≡ v → look_in (set xs k y) n ≡ cond v (option_map f (look_in xs n)) (look_in xs n)
-    go true t = rw (eqb-true n k t) (look_in-same xs k x y f h e r)
-    go false t = look_in-other xs k y n (eqb-false n k t)
+look_in-set xs k x y f h e r n = grind (arith, look_in-same, look_in-other)
 
 -- one field of a node is written
 pub changed : (xs : List Node) (j k : ℕ) (x y : Node) (f : Row ℕ → Row ℕ) → j ≡ k → k < length xs → x ≡ get_or xs j x → row_of y ≡ f (row_of x) → IsChanged k f xs (set xs j y)

@@ -1,5 +1,5 @@
 -- Characters that are put one by one make one text.
-use Rattle.hnodes.proofs.Names.{◌≡◌, ℕ, ◌+◌, ◌<◌, length, Bool, true, false, eqb, cond, List, [], ◌∷◌, ◌++◌, Some, None, refl, sym, ◌∙◌, ap, arith, encode_utf8, What, document, doctype, element, comment, text, Forest, none, tree, join, change_what, Nodes, AreNodes, with_text, with_char, graft, IsPlace, text_before, char_into, Place}
+use Rattle.hnodes.proofs.Names.{◌≡◌, ℕ, ◌+◌, ◌<◌, length, List, [], ◌∷◌, ◌++◌, Some, None, refl, sym, ◌∙◌, ap, arith, encode_utf8, What, document, doctype, element, comment, text, Forest, none, tree, join, change_what, Nodes, AreNodes, with_text, with_char, graft, IsPlace, text_before, char_into, Place}
 use Rattle.std.proofs.Common.{append_assoc, append-nil}
 use Rattle.std.proofs.lemmas.List.{nil_from_length}
 use Rattle.std.proofs.lemmas.Str.{chars-nil, encodes-chars}
@@ -26,21 +26,11 @@ module _ {N : Type 0} where
 
   longer-nil : (n : ℕ) (f : Forest N) → change_what n (with_text []) f ≡ f
   longer-nil n none = refl
-  longer-nil n (tree b w kids rest) = go (longer-nil n kids) (longer-nil n rest) (eqb b n)
-    where
-      go : change_what n (with_text []) kids ≡ kids → change_what n (with_text []) rest ≡ rest → (u : Bool) → tree b (cond u (with_text [] w) w) (change_what n (with_text []) kids) (change_what n (with_text []) rest) ≡ tree b w kids rest
-      go l r true = let s = with_text-nil w in λ i. tree b (s i) (l i) (r i)
-      go l r false = λ i. tree b w (l i) (r i)
+  longer-nil n (tree b w kids rest) = grind (arith, longer-nil n kids, longer-nil n rest, with_text-nil)
 
   longer-twice : (n : ℕ) (a b : List ℕ) (f : Forest N) → change_what n (with_text b) (change_what n (with_text a) f) ≡ change_what n (with_text (a ++ b)) f
   longer-twice n a b none = refl
-  longer-twice n a b (tree k w kids rest) = go (longer-twice n a b kids) (longer-twice n a b rest) (eqb k n)
-    where
-      go : change_what n (with_text b) (change_what n (with_text a) kids) ≡ change_what n (with_text (a ++ b)) kids → change_what n (with_text b) (change_what n (with_text a) rest) ≡ change_what n (with_text (a ++ b)) rest → (u : Bool)
-          → tree k (cond u (with_text b (cond u (with_text a w) w)) (cond u (with_text a w) w)) (change_what n (with_text b) (change_what n (with_text a) kids)) (change_what n (with_text b) (change_what n (with_text a) rest))
-          ≡ tree k (cond u (with_text (a ++ b) w) w) (change_what n (with_text (a ++ b)) kids) (change_what n (with_text (a ++ b)) rest)
-      go l r true = let s = with_text-twice a b w in λ i. tree k (s i) (l i) (r i)
-      go l r false = λ i. tree k w (l i) (r i)
+  longer-twice n a b (tree k w kids rest) = grind (arith, longer-twice n a b kids, longer-twice n a b rest, with_text-twice)
 
   -- behind a text they join it
   pub run-joins : (cs : List ℕ) (place : Place) (t : Nodes N) (n : ℕ) → IsTextBefore place t.trees n → add_chars cs place t ≡ record t { trees = change_what n (with_text (encode_utf8_all cs)) t.trees }

@@ -1,5 +1,5 @@
 -- A forest under other names.
-use Rattle.hnodes.proofs.Names.{◌≡◌, ℕ, ◌+◌, Bool, true, false, eqb, cond, [], ◌∷◌, map, Option, Some, None, refl, sym, ◌∙◌, ap, option_and_then, map-append, option_map, encode_utf8, Attribute, What, document, doctype, element, comment, text, Forest, none, tree, join, tree_at, cut, children_of, change_children, change_what, put_before, Spot, first_or, last_or, spot_below, spot_of, either_of, parent_of, last_child_of, previous_of, what_of, kind_in, name_in, attributes_in, text_in, doctype_in, Nodes, graft, graft_last, graft_before, move_all, with_attribute, with_char, before_place, if_text, text_before, char_into, Place, LastIn, Before}
+use Rattle.hnodes.proofs.Names.{arith, ◌≡◌, ℕ, ◌+◌, Bool, true, false, eqb, cond, [], ◌∷◌, map, Option, Some, None, refl, sym, ◌∙◌, ap, option_and_then, map-append, option_map, Attribute, What, document, doctype, element, comment, text, Forest, none, tree, join, tree_at, cut, children_of, change_children, change_what, put_before, Spot, first_or, last_or, spot_below, spot_of, either_of, parent_of, last_child_of, previous_of, what_of, kind_in, name_in, attributes_in, text_in, doctype_in, Nodes, graft, graft_last, graft_before, move_all, with_attribute, with_char, text_before, char_into, Place, LastIn, Before}
 use Rattle.std.proofs.lemmas.Iterator.Adapters.{option_map_id}
 use Rattle.hnodes.specs.Spelled.{spelled_attribute, spelled_what, spelled, spelled_nodes, spelled_spot, EditsKnowNoNames, QuestionsKnowNoNames}
 
@@ -10,50 +10,23 @@ module _ {N M : Type 0} (g : N → M) where
 
   spelled-tree_at : (n : ℕ) (f : Forest N) → spelled g (tree_at n f) ≡ tree_at n (spelled g f)
   spelled-tree_at n none = refl
-  spelled-tree_at n (tree b w kids rest) = go (eqb b n) (spelled-tree_at n kids) (spelled-tree_at n rest)
-    where
-      go : (v : Bool) → spelled g (tree_at n kids) ≡ tree_at n (spelled g kids) → spelled g (tree_at n rest) ≡ tree_at n (spelled g rest)
-          → spelled g (cond v (tree b w kids none) (join (tree_at n kids) (tree_at n rest))) ≡ cond v (tree b (spelled_what g w) (spelled g kids) none) (join (tree_at n (spelled g kids)) (tree_at n (spelled g rest)))
-      go true l r = refl
-      go false l r = spelled-join (tree_at n kids) (tree_at n rest) ∙ (λ i. join (l i) (r i))
+  spelled-tree_at n (tree b w kids rest) = grind (arith, spelled-tree_at n kids, spelled-tree_at n rest, spelled-join)
 
   pub spelled-children_of : (n : ℕ) (f : Forest N) → spelled g (children_of n f) ≡ children_of n (spelled g f)
   spelled-children_of n none = refl
-  spelled-children_of n (tree b w kids rest) = go (eqb b n) (spelled-children_of n kids) (spelled-children_of n rest)
-    where
-      go : (v : Bool) → spelled g (children_of n kids) ≡ children_of n (spelled g kids) → spelled g (children_of n rest) ≡ children_of n (spelled g rest)
-          → spelled g (cond v kids (join (children_of n kids) (children_of n rest))) ≡ cond v (spelled g kids) (join (children_of n (spelled g kids)) (children_of n (spelled g rest)))
-      go true l r = refl
-      go false l r = spelled-join (children_of n kids) (children_of n rest) ∙ (λ i. join (l i) (r i))
+  spelled-children_of n (tree b w kids rest) = grind (arith, spelled-children_of n kids, spelled-children_of n rest, spelled-join)
 
   spelled-cut : (n : ℕ) (f : Forest N) → spelled g (cut n f) ≡ cut n (spelled g f)
   spelled-cut n none = refl
-  spelled-cut n (tree b w kids rest) = go (eqb b n) (spelled-cut n kids) (spelled-cut n rest)
-    where
-      go : (v : Bool) → spelled g (cut n kids) ≡ cut n (spelled g kids) → spelled g (cut n rest) ≡ cut n (spelled g rest)
-          → spelled g (cond v rest (tree b w (cut n kids) (cut n rest))) ≡ cond v (spelled g rest) (tree b (spelled_what g w) (cut n (spelled g kids)) (cut n (spelled g rest)))
-      go true l r = refl
-      go false l r = λ i. tree b (spelled_what g w) (l i) (r i)
+  spelled-cut n (tree b w kids rest) = grind (arith, spelled-cut n kids, spelled-cut n rest)
 
   spelled-change_children : (n : ℕ) (h : Forest N → Forest N) (h' : Forest M → Forest M) → ((k : Forest N) → spelled g (h k) ≡ h' (spelled g k)) → (f : Forest N) → spelled g (change_children n h f) ≡ change_children n h' (spelled g f)
   spelled-change_children n h h' same none = refl
-  spelled-change_children n h h' same (tree b w kids rest) = go (eqb b n) (spelled-change_children n h h' same kids) (spelled-change_children n h h' same rest)
-    where
-      go : (v : Bool) → spelled g (change_children n h kids) ≡ change_children n h' (spelled g kids) → spelled g (change_children n h rest) ≡ change_children n h' (spelled g rest)
-          → spelled g (cond v (tree b w (h kids) rest) (tree b w (change_children n h kids) (change_children n h rest)))
-          ≡ cond v (tree b (spelled_what g w) (h' (spelled g kids)) (spelled g rest)) (tree b (spelled_what g w) (change_children n h' (spelled g kids)) (change_children n h' (spelled g rest)))
-      go true l r = λ i. tree b (spelled_what g w) (same kids i) (spelled g rest)
-      go false l r = λ i. tree b (spelled_what g w) (l i) (r i)
+  spelled-change_children n h h' same (tree b w kids rest) = grind (arith, spelled-change_children n h h' same kids, spelled-change_children n h h' same rest)
 
   spelled-put_before : (n : ℕ) (t f : Forest N) → spelled g (put_before n t f) ≡ put_before n (spelled g t) (spelled g f)
   spelled-put_before n t none = refl
-  spelled-put_before n t (tree b w kids rest) = go (eqb b n) (spelled-put_before n t kids) (spelled-put_before n t rest)
-    where
-      go : (v : Bool) → spelled g (put_before n t kids) ≡ put_before n (spelled g t) (spelled g kids) → spelled g (put_before n t rest) ≡ put_before n (spelled g t) (spelled g rest)
-          → spelled g (cond v (join t (tree b w kids rest)) (tree b w (put_before n t kids) (put_before n t rest)))
-          ≡ cond v (join (spelled g t) (tree b (spelled_what g w) (spelled g kids) (spelled g rest))) (tree b (spelled_what g w) (put_before n (spelled g t) (spelled g kids)) (put_before n (spelled g t) (spelled g rest)))
-      go true l r = spelled-join t (tree b w kids rest)
-      go false l r = λ i. tree b (spelled_what g w) (l i) (r i)
+  spelled-put_before n t (tree b w kids rest) = grind (arith, spelled-put_before n t kids, spelled-put_before n t rest, spelled-join)
 
   spelled-change_what : (n : ℕ) (h : What N → What N) (h' : What M → What M) → ((w : What N) → spelled_what g (h w) ≡ h' (spelled_what g w)) → (f : Forest N) → spelled g (change_what n h f) ≡ change_what n h' (spelled g f)
   spelled-change_what n h h' same none = refl
@@ -81,13 +54,7 @@ module _ {N M : Type 0} (g : N → M) where
 
   spelled-below : (n : ℕ) (p x : Option ℕ) (f : Forest N) → spot_below n p x (spelled g f) ≡ option_map (spelled_spot g) (spot_below n p x f)
   spelled-below n p x none = refl
-  spelled-below n p x (tree b w kids rest) = go (eqb b n) (spelled-below n (Some b) None kids) (spelled-below n p (Some b) rest)
-    where
-      go : (v : Bool) → spot_below n (Some b) None (spelled g kids) ≡ option_map (spelled_spot g) (spot_below n (Some b) None kids) → spot_below n p (Some b) (spelled g rest) ≡ option_map (spelled_spot g) (spot_below n p (Some b) rest)
-          → cond v (Some (record { parent = p; before = x; what = spelled_what g w; children = spelled g kids; after = spelled g rest })) (either_of (spot_below n (Some b) None (spelled g kids)) (spot_below n p (Some b) (spelled g rest)))
-          ≡ option_map (spelled_spot g) (cond v (Some (record { parent = p; before = x; what = w; children = kids; after = rest })) (either_of (spot_below n (Some b) None kids) (spot_below n p (Some b) rest)))
-      go true l r = refl
-      go false l r = (λ i. either_of (l i) (r i)) ∙ either-spelled (spot_below n (Some b) None kids) (spot_below n p (Some b) rest)
+  spelled-below n p x (tree b w kids rest) = grind (arith, spelled-below n (Some b) None kids, spelled-below n p (Some b) rest)
 
   spelled-spot : (n : ℕ) (f : Forest N) → spot_of n (spelled g f) ≡ option_map (spelled_spot g) (spot_of n f)
   spelled-spot n none = refl
@@ -98,27 +65,15 @@ module _ {N M : Type 0} (g : N → M) where
 
   -- what is asked of a place
   asked : {A : Type 0} (q : Spot M → Option A) (q' : Spot N → Option A) → ((s : Spot N) → q (spelled_spot g s) ≡ q' s) → (n : ℕ) (f : Forest N) → option_and_then q (spot_of n (spelled g f)) ≡ option_and_then q' (spot_of n f)
-  asked q q' same n f = ap (option_and_then q) (spelled-spot n f) ∙ go (spot_of n f)
-    where
-      go : (o : Option (Spot N)) → option_and_then q (option_map (spelled_spot g) o) ≡ option_and_then q' o
-      go None = refl
-      go (Some s) = same s
+  asked q q' same n f = grind (arith, spelled-spot)
 
   spelled-what_of : (n : ℕ) (f : Forest N) → what_of n (spelled g f) ≡ option_map (spelled_what g) (what_of n f)
-  spelled-what_of n f = ap (option_map (λ s. s.what)) (spelled-spot n f) ∙ go (spot_of n f)
-    where
-      go : (o : Option (Spot N)) → option_map (λ s. s.what) (option_map (spelled_spot g) o) ≡ option_map (spelled_what g) (option_map (λ s. s.what) o)
-      go None = refl
-      go (Some s) = refl
+  spelled-what_of n f = grind (arith, spelled-spot)
 
   -- what is asked of what a node is
   asked-what : {A B : Type 0} (q : What M → Option B) (q' : What N → Option A) (h : A → B) → ((w : What N) → q (spelled_what g w) ≡ option_map h (q' w)) → (n : ℕ) (f : Forest N)
       → option_and_then q (what_of n (spelled g f)) ≡ option_map h (option_and_then q' (what_of n f))
-  asked-what q q' h same n f = ap (option_and_then q) (spelled-what_of n f) ∙ go (what_of n f)
-    where
-      go : (o : Option (What N)) → option_and_then q (option_map (spelled_what g) o) ≡ option_map h (option_and_then q' o)
-      go None = refl
-      go (Some w) = same w
+  asked-what q q' h same n f = grind (arith, spelled-what_of)
 
   spelled-kind : (w : What N) → kind_in (spelled_what g w) ≡ kind_in w
   spelled-kind document = refl
@@ -214,30 +169,11 @@ module _ {N M : Type 0} (g : N → M) where
   spelled-with_char c (comment t) = refl
   spelled-with_char c (text t) = refl
 
-  spelled-if_text : (n : ℕ) (o : Option (What N)) → if_text n (option_map (spelled_what g) o) ≡ if_text n o
-  spelled-if_text n None = refl
-  spelled-if_text n (Some document) = refl
-  spelled-if_text n (Some (doctype a p s)) = refl
-  spelled-if_text n (Some (element x attrs)) = refl
-  spelled-if_text n (Some (comment t)) = refl
-  spelled-if_text n (Some (text t)) = refl
-
   spelled-text_before : (place : Place) (f : Forest N) → text_before place (spelled g f) ≡ text_before place f
-  spelled-text_before place f = ap (option_and_then (λ n. if_text n (what_of n (spelled g f)))) (here place) ∙ go (before_place place f)
-    where
-      here : (place : Place) → before_place place (spelled g f) ≡ before_place place f
-      here (LastIn p) = spelled-last_child_of p f
-      here (Before s) = spelled-previous_of s f
-
-      go : (o : Option ℕ) → option_and_then (λ n. if_text n (what_of n (spelled g f))) o ≡ option_and_then (λ n. if_text n (what_of n f)) o
-      go None = refl
-      go (Some n) = ap (if_text n) (spelled-what_of n f) ∙ spelled-if_text n (what_of n f)
+  spelled-text_before place f = grind (arith, spelled-last_child_of, spelled-previous_of, spelled-what_of)
 
   spelled-char_into : (c : ℕ) (place : Place) (o : Option ℕ) (t : Nodes N) → spelled_nodes g (char_into c place o t) ≡ char_into c place o (spelled_nodes g t)
-  spelled-char_into c place None t = λ i. record { limit = t.limit; made = t.made + 1; trees = trees i }
-    where
-      trees : spelled g (graft t.made place (join t.trees (tree t.made (text (encode_utf8 c)) none none))) ≡ graft t.made place (join (spelled g t.trees) (tree t.made (text (encode_utf8 c)) none none))
-      trees = spelled-graft t.made place (join t.trees (tree t.made (text (encode_utf8 c)) none none)) ∙ ap (graft t.made place) (spelled-join t.trees (tree t.made (text (encode_utf8 c)) none none))
+  spelled-char_into c place None t = grind (arith, spelled-graft, spelled-join)
   spelled-char_into c place (Some n) t = λ i. record { limit = t.limit; made = t.made; trees = spelled-change_what n (with_char c) (with_char c) (spelled-with_char c) t.trees i }
 
   pub edits : EditsKnowNoNames g

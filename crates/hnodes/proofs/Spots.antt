@@ -1,5 +1,6 @@
 -- The row of a node is that of its place.
-use Rattle.hnodes.proofs.Names.{◌≡◌, ℕ, zero, suc, ◌+◌, Bool, true, false, eqb, cond, Option, Some, None, refl, arith, eqb-true, option_map, Forest, none, tree, times, spot_below, spot_of, either_of, Look, Linked, Loose, row_at}
+use Rattle.std.proofs.lemmas.Bool.Decides.{nat_tests}
+use Rattle.hnodes.proofs.Names.{◌≡◌, ℕ, zero, suc, ◌+◌, Option, Some, None, refl, arith, option_map, Forest, none, tree, times, spot_below, spot_of, either_of, Look, Linked, Loose, row_at}
 
 pub either-none : {A : Type 0} → (o : Option A) → either_of o None ≡ o
 either-none None = refl
@@ -8,26 +9,11 @@ either-none (Some a) = refl
 module _ {N : Type 0} where
   pub spot_below-absent : (n : ℕ) (p x : Option ℕ) (f : Forest N) → times n f ≡ 0 → spot_below n p x f ≡ None
   spot_below-absent n p x none h = refl
-  spot_below-absent n p x (tree b w kids rest) h = go (spot_below-absent n (Some b) None kids) (spot_below-absent n p (Some b) rest) (eqb b n) h
-    where
-      go : (times n kids ≡ 0 → spot_below n (Some b) None kids ≡ None) → (times n rest ≡ 0 → spot_below n p (Some b) rest ≡ None) → (v : Bool) → cond v 1 0 + (times n kids + times n rest) ≡ 0
-          → cond v (Some (record { parent = p; before = x; what = w; children = kids; after = rest })) (either_of (spot_below n (Some b) None kids) (spot_below n p (Some b) rest)) ≡ None
-      go l r true h' = absurd (omega arith)
-      go l r false h' = rw (l (omega arith), r (omega arith)) refl
+  spot_below-absent n p x (tree b w kids rest) h = grind (arith, spot_below-absent n (Some b) None kids, spot_below-absent n p (Some b) rest)
 
   pub Linked-spot : (look : Look N) (n : ℕ) (p x : Option ℕ) (f : Forest N) → times n f ≡ 1 → Linked look p x f None → look n ≡ option_map row_at (spot_below n p x f)
   Linked-spot look n p x none h s = absurd (omega arith)
-  Linked-spot look n p x (tree b w kids rest) h s = go (Linked-spot look n (Some b) None kids) (Linked-spot look n p (Some b) rest) (eqb b n) refl h s
-    where
-      go : (times n kids ≡ 1 → Linked look (Some b) None kids None → look n ≡ option_map row_at (spot_below n (Some b) None kids)) → (times n rest ≡ 1 → Linked look p (Some b) rest None → look n ≡ option_map row_at (spot_below n p (Some b) rest))
-          → (v : Bool) → eqb b n ≡ v → cond v 1 0 + (times n kids + times n rest) ≡ 1 → Linked look p x (tree b w kids rest) None
-          → look n ≡ option_map row_at (cond v (Some (record { parent = p; before = x; what = w; children = kids; after = rest })) (either_of (spot_below n (Some b) None kids) (spot_below n p (Some b) rest)))
-      go l r true e h' s' = rw (← eqb-true b n e) s'.0
-      go l r false e h' s' = under (times n kids) refl (omega arith)
-        where
-          under : (j : ℕ) → times n kids ≡ j → j + times n rest ≡ 1 → look n ≡ option_map row_at (either_of (spot_below n (Some b) None kids) (spot_below n p (Some b) rest))
-          under zero a z = rw (spot_below-absent n (Some b) None kids a) (r (omega arith) s'.2)
-          under (suc j) a z = rw (spot_below-absent n p (Some b) rest (omega arith), either-none (spot_below n (Some b) None kids)) (l (omega arith) s'.1)
+  Linked-spot look n p x (tree b w kids rest) h s = grind (arith, Linked-spot look n (Some b) None kids, Linked-spot look n p (Some b) rest, spot_below-absent, nat_tests)
 
   pub spot_of-absent : (n : ℕ) (f : Forest N) → times n f ≡ 0 → spot_of n f ≡ None
   spot_of-absent n none h = refl

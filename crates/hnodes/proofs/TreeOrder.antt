@@ -1,5 +1,5 @@
 -- A walk in tree order.
-use Rattle.hnodes.proofs.Names.{◌≡◌, ℕ, ◌<◌, Bool, true, false, eqb, cond, not, List, [], ◌∷◌, ◌++◌, length, Option, Some, None, refl, sym, ◌∙◌, ap, subst, arith, drop, option_and_then, unwrap_or, ◌⊎◌, inl, inr, eqb-true, eq-eqb, append_assoc, append-nil, IfSome, IsTrue, option_map, What, Forest, none, tree, times, join, children_of, Spot, spot_of, either_of, first_or, first_child_of, next_of, parent_of, what_of, AreCounted, above, ancestors_of, way_up, order, after_each, is_among}
+use Rattle.hnodes.proofs.Names.{◌≡◌, ℕ, ◌<◌, Bool, true, false, eqb, cond, not, List, [], ◌∷◌, ◌++◌, length, Option, Some, None, refl, sym, ◌∙◌, ap, subst, arith, drop, option_and_then, unwrap_or, ◌⊎◌, inl, inr, eq-eqb, append_assoc, append-nil, IfSome, IsTrue, option_map, What, Forest, none, tree, times, join, children_of, Spot, spot_of, first_or, first_child_of, next_of, parent_of, what_of, AreCounted, above, ancestors_of, way_up, order, after_each, is_among}
 use Rattle.hnodes.specs.Passed.{trees_after, inside_from}
 use Rattle.hnodes.proofs.Forests.{some_inj, times-join, join-assoc}
 use Rattle.hnodes.proofs.Levels.{level, Here, Below}
@@ -9,25 +9,12 @@ use Rattle.hnodes.proofs.ChildSpots.{spot_among, child-spot, root-spot}
 use Rattle.hnodes.proofs.WaysUp.{way-step}
 
 pub differ : (a b : ℕ) → true ≡ not (eqb a b) → eqb a b ≡ false
-differ a b e = go (eqb a b) e
-  where
-    go : (u : Bool) → true ≡ not u → u ≡ false
-    go true j = cc
-    go false j = refl
+differ a b e = grind arith
 
 module _ {N : Type 0} where
   above-other : (n : ℕ) (up ups : List ℕ) (g : Forest N) → is_among n up ≡ false → above n up g ≡ Some ups → is_among n ups ≡ false
   above-other n up ups none h e = cc
-  above-other n up ups (tree b w kids rest) h e = go (above-other n (b ∷ up) ups kids) (above-other n up ups rest) (eqb b n) refl e
-    where
-      go : (is_among n (b ∷ up) ≡ false → above n (b ∷ up) kids ≡ Some ups → is_among n ups ≡ false) → (is_among n up ≡ false → above n up rest ≡ Some ups → is_among n ups ≡ false)
-          → (u : Bool) → eqb b n ≡ u → cond u (Some up) (either_of (above n (b ∷ up) kids) (above n up rest)) ≡ Some ups → is_among n ups ≡ false
-      go l r true i e' = subst (λ (xs : List ℕ). is_among n xs ≡ false) (some_inj e') h
-      go l r false i e' = under (above n (b ∷ up) kids) refl e'
-        where
-          under : (o : Option (List ℕ)) → above n (b ∷ up) kids ≡ o → either_of o (above n up rest) ≡ Some ups → is_among n ups ≡ false
-          under None j k = r h k
-          under (Some xs) j k = l (rw i h) (j ∙ k)
+  above-other n up ups (tree b w kids rest) h e = grind (arith, above-other n (b ∷ up) ups kids, above-other n up ups rest)
 
   -- no node is inside itself
   not-own : (n : ℕ) (f : Forest N) → is_among n (ancestors_of n f) ≡ false
@@ -38,11 +25,7 @@ module _ {N : Type 0} where
       go (Some ups) e = above-other n [] ups f refl e
 
   pub apart : (n top : ℕ) (f : Forest N) → is_among top (ancestors_of n f) ≡ true → eqb n top ≡ false
-  apart n top f h = go (eqb n top) refl
-    where
-      go : (u : Bool) → eqb n top ≡ u → u ≡ false
-      go false e = refl
-      go true e = let same : n ≡ top = eqb-true n top e in let no : is_among top (ancestors_of n f) ≡ false = subst (λ (m : ℕ). is_among m (ancestors_of n f) ≡ false) same (not-own n f) in cc
+  apart n top f h = grind (arith, not-own)
 
   -- a node is inside top
   abbrev pub IsInside : (made top : ℕ) → Forest N → ℕ → Type 0
@@ -104,11 +87,7 @@ module _ {N : Type 0} where
         go (tree b w k R) e j = subst (λ (m : ℕ). IsInside made top f m) (some_inj j) (let a = entered n b w none k R h e in (a.made_is, rw a.up inside))
 
     pub first-inside : top < made → IfSome (first_child_of top f) (λ c. IsInside made top f c)
-    first-inside h = go (first_child_of top f) refl
-      where
-        go : (o : Option ℕ) → first_child_of top f ≡ o → IfSome o (λ c. IsInside made top f c)
-        go None e = tt
-        go (Some c) e = child-inside top c h e (rw (eq-eqb top top refl) refl)
+    first-inside h = grind (arith, child-inside)
 
     pub descends : (n c : ℕ) → n < made → first_child_of n f ≡ Some c → IsTrue (is_among top (ancestors_of n f)) → inside_from top (Some n) f ≡ n ∷ inside_from top (Some c) f
     descends n c h is inside = go (children_of n f) refl (sym (first_child-is n f (is-there made f counted n h)) ∙ is)
@@ -122,13 +101,7 @@ module _ {N : Type 0} where
             ap (λ g. n ∷ (order g ++ (order (trees_after (spot_of n f)) ++ after_each top (ancestors_of n f) f))) e ∙ ap (λ xs. n ∷ xs) (sym below)
 
     pub leaf : (n : ℕ) → n < made → first_child_of n f ≡ None → IsTrue (is_among top (ancestors_of n f)) → inside_from top (Some n) f ≡ n ∷ after_each top (way_up (Some n) f) f
-    leaf n h is inside = go (children_of n f) refl (sym (first_child-is n f (is-there made f counted n h)) ∙ is)
-      where
-        go : (g : Forest N) → children_of n f ≡ g → first_or g None ≡ None → inside_from top (Some n) f ≡ n ∷ after_each top (way_up (Some n) f) f
-        go (tree b w k R) e j = cc
-        go none e j =
-            ap (λ g. n ∷ (order g ++ (order (trees_after (spot_of n f)) ++ after_each top (ancestors_of n f) f))) e
-            ∙ ap (λ u. n ∷ cond u [] (order (trees_after (spot_of n f)) ++ after_each top (ancestors_of n f) f)) (sym (apart n top f inside))
+    leaf n h is inside = grind (arith, first_child-is, apart)
 
     -- the next sibling
     pub passes : (n m : ℕ) → n < made → next_of n f ≡ Some m → eqb n top ≡ false → IsTrue (is_among top (way_up (Some n) f))
@@ -163,15 +136,7 @@ module _ {N : Type 0} where
 
     -- no sibling
     pub climbs : (n : ℕ) → n < made → next_of n f ≡ None → eqb n top ≡ false → after_each top (way_up (Some n) f) f ≡ after_each top (way_up (parent_of n f) f) f
-    climbs n h is other = rw other (ap (λ g. order g ++ after_each top (ancestors_of n f) f) (last (spot_of n f) is)) ∙ ap (λ xs. after_each top xs f) (parents n h)
-      where
-        last : (o : Option (Spot N)) → option_and_then (λ (s : Spot N). first_or s.after None) o ≡ None → trees_after o ≡ none
-        last None e = refl
-        last (Some s) e = under s.after e
-          where
-            under : (g : Forest N) → first_or g None ≡ None → g ≡ none
-            under none j = refl
-            under (tree b w k R) j = cc
+    climbs n h is other = grind (arith, parents)
 
     pub shorter : (n q : ℕ) → n < made → parent_of n f ≡ Some q → length (ancestors_of q f) < length (ancestors_of n f)
     shorter n q h is = rw (parents n h, is) (omega arith)
@@ -181,8 +146,4 @@ module _ {N : Type 0} where
         subst (λ (xs : List ℕ). IsTrue (is_among top xs)) (parents n h) (subst (λ (u : Bool). IsTrue (cond u true (is_among top (ancestors_of n f)))) other inside)
 
     pub own-inside : (n : ℕ) → IsTrue (is_among top (ancestors_of n f)) → IsTrue (is_among top (way_up (Some n) f))
-    own-inside n h = go (eqb n top)
-      where
-        go : (u : Bool) → cond u true (is_among top (ancestors_of n f)) ≡ true
-        go true = refl
-        go false = h
+    own-inside n h = grind arith

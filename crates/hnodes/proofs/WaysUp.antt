@@ -1,5 +1,5 @@
 -- From a node to its parent, and so on.
-use Rattle.hnodes.proofs.Names.{◌≡◌, ℕ, ◌+◌, ◌<◌, Bool, true, false, eqb, cond, List, [], ◌∷◌, Some, None, refl, sym, ◌∙◌, ap, arith, option_and_then, unwrap_or, ◌⊎◌, inl, inr, eqb-true, eq-eqb, What, Forest, none, tree, times, join, children_of, Spot, either_of, parent_of, AreCounted, above, ancestors_of, way_up}
+use Rattle.hnodes.proofs.Names.{◌≡◌, ℕ, ◌<◌, List, [], ◌∷◌, Some, None, refl, sym, ◌∙◌, ap, arith, option_and_then, unwrap_or, ◌⊎◌, inl, inr, eqb-true, eq-eqb, What, Forest, none, tree, times, join, children_of, Spot, parent_of, AreCounted, above, ancestors_of, way_up}
 use Rattle.hnodes.proofs.Levels.{level, Here, Below}
 use Rattle.hnodes.proofs.Counted.{at-most, is-there}
 use Rattle.hnodes.proofs.ChildSpots.{Child, of_root, of_kids, of_rest, child, left-apart, child-spot, root-spot}
@@ -7,21 +7,11 @@ use Rattle.hnodes.proofs.ChildSpots.{Child, of_root, of_kids, of_rest, child, le
 module _ {N : Type 0} where
   above-absent : (n : ℕ) (up : List ℕ) (f : Forest N) → times n f ≡ 0 → above n up f ≡ None
   above-absent n up none h = refl
-  above-absent n up (tree b w kids rest) h = go (above-absent n (b ∷ up) kids) (above-absent n up rest) (eqb b n) h
-    where
-      go : (times n kids ≡ 0 → above n (b ∷ up) kids ≡ None) → (times n rest ≡ 0 → above n up rest ≡ None) → (u : Bool) → cond u 1 0 + (times n kids + times n rest) ≡ 0
-          → cond u (Some up) (either_of (above n (b ∷ up) kids) (above n up rest)) ≡ None
-      go l r true h' = absurd (omega arith)
-      go l r false h' = rw (l (omega arith), r (omega arith)) refl
+  above-absent n up (tree b w kids rest) h = grind (arith, above-absent n (b ∷ up) kids, above-absent n up rest)
 
   above-row : (n : ℕ) (w : What N) (up : List ℕ) (L k R : Forest N) → times n L ≡ 0 → above n up (join L (tree n w k R)) ≡ Some up
   above-row n w up none k R h = rw (eq-eqb n n refl) refl
-  above-row n w up (tree b v kids rest) k R h = go (above-row n w up rest k R) (eqb b n) refl h
-    where
-      go : (times n rest ≡ 0 → above n up (join rest (tree n w k R)) ≡ Some up) → (u : Bool) → eqb b n ≡ u → cond u 1 0 + (times n kids + times n rest) ≡ 0
-          → cond u (Some up) (either_of (above n (b ∷ up) kids) (above n up (join rest (tree n w k R)))) ≡ Some up
-      go r true e h' = absurd (omega arith)
-      go r false e h' = rw (above-absent n (b ∷ up) kids (omega arith)) (r (omega arith))
+  above-row n w up (tree b v kids rest) k R h = grind (arith, above-row n w up rest k R, above-absent)
 
   module _ (n q : ℕ) (w : What N) where
     -- what a child is inside of: its parent, and what that is inside of

@@ -1,5 +1,5 @@
 -- A node becomes something else, and is where it was.
-use Rattle.hnodes.proofs.Names.{◌≡◌, ℕ, Bool, true, false, eqb, cond, ◌∷◌, Option, Some, None, refl, sym, ◌∙◌, ap, arith, option_map, What, document, Forest, none, tree, roots, size, times, change_what, first_or, last_or, Row, Look, Linked, Loose, StandsIn, standing, is_loose, at_row, with_what}
+use Rattle.hnodes.proofs.Names.{◌≡◌, ℕ, Bool, true, false, eqb, cond, ◌∷◌, Option, Some, None, refl, sym, ◌∙◌, ap, arith, What, document, Forest, none, tree, roots, size, times, change_what, first_or, last_or, Row, Look, Linked, Loose, StandsIn, standing, is_loose, at_row, with_what}
 use Rattle.hnodes.proofs.Linked.{Loose-agree}
 use Rattle.hnodes.proofs.Roots.{loose-same}
 
@@ -52,12 +52,7 @@ module _ {N : Type 0} (n : ℕ) (g : What N → What N) where
   Loose-what look new is (tree b w kids rest) s = (Linked-what look new is None None (tree b w kids none) None s.0, Loose-what look new is rest s.1)
 
   loose-what : (look new : Look N) → ((b : ℕ) → new b ≡ at_row n (with_what g) look b) → (b : ℕ) → is_loose (new b) ≡ is_loose (look b)
-  loose-what look new is b = ap is_loose (is b) ∙ go (eqb b n) (look b)
-    where
-      go : (v : Bool) (o : Option (Row N)) → is_loose (cond v (option_map (with_what g) o) o) ≡ is_loose o
-      go true None = refl
-      go true (Some r) = refl
-      go false o = refl
+  loose-what look new is b = grind arith
 
   pub StandsIn-what : (count : ℕ) (look new : Look N) (f : Forest N) → StandsIn count look f → ((b : ℕ) → new b ≡ at_row n (with_what g) look b) → StandsIn count new (change_what n g f)
   StandsIn-what count look new f s is = record {
@@ -69,9 +64,4 @@ module _ {N : Type 0} (n : ℕ) (g : What N → What N) where
 
   -- a document stays one
   pub document-what : (look new : Look N) → g document ≡ document → ((b : ℕ) → new b ≡ at_row n (with_what g) look b) → (b : ℕ) → standing (look b) ≡ Some (document, None) → standing (new b) ≡ Some (document, None)
-  document-what look new same is b d = ap standing (is b) ∙ go (eqb b n) (look b) d
-    where
-      go : (v : Bool) (o : Option (Row N)) → standing o ≡ Some (document, None) → standing (cond v (option_map (with_what g) o) o) ≡ Some (document, None)
-      go true None e = e
-      go true (Some r) e = ap (option_map (λ (m : What N × Option ℕ). (g m.0, m.1))) e ∙ ap (λ (w : What N). Some (w, None)) same
-      go false o e = e
+  document-what look new same is b d = grind arith

@@ -1,5 +1,5 @@
 -- Links are to nodes that are there.
-use Rattle.hnodes.proofs.Names.{◌≡◌, ℕ, suc, ◌<◌, ◌≤◌, Bool, true, false, ltb, cond, Some, None, refl, sym, ◌∙◌, ap, subst, arith, ◌⊎◌, inl, inr, le-leb, lt-leb, cases_lt, Forest, times, children_of, Look, Loose, StandsIn, parent_in, previous_in, next_in, first_in, last_in}
+use Rattle.hnodes.proofs.Names.{◌≡◌, ℕ, suc, ◌<◌, ◌≤◌, ltb, cond, Some, None, refl, sym, ◌∙◌, ap, subst, arith, ◌⊎◌, inl, inr, le-leb, Forest, times, children_of, Look, Loose, StandsIn, parent_in, previous_in, next_in, first_in, last_in}
 use Rattle.hnodes.proofs.Forests.{some_inj, times-emptied}
 use Rattle.hnodes.proofs.Linked.{last-among, first-among}
 use Rattle.hnodes.proofs.Levels.{level, Here, Below}
@@ -10,22 +10,14 @@ none_some : {A : Type 0} {a : A} → None ≡ Some a → ⊥
 none_some e = cc
 
 pub test_under : (n count : ℕ) → 0 < cond (ltb n count) 1 0 → n < count
-test_under n count h = go (cases_lt n count)
-  where
-    go : (n < count) ⊎ (count ≤ n) → n < count
-    go (inl a) = a
-    go (inr a) = let no : ltb n count ≡ false = lt-leb (suc n) count (omega arith) in absurd (let k : 0 < cond false 1 0 = subst (λ (x : Bool). 0 < cond x 1 0) no h in omega arith)
+test_under n count h = grind arith
 
 module _ {N : Type 0} where
   pub one-of : (count : ℕ) (look : Look N) (f : Forest N) (n : ℕ) → StandsIn count look f → n < count → times n f ≡ 1
   one-of count look f n s h = s.once n ∙ rw (le-leb (suc n) count (omega arith)) refl
 
   pub once-of : (count : ℕ) (look : Look N) (f : Forest N) (s : StandsIn count look f) (b : ℕ) → times b f ≤ 1
-  once-of count look f s b = rw (s.once b) (go (ltb b count))
-    where
-      go : (v : Bool) → cond v 1 0 ≤ 1
-      go true = omega arith
-      go false = omega arith
+  once-of count look f s b = grind arith
 
   pub there : (count : ℕ) (look : Look N) (f : Forest N) (k : ℕ) → StandsIn count look f → 0 < times k f → k < count
   there count look f k s h = test_under k count (subst (λ (m : ℕ). 0 < m) (s.once k) h)
