@@ -1,5 +1,6 @@
 -- Only the entries with its hash can be equal to an entry.
-use Rattle.hformat.proofs.Names.{add-zero, reverse, take, ◌≡◌, ℕ, zero, suc, ◌+◌, ◌-◌, ◌<◌, ◌≤◌, eqb, Bool, true, false, cond, List, [], ◌∷◌, Option, Some, length, map, filter, drop, get_or, refl, sym, ◌∙◌, ap, arith, if◌then◌else◌, slice_get, option_map_or, eqb-suc-zero, eqb-true, eqb-false, drop-map, take-map, get_or-reverse, length-map, EntryOf, Listed, marker, entry, as_entry, after_marker, number_by, item_of, items_of, Stored, drop_nearest, last_place-le}
+use Rattle.std.proofs.lemmas.Bool.Decides.{nat_tests}
+use Rattle.hformat.proofs.Names.{add-zero, reverse, take, ◌≡◌, ℕ, zero, suc, ◌+◌, ◌-◌, ◌<◌, ◌≤◌, eqb, Bool, true, false, cond, List, [], ◌∷◌, Option, Some, length, map, filter, drop, get_or, refl, sym, ◌∙◌, ap, arith, if◌then◌else◌, slice_get, option_map_or, eqb-suc-zero, drop-map, take-map, get_or-reverse, length-map, EntryOf, Listed, marker, entry, as_entry, after_marker, number_by, item_of, items_of, Stored, drop_nearest, last_place-le}
 use Rattle.std.proofs.Math.Seq.{drop-nil}
 use Rattle.std.proofs.lemmas.List.{drop-drop, get_or-drop, length-drop}
 use Rattle.hformat.proofs.Chained.{last_of}
@@ -10,13 +11,7 @@ use Rattle.hformat.proofs.Listed.{number as numbered, numbers-back, numbers-seen
 -- what is at the last place of a number
 pub last-at : (n p : ℕ) (ns : List ℕ) → last_of n ns ≡ p → 0 < p → get_or ns (length ns - p) 0 ≡ n
 last-at n p [] is some = absurd (omega arith)
-last-at n p (x ∷ ns) is some = go (eqb x n) refl is (last-at n p ns)
-  where
-    go : (v : Bool) → eqb x n ≡ v → cond v (suc (length ns)) (last_of n ns) ≡ p → (last_of n ns ≡ p → 0 < p → get_or ns (length ns - p) 0 ≡ n) → get_or (x ∷ ns) (suc (length ns) - p) 0 ≡ n
-    go true same is rest = let first : suc (length ns) - p ≡ 0 = omega arith in rw first (eqb-true x n same)
-    go false same is rest =
-        let later : suc (length ns) - p ≡ suc (length ns - p) = omega (arith, last_place-le (λ k. eqb k n) ns) in
-        rw later (rest is some)
+last-at n p (x ∷ ns) is some = grind (arith, last-at n p ns, last_of, last_place-le, nat_tests)
 
 module _ {N : Type 0} where
   -- an item after the last marker is an entry
@@ -42,11 +37,7 @@ module _ (of : EntryOf ℕ → ℕ) where
 
   module _ (sought : EntryOf ℕ → Bool) (n : ℕ) (law : (e : EntryOf ℕ) → sought e ≡ true → suc (of e) ≡ n) where
     not-sought : (e : EntryOf ℕ) → eqb (suc (of e)) n ≡ false → sought e ≡ false
-    not-sought e other = go (sought e) refl
-      where
-        go : (v : Bool) → sought e ≡ v → v ≡ false
-        go true here = absurd (eqb-false (suc (of e)) n other (law e here))
-        go false here = refl
+    not-sought e other = grind (arith, nat_tests)
 
     -- none is sought before the last entry of the number
     pub record Skips (items : List (Listed ℕ)) (up : ℕ) (entries : List (EntryOf ℕ)) : Type 0 where
@@ -79,11 +70,7 @@ module _ (of : EntryOf ℕ → ℕ) where
     is_sought x = option_map_or sought (as_entry x) false
 
     one-more : (e : EntryOf ℕ) (es : List (EntryOf ℕ)) (k : ℕ) → k ≡ length (filter sought es) → k + (if sought e then 1 else 0) ≡ length (filter sought (e ∷ es))
-    one-more e es k is = go (sought e)
-      where
-        go : (v : Bool) → k + (if v then 1 else 0) ≡ length (if v then e ∷ filter sought es else filter sought es)
-        go true = omega arith
-        go false = omega arith
+    one-more e es k is = grind arith
 
     pub steps : (items : List (Listed ℕ)) (p q : ℕ) (x : Listed ℕ) → p ≤ length items → place of 0 items < p → slice_get items (length items - p) ≡ Some x
         → q ≡ place of n (drop (suc (length items - p)) items) → Steps items p q (is_sought x)
@@ -117,10 +104,7 @@ module _ (of : EntryOf ℕ → ℕ) where
 -- the number at a place of a vector, and those before it
 module _ (of : EntryOf ℕ → ℕ) (items : List Stored) (p : ℕ) (some : 0 < p) (within : p ≤ length items) where
   pub number-at : get_or (map (numbered of) items) (p - 1) 0 ≡ get_or (map (number_by of) (items_of items)) (length items - p) 0
-  number-at =
-      let size : length (map (number_by of) (items_of items)) ≡ length items = length-map (items_of items) (number_by of) ∙ length-items_of items in
-      ap (λ ns. get_or ns (p - 1) 0) (numbers-seen of items) ∙ get_or-reverse (map (number_by of) (items_of items)) (p - 1) 0 (omega arith)
-      ∙ ap (λ k. get_or (map (number_by of) (items_of items)) k 0) (let same : length (map (number_by of) (items_of items)) - 1 - (p - 1) ≡ length items - p = omega arith in same)
+  number-at = grind (arith, length-map, length-items_of, numbers-seen, get_or-reverse)
 
   pub numbers-before : reverse (take (p - 1) (map (numbered of) items)) ≡ map (number_by of) (drop (suc (length items - p)) (items_of items))
   numbers-before =

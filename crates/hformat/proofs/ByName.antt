@@ -1,5 +1,6 @@
 -- A search in a list by the numbers of its members, where what is sought has one number.
-use Rattle.hformat.proofs.Names.{◌≡◌, ℕ, zero, suc, ◌+◌, ◌-◌, ◌<◌, ◌≤◌, ◌==◌, eqb, Bool, true, false, cond, ◌||◌, List, [], ◌∷◌, length, map, take, get_or, refl, sym, ◌∙◌, ap, arith, list_any, eqb-true, eqb-false, last_up}
+use Rattle.std.proofs.lemmas.Bool.Decides.{nat_tests}
+use Rattle.hformat.proofs.Names.{◌≡◌, ℕ, zero, suc, ◌+◌, ◌-◌, ◌<◌, ◌≤◌, ◌==◌, eqb, Bool, true, false, ◌||◌, List, [], ◌∷◌, length, map, take, get_or, refl, sym, ◌∙◌, ap, arith, list_any, last_up}
 use Rattle.std.proofs.lemmas.List.Folds.{list_any_more}
 use Rattle.std.proofs.Math.Bool.{or-false}
 
@@ -14,11 +15,7 @@ module _ {X : Type 0} (sought : X → Bool) where
 
   module _ (number : X → ℕ) (n : ℕ) (law : (x : X) → sought x ≡ true → number x ≡ n) where
     not-sought : (x : X) → eqb (number x) n ≡ false → sought x ≡ false
-    not-sought x other = go (sought x) refl
-      where
-        go : (v : Bool) → sought x ≡ v → v ≡ false
-        go true here = absurd (eqb-false (number x) n other (law x here))
-        go false here = refl
+    not-sought x other = grind (arith, nat_tests)
 
     any-skip : (xs : List X) (p : ℕ) → p < length xs → eqb (get_or (map number xs) p 0) n ≡ false → list_any sought (take p xs) ≡ list_any sought (take (suc p) xs)
     any-skip [] p h other = absurd (omega arith)
@@ -33,11 +30,4 @@ module _ {X : Type 0} (sought : X → Bool) where
 
     pub last-found : (xs : List X) (p : ℕ) → p ≤ length xs → Last xs p (last_up (λ k. k == n) (map number xs) p)
     last-found xs zero h = record { within = omega arith; there = λ some. absurd (omega arith); same = refl }
-    last-found xs (suc p) h = go (eqb (get_or (map number xs) p 0) n) refl (last-found xs p (omega arith))
-      where
-        go : (v : Bool) → eqb (get_or (map number xs) p 0) n ≡ v → Last xs p (last_up (λ k. k == n) (map number xs) p)
-            → Last xs (suc p) (cond v (suc p) (last_up (λ k. k == n) (map number xs) p))
-        go true is rest =
-            let last : suc p - 1 ≡ p = omega arith in
-            record { within = omega arith; there = λ some. ap (λ k. get_or (map number xs) k 0) last ∙ eqb-true (get_or (map number xs) p 0) n is; same = refl }
-        go false is rest = record { within = omega (arith, rest.within); there = rest.there; same = rest.same ∙ any-skip xs p (omega arith) is }
+    last-found xs (suc p) h = grind (arith, last-found xs p (omega arith), any-skip, nat_tests)

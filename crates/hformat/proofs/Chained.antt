@@ -1,5 +1,5 @@
 -- Where a number is last, in a list and in that list from its last member on; and edits of a vector in what its members are seen as.
-use Rattle.hformat.proofs.Names.{◌≡◌, ℕ, zero, suc, ◌≤◌, ◌==◌, Bool, List, [], ◌∷◌, ◌++◌, length, map, reverse, take, take-suc, drop, get_or, refl, sym, ◌∙◌, ap, arith, if◌then◌else◌, map-append, take-map, drop-map, reverse-append, length-reverse, length-take-le, insert, remove, last_up, last_place}
+use Rattle.hformat.proofs.Names.{◌≡◌, ℕ, zero, suc, ◌≤◌, ◌==◌, Bool, List, [], ◌∷◌, length, reverse, take, take-suc, get_or, refl, sym, ◌∙◌, ap, arith, if◌then◌else◌, reverse-append, length-reverse, length-take-le, last_up, last_place}
 use Rattle.std.proofs.lemmas.List.{take_all}
 
 -- where a number is last, in a list whose last member comes first
@@ -20,10 +20,3 @@ last-is n ns = last_up-is (λ k. k == n) ns (length ns) (omega arith) ∙ ap (λ
 
 pub before-is : (n : ℕ) (ns : List ℕ) (p : ℕ) → p ≤ length ns → last_up (λ k. k == n) ns p ≡ last_of n (reverse (take p ns))
 before-is n ns p h = last_up-is (λ k. k == n) ns p h
-
-module _ {X Y : Type 0} (f : X → Y) where
-  pub map-remove : (xs : List X) (i : ℕ) → map f (remove xs i) ≡ remove (map f xs) i
-  map-remove xs i = map-append f (take i xs) (drop (suc i) xs) ∙ (λ k. sym (take-map f i xs) k ++ sym (drop-map f (suc i) xs) k)
-
-  pub map-insert : (xs : List X) (i : ℕ) (x : X) → map f (insert xs i x) ≡ insert (map f xs) i (f x)
-  map-insert xs i x = map-append f (take i xs) (x ∷ drop i xs) ∙ (λ k. sym (take-map f i xs) k ++ f x ∷ sym (drop-map f i xs) k)

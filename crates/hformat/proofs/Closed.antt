@@ -1,5 +1,6 @@
 -- The holes of a list taken out, and the numbers of what is left.
-use Rattle.hformat.proofs.Names.{◌≡◌, ℕ, zero, suc, ◌+◌, ◌-◌, ◌<◌, ◌≤◌, ◌==◌, Bool, true, false, not, cond, eqb, is_some, List, [], ◌∷◌, ◌++◌, length, get_or, take, drop, set, map, filter, refl, sym, ◌∙◌, ap, arith, subst, All, swap, eqb-true, not-true, append-nil, append_assoc, drop-map, drop-set-lt, length-append, length-take-le, map-append, take-map, swap_is, All-append, All-drop, All-get_or, All-head, All-tail, All-take, filter-append, entry_hash, none, EntryOf, IsStored, entry_is, is_gone, item_of, nowhere, IsListed, by_hash, by_name, by_node, number_by, numbers_by, unless_hole, Stored, Slots}
+use Rattle.std.proofs.lemmas.Bool.Decides.{nat_tests}
+use Rattle.hformat.proofs.Names.{◌≡◌, ℕ, ◌+◌, ◌<◌, ◌≤◌, ◌==◌, Bool, true, false, not, cond, eqb, is_some, List, [], ◌∷◌, ◌++◌, length, get_or, take, drop, set, map, filter, refl, sym, ◌∙◌, ap, arith, subst, All, swap, not-true, append-nil, append_assoc, drop-map, drop-set-lt, length-append, length-take-le, map-append, take-map, swap_is, All-append, All-drop, All-get_or, All-head, All-tail, All-take, filter-append, entry_hash, none, EntryOf, IsStored, is_gone, item_of, IsListed, by_hash, by_name, by_node, number_by, numbers_by, unless_hole, Stored, Slots}
 use Rattle.std.specs.List.{between}
 use Rattle.std.proofs.lemmas.List.{drop_more, get_or-append_right, take-set-le, take_more}
 use Rattle.std.proofs.lemmas.List.Edits.{between_more, length-swap, swapped_from_swap}
@@ -20,26 +21,11 @@ module _ (of : EntryOf ℕ → ℕ) where
   number x = number_by (unless_hole of) (item_of x)
 
   number-stays : (x : Stored) → IsStored x → not (eqb (number x) none) ≡ stays x
-  number-stays stored.Hole is = refl
-  number-stays stored.Marker is = refl
-  number-stays (stored.Entry e) is = go (eqb e.name nowhere) refl
-    where
-      go : (v : Bool) → eqb e.name nowhere ≡ v → not (eqb (suc (cond v zero (suc (of (entry_is e))))) none) ≡ true
-      go true gone = absurd (omega (arith, eqb-true e.name nowhere gone, is.1))
-      go false there = other (eqb (suc (suc (of (entry_is e)))) none) refl
-        where
-          other : (w : Bool) → eqb (suc (suc (of (entry_is e)))) none ≡ w → not w ≡ true
-          other true same = absurd (omega (arith, eqb-true (suc (suc (of (entry_is e)))) none same))
-          other false apart = refl
+  number-stays x is = grind (arith, nat_tests)
 
   numbers-stay : (xs : List Stored) → All IsStored xs → filter (λ n. not (n == none)) (map number xs) ≡ map number (filter stays xs)
   numbers-stay [] all = refl
-  numbers-stay (x ∷ xs) all = go (stays x) (number-stays x (All-head IsStored x xs all)) (numbers-stay xs (All-tail IsStored x xs all))
-    where
-      go : (v : Bool) → not (eqb (number x) none) ≡ v → filter (λ n. not (n == none)) (map number xs) ≡ map number (filter stays xs)
-          → filter (λ n. not (n == none)) (number x ∷ map number xs) ≡ map number (cond v (x ∷ filter stays xs) (filter stays xs))
-      go true is i = rw is (ap (λ l. number x ∷ l) i)
-      go false is i = rw is i
+  numbers-stay (x ∷ xs) all = grind (arith, numbers-stay xs (All-tail IsStored x xs all), number-stays, All-head, All-tail)
 
   pub numbers-closed : (items : List Stored) (from : ℕ) (ns : List ℕ) → All IsStored items → ns ≡ map number items
       → take from ns ++ filter (λ n. not (n == none)) (drop from ns) ≡ map number (closed items from)
@@ -50,12 +36,7 @@ module _ (of : EntryOf ℕ → ℕ) where
       ∙ sym (map-append number (take from items) (filter stays (drop from items)))
 
 solid-closed : (items : List Stored) (from : ℕ) → from ≤ length items → NoHoleFrom from (closed items from)
-solid-closed items from h k above l x =
-    let low : length (take from items) ≡ from = length-take-le from items h in
-    let kept = filter stays (drop from items) in
-    let within : k - from < length kept = omega (arith, length-append (take from items) kept) in
-    not-true (is_gone (get_or (closed items from) k x))
-    (ap stays (get_or-append_right (take from items) kept from k x low above) ∙ All-get_or (λ y. stays y ≡ true) kept (k - from) x within (filter_passes stays (drop from items)))
+solid-closed items from h k above l x = grind (arith, length-take-le, length-append, not-true, get_or-append_right, All-get_or, filter_passes)
 
 -- what is kept of the list
 pub listed-closed : (from : ℕ) (old new : Slots) → IsListed old → new.keys ≡ old.keys → from ≤ length old.items.items
@@ -103,15 +84,7 @@ module _ (from end index : ℕ) (old items : List Stored) (is : IsTaken from end
 
   -- a hole is passed over
   pub taken-hole : is_gone next ≡ true → IsTaken from end (index + 1) old items
-  taken-hole gone =
-      let none : filter stays (next ∷ []) ≡ [] = ap (λ v. cond (not v) (next ∷ []) []) gone in
-      record {
-        above = is.above;
-        below = omega (arith, is.below);
-        size = is.size;
-        taken = is.taken ∙ ap (λ l. take from old ++ l) (sym (kept-more ∙ ap (λ l. filter stays (between from index old) ++ l) none ∙ append-nil (filter stays (between from index old))));
-        rest = next-same.1;
-      }
+  taken-hole gone = grind (arith, kept-more, append-nil, next-same)
 
   -- and what is none goes to the end of what is left
   pub taken-item : is_gone next ≡ false → IsTaken from (end + 1) (index + 1) old (swap items end index)

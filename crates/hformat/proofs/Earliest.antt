@@ -1,5 +1,5 @@
 -- The earliest of the entries after the last marker that are sought, by how many items come after it.
-use Rattle.hformat.proofs.Names.{◌≡◌, ℕ, suc, ◌+◌, ◌<◌, ◌≤◌, Bool, true, false, not, ◌&&◌, ◌||◌, List, [], ◌∷◌, Option, Some, None, length, refl, ◌∙◌, ap, filter, arith, if◌then◌else◌, IfSome, list_any, remove, option_map, option_map_or, EntryOf, Listed, marker, entry, after_marker, without_earliest, most_equal, is_equal, with_room}
+use Rattle.hformat.proofs.Names.{◌≡◌, ℕ, suc, ◌+◌, ◌<◌, ◌≤◌, Bool, true, false, not, ◌&&◌, List, [], ◌∷◌, Option, Some, None, length, refl, ◌∙◌, ap, filter, arith, if◌then◌else◌, IfSome, list_any, remove, option_map, option_map_or, EntryOf, Listed, marker, entry, after_marker, without_earliest, most_equal, is_equal, with_room}
 use Rattle.std.proofs.lemmas.Bool.{le-leb, lt-leb}
 
 module _ {N : Type 0} (sought : EntryOf N → Bool) where
@@ -26,19 +26,11 @@ module _ {N : Type 0} (sought : EntryOf N → Bool) where
 
   farthest-none : (up : ℕ) (found : Option ℕ) (es : List (EntryOf N)) → list_any sought es ≡ false → farthest up found es ≡ found
   farthest-none up found [] none = refl
-  farthest-none up found (e ∷ es) none = go (sought e) none (farthest-none (suc up) found es)
-    where
-      go : (v : Bool) → (v || list_any sought es) ≡ false → (list_any sought es ≡ false → farthest (suc up) found es ≡ found) → farthest (suc up) (if v then Some up else found) es ≡ found
-      go true none rest = cc
-      go false none rest = rest none
+  farthest-none up found (e ∷ es) none = grind (arith, farthest-none (suc up) found es)
 
   farthest-some : (up : ℕ) (found : Option ℕ) (es : List (EntryOf N)) → list_any sought es ≡ true → farthest up found es ≡ farthest up None es
   farthest-some up found [] some = cc
-  farthest-some up found (e ∷ es) some = go (sought e) some (farthest-some (suc up) found es)
-    where
-      go : (v : Bool) → (v || list_any sought es) ≡ true → (list_any sought es ≡ true → farthest (suc up) found es ≡ farthest (suc up) None es) → farthest (suc up) (if v then Some up else found) es ≡ farthest (suc up) (if v then Some up else None) es
-      go true some rest = refl
-      go false some rest = rest some
+  farthest-some up found (e ∷ es) some = grind (arith, farthest-some (suc up) found es)
 
   -- the list without it
   pub removed : (items : List (Listed N)) → option_map_or (remove items) (farthest 0 None (after_marker items)) items ≡ without_earliest sought items

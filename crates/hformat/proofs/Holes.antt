@@ -1,5 +1,7 @@
 -- Vectors of items with holes, and where the entry of a node is in them.
-use Rattle.hformat.proofs.Names.{◌≡◌, ℕ, zero, suc, ◌+◌, ◌-◌, ◌<◌, ◌≤◌, eqb, Bool, true, false, cond, not, ◌||◌, ◌⊎◌, List, [], ◌∷◌, ◌++◌, Option, Some, None, is_some, length, map, filter, take, take-suc, drop, get_or, refl, sym, ◌∙◌, ap, subst, inl, inr, arith, All, position, position_or_len, list_any, slice_get, find, option_and_then, option_map, option_map_or, eqb-zero-suc, eqb-true, append-nil, get_or-map, length-append, length-map, All-drop, All-take, filter-append, EntryOf, Listed, marker, entry, as_entry, entry_of, for_node, is_entry, nth_live, AreSlots, IsSlot, IsStored, hole, is_gone, is_hole, item_of, items_of, live, nowhere, told, by_node, number_by, unless_hole, changed_at, Stored, is_some-position, slice_get_nearest}
+use Rattle.std.proofs.lemmas.Grind.{common_steps}
+use Rattle.std.proofs.lemmas.Bool.Decides.{nat_tests}
+use Rattle.hformat.proofs.Names.{◌≡◌, ℕ, zero, suc, ◌+◌, ◌-◌, ◌<◌, ◌≤◌, eqb, Bool, true, false, cond, not, List, [], ◌∷◌, ◌++◌, Option, Some, None, is_some, length, map, filter, take, take-suc, drop, get_or, refl, sym, ◌∙◌, ap, subst, arith, All, position, position_or_len, list_any, slice_get, find, option_and_then, option_map, eqb-zero-suc, append-nil, get_or-map, length-append, length-map, All-drop, All-take, filter-append, EntryOf, Listed, marker, entry, as_entry, entry_of, for_node, is_entry, nth_live, AreSlots, IsSlot, IsStored, hole, is_gone, is_hole, item_of, items_of, live, nowhere, told, by_node, number_by, unless_hole, changed_at, Stored, is_some-position, slice_get_nearest}
 use Rattle.std.proofs.lemmas.Bool.{lt-ltb}
 use Rattle.std.proofs.lemmas.List.{drop_at, take-append-drop, take_at}
 use Rattle.hformat.specs.declared.entry.Slot.TheVariants as stored
@@ -11,27 +13,17 @@ use Rattle.hchain.proofs.Nearest.{get_nearest, reverse_split}
 
 -- a smaller number is another
 pub apart : (a b : ℕ) → a < b → eqb a b ≡ false
-apart a b h = go (eqb a b) refl
-  where
-    go : (v : Bool) → eqb a b ≡ v → v ≡ false
-    go true is = absurd (omega (arith, eqb-true a b is))
-    go false is = refl
+apart a b h = grind (arith, nat_tests)
 
 pub gone-is : (x : Stored) → IsStored x → is_hole (item_of x) ≡ is_gone x
-gone-is stored.Hole s = refl
-gone-is stored.Marker s = refl
-gone-is (stored.Entry e) s = apart e.name nowhere s.1
+gone-is x s = grind (arith, apart)
 
 -- what is known of an item that is no hole
 pub told-is : (x : Stored) → is_gone x ≡ false → told x ≡ as_entry (item_of x)
-told-is stored.Hole there = cc
-told-is stored.Marker there = refl
-told-is (stored.Entry e) there = refl
+told-is x there = grind arith
 
 pub slot-is : (x : Stored) → IsStored x → IsSlot (item_of x)
-slot-is stored.Hole s = inl refl
-slot-is stored.Marker s = tt
-slot-is (stored.Entry e) s = inr s
+slot-is x s = grind arith
 
 pub slots-are : (items : List Stored) → All IsStored items → AreSlots (items_of items)
 slots-are items = along_last (λ xs. All IsStored xs → AreSlots (items_of xs)) (λ all. tt) more items
@@ -49,11 +41,7 @@ live-parts xs ys = ap live (reverse_split item_of xs ys) ∙ filter-append (λ i
 -- nothing is lost with the holes
 live-first : (x : Stored) (items left : List Stored) → IsStored x → live (items_of left) ≡ live (items_of items)
     → live (items_of (cond (not (is_gone x)) (x ∷ left) left)) ≡ live (items_of (x ∷ items))
-live-first x items left s rest = go (is_gone x) refl ∙ sym (live-parts (x ∷ []) items)
-  where
-    go : (v : Bool) → is_gone x ≡ v → live (items_of (cond (not v) (x ∷ left) left)) ≡ live (items_of items) ++ live (item_of x ∷ [])
-    go true is = rest ∙ sym (append-nil (live (items_of items))) ∙ ap (λ (v : Bool). live (items_of items) ++ cond (not v) (item_of x ∷ []) []) (sym (gone-is x s ∙ is))
-    go false is = live-parts (x ∷ []) left ∙ ap (λ l. l ++ live (item_of x ∷ [])) rest
+live-first x items left s rest = grind (arith, live-parts, append-nil, gone-is, nat_tests, common_steps)
 
 pub live-closed : (items : List Stored) → All IsStored items → live (items_of (filter (λ x. not (is_gone x)) items)) ≡ live (items_of items)
 live-closed [] all = refl
@@ -69,17 +57,14 @@ pub taken : (items : List Stored) (k j : ℕ) (x : Stored) → k ≡ suc j → j
 taken items k j x next within is = ap (λ n. items_of (take n items)) next ∙ ap items_of (take-suc items j x within) ∙ items_of_more (take j items) (get_or items j x) ∙ ap (λ y. item_of y ∷ items_of (take j items)) (sym is)
 
 pub further : (c : ℕ) (o : Option ℕ) → option_map (λ k. c + k) (option_map suc o) ≡ option_map (λ k. suc c + k) o
-further c None = refl
-further c (Some k) = ap (λ n. Some n) (let one : c + suc k ≡ suc c + k = omega arith in one)
+further c o = grind arith
 
 pub none-further : (o : Option ℕ) → option_map (λ k. 0 + k) o ≡ o
-none-further None = refl
-none-further (Some k) = ap (λ n. Some n) (let same : 0 + k ≡ k = omega arith in same)
+none-further o = grind arith
 
 -- a hole is passed, and so is an item where more are to be
 pub nth-hole : (n : ℕ) (x : Listed ℕ) (xs : List (Listed ℕ)) → is_hole x ≡ true → nth_live n (x ∷ xs) ≡ option_map suc (nth_live n xs)
-nth-hole zero x xs is = rw is refl
-nth-hole (suc n) x xs is = rw is refl
+nth-hole n x xs is = grind arith
 
 -- a hole at the end leaves
 pub live-dropped : (items : List Stored) (k j : ℕ) (x : Stored) → k ≡ suc j → j < length items → x ≡ get_or items j x → is_hole (item_of x) ≡ true → live (items_of (take k items)) ≡ live (items_of (take j items))
@@ -108,26 +93,10 @@ module _ (of : EntryOf ℕ → ℕ) (items : List Stored) (n p : ℕ) (x : Store
       ∙ last-at (suc (suc n)) p (map (number_by (unless_hole of)) (items_of items)) at some
 
   pub place-there : is_gone x ≡ false
-  place-there = go x refl place-number
-    where
-      go : (y : Stored) → y ≡ x → number_by (unless_hole of) (item_of x) ≡ suc (suc n) → is_gone x ≡ false
-      go stored.Hole same number =
-          let one : 1 ≡ suc (suc n) = ap (λ z. number_by (unless_hole of) (item_of z)) same ∙ number in
-          absurd (omega arith)
-      go stored.Marker same number = ap is_gone (sym same)
-      go (stored.Entry e) same number = ap is_gone (sym same)
+  place-there = grind (arith, place-number)
 
   pub place-told : is_some (told x) ≡ true
-  place-told = go x refl place-number
-    where
-      go : (y : Stored) → y ≡ x → number_by (unless_hole of) (item_of x) ≡ suc (suc n) → is_some (told x) ≡ true
-      go stored.Hole same number =
-          let one : 1 ≡ suc (suc n) = ap (λ z. number_by (unless_hole of) (item_of z)) same ∙ number in
-          absurd (omega arith)
-      go stored.Marker same number =
-          let zeroth : 0 ≡ suc (suc n) = ap (λ z. number_by (unless_hole of) (item_of z)) same ∙ number in
-          absurd (omega arith)
-      go (stored.Entry e) same number = ap (λ z. is_some (told z)) (sym same)
+  place-told = grind (arith, place-number)
 
 -- where the last entry of a node is
 abbrev pub node_place : ℕ → List (Listed ℕ) → ℕ
@@ -136,40 +105,19 @@ node_place node items = place by_node (suc (suc node)) items
 pub entry_of-is : (node : ℕ) (items : List (Listed ℕ)) → entry_of node items ≡ option_and_then as_entry (find (is_entry node) items)
 entry_of-is node [] = refl
 entry_of-is node (marker ∷ items) = entry_of-is node items
-entry_of-is node (entry e ∷ items) = go (eqb e.node node) (entry_of-is node items)
-  where
-    go : (v : Bool) → entry_of node items ≡ option_and_then as_entry (find (is_entry node) items)
-        → cond v (Some e) (entry_of node items) ≡ option_and_then as_entry (cond v (Some (entry e)) (find (is_entry node) items))
-    go true rest = refl
-    go false rest = rest
+entry_of-is node (entry e ∷ items) = grind (arith, entry_of-is node items)
 
 module _ (node : ℕ) (low : node < nowhere) where
   node-same : (e : EntryOf ℕ) (v : Bool) → IsSlot (entry e) → eqb e.node node ≡ v → eqb (suc (by_node e)) (suc (suc node)) ≡ v
-  node-same e v slot same = number-same (λ x. x.node) node e v (λ gone. none v same slot gone) same
-    where
-      none : (w : Bool) → eqb e.node node ≡ w → (entry e ≡ hole) ⊎ ((e.node < nowhere) × (e.name < nowhere)) → e.name ≡ nowhere → w ≡ false
-      none w is (inr h) gone = absurd (omega (arith, h.1))
-      none true is (inl h) gone =
-          let far : e.node ≡ nowhere = ap (λ i. option_map_or (λ x. x.node) (as_entry i) 0) h in
-          absurd (omega (arith, eqb-true e.node node is))
-      none false is (inl h) gone = refl
+  node-same e v slot same = grind (arith, number-same, nat_tests)
 
   pub node-none : (items : List (Listed ℕ)) → AreSlots items → node_place node items ≡ 0 → list_any (is_entry node) items ≡ false
   node-none [] slots is = refl
   node-none (marker ∷ items) slots is = node-none items slots.1 (rw (eqb-zero-suc (suc node)) at is)
-  node-none (entry e ∷ items) slots is = go (eqb e.node node) refl is (node-none items slots.1)
-    where
-      go : (v : Bool) → eqb e.node node ≡ v → cond (eqb (suc (by_node e)) (suc (suc node))) (suc (length (map (number_by by_node) items))) (node_place node items) ≡ 0
-          → (node_place node items ≡ 0 → list_any (is_entry node) items ≡ false) → (v || list_any (is_entry node) items) ≡ false
-      go true same is rest = let never : suc (length (map (number_by by_node) items)) ≡ 0 = rw (node-same e true slots.0 same) at is in absurd (omega arith)
-      go false same is rest = rest (rw (node-same e false slots.0 same) at is)
+  node-none (entry e ∷ items) slots is = grind (arith, node-none items slots.1, node-same)
 
   pub node-some : (items : List (Listed ℕ)) → AreSlots items → list_any (is_entry node) items ≡ true → 0 < node_place node items
-  node-some items slots there = go (node_place node items) refl
-    where
-      go : (n : ℕ) → node_place node items ≡ n → 0 < n
-      go zero is = let never : true ≡ false = sym there ∙ node-none items slots is in cc
-      go (suc n) is = omega arith
+  node-some items slots there = grind (arith, node-none)
 
   node-first : (items : List (Listed ℕ)) → AreSlots items → 0 < node_place node items → position_or_len (is_entry node) items ≡ length items - node_place node items
   node-first [] slots some = absurd (omega arith)
@@ -219,16 +167,10 @@ solid-end items solid k all there h = solid-from k (items_of items) at
 
 -- an index that was found for an item with this many after it
 none-map : {X Y : Type 0} (f : X → Y) (o : Option X) → option_map f o ≡ None → o ≡ None
-none-map f None is = refl
-none-map f (Some x) is = cc
+none-map f o is = grind arith
 
 nth-up : (len index : ℕ) (o : Option ℕ) → ((up : ℕ) → o ≡ Some up → up < len) → Some index ≡ option_map (λ up. len - 1 - up) o → (up : ℕ) × ((o ≡ Some up) × (index + suc up ≡ len))
-nth-up len index None within is = cc
-nth-up len index (Some up) within is =
-    let low : up < len = within up refl in
-    let at : index ≡ len - 1 - up = cc in
-    let sum : index + suc up ≡ len = omega arith in
-    (up, (refl, sum))
+nth-up len index o within is = grind arith
 
 module _ (items : List Stored) (stored : All IsStored items) (back : ℕ) where
   pub nth-missing : option_map (λ up. length items - 1 - up) (nth_live back (items_of items)) ≡ None → length (live (items_of items)) ≤ back
@@ -236,9 +178,7 @@ module _ (items : List Stored) (stored : All IsStored items) (back : ℕ) where
 
   module _ (index : ℕ) (found : Some index ≡ option_map (λ up. length items - 1 - up) (nth_live back (items_of items))) where
     pub nth-index : (up : ℕ) × ((nth_live back (items_of items) ≡ Some up) × (index + suc up ≡ length items))
-    nth-index =
-        let size : length (items_of items) ≡ length items = length-items_of items in
-        nth-up (length items) index (nth_live back (items_of items)) (λ up is. omega (arith, nth-within back up (items_of items) is)) found
+    nth-index = grind (arith, length-items_of, nth-up, nth-within)
 
     pub nth-item : (x : Stored) → x ≡ get_or items index x → slice_get (items_of items) nth-index.0 ≡ Some (item_of x)
     nth-item x is = slice_get_nearest item_of items index nth-index.0 x nth-index.1.1 ∙ ap (λ y. Some (item_of y)) (sym is)
@@ -255,14 +195,8 @@ changed-marker (suc up) node (i ∷ items) is = ap (λ xs. i ∷ xs) (changed-ma
 
 -- what belongs to no entry, and is no hole, is a marker
 pub marker-is : (x : Stored) → is_gone x ≡ false → is_some (told x) ≡ false → item_of x ≡ marker
-marker-is stored.Hole there none = cc
-marker-is stored.Marker there none = refl
-marker-is (stored.Entry e) there none = cc
+marker-is x there h = grind arith
 
 pub length-live-le : (xs : List (Listed ℕ)) → length (live xs) ≤ length xs
 length-live-le [] = omega arith
-length-live-le (x ∷ xs) = go (is_hole x) (length-live-le xs)
-  where
-    go : (v : Bool) → length (live xs) ≤ length xs → length (cond (not v) (x ∷ live xs) (live xs)) ≤ suc (length xs)
-    go true rest = omega (arith, rest)
-    go false rest = omega (arith, rest)
+length-live-le (x ∷ xs) = grind (arith, length-live-le xs)

@@ -1,5 +1,5 @@
 -- What a vector of items says, from its last item on.
-use Rattle.hformat.proofs.Names.{◌≡◌, ℕ, suc, ◌+◌, ltb, get_or, false, Option, Some, None, is_some, IsTrue, List, [], ◌∷◌, ◌++◌, map, reverse, length, ap, sym, ◌∙◌, subst, reverse-append, reverse-reverse, length-reverse, length-map, Stored, list_any, position, position_or_len, find, slice_get, Listed, is_entry, items_of, item_of, is_some-position, slice_get_nearest}
+use Rattle.hformat.proofs.Names.{arith, ◌≡◌, ℕ, suc, ◌+◌, get_or, false, Option, Some, None, is_some, IsTrue, List, [], ◌∷◌, ◌++◌, map, reverse, length, ap, sym, ◌∙◌, subst, reverse-append, reverse-reverse, length-reverse, length-map, Stored, list_any, position, find, Listed, is_entry, items_of, item_of, is_some-position, slice_get_nearest}
 use Rattle.std.proofs.lemmas.List.Folds.{find_at}
 use Rattle.std.proofs.lemmas.Option.{cond_some}
 use Rattle.hchain.proofs.Nearest.{reverse_push}
@@ -32,6 +32,4 @@ not_missing node items there none =
 -- and is the item that this many come after
 pub found_at : (node : ℕ) (items : List Stored) (back i : ℕ) (x : Stored) → position (is_entry node) (items_of items) ≡ Some back → i + suc back ≡ length items → x ≡ get_or items i x
     → ◌≡◌ {A = Option (Listed ℕ)} (Some (item_of x)) (find (is_entry node) (items_of items))
-found_at node items back i x found at is =
-    let back_or : position_or_len (is_entry node) (items_of items) ≡ back = (cond_some (ltb (position_or_len (is_entry node) (items_of items)) (length (items_of items))) (position_or_len (is_entry node) (items_of items)) back found).1 in
-    ap (λ y. Some (item_of y)) is ∙ sym (find_at (is_entry node) (items_of items) ∙ ap (slice_get (items_of items)) back_or ∙ slice_get_nearest item_of items i back x at)
+found_at node items back i x found at is = grind (arith, cond_some, find_at, slice_get_nearest)

@@ -1,7 +1,7 @@
 -- The numbers of the items of a list.
-use Rattle.hformat.proofs.Names.{◌≡◌, ℕ, zero, suc, ◌-◌, ◌<◌, ◌≤◌, nat_eq, eqb, Bool, true, false, cond, not, ◌||◌, List, [], ◌∷◌, None, length, map, reverse, take, drop, filter, refl, sym, ◌∙◌, ap, arith, if◌then◌else◌, list_any, slice_get, option_and_then, reverse-reverse, length-map, eqb-suc-zero, eqb-zero-suc, eqb-true, eqb-false, without, EntryOf, Listed, marker, entry, as_entry, cleared, find_entry, item_of, items_of, nowhere, by_name, number_by, unless_hole, Stored, reverse-map, drop_nearest, last_place-le}
+use Rattle.std.proofs.lemmas.Bool.Decides.{nat_tests}
+use Rattle.hformat.proofs.Names.{◌≡◌, ℕ, suc, ◌-◌, ◌<◌, ◌≤◌, nat_eq, eqb, Bool, true, false, cond, not, List, [], ◌∷◌, None, length, map, reverse, take, drop, filter, refl, sym, ◌∙◌, ap, arith, list_any, slice_get, option_and_then, reverse-reverse, length-map, eqb-suc-zero, eqb-zero-suc, without, EntryOf, Listed, marker, entry, as_entry, cleared, find_entry, item_of, items_of, nowhere, by_name, number_by, unless_hole, Stored, reverse-map, drop_nearest, last_place-le}
 use Rattle.std.proofs.lemmas.Simd.{map-map}
-use Rattle.std.proofs.lemmas.Bool.{eq-eqb}
 use Rattle.hformat.proofs.Chained.{last_of}
 use Rattle.hformat.proofs.ItemLists.{length-items_of}
 
@@ -32,9 +32,7 @@ name_place name items = place by_name (suc (suc name)) items
 
 pub cleared-place : (of : EntryOf ℕ → ℕ) (items : List (Listed ℕ)) → cleared items ≡ drop (length items - (place of 0 items - 1)) items
 cleared-place of [] = refl
-cleared-place of (marker ∷ items) =
-    let one : suc (length items) - (suc (length (map (number_by of) items)) - 1) ≡ 1 = omega (arith, length-map items (number_by of)) in
-    ap (λ n. drop n (marker ∷ items)) (sym one)
+cleared-place of (marker ∷ items) = grind (arith, length-map)
 cleared-place of (entry e ∷ items) =
     let more : suc (length items) - (place of 0 items - 1) ≡ suc (length items - (place of 0 items - 1)) = omega (arith, place-le of 0 items) in
     rw (eqb-suc-zero (of e)) (cleared-place of items ∙ ap (λ n. drop n (entry e ∷ items)) (sym more))
@@ -48,35 +46,17 @@ cleared-take items len is =
 
 -- numbers are the same where what they count is
 same-suc : (a b : ℕ) (v : Bool) → eqb a b ≡ v → eqb (suc a) (suc b) ≡ v
-same-suc a b true e = eq-eqb (suc a) (suc b) (ap suc (eqb-true a b e))
-same-suc a b false e = go (eqb (suc a) (suc b)) refl
-  where
-    go : (v : Bool) → eqb (suc a) (suc b) ≡ v → v ≡ false
-    go true s = let same : suc a ≡ suc b = eqb-true (suc a) (suc b) s in absurd (eqb-false a b e (omega arith))
-    go false s = refl
+same-suc a b v e = grind (arith, nat_tests)
 
 -- a number of an entry is that of what is sought where the entry has what is sought, and no hole has it
 pub number-same : (of : EntryOf ℕ → ℕ) (n : ℕ) (e : EntryOf ℕ) (v : Bool) → (e.name ≡ nowhere → v ≡ false) → eqb (of e) n ≡ v → eqb (suc (unless_hole of e)) (suc (suc n)) ≡ v
-number-same of n e v none same = go (eqb e.name nowhere) refl
-  where
-    go : (gone : Bool) → eqb e.name nowhere ≡ gone → eqb (suc (if gone then zero else suc (of e))) (suc (suc n)) ≡ v
-    go true is = same-suc zero (suc n) false (eqb-zero-suc n) ∙ sym (none (eqb-true e.name nowhere is))
-    go false is = same-suc (suc (of e)) (suc n) v (same-suc (of e) n v same)
+number-same of n e v none same = grind (arith, same-suc, eqb-zero-suc, nat_tests)
 
 named-same : (name : ℕ) → name < nowhere → (e : EntryOf ℕ) (v : Bool) → eqb e.name name ≡ v → eqb (suc (by_name e)) (suc (suc name)) ≡ v
-named-same name low e v same = number-same (λ x. x.name) name e v (λ is. go v same is) same
-  where
-    go : (w : Bool) → eqb e.name name ≡ w → e.name ≡ nowhere → w ≡ false
-    go true s is = absurd (omega (arith, eqb-true e.name name s))
-    go false s is = refl
+named-same name low e v same = grind (arith, number-same, nat_tests)
 
 turned : (a b : ℕ) (v : Bool) → eqb a b ≡ v → eqb b a ≡ v
-turned a b true e = eq-eqb b a (sym (eqb-true a b e))
-turned a b false e = go (eqb b a) refl
-  where
-    go : (v : Bool) → eqb b a ≡ v → v ≡ false
-    go true s = absurd (eqb-false a b e (sym (eqb-true b a s)))
-    go false s = refl
+turned a b v e = grind (arith, nat_tests)
 
 -- the last entry of a name is the item at its place, unless that is before the last marker
 pub find-none : (name : ℕ) → name < nowhere → (items : List (Listed ℕ)) → name_place name items ≤ marker_place items → find_entry nat_eq name items ≡ None
@@ -94,9 +74,7 @@ find-none name low (entry e ∷ items) h = go (eqb e.name name) refl (rw (eqb-su
 pub find-at : (name : ℕ) → name < nowhere → (items : List (Listed ℕ)) → marker_place items < name_place name items
     → option_and_then as_entry (slice_get items (length items - name_place name items)) ≡ find_entry nat_eq name items
 find-at name low [] h = absurd (omega arith)
-find-at name low (marker ∷ items) h =
-    let over : suc (length (map (number_by by_name) items)) < name_place name items = rw (eqb-zero-suc (suc name)) at h in
-    absurd (omega (arith, place-le by_name (suc (suc name)) items, length-map items (number_by by_name)))
+find-at name low (marker ∷ items) h = grind (arith, eqb-zero-suc, place-le, length-map)
 find-at name low (entry e ∷ items) h = go (eqb e.name name) refl (rw (eqb-suc-zero (by_name e)) at h) (find-at name low items)
   where
     go : (v : Bool) → eqb e.name name ≡ v → marker_place items < cond (eqb (suc (by_name e)) (suc (suc name))) (suc (length (map (number_by by_name) items))) (name_place name items)
@@ -112,17 +90,8 @@ find-at name low (entry e ∷ items) h = go (eqb e.name name) refl (rw (eqb-suc-
 -- the nearest of a node leaves
 pub filter-without : {X : Type 0} (sought : X → Bool) (xs : List X) → filter (λ x. not (sought x)) (without sought xs) ≡ filter (λ x. not (sought x)) xs
 filter-without sought [] = refl
-filter-without sought (x ∷ xs) = go (sought x) refl (filter-without sought xs)
-  where
-    go : (v : Bool) → sought x ≡ v → filter (λ y. not (sought y)) (without sought xs) ≡ filter (λ y. not (sought y)) xs
-        → filter (λ y. not (sought y)) (cond v xs (x ∷ without sought xs)) ≡ cond (not v) (x ∷ filter (λ y. not (sought y)) xs) (filter (λ y. not (sought y)) xs)
-    go true s i = refl
-    go false s i = rw s (ap (λ ys. x ∷ ys) i)
+filter-without sought (x ∷ xs) = grind (arith, filter-without sought xs)
 
 pub filter-all : {X : Type 0} (sought : X → Bool) (xs : List X) → list_any sought xs ≡ false → filter (λ x. not (sought x)) xs ≡ xs
 filter-all sought [] e = refl
-filter-all sought (x ∷ xs) e = go (sought x) e (filter-all sought xs)
-  where
-    go : (v : Bool) → (v || list_any sought xs) ≡ false → (list_any sought xs ≡ false → filter (λ y. not (sought y)) xs ≡ xs) → cond (not v) (x ∷ filter (λ y. not (sought y)) xs) (filter (λ y. not (sought y)) xs) ≡ x ∷ xs
-    go true e i = cc
-    go false e i = ap (λ ys. x ∷ ys) (i e)
+filter-all sought (x ∷ xs) e = grind (arith, filter-all sought xs)

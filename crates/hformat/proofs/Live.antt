@@ -1,13 +1,13 @@
 -- Lists with holes: what is asked of the formatting elements and what is done with them are the same without the holes.
-use Rattle.hformat.proofs.Names.{◌≡◌, ℕ, zero, suc, ◌+◌, ◌<◌, ◌≤◌, nat_eq, eqb, Bool, true, false, cond, not, ◌||◌, List, [], ◌∷◌, Option, Some, None, inl, inr, if◌then◌else◌, length, filter, refl, ap, arith, find, list_any, slice_get, option_map, eqb-true, ne_eqb, cases_Bool, changed_at, EntryOf, Listed, marker, entry, after_marker, is_of_node, is_entry, entry_of, for_node, find_entry, nth_live, nowhere, is_hole, live, IsSlot, AreSlots}
+use Rattle.std.proofs.lemmas.Bool.Decides.{nat_tests}
+use Rattle.hformat.proofs.Names.{◌≡◌, ℕ, zero, suc, ◌<◌, ◌≤◌, nat_eq, eqb, Bool, true, false, cond, ◌||◌, List, [], ◌∷◌, Option, Some, None, inl, inr, if◌then◌else◌, length, filter, refl, ap, arith, find, list_any, slice_get, option_map, eqb-true, ne_eqb, cases_Bool, changed_at, EntryOf, Listed, marker, entry, after_marker, is_of_node, is_entry, entry_of, for_node, find_entry, nth_live, nowhere, is_hole, live, IsSlot, AreSlots}
 
 -- a number below nowhere is not that of a hole
 pub apart : (a b : ℕ) → a < nowhere → eqb b nowhere ≡ true → eqb a b ≡ false
 apart a b low h = let top : b ≡ nowhere = eqb-true b nowhere h in ne_eqb a b (λ same. omega arith)
 
 pub is_hole-for_node : (node : ℕ) (i : Listed ℕ) → is_hole (for_node node i) ≡ is_hole i
-is_hole-for_node node marker = refl
-is_hole-for_node node (entry e) = refl
+is_hole-for_node node i = grind arith
 
 -- questions of the entries after the last marker, none of which is sought in a hole
 module _ (sought : EntryOf ℕ → Bool) (spares : (e : EntryOf ℕ) → is_hole (entry e) ≡ true → sought e ≡ false) where
@@ -45,9 +45,7 @@ Spares sought [] = Unit {0}
 Spares sought (x ∷ xs) = (is_hole x ≡ true → sought x ≡ false) × Spares sought xs
 
 spares-slot : (node : ℕ) (x : Listed ℕ) → IsSlot x → node < nowhere → is_hole x ≡ true → is_entry node x ≡ false
-spares-slot node marker s low h = refl
-spares-slot node (entry e) (inl same) low h = let top : e.node ≡ nowhere = cc in ne_eqb e.node node (λ here. omega arith)
-spares-slot node (entry e) (inr s) low h = let top : e.name ≡ nowhere = eqb-true e.name nowhere h in absurd (omega (arith, s.1))
+spares-slot node x s low h = grind (arith, nat_tests)
 
 -- the entry of a node is no hole
 pub spares-node : (node : ℕ) (xs : List (Listed ℕ)) → AreSlots xs → node < nowhere → Spares (is_entry node) xs
@@ -89,8 +87,7 @@ pub entry_of-live : (node : ℕ) (xs : List (Listed ℕ)) → AreSlots xs → no
 entry_of-live node xs s low = entry_of-spared node xs (spares-node node xs s low)
 
 some_suc : (o : Option ℕ) (up : ℕ) → option_map suc o ≡ Some up → (k : ℕ) × (o ≡ Some k) × (up ≡ suc k)
-some_suc None up e = cc
-some_suc (Some k) up e = let same : up ≡ suc k = cc in (k, refl, same)
+some_suc o up e = grind arith
 
 -- an induction along the items before it
 module _ (P : ℕ → List (Listed ℕ) → ℕ → Type 0)
@@ -132,24 +129,12 @@ nth-changed f same = along_nth (λ n xs up. changed_at n f (live xs) ≡ live (c
     (λ x xs h. rw (same x, h) refl) (λ n up x xs h i. rw h i) (λ n up x xs h i. rw h (ap (λ l. x ∷ l) i))
 
 none_suc : (o : Option ℕ) → option_map suc o ≡ None → o ≡ None
-none_suc None e = refl
-none_suc (Some k) e = cc
+none_suc o e = grind arith
 
 pub nth-none : (n : ℕ) (xs : List (Listed ℕ)) → nth_live n xs ≡ None → length (live xs) ≤ n
 nth-none n [] e = omega arith
-nth-none zero (x ∷ xs) e = go (is_hole x) e (nth-none zero xs)
-  where
-    go : (v : Bool) → (if v then option_map suc (nth_live zero xs) else Some 0) ≡ None → (nth_live zero xs ≡ None → length (live xs) ≤ 0)
-        → length (cond (not v) (x ∷ live xs) (live xs)) ≤ 0
-    go true e i = i (none_suc (nth_live zero xs) e)
-    go false e i = cc
-nth-none (suc n) (x ∷ xs) e = go (is_hole x) e (nth-none (suc n) xs) (nth-none n xs)
-  where
-    go : (v : Bool) → (if v then option_map suc (nth_live (suc n) xs) else option_map suc (nth_live n xs)) ≡ None
-        → (nth_live (suc n) xs ≡ None → length (live xs) ≤ suc n) → (nth_live n xs ≡ None → length (live xs) ≤ n)
-        → length (cond (not v) (x ∷ live xs) (live xs)) ≤ suc n
-    go true e i j = i (none_suc (nth_live (suc n) xs) e)
-    go false e i j = let more : length (live xs) ≤ n = j (none_suc (nth_live n xs) e) in omega arith
+nth-none zero (x ∷ xs) e = grind (arith, nth-none zero xs, none_suc)
+nth-none (suc n) (x ∷ xs) e = grind (arith, nth-none (suc n) xs, nth-none n xs, none_suc)
 
 -- the first k items are no holes
 abbrev pub AllSolid : ℕ → List (Listed ℕ) → Type 0
@@ -162,8 +147,3 @@ nth-solid zero n xs s below within = absurd (omega arith)
 nth-solid (suc k) n [] s below within = absurd (omega arith)
 nth-solid (suc k) zero (x ∷ xs) s below within = rw s.0 refl
 nth-solid (suc k) (suc n) (x ∷ xs) s below within = rw s.0 (ap (option_map suc) (nth-solid k n xs s.1 (omega arith) (omega arith)))
-
--- a walk past this many items, of which some are no holes
-walked : (up : ℕ) (o : Option ℕ) → option_map suc (option_map (λ k. up + k) o) ≡ option_map (λ k. suc up + k) o
-walked up None = refl
-walked up (Some k) = let more : suc (up + k) ≡ suc up + k = omega arith in ap (λ m. Some m) more

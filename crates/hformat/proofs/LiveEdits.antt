@@ -1,6 +1,5 @@
 -- Edits of lists with holes: what is left without the holes, and that each item is still a marker, an entry or the hole.
-use Rattle.hformat.proofs.Names.{◌≡◌, ℕ, zero, suc, ◌<◌, nat_eq, Bool, true, false, cond, not, ◌&&◌, List, [], ◌∷◌, Option, Some, None, inl, inr, length, filter, refl, ◌∙◌, ap, find, list_any, remove, option_map_or, cases_Bool, without, put_before, changed_at, EntryOf, Listed, marker, entry, after_marker, cleared, is_entry, for_node, with_node, booked, has_bookmark, without_earliest, most_equal, is_equal, with_room, nowhere, hole, is_hole, live, AreSlots, Bookmark, InPlace, After}
-use Rattle.std.proofs.Common.{nat_le}
+use Rattle.hformat.proofs.Names.{arith, ◌≡◌, ℕ, zero, suc, ◌<◌, nat_eq, Bool, true, false, cond, not, ◌&&◌, List, [], ◌∷◌, Option, Some, None, inl, inr, refl, ◌∙◌, ap, find, list_any, remove, option_map_or, cases_Bool, without, put_before, changed_at, EntryOf, Listed, marker, entry, after_marker, cleared, is_entry, for_node, with_node, booked, has_bookmark, without_earliest, with_room, nowhere, hole, is_hole, live, AreSlots, Bookmark, InPlace, After}
 use Rattle.hchain.specs.Nearest.{changed}
 use Rattle.hformat.proofs.Live.{apart, is_hole-for_node, Spares, spares-node, find_is-live, any-live, any_after-live, filter_after-live}
 
@@ -29,14 +28,7 @@ module _ (sought : EntryOf ℕ → Bool) (spares : (e : EntryOf ℕ) → is_hole
       go false h i = rw h (ap (λ l. entry e ∷ l) i)
 
 pub room-live : (new : EntryOf ℕ) (xs : List (Listed ℕ)) → new.name < nowhere → with_room nat_eq new (live xs) ≡ live (with_room nat_eq new xs)
-room-live new xs low = rw (filter_after-live (is_equal nat_eq new) spares xs) (go (nat_le most_equal (length (filter (is_equal nat_eq new) (after_marker xs)))))
-  where
-    spares : (e : EntryOf ℕ) → is_hole (entry e) ≡ true → is_equal nat_eq new e ≡ false
-    spares e h = rw (apart new.name e.name low h) refl
-
-    go : (v : Bool) → cond v (without_earliest (is_equal nat_eq new) (live xs)) (live xs) ≡ live (cond v (without_earliest (is_equal nat_eq new) xs) xs)
-    go true = earliest-live (is_equal nat_eq new) spares xs
-    go false = refl
+room-live new xs low = grind (arith, filter_after-live, apart, earliest-live)
 
 -- a hole in an item's place
 pub hide-live : (k : ℕ) (xs : List (Listed ℕ)) → live (changed_at k (λ _. hole) xs) ≡ live (remove xs k)
@@ -50,48 +42,21 @@ module _ (sought : Listed ℕ → Bool) where
   pub changed_spared : (f : Listed ℕ → Listed ℕ) → ((i : Listed ℕ) → is_hole (f i) ≡ is_hole i) → (xs : List (Listed ℕ)) → Spares sought xs
       → changed sought f (live xs) ≡ live (changed sought f xs)
   changed_spared f same [] s = refl
-  changed_spared f same (x ∷ xs) s = go (is_hole x) (sought x) refl refl (changed_spared f same xs s.1)
-    where
-      go : (v w : Bool) → is_hole x ≡ v → sought x ≡ w → changed sought f (live xs) ≡ live (changed sought f xs)
-          → changed sought f (cond (not v) (x ∷ live xs) (live xs)) ≡ live (cond w (f x ∷ xs) (x ∷ changed sought f xs))
-      go true true h k i = let never : sought x ≡ false = s.0 h in cc
-      go true false h k i = rw h i
-      go false true h k i = rw (k, same x, h) refl
-      go false false h k i = rw (h, k) (ap (λ l. x ∷ l) i)
+  changed_spared f same (x ∷ xs) s = grind (arith, changed_spared f same xs s.1)
 
   pub without_spared : (xs : List (Listed ℕ)) → Spares sought xs → without sought (live xs) ≡ live (without sought xs)
   without_spared [] s = refl
-  without_spared (x ∷ xs) s = go (is_hole x) (sought x) refl refl (without_spared xs s.1)
-    where
-      go : (v w : Bool) → is_hole x ≡ v → sought x ≡ w → without sought (live xs) ≡ live (without sought xs)
-          → without sought (cond (not v) (x ∷ live xs) (live xs)) ≡ live (cond w xs (x ∷ without sought xs))
-      go true true h k i = let never : sought x ≡ false = s.0 h in cc
-      go true false h k i = rw h i
-      go false true h k i = rw k refl
-      go false false h k i = rw (h, k) (ap (λ l. x ∷ l) i)
+  without_spared (x ∷ xs) s = grind (arith, without_spared xs s.1)
 
   pub put_spared : (new : Listed ℕ) → is_hole new ≡ false → (xs : List (Listed ℕ)) → Spares sought xs
       → put_before sought new (live xs) ≡ live (put_before sought new xs)
   put_spared new real [] s = refl
-  put_spared new real (x ∷ xs) s = go (is_hole x) (sought x) refl refl (put_spared new real xs s.1)
-    where
-      go : (v w : Bool) → is_hole x ≡ v → sought x ≡ w → put_before sought new (live xs) ≡ live (put_before sought new xs)
-          → put_before sought new (cond (not v) (x ∷ live xs) (live xs)) ≡ live (cond w (new ∷ x ∷ xs) (x ∷ put_before sought new xs))
-      go true true h k i = let never : sought x ≡ false = s.0 h in cc
-      go true false h k i = rw h i
-      go false true h k i = rw (k, real, h) refl
-      go false false h k i = rw (h, k) (ap (λ l. x ∷ l) i)
+  put_spared new real (x ∷ xs) s = grind (arith, put_spared new real xs s.1)
 
   -- what is found is no hole
   pub found_real : (x : Listed ℕ) (xs : List (Listed ℕ)) → Spares sought xs → find sought xs ≡ Some x → is_hole x ≡ false
   found_real x [] s found = cc
-  found_real x (y ∷ xs) s found = go (is_hole y) (sought y) refl refl (found_real x xs s.1) found
-    where
-      go : (v w : Bool) → is_hole y ≡ v → sought y ≡ w → (find sought xs ≡ Some x → is_hole x ≡ false)
-          → cond w (Some y) (find sought xs) ≡ Some x → is_hole x ≡ false
-      go true true h k i found = let never : sought y ≡ false = s.0 h in cc
-      go false true h k i found = let same : y ≡ x = cc in rw (← same) h
-      go v false h k i found = i found
+  found_real x (y ∷ xs) s found = grind (arith, found_real x xs s.1)
 
 -- edits at the entry of a node
 module _ (old : ℕ) (xs : List (Listed ℕ)) (slots : AreSlots xs) (low : old < nowhere) where
@@ -103,8 +68,7 @@ module _ (old : ℕ) (xs : List (Listed ℕ)) (slots : AreSlots xs) (low : old <
 
 -- the items stay markers, entries or the hole
 slots-either : (v : Bool) (xs ys : List (Listed ℕ)) → AreSlots xs → AreSlots ys → AreSlots (cond v xs ys)
-slots-either true xs ys s t = s
-slots-either false xs ys s t = t
+slots-either v xs ys s t = grind arith
 
 pub slots-without : (sought : Listed ℕ → Bool) (xs : List (Listed ℕ)) → AreSlots xs → AreSlots (without sought xs)
 slots-without sought [] s = tt

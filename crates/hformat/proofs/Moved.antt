@@ -1,6 +1,7 @@
 -- Exchanges of neighbours in a list and what a run of them does; an entry that becomes that of another node, and where an entry
 -- is among the others.
-use Rattle.hformat.proofs.Names.{◌≡◌, ◌≢◌, ℕ, zero, suc, ◌+◌, ◌-◌, ◌<◌, ◌≤◌, ◌==◌, ◌⊎◌, inl, inr, Bool, true, false, IsTrue, cond, eqb, List, [], ◌∷◌, ◌++◌, Option, Some, is_some, length, get_or, set, take, drop, map, reverse, refl, sym, ◌∙◌, ap, arith, subst, max, All, insert, list_any, position, remove, eqb-zero-suc, eqb-true, append_assoc, drop-set-lt, get_or-map, get_or-reverse, get_or-set_other, length-append, length-map, length-reverse, length-set, length-take-le, map-set, reverse-append, All-get_or, All-head, All-set, All-tail, last_up, none, EntryOf, for_node, is_entry, IsStored, entry_is, is_gone, item_of, items_of, nowhere, renamed, told, DefaultHasher, IsListed, by_hash, by_name, by_node, number_by, numbers_by, changed_at, put_before, last_place, Stored, Slots, reverse-map, set_nearest, last_place-le}
+use Rattle.std.proofs.lemmas.Bool.Decides.{nat_tests}
+use Rattle.hformat.proofs.Names.{◌≡◌, ℕ, zero, suc, ◌+◌, ◌-◌, ◌<◌, ◌≤◌, ◌==◌, ◌⊎◌, inl, Bool, true, false, IsTrue, cond, eqb, List, [], ◌∷◌, ◌++◌, Option, Some, is_some, length, get_or, set, take, drop, map, reverse, refl, sym, ◌∙◌, ap, arith, subst, max, All, insert, list_any, position, remove, eqb-zero-suc, append_assoc, drop-set-lt, get_or-map, get_or-reverse, get_or-set_other, length-append, length-map, length-reverse, length-set, length-take-le, map-set, reverse-append, All-get_or, All-head, All-set, All-tail, last_up, none, EntryOf, for_node, is_entry, IsStored, entry_is, is_gone, item_of, items_of, nowhere, renamed, told, DefaultHasher, IsListed, by_hash, by_name, by_node, number_by, numbers_by, changed_at, put_before, last_place, Stored, Slots, reverse-map, set_nearest, last_place-le}
 use Rattle.std.proofs.lemmas.List.{set-get_or, set-set, set_split, take-set}
 use Rattle.hformat.specs.declared.entry.Slot.TheVariants as stored
 use Rattle.hformat.proofs.Chained.{last-is}
@@ -47,21 +48,14 @@ module _ {X : Type 0} where
   length-exchanged xs i d = length-set (set xs i (get_or xs (i + 1) d)) (i + 1) (get_or xs i d) ∙ length-set xs i (get_or xs (i + 1) d)
 
   pub map-exchanged : {Y : Type 0} (f : X → Y) (xs : List X) (i : ℕ) (d : X) (e : Y) → i + 1 < length xs → map f (exchanged xs i d) ≡ exchanged (map f xs) i e
-  map-exchanged f xs i d e h =
-      map-set f (set xs i (get_or xs (i + 1) d)) (i + 1) (get_or xs i d)
-      ∙ ap (λ ys. set ys (i + 1) (f (get_or xs i d))) (map-set f xs i (get_or xs (i + 1) d))
-      ∙ ap (λ y. set (set (map f xs) i y) (i + 1) (f (get_or xs i d))) (sym (get_or-map f xs (i + 1) d e h))
-      ∙ ap (λ y. set (set (map f xs) i (get_or (map f xs) (i + 1) e)) (i + 1) y) (sym (get_or-map f xs i d e (omega arith)))
+  map-exchanged f xs i d e h = grind (arith, map-set, get_or-map)
 
   pub All-exchanged : (P : X → Type 0) (xs : List X) (i : ℕ) (d : X) → i + 1 < length xs → All P xs → All P (exchanged xs i d)
   All-exchanged P xs i d h all =
       All-set P (set xs i (get_or xs (i + 1) d)) (i + 1) (get_or xs i d) (All-get_or P xs i d (omega arith) all) (All-set P xs i (get_or xs (i + 1) d) (All-get_or P xs (i + 1) d h all) all)
 
   pub exchanged-above : (xs : List X) (i k : ℕ) (d x : X) → i + 2 ≤ k → get_or (exchanged xs i d) k x ≡ get_or xs k x
-  exchanged-above xs i k d x h =
-      let next : k ≢ i + 1 = omega arith in
-      let here : k ≢ i = omega arith in
-      get_or-set_other (set xs i (get_or xs (i + 1) d)) (i + 1) k (get_or xs i d) x next ∙ get_or-set_other xs i k (get_or xs (i + 1) d) x here
+  exchanged-above xs i k d x h = grind (arith, get_or-set_other)
 
 -- the numbers of the items, where all is exchanged alike
 pub numbers-exchanged : (of : EntryOf ℕ → ℕ) (items : List Stored) (numbers : List ℕ) (i : ℕ) (d : Stored) → i + 1 < length items → numbers ≡ numbers_by of items
@@ -78,38 +72,22 @@ solid-exchanged items solid i d all k h l x = ap is_gone (exchanged-above items 
 -- an entry that becomes that of another node
 module _ (node : ℕ) where
   renamed-name : (x : Stored) → number_by by_name (item_of (renamed node x)) ≡ number_by by_name (item_of x)
-  renamed-name stored.Hole = refl
-  renamed-name stored.Marker = refl
-  renamed-name (stored.Entry e) = refl
+  renamed-name x = grind arith
 
   renamed-hash : (keys : Option DefaultHasher) (x : Stored) → number_by (by_hash keys) (item_of (renamed node x)) ≡ number_by (by_hash keys) (item_of x)
-  renamed-hash keys stored.Hole = refl
-  renamed-hash keys stored.Marker = refl
-  renamed-hash keys (stored.Entry e) = refl
+  renamed-hash keys x = grind arith
 
   renamed-node : (x : Stored) → is_some (told x) ≡ true → IsStored x → number_by by_node (item_of (renamed node x)) ≡ suc (suc node)
-  renamed-node stored.Hole some is = cc
-  renamed-node stored.Marker some is = cc
-  renamed-node (stored.Entry e) some is = go (eqb e.name nowhere) refl
-    where
-      go : (v : Bool) → eqb e.name nowhere ≡ v → suc (cond v zero (suc node)) ≡ suc (suc node)
-      go true gone = absurd (omega (arith, eqb-true e.name nowhere gone, is.1))
-      go false there = refl
+  renamed-node x some is = grind (arith, nat_tests)
 
   renamed-gone : (x : Stored) → is_gone (renamed node x) ≡ is_gone x
-  renamed-gone stored.Hole = refl
-  renamed-gone stored.Marker = refl
-  renamed-gone (stored.Entry e) = refl
+  renamed-gone x = grind arith
 
   renamed-stored : (x : Stored) → node < nowhere → IsStored x → IsStored (renamed node x)
-  renamed-stored stored.Hole low is = tt
-  renamed-stored stored.Marker low is = tt
-  renamed-stored (stored.Entry e) low is = (low, is.1)
+  renamed-stored x low is = grind arith
 
   pub renamed-item : (x : Stored) → is_some (told x) ≡ true → item_of (renamed node x) ≡ for_node node (item_of x)
-  renamed-item stored.Hole some = cc
-  renamed-item stored.Marker some = refl
-  renamed-item (stored.Entry e) some = refl
+  renamed-item x some = grind arith
 
   -- a write that leaves what a member is seen as
   map-set_same : {X Y : Type 0} (f : X → Y) (xs : List X) (i : ℕ) (d y : X) → i < length xs → f y ≡ f (get_or xs i d) → map f (set xs i y) ≡ map f xs
@@ -162,12 +140,7 @@ module _ {X : Type 0} (sought : X → Bool) where
 
   around : (near far : List X) (x : X) → sought x ≡ false → Around (last_place sought (near ++ x ∷ far)) (last_place sought (near ++ far)) (length far)
   around [] far x other = inl (rw other refl, last_place-le sought far)
-  around (y ∷ near) far x other = go (sought y) (around near far x other)
-    where
-      go : (v : Bool) → Around (last_place sought (near ++ x ∷ far)) (last_place sought (near ++ far)) (length far)
-          → Around (cond v (suc (length (near ++ x ∷ far))) (last_place sought (near ++ x ∷ far))) (cond v (suc (length (near ++ far))) (last_place sought (near ++ far))) (length far)
-      go true i = inr (omega (arith, length-append near (x ∷ far), length-append near far), omega (arith, length-append near far))
-      go false i = i
+  around (y ∷ near) far x other = grind (arith, around near far x other, length-append)
 
   reverse-set : (xs : List X) (i : ℕ) (d : X) → i < length xs → reverse (set xs i d) ≡ reverse (drop (suc i) xs) ++ d ∷ reverse (take i xs)
   reverse-set xs i d h =
@@ -180,18 +153,7 @@ module _ {X : Type 0} (sought : X → Bool) where
     pub above : i < place → place - 1 ≡ last_place sought (reverse (remove xs i))
 
   pub place-without : (xs : List X) (i place : ℕ) (d : X) → i < length xs → sought d ≡ false → place ≡ last_place sought (reverse (set xs i d)) → IsPlaceWithout xs i place
-  place-without xs i place d h other is =
-      let with' : last_place sought (reverse (set xs i d)) ≡ last_place sought (reverse (drop (suc i) xs) ++ d ∷ reverse (take i xs)) = ap (last_place sought) (reverse-set xs i d h) in
-      let without' : last_place sought (reverse (remove xs i)) ≡ last_place sought (reverse (drop (suc i) xs) ++ reverse (take i xs)) = ap (last_place sought) (reverse-append (take i xs) (drop (suc i) xs)) in
-      let low : length (reverse (take i xs)) ≡ i = length-reverse (take i xs) ∙ length-take-le i xs (omega arith) in
-      go (around (reverse (drop (suc i) xs)) (reverse (take i xs)) d other) with' without' low
-    where
-      go : Around (last_place sought (reverse (drop (suc i) xs) ++ d ∷ reverse (take i xs))) (last_place sought (reverse (drop (suc i) xs) ++ reverse (take i xs))) (length (reverse (take i xs)))
-          → last_place sought (reverse (set xs i d)) ≡ last_place sought (reverse (drop (suc i) xs) ++ d ∷ reverse (take i xs))
-          → last_place sought (reverse (remove xs i)) ≡ last_place sought (reverse (drop (suc i) xs) ++ reverse (take i xs))
-          → length (reverse (take i xs)) ≡ i → IsPlaceWithout xs i place
-      go (inl w) with' without' low = record { below = λ h. omega (arith, w.0, w.1, is); above = λ h. absurd (omega (arith, w.0, w.1, is)) }
-      go (inr w) with' without' low = record { below = λ h. absurd (omega (arith, w.0, w.1, is)); above = λ h. omega (arith, w.0, w.1, is) }
+  place-without xs i place d h other is = grind (arith, reverse-set, reverse-append, length-reverse, length-take-le, around)
 
 module _ (mark : ℕ) (low : mark < nowhere) where
   -- whether a stored item is the entry of the mark
@@ -199,11 +161,7 @@ module _ (mark : ℕ) (low : mark < nowhere) where
   is_mark x = is_entry mark (item_of x)
 
   pub no-hole : is_mark stored.Hole ≡ false
-  no-hole = go (eqb nowhere mark) refl
-    where
-      go : (v : Bool) → eqb nowhere mark ≡ v → v ≡ false
-      go true same = absurd (omega (arith, eqb-true nowhere mark same))
-      go false same = refl
+  no-hole = grind (arith, nat_tests)
 
   node-same : (x : Stored) → IsStored x → eqb (number_by by_node (item_of x)) (suc (suc mark)) ≡ is_mark x
   node-same stored.Hole is = number-same (λ e. e.node) mark (record { node = nowhere; name = nowhere; attrs = [] }) (eqb nowhere mark) (λ _. no-hole) refl

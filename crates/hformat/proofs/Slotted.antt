@@ -13,20 +13,7 @@ module _ (old new : Slots) (listed : IsListed old) (n : ℕ) where
   -- this many items are left
   pub listed-take : new.keys ≡ old.keys → n ≤ length old.items.items → new.items.items ≡ take n old.items.items
       → new.names ≡ take n old.names → (is_some old.keys ≡ true → new.hashes ≡ take n old.hashes) → new.nodes ≡ take n old.nodes → new.solid ≡ min old.solid n → IsListed new
-  listed-take keys h items names hashes nodes least =
-      let xs = old.items.items in
-      let size : length new.items.items ≡ n = ap length items ∙ length-take-le n xs h in
-      let numbers = λ (of : EntryOf ℕ → ℕ). take-map (λ i. number_by of (item_of i)) n xs ∙ ap (numbers_by of) (sym items) in
-      record {
-        names = names ∙ ap (take n) listed.names ∙ numbers by_name;
-        hashes = λ some. let there = ap is_some (sym keys) ∙ some in hashes there ∙ ap (take n) (listed.hashes there) ∙ numbers (by_hash old.keys) ∙ ap (λ k. numbers_by (by_hash k) new.items.items) (sym keys);
-        nodes = nodes ∙ ap (take n) listed.nodes ∙ numbers by_node;
-        stored = subst (All IsStored) (sym items) (All-take IsStored n xs listed.stored);
-        within = omega (arith, listed.within);
-        solid = λ i from to x.
-            let low : i < n = omega arith in
-            ap (λ ys. is_gone (get_or ys i x)) items ∙ ap is_gone (get_or-take n xs i x low) ∙ listed.solid i (omega arith) (omega arith) x;
-      }
+  listed-take keys h items names hashes nodes least = grind (arith, length-take-le, take-map, All-take, get_or-take)
 
   -- a hole is left
   pub listed-hide : new.keys ≡ old.keys → n < length old.items.items → new.items.items ≡ set old.items.items n stored.Hole
@@ -57,15 +44,7 @@ gone-put (y ∷ xs) item x (suc i) before there h = gone-put xs item x i (λ low
 module _ (old new : Slots) (listed : IsListed old) where
   -- nothing has changed
   pub listed-same : new.keys ≡ old.keys → new.items.items ≡ old.items.items → new.names ≡ old.names → new.hashes ≡ old.hashes → new.nodes ≡ old.nodes → new.solid ≡ old.solid → IsListed new
-  listed-same keys items names hashes nodes solid =
-      record {
-        names = names ∙ listed.names ∙ ap (numbers_by by_name) (sym items);
-        hashes = λ some. hashes ∙ listed.hashes (ap is_some (sym keys) ∙ some) ∙ (λ i. numbers_by (by_hash (sym keys i)) (sym items i));
-        nodes = nodes ∙ listed.nodes ∙ ap (numbers_by by_node) (sym items);
-        stored = subst (All IsStored) (sym items) listed.stored;
-        within = omega (arith, solid, ap length items, listed.within);
-        solid = λ i from to x. ap (λ ys. is_gone (get_or ys i x)) items ∙ listed.solid i (omega (arith, solid)) (omega (arith, ap length items)) x;
-      }
+  listed-same keys items names hashes nodes solid = grind arith
 
   -- one more
   pub listed-put : (item : Stored) → IsStored item → is_gone item ≡ false → new.keys ≡ old.keys → new.items.items ≡ old.items.items ++ item ∷ []

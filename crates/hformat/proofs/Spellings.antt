@@ -1,6 +1,6 @@
 -- The list of active formatting elements under other names.
-use Rattle.hformat.proofs.Names.{◌≡◌, ℕ, Bool, true, false, cond, not, ◌&&◌, List, [], ◌∷◌, map, length, Option, Some, None, refl, ◌∙◌, ap, bytes_eq, list_any, option_map, option_map_or, length-map, any-map, without, put_before, EntryOf, Listed, marker, entry, is_of_node, is_entry, as_entry, entry_at, entry_of, after_marker, cleared, for_node, with_node, booked, without_earliest, most_equal, same_attribute, are_among, is_equal, pushed, find_entry, Bookmark, InPlace, After, Attribute}
-use Rattle.std.specs.Prelude.{if◌then◌else◌, slice_get, option_and_then, filter, find, nat_le}
+use Rattle.hformat.proofs.Names.{arith, ◌≡◌, ℕ, Bool, true, false, cond, not, ◌&&◌, List, [], ◌∷◌, map, length, Option, Some, None, refl, ◌∙◌, ap, bytes_eq, list_any, option_map, option_map_or, length-map, any-map, without, put_before, EntryOf, Listed, marker, entry, is_of_node, is_entry, entry_at, entry_of, after_marker, cleared, for_node, with_node, booked, without_earliest, same_attribute, are_among, is_equal, pushed, find_entry, Bookmark, InPlace, After, Attribute}
+use Rattle.std.specs.Prelude.{if◌then◌else◌, filter, find}
 use Rattle.std.proofs.lemmas.Option.{slice_get-map}
 use Rattle.hchain.proofs.Images.{without-map, changed-map, put_before-map, filter-map, find-map, all-map, changed_at-map}
 use Rattle.hformat.specs.Formatting.{entries}
@@ -27,9 +27,7 @@ module _ {N M : Type 0} (same : N → N → Bool) (same' : M → M → Bool) (g 
   same_attribute-map a b = λ i. names a.0 b.0 i && bytes_eq a.1 b.1
 
   are_among-map : (xs ys : List (Attribute N)) → are_among same' (map (spelled_attribute g) xs) (map (spelled_attribute g) ys) ≡ are_among same xs ys
-  are_among-map xs ys =
-      all-map (spelled_attribute g) (λ a. list_any (same_attribute same a) ys) (λ a. list_any (same_attribute same' a) (map (spelled_attribute g) ys))
-      (λ a. any-map (spelled_attribute g) (same_attribute same a) (same_attribute same' (spelled_attribute g a)) (same_attribute-map a) ys) xs
+  are_among-map xs ys = grind (arith, all-map, any-map, same_attribute-map)
 
   is_equal-map : (new e : EntryOf N) → is_equal same' (spelled_entry g new) (spelled_entry g e) ≡ is_equal same new e
   is_equal-map new e = λ i. names new.name e.name i && (are_among-map new.attrs e.attrs i && are_among-map e.attrs new.attrs i)
@@ -55,38 +53,22 @@ module _ {N M : Type 0} (same : N → N → Bool) (same' : M → M → Bool) (g 
       ∙ length-map (filter (is_equal same new) (after_marker items)) (spelled_entry g)
 
   pushed-map : (new : EntryOf N) (items : List (Listed N)) → pushed same' (spelled_entry g new) (spelled_items g items) ≡ spelled_items g (pushed same new items)
-  pushed-map new items =
-      (λ i. entry (spelled_entry g new) ∷ (if nat_le most_equal (equal-map new items i) then without_earliest-map (is_equal same new) (is_equal same' (spelled_entry g new)) (is_equal-map new) items i else spelled_items g items))
-      ∙ go (nat_le most_equal (length (filter (is_equal same new) (after_marker items))))
-    where
-      go : (v : Bool) → entry (spelled_entry g new) ∷ cond v (spelled_items g (without_earliest (is_equal same new) items)) (spelled_items g items)
-          ≡ entry (spelled_entry g new) ∷ spelled_items g (cond v (without_earliest (is_equal same new) items) items)
-      go true = refl
-      go false = refl
+  pushed-map new items = grind (arith, equal-map, without_earliest-map, is_equal-map)
 
   find_entry-map : (a : N) (items : List (Listed N)) → find_entry same' (g a) (spelled_items g items) ≡ option_map (spelled_entry g) (find_entry same a items)
-  find_entry-map a items =
-      ap (find (λ e. same' (g a) e.name)) (after_marker-map items)
-      ∙ find-map (spelled_entry g) (λ e. same a e.name) (λ e. same' (g a) e.name) (λ e. names a e.name) (after_marker items)
+  find_entry-map a items = grind (arith, after_marker-map, find-map)
 
   entry_of-map : (n : ℕ) (items : List (Listed N)) → entry_of n (spelled_items g items) ≡ option_map (spelled_entry g) (entry_of n items)
   entry_of-map n items = ap (find (is_of_node n)) (entries-map items) ∙ find-map (spelled_entry g) (is_of_node n) (is_of_node n) (λ _. refl) (entries items)
 
   get_entry-map : (back : ℕ) (items : List (Listed N)) → entry_at back (spelled_items g items) ≡ option_map (spelled_entry g) (entry_at back items)
-  get_entry-map back items = ap (option_and_then as_entry) (slice_get-map (spelled_item g) items back) ∙ go (slice_get items back)
-    where
-      go : (o : Option (Listed N)) → option_and_then as_entry (option_map (spelled_item g) o) ≡ option_map (spelled_entry g) (option_and_then as_entry o)
-      go None = refl
-      go (Some marker) = refl
-      go (Some (entry e)) = refl
+  get_entry-map back items = grind (arith, slice_get-map)
 
   is_entry-map : (n : ℕ) (i : Listed N) → is_entry n (spelled_item g i) ≡ is_entry n i
-  is_entry-map n marker = refl
-  is_entry-map n (entry e) = refl
+  is_entry-map n i = grind arith
 
   for_node-map : (new : ℕ) (i : Listed N) → for_node new (spelled_item g i) ≡ spelled_item g (for_node new i)
-  for_node-map new marker = refl
-  for_node-map new (entry e) = refl
+  for_node-map new i = grind arith
 
   with_node-map : (old new : ℕ) (items : List (Listed N)) → with_node old new (spelled_items g items) ≡ spelled_items g (with_node old new items)
   with_node-map old new items = changed-map (spelled_item g) (is_entry old) (is_entry old) (is_entry-map old) (for_node new) (for_node new) (for_node-map new) items
