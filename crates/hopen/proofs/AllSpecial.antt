@@ -1,9 +1,8 @@
 -- All that is in a set of known names is special.
-use Rattle.hopen.proofs.Names.{◌≡◌, Bool, true, false, not, ◌||◌, List, [], ◌∷◌, refl, sym, arith, true≢false, list_all, is_in_set, NameSet, is_special, Tag}
+use Rattle.hopen.proofs.Names.{◌≡◌, Bool, true, not, ◌||◌, List, [], ◌∷◌, arith, list_all, is_in_set, NameSet, is_special, Tag}
 use Rattle.hopen.specs.declared.name_sets.NameSet.TheVariants as name_set
 use Rattle.hopen.specs.declared.scope.Scope.TheVariants as scope
 use Rattle.hopen.specs.declared.scope.Group.TheVariants as group
-use Rattle.names.specs.declared.tag.Tag.TheVariants.{Other}
 
 -- all sets
 abbrev every_set : List NameSet
@@ -16,12 +15,7 @@ at_set : (p : NameSet → Bool) → list_all p every_set ≡ true → (set : Nam
 at_set p h set = grind arith
 
 special_at : (t : Tag) → list_all (λ set. not (is_in_set set t) || is_special t) every_set ≡ true
-special_at Other = refl
-special_at _ = refl
+special_at t = grind arith
 
 pub special : (set : NameSet) (t : Tag) → is_in_set set t ≡ true → is_special t ≡ true
-special set t h = go (is_in_set set t) h (at_set (λ s. not (is_in_set s t) || is_special t) (special_at t) set)
-  where
-    go : (v : Bool) → v ≡ true → (not v || is_special t) ≡ true → is_special t ≡ true
-    go true e i = i
-    go false e i = absurd (true≢false (sym e))
+special set t h = grind (arith, at_set, special_at)

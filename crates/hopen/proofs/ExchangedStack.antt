@@ -1,5 +1,5 @@
 -- An exchange of two members of a vector in the words on lists whose nearest member is first.
-use Rattle.hopen.proofs.Names.{◌≡◌, ℕ, suc, ◌+◌, ◌-◌, ◌<◌, ◌≤◌, Bool, true, false, cond, not, List, [], ◌∷◌, ◌++◌, Some, length, map, take, drop, reverse, insert, remove, set, zero, refl, sym, ◌∙◌, ap, arith, remove_range, position, lt-ltb, map-append, take-map, drop-map, length-map, length-reverse, without, put_before, opened_by, KeptNode, Open, remove_nearest, insert_nearest}
+use Rattle.hopen.proofs.Names.{◌≡◌, ℕ, suc, ◌+◌, ◌-◌, ◌<◌, ◌≤◌, Bool, List, [], ◌∷◌, ◌++◌, Some, length, map, take, drop, reverse, insert, remove, set, zero, refl, sym, ◌∙◌, ap, arith, remove_range, position, lt-ltb, map-append, take-map, drop-map, length-map, length-reverse, without, put_before, opened_by, KeptNode, Open, remove_nearest, insert_nearest}
 use Rattle.std.specs.List.{position_or_len}
 use Rattle.std.proofs.lemmas.List.Edits.{length-remove}
 use Rattle.hchain.proofs.Nearest.{position_is}
@@ -8,14 +8,7 @@ module _ {Y : Type 0} (leaves sought : Y → Bool) where
   -- what is nearer than the one that leaves stays where it is
   position_or_len-without : (ys : List Y) → position_or_len sought ys < position_or_len leaves ys → position_or_len sought (without leaves ys) ≡ position_or_len sought ys
   position_or_len-without [] h = refl
-  position_or_len-without (y ∷ ys) h = go (leaves y) (sought y) refl refl (position_or_len-without ys) h
-    where
-      go : (v w : Bool) → leaves y ≡ v → sought y ≡ w → (position_or_len sought ys < position_or_len leaves ys → position_or_len sought (without leaves ys) ≡ position_or_len sought ys)
-          → cond (not w) (1 + position_or_len sought ys) 0 < cond (not v) (1 + position_or_len leaves ys) 0
-          → position_or_len sought (cond v ys (y ∷ without leaves ys)) ≡ cond (not w) (1 + position_or_len sought ys) 0
-      go true w e f i h = absurd (omega arith)
-      go false true e f i h = rw f refl
-      go false false e f i h = rw f (ap (λ n. 1 + n) (i (omega arith)))
+  position_or_len-without (y ∷ ys) h = grind (arith, position_or_len-without ys)
 
   position-without : (ys : List Y) (near far : ℕ) → position sought ys ≡ Some near → position leaves ys ≡ Some far → near < far → (rest : List Y) → without leaves ys ≡ rest → length rest + 1 ≡ length ys → position sought rest ≡ Some near
   position-without ys near far p q h rest is long =
@@ -61,11 +54,7 @@ module _ {X Y : Type 0} (f : X → Y) where
 
 pub length-put-le : {Y : Type 0} (sought : Y → Bool) (y : Y) (ys : List Y) → length (put_before sought y ys) ≤ suc (length ys)
 length-put-le sought y [] = omega arith
-length-put-le sought y (x ∷ ys) = go (sought x) (length-put-le sought y ys)
-  where
-    go : (v : Bool) → length (put_before sought y ys) ≤ suc (length ys) → length (cond v (y ∷ x ∷ ys) (x ∷ put_before sought y ys)) ≤ suc (suc (length ys))
-    go true i = omega arith
-    go false i = omega arith
+length-put-le sought y (x ∷ ys) = grind (arith, length-put-le sought y ys)
 
 -- a member is written where one was taken out
 pub set-insert : {Y : Type 0} (ys : List Y) (i : ℕ) (y : Y) → i < length ys → set ys i y ≡ insert (remove ys i) i y

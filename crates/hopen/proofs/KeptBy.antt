@@ -1,5 +1,5 @@
 -- What each open node keeps of those above it, as nodes come, go, change places and give way.
-use Rattle.hopen.proofs.Names.{◌≡◌, ℕ, zero, suc, ◌<◌, ◌≤◌, Bool, true, false, cond, not, List, [], ◌∷◌, ◌++◌, length, map, take, get_or, set, refl, sym, ◌∙◌, ap, arith, true≢false, nat_eq, eqb-suc-zero, get_or-map, map-append, map-set, take-map, last_up, KeepSets, closing, must_close_in, name_of, names_in, nearest_in, node_of, nodes_in, swap_with_next, holds, set_node, OpenNode, NameSet, SetNodes, is_special, may_stay_open, tag_of}
+use Rattle.hopen.proofs.Names.{◌≡◌, ℕ, zero, suc, ◌<◌, ◌≤◌, Bool, true, false, cond, not, List, [], ◌∷◌, ◌++◌, length, map, take, get_or, set, refl, sym, ◌∙◌, ap, arith, nat_eq, eqb-suc-zero, get_or-map, map-append, map-set, take-map, last_up, KeepSets, closing, must_close_in, name_of, names_in, nearest_in, node_of, nodes_in, swap_with_next, holds, set_node, OpenNode, NameSet, SetNodes, is_special, may_stay_open, tag_of}
 use Rattle.hopen.specs.Kept.{kept_by}
 use Rattle.hopen.proofs.AllSpecial.{special}
 
@@ -15,10 +15,6 @@ module _ (step : OpenNode ℕ → ℕ → ℕ) (d : OpenNode ℕ) where
   kept-at [] a n h = absurd (omega arith)
   kept-at (y ∷ ys) a zero h = refl
   kept-at (y ∷ ys) a (suc n) h = kept-at ys (step y a) n (omega arith)
-
-  kept-long : (ys : List (OpenNode ℕ)) (a : ℕ) → length (kept_by step a ys) ≡ length ys
-  kept-long [] a = refl
-  kept-long (y ∷ ys) a = ap suc (kept-long ys (step y a))
 
   kept-take : (n : ℕ) (ys : List (OpenNode ℕ)) (a : ℕ) → take n (kept_by step a ys) ≡ kept_by step a (take n ys)
   kept-take zero ys a = refl
@@ -68,26 +64,11 @@ module _ (ys : List (OpenNode ℕ)) (d : OpenNode ℕ) where
   -- none must be closed where none is the last one of these
   pub kept-closing : (n : ℕ) → n ≤ length ys → nat_eq (get_or (0 ∷ kept_by closing 0 ys) n 0) 0 ≡ nat_eq (last_up (λ m. not (may_stay_open (tag_of m))) (names_in ys) n) 0
   kept-closing zero h = refl
-  kept-closing (suc n) h =
-      ap (λ k. nat_eq k 0) (kept-at closing d ys 0 n h ∙ ap (λ m. cond (may_stay_open (tag_of m)) above 1) (sym (names-at n h))) ∙ go (may_stay_open (tag_of (get_or (names_in ys) n 0))) (kept-closing n (omega arith))
-    where
-      above : ℕ
-      above = get_or (0 ∷ kept_by closing 0 ys) n 0
-
-      rest : ℕ
-      rest = last_up (λ m. not (may_stay_open (tag_of m))) (names_in ys) n
-
-      go : (v : Bool) → nat_eq above 0 ≡ nat_eq rest 0 → nat_eq (cond v above 1) 0 ≡ nat_eq (cond (not v) (suc n) rest) 0
-      go true i = i
-      go false i = sym (eqb-suc-zero n)
+  kept-closing (suc n) h = grind (arith, kept-closing n (omega arith), kept-at, names-at, eqb-suc-zero)
 
 -- a name that is not special is in no set
 not-in : (set : NameSet) (n : ℕ) → is_special (tag_of n) ≡ false → holds set n ≡ false
-not-in set n plain = go (holds set n) refl
-  where
-    go : (v : Bool) → holds set n ≡ v → v ≡ false
-    go true e = absurd (true≢false (sym (special set (tag_of n) e) ∙ plain))
-    go false e = refl
+not-in set n plain = grind (arith, special)
 
 module _ (ys : List (OpenNode ℕ)) (sets : List SetNodes) (k : KeepSets ys sets) where
   pub sets-take : (n : ℕ) → KeepSets (take n ys) (take n sets)

@@ -1,7 +1,7 @@
 -- What is seen of the open nodes after an edit of their vector.
-use Rattle.hopen.proofs.Names.{◌≡◌, ℕ, suc, ◌+◌, ◌-◌, ◌<◌, ◌≤◌, Bool, List, Option, Some, None, length, drop, map, reverse, refl, sym, ◌∙◌, ap, subst, arith, true, false, cond, leb, position, length-drop, length-map, length-reverse, drop-length, unwrap_or, IfSome, after, words, no_words, OpenNode, OpenNodes, opened_by, open_nodes_of, KeptNode, Inside}
+use Rattle.std.proofs.lemmas.Bool.Decides.{nat_tests}
+use Rattle.hopen.proofs.Names.{◌≡◌, ℕ, suc, ◌+◌, ◌-◌, ◌<◌, Bool, List, Option, Some, None, length, drop, map, reverse, sym, ◌∙◌, ap, subst, arith, cond, leb, position, length-drop, length-map, length-reverse, drop-length, unwrap_or, IfSome, after, words, no_words, OpenNode, OpenNodes, opened_by, open_nodes_of, KeptNode, Inside}
 use Rattle.std.proofs.Common.{MatchOption, Result, Ok, Err}
-use Rattle.std.proofs.lemmas.Bool.{leb-false}
 
 pub seen : (s : Inside) (n : OpenNodes ℕ) (word : List (OpenNode ℕ) → List (OpenNode ℕ)) (items : List KeptNode) → open_nodes_of s ≡ n → reverse (map opened_by items) ≡ word (reverse (map opened_by s.items.items))
     → ◌≡◌ {A = OpenNodes ℕ} (record { limit = s.limit; stack = reverse (map opened_by items) }) (record { limit = n.limit; stack = word n.stack })
@@ -26,8 +26,7 @@ found s n sought i e =
 
 -- no index is found
 pub none_found : (o : Option ℕ) (P : Type 0) (Q : ℕ → Type 0) → ((i : ℕ) → o ≡ Some i → ⊥) → MatchOption o P Q → P
-none_found None P Q never h = h
-none_found (Some i) P Q never h = absurd (never i refl)
+none_found o P Q never h = grind arith
 
 -- an edit that finds nothing leaves all as it is
 pub kept : (n : OpenNodes ℕ) (word : List (OpenNode ℕ) → List (OpenNode ℕ)) → word n.stack ≡ n.stack → n ≡ record { limit = n.limit; stack = word n.stack }
@@ -42,16 +41,8 @@ left_is sought ys (Some i) p h = ap (λ n. drop n ys) (let n : length ys - i ≡
 -- how many nodes are above an index, or none where none is found
 pub depth_is : {X : Type 0} (sought : X → Bool) (ys : List X) (o : Option ℕ) → MatchOption o (position sought ys ≡ None) (λ i. position sought ys ≡ Some (length ys - 1 - i)) → IfSome o (λ i. i < length ys)
     → unwrap_or o 0 ≡ length (after sought ys)
-depth_is sought ys o p h = let n : unwrap_or o 0 ≤ length ys = most o h in omega (arith, ap length (left_is sought ys o p h), length-drop (length ys - unwrap_or o 0) ys)
-  where
-    most : (o : Option ℕ) → IfSome o (λ i. i < length ys) → unwrap_or o 0 ≤ length ys
-    most None h = omega arith
-    most (Some i) h = omega arith
+depth_is sought ys o p h = grind (arith, left_is, length-drop)
 
 -- what a check of the room says where it passes
 pub room-left : {E : Type 0} (e : E) (limit many : ℕ) → ◌≡◌ {A = Result (Unit {0}) E} (Ok tt) (cond (leb limit many) (Err e) (Ok tt)) → many < limit
-room-left {E} e limit many = go (leb limit many) refl
-  where
-    go : (v : Bool) → leb limit many ≡ v → ◌≡◌ {A = Result (Unit {0}) E} (Ok tt) (cond v (Err e) (Ok tt)) → many < limit
-    go true _ is = absurd (cc)
-    go false less _ = leb-false limit many less
+room-left {E} e limit many = grind (arith, nat_tests)

@@ -1,16 +1,13 @@
 -- What is kept of the open nodes where one passes the one right below it.
-use Rattle.hopen.proofs.Names.{◌≡◌, ◌≢◌, ℕ, suc, ◌+◌, ◌<◌, ◌≤◌, eqb, true, false, cond, List, length, map, get_or, set, ◌⊎◌, inl, inr, refl, sym, ◌∙◌, ap, subst, arith, transport, cases_Bool, cases_lt, eqb-true, eqb-false, get_or-set_same, get_or-set_other, length-map, length-set, IsHeld, IsLinked, KeepSets, Stands, name_of, names_in, node_of, nodes_in, opened_by, same_name_of, same_node_of, sets_at, swap_with_next, place_after_swap, OpenNode, KeptNode, LastPlaces}
+use Rattle.std.proofs.lemmas.Bool.Decides.{nat_tests}
+use Rattle.hopen.proofs.Names.{◌≡◌, ◌≢◌, ℕ, suc, ◌+◌, ◌<◌, ◌≤◌, eqb, cond, List, length, map, get_or, set, ◌⊎◌, inl, inr, refl, sym, ◌∙◌, ap, subst, arith, transport, cases_Bool, cases_lt, get_or-set_same, get_or-set_other, length-map, length-set, IsHeld, IsLinked, KeepSets, Stands, name_of, names_in, node_of, nodes_in, opened_by, same_name_of, same_node_of, sets_at, swap_with_next, place_after_swap, OpenNode, KeptNode, LastPlaces}
 use Rattle.hopen.specs.Kept.{CanPass}
 use Rattle.hopen.proofs.Projected.{length-nodes}
 use Rattle.hopen.proofs.Swapped.{held-none, linked-swapped, swapped-after, swapped-before, swapped-lower, swapped-map, swapped-upper, moved-other, moved-table, walk-in}
 
 -- one entry is written
 get-set : (t : List ℕ) (a v k : ℕ) → a < length t → get_or (set t a v) k 0 ≡ cond (eqb k a) v (get_or t k 0)
-get-set t a v k h = go (cases_Bool (eqb k a))
-  where
-    go : (eqb k a ≡ true) ⊎ (eqb k a ≡ false) → get_or (set t a v) k 0 ≡ cond (eqb k a) v (get_or t k 0)
-    go (inl e) = ap (λ m. get_or (set t a v) m 0) (eqb-true k a e) ∙ get_or-set_same t a v 0 h ∙ sym (ap (λ w. cond w v (get_or t k 0)) e)
-    go (inr e) = get_or-set_other t a k v 0 (eqb-false k a e) ∙ sym (ap (λ w. cond w v (get_or t k 0)) e)
+get-set t a v k h = grind (arith, cases_Bool, get_or-set_same, get_or-set_other, nat_tests)
 
 -- two neighbours change places that are nowhere below
 module _ (t ns bs : List ℕ) (l : IsLinked t ns bs) (long : length bs ≡ length ns) (i : ℕ) (within : suc i < length ns) (upper : get_or t (get_or ns i 0) 0 ≡ suc i) (lower : get_or t (get_or ns (suc i) 0) 0 ≡ suc (suc i)) where

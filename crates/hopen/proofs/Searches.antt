@@ -4,12 +4,10 @@ use Rattle.hchain.specs.Nearest.{before}
 use Rattle.hchain.proofs.Nearest.{take_nearest, position_within}
 
 option_or-none : {A : Type 0} (o : Option A) → o ≡ option_or o None
-option_or-none None = refl
-option_or-none (Some x) = refl
+option_or-none o = grind arith
 
 option_or_assoc : {A : Type 0} (a b c : Option A) → option_or (option_or a b) c ≡ option_or a (option_or b c)
-option_or_assoc None b c = refl
-option_or_assoc (Some x) b c = refl
+option_or_assoc a b c = grind arith
 
 module _ {N : Type 0} where
   pub current-drop : (n : ℕ) (ys : List (OpenNode N)) → current (drop n ys) ≡ slice_get ys n

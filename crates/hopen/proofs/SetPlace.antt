@@ -28,11 +28,7 @@ module _ (last : LastPlaces) (items : List KeptNode) (s : Stands last items) whe
 
     -- none is open where none is kept
     pub none-open : n ≡ 0 → 0 ≡ last_place (is_in set) (stack_of items)
-    none-open e = sym (go up refl) ∙ last-in-stack set
-      where
-        go : (k : ℕ) → up ≡ k → up ≡ 0
-        go zero f = f
-        go (suc k) f = absurd (omega (arith, kept-is, e, ap (node_at ns) f))
+    none-open e = grind (arith, last-in-stack, kept-is, node_at)
 
     module _ (some : 0 < n) where
       some-up : 0 < up

@@ -1,4 +1,5 @@
 -- Two neighbours of a list that change places, and the places that are kept of them.
+use Rattle.std.proofs.lemmas.Bool.Decides.{nat_tests}
 use Rattle.hopen.proofs.Names.{◌≡◌, ◌≢◌, ℕ, zero, suc, ◌-◌, ◌<◌, ◌≤◌, eqb, Bool, true, false, cond, ◌&&◌, List, [], ◌∷◌, length, map, get_or, set, ◌⊎◌, inl, inr, refl, sym, ◌∙◌, ap, subst, arith, remove, true≢false, cases_Bool, cases_lt, eqb-true, eqb-false, get_or-set_same, get_or-set_other, get_or_past, length-set, last_up, up-sought, up-other, up-within, up-found, up-least, up-past, up-alike, IsHeld, IsLinked, swap_with_next, place_after_swap}
 use Rattle.hopen.proofs.Linked.{eqb-same, eqb-not}
 
@@ -16,49 +17,19 @@ pub moved-other : (i p : ℕ) → p ≢ suc i → p ≢ suc (suc i) → place_af
 moved-other i p ne nf = ap (λ v. cond v (suc (suc i)) (cond (eqb p (suc (suc i))) (suc i) p)) (eqb-not p (suc i) ne) ∙ ap (λ v. cond v (suc i) p) (eqb-not p (suc (suc i)) nf)
 
 and-true : (v w : Bool) → (v && w) ≡ true → (v ≡ true) × (w ≡ true)
-and-true true w e = (refl, e)
-and-true false w e = absurd (true≢false (sym e))
+and-true v w e = grind arith
 
 -- two places that change, each at the one that keeps it
 module _ (t bs : List ℕ) (i a b m n p q : ℕ) (first : p ≡ suc i) (second : q ≡ suc (suc i)) (upper : IsHeld t bs a p m) (lower : IsHeld t bs b q n) where
   pub moved-table : (k : ℕ) → cond (eqb n 0 && eqb k b) p (cond (eqb m 0 && eqb k a) q (get_or t k 0)) ≡ place_after_swap i (get_or t k 0)
-  moved-table k = go (cases_Bool (eqb n 0 && eqb k b)) (cases_Bool (eqb m 0 && eqb k a))
-    where
-      no : (c d : ℕ) → (eqb c 0 && eqb k d) ≡ false → c ≡ 0 → k ≡ d → ⊥
-      no c d e z w = true≢false (sym (both (ap (λ x. eqb x 0) z ∙ eqb-same 0) (ap (λ x. eqb x d) w ∙ eqb-same d)) ∙ e)
-        where
-          both : eqb c 0 ≡ true → eqb k d ≡ true → (eqb c 0 && eqb k d) ≡ true
-          both e f = λ t. e t && f t
-
-      go : ((eqb n 0 && eqb k b) ≡ true) ⊎ ((eqb n 0 && eqb k b) ≡ false) → ((eqb m 0 && eqb k a) ≡ true) ⊎ ((eqb m 0 && eqb k a) ≡ false) → cond (eqb n 0 && eqb k b) p (cond (eqb m 0 && eqb k a) q (get_or t k 0)) ≡ place_after_swap i (get_or t k 0)
-      go (inl e) f =
-          let both = and-true (eqb n 0) (eqb k b) e in
-          let was : get_or t k 0 ≡ suc (suc i) = ap (λ x. get_or t x 0) (eqb-true k b both.1) ∙ lower.here (eqb-true n 0 both.0) ∙ second in
-          ap (λ v. cond v p (cond (eqb m 0 && eqb k a) q (get_or t k 0))) e ∙ first ∙ sym (moved-lower i (get_or t k 0) was)
-      go (inr e) (inl f) =
-          let both = and-true (eqb m 0) (eqb k a) f in
-          let was : get_or t k 0 ≡ suc i = ap (λ x. get_or t x 0) (eqb-true k a both.1) ∙ upper.here (eqb-true m 0 both.0) ∙ first in
-          ap (λ v. cond v p (cond (eqb m 0 && eqb k a) q (get_or t k 0))) e ∙ ap (λ v. cond v q (get_or t k 0)) f ∙ second ∙ sym (moved-upper i (get_or t k 0) was)
-      go (inr e) (inr f) =
-          ap (λ v. cond v p (cond (eqb m 0 && eqb k a) q (get_or t k 0))) e ∙ ap (λ v. cond v q (get_or t k 0)) f
-          ∙ sym (moved-other i (get_or t k 0) (λ w. let h = upper.in_table k (w ∙ sym first) in no m a f h.0 h.1) (λ w. let h = lower.in_table k (w ∙ sym second) in no n b e h.0 h.1))
+  moved-table k = grind (arith, cases_Bool, eqb-same, and-true, moved-lower, moved-upper, moved-other, nat_tests)
 
   pub moved-list : (j : ℕ) → cond (eqb n (suc j)) p (cond (eqb m (suc j)) q (get_or bs j 0)) ≡ place_after_swap i (get_or bs j 0)
-  moved-list j = go (cases_Bool (eqb n (suc j))) (cases_Bool (eqb m (suc j)))
-    where
-      go : (eqb n (suc j) ≡ true) ⊎ (eqb n (suc j) ≡ false) → (eqb m (suc j) ≡ true) ⊎ (eqb m (suc j) ≡ false) → cond (eqb n (suc j)) p (cond (eqb m (suc j)) q (get_or bs j 0)) ≡ place_after_swap i (get_or bs j 0)
-      go (inl e) f = ap (λ v. cond v p (cond (eqb m (suc j)) q (get_or bs j 0))) e ∙ first ∙ sym (moved-lower i (get_or bs j 0) (lower.there j (eqb-true n (suc j) e) ∙ second))
-      go (inr e) (inl f) =
-          ap (λ v. cond v p (cond (eqb m (suc j)) q (get_or bs j 0))) e ∙ ap (λ v. cond v q (get_or bs j 0)) f ∙ second ∙ sym (moved-upper i (get_or bs j 0) (upper.there j (eqb-true m (suc j) f) ∙ first))
-      go (inr e) (inr f) =
-          ap (λ v. cond v p (cond (eqb m (suc j)) q (get_or bs j 0))) e ∙ ap (λ v. cond v q (get_or bs j 0)) f
-          ∙ sym (moved-other i (get_or bs j 0) (λ w. eqb-false m (suc j) f (upper.in_list j (w ∙ sym first))) (λ w. eqb-false n (suc j) e (lower.in_list j (w ∙ sym second))))
+  moved-list j = grind (arith, cases_Bool, moved-lower, moved-upper, moved-other, nat_tests)
 
 module _ {X : Type 0} where
   pub swapped-length : (i : ℕ) (xs : List X) → length (swap_with_next i xs) ≡ length xs
-  swapped-length zero [] = refl
-  swapped-length zero (x ∷ []) = refl
-  swapped-length zero (x ∷ y ∷ xs) = refl
+  swapped-length zero xs = grind arith
   swapped-length (suc i) [] = refl
   swapped-length (suc i) (x ∷ xs) = ap suc (swapped-length i xs)
 
@@ -69,56 +40,40 @@ module _ {X : Type 0} where
   swapped-before (suc i) (suc j) (x ∷ xs) d h = swapped-before i j xs d (omega arith)
 
   pub swapped-upper : (i : ℕ) (xs : List X) (d : X) → suc i < length xs → get_or (swap_with_next i xs) i d ≡ get_or xs (suc i) d
-  swapped-upper zero [] d h = absurd (omega arith)
-  swapped-upper zero (x ∷ []) d h = absurd (omega arith)
-  swapped-upper zero (x ∷ y ∷ xs) d h = refl
+  swapped-upper zero xs d h = grind arith
   swapped-upper (suc i) [] d h = absurd (omega arith)
   swapped-upper (suc i) (x ∷ xs) d h = swapped-upper i xs d (omega arith)
 
   pub swapped-lower : (i : ℕ) (xs : List X) (d : X) → suc i < length xs → get_or (swap_with_next i xs) (suc i) d ≡ get_or xs i d
-  swapped-lower zero [] d h = absurd (omega arith)
-  swapped-lower zero (x ∷ []) d h = absurd (omega arith)
-  swapped-lower zero (x ∷ y ∷ xs) d h = refl
+  swapped-lower zero xs d h = grind arith
   swapped-lower (suc i) [] d h = absurd (omega arith)
   swapped-lower (suc i) (x ∷ xs) d h = swapped-lower i xs d (omega arith)
 
   pub swapped-after : (i j : ℕ) (xs : List X) (d : X) → suc i < j → get_or (swap_with_next i xs) j d ≡ get_or xs j d
-  swapped-after zero zero xs d h = absurd (omega arith)
-  swapped-after zero (suc zero) xs d h = absurd (omega arith)
-  swapped-after zero (suc (suc j)) [] d h = refl
-  swapped-after zero (suc (suc j)) (x ∷ []) d h = refl
-  swapped-after zero (suc (suc j)) (x ∷ y ∷ xs) d h = refl
+  swapped-after zero j xs d h = grind arith
   swapped-after (suc i) j [] d h = refl
   swapped-after (suc i) zero (x ∷ xs) d h = absurd (omega arith)
   swapped-after (suc i) (suc j) (x ∷ xs) d h = swapped-after i j xs d (omega arith)
 
   -- all but the upper one are as they were
   pub swapped-rest : (i : ℕ) (xs : List X) → suc i < length xs → remove (swap_with_next i xs) (suc i) ≡ remove xs i
-  swapped-rest zero [] h = absurd (omega arith)
-  swapped-rest zero (x ∷ []) h = absurd (omega arith)
-  swapped-rest zero (x ∷ y ∷ xs) h = refl
+  swapped-rest zero xs h = grind arith
   swapped-rest (suc i) [] h = absurd (omega arith)
   swapped-rest (suc i) (x ∷ xs) h = ap (λ l. x ∷ l) (swapped-rest i xs (omega arith))
 
   pub swapped-same : (i : ℕ) (xs : List X) (d : X) → suc i < length xs → get_or xs i d ≡ get_or xs (suc i) d → swap_with_next i xs ≡ xs
-  swapped-same zero [] d h e = absurd (omega arith)
-  swapped-same zero (x ∷ []) d h e = absurd (omega arith)
-  swapped-same zero (x ∷ y ∷ xs) d h e = λ i. sym e i ∷ e i ∷ xs
+  swapped-same zero xs d h e = grind arith
   swapped-same (suc i) [] d h e = absurd (omega arith)
   swapped-same (suc i) (x ∷ xs) d h e = ap (λ l. x ∷ l) (swapped-same i xs d (omega arith) e)
 
   -- by two writes
   pub swapped-set : (i : ℕ) (xs : List X) (d : X) → suc i < length xs → set (set xs i (get_or xs (suc i) d)) (suc i) (get_or xs i d) ≡ swap_with_next i xs
-  swapped-set zero [] d h = absurd (omega arith)
-  swapped-set zero (x ∷ []) d h = absurd (omega arith)
-  swapped-set zero (x ∷ y ∷ xs) d h = refl
+  swapped-set zero xs d h = grind arith
   swapped-set (suc i) [] d h = absurd (omega arith)
   swapped-set (suc i) (x ∷ xs) d h = ap (λ l. x ∷ l) (swapped-set i xs d (omega arith))
 
 pub swapped-map : {X Y : Type 0} (f : X → Y) (i : ℕ) (xs : List X) → map f (swap_with_next i xs) ≡ swap_with_next i (map f xs)
-swapped-map f zero [] = refl
-swapped-map f zero (x ∷ []) = refl
-swapped-map f zero (x ∷ y ∷ xs) = refl
+swapped-map f zero xs = grind arith
 swapped-map f (suc i) [] = refl
 swapped-map f (suc i) (x ∷ xs) = ap (λ l. f x ∷ l) (swapped-map f i xs)
 
@@ -153,19 +108,7 @@ module _ (s : ℕ → Bool) (i : ℕ) (ns : List ℕ) (within : suc i < length n
 
     pub up-swapped : (n : ℕ) → suc i < n → last_up s (swap_with_next i ns) n ≡ place_after_swap i (last_up s ns n)
     up-swapped zero h = absurd (omega arith)
-    up-swapped (suc n) h = go (cases_lt (suc i) n) (up-swapped n)
-      where
-        step : suc i < n → last_up s (swap_with_next i ns) n ≡ place_after_swap i (last_up s ns n) → (s (get_or ns n 0) ≡ true) ⊎ (s (get_or ns n 0) ≡ false) → last_up s (swap_with_next i ns) (suc n) ≡ place_after_swap i (last_up s ns (suc n))
-        step less before (inl e) =
-            let old : last_up s ns (suc n) ≡ suc n = up-sought s ns n e in
-            let ne : last_up s ns (suc n) ≢ suc i = omega arith in
-            let nf : last_up s ns (suc n) ≢ suc (suc i) = omega arith in
-            up-sought s (swap_with_next i ns) n (ap s (swapped-after i n ns 0 less) ∙ e) ∙ sym old ∙ sym (moved-other i _ ne nf)
-        step less before (inr e) = up-other s (swap_with_next i ns) n (ap s (swapped-after i n ns 0 less) ∙ e) ∙ before ∙ ap (place_after_swap i) (sym (up-other s ns n e))
-
-        go : (suc i < n) ⊎ (n ≤ suc i) → (suc i < n → last_up s (swap_with_next i ns) n ≡ place_after_swap i (last_up s ns n)) → last_up s (swap_with_next i ns) (suc n) ≡ place_after_swap i (last_up s ns (suc n))
-        go (inl less) before = step less (before less) (cases_Bool (s (get_or ns n 0)))
-        go (inr more) before = let same : suc i ≡ n = omega arith in subst (λ k. last_up s (swap_with_next i ns) (suc k) ≡ place_after_swap i (last_up s ns (suc k))) same at-pair
+    up-swapped (suc n) h = grind (arith, up-swapped n, up-sought, swapped-after, moved-other, up-other, cases_Bool, at-pair, nat_tests)
 
 -- a place of a number below an index where it is too
 pub record Walks (ns : List ℕ) (i p : ℕ) : Type 0 where
@@ -314,12 +257,7 @@ module _ (t ns bs : List ℕ) (l : IsLinked t ns bs) (i : ℕ) where
     not-new j h = elim (cases_Bool (eqb (get_or ns j 0) new)) [ inl e ↦ absurd (omega (arith, l.says new, up-least (λ n. eqb n new) ns (length ns) j h e)) | inr e ↦ e ]
 
     not-old : (j : ℕ) → j < length ns → j ≢ i → eqb (get_or ns j 0) old ≡ false
-    not-old j h ne = go (cases_Bool (eqb (get_or ns j 0) old)) (cases_lt j i)
-      where
-        go : (eqb (get_or ns j 0) old ≡ true) ⊎ (eqb (get_or ns j 0) old ≡ false) → (j < i) ⊎ (i ≤ j) → eqb (get_or ns j 0) old ≡ false
-        go (inr e) b = e
-        go (inl e) (inl less) = absurd (omega (arith, l.kept i within, up-least (λ n. eqb n old) ns i j less e))
-        go (inl e) (inr more) = absurd (omega (arith, ne, l.says old, up-least (λ n. eqb n old) ns (length ns) j h e))
+    not-old j h ne = grind (arith, cases_Bool, up-least, nat_tests)
 
     -- each of the others is sought as before
     other : (k j : ℕ) → eqb new k ≡ false → eqb old k ≡ false → eqb (get_or ms j 0) k ≡ eqb (get_or ns j 0) k

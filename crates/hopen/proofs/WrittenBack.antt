@@ -1,14 +1,11 @@
 -- A vector after an edit of the slice that it lends, and tables that have grown.
-use Rattle.hopen.proofs.Names.{◌≡◌, ℕ, List, ◌++◌, ◌<◌, length, map, take, drop, sym, ◌∙◌, ap, subst, take-append_seam, length-map, opened_by, Stands, KeptNode, LastPlaces}
+use Rattle.hopen.proofs.Names.{arith, ◌≡◌, ℕ, List, ◌++◌, ◌<◌, length, map, take, drop, sym, ◌∙◌, subst, take-append_seam, length-map, opened_by, Stands, KeptNode, LastPlaces}
 use Rattle.std.proofs.Common.{◌^◌}
 use Rattle.std.specs.Prelude.{slice_index}
 
 -- where the same nodes are open afterwards, the vector has the items of the slice
 pub written_back : (new old : List KeptNode) (n : ℕ) (lent : List KeptNode) → map opened_by new ≡ map opened_by lent → lent ≡ old → length lent ≡ n → take n (new ++ drop (length new) old) ≡ new
-written_back new old n lent same is long = ap (λ k. take k (new ++ drop (length new) old)) (sym all) ∙ take-append_seam new (drop (length new) old)
-  where
-    all : length new ≡ n
-    all = sym (length-map new opened_by) ∙ ap length same ∙ length-map lent opened_by ∙ long
+written_back new old n lent same is long = grind (arith, take-append_seam, length-map)
 
 -- where tables say the same places of the same items, these are in them
 pub stands_same : (old new : LastPlaces) (xs ys : List KeptNode) → ((k : ℕ) → slice_index new.names.items k ≡ slice_index old.names.items k) → ((k : ℕ) → slice_index new.nodes.items k ≡ slice_index old.nodes.items k)
