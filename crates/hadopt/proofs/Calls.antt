@@ -1,14 +1,12 @@
 -- What the operations keep, and what the calls that do them keep so.
-use Rattle.hadopt.proofs.Names.{◌≡◌, ℕ, Bool, true, false, cond, List, [], ◌∷◌, subst, Ok, Err, length, leb, encode_utf8, Result, IfOk, Attribute, What, element, text, Place, Listed, marker, entry, entries, without_entry, OpenNode, current, Table, ErrorCode, Placed, Refusal, TooDeep, closed, other_end, Gives, added, pushed, inserted, listed, put, put_each, with_missing, PlaceStands, Kept, Naming, reconstructed, Outcome, Goes, Refused, and_then, SiteOf, stack, trees, with_trees, with_stack, with_items, with_error, node_of}
+use Rattle.hadopt.proofs.Names.{◌≡◌, ℕ, false, List, [], ◌∷◌, subst, Ok, Err, encode_utf8, Result, IfOk, Attribute, What, element, text, Place, Listed, marker, entry, entries, without_entry, OpenNode, current, Table, Placed, Refusal, Gives, added, inserted, listed, put, put_each, with_missing, PlaceStands, Kept, Naming, reconstructed, Outcome, Goes, Refused, and_then, SiteOf, stack, trees, with_trees, with_stack, with_items, node_of}
 use Rattle.hformat.specs.Formatting.{cleared}
-use Rattle.hadopt.specs.Kept.{OpenStands}
-use Rattle.hadopt.proofs.Climbing.{OnGoes, goes-then, Plain, PlainEntries, plain-without}
+use Rattle.hadopt.proofs.Climbing.{OnGoes, goes-then, goes-map, Plain, PlainEntries, plain-without}
 use Rattle.hadopt.proofs.Inserting.{standing-fits, put-stands, added-well, inserted-well, put-well, missing-well, reconstructed-well}
-use Rattle.hadopt.proofs.Keeping.{goes-map, to-well, from-well}
+use Rattle.hadopt.proofs.Keeping.{to-well, from-well}
 use Rattle.hadopt.proofs.Entering.{among-room}
 use Rattle.hadopt.proofs.Lists.{Among, each-among, pairs-among}
 use Rattle.hadopt.proofs.Settling.{Well}
-use Rattle.hadopt.proofs.Turning.{closed-well, other-well}
 
 module _ {N : Type 0} (n : Naming N) where
   -- Where an operation keeps it, so does the call that does it.
@@ -29,12 +27,6 @@ module _ {N : Type 0} (n : Naming N) where
   pub listed-kept : (s : SiteOf N) (items : List (Listed N)) → PlainEntries n items → Kept n s → Kept n (with_items items s)
   listed-kept s items p k = record { counted = k.counted; open_stands = k.open_stands; plain = p }
 
-  pub error-kept : (s : SiteOf N) (code : ErrorCode) (at : ℕ) → Kept n s → Kept n (with_error code at s)
-  error-kept s code at k = record { counted = k.counted; open_stands = k.open_stands; plain = k.plain }
-
-  pub foster-kept : (s : SiteOf N) (on : Bool) → Kept n s → Kept n (record s { foster = on })
-  foster-kept s on k = record { counted = k.counted; open_stands = k.open_stands; plain = k.plain }
-
   plain-cleared : (items : List (Listed N)) → PlainEntries n items → PlainEntries n (cleared items)
   plain-cleared [] p = p
   plain-cleared (marker ∷ items) p = p
@@ -46,22 +38,15 @@ module _ {N : Type 0} (n : Naming N) where
   pub removed-kept : (node : ℕ) (s : SiteOf N) → Kept n s → Kept n (with_items (without_entry node s.items) s)
   removed-kept node s k = listed-kept s (without_entry node s.items) (plain-without n node s.items k.plain) k
 
-  pub pushed-kept : (at : ℕ) (x : OpenNode N) (s : SiteOf N) → OpenStands (trees s) (x ∷ stack s) → Kept n s → OnGoes (Kept n) (pushed at x s)
-  pushed-kept at x s stands k = go (leb s.open_nodes.limit (length (stack s)))
-    where
-      go : (v : Bool) → OnGoes (Kept n) (cond v (Refused (TooDeep at)) (Goes (with_stack (x ∷ stack s) s)))
-      go true = tt
-      go false = record { counted = k.counted; open_stands = stands; plain = k.plain }
-
   pub added-kept : (at : ℕ) (w : What N) (p : Place) (s : SiteOf N) → PlaceStands p (trees s) → Kept n s → OnGoes (Kept n) (added at w p s)
   added-kept at w p s stands k =
       let h = to-well n s k in
-      goes-map n (Well n) (Kept n) (from-well n) (added at w p s) (added-well n w s h p (standing-fits n w s h p stands) at)
+      goes-map (Well n) (Kept n) (from-well n) (added at w p s) (added-well n w s h p (standing-fits n w s h p stands) at)
 
   pub inserted-kept : (at : ℕ) (name : N) (attrs : List (Attribute N)) (p : Place) (s : SiteOf N) → PlaceStands p (trees s) → Kept n s → OnGoes (Kept n) (inserted at name attrs p s)
   inserted-kept at name attrs p s stands k =
       let h = to-well n s k in
-      goes-map n (Well n) (Kept n) (from-well n) (inserted at name attrs p s) (inserted-well n at name attrs p s h (standing-fits n (element name attrs) s h p stands))
+      goes-map (Well n) (Kept n) (from-well n) (inserted at name attrs p s) (inserted-well n at name attrs p s h (standing-fits n (element name attrs) s h p stands))
 
   plain-listed : (name : N) (attrs : List (Attribute N)) (s : SiteOf N) → n.same name (n.known Table) ≡ false → PlainEntries n s.items → PlainEntries n (listed n name attrs s).items
   plain-listed name attrs s apart p = (apart, each-among (λ e. Plain n e.name) _ (entries s.items) (among-room n.same (record { node = node_of (current (stack s)); name = name; attrs = attrs }) s.items) p)
@@ -75,7 +60,7 @@ module _ {N : Type 0} (n : Naming N) where
   pub put-kept : (at c : ℕ) (p : Place) (s : SiteOf N) → PlaceStands p (trees s) → Kept n s → OnGoes (Kept n) (put at c p s)
   put-kept at c p s stands k =
       let h = to-well n s k in
-      goes-map n (Well n) (Kept n) (from-well n) (put at c p s) (put-well n at c p s h (standing-fits n (text (encode_utf8 c)) s h p stands))
+      goes-map (Well n) (Kept n) (from-well n) (put at c p s) (put-well n at c p s h (standing-fits n (text (encode_utf8 c)) s h p stands))
 
   goes-both : (P Q : SiteOf N → Type 0) (o : Outcome (SiteOf N)) → OnGoes P o → OnGoes Q o → OnGoes (λ s. P s × Q s) o
   goes-both P Q (Goes s) p q = (p, q)
@@ -91,11 +76,5 @@ module _ {N : Type 0} (n : Naming N) where
   pub missing-kept : (node : ℕ) (attrs : List (Attribute N)) (s : SiteOf N) → Kept n s → Kept n (with_trees (with_missing n node attrs (trees s)) s)
   missing-kept node attrs s k = from-well n (with_trees (with_missing n node attrs (trees s)) s) (missing-well n node attrs s (to-well n s k))
 
-  pub closed-kept : (at : ℕ) (sought : OpenNode N → Bool) (s : SiteOf N) → Kept n s → Kept n (closed n at sought s)
-  closed-kept at sought s k = from-well n (closed n at sought s) (closed-well n at sought s (to-well n s k))
-
-  pub other-kept : (at : ℕ) (name : N) (s : SiteOf N) → Kept n s → Kept n (other_end n at name s)
-  other-kept at name s k = from-well n (other_end n at name s) (other-well n at name s (to-well n s k))
-
   pub reconstructed-kept : (at : ℕ) (s : SiteOf N) → Kept n s → OnGoes (Kept n) (reconstructed n at s)
-  reconstructed-kept at s k = goes-map n (Well n) (Kept n) (from-well n) (reconstructed n at s) (reconstructed-well n at s (to-well n s k))
+  reconstructed-kept at s k = goes-map (Well n) (Kept n) (from-well n) (reconstructed n at s) (reconstructed-well n at s (to-well n s k))

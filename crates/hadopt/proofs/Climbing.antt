@@ -1,5 +1,6 @@
 -- The inner loop of the adoption agency: the open nodes are in the document's tree or in that of the last node.
-use Rattle.hadopt.proofs.Names.{◌≡◌, ◌≢◌, ℕ, zero, suc, ◌+◌, ◌<◌, ◌≤◌, Bool, true, false, not, leb, cond, List, [], ◌∷◌, ◌++◌, Option, Some, None, refl, sym, ◌∙◌, subst, arith, ◌⊎◌, inl, inr, find, eq-eqb, ne_eqb, ◌==◌, option_map_or, What, element, Forest, none, tree, times, join, tree_at, AreCounted, graft_last, make, LastIn, without, OpenNode, is_node, EntryOf, Listed, marker, entry, entries, is_of_node, entry_of, without_entry, for_node, with_node, Table, TooManyNodes, at-most, is-there, not-there, deep-there, times-new, counted-new, counted-graft, deep, deep-lower, deep-is, deep-self, deep-new, deep-newest, graft-deep, graft-apart, graft-below, Naming, Outcome, Goes, Refused, and_then, stack, trees, with_items, made, InnerLoop, entries_for, left, node_replaced, inner_turn, inner_loop, Each, Pairs}
+use Rattle.hadopt.proofs.Names.{◌≡◌, ◌≢◌, ℕ, suc, ◌+◌, ◌<◌, ◌≤◌, Bool, true, false, not, leb, List, [], ◌∷◌, ◌++◌, Some, refl, sym, ◌∙◌, subst, arith, ◌⊎◌, inl, inr, find, eq-eqb, ne_eqb, ◌==◌, What, element, Forest, none, tree, times, join, tree_at, AreCounted, graft_last, make, LastIn, without, OpenNode, is_node, EntryOf, Listed, marker, entry, entries, is_of_node, entry_of, without_entry, for_node, with_node, Table, TooManyNodes, cond_both, some_same, SiteOf, Attribute, Place, graft, with_trees, with_stack, length, added, pushed, inserted, at-most, is-there, not-there, deep-there, times-new, counted-new, counted-graft, deep, deep-lower, deep-is, deep-self, deep-new, deep-newest, graft-deep, graft-apart, graft-below, Naming, Outcome, Goes, Refused, and_then, stack, trees, with_items, made, InnerLoop, entries_for, left, node_replaced, inner_turn, inner_loop, Each, Pairs}
+use Rattle.hadopt.proofs.Choices.{or-both, by_zero}
 use Rattle.hadopt.proofs.Lists.{each-map, pairs-map, Among, empty, skip, keep, each-among, pairs-among, among-without, Front, front-next, front-pairs, front-map, front-each, front-without, front-changed, each-changed, pairs-changed}
 
 -- what holds where it goes on
@@ -13,11 +14,33 @@ goes-then P Q (Refused r) f p h = tt
 
 pub find-each : {X : Type 0} (P : X → Type 0) (p : X → Bool) (xs : List X) (x : X) → Each P xs → find p xs ≡ Some x → P x
 find-each P p [] x e is = cc
-find-each P p (y ∷ ys) x e is = go (p y) (find-each P p ys x e.1) is
-  where
-    go : (v : Bool) → (find p ys ≡ Some x → P x) → cond v (Some y) (find p ys) ≡ Some x → P x
-    go true r is' = let same : y ≡ x = cc in subst P same e.0
-    go false r is' = r is'
+find-each P p (y ∷ ys) x e is = cond_both (p y) (Some y) (find p ys) (λ o. o ≡ Some x → P x) (λ _ s. subst P (some_same y x s) e.0) (λ _. find-each P p ys x e.1) is
+
+pub goes-map : {S : Type 0} (P Q : S → Type 0) → ((s : S) → P s → Q s) → (o : Outcome S) → OnGoes P o → OnGoes Q o
+goes-map P Q f (Goes s) h = f s h
+goes-map P Q f (Refused r) h = tt
+
+-- where a new node is made
+pub made-goes : {N T : Type 0} (P : T → Type 0) (at : ℕ) (w : What N) (s : SiteOf N) (f : SiteOf N → Outcome T) → OnGoes P (f (record s { nodes = make w s.nodes })) → OnGoes P (and_then (made at w s) f)
+made-goes P at w s f h = cond_both (leb s.nodes.limit s.nodes.made) (Refused (TooManyNodes at)) (Goes (record s { nodes = make w s.nodes })) (λ o. OnGoes P (and_then o f)) (λ _. tt) (λ _. h)
+
+pub inserted-goes : {N : Type 0} (P : SiteOf N → Type 0) (at : ℕ) (name : N) (attrs : List (Attribute N)) (p : Place) (s : SiteOf N)
+    → P (with_stack (record { node = s.nodes.made; name = name } ∷ stack s) (with_trees (graft s.nodes.made p (make (element name attrs) s.nodes).trees) (record s { nodes = make (element name attrs) s.nodes }))) → OnGoes P (inserted at name attrs p s)
+inserted-goes P at name attrs p s h =
+    let opens = pushed at (record { node = s.nodes.made; name = name }) in
+    goes-then (λ t. OnGoes P (opens t)) P (added at (element name attrs) p s) opens
+    (made-goes (λ t. OnGoes P (opens t)) at (element name attrs) s (λ t. Goes (with_trees (graft s.nodes.made p (trees t)) t)) (cond_both (leb s.open_nodes.limit (length (stack s))) _ _ (OnGoes P) (λ _. tt) (λ _. h)))
+    (λ t k. k)
+
+module _ {N : Type 0} (n : Naming N) (P : InnerLoop N → Type 0) (at block passed : ℕ) (x : OpenNode N) (c : InnerLoop N) where
+  abbrev at_turn : SiteOf N
+  at_turn = with_items (entries_for passed x.node c.site.items) c.site
+
+  -- a turn of the inner loop, without an entry and with one
+  pub turn-goes : P (left x (record c { site = at_turn }))
+      → ((e : EntryOf N) → entry_of x.node at_turn.items ≡ Some e → P (node_replaced block c.site.nodes.made x e (record c { site = record at_turn { nodes = make (element e.name e.attrs) c.site.nodes } })))
+      → OnGoes P (inner_turn n at block passed x c)
+  turn-goes a b = or-both (OnGoes P) _ (entry_of x.node at_turn.items) _ (λ _. a) (λ e is. made-goes P at (element e.name e.attrs) at_turn _ (b e is))
 
 module _ {N : Type 0} where
   -- What becomes of the forest: a new node, and the last one under it.
@@ -63,11 +86,7 @@ module _ {N : Type 0} where
   pub among-entries : (k : ℕ) (items : List (Listed N)) → Among (entries (without_entry k items)) (entries items)
   among-entries k [] = empty
   among-entries k (marker ∷ items) = among-entries k items
-  among-entries k (entry e ∷ items) = go (e.node == k) (among-entries k items)
-    where
-      go : (v : Bool) → Among (entries (without_entry k items)) (entries items) → Among (entries (cond (not v) (entry e ∷ without_entry k items) (without_entry k items))) (e ∷ entries items)
-      go true h = skip h
-      go false h = keep h
+  among-entries k (entry e ∷ items) = cond_both (not (e.node == k)) _ _ (λ l. Among (entries l) (e ∷ entries items)) (λ _. keep (among-entries k items)) (λ _. skip (among-entries k items))
 
 module _ {N : Type 0} (n : Naming N) where
   abbrev pub Plain : N → Type 0
@@ -82,11 +101,7 @@ module _ {N : Type 0} (n : Naming N) where
   pub plain-with_node : (old new : ℕ) (items : List (Listed N)) → PlainEntries items → PlainEntries (with_node old new items)
   plain-with_node old new [] h = tt
   plain-with_node old new (marker ∷ items) h = plain-with_node old new items h
-  plain-with_node old new (entry e ∷ items) h = go (e.node == old) (plain-with_node old new items h.1)
-    where
-      go : (v : Bool) → PlainEntries (with_node old new items) → PlainEntries (cond v (for_node new (entry e) ∷ items) (entry e ∷ with_node old new items))
-      go true r = (h.0, h.1)
-      go false r = (h.0, r)
+  plain-with_node old new (entry e ∷ items) h = cond_both (e.node == old) (for_node new (entry e) ∷ items) _ PlainEntries (λ _. h) (λ _. (h.0, plain-with_node old new items h.1))
 
   -- on the way, these open nodes being still to come
   pub record Climbing (block : ℕ) (rest : List (OpenNode N)) (c : InnerLoop N) : Type 0 where
@@ -152,11 +167,8 @@ module _ {N : Type 0} (n : Naming N) where
 
       now : (y : OpenNode N) → (0 < deep y.node 0 (trees c.site)) ⊎ (0 < deep y.node c.last_node (trees c.site)) → 0 < y.node → Now y × (y.node ≢ count)
       now y (inr a) b = now-in y a b
-      now y (inl a) b = go (deep y.node c.last_node (trees c.site)) refl
-        where
-          go : (j : ℕ) → deep y.node c.last_node (trees c.site) ≡ j → Now y × (y.node ≢ count)
-          go zero z = ((inl (omega (arith, grown-apart count (trees c.site) h.counted c.last_node h.low h.pos w y.node 0 (λ e. omega (arith, h.low)) z)), b), old y.node 0 a)
-          go (suc j) z = now-in y (omega arith) b
+      now y (inl a) b = by_zero (deep y.node c.last_node (trees c.site)) (λ z. ((inl (omega (arith, grown-apart count (trees c.site) h.counted c.last_node h.low h.pos w y.node 0 (λ e. omega (arith, h.low)) z)), b), old y.node 0 a))
+          (λ some. now-in y some b)
 
       now-each : Each (λ y. Now y × (y.node ≢ count)) (stack c.site)
       now-each = each-map _ _ (λ y p. now y p.0 p.1) (stack c.site) h.each
@@ -189,27 +201,14 @@ module _ {N : Type 0} (n : Naming N) where
         }
 
     for-plain : (passed : ℕ) → PlainEntries (entries_for passed x.node c.site.items)
-    for-plain passed = go (leb 3 passed)
-      where
-        go : (v : Bool) → PlainEntries (cond v (without_entry x.node c.site.items) c.site.items)
-        go true = plain-without x.node c.site.items h.plain
-        go false = h.plain
+    for-plain passed = cond_both (leb 3 passed) _ _ PlainEntries (λ _. plain-without x.node c.site.items h.plain) (λ _. h.plain)
 
     abbrev items : ℕ → List (Listed N)
     items passed = entries_for passed x.node c.site.items
 
     pub one-climbs : (at passed : ℕ) → OnGoes (Climbing block rest) (inner_turn n at block passed x c)
-    one-climbs at passed = go (entry_of x.node (entries_for passed x.node c.site.items)) refl
-      where
-        with : (e : EntryOf N) → Plain e.name → (v : Bool)
-            → OnGoes (Climbing block rest) (and_then (cond v (Refused (TooManyNodes at)) (Goes (record (with_items (items passed) c.site) { nodes = make (element e.name e.attrs) c.site.nodes }))) (λ t. Goes (node_replaced block c.site.nodes.made x e (record c { site = t }))))
-        with e name true = tt
-        with e name false = replaced-climbs e (items passed) (for-plain passed) name
-
-        go : (o : Option (EntryOf N)) → entry_of x.node (items passed) ≡ o
-            → OnGoes (Climbing block rest) (option_map_or (λ e. and_then (made at (element e.name e.attrs) (with_items (items passed) c.site)) (λ t. Goes (node_replaced block c.site.nodes.made x e (record c { site = t })))) o (Goes (left x (record c { site = with_items (items passed) c.site }))))
-        go None is = left-climbs 0 (items passed) (for-plain passed)
-        go (Some e) is = with e (find-each (λ d. Plain d.name) (is_of_node x.node) (entries (items passed)) e (for-plain passed) is) (leb c.site.nodes.limit c.site.nodes.made)
+    one-climbs at passed = turn-goes n (Climbing block rest) at block passed x c (left-climbs 0 (items passed) (for-plain passed))
+        (λ e is. replaced-climbs e (items passed) (for-plain passed) (find-each (λ d. Plain d.name) (is_of_node x.node) (entries (items passed)) e (for-plain passed) is))
 
   pub inner-loop-climbs : (at block : ℕ) (way tail : List (OpenNode N)) (passed : ℕ) (c : InnerLoop N) → Climbing block (way ++ tail) c → OnGoes (Climbing block tail) (inner_loop n at block passed way c)
   inner-loop-climbs at block [] tail passed c h = h

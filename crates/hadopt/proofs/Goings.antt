@@ -1,18 +1,8 @@
 -- Going up the stack, and going back over the list.
-use Rattle.hadopt.proofs.Names.{◌≡◌, ℕ, zero, suc, ◌+◌, Bool, true, false, not, ◌||◌, List, [], ◌∷◌, refl, arith, drop, length, Some, slice_get, sym, if◌then◌else◌, option_map_or, before, OpenNode, in_scope, is_open, Listed, marker, entry, entry_at, SiteOf, stack, stops_going_back}
-use Rattle.std.proofs.Common.{◌&&◌, ◌==◌}
-use Rattle.std.specs.List.{list_all}
+use Rattle.hadopt.proofs.Names.{◌≡◌, ℕ, zero, suc, ◌+◌, Bool, true, false, List, [], ◌∷◌, refl, arith, drop, length, sym, if◌then◌else◌, option_map_or, before, is_open, Listed, marker, entry, entry_at, SiteOf, stack, stops_going_back}
+use Rattle.std.proofs.Common.{◌==◌}
 use Rattle.std.proofs.Math.Dec.{eqb-suc-zero}
-
-pub in_scope-further : (stops sought : OpenNode ℕ → Bool) (stack : List (OpenNode ℕ)) (i : ℕ) (x : OpenNode ℕ) → slice_get stack i ≡ Some x → in_scope stops sought (drop i stack) ≡ (sought x || (not (stops x) && in_scope stops sought (drop (i + 1) stack)))
-in_scope-further stops sought [] i x is = cc
-in_scope-further stops sought (y ∷ up) zero x is = let same : y ≡ x = cc in rw (same) refl
-in_scope-further stops sought (y ∷ up) (suc i) x is = let e : suc i + 1 ≡ suc (i + 1) = omega arith in rw (e) (in_scope-further stops sought up i x is)
-
-pub all-further : (test : OpenNode ℕ → Bool) (stack : List (OpenNode ℕ)) (i : ℕ) (x : OpenNode ℕ) → slice_get stack i ≡ Some x → list_all test (drop i stack) ≡ (test x && list_all test (drop (i + 1) stack))
-all-further test [] i x is = cc
-all-further test (y ∷ up) zero x is = let same : y ≡ x = cc in rw (same) refl
-all-further test (y ∷ up) (suc i) x is = let e : suc i + 1 ≡ suc (i + 1) = omega arith in rw (e) (all-further test up i x is)
+use Rattle.hadopt.proofs.Choices.{by_test}
 
 -- whether going back stops at the item with this many after it
 abbrev pub stops_at : SiteOf ℕ → ℕ → List (Listed ℕ) → Bool
@@ -35,8 +25,5 @@ goes_on s (x ∷ items) (suc back) goes = let e : suc back + 1 ≡ suc (back + 1
 pub stopped-at-once : (s : SiteOf ℕ) (items : List (Listed ℕ)) → stops_at s 0 items ≡ (length (before (stops_going_back s) items) == 0)
 stopped-at-once s [] = refl
 stopped-at-once s (marker ∷ items) = refl
-stopped-at-once s (entry e ∷ items) = go (is_open e.node (stack s))
-  where
-    go : (v : Bool) → v ≡ (length (if v then [] else entry e ∷ before (stops_going_back s) items) == 0)
-    go true = refl
-    go false = sym (eqb-suc-zero (length (before (stops_going_back s) items)))
+stopped-at-once s (entry e ∷ items) = by_test (is_open e.node (stack s)) (λ v. v ≡ (length (if v then [] else entry e ∷ before (stops_going_back s) items) == 0)) (λ _. refl)
+    (λ _. sym (eqb-suc-zero (length (before (stops_going_back s) items))))

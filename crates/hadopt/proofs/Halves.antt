@@ -1,12 +1,11 @@
 -- The inner loop of the adoption agency in two parts.
-use Rattle.hadopt.proofs.Names.{◌≡◌, ◌≢◌, ℕ, zero, suc, ◌+◌, ◌-◌, ◌<◌, ◌≤◌, Bool, true, false, cond, leb, eqb, List, [], ◌∷◌, ◌++◌, Option, Some, None, refl, sym, ◌∙◌, ap, subst, arith, ◌⊎◌, inl, inr, length, take, drop, slice_get, option_map_or, eq-eqb, ne_eqb, le-leb, lt-leb, length-drop, element, make, before, without, OpenNode, is_node, EntryOf, entry_of, without_entry, TooManyNodes, InnerLoop, entries_for, left, node_replaced, inner_turn, inner_loop, AreDifferent, without_entries, way_after, way_left, made, Each, Pairs, numbers, Outcome, Goes, Refused, and_then, SiteOf, stack, with_stack, with_items}
+use Rattle.hadopt.proofs.Names.{◌≡◌, ◌≢◌, ℕ, zero, suc, ◌+◌, ◌-◌, ◌<◌, ◌≤◌, Bool, false, cond, eqb, List, [], ◌∷◌, ◌++◌, Some, refl, sym, ◌∙◌, ap, subst, arith, ◌⊎◌, inl, inr, length, take, drop, slice_get, cond_both, eq-eqb, ne_eqb, le-leb, lt-leb, length-drop, element, before, without, OpenNode, is_node, EntryOf, entry_of, without_entry, InnerLoop, left, node_replaced, inner_turn, inner_loop, AreDifferent, without_entries, way_after, way_left, made, Each, Pairs, numbers, Outcome, Goes, and_then, SiteOf, stack, with_stack, with_items}
 use Rattle.std.specs.List.{remove_range}
 use Rattle.std.proofs.lemmas.List.{take_at, drop_at, drop-drop, append-nil, length-append}
 use Rattle.hadopt.specs.InnerLoops.{IsHalfway}
 use Rattle.hadopt.proofs.Bound.{entry_of-without}
-use Rattle.hadopt.proofs.Climbing.{OnGoes}
+use Rattle.hadopt.proofs.Climbing.{OnGoes, turn-goes}
 use Rattle.hadopt.proofs.Lists.{Among, skip, keep, among-all, each-map, each-among, pairs-among, among-without, each-change, pairs-change}
-use Rattle.hadopt.proofs.Ways.{OnWay}
 
 -- what a node with an entry, among the first ones, becomes
 pub first-some : (at block passed : ℕ) (x : OpenNode ℕ) (e : EntryOf ℕ) (c : InnerLoop ℕ) → passed < 3 → entry_of x.node c.site.items ≡ Some e
@@ -19,28 +18,19 @@ module _ (at block passed : ℕ) (x : OpenNode ℕ) (c : InnerLoop ℕ) (h : Are
   other y low e = omega arith
 
   pub one-different : OnGoes (λ (d : InnerLoop ℕ). AreDifferent d.site) (inner_turn numbers at block passed x c)
-  one-different = go (entry_of x.node (entries_for passed x.node c.site.items))
-    where
-      with : (e : EntryOf ℕ) (v : Bool)
-          → OnGoes (λ (d : InnerLoop ℕ). AreDifferent d.site) (and_then (cond v (Refused (TooManyNodes at)) (Goes (record (with_items (entries_for passed x.node c.site.items) c.site) { nodes = make (element e.name e.attrs) c.site.nodes }))) (λ t. Goes (node_replaced block c.site.nodes.made x e (record c { site = t }))))
-      with e true = tt
-      with e false =
-          let new : OpenNode ℕ = record { node = c.site.nodes.made; name = e.name } in
-          record {
-            made = each-change _ (is_node x.node) new (stack c.site) (omega arith) (each-map _ _ (λ y p. omega (arith, p)) (stack c.site) h.made);
-            apart = pairs-change _ (is_node x.node) new (stack c.site)
-                (each-map _ _ (λ y p. ne_eqb y.node c.site.nodes.made (other y p)) (stack c.site) h.made)
-                (each-map _ _ (λ y p. ne_eqb c.site.nodes.made y.node (λ z. other y p (sym z))) (stack c.site) h.made)
-                h.apart;
-          }
-
-      go : (o : Option (EntryOf ℕ))
-          → OnGoes (λ (d : InnerLoop ℕ). AreDifferent d.site) (option_map_or (λ e. and_then (made at (element e.name e.attrs) (with_items (entries_for passed x.node c.site.items) c.site)) (λ t. Goes (node_replaced block c.site.nodes.made x e (record c { site = t })))) o (Goes (left x (record c { site = with_items (entries_for passed x.node c.site.items) c.site }))))
-      go None = record {
+  one-different =
+      turn-goes numbers (λ d. AreDifferent d.site) at block passed x c (record {
         made = each-among _ (without (is_node x.node) (stack c.site)) (stack c.site) (among-without (is_node x.node) (stack c.site)) h.made;
         apart = pairs-among _ (without (is_node x.node) (stack c.site)) (stack c.site) (among-without (is_node x.node) (stack c.site)) h.apart;
-      }
-      go (Some e) = with e (leb c.site.nodes.limit c.site.nodes.made)
+      }) (λ e _.
+      let new : OpenNode ℕ = record { node = c.site.nodes.made; name = e.name } in
+      record {
+        made = each-change _ (is_node x.node) new (stack c.site) (omega arith) (each-map _ _ (λ y p. omega (arith, p)) (stack c.site) h.made);
+        apart = pairs-change _ (is_node x.node) new (stack c.site)
+            (each-map _ _ (λ y p. ne_eqb y.node c.site.nodes.made (other y p)) (stack c.site) h.made)
+            (each-map _ _ (λ y p. ne_eqb c.site.nodes.made y.node (λ z. other y p (sym z))) (stack c.site) h.made)
+            h.apart;
+      })
 
 -- without each of these nodes
 abbrev without_each : List (OpenNode ℕ) → List (OpenNode ℕ) → List (OpenNode ℕ)
@@ -78,11 +68,7 @@ without-way front (x ∷ way) tail p =
 
 before-split : (test : OpenNode ℕ → Bool) (xs : List (OpenNode ℕ)) → before test xs ++ drop (length (before test xs)) xs ≡ xs
 before-split test [] = refl
-before-split test (x ∷ xs) = go (test x) (before-split test xs)
-  where
-    go : (v : Bool) → before test xs ++ drop (length (before test xs)) xs ≡ xs → cond v [] (x ∷ before test xs) ++ drop (length (cond v [] (x ∷ before test xs))) (x ∷ xs) ≡ x ∷ xs
-    go true e = refl
-    go false e = ap (λ l. x ∷ l) e
+before-split test (x ∷ xs) = cond_both (test x) [] _ (λ l. l ++ drop (length l) (x ∷ xs) ≡ x ∷ xs) (λ _. refl) (λ _. ap (λ l. x ∷ l) (before-split test xs))
 
 -- the nodes that are left to come leave in one move
 pub half-goes : (formatting block at count : ℕ) (c : InnerLoop ℕ) (o : Outcome (InnerLoop ℕ)) → IsHalfway formatting block at c count o → o ≡ Goes (record c { site = way_left formatting (length (stack c.site) - count) c.site })
@@ -131,13 +117,6 @@ half-goes formatting block at count c o h = h.rest ∙ goes h.no_more ∙ ap (λ
 pub half-stops : (formatting block at : ℕ) (c : InnerLoop ℕ) (o : Outcome (InnerLoop ℕ)) → AreDifferent c.site → o ≡ Goes c → IsHalfway formatting block at c 0 o
 half-stops formatting block at c o d is = record { passed = 0; gone_by = stack c.site; todo = []; many = refl; on_stack = sym (append-nil (stack c.site)); no_more = inl refl; rest = is; different = d }
 
-pub half-ends : (formatting block at passed count : ℕ) (c : InnerLoop ℕ) (o : Outcome (InnerLoop ℕ)) → AreDifferent c.site → OnWay formatting block at passed count c o → (count ≡ 0) ⊎ (3 ≤ passed) → IsHalfway formatting block at c count o
-half-ends formatting block at passed count c o d w no_more = record { passed = passed; gone_by = w.gone_by; todo = w.todo; many = w.many; on_stack = w.on_stack; no_more = no_more; rest = w.rest; different = d }
-
--- no more are left to come than are open
-pub half-within : (formatting block at count : ℕ) (c : InnerLoop ℕ) (o : Outcome (InnerLoop ℕ)) → IsHalfway formatting block at c count o → count ≤ length (stack c.site)
-half-within formatting block at count c o h = omega (arith, h.many, ap length h.on_stack, length-append h.gone_by h.todo)
-
 -- going up the nodes on the way
 pub before-further : (test : OpenNode ℕ → Bool) (stack : List (OpenNode ℕ)) (i : ℕ) (x : OpenNode ℕ) → slice_get stack i ≡ Some x → before test (drop i stack) ≡ cond (test x) [] (x ∷ before test (drop (i + 1) stack))
 before-further test [] i x is = cc
@@ -146,11 +125,7 @@ before-further test (y ∷ up) (suc i) x is = let e : suc i + 1 ≡ suc (i + 1) 
 
 length-before : (test : OpenNode ℕ → Bool) (xs : List (OpenNode ℕ)) → length (before test xs) ≤ length xs
 length-before test [] = omega arith
-length-before test (x ∷ xs) = go (test x) (length-before test xs)
-  where
-    go : (v : Bool) → length (before test xs) ≤ length xs → length (cond v [] (x ∷ before test xs)) ≤ suc (length xs)
-    go true e = omega arith
-    go false e = omega arith
+length-before test (x ∷ xs) = cond_both (test x) [] _ (λ l. length l ≤ suc (length xs)) (λ _. omega arith) (λ _. omega (arith, length-before test xs))
 
 pub way-fits : (formatting below : ℕ) (s : SiteOf ℕ) → below ≤ length (stack s) → below + length (way_after formatting below s) ≤ length (stack s)
 way-fits formatting below s within = omega (arith, length-before (is_node formatting) (drop below (stack s)), length-drop below (stack s))

@@ -1,5 +1,5 @@
 -- What is inserted keeps what the open nodes need.
-use Rattle.hadopt.proofs.Names.{◌≡◌, ◌≢◌, ℕ, zero, suc, ◌+◌, ◌<◌, Bool, true, false, leb, cond, List, [], ◌∷◌, Option, Some, None, refl, sym, ◌∙◌, subst, arith, inl, inr, find, reverse, is_some, is_none, length, ◌&&◌, encode_utf8, option_map_or, Attribute, What, document, element, text, Forest, times, change_what, parent_of, AreCounted, place_node, graft, make, char_into, with_char, text_before, Place, LastIn, Before, before, changed_at, OpenNode, current, above, is_named, InPlace, EntryOf, Listed, marker, entry, for_node, entry_at, Table, TooManyNodes, TooDeep, NotBefore, below-document, in-document, at-most, not-there, deep-there, times-new, counted-new, deep, deep-is, deep-self, deep-new, deep-newest, graft-apart, Naming, Goes, Refused, and_then, SiteOf, stack, trees, with_trees, with_stack, from_top, node_of, is_fostering, beside, foster_place, place, added, pushed, inserted, put, with_missing, stops_going_back, renewed, renewed_each, reconstructed, InnerLoop, PlaceStands}
+use Rattle.hadopt.proofs.Names.{◌≡◌, ◌≢◌, ℕ, zero, suc, ◌+◌, ◌<◌, Bool, true, false, leb, cond, List, [], ◌∷◌, Option, Some, None, cond_both, refl, sym, ◌∙◌, subst, arith, inl, inr, find, reverse, is_some, is_none, length, ◌&&◌, encode_utf8, option_map_or, Attribute, What, document, element, text, Forest, times, change_what, parent_of, AreCounted, place_node, graft, make, char_into, with_char, text_before, Place, LastIn, Before, before, changed_at, OpenNode, current, above, is_named, InPlace, EntryOf, Listed, marker, entry, for_node, entry_at, Table, TooManyNodes, NotBefore, below-document, in-document, at-most, not-there, deep-there, times-new, counted-new, deep, deep-is, deep-self, deep-new, deep-newest, graft-apart, Naming, Goes, Refused, SiteOf, stack, trees, with_trees, with_stack, from_top, node_of, is_fostering, beside, foster_place, place, added, inserted, put, with_missing, stops_going_back, renewed, renewed_each, reconstructed, InnerLoop, PlaceStands}
 use Rattle.std.specs.Prelude.{slice_get}
 use Rattle.hnodes.specs.Attributes.{is_present}
 use Rattle.hnodes.specs.Spots.{attributes_of}
@@ -8,11 +8,19 @@ use Rattle.hnodes.proofs.Inside.{tree_at-among}
 use Rattle.hnodes.proofs.Counted.{counted-what, Begins}
 use Rattle.hnodes.proofs.Outside.{deep-what}
 use Rattle.hadopt.proofs.Lists.{each-map, pairs-map, among-all, among-after, here}
-use Rattle.hadopt.proofs.Climbing.{OnGoes, goes-then, PlainEntries, Climbing}
+use Rattle.hadopt.proofs.Choices.{or-both}
+use Rattle.hadopt.proofs.Climbing.{OnGoes, goes-then, made-goes, inserted-goes, PlainEntries, Climbing}
 use Rattle.hadopt.proofs.Searching.{Member, last-behind, found-member}
 use Rattle.hadopt.proofs.Settling.{Well, Fits, document-fits, before-fits, current-fits, under-fits, placed-well, block-stands}
 
 module _ {N : Type 0} (made : ℕ) (f : Forest N) (counted : AreCounted made f) where
+  -- the document was made
+  pub count-some : 0 < made
+  count-some = let some : made ≢ 0 = λ e. one counted.begins (not-there made f counted 0 (omega (arith, e))) in omega arith
+    where
+      one : Begins f → times 0 f ≡ 0 → ⊥
+      one (kids, rest, is) z = let z' : 1 + (times 0 kids + times 0 rest) ≡ 0 = subst (λ (g : Forest N). times 0 g ≡ 0) is z in omega arith
+
   -- a place in the document's tree
   stands-deep : (p : Place) → PlaceStands p f → (0 < deep (place_node p) 0 f) × NotBefore 0 p
   stands-deep (LastIn p) is = (omega (arith, deep-is p 0 f (at-most made f counted 0), is), tt)
@@ -20,11 +28,7 @@ module _ {N : Type 0} (made : ℕ) (f : Forest N) (counted : AreCounted made f) 
 
   deep-stands : (p : Place) → 0 < deep (place_node p) 0 f → NotBefore 0 p → PlaceStands p f
   deep-stands (LastIn p) a under = omega (arith, a, deep-is p 0 f (at-most made f counted 0), tree_at-among p 0 f, at-most made f counted p)
-  deep-stands (Before z) a under = in-document made f counted z a (go z under)
-    where
-      go : (z : ℕ) → z ≢ 0 → 0 < z
-      go zero apart = absurd (apart refl)
-      go (suc j) apart = omega arith
+  deep-stands (Before z) a under = let apart : z ≢ 0 = under in in-document made f counted z a (omega arith)
 
 module _ {N : Type 0} (n : Naming N) where
   -- what a node is has changed
@@ -38,11 +42,8 @@ module _ {N : Type 0} (n : Naming N) where
 
   pub missing-well : (k : ℕ) (attrs : List (Attribute N)) (s : SiteOf N) → Well n s → Well n (with_trees (with_missing n k attrs (trees s)) s)
   missing-well k [] s h = h
-  missing-well k (a ∷ attrs) s h = go (λ f m. missing-well k attrs (with_trees f s) m) (is_present n.same a.0 (attributes_of k (trees s)))
-    where
-      go : ((f : Forest N) → Well n (with_trees f s) → Well n (with_trees (with_missing n k attrs f) s)) → (v : Bool) → Well n (with_trees (with_missing n k attrs (cond v (trees s) (add_attribute k a (trees s)))) s)
-      go rest true = rest (trees s) h
-      go rest false = rest (add_attribute k a (trees s)) (what-well k (with_attribute a) s refl h)
+  missing-well k (a ∷ attrs) s h = cond_both (is_present n.same a.0 (attributes_of k (trees s))) (trees s) (add_attribute k a (trees s)) (λ f. Well n (with_trees (with_missing n k attrs f) s)) (λ _. missing-well k attrs s h)
+      (λ _. missing-well k attrs (with_trees (add_attribute k a (trees s)) s) (what-well k (with_attribute a) s refl h))
 
   module _ (w : What N) (s : SiteOf N) (h : Well n s) where
     abbrev count : ℕ
@@ -59,14 +60,7 @@ module _ {N : Type 0} (n : Naming N) where
     old x a e = omega (arith, (deep-there count (trees s) h.counted x 0 a).0)
 
     pos : 0 < count
-    pos = go (count) refl
-      where
-        go : (j : ℕ) → count ≡ j → 0 < count
-        go zero e = absurd (let z = not-there count (trees s) h.counted 0 (omega arith) in one h.counted.begins z)
-          where
-            one : Begins (trees s) → times 0 (trees s) ≡ 0 → ⊥
-            one (kids, rest, is) z = let z' : 1 + (times 0 kids + times 0 rest) ≡ 0 = subst (λ (g : Forest N). times 0 g ≡ 0) is z in omega arith
-        go (suc j) e = omega arith
+    pos = count-some count (trees s) h.counted
 
     not0 : 0 ≢ count
     not0 e = omega (arith, pos)
@@ -107,26 +101,14 @@ module _ {N : Type 0} (n : Naming N) where
     root-fits = document-fits n count (stack s) loose loose-climbs
 
     beside-fits : (z : OpenNode N) → Member z (stack s) → FitsHere (beside s z)
-    beside-fits z m = go (is_some (parent_of z.node (trees s)))
-      where
-        go : (v : Bool) → FitsHere (cond v (Before z.node) (LastIn (node_of (current (above z.node (stack s))))))
-        go true = before-fits n count (stack s) loose loose-climbs z m
-        go false = current-fits n count (stack s) loose loose-climbs (above z.node (stack s)) (among-after _ (stack s))
+    beside-fits z m = cond_both (is_some (parent_of z.node (trees s))) _ _ FitsHere (λ _. before-fits n count (stack s) loose loose-climbs z m) (λ _. current-fits n count (stack s) loose loose-climbs (above z.node (stack s)) (among-after _ (stack s)))
 
     foster-fits : FitsHere (foster_place n s)
-    foster-fits = go (find (is_named n.same (n.known Table)) (stack s)) refl
-      where
-        go : (o : Option (OpenNode N)) → find (is_named n.same (n.known Table)) (stack s) ≡ o → FitsHere (option_map_or (beside s) o (LastIn (node_of (from_top 0 s))))
-        go None e = first-fits
-        go (Some z) e = beside-fits z (found-member (is_named n.same (n.known Table)) (stack s) z e)
+    foster-fits = or-both FitsHere (beside s) (find (is_named n.same (n.known Table)) (stack s)) _ (λ _. first-fits) (λ z e. beside-fits z (found-member (is_named n.same (n.known Table)) (stack s) z e))
 
     -- the appropriate place
     pub place-fits : FitsHere (place n s)
-    place-fits = go (s.foster && option_map_or (λ x. is_fostering (n.tag x.name)) (current (stack s)) false)
-      where
-        go : (v : Bool) → FitsHere (cond v (foster_place n s) (LastIn (node_of (current (stack s)))))
-        go true = foster-fits
-        go false = here-fits
+    place-fits = cond_both (s.foster && option_map_or (λ x. is_fostering (n.tag x.name)) (current (stack s)) false) _ _ FitsHere (λ _. foster-fits) (λ _. here-fits)
 
     -- a place in the document's tree is as good as any
     fits : (p : Place) → 0 < deep (place_node p) 0 (trees s) → NotBefore 0 p → FitsHere p
@@ -162,45 +144,30 @@ module _ {N : Type 0} (n : Naming N) where
       }
 
       pub added-well : (at : ℕ) → OnGoes (Well n) (added at w p s)
-      added-well at = go (leb s.nodes.limit s.nodes.made)
-        where
-          go : (v : Bool) → OnGoes (Well n) (and_then (cond v (Refused (TooManyNodes at)) (Goes new_site)) (λ t. Goes (with_trees (graft s.nodes.made p (trees t)) t)))
-          go true = tt
-          go false = there-well
+      added-well at = made-goes (Well n) at w s (λ t. Goes (with_trees (graft s.nodes.made p (trees t)) t)) there-well
 
   pub inserted-well : (at : ℕ) (name : N) (attrs : List (Attribute N)) (p : Place) (s : SiteOf N) (h : Well n s) → FitsHere (element name attrs) s h p → OnGoes (Well n) (inserted at name attrs p s)
-  inserted-well at name attrs p s h fits = go (leb s.nodes.limit s.nodes.made)
-    where
-      deepens : (v : Bool) → OnGoes (Well n) (cond v (Refused (TooDeep at)) (Goes (with_stack (record { node = s.nodes.made; name = name } ∷ stack s) (there_site (element name attrs) s h p fits))))
-      deepens true = tt
-      deepens false = pushed-well (element name attrs) s h p fits name
+  inserted-well at name attrs p s h fits = inserted-goes (Well n) at name attrs p s (pushed-well (element name attrs) s h p fits name)
 
-      go : (u : Bool) → OnGoes (Well n) (and_then (and_then (cond u (Refused (TooManyNodes at)) (Goes (record s { nodes = make (element name attrs) s.nodes }))) (λ t. Goes (with_trees (graft s.nodes.made p (trees t)) t))) (pushed at (record { node = s.nodes.made; name = name })))
-      go true = tt
-      go false = deepens (leb s.open_nodes.limit (length (stack s)))
+  -- a new text comes, or one grows
+  put-goes : (P : SiteOf N → Type 0) (at c : ℕ) (p : Place) (s : SiteOf N) → P (record s { nodes = char_into c p None s.nodes }) → ((k : ℕ) → P (record s { nodes = char_into c p (Some k) s.nodes })) → OnGoes P (put at c p s)
+  put-goes P at c p s new grown = go (text_before p (trees s)) (is_none (text_before p (trees s)) && leb s.nodes.limit s.nodes.made)
+    where
+      go : (o : Option ℕ) (v : Bool) → OnGoes P (cond v (Refused (TooManyNodes at)) (Goes (record s { nodes = char_into c p o s.nodes })))
+      go o true = tt
+      go None false = new
+      go (Some k) false = grown k
 
   pub put-well : (at c : ℕ) (p : Place) (s : SiteOf N) (h : Well n s) → FitsHere (text (encode_utf8 c)) s h p → OnGoes (Well n) (put at c p s)
-  put-well at c p s h fits = go (text_before p (trees s)) (is_none (text_before p (trees s)) && leb s.nodes.limit s.nodes.made)
-    where
-      go : (o : Option ℕ) (v : Bool) → OnGoes (Well n) (cond v (Refused (TooManyNodes at)) (Goes (record s { nodes = char_into c p o s.nodes })))
-      go o true = tt
-      go None false = there-well (text (encode_utf8 c)) s h p fits
-      go (Some k) false = what-well k (with_char c) s refl h
+  put-well at c p s h fits = put-goes (Well n) at c p s (there-well (text (encode_utf8 c)) s h p fits) (λ k. what-well k (with_char c) s refl h)
 
   -- the place is still in the document's tree
   pub put-stands : (at c : ℕ) (p : Place) (s : SiteOf N) (h : Well n s) → PlaceStands p (trees s) → OnGoes (λ t. PlaceStands p (trees t)) (put at c p s)
-  put-stands at c p s h is = go (text_before p (trees s)) (is_none (text_before p (trees s)) && leb s.nodes.limit s.nodes.made)
-    where
-      d : (0 < deep (place_node p) 0 (trees s)) × NotBefore 0 p
-      d = stands-deep s.nodes.made (trees s) h.counted p is
-
-      fits : FitsHere (text (encode_utf8 c)) s h p
-      fits = standing-fits (text (encode_utf8 c)) s h p is
-
-      go : (o : Option ℕ) (v : Bool) → OnGoes (λ t. PlaceStands p (trees t)) (cond v (Refused (TooManyNodes at)) (Goes (record s { nodes = char_into c p o s.nodes })))
-      go o true = tt
-      go None false = deep-stands (s.nodes.made + 1) _ (there-well (text (encode_utf8 c)) s h p fits).counted p (there-deep (text (encode_utf8 c)) s h p fits) d.1
-      go (Some k) false = deep-stands s.nodes.made _ (what-well k (with_char c) s refl h).counted p (rw (deep-what (place_node p) 0 k (with_char c) (trees s)) d.0) d.1
+  put-stands at c p s h is =
+      let d = stands-deep s.nodes.made (trees s) h.counted p is in
+      let fits = standing-fits (text (encode_utf8 c)) s h p is in
+      put-goes (λ t. PlaceStands p (trees t)) at c p s (deep-stands (s.nodes.made + 1) _ (there-well (text (encode_utf8 c)) s h p fits).counted p (there-deep (text (encode_utf8 c)) s h p fits) d.1)
+      (λ k. deep-stands s.nodes.made _ (what-well k (with_char c) s refl h).counted p (rw (deep-what (place_node p) 0 k (with_char c) (trees s)) d.0) d.1)
 
   plain-at : (back new : ℕ) (items : List (Listed N)) → PlainEntries n items → PlainEntries n (changed_at back (for_node new) items)
   plain-at back new [] h = tt
@@ -216,11 +183,8 @@ module _ {N : Type 0} (n : Naming N) where
 
     each-well : (back : ℕ) (s : SiteOf N) → Well n s → OnGoes (Well n) (renewed_each n at back s)
     each-well zero s h = h
-    each-well (suc back) s h = goes-then (Well n) (Well n) (option_map_or (λ e. renewed n at back e s) (entry_at back s.items) (Goes s)) (renewed_each n at back) (go (entry_at back s.items)) (λ t k. each-well back t k)
-      where
-        go : (o : Option (EntryOf N)) → OnGoes (Well n) (option_map_or (λ e. renewed n at back e s) o (Goes s))
-        go None = h
-        go (Some e) = renewed-well back e s h
+    each-well (suc back) s h = goes-then (Well n) (Well n) (option_map_or (λ e. renewed n at back e s) (entry_at back s.items) (Goes s)) (renewed_each n at back)
+        (or-both (OnGoes (Well n)) (λ e. renewed n at back e s) (entry_at back s.items) (Goes s) (λ _. h) (λ e _. renewed-well back e s h)) (λ t k. each-well back t k)
 
     pub reconstructed-well : (s : SiteOf N) → Well n s → OnGoes (Well n) (reconstructed n at s)
     reconstructed-well s h = each-well (length (before (stops_going_back s) s.items)) s h

@@ -1,10 +1,8 @@
 -- What is kept, as it is stated and as the proofs use it.
-use Rattle.hadopt.proofs.Names.{◌≡◌, ℕ, refl, sym, ◌∙◌, at-most, below-document, in-document, deep-is, Naming, numbers, texts, number_of, tag_text, Table, eqb-true, Outcome, Goes, Refused, SiteOf, stack, trees, adopted, TellsTables, Kept}
+use Rattle.hadopt.proofs.Names.{◌≡◌, refl, sym, ◌∙◌, at-most, below-document, in-document, deep-is, Naming, numbers, texts, number_of, tag_text, Table, eqb-true, SiteOf, stack, trees, TellsTables, Kept}
 use Rattle.std.proofs.lemmas.Slice.Eq.{bytes_eq-Decides}
 use Rattle.hadopt.proofs.Lists.{each-map, pairs-map}
-use Rattle.hadopt.proofs.Climbing.{OnGoes}
 use Rattle.hadopt.proofs.Settling.{Well}
-use Rattle.hadopt.proofs.Turning.{adopted-well}
 
 module _ {N : Type 0} (n : Naming N) where
   pub to-well : (s : SiteOf N) → Kept n s → Well n s
@@ -24,14 +22,6 @@ module _ {N : Type 0} (n : Naming N) where
     };
     plain = h.plain;
   }
-
-  pub goes-map : {S : Type 0} (P Q : S → Type 0) → ((s : S) → P s → Q s) → (o : Outcome S) → OnGoes P o → OnGoes Q o
-  goes-map P Q f (Goes s) h = f s h
-  goes-map P Q f (Refused r) h = tt
-
-  -- the adoption agency, in the words of the specs
-  pub adopted-keeps : TellsTables n → (at : ℕ) (name : N) (s : SiteOf N) → Kept n s → OnGoes (Kept n) (adopted n at name s)
-  adopted-keeps tells at name s h = goes-map (Well n) (Kept n) from-well (adopted n at name s) (adopted-well n tells at name s (to-well s h))
 
 -- both kinds of names mean tables
 pub numbers-tell : TellsTables numbers

@@ -1,10 +1,10 @@
 -- What a turn of the adoption agency's outer loop keeps, and what its steps ask.
-use Rattle.hadopt.proofs.Names.{◌≡◌, ◌≢◌, ℕ, ◌<◌, Bool, true, false, List, [], ◌∷◌, Option, Some, None, find, nat_eq, cond, ◌||◌, refl, subst, arith, Ok, Err, drop, ◌⊎◌, inl, inr, sym, ◌∙◌, ap, Result, IfOk, IfSome, Refusal, list_any, option_map, eq-eqb, eqb-true, ne_eqb, OpenNode, is_node, is_open, in_scope, furthest_block, above, below, current, before, InPlace, Forest, AreCounted, place_node, at-most, deep-there, is-there, deep, deep-is, deep-self, place_in, stops, Default, EntryOf, Listed, marker, entry, is_entry, after_marker, find_entry, tag_of, ErrorCode, numbers, Goes, SiteOf, stack, trees, with_stack, error_unless, InnerLoop, inner_loop, outer_turn, outer_loop, is_unlisted, adopted, most_turns, Gives, Each, Kept, AreDifferent, WithFurthestBlock}
+use Rattle.hadopt.proofs.Names.{◌≡◌, ◌≢◌, ℕ, ◌<◌, Bool, true, false, List, [], ◌∷◌, Option, Some, None, nat_eq, refl, subst, arith, Ok, Err, drop, ◌⊎◌, inl, inr, sym, ◌∙◌, ap, Result, IfOk, IfSome, Refusal, list_any, option_map, eq-eqb, cond_both, some_same, or-true, ne_eqb, OpenNode, is_node, is_open, in_scope, furthest_block, above, below, current, before, InPlace, Forest, AreCounted, place_node, at-most, deep-there, is-there, deep, deep-is, deep-self, place_in, stops, Default, EntryOf, Listed, marker, entry, is_entry, find_entry, tag_of, ErrorCode, numbers, Goes, SiteOf, stack, trees, with_stack, error_unless, InnerLoop, inner_loop, outer_turn, outer_loop, is_unlisted, adopted, most_turns, Gives, Each, Kept, AreDifferent, WithFurthestBlock}
 use Rattle.hadopt.proofs.Lists.{each-map, each-both, pairs-map, Among, skip, keep, among-after, each-among, front-among}
-use Rattle.hadopt.proofs.Climbing.{OnGoes, Plain, Climbing, inner-loop-climbs}
-use Rattle.hadopt.proofs.Searching.{any-after, any-each, pairs-after, scope-front, at-nearest, special-there}
+use Rattle.hadopt.proofs.Climbing.{OnGoes, Climbing}
+use Rattle.hadopt.proofs.Searching.{any-after, at-nearest, special-there}
 use Rattle.hadopt.proofs.Settling.{Well, place-fits}
-use Rattle.hadopt.proofs.Turning.{not-table, WellAfter, outer-turn-well}
+use Rattle.hadopt.proofs.Turning.{WellAfter, outer-turn-well, open-stands, inner-climbs}
 use Rattle.hadopt.proofs.Keeping.{to-well, from-well, numbers-tell}
 use Rattle.hadopt.proofs.Booked.{Booked, inner-loop-booked, bookmark-there, way-others}
 use Rattle.hadopt.specs.declared.adopting.Turn as code
@@ -14,11 +14,7 @@ use Rattle.hadopt.specs.AfterInnerLoop.{AfterInnerLoop}
 
 before-each : {X : Type 0} (P : X → Type 0) (p : X → Bool) (xs : List X) → Each P xs → Each P (before p xs)
 before-each P p [] e = tt
-before-each P p (x ∷ xs) e = go (p x) (before-each P p xs e.1)
-  where
-    go : (v : Bool) → Each P (before p xs) → Each P (cond v [] (x ∷ before p xs))
-    go true r = tt
-    go false r = (e.0, r)
+before-each P p (x ∷ xs) e = cond_both (p x) [] _ (Each P) (λ _. tt) (λ _. (e.0, before-each P p xs e.1))
 
 there-low : (made : ℕ) (g : Forest ℕ) (counted : AreCounted made g) (x last_node : ℕ) → (0 < deep x 0 g) ⊎ (0 < deep x last_node g) → x < made
 there-low made g counted x last_node (inl a) = (deep-there made g counted x 0 a).0
@@ -30,29 +26,16 @@ current-low made g counted last_node (x ∷ up) e = (deep-there made g counted x
 
 any-among : {X : Type 0} (p : X → Bool) (x : X) (xs ys : List X) → p x ≡ true → Among (x ∷ xs) ys → list_any p ys ≡ true
 any-among p x xs [] is a = elim a [ ]
-any-among p x xs (y ∷ ys) is (skip a) = later (p y) (any-among p x xs ys is a)
-  where
-    later : (v : Bool) → list_any p ys ≡ true → (v || list_any p ys) ≡ true
-    later true r = refl
-    later false r = r
+any-among p x xs (y ∷ ys) is (skip a) = rw (any-among p x xs ys is a) (or-true (p y))
 any-among p x xs (y ∷ ys) is (keep a) = rw (is) refl
 
 -- an entry that is found is in the list
 pub found-entry : (name : ℕ) (items : List (Listed ℕ)) (e : EntryOf ℕ) → find_entry nat_eq name items ≡ Some e → list_any (is_entry e.node) items ≡ true
 found-entry name [] e is = cc
 found-entry name (marker ∷ items) e is = cc
-found-entry name (entry d ∷ items) e is = go (nat_eq name d.name) is (found-entry name items e)
-  where
-    here : d ≡ e → list_any (is_entry e.node) (entry d ∷ items) ≡ true
-    here same = rw (same, eq-eqb e.node e.node refl) refl
-
-    later : (v : Bool) → list_any (is_entry e.node) items ≡ true → (v || list_any (is_entry e.node) items) ≡ true
-    later true h = refl
-    later false h = h
-
-    go : (v : Bool) → cond v (Some d) (find (λ (x : EntryOf ℕ). nat_eq name x.name) (after_marker items)) ≡ Some e → (find_entry nat_eq name items ≡ Some e → list_any (is_entry e.node) items ≡ true) → list_any (is_entry e.node) (entry d ∷ items) ≡ true
-    go true e' ih = here (cc)
-    go false e' ih = later (is_entry e.node (entry d)) (ih e')
+found-entry name (entry d ∷ items) e is = cond_both (nat_eq name d.name) (Some d) (find_entry nat_eq name items) (λ o. o ≡ Some e → list_any (is_entry e.node) (entry d ∷ items) ≡ true)
+    (λ _ s. rw (some_same d e s, eq-eqb e.node e.node refl) refl)
+    (λ _ s. rw (found-entry name items e s) (or-true (is_entry e.node (entry d)))) is
 
 -- .. and so is that of a node that was found
 pub found-node : (name node : ℕ) (items : List (Listed ℕ)) → option_map (λ e. e.node) (find_entry nat_eq name items) ≡ Some node → (f : EntryOf ℕ) × (find_entry nat_eq name items ≡ Some (record f { node = node }))
@@ -90,63 +73,38 @@ unless-same v code at s t is = let same : error_unless v code at s ≡ t = cc in
 -- where the furthest block is found, the way up can begin, and where it goes on, it can be settled
 module _ (s : SiteOf ℕ) (f : ℕ) (b : OpenNode ℕ) (h : Well numbers s) (is_open_now : is_open f (stack s) ≡ true) (scope : in_scope (stops tag_of Default) (is_node f) (stack s) ≡ true)
     (has : list_any (is_entry f) s.items ≡ true) (under : list_any (is_node b.node) (before (is_node f) (stack s)) ≡ true) where
-  abbrev start : InnerLoop ℕ
-  start = record { last_node = b.node; bookmark = InPlace; site = s }
-
   abbrev way : List (OpenNode ℕ)
   way = before (is_node f) (above b.node (stack s))
 
-  all : (list_any (is_node f) (above b.node (stack s)) ≡ true) × (above f (above b.node (stack s)) ≡ above f (stack s)) × (list_any (is_node b.node) (stack s) ≡ true)
-  all = any-after (is_node f) (is_node b.node) (stack s) under is_open_now
+  abbrev begin : InnerLoop ℕ
+  begin = record { last_node = b.node; bookmark = InPlace; site = s }
+
+  there : (list_any (is_node f) (above b.node (stack s)) ≡ true) × (above f (above b.node (stack s)) ≡ above f (stack s)) × (list_any (is_node b.node) (stack s) ≡ true)
+  there = any-after (is_node f) (is_node b.node) (stack s) under is_open_now
 
   b-stands : (0 < deep b.node 0 (trees s)) × (0 < b.node)
-  b-stands =
-      let bs = any-each _ (is_node b.node) (stack s) h.each all.2 in
-      let same : bs.0.node ≡ b.node = eqb-true bs.0.node b.node bs.2 in
-      subst (λ (k : ℕ). (0 < deep k 0 (trees s)) × (0 < k)) same bs.1
-
-  f-stands : (0 < deep f 0 (trees s)) × (0 < f)
-  f-stands =
-      let fs = any-each _ (is_node f) (stack s) h.each is_open_now in
-      let same : fs.0.node ≡ f = eqb-true fs.0.node f fs.2 in
-      subst (λ (k : ℕ). (0 < deep k 0 (trees s)) × (0 < k)) same fs.1
-
-  begins : Climbing numbers b.node (above b.node (stack s)) start
-  begins =
-      let out = pairs-after _ (is_node b.node) (stack s) h.order all.2 in
-      let out_is : out.0.node ≡ b.node = eqb-true out.0.node b.node out.1 in
-      record {
-        counted = h.counted;
-        low = (deep-there s.nodes.made (trees s) h.counted b.node 0 b-stands.0).0;
-        pos = b-stands.1;
-        each = each-map _ _ (λ x p. (inl p.0, p.1)) (stack s) h.each;
-        behind = each-both _ _ _ (λ x p q. (p.0, subst (λ (k : ℕ). deep x.node k (trees s) ≡ 0) out_is q)) (above b.node (stack s)) (each-among _ (above b.node (stack s)) (stack s) (among-after (is_node b.node) (stack s)) h.each) out.2;
-        order = h.order;
-        front = scope-front (λ x. Plain numbers x.name) (stops tag_of Default) (is_node f) (is_node b.node) (in_scope (stops tag_of Default) (is_node f)) (stack s) (λ x ys. refl) (not-table numbers numbers-tell 0) scope under;
-        block_in = (inl b-stands.0, b-stands.1);
-        plain = h.plain;
-      }
+  b-stands = open-stands numbers numbers-tell 0 b.node s h there.2
 
   way-low : Each (λ x. x.node < s.nodes.made) way
   way-low =
       let up = each-among _ (above b.node (stack s)) (stack s) (among-after (is_node b.node) (stack s)) h.each in
       before-each _ (is_node f) (above b.node (stack s)) (each-map _ _ (λ x p. (deep-there s.nodes.made (trees s) h.counted x.node 0 p.0).0) (above b.node (stack s)) up)
 
-  booked-start : Booked f way start
+  booked-start : Booked f way begin
   booked-start = record {
-    low = (deep-there s.nodes.made (trees s) h.counted f 0 f-stands.0).0;
+    low = (deep-there s.nodes.made (trees s) h.counted f 0 (open-stands numbers numbers-tell 0 f s h is_open_now).0).0;
     has = has;
     others = each-both _ _ _ (λ x p q. (p, q)) way (way-others f (above b.node (stack s))) way-low;
     marked = tt;
   }
 
-  pub after-there : (at : ℕ) (c : InnerLoop ℕ) → inner_loop numbers at b.node 0 way start ≡ Goes c → AfterInnerLoop f b.node (current (above f (stack s))) c
+  pub after-there : (at : ℕ) (c : InnerLoop ℕ) → inner_loop numbers at b.node 0 way begin ≡ Goes c → AfterInnerLoop f b.node (current (above f (stack s))) c
   after-there at c e =
-      let a = at-nearest (is_node f) (above b.node (stack s)) all.0 in
-      let k : Climbing numbers b.node (a.at ∷ a.up) c = subst (OnGoes (Climbing numbers b.node (a.at ∷ a.up))) e (inner-loop-climbs numbers at b.node way (a.at ∷ a.up) 0 start (subst (λ (l : List (OpenNode ℕ)). Climbing numbers b.node l start) a.is begins)) in
-      let m : Booked f [] c = subst (OnGoes (Booked f [])) e (inner-loop-booked at f b.node 0 way start booked-start) in
+      let a = at-nearest (is_node f) (above b.node (stack s)) there.0 in
+      let k : Climbing numbers b.node (a.at ∷ a.up) c = subst (OnGoes (Climbing numbers b.node (a.at ∷ a.up))) e (inner-climbs numbers numbers-tell at f s h b under is_open_now scope a) in
+      let m : Booked f [] c = subst (OnGoes (Booked f [])) e (inner-loop-booked at f b.node 0 way begin booked-start) in
       let fits = place-fits numbers b.node (a.at ∷ a.up) c k a.at a.up refl in
-      let common_ancestor : current (above f (stack s)) ≡ current a.up = ap current (sym all.1 ∙ a.up_is) in
+      let common_ancestor : current (above f (stack s)) ≡ current a.up = ap current (sym there.1 ∙ a.up_is) in
       record {
         begun = k.pos;
         last_in = k.low;

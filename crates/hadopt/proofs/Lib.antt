@@ -1,4 +1,5 @@
 pub mod Names
+pub mod Choices
 pub mod Lists
 pub mod Searching
 pub mod Climbing

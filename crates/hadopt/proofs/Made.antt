@@ -1,20 +1,11 @@
 -- Open nodes that were made.
-use Rattle.hadopt.proofs.Names.{◌≡◌, ℕ, zero, suc, ◌+◌, ◌<◌, ◌≤◌, Bool, true, false, cond, List, [], ◌∷◌, ◌++◌, Option, Some, None, refl, sym, subst, arith, drop, find, slice_get, reverse, reverse_onto, option_map, IfSome, OnOk, OnErr, Result, Nodes, AreNodes, make, What, changed, put_before, open_of, OpenNode, OpenNodes, current, Refusal, past, Each, AreMade}
+use Rattle.hadopt.proofs.Names.{◌≡◌, ℕ, zero, suc, ◌+◌, ◌<◌, ◌≤◌, Bool, true, List, [], ◌∷◌, ◌++◌, Option, Some, None, cond_both, some_same, refl, sym, subst, arith, drop, find, slice_get, reverse, reverse_onto, option_map, IfSome, OnOk, OnErr, Result, Nodes, make, What, open_of, OpenNode, OpenNodes, current, Refusal, past, Each, AreMade}
 use Rattle.std.specs.Prelude.{Ok, Err}
 use Rattle.hopen.specs.declared.stack.Open.{Open}
 use Rattle.hadopt.proofs.Lists.{each-map}
-use Rattle.hadopt.proofs.Turning.{each-put-any}
 
 pub more : (k m : ℕ) (stack : List (OpenNode ℕ)) → k ≤ m → AreMade k stack → AreMade m stack
 more k m stack le made = each-map _ _ (λ x p. (p.0, omega (arith, p.1))) stack made
-
--- the document was made
-pub begun : (t : Nodes ℕ) → AreNodes t → 0 < t.made
-begun t nodes = go t.made refl
-  where
-    go : (k : ℕ) → t.made ≡ k → 0 < k
-    go zero e = let once = nodes.counted.once 0 in let trees = nodes.counted.begins.2 in grind (arith, once, trees, e)
-    go (suc k) e = omega arith
 
 -- what is found among open nodes
 module _ (P : OpenNode ℕ → Type 0) where
@@ -35,11 +26,7 @@ module _ (P : OpenNode ℕ → Type 0) where
   pub each-found : (test : OpenNode ℕ → Bool) (stack : List (OpenNode ℕ)) (o : Option Open) → option_map open_of o ≡ find test stack → Each P stack → IfSome o (λ x. P (open_of x))
   each-found test stack None is e = tt
   each-found test [] (Some x) is e = cc
-  each-found test (y ∷ up) (Some x) is e = go (test y) is (λ h. each-found test up (Some x) h e.1)
-    where
-      go : (v : Bool) → Some (open_of x) ≡ cond v (Some y) (find test up) → (Some (open_of x) ≡ find test up → P (open_of x)) → P (open_of x)
-      go true h further = this x y (cc) e.0
-      go false h further = further h
+  each-found test (y ∷ up) (Some x) is e = cond_both (test y) (Some y) (find test up) (λ o. Some (open_of x) ≡ o → P (open_of x)) (λ _ h. this x y (some_same (open_of x) y h) e.0) (λ _ h. each-found test up (Some x) h e.1) is
 
   each-join : (xs ys : List (OpenNode ℕ)) → Each P xs → Each P ys → Each P (xs ++ ys)
   each-join [] ys a b = b
@@ -60,35 +47,12 @@ past-step test (y ∷ up) x is passes =
     let same : y ≡ x = cc in
     rw (same, passes) refl
 
--- going up one further
-pub found-further : (test : OpenNode ℕ → Bool) (stack : List (OpenNode ℕ)) (i : ℕ) (x : OpenNode ℕ) → slice_get stack i ≡ Some x → find test (drop i stack) ≡ cond (test x) (Some x) (find test (drop (i + 1) stack))
-found-further test [] i x is = cc
-found-further test (y ∷ up) zero x is = let same : y ≡ x = cc in rw (same) refl
-found-further test (y ∷ up) (suc i) x is = let e : suc i + 1 ≡ suc (i + 1) = omega arith in rw (e) (found-further test up i x is)
-
-made-changed : (k : ℕ) (test : OpenNode ℕ → Bool) (new : OpenNode ℕ) (stack : List (OpenNode ℕ)) → 0 < new.node → new.node < k → AreMade k stack → AreMade k (changed test (λ _. new) stack)
-made-changed k test new [] a b made = made
-made-changed k test new (x ∷ up) a b made = go (test x) (made-changed k test new up a b made.1)
-  where
-    go : (v : Bool) → AreMade k (changed test (λ _. new) up) → AreMade k (cond v (new ∷ up) (x ∷ changed test (λ _. new) up))
-    go true rest = ((a, b), made.1)
-    go false rest = (made.0, rest)
-
 -- a call that makes a node, or changes nothing
 pub made-after_make : {A : Type 0} (r : Result A Refusal) (old new : Nodes ℕ) (w : What ℕ) (stack : List (OpenNode ℕ)) → OnOk r (new ≡ make w old) → OnErr r (new ≡ old) → AreMade old.made stack → AreMade new.made stack
 made-after_make (Ok a) old new w stack ok err made = rw ok (more old.made (old.made + 1) stack (omega arith) made)
 made-after_make (Err e) old new w stack ok err made = rw err made
 
--- a call that puts a node in the place of another, or changes nothing
-pub made-after_change : {A E : Type 0} (r : Result A E) (k : ℕ) (test : OpenNode ℕ → Bool) (x : OpenNode ℕ) (old new : OpenNodes ℕ) → OnOk r (new ≡ record old { stack = changed test (λ _. x) old.stack }) → OnErr r (new ≡ old) → 0 < x.node → x.node < k → AreMade k old.stack → AreMade k new.stack
-made-after_change (Ok a) k test x old new ok err b i made = rw ok (made-changed k test x old.stack b i made)
-made-after_change (Err e) k test x old new ok err b i made = rw err made
-
--- a call that opens a node, or changes nothing
-pub made-after_put : {A : Type 0} (r : Result A Refusal) (k : ℕ) (test : OpenNode ℕ → Bool) (x : OpenNode ℕ) (old new : OpenNodes ℕ) → OnOk r (new ≡ record old { stack = put_before test x old.stack }) → OnErr r (new ≡ old) → 0 < x.node → x.node < k → AreMade k old.stack → AreMade k new.stack
-made-after_put (Ok a) k test x old new ok err b i made = rw ok (each-put-any _ test x old.stack (b, i) made)
-made-after_put (Err e) k test x old new ok err b i made = rw err made
-
-pub made-after_push : {A : Type 0} (r : Result A Refusal) (k : ℕ) (x : OpenNode ℕ) (old new : OpenNodes ℕ) → OnOk r (new ≡ record old { stack = x ∷ old.stack }) → OnErr r (new ≡ old) → 0 < x.node → x.node < k → AreMade k old.stack → AreMade k new.stack
-made-after_push (Ok a) k x old new ok err b i made = rw ok ((b, i), made)
-made-after_push (Err e) k x old new ok err b i made = rw err made
+-- a call that changes the open nodes, or nothing
+pub made-after : {A E : Type 0} (r : Result A E) (k : ℕ) (open_now : List (OpenNode ℕ)) (old new : OpenNodes ℕ) → OnOk r (new ≡ record old { stack = open_now }) → OnErr r (new ≡ old) → AreMade k open_now → AreMade k old.stack → AreMade k new.stack
+made-after (Ok a) k open_now old new ok err now made = rw ok now
+made-after (Err e) k open_now old new ok err now made = rw err made

@@ -32,6 +32,7 @@ pub use Rattle.hopen.specs.Opens.{open_of}
 pub use Rattle.hopen.specs.Scopes.{is_named, stops}
 pub use Rattle.hopen.specs.Stack.{is_node, OpenNode, current, above, is_open, in_scope, furthest_block, OpenNodes, below}
 pub use Rattle.hopen.specs.declared.scope.Scope.TheVariants.{Default}
+pub use Rattle.names.proofs.Words.{some_same}
 pub use Rattle.names.specs.Placed.{placed}
 pub use Rattle.names.specs.Sets.{is_special, has_implied_end}
 pub use Rattle.names.specs.Tags.{number_of, tag_of, tag_text}
@@ -43,7 +44,8 @@ pub use Rattle.names.specs.declared.refusal.Refusal.TheVariants.{TooManyNodes, T
 pub use Rattle.names.specs.declared.tag.Tag.{Tag}
 pub use Rattle.names.specs.declared.tag.Tag.TheVariants.{Table}
 pub use Rattle.std.proofs.Common.{◌≡◌, ℕ, sym, ◌∙◌, ap, arith, [], refl, false, List, rules, true, Some, length, Bool, ◌∷◌, subst, ◌+◌, cond, None, suc, ◌<◌, Option, zero, drop, ◌≤◌, leb, reverse, inl, find, inr, Ok, not, ◌≢◌, ◌⊎◌, ◌++◌, map, slice_get, ◌-◌, Err, nat_eq, eqb, ◌||◌, is_some, is_none, take, if◌then◌else◌, ◌*◌}
-pub use Rattle.std.proofs.lemmas.Bool.{ne_eqb, eq-eqb, eqb-true, le-leb, lt-leb}
+pub use Rattle.std.proofs.Math.Bool.{or-true}
+pub use Rattle.std.proofs.lemmas.Bool.{cond_both, ne_eqb, eq-eqb, eqb-true, le-leb, lt-leb}
 pub use Rattle.std.proofs.lemmas.Grind.{reverse_onto}
 pub use Rattle.std.proofs.lemmas.List.{reverse-append, length-drop}
 pub use Rattle.std.specs.Char.{encode_utf8}

@@ -1,5 +1,5 @@
 -- A run of characters is put as its characters are, one by one: behind the first one there is a text, so none of the others makes a node.
-use Rattle.hadopt.proofs.Names.{◌≡◌, ℕ, zero, suc, ◌+◌, ◌<◌, ◌≤◌, Bool, true, false, leb, cond, List, [], ◌∷◌, Option, Some, None, is_none, length, map, refl, sym, ◌∙◌, ap, subst, arith, ◌⊎◌, inl, inr, Ok, Err, le-leb, encode_utf8, Result, IfErr, OnOk, OnErr, ◌&&◌, chars, not-there, Nodes, AreNodes, IsPlace, text_before, char_into, with_char, add_char, text, tree, none, change_what, Place, OpenNode, placed, Placed, Refusal, TooManyNodes, Memory, Gives, put_each, AreMade, Outcome, Goes, Refused, and_then, SiteOf, trees}
+use Rattle.hadopt.proofs.Names.{◌≡◌, ℕ, ◌+◌, ◌<◌, ◌≤◌, Bool, true, false, leb, cond, List, [], ◌∷◌, Option, Some, None, is_none, length, map, refl, sym, ◌∙◌, ap, subst, arith, ◌⊎◌, inl, inr, Ok, Err, le-leb, encode_utf8, Result, IfErr, OnOk, OnErr, ◌&&◌, chars, not-there, Nodes, AreNodes, IsPlace, text_before, char_into, with_char, add_char, text, tree, none, change_what, Place, OpenNode, placed, Placed, Refusal, TooManyNodes, Memory, Gives, put_each, AreMade, Outcome, Goes, Refused, and_then, SiteOf, trees}
 use Rattle.std.proofs.lemmas.Bool.{leb-true}
 use Rattle.std.proofs.lemmas.List.{nil_from_length}
 use Rattle.std.proofs.lemmas.Str.{chars-nil, encodes-chars}
@@ -9,6 +9,7 @@ use Rattle.std.specs.Str.{encode_utf8_all, IsUtf8}
 use Rattle.hnodes.proofs.Placed.{placed as placed_at, graft-made, placed-text}
 use Rattle.hnodes.proofs.Respots.{IsTextBefore, is-text_before, text_before-is, text_before-longer}
 use Rattle.hnodes.specs.Edits.{add_chars}
+use Rattle.hadopt.proofs.Choices.{by_zero}
 use Rattle.hadopt.proofs.Made.{more}
 
 abbrev pub characters : List Placed → List ℕ
@@ -75,11 +76,7 @@ module _ {N : Type 0} (place : Place) where
 
 -- a text has bytes where it has characters
 bytes-some : (bytes : List ℕ) → 0 < length (chars bytes) → 0 < length bytes
-bytes-some bytes some = go (length bytes) refl
-  where
-    go : (k : ℕ) → length bytes ≡ k → 0 < length bytes
-    go zero e = absurd (let gone : length (chars bytes) ≡ 0 = ap (λ (b : List ℕ). length (chars b)) (nil_from_length bytes e) ∙ ap length chars-nil in omega arith)
-    go (suc k) e = omega arith
+bytes-some bytes some = by_zero (length bytes) (λ e. absurd (let gone : length (chars bytes) ≡ 0 = ap (λ (b : List ℕ). length (chars b)) (nil_from_length bytes e) ∙ ap length chars-nil in omega arith)) (λ k. k)
 
 pub text-gives : (r : Result (Unit {0}) Refusal) (at : ℕ) (bytes : List ℕ) (place : Place) (s : SiteOf ℕ) (new : Nodes ℕ) → IsUtf8 bytes → AreNodes s.nodes → IsPlace place s.nodes
     → OnOk r (new ≡ add_chars (chars bytes) place s.nodes)

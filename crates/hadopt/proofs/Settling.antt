@@ -1,11 +1,12 @@
 -- The steps of the adoption agency after its inner loop: the last node goes to its place, and the new element to its own.
-use Rattle.hadopt.proofs.Names.{◌≡◌, ◌≢◌, ℕ, zero, suc, ◌+◌, ◌<◌, ◌≤◌, Bool, true, false, cond, List, [], ◌∷◌, Option, Some, None, refl, sym, ◌∙◌, subst, arith, ◌⊎◌, inl, inr, find, is_some, ne_eqb, ◌&&◌, option_map_or, What, Forest, none, tree, times, join, tree_at, AreCounted, graft, graft_last, move_all, place_node, parent_of, Place, LastIn, Before, after, OpenNode, is_node, current, above, is_named, Table, NotBefore, at-most, is-there, not-there, deep-there, counted-new, counted-graft, deep, deep-lower, deep-is, deep-self, deep-new, deep-newest, graft-deep, graft-apart, graft-below, Naming, SiteOf, stack, trees, with_trees, from_top, node_of, is_fostering, beside, foster_place, place_in, InnerLoop, Each, Pairs}
+use Rattle.hadopt.proofs.Names.{◌≡◌, ◌≢◌, ℕ, ◌+◌, ◌<◌, ◌≤◌, false, List, [], ◌∷◌, cond_both, sym, ◌∙◌, subst, arith, ◌⊎◌, inl, inr, find, is_some, ne_eqb, ◌&&◌, option_map_or, What, Forest, none, tree, times, join, tree_at, AreCounted, graft, graft_last, move_all, place_node, parent_of, Place, LastIn, Before, after, OpenNode, is_node, current, is_named, Table, NotBefore, at-most, is-there, not-there, deep-there, counted-new, counted-graft, deep, deep-lower, deep-is, deep-self, deep-new, deep-newest, graft-deep, graft-apart, graft-below, Naming, SiteOf, stack, trees, with_trees, node_of, is_fostering, beside, foster_place, place_in, InnerLoop, Each, Pairs}
 use Rattle.hnodes.specs.Forest.{children_of}
 use Rattle.hnodes.proofs.Forests.{children-apart}
 use Rattle.hnodes.proofs.Counted.{document-out, counted-move}
 use Rattle.hnodes.proofs.Counts.{emptied, times-emptied-apart}
 use Rattle.hnodes.proofs.Deep.{children-deep, deep-trans}
 use Rattle.hnodes.proofs.DeepEdits.{deep-hung, deep-hung-apart, deep-hung-below, deep-emptied, deep-emptied-apart}
+use Rattle.hadopt.proofs.Choices.{or-both, by_zero}
 use Rattle.hadopt.proofs.Lists.{each-map, pairs-map, Among, skip, among-all, among-after, Front, here, there, front-among, front-pairs, front-map, front-each}
 use Rattle.hadopt.proofs.Climbing.{Plain, PlainEntries, Climbing}
 use Rattle.hadopt.proofs.Searching.{Member, first, each-member, member-among, last-behind, found-behind, after-behind, found-member}
@@ -61,26 +62,16 @@ module _ {N : Type 0} (n : Naming N) where
             omega (arith, deep-self z.node (trees c.site), is-there c.site.nodes.made (trees c.site) h.counted z.node (deep-there c.site.nodes.made (trees c.site) h.counted z.node 0 b.0).0)
 
     beside-fits : (z : OpenNode N) → Member z rest → Fits rest c (beside c.site z)
-    beside-fits z m = go (is_some (parent_of z.node (trees c.site)))
-      where
-        go : (v : Bool) → Fits rest c (cond v (Before z.node) (LastIn (node_of (current (above z.node (stack c.site))))))
-        go true = before-fits z m
-        go false = rw (after-behind (is_node z.node) rest (stack c.site) (front-not z m)) (current-fits (after (is_node z.node) rest) (among-after (is_node z.node) rest))
+    beside-fits z m = cond_both (is_some (parent_of z.node (trees c.site))) _ _ (Fits rest c) (λ _. before-fits z m)
+        (λ _. rw (after-behind (is_node z.node) rest (stack c.site) (front-not z m)) (current-fits (after (is_node z.node) rest) (among-after (is_node z.node) rest)))
 
     foster-fits : (r : OpenNode N) (up : List (OpenNode N)) → rest ≡ r ∷ up → Fits rest c (foster_place n c.site)
-    foster-fits r up is = go (find (is_named n.same (n.known Table)) (stack c.site)) refl
-      where
-        go : (o : Option (OpenNode N)) → find (is_named n.same (n.known Table)) (stack c.site) ≡ o → Fits rest c (option_map_or (beside c.site) o (LastIn (node_of (from_top 0 c.site))))
-        go None e = let l = last-behind _ r up (stack c.site) (subst (λ (k : List (OpenNode N)). Front (λ y. Plain n y.name) k (stack c.site)) is h.front) in
-            rw (l.1) (under-fits l.0 (rw is l.2))
-        go (Some z) e = beside-fits z (found-member (is_named n.same (n.known Table)) rest z (sym (found-behind (is_named n.same (n.known Table)) rest (stack c.site) h.front) ∙ e))
+    foster-fits r up is = or-both (Fits rest c) (beside c.site) (find (is_named n.same (n.known Table)) (stack c.site)) _
+        (λ _. let l = last-behind _ r up (stack c.site) (subst (λ (k : List (OpenNode N)). Front (λ y. Plain n y.name) k (stack c.site)) is h.front) in rw (l.1) (under-fits l.0 (rw is l.2)))
+        (λ z e. beside-fits z (found-member (is_named n.same (n.known Table)) rest z (sym (found-behind (is_named n.same (n.known Table)) rest (stack c.site) h.front) ∙ e)))
 
     pub place-fits : (r : OpenNode N) (up : List (OpenNode N)) → rest ≡ r ∷ up → Fits rest c (place_in n (current up) c.site)
-    place-fits r up is = go (c.site.foster && option_map_or (λ x. is_fostering (n.tag x.name)) (current up) false)
-      where
-        go : (v : Bool) → Fits rest c (cond v (foster_place n c.site) (LastIn (node_of (current up))))
-        go true = foster-fits r up is
-        go false = current-fits up (rw is (skip (among-all up)))
+    place-fits r up is = cond_both (c.site.foster && option_map_or (λ x. is_fostering (n.tag x.name)) (current up) false) _ _ (Fits rest c) (λ _. foster-fits r up is) (λ _. current-fits up (rw is (skip (among-all up))))
 
   -- what an operation keeps, as the proofs use it
   pub record Well (s : SiteOf N) : Type 0 where
@@ -108,11 +99,7 @@ module _ {N : Type 0} (n : Naming N) where
 
     placed-stands : (x : ℕ) → ((0 < deep x 0 (trees c.site)) ⊎ (0 < deep x c.last_node (trees c.site))) × (0 < x) → StandsAt x placed
     placed-stands x (inr a, b) = (placed-in x a, b)
-    placed-stands x (inl a, b) = go (deep x c.last_node (trees c.site)) refl
-      where
-        go : (j : ℕ) → deep x c.last_node (trees c.site) ≡ j → StandsAt x placed
-        go zero z = (omega (arith, graft-apart x 0 c.last_node place (trees c.site) (in-last_node x ∙ z)), b)
-        go (suc j) z = (placed-in x (omega arith), b)
+    placed-stands x (inl a, b) = by_zero (deep x c.last_node (trees c.site)) (λ z. (omega (arith, graft-apart x 0 c.last_node place (trees c.site) (in-last_node x ∙ z)), b)) (λ some. (placed-in x some, b))
 
     pub placed-well : Well placed
     placed-well = record {
@@ -208,12 +195,8 @@ module _ {N : Type 0} where
 
     -- what was outside still is
     pub ended-out : (x y : ℕ) → x ≢ count → y ≢ count → deep x y f ≡ 0 → deep x y ended ≡ 0
-    ended-out x y hx hy out = go (deep block y f) refl (times x kids) refl
-      where
-        go : (j : ℕ) → deep block y f ≡ j → (k : ℕ) → times x kids ≡ k → deep x y ended ≡ 0
-        go zero z k a = omega (arith, ended-few x y hy z)
-        go (suc j) z zero a = ended-apart x y hx a ∙ deep-new x y count w f hy ∙ out
-        go (suc j) z (suc k) a = absurd (omega (arith, in-block x, deep-trans x block y f (at-most count f counted block) (omega arith)))
+    ended-out x y hx hy out = by_zero (deep block y f) (λ z. omega (arith, ended-few x y hy z))
+        (λ some. by_zero (times x kids) (λ a. ended-apart x y hx a ∙ deep-new x y count w f hy ∙ out) (λ k. absurd (omega (arith, in-block x, deep-trans x block y f (at-most count f counted block) some))))
 
     pub ended-below : (y : ℕ) → y ≢ count → deep block y f ≡ 0 → deep count y ended ≡ 0
     ended-below y h out = omega (arith, ended-few count y h out, deep-lower count y f absent)
@@ -226,11 +209,8 @@ module _ {N : Type 0} where
         omega (arith, in-new x, graft-below x 0 count (LastIn block) moved tt (omega (arith, block-moved)) block-out (omega (arith, moved-apart block 0 block-apart, deep-new block 0 count w f (λ e. omega (arith, low)))))
 
     pub ended-stands : (x : ℕ) → 0 < deep x 0 f → 0 < deep x 0 ended
-    ended-stands x a = go (times x kids) refl
-      where
-        go : (k : ℕ) → times x kids ≡ k → 0 < deep x 0 ended
-        go zero z = omega (arith, ended-apart x 0 (λ e. omega (arith, (deep-there count f counted x 0 a).0)) z, deep-new x 0 count w f (λ e. omega (arith, low)))
-        go (suc k) z = ended-in x (moved-in x (omega arith))
+    ended-stands x a = by_zero (times x kids) (λ z. omega (arith, ended-apart x 0 (λ e. omega (arith, (deep-there count f counted x 0 a).0)) z, deep-new x 0 count w f (λ e. omega (arith, low))))
+        (λ some. ended-in x (moved-in x some))
 
     pub ended-new : 0 < deep count 0 ended
     ended-new = ended-in count (omega (arith, deep-self count moved, is-there (count + 1) moved sound-moved count (omega arith)))

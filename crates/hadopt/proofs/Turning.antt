@@ -1,51 +1,32 @@
 -- The adoption agency keeps what the open nodes need: a turn of its outer loop, and all turns.
-use Rattle.hadopt.proofs.Names.{◌≡◌, ◌≢◌, ℕ, zero, suc, ◌<◌, Bool, true, false, not, leb, cond, List, [], ◌∷◌, Option, Some, None, refl, sym, ◌∙◌, ap, subst, arith, inl, find, drop, eqb-true, ◌&&◌, list_any, option_map_or, What, element, Forest, graft, make, before, without, put_before, OpenNode, is_node, is_open, current, above, below, in_scope, furthest_block, is_named, stops, Default, Bookmark, InPlace, After, EntryOf, Listed, marker, entry, is_entry, find_entry, without_entry, for_node, Table, ErrorCode, TreeInBody, TooManyNodes, is_special, has_implied_end, deep-there, deep, Naming, Goes, Refused, and_then, SiteOf, stack, trees, with_trees, with_items, with_stack, with_error, error_unless, current_is, place_in, past, popped_to, without_implied, closed, other_end, Turn, Next, Ended, next_turn, InnerLoop, most_turns, formatting_replaced, popped_with, inner_loop, after_inner_loop, with_furthest_block, with_formatting_element, outer_turn, outer_loop, is_unlisted, adopted, Each, Pairs, TellsTables}
+use Rattle.hadopt.proofs.Names.{◌≡◌, ◌≢◌, ℕ, zero, suc, ◌<◌, Bool, true, false, not, cond, List, [], ◌∷◌, cond_both, Outcome, refl, sym, ◌∙◌, ap, subst, arith, inl, find, drop, eqb-true, ◌&&◌, list_any, option_map_or, What, element, Forest, graft, make, before, without, put_before, OpenNode, is_node, is_open, current, above, below, in_scope, furthest_block, is_named, stops, Default, Bookmark, InPlace, After, EntryOf, Listed, marker, entry, is_entry, find_entry, without_entry, for_node, Table, ErrorCode, TreeInBody, is_special, has_implied_end, deep-there, deep, Naming, Goes, SiteOf, stack, trees, with_trees, with_items, with_stack, with_error, error_unless, current_is, place_in, past, popped_to, without_implied, closed, other_end, Turn, Next, Ended, next_turn, InnerLoop, formatting_replaced, popped_with, inner_loop, after_inner_loop, with_furthest_block, with_formatting_element, outer_turn, outer_loop, is_unlisted, adopted, Each, Pairs, TellsTables}
 use Rattle.std.specs.Prelude.{◌||◌}
+use Rattle.std.proofs.lemmas.Bool.{not-false}
+use Rattle.hadopt.proofs.Choices.{by_test, or-both}
 use Rattle.hformat.specs.Formatting.{booked}
 use Rattle.names.specs.Sets.{stops_scope}
-use Rattle.hadopt.proofs.Lists.{each-map, each-both, pairs-map, Among, empty, skip, keep, among-all, among-after, each-among, pairs-among, among-without, Front, front-among, front-pairs, front-each, pairs-put}
-use Rattle.hadopt.proofs.Climbing.{OnGoes, goes-then, find-each, Plain, PlainEntries, plain-without, plain-with_node, Climbing, inner-loop-climbs}
-use Rattle.hadopt.proofs.Searching.{any-after, any-each, pairs-after, scope-front, at-nearest, special-there}
+use Rattle.hadopt.proofs.Lists.{each-map, each-both, pairs-map, Among, empty, skip, among-all, among-after, each-among, pairs-among, among-without, Front, front-among, front-pairs, front-each, pairs-put}
+use Rattle.hadopt.proofs.Climbing.{OnGoes, goes-then, made-goes, find-each, Plain, PlainEntries, plain-without, plain-with_node, Climbing, inner-loop-climbs}
+use Rattle.hadopt.proofs.Searching.{any-after, any-each, pairs-after, scope-front, At, at-nearest, special-there}
 use Rattle.hadopt.proofs.Settling.{Well, StandsAt, place-fits, placed-well, block-stands, ended, ended-sound, ended-out, ended-below, ended-above, ended-stands, ended-new, above-apart, block-apart}
 
 module _ {X : Type 0} where
   pub put-none : (p : X → Bool) (new : X) (xs : List X) → list_any p xs ≡ false → put_before p new xs ≡ xs
   put-none p new [] h = refl
-  put-none p new (x ∷ xs) h = go (p x) h (put-none p new xs)
-    where
-      go : (v : Bool) → (v || list_any p xs) ≡ false → (list_any p xs ≡ false → put_before p new xs ≡ xs) → cond v (new ∷ x ∷ xs) (x ∷ put_before p new xs) ≡ x ∷ xs
-      go true h' r = cc
-      go false h' r = ap (λ l. x ∷ l) (r h')
+  put-none p new (x ∷ xs) h = by_test (p x) (λ v. (v || list_any p xs) ≡ false → cond v (new ∷ x ∷ xs) (x ∷ put_before p new xs) ≡ x ∷ xs) (λ _ k. cc)
+      (λ _ k. ap (λ l. x ∷ l) (put-none p new xs k)) h
 
   pub each-put-any : (P : X → Type 0) (p : X → Bool) (new : X) (xs : List X) → P new → Each P xs → Each P (put_before p new xs)
   each-put-any P p new [] n e = tt
-  each-put-any P p new (x ∷ xs) n e = go (p x) (each-put-any P p new xs n e.1)
-    where
-      go : (v : Bool) → Each P (put_before p new xs) → Each P (cond v (new ∷ x ∷ xs) (x ∷ put_before p new xs))
-      go true r = (n, e)
-      go false r = (e.0, r)
+  each-put-any P p new (x ∷ xs) n e = cond_both (p x) (new ∷ x ∷ xs) _ (Each P) (λ _. (n, e)) (λ _. (e.0, each-put-any P p new xs n e.1))
 
   pub among-past : (p : X → Bool) (xs : List X) → Among (past p xs) xs
   among-past p [] = empty
-  among-past p (x ∷ xs) = go (p x) (among-past p xs)
-    where
-      go : (v : Bool) → Among (past p xs) xs → Among (cond v (past p xs) (x ∷ xs)) (x ∷ xs)
-      go true r = skip r
-      go false r = among-all (x ∷ xs)
+  among-past p (x ∷ xs) = cond_both (p x) _ (x ∷ xs) (λ l. Among l (x ∷ xs)) (λ _. skip (among-past p xs)) (λ _. among-all (x ∷ xs))
 
   pub among-drop : (xs : List X) → Among (drop 1 xs) xs
   among-drop [] = empty
   among-drop (x ∷ xs) = skip (among-all xs)
-
-  pub among-trans : (xs ys zs : List X) → Among xs ys → Among ys zs → Among xs zs
-  among-trans xs ys zs a b = go xs ys zs a b
-    where
-      go : (xs ys zs : List X) → Among xs ys → Among ys zs → Among xs zs
-      go xs [] [] a b = a
-      go xs (y ∷ ys) [] a b = elim b [ ]
-      go xs ys (z ∷ zs) a (skip b) = skip (go xs ys zs a b)
-      go xs (y ∷ ys) (z ∷ zs) (skip a) (keep b) = skip (go xs ys zs a b)
-      go (x ∷ xs) (y ∷ ys) (z ∷ zs) (keep a) (keep b) = keep (go xs ys zs a b)
 
 module _ {N : Type 0} (n : Naming N) where
   abbrev PlainItem : Listed N → Type 0
@@ -68,13 +49,10 @@ module _ {N : Type 0} (n : Naming N) where
 
   pub plain-booked : (old new : ℕ) (b : Bookmark) (items : List (Listed N)) → PlainEntries n items → PlainEntries n (booked old new b items)
   plain-booked old new InPlace items h = plain-with_node n old new items h
-  plain-booked old new (After k) items h = go (find (is_entry old) items) refl
-    where
-      go : (o : Option (Listed N)) → find (is_entry old) items ≡ o → PlainEntries n (option_map_or (λ i. put_before (is_entry k) (for_node new i) (without (is_entry old) items)) o items)
-      go None e = h
-      go (Some i) e = from-items (put_before (is_entry k) (for_node new i) (without (is_entry old) items))
-          (each-put-any PlainItem (is_entry k) (for_node new i) (without (is_entry old) items) (plain-for new i (find-each PlainItem (is_entry old) items i (to-items items h) e))
-          (each-among PlainItem (without (is_entry old) items) items (among-without (is_entry old) items) (to-items items h)))
+  plain-booked old new (After k) items h = or-both (PlainEntries n) _ (find (is_entry old) items) items (λ _. h)
+      (λ i e. from-items (put_before (is_entry k) (for_node new i) (without (is_entry old) items))
+      (each-put-any PlainItem (is_entry k) (for_node new i) (without (is_entry old) items) (plain-for new i (find-each PlainItem (is_entry old) items i (to-items items h) e))
+      (each-among PlainItem (without (is_entry old) items) items (among-without (is_entry old) items) (to-items items h))))
 
   -- Where nodes go from the stack, entries from the list, or an error comes.
 
@@ -98,11 +76,7 @@ module _ {N : Type 0} (n : Naming N) where
       fewer (error_unless (current_is sought t) TreeInBody at t) _ (among-after sought (stack (error_unless (current_is sought t) TreeInBody at t))) k
 
   pub other-well : (at : ℕ) (name : N) (s : SiteOf N) → Well n s → Well n (other_end n at name s)
-  other-well at name s h = go (in_scope (λ x. is_special (n.tag x.name)) (is_named n.same name) (stack s))
-    where
-      go : (v : Bool) → Well n (cond v (closed n at (is_named n.same name) s) (with_error TreeInBody at s))
-      go true = closed-well at (is_named n.same name) s h
-      go false = erred s TreeInBody at h
+  other-well at name s h = cond_both (in_scope (λ x. is_special (n.tag x.name)) (is_named n.same name) (stack s)) _ _ (Well n) (λ _. closed-well at (is_named n.same name) s h) (λ _. erred s TreeInBody at h)
 
   -- the new element takes its place
   module _ (block : ℕ) (fe : EntryOf N) (bookmark : Bookmark) (s : SiteOf N) (h : Well n s) (stands : StandsAt n block s) where
@@ -165,81 +139,82 @@ module _ {N : Type 0} (n : Naming N) where
 module _ {N : Type 0} (n : Naming N) (tells : TellsTables n) (at : ℕ) where
   -- the last node at its place, and the new element
   ended-well : (fe : EntryOf N) (block : ℕ) (r : OpenNode N) (up : List (OpenNode N)) (c : InnerLoop N) → Climbing n block (r ∷ up) c → OnGoes (Well n) (after_inner_loop n at fe block (current up) c)
-  ended-well fe block r up c h = go (leb c.site.nodes.limit c.site.nodes.made)
-    where
-      go : (v : Bool) → OnGoes (Well n) (and_then (cond v (Refused (TooManyNodes at)) (Goes (record (with_trees (graft c.last_node (place_in n (current up) c.site) (trees c.site)) c.site) { nodes = make (element fe.name fe.attrs) (record c.site.nodes { trees = graft c.last_node (place_in n (current up) c.site) (trees c.site) }) })))
-          (λ t. Goes (formatting_replaced block c.site.nodes.made fe c.bookmark t)))
-      go true = tt
-      go false =
-          let fits = place-fits n block (r ∷ up) c h r up refl in
-          formatting_replaced-well n block fe c.bookmark (with_trees (graft c.last_node (place_in n (current up) c.site) (trees c.site)) c.site) (placed-well n block (r ∷ up) c h (place_in n (current up) c.site) fits) (block-stands n block (r ∷ up) c h (place_in n (current up) c.site) fits)
+  ended-well fe block r up c h =
+      let place = place_in n (current up) c.site in
+      let fits = place-fits n block (r ∷ up) c h r up refl in
+      let s = with_trees (graft c.last_node place (trees c.site)) c.site in
+      made-goes (Well n) at (element fe.name fe.attrs) s (λ t. Goes (formatting_replaced block s.nodes.made fe c.bookmark t))
+      (formatting_replaced-well n block fe c.bookmark s (placed-well n block (r ∷ up) c h place fits) (block-stands n block (r ∷ up) c h place fits))
 
   -- no stop is a table
   pub not-table : (x : OpenNode N) → stops n.tag Default x ≡ false → Plain n x.name
-  not-table x h = go (n.same x.name (n.known Table)) refl
-    where
-      go : (v : Bool) → n.same x.name (n.known Table) ≡ v → v ≡ false
-      go false e = refl
-      go true e = let is : n.tag x.name ≡ Table = tells x.name e in let stop : stops n.tag Default x ≡ true = ap stops_scope is in let clash = sym h ∙ stop in cc
+  not-table x h = by_test (n.same x.name (n.known Table)) (λ v. v ≡ false)
+      (λ e. let is : n.tag x.name ≡ Table = tells x.name e in let stop : stops n.tag Default x ≡ true = ap stops_scope is in let clash = sym h ∙ stop in cc)
+      (λ _. refl)
 
   abbrev pub WellAfter : Turn (SiteOf N) → Type 0
   WellAfter (Next s) = Well n s
   WellAfter (Ended s) = Well n s
 
-  module _ (fe : EntryOf N) (s : SiteOf N) (h : Well n s) where
-    by-well : (b : OpenNode N) → list_any (is_node b.node) (before (is_node fe.node) (stack s)) ≡ true → is_open fe.node (stack s) ≡ true → in_scope (stops n.tag Default) (is_node fe.node) (stack s) ≡ true
-        → OnGoes WellAfter (with_furthest_block n at fe s b)
-    by-well b under is_open_now scope =
-        let all = any-after (is_node fe.node) (is_node b.node) (stack s) under is_open_now in
-        let a = at-nearest (is_node fe.node) (above b.node (stack s)) all.0 in
-        let bs = any-each _ (is_node b.node) (stack s) h.each all.2 in
-        let b_is : bs.0.node ≡ b.node = eqb-true bs.0.node b.node bs.2 in
-        let b_stands : StandsAt n b.node s = subst (λ (k : ℕ). StandsAt n k s) b_is bs.1 in
+  -- an open node is in the document's tree
+  pub open-stands : (k : ℕ) (s : SiteOf N) → Well n s → is_open k (stack s) ≡ true → StandsAt n k s
+  open-stands k s h there = let x = any-each _ (is_node k) (stack s) h.each there in subst (λ (j : ℕ). StandsAt n j s) (eqb-true x.0.node k x.2) x.1
+
+  -- Where the furthest block is found, the way up can begin.
+  module _ (f : ℕ) (s : SiteOf N) (h : Well n s) (b : OpenNode N) (under : list_any (is_node b.node) (before (is_node f) (stack s)) ≡ true) (is_open_now : is_open f (stack s) ≡ true) (scope : in_scope (stops n.tag Default) (is_node f) (stack s) ≡ true) where
+    abbrev pub start : InnerLoop N
+    start = record { last_node = b.node; bookmark = InPlace; site = s }
+
+    pub all : (list_any (is_node f) (above b.node (stack s)) ≡ true) × (above f (above b.node (stack s)) ≡ above f (stack s)) × (list_any (is_node b.node) (stack s) ≡ true)
+    all = any-after (is_node f) (is_node b.node) (stack s) under is_open_now
+
+    pub begins : Climbing n b.node (above b.node (stack s)) start
+    begins =
+        let b_stands = open-stands b.node s h all.2 in
         let out = pairs-after _ (is_node b.node) (stack s) h.order all.2 in
         let out_is : out.0.node ≡ b.node = eqb-true out.0.node b.node out.1 in
-        let start : InnerLoop N = record { last_node = b.node; bookmark = InPlace; site = s } in
-        let begins : Climbing n b.node (above b.node (stack s)) start = record {
+        record {
           counted = h.counted;
           low = (deep-there s.nodes.made (trees s) h.counted b.node 0 b_stands.0).0;
           pos = b_stands.1;
           each = each-map _ _ (λ x p. (inl p.0, p.1)) (stack s) h.each;
           behind = each-both _ _ _ (λ x p q. (p.0, subst (λ (k : ℕ). deep x.node k (trees s) ≡ 0) out_is q)) (above b.node (stack s)) (each-among _ (above b.node (stack s)) (stack s) (among-after (is_node b.node) (stack s)) h.each) out.2;
           order = h.order;
-          front = scope-front (λ x. Plain n x.name) (stops n.tag Default) (is_node fe.node) (is_node b.node) (in_scope (stops n.tag Default) (is_node fe.node)) (stack s) (λ x ys. refl) not-table scope under;
+          front = scope-front (λ x. Plain n x.name) (stops n.tag Default) (is_node f) (is_node b.node) (in_scope (stops n.tag Default) (is_node f)) (stack s) (λ x ys. refl) not-table scope under;
           block_in = (inl b_stands.0, b_stands.1);
           plain = h.plain;
-        } in
-        let way = before (is_node fe.node) (above b.node (stack s)) in
-        goes-then (Climbing n b.node (a.at ∷ a.up)) WellAfter (inner_loop n at b.node 0 way start) _
-        (inner-loop-climbs n at b.node way (a.at ∷ a.up) 0 start (subst (λ (l : List (OpenNode N)). Climbing n b.node l start) a.is begins))
-        (λ c k. goes-then (Well n) WellAfter (after_inner_loop n at fe b.node (current (above fe.node (stack s))) c) (λ t. Goes (Next t))
-        (rw (← all.1, a.up_is) (ended-well fe b.node a.at a.up c k))
-        (λ t m. m))
+        }
+
+    pub inner-climbs : (a : At (is_node f) (above b.node (stack s))) → OnGoes (Climbing n b.node (a.at ∷ a.up)) (inner_loop n at b.node 0 (before (is_node f) (above b.node (stack s))) start)
+    inner-climbs a = inner-loop-climbs n at b.node (before (is_node f) (above b.node (stack s))) (a.at ∷ a.up) 0 start (subst (λ (l : List (OpenNode N)). Climbing n b.node l start) a.is begins)
+
+  by-well : (fe : EntryOf N) (s : SiteOf N) (h : Well n s) (b : OpenNode N) → list_any (is_node b.node) (before (is_node fe.node) (stack s)) ≡ true → is_open fe.node (stack s) ≡ true → in_scope (stops n.tag Default) (is_node fe.node) (stack s) ≡ true
+      → OnGoes WellAfter (with_furthest_block n at fe s b)
+  by-well fe s h b under is_open_now scope =
+      let all_there = all fe.node s h b under is_open_now scope in
+      let a = at-nearest (is_node fe.node) (above b.node (stack s)) all_there.0 in
+      goes-then (Climbing n b.node (a.at ∷ a.up)) WellAfter (inner_loop n at b.node 0 (before (is_node fe.node) (above b.node (stack s))) (record { last_node = b.node; bookmark = InPlace; site = s })) _ (inner-climbs fe.node s h b under is_open_now scope a)
+      (λ c k. goes-then (Well n) WellAfter (after_inner_loop n at fe b.node (current (above fe.node (stack s))) c) (λ t. Goes (Next t))
+      (rw (← all_there.1, a.up_is) (ended-well fe b.node a.at a.up c k))
+      (λ t m. m))
 
   popped-well : (fe : EntryOf N) (s : SiteOf N) → Well n s → Well n (popped_with fe s)
   popped-well fe s h = listed-as n (popped_to (is_node fe.node) s) (without_entry fe.node s.items) (plain-without n fe.node s.items h.plain) (fewer n s _ (among-after (is_node fe.node) (stack s)) h)
 
   with-well : (fe : EntryOf N) (s : SiteOf N) → Well n s → OnGoes WellAfter (with_formatting_element n at fe s)
-  with-well fe s h = go (is_open fe.node (stack s)) refl (in_scope (stops n.tag Default) (is_node fe.node) (stack s)) refl (current_is (is_node fe.node) s)
+  with-well fe s h = cond_both (not (is_open fe.node (stack s))) _ _ (OnGoes WellAfter)
+      (λ _. listed-as n (with_error TreeInBody at s) (without_entry fe.node s.items) (plain-without n fe.node s.items h.plain) (erred n s TreeInBody at h))
+      (λ i. cond_both (not (in_scope (stops n.tag Default) (is_node fe.node) (stack s))) _ _ (OnGoes WellAfter) (λ _. erred n s TreeInBody at h)
+      (λ j. by_test (current_is (is_node fe.node) s) (λ z. OnGoes WellAfter (under (error_unless z TreeInBody at s))) (λ _. goes s h (not-false _ i) (not-false _ j)) (λ _. goes (with_error TreeInBody at s) (erred n s TreeInBody at h) (not-false _ i) (not-false _ j))))
     where
-      under : (t : SiteOf N) → Well n t → is_open fe.node (stack t) ≡ true → in_scope (stops n.tag Default) (is_node fe.node) (stack t) ≡ true → (o : Option (OpenNode N)) → furthest_block n.tag fe.node (stack t) ≡ o
-          → OnGoes WellAfter (option_map_or (with_furthest_block n at fe t) o (Goes (Ended (popped_with fe t))))
-      under t k x y None e = popped-well fe t k
-      under t k x y (Some b) e = by-well fe t k b (special-there n.tag (below fe.node (stack t)) b e) x y
+      under : SiteOf N → Outcome (Turn (SiteOf N))
+      under t = option_map_or (with_furthest_block n at fe t) (furthest_block n.tag fe.node (stack t)) (Goes (Ended (popped_with fe t)))
 
-      go : (x : Bool) → is_open fe.node (stack s) ≡ x → (y : Bool) → in_scope (stops n.tag Default) (is_node fe.node) (stack s) ≡ y → (z : Bool)
-          → OnGoes WellAfter (cond (not x) (Goes (Ended (with_items (without_entry fe.node s.items) (with_error TreeInBody at s)))) (cond (not y) (Goes (Ended (with_error TreeInBody at s))) (option_map_or (with_furthest_block n at fe (error_unless z TreeInBody at s)) (furthest_block n.tag fe.node (stack (error_unless z TreeInBody at s))) (Goes (Ended (popped_with fe (error_unless z TreeInBody at s)))))))
-      go false i y j z = listed-as n (with_error TreeInBody at s) (without_entry fe.node s.items) (plain-without n fe.node s.items h.plain) (erred n s TreeInBody at h)
-      go true i false j z = erred n s TreeInBody at h
-      go true i true j true = under s h i j (furthest_block n.tag fe.node (stack s)) refl
-      go true i true j false = under (with_error TreeInBody at s) (erred n s TreeInBody at h) i j (furthest_block n.tag fe.node (stack s)) refl
+      goes : (t : SiteOf N) → Well n t → is_open fe.node (stack t) ≡ true → in_scope (stops n.tag Default) (is_node fe.node) (stack t) ≡ true → OnGoes WellAfter (under t)
+      goes t k x y = or-both (OnGoes WellAfter) (with_furthest_block n at fe t) (furthest_block n.tag fe.node (stack t)) _ (λ _. popped-well fe t k) (λ b e. by-well fe t k b (special-there n.tag (below fe.node (stack t)) b e) x y)
 
   pub outer-turn-well : (name : N) (s : SiteOf N) → Well n s → OnGoes WellAfter (outer_turn n at name s)
-  outer-turn-well name s h = go (find_entry n.same name s.items)
-    where
-      go : (o : Option (EntryOf N)) → OnGoes WellAfter (option_map_or (λ f. with_formatting_element n at f s) o (Goes (Ended (other_end n at name s))))
-      go None = other-well n at name s h
-      go (Some f) = with-well f s h
+  outer-turn-well name s h = or-both (OnGoes WellAfter) (λ f. with_formatting_element n at f s) (find_entry n.same name s.items) _ (λ _. other-well n at name s h) (λ f _. with-well f s h)
 
   outer-loop-well : (k : ℕ) (name : N) (s : SiteOf N) → Well n s → OnGoes (Well n) (outer_loop n at k name s)
   outer-loop-well zero name s h = h
@@ -251,8 +226,4 @@ module _ {N : Type 0} (n : Naming N) (tells : TellsTables n) (at : ℕ) where
 
   -- the adoption agency keeps it
   pub adopted-well : (name : N) (s : SiteOf N) → Well n s → OnGoes (Well n) (adopted n at name s)
-  adopted-well name s h = go (is_unlisted n at name s)
-    where
-      go : (v : Bool) → OnGoes (Well n) (cond v (Goes (with_stack (drop 1 (stack s)) s)) (outer_loop n at most_turns name s))
-      go true = fewer n s _ (among-drop (stack s)) h
-      go false = outer-loop-well 8 name s h
+  adopted-well name s h = cond_both (is_unlisted n at name s) _ _ (OnGoes (Well n)) (λ _. fewer n s _ (among-drop (stack s)) h) (λ _. outer-loop-well 8 name s h)

@@ -1,3 +1,4 @@
+pub mod Vocabulary
 pub mod Naming
 pub mod Site
 pub mod Gives

@@ -1,27 +1,17 @@
 //! The adoption agency algorithm (HTML Standard, 13.2.6.4.7, `#adoption-agency-algorithm`), with the numbers of its steps.
 
-ghost use Rattle.std.specs.Prelude.{◌≡◌, ℕ, ◌<◌, ◌≤◌, ◌+◌, ◌*◌, IfOk, Some, length, nat_eq};
-ghost use Rattle.std.specs.List.{slice_get};
+ghost use Rattle.std.specs.Prelude.{◌≡◌, ℕ, ◌<◌, ◌≤◌, ◌+◌, IfOk, Some, length, nat_eq, ◌*◌};
 ghost use Rattle.std.specs.Option.{option_map};
-ghost use Rattle.hnodes.specs.Forest.{element};
-ghost use Rattle.hchain.specs.Nearest.{before};
-ghost use Rattle.hopen.specs.Stack.{is_node, is_open, above, in_scope, furthest_block};
+ghost use Rattle.hadopt.specs.Vocabulary.{element, before, is_node, is_open, furthest_block, Default, find_entry, tag_of, open_of, entry_is, numbers, Goes, and_then, stack, with_items, made, adopted, Gives, Kept};
+ghost use Rattle.std.specs.List.{slice_get};
+ghost use Rattle.hopen.specs.Stack.{above, in_scope};
 ghost use Rattle.hopen.specs.Scopes.{stops};
-ghost use Rattle.hopen.specs.declared.scope.Scope.TheVariants.{Default};
-ghost use Rattle.hformat.specs.Formatting.{EntryOf, find_entry};
-ghost use Rattle.names.specs.Tags.{tag_of};
-ghost use Rattle.hopen.specs.Opens.{open_of};
-ghost use Rattle.hformat.specs.Items.{entry_is};
+ghost use Rattle.hformat.specs.Formatting.{EntryOf};
 ghost use Rattle.hformat.specs.declared.bookmark.Bookmark.TheVariants.{InPlace};
-ghost use Rattle.hadopt.specs.Naming.{numbers};
 ghost use Rattle.hadopt.specs.InnerLoops.{AreDifferent, HalfGives, way_after, way_left, without_entries};
-ghost use Rattle.hadopt.specs.Site.{Goes, and_then, stack, with_items};
-ghost use Rattle.hadopt.specs.Inserts.{made};
 ghost use Rattle.hadopt.specs.Adopts.{most_kept, node_replaced, inner_turn, inner_loop, after_inner_loop, with_furthest_block, with_formatting_element};
-ghost use Rattle.hadopt.specs.Adopts.{outer_turn, outer_loop, is_unlisted, adopted};
+ghost use Rattle.hadopt.specs.Adopts.{outer_turn, outer_loop, is_unlisted};
 ghost use Rattle.hadopt.specs.Meets.{inner_loop_of, InnerLoopGives, TurnGives};
-ghost use Rattle.hadopt.specs.Gives.{Gives};
-ghost use Rattle.hadopt.specs.Kept.{Kept};
 ghost use Rattle.hadopt.specs.AfterInnerLoop.{AfterInnerLoop, WithFurthestBlock};
 
 use crate::site::Site;

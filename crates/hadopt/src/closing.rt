@@ -1,11 +1,7 @@
 //! What is closed (HTML Standard, 13.2.6.3 and 13.2.6.4.7).
 
 ghost use Rattle.std.specs.Prelude.{◌≡◌, IfOk, nat_eq};
-ghost use Rattle.hopen.specs.Scopes.{is_named};
-ghost use Rattle.hadopt.specs.Gives.{Gives};
-ghost use Rattle.hadopt.specs.Kept.{Kept};
-ghost use Rattle.hadopt.specs.Naming.{numbers};
-ghost use Rattle.hadopt.specs.Site.{Goes};
+ghost use Rattle.hadopt.specs.Vocabulary.{is_named, Gives, Kept, numbers, Goes};
 ghost use Rattle.hadopt.specs.Closes.{closed, closed_p, other_end};
 
 use crate::popping::Passing;

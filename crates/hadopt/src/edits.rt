@@ -1,17 +1,10 @@
 //! The edits of the tree and of the stack that the adoption agency is made of.
 
 ghost use Rattle.std.specs.Prelude.{◌≡◌, ◌<◌, ◌≤◌, ◌+◌, ℕ, length, map, IfOk, OnOk, true};
+ghost use Rattle.hadopt.specs.Vocabulary.{IsPlace, graft, place_node, element, IsOutside, attribute_of, Place, without, open_of, is_node, is_open, Gives, made, Goes, stack, trees, with_stack, with_trees};
 ghost use Rattle.std.specs.List.{remove_range};
-ghost use Rattle.hnodes.specs.Edits.{IsPlace, graft, move_all, place_node};
-ghost use Rattle.hnodes.specs.Forest.{element, IsOutside};
-ghost use Rattle.hnodes.specs.Rows.{attribute_of};
-ghost use Rattle.hnodes.specs.declared.node.Place.{Place};
-ghost use Rattle.hchain.specs.Nearest.{without, changed, put_before};
-ghost use Rattle.hopen.specs.Opens.{open_of};
-ghost use Rattle.hopen.specs.Stack.{is_node, is_open};
-ghost use Rattle.hadopt.specs.Gives.{Gives};
-ghost use Rattle.hadopt.specs.Inserts.{made};
-ghost use Rattle.hadopt.specs.Site.{Goes, stack, trees, with_stack, with_trees};
+ghost use Rattle.hnodes.specs.Edits.{move_all};
+ghost use Rattle.hchain.specs.Nearest.{changed, put_before};
 
 use crate::site::Site;
 use hnodes::{Attributes, NodeId, Place};

@@ -1,21 +1,14 @@
 //! What is inserted (HTML Standard, 13.2.6.1).
 
-ghost use Rattle.std.specs.Prelude.{◌≡◌, ◌<◌, ◌+◌, ◌^◌, ◌∷◌, ℕ, List, Some, false, length, map, nat_eq, string_bytes, IfOk, OnOk};
+ghost use Rattle.std.specs.Prelude.{◌≡◌, ◌<◌, ◌+◌, ◌∷◌, ℕ, List, Some, false, length, map, nat_eq, IfOk, OnOk, ◌^◌, string_bytes};
+ghost use Rattle.hadopt.specs.Vocabulary.{IsPlace, graft, place_node, IsOutside, attribute_of, LastIn, Place, open_of, Gives, Kept, PlaceStands, numbers, Goes, and_then, stack, trees, with_items, with_trees};
 ghost use Rattle.std.specs.Str.{chars};
-ghost use Rattle.hnodes.specs.Edits.{IsPlace, graft, place_node};
-ghost use Rattle.hnodes.specs.Forest.{comment, doctype, IsOutside};
-ghost use Rattle.hnodes.specs.Rows.{attribute_of};
-ghost use Rattle.hnodes.specs.declared.node.Place.TheVariants.{LastIn};
-ghost use Rattle.hnodes.specs.declared.node.Place.{Place};
+ghost use Rattle.hnodes.specs.Forest.{comment, doctype};
 ghost use Rattle.hformat.specs.Formatting.{pushed as entry_pushed};
-ghost use Rattle.hopen.specs.Opens.{open_of};
 ghost use Rattle.names.specs.Placed.{placed};
 ghost use Rattle.names.specs.Tags.{number_of};
-ghost use Rattle.hadopt.specs.Gives.{Gives};
 ghost use Rattle.hadopt.specs.Inserts.{added, pushed, inserted, put, put_each, listed, with_missing};
-ghost use Rattle.hadopt.specs.Kept.{Kept, OpenStands, PlaceStands};
-ghost use Rattle.hadopt.specs.Naming.{numbers};
-ghost use Rattle.hadopt.specs.Site.{Goes, and_then, stack, trees, with_items, with_trees};
+ghost use Rattle.hadopt.specs.Kept.{OpenStands};
 
 use crate::site::Site;
 use hnodes::{Attributes, DocumentType, NodeId, Place};

@@ -1,15 +1,11 @@
 //! The entries of the list of active formatting elements (HTML Standard, 13.2.4.3), as the rules edit it.
 
-ghost use Rattle.std.specs.Prelude.{◌≡◌, ◌∷◌, IfOk, IsTrue, nat_eq};
-ghost use Rattle.std.specs.List.{list_any};
+ghost use Rattle.std.specs.Prelude.{◌≡◌, ◌∷◌, IfOk, nat_eq, IsTrue};
 ghost use Rattle.std.specs.Option.{option_map};
-ghost use Rattle.hformat.specs.Formatting.{marker, cleared, entry_of, entry_at, find_entry, is_entry, without_entry, with_node, for_node, booked, has_bookmark};
-ghost use Rattle.hformat.specs.Items.{entry_is};
+ghost use Rattle.hadopt.specs.Vocabulary.{entry_at, find_entry, entry_is, Gives, Kept, numbers, Goes, with_items};
+ghost use Rattle.std.specs.List.{list_any};
+ghost use Rattle.hformat.specs.Formatting.{marker, cleared, entry_of, is_entry, without_entry, with_node, for_node, booked, has_bookmark};
 ghost use Rattle.hchain.specs.Nearest.{changed_at};
-ghost use Rattle.hadopt.specs.Gives.{Gives};
-ghost use Rattle.hadopt.specs.Kept.{Kept};
-ghost use Rattle.hadopt.specs.Naming.{numbers};
-ghost use Rattle.hadopt.specs.Site.{Goes, with_items};
 
 use crate::site::Site;
 use hformat::{Bookmark, Entry};

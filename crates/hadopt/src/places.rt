@@ -1,16 +1,11 @@
 //! The appropriate place for inserting a node, with foster parenting (HTML Standard, 13.2.6.1, `#appropriate-place-for-inserting-a-node`).
 
-ghost use Rattle.std.specs.Prelude.{◌≡◌, ◌<◌, IfSome, ◌&&◌, false};
+ghost use Rattle.std.specs.Prelude.{◌≡◌, ◌<◌, IfSome, false, ◌&&◌};
 ghost use Rattle.std.specs.Option.{option_map, option_map_or};
-ghost use Rattle.hnodes.specs.Edits.{IsPlace};
-ghost use Rattle.hnodes.specs.declared.node.Place.TheVariants.{LastIn};
-ghost use Rattle.hopen.specs.Opens.{open_of};
+ghost use Rattle.hadopt.specs.Vocabulary.{IsPlace, LastIn, open_of, tag_of, Kept, PlaceStands, numbers, is_fostering, stack, trees, from_top};
 ghost use Rattle.hopen.specs.Stack.{current};
-ghost use Rattle.names.specs.Tags.{tag_of};
-ghost use Rattle.hadopt.specs.Kept.{Kept, PlaceStands};
-ghost use Rattle.hadopt.specs.Naming.{numbers};
-ghost use Rattle.hadopt.specs.Places.{is_fostering, beside, foster_place, place_in, place};
-ghost use Rattle.hadopt.specs.Site.{stack, trees, from_top, node_of};
+ghost use Rattle.hadopt.specs.Places.{beside, foster_place, place_in, place};
+ghost use Rattle.hadopt.specs.Site.{node_of};
 
 use crate::site::Site;
 use hnodes::Place;

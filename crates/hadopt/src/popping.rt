@@ -1,16 +1,9 @@
 //! What is popped (HTML Standard, 13.2.6.3, and the contexts of 13.2.6.4.9, 13.2.6.4.13 and 13.2.6.4.14).
 
-ghost use Rattle.std.specs.Prelude.{◌≡◌, drop, nat_eq};
-ghost use Rattle.hchain.specs.Nearest.{without};
-ghost use Rattle.hopen.specs.Opens.{open_of};
-ghost use Rattle.hopen.specs.Scopes.{is_named, is_of};
-ghost use Rattle.hopen.specs.Stack.{is_node};
-ghost use Rattle.names.specs.Tags.{tag_of};
+ghost use Rattle.std.specs.Prelude.{◌≡◌, nat_eq, drop};
+ghost use Rattle.hadopt.specs.Vocabulary.{without, open_of, is_named, is_of, is_node, tag_of, Kept, numbers, stack, with_stack};
 ghost use Rattle.hadopt.specs.Closes.{past, popped_to};
-ghost use Rattle.hadopt.specs.Kept.{Kept};
-ghost use Rattle.hadopt.specs.Naming.{numbers};
 ghost use Rattle.hadopt.specs.Passings.{passes};
-ghost use Rattle.hadopt.specs.Site.{stack, with_stack};
 
 use crate::site::Site;
 use hnodes::NodeId;

@@ -1,17 +1,13 @@
 //! What the rules ask of the open nodes and of the formatting elements.
 
 ghost use Rattle.std.specs.Prelude.{◌≡◌, ◌<◌, IfSome, length, nat_eq, slice_get};
-ghost use Rattle.std.specs.List.{list_all, position};
 ghost use Rattle.std.specs.Option.{option_map};
-ghost use Rattle.hformat.specs.Formatting.{find_entry};
-ghost use Rattle.hopen.specs.Opens.{open_of};
-ghost use Rattle.hopen.specs.Scopes.{stops as stops_node, stops_item, is_named, is_of};
-ghost use Rattle.hopen.specs.Stack.{current as current_of, is_node, is_open, in_scope as is_in_scope, furthest_block};
-ghost use Rattle.hopen.specs.declared.scope.Scope.TheVariants.{Default};
+ghost use Rattle.hadopt.specs.Vocabulary.{find_entry, open_of, is_named, is_of, is_node, is_open, furthest_block, Default, tag_of, is_fostering, stack, from_top};
+ghost use Rattle.std.specs.List.{list_all, position};
+ghost use Rattle.hopen.specs.Scopes.{stops as stops_node, stops_item};
+ghost use Rattle.hopen.specs.Stack.{current as current_of, in_scope as is_in_scope};
 ghost use Rattle.names.specs.Sets.{may_stay_open};
-ghost use Rattle.names.specs.Tags.{tag_of};
-ghost use Rattle.hadopt.specs.Places.{is_fostering};
-ghost use Rattle.hadopt.specs.Site.{stack, from_top, current_is};
+ghost use Rattle.hadopt.specs.Site.{current_is};
 
 use crate::places::fosters;
 use crate::site::Site;

@@ -1,4 +1,4 @@
-use Rattle.hadopt.proofs.Names.{rules, sym, ap, ◌∙◌, Goes}
+use Rattle.hadopt.proofs.Names.{sym, ap, ◌∙◌, Goes}
 use Rattle.hadopt.proofs.Keeps.{adopted-gives, adopted-pops}
 use Rattle.hadopt.proofs.site.Site.adopt.Goals as goal
 
@@ -9,6 +9,3 @@ returns-then-is_unlisted-clause-done c = adopted-pops c.args.at c.args.subject c
 -- src/adopting.rt:260:5
 pub returns-clause-done : goal.returns-clause-done
 returns-clause-done c = adopted-gives c.args.at c.args.subject c.args.self.now c.outer_loop.new.self c.outer_loop.result (sym (c.is_unlisted.ensures c.args.at) ∙ c.if-is_unlisted.false) c.outer_loop.ensures.done
-
-pub returns-clause-few : goal.returns-clause-few
-returns-clause-few c = search rules
