@@ -1,5 +1,5 @@
 -- The rules under other names.
-use Rattle.hmodes.proofs.Vocabulary.{◌≡◌, ℕ, Bool, true, false, not, ◌&&◌, ◌||◌, cond, List, [], ◌∷◌, ◌++◌, map, reverse, Option, Some, None, refl, sym, ◌∙◌, ap, subst, is_some, slice_get, unwrap_or, codes, list_any, list_all, option_map, option_map_or, str_eq_ignore_ascii_case, is_present, Attribute, Forest, attributes_of, add_attribute, spelled_attribute, spelled_what, spelled, LastIn, OpenNode, is_node, current, stops, stops_item, is_of, is_of_group, stops_in, Default, EntryOf, find_entry, Tag, Placed, Naming, Outcome, Goes, SiteOf, and_then, stack, trees, with_trees, with_stack, with_items, from_top, node_of, place, is_fostering, added, inserted, listed, with_missing, is, is_table_context, is_body_context, is_row_context, popped_while_not, adopted, InBody, Start, End, Test, Do, ◌▸◌, when, unless, choose, fostered, each_pending, again, again_as, reset, head_pointer, form_pointer, judge_quirks, pend, insert, insert_named, insert_root, insert_root_named, insert_comment, comment_in_document, comment_in_first, insert_doctype, put, add_missing_to_first, add_missing_to_second, pop, pop_to, pop_to_name, pop_to_group, implied, implied_except, implied_except_name, clear_to_table, clear_to_body, clear_to_row, push_head, remove_head, remove_form, reconstruct, push_to_list, clear_to_marker, close_p, adopt, adopt_listed, other_end, has_in, has_name_in, has_group_in, has_form_in_scope, current_is_name, current_is_group, current_is_form, current_is_fostering, item_is_near, second_is_body, all_may_stay_open, name_is_listed, form_is_set, is_in_quirks, is_fragment, doctype_conforms, input_is_hidden, pending_is_ws, Token, doctype, start, end, comment, character, eof, PlacedToken, State, Flow, Done, Again, Refused, flow_then, flow_map, token_name, token_attrs, token_text, token_char, is_self_closing, renamed, kind_of, family_of, rule_of, open_mode, context_mode, reset_mode, conforms, forces_quirks, doctype_node, has, is_token_name, is_hidden, answer_of, with_site, with_control, with_foster, flow_of, each_of, removed, forgotten, current_node, inserted_here, completed, adopted_listed, head_pushed, perform, Rule, Chain, Step, Steps, is_dropped, begun, finished, ends, refuses, goes_again, drops, goes, none, and, refused, spelled_token, spelled_placed, spelled_state, spelled_flow, StepsKnowNoNames}
+use Rattle.hmodes.proofs.Vocabulary.{◌≡◌, ℕ, Bool, true, false, not, ◌&&◌, ◌||◌, cond, List, [], ◌∷◌, ◌++◌, map, reverse, Option, Some, None, refl, sym, ◌∙◌, ap, subst, is_some, slice_get, unwrap_or, codes, list_any, list_all, option_map, option_map_or, str_eq_ignore_ascii_case, is_present, Attribute, Forest, attributes_of, add_attribute, spelled_attribute, spelled_what, spelled, LastIn, OpenNode, is_node, current, stops, stops_item, is_of, is_of_group, stops_in, Default, EntryOf, find_entry, Tag, Placed, Naming, Outcome, Goes, SiteOf, and_then, stack, trees, with_trees, with_stack, with_items, from_top, node_of, place, is_fostering, added, inserted, listed, with_missing, is, is_table_context, is_body_context, is_row_context, popped_while_not, adopted, InBody, Start, End, Test, Do, ◌▸◌, when, unless, choose, fostered, each_pending, again, again_as, reset, head_pointer, form_pointer, judge_quirks, pend, insert, insert_named, insert_root, insert_root_named, insert_comment, comment_in_document, comment_in_first, insert_doctype, put, add_missing_to_first, add_missing_to_second, pop, pop_to, pop_to_name, pop_to_group, implied, implied_except, implied_except_name, clear_to_table, clear_to_body, clear_to_row, push_head, remove_head, remove_form, reconstruct, push_to_list, clear_to_marker, close_p, adopt, adopt_listed, other_end, has_in, has_name_in, has_group_in, has_form_in_scope, current_is_name, current_is_group, current_is_form, current_is_fostering, item_is_near, second_is_body, all_may_stay_open, name_is_listed, form_is_set, is_in_quirks, is_fragment, doctype_conforms, input_is_hidden, pending_is_ws, Token, doctype, start, end, comment, character, eof, PlacedToken, State, Flow, Done, Again, Refused, flow_then, flow_map, token_name, token_attrs, token_text, token_char, is_self_closing, renamed, kind_of, family_of, rule_of, open_mode, context_mode, reset_mode, conforms, forces_quirks, doctype_node, has, is_token_name, is_hidden, answer_of, with_site, with_control, with_foster, flow_of, each_of, removed, forgotten, current_node, inserted_here, completed, adopted_listed, head_pushed, perform, Rule, Chain, Step, Steps, is_dropped, begun, finished, ends, refuses, goes_again, drops, goes, none, and, refused, spelled_token, spelled_placed, spelled_state, spelled_flow, StepsKnowNoNames, in_scope}
 use Rattle.std.proofs.lemmas.Option.{slice_get-map}
 use Rattle.hnodes.specs.Forest as forest
 use Rattle.hnodes.proofs.Spellings.{edits, questions}
@@ -15,6 +15,7 @@ use Rattle.hadopt.specs.Site as site
 use Rattle.hadopt.specs.Inserts as inserts
 use Rattle.hadopt.specs.Spelled.{Agree, spelled_site, outcome_map}
 use Rattle.hadopt.proofs.Spellings as site_names
+use Rattle.hchain.proofs.Nearest.{reverse-map}
 use Rattle.names.specs.declared.error.ErrorCode.TheVariants as code
 use Rattle.hadopt.specs.Closes as closes
 use Rattle.hmodes.specs.Words.{current_is}
@@ -138,14 +139,23 @@ module _ {N M : Type 0} (m : Naming N) (n : Naming M) (g : N → M) (a : Agree m
   token-test : (t : Token N) (x : OpenNode N) → is_token_name n (spelled_token g t) (spelled_open g x) ≡ is_token_name m t x
   token-test t x = ap (n.same (g x.name)) (name-spelled t) ∙ a.spelling.names x.name (token_name m t)
 
+  scope-map : (p : OpenNode N → Bool) (q : OpenNode M → Bool) → ((x : OpenNode N) → q (spelled_open g x) ≡ p x) → (st : OpenNode N → Bool) (st' : OpenNode M → Bool) → ((x : OpenNode N) → st' (spelled_open g x) ≡ st x)
+      → (xs : List (OpenNode N)) → in_scope st' q (spelled_stack g xs) ≡ in_scope st p xs
+  scope-map p q e st st' d [] = refl
+  scope-map p q e st st' d (x ∷ xs) = λ i. e x i || (not (d x i) && scope-map p q e st st' d xs i)
+
+  current-test : (p : OpenNode N → Bool) (q : OpenNode M → Bool) → ((x : OpenNode N) → q (spelled_open g x) ≡ p x) → (o : Option (OpenNode N)) → option_map_or q (option_map (spelled_open g) o) false ≡ option_map_or p o false
+  current-test p q e None = refl
+  current-test p q e (Some x) = e x
+
   top-spelled : (k : ℕ) (x : SiteOf N) → from_top k (spelled_site g x) ≡ option_map (spelled_open g) (from_top k x)
-  top-spelled k x = ap (λ l. slice_get l k) (site_names.reverse-map (spelled_open g) (stack x)) ∙ slice_get-map (spelled_open g) (reverse (stack x)) k
+  top-spelled k x = ap (λ l. slice_get l k) (reverse-map (spelled_open g) (stack x)) ∙ slice_get-map (spelled_open g) (reverse (stack x)) k
 
   current-spelled : (x : SiteOf N) → current_node (spelled_site g x) ≡ current_node x
   current-spelled x = ap (λ (o : Option (OpenNode M)). node_of o) (stack-words.current_node (stack x)) ∙ site_names.node_of-map g (current (stack x))
 
   has-spelled : (scope : Scope) (p : OpenNode N → Bool) (q : OpenNode M → Bool) → ((x : OpenNode N) → q (spelled_open g x) ≡ p x) → (s : State N) → has n scope q (spelled_state g s) ≡ has m scope p s
-  has-spelled scope p q e s = site_names.scope-map m n g a p q e (stops m.tag scope) (stops n.tag scope) (λ x. ap (stops_in scope) (a.spelling.tags x.name)) (stack s.site)
+  has-spelled scope p q e s = scope-map p q e (stops m.tag scope) (stops n.tag scope) (λ x. ap (stops_in scope) (a.spelling.tags x.name)) (stack s.site)
 
   answer-spelled : (t : Token N) (question : Test) (s : State N) → answer_of n (spelled_token g t) question (spelled_state g s) ≡ answer_of m t question s
   answer-spelled t (has_in scope x) s = has-spelled scope (is m x) (is n x) (site_names.is-map m n g a x) s
@@ -165,8 +175,8 @@ module _ {N M : Type 0} (m : Naming N) (n : Naming M) (g : N → M) (a : Agree m
       go None = refl
       go (Some k) = site_names.current_is-map m n g a (is_node k) (is_node k) (λ x. refl) s.site
   answer-spelled t current_is_fostering s = site_names.current_is-map m n g a (λ x. is_fostering (m.tag x.name)) (λ x. is_fostering (n.tag x.name)) (λ x. ap is_fostering (a.spelling.tags x.name)) s.site
-  answer-spelled t (item_is_near x) s = site_names.scope-map m n g a (is m x) (is n x) (site_names.is-map m n g a x) (λ y. stops_item (m.tag y.name)) (λ y. stops_item (n.tag y.name)) (λ y. ap stops_item (a.spelling.tags y.name)) (stack s.site)
-  answer-spelled t second_is_body s = ap (λ o. option_map_or (is n tag.Body) o false) (top-spelled 1 s.site) ∙ site_names.current-test (spelled_open g) (is m tag.Body) (is n tag.Body) (site_names.is-map m n g a tag.Body) (from_top 1 s.site)
+  answer-spelled t (item_is_near x) s = scope-map (is m x) (is n x) (site_names.is-map m n g a x) (λ y. stops_item (m.tag y.name)) (λ y. stops_item (n.tag y.name)) (λ y. ap stops_item (a.spelling.tags y.name)) (stack s.site)
+  answer-spelled t second_is_body s = ap (λ o. option_map_or (is n tag.Body) o false) (top-spelled 1 s.site) ∙ current-test (is m tag.Body) (is n tag.Body) (site_names.is-map m n g a tag.Body) (from_top 1 s.site)
   answer-spelled t all_may_stay_open s = all-map (spelled_open g) (λ x. may_stay_open (m.tag x.name)) (λ x. may_stay_open (n.tag x.name)) (λ x. ap may_stay_open (a.spelling.tags x.name)) (stack s.site)
   answer-spelled t name_is_listed s = ap (λ y. is_some (find_entry n.same y (spelled_items g s.site.items))) (name-spelled t) ∙ ap (λ (o : Option (EntryOf M)). is_some o) (list-words.find (token_name m t) s.site.items) ∙ some-map (spelled_entry g) (find_entry m.same (token_name m t) s.site.items)
   answer-spelled t form_is_set s = refl

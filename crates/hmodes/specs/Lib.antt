@@ -1,3 +1,4 @@
+pub mod Vocabulary
 pub mod Families
 pub mod Words
 pub mod Flows

@@ -5,6 +5,7 @@ use Rattle.hmarkup.specs.DoctypeWalk.{text_of}
 use Rattle.hnodes.specs.Rows.{attribute_of}
 use Rattle.htoken.specs.declared.token.Token.{Token as Given}
 use Rattle.htoken.specs.declared.token.Token.TheVariants as given
+pub use Rattle.htoken.specs.Token.{place_of}
 use Rattle.hmodes.specs.State.{Token, doctype, start, end, comment, character, eof}
 
 abbrev pub token_of : Given → Token ℕ
@@ -14,12 +15,3 @@ token_of (given.End name at) = end name
 token_of (given.Comment text at) = comment (string_bytes text)
 token_of (given.Char ch at) = character ch
 token_of (given.Eof at) = eof
-
--- the place of its first byte
-abbrev pub place_of : Given → ℕ
-place_of (given.Doctype name public_id system_id forced at) = at
-place_of (given.Start name attrs closing at) = at
-place_of (given.End name at) = at
-place_of (given.Comment text at) = at
-place_of (given.Char ch at) = at
-place_of (given.Eof at) = at

@@ -1,15 +1,10 @@
 //! The insertion modes after the body (HTML Standard, 13.2.6.4).
 
 ghost use Rattle.std.specs.Prelude.{ℕ};
-ghost use Rattle.hadopt.specs.Naming.{numbers};
-ghost use Rattle.hmodes.specs.Flows.{FlowGives};
-ghost use Rattle.hmodes.specs.Perform.{perform};
-ghost use Rattle.hmodes.specs.State.{Token as TokenOf};
-ghost use Rattle.hmodes.specs.States.{state_of};
-ghost use Rattle.hmodes.specs.Tokens.{token_of};
+ghost use Rattle.hmodes.specs.Vocabulary.{numbers, FlowGives, perform, TokenOf, state_of, token_of, ◌▸◌, choose, again, error, to, InBody, AfterBody};
 ghost use Rattle.hmodes.specs.Body.{after_body, after_after_body};
-ghost use Rattle.hmodes.specs.Words.{◌▸◌, choose, again, error, to, is_fragment};
-ghost use Rattle.hmodes.specs.declared.mode.Mode.TheVariants.{InBody, AfterBody, AfterAfterBody};
+ghost use Rattle.hmodes.specs.Words.{is_fragment};
+ghost use Rattle.hmodes.specs.declared.mode.Mode.TheVariants.{AfterAfterBody};
 
 use crate::family::Family;
 use crate::mode::Mode;

@@ -1,12 +1,10 @@
 //! What the rules of the insertion modes ask of the open nodes and of the form pointer.
 
 ghost use Rattle.std.specs.Prelude.{◌≡◌};
-ghost use Rattle.hadopt.specs.Naming.{numbers};
+ghost use Rattle.hmodes.specs.Vocabulary.{numbers, state_of, second_is_body, current_is_form, has_form_in_scope};
 ghost use Rattle.hmodes.specs.Perform.{current_node};
 ghost use Rattle.hmodes.specs.Questions.{answer_of};
 ghost use Rattle.hmodes.specs.State.{eof};
-ghost use Rattle.hmodes.specs.States.{state_of};
-ghost use Rattle.hmodes.specs.Words.{second_is_body, current_is_form, has_form_in_scope};
 
 use crate::tree_construction::TreeConstruction;
 use hnodes::NodeId;

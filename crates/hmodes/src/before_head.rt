@@ -1,15 +1,8 @@
 //! The insertion modes before the head (HTML Standard, 13.2.6.4.2 and 13.2.6.4.3).
 
 ghost use Rattle.std.specs.Prelude.{ℕ};
-ghost use Rattle.hadopt.specs.Naming.{numbers};
-ghost use Rattle.hmodes.specs.Flows.{FlowGives};
-ghost use Rattle.hmodes.specs.Perform.{perform};
-ghost use Rattle.hmodes.specs.State.{Token as TokenOf};
-ghost use Rattle.hmodes.specs.States.{state_of};
-ghost use Rattle.hmodes.specs.Tokens.{token_of};
+ghost use Rattle.hmodes.specs.Vocabulary.{numbers, FlowGives, perform, TokenOf, state_of, token_of};
 ghost use Rattle.hmodes.specs.Head.{before_html, html_unwritten, before_head, head_unwritten};
-ghost use Rattle.hmodes.specs.Words.{◌▸◌, to, insert, insert_root, head_pointer};
-ghost use Rattle.hmodes.specs.declared.mode.Mode.TheVariants.{BeforeHead, InHead};
 
 use crate::family::Family;
 use crate::mode::Mode;
@@ -32,26 +25,20 @@ impl<'q> TreeConstruction<'q> {
         match kind {
             TokenKind::Comment => self.comment_in_document(token, at),
             TokenKind::Ws => Ok(Flow::Done),
-            TokenKind::Start(Family::Html) => self.html(token, at),
+            TokenKind::Start(Family::Html) => {
+                let name = token_name(token);
+                let attrs = take_attrs(self.alloc, token);
+                let place = self.site.place_in_document();
+                self.site.insert_element(name, attrs, place, at)?;
+                self.control.mode = Mode::BeforeHead;
+                Ok(Flow::Done)
+            }
             TokenKind::End(Family::Head | Family::Body | Family::Html | Family::Br) => {
                 self.html_unwritten(at)
             }
             TokenKind::Doctype | TokenKind::End(_) => self.ignore(Mode::BeforeHtml, at),
             _ => self.html_unwritten(at),
         }
-    }
-
-    /// The start tag html, the first.
-    fn html(&mut self, token: &mut Token, at: u64) -> Result<Flow, Refusal>
-        ensures { FlowGives result (token_of token.new) (state_of self.new)
-            (perform numbers at (token_of token.old) (insert_root ▸ to BeforeHead) (state_of self.old)) }
-    {
-        let name = token_name(token);
-        let attrs = take_attrs(self.alloc, token);
-        let place = self.site.place_in_document();
-        self.site.insert_element(name, attrs, place, at)?;
-        self.control.mode = Mode::BeforeHead;
-        Ok(Flow::Done)
     }
 
     /// An html that no tag began.
@@ -78,24 +65,18 @@ impl<'q> TreeConstruction<'q> {
             TokenKind::Ws => Ok(Flow::Done),
             TokenKind::Comment => self.insert_comment(token, at),
             TokenKind::Start(Family::Html) => self.html_again(token, at),
-            TokenKind::Start(Family::Head) => self.head(token, at),
+            TokenKind::Start(Family::Head) => {
+                self.insert(token, at)?;
+                self.control.head = Some(self.current_node());
+                self.control.mode = Mode::InHead;
+                Ok(Flow::Done)
+            }
             TokenKind::End(Family::Head | Family::Body | Family::Html | Family::Br) => {
                 self.head_unwritten(at)
             }
             TokenKind::Doctype | TokenKind::End(_) => self.ignore(Mode::BeforeHead, at),
             _ => self.head_unwritten(at),
         }
-    }
-
-    /// The head.
-    fn head(&mut self, token: &mut Token, at: u64) -> Result<Flow, Refusal>
-        ensures { FlowGives result (token_of token.new) (state_of self.new)
-            (perform numbers at (token_of token.old) (insert ▸ head_pointer ▸ to InHead) (state_of self.old)) }
-    {
-        self.insert(token, at)?;
-        self.control.head = Some(self.current_node());
-        self.control.mode = Mode::InHead;
-        Ok(Flow::Done)
     }
 
     /// A head that no tag began.

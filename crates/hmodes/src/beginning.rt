@@ -1,12 +1,9 @@
 //! Where a document and a fragment begin (HTML Standard, 13.4).
 
-ghost use Rattle.std.specs.Prelude.{◌≡◌, [], Some, IfOk, MatchResult};
+ghost use Rattle.std.specs.Prelude.{◌≡◌, [], IfOk, Some, MatchResult};
+ghost use Rattle.hmodes.specs.Vocabulary.{tag_of, numbers, context_mode, state_of};
 ghost use Rattle.names.specs.declared.refusal.Refusal.TheVariants.{Memory};
-ghost use Rattle.names.specs.Tags.{tag_of};
-ghost use Rattle.hadopt.specs.Naming.{numbers};
 ghost use Rattle.hmodes.specs.Beginning.{control_in, form_of, document_begins, fragment_begins, fragment_site};
-ghost use Rattle.hmodes.specs.Reset.{context_mode};
-ghost use Rattle.hmodes.specs.States.{state_of};
 
 use crate::control::Control;
 use crate::limits::Limits;

@@ -1,21 +1,14 @@
 //! Blocks, items, headings and forms in the body (HTML Standard, 13.2.6.4.7).
 
 ghost use Rattle.std.specs.Prelude.{ℕ};
-ghost use Rattle.hadopt.specs.Naming.{numbers};
+ghost use Rattle.hmodes.specs.Vocabulary.{numbers, FlowGives, StateGives, performed, performed_for, perform, TokenOf, state_of, token_of, close_p_in_scope};
+ghost use Rattle.hmodes.specs.Vocabulary.{◌▸◌, when, unless, choose, error, insert, insert_named, pop, pop_to, implied, reconstruct, drop_lf, form_pointer};
+ghost use Rattle.hmodes.specs.Vocabulary.{form_is_set, current_is_group, current_is_form, current_is_name, has_in, has_form_in_scope, InBody};
 ghost use Rattle.hopen.specs.declared.scope.Scope.TheVariants as scope;
 ghost use Rattle.hopen.specs.declared.scope.Group.TheVariants as group;
 ghost use Rattle.names.specs.declared.tag.Tag.TheVariants as tag;
-ghost use Rattle.hmodes.specs.Flows.{FlowGives, StateGives, performed, performed_for};
-ghost use Rattle.hmodes.specs.Perform.{perform};
-ghost use Rattle.hmodes.specs.State.{Token as TokenOf};
-ghost use Rattle.hmodes.specs.States.{state_of};
-ghost use Rattle.hmodes.specs.Tokens.{token_of};
 ghost use Rattle.hmodes.specs.Body.{block, close_item, close_block, end_item};
-ghost use Rattle.hmodes.specs.Programs.{close_p_in_scope};
-ghost use Rattle.hmodes.specs.Words.{◌▸◌, when, unless, choose, error, insert, insert_named, pop, pop_to, pop_to_group, implied, reconstruct, drop_lf};
-ghost use Rattle.hmodes.specs.Words.{form_pointer, forget_form, remove_form, close_p, form_is_set, current_is_group, current_is_form, current_is_name};
-ghost use Rattle.hmodes.specs.Words.{item_is_near, has_in, has_group_in, has_form_in_scope};
-ghost use Rattle.hmodes.specs.declared.mode.Mode.TheVariants.{InBody};
+ghost use Rattle.hmodes.specs.Words.{pop_to_group, forget_form, remove_form, close_p, item_is_near, has_group_in};
 
 use crate::mode::Mode;
 use crate::token::token_name;

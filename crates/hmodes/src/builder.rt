@@ -8,7 +8,7 @@ ghost use Rattle.names.specs.declared.refusal.Refusal.{Refusal as Refused};
 ghost use Rattle.names.specs.declared.refusal.Refusal.TheVariants.{Memory};
 ghost use Rattle.hadopt.specs.Naming.{numbers};
 ghost use Rattle.hmodes.specs.Beginning.{document_begins, fragment_begins};
-ghost use Rattle.hmodes.specs.Tokens.{token_of, place_of};
+ghost use Rattle.hmodes.specs.Tokens.{token_of};
 ghost use Rattle.hmodes.specs.Building.{Takes, TakesToken, puts_run};
 ghost use Rattle.hmodes.specs.Runs.{AreSome, puts_each, takes_char};
 ghost use Rattle.htext.specs.Run.{is_clean};
@@ -135,17 +135,6 @@ impl<'q> Builder<'q> {
         Ok(Built { tree, root, errors })
     }
 
-    /// Takes the characters of a run one by one.
-    fn take_one_by_one(&mut self, run: &str, at: u64) -> Result<(), Refusal>
-        requires { at + length run.now ≤ MAX_INPUT }
-        ensures { Hands TakesToken self.old (run_tokens (placed at (chars run.now))) result self.new }
-    {
-        for (index, ch) in run.char_indices() {
-            self.take_text(ch, at + index as u64)?;
-        }
-        Ok(())
-    }
-
     /// Takes the first character of a run by itself. If what is left can be put whole then, as after one that changes the mode, or an LF
     /// that is dropped, it is; otherwise its characters are taken one by one.
     fn take_first(&mut self, run: &str, at: u64) -> Result<(), Refusal>
@@ -163,7 +152,7 @@ impl<'q> Builder<'q> {
         if self.puts_run(rest) {
             return self.put_run(rest, next);
         }
-        self.take_one_by_one(rest, next)
+        self.take_run_by_one(rest, next)
     }
 
     /// Whether a run has characters, nothing was refused, and each of them is put as it is.
@@ -256,21 +245,6 @@ fn rest_place(run: &str, rest: &str, at: u64) -> u64
     at + (run.len() - rest.len()) as u64
 }
 
-/// The place of a token's first byte.
-#[inline(always)]
-fn place(token: &Token) -> u64
-    ensures { result ≡ place_of token.now }
-{
-    match token {
-        Token::Doctype { at, .. }
-        | Token::Start { at, .. }
-        | Token::End { at, .. }
-        | Token::Comment { at, .. }
-        | Token::Char { at, .. }
-        | Token::Eof { at } => *at,
-    }
-}
-
 impl<'q> ErrorSink for Builder<'q> {
     ghost use Rattle.hmodes.specs.Building.{TakesError};
 
@@ -292,7 +266,7 @@ impl<'q> TokenSink for Builder<'q> {
     ghost gives_token = { TakesToken };
 
     fn take_token(&mut self, mut token: Token) -> Result<(), Refusal> {
-        let at = place(&token);
+        let at = token.place();
         self.take(&mut token, at)
     }
 

@@ -1,20 +1,12 @@
 //! The "in body" insertion mode (HTML Standard, 13.2.6.4.7).
 
 ghost use Rattle.std.specs.Prelude.{ℕ};
-ghost use Rattle.hadopt.specs.Kept.{Kept};
-ghost use Rattle.hadopt.specs.Naming.{numbers};
+ghost use Rattle.hmodes.specs.Vocabulary.{Kept, numbers, ended, FlowGives, StateGives, performed, perform, TokenOf, character, state_of, token_of, Start};
+ghost use Rattle.hmodes.specs.Vocabulary.{End, ◌▸◌, when, choose, error, to, insert, reconstruct, second_is_body, has_in, InBody, AfterBody};
 ghost use Rattle.hopen.specs.declared.scope.Scope.TheVariants as scope;
 ghost use Rattle.names.specs.declared.tag.Tag.TheVariants as tag;
-ghost use Rattle.hmodes.specs.Ended.{ended};
-ghost use Rattle.hmodes.specs.Flows.{FlowGives, StateGives, performed};
-ghost use Rattle.hmodes.specs.Perform.{perform};
-ghost use Rattle.hmodes.specs.State.{Token as TokenOf, character};
-ghost use Rattle.hmodes.specs.States.{state_of};
-ghost use Rattle.hmodes.specs.Tokens.{token_of};
 ghost use Rattle.hmodes.specs.Body.{in_body, body_ends, character_in_body};
-ghost use Rattle.hmodes.specs.Words.{Start, End, ◌▸◌, when, choose, error, to, insert, reconstruct, add_missing_to_second, second_is_body, has_in};
-ghost use Rattle.hmodes.specs.Words.{other_end};
-ghost use Rattle.hmodes.specs.declared.mode.Mode.TheVariants.{InBody, AfterBody};
+ghost use Rattle.hmodes.specs.Words.{add_missing_to_second, other_end};
 
 use crate::family::Family;
 use crate::mode::Mode;

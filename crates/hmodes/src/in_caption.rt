@@ -1,14 +1,7 @@
 //! The insertion modes of captions and column groups (HTML Standard, 13.2.6.4.11 and 13.2.6.4.12).
 
 ghost use Rattle.std.specs.Prelude.{ℕ};
-ghost use Rattle.hadopt.specs.Kept.{Kept};
-ghost use Rattle.hadopt.specs.Naming.{numbers};
-ghost use Rattle.hmodes.specs.Ended.{ended};
-ghost use Rattle.hmodes.specs.Flows.{FlowGives};
-ghost use Rattle.hmodes.specs.Perform.{perform};
-ghost use Rattle.hmodes.specs.State.{Token as TokenOf};
-ghost use Rattle.hmodes.specs.States.{state_of};
-ghost use Rattle.hmodes.specs.Tokens.{token_of};
+ghost use Rattle.hmodes.specs.Vocabulary.{Kept, numbers, ended, FlowGives, perform, TokenOf, state_of, token_of};
 ghost use Rattle.hmodes.specs.Table.{in_caption, close_caption, in_column_group};
 
 use crate::family::Family;

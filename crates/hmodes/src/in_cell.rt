@@ -1,19 +1,11 @@
 //! The "in cell" insertion mode (HTML Standard, 13.2.6.4.15).
 
 ghost use Rattle.std.specs.Prelude.{ℕ};
-ghost use Rattle.hadopt.specs.Kept.{Kept};
-ghost use Rattle.hadopt.specs.Naming.{numbers};
-ghost use Rattle.hopen.specs.declared.scope.Scope.TheVariants as scope;
+ghost use Rattle.hmodes.specs.Vocabulary.{Kept, numbers, FlowGives, StateGives, performed, perform, TokenOf, state_of, token_of, ◌▸◌, unless, error};
+ghost use Rattle.hmodes.specs.Vocabulary.{again, current_is_group};
 ghost use Rattle.hopen.specs.declared.scope.Group.TheVariants as group;
-ghost use Rattle.hmodes.specs.Flows.{FlowGives, StateGives, performed};
-ghost use Rattle.hmodes.specs.Perform.{perform};
-ghost use Rattle.hmodes.specs.State.{Token as TokenOf};
-ghost use Rattle.hmodes.specs.States.{state_of};
-ghost use Rattle.hmodes.specs.Tokens.{token_of};
-ghost use Rattle.hmodes.specs.Table.{in_cell, close_cell, cell_ends};
-ghost use Rattle.hmodes.specs.Words.{◌▸◌, unless, choose, error, again, to, implied, pop_to_name, clear_to_marker, current_is_name, current_is_group};
-ghost use Rattle.hmodes.specs.Words.{has_name_in};
-ghost use Rattle.hmodes.specs.declared.mode.Mode.TheVariants.{InCell, InRow};
+ghost use Rattle.hmodes.specs.Table.{in_cell, close_cell};
+ghost use Rattle.hmodes.specs.declared.mode.Mode.TheVariants.{InCell};
 
 use crate::family::Family;
 use crate::mode::Mode;
@@ -37,7 +29,15 @@ impl<'q> TreeConstruction<'q> {
         ensures { FlowGives result (token_of token.new) (state_of self.new) (perform numbers at (token_of token.old) (in_cell kind) (state_of self.old)) }
     {
         match kind {
-            TokenKind::End(Family::Cell) => self.end_cell(token, at),
+            TokenKind::End(Family::Cell) => {
+                let name = token_name(token);
+                if !self.site.in_scope(Scope::Table, name) {
+                    return self.ignore(Mode::InCell, at);
+                }
+                self.close_marked(Mode::InCell, name, at)?;
+                self.control.mode = Mode::InRow;
+                Ok(Flow::Done)
+            }
             TokenKind::Start(
                 Family::Caption
                 | Family::Col
@@ -49,27 +49,14 @@ impl<'q> TreeConstruction<'q> {
             TokenKind::End(
                 Family::Body | Family::Caption | Family::Col | Family::Colgroup | Family::Html,
             ) => self.ignore(Mode::InCell, at),
-            TokenKind::End(Family::Table | Family::TableSection | Family::Row) => self.cell_ends_in(
-                token, at,
-            ),
+            TokenKind::End(Family::Table | Family::TableSection | Family::Row) => {
+                if !self.site.in_scope(Scope::Table, token_name(token)) {
+                    return self.ignore(Mode::InCell, at);
+                }
+                self.cell_ends(at)
+            }
             _ => self.in_body(kind, token, at),
         }
-    }
-
-    /// The end tags td and th.
-    pub(crate) fn end_cell(&mut self, token: &Token, at: u64) -> Result<Flow, Refusal>
-        ensures { FlowGives result (token_of token.now) (state_of self.new)
-            (perform numbers at (token_of token.now)
-            (choose (has_name_in scope.Table) (implied ▸ unless current_is_name (error InCell) ▸ pop_to_name ▸ clear_to_marker ▸ to InRow) (error InCell))
-            (state_of self.old)) }
-    {
-        let name = token_name(token);
-        if !self.site.in_scope(Scope::Table, name) {
-            return self.ignore(Mode::InCell, at);
-        }
-        self.close_marked(Mode::InCell, name, at)?;
-        self.control.mode = Mode::InRow;
-        Ok(Flow::Done)
     }
 
     /// A parse error if the current node is no cell.
@@ -100,15 +87,5 @@ impl<'q> TreeConstruction<'q> {
     {
         self.close_cell(at)?;
         Ok(Flow::Again)
-    }
-
-    /// An end tag that ends the cell, if its element is open.
-    pub(crate) fn cell_ends_in(&mut self, token: &Token, at: u64) -> Result<Flow, Refusal>
-        ensures { FlowGives result (token_of token.now) (state_of self.new) (perform numbers at (token_of token.now) (cell_ends) (state_of self.old)) }
-    {
-        if !self.site.in_scope(Scope::Table, token_name(token)) {
-            return self.ignore(Mode::InCell, at);
-        }
-        self.cell_ends(at)
     }
 }

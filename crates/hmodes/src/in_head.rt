@@ -1,17 +1,11 @@
 //! The insertion modes of the head (HTML Standard, 13.2.6.4.4 to 13.2.6.4.6).
 
 ghost use Rattle.std.specs.Prelude.{◌≡◌, ◌<◌, ℕ, IfSome};
-ghost use Rattle.hadopt.specs.Naming.{numbers};
-ghost use Rattle.hmodes.specs.Ended.{ended};
-ghost use Rattle.hmodes.specs.Flows.{FlowGives, StateGives, performed};
-ghost use Rattle.hmodes.specs.Perform.{perform, removed, with_site};
-ghost use Rattle.hmodes.specs.State.{Token as TokenOf};
-ghost use Rattle.hmodes.specs.States.{state_of};
-ghost use Rattle.hmodes.specs.Tokens.{token_of};
+ghost use Rattle.hmodes.specs.Vocabulary.{numbers, ended, FlowGives, StateGives, performed, perform, with_site, TokenOf, state_of};
+ghost use Rattle.hmodes.specs.Vocabulary.{token_of, void, raw, ◌▸◌, error, to, insert, pop, AfterHead};
+ghost use Rattle.hmodes.specs.Perform.{removed};
 ghost use Rattle.hmodes.specs.Head.{in_head, in_head_noscript, noscript_ends, after_head, body_unwritten, late};
-ghost use Rattle.hmodes.specs.Programs.{void, raw};
-ghost use Rattle.hmodes.specs.Words.{◌▸◌, error, to, insert, pop, push_head};
-ghost use Rattle.hmodes.specs.declared.mode.Mode.TheVariants.{InHead, InHeadNoscript, AfterHead, InBody};
+ghost use Rattle.hmodes.specs.Words.{push_head};
 
 use crate::family::Family;
 use crate::mode::Mode;

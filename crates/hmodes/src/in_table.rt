@@ -1,20 +1,13 @@
 //! The "in table" insertion mode (HTML Standard, 13.2.6.4.9).
 
-ghost use Rattle.std.specs.Prelude.{◌≡◌, ℕ};
-ghost use Rattle.hadopt.specs.Kept.{Kept};
-ghost use Rattle.hadopt.specs.Naming.{numbers};
-ghost use Rattle.hopen.specs.declared.scope.Scope.TheVariants as scope;
+ghost use Rattle.std.specs.Prelude.{◌≡◌};
+ghost use Rattle.hmodes.specs.Vocabulary.{Kept, numbers, FlowGives, performed, perform, state_of, token_of, other_in_table, Start, End, ◌▸◌, unless};
+ghost use Rattle.hmodes.specs.Vocabulary.{error, to, insert, pop, pop_to, form_pointer, form_is_set, InTable};
 ghost use Rattle.names.specs.declared.tag.Tag.TheVariants as tag;
-ghost use Rattle.hmodes.specs.Flows.{FlowGives, performed};
-ghost use Rattle.hmodes.specs.Perform.{perform};
-ghost use Rattle.hmodes.specs.State.{Token as TokenOf, Done as DoneOf};
-ghost use Rattle.hmodes.specs.States.{state_of};
-ghost use Rattle.hmodes.specs.Tokens.{token_of};
+ghost use Rattle.hmodes.specs.State.{Done as DoneOf};
 ghost use Rattle.hmodes.specs.declared.family.Family.TheVariants as family;
-ghost use Rattle.hmodes.specs.Table.{in_table, other_in_table, character_in_table, row_unwritten};
-ghost use Rattle.hmodes.specs.Words.{Start, End, ◌▸◌, when, unless, choose, error, again, to, reset, insert, insert_named, pop, pop_to, form_pointer, marker};
-ghost use Rattle.hmodes.specs.Words.{clear_to_table, has_in, form_is_set};
-ghost use Rattle.hmodes.specs.declared.mode.Mode.TheVariants.{InTable, InTableText, InTableBody, InCaption, InColumnGroup};
+ghost use Rattle.hmodes.specs.Table.{in_table, character_in_table};
+ghost use Rattle.hmodes.specs.Words.{reset, clear_to_table};
 
 use crate::family::Family;
 use crate::mode::Mode;
@@ -61,12 +54,33 @@ impl<'q> TreeConstruction<'q> {
             (perform numbers at (token_of token.old) (in_table (Start family)) (state_of self.old)) }
     {
         match family {
-            Family::Caption => self.caption(token, at),
+            Family::Caption => {
+                self.site.pop_past(Passing::Table);
+                self.site.marker()?;
+                self.insert_and_go(Mode::InCaption, token, at)
+            }
             Family::Colgroup => self.insert_in_table(Mode::InColumnGroup, token, at),
-            Family::Col => self.colgroup_unwritten(at),
+            Family::Col => {
+                self.site.pop_past(Passing::Table);
+                self.insert_named(Tag::Colgroup.number(), at)?;
+                self.control.mode = Mode::InColumnGroup;
+                Ok(Flow::Again)
+            }
             Family::TableSection => self.insert_in_table(Mode::InTableBody, token, at),
-            Family::Cell | Family::Row => self.row_unwritten(at),
-            Family::Table => self.table_again(at),
+            Family::Cell | Family::Row => {
+                self.site.pop_past(Passing::Table);
+                self.insert_named(Tag::Tbody.number(), at)?;
+                self.control.mode = Mode::InTableBody;
+                Ok(Flow::Again)
+            }
+            Family::Table => {
+                self.error(Mode::InTable, at)?;
+                if !self.site.in_scope(Scope::Table, Tag::Table.number()) {
+                    return Ok(Flow::Done);
+                }
+                self.close_table();
+                Ok(Flow::Again)
+            }
             Family::Style | Family::Script => self.in_head(TokenKind::Start(family), token, at),
             Family::Input => self.input_in_table(token, at),
             Family::Form => self.form_in_table(token, at),
@@ -81,7 +95,13 @@ impl<'q> TreeConstruction<'q> {
             (perform numbers at (token_of token.old) (in_table (End family)) (state_of self.old)) }
     {
         match family {
-            Family::Table => self.end_table(at),
+            Family::Table => {
+                if !self.site.in_scope(Scope::Table, Tag::Table.number()) {
+                    return self.ignore(Mode::InTable, at);
+                }
+                self.close_table();
+                Ok(Flow::Done)
+            }
             Family::Body
             | Family::Caption
             | Family::Col
@@ -133,16 +153,6 @@ impl<'q> TreeConstruction<'q> {
         Ok(Flow::Again)
     }
 
-    /// The start tag caption.
-    pub(crate) fn caption(&mut self, token: &mut Token, at: u64) -> Result<Flow, Refusal>
-        ensures { FlowGives result (token_of token.new) (state_of self.new)
-            (perform numbers at (token_of token.old) (clear_to_table ▸ marker ▸ insert ▸ to InCaption) (state_of self.old)) }
-    {
-        self.site.pop_past(Passing::Table);
-        self.site.marker()?;
-        self.insert_and_go(Mode::InCaption, token, at)
-    }
-
     /// A part of a table, whose content goes by another mode.
     fn insert_in_table(&mut self, mode: Mode, token: &mut Token, at: u64) -> Result<Flow, Refusal>
         ensures { FlowGives result (token_of token.new) (state_of self.new)
@@ -150,52 +160,6 @@ impl<'q> TreeConstruction<'q> {
     {
         self.site.pop_past(Passing::Table);
         self.insert_and_go(mode, token, at)
-    }
-
-    /// A column group that no tag began.
-    pub(crate) fn colgroup_unwritten(&mut self, at: u64) -> Result<Flow, Refusal>
-        ensures { (t : TokenOf ℕ) → FlowGives result t (state_of self.new)
-            (perform numbers at t (clear_to_table ▸ insert_named tag.Colgroup ▸ to InColumnGroup ▸ again) (state_of self.old)) }
-    {
-        self.site.pop_past(Passing::Table);
-        self.insert_named(Tag::Colgroup.number(), at)?;
-        self.control.mode = Mode::InColumnGroup;
-        Ok(Flow::Again)
-    }
-
-    /// A table body that no tag began.
-    pub(crate) fn row_unwritten(&mut self, at: u64) -> Result<Flow, Refusal>
-        ensures { (t : TokenOf ℕ) → FlowGives result t (state_of self.new) (perform numbers at t (row_unwritten) (state_of self.old)) }
-    {
-        self.site.pop_past(Passing::Table);
-        self.insert_named(Tag::Tbody.number(), at)?;
-        self.control.mode = Mode::InTableBody;
-        Ok(Flow::Again)
-    }
-
-    /// The start tag table in a table.
-    pub(crate) fn table_again(&mut self, at: u64) -> Result<Flow, Refusal>
-        ensures { (t : TokenOf ℕ) → FlowGives result t (state_of self.new)
-            (perform numbers at t (error InTable ▸ when (has_in scope.Table tag.Table) (pop_to tag.Table ▸ reset ▸ again)) (state_of self.old)) }
-    {
-        self.error(Mode::InTable, at)?;
-        if !self.site.in_scope(Scope::Table, Tag::Table.number()) {
-            return Ok(Flow::Done);
-        }
-        self.close_table();
-        Ok(Flow::Again)
-    }
-
-    /// The end tag table.
-    pub(crate) fn end_table(&mut self, at: u64) -> Result<Flow, Refusal>
-        ensures { (t : TokenOf ℕ) → FlowGives result t (state_of self.new)
-            (perform numbers at t (choose (has_in scope.Table tag.Table) (pop_to tag.Table ▸ reset) (error InTable)) (state_of self.old)) }
-    {
-        if !self.site.in_scope(Scope::Table, Tag::Table.number()) {
-            return self.ignore(Mode::InTable, at);
-        }
-        self.close_table();
-        Ok(Flow::Done)
     }
 
     /// The nearest table is closed, and the mode is the one that fits then (`#reset-the-insertion-mode-appropriately`).

@@ -1,20 +1,15 @@
 //! The "initial" insertion mode (HTML Standard, 13.2.6.4.1).
 
-ghost use Rattle.std.specs.Prelude.{◌≡◌, ℕ, [], string_bytes, option_map, unwrap_or};
+ghost use Rattle.std.specs.Prelude.{◌≡◌, [], string_bytes, option_map, unwrap_or};
 ghost use Rattle.std.specs.Option.{option_map_or};
+ghost use Rattle.hmodes.specs.Vocabulary.{numbers, FlowGives, StateGives, perform, state_of, token_of, unless, error};
 ghost use Rattle.hnodes.specs.Forest as forest;
 ghost use Rattle.hmarkup.specs.DoctypeWalk.{text_of};
 ghost use Rattle.hmarkup.specs.Quirks.{list_matches};
-ghost use Rattle.hadopt.specs.Naming.{numbers};
 ghost use Rattle.hmodes.specs.Doctypes.{is_text, conforms, forces_quirks, doctype_node};
-ghost use Rattle.hmodes.specs.Flows.{FlowGives, StateGives};
 ghost use Rattle.hmodes.specs.Head.{initial};
-ghost use Rattle.hmodes.specs.Perform.{perform};
-ghost use Rattle.hmodes.specs.State.{Token as TokenOf};
-ghost use Rattle.hmodes.specs.States.{state_of};
-ghost use Rattle.hmodes.specs.Tokens.{token_of};
-ghost use Rattle.hmodes.specs.Words.{◌▸◌, unless, again, error, to, go_quirks, judge_quirks, insert_doctype, doctype_conforms};
-ghost use Rattle.hmodes.specs.declared.mode.Mode.TheVariants.{Initial, BeforeHtml};
+ghost use Rattle.hmodes.specs.Words.{doctype_conforms};
+ghost use Rattle.hmodes.specs.declared.mode.Mode.TheVariants.{Initial};
 
 use crate::mode::Mode;
 use crate::token_kind::TokenKind;
@@ -102,8 +97,21 @@ impl<'q> TreeConstruction<'q> {
         match kind {
             TokenKind::Ws => Ok(Flow::Done),
             TokenKind::Comment => self.comment_in_document(token, at),
-            TokenKind::Doctype => self.doctype(token, at),
-            _ => self.no_doctype(at),
+            TokenKind::Doctype => {
+                self.judge(token, at)?;
+                let quirks = self.forces_quirks(token);
+                let texts = take_doctype(self.alloc, token);
+                self.site.insert_doctype(texts, at)?;
+                self.control.quirks = quirks;
+                self.control.mode = Mode::BeforeHtml;
+                Ok(Flow::Done)
+            }
+            _ => {
+                self.error(Mode::Initial, at)?;
+                self.control.quirks = true;
+                self.control.mode = Mode::BeforeHtml;
+                Ok(Flow::Again)
+            }
         }
     }
 
@@ -147,31 +155,5 @@ impl<'q> TreeConstruction<'q> {
             return Ok(());
         }
         self.error(Mode::Initial, at)
-    }
-
-    /// A doctype.
-    fn doctype(&mut self, token: &mut Token, at: u64) -> Result<Flow, Refusal>
-        ensures { FlowGives result (token_of token.new) (state_of self.new)
-            (perform numbers at (token_of token.old) (unless doctype_conforms (error Initial) ▸ insert_doctype ▸ judge_quirks ▸ to BeforeHtml)
-            (state_of self.old)) }
-    {
-        self.judge(token, at)?;
-        let quirks = self.forces_quirks(token);
-        let texts = take_doctype(self.alloc, token);
-        self.site.insert_doctype(texts, at)?;
-        self.control.quirks = quirks;
-        self.control.mode = Mode::BeforeHtml;
-        Ok(Flow::Done)
-    }
-
-    /// A document without a doctype.
-    fn no_doctype(&mut self, at: u64) -> Result<Flow, Refusal>
-        ensures { (t : TokenOf ℕ) → FlowGives result t (state_of self.new)
-            (perform numbers at t (error Initial ▸ go_quirks ▸ to BeforeHtml ▸ again) (state_of self.old)) }
-    {
-        self.error(Mode::Initial, at)?;
-        self.control.quirks = true;
-        self.control.mode = Mode::BeforeHtml;
-        Ok(Flow::Again)
     }
 }

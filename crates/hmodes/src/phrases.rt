@@ -1,22 +1,16 @@
 //! Formatting and other elements among text in the body (HTML Standard, 13.2.6.4.7).
 
 ghost use Rattle.std.specs.Prelude.{◌≡◌, ℕ};
-ghost use Rattle.hadopt.specs.Kept.{Kept};
-ghost use Rattle.hadopt.specs.Naming.{numbers};
+ghost use Rattle.std.specs.Option.{option_map_or};
+ghost use Rattle.hmodes.specs.Vocabulary.{Kept, numbers, FlowGives, StateGives, performed, performed_for, perform, with_site, TokenOf};
+ghost use Rattle.hmodes.specs.Vocabulary.{state_of, token_of, close_p_in_scope, void, raw, ◌▸◌, when, unless, choose, error, to, insert, insert_named, pop};
+ghost use Rattle.hmodes.specs.Vocabulary.{pop_to_name, implied, reconstruct, drop_lf, clear_to_marker, current_is_name, has_in, InBody, InTable};
 ghost use Rattle.hopen.specs.declared.scope.Scope.TheVariants as scope;
 ghost use Rattle.names.specs.declared.tag.Tag.TheVariants as tag;
-ghost use Rattle.hmodes.specs.Flows.{FlowGives, StateGives, performed, performed_for};
-ghost use Rattle.hmodes.specs.Perform.{perform, forgotten, with_site};
-ghost use Rattle.std.specs.Option.{option_map_or};
-ghost use Rattle.hmodes.specs.State.{Token as TokenOf};
-ghost use Rattle.hmodes.specs.States.{state_of};
-ghost use Rattle.hmodes.specs.Tokens.{token_of};
+ghost use Rattle.hmodes.specs.Perform.{forgotten};
 ghost use Rattle.hmodes.specs.Body.{formatting, void_in_text};
-ghost use Rattle.hmodes.specs.Programs.{close_p_in_scope, void, raw};
-ghost use Rattle.hmodes.specs.Words.{◌▸◌, when, unless, choose, error, again_as, to, insert, insert_named, push_to_list, pop, pop_to_name, implied};
-ghost use Rattle.hmodes.specs.Words.{implied_except, reconstruct, drop_lf, marker, clear_to_marker, adopt, adopt_listed, current_is, current_is_name, has_in};
-ghost use Rattle.hmodes.specs.Words.{has_name_in, name_is_listed, is_in_quirks};
-ghost use Rattle.hmodes.specs.declared.mode.Mode.TheVariants.{InBody, InTable};
+ghost use Rattle.hmodes.specs.Words.{again_as, push_to_list, has_name_in, implied_except, marker, adopt, adopt_listed, current_is, name_is_listed};
+ghost use Rattle.hmodes.specs.Words.{is_in_quirks};
 
 use crate::mode::Mode;
 use crate::token::{rename, take_attrs, token_name};

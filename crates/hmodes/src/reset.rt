@@ -1,12 +1,10 @@
 //! Resetting the insertion mode (HTML Standard, 13.2.4.1, `#reset-the-insertion-mode-appropriately`).
 
 ghost use Rattle.std.specs.Prelude.{◌≡◌, option_and_then, slice_get};
-ghost use Rattle.hadopt.specs.Naming.{numbers};
-ghost use Rattle.hadopt.specs.Site.{stack, from_top};
 ghost use Rattle.std.specs.Option.{option_map_or};
-ghost use Rattle.names.specs.Tags.{tag_of};
-ghost use Rattle.hmodes.specs.declared.mode.Mode.TheVariants.{InBody};
-ghost use Rattle.hmodes.specs.Reset.{open_mode, context_mode, root_mode, reset_mode};
+ghost use Rattle.hmodes.specs.Vocabulary.{numbers, from_top, tag_of, InBody, context_mode};
+ghost use Rattle.hadopt.specs.Site.{stack};
+ghost use Rattle.hmodes.specs.Reset.{open_mode, root_mode, reset_mode};
 
 use crate::mode::Mode;
 use crate::tree_construction::TreeConstruction;

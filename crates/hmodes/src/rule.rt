@@ -1,15 +1,9 @@
 //! The rule by which a token goes: that of the insertion mode, for the kind of the token (HTML Standard, 13.2.6).
 
 ghost use Rattle.std.specs.Prelude.{◌≡◌, ◌<◌, IfSome};
-ghost use Rattle.hadopt.specs.Kept.{Kept};
-ghost use Rattle.hadopt.specs.Naming.{numbers};
-ghost use Rattle.hmodes.specs.Flows.{FlowGives};
-ghost use Rattle.hmodes.specs.Perform.{perform};
+ghost use Rattle.hmodes.specs.Vocabulary.{Kept, numbers, FlowGives, perform, state_of, AfterHead, token_of};
 ghost use Rattle.hmodes.specs.Rules.{rule_of};
 ghost use Rattle.hmodes.specs.Step.{Rule};
-ghost use Rattle.hmodes.specs.States.{state_of};
-ghost use Rattle.hmodes.specs.declared.mode.Mode.TheVariants.{AfterHead};
-ghost use Rattle.hmodes.specs.Tokens.{token_of};
 
 use crate::mode::Mode;
 use crate::token_kind::TokenKind;

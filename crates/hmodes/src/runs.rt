@@ -1,13 +1,8 @@
 //! Characters of text, one alone or a run.
 
 ghost use Rattle.std.specs.Prelude.{◌≡◌, List};
+ghost use Rattle.hmodes.specs.Vocabulary.{Gives, numbers, StateGives, perform, with_site, character, state_of};
 ghost use Rattle.names.specs.declared.placed.Placed.{Placed};
-ghost use Rattle.hadopt.specs.Gives.{Gives};
-ghost use Rattle.hadopt.specs.Naming.{numbers};
-ghost use Rattle.hmodes.specs.Flows.{StateGives};
-ghost use Rattle.hmodes.specs.Perform.{perform, with_site};
-ghost use Rattle.hmodes.specs.State.{character};
-ghost use Rattle.hmodes.specs.States.{state_of};
 ghost use Rattle.htoken.specs.Run.{IsSpread};
 ghost use Rattle.hmodes.specs.Runs.{puts_each, before_text, put_all, takes_char, char_rule};
 

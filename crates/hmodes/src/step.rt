@@ -1,15 +1,12 @@
 //! A token: how it begins, the rules that it goes by, and how it ends (HTML Standard, 13.2.6).
 
 ghost use Rattle.std.specs.Prelude.{◌≡◌, ℕ};
-ghost use Rattle.hadopt.specs.Gives.{Gives};
-ghost use Rattle.hadopt.specs.Naming.{numbers};
+ghost use Rattle.hmodes.specs.Vocabulary.{Gives, numbers, TokenOf, state_of, token_of};
 ghost use Rattle.hadopt.specs.Site.{Goes};
-ghost use Rattle.hmodes.specs.State.{Token as TokenOf, is_self_closing};
+ghost use Rattle.hmodes.specs.State.{is_self_closing};
 ghost use Rattle.hmodes.specs.Step.{is_dropped, begun, finished};
 ghost use Rattle.hmodes.specs.Building.{HasBegun, ChainGives, StepGives};
 ghost use Rattle.hmodes.specs.Reached.{Reached};
-ghost use Rattle.hmodes.specs.States.{state_of};
-ghost use Rattle.hmodes.specs.Tokens.{token_of};
 
 use crate::tree_construction::{Flow, TreeConstruction};
 use htoken::Token;

@@ -1,18 +1,13 @@
 //! The "in table text" insertion mode (HTML Standard, 13.2.6.4.10).
 
-ghost use Rattle.std.specs.Prelude.{◌≡◌, ℕ, [], if◌then◌else◌};
+ghost use Rattle.std.specs.Prelude.{◌≡◌, [], if◌then◌else◌};
+ghost use Rattle.hmodes.specs.Vocabulary.{numbers, FlowGives, StateGives, performed, perform, state_of, token_of, other_in_table};
+ghost use Rattle.hmodes.specs.Vocabulary.{character, choose, put};
 ghost use Rattle.std.specs.List.{list_all};
 ghost use Rattle.names.specs.Placed.{is_space};
-ghost use Rattle.hadopt.specs.Naming.{numbers};
-ghost use Rattle.hmodes.specs.Flows.{FlowGives, StateGives, performed};
-ghost use Rattle.hmodes.specs.Perform.{perform};
-ghost use Rattle.hmodes.specs.State.{Token as TokenOf};
-ghost use Rattle.hmodes.specs.States.{state_of};
-ghost use Rattle.hmodes.specs.Tokens.{token_of};
-ghost use Rattle.hmodes.specs.Table.{in_table_text, other_in_table};
+ghost use Rattle.hmodes.specs.Table.{in_table_text};
 ghost use Rattle.hmodes.specs.Perform.{each_of, with_control};
-ghost use Rattle.hmodes.specs.State.{character};
-ghost use Rattle.hmodes.specs.Words.{Char, ◌▸◌, choose, each_pending, again, to_saved, put, pend, pending_is_ws};
+ghost use Rattle.hmodes.specs.Words.{Char, each_pending, pend, pending_is_ws};
 
 use crate::mode::Mode;
 use crate::token::token_char;
@@ -41,16 +36,13 @@ impl<'q> TreeConstruction<'q> {
     {
         match kind {
             TokenKind::Nul => self.ignore(Mode::InTableText, at),
-            TokenKind::Ws | TokenKind::Char => self.pend(token, at),
-            _ => self.pending_ends(),
+            TokenKind::Ws | TokenKind::Char => done(self.pend_char(token_char(token), at)),
+            _ => {
+                self.put_pending()?;
+                self.control.mode = self.control.saved;
+                Ok(Flow::Again)
+            }
         }
-    }
-
-    /// The character is pending: it is appended to the pending table character tokens.
-    pub(crate) fn pend(&mut self, token: &Token, at: u64) -> Result<Flow, Refusal>
-        ensures { FlowGives result (token_of token.now) (state_of self.new) (perform numbers at (token_of token.now) (pend) (state_of self.old)) }
-    {
-        done(self.pend_char(token_char(token), at))
     }
 
     /// A character is pending.
@@ -60,16 +52,6 @@ impl<'q> TreeConstruction<'q> {
     {
         self.control.pending.push(Placed { ch, at })?;
         Ok(())
-    }
-
-    /// The pending characters are put: where all are white space as they are, else as anything else in a table.
-    fn pending_ends(&mut self) -> Result<Flow, Refusal>
-        ensures { (t : TokenOf ℕ) → FlowGives result t (state_of self.new)
-            (perform numbers 0 t (choose pending_is_ws (each_pending put) (each_pending (other_in_table Char)) ▸ to_saved ▸ again) (state_of self.old)) }
-    {
-        self.put_pending()?;
-        self.control.mode = self.control.saved;
-        Ok(Flow::Again)
     }
 
     /// All pending characters are put.

@@ -1,14 +1,9 @@
 //! The "text" insertion mode (HTML Standard, 13.2.6.4.8): the content of an element of raw text.
 
 ghost use Rattle.std.specs.Prelude.{ℕ};
-ghost use Rattle.hadopt.specs.Naming.{numbers};
-ghost use Rattle.hmodes.specs.Flows.{FlowGives};
-ghost use Rattle.hmodes.specs.Perform.{perform};
-ghost use Rattle.hmodes.specs.State.{Token as TokenOf};
-ghost use Rattle.hmodes.specs.States.{state_of};
-ghost use Rattle.hmodes.specs.Tokens.{token_of};
+ghost use Rattle.hmodes.specs.Vocabulary.{numbers, FlowGives, perform, TokenOf, state_of, token_of, ◌▸◌, again, error, pop};
+ghost use Rattle.hmodes.specs.Words.{to_saved};
 ghost use Rattle.hmodes.specs.Body.{text};
-ghost use Rattle.hmodes.specs.Words.{◌▸◌, again, error, to_saved, pop};
 ghost use Rattle.hmodes.specs.declared.mode.Mode.TheVariants.{Text};
 
 use crate::mode::Mode;

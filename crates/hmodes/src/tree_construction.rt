@@ -1,16 +1,15 @@
 //! The state that the rules of all insertion modes work on, how a rule ends, and the codes of its errors.
 
 ghost use Rattle.std.specs.Prelude.{◌≡◌, ℕ};
-ghost use Rattle.hmodes.specs.Flows.{FlowGives, StateGives};
+ghost use Rattle.hmodes.specs.Vocabulary.{FlowGives, StateGives, TokenOf};
 ghost use Rattle.hmodes.specs.Rules.{code_of};
-ghost use Rattle.hmodes.specs.State.{Token as TokenOf, State as StateOf, Flow as FlowOf};
+ghost use Rattle.hmodes.specs.State.{State as StateOf, Flow as FlowOf};
 
 use crate::control::Control;
 use crate::mode::Mode;
 use hadopt::Site;
 use hmarkup::Quirks;
-use hopen::Scope;
-use names::{ErrorCode, NameId, Refusal, Tag};
+use names::{ErrorCode, NameId, Refusal};
 use std::alloc::Global;
 
 /// What comes of a rule: it ends, or the token is reprocessed.

@@ -1,18 +1,12 @@
 //! The steps that the rules of the insertion modes are made of: errors, insertions, raw text, closings (HTML Standard, 13.2.6.1 to 13.2.6.4).
 
 ghost use Rattle.std.specs.Prelude.{ℕ, IfOk, []};
-ghost use Rattle.hadopt.specs.Kept.{Kept};
-ghost use Rattle.hadopt.specs.Naming.{numbers};
-ghost use Rattle.hadopt.specs.Site.{from_top};
-ghost use Rattle.hmodes.specs.Flows.{FlowGives, StateGives, performed, performed_for};
-ghost use Rattle.hmodes.specs.Perform.{perform, on_site, site_becomes, inserted_here, completed};
-ghost use Rattle.hmodes.specs.Programs.{void, raw, html_again, close_p_in_scope};
-ghost use Rattle.hmodes.specs.State.{Token as TokenOf, character, token_attrs};
-ghost use Rattle.hmodes.specs.States.{state_of};
-ghost use Rattle.hmodes.specs.Tokens.{token_of};
-ghost use Rattle.hmodes.specs.declared.mode.Mode.TheVariants.{InBody};
-ghost use Rattle.hmodes.specs.Words.{error, insert, insert_comment, comment_in_document, comment_in_first, put, unless, current_is_name};
-ghost use Rattle.hmodes.specs.Words.{pop_to_name, implied, implied_except_name, clear_to_marker, ◌▸◌};
+ghost use Rattle.hmodes.specs.Vocabulary.{Kept, numbers, from_top, FlowGives, StateGives, performed, performed_for, perform, void, raw};
+ghost use Rattle.hmodes.specs.Vocabulary.{close_p_in_scope, TokenOf, character, token_attrs, state_of, token_of, InBody, error, insert, put, unless};
+ghost use Rattle.hmodes.specs.Vocabulary.{current_is_name, pop_to_name, implied, clear_to_marker, ◌▸◌};
+ghost use Rattle.hmodes.specs.Perform.{on_site, site_becomes, inserted_here, completed};
+ghost use Rattle.hmodes.specs.Programs.{html_again};
+ghost use Rattle.hmodes.specs.Words.{insert_comment, comment_in_document, comment_in_first, implied_except_name};
 
 use crate::mode::Mode;
 use crate::token::{take_attrs, take_text, token_char, token_name};

@@ -30,4 +30,4 @@ pub returns : goal.returns
 returns c =
     let is : c.args.run.now ≡ encode_utf8 c.in-Some.ch ++ c.as_str-rest.result.now = sym c.chars-chars.ensures.rest ∙ c.in-Some.ensures.steps.0 ∙ ap (λ (l : List ℕ). encode_utf8 c.in-Some.ch ++ l) (sym c.as_str-rest.ensures) in
     rest_taken c.args.self.now c.take_text.new.self c.args.at c.args.run.now c.as_str-rest.result.now c.in-Some.ch c.utf8.run is
-    c.rest_place-next.result c.rest_place-next.ensures c.in_ok-take_text.ensures c.take_one_by_one.result c.take_one_by_one.new.self c.take_one_by_one.ensures
+    c.rest_place-next.result c.rest_place-next.ensures c.in_ok-take_text.ensures c.take_run_by_one.result c.take_run_by_one.new.self c.take_run_by_one.ensures

@@ -1,8 +1,5 @@
 use Rattle.std.proofs.Common.{rules}
 use Rattle.hmodes.proofs.tree_construction.TreeConstruction.in_table_body.Goals as goal
 
-pub returns-in-Start-Cell : goal.returns-in-Start-Cell
-returns-in-Start-Cell c = search rules
-
 pub returns-in-Start-Caption : goal.returns-in-Start-Caption
 returns-in-Start-Caption c = rw c.in-Start-Caption.is (search rules)
