@@ -1,15 +1,7 @@
 -- What is around the children of an element, and around the element once it is left.
-use Rattle.std.proofs.Common.{◌≡◌, Bool, true, false, not, cond, refl, sym, ◌∙◌, ap, subst}
-use Rattle.std.specs.Prelude.{◌||◌}
-use Rattle.names.specs.declared.tag.Tag.{Tag}
+use Rattle.hplain.proofs.Names.{◌≡◌, Bool, true, false, not, cond, refl, sym, ◌∙◌, ap, subst, not-true, arith, ◌||◌, Tag, row, takes_role, texts_in, Inside, is_nested, inside_element, inserts_marker, in_region, without_form, content_among, is_phrasing, marked, Around, Content}
 use Rattle.names.specs.declared.tag.Tag.TheVariants as tag
-use Rattle.hplain.specs.ContentTable.{row, takes_role, texts_in}
-use Rattle.hplain.specs.Plain.{Inside, is_nested, is_a, is_button, content_within, inside_element}
-use Rattle.hserialize.specs.Walk.{inserts_marker}
-use Rattle.hplain.specs.Regions.{in_region, without_form}
-use Rattle.hplain.specs.Testing.{content_among, is_phrasing, marked}
-use Rattle.hplain.specs.declared.around.Around.{Around}
-use Rattle.hplain.specs.declared.content.Content.{Content}
+use Rattle.hplain.specs.Plain.{is_a, is_button, content_within}
 use Rattle.hplain.specs.declared.content.Content.TheVariants as content
 use Rattle.hplain.specs.declared.content.Role.{Role}
 use Rattle.hplain.specs.declared.content.Role.TheVariants as role
@@ -82,19 +74,15 @@ in_other C content.Around h = absurd cc
 in_other C content.Flow h = record { own = refl; fit = refl; back = refl }
 in_other C _ h = record { own = refl; fit = refl; back = refl }
 
-is_false : (u : Bool) → not u ≡ true → false ≡ u
-is_false false h = refl
-is_false true h = absurd cc
-
 inner : (C : Content) (r : Role) (c : Content) (u : Bool) → agrees false r c ≡ true → takes_role C r ≡ true → fits C u ≡ true → IsInner C c u
-inner content.Flow r c u a h f = subst (IsInner content.Flow c) (is_false u f) (in_flow c)
+inner content.Flow r c u a h f = subst (IsInner content.Flow c) (sym (not-true u f)) (in_flow c)
 inner content.Phrasing role.Phrasing c u a h f = subst (IsInner content.Phrasing c) (sym f) (in_phrasing c a)
-inner content.ListItems role.ListItem c u a h f = subst (IsInner content.ListItems c) (is_false u f) (in_other content.ListItems c a)
-inner content.Definitions role.Definition c u a h f = subst (IsInner content.Definitions c) (is_false u f) (in_other content.Definitions c a)
-inner content.TableParts role.TablePart c u a h f = subst (IsInner content.TableParts c) (is_false u f) (in_other content.TableParts c a)
-inner content.Columns role.Column c u a h f = subst (IsInner content.Columns c) (is_false u f) (in_other content.Columns c a)
-inner content.TableRows role.TableRow c u a h f = subst (IsInner content.TableRows c) (is_false u f) (in_other content.TableRows c a)
-inner content.Cells role.Cell c u a h f = subst (IsInner content.Cells c) (is_false u f) (in_other content.Cells c a)
+inner content.ListItems role.ListItem c u a h f = subst (IsInner content.ListItems c) (sym (not-true u f)) (in_other content.ListItems c a)
+inner content.Definitions role.Definition c u a h f = subst (IsInner content.Definitions c) (sym (not-true u f)) (in_other content.Definitions c a)
+inner content.TableParts role.TablePart c u a h f = subst (IsInner content.TableParts c) (sym (not-true u f)) (in_other content.TableParts c a)
+inner content.Columns role.Column c u a h f = subst (IsInner content.Columns c) (sym (not-true u f)) (in_other content.Columns c a)
+inner content.TableRows role.TableRow c u a h f = subst (IsInner content.TableRows c) (sym (not-true u f)) (in_other content.TableRows c a)
+inner content.Cells role.Cell c u a h f = subst (IsInner content.Cells c) (sym (not-true u f)) (in_other content.Cells c a)
 inner _ _ c u a h f = never h
 
 -- a list in this content with these texts, wherever forms are
@@ -111,14 +99,10 @@ pub record IsEntered (t : Tag) (inside : Inside) (a : Around) : Type 0 where
   pub fit : fits (content_among (marked t true a).in_phrasing (row t).1) (marked t true a).in_phrasing ≡ true
 
 set : (v x : Bool) → cond v true x ≡ (x || v)
-set true true = refl
-set true false = refl
-set false true = refl
-set false false = refl
+set v x = grind (arith)
 
 reset : (v x : Bool) → (v ≡ true → x ≡ false) → cond v false (cond v true x) ≡ x
-reset true x h = sym (h refl)
-reset false x h = refl
+reset v x h = grind (arith)
 
 no_a : (i : Inside) (t : Tag) → is_nested i t ≡ false → is_a t ≡ true → i.in_a ≡ false
 no_a i tag.A h e = h

@@ -1,4 +1,6 @@
+pub mod Names
 pub mod Entering
+pub mod Walks
 pub mod Tested
 pub mod Regions
 pub mod Parts

@@ -1,8 +1,8 @@
 -- Where a part is in a text.
-use Rattle.std.proofs.Common.{◌≡◌, ℕ, Bool, true, false, List, [], ◌∷◌, ◌++◌, drop, length, refl, ap}
-use Rattle.std.proofs.lemmas.Bool.Decides.{Decides-eqb}
+use Rattle.hplain.proofs.Names.{◌≡◌, ℕ, Bool, true, false, List, [], ◌∷◌, drop, length, refl, ap, sym, or_right, Decides-eqb, ◌||◌}
+use Rattle.std.proofs.Common.{◌++◌}
 use Rattle.std.proofs.lemmas.Slice.Eq.{starts_is}
-use Rattle.std.specs.Prelude.{◌||◌}
+use Rattle.std.proofs.lemmas.Bool.{false_from_ne_true}
 use Rattle.std.specs.Str.Iter.{HasSubslice}
 use Rattle.hplain.specs.Plain.{begins_with, has_part}
 
@@ -24,17 +24,9 @@ stands : (part t before after : List ℕ) → t ≡ before ++ (part ++ after) �
 stands part [] [] after is = begun part [] after is
 stands part (b ∷ bs) [] after is = rw (begun part (b ∷ bs) after is) refl
 stands part [] (y ∷ before) after is = absurd cc
-stands part (b ∷ bs) (y ∷ before) after is = go (begins_with part (b ∷ bs)) (stands part bs before after cc)
-  where
-    go : (u : Bool) → has_part part bs ≡ true → (u || has_part part bs) ≡ true
-    go true h = refl
-    go false h = h
+stands part (b ∷ bs) (y ∷ before) after is = or_right _ _ (stands part bs before after cc)
 
 -- a test that is true where a part is in a text is whether it does
 pub has-part : (part t : List ℕ) (u : Bool) → (u ≡ true → HasSubslice t part) → (HasSubslice t part → u ≡ true) → u ≡ has_part part t
 has-part part t true to from = let (before, after, is) = to refl in let there : has_part part t ≡ true = stands part t before after is in cc
-has-part part t false to from = go (has_part part t) refl
-  where
-    go : (u : Bool) → has_part part t ≡ u → false ≡ u
-    go true e = from (found part t e)
-    go false e = refl
+has-part part t false to from = sym (false_from_ne_true (has_part part t) (λ e. let clash = from (found part t e) in cc))

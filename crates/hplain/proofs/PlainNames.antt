@@ -1,20 +1,17 @@
 -- Names and attributes that are plain.
-use Rattle.std.proofs.Common.{◌≡◌, ℕ, ◌+◌, ◌-◌, ◌<◌, ◌≤◌, inl, inr, Bool, true, false, not, List, [], ◌∷◌, length, get_or, take, drop, map, refl, sym, ◌∙◌, ap, arith}
-use Rattle.std.proofs.lemmas.Bool.{and_parts, cases_lt}
-use Rattle.std.proofs.lemmas.Bool.Decides.{Decides-eqb}
+use Rattle.hplain.proofs.Names.{◌≡◌, ℕ, ◌<◌, Bool, true, false, not, List, [], ◌∷◌, length, drop, map, refl, sym, ◌∙◌, ap, and_parts, Decides-eqb, ◌&&◌, ◌||◌, nat_eq, Texts, AreNames, text_of, names_differ, attribute_of, are_plain_attributes}
+use Rattle.std.proofs.Common.{◌+◌, ◌-◌, ◌≤◌, inl, inr, get_or, take, arith}
+use Rattle.std.proofs.lemmas.Bool.{cases_lt}
 use Rattle.std.proofs.lemmas.List.{take_all, drop_all, get_or_past}
 use Rattle.std.proofs.lemmas.Slice.Eq.{bytes_eq-Decides}
-use Rattle.std.specs.Prelude.{◌&&◌, ◌||◌, bytes_eq, nat_eq}
+use Rattle.std.specs.Prelude.{bytes_eq}
 use Rattle.std.specs.List.{list_all, list_any}
 use Rattle.std.specs.Char.{is_ascii_lowercase}
-use Rattle.names.specs.Names.{Texts, AreNames, text_of}
 use Rattle.names.specs.declared.attr.Attr.{Attr}
 use Rattle.names.proofs.KnownTags.{different}
-use Rattle.hnodes.specs.Differing.{names_differ}
 use Rattle.hnodes.specs.Forest.{Attribute}
-use Rattle.hnodes.specs.Rows.{attribute_of}
 use Rattle.hnodes.specs.Spelled.{spelled_attribute}
-use Rattle.hplain.specs.Plain.{is_clean, is_name_byte, is_plain_name, are_plain_attributes}
+use Rattle.hplain.specs.Plain.{is_clean, is_name_byte, is_plain_name}
 use Rattle.hplain.specs.Testing.{is_plain_attribute}
 use Rattle.hserialize.proofs.Attributes.{dropped}
 
@@ -49,6 +46,12 @@ has-name names i (a ∷ attrs) table h plain =
     let (one, others) = and_parts _ _ plain in
     λ k. sym (same-name names i a.0 table h (plain-within names a.0 (and_parts _ _ one).0)) k || has-name names i attrs table h others k
 
+apart : (name clean all same differ : Bool) → (((name && clean) && all) && (not same && differ)) ≡ (name && clean && not same && (all && differ))
+apart name clean all same differ = grind (arith)
+
+none : (u v w : Bool) → (u && not v && false) ≡ (u && not w && false)
+none u v w = grind (arith)
+
 -- attributes are plain if each is by itself, and their names differ
 pub plain-are : (names : Texts) (attrs : List (Attribute ℕ)) → AreNames names
     → (list_all (is_plain_attribute (text_of names)) attrs && names_differ nat_eq attrs) ≡ are_plain_attributes (map (spelled_attribute (text_of names)) attrs)
@@ -69,20 +72,6 @@ plain-are names (a ∷ attrs) table =
 
     others : Bool
     others = are_plain_attributes (map (spelled_attribute (text_of names)) attrs)
-
-    apart : (name clean all same differ : Bool) → (((name && clean) && all) && (not same && differ)) ≡ (name && clean && not same && (all && differ))
-    apart false clean all same differ = refl
-    apart true false all same differ = refl
-    apart true true false true differ = refl
-    apart true true false false differ = refl
-    apart true true true same differ = refl
-
-    none : (u v w : Bool) → (u && not v && false) ≡ (u && not w && false)
-    none false v w = refl
-    none true false false = refl
-    none true false true = refl
-    none true true false = refl
-    none true true true = refl
 
     compared : (u v : Bool) → name ≡ u → others ≡ v → (list_all (is_plain_attribute (text_of names)) attrs && names_differ nat_eq attrs) ≡ others
         → (u && is_clean a.1 && not same && v) ≡ (u && is_clean a.1 && not same_text && v)

@@ -1,51 +1,32 @@
 -- A list is content of what it is in exactly if each of its regions is, and no form is in a form.
-use Rattle.std.proofs.Common.{◌≡◌, ℕ, ◌<◌, Bool, true, false, not, cond, List, [], ◌∷◌, Some, None, refl, sym, ◌∙◌, ap, subst, option_and_then}
+use Rattle.hplain.proofs.Names.{◌≡◌, ℕ, ◌<◌, Bool, true, false, not, cond, List, Some, None, refl, sym, ◌∙◌, ap, arith, option_and_then, ◌&&◌, ◌||◌, Option, Texts, AreNames, text_of, tag_of, tag_named, Tag, AreCounted, What, element, Forest, none, tree, children_of, spelled, spelled_what, name_in, row, takes_role, Inside, are_plain_attributes, in_context, in_context_of, inside_node, is_form, is_nested, is_plain_node, inserts_marker, are_region_content, begins_region, in_region, without_form, is_phrasing, tag_at, tag_or_other, texts_at_top, top_content, visits, Content, Visit, tags-agree, run, walked, run-visits, Seen, seen}
 use Rattle.std.specs.Option.{option_map}
-use Rattle.std.specs.Prelude.{◌&&◌, ◌||◌, Option}
-use Rattle.names.specs.Names.{Texts, AreNames, text_of}
-use Rattle.names.specs.Tags.{tag_of, tag_named}
-use Rattle.names.specs.declared.tag.Tag.{Tag}
 use Rattle.names.specs.declared.tag.Tag.TheVariants as tag
-use Rattle.hnodes.specs.Edits.{AreCounted}
-use Rattle.hnodes.specs.Forest.{What, element, Forest, none, tree, children_of}
-use Rattle.hnodes.specs.Spelled.{spelled, spelled_what}
-use Rattle.hnodes.specs.Spots.{name_in}
-use Rattle.hplain.specs.ContentTable.{row, takes_role}
-use Rattle.hplain.specs.Plain.{Inside, are_content, are_content_if, are_plain_attributes, begins_with_line_feed, drops_line_feed, in_context, in_context_of, inside_node, is_form, is_nested, is_plain, is_plain_node}
-use Rattle.hserialize.specs.Walk.{inserts_marker}
-use Rattle.hplain.specs.Regions.{are_region_content, begins_region, form_after, have_plain_regions, in_region, makes_form, without_form}
-use Rattle.hplain.specs.Testing.{is_phrasing, tag_at, tag_or_other, texts_at_top, top_content}
-use Rattle.hserialize.specs.Walk.{visits}
-use Rattle.hplain.specs.declared.content.Content.{Content}
+use Rattle.hplain.specs.Plain.{are_content, are_content_if, begins_with_line_feed, drops_line_feed, is_plain}
+use Rattle.hplain.specs.Regions.{form_after, have_plain_regions, makes_form}
 use Rattle.hplain.specs.declared.content.Content.TheVariants as content
 use Rattle.hserialize.specs.declared.walk.Reach.TheVariants.{Whole}
-use Rattle.hserialize.specs.declared.walk.Visit.{Visit}
-use Rattle.hserialize.specs.declared.walk.Visit.TheVariants.{Enter, Leave}
 use Rattle.hplain.proofs.Entering.{enters_region}
-use Rattle.hserialize.proofs.KnownNames.{tags-agree}
-use Rattle.hserialize.proofs.Runs.{run, walked, run-visits}
-use Rattle.hserialize.proofs.Seen.{Seen, seen}
-use Rattle.hplain.proofs.Tested.{is_left, none_left, tells}
+use Rattle.hplain.proofs.Walks.{is_left, tells, entering, leaving, lost, Finds}
 
 -- BY REGIONS
 
--- where the node is no form
+-- where the node is no form, and where it is one
 no_form : (u v : Bool) → v ≡ (v && not (u && false))
-no_form true true = refl
-no_form true false = refl
-no_form false true = refl
-no_form false false = refl
+no_form u v = grind (arith)
+
+one_form : (u : Bool) → not u ≡ not (u && true)
+one_form u = grind (arith)
 
 -- an element that is in none of its name, whether forms are asked for or not
 nested_apart : (i : Inside) (t : Tag) → not (is_nested i t) ≡ (not (is_nested (without_form i) t) && not (i.in_form && is_form t))
 nested_apart i tag.A = no_form i.in_form (not i.in_a)
 nested_apart i tag.Button = no_form i.in_form (not i.in_button)
-nested_apart i tag.Form = go i.in_form
-  where
-    go : (v : Bool) → not v ≡ not (v && true)
-    go true = refl
-    go false = refl
+nested_apart i tag.Form = one_form i.in_form
 nested_apart i _ = no_form i.in_form true
+
+moved : (a b c d e : Bool) → (a && (b && e) && c && d) ≡ ((a && b && c && d) && e)
+moved a b c d e = grind (arith)
 
 -- a node by itself
 node_apart : (i : Inside) (w : What (List ℕ)) (kids rest : Forest (List ℕ)) → is_plain_node i w kids rest ≡ (is_plain_node (without_form i) w kids rest && not (i.in_form && makes_form w))
@@ -55,19 +36,6 @@ node_apart i (element name attrs) kids rest =
   where
     line_feed : Bool
     line_feed = not (drops_line_feed (tag_named name) && begins_with_line_feed kids)
-
-    moved : (a b c d e : Bool) → (a && (b && e) && c && d) ≡ ((a && b && c && d) && e)
-    moved false b c d e = refl
-    moved true false c d e = refl
-    moved true true c d false = go c d
-      where
-        go : (c d : Bool) → false ≡ ((c && d) && false)
-        go true true = refl
-        go true false = refl
-        go false d = refl
-    moved true true true true true = refl
-    moved true true true false true = refl
-    moved true true false d true = refl
 node_apart i w kids rest = no_form i.in_form (is_plain_node i w kids rest)
 
 -- the children of a node that begins a region, and of another
@@ -79,38 +47,18 @@ below_again : (i : Inside) (w : What (List ℕ)) → without_form (inside_node w
 below_again i (element name attrs) = refl
 below_again i _ = refl
 
+or_false : (u : Bool) → u ≡ (u || false)
+or_false u = grind (arith)
+
 form_below : (i : Inside) (w : What (List ℕ)) → (inside_node w i).in_form ≡ (i.in_form || makes_form w)
 form_below i (element name attrs) = refl
-form_below i w = go i.in_form
-  where
-    go : (u : Bool) → u ≡ (u || false)
-    go true = refl
-    go false = refl
+form_below i _ = or_false i.in_form
 
 sorted : (p d k a r b : Bool) → ((p && d) && (k && a) && (r && b)) ≡ ((p && k && r) && (d && true && a && b))
-sorted false d k a r b = refl
-sorted true false k a r b = go k r
-  where
-    go : (k r : Bool) → false ≡ ((k && r) && false)
-    go true true = refl
-    go true false = refl
-    go false r = refl
-sorted true true false a r b = refl
-sorted true true true false true b = refl
-sorted true true true false false b = refl
-sorted true true true true true b = refl
-sorted true true true true false b = refl
+sorted p d k a r b = grind (arith)
 
 sorted_region : (p d k a r b : Bool) → ((p && d) && (k && a) && (r && b)) ≡ ((p && true && r) && (d && k && a && b))
-sorted_region false d k a r b = refl
-sorted_region true false k a true b = refl
-sorted_region true false k a false b = refl
-sorted_region true true true true true b = refl
-sorted_region true true true true false b = refl
-sorted_region true true true false true b = refl
-sorted_region true true true false false b = refl
-sorted_region true true false a true b = refl
-sorted_region true true false a false b = refl
+sorted_region p d k a r b = grind (arith)
 
 pub by_regions : (i : Inside) (f : Forest (List ℕ)) → are_content i f ≡ (are_region_content (without_form i) f && have_plain_regions i.in_form f)
 by_regions i none = refl
@@ -141,17 +89,22 @@ by_regions i (tree n w kids rest) =
 
 -- THE WALK THAT FINDS REGIONS
 
+step : (x m r : Bool) (o : Option Bool) → cond x None (cond (m && not r) None o) ≡ cond (not x && cond m r true) o None
+step x m r o = grind (arith)
+
+back_again : (x v : Bool) → not (x && v) ≡ true → ((x || v) && not v) ≡ x
+back_again x v h = grind (arith)
+
 module _ (spelling : ℕ → List ℕ) (tags : (id : ℕ) → tag_of id ≡ tag_named (spelling id)) (f : Forest ℕ) where
   -- whether a form is around, as long as none is in a form and the regions are content
-  abbrev pub enters : ℕ → Option Bool → Option Bool
-  enters n s = option_and_then (λ u. form_after spelling f (Enter n) u) s
+  abbrev enters : ℕ → Option Bool → Option Bool
+  enters = entering (form_after spelling f)
 
-  abbrev pub leaves : ℕ → Option Bool → Option Bool
-  leaves n s = option_and_then (λ u. form_after spelling f (Leave n) u) s
+  abbrev leaves : ℕ → Option Bool → Option Bool
+  leaves = leaving (form_after spelling f)
 
-  lost : (g : Forest ℕ) → walked enters leaves Whole g None ≡ None
-  lost none = refl
-  lost (tree b w kids rest) = ap (λ s. walked enters leaves Whole rest (leaves b s)) (lost kids) ∙ lost rest
+  gone : (g : Forest ℕ) → walked enters leaves Whole g None ≡ None
+  gone = lost (form_after spelling f) Whole
 
   abbrev region : Forest ℕ → Bool
   region kids = are_region_content (in_region content.Flow) (spelled spelling kids)
@@ -179,34 +132,22 @@ module _ (spelling : ℕ → List ℕ) (tags : (id : ℕ) → tag_of id ≡ tag_
       forms : is_form (tag_at b f) ≡ makes_form (spelled_what spelling w)
       forms = ap is_form named ∙ formed_as w
 
-      step : (x m r : Bool) (o : Option Bool) → cond x None (cond (m && not r) None o) ≡ cond (not x && cond m r true) o None
-      step true m r o = refl
-      step false true true o = refl
-      step false true false o = refl
-      step false false r o = refl
-
       first : enters b (Some u) ≡ cond (not (u && makes_form (spelled_what spelling w)) && cond (begins_region (spelled_what spelling w)) (region kids) true) (Some within) None
       first =
           (λ k. cond (u && forms k) None (cond ((ap inserts_marker named ∙ marked_as w) k && not (region (s.0.kids_are k))) None (Some (u || forms k))))
           ∙ step (u && makes_form (spelled_what spelling w)) (begins_region (spelled_what spelling w)) (region kids) (Some within)
 
-      back_again : (x v : Bool) → not (x && v) ≡ true → ((x || v) && not v) ≡ x
-      back_again true true h = absurd cc
-      back_again true false h = refl
-      back_again false true h = refl
-      back_again false false h = refl
-
       after : (k r : Bool) → (within && not (makes_form (spelled_what spelling w))) ≡ u → walked enters leaves Whole rest (Some u) ≡ cond r (Some u) None
           → walked enters leaves Whole rest (leaves b (cond k (Some within) None)) ≡ cond (k && r) (Some u) None
       after true r back law = ap (λ v. walked enters leaves Whole rest (Some (within && not v))) forms ∙ ap (λ v. walked enters leaves Whole rest (Some v)) back ∙ law
-      after false r back law = lost rest
+      after false r back law = gone rest
 
       go : (x y : Bool) → (x ≡ true → (within && not (makes_form (spelled_what spelling w))) ≡ u) → ((v : Bool) → walked enters leaves Whole kids (Some v) ≡ cond (have_plain_regions v (spelled spelling kids)) (Some v) None)
           → walked enters leaves Whole rest (Some u) ≡ cond (have_plain_regions u (spelled spelling rest)) (Some u) None
           → walked enters leaves Whole rest (leaves b (walked enters leaves Whole kids (cond (x && y) (Some within) None)))
           ≡ cond (x && y && have_plain_regions within (spelled spelling kids) && have_plain_regions u (spelled spelling rest)) (Some u) None
-      go false y back inner law = ap (λ o. walked enters leaves Whole rest (leaves b o)) (lost kids) ∙ lost rest
-      go true false back inner law = ap (λ o. walked enters leaves Whole rest (leaves b o)) (lost kids) ∙ lost rest
+      go false y back inner law = ap (λ o. walked enters leaves Whole rest (leaves b o)) (gone kids) ∙ gone rest
+      go true false back inner law = ap (λ o. walked enters leaves Whole rest (leaves b o)) (gone kids) ∙ gone rest
       go true true back inner law =
           ap (λ o. walked enters leaves Whole rest (leaves b o)) (inner within) ∙ after (have_plain_regions within (spelled spelling kids)) (have_plain_regions u (spelled spelling rest)) (back refl) law
 
@@ -236,57 +177,23 @@ plain_is context t top f named topmost =
     ∙ ap (λ o. are_content_if o f) (sym (top_is (row t).1 (is_form t)) ∙ named)
 
 -- what is left of the walk finds whether the list is plain
-pub record IsFinding (names : Texts) (f : Forest ℕ) (root : ℕ) (context : List ℕ) (in_form : Bool) (left : List Visit) : Type 0 where
-  pub tags : (id : ℕ) → tag_of id ≡ tag_named (text_of names id)
-  pub same : is_left (run (enters (text_of names) tags f) (leaves (text_of names) tags f) left (Some in_form)) ≡ is_plain context (spelled (text_of names) (children_of root f))
+abbrev pub IsFinding : (names : Texts) (f : Forest ℕ) (root : ℕ) (context : List ℕ) → Bool → List Visit → Type 0
+IsFinding names f root context = Finds (form_after (text_of names) f) (is_plain context (spelled (text_of names) (children_of root f)))
 
 pub begun : (names : Texts) (made : ℕ) (f : Forest ℕ) (root : ℕ) (top : Content) (context : List ℕ) (t : Tag) (in_form : Bool) (left items : List Visit) → AreNames names → AreCounted made f → root < made
     → in_context_of (row t).1 (is_form t) ≡ in_context context → Some top ≡ top_content (row t).1 → true ≡ are_region_content (in_region top) (spelled (text_of names) (children_of root f)) → in_form ≡ is_form t
     → left ≡ items → items ≡ visits Whole (children_of root f) → IsFinding names f root context in_form left
-begun names made f root top context t in_form left items table counted h named topmost region begins same visited = record {
-  tags = tags;
-  same =
-      (λ i. is_left (run (enters (text_of names) tags f) (leaves (text_of names) tags f) (is i) (Some (begins i))))
-      ∙ ap is_left (run-visits (enters (text_of names) tags f) (leaves (text_of names) tags f) Whole (children_of root f) (Some (is_form t)))
-      ∙ ap is_left (finds (text_of names) tags f made root root (children_of root f) (seen made f counted root h) (is_form t))
-      ∙ tells (have_plain_regions (is_form t) (spelled (text_of names) (children_of root f))) (is_form t)
-      ∙ ap (λ u. u && have_plain_regions (is_form t) (spelled (text_of names) (children_of root f))) region
-      ∙ plain_is context t top (spelled (text_of names) (children_of root f)) named topmost;
-}
-  where
-    is : left ≡ visits Whole (children_of root f)
-    is = same ∙ visited
-
-    tags : (id : ℕ) → tag_of id ≡ tag_named (text_of names id)
-    tags id = tags-agree names table id
-
--- one visit more
-steps : (names : Texts) (f : Forest ℕ) (root : ℕ) (context : List ℕ) (in_form : Bool) (v : Visit) (left : List Visit) → (s : IsFinding names f root context in_form (v ∷ left))
-    → is_left (run (enters (text_of names) s.tags f) (leaves (text_of names) s.tags f) left (form_after (text_of names) f v in_form)) ≡ is_plain context (spelled (text_of names) (children_of root f))
-steps names f root context in_form (Enter n) left s = s.same
-steps names f root context in_form (Leave n) left s = s.same
-
-pub goes_on : (names : Texts) (f : Forest ℕ) (root : ℕ) (context : List ℕ) (in_form in_form' : Bool) (v : Visit) (old left : List Visit) → old ≡ v ∷ left → IsFinding names f root context in_form old
-    → Some in_form' ≡ form_after (text_of names) f v in_form → IsFinding names f root context in_form' left
-goes_on names f root context in_form in_form' v old left is s o =
-    let t : IsFinding names f root context in_form (v ∷ left) = subst (IsFinding names f root context in_form) is s in
+begun names made f root top context t in_form left items table counted h named topmost region begins same visited =
+    let step = form_after (text_of names) f in
     record {
-      tags = t.tags;
-      same = ap (λ r. is_left (run (enters (text_of names) t.tags f) (leaves (text_of names) t.tags f) left r)) o ∙ steps names f root context in_form v left t;
+      same =
+          (λ i. is_left (run (entering step) (leaving step) ((same ∙ visited) i) (Some (begins i))))
+          ∙ ap is_left (run-visits (entering step) (leaving step) Whole (children_of root f) (Some (is_form t)))
+          ∙ ap is_left (finds (text_of names) (tags-agree names table) f made root root (children_of root f) (seen made f counted root h) (is_form t))
+          ∙ tells (have_plain_regions (is_form t) (spelled (text_of names) (children_of root f))) (is_form t)
+          ∙ ap (λ u. u && have_plain_regions (is_form t) (spelled (text_of names) (children_of root f))) region
+          ∙ plain_is context t top (spelled (text_of names) (children_of root f)) named topmost;
     }
-
--- a form in a form, or a region that is not content
-pub fails : (names : Texts) (f : Forest ℕ) (root : ℕ) (context : List ℕ) (in_form : Bool) (v : Visit) (old left : List Visit) → old ≡ v ∷ left → IsFinding names f root context in_form old
-    → None ≡ form_after (text_of names) f v in_form → false ≡ is_plain context (spelled (text_of names) (children_of root f))
-fails names f root context in_form v old left is s o =
-    let t : IsFinding names f root context in_form (v ∷ left) = subst (IsFinding names f root context in_form) is s in
-    sym (none_left left (enters (text_of names) t.tags f) (leaves (text_of names) t.tags f) (λ n. refl) (λ n. refl))
-    ∙ ap (λ r. is_left (run (enters (text_of names) t.tags f) (leaves (text_of names) t.tags f) left r)) o ∙ steps names f root context in_form v left t
-
--- the end
-pub found : (names : Texts) (f : Forest ℕ) (root : ℕ) (context : List ℕ) (in_form : Bool) (left : List Visit) → left ≡ [] → IsFinding names f root context in_form left
-    → true ≡ is_plain context (spelled (text_of names) (children_of root f))
-found names f root context in_form left is s = (subst (IsFinding names f root context in_form) is s).same
 
 -- no list is plain where none is at the top
 pub none_plain : (context : List ℕ) (t : Tag) (f : Forest (List ℕ)) → in_context_of (row t).1 (is_form t) ≡ in_context context → top_content (row t).1 ≡ None → false ≡ is_plain context f

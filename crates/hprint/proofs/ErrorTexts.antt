@@ -1,13 +1,12 @@
 -- The line of an error, where a place is written before what is kept of it.
-use Rattle.std.proofs.Common.{◌≡◌, ℕ, ◌+◌, ◌-◌, ◌≤◌, List, ◌++◌, codes, length, drop, take, sym, ap, subst, ◌∙◌, append_assoc, arith}
+use Rattle.hprint.proofs.Names.{◌≡◌, ℕ, ◌+◌, ◌-◌, ◌≤◌, List, ◌++◌, codes, length, drop, sym, ap, subst, ◌∙◌, arith, decimal, IsLine, error_line}
+use Rattle.std.proofs.Common.{take, append_assoc}
 use Rattle.std.proofs.lemmas.List.{drop-drop}
 use Rattle.std.proofs.Math.Seq.{drop-append_seam, take-append-add}
-use Rattle.std.specs.Prelude.{decimal}
 use Rattle.names.specs.Codes.{code_text}
 use Rattle.names.specs.declared.error.ParseError.{ParseError}
 use Rattle.hprint.specs.declared.error_line.ErrorLine.{ErrorLine}
-use Rattle.hprint.specs.ErrorLines.{IsLine, after_place}
-use Rattle.hprint.specs.Lines.{error_line}
+use Rattle.hprint.specs.ErrorLines.{after_place}
 
 -- a line is the digits of its place, and then the rest
 line_parts : (e : ParseError) → decimal e.at ++ after_place e.code ≡ error_line e

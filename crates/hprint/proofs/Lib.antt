@@ -1,3 +1,4 @@
+pub mod Names
 pub mod Sorting
 pub mod Ordered
 pub mod LineTexts

@@ -1,10 +1,7 @@
 -- Lines that are put together of parts.
-use Rattle.std.proofs.Common.{◌≡◌, ℕ, suc, ◌+◌, ◌-◌, ◌<◌, ◌≤◌, ◌&&◌, false, cond, List, [], ◌∷◌, ◌++◌, length, drop, get_or, map, sym, ap, ◌∙◌, drop-cons, add-one, arith}
-use Rattle.std.proofs.lemmas.List.{append_assoc}
-use Rattle.std.specs.List.{flat_map, repeat}
-use Rattle.std.specs.Prelude.{codes}
-use Rattle.hnodes.specs.Forest.{Attribute}
-use Rattle.hprint.specs.Lines.{attribute_line, between_quotes, identifiers, indented}
+use Rattle.hprint.proofs.Names.{◌≡◌, ℕ, suc, ◌+◌, ◌-◌, ◌<◌, ◌≤◌, ◌&&◌, false, cond, List, [], ◌∷◌, ◌++◌, length, drop, get_or, map, sym, ap, ◌∙◌, arith, append_assoc, flat_map, repeat, codes, Attribute, attribute_line, indented}
+use Rattle.std.proofs.Common.{drop-cons, add-one}
+use Rattle.hprint.specs.Lines.{between_quotes, identifiers}
 use Rattle.hserialize.specs.Words.{is_empty}
 
 -- the lines from an index on, by the first of them

@@ -1,25 +1,18 @@
 -- Attributes in the order of their names.
-use Rattle.std.proofs.Common.{◌≡◌, ℕ, suc, ◌+◌, ◌<◌, Bool, true, false, cond, List, [], ◌∷◌, ◌++◌, get_or, drop, map, length, length-append, replicate, refl, sym, ◌∙◌, ap, subst, arith}
+use Rattle.hprint.proofs.Names.{◌≡◌, ℕ, suc, ◌+◌, ◌<◌, Bool, true, false, cond, List, [], ◌∷◌, ◌++◌, get_or, drop, map, length, refl, sym, ◌∙◌, ap, subst, arith, AllByRecursion, filter, IsStableBy, ties, IsStrictWeakOrder, Attribute, attribute_of, AreNumbered, pair_of, in_order, length-append, replicate, cond_both, get_or_append_left, get_or_default, All, IsPermutation, IsSorted, IsTotalOrder, put_in}
 use Rattle.std.proofs.lemmas.Bool.Decides.{nat_tests}
-use Rattle.std.proofs.lemmas.List.{get_or_append_left, get_or_default}
+use Rattle.std.proofs.lemmas.List.Elements.{recursion_from_All}
 use Rattle.std.proofs.Math.Seq.{get_or-append_seam}
 use Rattle.std.proofs.Math.Decide.{dec_lt}
 use Rattle.std.proofs.lemmas.List.Sorted.{ranks_by, All-permutation, sum_by-IsPermutation}
 use Rattle.std.proofs.lemmas.List.Sums.{length-filter}
 use Rattle.std.proofs.lemmas.Cmp.{nat_cmp_total, nat_list_cmp_total, on_total, then_total, ranked}
 use Rattle.std.specs.Borrow.{Bor}
-use Rattle.std.specs.List.{All, AllByRecursion, filter}
-use Rattle.std.specs.List.Sorted.{IsPermutation, IsSorted, IsStableBy, ties}
-use Rattle.std.specs.Cmp.{IsStrictWeakOrder, IsTotalOrder}
 use Rattle.std.specs.Cmp.Lexicographic.{slice_cmp}
 use Rattle.std.specs.Ordering.{nat_cmp, is_lt, ordering_reverse, ordering_then}
 use Rattle.std.specs.declared.cmp.Ordering.{Ordering}
 use Rattle.std.specs.declared.cmp.Ordering.TheVariants.{Less, Equal, Greater}
 use Rattle.names.specs.declared.attr.Attr.{Attr}
-use Rattle.hnodes.specs.Forest.{Attribute}
-use Rattle.hnodes.specs.Rows.{attribute_of}
-use Rattle.hprint.specs.Entries.{AreNumbered, pair_of}
-use Rattle.hprint.specs.Lines.{put_in, in_order}
 use Rattle.hserialize.proofs.Attributes.{dropped}
 use Rattle.hprint.proofs.Sorting.{put, inserted, parts, sorted-is}
 
@@ -40,16 +33,12 @@ entries_order : IsStrictWeakOrder is_less
 entries_order = ranks_by compare_total (λ (e : Entry). e)
 
 neither : (o : Ordering) → is_lt o ≡ false → is_lt (ordering_reverse o) ≡ false → o ≡ Equal
-neither Less p q = cc
 neither Equal p q = refl
-neither Greater p q = cc
+neither _ p q = cc
 
 place_tied : (a n c : Ordering) → ordering_then (ordering_then a n) c ≡ Equal → n ≡ Equal
-place_tied Less n c e = cc
-place_tied Equal Less c e = cc
 place_tied Equal Equal c e = refl
-place_tied Equal Greater c e = cc
-place_tied Greater n c e = cc
+place_tied _ _ c e = cc
 
 -- entries that tie have one place
 one_place : (z e : Entry) → ties is_less z e ≡ true → e.1 ≡ z.1
@@ -59,22 +48,14 @@ one_place z e tied =
     let same : z.1 ≡ e.1 = ranked z.1 e.1 Equal (sym (place_tied _ _ _ equal)) in
     sym same
 
-all_of : {X : Type 0} (P : X → Type 0) (xs : List X) → All P xs → AllByRecursion P xs
-all_of P [] h = tt
-all_of P (x ∷ xs) h = (h 0 x (omega arith), all_of P xs (λ k d inside. h (suc k) d (omega arith)))
-
 -- a test that one element alone passes
 each_is : {X : Type 0} (p : X → Bool) (w : X) (xs : List X) → AllByRecursion (λ x. p x ≡ true → x ≡ w) xs → filter p xs ≡ replicate (length (filter p xs)) w
 each_is p w [] h = refl
-each_is p w (x ∷ xs) h = go (p x) refl (each_is p w xs h.1)
-  where
-    go : (u : Bool) → p x ≡ u → filter p xs ≡ replicate (length (filter p xs)) w → cond u (x ∷ filter p xs) (filter p xs) ≡ replicate (length (cond u (x ∷ filter p xs) (filter p xs))) w
-    go true is i = λ k. h.0 is k ∷ i k
-    go false is i = i
+each_is p w (x ∷ xs) h = cond_both (p x) (x ∷ filter p xs) (filter p xs) (λ l. l ≡ replicate (length l) w) (λ is k. h.0 is k ∷ each_is p w xs h.1 k) (λ _. each_is p w xs h.1)
 
 -- entries that have the numbers of their places stay in the order of these where they tie
 settled : (xs ys : List Entry) → AreNumbered xs → IsPermutation xs ys → IsStableBy is_less xs ys
-settled xs ys numbered moved z = each_is tied it ys (all_of IsIt ys (All-permutation IsIt xs ys moved own)) ∙ ap (λ n. replicate n it) counts ∙ sym (each_is tied it xs (all_of IsIt xs own))
+settled xs ys numbered moved z = each_is tied it ys (recursion_from_All IsIt ys (All-permutation IsIt xs ys moved own)) ∙ ap (λ n. replicate n it) counts ∙ sym (each_is tied it xs (recursion_from_All IsIt xs own))
   where
     tied : Entry → Bool
     tied = ties is_less z
@@ -107,11 +88,7 @@ put_pair a (b ∷ es) h = go (slice_cmp nat_cmp b.0.now a.0.now) (put_pair a es 
 
 put_all : (P : Entry → Type 0) (a : Entry) (es : List Entry) → P a → AllByRecursion P es → AllByRecursion P (put is_less a es)
 put_all P a [] p h = (p, tt)
-put_all P a (b ∷ es) p h = go (is_less b a) (put_all P a es p h.1)
-  where
-    go : (u : Bool) → AllByRecursion P (put is_less a es) → AllByRecursion P (cond u (b ∷ put is_less a es) (a ∷ b ∷ es))
-    go true i = (h.0, i)
-    go false i = (p, h)
+put_all P a (b ∷ es) p h = cond_both (is_less b a) (b ∷ put is_less a es) (a ∷ b ∷ es) (AllByRecursion P) (λ _. (h.0, put_all P a es p h.1)) (λ _. (p, h))
 
 inserted_all : (P : Entry → Type 0) (es : List Entry) → AllByRecursion P es → AllByRecursion P (inserted is_less es)
 inserted_all P [] h = tt
@@ -120,7 +97,7 @@ inserted_all P (a ∷ es) h = put_all P a (inserted is_less es) h.0 (inserted_al
 inserted_pairs : (k : ℕ) (es : List Entry) → ((i : ℕ) (d : Entry) → i < length es → (get_or es i d).1 ≡ k + i) → map pair_of (inserted is_less es) ≡ in_order (map pair_of es)
 inserted_pairs k [] h = refl
 inserted_pairs k (a ∷ es) h =
-    put_pair a (inserted is_less es) (inserted_all (λ b. a.1 < b.1) es (all_of (λ b. a.1 < b.1) es later)) ∙ ap (put_in (pair_of a)) (inserted_pairs (suc k) es (λ i d p. let next = h (suc i) d (omega arith) in omega (arith, next)))
+    put_pair a (inserted is_less es) (inserted_all (λ b. a.1 < b.1) es (recursion_from_All (λ b. a.1 < b.1) es later)) ∙ ap (put_in (pair_of a)) (inserted_pairs (suc k) es (λ i d p. let next = h (suc i) d (omega arith) in omega (arith, next)))
   where
     later : All (λ b. a.1 < b.1) es
     later i d p = let first = h 0 a (omega arith) in let next = h (suc i) d (omega arith) in omega (arith, first, next)

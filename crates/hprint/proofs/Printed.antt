@@ -1,12 +1,6 @@
 -- What a walk prints.
-use Rattle.std.proofs.Common.{◌≡◌, ℕ, zero, suc, ◌+◌, ◌^◌, ◌<◌, ◌≤◌, Bool, true, false, cond, List, [], ◌∷◌, ◌++◌, length, refl, sym, ◌∙◌, ap, subst, arith}
-use Rattle.std.proofs.lemmas.List.{append_assoc, append-nil}
-use Rattle.names.specs.Names.{Texts, text_of}
-use Rattle.hnodes.specs.Forest.{Forest, none, tree, children_of}
+use Rattle.hprint.proofs.Names.{◌≡◌, ℕ, suc, ◌+◌, ◌<◌, ◌≤◌, List, [], ◌∷◌, ◌++◌, length, refl, sym, ◌∙◌, ap, subst, arith, append_assoc, text_of, what_of, zero, ◌^◌, append-nil, Texts, Forest, none, tree, children_of, spelled, spelled_what, node_lines, tree_lines, tree_text, Taken, Adds, Fails, none_added, both_added, then_failed, cond_both}
 use Rattle.hnodes.specs.Edits.{AreCounted}
-use Rattle.hnodes.specs.Spelled.{spelled, spelled_what}
-use Rattle.hnodes.specs.Spots.{what_of}
-use Rattle.hprint.specs.Lines.{node_lines, tree_lines, tree_text}
 use Rattle.hprint.specs.Printing.{one_less, depth_after, IsOpen, lines_of, visit_lines}
 use Rattle.hserialize.specs.Walk.{goes_in, visits}
 use Rattle.hserialize.specs.declared.walk.Reach.{Reach}
@@ -14,8 +8,6 @@ use Rattle.hserialize.specs.declared.walk.Reach.TheVariants.{Whole}
 use Rattle.hserialize.specs.declared.walk.Visit.{Visit}
 use Rattle.hserialize.specs.declared.walk.Visit.TheVariants.{Enter, Leave}
 use Rattle.names.specs.declared.refusal.Refusal.{Refusal}
-use Rattle.hserialize.specs.Output.{Taken, Adds, Fails}
-use Rattle.hserialize.proofs.Output.{none_added, both_added, then_failed}
 use Rattle.hserialize.proofs.Runs.{run, walked, run-visits}
 use Rattle.hserialize.proofs.Seen.{Seen, seen}
 
@@ -26,12 +18,13 @@ Balanced depth (v ∷ vs) = IsOpen depth v × Balanced (depth_after v depth) vs
 
 balanced : (reach : Reach) (f : Forest ℕ) (depth : ℕ) (more : List Visit) → Balanced depth more → Balanced depth (visits reach f ++ more)
 balanced reach none depth more h = h
-balanced reach (tree b w kids rest) depth more h = (tt, go (goes_in reach w) (balanced reach kids (suc depth) (Leave b ∷ (visits reach rest ++ more))) (omega arith, balanced reach rest depth more h))
-  where
-    go : (u : Bool) → (Balanced (suc depth) (Leave b ∷ (visits reach rest ++ more)) → Balanced (suc depth) (visits reach kids ++ (Leave b ∷ (visits reach rest ++ more)))) → Balanced (suc depth) (Leave b ∷ (visits reach rest ++ more))
-        → Balanced (suc depth) ((cond u (visits reach kids) [] ++ Leave b ∷ visits reach rest) ++ more)
-    go true l r = subst (Balanced (suc depth)) (sym (append_assoc (visits reach kids) (Leave b ∷ visits reach rest) more)) (l r)
-    go false l r = r
+balanced reach (tree b w kids rest) depth more h =
+    let after : Balanced (suc depth) (Leave b ∷ (visits reach rest ++ more)) = (omega arith, balanced reach rest depth more h) in (
+      tt,
+      cond_both (goes_in reach w) (visits reach kids) [] (λ l. Balanced (suc depth) ((l ++ Leave b ∷ visits reach rest) ++ more))
+          (λ _. subst (Balanced (suc depth)) (sym (append_assoc (visits reach kids) (Leave b ∷ visits reach rest) more)) (balanced reach kids (suc depth) (Leave b ∷ (visits reach rest ++ more)) after))
+          (λ _. after),
+    )
 
 module _ (texts : ℕ → List ℕ) (f : Forest ℕ) where
   -- the depth, and what has been printed
@@ -61,48 +54,31 @@ pub record IsPrinting (names : Texts) (f : Forest ℕ) (root depth : ℕ) (out :
   pub balanced : Balanced depth left
   pub same : run (enters (text_of names) f) (leaves (text_of names) f) left (depth, out) ≡ (0, tree_text (spelled (text_of names) (children_of root f)))
 
-begun : (names : Texts) (made : ℕ) (f : Forest ℕ) (root : ℕ) (out : List ℕ) (left items : List Visit) → AreCounted made f → root < made → out ≡ [] → left ≡ items
-    → items ≡ visits Whole (children_of root f) → length items < 2 ^ 33 → IsPrinting names f root 0 out left
-begun names made f root out left items counted h empty same visited few = record {
-  few = let long : length left ≡ length items = ap length same in omega (arith, few, long);
-  balanced = subst (Balanced 0) (append-nil (visits Whole (children_of root f)) ∙ sym is) (balanced Whole (children_of root f) 0 [] tt);
-  same = (λ i. run (enters (text_of names) f) (leaves (text_of names) f) (is i) (0, empty i)) ∙ run-visits (enters (text_of names) f) (leaves (text_of names) f) Whole (children_of root f) (0, [])
-      ∙ prints (text_of names) f made root root (children_of root f) (seen made f counted root h) 0 [];
-}
-  where
-    is : left ≡ visits Whole (children_of root f)
-    is = same ∙ visited
+deepens : (v : Visit) (depth : ℕ) → depth_after v depth ≤ depth + 1
+deepens (Enter n) depth = omega arith
+deepens (Leave n) zero = omega arith
+deepens (Leave n) (suc depth) = omega arith
+
+one-visit : (texts : ℕ → List ℕ) (f : Forest ℕ) (v : Visit) (left : List Visit) (depth : ℕ) (out : List ℕ) → run (enters texts f) (leaves texts f) (v ∷ left) (depth, out) ≡ run (enters texts f) (leaves texts f) left (depth_after v depth, out ++ visit_lines texts f depth v)
+one-visit texts f (Enter n) left depth out = refl
+one-visit texts f (Leave n) left depth out = ap (λ (o : List ℕ). run (enters texts f) (leaves texts f) left (one_less depth, o)) (sym (append-nil out))
 
 -- one visit more
 goes_on : (names : Texts) (f : Forest ℕ) (root depth depth' : ℕ) (out out' : List ℕ) (v : Visit) (old left : List Visit) → old ≡ v ∷ left → IsPrinting names f root depth out old
     → depth' ≡ depth_after v depth → out' ≡ out ++ visit_lines (text_of names) f depth v → IsPrinting names f root depth' out' left
-goes_on names f root depth depth' out out' v old left is s d o = go v (subst (IsPrinting names f root depth out) is s) d o
-  where
-    go : (v : Visit) → IsPrinting names f root depth out (v ∷ left) → depth' ≡ depth_after v depth → out' ≡ out ++ visit_lines (text_of names) f depth v → IsPrinting names f root depth' out' left
-    go (Enter n) t e e' = record {
-      few = let long = t.few in omega (arith, long, e);
-      balanced = subst (λ k. Balanced k left) (sym e) t.balanced.1;
-      same = (λ i. run (enters (text_of names) f) (leaves (text_of names) f) left (e i, e' i)) ∙ t.same;
+goes_on names f root depth depth' out out' v old left is s d o =
+    let t = subst (IsPrinting names f root depth out) is s in
+    record {
+      few = let long = t.few in let deep = deepens v depth in omega (arith, long, d, deep);
+      balanced = subst (λ k. Balanced k left) (sym d) t.balanced.1;
+      same = (λ i. run (enters (text_of names) f) (leaves (text_of names) f) left (d i, o i)) ∙ sym (one-visit (text_of names) f v left depth out) ∙ t.same;
     }
-    go (Leave n) t e e' = record {
-      few = let long = t.few in let less = below depth in omega (arith, long, e, less);
-      balanced = subst (λ k. Balanced k left) (sym e) t.balanced.1;
-      same = (λ i. run (enters (text_of names) f) (leaves (text_of names) f) left (e i, (e' ∙ append-nil out) i)) ∙ t.same;
-    }
-      where
-        below : (k : ℕ) → one_less k ≤ k
-        below zero = omega arith
-        below (suc k) = omega arith
 
 -- what the next visit asks for
 pub next_is : (names : Texts) (f : Forest ℕ) (root depth : ℕ) (out : List ℕ) (v : Visit) (old left : List Visit) → old ≡ v ∷ left → IsPrinting names f root depth out old
     → (depth < 2 ^ 33) × IsOpen depth v
 next_is names f root depth out v old left is s =
     let t = subst (IsPrinting names f root depth out) is s in let long = t.few in (omega (arith, long), t.balanced.0)
-
--- the end
-printed : (names : Texts) (f : Forest ℕ) (root depth : ℕ) (out : List ℕ) (left : List Visit) → left ≡ [] → IsPrinting names f root depth out left → out ≡ tree_text (spelled (text_of names) (children_of root f))
-printed names f root depth out left is s = ap (λ (q : ℕ × List ℕ). q.1) (subst (IsPrinting names f root depth out) is s).same
 
 -- What was added so far is a beginning of the text.
 pub record IsPutting (names : Texts) (f : Forest ℕ) (root depth : ℕ) (old now : Taken) (left : List Visit) : Type 0 where
@@ -115,7 +91,12 @@ pub begun_putting : (names : Texts) (made : ℕ) (f : Forest ℕ) (root : ℕ) (
 begun_putting names made f root old left items counted h same visited few = record {
   done = [];
   added = none_added old;
-  printing = begun names made f root [] left items counted h refl same visited few;
+  printing = record {
+    few = let long : length left ≡ length items = ap length same in omega (arith, few, long);
+    balanced = subst (Balanced 0) (append-nil (visits Whole (children_of root f)) ∙ sym (same ∙ visited)) (balanced Whole (children_of root f) 0 [] tt);
+    same = ap (λ l. run (enters (text_of names) f) (leaves (text_of names) f) l (0, [])) (same ∙ visited) ∙ run-visits (enters (text_of names) f) (leaves (text_of names) f) Whole (children_of root f) (0, [])
+        ∙ prints (text_of names) f made root root (children_of root f) (seen made f counted root h) 0 [];
+  };
 }
 
 module _ (names : Texts) (f : Forest ℕ) (root depth : ℕ) (old now : Taken) (v : Visit) (before left : List Visit) (is : before ≡ v ∷ left) (s : IsPutting names f root depth old now before) where
@@ -142,4 +123,4 @@ module _ (names : Texts) (f : Forest ℕ) (root depth : ℕ) (old now : Taken) (
 
 -- the end
 pub all_printed : (names : Texts) (f : Forest ℕ) (root depth : ℕ) (old now : Taken) (left : List Visit) → left ≡ [] → IsPutting names f root depth old now left → Adds old now (tree_text (spelled (text_of names) (children_of root f)))
-all_printed names f root depth old now left is s = subst (Adds old now) (printed names f root depth s.done left is s.printing) s.added
+all_printed names f root depth old now left is s = subst (Adds old now) (ap (λ (q : ℕ × List ℕ). q.1) (subst (IsPrinting names f root depth s.done) is s.printing).same) s.added

@@ -1,6 +1,7 @@
 -- A text as it is written, in runs of characters that are written as they are.
-use Rattle.hserialize.proofs.Names.{◌≡◌, ℕ, ◌+◌, ◌-◌, ◌≤◌, List, [], ◌∷◌, ◌++◌, length, take, drop, refl, sym, ◌∙◌, ap, subst, arith, length-append, append_assoc, take_rest, encode_utf8, flat_map, Refusal, escaped, Taken, Adds, Fails, Escaping}
+use Rattle.hserialize.proofs.Names.{◌≡◌, ℕ, ◌+◌, ◌-◌, List, [], ◌++◌, length, take, drop, refl, sym, ◌∙◌, ap, arith, length-append, append_assoc, take_rest, encode_utf8, flat_map, Refusal, escaped, Taken, Adds, Fails, Escaping}
 use Rattle.std.proofs.Math.Seq.{drop-append_seam, take-append_seam}
+use Rattle.std.proofs.lemmas.List.{nil_from_length}
 use Rattle.std.proofs.lemmas.Str.{chars-nil, chars_past_char, IsUtf8-past_char}
 use Rattle.std.specs.Str.{IsUtf8}
 use Rattle.hserialize.specs.Escaping.{written_char}
@@ -17,13 +18,9 @@ pub record IsEscaping (how : Escaping) (setting : Setting) (source : List ℕ) (
   pub utf8 : IsUtf8 rest
   pub left : HasLeft old now (escaped how setting source) (run ++ escaped how setting rest)
 
-begins : (how : Escaping) (setting : Setting) (source : List ℕ) (old : Taken) → IsUtf8 source → IsEscaping how setting source 0 0 source old old
-begins how setting source old utf8 =
-    record { before = []; run = []; parts = refl; done_is = refl; at_is = refl; utf8 = utf8; left = none_put old (escaped how setting source) }
-
 pub begins_at : (how : Escaping) (setting : Setting) (source : List ℕ) (at : ℕ) (rest : List ℕ) (old : Taken) → at ≡ 0 → rest ≡ source → IsUtf8 source → IsEscaping how setting source 0 at rest old old
 begins_at how setting source at rest old none all utf8 =
-    subst (λ a. IsEscaping how setting source 0 a rest old old) (sym none) (subst (λ r. IsEscaping how setting source 0 0 r old old) (sym all) (begins how setting source old utf8))
+    record { before = []; run = []; parts = sym all; done_is = refl; at_is = none; utf8 = rw (all) utf8; left = rw (all) (none_put old (escaped how setting source)) }
 
 module _ (how : Escaping) (setting : Setting) (source : List ℕ) (done at : ℕ) (rest : List ℕ) (old now : Taken) (s : IsEscaping how setting source done at rest old now) where
   pub run_left : drop done source ≡ s.run ++ rest
@@ -34,13 +31,6 @@ module _ (how : Escaping) (setting : Setting) (source : List ℕ) (done at : ℕ
     where
       count : end - done ≡ length s.run
       count = omega (arith, s.done_is, s.at_is, here)
-
-  -- they are in order, within what is lent
-  pub in_order : (lent : List ℕ) → lent ≡ source → (done ≤ at) × (at ≤ length lent)
-  in_order lent same =
-      let whole : length lent ≡ length s.before + (length s.run + length rest) =
-      ap length (same ∙ s.parts) ∙ length-append s.before (s.run ++ rest) ∙ ap (λ n. length s.before + n) (length-append s.run rest) in
-      (omega (arith, s.done_is, s.at_is), omega (arith, whole, s.at_is))
 
   module _ (ch : ℕ) (next : List ℕ) (split : rest ≡ encode_utf8 ch ++ next) where
     escaped_next : escaped how setting rest ≡ written_char how setting ch ++ escaped how setting next
@@ -79,18 +69,14 @@ module _ (how : Escaping) (setting : Setting) (source : List ℕ) (done at : ℕ
       }
         where
           place : at + length (encode_utf8 ch) ≡ length (s.before ++ (s.run ++ encode_utf8 ch))
-          place =
-              let a : length (s.before ++ (s.run ++ encode_utf8 ch)) ≡ length s.before + (length s.run + length (encode_utf8 ch)) =
-              length-append s.before (s.run ++ encode_utf8 ch) ∙ ap (λ n. length s.before + n) (length-append s.run (encode_utf8 ch)) in
-              omega (arith, a, s.at_is)
+          place = simp (length-append) (omega (arith, s.at_is))
 
       pub put_failed : (new : Taken) {e : Refusal} → Fails e now new (part ++ text) → Fails e old new (escaped how setting source)
       put_failed new = part_failed old now new _ _ _ _ s.left parted
 
   -- the last run
   pub last_is : length rest ≡ 0 → (lent : List ℕ) → lent ≡ source → s.run ++ escaped how setting rest ≡ take (length lent - done) (drop done lent)
-  last_is h lent same = go rest h run_left ∙ ap (drop done) (sym same) ∙ sym (take_rest lent done)
-    where
-      go : (r : List ℕ) → length r ≡ 0 → drop done source ≡ s.run ++ r → s.run ++ escaped how setting r ≡ drop done source
-      go [] h is = ap (λ cs. s.run ++ flat_map (written_char how setting) cs) chars-nil ∙ sym is
-      go (b ∷ r) h is = absurd (omega (arith, h))
+  last_is h lent same =
+      let none = nil_from_length rest h in
+      ap (λ r. s.run ++ escaped how setting r) none ∙ ap (λ cs. s.run ++ flat_map (written_char how setting) cs) chars-nil
+      ∙ sym (run_left ∙ ap (λ r. s.run ++ r) none) ∙ ap (drop done) (sym same) ∙ sym (take_rest lent done)

@@ -7,7 +7,6 @@ pub mod KnownNames
 pub mod Attributes
 pub mod Output
 pub mod Finished
-pub mod InMemory
 pub mod Escapes
 pub mod Wrote
 pub mod Outer

@@ -1,5 +1,5 @@
 -- The moves of a walk.
-use Rattle.hserialize.proofs.Names.{◌≡◌, ℕ, ◌<◌, Bool, true, false, eqb, cond, List, [], ◌∷◌, ◌++◌, Option, Some, None, refl, sym, ◌∙◌, ap, subst, arith, drop, option_and_then, ◌⊎◌, inl, inr, eq-eqb, append_assoc, append-nil, IsTrue, option_map, What, Forest, none, tree, join, children_of, Spot, spot_of, first_or, first_child_of, next_of, parent_of, what_of, AreCounted, ancestors_of, way_up, is_among, some_inj, join-assoc, spot-children, at-most, is-there, was-made, spot_among, child-spot, IsInside, apart, own-inside, goes_in, visits, after_ends, visits_from, Reach, Whole, Enter, Leave}
+use Rattle.hserialize.proofs.Names.{◌≡◌, ℕ, ◌<◌, Bool, true, false, eqb, cond, List, [], ◌∷◌, ◌++◌, Option, Some, None, refl, sym, ◌∙◌, ap, subst, arith, drop, option_and_then, ◌⊎◌, inl, inr, eq-eqb, append_assoc, append-nil, IsTrue, option_map, What, Forest, none, tree, join, children_of, Spot, spot_of, first_or, first_child_of, next_of, parent_of, what_of, AreCounted, ancestors_of, way_up, is_among, some_inj, join-assoc, spot-children, at-most, is-there, was-made, spot_among, child-spot, IsInside, apart, own-inside, goes_in, visits, after_ends, visits_from, Reach, Enter, Leave}
 use Rattle.std.proofs.Common.{◌≢◌}
 use Rattle.std.proofs.lemmas.Bool.{ne_eqb}
 use Rattle.hnodes.specs.Passed.{trees_after}
@@ -9,6 +9,10 @@ use Rattle.hnodes.proofs.ChildSpots.{root-spot}
 use Rattle.hnodes.proofs.TreeOrder.{Entered, entered}
 use Rattle.hnodes.proofs.WaysUp.{way-step}
 use Rattle.hserialize.specs.Walk.{visits_inside}
+
+no-first : (g : Forest ℕ) → first_or g None ≡ None → g ≡ none
+no-first none e = refl
+no-first (tree b w k R) e = cc
 
 module _ (made : ℕ) (f : Forest ℕ) (counted : AreCounted made f) (root : ℕ) where
   -- the nodes that a node is inside of are its parent and those that this is inside of
@@ -52,11 +56,7 @@ module _ (made : ℕ) (f : Forest ℕ) (counted : AreCounted made f) (root : ℕ
           rw e (subst (λ (m : ℕ). (visits_from reach root (Some (Enter m)) f ≡ visits reach (tree b w k R) ++ after_ends reach root (way_up (Some n) f) f) × IsInside made root f m) (some_inj j) (comes reach n b w none k R h e inside))
 
   no-child : (n : ℕ) → n < made → first_child_of n f ≡ None → children_of n f ≡ none
-  no-child n h is = go (children_of n f) (sym (first_child-is n f (is-there made f counted n h)) ∙ is)
-    where
-      go : (g : Forest ℕ) → first_or g None ≡ None → g ≡ none
-      go none j = refl
-      go (tree b w k R) j = cc
+  no-child n h is = no-first (children_of n f) (sym (first_child-is n f (is-there made f counted n h)) ∙ is)
 
   at_root : (reach : Reach) → after_ends reach root (way_up (Some root) f) f ≡ []
   at_root reach = rw (eq-eqb root root refl) refl
@@ -65,11 +65,10 @@ module _ (made : ℕ) (f : Forest ℕ) (counted : AreCounted made f) (root : ℕ
   root-among = rw (eq-eqb root root refl) refl
 
   -- the beginning
-  pub begins : (reach : Reach) (c : ℕ) → root < made → first_child_of root f ≡ Some c → visits_from reach root (Some (Enter c)) f ≡ visits reach (children_of root f)
-  begins reach c h is = (first reach root c h is root-among).0 ∙ ap (λ vs. visits reach (children_of root f) ++ vs) (at_root reach) ∙ append-nil (visits reach (children_of root f))
-
-  pub begins-inside : (c : ℕ) → root < made → first_child_of root f ≡ Some c → IsInside made root f c
-  begins-inside c h is = (first Whole root c h is root-among).1
+  pub begins : (reach : Reach) (c : ℕ) → root < made → first_child_of root f ≡ Some c → (visits_from reach root (Some (Enter c)) f ≡ visits reach (children_of root f)) × IsInside made root f c
+  begins reach c h is =
+      let (there, inside) = first reach root c h is root-among in
+      (there ∙ ap (λ vs. visits reach (children_of root f) ++ vs) (at_root reach) ∙ append-nil (visits reach (children_of root f)), inside)
 
   pub begins-none : (reach : Reach) → root < made → first_child_of root f ≡ None → [] ≡ visits reach (children_of root f)
   begins-none reach h is = ap (visits reach) (sym (no-child root h is))
@@ -84,14 +83,11 @@ module _ (made : ℕ) (f : Forest ℕ) (counted : AreCounted made f) (root : ℕ
       go (Some s) e j = λ i. cond (j s.what refl i) (visits reach (some_inj e i)) []
 
   -- into a node
-  pub descends : (reach : Reach) (n c : ℕ) → n < made → IsTrue (is_among root (ancestors_of n f)) → first_child_of n f ≡ Some c → ((w : What ℕ) → what_of n f ≡ Some w → goes_in reach w ≡ true)
-      → visits_from reach root (Some (Enter n)) f ≡ Enter n ∷ visits_from reach root (Some (Enter c)) f
-  descends reach n c h inside is goes =
-      ap (λ vs. Enter n ∷ vs ++ after_ends reach root (way_up (Some n) f) f) (inner reach true n h goes)
-      ∙ ap (λ vs. Enter n ∷ vs) (sym (first reach n c h is (own-inside made f counted root n inside)).0)
-
-  pub descends-inside : (n c : ℕ) → n < made → IsTrue (is_among root (ancestors_of n f)) → first_child_of n f ≡ Some c → IsInside made root f c
-  descends-inside n c h inside is = (first Whole n c h is (own-inside made f counted root n inside)).1
+  pub descends : (reach : Reach) (n c : ℕ) → n < made → IsTrue (is_among root (ancestors_of n f)) → first_child_of n f ≡ Some c
+      → (((w : What ℕ) → what_of n f ≡ Some w → goes_in reach w ≡ true) → visits_from reach root (Some (Enter n)) f ≡ Enter n ∷ visits_from reach root (Some (Enter c)) f) × IsInside made root f c
+  descends reach n c h inside is =
+      let (there, within) = first reach n c h is (own-inside made f counted root n inside) in
+      ((λ goes. ap (λ vs. Enter n ∷ vs ++ after_ends reach root (way_up (Some n) f) f) (inner reach true n h goes) ∙ ap (λ vs. Enter n ∷ vs) (sym there)), within)
 
   -- past a node into which the walk does not go, and past one that has no children
   pub passes : (reach : Reach) (n : ℕ) → n < made → ((w : What ℕ) → what_of n f ≡ Some w → goes_in reach w ≡ false) → visits_from reach root (Some (Enter n)) f ≡ Enter n ∷ visits_from reach root (Some (Leave n)) f
@@ -137,11 +133,7 @@ module _ (made : ℕ) (f : Forest ℕ) (counted : AreCounted made f) (root : ℕ
     where
       last : (o : Option (Spot ℕ)) → option_and_then (λ (s : Spot ℕ). first_or s.after None) o ≡ None → trees_after o ≡ none
       last None e = refl
-      last (Some s) e = under s.after e
-        where
-          under : (g : Forest ℕ) → first_or g None ≡ None → g ≡ none
-          under none j = refl
-          under (tree b w k R) j = cc
+      last (Some s) e = no-first s.after e
 
   pub climbs-inside : (n p : ℕ) → n < made → IsTrue (is_among root (ancestors_of n f)) → parent_of n f ≡ Some p → p ≢ root → IsTrue (is_among root (ancestors_of p f))
   climbs-inside n p h inside is apart' =

@@ -31,7 +31,7 @@ pub use Rattle.names.specs.declared.refusal.Refusal.{Refusal}
 pub use Rattle.names.specs.declared.refusal.Refusal.TheVariants.{Write}
 pub use Rattle.std.proofs.Common.{ap, ◌∙◌, ◌≡◌, ℕ, ◌++◌, sym, List, [], refl, ◌∷◌, subst, ◌<◌, length, arith, rules, Some, cond, Option, true, drop, false, ◌+◌, Bool, None, map, eqb, ◌≤◌, option_and_then, length-append, codes, suc, zero, Ok, take, ◌-◌, Err, get_or, inl, Result, drop-cons, add-one, ◌⊎◌, inr}
 pub use Rattle.std.proofs.KnownBytes.{Appends-trans}
-pub use Rattle.std.proofs.lemmas.Bool.{eq-eqb}
+pub use Rattle.std.proofs.lemmas.Bool.{cond_both, eq-eqb}
 pub use Rattle.std.proofs.lemmas.List.{append_assoc, append-nil, take_rest, drop_all}
 pub use Rattle.std.specs.Char.{encode_utf8}
 pub use Rattle.std.specs.Io.KnownBytes.{Appends}

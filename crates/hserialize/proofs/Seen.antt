@@ -1,9 +1,9 @@
 -- What is asked of the nodes inside one is what is in their trees.
-use Rattle.hserialize.proofs.Names.{◌≡◌, ℕ, ◌<◌, Bool, true, false, eqb, cond, [], Some, None, refl, sym, ◌∙◌, ap, option_and_then, eq-eqb, IsTrue, option_map, What, Forest, none, tree, join, children_of, Spot, spot_of, first_or, first_child_of, next_of, parent_of, what_of, AreCounted, ancestors_of, way_up, is_among, some_inj, join-assoc, is-there, spot_among, child-spot, IsInside, apart, own-inside, spot-children, goes_in, visits, Reach, Whole, Visit, Enter, Leave}
+use Rattle.hserialize.proofs.Names.{◌≡◌, ℕ, ◌<◌, false, cond_both, eqb, cond, [], Some, None, refl, sym, ◌∙◌, ap, option_and_then, eq-eqb, IsTrue, What, Forest, none, tree, join, children_of, Spot, spot_of, first_or, first_child_of, next_of, parent_of, what_of, AreCounted, ancestors_of, way_up, is_among, join-assoc, is-there, spot_among, child-spot, apart, own-inside, goes_in, visits, Reach, Visit, Enter, Leave}
 use Rattle.std.specs.List.{All}
 use Rattle.std.proofs.lemmas.List.Elements.{All-append, All-cons, All-nil}
 use Rattle.hserialize.specs.Walk.{node_of}
-use Rattle.hserialize.proofs.Moves.{comes, parents}
+use Rattle.hnodes.proofs.TreeOrder.{Entered, entered}
 
 -- what is asked of node b, where it is with these children below p, before these siblings
 pub record IsSeen (made : ℕ) (f : Forest ℕ) (root p b : ℕ) (w : What ℕ) (kids rest : Forest ℕ) : Type 0 where
@@ -26,30 +26,27 @@ module _ (made : ℕ) (f : Forest ℕ) (counted : AreCounted made f) (root : ℕ
   seen-among q L none h is inside = tt
   seen-among q L (tree b w k R) h is inside = (
     record {
-      made_is = within.0;
-      other = apart b root f within.1;
-      what = ap (option_map (λ (s : Spot ℕ). s.what)) spot;
-      up = parents made f counted root b within.0 ∙ ap (λ o. way_up o f) (ap (option_and_then (λ (s : Spot ℕ). s.parent)) spot);
+      made_is = a.made_is;
+      other = apart b root f within;
+      what = a.what;
+      up = a.up;
       parent = ap (option_and_then (λ (s : Spot ℕ). s.parent)) spot;
       first = ap (option_and_then (λ (s : Spot ℕ). first_or s.children None)) spot;
       next = ap (option_and_then (λ (s : Spot ℕ). first_or s.after None)) spot;
-      kids_are = kids;
+      kids_are = a.kids;
     },
-    seen-among b none k within.0 kids below,
+    seen-among b none k a.made_is a.kids (own-inside made f counted root b within),
     seen-among q (join L (tree b w k none)) R h (is ∙ sym (join-assoc L (tree b w k none) R)) inside,
   )
     where
-      within : IsInside made root f b
-      within = (comes made f counted root Whole q b w L k R h is inside).1
+      a : Entered made root q b w k R f
+      a = entered made f counted root q b w L k R h is
+
+      within : IsTrue (is_among root (ancestors_of b f))
+      within = rw a.up inside
 
       spot : spot_of b f ≡ Some (spot_among b q w L k R (Some q) None)
-      spot = child-spot b q w L k R f (is-there made f counted q h) (is-there made f counted b within.0) is
-
-      kids : children_of b f ≡ k
-      kids = some_inj (sym (spot-children b f (is-there made f counted b within.0)) ∙ ap (option_map (λ (s : Spot ℕ). s.children)) spot)
-
-      below : IsTrue (is_among root (way_up (Some b) f))
-      below = own-inside made f counted root b within.1
+      spot = child-spot b q w L k R f (is-there made f counted q h) (is-there made f counted b a.made_is) is
 
   pub seen : root < made → Seen made f root root (children_of root f)
   seen h = seen-among root none (children_of root f) h refl (rw (eq-eqb root root refl) refl)
@@ -62,12 +59,8 @@ module _ (made : ℕ) (f : Forest ℕ) (root : ℕ) (reach : Reach) where
   made-among : (p : ℕ) (g : Forest ℕ) → Seen made f root p g → All is_made (visits reach g)
   made-among p none s = All-nil is_made
   made-among p (tree b w kids rest) s =
-      All-cons is_made (Enter b) _ s.0.made_is
-      (All-append is_made (cond (goes_in reach w) (visits reach kids) []) _ (inside (goes_in reach w) (made-among b kids s.1)) (All-cons is_made (Leave b) _ s.0.made_is (made-among p rest s.2)))
-    where
-      inside : (u : Bool) → All is_made (visits reach kids) → All is_made (cond u (visits reach kids) [])
-      inside true h = h
-      inside false h = All-nil is_made
+      let inside = cond_both (goes_in reach w) (visits reach kids) [] (All is_made) (λ _. made-among b kids s.1) (λ _. All-nil is_made) in
+      All-cons is_made (Enter b) _ s.0.made_is (All-append is_made (cond (goes_in reach w) (visits reach kids) []) _ inside (All-cons is_made (Leave b) _ s.0.made_is (made-among p rest s.2)))
 
   pub made-visits : AreCounted made f → root < made → All is_made (visits reach (children_of root f))
   made-visits counted h = made-among root (children_of root f) (seen made f counted root h)

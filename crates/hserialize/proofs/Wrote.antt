@@ -1,5 +1,5 @@
 -- What a walk writes.
-use Rattle.hserialize.proofs.Names.{◌≡◌, ℕ, ◌<◌, Bool, true, false, cond, List, [], ◌∷◌, ◌++◌, map, Option, Some, None, refl, sym, ◌∙◌, ap, subst, option_and_then, append_assoc, append-nil, option_map, Texts, AreNames, text_of, is_void, tag_of, tag_named, What, document, doctype, element, comment, text, Forest, none, tree, children_of, AreCounted, spelled, spelled_attribute, what_of, name_in, Refusal, goes_in, visits, start_tag_text, end_tag_text, written_among, written, stands_raw, opening, opening_of, closing_of, Escaping, Visit, Enter, Leave, Taken, Adds, Fails}
+use Rattle.hserialize.proofs.Names.{◌≡◌, ℕ, ◌<◌, Bool, true, false, cond, List, [], ◌∷◌, ◌++◌, map, Option, Some, None, refl, sym, ◌∙◌, ap, subst, option_and_then, append_assoc, append-nil, option_map, Texts, AreNames, text_of, is_void, tag_of, tag_named, What, element, Forest, none, tree, children_of, AreCounted, spelled, spelled_attribute, what_of, name_in, Refusal, goes_in, visits, start_tag_text, end_tag_text, written_among, written, stands_raw, opening, opening_of, closing_of, Escaping, Visit, Enter, Leave, Taken, Adds, Fails}
 use Rattle.std.proofs.Common.{not}
 use Rattle.names.specs.Sets.{raw_kind}
 use Rattle.hnodes.specs.Spelled.{spelled_what}
@@ -41,10 +41,6 @@ module _ (how : Escaping) (texts : ℕ → List ℕ) (f : Forest ℕ) where
 
         go : (v : What ℕ) → what_of b f ≡ Some v
             → cond (goes_in Written v) (walked enters leaves Written kids (out ++ opening how texts raw v)) (out ++ opening how texts raw v) ++ closing texts v ≡ out ++ node_text how raw (spelled_what texts v) (written_among how (is_raw_in (name_in (spelled_what texts v))) (spelled texts kids))
-        go document e = append-nil (out ++ [])
-        go (doctype n x y) e = append-nil (out ++ opening how texts raw (doctype n x y))
-        go (comment t) e = append-nil (out ++ opening how texts raw (comment t))
-        go (text t) e = append-nil (out ++ opening how texts raw (text t))
         go (element name attrs) e = under (is_void (tag_of name)) ∙ ap (λ u. out ++ (start ++ cond u [] (written_among how (is_raw_in (Some (texts name))) (spelled texts kids) ++ end))) (ap is_void (tags name))
           where
             start : List ℕ
@@ -62,6 +58,7 @@ module _ (how : Escaping) (texts : ℕ → List ℕ) (f : Forest ℕ) where
                 ap (λ t. t ++ end) (inner (out ++ start) ∙ ap (λ r. (out ++ start) ++ written_among how r (spelled texts kids)) own)
                 ∙ append_assoc (out ++ start) (written_among how (is_raw_in (Some (texts name))) (spelled texts kids)) end
                 ∙ append_assoc out start (written_among how (is_raw_in (Some (texts name))) (spelled texts kids) ++ end)
+        go v e = append-nil (out ++ opening how texts raw v)
 
     writes : (p : ℕ) (g : Forest ℕ) → Seen made f root p g → (out : List ℕ) → walked enters leaves Written g out ≡ out ++ written_among how (holds_raw (name_of p f)) (spelled texts g)
     writes p none s out = sym (append-nil out)
@@ -78,22 +75,19 @@ wanted how names f node = written how (option_map (text_of names) (name_of node 
 abbrev pub visits_text : Escaping → Texts → Forest ℕ → List Visit → List ℕ
 visits_text how names f left = run (enters how (text_of names) f) (leaves how (text_of names) f) left []
 
+run-one : (how : Escaping) (names : Texts) (f : Forest ℕ) (v : Visit) (left : List Visit) (out : List ℕ) → run (enters how (text_of names) f) (leaves how (text_of names) f) (v ∷ left) out ≡ run (enters how (text_of names) f) (leaves how (text_of names) f) left (out ++ visit_text how (text_of names) f v)
+run-one how names f (Enter n) left out = refl
+run-one how names f (Leave n) left out = refl
+
 run-after : (how : Escaping) (names : Texts) (f : Forest ℕ) (left : List Visit) (out : List ℕ) → run (enters how (text_of names) f) (leaves how (text_of names) f) left out ≡ out ++ visits_text how names f left
 run-after how names f [] out = sym (append-nil out)
-run-after how names f (Enter n ∷ left) out =
-    let here = opening_of how (text_of names) (stands_raw n f) (what_of n f) in
-    run-after how names f left (out ++ here) ∙ append_assoc out here (visits_text how names f left) ∙ ap (λ l. out ++ l) (sym (run-after how names f left here))
-run-after how names f (Leave n ∷ left) out =
-    let here = closing_of (text_of names) (what_of n f) in
-    run-after how names f left (out ++ here) ∙ append_assoc out here (visits_text how names f left) ∙ ap (λ l. out ++ l) (sym (run-after how names f left here))
+run-after how names f (v ∷ left) out =
+    let here = visit_text how (text_of names) f v in
+    run-one how names f v left out ∙ run-after how names f left (out ++ here) ∙ append_assoc out here (visits_text how names f left) ∙ ap (λ l. out ++ l) (sym (run-one how names f v left [] ∙ run-after how names f left here))
 
 -- one visit, and those after it
 pub first-visit : (how : Escaping) (names : Texts) (f : Forest ℕ) (v : Visit) (old left : List Visit) → old ≡ v ∷ left → visits_text how names f old ≡ visit_text how (text_of names) f v ++ visits_text how names f left
-first-visit how names f v old left is = ap (visits_text how names f) is ∙ go v
-  where
-    go : (v : Visit) → visits_text how names f (v ∷ left) ≡ visit_text how (text_of names) f v ++ visits_text how names f left
-    go (Enter n) = run-after how names f left (opening_of how (text_of names) (stands_raw n f) (what_of n f))
-    go (Leave n) = run-after how names f left (closing_of (text_of names) (what_of n f))
+first-visit how names f v old left is = ap (visits_text how names f) is ∙ run-one how names f v left [] ∙ run-after how names f left (visit_text how (text_of names) f v)
 
 -- the visits that are left write the rest of it
 abbrev pub IsWriting : (how : Escaping) (names : Texts) (f : Forest ℕ) (node : ℕ) (old now : Taken) (left : List Visit) → Type 0
@@ -103,13 +97,10 @@ pub begun : (how : Escaping) (names : Texts) (made : ℕ) (f : Forest ℕ) (node
     → items ≡ visits Written (children_of node f) → IsWriting how names f node old old left
 begun how names made f node old left items table counted h same visited = subst (HasLeft old old (wanted how names f node)) (sym whole) (none_put old (wanted how names f node))
   where
-    tags : (id : ℕ) → tag_of id ≡ tag_named (text_of names id)
-    tags id = tags-agree names table id
-
     whole : visits_text how names f left ≡ wanted how names f node
     whole =
         ap (visits_text how names f) (same ∙ visited) ∙ run-visits (enters how (text_of names) f) (leaves how (text_of names) f) Written (children_of node f) []
-        ∙ writes how (text_of names) f tags made node node (children_of node f) (seen made f counted node h) [] ∙ ap (λ r. written_among how r (spelled (text_of names) (children_of node f))) (raw-same how (text_of names) f tags made node (name_of node f))
+        ∙ writes how (text_of names) f (tags-agree names table) made node node (children_of node f) (seen made f counted node h) [] ∙ ap (λ r. written_among how r (spelled (text_of names) (children_of node f))) (raw-same how (text_of names) f (tags-agree names table) made node (name_of node f))
 
 module _ (how : Escaping) (names : Texts) (f : Forest ℕ) (node : ℕ) (old now : Taken) (v : Visit) (before left : List Visit) (is : before ≡ v ∷ left) (s : IsWriting how names f node old now before) where
   -- one visit more

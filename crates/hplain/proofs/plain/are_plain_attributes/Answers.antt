@@ -1,8 +1,5 @@
-use Rattle.std.proofs.Common.{◌∙◌, ap, sym, map, nat_eq, true}
+use Rattle.hplain.proofs.Names.{◌∙◌, ap, sym, map, nat_eq, true, ◌&&◌, names_differ, attribute_of}
 use Rattle.std.specs.Option.{option_map_or}
-use Rattle.std.specs.Prelude.{◌&&◌}
-use Rattle.hnodes.specs.Differing.{names_differ}
-use Rattle.hnodes.specs.Rows.{attribute_of}
 use Rattle.hplain.proofs.PlainNames.{plain-are}
 use Rattle.hplain.proofs.plain.are_plain_attributes.Goals as goal
 

@@ -1,13 +1,6 @@
-use Rattle.std.proofs.Common.{◌∙◌, ◌≡◌, ℕ, List, sym, ap}
-use Rattle.names.specs.declared.tag.Tag.{Tag}
-use Rattle.names.specs.Names.{text_of}
-use Rattle.names.specs.Tags.{tag_named}
-use Rattle.hnodes.specs.Forest.{children_of}
-use Rattle.hnodes.specs.Spelled.{spelled}
-use Rattle.hplain.specs.ContentTable.{row}
-use Rattle.hplain.specs.Plain.{in_context, in_context_of, is_form}
-use Rattle.hplain.specs.Testing.{top_content}
-use Rattle.hplain.proofs.Regions.{begun, fails, found, goes_on, none_plain, not_plain, top_other}
+use Rattle.hplain.proofs.Names.{◌∙◌, ◌≡◌, ℕ, List, sym, ap, Tag, text_of, tag_named, children_of, spelled, row, in_context, in_context_of, is_form, top_content}
+use Rattle.hplain.proofs.Regions.{begun, none_plain, not_plain, top_other}
+use Rattle.hplain.proofs.Walks.{fails, found, goes_on}
 use Rattle.hplain.proofs.plain.is_plain.Goals as goal
 
 -- the plain lists in an element whose known name is that of the context
@@ -33,14 +26,10 @@ loop-visit-init c =
     (sym c.if-not-is_plain_region.false ∙ c.is_plain_region.ensures) c.is_form-in_form.ensures c.into_iter-visit-iterator.ensures.into_iter_gives c.new-visit-items.ensures.visits
 
 pub loop-visit-preserved : goal.loop-visit-preserved
-loop-visit-preserved c =
-    goes_on c.args.names.now c.args.tree.now.trees c.args.root c.args.context.now c.loop-visit.in_form c.in-Some-form_after.after c.in-Some-visit.visit c.loop-visit.visit-iterator c.next.new.self
-    c.in-Some-visit.ensures.steps c.loop-visit.invariant c.in-Some-form_after.ensures
+loop-visit-preserved c = goes_on _ _ _ c.in-Some-visit.visit _ _ c.in-Some-visit.ensures.steps c.loop-visit.invariant _ c.in-Some-form_after.ensures
 
 pub returns-in-None-form_after : goal.returns-in-None-form_after
-returns-in-None-form_after c =
-    fails c.args.names.now c.args.tree.now.trees c.args.root c.args.context.now c.loop-visit.in_form c.in-Some-visit.visit c.loop-visit.visit-iterator c.next.new.self
-    c.in-Some-visit.ensures.steps c.loop-visit.invariant c.in-None-form_after.ensures
+returns-in-None-form_after c = fails _ _ _ c.in-Some-visit.visit _ _ c.in-Some-visit.ensures.steps c.loop-visit.invariant c.in-None-form_after.ensures
 
 pub returns : goal.returns
-returns c = found c.args.names.now c.args.tree.now.trees c.args.root c.args.context.now c.loop-visit.in_form c.loop-visit.visit-iterator c.in-None.ensures.steps.0 c.loop-visit.invariant
+returns c = found _ _ _ _ c.in-None.ensures.steps.0 c.loop-visit.invariant

@@ -1,4 +1,5 @@
-use Rattle.hplain.proofs.Tested.{begun, fails, found, goes_on}
+use Rattle.hplain.proofs.Tested.{begun}
+use Rattle.hplain.proofs.Walks.{fails, found, goes_on}
 use Rattle.hplain.proofs.plain.is_plain_region.Goals as goal
 
 pub loop-visit-init : goal.loop-visit-init
@@ -7,14 +8,10 @@ loop-visit-init c =
     c.requires.not_phrasing c.alone-around.ensures c.into_iter-visit-iterator.ensures.into_iter_gives c.new-visit-items.ensures.visits
 
 pub loop-visit-preserved : goal.loop-visit-preserved
-loop-visit-preserved c =
-    goes_on c.args.names.now c.args.tree.now.trees c.args.root c.args.top c.loop-visit.around c.in-Some-after_visit.after c.in-Some.visit c.loop-visit.visit-iterator c.next.new.self
-    c.in-Some.ensures.steps c.loop-visit.invariant c.in-Some-after_visit.ensures
+loop-visit-preserved c = goes_on _ _ _ c.in-Some.visit _ _ c.in-Some.ensures.steps c.loop-visit.invariant _ c.in-Some-after_visit.ensures
 
 pub returns-in-None-after_visit : goal.returns-in-None-after_visit
-returns-in-None-after_visit c =
-    fails c.args.names.now c.args.tree.now.trees c.args.root c.args.top c.loop-visit.around c.in-Some.visit c.loop-visit.visit-iterator c.next.new.self c.in-Some.ensures.steps
-    c.loop-visit.invariant c.in-None-after_visit.ensures
+returns-in-None-after_visit c = fails _ _ _ c.in-Some.visit _ _ c.in-Some.ensures.steps c.loop-visit.invariant c.in-None-after_visit.ensures
 
 pub returns : goal.returns
-returns c = found c.args.names.now c.args.tree.now.trees c.args.root c.args.top c.loop-visit.around c.loop-visit.visit-iterator c.in-None.ensures.steps.0 c.loop-visit.invariant
+returns c = found _ _ _ _ c.in-None.ensures.steps.0 c.loop-visit.invariant

@@ -1,4 +1,4 @@
-use Rattle.std.proofs.Common.{◌∙◌, false, sym, true}
+use Rattle.hplain.proofs.Names.{◌∙◌, false, sym, true}
 use Rattle.hplain.proofs.PlainNames.{no-more, tested-one}
 use Rattle.hplain.proofs.plain_texts.all_plain_attributes.Goals as goal
 

@@ -1,4 +1,4 @@
-use Rattle.std.proofs.Common.{◌≡◌}
+use Rattle.hplain.proofs.Names.{◌≡◌}
 use Rattle.hplain.proofs.PlainNames.{plain_from}
 use Rattle.hplain.proofs.plain_texts.all_plain_attributes.Given as goal
 

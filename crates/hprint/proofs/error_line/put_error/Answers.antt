@@ -1,7 +1,6 @@
-use Rattle.std.proofs.Common.{arith, decimal, rules, subst}
+use Rattle.hprint.proofs.Names.{arith, decimal, rules, subst, Puts, taken}
 use Rattle.std.proofs.lemmas.Fmt.{length-decimal-le}
 use Rattle.hprint.proofs.ErrorTexts.{line_kept, line_of_place}
-use Rattle.hserialize.specs.Output.{Puts, taken}
 use Rattle.hprint.proofs.error_line.put_error.Goals as goal
 
 pub write_digits-start-requires : goal.write_digits-start-requires

@@ -1,6 +1,5 @@
-use Rattle.std.proofs.Common.{codes, refl}
+use Rattle.hprint.proofs.Names.{codes, refl, first_failed, all_put, none_put, part_put, part_failed, passed_on}
 use Rattle.hprint.proofs.LineTexts.{first_level, one_level, no_level}
-use Rattle.hserialize.proofs.Output.{first_failed, all_put, none_put, part_put, part_failed, passed_on}
 use Rattle.hprint.proofs.lines.begin_line.Goals as goal
 
 pub returns-in_err-put : goal.returns-in_err-put

@@ -1,8 +1,4 @@
-use Rattle.std.proofs.Common.{◌-◌, ◌++◌}
-use Rattle.std.specs.List.{repeat}
-use Rattle.std.specs.Prelude.{codes}
-use Rattle.hserialize.specs.Output.{taken}
-use Rattle.hserialize.proofs.Output.{HasLeft}
+use Rattle.hprint.proofs.Names.{◌-◌, ◌++◌, repeat, codes, taken, HasLeft}
 use Rattle.hprint.proofs.lines.begin_line.Given as goal
 
 -- the spaces that are left

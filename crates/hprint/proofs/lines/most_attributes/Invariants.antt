@@ -1,5 +1,4 @@
-use Rattle.std.proofs.Common.{ℕ, ◌<◌, ◌≤◌}
-use Rattle.hnodes.specs.Spots.{what_of}
+use Rattle.hprint.proofs.Names.{ℕ, ◌<◌, ◌≤◌, what_of}
 use Rattle.hprint.specs.Printing.{attribute_count}
 use Rattle.hprint.proofs.lines.most_attributes.Given as goal
 

@@ -1,5 +1,4 @@
-use Rattle.std.proofs.Common.{◌∙◌, ap, rules}
-use Rattle.hserialize.proofs.Finished.{cut_short, finished}
+use Rattle.hprint.proofs.Names.{◌∙◌, ap, rules, cut_short, finished}
 use Rattle.hprint.proofs.lines.print_errors.Goals as goal
 
 pub returns-in_err-put_errors-clause-text : goal.returns-in_err-put_errors-clause-text

@@ -1,6 +1,4 @@
-use Rattle.std.proofs.Common.{◌∙◌, ◌++◌, codes, subst}
-use Rattle.hprint.specs.Lines.{indented}
-use Rattle.hserialize.specs.Output.{Puts, taken}
+use Rattle.hprint.proofs.Names.{◌∙◌, ◌++◌, codes, subst, indented, Puts, taken}
 use Rattle.hprint.proofs.LineTexts.{attribute_parts}
 use Rattle.hprint.proofs.lines.put_attribute.Goals as goal
 

@@ -1,10 +1,5 @@
-use Rattle.std.proofs.Common.{ap, map}
-use Rattle.std.proofs.lemmas.List.{drop_all}
-use Rattle.std.specs.List.{flat_map}
-use Rattle.hprint.specs.Entries.{pair_of}
-use Rattle.hprint.specs.Lines.{attribute_line}
+use Rattle.hprint.proofs.Names.{ap, map, drop_all, flat_map, pair_of, attribute_line, all_put, part_put, part_failed, passed_on}
 use Rattle.hprint.proofs.LineTexts.{next_items}
-use Rattle.hserialize.proofs.Output.{all_put, part_put, part_failed, passed_on}
 use Rattle.hprint.proofs.lines.put_attributes.Goals as goal
 
 pub returns-in_err-put_attribute : goal.returns-in_err-put_attribute

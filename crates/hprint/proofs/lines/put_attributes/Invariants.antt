@@ -1,9 +1,4 @@
-use Rattle.std.proofs.Common.{drop, map}
-use Rattle.std.specs.List.{flat_map}
-use Rattle.hprint.specs.Entries.{pair_of}
-use Rattle.hprint.specs.Lines.{attribute_line}
-use Rattle.hserialize.specs.Output.{taken}
-use Rattle.hserialize.proofs.Output.{HasLeft}
+use Rattle.hprint.proofs.Names.{drop, map, flat_map, pair_of, attribute_line, taken, HasLeft}
 use Rattle.hprint.proofs.lines.put_attributes.Given as goal
 
 -- the lines that are left

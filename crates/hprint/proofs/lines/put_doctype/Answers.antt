@@ -1,6 +1,4 @@
-use Rattle.std.proofs.Common.{◌∙◌, ◌++◌, codes, subst, sym}
-use Rattle.hprint.specs.Lines.{indented}
-use Rattle.hserialize.specs.Output.{Puts, taken}
+use Rattle.hprint.proofs.Names.{◌∙◌, ◌++◌, codes, subst, sym, indented, Puts, taken}
 use Rattle.hprint.proofs.LineTexts.{doctype_parts}
 use Rattle.hprint.proofs.lines.put_doctype.Goals as goal
 

@@ -1,8 +1,5 @@
-use Rattle.std.proofs.Common.{◌∙◌, map, refl, ap}
-use Rattle.names.specs.Names.{text_of}
-use Rattle.hprint.specs.Entries.{pair_of}
+use Rattle.hprint.proofs.Names.{◌∙◌, map, refl, ap, text_of, pair_of, first_failed, then_put}
 use Rattle.hprint.proofs.LineTexts.{element_parts}
-use Rattle.hserialize.proofs.Output.{first_failed, then_put}
 use Rattle.hprint.proofs.lines.put_element.Goals as goal
 
 pub returns-in_err-put_line-clause-text : goal.returns-in_err-put_line-clause-text

@@ -1,8 +1,5 @@
-use Rattle.std.proofs.Common.{ap}
-use Rattle.std.proofs.lemmas.List.{drop_all}
-use Rattle.hprint.specs.Lines.{error_line, error_lines}
+use Rattle.hprint.proofs.Names.{ap, drop_all, error_line, error_lines, all_put, none_put, part_put, part_failed, passed_on}
 use Rattle.hprint.proofs.LineTexts.{next_lines}
-use Rattle.hserialize.proofs.Output.{all_put, none_put, part_put, part_failed, passed_on}
 use Rattle.hprint.proofs.lines.put_errors.Goals as goal
 
 pub returns-in_err-put_error : goal.returns-in_err-put_error

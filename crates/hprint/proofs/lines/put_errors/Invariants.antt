@@ -1,8 +1,4 @@
-use Rattle.std.proofs.Common.{drop}
-use Rattle.hprint.specs.ErrorLines.{IsLine}
-use Rattle.hprint.specs.Lines.{error_lines}
-use Rattle.hserialize.specs.Output.{taken}
-use Rattle.hserialize.proofs.Output.{HasLeft}
+use Rattle.hprint.proofs.Names.{drop, IsLine, error_lines, taken, HasLeft}
 use Rattle.hprint.proofs.lines.put_errors.Given as goal
 
 -- the lines that are left

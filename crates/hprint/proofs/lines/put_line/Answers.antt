@@ -1,6 +1,6 @@
-use Rattle.std.proofs.Common.{codes, refl}
+use Rattle.hprint.proofs.Names.{codes, refl, first_failed, then_put}
 use Rattle.hprint.proofs.LineTexts.{line_parts}
-use Rattle.hserialize.proofs.Output.{all_parts, first_failed, then_put}
+use Rattle.hserialize.proofs.Output.{all_parts}
 use Rattle.hprint.proofs.lines.put_line.Goals as goal
 
 pub returns-in_err-begin_line : goal.returns-in_err-begin_line

@@ -1,5 +1,4 @@
-use Rattle.std.proofs.Common.{arith}
-use Rattle.hserialize.proofs.Output.{passed_on}
+use Rattle.hprint.proofs.Names.{arith, passed_on}
 use Rattle.hprint.proofs.Printed.{begun_putting, next_is, put_more, put_failed, all_printed}
 use Rattle.hprint.proofs.lines.put_nodes.Goals as goal
 

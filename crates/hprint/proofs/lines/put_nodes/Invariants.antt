@@ -1,5 +1,4 @@
-use Rattle.std.proofs.Common.{◌≤◌, vec_capacity}
-use Rattle.hserialize.specs.Output.{taken}
+use Rattle.hprint.proofs.Names.{◌≤◌, vec_capacity, taken}
 use Rattle.hprint.proofs.Printed.{IsPutting}
 use Rattle.hprint.proofs.lines.put_nodes.Given as goal
 

@@ -1,6 +1,4 @@
-use Rattle.std.proofs.Common.{ap, subst}
-use Rattle.hprint.specs.Lines.{indented}
-use Rattle.hserialize.specs.Output.{Puts, taken}
+use Rattle.hprint.proofs.Names.{ap, subst, indented, Puts, taken}
 use Rattle.hserialize.proofs.Output.{between}
 use Rattle.hprint.proofs.lines.put_words.Goals as goal
 

@@ -1,6 +1,4 @@
-use Rattle.std.proofs.Common.{arith, rules}
-use Rattle.names.specs.Names.{text_of}
-use Rattle.hnodes.specs.Spelled.{spelled_attribute}
+use Rattle.hprint.proofs.Names.{arith, rules, text_of, spelled_attribute}
 use Rattle.hprint.proofs.Ordered.{one-more, one_longer, one_numbered}
 use Rattle.hprint.proofs.sorted.enter.Goals as goal
 

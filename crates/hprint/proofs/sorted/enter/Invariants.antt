@@ -1,8 +1,4 @@
-use Rattle.std.proofs.Common.{◌≡◌, ◌≤◌, ◌++◌, drop, length, map, vec_capacity}
-use Rattle.names.specs.Names.{text_of}
-use Rattle.hnodes.specs.Rows.{attribute_of}
-use Rattle.hnodes.specs.Spelled.{spelled_attribute}
-use Rattle.hprint.specs.Entries.{AreNumbered, pair_of}
+use Rattle.hprint.proofs.Names.{◌≡◌, ◌≤◌, ◌++◌, drop, length, map, vec_capacity, text_of, attribute_of, spelled_attribute, AreNumbered, pair_of}
 use Rattle.hprint.proofs.sorted.enter.Given as goal
 
 -- the entries so far and those to come are all of them

@@ -1,5 +1,4 @@
-use Rattle.std.proofs.Common.{◌∙◌, ap}
-use Rattle.hprint.specs.Lines.{in_order}
+use Rattle.hprint.proofs.Names.{◌∙◌, ap, in_order}
 use Rattle.hprint.proofs.Ordered.{ordered}
 use Rattle.hprint.proofs.sorted.in_order.Goals as goal
 

@@ -1,20 +1,8 @@
-use Rattle.hserialize.proofs.Names.{◌∙◌, ap, ◌+◌, arith}
+use Rattle.hserialize.proofs.Names.{◌∙◌, ap, ◌+◌}
 use Rattle.std.specs.declared.str.CharIndices.{CharIndices}
 use Rattle.hserialize.proofs.Output.{last_put, passed_on}
-use Rattle.hserialize.proofs.Escapes.{begins_at, in_order, run_is, kept, replaced, put_failed, last_is}
+use Rattle.hserialize.proofs.Escapes.{begins_at, run_is, kept, replaced, put_failed, last_is}
 use Rattle.hserialize.proofs.escaped.put_escaped.Goals as goal
-
-pub slice_bounds-put_before-count : goal.slice_bounds-put_before-count
-slice_bounds-put_before-count g c = let (order, within) = in_order _ _ _ _ _ _ _ _ c.loop-at.invariant _ c.as_bytes-bytes.ensures.value in omega (arith, order, c.in-Some.ensures.steps.0)
-
-pub slice_bounds-put_before-end : goal.slice_bounds-put_before-end
-slice_bounds-put_before-end g c = let (order, within) = in_order _ _ _ _ _ _ _ _ c.loop-at.invariant _ c.as_bytes-bytes.ensures.value in omega (arith, within, c.in-Some.ensures.steps.0)
-
-pub slice_bounds-put-count : goal.slice_bounds-put-count
-slice_bounds-put-count g c = let (order, within) = in_order _ _ _ _ _ _ _ _ c.loop-at.invariant _ c.as_bytes-bytes.ensures.value in omega (arith, order, within)
-
-pub slice_bounds-put-start : goal.slice_bounds-put-start
-slice_bounds-put-start g c = let (order, within) = in_order _ _ _ _ _ _ _ _ c.loop-at.invariant _ c.as_bytes-bytes.ensures.value in omega (arith, order, within)
 
 pub returns-in_err-put_before : goal.returns-in_err-put_before
 returns-in_err-put_before g c =

@@ -1,5 +1,5 @@
 -- One call more: the first bytes of the rest were taken after what was taken before.
-use Rattle.hserialize.proofs.Names.{rules, ◌≡◌, ℕ, ◌-◌, List, ◌++◌, length, take, drop, sym, ap, ◌∙◌, take_rest, Appends-trans}
+use Rattle.hserialize.proofs.Names.{◌≡◌, ℕ, ◌-◌, List, ◌++◌, length, take, drop, sym, ap, ◌∙◌, take_rest, Appends-trans}
 use Rattle.std.proofs.Common.{append_assoc, take-append-drop}
 use Rattle.hserialize.proofs.target.write_all.Goals as goal
 
@@ -14,6 +14,3 @@ loop-rest-preserved g c =
     let rest = c.loop-rest.rest.now in
     let n = c.in-Some.taken in
     (done ++ take n rest, moves_front _ done rest n split, Appends-trans _ _ _ _ _ appended c.in-Some.ensures.bytes.2, c.in-Some.ensures.count ∙ failed)
-
-pub returns-clause-count : goal.returns-clause-count
-returns-clause-count c = search rules

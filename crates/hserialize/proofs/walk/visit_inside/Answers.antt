@@ -1,12 +1,12 @@
 use Rattle.hserialize.proofs.Names.{sym, ◌∙◌, rules}
-use Rattle.hserialize.proofs.Moves.{descends, descends-inside}
+use Rattle.hserialize.proofs.Moves.{descends}
 use Rattle.hserialize.proofs.walk.visit_inside.Goals as goal
 
 pub returns-in-Some-clause-visits : goal.returns-in-Some-clause-visits
 returns-in-Some-clause-visits c =
-    descends c.args.tree.now.made c.args.tree.now.trees c.first_child-child.ensures.nodes.counted c.args.root c.args.reach c.args.node c.in-Some.child c.requires.made c.requires.inside (sym c.first_child-child.ensures.child ∙ c.in-Some.is)
+    (descends c.args.tree.now.made c.args.tree.now.trees c.first_child-child.ensures.nodes.counted c.args.root c.args.reach c.args.node c.in-Some.child c.requires.made c.requires.inside (sym c.first_child-child.ensures.child ∙ c.in-Some.is)).0
     (λ w is. c.goes_in.ensures w is ∙ search (rules, c.if-not-goes_in.false))
 
 pub returns-in-Some-clause-inside : goal.returns-in-Some-clause-inside
 returns-in-Some-clause-inside c =
-    descends-inside c.args.tree.now.made c.args.tree.now.trees c.first_child-child.ensures.nodes.counted c.args.root c.args.node c.in-Some.child c.requires.made c.requires.inside (sym c.first_child-child.ensures.child ∙ c.in-Some.is)
+    (descends c.args.tree.now.made c.args.tree.now.trees c.first_child-child.ensures.nodes.counted c.args.root c.args.reach c.args.node c.in-Some.child c.requires.made c.requires.inside (sym c.first_child-child.ensures.child ∙ c.in-Some.is)).1

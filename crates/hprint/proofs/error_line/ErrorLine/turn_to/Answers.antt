@@ -1,4 +1,4 @@
-use Rattle.std.proofs.Common.{sym, ◌∙◌, rules}
+use Rattle.hprint.proofs.Names.{sym, ◌∙◌, rules}
 use denote.Enum.Bare.{differs_false}
 use Rattle.names.specs.contracts.error.ErrorCode.{the_type}
 use Rattle.hprint.proofs.error_line.ErrorLine.turn_to.Goals as goal
