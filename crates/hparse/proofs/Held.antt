@@ -8,7 +8,7 @@ use Rattle.names.specs.declared.error.ErrorCode.TheVariants.{ReplacedBytes}
 use Rattle.htoken.proofs.Handing.{reports_given}
 use Rattle.htoken.specs.Tokens.{eof_of}
 use Rattle.htoken.specs.declared.tokenizer.Tokenizer.{Tokenizer}
-use Rattle.htoken.specs.Tokenizing.{holds, in_run, Takes, take_ran_out, take_refused, take_sink_refused, take_took, Finishes, finish_ran_out, finish_sink_refused, finish_took}
+use Rattle.htoken.specs.Tokenizing.{holds, in_ambiguous_ampersand, Takes, take_ran_out, take_refused, take_sink_refused, take_took, Finishes, finish_ran_out, finish_sink_refused, finish_took}
 use Rattle.htoken.proofs.Cutting.{tokens_in-append, errors_in-append, tokens_in-map, errors_in-map}
 use Rattle.hparse.specs.Holding.{WasFed}
 use Rattle.hparse.proofs.Handing.{handed_more, handed_as}
@@ -38,7 +38,7 @@ taken_front table start t names text taken (holds h) more end =
       in_profile = st.in_profile;
       front_is = ap (λ (x : List Tok). x ++ eof_of end rest) st.tokens_are;
     }
-taken_front table start t names text taken (in_run h) more end =
+taken_front table start t names text taken (in_ambiguous_ampersand h) more end =
     let st = h.stands end more in
     record {
       spans = st.spans;

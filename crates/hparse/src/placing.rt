@@ -1,14 +1,9 @@
 //! A builder of a tree that keeps where the nodes came from.
 
-ghost use Rattle.std.specs.Prelude.{◌≡◌, ◌+◌, ◌≤◌, length, option_map, IfOk, IfErr};
-ghost use Rattle.std.specs.Str.{chars};
-ghost use Rattle.names.specs.Placed.{placed};
-ghost use Rattle.names.specs.Sink.{Hands};
+ghost use Rattle.std.specs.Prelude.{◌≡◌, option_map, IfOk, IfErr};
 ghost use Rattle.names.specs.declared.refusal.Refusal.TheVariants.{Memory};
-ghost use Rattle.htext.specs.declared.decoder.TheConstants.{MAX_INPUT};
-ghost use Rattle.htoken.specs.Run.{run_tokens};
 ghost use Rattle.htoken.specs.declared.token.Token.{Token as Given};
-ghost use Rattle.hmodes.specs.Tokens.{place_of, token_of};
+ghost use Rattle.hmodes.specs.Tokens.{token_of};
 ghost use Rattle.hparse.specs.Origins.{is_character, with_token};
 ghost use Rattle.hparse.specs.Placing.{PlacesToken, origins_if};
 
@@ -71,7 +66,7 @@ impl<'q> Placing<'q> {
     fn place_token(&mut self, token: Token) -> Result<(), Refusal>
         ensures { PlacesToken self.old token result self.new }
     {
-        let at = place(&token);
+        let at = token.place();
         let is_character = is_character(&token);
         self.builder.take_token(token)?;
         self.keep(at, is_character)
@@ -84,31 +79,6 @@ impl<'q> Placing<'q> {
     {
         self.builder.take_text(ch, at)?;
         self.keep(at, true)
-    }
-
-    /// Takes the characters of a run one by one.
-    fn take_one_by_one(&mut self, run: &str, at: u64) -> Result<(), Refusal>
-        requires { at + length run.now ≤ MAX_INPUT }
-        ensures { Hands PlacesToken self.old (run_tokens (placed at (chars run.now))) result self.new }
-    {
-        for (index, ch) in run.char_indices() {
-            self.take_text(ch, at + index as u64)?;
-        }
-        Ok(())
-    }
-}
-
-/// The place of a token's first byte.
-fn place(token: &Token) -> u64
-    ensures { result ≡ place_of token.now }
-{
-    match token {
-        Token::Doctype { at, .. }
-        | Token::Start { at, .. }
-        | Token::End { at, .. }
-        | Token::Comment { at, .. }
-        | Token::Char { at, .. }
-        | Token::Eof { at } => *at,
     }
 }
 
@@ -160,7 +130,7 @@ impl<'q> TokenSink for Placing<'q> {
         if self.origins.is_none() {
             return self.builder.take_run(run, at);
         }
-        self.take_one_by_one(run, at)
+        self.take_run_by_one(run, at)
     }
 
     #[inline(always)]
