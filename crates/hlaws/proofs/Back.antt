@@ -121,19 +121,12 @@ module _ (opts : ParseOptions) (escaping : Escaping) (context : List ℕ) (allow
   comes k e h = go k (ap (λ c. mode_ok c mode) (sym e) ∙ context_ok (tag_named context)) h
     where
       go : (k : Content) → mode_ok k mode ≡ true → are_content_if (in_context_of k (is_form (tag_named context))) l ≡ true → Gives opts context (written escaping (Some context) l) l
-      go content.Flow m h = from_inside _ m refl (inl refl) refl (flow_ends mode m) h
-      go content.Phrasing m h = from_inside _ m refl (inl refl) refl (flow_ends mode m) h
-      go content.Around m h = from_inside _ m refl (inl refl) refl (flow_ends mode m) h
-      go content.ListItems m h = from_inside _ m refl (inl refl) refl (flow_ends mode m) h
-      go content.Definitions m h = from_inside _ m refl (inl refl) refl (flow_ends mode m) h
-      go content.Text m h = from_inside _ m refl (inl refl) refl (flow_ends mode m) h
-      go content.RawText m h = from_inside _ m refl (inl refl) refl (flow_ends mode m) h
-      go content.ScriptText m h = from_inside _ m refl (inl refl) refl (flow_ends mode m) h
       go content.TableParts m h = from_inside _ m refl (inr refl) refl (ap ends_body (parts_mode_is mode m)) h
       go content.TableRows m h = from_inside _ m refl (inr refl) refl (ap ends_body (rows_mode_is mode m)) h
       go content.Cells m h = from_inside _ m refl (inr refl) refl (ap ends_body (cells_mode_is mode m)) h
       go content.Columns m h = absurd (false≢true h)
       go content.Empty m h = absurd (false≢true h)
+      go _ m h = from_inside _ m refl (inl refl) refl (flow_ends mode m) h
 
 -- the law of the whole from the law of tokens
 pub comes_back : PlainTokens → PlainComesBack

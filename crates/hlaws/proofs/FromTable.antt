@@ -125,13 +125,9 @@ not_empty i b forest.document kids rest h = cc
 not_empty i b (forest.doctype a p s) kids rest h = cc
 
 pub lf_safe : (v : Bool) (kids : Forest (List ℕ)) → not (v && begins_with_line_feed kids) ≡ true → LfSafe v kids
-lf_safe v none h = tt
 lf_safe false (tree b (text t) kids rest) h = λ is. refl
 lf_safe true (tree b (text t) kids rest) h = λ is. first_line_feed t is (not-true _ h)
-lf_safe v (tree b (element x attrs) kids rest) h = tt
-lf_safe v (tree b (forest.comment t) kids rest) h = tt
-lf_safe v (tree b forest.document kids rest) h = tt
-lf_safe v (tree b (forest.doctype a p s) kids rest) h = tt
+lf_safe v _ h = tt
 
 -- a node, its children and what comes after it
 record Three (i : Inside) (w : forest.What (List ℕ)) (kids rest : Forest (List ℕ)) : Type 0 where
@@ -177,5 +173,4 @@ good i (tree b (forest.comment t) none rest) fit u h =
     ((and_parts (takes_comments i.content) (is_plain_comment t) h3.node).0, good i rest fit u.2 h3.others)
 good i (tree b (forest.comment t) (tree b' w' kids' rest') rest) fit u h =
     absurd (not_empty i b' w' kids' rest' (three (inside_node (forest.comment t) i) b' w' kids' rest' (three i b (forest.comment t) (tree b' w' kids' rest') rest h).children).node)
-good i (tree b forest.document kids rest) fit u h = absurd (false≢true h)
-good i (tree b (forest.doctype a p s) kids rest) fit u h = absurd (false≢true h)
+good i _ fit u h = absurd (false≢true h)

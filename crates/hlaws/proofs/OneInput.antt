@@ -1,15 +1,11 @@
 -- What is said of an input in two ways is one thing.
-use Rattle.hlaws.proofs.Names.{◌≡◌, ℕ, Bool, true, false, eqb, cond, List, length, Option, None, Some, refl, sym, ◌∙◌, eqb-true, IsPermutation, IsSorted, ParseError, Refusal, Policy, read_len, refusal_of, error_cmp}
+use Rattle.hlaws.proofs.Names.{arith, nat_tests, ◌≡◌, ℕ, Bool, true, false, eqb, cond, List, length, Option, None, Some, refl, sym, ◌∙◌, eqb-true, IsPermutation, IsSorted, ParseError, Refusal, Policy, read_len, refusal_of, error_cmp}
 use Rattle.std.proofs.lemmas.List.Sorted.{IsPermutation-sym, IsPermutation-trans}
 use Rattle.hlaws.proofs.OneOrder.{sorted-once}
 
 -- bytes that are not refused are all read
 pub all-read : (how : Policy) (bytes : List ℕ) → refusal_of how bytes ≡ None → read_len how bytes ≡ length bytes
-all-read how bytes e = go _ (eqb (read_len how bytes) (length bytes)) refl e
-  where
-    go : (r : Refusal) (b : Bool) → eqb (read_len how bytes) (length bytes) ≡ b → cond b None (Some r) ≡ None → read_len how bytes ≡ length bytes
-    go r true is e = eqb-true (read_len how bytes) (length bytes) is
-    go r false is e = absurd cc
+all-read how bytes e = grind (arith, nat_tests)
 
 pub one-some : {A : Type 0} (x y : A) (o : Option A) → o ≡ Some x → o ≡ Some y → x ≡ y
 one-some x y o e f = let same : Some x ≡ Some y = sym e ∙ f in cc

@@ -1,5 +1,5 @@
 -- Parse errors have one order at most by place and code.
-use Rattle.hlaws.proofs.Names.{◌≡◌, ℕ, suc, ◌+◌, Bool, true, false, cond, List, [], ◌∷◌, refl, sym, ap, ◌∙◌, subst, arith, IsPermutation, IsSorted, false≢true, ErrorCode, ParseError, code_rank, error_cmp}
+use Rattle.hlaws.proofs.Names.{nat_tests, ◌≡◌, ℕ, suc, ◌+◌, Bool, true, false, cond, List, [], ◌∷◌, refl, sym, ap, ◌∙◌, subst, arith, IsPermutation, IsSorted, false≢true, ErrorCode, ParseError, code_rank, error_cmp}
 use Rattle.std.specs.Prelude.{slice_index_or}
 use Rattle.std.specs.Cmp.{IsTotalOrder, IsStrictWeakOrder}
 use Rattle.std.specs.List.{sum_by}
@@ -82,18 +82,10 @@ none-counted x [] h = refl
 none-counted x (y ∷ ys) h = omega (arith, sum_by-cons (count x) y ys, ap {B = ℕ} (λ (b : Bool). cond b 1 0) h.0, none-counted x ys h.1)
 
 first-after : (x y : ParseError) (ys : List ParseError) → sum_by (count x) (y ∷ ys) ≡ 0 → before y x ≡ false
-first-after x y ys none = go (before y x) refl
-  where
-    go : (b : Bool) → before y x ≡ b → b ≡ false
-    go false e = refl
-    go true e = absurd (omega (arith, none, sum_by-cons (count x) y ys, ap {B = ℕ} (λ (b : Bool). cond b 1 0) e))
+first-after x y ys none = let sum = sum_by-cons (count x) y ys in grind (arith, nat_tests)
 
 not-itself : (x : ParseError) → before x x ≡ false
-not-itself x = go (before x x) refl
-  where
-    go : (b : Bool) → before x x ≡ b → b ≡ false
-    go false e = refl
-    go true e = sym e ∙ order.one_way x x e
+not-itself x = grind (arith, order.one_way x x)
 
 -- whatever is counted of two lists, it is as much
 abbrev Same : List ParseError → List ParseError → Type 0

@@ -78,9 +78,8 @@ module _ {N : Type 0} (n : Naming N) (laws : Laws n) (z : State N) where
   -- no element is reconstructed
   none_lost : (at made : ℕ) (f : Forest N) (stack : List (OpenNode N)) (items : List (Listed N)) (c : Control) → EntriesOpen stack items
       → reconstructed n at (state z made f stack items c).site ≡ Goes (state z made f stack items c).site
-  none_lost at made f stack [] c o = refl
-  none_lost at made f stack (marker ∷ items) c o = refl
   none_lost at made f stack (entry e ∷ items) c o = rw o.0 refl
+  none_lost at made f stack _ c o = refl
 
   -- a rule of a mode
   by_mode : (at : ℕ) (t : Token N) (mode : Mode) (k : TokenKind) (s s' : State N) → s.control.mode ≡ mode → kind_of n t ≡ k → perform n at t (rule_of mode k) s ≡ Done s' → Rule n at t s ≡ Done s'

@@ -17,8 +17,6 @@ use Rattle.hlaws.proofs.TokensText.{Spells, spells-nil, spells-append, spells_as
 
 -- a key goes on past no `;`
 key_ends : (name front : List ℕ) → is_key_name name ≡ true → starts_with nat_eq name front ≡ true → ends_in_semicolon front ≡ true → length name ≤ length front
-key_ends name [] k s e = absurd cc
-key_ends [] (p ∷ front) k s e = absurd cc
 key_ends (c ∷ cs) (p ∷ []) k s e =
     let same : p ≡ c = eqb-true p c (and_parts _ _ s).0 in
     let semicolon : p ≡ 59 = eqb-true p 59 e in
@@ -30,6 +28,7 @@ key_ends (c ∷ d ∷ ds) (p ∷ q ∷ front) k s e =
     go : (b : Bool) → bytes_eq (d ∷ ds) (codes ";") ≡ b → (b || is_key_name (d ∷ ds)) ≡ true → (is_key_name (d ∷ ds) ≡ true → length (d ∷ ds) ≤ length (q ∷ front)) → length (c ∷ d ∷ ds) ≤ length (p ∷ q ∷ front)
     go true e h more = let x = ap length ((bytes_eq-Decides (d ∷ ds) (codes ";")).0 e) in omega (arith, x)
     go false e h more = let x = more h in omega (arith, x)
+key_ends _ _ k s e = absurd cc
 
 no_longer_key : (key name : List ℕ) → is_key key ≡ true → ends_in_semicolon name ≡ true → starts_with nat_eq key (38 ∷ name) ≡ true → length key ≤ length (38 ∷ name)
 no_longer_key [] name k e s = omega arith
@@ -79,8 +78,7 @@ less_escaped escaping.One = refl
 less_escaped escaping.Two = refl
 
 and_true : (a b : Bool) → b ≡ true → (a && b) ≡ false → a ≡ false
-and_true true b e h = absurd cc
-and_true false b e h = refl
+and_true a b e h = grind arith
 
 no_mark : (how : Escaping) (where_is : Setting) (c : ℕ) → (c == 34 && escapes_quote where_is) ≡ false → (c == 60 && escapes_angles how where_is) ≡ false → is_mark where_is c ≡ false
 no_mark how setting.Text c q l = and_true (c == 60) (escapes_angles how setting.Text) (less_escaped how) l

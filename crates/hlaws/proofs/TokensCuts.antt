@@ -101,10 +101,8 @@ module _ (table : Entities) (is_table : IsTable table) where
       (λ i. is_amp i ∷ is_name i) (not_kept in_value (ends_in_semicolon (38 ∷ bytes)) (begins (λ d. d == 61 || is_alphanumeric d) rest) key.ends_whole) refl
     where
       begun : (name : List Placed) (bytes : List ℕ) → characters name ≡ bytes → begins_alphanumeric bytes ≡ true → begins is_alphanumeric name ≡ true
-      begun [] [] e h = absurd cc
-      begun [] (b ∷ bytes) e h = absurd cc
-      begun (p ∷ name) [] e h = absurd cc
       begun (p ∷ name) (b ∷ bytes) e h = ap is_alphanumeric (first_is p name b bytes e) ∙ h
+      begun _ _ e h = absurd cc
 
       whole : (name rest : List Placed) (bytes : List ℕ) → characters name ≡ bytes → characters (amp ∷ name ++ rest) ≡ (38 ∷ bytes) ++ characters rest
       whole name rest bytes e = let x : characters (name ++ rest) ≡ bytes ++ characters rest = map-append (λ (p : Placed). p.ch) name rest ∙ ap (λ (y : List ℕ). y ++ characters rest) e in λ i. is_amp i ∷ x i
@@ -132,9 +130,8 @@ module _ (table : Entities) (is_table : IsTable table) where
   char_cuts c ds text rest end here referred itself (by_itself d no_amp no_less) e = go text (e ∙ d)
     where
       go : (text : List Placed) → characters text ≡ c ∷ [] → Cuts table end here text rest (character c ∷ []) (Same here)
-      go [] e = absurd cc
-      go (p ∷ q ∷ text) e = absurd cc
       go (p ∷ []) e = itself p (first_is p [] c [] e) no_amp no_less
+      go _ e = absurd cc
 
   -- of data, and of text in which no more than references is read
   data_span : (c : ℕ) (ds : List ℕ) (text rest : List Placed) (end : ℕ) (here : Standing) → here.kind ≡ kind.None → Way table setting.Text c ds → characters text ≡ ds

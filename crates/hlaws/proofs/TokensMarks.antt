@@ -28,10 +28,8 @@ abbrev pub after_end : Standing → Standing
 after_end here = record { kind = kind.None; name = here.name; front = [] }
 
 letter_first : (text : List Placed) (name : List ℕ) → characters text ≡ name → begins_letter name ≡ true → begins is_letter text ≡ true
-letter_first [] [] e h = absurd cc
-letter_first [] (c ∷ cs) e h = absurd cc
-letter_first (p ∷ ps) [] e h = absurd cc
 letter_first (p ∷ ps) (c ∷ cs) e h = ap is_letter (first_is p ps c cs e) ∙ h
+letter_first _ _ e h = absurd cc
 
 runs_name : (text : List Placed) (name : List ℕ) → characters text ≡ name → list_all is_good name ≡ true → all (λ c. not (ends_name c)) text ≡ true
 runs_name text name e h = all-characters (λ c. not (ends_name c)) text ∙ ap (list_all (λ c. not (ends_name c))) e ∙ all_weaker is_good (λ c. not (ends_name c)) good_no_end name h
@@ -117,9 +115,8 @@ eq_comm : (x y : ℕ) → nat_eq x y ≡ nat_eq y x
 eq_comm x y = grind (arith, nat_tests)
 
 pub spells_is : (mark : List ℕ) (text : List Placed) → spells mark text ≡ begins_with mark (characters text)
-spells_is [] text = refl
-spells_is (c ∷ cs) [] = refl
 spells_is (c ∷ cs) (p ∷ ps) = let x = eq_comm p.ch c in let y = spells_is cs ps in λ i. x i && y i
+spells_is _ _ = refl
 
 no_close : (c : ℕ) (cs : List ℕ) → has_part (codes "-->") (c ∷ cs) ≡ false → begins_with (codes "-->") (c ∷ cs ++ codes "-->") ≡ false
 no_close c [] h = and_right _ _ refl

@@ -30,10 +30,7 @@ is_raw _ = true
 
 pub raw_span : (table : Entities) (end_at : ℕ) (here : Standing) (rest : List Placed) (span : Span) (k : RawKind) → is_raw k ≡ true → IsRawSpan table end_at here rest span → IsSpanOf k table end_at here rest span
 raw_span table end_at here rest span kind.None h s = absurd cc
-raw_span table end_at here rest span kind.Rcdata h s = s
-raw_span table end_at here rest span kind.Rawtext h s = s
-raw_span table end_at here rest span kind.Script h s = s
-raw_span table end_at here rest span kind.Plaintext h s = s
+raw_span table end_at here rest span _ h s = s
 
 abbrev pub pushed_on : Standing → List Placed → Standing
 pushed_on here text = record { kind = here.kind; name = here.name; front = pushed text here.front }
@@ -50,8 +47,6 @@ module _ (table : Entities) (end_at : ℕ) where
   pub raw_cuts : (cs : List ℕ) (text rest : List Placed) (here : Standing) → is_raw here.kind ≡ true → has_references here.kind ≡ false → characters text ≡ cs → list_all is_clean_char cs ≡ true → NoEnd here.name text rest
       → Cuts table end_at here text rest (map (λ c. character c) cs) (λ there. there ≡ pushed_on here text)
   raw_cuts [] [] rest here raw none e clean stays = cuts_none table end_at here rest (λ there. there ≡ pushed_on here []) refl
-  raw_cuts (c ∷ cs) [] rest here raw none e clean stays = absurd cc
-  raw_cuts [] (p ∷ ps) rest here raw none e clean stays = absurd cc
   raw_cuts (c ∷ cs) (p ∷ ps) rest here raw none e clean stays =
       let same : p.ch ≡ c = first_is p ps c cs e in
       let others : characters ps ≡ cs = tail_of p ps c cs e in
@@ -60,6 +55,7 @@ module _ (table : Entities) (end_at : ℕ) where
       let then = raw_cuts cs ps rest (pushed_on here (p ∷ [])) raw none others both.1 stays.1 in
       join table end_at here (p ∷ []) ps rest (character c ∷ []) (map (λ c. character c) cs) (λ there. there ≡ pushed_on here (p ∷ [])) (λ there. there ≡ pushed_on here (p ∷ ps)) first
       (subst (λ (there : Standing). Cuts table end_at there ps rest (map (λ c. character c) cs) (λ there. there ≡ pushed_on here (p ∷ ps))) (sym first.leads) then)
+  raw_cuts _ _ rest here raw none e clean stays = absurd cc
 
 -- WHERE NO END TAG STANDS
 
@@ -110,11 +106,7 @@ no_opening (p ∷ q ∷ r ∷ s ∷ front) cs h = false_from_ne_true _ (λ e.
     true≢false (sym (has_part-put_back (codes "<!--") front (s.ch ∷ r.ch ∷ q.ch ∷ p.ch ∷ cs) here) ∙ h))
 
 level_stays : (p : Placed) (front : List Placed) → level front ≡ 0 → spells (codes "--!<") (p ∷ front) ≡ false → level (p ∷ front) ≡ 0
-level_stays p front z h = ap (λ (n : ℕ). level_from n (p ∷ front)) z ∙ go (ended (codes "-->") (p ∷ front)) (ended (codes "<!--") (p ∷ front)) h
-  where
-    go : (a b : Bool) → b ≡ false → ◌≡◌ {A = ℕ} (cond a 0 (cond b 1 0)) 0
-    go true b e = refl
-    go false b e = ap (λ (x : Bool). cond x 1 0) e
+level_stays p front z h = grind arith
 
 pub level_zero : (text front : List Placed) (cs : List ℕ) → characters text ≡ cs → level front ≡ 0 → has_part (codes "<!--") (put_back front cs) ≡ false → level (pushed text front) ≡ 0
 level_zero [] front cs e z h = z
@@ -145,19 +137,14 @@ spells_name (c ∷ cs) (p ∷ ps) rest e h =
 
 past_name : (name : List ℕ) (text rest : List Placed) → characters text ≡ name → drop (length name) (text ++ rest) ≡ rest
 past_name [] [] rest e = refl
-past_name [] (p ∷ ps) rest e = absurd cc
-past_name (c ∷ cs) [] rest e = absurd cc
 past_name (c ∷ cs) (p ∷ ps) rest e = past_name cs ps rest (tail_of p ps c cs e)
+past_name _ _ rest e = absurd cc
 
 two_more : (n : ℕ) → 2 + n ≡ suc (suc n)
 two_more n = omega arith
 
 stands_here : (name : List ℕ) (opening middle close rest : List Placed) → list_all is_good name ≡ true → characters opening ≡ codes "</" → characters middle ≡ name → characters close ≡ codes ">"
     → is_end_tag_of (Some name) (opening ++ (middle ++ (close ++ rest))) ≡ true
-stands_here name [] middle close rest h e m k = absurd cc
-stands_here name (o ∷ []) middle close rest h e m k = absurd cc
-stands_here name (o ∷ q ∷ r ∷ opening) middle close rest h e m k = absurd cc
-stands_here name (o ∷ q ∷ []) middle [] rest h e m k = absurd cc
 stands_here name (o ∷ q ∷ []) middle (g ∷ close) rest h e m k =
     let is_less : o.ch ≡ 60 = first_is o (q ∷ []) 60 (codes "/") e in
     let is_solidus : q.ch ≡ 47 = first_is q [] 47 [] (tail_of o (q ∷ []) 60 (codes "/") e) in
@@ -165,6 +152,7 @@ stands_here name (o ∷ q ∷ []) middle (g ∷ close) rest h e m k =
     let opens : spells (codes "</") (o ∷ q ∷ (middle ++ (g ∷ close ++ rest))) ≡ true = rw (is_less, is_solidus) refl in
     let ends : begins ends_name (drop (2 + length name) (o ∷ q ∷ (middle ++ (g ∷ close ++ rest)))) ≡ true = ap (λ (n : ℕ). begins ends_name (drop n (o ∷ q ∷ (middle ++ (g ∷ close ++ rest))))) (two_more (length name)) ∙ ap (begins ends_name) (past_name name middle (g ∷ close ++ rest) m) ∙ ap ends_name is_greater in
     and_from _ _ (and_from _ _ opens (spells_name name middle (g ∷ close ++ rest) m h)) ends
+stands_here name _ middle _ rest h e m k = absurd cc
 
 pub end_tag_here : (name : List ℕ) (text rest : List Placed) → IsElementName name → characters text ≡ (codes "</" ++ name) ++ codes ">" → is_end_tag_of (Some name) (text ++ rest) ≡ true
 end_tag_here name text rest is_name e =

@@ -56,8 +56,6 @@ good_no_end c h = go (ends_name c) (c == 61) (good_ends_none c h)
 
 pub name_bytes_are : (text : List Placed) (name : List ℕ) → characters text ≡ name → list_all is_good name ≡ true → name_bytes text ≡ name
 name_bytes_are [] [] e h = refl
-name_bytes_are [] (c ∷ cs) e h = absurd cc
-name_bytes_are (p ∷ ps) [] e h = absurd cc
 name_bytes_are (p ∷ ps) (c ∷ cs) e h =
     let same : p.ch ≡ c = first_is p ps c cs e in
     let others : characters ps ≡ cs = tail_of p ps c cs e in
@@ -68,6 +66,7 @@ name_bytes_are (p ∷ ps) (c ∷ cs) e h =
     let first : encode_utf8_all (to_ascii_lowercase (without_null p.ch) ∷ []) ≡ c ∷ [] = ap (λ (x : ℕ). encode_utf8_all (to_ascii_lowercase (without_null x) ∷ [])) same ∙ ap (λ (x : ℕ). encode_utf8_all (x ∷ [])) lower ∙ append-nil _ ∙ encode_ascii c small in
     let more : name_bytes ps ≡ cs = name_bytes_are ps cs others both.1 in
     ap (λ (x : List ℕ). x ++ name_bytes ps) (sym (append-nil _) ∙ first) ∙ ap (λ (x : List ℕ). c ∷ x) more
+name_bytes_are _ _ e h = absurd cc
 
 abbrev pub begins_letter : List ℕ → Bool
 begins_letter [] = false
@@ -78,10 +77,8 @@ is_some_name [] = false
 is_some_name (c ∷ cs) = true
 
 name_begins : (text : List Placed) (name : List ℕ) → characters text ≡ name → is_some_name name ≡ true → list_all is_good name ≡ true → begins (λ c. not (ends_name c)) text ≡ true
-name_begins [] [] e some h = absurd cc
-name_begins [] (c ∷ cs) e some h = absurd cc
-name_begins (p ∷ ps) [] e some h = absurd cc
 name_begins (p ∷ ps) (c ∷ cs) e some h = ap (λ (x : ℕ). not (ends_name x)) (first_is p ps c cs e) ∙ good_no_end c (and_parts _ _ h).0
+name_begins _ _ e some h = absurd cc
 
 runs_on : (text : List Placed) (name : List ℕ) → characters text ≡ name → list_all is_good name ≡ true → all (λ c. not (ends_attribute_name c)) (drop 1 text) ≡ true
 runs_on [] name e h = refl
@@ -179,10 +176,6 @@ module _ (table : Entities) (is_table : IsTable table) where
     an_attribute : (sp name sign quote value close back text rest : List Placed) (es : List ℕ) (names : List (List ℕ)) (a : Attribute (List ℕ)) (others : List (Attribute (List ℕ))) → IsAttribute table a es
         → characters sp ≡ codes " " → characters name ≡ a.0 → characters sign ≡ codes "=" → characters quote ≡ codes "\"" → characters value ≡ es → characters close ≡ codes "\""
         → text ≡ ((((sp ++ name) ++ (sign ++ quote)) ++ value) ++ close) ++ back → is_known names a.0 ≡ false → Parts table end back rest (a.0 ∷ names) others → Parts table end text rest names (a ∷ others)
-    an_attribute [] name sign quote value close back text rest es names a others is e-sp e-name e-sign e-quote e-value e-close t new then = absurd cc
-    an_attribute (p ∷ q ∷ sp) name sign quote value close back text rest es names a others is e-sp e-name e-sign e-quote e-value e-close t new then = absurd cc
-    an_attribute (p ∷ []) name [] quote value close back text rest es names a others is e-sp e-name e-sign e-quote e-value e-close t new then = absurd cc
-    an_attribute (p ∷ []) name (s ∷ r ∷ sign) quote value close back text rest es names a others is e-sp e-name e-sign e-quote e-value e-close t new then = absurd cc
     an_attribute (p ∷ []) name (s ∷ []) quote value close back text rest es names a others is e-sp e-name e-sign e-quote e-value e-close t new then =
         let is_sp : p.ch ≡ 32 = cc in
         let is_sg : s.ch ≡ 61 = cc in
@@ -207,6 +200,7 @@ module _ (table : Entities) (is_table : IsTable table) where
           attributes_are = (λ i. kept names (Some (record { name = name_is i; value = value_is i; at = place 0 name })) ++ attributes_after (name_is i ∷ names) then.parts)
               ∙ ap (λ (b : Bool). cond b [] ((a.0, a.1) ∷ []) ++ attributes_after (a.0 ∷ names) then.parts) new ∙ ap (λ (x : List (Attribute (List ℕ))). (a.0, a.1) ∷ x) then.attributes_are;
         }
+    an_attribute _ name _ quote value close back text rest es names a others is e-sp e-name e-sign e-quote e-value e-close t new then = absurd cc
 
     pub attribute_parts : (attrs : List (Attribute (List ℕ))) (ds : List ℕ) (text rest : List Placed) (names : List (List ℕ)) → AreAttributes table attrs ds → AreNew names attrs → characters text ≡ ds → Parts table end text rest names attrs
     attribute_parts [] ds text rest names is new e = record { parts = []; text_is = sym (no_characters text (e ∙ is)); are = tt; attributes_are = refl }

@@ -88,8 +88,7 @@ only_text m inside (forest.element name attrs) kids rest h p =
     absurd (let x = no_role inside.content (row (tag_named name)).0 h in cc)
 only_text m inside (forest.text t) kids rest h p = refl
 only_text m inside (forest.comment t) kids rest h p = absurd (let x = no_comment inside.content h in let y = (and_parts (takes_comments inside.content) (is_plain_comment t) p).0 in cc)
-only_text m inside forest.document kids rest h p = absurd (false≢true p)
-only_text m inside (forest.doctype n s i) kids rest h p = absurd (false≢true p)
+only_text m inside _ kids rest h p = absurd (false≢true p)
 
 begins_so : (m : ℕ) (inside : Inside) (w : What (List ℕ)) (kids rest : Forest (List ℕ)) → holds_text inside.content ≡ true → are_content inside (tree m w kids rest) ≡ true → begins_with_text (tree m w kids rest) ≡ true
 begins_so m inside w kids rest h p =
@@ -127,8 +126,7 @@ one_text how inside (tree n (forest.text t) kids (tree m w ks rest)) h which u p
     absurd (false≢true (sym c ∙ begins_so m inside w ks rest h a.1))
 one_text how inside (tree n (forest.element name attrs) kids rest) h which u p = absurd (false≢true (begins_so n inside (forest.element name attrs) kids rest h p))
 one_text how inside (tree n (forest.comment t) kids rest) h which u p = absurd (false≢true (begins_so n inside (forest.comment t) kids rest h p))
-one_text how inside (tree n forest.document kids rest) h which u p = absurd (false≢true p)
-one_text how inside (tree n (forest.doctype a b d) kids rest) h which u p = absurd (false≢true p)
+one_text how inside _ h which u p = absurd (false≢true p)
 
 -- RAW ELEMENTS
 
@@ -257,8 +255,7 @@ module _ (table : Entities) (is_table : IsTable table) (core : HasCore table) (h
       let b = and_parts (takes_comments inside.content && is_plain_comment t) _ a.0 in
       let c = and_parts (takes_comments inside.content) (is_plain_comment t) b.0 in
       reads-append table ((codes "<!--" ++ t) ++ codes "-->") (written_among how false rest) (comment t ∷ []) (tokens_of texts rest) (comment_reads table is_table core how t u.0 c.1) (list_reads inside rest u.2 a.1)
-  list_reads inside (tree n forest.document kids rest) u h = absurd (false≢true h)
-  list_reads inside (tree n (forest.doctype a b d) kids rest) u h = absurd (false≢true h)
+  list_reads inside _ u h = absurd (false≢true h)
 
   -- CONTEXTS
 

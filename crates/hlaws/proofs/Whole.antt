@@ -40,16 +40,8 @@ pub record NameLaws {N : Type 0} (n : Naming N) : Type 0 where
 module _ {N : Type 0} where
   find-thinned : (alike : N → N → Bool) (x : N) {xs ys : List (Listed N)} → Thinned xs ys → find_entry alike x xs ≡ None → find_entry alike x ys ≡ None
   find-thinned alike x same h = h
-  find-thinned alike x (kept {e = e} {xs = xs} {ys = ys} t) h = go (find-thinned alike x t) (alike x e.name) h
-    where
-      go : (find_entry alike x xs ≡ None → find_entry alike x ys ≡ None) → (b : Bool) → cond b (Some e) (find_entry alike x xs) ≡ None → cond b (Some e) (find_entry alike x ys) ≡ None
-      go r true h' = absurd cc
-      go r false h' = r h'
-  find-thinned alike x (lost {e = e} {xs = xs} {ys = ys} t) h = go (find-thinned alike x t) (alike x e.name) h
-    where
-      go : (find_entry alike x xs ≡ None → find_entry alike x ys ≡ None) → (b : Bool) → cond b (Some e) (find_entry alike x xs) ≡ None → find_entry alike x ys ≡ None
-      go r true h' = absurd cc
-      go r false h' = r h'
+  find-thinned alike x (kept t) h = grind (arith, find-thinned alike x t)
+  find-thinned alike x (lost t) h = grind (arith, find-thinned alike x t)
 
 lower-more : {N : Type 0} (made made' : ℕ) (up : List (OpenNode N)) → made ≤ made' → AllLower made up → AllLower made' up
 lower-more made made' [] h o = tt
@@ -337,12 +329,8 @@ module _ {N : Type 0} (n : Naming N) (laws : NameLaws n) (z : State N) where
         }
 
   other_kind : (t : Token N) → is_character t ≡ false → rules.is_other (kind_of n t) ≡ true
-  other_kind (doctype a b c d) h = refl
-  other_kind (start x attrs closing) h = refl
-  other_kind (end x) h = refl
-  other_kind (comment t) h = refl
   other_kind (character ch) h = absurd cc
-  other_kind eof h = refl
+  other_kind _ h = refl
 
   all_spaces : (ps : List Placed) (chs : List ℕ) → map (λ p. p.ch) ps ≡ chs → AllOk (λ ch. is_space ch ≡ true) chs → list_all (λ p. is_space p.ch) ps ≡ true
   all_spaces [] chs e h = refl
@@ -551,12 +539,8 @@ module _ {N : Type 0} (n : Naming N) (laws : NameLaws n) (z : State N) where
   raw_kids i _ c r g = absurd g
 
   lf_none : (l : Forest N) → LfSafe false l
-  lf_none none = tt
   lf_none (tree b (text t) kids rest) = λ is. refl
-  lf_none (tree b (element x attrs) kids rest) = tt
-  lf_none (tree b (forest.comment t) kids rest) = tt
-  lf_none (tree b forest.document kids rest) = tt
-  lf_none (tree b (forest.doctype a p s) kids rest) = tt
+  lf_none _ = tt
 
   module _ (b : ℕ) (x : N) (attrs : List (Attribute N)) (kids : Forest N) (law : LawOf kids) (i : Inside) (made : ℕ) (f : Forest N) (d : OpenNode N) (up : List (OpenNode N)) (items : List (Listed N)) (c : Control) (s : State N)
       (q : Quiet n z.context i made f d up items c) (from : ActsAs n s (state z made f (d ∷ up) items c)) (taken : takes_role i.content (row (n.tag x)).0 ≡ true) (alone : is_nested i (n.tag x) ≡ false) (lf : LfSafe (drops_line_feed (n.tag x)) kids)
@@ -1095,8 +1079,7 @@ module _ {N : Type 0} (n : Naming N) (laws : NameLaws n) (z : State N) where
 
   fosters_at : (a b : Bool) → (a || not b) ≡ true → b ≡ true → a ≡ true
   fosters_at true b h e = refl
-  fosters_at false true h e = absurd cc
-  fosters_at false false h e = absurd cc
+  fosters_at false _ h e = absurd cc
 
   text_node : (i : Inside) (b : ℕ) (t : List ℕ) (made : ℕ) (f : Forest N) (d : OpenNode N) (up : List (OpenNode N)) (items : List (Listed N)) (c : Control) → Quiet n z.context i made f d up items c → (good : GoodText i t)
       → text_before (LastIn d.node) f ≡ None → (c.drop_lf && good.is.one == 10) ≡ false → made < z.site.nodes.limit → (ts : List (PlacedToken N)) → AreTokens ts (map (λ ch. character ch) (chars t)) → NodeBuilt b (text t) none made f d up items c (state z made f (d ∷ up) items c) ts
