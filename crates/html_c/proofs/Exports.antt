@@ -1,25 +1,17 @@
 -- What a call gives, from what was given and what came of the input.
-use Rattle.std.proofs.Common.{◌≡◌, ℕ, Bool, true, false, List, [], Option, None, Some, Ok, Err, map, ap, refl, subst, sym, ◌∙◌}
-use Rattle.std.specs.Prelude.{if◌then◌else◌}
-use Rattle.names.specs.declared.refusal.Refusal.{Refusal}
-use Rattle.names.specs.declared.refusal.Refusal.TheVariants.{Memory}
-use Rattle.hparse.specs.Parse.{ParseOptions}
-use Rattle.hparse.specs.declared.parsed.Parsed.{Parsed}
+use Rattle.html_c.proofs.Names.{◌≡◌, ℕ, Bool, true, List, [], Option, None, Some, Ok, Err, map, ap, refl, subst, sym, ◌∙◌, if◌then◌else◌, Refusal, Memory, ParseOptions, Parsed, name_of, AllowsContext, context_of, prints_of, ComesToNone, none_for_memory, Tells, context_told, parts_of, ComesToParse, GivesParse, Given}
+use Rattle.std.proofs.Common.{false}
 use Rattle.hserialize.specs.declared.escaping.Escaping.{Escaping}
-use Rattle.hwrite.specs.Command.{name_of}
-use Rattle.hwrite.specs.Context.{AllowsContext}
-use Rattle.hwrite.specs.Prints.{context_of, parsed_text, prints_of}
+use Rattle.hwrite.specs.Prints.{parsed_text}
 use Rattle.hwrite.specs.declared.command.Command.{Command}
 use Rattle.hwrite.specs.declared.command.Task.{Task}
 use Rattle.hwrite.specs.declared.command.Task.TheVariants as task
 use Rattle.hwrite.proofs.Tasks.{parsed_printed}
-use Rattle.html_c.specs.Exports.{ComesToNone, none_for_memory, GivesText, GivesNone, comes_to_none, GivesNoRows, no_rows, prints}
-use Rattle.html_c.specs.Given.{IsCommand, Tells, context_told, escaping_told}
+use Rattle.html_c.specs.Exports.{GivesText, GivesNone, comes_to_none, GivesNoRows, no_rows, prints}
+use Rattle.html_c.specs.Given.{IsCommand, escaping_told}
 use Rattle.html_c.specs.Page.{GivesErrors, GivesPage, GivesWanted, error_row, wants_told}
-use Rattle.html_c.specs.Parts.{parts_of}
-use Rattle.html_c.specs.Trees.{ComesToParse, GivesParse, IsPage}
+use Rattle.html_c.specs.Trees.{IsPage}
 use Rattle.html_c.specs.declared.answer.ErrorRow.{ErrorRow}
-use Rattle.html_c.specs.declared.answer.Given.{Given}
 use Rattle.html_c.specs.declared.fault.CallFault.TheVariants as fault
 use Rattle.html_c.specs.declared.page.Page.{Page}
 use Rattle.html_c.specs.declared.page.Wants.{Wants}

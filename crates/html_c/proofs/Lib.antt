@@ -1,3 +1,4 @@
+pub mod Names
 pub mod Exports
 pub mod Listing
 pub mod Outcomes

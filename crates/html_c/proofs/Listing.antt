@@ -1,17 +1,14 @@
 -- The nodes of a tree, listed one after another.
-use Rattle.std.proofs.Common.{◌≡◌, ℕ, ◌<◌, List, [], ◌∷◌, ◌++◌, Some, map, refl, sym, ap, ap₂, subst, ◌∙◌}
-use Rattle.std.proofs.lemmas.List.{append_assoc, append-nil, map-append}
+use Rattle.html_c.proofs.Names.{◌≡◌, ℕ, ◌<◌, List, [], ◌∷◌, ◌++◌, Some, map, refl, sym, ap, ap₂, subst, ◌∙◌, append_assoc, append-nil, flat_map, text_of, Forest, none, tree, children_of, spelled, kind_in, kind_number, link_to, rows_of, words_of}
+use Rattle.std.proofs.lemmas.List.{map-append}
 use Rattle.std.proofs.lemmas.Grind.{flat_map-append}
-use Rattle.std.specs.List.{flat_map}
 use Rattle.std.specs.Option.{option_map, option_map_or}
-use Rattle.names.specs.Names.{Texts, text_of}
-use Rattle.hnodes.specs.Forest.{Forest, none, tree, children_of}
+use Rattle.names.specs.Names.{Texts}
 use Rattle.hnodes.specs.Edits.{AreCounted}
 use Rattle.hnodes.specs.Passed.{order}
-use Rattle.hnodes.specs.Spelled.{spelled}
-use Rattle.hnodes.specs.Spots.{kind_in, what_of}
+use Rattle.hnodes.specs.Spots.{what_of}
 use Rattle.hserialize.proofs.Seen.{Seen, seen}
-use Rattle.html_c.specs.Rows.{kind_number, link_to, node_words_at, row_at, row_of, rows_of, words_of}
+use Rattle.html_c.specs.Rows.{node_words_at, row_at, row_of}
 use Rattle.html_c.specs.declared.answer.NodeRow.{NodeRow}
 
 module _ (names : Texts) (made : ℕ) (f : Forest ℕ) (root : ℕ) where

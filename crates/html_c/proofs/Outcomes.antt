@@ -1,10 +1,7 @@
 -- What comes of a call that is passed up.
-use Rattle.std.proofs.Common.{◌≡◌, ℕ, Bool, true, List, [], Result, Ok, Err, MatchResult, sym, subst}
-use Rattle.std.specs.Prelude.{IsErrAnd, if◌then◌else◌}
-use Rattle.names.specs.declared.refusal.Refusal.{Refusal}
+use Rattle.html_c.proofs.Names.{◌≡◌, ℕ, Bool, true, List, [], Result, Ok, Err, sym, subst, IsErrAnd, if◌then◌else◌, Refusal, CallFault, Fitted}
+use Rattle.std.proofs.Common.{MatchResult}
 use Rattle.html_c.specs.Fitted.{IsFitted}
-use Rattle.html_c.specs.declared.fault.CallFault.{CallFault}
-use Rattle.html_c.specs.declared.fitted.Fitted.{Fitted}
 
 pub fails : {T : Type 0} (r : Result T CallFault) (f : CallFault) (P : T → Type 0) (Q : CallFault → Type 0) → IsErrAnd r (λ g. g ≡ f) → Q f → MatchResult r P Q
 fails (Ok x) f P Q is h = absurd is

@@ -1,22 +1,16 @@
 -- Tables of character references, by what says them.
-use Rattle.std.proofs.Common.{◌≡◌, ◌∙◌, ℕ, List, Result, Ok, Err, inl, inr, ap, length, refl, subst, sym}
+use Rattle.html_c.proofs.Names.{◌≡◌, ◌∙◌, ℕ, List, Result, Ok, Err, inl, inr, ap, length, refl, subst, sym, Refusal, table_of, ReadsQuirks, ParseOptions, AllowsContext, IsPiece, Tells, context_told, ReadsTable, Given, CallFault}
 use Rattle.std.specs.Prelude.{◌↔◌, nat_le}
-use Rattle.names.specs.declared.refusal.Refusal.{Refusal}
 use Rattle.names.specs.declared.refusal.TableFault.{TableFault}
 use Rattle.htext.specs.declared.decoder.TheConstants.{MAX_INPUT}
 use Rattle.charref.specs.Flat.{flat_of, IsReadable}
-use Rattle.charref.specs.Reading.{table_of, IsRefusedWith}
+use Rattle.charref.specs.Reading.{IsRefusedWith}
 use Rattle.charref.specs.Reference.{Entities}
-use Rattle.hmarkup.specs.Quirks.{ReadsQuirks}
 use Rattle.hmodes.specs.Bounds.{AreLimits}
-use Rattle.hparse.specs.Parse.{ParseOptions}
-use Rattle.hwrite.specs.Context.{AllowsContext}
-use Rattle.html_c.specs.Given.{AreSameButTables, IsPiece, Tells, bad_told, context_told}
+use Rattle.html_c.specs.Given.{AreSameButTables, bad_told}
 use Rattle.html_c.specs.Room.{put_over, room_answer}
-use Rattle.html_c.specs.Table.{AnswersTable, IsTableOf, ReadsTable, form_of, table_answered, table_read, table_ran_out, no_flat, no_json, no_text}
+use Rattle.html_c.specs.Table.{AnswersTable, IsTableOf, form_of, table_answered, table_read, table_ran_out, no_flat, no_json, no_text}
 use Rattle.html_c.specs.declared.answer.Answer.{Answer}
-use Rattle.html_c.specs.declared.answer.Given.{Given}
-use Rattle.html_c.specs.declared.fault.CallFault.{CallFault}
 use Rattle.html_c.specs.declared.fault.CallFault.TheVariants as fault
 use Rattle.html_c.specs.declared.table.Form.{Form}
 use Rattle.html_c.specs.declared.table.Form.TheVariants as form

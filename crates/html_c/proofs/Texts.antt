@@ -1,11 +1,7 @@
 -- What a run does whose reads do not fail, and whose writer keeps in memory what it takes: its room, and then the text.
-use Rattle.std.proofs.Common.{◌≡◌, ℕ, List, [], ◌∷◌, ◌++◌, Option, Some, Result, Ok, Err, sym, subst, ap, ◌∙◌, refl}
-use Rattle.std.proofs.lemmas.List.{append-nil}
-use Rattle.names.specs.declared.refusal.Refusal.{Refusal}
-use Rattle.names.specs.declared.refusal.Refusal.TheVariants.{Memory, Write}
-use Rattle.hwrite.specs.Context.{AllowsContext}
+use Rattle.html_c.proofs.Names.{◌≡◌, ℕ, List, [], ◌∷◌, ◌++◌, Option, Some, Result, Ok, Err, sym, subst, ap, ◌∙◌, refl, append-nil, Refusal, Memory, AllowsContext, ComesToNone, none_for_memory, none_of_bytes}
+use Rattle.names.specs.declared.refusal.Refusal.TheVariants.{Write}
 use Rattle.hwrite.specs.Running.{Runs, RunsIn, context_refused, ran, run_ran_out, read_failed, stopped, refused, write_failed, wrote}
-use Rattle.html_c.specs.Exports.{ComesToNone, none_for_memory, none_of_bytes}
 use Rattle.html_c.specs.Faults.{kept}
 use Rattle.names.specs.declared.refusal.Refusal.TheVariants as refusal
 

@@ -1,25 +1,18 @@
 -- What a reading does whose reads do not fail, and the rows of what it gives.
-use Rattle.std.proofs.Common.{◌≡◌, ℕ, List, [], ◌∷◌, ◌++◌, Option, Some, None, Result, Ok, Err, inl, inr, sym, subst, ap, ap₂, ◌∙◌, refl}
-use Rattle.std.proofs.lemmas.List.{append-nil}
-use Rattle.std.specs.Prelude.{IsErrAnd, ◌⊎◌}
-use Rattle.names.specs.declared.refusal.Refusal.{Refusal}
-use Rattle.names.specs.declared.refusal.Refusal.TheVariants.{Memory, BadContext}
-use Rattle.names.specs.Names.{text_of}
+use Rattle.html_c.proofs.Names.{◌≡◌, ℕ, List, [], ◌∷◌, ◌++◌, Option, Some, None, Result, Ok, Err, inl, inr, sym, subst, ap, ap₂, ◌∙◌, refl, append-nil, IsErrAnd, Refusal, Memory, text_of, Forest, none, tree, children_of, spelled, kind_in, Parsed, ParseOptions, AllowsContext, case_in, ComesToNone, none_for_memory, none_of_bytes, kind_number, link_to, rows_of, words_of, ComesToParse, GivesParse, Given}
+use Rattle.std.specs.Prelude.{◌⊎◌}
+use Rattle.names.specs.declared.refusal.Refusal.TheVariants.{BadContext}
 use Rattle.names.specs.Spelling.{spelling}
-use Rattle.hnodes.specs.Forest.{What, document, doctype, element, comment, text, Forest, none, tree, children_of}
-use Rattle.hnodes.specs.Spelled.{spelled, spelled_what}
-use Rattle.hnodes.specs.Spots.{first_or, kind_in}
+use Rattle.hnodes.specs.Forest.{What, document, doctype, element, comment, text}
+use Rattle.hnodes.specs.Spelled.{spelled_what}
+use Rattle.hnodes.specs.Spots.{first_or}
 use Rattle.hnodes.proofs.Spellings.{spelled-children_of}
-use Rattle.hparse.specs.declared.parsed.Parsed.{Parsed}
-use Rattle.hparse.specs.Parse.{Parse, Parses, ParseCase, ParseOptions, root_of}
+use Rattle.hparse.specs.Parse.{Parse, Parses, ParseCase, root_of}
 use Rattle.hparse.specs.Parsing.{AnswersParse, IsParse}
 use Rattle.hparse.specs.Reader.{ReadsInput, reading_ran_out, reading_failed, reading_stopped, read_to_end}
-use Rattle.hwrite.specs.Context.{AllowsContext, case_in}
 use Rattle.hwrite.proofs.Alike.{spelled-alike}
-use Rattle.html_c.specs.Exports.{ComesToNone, GivesRows, case_given, none_for_memory, none_of_bytes}
-use Rattle.html_c.specs.Rows.{kind_number, link_to, rows_of, words_of}
-use Rattle.html_c.specs.Trees.{ComesToParse, GivesParse, HasRows}
-use Rattle.html_c.specs.declared.answer.Given.{Given}
+use Rattle.html_c.specs.Exports.{GivesRows, case_given}
+use Rattle.html_c.specs.Trees.{HasRows}
 use Rattle.html_c.specs.declared.rows.Rows.{Rows}
 
 module _ {S : Type 0} (left : S → List ℕ) (opts : ParseOptions) (context : Option (List ℕ)) (unrefused : List ℕ → Type 0) (piece : ℕ) (source source' : S) where

@@ -1,13 +1,12 @@
 -- Words that are added one after another.
-use Rattle.std.proofs.Common.{◌≡◌, ℕ, ◌+◌, ◌<◌, List, [], ◌++◌, length, drop, get_or, map, sym, ap, ◌∙◌}
-use Rattle.std.proofs.lemmas.List.{append_assoc, append-nil}
-use Rattle.std.specs.List.{flat_map}
+use Rattle.html_c.proofs.Names.{◌≡◌, ℕ, ◌+◌, ◌<◌, List, [], ◌++◌, length, drop, map, sym, ap, ◌∙◌, append_assoc, append-nil, flat_map, ended}
+use Rattle.std.proofs.Common.{get_or}
 use Rattle.std.specs.String.{string_bytes}
 use Rattle.names.specs.declared.attr.Attr.{Attr}
 use Rattle.hnodes.specs.Rows.{attribute_of}
 use Rattle.hnodes.specs.Spelled.{spelled_attribute}
 use Rattle.hserialize.proofs.Attributes.{dropped}
-use Rattle.html_c.specs.Rows.{attribute_words, ended}
+use Rattle.html_c.specs.Rows.{attribute_words}
 
 -- the bytes of attributes by the texts of their names
 abbrev pub attributes_bytes : (ℕ → List ℕ) → List Attr → List ℕ

@@ -1,13 +1,12 @@
 -- What one more argument or command makes of a command line, and all of a list.
-use Rattle.std.proofs.Common.{◌≡◌, ◌<◌, ◌≤◌, ◌+◌, ◌∙◌, ℕ, List, ◌∷◌, length, drop, get_or, map, sym, ap, ap₂, refl, false}
+use Rattle.htmlp.proofs.Names.{◌≡◌, ◌<◌, ◌+◌, ◌∙◌, ℕ, List, ◌∷◌, length, drop, get_or, map, sym, ap, ap₂, refl, false, app_of, with_rule, Command, fields_of, choice_rule, named_reads, with_commands, with_rules}
+use Rattle.std.proofs.Common.{◌≤◌}
 use Rattle.std.proofs.lemmas.List.{at_drop_more, at_drop_all}
-use Rattle.clap.specs.Words.{AddsArg, AddsSubcommand, App, Rule, app_of, rule_of, with_rule, with_subcommand}
+use Rattle.clap.specs.Words.{AddsArg, AddsSubcommand, App, Rule, rule_of, with_subcommand}
 use Rattle.clap.specs.declared.builder.arg.Arg.{Arg}
-use Rattle.clap.specs.declared.builder.command.Command.{Command}
-use Rattle.clap.specs.declared.builder.command.Command.TheViews.{out-Command as fields_of}
 use Rattle.htmlp.specs.declared.commands.Choice.{Choice}
 use Rattle.htmlp.specs.declared.commands.CommandEntry.{CommandEntry}
-use Rattle.htmlp.specs.Line.{choice_rule, command_app, named_reads, with_commands, with_rules}
+use Rattle.htmlp.specs.Line.{command_app}
 
 pub one_more : (old new : Command) (arg : Arg) (app : App) (rule : Rule) → AddsArg old arg new → arg.global ≡ false → app_of old ≡ app → rule_of arg ≡ rule
     → app_of new ≡ with_rule app rule

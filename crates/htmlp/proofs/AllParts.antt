@@ -1,12 +1,8 @@
 -- The parts of a text, written one after another.
-use Rattle.std.proofs.Common.{◌≡◌, ◌∙◌, ◌<◌, ◌+◌, ℕ, zero, suc, List, [], ◌∷◌, ◌++◌, Option, Result, Ok, Err, ap, sym, length, drop, take, get_or, refl}
-use Rattle.std.specs.Borrow.{Bor}
+use Rattle.htmlp.proofs.Names.{◌≡◌, ◌∙◌, ◌<◌, ◌+◌, ℕ, List, [], ◌∷◌, ◌++◌, Option, Result, Ok, Err, ap, sym, length, drop, take, get_or, refl, Bor, IsErrAnd, Refusal, WritesAll, WritesAll-stops, WritesAll-then}
+use Rattle.std.proofs.Common.{zero, suc}
 use Rattle.std.specs.List.{flat_map}
-use Rattle.std.specs.Prelude.{IsErrAnd}
 use Rattle.std.proofs.lemmas.List.{flat_map_more, take_more, append_assoc}
-use Rattle.names.specs.declared.refusal.Refusal.{Refusal}
-use Rattle.hwrite.specs.Calls.{WritesAll}
-use Rattle.hwrite.proofs.CallLemmas.{WritesAll-stops, WritesAll-then}
 
 abbrev pub all_parts : List (Bor (List ℕ)) → List ℕ
 all_parts parts = flat_map (λ (p : Bor (List ℕ)). p.now) parts

@@ -1,3 +1,4 @@
+pub mod Names
 mod Adding
 mod AllParts
 mod LineLemmas

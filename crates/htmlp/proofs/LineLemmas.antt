@@ -1,12 +1,11 @@
 -- What `clap` says of the program's command line.
-use Rattle.std.proofs.Common.{◌≡◌, ◌⊎◌, if◌then◌else◌, Bool, inl, inr, refl, sym, ap, subst, ◌∙◌, List, [], ◌∷◌, true, false, is_some, Result, Ok, Err, IfOk, IfErr, OnOk, MatchResult, Option, None, Some, option_map, option_and_then}
-use Rattle.std.specs.Prelude.{IsSome, codes, find}
+use Rattle.htmlp.proofs.Names.{◌≡◌, ◌⊎◌, inl, inr, refl, sym, ap, subst, ◌∙◌, List, [], ◌∷◌, false, Result, Ok, Err, MatchResult, Option, None, Some, option_map, codes, HasKind, Row, Text, app_of, fault_of, found_of, is_simple_and_free, rows_of, takes, Command, ArgMatches, fault_of_error, Numeric, Says, bad_bytes_of, task_of, value_of, Fault, Line}
+use Rattle.std.proofs.Common.{if◌then◌else◌, Bool, true, is_some, IfOk, IfErr, OnOk, option_and_then}
+use Rattle.std.specs.Prelude.{IsSome, find}
 use Rattle.std.specs.List.{list_all}
-use Rattle.clap.specs.Words.{HasKind, HasMatchesOf, IsAmong, Row, Shape, Text, app_of, built, fault_of, first_of, first_value, found_of, is_simple, is_simple_and_free, kind_of, rows_of, subcommand_name_of, subcommand_of, subcommand_rows_of, takes}
+use Rattle.clap.specs.Words.{HasMatchesOf, IsAmong, Shape, built, first_of, first_value, is_simple, kind_of, subcommand_name_of, subcommand_of, subcommand_rows_of}
 use Rattle.clap.specs.Simple.{argument_words, entered, label_of, names_of, rows_at}
 use Rattle.clap.specs.Walk.{answers_to, stop_after}
-use Rattle.clap.specs.declared.builder.command.Command.{Command}
-use Rattle.clap.specs.declared.parser.matches.ArgMatches.{ArgMatches}
 use Rattle.clap.specs.declared.parser.matches.ArgMatches.TheViews.{out-ArgMatches}
 use Rattle.clap.proofs.WalkLemmas.{both, first_value-rows}
 use Rattle.clap.specs.declared.error.Error.{Error}
@@ -15,12 +14,9 @@ use Rattle.clap.specs.declared.error.kind.ErrorKind.TheVariants.{OutOfMemory}
 use Rattle.clap.proofs.OnLiterals.{clap_on_literals}
 use Rattle.hwrite.specs.Command.{task_named}
 use Rattle.htmlp.specs.declared.fault.Fault.TheVariants as fault
-use Rattle.htmlp.specs.Fault.{fault_by_kind, fault_of_error}
-use Rattle.htmlp.specs.declared.numeric.Numeric.{Numeric}
-use Rattle.htmlp.specs.Line.{AreGood, AreNumbers, FaultOf, NumberFault, OptionFault, Says, bad_bytes_of, numeric_options, program, task_of, value_of}
+use Rattle.htmlp.specs.Fault.{fault_by_kind}
+use Rattle.htmlp.specs.Line.{AreGood, AreNumbers, FaultOf, NumberFault, OptionFault, numeric_options, program}
 use Rattle.hwrite.specs.declared.command.Task.{Task}
-use Rattle.htmlp.specs.declared.fault.Fault.{Fault}
-use Rattle.htmlp.specs.declared.said.Line.{Line}
 
 pub program-simple : is_simple program ≡ true
 unfolding clap_on_literals

@@ -1,10 +1,7 @@
 -- The lists that the words name, and the empty quirks list.
-use Rattle.std.proofs.Common.{◌≡◌, Option, Some, Result, Ok, Err, [], ◌∷◌, ◌++◌, List, ℕ, inr, option_map, refl, subst, sym}
-use Rattle.std.specs.Borrow.{Bor}
-use Rattle.names.specs.declared.refusal.Refusal.{Refusal}
+use Rattle.htmlp.proofs.Names.{◌≡◌, Option, Some, Result, Ok, Err, [], ◌∷◌, ◌++◌, List, ℕ, inr, option_map, refl, subst, sym, Bor, Refusal, ReadsQuirks, Fault}
 use Rattle.names.specs.declared.refusal.Refusal.TheVariants.{Memory}
-use Rattle.hmarkup.specs.Quirks.{ReadsQuirks, no_memory, bad_line, read_all}
-use Rattle.htmlp.specs.declared.fault.Fault.{Fault}
+use Rattle.hmarkup.specs.Quirks.{no_memory, bad_line, read_all}
 use Rattle.htmlp.specs.declared.fault.Fault.TheVariants.{Refused}
 use Rattle.htmlp.specs.Program.{Finds}
 

@@ -1,23 +1,17 @@
 -- What the words say, where they are read.
-use Rattle.std.proofs.Common.{◌≡◌, ◌⊎◌, ◌∙◌, inl, inr, ap, ap₂, sym, subst, codes, Option, option_map, ℕ, List, Ok, Err, false}
+use Rattle.htmlp.proofs.Names.{◌≡◌, ◌⊎◌, ◌∙◌, inl, inr, ap, ap₂, sym, subst, codes, Option, option_map, ℕ, List, Ok, Err, false, Bor, Text, Fault, IsRefused, Numeric, range_of, Line, Says, task_of, value_of, FindsQuirks}
 use Rattle.std.proofs.Math.Nat.{le_refl}
-use Rattle.std.specs.Borrow.{Bor}
-use Rattle.clap.specs.Words.{Text}
 use Rattle.charref.specs.Reference.{Entities}
 use Rattle.hmarkup.specs.Quirks.{QuirkLine}
 use Rattle.names.specs.declared.refusal.Refusal.TheVariants.{BadContext}
 use Rattle.htext.specs.declared.decoder.TheConstants.{MAX_INPUT}
 use Rattle.hmodes.specs.Bounds.{AreLimits, Bounds}
 use Rattle.hwrite.specs.Context.{AllowsContext}
-use Rattle.htmlp.specs.declared.fault.Fault.{Fault}
-use Rattle.htmlp.specs.Fault.{IsLimitFault, IsRefused}
+use Rattle.htmlp.specs.Fault.{IsLimitFault}
 use Rattle.htmlp.specs.declared.fault.Fault.TheVariants.{Limit}
-use Rattle.htmlp.specs.declared.numeric.Numeric.{Numeric}
 use Rattle.htmlp.specs.declared.numeric.Numeric.TheVariants.{Nodes, Open}
-use Rattle.htmlp.specs.Numeric.{IsWithin, range_of}
-use Rattle.htmlp.specs.declared.said.Line.{Line}
-use Rattle.htmlp.specs.Line.{Says, task_of, value_of}
-use Rattle.htmlp.specs.Program.{FindsTable, FindsQuirks, FirstFault, no_table, no_quirks, no_limits, no_context, Tells, ParseOptions, limits_of}
+use Rattle.htmlp.specs.Numeric.{IsWithin}
+use Rattle.htmlp.specs.Program.{FindsTable, FirstFault, no_table, no_quirks, no_limits, no_context, Tells, ParseOptions, limits_of}
 
 abbrev name_of : Option (Bor (List ℕ)) → Option Text
 name_of = option_map (λ s. s.now)

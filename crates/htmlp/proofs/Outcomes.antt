@@ -1,10 +1,6 @@
 -- What comes of a call that is passed up.
-use Rattle.std.proofs.Common.{◌≡◌, Result, Ok, Err, None, MatchResult, ap, refl, sym, subst}
-use Rattle.std.specs.Prelude.{IsErrAnd}
-use Rattle.names.specs.declared.refusal.Refusal.{Refusal}
-use Rattle.htmlp.specs.declared.fault.Fault.{Fault}
+use Rattle.htmlp.proofs.Names.{◌≡◌, Result, Ok, Err, None, MatchResult, ap, refl, sym, subst, IsErrAnd, Refusal, Fault, IsRefused}
 use Rattle.htmlp.specs.declared.fault.Fault.TheVariants as fault
-use Rattle.htmlp.specs.Fault.{IsRefused}
 use Rattle.htmlp.specs.Program.{IsOutcome}
 
 pub refused : (outcome : Result (Unit {0}) Fault) (refusal : Refusal) → IsErrAnd outcome (λ f. f ≡ fault.Refused refusal None) → IsOutcome None (Err refusal) outcome

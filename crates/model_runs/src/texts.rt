@@ -4,7 +4,7 @@ use crate::answers::Answers;
 use crate::hand::Hand;
 use crate::structures::Reply;
 use crate::words::{after, word};
-use charref::{Match, Table};
+use charref::{Characters, Match, Table};
 use names::Refusal;
 use std::alloc::Global;
 
@@ -55,9 +55,13 @@ fn look_up(table: &Option<Table>, text: &str, out: &mut Answers) -> Reply {
 }
 
 /// Says the length of a key, and the numbers of the characters that it stands for.
-fn say_match(found: Match<'_>, out: &mut Answers) {
+fn say_match(found: Match, out: &mut Answers) {
     out.number(found.length);
-    for character in found.characters {
-        out.number(*character as usize);
+    match found.characters {
+        Characters::One(only) => out.number(only as usize),
+        Characters::Two(first, second) => {
+            out.number(first as usize);
+            out.number(second as usize);
+        }
     }
 }

@@ -1,6 +1,5 @@
-use Rattle.std.proofs.Common.{refl}
+use Rattle.html_c.proofs.Names.{refl, parts_of}
 use Rattle.html_c.specs.Page.{no_page_answered, page_answered}
-use Rattle.html_c.specs.Parts.{parts_of}
 use Rattle.html_c.proofs.jz_page.Goals as goal
 use Rattle.html_c.proofs.jz_page.Goals.{in-Err, in-Ok}
 

@@ -1,4 +1,4 @@
-use Rattle.std.proofs.Common.{refl}
+use Rattle.html_c.proofs.Names.{refl}
 use Rattle.html_c.specs.Table.{no_table_answered}
 use Rattle.html_c.proofs.Tables.{answered}
 use Rattle.html_c.proofs.jz_table.Goals as goal

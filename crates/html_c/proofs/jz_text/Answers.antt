@@ -1,4 +1,4 @@
-use Rattle.std.proofs.Common.{refl}
+use Rattle.html_c.proofs.Names.{refl}
 use Rattle.html_c.specs.Exports.{none_answered, text_answered}
 use Rattle.html_c.specs.Fitted.{text_of}
 use Rattle.html_c.proofs.jz_text.Goals as goal

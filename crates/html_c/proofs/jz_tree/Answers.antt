@@ -1,4 +1,4 @@
-use Rattle.std.proofs.Common.{refl}
+use Rattle.html_c.proofs.Names.{refl}
 use Rattle.html_c.specs.Exports.{no_tree_answered, tree_answered}
 use Rattle.html_c.proofs.jz_tree.Goals as goal
 use Rattle.html_c.proofs.jz_tree.Goals.{in-Err, in-Ok}

@@ -1,4 +1,4 @@
-use Rattle.std.proofs.Common.{sym, ◌∙◌}
+use Rattle.html_c.proofs.Names.{sym, ◌∙◌}
 use Rattle.html_c.specs.Page.{no_tree, unescaped}
 use Rattle.html_c.specs.declared.fault.CallFault.TheVariants as fault
 use Rattle.html_c.proofs.Exports.{a_page, no_memory}

@@ -1,8 +1,6 @@
-use Rattle.std.proofs.Common.{ap, drop, ◌∙◌, ◌+◌, ◌++◌}
+use Rattle.html_c.proofs.Names.{ap, drop, ◌∙◌, ◌+◌, ◌++◌, text_of, ended}
 use Rattle.std.proofs.lemmas.List.{drop_all}
-use Rattle.names.specs.Names.{text_of}
 use Rattle.html_c.proofs.Words.{all_added, attributes_bytes, next_attribute, two_added}
-use Rattle.html_c.specs.Rows.{ended}
 use Rattle.html_c.proofs.rows.push_attributes.Goals as goal
 
 pub loop-attr-preserved : goal.loop-attr-preserved

@@ -1,5 +1,4 @@
-use Rattle.std.proofs.Common.{◌≡◌, ◌++◌, drop}
-use Rattle.names.specs.Names.{text_of}
+use Rattle.html_c.proofs.Names.{◌≡◌, ◌++◌, drop, text_of}
 use Rattle.html_c.proofs.Words.{attributes_bytes}
 use Rattle.html_c.proofs.rows.push_attributes.Given as goal
 

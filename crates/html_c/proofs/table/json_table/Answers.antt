@@ -1,6 +1,4 @@
-use Rattle.std.proofs.Common.{◌≡◌, Ok, subst}
-use Rattle.charref.specs.Reading.{table_of}
-use Rattle.html_c.specs.Table.{ReadsTable}
+use Rattle.html_c.proofs.Names.{◌≡◌, Ok, subst, table_of, ReadsTable}
 use Rattle.html_c.specs.declared.fault.CallFault.TheVariants as fault
 use Rattle.html_c.specs.declared.table.Form.TheVariants as form
 use Rattle.html_c.proofs.Outcomes.{passed}

@@ -1,4 +1,4 @@
-use Rattle.std.proofs.Common.{sym, ◌∙◌}
+use Rattle.html_c.proofs.Names.{sym, ◌∙◌}
 use Rattle.html_c.specs.declared.table.Form.TheVariants as form
 use Rattle.html_c.proofs.Tables.{table_is}
 use Rattle.html_c.proofs.table.table_of.Goals as goal

@@ -1,10 +1,6 @@
-use Rattle.std.proofs.Common.{ℕ, List, ◌∷◌}
-use Rattle.hparse.specs.Parsing.{options_of}
-use Rattle.hwrite.specs.Command.{name_of}
-use Rattle.hwrite.specs.Prints.{context_of, prints_of, unrefused_of}
+use Rattle.html_c.proofs.Names.{ℕ, List, ◌∷◌, options_of, name_of, context_of, prints_of, left_in, Fitted}
+use Rattle.hwrite.specs.Prints.{unrefused_of}
 use Rattle.html_c.specs.Fitted.{failures_of}
-use Rattle.html_c.specs.Input.{left_in}
-use Rattle.html_c.specs.declared.fitted.Fitted.{Fitted}
 use Rattle.html_c.proofs.Texts.{came, gives_none, gives_text}
 use Rattle.html_c.proofs.text.text_in.Goals as goal
 

@@ -1,5 +1,4 @@
-use Rattle.html_c.specs.Exports.{no_command}
-use Rattle.html_c.specs.Given.{unmet}
+use Rattle.html_c.proofs.Names.{no_command, unmet}
 use Rattle.html_c.proofs.Outcomes.{fails}
 use Rattle.html_c.proofs.text.text_of.Goals as goal
 

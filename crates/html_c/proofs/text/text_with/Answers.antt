@@ -1,8 +1,4 @@
-use Rattle.std.proofs.Common.{subst}
-use Rattle.hparse.specs.Parsing.{options_of}
-use Rattle.hwrite.specs.Command.{name_of}
-use Rattle.html_c.specs.Exports.{no_command}
-use Rattle.html_c.specs.Given.{IsPiece, context_told, unmet}
+use Rattle.html_c.proofs.Names.{subst, options_of, name_of, no_command, IsPiece, context_told, unmet}
 use Rattle.html_c.specs.declared.fault.CallFault.TheVariants as fault
 use Rattle.html_c.proofs.Exports.{a_text, allowed, no_text}
 use Rattle.html_c.proofs.Outcomes.{fails}

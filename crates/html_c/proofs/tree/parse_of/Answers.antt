@@ -1,4 +1,4 @@
-use Rattle.html_c.specs.Exports.{unmet_rows}
+use Rattle.html_c.proofs.Names.{unmet_rows}
 use Rattle.html_c.proofs.Outcomes.{fails}
 use Rattle.html_c.proofs.tree.parse_of.Goals as goal
 

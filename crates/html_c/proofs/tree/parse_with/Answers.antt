@@ -1,9 +1,4 @@
-use Rattle.std.proofs.Common.{subst, sym}
-use Rattle.hparse.specs.Parsing.{options_of}
-use Rattle.hwrite.specs.Command.{name_of}
-use Rattle.hwrite.specs.Context.{AllowsContext}
-use Rattle.html_c.specs.Exports.{unmet_rows}
-use Rattle.html_c.specs.Given.{IsPiece}
+use Rattle.html_c.proofs.Names.{subst, sym, options_of, name_of, AllowsContext, unmet_rows, IsPiece}
 use Rattle.html_c.specs.declared.fault.CallFault.TheVariants as fault
 use Rattle.html_c.proofs.Exports.{a_parse, no_parse}
 use Rattle.html_c.proofs.Outcomes.{fails}

@@ -1,10 +1,5 @@
-use Rattle.std.proofs.Common.{[], subst}
+use Rattle.html_c.proofs.Names.{[], subst, options_of, name_of, case_in, left_in, ComesToParse}
 use Rattle.hparse.specs.Unrefused.{IsUnrefused}
-use Rattle.hparse.specs.Parsing.{options_of}
-use Rattle.hwrite.specs.Command.{name_of}
-use Rattle.hwrite.specs.Context.{case_in}
-use Rattle.html_c.specs.Input.{left_in}
-use Rattle.html_c.specs.Trees.{ComesToParse}
 use Rattle.html_c.proofs.Trees.{not_begun, parse_of}
 use Rattle.html_c.proofs.tree.parsed.Goals as goal
 

@@ -1,7 +1,6 @@
-use Rattle.std.proofs.Common.{◌≡◌, ◌∙◌, ap, ap₂}
-use Rattle.std.proofs.lemmas.Result.{IfOk-weaker}
-use Rattle.clap.specs.Words.{app_of, new_app, with_rule}
-use Rattle.htmlp.specs.Line.{context_rules, each_rules, file_rule, with_rules}
+use Rattle.htmlp.proofs.Names.{◌≡◌, ◌∙◌, ap, ap₂, IfOk-weaker, app_of, with_rule, with_rules}
+use Rattle.clap.specs.Words.{new_app}
+use Rattle.htmlp.specs.Line.{context_rules, each_rules, file_rule}
 use Rattle.htmlp.proofs.commands.command.Goals as goal
 
 pub returns-clause-shape : goal.returns-clause-shape

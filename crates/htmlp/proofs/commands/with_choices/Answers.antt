@@ -1,5 +1,5 @@
 use Rattle.htmlp.proofs.Adding.{one_more, stays_local, next_choice, all_choices}
-use Rattle.std.proofs.Common.{refl}
+use Rattle.htmlp.proofs.Names.{refl}
 use Rattle.htmlp.proofs.commands.with_choices.Goals as goal
 
 pub loop-choice-preserved : goal.loop-choice-preserved

@@ -1,7 +1,4 @@
-use Rattle.std.proofs.Common.{◌≡◌, map, drop, false}
-use Rattle.clap.specs.Words.{app_of}
-use Rattle.clap.specs.declared.builder.command.Command.TheViews.{out-Command as fields_of}
-use Rattle.htmlp.specs.Line.{choice_rule, with_rules}
+use Rattle.htmlp.proofs.Names.{◌≡◌, map, drop, false, app_of, fields_of, choice_rule, with_rules}
 use Rattle.htmlp.proofs.commands.with_choices.Given as goal
 
 -- with those that are still to come, the command is what it is to be

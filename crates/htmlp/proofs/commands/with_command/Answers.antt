@@ -1,5 +1,4 @@
-use Rattle.std.proofs.Common.{refl}
-use Rattle.std.proofs.lemmas.Result.{IfOk-weaker}
+use Rattle.htmlp.proofs.Names.{refl, IfOk-weaker}
 use Rattle.htmlp.proofs.Adding.{one_command_more}
 use Rattle.htmlp.proofs.commands.with_command.Goals as goal
 

@@ -1,6 +1,4 @@
-use Rattle.std.proofs.Common.{◌≡◌, map, drop}
-use Rattle.clap.specs.Words.{app_of}
-use Rattle.htmlp.specs.Line.{named_reads, with_commands}
+use Rattle.htmlp.proofs.Names.{◌≡◌, map, drop, app_of, named_reads, with_commands}
 use Rattle.htmlp.proofs.commands.with_commands.Given as goal
 
 -- with those that are still to come, the line is what it is to be

@@ -1,4 +1,5 @@
-use Rattle.std.proofs.Common.{Ok, sym, subst, rules, IfSome}
+use Rattle.htmlp.proofs.Names.{Ok, sym, subst, IfSome}
+use Rattle.std.proofs.Common.{rules}
 use Rattle.hwrite.specs.Calls.{EndsWith}
 use Rattle.htmlp.specs.Ending.{ending_text}
 use Rattle.hwrite.proofs.CallLemmas.{WritesAll-nil}

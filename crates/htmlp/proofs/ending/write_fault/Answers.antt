@@ -1,5 +1,4 @@
-use Rattle.std.proofs.Common.{IfSome, subst, sym}
-use Rattle.hwrite.specs.Calls.{WritesAll}
+use Rattle.htmlp.proofs.Names.{IfSome, subst, sym, WritesAll}
 use Rattle.htmlp.specs.Ending.{fault_text}
 use Rattle.htmlp.proofs.ending.write_fault.Goals as goal
 

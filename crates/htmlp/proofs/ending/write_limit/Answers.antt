@@ -1,8 +1,7 @@
 -- The line of the refusal, and the option with its range.
-use Rattle.std.proofs.Common.{codes, refl}
+use Rattle.htmlp.proofs.Names.{codes, refl, WritesAll-stops, WritesAll-then, range_text, refusal_line}
 use Rattle.names.specs.declared.refusal.Refusal.TheVariants.{BadLimits}
-use Rattle.hwrite.proofs.CallLemmas.{WritesAll-stops, WritesAll-then}
-use Rattle.htmlp.specs.Ending.{limit_line, range_text, refusal_line}
+use Rattle.htmlp.specs.Ending.{limit_line}
 use Rattle.htmlp.proofs.ending.write_limit.Goals as goal
 
 pub returns-in_err-write_refusal : goal.returns-in_err-write_refusal

@@ -1,7 +1,5 @@
-use Rattle.std.proofs.Common.{Option, List, ℕ, ◌++◌, ap, option_map, refl}
-use Rattle.std.specs.Borrow.{Bor}
-use Rattle.hwrite.proofs.CallLemmas.{WritesAll-stops, WritesAll-then}
-use Rattle.htmlp.specs.Ending.{around_name, name_line, refusal_line}
+use Rattle.htmlp.proofs.Names.{Option, List, ℕ, ◌++◌, ap, option_map, refl, Bor, WritesAll-stops, WritesAll-then, refusal_line}
+use Rattle.htmlp.specs.Ending.{around_name, name_line}
 use Rattle.htmlp.proofs.ending.write_named.Goals as goal
 
 abbrev texts_of : Option (Bor (List ℕ) × Bor (List ℕ)) → Option (List ℕ × List ℕ)

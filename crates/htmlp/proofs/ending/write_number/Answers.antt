@@ -1,5 +1,4 @@
-use Rattle.std.proofs.Common.{List, ℕ, ◌++◌, ◌∙◌, ap, ap₂, codes, decimal}
-use Rattle.hwrite.proofs.CallLemmas.{WritesAll-stops, WritesAll-then}
+use Rattle.htmlp.proofs.Names.{List, ℕ, ◌++◌, ◌∙◌, ap, ap₂, codes, decimal, WritesAll-stops, WritesAll-then}
 use Rattle.htmlp.proofs.ending.write_number.Goals as goal
 
 abbrev spaced : List ℕ → List ℕ

@@ -1,9 +1,5 @@
 -- The value, the option with its range, and where to read more.
-use Rattle.std.proofs.Common.{List, ℕ, [], ◌∷◌, ◌++◌, codes, refl}
-use Rattle.std.specs.List.{concat}
-use Rattle.hwrite.proofs.CallLemmas.{WritesAll-stops, WritesAll-then}
-use Rattle.htmlp.specs.Ending.{range_text}
-use Rattle.htmlp.specs.declared.numeric.Numeric.{Numeric}
+use Rattle.htmlp.proofs.Names.{List, ℕ, [], ◌∷◌, ◌++◌, codes, refl, concat, WritesAll-stops, WritesAll-then, range_text, Numeric}
 use Rattle.htmlp.proofs.ending.write_number_fault.Goals as goal
 
 abbrev of_value : List ℕ → List ℕ

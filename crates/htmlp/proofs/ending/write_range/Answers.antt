@@ -1,9 +1,6 @@
 -- The option and what stands between, and then the range.
-use Rattle.std.proofs.Common.{◌≡◌, ℕ, List, [], ◌∷◌, ◌++◌, ◌∙◌, ap, ap₂, codes, decimal, refl, sym}
-use Rattle.std.specs.List.{concat}
+use Rattle.htmlp.proofs.Names.{◌≡◌, ℕ, List, [], ◌∷◌, ◌++◌, ◌∙◌, ap, ap₂, codes, decimal, refl, sym, concat, WritesAll-stops, WritesAll-then, range_of}
 use Rattle.std.proofs.lemmas.List.Folds.{concat-append}
-use Rattle.hwrite.proofs.CallLemmas.{WritesAll-stops, WritesAll-then}
-use Rattle.htmlp.specs.Numeric.{range_of}
 use Rattle.htmlp.proofs.ending.write_range.Goals as goal
 
 abbrev range : List ℕ → List ℕ → List (List ℕ)

@@ -1,8 +1,5 @@
-use Rattle.std.proofs.Common.{[], ◌∷◌, ◌++◌, ◌≡◌, refl, subst, codes}
-use Rattle.hwrite.specs.Calls.{WritesAll}
-use Rattle.htmlp.specs.Ending.{refusal_line}
+use Rattle.htmlp.proofs.Names.{[], ◌∷◌, ◌++◌, ◌≡◌, refl, subst, codes, WritesAll, refusal_line, Refusal}
 use Rattle.names.specs.RefusalText.{refusal_text}
-use Rattle.names.specs.declared.refusal.Refusal.{Refusal}
 use Rattle.names.specs.declared.refusal.Refusal.TheVariants.{Read, Write}
 use Rattle.htmlp.proofs.ending.write_refusal.Goals as goal
 

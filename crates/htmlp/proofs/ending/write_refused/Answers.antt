@@ -1,8 +1,7 @@
 -- The parts of the line, one after another: what it begins with, the name, the detail, the count, and its end.
-use Rattle.std.proofs.Common.{ℕ, List, [], ◌∷◌, ◌++◌, ◌≡◌, ◌∙◌, refl, ap, Err, codes, append_assoc, option_map}
-use Rattle.std.specs.Borrow.{Bor}
+use Rattle.htmlp.proofs.Names.{ℕ, List, [], ◌∷◌, ◌++◌, ◌≡◌, ◌∙◌, refl, ap, Err, codes, option_map, Bor, WritesAll-stops, WritesAll-then}
+use Rattle.std.proofs.Common.{append_assoc}
 use Rattle.names.specs.RefusalText.{detail_of, detail_text, name_of, number_of, number_text}
-use Rattle.hwrite.proofs.CallLemmas.{WritesAll-stops, WritesAll-then}
 use Rattle.htmlp.proofs.ending.write_refused.Goals as goal
 
 abbrev start : List ℕ

@@ -1,5 +1,4 @@
-use Rattle.std.proofs.Common.{codes, refl}
-use Rattle.hwrite.proofs.CallLemmas.{WritesAll-stops, WritesAll-then}
+use Rattle.htmlp.proofs.Names.{codes, refl, WritesAll-stops, WritesAll-then}
 use Rattle.htmlp.proofs.ending.write_word.Goals as goal
 
 pub returns-in_err-write_part : goal.returns-in_err-write_part

@@ -1,4 +1,4 @@
-use Rattle.std.proofs.Common.{◌∙◌}
+use Rattle.htmlp.proofs.Names.{◌∙◌}
 use Rattle.htmlp.proofs.host.start.Goals as goal
 
 pub returns : goal.returns

@@ -1,7 +1,4 @@
-use Rattle.std.proofs.Common.{Some, ap, sym, option_map, ◌∙◌}
-use Rattle.std.specs.Borrow.{Bor}
-use Rattle.clap.specs.Words.{Text}
-use Rattle.htmlp.specs.Line.{bad_bytes_of}
+use Rattle.htmlp.proofs.Names.{Some, ap, sym, option_map, ◌∙◌, Bor, Text, bad_bytes_of}
 use Rattle.htmlp.proofs.line.bad_bytes.Goals as goal
 
 pub returns-in-Some-replace : goal.returns-in-Some-replace

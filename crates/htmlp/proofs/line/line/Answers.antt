@@ -1,10 +1,6 @@
 -- The words are read as `clap` says, and the values of the command are those of its matches.
-use Rattle.std.proofs.Common.{ap, map, sym, subst, option_map, string_bytes, List, ◌∙◌}
-use Rattle.std.specs.Borrow.{Bor}
-use Rattle.clap.specs.Words.{Text, fault_of, found_of, HasKind, Row, is_simple_and_free, rows_of, takes}
-use Rattle.clap.specs.declared.parser.matches.ArgMatches.{ArgMatches}
+use Rattle.htmlp.proofs.Names.{ap, map, sym, subst, option_map, string_bytes, List, ◌∙◌, Bor, Text, fault_of, found_of, HasKind, Row, is_simple_and_free, rows_of, takes, ArgMatches, fault_of_error}
 use Rattle.clap.proofs.TakesLemmas.{passed_up}
-use Rattle.htmlp.specs.Fault.{fault_of_error}
 use Rattle.htmlp.proofs.LineLemmas.{program-free, fault_of_kind, fault_of_error-memory, names_a_task, task_read, value_read, said, anyway, says_fault, no_fault}
 use Rattle.htmlp.proofs.line.line.Goals as goal
 

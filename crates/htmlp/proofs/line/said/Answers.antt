@@ -1,5 +1,5 @@
 -- What the values of the options say, or the first that is no number in its range.
-use Rattle.std.proofs.Common.{◌∙◌, sym, ap, inl, inr}
+use Rattle.htmlp.proofs.Names.{◌∙◌, sym, ap, inl, inr}
 use Rattle.htmlp.specs.Line.{escaping_of}
 use Rattle.htmlp.proofs.Outcomes.{fails}
 use Rattle.htmlp.proofs.line.said.Goals as goal

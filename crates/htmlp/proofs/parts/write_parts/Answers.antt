@@ -1,5 +1,5 @@
-use Rattle.std.proofs.Common.{Ok, subst, take_all}
-use Rattle.hwrite.specs.Calls.{WritesAll}
+use Rattle.htmlp.proofs.Names.{Ok, subst, WritesAll}
+use Rattle.std.proofs.Common.{take_all}
 use Rattle.htmlp.proofs.AllParts.{all_parts, next_failed, next_written}
 use Rattle.htmlp.proofs.parts.write_parts.Goals as goal
 

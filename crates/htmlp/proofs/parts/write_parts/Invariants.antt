@@ -1,5 +1,4 @@
-use Rattle.std.proofs.Common.{Ok, take}
-use Rattle.hwrite.specs.Calls.{WritesAll}
+use Rattle.htmlp.proofs.Names.{Ok, take, WritesAll}
 use Rattle.htmlp.proofs.AllParts.{all_parts}
 use Rattle.htmlp.proofs.parts.write_parts.Given as goal
 

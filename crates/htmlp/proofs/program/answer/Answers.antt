@@ -1,5 +1,5 @@
-use Rattle.std.proofs.Common.{map, refl, string_bytes, sym, ◌∙◌}
-use Rattle.htmlp.specs.Program.{line_missing, line_for_version, line_answered}
+use Rattle.htmlp.proofs.Names.{map, refl, string_bytes, sym, ◌∙◌, line_missing}
+use Rattle.htmlp.specs.Program.{line_for_version, line_answered}
 use Rattle.htmlp.proofs.Outcomes.{passed_on}
 use Rattle.htmlp.proofs.program.answer.Goals as goal
 

@@ -1,4 +1,4 @@
-use Rattle.std.proofs.Common.{Ok, Err, refl}
+use Rattle.htmlp.proofs.Names.{Ok, Err, refl}
 use Rattle.htmlp.proofs.program.answer_input.Goals as goal
 
 pub returns-in-Ok : goal.returns-in-Ok

@@ -1,5 +1,4 @@
-use Rattle.std.proofs.Common.{refl}
-use Rattle.htmlp.specs.Program.{words_without}
+use Rattle.htmlp.proofs.Names.{refl, words_without}
 use Rattle.htmlp.proofs.Named.{table_missing, quirks_missing}
 use Rattle.htmlp.proofs.Outcomes.{passed_on}
 use Rattle.htmlp.proofs.program.answer_line.Goals as goal

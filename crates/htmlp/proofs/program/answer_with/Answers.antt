@@ -1,6 +1,5 @@
-use Rattle.std.proofs.Common.{List, ℕ, refl, sym, ap, ◌∙◌, option_map}
-use Rattle.std.specs.Borrow.{Bor}
-use Rattle.htmlp.specs.Program.{words_without, words_with_file, words_without_file}
+use Rattle.htmlp.proofs.Names.{List, ℕ, refl, sym, ap, ◌∙◌, option_map, Bor, words_without}
+use Rattle.htmlp.specs.Program.{words_with_file, words_without_file}
 use Rattle.htmlp.proofs.Named.{limits_refused, context_refused, tells}
 use Rattle.htmlp.proofs.Outcomes.{passed_on}
 use Rattle.htmlp.proofs.program.answer_with.Goals as goal

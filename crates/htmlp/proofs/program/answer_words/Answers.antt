@@ -1,4 +1,4 @@
-use Rattle.std.proofs.Common.{refl}
+use Rattle.htmlp.proofs.Names.{refl}
 use Rattle.htmlp.specs.Program.{words_refused}
 use Rattle.htmlp.proofs.Outcomes.{passed_on}
 use Rattle.htmlp.proofs.program.answer_words.Goals as goal

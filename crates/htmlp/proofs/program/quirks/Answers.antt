@@ -1,8 +1,5 @@
-use Rattle.std.proofs.Common.{Option, None, Err, [], List, ℕ, refl, subst, sym, option_map}
-use Rattle.std.specs.Borrow.{Bor}
-use Rattle.hmarkup.specs.Quirks.{ReadsQuirks}
+use Rattle.htmlp.proofs.Names.{Option, None, Err, [], List, ℕ, refl, subst, sym, option_map, Bor, ReadsQuirks, FindsQuirks}
 use Rattle.htmlp.specs.declared.fault.Fault.TheVariants as fault
-use Rattle.htmlp.specs.Program.{FindsQuirks}
 use Rattle.htmlp.proofs.Outcomes.{fails}
 use Rattle.htmlp.proofs.Lists.{list_read, list_refused, no_line_is_bad}
 use Rattle.htmlp.proofs.program.quirks.Goals as goal

@@ -1,5 +1,4 @@
-use Rattle.std.proofs.Common.{Err, map, refl, string_bytes, subst, sym}
-use Rattle.htmlp.specs.Program.{line_missing}
+use Rattle.htmlp.proofs.Names.{Err, map, refl, string_bytes, subst, sym, line_missing}
 use Rattle.htmlp.proofs.program.run_program.Goals as goal
 
 pub returns-in-Ok : goal.returns-in-Ok

@@ -1,4 +1,4 @@
-use Rattle.std.proofs.Common.{Err, Ok, refl}
+use Rattle.htmlp.proofs.Names.{Err, Ok, refl}
 use Rattle.htmlp.proofs.Outcomes.{refused}
 use Rattle.htmlp.proofs.version.write_version.Goals as goal
 

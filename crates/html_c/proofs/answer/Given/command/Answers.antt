@@ -1,5 +1,5 @@
-use Rattle.std.proofs.Common.{ap, refl, sym, ◌∙◌}
-use Rattle.html_c.specs.Given.{may_be_in, misplaced, no_escaping, unmet}
+use Rattle.html_c.proofs.Names.{ap, refl, sym, ◌∙◌, unmet}
+use Rattle.html_c.specs.Given.{may_be_in, misplaced, no_escaping}
 use Rattle.html_c.proofs.Outcomes.{fails}
 use Rattle.html_c.proofs.answer.Given.command.Goals as goal
 

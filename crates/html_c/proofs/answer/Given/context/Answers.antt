@@ -1,5 +1,4 @@
-use Rattle.std.proofs.Common.{ap, subst, sym}
-use Rattle.hwrite.specs.Context.{AllowsContext}
+use Rattle.html_c.proofs.Names.{ap, subst, sym, AllowsContext}
 use Rattle.html_c.specs.Given.{context_refused}
 use Rattle.html_c.specs.declared.fault.CallFault.TheVariants as fault
 use Rattle.html_c.proofs.Outcomes.{fails}

@@ -1,4 +1,4 @@
-use Rattle.std.proofs.Common.{ap}
+use Rattle.html_c.proofs.Names.{ap}
 use Rattle.hmodes.specs.Bounds.{Bounds}
 use Rattle.html_c.proofs.answer.Given.options.Goals as goal
 

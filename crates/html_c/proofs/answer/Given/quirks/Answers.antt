@@ -1,5 +1,4 @@
-use Rattle.std.proofs.Common.{Ok, Err, refl, subst}
-use Rattle.hmarkup.specs.Quirks.{ReadsQuirks}
+use Rattle.html_c.proofs.Names.{Ok, Err, refl, subst, ReadsQuirks}
 use Rattle.html_c.specs.Given.{quirks_refused}
 use Rattle.html_c.specs.declared.fault.CallFault.TheVariants as fault
 use Rattle.html_c.proofs.Outcomes.{fails}

@@ -1,35 +1,21 @@
 -- The empty struct, with the bytes that the clause names.
+use Rattle.html_c.proofs.Names.{Ura, vstruct, vnil, SProp, ent, emp, via, fst∗, Routine, Calls, Loops, WpFn, Tables, Logic, Fun, tables, WpFn-mono, ‵, raw, ◌$◌, ◌∵◌, !, qed, move, suffices, done, no_more, returns, enter, agg, alloc_all, pass_all, free_all, look_at, sets, owns, pure_i, on_entry, alive, Meets, triple_of, entered, says, Stays, walk_of, Walks, ends_at, walked, walk_Meets, ◌<◌, length}
+use contract.Running.{tables_of}
 use mathlib.Core.Path.{refl}
 use mathlib.Core.List.{[], ◌∷◌, ◌++◌}
-use seplogic.Ra.Ura.{Ura}
 use mir.Syntax.{named}
-use mir.Val.{Val, vptr, vstruct, vnil}
-use base.Logic.{SProp, ent, emp, via, fst∗}
+use mir.Val.{Val, vptr}
 use base.Fml.{Fml}
 use prog.Memory.{Memory}
-use prog.Routine.{Routine}
-use prog.Wp.{Calls, Loops, WpFn, Tables}
-use types.Logic.{Logic}
 use contract.Lifetimes.{Lfts, Shares}
-use contract.Monad.{Fun}
-use contract.Running.{tables, tables_of}
-use sound.WpLaws.{WpFn-mono}
-use types.Kit.{‵, raw, ◌$◌, ◌∵◌, !, qed, move, suffices, done}
-use types.Run.{no_more, returns, enter}
-use types.Part.{agg}
-use types.ByLocal.{alloc_all, pass_all, free_all, look_at, sets}
 use denote.Builtin.{u8}
 use denote.Exit.{yes}
-use denote.RattleType.{owns}
 use denote.Ref.{shr_vals, shr_Tells}
 use denote.Slice.{slice_val, shr_slice_vals, shr_slice_Tells}
-use denote.Shadow.{pure_i}
 use denote.Signature.{plain, types_at}
-use denote.Triple.Entry.{on_entry, alive, Args}
-use denote.Triple.Spec.{Meets, triple_of}
-use denote.Triple.Table.{entered}
-use denote.Triple.Walked.{says, stay_none_ref, stay_none_slice, Stays, walk_of, Walks, ends_at, walked, Goes-none_ref, Goes-none_slice, walk_Meets}
-use Rattle.std.proofs.Common.{◌<◌, ◌^◌, length}
+use denote.Triple.Entry.{Args}
+use denote.Triple.Walked.{stay_none_ref, stay_none_slice, Goes-none_ref, Goes-none_slice}
+use Rattle.std.proofs.Common.{◌^◌}
 use Rattle.html_c.specs.contracts.history.History.with.Key.{name as key}
 use Rattle.html_c.specs.contracts.history.History.with as f
 use Rattle.html_c.proofs.history.History.with.Statement as stated

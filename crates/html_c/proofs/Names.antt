@@ -1,0 +1,48 @@
+-- The names of other crates and of specs/ that several proofs cite, in one place.
+pub use Rattle.charref.specs.Reading.{table_of}
+pub use Rattle.hmarkup.specs.Quirks.{ReadsQuirks}
+pub use Rattle.hnodes.specs.Forest.{Forest, none, tree, children_of}
+pub use Rattle.hnodes.specs.Spelled.{spelled}
+pub use Rattle.hnodes.specs.Spots.{kind_in}
+pub use Rattle.hparse.specs.Parse.{ParseOptions}
+pub use Rattle.hparse.specs.Parsing.{options_of}
+pub use Rattle.hparse.specs.declared.parsed.Parsed.{Parsed}
+pub use Rattle.html_c.specs.Exports.{ComesToNone, none_for_memory, none_of_bytes, no_command, unmet_rows}
+pub use Rattle.html_c.specs.Given.{IsPiece, Tells, context_told, unmet}
+pub use Rattle.html_c.specs.Input.{left_in}
+pub use Rattle.html_c.specs.Parts.{parts_of}
+pub use Rattle.html_c.specs.Rows.{kind_number, link_to, rows_of, words_of, ended}
+pub use Rattle.html_c.specs.Table.{ReadsTable}
+pub use Rattle.html_c.specs.Trees.{ComesToParse, GivesParse}
+pub use Rattle.html_c.specs.declared.answer.Given.{Given}
+pub use Rattle.html_c.specs.declared.fault.CallFault.{CallFault}
+pub use Rattle.html_c.specs.declared.fitted.Fitted.{Fitted}
+pub use Rattle.hwrite.specs.Command.{name_of}
+pub use Rattle.hwrite.specs.Context.{AllowsContext, case_in}
+pub use Rattle.hwrite.specs.Prints.{context_of, prints_of}
+pub use Rattle.names.specs.Names.{text_of}
+pub use Rattle.names.specs.declared.refusal.Refusal.{Refusal}
+pub use Rattle.names.specs.declared.refusal.Refusal.TheVariants.{Memory}
+pub use Rattle.std.proofs.Common.{◌≡◌, ℕ, ◌<◌, List, [], ◌∷◌, ◌++◌, Some, map, refl, sym, ap, ap₂, subst, ◌∙◌, Bool, true, Result, Ok, Err, inl, inr, length, ◌+◌, drop, Option, None}
+pub use Rattle.std.proofs.lemmas.List.{append_assoc, append-nil}
+pub use Rattle.std.specs.List.{flat_map}
+pub use Rattle.std.specs.Prelude.{IsErrAnd, if◌then◌else◌}
+pub use base.Logic.{SProp, ent, emp, via, fst∗}
+pub use contract.Monad.{Fun}
+pub use contract.Running.{tables, tables_of}
+pub use denote.RattleType.{owns}
+pub use denote.Shadow.{pure_i}
+pub use denote.Triple.Entry.{on_entry, alive}
+pub use denote.Triple.Spec.{Meets, triple_of}
+pub use denote.Triple.Table.{entered}
+pub use denote.Triple.Walked.{says, Stays, walk_of, Walks, ends_at, walked, walk_Meets}
+pub use mir.Val.{vstruct, vnil}
+pub use prog.Routine.{Routine}
+pub use prog.Wp.{Calls, Loops, WpFn, Tables}
+pub use seplogic.Ra.Ura.{Ura}
+pub use sound.WpLaws.{WpFn-mono}
+pub use types.ByLocal.{alloc_all, pass_all, free_all, look_at, sets}
+pub use types.Kit.{‵, raw, ◌$◌, ◌∵◌, !, qed, move, suffices, done}
+pub use types.Logic.{Logic}
+pub use types.Part.{agg}
+pub use types.Run.{no_more, returns, enter}
