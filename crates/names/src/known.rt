@@ -6,7 +6,7 @@ ghost use Rattle.std.specs.Option.{option_map};
 ghost use Rattle.names.specs.Table.{letter_of};
 ghost use Rattle.names.specs.Tags.{known};
 
-use crate::tag::TAGS;
+use crate::tags::TAGS;
 
 /// How many there are: the tags', and `type`.
 pub(crate) const KNOWN: usize = 128;

@@ -13,6 +13,7 @@ pub mod refusal;
 pub mod sets;
 pub mod table;
 pub mod tag;
+mod tags;
 
 pub use attr::Attr;
 pub use error::{ErrorCode, ParseError};

@@ -1,22 +1,7 @@
 //! The sets of names that the rules speak of (HTML Standard, 13.2.4.1, 13.2.4.2, 13.2.6.3, 13.2.6.4.7 and 13.3): a table of bits by the name.
 
 ghost use Rattle.std.specs.Prelude.{◌≡◌};
-ghost use Rattle.names.specs.Sets.{
-  has_implied_end,
-  is_cell,
-  is_formatting,
-  is_heading,
-  is_special,
-  is_table_section,
-  is_void,
-  may_stay_open,
-  stops_button_scope,
-  stops_item,
-  stops_list_item_scope,
-  stops_scope,
-  stops_table_scope,
-  tells_mode,
-};
+ghost use Rattle.names.specs.Sets.{has_implied_end, is_cell, is_formatting, is_heading, is_special, is_table_section, is_void, may_stay_open, stops_button_scope, stops_item, stops_list_item_scope, stops_scope, stops_table_scope, tells_mode};
 ghost use Rattle.names.specs.TagSets.{has_set};
 ghost use Rattle.names.specs.declared.sets.TheConstants as bit;
 
@@ -57,135 +42,46 @@ const SCOPES: u16 = SCOPE | LIST_ITEM_SCOPE | BUTTON_SCOPE;
 const STOP: u16 = SPECIAL | ITEM_STOP;
 
 /// The bits of each name, in the order of `Tag`.
+#[rattlefmt::skip]
 static SETS: [u16; 128] = [
-    FORMATTING, // a
-    0, // abbr
-    SPECIAL, // address
-    SCOPES | STOP, // applet
-    STOP | VOID, // area
-    STOP, // article
-    STOP, // aside
-    FORMATTING, // b
-    STOP | VOID, // base
-    STOP | VOID, // basefont
-    0, // bdi
-    0, // bdo
-    STOP | VOID, // bgsound
-    FORMATTING, // big
-    STOP, // blockquote
-    STOP | MAY_STAY_OPEN | TELLS_MODE, // body
-    STOP | VOID, // br
-    BUTTON_SCOPE | STOP, // button
-    SCOPES | STOP | TELLS_MODE, // caption
-    STOP, // center
-    0, // cite
-    FORMATTING, // code
-    STOP | VOID, // col
-    STOP | TELLS_MODE, // colgroup
-    0, // data
-    STOP | IMPLIED_END | MAY_STAY_OPEN, // dd
-    0, // del
-    STOP, // details
-    0, // dfn
-    0, // dialog
-    STOP, // dir
-    SPECIAL, // div
-    STOP, // dl
-    STOP | IMPLIED_END | MAY_STAY_OPEN, // dt
-    FORMATTING, // em
-    STOP | VOID, // embed
-    STOP, // fieldset
-    STOP, // figcaption
-    STOP, // figure
-    FORMATTING, // font
-    STOP, // footer
-    STOP, // form
-    0, // frame
-    0, // frameset
-    STOP | HEADING, // h1
-    STOP | HEADING, // h2
-    STOP | HEADING, // h3
-    STOP | HEADING, // h4
-    STOP | HEADING, // h5
-    STOP | HEADING, // h6
-    STOP, // head
-    STOP, // header
-    STOP, // hgroup
-    STOP | VOID, // hr
-    SCOPES | TABLE_SCOPE | STOP | MAY_STAY_OPEN, // html
-    FORMATTING, // i
-    STOP, // iframe
-    0, // image
-    STOP | VOID, // img
-    STOP | VOID, // input
-    0, // ins
-    0, // kbd
-    0, // keygen
-    0, // label
-    STOP | IMPLIED_END | MAY_STAY_OPEN, // li
-    STOP | VOID, // link
-    STOP, // listing
-    STOP, // main
-    0, // mark
-    SCOPES | STOP, // marquee
-    0, // math
-    STOP, // menu
-    STOP | VOID, // meta
-    STOP, // nav
-    FORMATTING, // nobr
-    STOP, // noembed
-    STOP, // noframes
-    STOP, // noscript
-    SCOPES | STOP, // object
-    LIST_ITEM_SCOPE | STOP, // ol
-    0, // optgroup
-    0, // option
-    0, // output
-    SPECIAL | IMPLIED_END | MAY_STAY_OPEN, // p
-    STOP | VOID, // param
-    STOP, // plaintext
-    STOP, // pre
-    0, // q
-    IMPLIED_END | MAY_STAY_OPEN, // rb
-    IMPLIED_END | MAY_STAY_OPEN, // rp
-    IMPLIED_END | MAY_STAY_OPEN, // rt
-    IMPLIED_END | MAY_STAY_OPEN, // rtc
-    0, // ruby
-    FORMATTING, // s
-    0, // samp
-    STOP, // script
-    STOP, // search
-    STOP, // section
-    0, // select
-    FORMATTING, // small
-    STOP | VOID, // source
-    0, // span
-    FORMATTING, // strike
-    FORMATTING, // strong
-    STOP, // style
-    0, // sub
-    STOP, // summary
-    0, // sup
-    0, // svg
-    SCOPES | TABLE_SCOPE | STOP | TELLS_MODE, // table
-    STOP | MAY_STAY_OPEN | TABLE_SECTION | TELLS_MODE, // tbody
-    SCOPES | STOP | MAY_STAY_OPEN | CELL | TELLS_MODE, // td
-    0, // template
-    STOP, // textarea
-    STOP | MAY_STAY_OPEN | TABLE_SECTION | TELLS_MODE, // tfoot
-    SCOPES | STOP | MAY_STAY_OPEN | CELL | TELLS_MODE, // th
-    STOP | MAY_STAY_OPEN | TABLE_SECTION | TELLS_MODE, // thead
-    0, // time
-    STOP, // title
-    STOP | MAY_STAY_OPEN | TELLS_MODE, // tr
-    STOP | VOID, // track
-    FORMATTING, // tt
-    FORMATTING, // u
-    LIST_ITEM_SCOPE | STOP, // ul
-    0, // var
-    STOP | VOID, // wbr
-    STOP, // xmp
-    0, // any other name
+    FORMATTING /* a */, 0 /* abbr */, SPECIAL /* address */, SCOPES | STOP /* applet */,
+    STOP | VOID /* area */, STOP /* article */, STOP /* aside */, FORMATTING /* b */,
+    STOP | VOID /* base */, STOP | VOID /* basefont */, 0 /* bdi */, 0 /* bdo */,
+    STOP | VOID /* bgsound */, FORMATTING /* big */, STOP /* blockquote */,
+    STOP | MAY_STAY_OPEN | TELLS_MODE /* body */, STOP | VOID /* br */,
+    BUTTON_SCOPE | STOP /* button */, SCOPES | STOP | TELLS_MODE /* caption */, STOP /* center */,
+    0 /* cite */, FORMATTING /* code */, STOP | VOID /* col */, STOP | TELLS_MODE /* colgroup */,
+    0 /* data */, STOP | IMPLIED_END | MAY_STAY_OPEN /* dd */, 0 /* del */, STOP /* details */,
+    0 /* dfn */, 0 /* dialog */, STOP /* dir */, SPECIAL /* div */, STOP /* dl */,
+    STOP | IMPLIED_END | MAY_STAY_OPEN /* dt */, FORMATTING /* em */, STOP | VOID /* embed */,
+    STOP /* fieldset */, STOP /* figcaption */, STOP /* figure */, FORMATTING /* font */,
+    STOP /* footer */, STOP /* form */, 0 /* frame */, 0 /* frameset */, STOP | HEADING /* h1 */,
+    STOP | HEADING /* h2 */, STOP | HEADING /* h3 */, STOP | HEADING /* h4 */,
+    STOP | HEADING /* h5 */, STOP | HEADING /* h6 */, STOP /* head */, STOP /* header */,
+    STOP /* hgroup */, STOP | VOID /* hr */, SCOPES | TABLE_SCOPE | STOP | MAY_STAY_OPEN /* html */,
+    FORMATTING /* i */, STOP /* iframe */, 0 /* image */, STOP | VOID /* img */,
+    STOP | VOID /* input */, 0 /* ins */, 0 /* kbd */, 0 /* keygen */, 0 /* label */,
+    STOP | IMPLIED_END | MAY_STAY_OPEN /* li */, STOP | VOID /* link */, STOP /* listing */,
+    STOP /* main */, 0 /* mark */, SCOPES | STOP /* marquee */, 0 /* math */, STOP /* menu */,
+    STOP | VOID /* meta */, STOP /* nav */, FORMATTING /* nobr */, STOP /* noembed */,
+    STOP /* noframes */, STOP /* noscript */, SCOPES | STOP /* object */,
+    LIST_ITEM_SCOPE | STOP /* ol */, 0 /* optgroup */, 0 /* option */, 0 /* output */,
+    SPECIAL | IMPLIED_END | MAY_STAY_OPEN /* p */, STOP | VOID /* param */, STOP /* plaintext */,
+    STOP /* pre */, 0 /* q */, IMPLIED_END | MAY_STAY_OPEN /* rb */,
+    IMPLIED_END | MAY_STAY_OPEN /* rp */, IMPLIED_END | MAY_STAY_OPEN /* rt */,
+    IMPLIED_END | MAY_STAY_OPEN /* rtc */, 0 /* ruby */, FORMATTING /* s */, 0 /* samp */,
+    STOP /* script */, STOP /* search */, STOP /* section */, 0 /* select */,
+    FORMATTING /* small */, STOP | VOID /* source */, 0 /* span */, FORMATTING /* strike */,
+    FORMATTING /* strong */, STOP /* style */, 0 /* sub */, STOP /* summary */, 0 /* sup */,
+    0 /* svg */, SCOPES | TABLE_SCOPE | STOP | TELLS_MODE /* table */,
+    STOP | MAY_STAY_OPEN | TABLE_SECTION | TELLS_MODE /* tbody */,
+    SCOPES | STOP | MAY_STAY_OPEN | CELL | TELLS_MODE /* td */, 0 /* template */,
+    STOP /* textarea */, STOP | MAY_STAY_OPEN | TABLE_SECTION | TELLS_MODE /* tfoot */,
+    SCOPES | STOP | MAY_STAY_OPEN | CELL | TELLS_MODE /* th */,
+    STOP | MAY_STAY_OPEN | TABLE_SECTION | TELLS_MODE /* thead */, 0 /* time */, STOP /* title */,
+    STOP | MAY_STAY_OPEN | TELLS_MODE /* tr */, STOP | VOID /* track */, FORMATTING /* tt */,
+    FORMATTING /* u */, LIST_ITEM_SCOPE | STOP /* ul */, 0 /* var */, STOP | VOID /* wbr */,
+    STOP /* xmp */, 0 /* any other name */,
 ];
 
 impl Tag {

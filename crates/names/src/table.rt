@@ -9,7 +9,8 @@ ghost use Rattle.names.specs.declared.tag.Tag.{Tag as KnownTag};
 
 use crate::keys::Keys;
 use crate::known::{KNOWN, known_number, known_text};
-use crate::tag::{TAGS, Tag};
+use crate::tag::Tag;
+use crate::tags::TAGS;
 use indexmap::IndexSet;
 use std::alloc::{AllocError, Global};
 use std::marker::Model;
