@@ -350,31 +350,22 @@ module _ {S : Type 0} (gives : S → CharItem → Result (Unit {0}) Refusal → 
           undecided_here bom bad limit _ _ all now_reading now_stuck w,
         )
 
-    module _ (n : ℕ) (e : next_of bad (drop (read + length text) all) (limit - (read + length text)) (read + length text) ≡ NextBad n) (last : S) where
-      pub replaced_reading : IsReading (policy bom bad limit) (read + length text + n) false all
-      replaced_reading = bad_reading bom bad limit _ _ all now_reading n (what_is_bad bad _ _ _ n e)
+    -- bad parts are replaced next
+    abbrev IsBadAfter : ℕ → List Read → Type 0
+    IsBadAfter n parts = IsReading (policy bom bad limit) (read + length text + n) false all × (text_of bom (take (read + length text + n) all) ≡ text_of bom (take (read + length text) all) ++ parts)
 
-      pub replaced_handed : (answer : Result (Unit {0}) Refusal) → Hands gives new (items (Bad (read + length text) ∷ [])) answer last → HandsOn gives before (text_of bom (take (read + length text + n) all)) old answer last
-      replaced_handed answer handed_bad =
-          HandsOn-append gives before (text_of bom (take (read + length text) all)) _ old new answer last (text_handed (Ok tt) handed)
-          (_, bad_text bom bad limit _ _ all now_reading n (what_is_bad bad _ _ _ n e), handed_bad)
+    pub replaced_after : (n : ℕ) → next_of bad (drop (read + length text) all) (limit - (read + length text)) (read + length text) ≡ NextBad n → IsBadAfter n (Bad (read + length text) ∷ [])
+    replaced_after n e = let w = what_is_bad bad _ _ _ n e in (bad_reading bom bad limit _ _ all now_reading n w, bad_text bom bad limit _ _ all now_reading n w)
 
-      pub replaced_stops : (r : Refusal) → Hands gives new (items (Bad (read + length text) ∷ [])) (Err r) last → Stops gives (policy bom bad limit) before all old r last
-      replaced_stops r handed_bad =
-          sink_stops gives (policy bom bad limit) before (text_of bom (take (read + length text + n) all)) all old r last (goes_on_here bom bad limit _ _ all replaced_reading) (replaced_handed (Err r) handed_bad)
+    pub each_after : (n : ℕ) → AreReplaced bad (drop (read + length text) all) (limit - (read + length text)) n → 0 < n → IsBadAfter n (bad_each (read + length text) n)
+    each_after n are some = after_each bom bad limit all n _ _ now_reading are some
 
-    module _ (n : ℕ) (are : AreReplaced bad (drop (read + length text) all) (limit - (read + length text)) n) (some : 0 < n) (last : S) where
-      pub each_reading : IsReading (policy bom bad limit) (read + length text + n) false all
-      each_reading = (after_each bom bad limit all n _ _ now_reading are some).0
+    module _ (n : ℕ) (parts : List Read) (is_after : IsBadAfter n parts) (last : S) where
+      pub bad_handed : (answer : Result (Unit {0}) Refusal) → Hands gives new (items parts) answer last → HandsOn gives before (text_of bom (take (read + length text + n) all)) old answer last
+      bad_handed answer handed_bad = HandsOn-append gives before (text_of bom (take (read + length text) all)) _ old new answer last (text_handed (Ok tt) handed) (parts, is_after.1, handed_bad)
 
-      pub each_handed : (answer : Result (Unit {0}) Refusal) → Hands gives new (items (bad_each (read + length text) n)) answer last → HandsOn gives before (text_of bom (take (read + length text + n) all)) old answer last
-      each_handed answer handed_bad =
-          HandsOn-append gives before (text_of bom (take (read + length text) all)) _ old new answer last (text_handed (Ok tt) handed)
-          (_, (after_each bom bad limit all n _ _ now_reading are some).1, handed_bad)
-
-      pub each_stops : (r : Refusal) → Hands gives new (items (bad_each (read + length text) n)) (Err r) last → Stops gives (policy bom bad limit) before all old r last
-      each_stops r handed_bad =
-          sink_stops gives (policy bom bad limit) before (text_of bom (take (read + length text + n) all)) all old r last (goes_on_here bom bad limit _ _ all each_reading) (each_handed (Err r) handed_bad)
+      pub bad_stops : (r : Refusal) → Hands gives new (items parts) (Err r) last → Stops gives (policy bom bad limit) before all old r last
+      bad_stops r handed_bad = sink_stops gives (policy bom bad limit) before (text_of bom (take (read + length text + n) all)) all old r last (goes_on_here bom bad limit _ _ all is_after.0) (bad_handed (Err r) handed_bad)
 
 -- ONE PIECE MORE
 

@@ -1,5 +1,5 @@
 -- Bytes that may still become a character, and bytes that no more can.
-use Rattle.htext.proofs.Names.{encode_ascii, length-append, nil_from_length, ◌≡◌, ℕ, ◌<◌, ◌≤◌, ◌+◌, ◌-◌, ◌*◌, ◌/◌, ◌%◌, true, List, [], ◌∷◌, ◌++◌, length, take, drop, sym, refl, ap, ◌∙◌, subst, arith, inl, inr, append_assoc, Option, None, Some, is_in_range, nat_tests, cases_lt, lt-ltb, le-ltb, le-leb, leb-true, and_parts, take_at, take-append-drop, take-append-le, low_scalar, utf8_valid_len, utf8_error_len, second_byte_min, second_byte_max, IsScalar, encode_utf8, valid_len, BeginsCharacter}
+use Rattle.htext.proofs.Names.{encode_ascii, length-append, nil_from_length, ◌≡◌, ℕ, ◌<◌, ◌≤◌, ◌+◌, ◌-◌, ◌*◌, ◌/◌, ◌%◌, true, List, [], ◌∷◌, ◌++◌, length, take, drop, sym, refl, ap, ◌∙◌, subst, arith, inl, inr, append_assoc, None, Some, is_in_range, nat_tests, cases_lt, lt-ltb, le-ltb, le-leb, leb-true, and_parts, take_at, take-append-drop, take-append-le, low_scalar, utf8_valid_len, utf8_error_len, second_byte_min, second_byte_max, IsScalar, encode_utf8, valid_len, BeginsCharacter}
 use Rattle.std.proofs.Math.Utf8.{scalar_cases}
 use Rattle.htext.proofs.Valid.{starts_back, none_valid}
 use Rattle.htext.proofs.Errors.{tested, next_tests, is_by_bytes, test_passed, tested_short, error_more}
@@ -23,14 +23,7 @@ pub follows_tested : (x y : ℕ) → MayFollow x y → is_in_range (second_byte_
 follows_tested x y h = grind (arith, nat_tests, h.least, h.most, h.after_e0, h.after_ed, h.after_f0, h.after_f4)
 
 pub tested_follows : (x y : ℕ) → is_in_range (second_byte_min x) (second_byte_max x) y ≡ true → MayFollow x y
-tested_follows x y h = record {
-  least = grind (arith, nat_tests);
-  most = grind (arith, nat_tests);
-  after_e0 = λ e. grind (arith, nat_tests);
-  after_ed = λ e. grind (arith, nat_tests);
-  after_f0 = λ e. grind (arith, nat_tests);
-  after_f4 = λ e. grind (arith, nat_tests);
-}
+tested_follows x y h = grind (arith, nat_tests)
 
 -- FRONTS OF A CHARACTER
 
@@ -68,14 +61,7 @@ pub second_of_two : (c : ℕ) → 128 ≤ c → c < 2048 → MayFollow (192 + c 
 second_of_two c a b = grind arith
 
 pub second_of_three : (c : ℕ) → 2048 ≤ c → c < 65536 → IsScalar c → MayFollow (224 + c / 4096) (128 + c / 64 % 64)
-second_of_three c a b s = record {
-  least = omega arith;
-  most = omega arith;
-  after_e0 = λ e. omega arith;
-  after_ed = λ e. elim (scalar_cases c s) [ inl low ↦ omega arith | inr high ↦ absurd (omega (arith, high.0)) ];
-  after_f0 = λ e. absurd (omega arith);
-  after_f4 = λ e. absurd (omega arith);
-}
+second_of_three c a b s = elim (scalar_cases c s) [ inl low ↦ grind arith | inr high ↦ grind (arith, high.0) ]
 
 pub second_of_four : (c : ℕ) → 65536 ≤ c → c < 1114112 → MayFollow (240 + c / 262144) (128 + c / 4096 % 64)
 second_of_four c a b = grind arith
@@ -106,13 +92,12 @@ abbrev IsOpenFront : List ℕ → Type 0
 IsOpenFront bytes = (n : ℕ) → 0 < n → n < length bytes → utf8_error_len (take n bytes) ≡ None
 
 -- each front of open bytes is open
-open_before : (o : Option ℕ) (xs : List ℕ) (n : ℕ) → utf8_error_len xs ≡ None → utf8_error_len (take n xs) ≡ o → o ≡ None
-open_before None xs n h e = refl
-open_before (Some k) xs n h e = let on : utf8_error_len xs ≡ Some k = ap utf8_error_len (sym (take-append-drop n xs)) ∙ error_more (take n xs) (drop n xs) k e in absurd cc
+open_before : (xs : List ℕ) (n : ℕ) → utf8_error_len xs ≡ None → utf8_error_len (take n xs) ≡ None
+open_before xs n h = grind (arith, error_more (take n xs) (drop n xs), take-append-drop n xs)
 
 open_but_last : (xs : List ℕ) (y : ℕ) → utf8_error_len xs ≡ None → IsOpenFront (xs ++ y ∷ [])
 open_but_last xs y h n some short =
-    ap utf8_error_len (take-append-le n xs (y ∷ []) (omega (arith, short, length-append xs (y ∷ [])))) ∙ open_before (utf8_error_len (take n xs)) xs n h refl
+    ap utf8_error_len (take-append-le n xs (y ∷ []) (omega (arith, short, length-append xs (y ∷ [])))) ∙ open_before xs n h
 
 -- each front of a character that is not all of it is open
 fronts_open : (c : ℕ) (bytes : List ℕ) → IsScalar c → BytesOf c bytes → IsOpenFront bytes
@@ -148,13 +133,7 @@ complete_two x y a b d e =
     (c, low_scalar c (omega arith), two_bytes c (omega arith) (omega arith) ∙ rw (first, second) refl)
 
 three_scalar : (x y z c : ℕ) → 0xE0 ≤ x → x ≤ 0xEF → MayFollow x y → 128 ≤ z → z ≤ 191 → c ≡ (x - 224) * 4096 + (y - 128) * 64 + (z - 128) → IsScalar c
-three_scalar x y z c a b h d e is = elim (cases_lt x 237) [
-  | inl low ↦ low_scalar c (omega (arith, h.least, h.most))
-  | inr le ↦ elim (cases_lt 237 x) [
-    | inl high ↦ high_scalar c (omega (arith, h.least, h.most)) (omega (arith, h.least, h.most))
-    | inr ge ↦ let same : x ≡ 237 = omega arith in low_scalar c (omega (arith, h.least, h.after_ed same))
-  ]
-]
+three_scalar x y z c a b h d e is = grind (arith, nat_tests, h.least, h.most, h.after_ed)
 
 three_least : (x y z c : ℕ) → 0xE0 ≤ x → MayFollow x y → c ≡ (x - 224) * 4096 + (y - 128) * 64 + (z - 128) → 2048 ≤ c
 three_least x y z c a h is = grind (arith, h.after_e0)

@@ -110,9 +110,10 @@ module _ (limit : ℕ) (front rest : List ℕ) (u : IsUtf8 front) (within : leng
             cc
       ]
 
-pub nothing_next : (bad : BadBytes) (room at : ℕ) → next_of bad [] room at ≡ next_part bad None 0 room at
+pub nothing_waits : (bad : BadBytes) (rest : List ℕ) (room at : ℕ) → rest ≡ [] → Waits ≡ next_of bad rest room at
 unfolding utf8_valid_len utf8_error_len
-nothing_next bad room at = refl
+nothing_waits Refuse rest room at is = rw is refl
+nothing_waits Replace rest room at is = rw (is, le-ltb room 0 (omega arith)) refl
 
 pub text_next : (bad : BadBytes) (rest : List ℕ) (room at : ℕ) → IsUtf8 rest → (rest ≡ [] → ⊥) → next_of bad rest room at ≡ Refused (TooLarge at)
 text_next bad [] room at u some = absurd (some refl)

@@ -1,5 +1,5 @@
 -- How long a bad part is, whatever follows it.
-use Rattle.htext.proofs.Names.{cases_eq, ◌≡◌, ℕ, suc, ◌<◌, ◌≤◌, ◌+◌, Bool, true, false, cond, eqb, List, [], ◌∷◌, ◌++◌, length, sym, refl, ◌∙◌, arith, inl, inr, Option, None, Some, ◌⊎◌, is_in_range, nat_tests, le-ltb, unwrap_or, utf8_error_len, utf8_invalid_len, second_byte_min, second_byte_max, some_same}
+use Rattle.htext.proofs.Names.{cases_eq, ◌≡◌, ℕ, suc, ◌<◌, ◌≤◌, ◌+◌, Bool, true, false, cond, eqb, List, [], ◌∷◌, ◌++◌, length, sym, refl, ◌∙◌, arith, inl, inr, Option, None, Some, ◌⊎◌, is_in_range, nat_tests, le-ltb, utf8_error_len, utf8_invalid_len, second_byte_min, second_byte_max, some_same}
 
 -- the length of a bad part by a test of each byte: where one fails after `n` bytes, or they all pass and one more byte comes
 abbrev pub tested : List (ℕ → Bool) → ℕ → List ℕ → Option ℕ
@@ -101,16 +101,8 @@ error_open bs more m h g = by bs (sym (is_by_bytes bs) ∙ h) (sym (is_by_bytes 
       omega (arith, tested_open (next_tests x) 1 xs more m on (rw passed at g))
 
 -- where the bytes end within or right after the part, or later
-cut_by : (o : Option ℕ) (bs more : List ℕ) (m : ℕ) → utf8_error_len bs ≡ o → utf8_error_len (bs ++ more) ≡ Some m → m ≤ length bs → unwrap_or o (length bs) ≡ m
-cut_by None bs more m e h within = omega (arith, error_open bs more m e h)
-cut_by (Some k) bs more m e h within = some_same k m (sym (error_more bs more k e) ∙ h)
-
 pub error_cut : (bs more : List ℕ) (m : ℕ) → utf8_error_len (bs ++ more) ≡ Some m → m ≤ length bs → utf8_invalid_len bs ≡ m
-error_cut bs more m h within = cut_by (utf8_error_len bs) bs more m refl h within
-
-some_by : (o : Option ℕ) (bs : List ℕ) → utf8_error_len bs ≡ o → 0 < length bs → (1 ≤ unwrap_or o (length bs)) × (unwrap_or o (length bs) ≤ length bs)
-some_by None bs e some = (omega arith, omega arith)
-some_by (Some k) bs e some = error_bounds bs k e
+error_cut bs more m h within = grind (arith, error_open bs more m, error_more bs more)
 
 pub invalid_bounds : (bs : List ℕ) → 0 < length bs → (1 ≤ utf8_invalid_len bs) × (utf8_invalid_len bs ≤ length bs)
-invalid_bounds bs some = some_by (utf8_error_len bs) bs refl some
+invalid_bounds bs some = (grind (arith, error_bounds bs), grind (arith, error_bounds bs))

@@ -74,12 +74,8 @@ reads_after at _ rest n (after_bad part b r none bad q) =
 
 -- HOW MUCH IS READ
 
-bad_by : (e : Bool) (rest : List ℕ) (o : Option ℕ) (m : ℕ) → utf8_error_len rest ≡ o → cond (nat_lt 0 (utf8_valid_len rest)) None (or_rest e rest o) ≡ Some m → (1 ≤ m) × (m ≤ length rest)
-bad_by e rest (Some k) m h g = let bounds = error_bounds rest k h in (grind (arith, nat_tests), grind (arith, nat_tests))
-bad_by e rest None m h g = (grind (arith, nat_tests), grind (arith, nat_tests))
-
 pub bad_bounds : (e : Bool) (rest : List ℕ) (m : ℕ) → bad_len e rest ≡ Some m → (1 ≤ m) × (m ≤ length rest)
-bad_bounds e rest m h = bad_by e rest (utf8_error_len rest) m refl h
+bad_bounds e rest m h = (grind (arith, nat_tests, error_bounds rest), grind (arith, nat_tests, error_bounds rest))
 
 zero_plus : (n : ℕ) → 0 + n ≡ n
 zero_plus n = omega arith
@@ -175,12 +171,8 @@ parts_after : (b : Bool) (m room : ℕ) (f : ℕ → ℕ) (bytes : List ℕ) →
 parts_after true m room f bytes none bad p = bad_then m (f m) bytes none bad p
 parts_after false m room f bytes none bad p = no_part bytes
 
-undecided_by : (rest : List ℕ) (o : Option ℕ) (n : ℕ) → utf8_error_len rest ≡ o → cond (nat_lt 0 (utf8_valid_len rest)) None (or_rest false rest o) ≡ Some n → (utf8_valid_len rest ≡ 0) × (utf8_error_len rest ≡ Some n)
-undecided_by rest None n is h = absurd (grind arith)
-undecided_by rest (Some m) n is h = (grind (arith, nat_tests), grind arith)
-
 pub undecided_bad : (rest : List ℕ) (n : ℕ) → bad_len false rest ≡ Some n → (utf8_valid_len rest ≡ 0) × (utf8_error_len rest ≡ Some n)
-undecided_bad rest n h = undecided_by rest (utf8_error_len rest) n refl h
+undecided_bad rest n h = (grind (arith, nat_tests), grind (arith, nat_tests))
 
 parts_by : (o : Option ℕ) (room : ℕ) (f : ℕ → ℕ) (bytes : List ℕ) → bad_len false bytes ≡ o → ((m : ℕ) → Parts (take (f m) (drop m bytes)) (drop (f m) (drop m bytes)))
     → Parts (take (after_part o room f) bytes) (drop (after_part o room f) bytes)
@@ -236,12 +228,9 @@ pub reads_past : (bad : BadBytes) (front rest : List ℕ) (n : ℕ) → IsFront 
 reads_past bad front rest n h = reads_after 0 front rest n (parts_of_front bad front rest h) ∙ ap (λ (x : ℕ). reads_at 0 front ++ reads_at x (take n rest)) (zero_plus (length front))
 
 -- it fits, and is one of the bytes
-part_le : (b : Bool) (m n room len : ℕ) → nat_le m room ≡ b → (m ≤ room → n ≤ room - m) → m + n ≤ len → (cond b (m + n) 0 ≤ room) × (cond b (m + n) 0 ≤ len)
-part_le b m n room len e fits within = (grind (arith, nat_tests, fits), grind (arith, nat_tests))
-
 after_le : (o : Option ℕ) (room len : ℕ) (f : ℕ → ℕ) → ((m : ℕ) → o ≡ Some m → (m ≤ room → f m ≤ room - m) × (m + f m ≤ len)) → (after_part o room f ≤ room) × (after_part o room f ≤ len)
 after_le None room len f h = (omega arith, omega arith)
-after_le (Some m) room len f h = part_le (nat_le m room) m (f m) room len refl (h m refl).0 (h m refl).1
+after_le (Some m) room len f h = let k = h m refl in (grind (arith, nat_tests, k.0), grind (arith, nat_tests, k.1))
 
 pub fit_le : (e : Bool) (k room : ℕ) (bytes : List ℕ) → (fitting_within e k room bytes ≤ room) × (fitting_within e k room bytes ≤ length bytes)
 unfolding fitting_within

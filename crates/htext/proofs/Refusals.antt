@@ -1,5 +1,5 @@
 -- Which bytes are refused, and how.
-use Rattle.htext.proofs.Names.{◌≡◌, ℕ, ◌<◌, ◌≤◌, ◌+◌, ◌-◌, Bool, true, false, cond, eqb, List, ◌++◌, length, take, drop, sym, refl, ap, ◌∙◌, subst, arith, inl, inr, append_assoc, None, Some, Option, zero, suc, cases_lt, lt-ltb, le-leb, nat_tests, take_all, take-append-drop, length-append, length-take, length-take-le, length-drop, encode_same, length-encode, utf8_valid_len-IsUtf8, ◌↔◌, nat_lt, nat_le, IsScalar, encode_utf8, len_utf8, IsUtf8, utf8_valid_len, utf8_error_len, utf8_invalid_len, unwrap_or, Bom, NotUtf8, TooLarge, Refuse, Replace, valid_len, bad_len, or_rest, after_part, fitting_within, fitting, refusal_with, refusal_of, BeginsNoCharacter}
+use Rattle.htext.proofs.Names.{◌≡◌, ℕ, ◌<◌, ◌≤◌, ◌+◌, ◌-◌, Bool, true, false, cond, eqb, List, ◌++◌, length, take, drop, sym, refl, ap, ◌∙◌, subst, arith, inl, inr, append_assoc, None, Some, Option, zero, suc, cases_lt, le-leb, nat_tests, take_all, take-append-drop, length-append, length-take, length-take-le, length-drop, encode_same, length-encode, utf8_valid_len-IsUtf8, ◌↔◌, nat_le, IsScalar, encode_utf8, len_utf8, IsUtf8, utf8_valid_len, utf8_invalid_len, Bom, NotUtf8, TooLarge, Refuse, Replace, valid_len, bad_len, after_part, fitting_within, fitting, refusal_with, refusal_of, BeginsNoCharacter}
 use Rattle.htext.proofs.Valid.{refusal_within, valid_len_le, valid_front_utf8, utf8_valid_len-append, starts_back, none_valid, refusal_same, refusal_past}
 use Rattle.htext.proofs.Errors.{invalid_bounds}
 use Rattle.htext.proofs.Beginnings.{under_limit}
@@ -40,12 +40,8 @@ too_large limit front ch rest u scalar within longer =
 -- WHERE BAD BYTES ARE REPLACED
 
 -- the bad part that is at the front, where the input has ended
-last_by : (o : Option ℕ) (rest : List ℕ) → 0 < length rest → or_rest true rest o ≡ Some (unwrap_or o (length rest))
-last_by (Some m) rest some = refl
-last_by None rest some = rw (lt-ltb 0 (length rest) some) refl
-
 pub last_part : (rest : List ℕ) → utf8_valid_len rest ≡ 0 → 0 < length rest → bad_len true rest ≡ Some (utf8_invalid_len rest)
-last_part rest none some = ap (λ (n : ℕ). cond (nat_lt 0 n) None (or_rest true rest (utf8_error_len rest))) none ∙ last_by (utf8_error_len rest) rest some
+last_part rest none some = grind (arith, nat_tests)
 
 -- all that fits is read
 all_step : (k limit : ℕ) (bytes : List ℕ) → length bytes ≤ limit → ((r : ℕ) (rest : List ℕ) → length rest ≤ r → length rest < length bytes → fitting_within true k r rest ≡ length rest) → fitting_within true (suc k) limit bytes ≡ length bytes

@@ -1,5 +1,5 @@
 -- What is left of bytes after a front, and doesn't fit or isn't settled.
-use Rattle.htext.proofs.Names.{◌≡◌, ℕ, suc, ◌<◌, ◌≤◌, ◌+◌, ◌-◌, Bool, true, false, cond, List, [], ◌++◌, length, take, drop, sym, refl, ap, ◌∙◌, arith, append_assoc, append-nil, Option, None, Some, nat_lt, lt-ltb, nat_tests, length-append, take_at, utf8_valid_len, utf8_error_len, Refusal, TooLarge, Bom, BadBytes, Refuse, Replace, Waits, Refused, next_of, valid_len, bad_len, or_rest, after_part, fitting_within, front_len, refusal_of, StaysRefused, text_of, IsRefusedFrom, IsUndecided}
+use Rattle.htext.proofs.Names.{◌≡◌, ℕ, suc, ◌<◌, ◌≤◌, ◌+◌, ◌-◌, Bool, true, false, List, [], ◌++◌, length, take, drop, sym, refl, ap, ◌∙◌, arith, append_assoc, append-nil, Option, None, Some, lt-ltb, nat_tests, length-append, take_at, utf8_valid_len, utf8_error_len, Refusal, TooLarge, Bom, BadBytes, Refuse, Replace, Waits, Refused, next_of, valid_len, bad_len, after_part, fitting_within, front_len, refusal_of, StaysRefused, text_of, IsRefusedFrom, IsUndecided}
 use Rattle.htext.specs.declared.progress.Front.TheVariants.{Bad}
 use Rattle.htext.proofs.Valid.{going_on}
 use Rattle.htext.proofs.Errors.{error_bounds, error_more, error_open}
@@ -8,12 +8,8 @@ use Rattle.htext.proofs.Refusals.{replaced, replaced_past}
 use Rattle.htext.proofs.Deciding.{stays_refused, undecided, NextIs, a_character, a_part, a_long_part, not_yet, too_much, next_is, some_next, valid_next}
 
 -- how long a bad part is at least
-long_by : (e : Bool) (bs : List ℕ) (o : Option ℕ) (m n : ℕ) → utf8_error_len bs ≡ o → cond (nat_lt 0 (utf8_valid_len bs)) None (or_rest e bs o) ≡ Some m → n ≤ length bs → ((k : ℕ) → utf8_error_len bs ≡ Some k → n ≤ k) → n ≤ m
-long_by e bs (Some k) m n is h within part = let least : n ≤ k = part k is in grind (arith, nat_tests)
-long_by e bs None m n is h within part = grind (arith, nat_tests)
-
 part_long : (e : Bool) (bs : List ℕ) (m n : ℕ) → bad_len e bs ≡ Some m → n ≤ length bs → ((k : ℕ) → utf8_error_len bs ≡ Some k → n ≤ k) → n ≤ m
-part_long e bs m n h within part = long_by e bs (utf8_error_len bs) m n refl h within part
+part_long e bs m n h within part = grind (arith, nat_tests, part)
 
 -- nothing is read of what begins with no character and no bad part that fits
 none_fits : (o : Option ℕ) (room : ℕ) (f : ℕ → ℕ) → ((m : ℕ) → o ≡ Some m → room < m) → after_part o room f ≡ 0

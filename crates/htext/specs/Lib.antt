@@ -4,3 +4,4 @@ pub mod Decoding
 pub mod Rows
 pub mod Run
 pub mod Next
+pub mod Vocabulary

@@ -1,9 +1,7 @@
 //! Bytes in any pieces, read as UTF-8 up to a limit.
 
 ghost use Rattle.std.specs.Prelude.{◌≡◌, ◌≤◌, ℕ, List, [], ◌∷◌, ◌++◌, length, drop, None, Some, Ok, Err, OnOk, IfErr, vec_len};
-ghost use Rattle.names.specs.declared.refusal.Refusal.{Refusal as Refused};
-ghost use Rattle.htext.specs.Text.{settled};
-ghost use Rattle.htext.specs.Decoding.{Ends, Feeds, HasFed};
+ghost use Rattle.htext.specs.Vocabulary.{Refused, settled, Ends, Feeds, HasFed};
 
 use crate::progress::Progress;
 use crate::sink::CharSink;
@@ -77,9 +75,7 @@ impl Decoder {
             return Err(refusal);
         }
         let answer = self.read_on(bytes, sink);
-        if let Err(refusal) = answer {
-            self.refused = Some(refusal);
-        }
+        self.refused = answer.err();
         answer
     }
 
@@ -152,9 +148,7 @@ impl Decoder {
             return Err(refusal);
         }
         let answer = self.end(sink);
-        if let Err(refusal) = answer {
-            self.refused = Some(refusal);
-        }
+        self.refused = answer.err();
         answer
     }
 

@@ -4,12 +4,8 @@
 ghost use Rattle.std.specs.Prelude.{◌≡◌, ◌+◌, ◌<◌, ◌≤◌, ◌++◌, ◌∷◌, ◌↔◌, ℕ, List, length, map, true, false, None, Some};
 ghost use Rattle.std.specs.Char.{IsScalar, encode_utf8, len_utf8};
 ghost use Rattle.std.specs.Str.{IsUtf8, chars};
-ghost use Rattle.names.specs.Placed.{placed};
-ghost use Rattle.names.specs.declared.refusal.Refusal.TheVariants.{NotUtf8, TooLarge};
-ghost use Rattle.htext.specs.declared.BadBytes.TheVariants.{Refuse, Replace};
-ghost use Rattle.htext.specs.Text.{Policy, Read, Whole, Bad, PlacesRise, read_len, decoded, settled, reads, reads_at, bad_len, refusal_of};
-ghost use Rattle.htext.specs.Text.{BeginsNoCharacter, IsBadPart, character_of};
-ghost use Rattle.htext.specs.Items.{items, characters_among, errors_among, input_errors};
+ghost use Rattle.htext.specs.Vocabulary.{placed, NotUtf8, TooLarge, Refuse, Replace, Policy, Read, Whole, Bad, PlacesRise, read_len, decoded, settled, reads};
+ghost use Rattle.htext.specs.Vocabulary.{reads_at, bad_len, refusal_of, BeginsNoCharacter, IsBadPart, character_of, items, characters_among, errors_among, input_errors};
 
 /// What is handed over of a text is its characters and its errors.
 pub fn items_are_characters_and_errors()

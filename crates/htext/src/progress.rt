@@ -1,22 +1,14 @@
 //! How far an input has been read.
 
-ghost use Rattle.std.specs.Prelude.{◌≡◌, ℕ, ◌+◌, ◌-◌, ◌<◌, ◌≤◌, ◌++◌, true, false, List, [], ◌∷◌, length, map, take, drop, Ok, Err, IfOk, OnOk, MatchOption};
-ghost use Rattle.std.specs.Prelude.{IfErr, MatchResult};
+ghost use Rattle.std.specs.Prelude.{◌≡◌, ℕ, ◌+◌, ◌-◌, ◌<◌, ◌≤◌, true, false, List, [], ◌∷◌, ◌++◌, length, map, take, drop, Ok, Err, IfOk, OnOk, IfErr};
+ghost use Rattle.std.specs.Prelude.{MatchOption, MatchResult};
 ghost use Rattle.std.specs.Char.{encode_utf8};
 ghost use Rattle.std.specs.Str.{chars};
 ghost use Rattle.std.specs.Str.Lossy.{utf8_valid_len};
-ghost use Rattle.names.specs.Placed.{placed};
-ghost use Rattle.names.specs.Sink.{Hands};
-ghost use Rattle.names.specs.declared.refusal.Refusal.TheVariants.{NotUtf8};
-ghost use Rattle.htext.specs.declared.decoder.TheConstants.{MAX_INPUT};
-ghost use Rattle.htext.specs.declared.BadBytes.TheVariants.{Refuse, Replace};
-ghost use Rattle.htext.specs.Text.{Policy, Whole, Bad, normalized, ends_in_return, text, settled};
-ghost use Rattle.htext.specs.Items.{items, bad_each};
-ghost use Rattle.htext.specs.Run.{IsCleanFront};
-ghost use Rattle.htext.specs.Decoding.{HasRead, HandsOn, IsReading, IsUndecided, Stops};
-ghost use Rattle.htext.specs.Next.{next_of, next_part, AreReplaced, IsBadAlone};
+ghost use Rattle.htext.specs.Vocabulary.{placed, Hands, NotUtf8, MAX_INPUT, Refuse, Replace, Policy, Whole, Bad, normalized, ends_in_return, text, settled, items};
+ghost use Rattle.htext.specs.Vocabulary.{bad_each, IsCleanFront, HasRead, HandsOn, IsReading, IsUndecided, Stops, next_of, AreReplaced, IsBadAlone};
 
-use crate::character::{hand_char, hand_replaced};
+use crate::character::hand_char;
 use crate::decoder::MAX_INPUT;
 use crate::run::{bad_run, clean_run};
 use crate::sink::CharSink;
@@ -63,9 +55,7 @@ impl Progress {
             × HasRead how self.new.read self.new.after_return all × (drop count bytes.now ≡ drop self.new.read all) × IsUndecided how all)
             (λ e. Stops S.gives how (text how.bom (take self.old.read all)) all sink.old e sink.new) }
         ensures few { IfOk result (λ count. (count ≤ length bytes.now) × (length bytes.now ≤ count + 3)) }
-        ensures bom { self.new.bom ≡ self.old.bom }
-        ensures bad { self.new.bad_bytes ≡ self.old.bad_bytes }
-        ensures limit { self.new.limit ≡ self.old.limit }
+        ensures how { (self.new.bom ≡ self.old.bom) × (self.new.bad_bytes ≡ self.old.bad_bytes) × (self.new.limit ≡ self.old.limit) }
     {
         let mut count = 0;
         loop {
@@ -74,7 +64,7 @@ impl Progress {
             count += text.len();
             let alone = self.bad_alone(&bytes[count..]);
             if alone > 0 {
-                self.hand_each(alone, sink)?;
+                self.hand_bad(alone, alone, sink)?;
                 count += alone;
                 continue;
             }
@@ -83,7 +73,7 @@ impl Progress {
                 Front::Waits => return Ok(count),
                 Front::Refused(refusal) => return Err(refusal),
             };
-            self.hand_bad(len, sink)?;
+            self.hand_bad(1, len, sink)?;
             count += len;
         }
     }
@@ -96,15 +86,11 @@ impl Progress {
             → Hands S.gives sink.old (items (Bad self.old.read ∷ [])) result sink.new }
         ensures read { OnOk result (self.new.read ≡ self.old.read + length rest.now) }
         ensures error { IfErr result (λ _. self.new ≡ self.old) }
-        ensures bom { self.new.bom ≡ self.old.bom }
-        ensures bad { self.new.bad_bytes ≡ self.old.bad_bytes }
-        ensures limit { self.new.limit ≡ self.old.limit }
+        ensures how { (self.new.bom ≡ self.old.bom) × (self.new.bad_bytes ≡ self.old.bad_bytes) × (self.new.limit ≡ self.old.limit) }
     {
+        let room = self.limit - self.read;
         match self.bad_bytes {
-            BadBytes::Replace if rest.len() as u64 <= self.limit - self.read => self.hand_bad(
-                rest.len(),
-                sink,
-            ),
+            BadBytes::Replace if rest.len() as u64 <= room => self.hand_bad(1, rest.len(), sink),
             _ => Err(Refusal::NotUtf8 { at: self.read }),
         }
     }
@@ -133,63 +119,43 @@ impl Progress {
         ensures { result ≡ next_of self.now.bad_bytes rest.now (self.now.limit - self.now.read) self.now.read }
     {
         let at = self.read;
-        match str::from_utf8(rest) {
-            Ok("") => self.next_part(None, 0),
-            Ok(_) => Front::Refused(Refusal::TooLarge { at }),
-            Err(error) if error.valid_up_to() > 0 => Front::Refused(Refusal::TooLarge { at }),
-            Err(error) => self.next_part(error.error_len(), rest.len()),
-        }
-    }
-
-    /// The same for this many bytes that begin with no character: with a bad part of this length, or with none that is settled.
-    fn next_part(&self, bad_len: Option<usize>, len: usize) -> Front
-        ensures { result ≡ next_part self.now.bad_bytes bad_len len (self.now.limit - self.now.read) self.now.read }
-    {
-        let at = self.read;
         let room = (self.limit - at) as usize;
+        let bad_len = match str::from_utf8(rest) {
+            Ok("") => None,
+            Ok(_) => return Front::Refused(Refusal::TooLarge { at }),
+            Err(error) if error.valid_up_to() == 0 => error.error_len(),
+            Err(_) => return Front::Refused(Refusal::TooLarge { at }),
+        };
         match (self.bad_bytes, bad_len) {
             (BadBytes::Refuse, Some(_)) => Front::Refused(Refusal::NotUtf8 { at }),
             (BadBytes::Refuse, None) => Front::Waits,
-            (BadBytes::Replace, Some(part)) if part > room => Front::Refused(Refusal::TooLarge {
-                at,
-            }),
+            (BadBytes::Replace, _) if bad_len.unwrap_or(rest.len()) > room => Front::Refused(
+                Refusal::TooLarge { at },
+            ),
             (BadBytes::Replace, Some(part)) => Front::Bad(part),
-            (BadBytes::Replace, None) if len > room => Front::Refused(Refusal::TooLarge { at }),
             (BadBytes::Replace, None) => Front::Waits,
         }
     }
 
-    /// Hands over what replaces a bad part of this length, as the next of the input.
-    fn hand_bad<S: CharSink>(&mut self, len: usize, sink: &mut S) -> Result<(), Refusal>
-        requires some { 0 < len }
+    /// Hands over what replaces this many bad parts, which have this length in all, as the next of the input. Of more than one, each is
+    /// of one byte.
+    fn hand_bad<S: CharSink>(
+        &mut self,
+        count: usize,
+        len: usize,
+        sink: &mut S,
+    ) -> Result<(), Refusal>
+        requires each { count ≤ len }
         requires fits { self.old.read + len ≤ self.old.limit }
-        ensures handed { Hands S.gives sink.old (items (Bad self.old.read ∷ [])) result sink.new }
+        ensures handed { Hands S.gives sink.old (items (bad_each self.old.read count)) result sink.new }
         ensures read { OnOk result (self.new.read ≡ self.old.read + len) }
         ensures error { IfErr result (λ _. self.new ≡ self.old) }
         ensures end { OnOk result (self.new.after_return ≡ false) }
-        ensures bom { self.new.bom ≡ self.old.bom }
-        ensures bad { self.new.bad_bytes ≡ self.old.bad_bytes }
-        ensures limit { self.new.limit ≡ self.old.limit }
-    {
-        hand_replaced(self.read, sink)?;
-        self.after_return = false;
-        self.read += len as u64;
-        Ok(())
-    }
-
-    /// Hands over what replaces this many bad parts of one byte each, as the next of the input.
-    fn hand_each<S: CharSink>(&mut self, count: usize, sink: &mut S) -> Result<(), Refusal>
-        requires { self.old.read + count ≤ self.old.limit }
-        ensures handed { Hands S.gives sink.old (items (bad_each self.old.read count)) result sink.new }
-        ensures read { OnOk result (self.new.read ≡ self.old.read + count) }
-        ensures end { OnOk result (self.new.after_return ≡ false) }
-        ensures bom { self.new.bom ≡ self.old.bom }
-        ensures bad { self.new.bad_bytes ≡ self.old.bad_bytes }
-        ensures limit { self.new.limit ≡ self.old.limit }
+        ensures how { (self.new.bom ≡ self.old.bom) × (self.new.bad_bytes ≡ self.old.bad_bytes) × (self.new.limit ≡ self.old.limit) }
     {
         sink.take_bad(count, self.read)?;
         self.after_return = false;
-        self.read += count as u64;
+        self.read += len as u64;
         Ok(())
     }
 
@@ -201,9 +167,7 @@ impl Progress {
         ensures read { OnOk result (self.new.read ≡ self.old.read + length text.now) }
         ensures end { OnOk result
             (self.new.after_return ≡ ends_in_return self.old.after_return (map Whole (placed self.old.read (chars text.now)))) }
-        ensures bom { self.new.bom ≡ self.old.bom }
-        ensures bad { self.new.bad_bytes ≡ self.old.bad_bytes }
-        ensures limit { self.new.limit ≡ self.old.limit }
+        ensures how { (self.new.bom ≡ self.old.bom) × (self.new.bad_bytes ≡ self.old.bad_bytes) × (self.new.limit ≡ self.old.limit) }
     {
         let mut rest = text;
         let mut place = self.read;

@@ -5,9 +5,7 @@ ghost use Rattle.std.specs.Int.{is_in_range};
 ghost use Rattle.std.specs.List.{prefix_len};
 ghost use Rattle.std.specs.Simd.Lanes.{mask_l};
 ghost use Rattle.std.specs.Str.Lossy.{second_byte_min, second_byte_max};
-ghost use Rattle.names.specs.Placed.{is_alphanumeric};
-ghost use Rattle.htext.specs.Next.{AreBad, IsBadAlone};
-ghost use Rattle.htext.specs.Run.{is_inner_byte, is_clean_byte, is_of, is_not_of, is_text_byte};
+ghost use Rattle.htext.specs.Vocabulary.{is_alphanumeric, AreBad, IsBadAlone, is_inner_byte, is_clean_byte, is_of, is_not_of, is_text_byte};
 
 use std::simd::prelude::*;
 
@@ -191,8 +189,8 @@ fn is_in_run(kind: RunBytes, byte: u8) -> bool
     ensures { result ≡ is_of kind byte }
 {
     match kind {
-        RunBytes::Inner => byte.is_ascii() && is_text(byte) && byte != b'>',
-        RunBytes::Text => is_text(byte),
+        RunBytes::Inner => byte.is_ascii() && !matches!(byte, b'<' | b'&' | b'>'),
+        RunBytes::Text => !matches!(byte, b'<' | b'&'),
         RunBytes::Clean => matches!(
             byte,
             b'\t' | b'\n' | 0x0C | b' '..=b'~' | 0x80..=0xBF | 0xC3..=0xEE
@@ -200,12 +198,4 @@ fn is_in_run(kind: RunBytes, byte: u8) -> bool
         RunBytes::Alphanumeric => byte.is_ascii_alphanumeric(),
         RunBytes::Other(mark) => byte != mark,
     }
-}
-
-/// Whether a byte is neither `<` nor `&`.
-#[inline(always)]
-fn is_text(byte: u8) -> bool
-    ensures { result ≡ is_text_byte byte }
-{
-    !matches!(byte, b'<' | b'&')
 }

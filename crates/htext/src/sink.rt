@@ -6,12 +6,8 @@ use names::{ErrorCode, ParseError, Refusal};
 pub trait CharSink {
     ghost use Rattle.std.specs.Prelude.{◌≡◌, ◌+◌, ◌<◌, ◌≤◌, Result, length, true};
     ghost use Rattle.std.specs.List.{list_all};
-    ghost use Rattle.names.specs.Sink.{Hands};
-    ghost use Rattle.names.specs.declared.refusal.Refusal.{Refusal as Refused};
-    ghost use Rattle.htext.specs.declared.decoder.TheConstants.{MAX_INPUT};
-    ghost use Rattle.htext.specs.Items.{CharItem, Character, InputError, items, bad_each};
-    ghost use Rattle.htext.specs.Run.{is_clean, run_items};
     ghost use Rattle.std.specs.Str.{chars};
+    ghost use Rattle.htext.specs.Vocabulary.{Hands, Refused, MAX_INPUT, CharItem, Character, InputError, items, bad_each, is_clean, run_items};
 
     /// A step of the sink: as it was, what it was handed, its answer, and as it is then.
     ghost gives: { Self → CharItem → Result (Unit {0}) Refused → Self → Type 0 };
@@ -41,14 +37,6 @@ pub trait CharSink {
     /// Takes what replaces this many bad parts of one byte each, the first of which is at `at`. It is the same as taking the error and
     /// the character of one after another, up to the first that is refused.
     fn take_bad(&mut self, count: usize, at: u64) -> Result<(), Refusal>
-        requires within { at + count ≤ MAX_INPUT }
-        ensures { Hands gives self.old (items (bad_each at count)) result self.new }
-    {
-        self.take_bad_by_one(count, at)
-    }
-
-    /// The same, one after another.
-    fn take_bad_by_one(&mut self, count: usize, at: u64) -> Result<(), Refusal>
         requires within { at + count ≤ MAX_INPUT }
         ensures { Hands gives self.old (items (bad_each at count)) result self.new }
     {

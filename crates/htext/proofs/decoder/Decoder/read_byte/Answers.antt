@@ -30,9 +30,9 @@ returns-clause-fed g c = rw (← c.self.view_is) (λ fed h.
     let reads = c.in_ok-count.ensures.reads (fed ++ piece) (reading_on _ _ _ _ _ fed piece h.front) (joined_is _ _ _ _ _ fed piece _ _ h.front h.undecoded joined) in
     let items = c.remove_front.ensures ∙ ap (drop c.in_ok-count.count) (sym c.deref.ensures.value) in
     record {
-      front = rw (c.advance.ensures.bom, c.advance.ensures.bad, c.advance.ensures.limit) reads.1;
+      front = rw (c.advance.ensures.how.0, c.advance.ensures.how.1, c.advance.ensures.how.2) reads.1;
       undecoded = items ∙ reads.2;
       few = omega (arith, ap length items, length-drop c.in_ok-count.count c.deref.result.now, c.in_ok-count.ensures.few);
-      undecided = rw (c.advance.ensures.bad, c.advance.ensures.limit) reads.3;
+      undecided = rw (c.advance.ensures.how.1, c.advance.ensures.how.2) reads.3;
       accepts = h.accepts;
     })

@@ -44,9 +44,9 @@ returns-clause-fed g c =
     let left : length rest ≡ length piece - n = length-drop n piece in
     let items = c.in_ok-extend_from_slice.ensures.items ∙ ap (λ (x : List ℕ). x ++ take (length piece - n) rest) none ∙ take_all (length piece - n) rest (omega arith) in
     record {
-      front = rw (c.advance.ensures.bom, c.advance.ensures.bad, c.advance.ensures.limit) reads.1;
+      front = rw (c.advance.ensures.how.0, c.advance.ensures.how.1, c.advance.ensures.how.2) reads.1;
       undecoded = items ∙ reads.2;
       few = omega (arith, ap length items, left, c.in_ok-count.ensures.few);
-      undecided = rw (c.advance.ensures.bad, c.advance.ensures.limit) reads.3;
+      undecided = rw (c.advance.ensures.how.1, c.advance.ensures.how.2) reads.3;
       accepts = h.accepts;
     })

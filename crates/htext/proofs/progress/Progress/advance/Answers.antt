@@ -2,7 +2,7 @@ use Rattle.htext.proofs.Names.{◌≡◌, ◌≤◌, ◌+◌, ℕ, List, length,
 use Rattle.htext.proofs.Beginnings.{open_short}
 use Rattle.htext.proofs.Errors.{error_bounds}
 use Rattle.htext.proofs.Stopping.{what_waits, what_is_bad}
-use Rattle.htext.proofs.Advancing.{left_is, text_is, within_all, later, each_reading, each_handed, each_stops, text_stops, refused_stops, waits_now, replaced_reading, replaced_handed, replaced_stops}
+use Rattle.htext.proofs.Advancing.{left_is, text_is, within_all, later, each_after, replaced_after, bad_handed, bad_stops, text_stops, refused_stops, waits_now}
 use Rattle.htext.proofs.progress.Progress.advance.Goals as goal
 
 pub returns-in_err-hand_text-clause-reads : goal.returns-in_err-hand_text-clause-reads
@@ -19,7 +19,7 @@ returns-in-Refused-clause-reads g c = λ all h j.
     let text = rw (c.loop-count.invariant.limit, so_far.2) at (text_is _ c.loop-count.count c.args.bytes.now _ _ c.fitting.ensures c.valid_text-text.ensures) in
     let handed = rw (c.loop-count.invariant.bom) at c.in_ok-hand_text.ensures.handed in
     let n : ℕ = length c.valid_text-text.result.now in
-    let next = rw (left_is _ c.args.bytes.now, (later c.loop-count.count c.loop-count.self.read n c.args.bytes.now all so_far.2), c.hand_text.ensures.bad ∙ c.loop-count.invariant.bad, c.hand_text.ensures.limit ∙ c.loop-count.invariant.limit, c.in_ok-hand_text.ensures.read) at (sym c.next.ensures ∙ c.in-Refused.is) in
+    let next = rw (left_is _ c.args.bytes.now, (later c.loop-count.count c.loop-count.self.read n c.args.bytes.now all so_far.2), c.hand_text.ensures.how.1 ∙ c.loop-count.invariant.bad, c.hand_text.ensures.how.2 ∙ c.loop-count.invariant.limit, c.in_ok-hand_text.ensures.read) at (sym c.next.ensures ∙ c.in-Refused.is) in
     refused_stops g.S.CharSink.gives _ _ _ _ _ all _ _ _ so_far.1 so_far.0 _ text _ handed c.in-Refused.refusal next
 
 pub returns-in-Waits-clause-reads : goal.returns-in-Waits-clause-reads
@@ -29,7 +29,7 @@ returns-in-Waits-clause-reads g c = λ all h j.
     let handed = rw (c.loop-count.invariant.bom) at c.in_ok-hand_text.ensures.handed in
     let n : ℕ = length c.valid_text-text.result.now in
     let left = later c.loop-count.count c.loop-count.self.read n c.args.bytes.now all so_far.2 in
-    let next = rw (left_is _ c.args.bytes.now, left, c.hand_text.ensures.bad ∙ c.loop-count.invariant.bad, c.hand_text.ensures.limit ∙ c.loop-count.invariant.limit, c.in_ok-hand_text.ensures.read) at (sym c.next.ensures ∙ c.in-Waits.is) in
+    let next = rw (left_is _ c.args.bytes.now, left, c.hand_text.ensures.how.1 ∙ c.loop-count.invariant.bad, c.hand_text.ensures.how.2 ∙ c.loop-count.invariant.limit, c.in_ok-hand_text.ensures.read) at (sym c.next.ensures ∙ c.in-Waits.is) in
     let waits = waits_now g.S.CharSink.gives _ _ _ _ _ all _ _ _ so_far.1 so_far.0 _ text _ handed next in
     (waits.0, rw (c.in_ok-hand_text.ensures.read, c.in_ok-hand_text.ensures.end) waits.1, rw (c.in_ok-hand_text.ensures.read) left, waits.2)
 
@@ -41,8 +41,8 @@ returns-in-Waits-clause-few g c =
     let w = what_waits _ _ _ _ (sym c.next.ensures ∙ c.in-Waits.is) in
     (omega arith, omega (arith, open_short _ w.is_open, ap length (left_is count bytes), length-drop count bytes))
 
-pub hand_bad-requires-clause-some : goal.hand_bad-requires-clause-some
-hand_bad-requires-clause-some g c =
+pub hand_bad-requires-in-loop-count-clause-each : goal.hand_bad-requires-in-loop-count-clause-each
+hand_bad-requires-in-loop-count-clause-each g c =
     let w = what_is_bad _ _ _ _ _ (sym c.next.ensures ∙ c.in-Bad.is) in
     omega (arith, error_bounds _ c.in-Bad.len w.is_bad)
 
@@ -51,16 +51,16 @@ loop-count-smaller g c =
     let bounds = error_bounds _ c.in-Bad.len (what_is_bad _ _ _ _ _ (sym c.next.ensures ∙ c.in-Bad.is)).is_bad in
     omega (arith, bounds.0, within_all _ _ c.in-Bad.len c.args.bytes.now _ _ c.fitting.ensures c.valid_text-text.ensures c.loop-count.invariant.within bounds.1)
 
-pub returns-in_err-hand_bad-clause-reads : goal.returns-in_err-hand_bad-clause-reads
-returns-in_err-hand_bad-clause-reads g c = λ all h j.
-    let e = err_from_is_err_and c.from_residual-in_err-hand_bad.result c.from_residual-in_err-hand_bad.ensures.1 in
+pub returns-in_err-hand_bad-2-clause-reads : goal.returns-in_err-hand_bad-2-clause-reads
+returns-in_err-hand_bad-2-clause-reads g c = λ all h j.
+    let e = err_from_is_err_and c.from_residual-in_err-hand_bad-2.result c.from_residual-in_err-hand_bad-2.ensures.1 in
     let so_far = c.loop-count.invariant.reads all h j in
     let text = rw (c.loop-count.invariant.limit, so_far.2) at (text_is _ c.loop-count.count c.args.bytes.now _ _ c.fitting.ensures c.valid_text-text.ensures) in
     let handed = rw (c.loop-count.invariant.bom) at c.in_ok-hand_text.ensures.handed in
     let n : ℕ = length c.valid_text-text.result.now in
-    let next = rw (left_is _ c.args.bytes.now, (later c.loop-count.count c.loop-count.self.read n c.args.bytes.now all so_far.2), c.hand_text.ensures.bad ∙ c.loop-count.invariant.bad, c.hand_text.ensures.limit ∙ c.loop-count.invariant.limit, c.in_ok-hand_text.ensures.read) at (sym c.next.ensures ∙ c.in-Bad.is) in
-    let handed_bad = rw (c.in_ok-hand_text.ensures.read) at c.in_err-hand_bad.ensures.handed in
-    rw (e.1, e.2) (replaced_stops g.S.CharSink.gives _ _ _ _ _ all _ _ _ so_far.1 so_far.0 _ text _ handed c.in-Bad.len next _ c.in_err-hand_bad.field-0.0 handed_bad)
+    let next = rw (left_is _ c.args.bytes.now, (later c.loop-count.count c.loop-count.self.read n c.args.bytes.now all so_far.2), c.hand_text.ensures.how.1 ∙ c.loop-count.invariant.bad, c.hand_text.ensures.how.2 ∙ c.loop-count.invariant.limit, c.in_ok-hand_text.ensures.read) at (sym c.next.ensures ∙ c.in-Bad.is) in
+    let handed_bad = rw (c.in_ok-hand_text.ensures.read) at c.in_err-hand_bad-2.ensures.handed in
+    rw (e.1, e.2) (bad_stops g.S.CharSink.gives _ _ _ _ _ all _ _ _ so_far.1 so_far.0 _ text _ handed _ _ (replaced_after g.S.CharSink.gives _ _ _ _ _ all _ _ _ so_far.1 so_far.0 _ text _ handed c.in-Bad.len next) _ c.in_err-hand_bad-2.field-0.0 handed_bad)
 
 pub loop-count-preserved : goal.loop-count-preserved
 loop-count-preserved g c =
@@ -69,39 +69,36 @@ loop-count-preserved g c =
     let count : ℕ = c.loop-count.count + n in
     let most = (error_bounds _ c.in-Bad.len (what_is_bad _ _ _ _ _ (sym c.next.ensures ∙ c.in-Bad.is)).is_bad).1 in
     let front = text_is _ c.loop-count.count bytes _ _ c.fitting.ensures c.valid_text-text.ensures in
-    let read : c.hand_bad.new.self.read ≡ c.loop-count.self.read + n + c.in-Bad.len = c.in_ok-hand_bad.ensures.read ∙ ap (λ (x : ℕ). x + c.in-Bad.len) c.in_ok-hand_text.ensures.read in
+    let read : c.hand_bad-in-loop-count.new.self.read ≡ c.loop-count.self.read + n + c.in-Bad.len = c.in_ok-hand_bad-2.ensures.read ∙ ap (λ (x : ℕ). x + c.in-Bad.len) c.in_ok-hand_text.ensures.read in
     record {
       within = within_all _ _ c.in-Bad.len bytes _ _ c.fitting.ensures c.valid_text-text.ensures c.loop-count.invariant.within most;
-      bom = c.hand_bad.ensures.bom ∙ c.hand_text.ensures.bom ∙ c.loop-count.invariant.bom;
-      bad = c.hand_bad.ensures.bad ∙ c.hand_text.ensures.bad ∙ c.loop-count.invariant.bad;
-      limit = c.hand_bad.ensures.limit ∙ c.hand_text.ensures.limit ∙ c.loop-count.invariant.limit;
+      bom = c.hand_bad-in-loop-count.ensures.how.0 ∙ c.hand_text.ensures.how.0 ∙ c.loop-count.invariant.bom;
+      bad = c.hand_bad-in-loop-count.ensures.how.1 ∙ c.hand_text.ensures.how.1 ∙ c.loop-count.invariant.bad;
+      limit = c.hand_bad-in-loop-count.ensures.how.2 ∙ c.hand_text.ensures.how.2 ∙ c.loop-count.invariant.limit;
       reads = λ all h j.
           let so_far = c.loop-count.invariant.reads all h j in
           let text = rw (c.loop-count.invariant.limit, so_far.2) at front in
           let handed = rw (c.loop-count.invariant.bom) at c.in_ok-hand_text.ensures.handed in
           let left = later c.loop-count.count c.loop-count.self.read n bytes all so_far.2 in
-          let next = rw (left_is _ c.args.bytes.now, left, c.hand_text.ensures.bad ∙ c.loop-count.invariant.bad, c.hand_text.ensures.limit ∙ c.loop-count.invariant.limit, c.in_ok-hand_text.ensures.read) at (sym c.next.ensures ∙ c.in-Bad.is) in
-          let handed_bad = rw (c.in_ok-hand_text.ensures.read) at c.in_ok-hand_bad.ensures.handed in (
-            rw read (replaced_handed g.S.CharSink.gives _ _ _ _ _ all _ _ _ so_far.1 so_far.0 _ text _ handed c.in-Bad.len next _ (Ok tt) handed_bad),
-            rw (read, c.in_ok-hand_bad.ensures.end) (replaced_reading g.S.CharSink.gives _ _ _ _ _ all _ _ _ so_far.1 so_far.0 _ text _ handed c.in-Bad.len next c.hand_bad.new.sink),
+          let next = rw (left_is _ c.args.bytes.now, left, c.hand_text.ensures.how.1 ∙ c.loop-count.invariant.bad, c.hand_text.ensures.how.2 ∙ c.loop-count.invariant.limit, c.in_ok-hand_text.ensures.read) at (sym c.next.ensures ∙ c.in-Bad.is) in
+          let after = replaced_after g.S.CharSink.gives _ _ _ _ _ all _ _ _ so_far.1 so_far.0 _ text _ handed c.in-Bad.len next in
+          let handed_bad = rw (c.in_ok-hand_text.ensures.read) at c.in_ok-hand_bad-2.ensures.handed in (
+            rw read (bad_handed g.S.CharSink.gives _ _ _ _ _ all _ _ _ so_far.1 so_far.0 _ text _ handed _ _ after _ (Ok tt) handed_bad),
+            rw (read, c.in_ok-hand_bad-2.ensures.end) after.0,
             rw read (later count (c.loop-count.self.read + n) c.in-Bad.len bytes all left),
           );
     }
 
-pub hand_each-requires : goal.hand_each-requires
-hand_each-requires g c =
-    omega (arith, c.bad_alone-alone.ensures.replaced.fits, c.if-alone-gt0.true)
-
-pub returns-in_err-hand_each-clause-reads : goal.returns-in_err-hand_each-clause-reads
-returns-in_err-hand_each-clause-reads g c = λ all h j.
-    let e = err_from_is_err_and c.from_residual-in_err-hand_each.result c.from_residual-in_err-hand_each.ensures.1 in
+pub returns-in_err-hand_bad-clause-reads : goal.returns-in_err-hand_bad-clause-reads
+returns-in_err-hand_bad-clause-reads g c = λ all h j.
+    let e = err_from_is_err_and c.from_residual-in_err-hand_bad.result c.from_residual-in_err-hand_bad.ensures.1 in
     let so_far = c.loop-count.invariant.reads all h j in
     let text = rw (c.loop-count.invariant.limit, so_far.2) at (text_is _ c.loop-count.count c.args.bytes.now _ _ c.fitting.ensures c.valid_text-text.ensures) in
     let handed = rw (c.loop-count.invariant.bom) at c.in_ok-hand_text.ensures.handed in
     let n : ℕ = length c.valid_text-text.result.now in
-    let each = rw (left_is _ c.args.bytes.now, (later c.loop-count.count c.loop-count.self.read n c.args.bytes.now all so_far.2), c.hand_text.ensures.bad ∙ c.loop-count.invariant.bad, c.hand_text.ensures.limit ∙ c.loop-count.invariant.limit, c.in_ok-hand_text.ensures.read) at c.bad_alone-alone.ensures.replaced in
-    let handed_bad = rw (c.in_ok-hand_text.ensures.read) at c.in_err-hand_each.ensures.handed in
-    rw (e.1, e.2) (each_stops g.S.CharSink.gives _ _ _ _ _ all _ _ _ so_far.1 so_far.0 _ text _ handed c.bad_alone-alone.result each c.if-alone-gt0.true _ c.in_err-hand_each.field-0.0 handed_bad)
+    let each = rw (left_is _ c.args.bytes.now, (later c.loop-count.count c.loop-count.self.read n c.args.bytes.now all so_far.2), c.hand_text.ensures.how.1 ∙ c.loop-count.invariant.bad, c.hand_text.ensures.how.2 ∙ c.loop-count.invariant.limit, c.in_ok-hand_text.ensures.read) at c.bad_alone-alone.ensures.replaced in
+    let handed_bad = rw (c.in_ok-hand_text.ensures.read) at c.in_err-hand_bad.ensures.handed in
+    rw (e.1, e.2) (bad_stops g.S.CharSink.gives _ _ _ _ _ all _ _ _ so_far.1 so_far.0 _ text _ handed _ _ (each_after g.S.CharSink.gives _ _ _ _ _ all _ _ _ so_far.1 so_far.0 _ text _ handed c.bad_alone-alone.result each c.if-alone-gt0.true) _ c.in_err-hand_bad.field-0.0 handed_bad)
 
 pub loop-count-preserved-then-alone-gt0 : goal.loop-count-preserved-then-alone-gt0
 loop-count-preserved-then-alone-gt0 g c =
@@ -110,21 +107,22 @@ loop-count-preserved-then-alone-gt0 g c =
     let alone : ℕ = c.bad_alone-alone.result in
     let count : ℕ = c.loop-count.count + n in
     let front = text_is _ c.loop-count.count bytes _ _ c.fitting.ensures c.valid_text-text.ensures in
-    let read : c.hand_each.new.self.read ≡ c.loop-count.self.read + n + alone = c.in_ok-hand_each.ensures.read ∙ ap (λ (x : ℕ). x + alone) c.in_ok-hand_text.ensures.read in
+    let read : c.hand_bad.new.self.read ≡ c.loop-count.self.read + n + alone = c.in_ok-hand_bad.ensures.read ∙ ap (λ (x : ℕ). x + alone) c.in_ok-hand_text.ensures.read in
     record {
       within = within_all _ _ alone bytes _ _ c.fitting.ensures c.valid_text-text.ensures c.loop-count.invariant.within c.bad_alone-alone.ensures.replaced.within;
-      bom = c.hand_each.ensures.bom ∙ c.hand_text.ensures.bom ∙ c.loop-count.invariant.bom;
-      bad = c.hand_each.ensures.bad ∙ c.hand_text.ensures.bad ∙ c.loop-count.invariant.bad;
-      limit = c.hand_each.ensures.limit ∙ c.hand_text.ensures.limit ∙ c.loop-count.invariant.limit;
+      bom = c.hand_bad.ensures.how.0 ∙ c.hand_text.ensures.how.0 ∙ c.loop-count.invariant.bom;
+      bad = c.hand_bad.ensures.how.1 ∙ c.hand_text.ensures.how.1 ∙ c.loop-count.invariant.bad;
+      limit = c.hand_bad.ensures.how.2 ∙ c.hand_text.ensures.how.2 ∙ c.loop-count.invariant.limit;
       reads = λ all h j.
           let so_far = c.loop-count.invariant.reads all h j in
           let text = rw (c.loop-count.invariant.limit, so_far.2) at front in
           let handed = rw (c.loop-count.invariant.bom) at c.in_ok-hand_text.ensures.handed in
           let left = later c.loop-count.count c.loop-count.self.read n bytes all so_far.2 in
-          let same = rw (left_is _ c.args.bytes.now, left, c.hand_text.ensures.bad ∙ c.loop-count.invariant.bad, c.hand_text.ensures.limit ∙ c.loop-count.invariant.limit, c.in_ok-hand_text.ensures.read) at c.bad_alone-alone.ensures.replaced in
-          let handed_bad = rw (c.in_ok-hand_text.ensures.read) at c.in_ok-hand_each.ensures.handed in (
-            rw read (each_handed g.S.CharSink.gives _ _ _ _ _ all _ _ _ so_far.1 so_far.0 _ text _ handed alone same c.if-alone-gt0.true _ (Ok tt) handed_bad),
-            rw (read, c.in_ok-hand_each.ensures.end) (each_reading g.S.CharSink.gives _ _ _ _ _ all _ _ _ so_far.1 so_far.0 _ text _ handed alone same c.if-alone-gt0.true c.hand_each.new.sink),
+          let same = rw (left_is _ c.args.bytes.now, left, c.hand_text.ensures.how.1 ∙ c.loop-count.invariant.bad, c.hand_text.ensures.how.2 ∙ c.loop-count.invariant.limit, c.in_ok-hand_text.ensures.read) at c.bad_alone-alone.ensures.replaced in
+          let after = each_after g.S.CharSink.gives _ _ _ _ _ all _ _ _ so_far.1 so_far.0 _ text _ handed alone same c.if-alone-gt0.true in
+          let handed_bad = rw (c.in_ok-hand_text.ensures.read) at c.in_ok-hand_bad.ensures.handed in (
+            rw read (bad_handed g.S.CharSink.gives _ _ _ _ _ all _ _ _ so_far.1 so_far.0 _ text _ handed _ _ after _ (Ok tt) handed_bad),
+            rw (read, c.in_ok-hand_bad.ensures.end) after.0,
             rw read (later count (c.loop-count.self.read + n) alone bytes all left),
           );
     }

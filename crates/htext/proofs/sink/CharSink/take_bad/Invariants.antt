@@ -1,5 +1,5 @@
 use Rattle.htext.proofs.Names.{◌+◌, ◌-◌, ◌≤◌, Continues, items, bad_each}
-use Rattle.htext.proofs.sink.CharSink.take_bad_by_one.Given as goal
+use Rattle.htext.proofs.sink.CharSink.take_bad.Given as goal
 
 -- To take the rest of the parts is to take all of them.
 abbrev pub invariant-loop-taken : goal.invariant-loop-taken

@@ -1,6 +1,6 @@
 use Rattle.htext.proofs.Names.{arith, err_from_is_err_and}
 use Rattle.htext.proofs.Handing.{bad_goes_on, bad_untold, bad_ungiven}
-use Rattle.htext.proofs.sink.CharSink.take_bad_by_one.Goals as goal
+use Rattle.htext.proofs.sink.CharSink.take_bad.Goals as goal
 
 pub returns-in_err-take_error : goal.returns-in_err-take_error
 returns-in_err-take_error g c =
