@@ -1,7 +1,9 @@
 -- What the bytes after an `&` settle of it.
-use Rattle.charref.proofs.Names.{arith, ◌≡◌, ℕ, zero, suc, ◌+◌, ◌-◌, ◌≤◌, ◌<◌, min, Bool, true, false, true≢false, not, nat_eq, nat_le, nat_lt, List, [], ◌∷◌, ◌++◌, length, take, drop, slice_get, get_or, Option, Some, None, refl, sym, ap, ◌∙◌, subst, length-append, append_assoc, and_parts, and_from, nat_tests, take_more, length-map, is_ascii, starts_with, list_all, some_same, Placed, placed, characters, all, is_alphanumeric, is_empty, Reference, Characters, Search, Alphanumeric, Walk, Entry, Entities, IsTable, Piece, longest, is_key, is_key_name, ends_in_semicolon, IsAfterKey, IsSortedTable, IsRange, IsOver, GoesOn, HasNone, HasRead, key_bytes, IsOpen, IsRead, characters_of, errors_of, unknown_of, HasTaken, IsAfterKeyOf, HasWalked, Settles, SettlesNothing}
+use Rattle.charref.proofs.Names.{arith, ◌≡◌, ℕ, zero, suc, ◌+◌, ◌-◌, ◌≤◌, ◌<◌, min, Bool, true, false, true≢false, not, nat_eq, nat_le, nat_lt, List, [], ◌∷◌, ◌++◌, length, take, drop, slice_get, get_or, Option, Some, None, refl, sym, ap, ◌∙◌, subst, length-append, append_assoc, and_parts, and_from, nat_tests, take_more, length-map, is_ascii, starts_with, list_all, some_same, Placed, placed, characters, all, is_alphanumeric, is_empty, Reference, Characters, Search, Alphanumeric, Walk, Entry, Entities, IsTable, Piece, longest, is_key, is_key_name, ends_in_semicolon, code_at, AreMarked, IsAfterKey, IsOpenKey, OpenKey, IsSortedTable, IsRange, IsOver, GoesOn, HasNone, HasRead, key_bytes, IsOpen, IsRead, characters_of, errors_of, unknown_of, HasTaken, IsOpenKeyOf, HasWalked, Settles, SettlesNothing}
 use Rattle.std.proofs.Common.{take-take, take-append-drop}
-use Rattle.std.proofs.lemmas.List.{length-take, length-take-le, get_or-take}
+use Rattle.std.proofs.lemmas.List.{length-take, length-take-le, get_or-take, get_or-set_same, get_or-set_other}
+use Rattle.std.proofs.Common.{set}
+use Rattle.charref.specs.Table.{code_of}
 use Rattle.std.proofs.lemmas.List.Folds.{list_all_at}
 use Rattle.std.specs.Option.{IsNone, MatchOption}
 use Rattle.std.specs.Char.{len_utf8}
@@ -211,20 +213,30 @@ key_settles table bytes place count lent has size stands =
 
 -- FRONTS
 
+some_placed : (at : ℕ) (bytes : List ℕ) → 0 < length bytes → is_empty (placed at bytes) ≡ false
+some_placed at [] some = absurd (omega arith)
+some_placed at (x ∷ xs) some = refl
+
+opens_more : (key bytes : List ℕ) (byte : ℕ) → starts_with nat_eq key (bytes ++ byte ∷ []) ≡ true → (starts_with nat_eq key bytes ≡ true) × (slice_get key (length bytes) ≡ Some byte)
+opens_more [] [] byte h = absurd (true≢false (sym h))
+opens_more (x ∷ xs) [] byte h = (refl, ap Some (let t : nat_eq byte x ≡ true = (and_parts (nat_eq byte x) true h).0 in grind (arith, nat_tests)))
+opens_more [] (b ∷ bs) byte h = absurd (true≢false (sym h))
+opens_more (x ∷ xs) (b ∷ bs) byte h = let more = opens_more xs bs byte (and_parts _ _ h).1 in (and_from _ _ (and_parts _ _ h).0 more.0, more.1)
+
 pub after_key : (table : Entities) (place : ℕ) (e : Entry) (search : Search) → IsSortedTable table → slice_get table place ≡ Some e → HasRead search table e.key → GoesOn table e.key → IsAfterKey table search
 after_key table place e search sorted at read goes =
     let here : place ≡ search.low = (only_first table e.key search.low search.high sorted read.range).here place e at refl in
     record { entry = e; stands = ap (slice_get table) (sym here) ∙ at; read = read; goes_on = goes }
 
 -- the next byte settles the key, where it does after the text of the key
-pub key_settles_before : (table : Entities) (bytes : List ℕ) (count : ℕ) (search : Search) (found : Reference) → IsTable table → IsAfterKeyOf table bytes search → count ≡ search.depth - 1 → count < length bytes
+pub key_settles_before : (table : Entities) (bytes : List ℕ) (count : ℕ) (key : OpenKey) (found : Reference) → IsTable table → IsOpenKeyOf table bytes key → count ≡ key.search.depth - 1 → count < length bytes
     → is_ascii (get_or bytes count 0) ≡ true
-    → ((text : List Placed) (p : Placed) → HasRead search table (key_bytes text) → all is_alphanumeric text ≡ true → p.ch ≡ get_or bytes count 0 → (after : List Placed) → IsRead table false (text ++ p ∷ []) after found)
+    → ((text : List Placed) (p : Placed) → HasRead key.search table (key_bytes text) → is_empty text ≡ false → all is_alphanumeric text ≡ true → p.ch ≡ get_or bytes count 0 → (after : List Placed) → IsRead table false (text ++ p ∷ []) after found)
     → Settles table bytes (count + 1) found
-key_settles_before table bytes count search found is_table has size within ascii reads =
-    let front : IsAfterKey table search = has.read in
-    let depth : search.depth ≡ length front.entry.key = front.read.depth in
-    let at-front : StandsAt bytes front.entry.key count = key_stands bytes front.entry.key count (is_key_of table search.low front.entry is_table front.stands) has.opens (omega arith) in
+key_settles_before table bytes count key found is_table has size within ascii reads =
+    let front : IsAfterKey table key.search = has.is.read in
+    let depth : key.search.depth ≡ length front.entry.key = front.read.depth in
+    let at-front : StandsAt bytes front.entry.key count = key_stands bytes front.entry.key count (is_key_of table key.search.low front.entry is_table front.stands) has.opens (omega arith) in
     record {
       some = omega arith;
       few = omega arith;
@@ -233,5 +245,27 @@ key_settles_before table bytes count search found is_table has size within ascii
           let last : Last at (take count bytes) (get_or bytes count 0) = last_placed at (take count bytes) (get_or bytes count 0) in
           let goes : GoesOn table (key_bytes text) = subst (GoesOn table) (at-front.is at) front.goes_on in
           subst (λ t. IsRead table false t after found) (sym (more_bytes bytes count within at last))
-          (reads text last.p (subst (HasRead search table) (at-front.is at) front.read) (front_of table text is_table goes) last.ch after);
+          (reads text last.p (subst (HasRead key.search table) (at-front.is at) front.read) (some_placed at (take count bytes) (let few : length (take count bytes) ≡ count = length-take-le count bytes (omega arith) in let more : 0 < count = at-front.some in omega arith)) (front_of table text is_table goes) last.ch after);
     }
+
+-- no key goes on with a byte that is not marked
+pub none_unmarked : (table : Entities) (key : OpenKey) (byte : ℕ) (text : List Placed) → IsOpenKey table key → HasRead key.search table (key_bytes text) → get_or key.goes_on (byte + 1) false ≡ false → HasNone table (key_bytes text ++ byte ∷ [])
+none_unmarked table key byte text is read unmarked = record {
+  none = λ k e at opens.
+      let parts = opens_more e.key (key_bytes text) byte opens in
+      let range : (key.search.low ≤ k) × (k < key.search.high) = within key.search.low key.search.high k (sym (read.range.exact k e at) ∙ parts.0) in
+      let code : code_at e.key key.search.depth ≡ byte + 1 = ap (code_at e.key) read.depth ∙ ap code_of parts.1 in
+      true≢false (sym (is.marked.at k e at range.0 range.1) ∙ ap (λ n. get_or key.goes_on n false) code ∙ unmarked);
+}
+
+-- what is marked for one key more
+pub marked_more : (table : Entities) (search : Search) (place code : ℕ) (e : Entry) (marks : List Bool) → AreMarked table search place marks → slice_get table place ≡ Some e → code ≡ code_at e.key search.depth → code < length marks
+    → AreMarked table search (place + 1) (set marks code true)
+marked_more table search place code e marks before stands is within = record { at = λ k f at low high. by k f at low high (nat_eq k place) (nat_eq (code_at f.key search.depth) code) refl refl }
+  where
+    by : (k : ℕ) (f : Entry) → slice_get table k ≡ Some f → search.low ≤ k → k < place + 1 → (here same : Bool) → nat_eq k place ≡ here → nat_eq (code_at f.key search.depth) code ≡ same → get_or (set marks code true) (code_at f.key search.depth) false ≡ true
+    by k f at low high here true at-place is-code = ap (λ n. get_or (set marks code true) n false) (grind (arith, nat_tests)) ∙ get_or-set_same marks code true false within
+    by k f at low high true false at-place is-code =
+        let one : e ≡ f = some_same e f (sym stands ∙ ap (slice_get table) (grind (arith, nat_tests)) ∙ at) in
+        absurd (true≢false (sym (let same : code_at f.key search.depth ≡ code = ap (λ (g : Entry). code_at g.key search.depth) (sym one) ∙ sym is in grind (arith, nat_tests)) ∙ is-code))
+    by k f at low high false false at-place is-code = get_or-set_other marks code (code_at f.key search.depth) true false (λ same. true≢false (sym (grind (arith, nat_tests)) ∙ is-code)) ∙ before.at k f at low (grind (arith, nat_tests))

@@ -1,5 +1,5 @@
 -- The names of other crates and of specs/ that several proofs cite, in one place.
-pub use Rattle.charref.specs.AtOnce.{IsAfterKeyOf, HasWalked, Settles, SettlesNothing}
+pub use Rattle.charref.specs.AtOnce.{IsOpenKeyOf, HasWalked, Settles, SettlesNothing}
 pub use Rattle.charref.specs.Flat.{is_one_or_two, IsReadable, flat_character, flat_characters, flat_entry, flat_of}
 pub use Rattle.charref.specs.Front.{is_count, is_entry, passes, BeginsWith, BeginsWithNone, IsCounted, HasNoCounted, IsEntryAt}
 pub use Rattle.charref.specs.Held.{key_bytes, IsSign, IsHeld, in_name, after_sign, after_x, in_number, number_sign}
@@ -9,13 +9,14 @@ pub use Rattle.charref.specs.Open.{IsOpen}
 pub use Rattle.charref.specs.Pieces.{IsRead, number_of, characters_of, errors_of, unknown_of}
 pub use Rattle.charref.specs.Reading.{is_character, codepoints, entry_of, entities_of, IsRefusedWith}
 pub use Rattle.charref.specs.Reference.{Entry, Entities, is_hex_digit, digit_value, IsTable, longest, is_key, is_key_name, is_empty_list, ends_in_semicolon, is_kept, named, named_piece, longer, IsReference, kept, unknown, begins_number, is_semicolon_if_any, decimal, hexadecimal, no_digits, alone, Piece, core}
-pub use Rattle.charref.specs.Table.{code_at, IsSortedTable, IsRange, IsRising, IsStart, IsIndex, HasRead, best_entry, is_whole, IsOver, GoesOn, HasNone, IsParted, entry, entries, key_at, IsAfterKey}
+pub use Rattle.charref.specs.Table.{code_at, IsSortedTable, IsRange, IsRising, IsStart, IsIndex, HasRead, best_entry, is_whole, IsOver, GoesOn, HasNone, IsParted, entry, entries, key_at, IsAfterKey, IsOpenKey, AreMarked}
 pub use Rattle.charref.specs.Walk.{HasTaken, NextIs}
 pub use Rattle.charref.specs.declared.entity.Entity.{Entity}
 pub use Rattle.charref.specs.declared.key.TheConstants.{ALPHANUMERICS}
 pub use Rattle.charref.specs.declared.last.Last.TheVariants.{Alphanumeric, Semicolon, Equals, Other}
 pub use Rattle.charref.specs.declared.number.Base.{Base}
 pub use Rattle.charref.specs.declared.number.Base.TheVariants.{Decimal, Hexadecimal}
+pub use Rattle.charref.specs.declared.open_keys.OpenKey.{OpenKey}
 pub use Rattle.charref.specs.declared.reference.Characters.{Characters}
 pub use Rattle.charref.specs.declared.reference.Characters.TheVariants.{One}
 pub use Rattle.charref.specs.declared.reference.Reference.{Reference}

@@ -6,12 +6,12 @@ use Rattle.names.specs.declared.placed.Placed.{Placed}
 use Rattle.names.specs.Placed.{placed}
 use Rattle.charref.specs.declared.number.Base.{Base}
 use Rattle.charref.specs.declared.reference.Reference.{Reference}
-use Rattle.charref.specs.declared.search.Search.{Search}
+use Rattle.charref.specs.declared.open_keys.OpenKey.{OpenKey}
 use Rattle.charref.specs.declared.walk.Walk.{Walk}
 use Rattle.charref.specs.Reference.{Entry, Entities, IsTable, ends_in_semicolon}
 use Rattle.charref.specs.Held.{IsSign}
 use Rattle.charref.specs.Pieces.{IsRead}
-use Rattle.charref.specs.Table.{IsAfterKey}
+use Rattle.charref.specs.Table.{IsOpenKey}
 use Rattle.charref.specs.Walk.{HasTaken}
 
 -- The first `count` of these bytes, all ASCII, are what stands before the digits of a number.
@@ -37,10 +37,10 @@ pub record HasWalked (walk : Walk) (table : Entities) (bytes : List ℕ) (count 
   pub ascii : list_all is_ascii (take count bytes) ≡ true
   pub taken : (at : ℕ) → HasTaken walk table false (placed at (take count bytes))
 
--- A search has read an `&` and bytes at the front of these, which are a key.
-pub record IsAfterKeyOf (table : Entities) (bytes : List ℕ) (search : Search) : Type 0 where
-  pub read : IsAfterKey table search
-  pub opens : starts_with nat_eq bytes (drop 1 read.entry.key) ≡ true
+-- A key with which a longer one begins: with all of it after its `&` these bytes begin.
+pub record IsOpenKeyOf (table : Entities) (bytes : List ℕ) (key : OpenKey) : Type 0 where
+  pub is : IsOpenKey table key
+  pub opens : starts_with nat_eq bytes (drop 1 is.read.entry.key) ≡ true
 
 -- The table has an entry at this place, whose key ends in a `;`, and these bytes begin with all of the key after its `&`.
 pub record HasWhole (table : Entities) (bytes : List ℕ) (place : ℕ) : Type 0 where

@@ -7,6 +7,7 @@ pub mod Held
 pub mod Pieces
 pub mod Last
 pub mod Open
+pub mod Vocabulary
 pub mod Walk
 pub mod AtOnce
 pub mod Flat

@@ -1,11 +1,12 @@
 -- A table in memory, and the state of a look-up in it.
 use Rattle.std.specs.Prelude.{◌≡◌, ℕ, ◌+◌, ◌≤◌, ◌<◌, Bool, true, false, nat_eq, nat_le, nat_lt, ◌&&◌}
-use Rattle.std.specs.Prelude.{List, map, length, slice_get, slice_range, Option, Some, None, IfSome}
+use Rattle.std.specs.Prelude.{List, map, length, get_or, slice_get, slice_range, Option, Some, None, IfSome}
 use Rattle.std.specs.List.{starts_with}
 use Rattle.std.specs.List.Sorted.{IsStrictlySortedBy}
 use Rattle.std.specs.Cmp.Lexicographic.{slice_cmp}
 use Rattle.std.specs.Ordering.{nat_cmp}
 use Rattle.charref.specs.declared.entity.Entity.{Entity}
+use Rattle.charref.specs.declared.open_keys.OpenKey.{OpenKey}
 use Rattle.charref.specs.declared.search.Search.{Search}
 use Rattle.charref.specs.Pieces.{characters_of}
 use Rattle.charref.specs.Reference.{Entry, Entities, IsTable, longest}
@@ -92,6 +93,15 @@ pub record IsAfterKey (table : Entities) (search : Search) : Type 0 where
   pub stands : slice_get table search.low ≡ Some entry
   pub read : HasRead search table entry.key
   pub goes_on : GoesOn table entry.key
+
+-- The code of each byte is marked with which a key, from where the search begins up to `high`, goes on after what the search has read.
+pub record AreMarked (table : Entities) (search : Search) (high : ℕ) (marks : List Bool) : Type 0 where
+  pub at : (k : ℕ) (e : Entry) → slice_get table k ≡ Some e → search.low ≤ k → k < high → get_or marks (code_at e.key search.depth) false ≡ true
+
+-- a key with which a longer one begins, and the bytes with which those go on
+pub record IsOpenKey (table : Entities) (key : OpenKey) : Type 0 where
+  pub read : IsAfterKey table key.search
+  pub marked : AreMarked table key.search key.search.high key.goes_on
 
 -- whether the key found has as many bytes as were read
 abbrev pub is_as_long : ℕ → Option Entry → Bool

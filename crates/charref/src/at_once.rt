@@ -1,26 +1,18 @@
 //! What the bytes after an `&` settle of it, outside an attribute value.
 
 ghost use Rattle.std.specs.Prelude.{◌≡◌, ◌<◌, ◌≤◌, ℕ, List, true, false, length, take, IfSome, IsNone, IsTrue, MatchOption};
-ghost use Rattle.std.specs.Char.{is_ascii};
-ghost use Rattle.std.specs.List.{list_all};
-ghost use Rattle.names.specs.declared.placed.Placed.{Placed};
-ghost use Rattle.names.specs.Placed.{placed};
-ghost use Rattle.charref.specs.Reference.{Entities, IsTable};
-ghost use Rattle.charref.specs.Pieces.{IsRead, number_of};
-ghost use Rattle.charref.specs.Table.{is_search_within};
-ghost use Rattle.charref.specs.AtOnce.{HasSign, HasWhole, Settles, SettlesNothing};
+ghost use Rattle.charref.specs.Vocabulary.{is_ascii, list_all, Placed, placed, Entities, IsTable, IsRead, number_of, is_search_within, HasSign, HasWhole, Settles, SettlesNothing};
 
 use crate::flat::Flat;
 use crate::key::is_alphanumeric;
 use crate::last::Last;
-use crate::next::Next;
 use crate::number::Base;
 use crate::reference::Reference;
 use crate::search::Search;
 use crate::slots::is_whole;
 use crate::table::Table;
 use crate::walk::Walk;
-use crate::walking::{after_name, number, unknown};
+use crate::walking::{decided, number, unknown};
 
 impl<'t> Walk<'t> {
     /// What is at an `&` outside an attribute value after which these bytes come, and how many of them settle it, whatever comes
@@ -61,7 +53,11 @@ fn settled(table: &Table, bytes: &[u8]) -> Option<(Reference, usize)>
             }
         }
     }
-    settled_otherwise(table, bytes)
+    // (field by field: else both results have one room in memory, and what is written there in parts is read at once, which waits)
+    match settled_otherwise(table, bytes) {
+        Some((found, count)) => Some((found, count)),
+        None => None,
+    }
 }
 
 /// The place of a key that ends in a `;` and with all of which, after its `&`, these bytes begin, if one is found at once: the
@@ -116,16 +112,18 @@ fn settled_otherwise(table: &Table, bytes: &[u8]) -> Option<(Reference, usize)>
 fn settled_by_key(table: &Table, bytes: &[u8]) -> Option<(Reference, usize)>
     ensures { IfSome result (λ it. Settles table.now bytes.now it.1 it.0) }
 {
-    let search = table.open_keys.find(&table.flat, bytes)?;
+    let key = table.open_keys.find(&table.flat, bytes)?;
+    let search = key.search;
     let count = search.depth - 1;
     let byte = *bytes.get(count)?;
-    if !byte.is_ascii() {
+    if !byte.is_ascii() || key.goes_on[usize::from(byte) + 1] {
         return None;
     }
-    match after_name(table, false, search, char::from(byte)) {
-        Next::Ended(found) => Some((found, count + 1)),
-        Next::Goes(_) => None,
-    }
+    let last = Last::of(char::from(byte));
+    Some((
+        decided(table, false, search.best, search.depth, last),
+        count + 1,
+    ))
 }
 
 /// The reference that the key at this place is, which ends in a `;`, and how many bytes of it come after the `&`.

@@ -1,6 +1,6 @@
 //! The entries of a table.
 
-ghost use Rattle.charref.specs.Table.{key_at};
+ghost use Rattle.charref.specs.Vocabulary.{key_at};
 
 use crate::reference::Characters;
 

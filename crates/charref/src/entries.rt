@@ -1,12 +1,7 @@
 //! Reading the entries of a flat form.
 
 ghost use Rattle.std.specs.Prelude.{◌≡◌, ◌+◌, ◌*◌, ◌≤◌, Some, None, length, drop, if◌then◌else◌, true, IfOk, IfErr, MatchOption};
-ghost use Rattle.charref.specs.Reading.{is_character};
-ghost use Rattle.std.specs.List.{list_all};
-ghost use Rattle.charref.specs.Pieces.{characters_of};
-ghost use Rattle.charref.specs.Table.{entries, is_inside};
-ghost use Rattle.charref.specs.Flat.{is_one_or_two, flat_character, flat_characters, flat_entry, flat_of, IsReadable, IsRefusedFlat};
-ghost use Rattle.charref.specs.Front.{BeginsWith, BeginsWithNone, is_entry, IsEntryAt};
+ghost use Rattle.charref.specs.Vocabulary.{is_character, list_all, characters_of, entries, is_inside, is_one_or_two, flat_character, flat_characters, flat_entry, flat_of, IsReadable, IsRefusedFlat, BeginsWith, BeginsWithNone, is_entry, IsEntryAt};
 
 use crate::entity::Entity;
 use crate::key::{is_before, key_at_front};

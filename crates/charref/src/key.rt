@@ -1,12 +1,7 @@
 //! The keys of a table.
 
 ghost use Rattle.std.specs.Prelude.{◌≡◌, ◌≤◌, ℕ, List, true, false, length, nat_eq, take, slice_get, MatchOption};
-ghost use Rattle.std.specs.List.{list_all, starts_with};
-ghost use Rattle.std.specs.Ordering.{nat_cmp, is_lt};
-ghost use Rattle.std.specs.Cmp.Lexicographic.{slice_cmp};
-ghost use Rattle.names.specs.Placed.{is_alphanumeric};
-ghost use Rattle.charref.specs.Reference.{is_key, is_key_name};
-ghost use Rattle.charref.specs.Front.{passes, is_count, is_semicolon, IsCounted, HasNoCounted};
+ghost use Rattle.charref.specs.Vocabulary.{list_all, starts_with, nat_cmp, is_lt, slice_cmp, is_alphanumeric, is_key, is_key_name, passes, is_count, is_semicolon, IsCounted, HasNoCounted};
 
 /// 1 for each letter and digit of ASCII. A table, since keys are short and are read by the thousand.
 const ALPHANUMERICS: [u8; 256] = [

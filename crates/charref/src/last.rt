@@ -1,7 +1,7 @@
 //! The last character that a walk has read.
 
 ghost use Rattle.std.specs.Prelude.{◌≡◌};
-ghost use Rattle.charref.specs.Last.{last_of, is_letter_or_digit, goes_on_name, is_kept_before};
+ghost use Rattle.charref.specs.Vocabulary.{last_of, is_letter_or_digit, goes_on_name, is_kept_before};
 
 /// What kind of character was read last, as far as the end of a reference depends on it.
 #[derive(Clone, Copy)]

@@ -1,12 +1,7 @@
 //! Laws: each text that begins with `&` has exactly one reference at its front, and a flat form is of one table.
 
 ghost use Rattle.std.specs.Prelude.{◌≡◌, ◌∷◌, ◌++◌, Bool, false, List};
-ghost use Rattle.names.specs.declared.placed.Placed.{Placed};
-ghost use Rattle.charref.specs.Reference.{Entities, IsTable, Piece, IsReference};
-ghost use Rattle.charref.specs.Open.{IsOpen, HasReference};
-ghost use Rattle.charref.specs.declared.walk.Walk.{Walk as WalkOf};
-ghost use Rattle.charref.specs.Walk.{HasTaken};
-ghost use Rattle.charref.specs.Flat.{flat_of, IsReadable};
+ghost use Rattle.charref.specs.Vocabulary.{Placed, Entities, IsTable, Piece, IsReference, IsOpen, HasReference, WalkOf, HasTaken, flat_of, IsReadable};
 
 /// A law: at each `&` is a reference, or an `&` that is text.
 pub fn some_reference()

@@ -1,9 +1,7 @@
 //! The characters of numeric references (HTML Standard, from `#numeric-character-reference-state` on).
 
 ghost use Rattle.std.specs.Prelude.{◌≡◌, ◌+◌, ◌*◌, ◌≤◌, ◌<◌, true, false, min, MatchOption};
-ghost use Rattle.charref.specs.Reference.{numbered, number_fault, replaced, replacements, is_surrogate, is_control, digit_value};
-ghost use Rattle.names.specs.Placed.{is_space};
-ghost use Rattle.charref.specs.Number.{is_digit_of, radix};
+ghost use Rattle.charref.specs.Vocabulary.{numbered, number_fault, replaced, replacements, is_surrogate, is_control, digit_value, is_space, is_digit_of, radix};
 
 use names::{ErrorCode, is_noncharacter};
 

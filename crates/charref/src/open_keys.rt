@@ -1,26 +1,34 @@
 //! The look-ups that have read a key without a `;`, by the first two letters of its name.
 
-ghost use Rattle.std.specs.Prelude.{◌≡◌, ◌<◌, length, IfOk, IfSome};
-ghost use Rattle.std.specs.List.{All};
-ghost use Rattle.charref.specs.Table.{IsAfterKey, IsSortedTable};
-ghost use Rattle.charref.specs.AtOnce.{IsAfterKeyOf};
+ghost use Rattle.std.specs.Prelude.{◌≡◌, ◌<◌, ◌≤◌, length, IfOk, IfSome};
+ghost use Rattle.charref.specs.Vocabulary.{All, AreMarked, IsAfterKey, IsOpenKey, IsOpenKeyOf, IsSortedTable};
 
 use crate::flat::Flat;
-use crate::search::{Search, search_of};
+use crate::search::{Search, code_at, search_of};
 use crate::walking::ends_in_semicolon;
 use std::alloc::{AllocError, Global};
 
 /// How many pairs of letters are told apart.
 const PAIRS: usize = 64 * 64;
 
-/// How many look-ups are tried for a name: in HTML's table no more than three keys without a `;` have the same first two letters.
+/// How many keys are tried for a name: in HTML's table no more than three keys without a `;` have the same first two letters.
 const KEYS_TRIED: usize = 3;
 
-/// For each key without a `;` with which a longer key begins, the look-up that has read it, in the order of the keys; and by the
-/// first two letters of a name, how many look-ups there are up to the last one of these letters.
+/// How many codes there are: of the end of a key, and of each byte.
+const CODES: usize = 257;
+
+/// A key without a `;` with which a longer key begins: the look-up that has read it, and for each code whether a key goes on with it.
+#[derive(Clone, Copy)]
+pub(crate) struct OpenKey {
+    pub(crate) search: Search,
+    pub(crate) goes_on: [bool; CODES],
+}
+
+/// The keys without a `;` with which a longer key begins, in the order of the keys; and by the first two letters of a name, how many
+/// there are up to the last one of these letters.
 #[derive(Drop)]
 pub(crate) struct OpenKeys {
-    pub(crate) read: Vec<Search>,
+    pub(crate) read: Vec<OpenKey>,
     counts: Vec<u16>,
 }
 
@@ -48,11 +56,23 @@ fn after_key(flat: &Flat, place: usize) -> Option<Search>
     }
 }
 
+/// The codes with which keys go on after what this look-up has read.
+fn next_codes(flat: &Flat, search: &Search) -> [bool; CODES]
+    requires { (search.now.low ≤ search.now.high) × (search.now.high ≤ length flat.now) }
+    ensures { AreMarked flat.now search.now search.now.high result }
+{
+    let mut found = [false; CODES];
+    for place in search.low..search.high {
+        found[usize::from(code_at(flat.key(place), search.depth))] = true;
+    }
+    found
+}
+
 impl OpenKeys {
-    /// The look-ups of a table.
+    /// The keys of a table.
     pub(crate) fn new(alloc: Global, flat: &Flat) -> Result<OpenKeys, AllocError>
         requires { IsSortedTable flat.now }
-        ensures { IfOk result (λ keys. All (IsAfterKey flat.now) keys.read.items) }
+        ensures { IfOk result (λ keys. All (IsOpenKey flat.now) keys.read.items) }
     {
         let mut keys = OpenKeys {
             read: Vec::new(alloc),
@@ -60,14 +80,15 @@ impl OpenKeys {
         };
         for place in 0..flat.len() {
             if let Some(search) = after_key(flat, place) {
-                keys.read.push(search)?;
+                let goes_on = next_codes(flat, &search);
+                keys.read.push(OpenKey { search, goes_on })?;
                 keys.count(flat.key(place))?;
             }
         }
         Ok(keys)
     }
 
-    /// Counts the last look-up, which has read this key.
+    /// Counts the last key, which is this one.
     fn count(&mut self, key: &[u8]) -> Result<(), AllocError>
         ensures { self.new.read ≡ self.old.read }
     {
@@ -83,21 +104,21 @@ impl OpenKeys {
         Ok(())
     }
 
-    /// A look-up that has read a key with which the text of an `&` and these bytes begins, if one is found: the longest where
-    /// few keys have its first two letters.
+    /// A key with which the text of an `&` and these bytes begins, if one is found: the longest where few keys have its first two
+    /// letters.
     #[inline(always)]
-    pub(crate) fn find(&self, flat: &Flat, bytes: &[u8]) -> Option<Search>
-        requires { All (IsAfterKey flat.now) self.now.read.items }
-        ensures { IfSome result (λ search. IsAfterKeyOf flat.now bytes.now search) }
+    pub(crate) fn find(&self, flat: &Flat, bytes: &[u8]) -> Option<&OpenKey>
+        requires { All (IsOpenKey flat.now) self.now.read.items }
+        ensures { IfSome result (λ key. IsOpenKeyOf flat.now bytes.now key.now) }
     {
         let [first, second, ..] = bytes else {
             return None;
         };
         let count = usize::from(*self.counts.get(pair_number(*first, *second))?);
         for tried in 1..=KEYS_TRIED {
-            let search = *self.read.get(count.wrapping_sub(tried))?;
-            if flat.opens(search.low, bytes) {
-                return Some(search);
+            let key = self.read.get(count.wrapping_sub(tried))?;
+            if flat.opens(key.search.low, bytes) {
+                return Some(key);
             }
         }
         None

@@ -1,18 +1,7 @@
 //! Reading a table from JSON text.
 
-ghost use Rattle.std.specs.Prelude.{◌≡◌, ◌⊎◌, ℕ, List, [], ◌∷◌, ◌++◌, Ok, Err, Some, IfOk, IfErr, OnOk, option_map, option_and_then, bytes_eq, codes, string_bytes};
-ghost use Rattle.std.specs.Prelude.{encode_utf8_all};
-ghost use Rattle.serde_json.specs.Find.{get, as_str, as_array};
-ghost use Rattle.names.specs.declared.refusal.TableFault.{TableFault};
-ghost use Rattle.serde_json.specs.View.{view, items_view, members_view};
-ghost use Rattle.serde_json.specs.Errors.{IsMemory};
-ghost use Rattle.charref.specs.Reference.{Entry, Entities};
-ghost use Rattle.charref.specs.Reading.{codepoint, codepoints, fields, entry_of, entry_of_characters, entities_of, table_of, table_of_members, IsRefusedWith};
-ghost use Rattle.charref.specs.Pieces.{characters_of};
-ghost use Rattle.charref.specs.Flat.{flat_entry, flat_of};
-ghost use Rattle.std.specs.List.Sorted.{IsStrictlySortedBy};
-ghost use Rattle.std.specs.Map.{keys_of};
-ghost use Rattle.std.specs.String.{string_cmp};
+ghost use Rattle.std.specs.Prelude.{◌≡◌, ◌⊎◌, ℕ, List, [], ◌∷◌, ◌++◌, Ok, Err, Some, IfOk, IfErr, OnOk, option_map, option_and_then, bytes_eq, codes, string_bytes, encode_utf8_all};
+ghost use Rattle.charref.specs.Vocabulary.{get, as_str, as_array, TableFault, view, items_view, members_view, IsMemory, Entry, Entities, codepoint, codepoints, fields, entry_of, entry_of_characters, entities_of, table_of, table_of_members, IsRefusedWith, characters_of, flat_entry, flat_of, IsStrictlySortedBy, keys_of, string_cmp};
 
 use crate::entries::character;
 use crate::key::is_key;

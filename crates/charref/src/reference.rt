@@ -1,7 +1,7 @@
 //! The result of a walk.
 
 ghost use Rattle.std.specs.Prelude.{◌≡◌, [], ◌∷◌, ◌++◌, OnOk, bytes_eq, length, string_bytes, encode_utf8_all};
-ghost use Rattle.charref.specs.Pieces.{characters_of};
+ghost use Rattle.charref.specs.Vocabulary.{characters_of};
 
 use names::ErrorCode;
 use std::alloc::AllocError;

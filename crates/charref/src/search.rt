@@ -1,10 +1,7 @@
 //! Looking up a key, byte by byte.
 
 ghost use Rattle.std.specs.Prelude.{◌≡◌, ◌↔◌, ℕ, ◌+◌, ◌-◌, ◌≤◌, ◌<◌, [], ◌∷◌, ◌++◌, ◌||◌, ◌==◌, List, true, false, None, length, IsTrue, IsNone, IfSome};
-ghost use Rattle.names.specs.Placed.{is_alphanumeric};
-ghost use Rattle.charref.specs.Reference.{longest};
-ghost use Rattle.charref.specs.Table.{code_at, best_entry, IsSortedTable, IsRange, IsRising, IsParted, IsIndex, IsOver, GoesOn, HasNone, HasRead};
-ghost use Rattle.charref.specs.Table.{is_whole, is_search_within};
+ghost use Rattle.charref.specs.Vocabulary.{is_alphanumeric, longest, code_at, best_entry, IsSortedTable, IsRange, IsRising, IsParted, IsIndex, IsOver, GoesOn, HasNone, HasRead, is_whole, is_search_within};
 
 use crate::flat::Flat;
 
@@ -21,7 +18,8 @@ pub(crate) struct Search {
 /// The byte of a key at `depth`, plus 1; 0 past its end.
 #[inline(always)]
 pub(crate) fn code_at(key: &[u8], depth: usize) -> u16
-    ensures { result ≡ code_at key.now depth }
+    ensures few { result < 257 }
+    ensures code { result ≡ code_at key.now depth }
 {
     match key.get(depth) {
         Some(byte) => u16::from(*byte) + 1,

@@ -1,8 +1,7 @@
 //! Where the keys that end in a `;` are, by the hash of their names.
 
 ghost use Rattle.std.specs.Prelude.{◌<◌, ◌≤◌, length, IfSome, IsTrue};
-ghost use Rattle.charref.specs.Reference.{IsTable};
-ghost use Rattle.charref.specs.AtOnce.{HasWhole};
+ghost use Rattle.charref.specs.Vocabulary.{IsTable, HasWhole};
 
 use crate::flat::Flat;
 use crate::walking::ends_in_semicolon;

@@ -1,8 +1,7 @@
 //! The index of the bytes after the `&`.
 
 ghost use Rattle.std.specs.Prelude.{◌≡◌, ◌<◌, ◌≤◌, ℕ, Some, length, slice_get, IfOk};
-ghost use Rattle.charref.specs.Reference.{Entry};
-ghost use Rattle.charref.specs.Table.{code_at, IsSortedTable, IsStart, IsIndex};
+ghost use Rattle.charref.specs.Vocabulary.{Entry, code_at, IsSortedTable, IsStart, IsIndex};
 
 use crate::flat::Flat;
 use crate::search::code_at;

@@ -3,7 +3,7 @@
 ghost use Rattle.std.specs.Prelude.{◌≡◌, ◌↔◌, [], ◌∷◌, length, Some, None, IfOk, IfErr, IsTrue, Contains, MatchOption};
 ghost use Rattle.std.specs.List.{All};
 ghost use Rattle.charref.specs.Reference.{Entry, Entities, IsTable, HasCore, core, longest};
-ghost use Rattle.charref.specs.Table.{IsAfterKey, IsIndex};
+ghost use Rattle.charref.specs.Table.{IsIndex, IsOpenKey};
 ghost use Rattle.charref.specs.Flat.{flat_of, IsReadable, IsRefusedFlat};
 ghost use Rattle.charref.specs.Pieces.{characters_of};
 
@@ -36,7 +36,7 @@ impl Model for Table {
     ghost view = { λ table. table.flat };
 
     ghost invariant = { λ table. IsReadable table.flat × IsIndex table.flat table.starts.items 130
-        × All (IsAfterKey table.flat) table.open_keys.read.items };
+        × All (IsOpenKey table.flat) table.open_keys.read.items };
 }
 
 /// A key that a text begins with: its length in bytes, including the `&`, and the characters that it stands for.

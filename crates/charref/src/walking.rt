@@ -1,14 +1,7 @@
 //! The steps of a walk.
 
 ghost use Rattle.std.specs.Prelude.{◌≡◌, ◌+◌, [], ◌∷◌, ◌++◌, Bool, true, false, ◌&&◌, ℕ, List, length, IfSome, IsSome, IsNone, MatchOption, ◌<◌, ◌≤◌};
-ghost use Rattle.names.specs.declared.placed.Placed.{Placed};
-ghost use Rattle.names.specs.Placed.{all, is_empty, is_alphanumeric};
-ghost use Rattle.charref.specs.Reference.{Entities, IsTable, longest, ends_in_semicolon};
-ghost use Rattle.charref.specs.Table.{best_entry, is_search_within, is_whole, HasRead, HasNone};
-ghost use Rattle.charref.specs.Held.{key_bytes, is_number, IsHeld, IsSign};
-ghost use Rattle.charref.specs.Last.{last_of, is_letter_or_digit, IsSettled};
-ghost use Rattle.charref.specs.Pieces.{IsRead, unknown_of, number_of};
-ghost use Rattle.charref.specs.Walk.{HasTaken, Takes, NextIs, LeavesLast, StaysNumber, is_next_within};
+ghost use Rattle.charref.specs.Vocabulary.{Placed, all, is_empty, is_alphanumeric, Entities, IsTable, longest, ends_in_semicolon, best_entry, is_search_within, is_whole, HasRead, HasNone, key_bytes, is_number, IsHeld, IsSign, last_of, is_letter_or_digit, IsSettled, IsRead, unknown_of, number_of, HasTaken, Takes, NextIs, LeavesLast, StaysNumber, is_next_within};
 
 use crate::flat::Flat;
 use crate::last::{Last, is_kept};
@@ -137,7 +130,13 @@ pub(crate) fn unknown(left: usize, last: Last) -> Reference
 
 /// The outcome once no further character can change the longest match, the entry at `best`: `read` characters were read
 /// after the `&`, and `last` is the kind of the last one (`#named-character-reference-state`).
-fn decided(table: &Table, in_value: bool, best: Option<usize>, read: usize, last: Last) -> Reference
+pub(crate) fn decided(
+    table: &Table,
+    in_value: bool,
+    best: Option<usize>,
+    read: usize,
+    last: Last,
+) -> Reference
     requires { IfSome best (λ k. k < length table.now) }
     ensures { (front : List Placed) (p : Placed) (after : List Placed) → all is_alphanumeric front ≡ true
         → (is_empty front ≡ true → is_alphanumeric p.ch ≡ true) → read ≡ length (front ++ p ∷ []) → last ≡ last_of p.ch
@@ -287,7 +286,7 @@ pub(crate) fn longer(table: &Table, search: Search, ch: char) -> Option<Search>
 
 /// The named character reference state (`#named-character-reference-state`), after the beginning of a name.
 #[inline(always)]
-pub(crate) fn after_name(table: &Table, in_value: bool, search: Search, ch: char) -> Next
+fn after_name(table: &Table, in_value: bool, search: Search, ch: char) -> Next
     requires { is_search_within search (length table.now) ≡ true }
     ensures within { is_next_within result (length table.now) ≡ true }
     ensures next { (text : List Placed) (p : Placed) → HasRead search table.now (key_bytes text)

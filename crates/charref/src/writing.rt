@@ -1,8 +1,7 @@
 //! Writing the entries of a flat form.
 
 ghost use Rattle.std.specs.Prelude.{◌≡◌, ◌++◌, OnOk};
-ghost use Rattle.charref.specs.Flat.{flat_characters, flat_entry};
-ghost use Rattle.charref.specs.Pieces.{characters_of};
+ghost use Rattle.charref.specs.Vocabulary.{flat_characters, flat_entry, characters_of};
 
 use crate::reference::Characters;
 use std::alloc::AllocError;

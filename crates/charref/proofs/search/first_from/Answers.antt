@@ -8,7 +8,7 @@ loop-from-preserved-then-code_at-code c =
     let l = c.loop-from in
     let middle : ℕ = l.from + (l.to - l.from) / 2 in
     let e : Entry = c.key.ensures.0 in
-    let less : code_at e.key c.args.depth < c.args.code = subst (λ key. code_at key c.args.depth < c.args.code) c.key.ensures.2 (subst (λ n. n < c.args.code) c.code_at.ensures c.if-code_at-code.true) in
+    let less : code_at e.key c.args.depth < c.args.code = subst (λ key. code_at key c.args.depth < c.args.code) c.key.ensures.2 (subst (λ n. n < c.args.code) c.code_at.ensures.code c.if-code_at-code.true) in
     record {
       after = omega arith;
       ordered = omega arith;
@@ -21,7 +21,7 @@ loop-from-preserved c =
     let l = c.loop-from in
     let middle : ℕ = l.from + (l.to - l.from) / 2 in
     let e : Entry = c.key.ensures.0 in
-    let least : c.args.code ≤ code_at e.key c.args.depth = subst (λ key. c.args.code ≤ code_at key c.args.depth) c.key.ensures.2 (subst (λ n. c.args.code ≤ n) c.code_at.ensures c.if-code_at-code.false) in
+    let least : c.args.code ≤ code_at e.key c.args.depth = subst (λ key. c.args.code ≤ code_at key c.args.depth) c.key.ensures.2 (subst (λ n. c.args.code ≤ n) c.code_at.ensures.code c.if-code_at-code.false) in
     record {
       after = l.invariant.after;
       ordered = omega arith;

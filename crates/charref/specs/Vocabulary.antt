@@ -1,0 +1,27 @@
+-- The words of the contracts, in one place.
+pub use Rattle.charref.specs.AtOnce.{HasSign, HasWhole, IsOpenKeyOf, Settles, SettlesNothing}
+pub use Rattle.charref.specs.Flat.{flat_character, flat_characters, flat_entry, flat_of, is_one_or_two, IsReadable, IsRefusedFlat}
+pub use Rattle.charref.specs.Front.{BeginsWith, BeginsWithNone, HasNoCounted, is_count, is_entry, is_semicolon, IsCounted, IsEntryAt, passes}
+pub use Rattle.charref.specs.Held.{is_number, IsHeld, IsSign, key_bytes}
+pub use Rattle.charref.specs.Last.{goes_on_name, is_kept_before, is_letter_or_digit, IsSettled, last_of}
+pub use Rattle.charref.specs.Number.{is_digit_of, radix}
+pub use Rattle.charref.specs.Open.{HasReference, IsOpen}
+pub use Rattle.charref.specs.Pieces.{characters_of, IsRead, number_of, unknown_of}
+pub use Rattle.charref.specs.Reading.{codepoint, codepoints, entities_of, entry_of, entry_of_characters, fields, is_character, IsRefusedWith, table_of, table_of_members}
+pub use Rattle.charref.specs.Reference.{digit_value, ends_in_semicolon, Entities, Entry, is_control, is_key, is_key_name, is_surrogate, IsReference, IsTable, longest, number_fault, numbered, Piece, replaced, replacements}
+pub use Rattle.charref.specs.Table.{AreMarked, best_entry, code_at, entries, GoesOn, HasNone, HasRead, is_inside, is_search_within, is_whole, IsAfterKey, IsIndex, IsOpenKey, IsOver, IsParted, IsRange, IsRising, IsSortedTable, IsStart, key_at}
+pub use Rattle.charref.specs.Walk.{HasTaken, is_next_within, LeavesLast, NextIs, StaysNumber, Takes}
+pub use Rattle.charref.specs.declared.walk.Walk.{Walk as WalkOf}
+pub use Rattle.names.specs.Placed.{all, is_alphanumeric, is_empty, is_space, placed}
+pub use Rattle.names.specs.declared.placed.Placed.{Placed}
+pub use Rattle.names.specs.declared.refusal.TableFault.{TableFault}
+pub use Rattle.serde_json.specs.Errors.{IsMemory}
+pub use Rattle.serde_json.specs.Find.{as_array, as_str, get}
+pub use Rattle.serde_json.specs.View.{items_view, members_view, view}
+pub use Rattle.std.specs.Char.{is_ascii}
+pub use Rattle.std.specs.Cmp.Lexicographic.{slice_cmp}
+pub use Rattle.std.specs.List.{All, list_all, starts_with}
+pub use Rattle.std.specs.List.Sorted.{IsStrictlySortedBy}
+pub use Rattle.std.specs.Map.{keys_of}
+pub use Rattle.std.specs.Ordering.{is_lt, nat_cmp}
+pub use Rattle.std.specs.String.{string_cmp}
