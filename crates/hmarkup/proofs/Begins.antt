@@ -1,5 +1,5 @@
 -- Each comment at the front of a text begins with what was read of it, and its errors begin with those reported.
-use Rattle.hmarkup.proofs.Names.{◌≡◌, ℕ, ◌≤◌, true, false, ◌&&◌, ◌||◌, eqb, List, [], ◌∷◌, ◌++◌, length, sym, refl, ap, ◌∙◌, subst, codes, arith, append_assoc, append-nil, map-append, false≢true, eqb-true, and_parts, or_left, or_right, encode_utf8, ParseError, AbruptClosingOfEmptyComment, EofInComment, IncorrectlyClosedComment, Placed, characters, place, spells, is_front, error, null_errors, without_null, CommentKind, Comment, Bogus, closes_comment, closes_at_once, closes_bogus, errors_here, errors_after, IsComment, closed_at_once, closed_with_bang, unclosed, IsBogus, closed_bogus, unclosed_bogus, Begins, BeginsSpans, IsOpen, IsOneSpan, Progress, IsInComment, IsInBogus, HasReadOf, IsSpan, backwards}
+use Rattle.hmarkup.proofs.Names.{◌≡◌, ℕ, ◌≤◌, true, false, eqb, List, [], ◌∷◌, ◌++◌, length, sym, refl, ap, ◌∙◌, codes, arith, append_assoc, append-nil, map-append, false≢true, eqb-true, and_parts, or_left, or_right, encode_utf8, ParseError, AbruptClosingOfEmptyComment, EofInComment, IncorrectlyClosedComment, Placed, characters, place, spells, is_front, error, null_errors, without_null, CommentKind, Comment, Bogus, closes_comment, closes_at_once, closes_bogus, errors_here, errors_after, IsComment, closed_at_once, closed_with_bang, unclosed, IsBogus, closed_bogus, unclosed_bogus, Begins, BeginsSpans, IsOpen, IsOneSpan, Progress, IsInComment, IsInBogus, HasReadOf, IsSpan, backwards}
 use Rattle.hmarkup.specs.Comment.{closed}
 use Rattle.hmarkup.proofs.Marks.{not_past, spells-characters, first_is, null_errors-append}
 use Rattle.hmarkup.proofs.Fronts.{IsFront, front_of, front_more}

@@ -1,7 +1,7 @@
 -- Classes of characters that exclude each other, and the errors of characters that are not NUL.
 use Rattle.std.proofs.lemmas.Bool.{cases_eq}
 use Rattle.std.proofs.Common.{inl, inr}
-use Rattle.hmarkup.proofs.Names.{◌≡◌, ℕ, ◌≤◌, ◌+◌, Bool, true, false, cond, nat_lt, ◌||◌, eqb, [], ◌∷◌, sym, refl, subst, arith, false≢true, eqb-true, nat_tests, to_ascii_lowercase, Placed, is_space, is_greater, is_quote, null_errors}
+use Rattle.hmarkup.proofs.Names.{◌≡◌, ℕ, ◌≤◌, true, false, eqb, [], ◌∷◌, sym, refl, subst, arith, eqb-true, nat_tests, to_ascii_lowercase, Placed, is_space, is_greater, is_quote, null_errors}
 
 -- what holds of both quotes
 pub quote_is : (c : ℕ) → is_quote c ≡ true → (P : ℕ → Type 0) → P 34 → P 39 → P c

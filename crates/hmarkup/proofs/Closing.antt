@@ -1,5 +1,5 @@
 -- What a walk has read, and the characters that close it.
-use Rattle.hmarkup.proofs.Names.{◌≡◌, ◌<◌, ℕ, arith, true, false, eqb, List, [], ◌∷◌, ◌++◌, sym, refl, ap, ◌∙◌, subst, codes, None, append_assoc, ParseError, Placed, characters, is_quote, CommentKind, Comment, Bogus, Letters, DoctypeState, Ending, Plain, Dash, Dashes, Bang, errors_here, IsComment, Progress, HasReadOf, IsInComment, IsSpan, is_whole, Found, IsDoctype, next_letter, step, Reading, Fits, HasReadDoctype, next, next_ending}
+use Rattle.hmarkup.proofs.Names.{◌≡◌, ◌<◌, ℕ, arith, true, false, eqb, List, [], ◌∷◌, ◌++◌, sym, refl, ap, ◌∙◌, subst, codes, None, append_assoc, ParseError, Placed, characters, is_quote, CommentKind, Comment, Bogus, Letters, DoctypeState, Ending, Plain, Dashes, errors_here, IsComment, Progress, HasReadOf, IsInComment, IsSpan, is_whole, Found, IsDoctype, next_letter, step, Reading, Fits, HasReadDoctype, next, next_ending}
 use Rattle.std.proofs.lemmas.Bool.{ne_eqb}
 use Rattle.hmarkup.specs.declared.doctype_state.DoctypeState.TheVariants as phase
 use Rattle.hmarkup.specs.CommentWalk.{closing_mark}

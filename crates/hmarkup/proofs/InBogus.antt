@@ -1,5 +1,5 @@
 -- A bogus comment that has not ended, and one more character or the end.
-use Rattle.hmarkup.proofs.Names.{arith, ◌≡◌, ℕ, Bool, true, false, not, ◌&&◌, ◌||◌, eqb, List, [], ◌∷◌, ◌++◌, sym, refl, ap, ◌∙◌, append-nil, false≢true, encode_utf8, ParseError, Placed, all, before, Avoids, null_errors, text_bytes, without_null, Bogus, errors_here, closes_bogus, IsBogus, closed_bogus, unclosed_bogus, Progress, begun, IsInBogus}
+use Rattle.hmarkup.proofs.Names.{arith, ◌≡◌, ℕ, Bool, true, false, not, ◌&&◌, ◌||◌, eqb, List, [], ◌∷◌, ◌++◌, sym, refl, ap, ◌∙◌, append-nil, encode_utf8, ParseError, Placed, all, before, Avoids, null_errors, text_bytes, without_null, Bogus, errors_here, closes_bogus, IsBogus, closed_bogus, unclosed_bogus, Progress, begun, IsInBogus}
 use Rattle.hmarkup.specs.Comment.{is_plain_in_bogus}
 use Rattle.hmarkup.proofs.Marks.{Avoids-more, Avoids-append, before-avoids, text_bytes-append, null_errors-append}
 

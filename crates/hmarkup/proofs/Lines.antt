@@ -1,14 +1,14 @@
 -- Lines of a text, and texts that are cut at a mark.
-use Rattle.hmarkup.proofs.Names.{nat_tests, ◌≡◌, ℕ, ◌+◌, ◌<◌, suc, Bool, false, ◌||◌, eqb, cond, List, [], ◌∷◌, ◌++◌, length, get_or, sym, refl, ap, ◌∙◌, subst, Option, Some, None, Ok, Err, append-nil, arith, false≢true, eqb-true, false_from_ne_true, or_parts, lines, AreQuirkLines}
+use Rattle.hmarkup.proofs.Names.{nat_tests, ◌≡◌, ℕ, ◌+◌, ◌<◌, suc, Bool, false, ◌||◌, eqb, cond, List, [], ◌∷◌, ◌++◌, length, get_or, sym, refl, ap, ◌∙◌, subst, Option, Some, None, Ok, Err, append-nil, arith, eqb-true, false_from_ne_true, or_parts, lines, AreQuirkLines}
 use Rattle.std.proofs.Common.{◌≢◌, Bor}
 use Rattle.std.specs.Prelude.{MatchOption}
 use Rattle.std.specs.List.{list_any}
+use Rattle.std.specs.Option.{unwrap_or}
 use Rattle.std.proofs.lemmas.Str.Pattern.{IsSplitOnceResult, split_parts}
 use Rattle.hmarkup.specs.declared.quirks.QuirkKind.{QuirkKind}
-use Rattle.hmarkup.specs.declared.quirks.QuirkKind.TheVariants.{PublicIs, PublicBegins, SystemIs, PublicBeginsWithoutSystem}
+use Rattle.hmarkup.specs.declared.quirks.QuirkKind.TheVariants.{PublicIs}
 use Rattle.names.specs.declared.refusal.Refusal.TheVariants.{BadQuirks}
 use Rattle.hmarkup.specs.Quirks.{QuirkLine, quirk_word, IsQuirkLine, IsNoQuirkLine, in_line, ReadsQuirks, bad_line, read_all, IsWordless, Lacks, HasParts}
-use Rattle.hmarkup.proofs.Marks.{eqb_self}
 
 -- a text without a mark
 pub lacks_of : (c : ℕ) (bs : List ℕ) → ((i : ℕ) → i < length bs → get_or bs i 0 ≢ c) → Lacks c bs
@@ -32,15 +32,17 @@ line_before (c ∷ cs) after h =
     let k = or_parts (eqb c 10) (list_any (λ d. eqb d 10) cs) h in
     ap (λ (b : Bool). cond b ([] ∷ lines (cs ++ 10 ∷ after)) (in_line c (lines (cs ++ 10 ∷ after)))) k.0 ∙ ap (in_line c) (line_before cs after k.1)
 
-pub first_of : (text line after : List ℕ) → HasParts 10 text line after → lines text ≡ line ∷ lines after
-first_of text line after h = ap lines h.text_is ∙ line_before line after h.lacks
-
-pub last_of : (text : List ℕ) → Lacks 10 text → 0 < length text → lines text ≡ text ∷ []
+last_of : (text : List ℕ) → Lacks 10 text → 0 < length text → lines text ≡ text ∷ []
 last_of [] h l = absurd (omega (arith, l))
 last_of (c ∷ []) h l = let k = or_parts (eqb c 10) false h in ap (λ (b : Bool). cond b ([] ∷ []) ((c ∷ []) ∷ [])) k.0
 last_of (c ∷ d ∷ cs) h l =
     let k = or_parts (eqb c 10) (list_any (λ d. eqb d 10) (d ∷ cs)) h in
     ap (λ (b : Bool). cond b ([] ∷ lines (d ∷ cs)) (in_line c (lines (d ∷ cs)))) k.0 ∙ ap (in_line c) (last_of (d ∷ cs) k.1 (omega arith))
+
+pub first_of : (text : List ℕ) (r : Option (Bor (List ℕ) × Bor (List ℕ))) (whole : Bor (List ℕ) × Bor (List ℕ)) → MatchOption r (Lacks 10 text) (λ x. HasParts 10 text x.0.now x.1.now) → 0 < length text → whole.0.now ≡ text → whole.1.now ≡ []
+    → lines text ≡ (unwrap_or r whole).0.now ∷ lines (unwrap_or r whole).1.now
+first_of text (Some x) whole h l is none = ap lines h.text_is ∙ line_before x.0.now x.1.now h.lacks
+first_of text None whole h l is none = rw (is, none) (last_of text h l)
 
 -- a text is cut at its first mark in one way
 one_cut : (c : ℕ) (xs ys zs ws : List ℕ) → Lacks c xs → Lacks c zs → xs ++ c ∷ ys ≡ zs ++ c ∷ ws → (xs ≡ zs) × (ys ≡ ws)

@@ -1,5 +1,5 @@
 -- Words on texts: marks that a text avoids, and texts that grow.
-use Rattle.hmarkup.proofs.Names.{◌≡◌, ℕ, ◌≤◌, Bool, true, false, cond, ◌&&◌, eqb, List, [], ◌∷◌, ◌++◌, length, map, sym, refl, ap, ◌∙◌, subst, append_assoc, arith, length-append, false≢true, and_from, and_parts, nat_tests, map-append, encodes-append, encode_utf8_all, UnexpectedNullCharacter, Placed, characters, spells, is_front, before, Avoids, error, null_errors, text_bytes, without_null}
+use Rattle.hmarkup.proofs.Names.{◌≡◌, ℕ, ◌≤◌, Bool, true, false, cond, eqb, List, [], ◌∷◌, ◌++◌, length, map, sym, refl, ap, ◌∙◌, subst, append_assoc, arith, length-append, false≢true, and_from, and_parts, nat_tests, map-append, encodes-append, encode_utf8_all, UnexpectedNullCharacter, Placed, characters, spells, is_front, before, Avoids, error, null_errors, text_bytes, without_null}
 use Rattle.std.proofs.lemmas.Grind.{flat_map-append}
 -- lemmas of the crates below, under the names by which the crates above cite them
 pub use Rattle.std.proofs.lemmas.Bool.{and_parts, and_from as and_both, and_right as and_no, or_parts as neither, or_from as or_none, or_left, or_right}
@@ -15,12 +15,9 @@ before-here mark [] h = refl
 before-here mark (x ∷ xs) h = ap (λ (b : Bool). cond b [] (x ∷ before mark xs)) h
 
 -- which is no longer than what is before one place of the mark
-shorter : (b : Bool) (x : Placed) (front xs : List Placed) → length front ≤ length xs → length (cond b [] (x ∷ front)) ≤ length (x ∷ xs)
-shorter b x front xs h = grind (arith, nat_tests)
-
 pub before-short : (mark : List Placed → Bool) (xs ys : List Placed) → mark ys ≡ true → length (before mark (xs ++ ys)) ≤ length xs
 before-short mark [] ys h = omega (arith, ap length (before-here mark ys h))
-before-short mark (x ∷ xs) ys h = shorter (mark (x ∷ xs ++ ys)) x (before mark (xs ++ ys)) xs (before-short mark xs ys h)
+before-short mark (x ∷ xs) ys h = grind (arith, nat_tests, before-short mark xs ys)
 
 pub Avoids-append : (mark : List Placed → Bool) (xs ys after : List Placed) → Avoids mark xs (ys ++ after) → Avoids mark ys after → Avoids mark (xs ++ ys) after
 Avoids-append mark [] ys after h k = k
@@ -50,36 +47,24 @@ avoids-before mark (x ∷ xs) after h =
 pub front-less : (xs : List Placed) (p : Placed) (m : List ℕ) → is_front (xs ++ p ∷ []) m ≡ true → is_front xs m ≡ true
 front-less [] p m h = refl
 front-less (x ∷ xs) p [] h = h
-front-less (x ∷ xs) p (c ∷ cs) h =
-    let k = and_parts (eqb x.ch c) (is_front (xs ++ p ∷ []) cs) h in
-    and_from (eqb x.ch c) (is_front xs cs) k.0 (front-less xs p cs k.1)
+front-less (x ∷ xs) p (c ∷ cs) h = grind (arith, nat_tests, front-less xs p cs)
 
 pub front-longer : (xs : List Placed) (m n : List ℕ) → is_front xs m ≡ true → is_front xs (m ++ n) ≡ true
 front-longer [] m n h = refl
 front-longer (x ∷ xs) [] n h = absurd (false≢true h)
-front-longer (x ∷ xs) (c ∷ cs) n h =
-    let k = and_parts (eqb x.ch c) (is_front xs cs) h in
-    and_from (eqb x.ch c) (is_front xs (cs ++ n)) k.0 (front-longer xs cs n k.1)
-
-under : (b f s t : Bool) → (f ≡ false → s ≡ false → t ≡ false) → (b && f) ≡ false → (b && s) ≡ false → (b && t) ≡ false
-under b f s t go h k = grind (arith, go)
+front-longer (x ∷ xs) (c ∷ cs) n h = grind (arith, nat_tests, front-longer xs cs n)
 
 -- A mark of one more character is avoided by a longer text too, unless the text is a beginning of it.
 pub spells-more : (m : List ℕ) (k : ℕ) (xs : List Placed) (p : Placed) → is_front xs m ≡ false → spells (m ++ k ∷ []) xs ≡ false → spells (m ++ k ∷ []) (xs ++ p ∷ []) ≡ false
 spells-more m k [] p f h = absurd (false≢true (sym f))
 spells-more [] k (x ∷ xs) p f h = h
-spells-more (c ∷ cs) k (x ∷ xs) p f h =
-    under (eqb x.ch c) (is_front xs cs) (spells (cs ++ k ∷ []) xs) (spells (cs ++ k ∷ []) (xs ++ p ∷ [])) (spells-more cs k xs p) f h
+spells-more (c ∷ cs) k (x ∷ xs) p f h = grind (arith, nat_tests, spells-more cs k xs p)
 
 -- a mark that is not at the front of a long text is not there when more follows
-over : (b s t : Bool) → (s ≡ false → t ≡ false) → (b && s) ≡ false → (b && t) ≡ false
-over true s t go h = go h
-over false s t go h = refl
-
 pub spells-long : (m : List ℕ) (xs ys : List Placed) → length m ≤ length xs → spells m xs ≡ false → spells m (xs ++ ys) ≡ false
 spells-long [] xs ys l h = absurd (false≢true (sym h))
 spells-long (c ∷ cs) [] ys l h = absurd (omega (arith, l))
-spells-long (c ∷ cs) (x ∷ xs) ys l h = over (eqb x.ch c) (spells cs xs) (spells cs (xs ++ ys)) (spells-long cs xs ys (omega (arith, l))) h
+spells-long (c ∷ cs) (x ∷ xs) ys l h = grind (arith, nat_tests, spells-long cs xs ys)
 
 -- a text spells its own characters
 pub eqb_self : (n : ℕ) → eqb n n ≡ true

@@ -1,5 +1,5 @@
 -- Each character of a doctype, and its end, in each phase.
-use Rattle.hmarkup.proofs.Names.{if◌then◌else◌, is_greater, length-append, is_space, Step, length, ◌≡◌, ◌<◌, ℕ, arith, eqb, Bool, true, false, List, [], ◌∷◌, ◌++◌, sym, refl, ap, ◌∙◌, subst, Option, Some, None, is_some, to_ascii_lowercase, false≢true, ParseError, EofInDoctype, InvalidCharacterSequenceAfterDoctypeName, Placed, spells_in_any_case, is_quote, error, null_errors, text_bytes, name_bytes, Identifier, Public, System, Letters, DoctypeState, Found, IsEnd, cut_off, force, named, IsInside, quoted, abrupt, AfterSystemIdentifier, system_ends, system_skips, AfterPublicIdentifier, public_ends, public_skips, second, Follows, AfterKeyword, identifier, missing, keyword_skips, keyword_cut_off, AfterName, name_ends, name_skips, names_identifier, FollowsName, AfterOpening, begins_name, nameless, unfinished, first_letter, before_name, in_name, begins_keyword, after_name, goes_on_with, in_keyword, after_keyword, follows, in_quotes, after_public, after_system, in_skipped, step, step_errors, found_by, fault_errors, end_fault, found_at_end, letters_after, GoesOn, Fits, identifier_of, IsInKeyword, whole, fails}
+use Rattle.hmarkup.proofs.Names.{if◌then◌else◌, is_greater, length-append, is_space, Step, length, ◌≡◌, ◌<◌, ℕ, arith, eqb, Bool, true, false, List, [], ◌∷◌, ◌++◌, sym, refl, ap, ◌∙◌, subst, Option, Some, None, is_some, to_ascii_lowercase, false≢true, ParseError, EofInDoctype, InvalidCharacterSequenceAfterDoctypeName, Placed, spells_in_any_case, is_quote, error, null_errors, text_bytes, name_bytes, Identifier, Public, System, Letters, DoctypeState, Found, IsEnd, cut_off, force, named, IsInside, quoted, abrupt, AfterSystemIdentifier, system_ends, system_skips, AfterPublicIdentifier, public_ends, public_skips, second, Follows, AfterKeyword, identifier, missing, keyword_skips, keyword_cut_off, AfterName, name_ends, name_skips, names_identifier, FollowsName, AfterOpening, begins_name, nameless, unfinished, first_letter, begins_keyword, goes_on_with, follows, step, step_errors, found_by, fault_errors, end_fault, found_at_end, letters_after, GoesOn, Fits, identifier_of, IsInKeyword, whole, fails}
 use Rattle.hmarkup.specs.declared.doctype_state.DoctypeState.TheVariants as phase
 use Rattle.std.proofs.lemmas.List.{length-map}
 use Rattle.hmarkup.specs.Doctype.{unclosed}

@@ -1,5 +1,5 @@
 -- Every text begins with a comment, with a bogus comment and with a doctype.
-use Rattle.hmarkup.proofs.Names.{◌≡◌, ℕ, Bool, true, false, eqb, List, [], ◌∷◌, ◌++◌, length, sym, refl, ap, ◌∙◌, Option, Some, None, append_assoc, eqb-true, false≢true, encode_utf8, ParseError, Placed, without_null, CommentKind, Comment, Bogus, DoctypeState, Ending, Plain, Dash, Dashes, Bang, IsDoctype, step, found_by, Reading, HasReadDoctype, Progress, begun, IsInComment, IsInBogus, IsSpan, is_whole}
+use Rattle.hmarkup.proofs.Names.{◌≡◌, ℕ, Bool, true, false, eqb, List, [], ◌∷◌, ◌++◌, length, sym, refl, ap, ◌∙◌, Option, Some, None, append_assoc, eqb-true, false≢true, encode_utf8, ParseError, Placed, without_null, CommentKind, Comment, Bogus, DoctypeState, Ending, Dashes, Bang, IsDoctype, step, found_by, Reading, HasReadDoctype, Progress, begun, IsInComment, IsInBogus, IsSpan, is_whole}
 use Rattle.hmarkup.specs.Walk.{HasSpan}
 use Rattle.hmarkup.proofs.Moving.{closes}
 use Rattle.hmarkup.proofs.Walking.{comment_begins, kept_other, kept_past, closed_now, bang_closed_now, empty_now, unclosed_at}

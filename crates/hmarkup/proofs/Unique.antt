@@ -1,9 +1,10 @@
 -- A text begins with at most one comment.
-use Rattle.hmarkup.proofs.Names.{nat_tests, ◌≡◌, ℕ, ◌≤◌, ◌+◌, Bool, true, false, ◌&&◌, eqb, List, [], ◌∷◌, ◌++◌, length, sym, refl, ap, ◌∙◌, subst, codes, arith, length-append, append_assoc, append-nil, if◌then◌else◌, drop, false≢true, eqb-true, and_parts, and_right, or_from, or_left, or_parts, or_right, drop_at, drop_all, map-append, ParseError, AbruptClosingOfEmptyComment, EofInComment, IncorrectlyClosedComment, Placed, characters, place, spells, is_front, before, Avoids, error, text_bytes, closes_comment, closes_at_once, is_ending, errors_after, IsComment, closed_at_once, closed_with_bang, unclosed, IsOneSpan}
+use Rattle.hmarkup.proofs.Names.{nat_tests, ◌≡◌, ℕ, ◌≤◌, ◌+◌, Bool, true, false, eqb, List, [], ◌∷◌, ◌++◌, length, sym, refl, ap, ◌∙◌, subst, codes, arith, length-append, append_assoc, append-nil, if◌then◌else◌, drop, false≢true, eqb-true, and_parts, or_from, or_left, or_parts, or_right, drop_at, drop_all, map-append, ParseError, AbruptClosingOfEmptyComment, EofInComment, IncorrectlyClosedComment, Placed, characters, place, spells, is_front, before, Avoids, error, text_bytes, closes_comment, closes_at_once, is_ending, errors_after, IsComment, closed_at_once, closed_with_bang, unclosed, IsOneSpan}
 use Rattle.std.proofs.lemmas.List.{length-map}
 use Rattle.hmarkup.specs.Comment.{closed}
 use Rattle.hmarkup.proofs.Marks.{before-avoids, before-here, avoids-before, spells-long, spells-characters, first_is}
 use Rattle.hmarkup.proofs.Fronts.{same_front}
+use Rattle.hmarkup.proofs.Walking.{once-long}
 
 -- What a text determines of the comment at its front: its length, its data, and the error of its end.
 pub record Told : Type 0 where
@@ -51,10 +52,6 @@ Avoids-long (q ∷ qs) close rest l h = (
       (closes-long (q ∷ qs ++ close) rest (omega (arith, l, length-append qs close)) h.0),
   Avoids-long qs close rest l h.1,
 )
-
-once-long : (xs ys : List Placed) → 2 ≤ length xs → closes_at_once xs ≡ false → closes_at_once (xs ++ ys) ≡ false
-once-long (x ∷ y ∷ xs) ys l h = h
-once-long _ ys l h = absurd (omega (arith, l))
 
 -- `--!>` is no `-->`
 no_arrow : (xs rest : List Placed) → characters xs ≡ codes "--!>" → spells (codes "-->") (xs ++ rest) ≡ false

@@ -1,11 +1,10 @@
 -- A comment that has not ended, and one more character or the end.
-use Rattle.hmarkup.proofs.Names.{◌≡◌, ℕ, ◌≤◌, Bool, true, false, ◌&&◌, eqb, List, [], ◌∷◌, ◌++◌, map, length, sym, refl, ap, ◌∙◌, subst, append_assoc, append-nil, codes, arith, length-append, false≢true, eqb-true, and_right, or_from, or_parts, ParseError, AbruptClosingOfEmptyComment, EofInComment, IncorrectlyClosedComment, Placed, characters, error, before, Avoids, text_bytes, without_null, Comment, Dashes, Bang, closes_comment, closes_at_once, is_ending, errors_here, errors_after, IsComment, closed_at_once, closed_with_bang, unclosed, Progress, begun, holds_nothing, IsInComment, backwards, is_whole, next, decided}
+use Rattle.hmarkup.proofs.Names.{nat_tests, ◌≡◌, ℕ, ◌≤◌, Bool, true, false, eqb, List, [], ◌∷◌, ◌++◌, map, length, sym, refl, ap, ◌∙◌, subst, append_assoc, append-nil, codes, arith, length-append, false≢true, ParseError, AbruptClosingOfEmptyComment, EofInComment, IncorrectlyClosedComment, Placed, characters, error, before, Avoids, text_bytes, without_null, Comment, Dashes, Bang, closes_comment, closes_at_once, is_ending, errors_here, errors_after, IsComment, closed_at_once, closed_with_bang, unclosed, Progress, begun, holds_nothing, IsInComment, backwards, is_whole, next, decided}
 use Rattle.std.proofs.lemmas.Str.{length-le-encodes}
 use Rattle.hmarkup.specs.declared.tail.Opening.{Opening}
-use Rattle.hmarkup.specs.declared.tail.Opening.TheVariants.{Outside, Less, LessBang, LessBangDash, Whole}
 use Rattle.hmarkup.specs.Comment.{ends_with_opening, closed}
 use Rattle.hmarkup.specs.CommentWalk.{IsOpening}
-use Rattle.hmarkup.specs.Steps.{next_opening, opening_by_dash, opening_by_bang}
+use Rattle.hmarkup.specs.Steps.{next_opening}
 use Rattle.hmarkup.proofs.Marks.{Avoids-more, Avoids-append, before-avoids, text_bytes-append}
 use Rattle.hmarkup.proofs.Moving.{moves, closes, closes-more, ending-more, dashes_close, bang_closes, dash_held, held_at_end, held_long}
 
@@ -26,28 +25,13 @@ comment_begins = record {
 }
 
 -- how much of an inner `<!--` was read
-opening_dash : (o : Opening) (at : ℕ) (seen : List Placed) → IsOpening o seen → IsOpening (opening_by_dash o) (record { ch = 45; at = at } ∷ seen)
-opening_dash Outside at seen h = record { less = refl; less_bang = refl; less_bang_dash = h.less_bang; whole = h.less_bang_dash }
-opening_dash _ at seen h = record { less = refl; less_bang = refl; less_bang_dash = h.less_bang; whole = h.less_bang_dash }
-
-opening_bang : (o : Opening) (at : ℕ) (seen : List Placed) → IsOpening o seen → IsOpening (opening_by_bang o) (record { ch = 33; at = at } ∷ seen)
-opening_bang Outside at seen h = record { less = refl; less_bang = h.less; less_bang_dash = refl; whole = refl }
-opening_bang _ at seen h = record { less = refl; less_bang = h.less; less_bang_dash = refl; whole = refl }
-
-opening_on_tests : (o : Opening) (seen : List Placed) (ch at : ℕ) → IsOpening o seen → (dash bang less : Bool) → eqb ch 45 ≡ dash → eqb ch 33 ≡ bang → eqb ch 60 ≡ less
-    → IsOpening (next_opening o ch) (record { ch = ch; at = at } ∷ seen)
-opening_on_tests o seen ch at h true bang less e f g = subst (λ (c : ℕ). IsOpening (next_opening o c) (record { ch = c; at = at } ∷ seen)) (sym (eqb-true ch 45 e)) (opening_dash o at seen h)
-opening_on_tests o seen ch at h false true less e f g = subst (λ (c : ℕ). IsOpening (next_opening o c) (record { ch = c; at = at } ∷ seen)) (sym (eqb-true ch 33 f)) (opening_bang o at seen h)
-opening_on_tests o seen ch at h false false true e f g = subst (λ (c : ℕ). IsOpening (next_opening o c) (record { ch = c; at = at } ∷ seen)) (sym (eqb-true ch 60 g)) (record { less = refl; less_bang = refl; less_bang_dash = refl; whole = refl })
-opening_on_tests o seen ch at h false false false e f g = record {
-  less = simp (e, f, g);
-  less_bang = simp (e, f, g);
-  less_bang_dash = simp (e, f, g);
-  whole = simp (e, f, g);
-}
-
 pub opening-next : (o : Opening) (seen : List Placed) (ch at : ℕ) → IsOpening o seen → IsOpening (next_opening o ch) (record { ch = ch; at = at } ∷ seen)
-opening-next o seen ch at h = opening_on_tests o seen ch at h (eqb ch 45) (eqb ch 33) (eqb ch 60) refl refl refl
+opening-next o seen ch at h = record {
+  less = grind (arith, nat_tests);
+  less_bang = grind (arith, nat_tests, h.less);
+  less_bang_dash = grind (arith, nat_tests, h.less_bang);
+  whole = grind (arith, nat_tests, h.less_bang_dash);
+}
 
 -- one character more, backwards; more text, in the errors
 pub backwards-snoc : (seen xs : List Placed) (p : Placed) → backwards seen (xs ++ p ∷ []) ≡ p ∷ backwards seen xs
@@ -69,22 +53,18 @@ none_of [] h = refl
 none_of (x ∷ xs) h = absurd (omega (arith, h))
 
 -- one character more closes no comment at its start
-not_first : (a b : Bool) → (a && true) ≡ false → (a && b) ≡ false
-not_first true b h = absurd (false≢true (sym h))
-not_first false b h = refl
-
-once-long : (text : List Placed) (p : Placed) → 2 ≤ length text → closes_at_once text ≡ false → closes_at_once (text ++ p ∷ []) ≡ false
-once-long (q ∷ r ∷ more) p l h = h
-once-long _ p l h = absurd (omega (arith, l))
+pub once-long : (xs ys : List Placed) → 2 ≤ length xs → closes_at_once xs ≡ false → closes_at_once (xs ++ ys) ≡ false
+once-long (x ∷ y ∷ xs) ys l h = h
+once-long _ ys l h = absurd (omega (arith, l))
 
 once-other : (text : List Placed) (p : Placed) → eqb p.ch 62 ≡ false → closes_at_once text ≡ false → closes_at_once (text ++ p ∷ []) ≡ false
-once-other [] p e h = or_from (eqb p.ch 62 && true) (eqb p.ch 45 && false) (ap (λ (b : Bool). b && true) e) (and_right (eqb p.ch 45) false refl)
-once-other (q ∷ []) p e h = or_from (eqb q.ch 62 && true) (eqb q.ch 45 && (eqb p.ch 62 && true)) (or_parts (eqb q.ch 62 && true) (eqb q.ch 45 && false) h).0 (and_right (eqb q.ch 45) (eqb p.ch 62 && true) (ap (λ (b : Bool). b && true) e))
+once-other [] p e h = grind (arith, nat_tests)
+once-other (q ∷ []) p e h = grind (arith, nat_tests)
 once-other (q ∷ r ∷ more) p e h = h
 
 once-past : (inner held : List Placed) (p : Placed) → (length inner ≡ 0 → ⊥) → Avoids is_ending inner held → closes_at_once (inner ++ held) ≡ false → closes_at_once ((inner ++ held) ++ p ∷ []) ≡ false
 once-past [] held p some k h = absurd (some refl)
-once-past (q ∷ []) [] p some k h = or_from (eqb q.ch 62 && true) (eqb q.ch 45 && (eqb p.ch 62 && true)) (or_parts (eqb q.ch 62 && true) (eqb q.ch 45 && false) h).0 (not_first (eqb q.ch 45) (eqb p.ch 62 && true) k.0)
+once-past (q ∷ []) [] p some k h = grind (arith, nat_tests, k.0)
 once-past _ _ p some k h = h
 
 module _ (w : Progress) (text : List Placed) (errs : List ParseError) (ch at : ℕ) (nested : Bool) (nested_is : nested ≡ is_whole w.opening) (h : IsInComment w text errs) where
@@ -136,7 +116,7 @@ module _ (w : Progress) (text : List Placed) (errs : List ParseError) (ch at : �
       ∙ ap (λ (x : List Placed). h.inner ++ x) e ∙ append-nil h.inner)
 
   starts_not : closes w.ending ≡ true → closes_at_once now ≡ false
-  starts_not e = once-long text p
+  starts_not e = once-long text (p ∷ [])
       (let k = held_long w.ending h.held h.is_held e in omega (arith, k, ap length h.text_is, length-append h.inner h.held)) h.not_at_once
 
   -- it is closed by `-->`

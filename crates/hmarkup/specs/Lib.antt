@@ -8,3 +8,4 @@ pub mod DoctypeSteps
 pub mod DoctypeWalk
 pub mod Quirks
 pub mod QuirksRows
+pub mod Vocabulary

@@ -4,16 +4,9 @@ ghost use Rattle.std.specs.Prelude.{◌≡◌, ◌++◌, ℕ, List, [], true, If
 ghost use Rattle.std.specs.Char.{encode_utf8};
 ghost use Rattle.std.specs.List.{list_all};
 ghost use Rattle.std.specs.Str.{chars};
-ghost use Rattle.names.specs.declared.error.ParseError.{ParseError as Error};
-ghost use Rattle.names.specs.declared.placed.Placed.{Placed};
-ghost use Rattle.names.specs.Placed.{all, characters, placed, error, without_null};
-ghost use Rattle.names.specs.Sink.{Hands};
-ghost use Rattle.hmarkup.specs.declared.comment.CommentKind.{CommentKind as Kind};
-ghost use Rattle.hmarkup.specs.declared.comment.CommentKind.TheVariants.{Comment, Bogus};
-ghost use Rattle.hmarkup.specs.Comment.{errors_here, is_only_data, is_plain_in_bogus};
-ghost use Rattle.hmarkup.specs.Walk.{BeginsSpans, IsOpen, ClosedBy, HasSpan, IsOneSpan, Takes, TakesRun, Ends};
-ghost use Rattle.hmarkup.specs.CommentWalk.{Progress, begun, HasReadOf, IsInComment, IsInBogus, IsSpan, closing_mark};
-ghost use Rattle.hmarkup.specs.Steps.{next, next_run};
+ghost use Rattle.hmarkup.specs.Vocabulary.{Error, Placed, all, characters, placed, Hands, Kind, Comment, Bogus, errors_here, is_only_data, is_plain_in_bogus, BeginsSpans};
+ghost use Rattle.hmarkup.specs.Vocabulary.{IsOpen, ClosedBy, HasSpan, IsOneSpan, Takes, TakesRun, Ends, Progress, begun, HasReadOf, IsInComment, IsInBogus, IsSpan};
+ghost use Rattle.hmarkup.specs.Vocabulary.{closing_mark, next, next_run};
 
 use crate::sink::ErrorSink;
 use crate::tail::{Ending, Opening};
@@ -57,10 +50,7 @@ fn report<S: ErrorSink>(nested: bool, ch: char, at: u64, errors: &mut S) -> Resu
     if nested && ch != '>' {
         tell(ErrorCode::NestedComment, at, errors)?;
     }
-    if ch == '\0' {
-        return tell(ErrorCode::UnexpectedNullCharacter, at, errors);
-    }
-    Ok(())
+    tell_if(ch == '\0', ErrorCode::UnexpectedNullCharacter, at, errors)
 }
 
 impl CommentWalk {
@@ -126,14 +116,12 @@ impl CommentWalk {
         ensures { (text : List Placed) (raised : List Error) → IsInBogus self.old text raised
             → Takes S.gives IsInBogus (IsSpan Bogus) text raised (record { ch = ch; at = at }) errors.old result self.new self.new.data errors.new }
     {
-        match ch {
-            '>' => Ok(true),
-            _ => {
-                report(false, ch, at, errors)?;
-                push(&mut self.text, ch)?;
-                Ok(false)
-            }
+        if ch == '>' {
+            return Ok(true);
         }
+        report(false, ch, at, errors)?;
+        push(&mut self.text, ch)?;
+        Ok(false)
     }
 
     /// Reads a character in the comment start state, the comment state, or one of those around a closing mark or an inner `<!--`.

@@ -2,19 +2,13 @@
 
 ghost use Rattle.std.specs.Prelude.{◌≡◌, ◌++◌, ◌∷◌, ℕ, [], List, Option, Some, OnOk, codes};
 ghost use Rattle.std.specs.Char.{encode_utf8};
-ghost use Rattle.names.specs.declared.error.ParseError.{ParseError as Error};
-ghost use Rattle.names.specs.declared.placed.Placed.{Placed};
-ghost use Rattle.names.specs.Placed.{characters, null_errors, without_null};
-ghost use Rattle.names.specs.Sink.{Hands};
-ghost use Rattle.hmarkup.specs.Doctype.{IsDoctype, force, longer};
-ghost use Rattle.hmarkup.specs.DoctypeSteps.{fault_errors, kept, found_by};
-ghost use Rattle.hmarkup.specs.DoctypeWalk.{Reading, HasReadDoctype, text_of};
-ghost use Rattle.hmarkup.specs.Walk.{BeginsSpans, IsOpen, ClosedBy, HasSpan, IsOneSpan, Takes, Ends};
+ghost use Rattle.hmarkup.specs.Vocabulary.{Error, Placed, characters, null_errors, without_null, Hands, IsDoctype, force, longer, fault_errors, found_by, Reading};
+ghost use Rattle.hmarkup.specs.Vocabulary.{HasReadDoctype, text_of, BeginsSpans, IsOpen, ClosedBy, HasSpan, IsOneSpan, Takes, Ends};
 
 use crate::doctype_state::{DoctypeState, Keeps, Step};
 use crate::keyword::Identifier;
 use crate::sink::ErrorSink;
-use crate::taking::{push, tell};
+use crate::taking::{push, tell_if};
 use names::{ErrorCode, ParseError, Refusal};
 use std::alloc::{AllocError, Global};
 use std::marker::Model;
@@ -67,34 +61,22 @@ fn report<S: ErrorSink>(
     if let Some(fault) = fault {
         errors.take_error(fault)?;
     }
-    if ch == '\0' {
-        return tell(ErrorCode::UnexpectedNullCharacter, at, errors);
-    }
-    Ok(())
+    tell_if(ch == '\0', ErrorCode::UnexpectedNullCharacter, at, errors)
 }
 
 /// Appends a character, with U+FFFD in place of NUL; a missing text begins with it.
 fn add(part: &mut Option<String>, ch: char, alloc: Global) -> Result<(), AllocError>
     ensures { OnOk result (text_of part.new ≡ Some (longer (text_of part.old) (encode_utf8 (without_null ch)))) }
 {
-    match part {
-        Some(text) => push(text, ch),
-        None => {
-            let mut text = String::new(alloc);
-            push(&mut text, ch)?;
-            *part = Some(text);
-            Ok(())
-        }
-    }
+    push(part.get_or_insert(String::new(alloc)), ch)
 }
 
 /// Makes a missing text empty.
-fn begin(part: &mut Option<String>, alloc: Global)
-    ensures { text_of part.new ≡ Some (longer (text_of part.old) []) }
+fn begin(part: &mut Option<String>, alloc: Global) -> Result<(), AllocError>
+    ensures { OnOk result (text_of part.new ≡ Some (longer (text_of part.old) [])) }
 {
-    if part.is_none() {
-        *part = Some(String::new(alloc));
-    }
+    part.get_or_insert(String::new(alloc));
+    Ok(())
 }
 
 impl Doctype {
@@ -105,35 +87,19 @@ impl Doctype {
         self.forced = true;
     }
 
-    /// Keeps the part of a character that a step names.
-    fn keep(&mut self, keeps: Keeps, ch: char, alloc: Global) -> Result<(), AllocError>
-        ensures { (at : ℕ) → OnOk result (self.new ≡ kept keeps (record { ch = ch; at = at }) self.old) }
-    {
-        match keeps {
-            Keeps::Nothing => Ok(()),
-            Keeps::Name => add(&mut self.name, ch.to_ascii_lowercase(), alloc),
-            Keeps::Quote(Identifier::Public) => {
-                begin(&mut self.public_id, alloc);
-                Ok(())
-            }
-            Keeps::Quote(Identifier::System) => {
-                begin(&mut self.system_id, alloc);
-                Ok(())
-            }
-            Keeps::Inside(Identifier::Public) => add(&mut self.public_id, ch, alloc),
-            Keeps::Inside(Identifier::System) => add(&mut self.system_id, ch, alloc),
-        }
-    }
-
     /// Keeps a step's character, and forces quirks mode if the step does.
     fn take(&mut self, step: Step, ch: char, alloc: Global) -> Result<(), AllocError>
         ensures { (at : ℕ) → OnOk result (self.new ≡ found_by step (record { ch = ch; at = at }) self.old) }
     {
-        self.keep(step.keeps, ch, alloc)?;
-        if step.forces {
-            self.force();
+        self.forced = self.forced || step.forces;
+        match step.keeps {
+            Keeps::Nothing => Ok(()),
+            Keeps::Name => add(&mut self.name, ch.to_ascii_lowercase(), alloc),
+            Keeps::Quote(Identifier::Public) => begin(&mut self.public_id, alloc),
+            Keeps::Quote(Identifier::System) => begin(&mut self.system_id, alloc),
+            Keeps::Inside(Identifier::Public) => add(&mut self.public_id, ch, alloc),
+            Keeps::Inside(Identifier::System) => add(&mut self.system_id, ch, alloc),
         }
-        Ok(())
     }
 }
 
@@ -169,13 +135,11 @@ impl DoctypeWalk {
         report(step.fault, ch, at, errors)?;
         let alloc = self.alloc;
         self.found.take(step, ch, alloc)?;
-        match step.next {
-            Some(phase) => {
-                self.phase = phase;
-                Ok(false)
-            }
-            None => Ok(true),
-        }
+        let Some(phase) = step.next else {
+            return Ok(true);
+        };
+        self.phase = phase;
+        Ok(false)
     }
 
     /// Tells the walk that the input ends here, at byte offset `end`. An error is the sink's refusal.
@@ -183,13 +147,11 @@ impl DoctypeWalk {
         ensures { (text : List Placed) (raised : List Error) → HasReadDoctype self.old text raised
             → Ends S.gives IsDoctype text raised end self.new.found errors.old result errors.new }
     {
-        match self.phase.end_fault(end) {
-            Some(fault) => {
-                self.found.force();
-                errors.take_error(fault)
-            }
-            None => Ok(()),
-        }
+        let Some(fault) = self.phase.end_fault(end) else {
+            return Ok(());
+        };
+        self.found.force();
+        errors.take_error(fault)
     }
 
     /// The contents of the doctype, once it has ended.

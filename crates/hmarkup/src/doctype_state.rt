@@ -2,9 +2,8 @@
 
 ghost use Rattle.std.specs.Prelude.{◌≡◌, ◌==◌};
 ghost use Rattle.std.specs.Char.{to_ascii_lowercase};
-ghost use Rattle.names.specs.Placed.{is_space, is_greater, is_quote};
-ghost use Rattle.hmarkup.specs.DoctypeSteps.{goes_to, ends, faulty, refuses, skips, step, before_name, in_name, after_name, in_keyword, after_keyword};
-ghost use Rattle.hmarkup.specs.DoctypeSteps.{in_quotes, after_public, after_system, in_skipped, first_letter, next_letter, end_fault};
+ghost use Rattle.hmarkup.specs.Vocabulary.{is_space, is_greater, is_quote, goes_to, ends, faulty, refuses, skips, step, before_name, in_name, after_name};
+ghost use Rattle.hmarkup.specs.Vocabulary.{in_keyword, after_keyword, in_quotes, after_public, after_system, first_letter, next_letter, end_fault};
 
 use crate::keyword::{Identifier, Letters};
 use names::{ErrorCode, ParseError};
@@ -67,10 +66,8 @@ impl Step {
         ensures { result ≡ goes_to next }
     {
         Step {
-            fault: None,
-            keeps: Keeps::Nothing,
-            forces: false,
             next: Some(next),
+            ..Step::end()
         }
     }
 
@@ -138,7 +135,8 @@ impl DoctypeState {
             DoctypeState::Quoted(which, mark) => Step::in_quotes(which, mark, ch, at),
             DoctypeState::AfterPublic(spaced) => Step::after_public(spaced, ch, at),
             DoctypeState::AfterSystem => Step::after_system(ch, at),
-            DoctypeState::Skipped => Step::in_skipped(ch),
+            DoctypeState::Skipped if ch == '>' => Step::end(),
+            DoctypeState::Skipped => Step::to(DoctypeState::Skipped),
         }
     }
 
@@ -160,155 +158,111 @@ impl DoctypeState {
     }
 }
 
-/// Whether the character is a quote.
-fn is_mark(ch: char) -> bool
-    ensures { result ≡ is_quote ch }
-{
-    ch == '"' || ch == '\''
-}
-
 /// What a character does in each state.
 impl Step {
     fn before_name(spaced: bool, ch: char, at: u64) -> Step
         ensures { result ≡ before_name spaced (is_space ch) (is_greater ch) at }
     {
         if ch.is_ascii_whitespace() {
-            Step::to(DoctypeState::BeforeName(true))
-        } else if ch == '>' {
-            Step::refuse(ErrorCode::MissingDoctypeName, at)
-        } else {
-            let code = ErrorCode::MissingWhitespaceBeforeDoctypeName;
-            Step::keep(Keeps::Name, spaced, code, at, DoctypeState::Name)
+            return Step::to(DoctypeState::BeforeName(true));
         }
+        if ch == '>' {
+            return Step::refuse(ErrorCode::MissingDoctypeName, at);
+        }
+        let code = ErrorCode::MissingWhitespaceBeforeDoctypeName;
+        Step::keep(Keeps::Name, spaced, code, at, DoctypeState::Name)
     }
 
     fn in_name(ch: char) -> Step
         ensures { result ≡ in_name (is_space ch) (is_greater ch) }
     {
-        if ch.is_ascii_whitespace() {
-            Step::to(DoctypeState::AfterName)
-        } else if ch == '>' {
-            Step::end()
-        } else {
-            Step {
+        match ch {
+            '>' => Step::end(),
+            _ if ch.is_ascii_whitespace() => Step::to(DoctypeState::AfterName),
+            _ => Step {
                 keeps: Keeps::Name,
                 ..Step::to(DoctypeState::Name)
-            }
+            },
         }
     }
 
     fn after_name(ch: char, at: u64) -> Step
         ensures { result ≡ after_name (is_space ch) (is_greater ch) (first_letter ch) at }
     {
-        if ch.is_ascii_whitespace() {
-            return Step::to(DoctypeState::AfterName);
-        }
-        if ch == '>' {
-            return Step::end();
-        }
+        let code = ErrorCode::InvalidCharacterSequenceAfterDoctypeName;
         match Letters::first(ch) {
             Some(letters) => Step::to(DoctypeState::Keyword(letters, at)),
-            None => Step::skip(
-                ErrorCode::InvalidCharacterSequenceAfterDoctypeName,
-                at,
-                true,
-            ),
+            None if ch.is_ascii_whitespace() => Step::to(DoctypeState::AfterName),
+            None if ch == '>' => Step::end(),
+            None => Step::skip(code, at, true),
         }
     }
 
     fn in_keyword(letters: Letters, first: u64, ch: char) -> Step
         ensures { result ≡ in_keyword letters first (to_ascii_lowercase ch == next_letter letters) (is_greater ch) }
     {
+        let code = ErrorCode::InvalidCharacterSequenceAfterDoctypeName;
         if ch.to_ascii_lowercase() == letters.next() {
-            match letters.after() {
-                Some(letters) => Step::to(DoctypeState::Keyword(letters, first)),
-                None => Step::to(DoctypeState::AfterKeyword(letters.which, false)),
-            }
-        } else if ch == '>' {
-            Step::refuse(ErrorCode::InvalidCharacterSequenceAfterDoctypeName, first)
-        } else {
-            Step::skip(
-                ErrorCode::InvalidCharacterSequenceAfterDoctypeName,
-                first,
-                true,
-            )
+            return Step::to(match letters.after() {
+                Some(letters) => DoctypeState::Keyword(letters, first),
+                None => DoctypeState::AfterKeyword(letters.which, false),
+            });
+        }
+        match ch {
+            '>' => Step::refuse(code, first),
+            _ => Step::skip(code, first, true),
         }
     }
 
     fn after_keyword(which: Identifier, spaced: bool, ch: char, at: u64) -> Step
         ensures { result ≡ after_keyword which spaced (is_space ch) (is_greater ch) (is_quote ch) ch at }
     {
-        if ch.is_ascii_whitespace() {
-            Step::to(DoctypeState::AfterKeyword(which, true))
-        } else if ch == '>' {
-            Step::refuse(which.missing(), at)
-        } else if is_mark(ch) {
-            Step::keep(
-                Keeps::Quote(which),
-                spaced,
-                which.not_spaced(),
-                at,
-                DoctypeState::Quoted(which, ch),
-            )
-        } else {
-            Step::skip(which.not_quoted(), at, true)
+        let code = which.not_spaced();
+        let quoted = DoctypeState::Quoted(which, ch);
+        match ch {
+            '>' => Step::refuse(which.missing(), at),
+            '"' | '\'' => Step::keep(Keeps::Quote(which), spaced, code, at, quoted),
+            _ if ch.is_ascii_whitespace() => Step::to(DoctypeState::AfterKeyword(which, true)),
+            _ => Step::skip(which.not_quoted(), at, true),
         }
     }
 
     fn in_quotes(which: Identifier, mark: char, ch: char, at: u64) -> Step
         ensures { result ≡ in_quotes which mark (ch == mark) (is_greater ch) at }
     {
-        if ch == mark {
-            match which {
-                Identifier::Public => Step::to(DoctypeState::AfterPublic(false)),
-                Identifier::System => Step::to(DoctypeState::AfterSystem),
-            }
-        } else if ch == '>' {
-            Step::refuse(which.abrupt(), at)
-        } else {
-            Step {
+        match which {
+            Identifier::Public if ch == mark => Step::to(DoctypeState::AfterPublic(false)),
+            Identifier::System if ch == mark => Step::to(DoctypeState::AfterSystem),
+            _ if ch == '>' => Step::refuse(which.abrupt(), at),
+            _ => Step {
                 keeps: Keeps::Inside(which),
                 ..Step::to(DoctypeState::Quoted(which, mark))
-            }
+            },
         }
     }
 
     fn after_public(spaced: bool, ch: char, at: u64) -> Step
         ensures { result ≡ after_public spaced (is_space ch) (is_greater ch) (is_quote ch) ch at }
     {
-        if ch.is_ascii_whitespace() {
-            Step::to(DoctypeState::AfterPublic(true))
-        } else if ch == '>' {
-            Step::end()
-        } else if is_mark(ch) {
-            let code = ErrorCode::MissingWhitespaceBetweenDoctypePublicAndSystemIdentifiers;
-            let quoted = DoctypeState::Quoted(Identifier::System, ch);
-            Step::keep(Keeps::Quote(Identifier::System), spaced, code, at, quoted)
-        } else {
-            Step::skip(Identifier::System.not_quoted(), at, true)
+        let code = ErrorCode::MissingWhitespaceBetweenDoctypePublicAndSystemIdentifiers;
+        let which = Identifier::System;
+        let quoted = DoctypeState::Quoted(which, ch);
+        match ch {
+            '>' => Step::end(),
+            '"' | '\'' => Step::keep(Keeps::Quote(which), spaced, code, at, quoted),
+            _ if ch.is_ascii_whitespace() => Step::to(DoctypeState::AfterPublic(true)),
+            _ => Step::skip(which.not_quoted(), at, true),
         }
     }
 
     fn after_system(ch: char, at: u64) -> Step
         ensures { result ≡ after_system (is_space ch) (is_greater ch) at }
     {
-        if ch.is_ascii_whitespace() {
-            Step::to(DoctypeState::AfterSystem)
-        } else if ch == '>' {
-            Step::end()
-        } else {
-            let code = ErrorCode::UnexpectedCharacterAfterDoctypeSystemIdentifier;
-            Step::skip(code, at, false)
-        }
-    }
-
-    fn in_skipped(ch: char) -> Step
-        ensures { result ≡ in_skipped (is_greater ch) }
-    {
-        if ch == '>' {
-            Step::end()
-        } else {
-            Step::to(DoctypeState::Skipped)
+        let code = ErrorCode::UnexpectedCharacterAfterDoctypeSystemIdentifier;
+        match ch {
+            '>' => Step::end(),
+            _ if ch.is_ascii_whitespace() => Step::to(DoctypeState::AfterSystem),
+            _ => Step::skip(code, at, false),
         }
     }
 }

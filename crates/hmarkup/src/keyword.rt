@@ -1,8 +1,7 @@
 //! The keywords of a doctype, and the identifiers they announce.
 
 ghost use Rattle.std.specs.Prelude.{◌≡◌};
-ghost use Rattle.hmarkup.specs.DoctypeSteps.{first_letter, next_letter, letters_after};
-ghost use Rattle.hmarkup.specs.Doctype.{keyword, no_space_after_keyword, no_identifier, no_quote, abrupt_identifier};
+ghost use Rattle.hmarkup.specs.Vocabulary.{first_letter, next_letter, letters_after, keyword, no_space_after_keyword, no_identifier, no_quote, abrupt_identifier};
 
 use names::ErrorCode;
 
@@ -91,12 +90,9 @@ impl Letters {
     pub fn next(self) -> char
         ensures { result ≡ next_letter self }
     {
-        let letters = self.which.keyword().as_bytes();
-        let read = self.read as usize;
-        if read < letters.len() {
-            letters[read] as char
-        } else {
-            '\0'
+        match self.which.keyword().as_bytes().get(self.read as usize) {
+            Some(letter) => char::from(*letter),
+            None => '\0',
         }
     }
 
@@ -105,13 +101,12 @@ impl Letters {
         ensures { result ≡ letters_after self }
     {
         // Each keyword has six letters.
-        if self.read < 5 {
-            Some(Letters {
-                which: self.which,
-                read: self.read + 1,
-            })
-        } else {
-            None
+        if self.read >= 5 {
+            return None;
         }
+        Some(Letters {
+            read: self.read + 1,
+            ..self
+        })
     }
 }

@@ -4,8 +4,7 @@ ghost use Rattle.std.specs.Prelude.{◌≡◌, ◌∷◌, ◌<◌, ◌+◌, ℕ,
 ghost use Rattle.std.specs.Int.{is_in_range};
 ghost use Rattle.std.specs.List.{list_all};
 ghost use Rattle.std.specs.Str.{IsUtf8};
-ghost use Rattle.hmarkup.specs.Quirks.{quirk_word, IsWordless, QuirkLine, IsQuirkLine, IsNoQuirkLine, lines, HasParts, Lacks, same_as, begins_as};
-ghost use Rattle.hmarkup.specs.Quirks.{line_matches, list_matches, ReadsQuirks};
+ghost use Rattle.hmarkup.specs.Vocabulary.{quirk_word, IsWordless, IsQuirkLine, IsNoQuirkLine, lines, HasParts, Lacks, same_as, begins_as, line_matches, list_matches, ReadsQuirks};
 
 use names::Refusal;
 use std::alloc::{AllocError, Global};
@@ -86,10 +85,7 @@ fn first_line(text: &str) -> (&str, &str)
     ensures shorter { length result.1.now < length text.now }
     ensures is_text { IsUtf8 result.1.now }
 {
-    match parts(text, '\n') {
-        Some((line, after)) => (line, after),
-        None => (text, ""),
-    }
+    parts(text, '\n').unwrap_or((text, ""))
 }
 
 /// Whether each byte is from 20 to 7E (hexadecimal).
@@ -118,13 +114,11 @@ impl QuirksLine {
     fn read(alloc: Global, line: &str) -> Result<Option<QuirksLine>, AllocError>
         ensures { IfOk result (λ found. MatchOption found (IsNoQuirkLine line.now) (λ quirk. IsQuirkLine line.now quirk)) }
     {
-        match read_line(line) {
-            Some((kind, text)) => {
-                let text = String::from_str(alloc, text)?;
-                Ok(Some(QuirksLine { kind, text }))
-            }
-            None => Ok(None),
-        }
+        let Some((kind, text)) = read_line(line) else {
+            return Ok(None);
+        };
+        let text = String::from_str(alloc, text)?;
+        Ok(Some(QuirksLine { kind, text }))
     }
 
     /// Whether the line matches these identifiers.
@@ -145,21 +139,15 @@ impl QuirksLine {
 fn is_same(id: Option<&str>, text: &str) -> bool
     ensures { result ≡ same_as (option_map (λ x. x.now) id.entry) text.now }
 {
-    match id {
-        Some(id) => id.eq_ignore_ascii_case(text),
-        None => false,
-    }
+    id.is_some_and(|id| id.eq_ignore_ascii_case(text))
 }
 
 /// Whether the identifier is present and begins with the text, ignoring ASCII case.
 fn begins(id: Option<&str>, text: &str) -> bool
     ensures { result ≡ begins_as (option_map (λ x. x.now) id.entry) text.now }
 {
-    match id {
-        Some(id) => match id.as_bytes().get(..text.len()) {
-            Some(front) => front.eq_ignore_ascii_case(text.as_bytes()),
-            None => false,
-        },
+    match id.and_then(|id| id.as_bytes().get(..text.len())) {
+        Some(front) => front.eq_ignore_ascii_case(text.as_bytes()),
         None => false,
     }
 }

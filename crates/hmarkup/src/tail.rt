@@ -2,8 +2,7 @@
 //! 13.2.5.43 to 13.2.5.52).
 
 ghost use Rattle.std.specs.Prelude.{◌≡◌};
-ghost use Rattle.hmarkup.specs.Steps.{next_opening, next_ending, decided_text, ending_text};
-ghost use Rattle.hmarkup.specs.CommentWalk.{is_whole};
+ghost use Rattle.hmarkup.specs.Vocabulary.{next_opening, next_ending, decided_text, ending_text, is_whole};
 
 /// The part of a closing mark that the text ends with: nothing, `-`, `--` or `--!`.
 #[derive(Clone, Copy, PartialEq, Eq)]
@@ -37,17 +36,10 @@ impl Ending {
     pub fn after(self, ch: char) -> Ending
         ensures { result ≡ next_ending self ch }
     {
-        match ch {
-            '-' => match self {
-                Ending::Plain => Ending::Dash,
-                Ending::Dash => Ending::Dashes,
-                Ending::Dashes => Ending::Dashes,
-                Ending::Bang => Ending::Dash,
-            },
-            '!' => match self {
-                Ending::Dashes => Ending::Bang,
-                _ => Ending::Plain,
-            },
+        match (ch, self) {
+            ('-', Ending::Plain | Ending::Bang) => Ending::Dash,
+            ('-', _) => Ending::Dashes,
+            ('!', Ending::Dashes) => Ending::Bang,
             _ => Ending::Plain,
         }
     }
@@ -56,19 +48,13 @@ impl Ending {
     pub fn decided(self, ch: char) -> &'static str
         ensures { result.now ≡ decided_text self ch }
     {
-        match ch {
-            '-' => match self {
-                Ending::Plain => "",
-                Ending::Dash => "",
-                Ending::Dashes => "-",
-                Ending::Bang => "--!",
-            },
-            '!' => match self {
-                Ending::Plain => "!",
-                Ending::Dash => "-!",
-                Ending::Dashes => "",
-                Ending::Bang => "--!!",
-            },
+        match (ch, self) {
+            ('-', Ending::Plain | Ending::Dash) | ('!', Ending::Dashes) => "",
+            ('-', Ending::Dashes) => "-",
+            ('-', Ending::Bang) => "--!",
+            ('!', Ending::Plain) => "!",
+            ('!', Ending::Dash) => "-!",
+            ('!', Ending::Bang) => "--!!",
             _ => self.text(),
         }
     }
@@ -98,17 +84,11 @@ impl Opening {
     pub fn after(self, ch: char) -> Opening
         ensures { result ≡ next_opening self ch }
     {
-        match ch {
-            '-' => match self {
-                Opening::LessBang => Opening::LessBangDash,
-                Opening::LessBangDash => Opening::Whole,
-                _ => Opening::Outside,
-            },
-            '!' => match self {
-                Opening::Less => Opening::LessBang,
-                _ => Opening::Outside,
-            },
-            '<' => Opening::Less,
+        match (ch, self) {
+            ('-', Opening::LessBang) => Opening::LessBangDash,
+            ('-', Opening::LessBangDash) => Opening::Whole,
+            ('!', Opening::Less) => Opening::LessBang,
+            ('<', _) => Opening::Less,
             _ => Opening::Outside,
         }
     }

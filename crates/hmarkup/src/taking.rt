@@ -2,8 +2,7 @@
 
 ghost use Rattle.std.specs.Prelude.{◌≡◌, ◌++◌, IfOk, OnOk, string_bytes};
 ghost use Rattle.std.specs.Char.{encode_utf8};
-ghost use Rattle.names.specs.Placed.{error, error_if, text_bytes, without_null};
-ghost use Rattle.names.specs.Sink.{Hands};
+ghost use Rattle.hmarkup.specs.Vocabulary.{error, error_if, text_bytes, without_null, Hands};
 
 use crate::sink::ErrorSink;
 use names::{ErrorCode, ParseError, Placed, Refusal};

@@ -14,12 +14,12 @@ returns-in_err-take g c =
     rw (e.1, e.2) (rw (← c.self.view_is) (λ text raised h.
     take_ran_out g.S.ErrorSink.gives _ text raised h (record { ch = c.args.ch; at = c.args.at }) c.step-step.result c.step-step.ensures _ _ _ _ c.in_ok-report.ensures))
 
-pub returns-in-Some : goal.returns-in-Some
-returns-in-Some g c =
+pub returns : goal.returns
+returns g c =
     rw (← c.self.view_is) (λ text raised h.
     take_goes_on g.S.ErrorSink.gives _ text raised h (record { ch = c.args.ch; at = c.args.at }) c.step-step.result c.step-step.ensures _ _ _ _ c.in_ok-report.ensures c.in-Some.is (c.in_ok-take.ensures c.args.at))
 
-pub returns-in-None : goal.returns-in-None
-returns-in-None g c =
+pub returns-in_default : goal.returns-in_default
+returns-in_default g c =
     rw (← c.self.view_is) (λ text raised h.
-    take_ended g.S.ErrorSink.gives _ text raised h (record { ch = c.args.ch; at = c.args.at }) c.step-step.result c.step-step.ensures _ _ _ _ c.in_ok-report.ensures c.in-None.is (c.in_ok-take.ensures c.args.at))
+    take_ended g.S.ErrorSink.gives _ text raised h (record { ch = c.args.ch; at = c.args.at }) c.step-step.result c.step-step.ensures _ _ _ _ c.in_ok-report.ensures c.in_default.is (c.in_ok-take.ensures c.args.at))
