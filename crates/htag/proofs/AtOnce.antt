@@ -1,5 +1,5 @@
 -- Tags that stand whole in a run.
-use Rattle.htag.proofs.Vocabulary.{◌≡◌, ◌≤◌, ◌<◌, ℕ, zero, suc, ◌+◌, ◌-◌, Bool, true, not, ◌||◌, List, [], ◌∷◌, ◌++◌, length, take, drop, sym, refl, ap, ◌∙◌, subst, append_assoc, append-nil, arith, false, eqb, Some, None, Vec, Global, eqb-true, nat_tests, length-drop, length-take-le, take-append-drop, take_all, slice_index, string_bytes, flat_map, list_all, prefix_len, len_utf8, ParseError, Placed, Attr, MissingWhitespaceBetweenAttributes, UnexpectedEqualsSignBeforeAttributeName, Texts, Grows, all, begins, stops, characters, error_if, is_equals, is_greater, is_letter, is_quote, is_space, past, name_bytes, place, placed, is_plain_byte, all_weaker, all_placed, placed_part, plain_drop, Entities, TagWalk, HasReadParts, AttrsMean, HasSeen, has_number, AreValue, IsPiece, pieces_text, value_bytes, plain_pieces, Seen, TagState, HasAttributes, HasPhase, IsInTag, IsPast, IsWholeTag, WholeOrNot, names_after, is_unquoted_byte, is_word_byte, Attribute, AreParts, IsPart, Part, attribute_name_errors, attributes_after, attribute_part, ends_attribute_name, ends_name, ends_unquoted, is_odd, errors_after, name_errors_here, parts_text, repeated, tag_close, tag_errors, unquoted_errors, value_errors}
+use Rattle.htag.proofs.Vocabulary.{◌≡◌, ◌≤◌, ◌<◌, ℕ, zero, suc, ◌+◌, ◌-◌, Bool, true, not, ◌||◌, List, [], ◌∷◌, ◌++◌, length, take, drop, sym, refl, ap, ◌∙◌, subst, append_assoc, append-nil, arith, false, eqb, Some, None, Vec, Global, nat_tests, length-drop, length-take-le, take-append-drop, take_all, slice_index, string_bytes, flat_map, list_all, prefix_len, len_utf8, ParseError, Placed, Attr, MissingWhitespaceBetweenAttributes, UnexpectedEqualsSignBeforeAttributeName, Texts, Grows, all, begins, stops, characters, error_if, is_equals, is_greater, is_letter, is_quote, is_space, past, name_bytes, place, placed, is_plain_byte, all_weaker, all_placed, placed_part, plain_drop, Entities, TagWalk, HasReadParts, AttrsMean, HasSeen, has_number, AreValue, IsPiece, pieces_text, value_bytes, plain_pieces, Seen, TagState, HasAttributes, HasPhase, IsInTag, IsPast, IsWholeTag, WholeOrNot, names_after, is_unquoted_byte, is_word_byte, Attribute, AreParts, IsPart, Part, attribute_name_errors, attributes_after, attribute_part, ends_attribute_name, ends_name, ends_unquoted, is_odd, errors_after, name_errors_here, parts_text, repeated, tag_close, tag_errors, unquoted_errors, value_errors}
 use Rattle.std.proofs.Common.{inl, inr}
 use Rattle.std.proofs.Math.Seq.{drop-cons, drop-nil}
 use Rattle.std.proofs.lemmas.Bool.{and_from, and_parts}
@@ -80,9 +80,6 @@ module _ (run : List ℕ) (count : ℕ) (is : IsBareName run count) where
     and_more (x ∷ xs) h = let k = and_parts (is_plain_byte x) (list_all is_plain_byte xs) h in and_from _ _ k.0 (and_more xs k.1)
 
   module _ (at : ℕ) where
-    abbrev pub bare_text : List Placed
-    bare_text = placed at (is.letter ∷ is.letters)
-
     -- the name and the `>`, with their places
     pub bare_placed : placed at (take (count + 1) run) ≡ placed at (is.letter ∷ is.letters) ++ record { ch = 62; at = at + count } ∷ []
     bare_placed =
@@ -104,17 +101,6 @@ module _ (run : List ℕ) (count : ℕ) (is : IsBareName run count) where
       in_parts = tt;
     }
 
--- THE END OF A TAG
-
-pub close_plain : (run : List ℕ) → 0 < length run → slice_index run 0 ≡ 62 → take 1 run ≡ 62 ∷ []
-close_plain [] some is = absurd (omega (arith, some))
-close_plain (x ∷ xs) some is = ap (λ (c : ℕ). c ∷ []) is
-
-pub close_solidus : (run : List ℕ) → 1 < length run → slice_index run 0 ≡ 47 → slice_index run 1 ≡ 62 → take 2 run ≡ 47 ∷ 62 ∷ []
-close_solidus [] some is then = absurd (omega (arith, some))
-close_solidus (x ∷ []) some is then = absurd (omega (arith, some))
-close_solidus (x ∷ y ∷ ys) some is then = ap (λ (c : ℕ). c ∷ y ∷ []) is ∙ ap (λ (c : ℕ). 47 ∷ c ∷ []) then
-
 -- AN ATTRIBUTE
 
 drop_more : (n m : ℕ) (xs : List ℕ) → drop m (drop n xs) ≡ drop (n + m) xs
@@ -123,10 +109,7 @@ drop_more (suc n) m [] = drop-nil m ∙ sym (drop-nil (suc n + m))
 drop_more (suc n) m (x ∷ xs) = let long : suc n + m ≡ suc (n + m) = omega arith in drop_more n m xs ∙ ap (λ (k : ℕ). drop k (x ∷ xs)) (sym long)
 
 not_mark : (c mark : ℕ) → not (eqb c mark) ≡ false → c ≡ mark
-not_mark c mark h = eqb-true c mark (by (eqb c mark) h) where
-  by : (b : Bool) → not b ≡ false → b ≡ true
-  by true e = refl
-  by false e = absurd cc
+not_mark c mark h = grind (arith, nat_tests)
 
 -- a value in quotes, one without, and a missing one
 pub quoted_is : (run rest : List ℕ) (n : ℕ) → rest ≡ drop 2 run → 1 < length run → slice_index run 0 ≡ 61 → is_quote (slice_index run 1) ≡ true → n ≡ prefix_len (λ b. not (eqb b (slice_index run 1))) rest → n + 1 < length rest
@@ -253,9 +236,6 @@ module _ (run : List ℕ) (found : PlainAttribute) (found_is : IsPlainAttribute 
 
   front_long : found.name + found.value.before + found.value.value + found.value.after ≡ length (take found.name run ++ (found_is.value.before ++ (found_is.value.value ++ found_is.value.after)))
   front_long = omega (arith, length-take-le found.name run found_is.within, found_is.value.before_is, found_is.value.value_is, found_is.value.after_is, length-append (take found.name run) (found_is.value.before ++ (found_is.value.value ++ found_is.value.after)), length-append found_is.value.before (found_is.value.value ++ found_is.value.after), length-append found_is.value.value found_is.value.after)
-
-  pub attribute_within : found.name + found.value.before + found.value.value + found.value.after ≤ length run
-  attribute_within = omega (arith, front_long, ap length front_is, length-append (take found.name run ++ (found_is.value.before ++ (found_is.value.value ++ found_is.value.after))) (found_is.value.next ∷ found_is.value.others))
 
   attribute_taken : take (found.name + found.value.before + found.value.value + found.value.after) run ≡ take found.name run ++ (found_is.value.before ++ (found_is.value.value ++ found_is.value.after))
   attribute_taken = ap (take (found.name + found.value.before + found.value.value + found.value.after)) front_is ∙ take_at (take found.name run ++ (found_is.value.before ++ (found_is.value.value ++ found_is.value.after))) (found_is.value.next ∷ found_is.value.others) (found.name + found.value.before + found.value.value + found.value.after) (sym front_long)
@@ -419,16 +399,12 @@ module _ (run : List ℕ) (count at : ℕ) (plain : list_all is_plain_byte run �
         ∙ ap (λ (x : List Placed). parts_text so.parts ++ x) added.plain.text_is ∙ sym (parts_text-snoc so.parts added.part);
     no_errors = errors-snoc [] so.parts added.part ∙ ap (λ (x : List ParseError). x ++ (added.part.errors ++ repeated (names_after [] so.parts) added.part.attribute)) so.no_errors
         ∙ ap (λ (x : List ParseError). x ++ repeated (names_after [] so.parts) added.part.attribute) added.plain.no_errors ∙ added.first;
-    are = λ table end rest next.
-        AreParts-snoc table end so.parts added.part rest
-        (so.are table end (added.part.text ++ rest) (ap (λ (x : List Placed). characters (take 1 (x ++ rest))) (sym added.plain.text_is) ∙ first_next (at + count) more (drop count run) rest some left_some))
-        (added.plain.is_part table end rest (next ∙ ap (take 1) (sym (drop_more count more run))));
-    are_free = λ free table end rest.
-        AreParts-snoc table end so.parts added.part rest
-        (so.are table end (added.part.text ++ rest) (ap (λ (x : List Placed). characters (take 1 (x ++ rest))) (sym added.plain.text_is) ∙ first_next (at + count) more (drop count run) rest some left_some))
-        (added.plain.is_free free table end rest);
+    are = λ table end rest next. AreParts-snoc table end so.parts added.part rest (before_it table end rest) (added.plain.is_part table end rest (next ∙ ap (take 1) (sym (drop_more count more run))));
+    are_free = λ free table end rest. AreParts-snoc table end so.parts added.part rest (before_it table end rest) (added.plain.is_free free table end rest);
     has = added.has;
-  }
+  } where
+    before_it : (table : Entities) (end : ℕ) (rest : List Placed) → AreParts table end so.parts (added.part.text ++ rest)
+    before_it table end rest = so.are table end (added.part.text ++ rest) (ap (λ (x : List Placed). characters (take 1 (x ++ rest))) (sym added.plain.text_is) ∙ first_next (at + count) more (drop count run) rest some left_some)
 
   -- and then the end of the tag
   pub end_read : (new : TagWalk) (close : ℕ) → 0 < close → new.seen ≡ old.seen → new.attrs ≡ old.attrs → new.any ≡ old.any → take close (drop count run) ≡ tag_close new.closing → ends_name (slice_index run 0) ≡ true → IsAfterName before new run (count + close) true at
@@ -465,10 +441,7 @@ open_read run count at names walk new some l seen attrs any ends so = record {
 
 -- an attribute of a name that the tag has had
 pub seen_again : (seen : Seen) (id : ℕ) (numbers : List ℕ) → has_number id numbers ≡ true → HasSeen seen (id ∷ numbers) → HasSeen seen numbers
-seen_again seen id numbers known h = record { exact = λ n. h.exact n ∙ by n (eqb n id) refl } where
-  by : (n : ℕ) (b : Bool) → eqb n id ≡ b → (b || has_number n numbers) ≡ has_number n numbers
-  by n true e = sym (ap (λ (k : ℕ). has_number k numbers) (eqb-true n id e) ∙ known)
-  by n false e = refl
+seen_again seen id numbers known h = record { exact = λ n. grind (arith, nat_tests, h.exact n, known) }
 
 -- THE NAME, AND WHAT FOLLOWS IT
 
@@ -541,28 +514,19 @@ pub seen_stays : (before after : Texts) → Grows before after → (old new : Ta
     → new.attrs ≡ old.attrs → new.any ≡ old.any → first ≡ false → HasAttributes before old parts → HasAttributes after new parts
 seen_stays before after grows old new parts id first seen attrs any again h =
     let grown = attributes_grow before after grows old parts h in
-    let known : has_number id grown.numbers ≡ true = sure (has_number id grown.numbers) (sym again ∙ (seen grown.numbers grown.seen).0) in
+    let again' : false ≡ not (has_number id grown.numbers) = sym again ∙ (seen grown.numbers grown.seen).0 in
+    let known : has_number id grown.numbers ≡ true = grind (arith, nat_tests) in
     record {
       numbers = grown.numbers;
       seen = seen_again new.seen id grown.numbers known (seen grown.numbers grown.seen).1;
       named = grown.named;
       attributes = subst (λ (x : Vec Attr Global). AttrsMean after x.items (attributes_after [] parts)) (sym attrs) grown.attributes;
       any = any ∙ grown.any;
-    } where
-      sure : (b : Bool) → false ≡ not b → b ≡ true
-      sure true e = refl
-      sure false e = absurd cc
+    }
 
 -- nothing was read
 pub parts_stay : (before after : Texts) (old new : TagWalk) (run : List ℕ) (count at : ℕ) (leads_before : Bool) (so : HasReadParts before old run count leads_before at) → (HasAttributes before old so.parts → HasAttributes after new so.parts) → HasReadParts after new run count leads_before at
-parts_stay before after old new run count at leads_before so stays = record {
-  parts = so.parts;
-  text_is = so.text_is;
-  no_errors = so.no_errors;
-  are = so.are;
-  are_free = so.are_free;
-  has = stays so.has;
-}
+parts_stay before after old new run count at leads_before so stays = record { parts = so.parts; text_is = so.text_is; no_errors = so.no_errors; are = so.are; are_free = so.are_free; has = stays so.has }
 
 -- the tag goes on before an attribute
 pub open_rest : (run : List ℕ) (count result at : ℕ) (names : Texts) (walk : TagWalk) (leads_before : Bool) → 0 < length run → ends_name (slice_index run 0) ≡ true → 0 < result → (leads_before ≡ true) × (result ≡ count) → HasReadParts names walk run count leads_before at → IsAfterName names walk run result false at

@@ -1,5 +1,5 @@
 -- A tag that the input's end cuts off.
-use Rattle.htag.proofs.Vocabulary.{◌≡◌, ℕ, true, false, not, ◌||◌, eqb, List, [], ◌∷◌, ◌++◌, map, sym, refl, ap, ◌∙◌, subst, append-nil, append_assoc, Some, None, string_bytes, ParseError, Placed, Texts, begins, stops, all, past, place, is_space, is_equals, is_quote, null_errors, and_parts, Entities, TagState, TagWalk, pieces_text, value_bytes, EndsValue, Part, IsPart, AreParts, parts_text, errors_after, tag_errors, ends_name, ends_attribute_name, ends_unquoted, attribute_name_errors, value_errors, unquoted_errors, attribute_part, repeated, KeepsTag, EndsAttribute, attribute_of, names_after, HasName, HasPhase, IsPast, IsInTag}
+use Rattle.htag.proofs.Vocabulary.{◌≡◌, ℕ, Bool, true, false, not, ◌||◌, eqb, List, [], ◌∷◌, ◌++◌, map, sym, refl, ap, ◌∙◌, subst, append-nil, append_assoc, Some, None, string_bytes, ParseError, Placed, Texts, begins, stops, all, past, place, is_space, is_equals, is_quote, null_errors, and_parts, Entities, TagState, TagWalk, pieces_text, value_bytes, EndsValue, Part, IsPart, AreParts, parts_text, errors_after, tag_errors, ends_name, ends_attribute_name, ends_unquoted, attribute_name_errors, value_errors, unquoted_errors, attribute_part, repeated, KeepsTag, EndsAttribute, attribute_of, names_after, HasName, HasPhase, IsPast, IsInTag}
 use Rattle.htag.specs.declared.tag_state.TagState.TheVariants as phase
 use Rattle.htag.specs.TagWalk.{IsCutTag}
 use Rattle.htag.proofs.Parts.{parts_text-append, parts_text-snoc, AreParts-append, AreParts-snoc, holds_same}
@@ -34,9 +34,9 @@ module _ (table : Entities) (names : Texts) (walk : TagWalk) (body : List Placed
   past_at_end : (ph : TagState) → walk.phase ≡ ph → IsPast ph (begins ends_name (parts_text h.parts ++ (h.held ++ [])))
   past_at_end ph e = subst (λ (x : TagState). IsPast x (begins ends_name (parts_text h.parts ++ (h.held ++ [])))) e h.past
 
-  begins-stops : (xs : List Placed) → begins ends_name xs ≡ true → stops ends_name xs ≡ true
-  begins-stops [] e = refl
-  begins-stops (x ∷ xs) e = e
+  begins-stops : (test : ℕ → Bool) (xs : List Placed) → begins test xs ≡ true → stops test xs ≡ true
+  begins-stops test [] e = refl
+  begins-stops test (x ∷ xs) e = e
 
   -- these are all of its parts
   cut_with : (parts : List Part) (later : List ParseError) → parts_text h.parts ++ h.held ≡ parts_text parts → ((end : ℕ) → AreParts table end parts []) → later ≡ tag_errors h.name parts → stops ends_name (parts_text h.parts ++ (h.held ++ [])) ≡ true → IsCutTag table body later
@@ -62,7 +62,7 @@ module _ (table : Entities) (names : Texts) (walk : TagWalk) (body : List Placed
       whole_parts nothing.1 nothing.2 (ap (λ (x : List Part). stops ends_name (parts_text x ++ (h.held ++ []))) nothing.0 ∙ ap (λ (x : List Placed). stops ends_name (x ++ [])) nothing.1)
 
   pub cut_before_attribute : walk.phase ≡ phase.BeforeAttribute → IsCutTag table body errors
-  cut_before_attribute e = let nothing = holds_at_end phase.BeforeAttribute e in whole_parts nothing.0 nothing.1 (begins-stops (parts_text h.parts ++ (h.held ++ [])) (past_at_end phase.BeforeAttribute e))
+  cut_before_attribute e = let nothing = holds_at_end phase.BeforeAttribute e in whole_parts nothing.0 nothing.1 (begins-stops ends_name (parts_text h.parts ++ (h.held ++ [])) (past_at_end phase.BeforeAttribute e))
 
   -- a part is being read
   cut_part : (part : Part) → part.text ≡ h.held → ((end : ℕ) → IsPart table end [] part) → (e later : List ParseError) → part.errors ≡ h.own ++ e → later ≡ (errors ++ e) ++ repeated (names_after [] h.parts) part.attribute
@@ -70,7 +70,7 @@ module _ (table : Entities) (names : Texts) (walk : TagWalk) (body : List Placed
   cut_part part text is e later own later_is gone =
       cut_with (h.parts ++ part ∷ []) later (ap (λ (x : List Placed). parts_text h.parts ++ x) (sym text) ∙ sym (parts_text-snoc h.parts part))
       (λ end. AreParts-snoc table end h.parts part [] (subst (λ (x : List Placed). AreParts table end h.parts (x ++ [])) (sym text) (h.are_parts end [])) (is end))
-      (part_errors h.name h.parts h.own errors h.errors_are part e later own later_is) (begins-stops (parts_text h.parts ++ (h.held ++ [])) gone)
+      (part_errors h.name h.parts h.own errors h.errors_are part e later own later_is) (begins-stops ends_name (parts_text h.parts ++ (h.held ++ [])) gone)
 
   pub cut_after_solidus : walk.phase ≡ phase.Solidus → IsCutTag table body errors
   cut_after_solidus e =
@@ -156,10 +156,6 @@ module _ (table : Entities) (names : Texts) (walk : TagWalk) (body : List Placed
         AreParts-append table end (h.parts ++ part ∷ []) (spaces n.sign) []
         (subst (AreParts table end (h.parts ++ part ∷ [])) (sym (append-nil (parts_text (spaces n.sign)) ∙ spaces_text n.sign))
         (AreParts-snoc table end h.parts part n.sign (subst (AreParts table end h.parts) (append-nil h.held ∙ sym text) (h.are_parts end []))
-        (IsPart.bare n.name (record { first = n.has_name.first; runs = record { passes_none = n.has_name.runs; stops_after = begun_stops n.sign n.begun } }) (only_spaces n.sign n.is_sign) refl)))
+        (IsPart.bare n.name (record { first = n.has_name.first; runs = record { passes_none = n.has_name.runs; stops_after = begins-stops ends_attribute_name n.sign n.begun } }) (only_spaces n.sign n.is_sign) refl)))
         (are_spaces table end n.sign n.is_sign))
-        (told ∙ ap (λ (x : List ParseError). null_errors h.name ++ x) (sym (spaces_errors [] (h.parts ++ part ∷ []) n.sign))) (begins-stops (parts_text h.parts ++ (h.held ++ [])) (past_at_end phase.AfterAttributeName before))
-      where
-        begun_stops : (xs : List Placed) → begins ends_attribute_name xs ≡ true → stops ends_attribute_name xs ≡ true
-        begun_stops [] e = refl
-        begun_stops (x ∷ xs) e = e
+        (told ∙ ap (λ (x : List ParseError). null_errors h.name ++ x) (sym (spaces_errors [] (h.parts ++ part ∷ []) n.sign))) (begins-stops ends_name (parts_text h.parts ++ (h.held ++ [])) (past_at_end phase.AfterAttributeName before))

@@ -41,12 +41,8 @@ even_of : (text : List Placed) → all not_odd text ≡ true → is_even text
 even_of [] h = refl
 even_of (p ∷ ps) h =
     let parts = and_parts (not_odd p.ch) (all not_odd ps) h in
-    let even : is_odd p.ch ≡ false = by (is_odd p.ch) parts.0 in
+    let even : is_odd p.ch ≡ false = grind (arith, nat_tests) in
     rw even (even_of ps parts.1)
-  where
-    by : (b : Bool) → not b ≡ true → b ≡ false
-    by true e = absurd cc
-    by false e = refl
 
 of_characters : (text : List Placed) → all not_odd text ≡ list_all not_odd (characters text)
 of_characters [] = refl
@@ -86,32 +82,30 @@ key_even : (cs : List ℕ) → is_key cs ≡ true → list_all not_odd cs ≡ tr
 key_even [] h = refl
 key_even (c ∷ cs) h =
     let parts = and_parts (eqb c 38) (is_key_name cs) h in
-    and_both (not_odd c) (list_all not_odd cs) (amp parts.0) (key_name_even cs parts.1)
-  where
-    amp : eqb c 38 ≡ true → not_odd c ≡ true
-    amp e = grind (arith, nat_tests)
+    let amp : not_odd c ≡ true = grind (arith, nat_tests) in
+    and_both (not_odd c) (list_all not_odd cs) amp (key_name_even cs parts.1)
 
 semicolon_even : (close rest : List Placed) → is_semicolon_if_any close rest ≡ true → all not_odd close ≡ true
 semicolon_even [] rest h = refl
-semicolon_even (p ∷ []) rest h = and_both (not_odd p.ch) true (one p.ch (and_parts (eqb p.ch 59) true h).0) refl where
-  one : (c : ℕ) → eqb c 59 ≡ true → not_odd c ≡ true
-  one c e = grind (arith, nat_tests)
+semicolon_even (p ∷ []) rest h = grind (arith, nat_tests)
 semicolon_even (p ∷ q ∷ ps) rest h = let parts = and_parts (eqb p.ch 59) false h in absurd (cc (parts.1))
 
 lowered_even : (text : List Placed) (cs : List ℕ) → lowered text ≡ cs → list_all not_odd cs ≡ true → all not_odd text ≡ true
 lowered_even [] cs is h = refl
 lowered_even (p ∷ ps) cs is h =
     let parts = and_parts (not_odd (to_ascii_lowercase p.ch)) (list_all not_odd (lowered ps)) (ap (list_all not_odd) is ∙ h) in
-    and_both (not_odd p.ch) (all not_odd ps) (one p.ch parts.0) (lowered_even ps (lowered ps) refl parts.1)
-  where
-    one : (c : ℕ) → not_odd (to_ascii_lowercase c) ≡ true → not_odd c ≡ true
-    one c e = grind (arith, nat_tests)
+    let one : not_odd p.ch ≡ true = grind (arith, nat_tests) in
+    and_both (not_odd p.ch) (all not_odd ps) one (lowered_even ps (lowered ps) refl parts.1)
 
 amp_even : (amp : Placed) → amp.ch ≡ 38 → all not_odd (amp ∷ []) ≡ true
 amp_even amp is = of_characters (amp ∷ []) ∙ ap (λ (c : ℕ). list_all not_odd (c ∷ [])) is
 
 pub alone_even : (amp : Placed) → amp.ch ≡ 38 → is_even (amp ∷ [])
 alone_even amp is = even_of (amp ∷ []) (amp_even amp is)
+
+passes : (test : ℕ → Bool) (text : List Placed) → all (λ c. not (not (test c))) text ≡ true → all test text ≡ true
+passes test [] h = refl
+passes test (p ∷ ps) h = grind (arith, nat_tests, passes test ps)
 
 pub reference_even : (table : Entities) (in_value : Bool) (rest : List Placed) (piece : Piece) → IsTable table → IsReference table in_value rest piece → is_even piece.text
 reference_even table in_value rest piece is_table (IsReference.named amp name entry is letter found key kept e) =
@@ -122,24 +116,10 @@ reference_even table in_value rest piece is_table (IsReference.unknown amp is le
 reference_even table in_value rest piece is_table (IsReference.decimal opening digits close is digit runs closes e) =
     subst (λ (x : Piece). is_even x.text) (sym e)
     (even_of (opening ++ digits ++ close) (all-append not_odd (opening ++ digits) close
-    (all-append not_odd opening digits (of_characters opening ∙ ap (list_all not_odd) is) (quiet_even digits (quiet_digits Decimal digits (passes digits runs.passes_none)))) (semicolon_even close rest closes)))
-  where
-    passes : (text : List Placed) → all (λ c. not (not (is_digit c))) text ≡ true → all is_digit text ≡ true
-    passes [] h = refl
-    passes (p ∷ ps) h = let parts = and_parts (not (not (is_digit p.ch))) (all (λ c. not (not (is_digit c))) ps) h in and_both (is_digit p.ch) (all is_digit ps) (twice (is_digit p.ch) parts.0) (passes ps parts.1) where
-      twice : (b : Bool) → not (not b) ≡ true → b ≡ true
-      twice true k = refl
-      twice false k = k
+    (all-append not_odd opening digits (of_characters opening ∙ ap (list_all not_odd) is) (quiet_even digits (quiet_digits Decimal digits (passes is_digit digits runs.passes_none)))) (semicolon_even close rest closes)))
 reference_even table in_value rest piece is_table (IsReference.hexadecimal opening digits close is digit runs closes e) =
     subst (λ (x : Piece). is_even x.text) (sym e)
     (even_of (opening ++ digits ++ close) (all-append not_odd (opening ++ digits) close
-    (all-append not_odd opening digits (lowered_even opening (codes "&#x") is refl) (quiet_even digits (quiet_digits Hexadecimal digits (passes digits runs.passes_none)))) (semicolon_even close rest closes)))
-  where
-    passes : (text : List Placed) → all (λ c. not (not (is_hex_digit c))) text ≡ true → all is_hex_digit text ≡ true
-    passes [] h = refl
-    passes (p ∷ ps) h = let parts = and_parts (not (not (is_hex_digit p.ch))) (all (λ c. not (not (is_hex_digit c))) ps) h in and_both (is_hex_digit p.ch) (all is_hex_digit ps) (twice (is_hex_digit p.ch) parts.0) (passes ps parts.1) where
-      twice : (b : Bool) → not (not b) ≡ true → b ≡ true
-      twice true k = refl
-      twice false k = k
+    (all-append not_odd opening digits (lowered_even opening (codes "&#x") is refl) (quiet_even digits (quiet_digits Hexadecimal digits (passes is_hex_digit digits runs.passes_none)))) (semicolon_even close rest closes)))
 reference_even table in_value rest piece is_table (IsReference.no_digits amp is sign none e) = subst (λ (x : Piece). is_even x.text) (sym e) (alone_even amp is)
 reference_even table in_value rest piece is_table (IsReference.alone amp is none e) = subst (λ (x : Piece). is_even x.text) (sym e) (alone_even amp is)

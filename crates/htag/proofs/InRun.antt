@@ -196,10 +196,7 @@ more_taken table names body at count n run plain within walk errors h =
     subst (λ (x : List Placed). IsInTag table names walk x [] errors)
     (append_assoc body (placed at (take count run)) (placed (at + count) (take n (drop count run))) ∙ ap (λ (x : List Placed). body ++ x) (sym (placed_part at count n run plain within))) h
 
--- what nothing, the next bytes, and the next byte alone do as a part
-pub part_stays : (walk : TagWalk) (run : List ℕ) (at from : ℕ) → from ≤ length run → TakesPart walk run at from from walk
-part_stays walk run at from within = record { few = within; kind_is = refl; takes = λ table names body errors h. h }
-
+-- what the next bytes, and the next byte alone do as a part
 pub part_goes_on : (old new : TagWalk) (run rest : List ℕ) (at from count : ℕ) → list_all is_plain_byte run ≡ true → from ≤ length run → rest ≡ drop from run → count ≤ length rest → new.kind ≡ old.kind
     → ((table : Entities) (names : Texts) (body : List Placed) (errors : List ParseError) → IsInTag table names old body [] errors → IsInTag table names new (body ++ placed (at + from) (take count rest)) [] errors) → TakesPart old run at from (from + count) new
 part_goes_on old new run rest at from count plain within is few kind goes = record {

@@ -1,5 +1,6 @@
 -- A value, a character at a time.
-use Rattle.htag.proofs.Vocabulary.{◌≡◌, ℕ, zero, suc, ◌+◌, ◌-◌, ◌≤◌, Bool, true, false, true≢false, ◌&&◌, eqb, List, [], ◌∷◌, ◌++◌, length, take, drop, map, sym, refl, ap, ◌∙◌, subst, append-nil, append_assoc, arith, Option, Some, None, Vec, Global, encode_utf8_all, option_to_list, encode_utf8, string_bytes, take-append-drop, encodes-append, MissingSemicolonAfterCharacterReference, UnknownNamedCharacterReference, ErrorCode, ParseError, Placed, characters, begins, all, past, is_alphanumeric, error, error_if, without_null, and_parts, and_both, Reference, IsRead, characters_of, errors_of, Entities, Piece, IsReference, IsTable, ampersand, all-append, Pending, ValueWalk, IsPiece, AreValue, pieces_text, plain_piece, value_bytes, Begins, HasHeld, IsInValue, pieces_errors, plain_pieces, told}
+use Rattle.htag.proofs.Vocabulary.{◌≡◌, ℕ, zero, suc, ◌+◌, ◌-◌, ◌≤◌, Bool, true, false, true≢false, ◌&&◌, eqb, List, [], ◌∷◌, ◌++◌, length, take, drop, sym, refl, ap, ◌∙◌, subst, append-nil, append_assoc, arith, Vec, Global, encode_utf8_all, encode_utf8, string_bytes, take-append-drop, encodes-append, UnknownNamedCharacterReference, ParseError, Placed, characters, begins, all, past, is_alphanumeric, error_if, without_null, and_parts, and_both, Reference, IsRead, characters_of, errors_of, Entities, Piece, IsReference, IsTable, ampersand, all-append, Pending, ValueWalk, IsPiece, AreValue, pieces_text, plain_piece, value_bytes, Begins, HasHeld, IsInValue, pieces_errors, plain_pieces, told, nat_tests}
+use Rattle.std.proofs.lemmas.Bool.{and_right}
 use Rattle.std.proofs.Common.{length-append}
 use Rattle.std.proofs.lemmas.List.{take-append-le, drop-append-le}
 use Rattle.charref.specs.declared.walk.Walk.{Walk}
@@ -292,11 +293,7 @@ module _ (table : Entities) (quoted : Bool) (old new : ValueWalk) (p : Placed) (
           }
         where
           untold : (f : Reference) (at : ℕ) → told f 0 ≡ [] → told f at ≡ []
-          untold f at e = by f.missing_semicolon f.fault e where
-            by : (b : Bool) (o : Option ErrorCode) → error_if b MissingSemicolonAfterCharacterReference 0 ++ map (λ code. error code 0) (option_to_list o) ≡ [] → error_if b MissingSemicolonAfterCharacterReference at ++ map (λ code. error code at) (option_to_list o) ≡ []
-            by true o k = absurd cc
-            by false None k = refl
-            by false (Some code) k = absurd cc
+          untold f at e = grind (arith, nat_tests)
 
           in_order : (front cs : List ℕ) (c : ℕ) → ((front ++ encode_utf8_all (38 ∷ [])) ++ encode_utf8_all cs) ++ encode_utf8 c ≡ front ++ encode_utf8_all (38 ∷ (cs ++ c ∷ []))
           in_order front cs c =
@@ -401,7 +398,7 @@ module _ (table : Entities) (quoted : Bool) (old new : ValueWalk) (text : List P
         let front : List Placed = take k r.taken in
         let back : List Placed = drop k r.taken in
         let piece : Piece = record { text = r.amp ∷ front; gives = characters_of found.characters; errors = told found r.amp.at } in
-        let errors : errors_of found r.amp.at [] ≡ told found r.amp.at = ap (λ (b : Bool). told found r.amp.at ++ error_if b UnknownNamedCharacterReference r.amp.at) (and-false found.in_run) ∙ append-nil (told found r.amp.at) in
+        let errors : errors_of found r.amp.at [] ≡ told found r.amp.at = ap (λ (b : Bool). told found r.amp.at ++ error_if b UnknownNamedCharacterReference r.amp.at) (and_right found.in_run false refl) ∙ append-nil (told found r.amp.at) in
         let is : IsReference table true back piece =
         subst (λ (x : List ParseError). IsReference table true back (record { text = r.amp ∷ front; gives = characters_of found.characters; errors = x })) errors
         (subst (λ (x : List Placed). IsReference table true x (record { text = r.amp ∷ front; gives = characters_of found.characters; errors = errors_of found r.amp.at [] })) (append-nil back) ((read r.taken r.has_taken).reads r.amp r.is_amp)) in
@@ -416,7 +413,3 @@ module _ (table : Entities) (quoted : Bool) (old new : ValueWalk) (text : List P
         (bytes ∙ ap (λ (x : List ℕ). (x ++ encode_utf8_all (characters_of found.characters)) ++ encode_utf8_all (drop (length old.held.items - found.left) old.held.items)) r.bytes
         ∙ ap (λ (x : List ℕ). (value_bytes h.pieces ++ encode_utf8_all (characters_of found.characters)) ++ encode_utf8_all x) given ∙ append_assoc (value_bytes h.pieces) (encode_utf8_all (characters_of found.characters)) (encode_utf8_all (characters back)))
         (h.text_is ∙ ap (λ (x : List Placed). pieces_text h.pieces ++ x) joined) h.errors_are (subst (Begins table h.pieces) joined begins_end) (IsPiece.reference is))
-      where
-        and-false : (b : Bool) → (b && false) ≡ false
-        and-false true = refl
-        and-false false = refl

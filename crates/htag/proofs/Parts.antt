@@ -1,5 +1,6 @@
 -- Parts of a tag, one by one.
-use Rattle.htag.proofs.Vocabulary.{◌≡◌, ℕ, Bool, true, false, ◌||◌, List, [], ◌∷◌, ◌++◌, sym, refl, ap, ◌∙◌, subst, append_assoc, append-nil, Option, None, is_some, Vec, Global, flat_map-append, ParseError, Placed, begins, stops, all, is_space, past, Texts, and_parts, and_both, Entities, Attr, Seen, TagWalk, AttrsMean, HasSeen, Attribute, Part, IsPart, AreParts, parts_text, errors_after, attributes_after, has_attribute, named_by, kept, repeated, names_after, NumbersMean, HasAttributes}
+use Rattle.std.proofs.Math.Bool.{or-false}
+use Rattle.htag.proofs.Vocabulary.{◌≡◌, ℕ, Bool, true, false, ◌||◌, List, [], ◌∷◌, ◌++◌, sym, refl, ap, ◌∙◌, subst, append_assoc, append-nil, Option, None, is_some, Vec, Global, flat_map-append, ParseError, Placed, begins, stops, all, is_space, past, Texts, and_parts, and_both, Entities, Attr, Seen, TagWalk, AttrsMean, HasSeen, Attribute, Part, IsPart, AreParts, parts_text, errors_after, attributes_after, has_attribute, named_by, kept, repeated, names_after, NumbersMean, HasAttributes, arith, nat_tests}
 
 pub begins-more : (test : ℕ → Bool) (xs ys : List Placed) → begins test xs ≡ true → begins test (xs ++ ys) ≡ true
 begins-more test [] ys h = absurd cc
@@ -44,14 +45,8 @@ attributes-snoc names (x ∷ xs) part = ap (λ (e : List (List ℕ × List ℕ))
     ∙ sym (append_assoc (kept names x.attribute) (attributes_after (named_by x.attribute ++ names) xs) (kept (names_after (named_by x.attribute ++ names) xs) part.attribute))
 
 pub any-snoc : (parts : List Part) (part : Part) → has_attribute (parts ++ part ∷ []) ≡ (has_attribute parts || is_some part.attribute)
-any-snoc [] part = or-false (is_some part.attribute) where
-  or-false : (b : Bool) → (b || false) ≡ b
-  or-false true = refl
-  or-false false = refl
-any-snoc (x ∷ xs) part = ap (λ (b : Bool). is_some x.attribute || b) (any-snoc xs part) ∙ sym (assoc (is_some x.attribute) (has_attribute xs) (is_some part.attribute)) where
-  assoc : (a b c : Bool) → ((a || b) || c) ≡ (a || (b || c))
-  assoc true b c = refl
-  assoc false b c = refl
+any-snoc [] part = grind (arith, nat_tests)
+any-snoc (x ∷ xs) part = grind (arith, nat_tests, any-snoc xs part)
 
 -- a part without an attribute changes no attributes
 pub holds_plain : (names : Texts) (walk new : TagWalk) (parts : List Part) (part : Part) → part.attribute ≡ None → new.seen ≡ walk.seen → new.attrs ≡ walk.attrs → new.any ≡ walk.any → HasAttributes names walk parts → HasAttributes names new (parts ++ part ∷ [])
@@ -62,10 +57,7 @@ holds_plain names walk new parts part none seen attrs any h = record {
   attributes = subst (λ (x : Vec Attr Global). AttrsMean names x.items (attributes_after [] (parts ++ part ∷ []))) (sym attrs)
       (subst (AttrsMean names walk.attrs.items) (sym (attributes-snoc [] parts part ∙ ap (λ (a : Option Attribute). attributes_after [] parts ++ kept (names_after [] parts) a) none ∙ append-nil (attributes_after [] parts))) h.attributes);
   any = any ∙ h.any ∙ sym (any-snoc parts part ∙ ap (λ (a : Option Attribute). has_attribute parts || is_some a) none ∙ or-false (has_attribute parts));
-} where
-  or-false : (b : Bool) → (b || false) ≡ b
-  or-false true = refl
-  or-false false = refl
+}
 
 pub holds_same : (names : Texts) (walk new : TagWalk) (parts : List Part) → new.seen ≡ walk.seen → new.attrs ≡ walk.attrs → new.any ≡ walk.any → HasAttributes names walk parts → HasAttributes names new parts
 holds_same names walk new parts seen attrs any h = record {

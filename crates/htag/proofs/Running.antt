@@ -1,5 +1,5 @@
 -- A reference of which no key is known when its walk ends: its run of alphanumerics goes on.
-use Rattle.htag.proofs.Vocabulary.{◌≡◌, ℕ, zero, suc, ◌-◌, ◌≤◌, Bool, true, false, true≢false, not, ◌||◌, ◌&&◌, eqb, List, [], ◌∷◌, ◌++◌, length, take, drop, map, slice_get, sym, refl, ap, ◌∙◌, subst, append-nil, arith, Option, Some, None, if◌then◌else◌, option_to_list, codes, ErrorCode, MissingSemicolonAfterCharacterReference, UnknownNamedCharacterReference, ParseError, Placed, characters, lowered, place, begins, all, past, is_alphanumeric, is_space, error, error_if, Reference, IsRead, characters_of, errors_of, Entities, Piece, IsReference, ampersand, and_parts, and_both, longest_among, told}
+use Rattle.htag.proofs.Vocabulary.{◌≡◌, ℕ, zero, suc, ◌-◌, ◌≤◌, Bool, true, false, true≢false, not, ◌||◌, ◌&&◌, eqb, List, [], ◌∷◌, ◌++◌, length, take, drop, map, slice_get, sym, refl, ap, ◌∙◌, subst, append-nil, arith, Option, Some, None, if◌then◌else◌, option_to_list, codes, ErrorCode, MissingSemicolonAfterCharacterReference, UnknownNamedCharacterReference, ParseError, Placed, characters, lowered, place, begins, all, past, is_alphanumeric, is_space, error, error_if, Reference, IsRead, characters_of, errors_of, Entities, Piece, IsReference, ampersand, and_parts, and_both, longest_among, told, nat_tests}
 use Rattle.std.proofs.Common.{nat_eq, nat_lt, cond}
 use Rattle.std.specs.List.{starts_with}
 use Rattle.names.specs.declared.error.ErrorCode.TheVariants.{CharacterReferenceOutsideUnicodeRange, ControlCharacterReference, NoncharacterCharacterReference, NullCharacterReference, SurrogateCharacterReference}
@@ -16,10 +16,7 @@ starts-more (x ∷ xs) ys (k ∷ ks) h = let parts = and_parts (nat_eq k x) (sta
 none_later : (x : Entry) (o : Option Entry) (b : Bool) → cond b (longer x o) o ≡ None → (b ≡ false) × (o ≡ None)
 none_later x o false h = (refl, h)
 none_later x None true h = absurd cc
-none_later x (Some f) true h = by (nat_lt (length f.key) (length x.key)) h where
-  by : (c : Bool) → cond c (Some x) (Some f) ≡ None → (true ≡ false) × (Some f ≡ None)
-  by true e = absurd cc
-  by false e = absurd cc
+none_later x (Some f) true h = grind (arith, nat_tests)
 
 none_among : (table : Entities) (text : List ℕ) (k : ℕ) (e : Entry) → longest table text ≡ None → slice_get table k ≡ Some e → starts_with nat_eq text e.key ≡ true → ⊥
 none_among [] text k e none at starts = cc
@@ -45,10 +42,7 @@ has_unknown (e ∷ es) = is_unknown e.code || has_unknown es
 ends_unknown : (es : List ParseError) (at : ℕ) → has_unknown (es ++ error UnknownNamedCharacterReference at ∷ []) ≡ true
 unfolding is_unknown
 ends_unknown [] at = refl
-ends_unknown (e ∷ es) at = by (is_unknown e.code) (ends_unknown es at) where
-  by : (b : Bool) → has_unknown (es ++ error UnknownNamedCharacterReference at ∷ []) ≡ true → (b || has_unknown (es ++ error UnknownNamedCharacterReference at ∷ [])) ≡ true
-  by true h = refl
-  by false h = h
+ends_unknown (e ∷ es) at = grind (arith, nat_tests, ends_unknown es at)
 
 missing_known : (b : Bool) (at : ℕ) (es : List ParseError) → has_unknown es ≡ false → has_unknown (error_if b MissingSemicolonAfterCharacterReference at ++ es) ≡ false
 unfolding is_unknown
@@ -104,10 +98,9 @@ quiet_piece table amp rest piece (IsReference.named amp' name entry is letter fo
 quiet_piece table amp rest piece (IsReference.kept amp' entry is letter found kept e) text errors first none =
     let same : amp' ≡ amp = (let h : amp' ∷ [] ≡ amp ∷ [] = sym (ap (λ (x : Piece). x.text) e) ∙ text in cc) in
     absurd (none entry (ap (λ (x : Placed). longest table (characters (x ∷ rest))) (sym same) ∙ found))
-quiet_piece table amp rest piece (IsReference.unknown amp' is letter none' e) text errors first none = by (begins (λ c. eqb c 59) (past is_alphanumeric rest)) (sym (ap (λ (x : Piece). x.errors) e) ∙ errors) where
-  by : (b : Bool) → error_if b UnknownNamedCharacterReference amp'.at ≡ [] → b ≡ false
-  by true h = absurd cc
-  by false h = refl
+quiet_piece table amp rest piece (IsReference.unknown amp' is letter none' e) text errors first none =
+    let silent : error_if (begins (λ c. eqb c 59) (past is_alphanumeric rest)) UnknownNamedCharacterReference amp'.at ≡ [] = sym (ap (λ (x : Piece). x.errors) e) ∙ errors in
+    grind (arith, nat_tests)
 quiet_piece table amp rest piece (IsReference.decimal opening digits close is digit runs closes e) text errors first none = absurd (no opening is (sym (ap (λ (x : Piece). x.text) e) ∙ text)) where
   no : (xs : List Placed) → characters xs ≡ codes "&#" → xs ++ digits ++ close ≡ amp ∷ [] → ⊥
   no [] l t = cc
@@ -158,11 +151,7 @@ semicolon = record { ch = 59; at = 0 }
 
 ends_before : (xs : List Placed) → all is_alphanumeric xs ≡ false → begins (λ c. eqb c 59) (past is_alphanumeric (xs ++ semicolon ∷ [])) ≡ begins (λ c. eqb c 59) (past is_alphanumeric xs)
 ends_before [] h = absurd cc
-ends_before (x ∷ xs) h = by (is_alphanumeric x.ch) refl (λ e. ends_before xs e) h where
-  by : (b : Bool) → is_alphanumeric x.ch ≡ b → (all is_alphanumeric xs ≡ false → begins (λ c. eqb c 59) (past is_alphanumeric (xs ++ semicolon ∷ [])) ≡ begins (λ c. eqb c 59) (past is_alphanumeric xs))
-      → (b && all is_alphanumeric xs) ≡ false → begins (λ c. eqb c 59) (past is_alphanumeric (x ∷ xs ++ semicolon ∷ [])) ≡ begins (λ c. eqb c 59) (past is_alphanumeric (x ∷ xs))
-  by true e later k = rw e (later k)
-  by false e later k = rw e refl
+ends_before (x ∷ xs) h = grind (arith, nat_tests, ends_before xs)
 
 module _ (table : Entities) (text : List Placed) (found : Reference) (long : 1 ≤ length text) (read : (after : List Placed) → IsRead table true text after found) (in_run : found.in_run ≡ true) where
   amp : Placed

@@ -1,5 +1,5 @@
 -- Stamps of the names that a tag has had.
-use Rattle.htag.proofs.Vocabulary.{◌≡◌, ℕ, zero, suc, ◌<◌, ◌≤◌, Bool, true, false, not, ◌||◌, eqb, List, [], ◌∷◌, ◌++◌, length, take, get_or, sym, refl, ap, ◌∙◌, arith, take_all, eqb-true, nat_tests, eqb_self, Seen, has_number, HasSeen}
+use Rattle.htag.proofs.Vocabulary.{◌≡◌, ℕ, zero, suc, ◌<◌, ◌≤◌, true, false, not, eqb, List, [], ◌∷◌, ◌++◌, length, take, get_or, sym, refl, ap, ◌∙◌, arith, take_all, nat_tests, Seen, has_number, HasSeen}
 use Rattle.std.proofs.Common.{replicate}
 use Rattle.std.specs.Prelude.{slice_set}
 use Rattle.htag.specs.Seen.{stamp}
@@ -31,18 +31,9 @@ past_all [] n h = refl
 past_all (x ∷ xs) zero h = absurd (omega (arith, h))
 past_all (x ∷ xs) (suc n) h = past_all xs n (omega (arith, h))
 
-different : (m n : ℕ) → eqb m n ≡ false → m ≡ n → ⊥
-different m n e is = let never : true ≡ false = sym (eqb_self n) ∙ ap (λ (x : ℕ). eqb x n) (sym is) ∙ e in absurd cc
-
 -- a name more
 pub marked : (old new : Seen) (n : ℕ) (numbers : List ℕ) → HasSeen old numbers → new.tag ≡ old.tag → stamp new n ≡ old.tag → ((m : ℕ) → (m ≡ n → ⊥) → stamp new m ≡ stamp old m) → HasSeen new (n ∷ numbers)
-marked old new n numbers h same here others = record { exact = λ m. exact_at m (eqb m n) refl } where
-  exact_at : (m : ℕ) (b : Bool) → eqb m n ≡ b → eqb (stamp new m) new.tag ≡ (eqb m n || has_number m numbers)
-  exact_at m true e =
-      let is : stamp new m ≡ new.tag = ap (stamp new) (eqb-true m n e) ∙ here ∙ sym same in
-      ap (λ (x : ℕ). eqb x new.tag) is ∙ eqb_self new.tag ∙ sym (ap (λ (b : Bool). b || has_number m numbers) e)
-  exact_at m false e =
-      ap (λ (x : ℕ). eqb x new.tag) (others m (different m n e)) ∙ ap (eqb (stamp old m)) same ∙ h.exact m ∙ sym (ap (λ (b : Bool). b || has_number m numbers) e)
+marked old new n numbers h same here others = record { exact = λ m. grind (arith, nat_tests, h.exact m, others m, here, same) }
 
 -- a name past all that have a stamp
 pub no_stamp : (seen : Seen) (n : ℕ) (numbers : List ℕ) → 0 < seen.tag → HasSeen seen numbers → length seen.stamps.items ≤ n → true ≡ not (has_number n numbers)

@@ -1,8 +1,9 @@
 -- What follows an attribute's name: `=` and a value.
-use Rattle.htag.proofs.Vocabulary.{◌≡◌, ℕ, Bool, true, false, not, ◌||◌, ◌&&◌, eqb, List, [], ◌∷◌, ◌++◌, sym, refl, ap, ◌∙◌, subst, append_assoc, append-nil, eqb-true, MissingWhitespaceBetweenAttributes, ParseError, Placed, Texts, begins, stops, all, is_space, is_equals, is_greater, is_quote, error, error_if, and_parts, and_both, Entities, TagState, TagWalk, Pending, ValueWalk, pieces_text, value_bytes, HasHeld, IsInValue, EndsValue, pieces_errors, IsPart, ends_name, ends_attribute_name, ends_unquoted, attribute_name_errors, value_errors, unquoted_errors, NoValue, HasPhase, IsPast, IsInTag, KeepsTag, EndsAttribute}
+use Rattle.htag.proofs.Vocabulary.{◌≡◌, ℕ, Bool, true, false, not, ◌||◌, ◌&&◌, eqb, List, [], ◌∷◌, ◌++◌, sym, refl, ap, ◌∙◌, subst, append_assoc, append-nil, MissingWhitespaceBetweenAttributes, ParseError, Placed, Texts, begins, stops, all, is_space, is_equals, is_greater, is_quote, error, error_if, and_parts, and_both, Entities, TagState, TagWalk, Pending, ValueWalk, pieces_text, value_bytes, HasHeld, IsInValue, EndsValue, pieces_errors, IsPart, ends_name, ends_attribute_name, ends_unquoted, attribute_name_errors, value_errors, unquoted_errors, NoValue, HasPhase, IsPast, IsInTag, KeepsTag, EndsAttribute, InName, arith, nat_tests}
 use Rattle.names.specs.declared.error.ErrorCode.TheVariants.{MissingAttributeValue}
 use Rattle.htag.specs.declared.tag_state.TagState.TheVariants as phase
 use Rattle.htag.specs.ValueWalk.{TakesInValue}
+use Rattle.htag.specs.TagWalk.{PastName}
 use Rattle.htag.proofs.InValue.{looks_ahead}
 use Rattle.htag.specs.Tag.{is_sign}
 use Rattle.htag.proofs.Parts.{begins-more, all-snoc}
@@ -33,10 +34,7 @@ ends_by_space c e = rw e refl
 
 pub sign_stops : (sign : List Placed) → is_sign sign ≡ true → stops ends_attribute_name sign ≡ true
 sign_stops [] h = refl
-sign_stops (x ∷ xs) h = by (is_space x.ch) refl where
-  by : (b : Bool) → is_space x.ch ≡ b → ends_attribute_name x.ch ≡ true
-  by true e = ends_by_space x.ch e
-  by false e = let parts = and_parts (is_equals x.ch) (all is_space xs) (sym (other_first x xs e) ∙ h) in ap ends_attribute_name (eqb-true x.ch 61 parts.0)
+sign_stops (x ∷ xs) h = grind (arith, nat_tests)
 
 -- nothing is read of a value yet
 begun_value : (table : Entities) (quoted : Bool) (value : ValueWalk) → NoValue value → IsInValue table quoted value [] [] []
@@ -60,76 +58,48 @@ module _ (table : Entities) (names : Texts) (walk : TagWalk) (body : List Placed
         goes_on table names walk body (p ∷ []) errors h new [] errors (sym (append-nil errors)) named seen attrs any (λ b e. subst (λ (x : TagState). IsPast x b) (sym then) (gone b e)) past_it
         (subst (λ (x : List ParseError). HasPhase new.phase table new h.parts (h.held ++ p ∷ []) x) (sym (append-nil h.own)) (subst (λ (x : TagState). HasPhase x table new h.parts (h.held ++ p ∷ []) h.own) (sym then) has))
 
+    -- the character is the first after a name, or one more
+    past_first : (test : List Placed → Bool) → InName walk h.held h.own → test (p ∷ []) ≡ true → ends_attribute_name p.ch ≡ true → PastName test new (h.held ++ p ∷ []) h.own
+    past_first test n is stop =
+        record { name = h.held; sign = p ∷ []; held_is = refl; has_name = name_stays walk new h.held attribute at n.has_name; no_value = subst NoValue (sym value) n.no_value; is_sign = is; begun = stop; own_is = n.own_is }
+
+    past_more : (was test : List Placed → Bool) (n : PastName was walk h.held h.own) → test (n.sign ++ p ∷ []) ≡ true → PastName test new (h.held ++ p ∷ []) h.own
+    past_more was test n is = record {
+      name = n.name;
+      sign = n.sign ++ p ∷ [];
+      held_is = ap (λ (x : List Placed). x ++ p ∷ []) n.held_is ∙ append_assoc n.name n.sign (p ∷ []);
+      has_name = name_stays walk new n.name attribute at n.has_name;
+      no_value = subst NoValue (sym value) n.no_value;
+      is_sign = is;
+      begun = begins-more ends_attribute_name n.sign (p ∷ []) n.begun;
+      own_is = n.own_is;
+    }
+
     pub space_after_name : walk.phase ≡ phase.AttributeName → new.phase ≡ phase.AfterAttributeName → is_space p.ch ≡ true → ends_attribute_name p.ch ≡ true → IsInTag table names new (body ++ p ∷ []) [] errors
     space_after_name before then is stop =
-        let n = held_in table names walk body (p ∷ []) errors h phase.AttributeName before in
-        moves phase.AfterAttributeName then (λ b e. e) (past_is table names walk body (p ∷ []) errors h phase.AttributeName before) (record {
-          name = h.held;
-          sign = p ∷ [];
-          held_is = refl;
-          has_name = name_stays walk new h.held attribute at n.has_name;
-          no_value = subst NoValue (sym value) n.no_value;
-          is_sign = and_both (is_space p.ch) true is refl;
-          begun = stop;
-          own_is = n.own_is;
-        })
+        moves phase.AfterAttributeName then (λ b e. e) (past_is table names walk body (p ∷ []) errors h phase.AttributeName before)
+        (past_first (all is_space) (held_in table names walk body (p ∷ []) errors h phase.AttributeName before) (and_both (is_space p.ch) true is refl) stop)
 
     pub equals_after_name : walk.phase ≡ phase.AttributeName → new.phase ≡ phase.BeforeValue → p.ch ≡ 61 → IsInTag table names new (body ++ p ∷ []) [] errors
     equals_after_name before then is =
-        let n = held_in table names walk body (p ∷ []) errors h phase.AttributeName before in
-        moves phase.BeforeValue then (λ b e. e) (past_is table names walk body (p ∷ []) errors h phase.AttributeName before) (record {
-          name = h.held;
-          sign = p ∷ [];
-          held_is = refl;
-          has_name = name_stays walk new h.held attribute at n.has_name;
-          no_value = subst NoValue (sym value) n.no_value;
-          is_sign = ap (λ (c : ℕ). is_sign (record { ch = c; at = p.at } ∷ [])) is;
-          begun = ap ends_attribute_name is;
-          own_is = n.own_is;
-        })
+        moves phase.BeforeValue then (λ b e. e) (past_is table names walk body (p ∷ []) errors h phase.AttributeName before)
+        (past_first is_sign (held_in table names walk body (p ∷ []) errors h phase.AttributeName before) (ap (λ (c : ℕ). is_sign (record { ch = c; at = p.at } ∷ [])) is) (ap ends_attribute_name is))
 
     -- more white space, after a name and after `=`
     pub space_again : walk.phase ≡ phase.AfterAttributeName → new.phase ≡ phase.AfterAttributeName → is_space p.ch ≡ true → IsInTag table names new (body ++ p ∷ []) [] errors
     space_again before then is =
         let n = held_in table names walk body (p ∷ []) errors h phase.AfterAttributeName before in
-        moves phase.AfterAttributeName then (λ b e. e) (past_is table names walk body (p ∷ []) errors h phase.AfterAttributeName before) (record {
-          name = n.name;
-          sign = n.sign ++ p ∷ [];
-          held_is = ap (λ (x : List Placed). x ++ p ∷ []) n.held_is ∙ append_assoc n.name n.sign (p ∷ []);
-          has_name = name_stays walk new n.name attribute at n.has_name;
-          no_value = subst NoValue (sym value) n.no_value;
-          is_sign = all-snoc is_space n.sign p n.is_sign is;
-          begun = begins-more ends_attribute_name n.sign (p ∷ []) n.begun;
-          own_is = n.own_is;
-        })
+        moves phase.AfterAttributeName then (λ b e. e) (past_is table names walk body (p ∷ []) errors h phase.AfterAttributeName before) (past_more _ (all is_space) n (all-snoc is_space n.sign p n.is_sign is))
 
     pub equals_after_space : walk.phase ≡ phase.AfterAttributeName → new.phase ≡ phase.BeforeValue → p.ch ≡ 61 → IsInTag table names new (body ++ p ∷ []) [] errors
     equals_after_space before then is =
         let n = held_in table names walk body (p ∷ []) errors h phase.AfterAttributeName before in
-        moves phase.BeforeValue then (λ b e. e) (past_is table names walk body (p ∷ []) errors h phase.AfterAttributeName before) (record {
-          name = n.name;
-          sign = n.sign ++ p ∷ [];
-          held_is = ap (λ (x : List Placed). x ++ p ∷ []) n.held_is ∙ append_assoc n.name n.sign (p ∷ []);
-          has_name = name_stays walk new n.name attribute at n.has_name;
-          no_value = subst NoValue (sym value) n.no_value;
-          is_sign = spaces_sign n.sign p n.is_sign is;
-          begun = begins-more ends_attribute_name n.sign (p ∷ []) n.begun;
-          own_is = n.own_is;
-        })
+        moves phase.BeforeValue then (λ b e. e) (past_is table names walk body (p ∷ []) errors h phase.AfterAttributeName before) (past_more _ is_sign n (spaces_sign n.sign p n.is_sign is))
 
     pub space_after_equals : walk.phase ≡ phase.BeforeValue → new.phase ≡ phase.BeforeValue → is_space p.ch ≡ true → IsInTag table names new (body ++ p ∷ []) [] errors
     space_after_equals before then is =
         let n = held_in table names walk body (p ∷ []) errors h phase.BeforeValue before in
-        moves phase.BeforeValue then (λ b e. e) (past_is table names walk body (p ∷ []) errors h phase.BeforeValue before) (record {
-          name = n.name;
-          sign = n.sign ++ p ∷ [];
-          held_is = ap (λ (x : List Placed). x ++ p ∷ []) n.held_is ∙ append_assoc n.name n.sign (p ∷ []);
-          has_name = name_stays walk new n.name attribute at n.has_name;
-          no_value = subst NoValue (sym value) n.no_value;
-          is_sign = sign_more n.sign p n.is_sign is;
-          begun = begins-more ends_attribute_name n.sign (p ∷ []) n.begun;
-          own_is = n.own_is;
-        })
+        moves phase.BeforeValue then (λ b e. e) (past_is table names walk body (p ∷ []) errors h phase.BeforeValue before) (past_more _ is_sign n (sign_more n.sign p n.is_sign is))
 
     -- a quote
     pub quote_follows : walk.phase ≡ phase.BeforeValue → new.phase ≡ phase.Quoted p.ch → is_quote p.ch ≡ true → IsInTag table names new (body ++ p ∷ []) [] errors

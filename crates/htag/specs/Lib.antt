@@ -8,3 +8,4 @@ pub mod TagWalk
 pub mod Steps
 pub mod Run
 pub mod AtOnce
+pub mod Vocabulary

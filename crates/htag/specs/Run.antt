@@ -1,5 +1,6 @@
 -- Runs of plain characters in a tag.
-use Rattle.std.specs.Prelude.{◌≡◌, ℕ, ◌≤◌, Bool, not, ◌&&◌, ◌||◌, ◌==◌, nat_le, List, [], ◌++◌, length, take, Result, MatchResult}
+use Rattle.std.specs.Prelude.{◌≡◌, ℕ, ◌≤◌, Bool, not, ◌&&◌, ◌||◌, ◌==◌, nat_le, true, List, [], ◌++◌, length, take, Result, MatchResult}
+use Rattle.std.specs.List.{list_all}
 use Rattle.names.specs.declared.error.ParseError.{ParseError}
 use Rattle.names.specs.declared.placed.Placed.{Placed}
 use Rattle.names.specs.declared.refusal.Refusal.{Refusal}
@@ -7,6 +8,7 @@ use Rattle.names.specs.declared.refusal.Refusal.TheVariants.{Memory}
 use Rattle.names.specs.Names.{Texts}
 use Rattle.names.specs.Placed.{placed}
 use Rattle.charref.specs.Reference.{Entities}
+use Rattle.htext.specs.Run.{is_plain_byte}
 use Rattle.htag.specs.declared.walk.TagWalk.{TagWalk}
 use Rattle.htag.specs.Tag.{ends_unquoted, is_odd}
 use Rattle.htag.specs.TagWalk.{IsInTag}
@@ -18,6 +20,17 @@ is_word_byte byte = (nat_le 97 byte && nat_le byte 122) || (nat_le 48 byte && na
 -- a byte of a value without quotes that neither ends it nor is a fault in it
 abbrev pub is_unquoted_byte : ℕ → Bool
 is_unquoted_byte byte = not (ends_unquoted byte || is_odd byte)
+
+-- a run of plain characters, and a place in it
+pub record IsPlainFrom (from : ℕ) (run : List ℕ) : Type 0 where
+  pub plain : list_all is_plain_byte run ≡ true
+  pub within : from ≤ length run
+
+-- words of this length at the front of a rest of a run are put after this text
+pub record PushesWords (old rest : List ℕ) (count : ℕ) (new : List ℕ) : Type 0 where
+  pub few : count ≤ length rest
+  pub words : list_all is_word_byte (take count rest) ≡ true
+  pub bytes : new ≡ old ++ take count rest
 
 -- The tag goes on with the bytes of the run between these two places, the first byte of the run at this one, which changes neither names nor errors.
 pub record TakesPart (old : TagWalk) (run : List ℕ) (at from to : ℕ) (new : TagWalk) : Type 0 where

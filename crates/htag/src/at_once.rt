@@ -2,16 +2,8 @@
 
 ghost use Rattle.std.specs.Prelude.{◌≡◌, ◌<◌, ◌≤◌, ◌==◌, ◌+◌, ℕ, List, [], false, OnOk, IfErr, IfOk, IfSome, length, slice_index, take, true};
 ghost use Rattle.std.specs.List.{list_all};
-ghost use Rattle.names.specs.Names.{Grows};
-ghost use Rattle.names.specs.declared.refusal.Refusal.TheVariants.{Memory};
-ghost use Rattle.htext.specs.Run.{is_plain_byte};
-ghost use Rattle.charref.specs.Reference.{Entities};
-ghost use Rattle.names.specs.Placed.{is_quote, placed};
-ghost use Rattle.htag.specs.declared.kind.TagKind.TheVariants.{Start};
-ghost use Rattle.htag.specs.AtOnce.{IsAfterName, IsBareName, IsName, IsPlainAttribute, IsPlainValue, ReadsPart};
-ghost use Rattle.htag.specs.Steps.{KeepsTag};
-ghost use Rattle.htag.specs.TagWalk.{HasAttributes, WholeOrNot};
-ghost use Rattle.htag.specs.Tag.{Part, ends_name, ends_unquoted, tag_close};
+ghost use Rattle.htag.specs.Vocabulary.{Grows, Memory, is_plain_byte, Entities, is_quote, placed, Start, IsAfterName, IsBareName, IsName, IsPlainAttribute, IsPlainValue, ReadsPart, KeepsTag};
+ghost use Rattle.htag.specs.Vocabulary.{HasAttributes, WholeOrNot, Part, ends_name, tag_close};
 
 use crate::attribute::MAX_NUMBER;
 use crate::kind::TagKind;
@@ -52,22 +44,6 @@ fn ends(byte: u8) -> bool
     ensures { result ≡ ends_name byte }
 {
     byte == b'>' || byte == b'/' || byte.is_ascii_whitespace()
-}
-
-/// Whether a byte ends a value without quotes.
-#[inline(always)]
-fn ends_unquoted(byte: u8) -> bool
-    ensures { result ≡ ends_unquoted byte }
-{
-    byte == b'>' || byte.is_ascii_whitespace()
-}
-
-/// Whether a byte is a quote.
-#[inline(always)]
-fn is_mark(byte: u8) -> bool
-    ensures { result ≡ is_quote byte }
-{
-    byte == b'"' || byte == b'\''
 }
 
 /// The length of the `>` or `/>` at the front of a run, or 0.
@@ -137,7 +113,10 @@ fn unquoted_value(run: &[u8]) -> Option<PlainValue>
 {
     let rest = &run[1..];
     let value = unquoted_run(rest);
-    if value > 0 && value < rest.len() && ends_unquoted(rest[value]) {
+    if value > 0
+        && value < rest.len()
+        && (rest[value] == b'>' || rest[value].is_ascii_whitespace())
+    {
         return Some(PlainValue {
             before: 1,
             value,
@@ -157,7 +136,7 @@ fn plain_value(run: &[u8]) -> Option<PlainValue>
         return None;
     }
     match run[0] {
-        b'=' if run.len() > 1 && is_mark(run[1]) => quoted_value(run),
+        b'=' if run.len() > 1 && matches!(run[1], b'"' | b'\'') => quoted_value(run),
         b'=' => unquoted_value(run),
         b'/' | b'>' => Some(PlainValue {
             before: 0,
@@ -185,10 +164,8 @@ fn attribute_front(run: &[u8]) -> Option<PlainAttribute>
     if name == 0 {
         return None;
     }
-    match plain_value(&run[name..]) {
-        Some(value) => Some(PlainAttribute { name, value }),
-        None => None,
-    }
+    let value = plain_value(&run[name..])?;
+    Some(PlainAttribute { name, value })
 }
 
 impl<'t> TagWalk<'t> {

@@ -1,18 +1,13 @@
 //! An attribute of a tag.
 
 ghost use Rattle.std.specs.Prelude.{◌≡◌, ◌∷◌, ◌++◌, List, [], OnOk, MatchResult};
-ghost use Rattle.names.specs.declared.placed.Placed.{Placed as Character};
-ghost use Rattle.names.specs.Names.{Texts, Grows};
-ghost use Rattle.charref.specs.Reference.{Entities};
-ghost use Rattle.htag.specs.Steps.{EndsAttribute, EndsAttributeValue, BeginsAttribute, AddsToName};
-ghost use Rattle.htag.specs.TagWalk.{IsInTag, StepsInTag, TakesInTag};
-ghost use Rattle.names.specs.declared.refusal.Refusal.TheVariants.{Memory};
+ghost use Rattle.htag.specs.Vocabulary.{Character, Texts, Grows, Entities, EndsAttribute, EndsAttributeValue, BeginsAttribute, AddsToName, IsInTag, StepsInTag, TakesInTag, Memory};
 
-use crate::push::{ends_name, keep_if, keep_null, push_lowered};
+use crate::push::{Errors, ends_name, keep_if, keep_null, push_lowered};
 use crate::tag_state::TagState;
 use crate::walk::TagWalk;
 use charref::Table;
-use names::{Attr, ErrorCode, Names, ParseError, Refusal};
+use names::{Attr, ErrorCode, Names, ParseError, Placed, Refusal};
 use std::alloc::AllocError;
 use std::mem;
 
@@ -24,44 +19,30 @@ impl<'t> TagWalk<'t> {
     #[inline(always)]
     pub(crate) fn begin_attribute(
         &mut self,
-        ch: char,
-        at: u64,
-        errors: &mut Vec<ParseError>,
+        next: Placed,
+        errors: &mut Errors,
     ) -> Result<(), AllocError>
-        ensures { OnOk result (BeginsAttribute self.old (record { ch = ch; at = at }) errors.old.items self.new errors.new.items) }
+        ensures { OnOk result (BeginsAttribute self.old next errors.old.items self.new errors.new.items) }
     {
-        keep_if(
-            ch == '=',
-            ErrorCode::UnexpectedEqualsSignBeforeAttributeName,
-            at,
-            errors,
-        )?;
+        let code = ErrorCode::UnexpectedEqualsSignBeforeAttributeName;
+        keep_if(next.ch == '=', code, next.at, errors)?;
         self.attribute.clear();
         self.value.begin();
-        self.place = at;
+        self.place = next.at;
         self.phase = TagState::AttributeName;
-        self.add_to_name(ch, at, errors)
+        self.add_to_name(next, errors)
     }
 
     /// Adds a character to the attribute's name.
     #[inline(always)]
-    pub(crate) fn add_to_name(
-        &mut self,
-        ch: char,
-        at: u64,
-        errors: &mut Vec<ParseError>,
-    ) -> Result<(), AllocError>
-        ensures { OnOk result (AddsToName self.old (record { ch = ch; at = at }) errors.old.items self.new errors.new.items) }
+    fn add_to_name(&mut self, next: Placed, errors: &mut Errors) -> Result<(), AllocError>
+        ensures { OnOk result (AddsToName self.old next errors.old.items self.new errors.new.items) }
     {
-        let odd = ch == '"' || ch == '\'' || ch == '<';
-        keep_if(
-            odd,
-            ErrorCode::UnexpectedCharacterInAttributeName,
-            at,
-            errors,
-        )?;
-        keep_null(ch, at, errors)?;
-        push_lowered(&mut self.attribute, ch)
+        let odd = next.ch == '"' || next.ch == '\'' || next.ch == '<';
+        let code = ErrorCode::UnexpectedCharacterInAttributeName;
+        keep_if(odd, code, next.at, errors)?;
+        keep_null(next, errors)?;
+        push_lowered(&mut self.attribute, next.ch)
     }
 
     /// The attribute name state (`#attribute-name-state`).
@@ -69,28 +50,26 @@ impl<'t> TagWalk<'t> {
     pub(crate) fn in_attribute_name(
         &mut self,
         names: &mut Names,
-        ch: char,
-        at: u64,
-        errors: &mut Vec<ParseError>,
+        next: Placed,
+        errors: &mut Errors,
     ) -> Result<bool, Refusal>
         requires { self.old.phase ≡ TagState.AttributeName }
-        ensures takes { (table : Entities) → StepsInTag table names.old names.new self.old (record { ch = ch; at = at })
-            errors.old.items result self.new errors.new.items }
+        ensures takes { (table : Entities) → StepsInTag table names.old names.new self.old next errors.old.items result self.new errors.new.items }
         ensures grows { Grows names.old names.new }
         ensures kind { OnOk result (self.new.kind ≡ self.old.kind) }
     {
-        if ch.is_ascii_whitespace() {
+        if next.ch.is_ascii_whitespace() {
             self.phase = TagState::AfterAttributeName;
             return Ok(false);
         }
-        if ch == '=' {
+        if next.ch == '=' {
             self.phase = TagState::BeforeValue;
             return Ok(false);
         }
-        if ch == '/' || ch == '>' {
-            return self.past_attribute(names, ch, at, errors);
+        if next.ch == '/' || next.ch == '>' {
+            return self.past_attribute(names, next, errors);
         }
-        self.add_to_name(ch, at, errors)?;
+        self.add_to_name(next, errors)?;
         Ok(false)
     }
 
@@ -99,24 +78,22 @@ impl<'t> TagWalk<'t> {
     pub(crate) fn after_attribute_name(
         &mut self,
         names: &mut Names,
-        ch: char,
-        at: u64,
-        errors: &mut Vec<ParseError>,
+        next: Placed,
+        errors: &mut Errors,
     ) -> Result<bool, Refusal>
         requires { self.old.phase ≡ TagState.AfterAttributeName }
-        ensures takes { (table : Entities) → StepsInTag table names.old names.new self.old (record { ch = ch; at = at })
-            errors.old.items result self.new errors.new.items }
+        ensures takes { (table : Entities) → StepsInTag table names.old names.new self.old next errors.old.items result self.new errors.new.items }
         ensures grows { Grows names.old names.new }
         ensures kind { OnOk result (self.new.kind ≡ self.old.kind) }
     {
-        if ch.is_ascii_whitespace() {
+        if next.ch.is_ascii_whitespace() {
             return Ok(false);
         }
-        if ch == '=' {
+        if next.ch == '=' {
             self.phase = TagState::BeforeValue;
             return Ok(false);
         }
-        self.past_attribute(names, ch, at, errors)
+        self.past_attribute(names, next, errors)
     }
 
     /// The before attribute value state (`#before-attribute-value-state`).
@@ -125,28 +102,27 @@ impl<'t> TagWalk<'t> {
         &mut self,
         table: &'t Table,
         names: &mut Names,
-        ch: char,
-        at: u64,
-        errors: &mut Vec<ParseError>,
+        next: Placed,
+        errors: &mut Errors,
     ) -> Result<bool, Refusal>
         requires { self.old.phase ≡ TagState.BeforeValue }
-        ensures takes { StepsInTag table.now names.old names.new self.old (record { ch = ch; at = at }) errors.old.items result self.new errors.new.items }
+        ensures takes { StepsInTag table.now names.old names.new self.old next errors.old.items result self.new errors.new.items }
         ensures grows { Grows names.old names.new }
         ensures kind { OnOk result (self.new.kind ≡ self.old.kind) }
     {
-        if ch.is_ascii_whitespace() {
+        if next.ch.is_ascii_whitespace() {
             return Ok(false);
         }
-        if ch == '"' || ch == '\'' {
-            self.phase = TagState::Quoted(ch);
+        if next.ch == '"' || next.ch == '\'' {
+            self.phase = TagState::Quoted(next.ch);
             return Ok(false);
         }
-        if ch == '>' {
-            keep_if(true, ErrorCode::MissingAttributeValue, at, errors)?;
-            return self.past_attribute(names, ch, at, errors);
+        if next.ch == '>' {
+            keep_if(true, ErrorCode::MissingAttributeValue, next.at, errors)?;
+            return self.past_attribute(names, next, errors);
         }
         self.phase = TagState::Unquoted;
-        self.value.take(table, false, ch, at, errors)?;
+        self.value.take(table, false, next, errors)?;
         Ok(false)
     }
 
@@ -157,21 +133,19 @@ impl<'t> TagWalk<'t> {
         &mut self,
         table: &'t Table,
         mark: char,
-        ch: char,
-        at: u64,
-        errors: &mut Vec<ParseError>,
+        next: Placed,
+        errors: &mut Errors,
     ) -> Result<bool, Refusal>
         requires { self.old.phase ≡ TagState.Quoted mark }
-        ensures takes { (names : Texts) → StepsInTag table.now names names self.old (record { ch = ch; at = at })
-            errors.old.items result self.new errors.new.items }
+        ensures takes { (names : Texts) → StepsInTag table.now names names self.old next errors.old.items result self.new errors.new.items }
         ensures kind { OnOk result (self.new.kind ≡ self.old.kind) }
     {
-        if ch == mark {
+        if next.ch == mark {
             self.value.end(errors)?;
             self.phase = TagState::AfterQuoted;
             return Ok(false);
         }
-        self.value.take(table, true, ch, at, errors)?;
+        self.value.take(table, true, next, errors)?;
         Ok(false)
     }
 
@@ -180,20 +154,19 @@ impl<'t> TagWalk<'t> {
         &mut self,
         table: &'t Table,
         names: &mut Names,
-        ch: char,
-        at: u64,
-        errors: &mut Vec<ParseError>,
+        next: Placed,
+        errors: &mut Errors,
     ) -> Result<bool, Refusal>
         requires { self.old.phase ≡ TagState.Unquoted }
-        ensures takes { StepsInTag table.now names.old names.new self.old (record { ch = ch; at = at }) errors.old.items result self.new errors.new.items }
+        ensures takes { StepsInTag table.now names.old names.new self.old next errors.old.items result self.new errors.new.items }
         ensures grows { Grows names.old names.new }
         ensures kind { OnOk result (self.new.kind ≡ self.old.kind) }
     {
-        if ch == '>' || ch.is_ascii_whitespace() {
+        if next.ch == '>' || next.ch.is_ascii_whitespace() {
             self.end_value(names, errors)?;
-            return self.before_attribute(ch, at, errors);
+            return self.before_attribute(next, errors);
         }
-        self.value.take(table, false, ch, at, errors)?;
+        self.value.take(table, false, next, errors)?;
         Ok(false)
     }
 
@@ -202,24 +175,17 @@ impl<'t> TagWalk<'t> {
     pub(crate) fn after_quotes(
         &mut self,
         names: &mut Names,
-        ch: char,
-        at: u64,
-        errors: &mut Vec<ParseError>,
+        next: Placed,
+        errors: &mut Errors,
     ) -> Result<bool, Refusal>
         requires { self.old.phase ≡ TagState.AfterQuoted }
-        ensures takes { (table : Entities) → StepsInTag table names.old names.new self.old (record { ch = ch; at = at })
-            errors.old.items result self.new errors.new.items }
+        ensures takes { (table : Entities) → StepsInTag table names.old names.new self.old next errors.old.items result self.new errors.new.items }
         ensures grows { Grows names.old names.new }
         ensures kind { OnOk result (self.new.kind ≡ self.old.kind) }
     {
-        let joined = !ends_name(ch);
-        keep_if(
-            joined,
-            ErrorCode::MissingWhitespaceBetweenAttributes,
-            at,
-            errors,
-        )?;
-        self.past_attribute(names, ch, at, errors)
+        let code = ErrorCode::MissingWhitespaceBetweenAttributes;
+        keep_if(!ends_name(next.ch), code, next.at, errors)?;
+        self.past_attribute(names, next, errors)
     }
 
     /// An attribute has been read, and this character after it.
@@ -227,26 +193,25 @@ impl<'t> TagWalk<'t> {
     fn past_attribute(
         &mut self,
         names: &mut Names,
-        ch: char,
-        at: u64,
-        errors: &mut Vec<ParseError>,
+        next: Placed,
+        errors: &mut Errors,
     ) -> Result<bool, Refusal>
         ensures takes { (table : Entities) (body : List Character)
             → ((after : Texts) (walk : TagWalk) (later : List ParseError) → EndsAttribute names.old after self.old errors.old.items walk later
-            → IsInTag table after walk body (record { ch = ch; at = at } ∷ []) later)
-            → TakesInTag table names.new (body ++ record { ch = ch; at = at } ∷ []) result self.new errors.new.items }
+            → IsInTag table after walk body (next ∷ []) later)
+            → TakesInTag table names.new (body ++ next ∷ []) result self.new errors.new.items }
         ensures grows { Grows names.old names.new }
         ensures kind { OnOk result (self.new.kind ≡ self.old.kind) }
     {
         self.end_attribute(names, errors)?;
-        self.before_attribute(ch, at, errors)
+        self.before_attribute(next, errors)
     }
 
     /// A value without quotes, or one that the input cuts off, has been read, and its attribute with it.
     pub(crate) fn end_value(
         &mut self,
         names: &mut Names,
-        errors: &mut Vec<ParseError>,
+        errors: &mut Errors,
     ) -> Result<(), Refusal>
         ensures ended { MatchResult result (λ _. EndsAttributeValue names.old names.new self.old errors.old.items self.new errors.new.items) (λ e. e ≡ Memory) }
         ensures grows { Grows names.old names.new }
@@ -260,7 +225,7 @@ impl<'t> TagWalk<'t> {
     pub(crate) fn end_attribute(
         &mut self,
         names: &mut Names,
-        errors: &mut Vec<ParseError>,
+        errors: &mut Errors,
     ) -> Result<(), Refusal>
         ensures ended { MatchResult result (λ _. EndsAttribute names.old names.new self.old errors.old.items self.new errors.new.items) (λ e. e ≡ Memory) }
         ensures grows { Grows names.old names.new }

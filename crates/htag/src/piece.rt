@@ -1,18 +1,13 @@
 //! The pieces of a value: characters and references (HTML Standard, 13.2.5.36 to 13.2.5.38 and 13.2.5.72 to 13.2.5.80).
 
 ghost use Rattle.std.specs.Prelude.{◌≡◌, ◌∷◌, ◌++◌, ◌-◌, ℕ, [], true, false, OnOk, string_bytes, length, drop, encode_utf8_all, Bool, ◌==◌, MatchBool};
-ghost use Rattle.charref.specs.Reference.{Entities};
-ghost use Rattle.charref.specs.declared.walk.Walk.{Walk as Handed};
-ghost use Rattle.htag.specs.Value.{plain_piece};
-ghost use Rattle.htag.specs.TagWalk.{NoValue};
-ghost use Rattle.htag.specs.ValueWalk.{TakesInValue, EndsValue, TellsReference, pieces_errors};
-ghost use Rattle.htag.specs.ValueSteps.{AddsPlain, GivesBack};
+ghost use Rattle.htag.specs.Vocabulary.{Entities, Handed, plain_piece, NoValue, TakesInValue, EndsValue, TellsReference, pieces_errors, AddsPlain, GivesBack};
 
 use crate::pending::Pending;
-use crate::push::{is_fault, keep_if, keep_null, push_all, push_value};
+use crate::push::{Errors, is_fault, keep_if, keep_null, push_all, push_value};
 use crate::value::ValueWalk;
 use charref::{Reference, Table, Walk};
-use names::{ErrorCode, ParseError};
+use names::{ErrorCode, Placed};
 use std::alloc::{AllocError, Global};
 
 impl<'t> ValueWalk<'t> {
@@ -40,16 +35,15 @@ impl<'t> ValueWalk<'t> {
         &mut self,
         table: &'t Table,
         quoted: bool,
-        ch: char,
-        at: u64,
-        errors: &mut Vec<ParseError>,
+        next: Placed,
+        errors: &mut Errors,
     ) -> Result<(), AllocError>
-        ensures { OnOk result (TakesInValue table.now quoted self.old (record { ch = ch; at = at }) errors.old.items self.new errors.new.items) }
+        ensures { OnOk result (TakesInValue table.now quoted self.old next errors.old.items self.new errors.new.items) }
     {
         match self.reading {
-            Pending::Nothing => self.take_next(table, quoted, ch, at, errors),
-            Pending::Reference(walk) => self.in_reference(walk, table, quoted, ch, at, errors),
-            Pending::Run => self.in_run(table, quoted, ch, at, errors),
+            Pending::Nothing => self.take_next(table, quoted, next, errors),
+            Pending::Reference(walk) => self.in_reference(walk, table, quoted, next, errors),
+            Pending::Run => self.in_run(table, quoted, next, errors),
         }
     }
 
@@ -61,7 +55,7 @@ impl<'t> ValueWalk<'t> {
     }
 
     /// The value ends.
-    pub fn end(&mut self, errors: &mut Vec<ParseError>) -> Result<(), AllocError>
+    pub fn end(&mut self, errors: &mut Errors) -> Result<(), AllocError>
         ensures { OnOk result (EndsValue self.old errors.old.items self.new errors.new.items) }
     {
         match self.reading {
@@ -79,40 +73,29 @@ impl<'t> ValueWalk<'t> {
         &mut self,
         table: &'t Table,
         quoted: bool,
-        ch: char,
-        at: u64,
-        errors: &mut Vec<ParseError>,
+        next: Placed,
+        errors: &mut Errors,
     ) -> Result<(), AllocError>
         requires { self.old.reading ≡ Pending.Nothing }
-        ensures { OnOk result (TakesInValue table.now quoted self.old (record { ch = ch; at = at }) errors.old.items self.new errors.new.items) }
+        ensures { OnOk result (TakesInValue table.now quoted self.old next errors.old.items self.new errors.new.items) }
     {
-        if ch != '&' {
-            return self.push(quoted, ch, at, errors);
+        if next.ch != '&' {
+            return self.push(quoted, next, errors);
         }
         self.reading = Pending::Reference(Walk::new(table, true));
-        self.place = at;
+        self.place = next.at;
         self.held.clear();
         Ok(())
     }
 
     /// A character by itself.
-    fn push(
-        &mut self,
-        quoted: bool,
-        ch: char,
-        at: u64,
-        errors: &mut Vec<ParseError>,
-    ) -> Result<(), AllocError>
-        ensures { OnOk result (AddsPlain quoted self.old (record { ch = ch; at = at }) errors.old.items self.new errors.new.items) }
+    fn push(&mut self, quoted: bool, next: Placed, errors: &mut Errors) -> Result<(), AllocError>
+        ensures { OnOk result (AddsPlain quoted self.old next errors.old.items self.new errors.new.items) }
     {
-        keep_if(
-            is_fault(quoted, ch),
-            ErrorCode::UnexpectedCharacterInUnquotedAttributeValue,
-            at,
-            errors,
-        )?;
-        keep_null(ch, at, errors)?;
-        push_value(&mut self.text, ch)
+        let code = ErrorCode::UnexpectedCharacterInUnquotedAttributeValue;
+        keep_if(is_fault(quoted, next.ch), code, next.at, errors)?;
+        keep_null(next, errors)?;
+        push_value(&mut self.text, next.ch)
     }
 
     /// The character reference state (`#character-reference-state`) and those after it: after an `&` that may be a reference's.
@@ -122,22 +105,21 @@ impl<'t> ValueWalk<'t> {
         walk: Walk<'t>,
         table: &'t Table,
         quoted: bool,
-        ch: char,
-        at: u64,
-        errors: &mut Vec<ParseError>,
+        next: Placed,
+        errors: &mut Errors,
     ) -> Result<(), AllocError>
         requires { self.old.reading ≡ Pending.Reference walk }
-        ensures { OnOk result (TakesInValue table.now quoted self.old (record { ch = ch; at = at }) errors.old.items self.new errors.new.items) }
+        ensures { OnOk result (TakesInValue table.now quoted self.old next errors.old.items self.new errors.new.items) }
     {
         let mut walk = walk;
-        let found = match walk.take(ch) {
+        let found = match walk.take(next.ch) {
             None if walk.is_number() => {
                 self.held.clear();
                 self.reading = Pending::Reference(walk);
                 return Ok(());
             }
             None => {
-                self.held.push(ch)?;
+                self.held.push(next.ch)?;
                 self.reading = Pending::Reference(walk);
                 return Ok(());
             }
@@ -147,7 +129,7 @@ impl<'t> ValueWalk<'t> {
         if found.in_run {
             self.reading = Pending::Run;
             push_all(&mut self.text, &self.held)?;
-            self.text.push(ch)?;
+            self.text.push(next.ch)?;
             return Ok(());
         }
         self.reading = Pending::Nothing;
@@ -155,7 +137,7 @@ impl<'t> ValueWalk<'t> {
             return Ok(());
         }
         self.give_back(found.left - 1)?;
-        self.take_next(table, quoted, ch, at, errors)
+        self.take_next(table, quoted, next, errors)
     }
 
     /// The ambiguous ampersand state (`#ambiguous-ampersand-state`): after an `&` that no key begins.
@@ -163,34 +145,25 @@ impl<'t> ValueWalk<'t> {
         &mut self,
         table: &'t Table,
         quoted: bool,
-        ch: char,
-        at: u64,
-        errors: &mut Vec<ParseError>,
+        next: Placed,
+        errors: &mut Errors,
     ) -> Result<(), AllocError>
         requires { self.old.reading ≡ Pending.Run }
-        ensures { OnOk result (TakesInValue table.now quoted self.old (record { ch = ch; at = at }) errors.old.items self.new errors.new.items) }
+        ensures { OnOk result (TakesInValue table.now quoted self.old next errors.old.items self.new errors.new.items) }
     {
-        if ch.is_ascii_alphanumeric() {
-            self.text.push(ch)?;
+        if next.ch.is_ascii_alphanumeric() {
+            self.text.push(next.ch)?;
             return Ok(());
         }
-        keep_if(
-            ch == ';',
-            ErrorCode::UnknownNamedCharacterReference,
-            self.place,
-            errors,
-        )?;
+        let code = ErrorCode::UnknownNamedCharacterReference;
+        keep_if(next.ch == ';', code, self.place, errors)?;
         self.reading = Pending::Nothing;
-        self.take_next(table, quoted, ch, at, errors)
+        self.take_next(table, quoted, next, errors)
     }
 
     /// The value ends after an `&` and what this walk was handed.
     #[inline(never)]
-    fn end_reference(
-        &mut self,
-        walk: Walk<'t>,
-        errors: &mut Vec<ParseError>,
-    ) -> Result<(), AllocError>
+    fn end_reference(&mut self, walk: Walk<'t>, errors: &mut Errors) -> Result<(), AllocError>
         requires { self.old.reading ≡ Pending.Reference walk }
         ensures { OnOk result (EndsValue self.old errors.old.items self.new errors.new.items) }
     {
@@ -201,15 +174,11 @@ impl<'t> ValueWalk<'t> {
     }
 
     /// Adds the characters of a reference, and keeps its errors.
-    fn tell(&mut self, found: Reference, errors: &mut Vec<ParseError>) -> Result<(), AllocError>
+    fn tell(&mut self, found: Reference, errors: &mut Errors) -> Result<(), AllocError>
         ensures { OnOk result (TellsReference found self.old errors.old.items self.new errors.new.items) }
     {
-        keep_if(
-            found.missing_semicolon,
-            ErrorCode::MissingSemicolonAfterCharacterReference,
-            self.place,
-            errors,
-        )?;
+        let code = ErrorCode::MissingSemicolonAfterCharacterReference;
+        keep_if(found.missing_semicolon, code, self.place, errors)?;
         if let Some(code) = found.fault {
             keep_if(true, code, self.place, errors)?;
         }

@@ -1,15 +1,15 @@
 //! Characters and errors, added to what was read.
 
-ghost use Rattle.std.specs.Prelude.{◌≡◌, ◌≤◌, ◌==◌, ◌&&◌, ◌∷◌, ◌++◌, [], true, drop, length, take, not, OnOk, string_bytes, encode_utf8_all};
+ghost use Rattle.std.specs.Prelude.{◌≡◌, ◌≤◌, ◌==◌, ◌&&◌, ◌∷◌, ◌++◌, [], true, drop, length, take, not, IfOk, OnOk, string_bytes, encode_utf8_all};
 ghost use Rattle.std.specs.List.{list_all, prefix_len};
 ghost use Rattle.std.specs.Char.{encode_utf8, to_ascii_lowercase};
-ghost use Rattle.names.specs.Placed.{error_if, null_errors, without_null};
-ghost use Rattle.htext.specs.Run.{is_plain_byte};
-ghost use Rattle.htag.specs.Run.{is_unquoted_byte, is_word_byte};
-ghost use Rattle.htag.specs.Tag.{ends_name, is_odd};
+ghost use Rattle.htag.specs.Vocabulary.{error_if, null_errors, without_null, is_plain_byte, is_unquoted_byte, is_word_byte, ends_name, is_odd, IsPlainFrom, PushesWords};
 
-use names::{ErrorCode, ParseError};
+use names::{ErrorCode, ParseError, Placed};
 use std::alloc::AllocError;
+
+/// The errors that were raised, in the order of the text.
+pub(crate) type Errors = Vec<ParseError>;
 
 /// Whether a tag's name ends before this character.
 pub(crate) fn ends_name(ch: char) -> bool
@@ -54,7 +54,7 @@ pub(crate) fn keep_if(
     says: bool,
     code: ErrorCode,
     at: u64,
-    errors: &mut Vec<ParseError>,
+    errors: &mut Errors,
 ) -> Result<(), AllocError>
     ensures { OnOk result (errors.new.items ≡ errors.old.items ++ error_if says code at) }
 {
@@ -66,16 +66,11 @@ pub(crate) fn keep_if(
 
 /// Keeps the error of a NUL.
 #[inline(always)]
-pub(crate) fn keep_null(ch: char, at: u64, errors: &mut Vec<ParseError>) -> Result<(), AllocError>
-    ensures { OnOk result (errors.new.items ≡ errors.old.items ++ null_errors (record { ch = ch; at = at } ∷ [])) }
+pub(crate) fn keep_null(next: Placed, errors: &mut Errors) -> Result<(), AllocError>
+    ensures { OnOk result (errors.new.items ≡ errors.old.items ++ null_errors (next ∷ [])) }
 {
-    if ch == '\0' {
-        errors.push(ParseError {
-            code: ErrorCode::UnexpectedNullCharacter,
-            at,
-        })?;
-    }
-    Ok(())
+    let code = ErrorCode::UnexpectedNullCharacter;
+    keep_if(next.ch == '\0', code, next.at, errors)
 }
 
 /// All of these characters.
@@ -138,15 +133,6 @@ pub(crate) fn unquoted_run(bytes: &[u8]) -> usize
     bytes.len()
 }
 
-/// The same of a text.
-#[inline(always)]
-pub(crate) fn count_word(text: &str) -> usize
-    ensures counted { result ≡ prefix_len is_word_byte text.now }
-    ensures few { result ≤ length text.now }
-{
-    word_run(text.as_bytes())
-}
-
 /// What is left of a run of plain characters from this place on.
 #[inline(always)]
 pub(crate) fn rest_of(run: &str, from: usize) -> &str
@@ -166,4 +152,16 @@ pub(crate) fn push_front(text: &mut String, run: &str, count: usize) -> Result<(
     ensures { OnOk result (string_bytes text.new ≡ string_bytes text.old ++ take count run.now) }
 {
     text.push_str(&run[..count])
+}
+
+/// The words at the front of what is left of a run of plain characters from this place on; returns their length.
+#[inline(always)]
+pub(crate) fn push_words(text: &mut String, run: &str, from: usize) -> Result<usize, AllocError>
+    requires { IsPlainFrom from run.now }
+    ensures { IfOk result (λ count. PushesWords (string_bytes text.old) (drop from run.now) count (string_bytes text.new)) }
+{
+    let rest = rest_of(run, from);
+    let count = word_run(rest.as_bytes());
+    push_front(text, rest, count)?;
+    Ok(count)
 }

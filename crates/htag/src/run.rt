@@ -2,15 +2,10 @@
 
 ghost use Rattle.std.specs.Prelude.{◌≡◌, ◌≤◌, ◌+◌, ℕ, List, [], length, true, IfOk, OnOk};
 ghost use Rattle.std.specs.List.{list_all};
-ghost use Rattle.names.specs.declared.placed.Placed.{Placed as Character};
-ghost use Rattle.names.specs.Names.{Grows};
-ghost use Rattle.htext.specs.declared.decoder.TheConstants.{MAX_INPUT};
-ghost use Rattle.htext.specs.Run.{is_plain_byte};
-ghost use Rattle.htag.specs.Run.{TakesPart, TakesRun};
-ghost use Rattle.htag.specs.TagWalk.{IsInTag};
+ghost use Rattle.htag.specs.Vocabulary.{Character, Grows, MAX_INPUT, is_plain_byte, IsPlainFrom, TakesPart, TakesRun, IsInTag};
 
 use crate::pending::Pending;
-use crate::push::{count_word, push_front, rest_of};
+use crate::push::{push_front, push_words, rest_of, word_run};
 use crate::tag_state::TagState;
 use crate::walk::TagWalk;
 use charref::Table;
@@ -104,35 +99,19 @@ impl<'t> TagWalk<'t> {
     /// Takes that part of the tag's name, from here on.
     #[inline(always)]
     fn part_of_name(&mut self, run: &str, from: usize) -> Result<usize, AllocError>
-        requires plain { list_all is_plain_byte run.now ≡ true }
-        requires within { from ≤ length run.now }
+        requires { IsPlainFrom from run.now }
         ensures { IfOk result (λ to. (at : ℕ) → TakesPart self.old run.now at from to self.new) }
     {
         match self.phase {
-            TagState::Name => self.more_of_name(run, from),
+            TagState::Name => Ok(from + push_words(&mut self.name, run, from)?),
             _ => Ok(from),
         }
-    }
-
-    /// Takes that part of the name of a tag that is in it.
-    #[inline(always)]
-    fn more_of_name(&mut self, run: &str, from: usize) -> Result<usize, AllocError>
-        requires phase { self.old.phase ≡ TagState.Name }
-        requires plain { list_all is_plain_byte run.now ≡ true }
-        requires within { from ≤ length run.now }
-        ensures { IfOk result (λ to. (at : ℕ) → TakesPart self.old run.now at from to self.new) }
-    {
-        let rest = rest_of(run, from);
-        let count = count_word(rest);
-        push_front(&mut self.name, rest, count)?;
-        Ok(from + count)
     }
 
     /// Takes the space after it.
     #[inline(always)]
     fn end_name(&mut self, run: &str, from: usize) -> usize
-        requires plain { list_all is_plain_byte run.now ≡ true }
-        requires within { from ≤ length run.now }
+        requires { IsPlainFrom from run.now }
         ensures { (at : ℕ) → TakesPart self.old run.now at from result self.new }
     {
         match self.phase {
@@ -147,14 +126,13 @@ impl<'t> TagWalk<'t> {
     /// Takes that part of an attribute's name, which may begin with it.
     #[inline(always)]
     fn part_of_attribute(&mut self, run: &str, from: usize, at: u64) -> Result<usize, AllocError>
-        requires plain { list_all is_plain_byte run.now ≡ true }
+        requires place { IsPlainFrom from run.now }
         requires few { at + length run.now ≤ MAX_INPUT }
-        requires within { from ≤ length run.now }
         ensures { IfOk result (λ to. TakesPart self.old run.now at from to self.new) }
     {
         match self.phase {
             TagState::BeforeAttribute => self.begin_part(run, from, at),
-            TagState::AttributeName => self.more_of_attribute(run, from),
+            TagState::AttributeName => Ok(from + push_words(&mut self.attribute, run, from)?),
             _ => Ok(from),
         }
     }
@@ -163,13 +141,12 @@ impl<'t> TagWalk<'t> {
     #[inline(always)]
     fn begin_part(&mut self, run: &str, from: usize, at: u64) -> Result<usize, AllocError>
         requires phase { self.old.phase ≡ TagState.BeforeAttribute }
-        requires plain { list_all is_plain_byte run.now ≡ true }
+        requires place { IsPlainFrom from run.now }
         requires few { at + length run.now ≤ MAX_INPUT }
-        requires within { from ≤ length run.now }
         ensures { IfOk result (λ to. TakesPart self.old run.now at from to self.new) }
     {
         let rest = rest_of(run, from);
-        let count = count_word(rest);
+        let count = word_run(rest.as_bytes());
         if count == 0 {
             return Ok(from);
         }
@@ -181,25 +158,10 @@ impl<'t> TagWalk<'t> {
         Ok(from + count)
     }
 
-    /// Takes that part of the name of an attribute that has begun.
-    #[inline(always)]
-    fn more_of_attribute(&mut self, run: &str, from: usize) -> Result<usize, AllocError>
-        requires phase { self.old.phase ≡ TagState.AttributeName }
-        requires plain { list_all is_plain_byte run.now ≡ true }
-        requires within { from ≤ length run.now }
-        ensures { IfOk result (λ to. (at : ℕ) → TakesPart self.old run.now at from to self.new) }
-    {
-        let rest = rest_of(run, from);
-        let count = count_word(rest);
-        push_front(&mut self.attribute, rest, count)?;
-        Ok(from + count)
-    }
-
     /// Takes `=` after it.
     #[inline(always)]
     fn take_equals(&mut self, run: &str, from: usize) -> usize
-        requires plain { list_all is_plain_byte run.now ≡ true }
-        requires within { from ≤ length run.now }
+        requires { IsPlainFrom from run.now }
         ensures { (at : ℕ) → TakesPart self.old run.now at from result self.new }
     {
         match self.phase {
@@ -214,8 +176,7 @@ impl<'t> TagWalk<'t> {
     /// Takes the quote before a value.
     #[inline(always)]
     fn open_value(&mut self, run: &str, from: usize) -> usize
-        requires plain { list_all is_plain_byte run.now ≡ true }
-        requires within { from ≤ length run.now }
+        requires { IsPlainFrom from run.now }
         ensures { (at : ℕ) → TakesPart self.old run.now at from result self.new }
     {
         match self.phase {
@@ -234,8 +195,7 @@ impl<'t> TagWalk<'t> {
     /// Takes that part of a value, where no reference is being read.
     #[inline(always)]
     fn part_of_value(&mut self, run: &str, from: usize) -> Result<usize, AllocError>
-        requires plain { list_all is_plain_byte run.now ≡ true }
-        requires within { from ≤ length run.now }
+        requires { IsPlainFrom from run.now }
         ensures { IfOk result (λ to. (at : ℕ) → TakesPart self.old run.now at from to self.new) }
     {
         if !self.value.is_between() {
@@ -243,7 +203,7 @@ impl<'t> TagWalk<'t> {
         }
         match self.phase {
             TagState::Quoted(mark) => self.part_of_quoted(mark, run, from),
-            TagState::Unquoted => self.part_of_unquoted(run, from),
+            TagState::Unquoted => Ok(from + push_words(&mut self.value.text, run, from)?),
             _ => Ok(from),
         }
     }
@@ -253,8 +213,7 @@ impl<'t> TagWalk<'t> {
     fn part_of_quoted(&mut self, mark: char, run: &str, from: usize) -> Result<usize, AllocError>
         requires phase { self.old.phase ≡ TagState.Quoted mark }
         requires between { self.old.value.reading ≡ Pending.Nothing }
-        requires plain { list_all is_plain_byte run.now ≡ true }
-        requires within { from ≤ length run.now }
+        requires place { IsPlainFrom from run.now }
         ensures { IfOk result (λ to. (at : ℕ) → TakesPart self.old run.now at from to self.new) }
     {
         let Ok(mark) = u8::try_from(mark) else {
@@ -266,32 +225,13 @@ impl<'t> TagWalk<'t> {
         Ok(from + count)
     }
 
-    /// Takes that part of a value without quotes.
-    #[inline(always)]
-    fn part_of_unquoted(&mut self, run: &str, from: usize) -> Result<usize, AllocError>
-        requires phase { self.old.phase ≡ TagState.Unquoted }
-        requires between { self.old.value.reading ≡ Pending.Nothing }
-        requires plain { list_all is_plain_byte run.now ≡ true }
-        requires within { from ≤ length run.now }
-        ensures { IfOk result (λ to. (at : ℕ) → TakesPart self.old run.now at from to self.new) }
-    {
-        let rest = rest_of(run, from);
-        let count = count_word(rest);
-        push_front(&mut self.value.text, rest, count)?;
-        Ok(from + count)
-    }
-
     /// Takes the quote after a value.
     #[inline(always)]
     fn close_value(&mut self, run: &str, from: usize) -> usize
-        requires plain { list_all is_plain_byte run.now ≡ true }
-        requires within { from ≤ length run.now }
+        requires { IsPlainFrom from run.now }
         ensures { (at : ℕ) → TakesPart self.old run.now at from result self.new }
     {
-        if from == run.len() {
-            return from;
-        }
-        if !self.value.is_between() {
+        if from == run.len() || !self.value.is_between() {
             return from;
         }
         let ch = char::from(run.as_bytes()[from]);

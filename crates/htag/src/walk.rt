@@ -1,14 +1,7 @@
 //! A walk through a tag.
 
 ghost use Rattle.std.specs.Prelude.{◌≡◌, ◌∷◌, ◌++◌, List, [], true, false, OnOk, IfOk, IfErr, MatchResult, string_bytes};
-ghost use Rattle.names.specs.declared.placed.Placed.{Placed as Character};
-ghost use Rattle.names.specs.Names.{Texts, Grows};
-ghost use Rattle.names.specs.Placed.{all, begins, is_letter, name_bytes};
-ghost use Rattle.charref.specs.Reference.{Entities};
-ghost use Rattle.htag.specs.declared.kind.TagKind.TheVariants.{Start, End};
-ghost use Rattle.htag.specs.Steps.{IsBegun};
-ghost use Rattle.htag.specs.TagWalk.{NoValue, IsInTag, TakesInTag, IsCutTag};
-ghost use Rattle.names.specs.declared.refusal.Refusal.TheVariants.{Memory};
+ghost use Rattle.htag.specs.Vocabulary.{Character, Texts, Grows, all, begins, is_letter, name_bytes, Entities, Start, End, IsBegun, NoValue, IsInTag, TakesInTag, IsCutTag, Memory};
 
 use crate::kind::TagKind;
 use crate::push::push_lowered;
@@ -16,7 +9,7 @@ use crate::seen::Seen;
 use crate::tag_state::TagState;
 use crate::value::ValueWalk;
 use charref::Table;
-use names::{Attr, Names, ParseError, Refusal};
+use names::{Attr, Names, ParseError, Placed, Refusal};
 use std::alloc::{AllocError, Global};
 use std::mem;
 
@@ -105,16 +98,17 @@ impl<'t> TagWalk<'t> {
         ensures grows { Grows names.old names.new }
         ensures kind { OnOk result (self.new.kind ≡ self.old.kind) }
     {
+        let next = Placed { ch, at };
         match self.phase {
-            TagState::Name => self.in_name(ch, at, errors),
-            TagState::BeforeAttribute => self.before_attribute(ch, at, errors),
-            TagState::Solidus => self.after_solidus(ch, at, errors),
-            TagState::AttributeName => self.in_attribute_name(names, ch, at, errors),
-            TagState::AfterAttributeName => self.after_attribute_name(names, ch, at, errors),
-            TagState::BeforeValue => self.before_value(table, names, ch, at, errors),
-            TagState::Quoted(mark) => self.in_quotes(table, mark, ch, at, errors),
-            TagState::Unquoted => self.in_unquoted(table, names, ch, at, errors),
-            TagState::AfterQuoted => self.after_quotes(names, ch, at, errors),
+            TagState::Name => self.in_name(next, errors),
+            TagState::BeforeAttribute => self.before_attribute(next, errors),
+            TagState::Solidus => self.after_solidus(next, errors),
+            TagState::AttributeName => self.in_attribute_name(names, next, errors),
+            TagState::AfterAttributeName => self.after_attribute_name(names, next, errors),
+            TagState::BeforeValue => self.before_value(table, names, next, errors),
+            TagState::Quoted(mark) => self.in_quotes(table, mark, next, errors),
+            TagState::Unquoted => self.in_unquoted(table, names, next, errors),
+            TagState::AfterQuoted => self.after_quotes(names, next, errors),
         }
     }
 
@@ -125,15 +119,12 @@ impl<'t> TagWalk<'t> {
         ensures grows { Grows names.old names.new }
     {
         match self.phase {
-            TagState::Name => Ok(()),
-            TagState::BeforeAttribute => Ok(()),
-            TagState::Solidus => Ok(()),
-            TagState::AttributeName => self.end_attribute(names, errors),
-            TagState::AfterAttributeName => self.end_attribute(names, errors),
-            TagState::BeforeValue => self.end_attribute(names, errors),
-            TagState::Quoted(_) => self.end_value(names, errors),
-            TagState::Unquoted => self.end_value(names, errors),
-            TagState::AfterQuoted => self.end_attribute(names, errors),
+            TagState::Name | TagState::BeforeAttribute | TagState::Solidus => Ok(()),
+            TagState::Quoted(_) | TagState::Unquoted => self.end_value(names, errors),
+            TagState::AttributeName
+            | TagState::AfterAttributeName
+            | TagState::BeforeValue
+            | TagState::AfterQuoted => self.end_attribute(names, errors),
         }
     }
 

@@ -4,12 +4,12 @@ use Rattle.htag.proofs.value.ValueWalk.in_run.Goals as goal
 
 pub returns-then-is_ascii_alphanumeric : goal.returns-then-is_ascii_alphanumeric
 returns-then-is_ascii_alphanumeric c =
-    let letter : is_alphanumeric c.args.ch ≡ true = grind (arith, nat_tests) in
+    let letter : is_alphanumeric c.args.next.ch ≡ true = grind (arith, nat_tests) in
     record { more = []; later_is = sym (append-nil c.args.errors.now.items); takes = λ text own h. run_on _ _ _ _ _ text own h c.requires refl refl c.in_ok-push.ensures.bytes letter }
 
 pub returns : goal.returns
 returns c =
-    let other : is_alphanumeric c.args.ch ≡ false = grind (arith, nat_tests) in
+    let other : is_alphanumeric c.args.next.ch ≡ false = grind (arith, nat_tests) in
     on_ok_weaker c.take_next.result
     (λ t. record {
       more = _;

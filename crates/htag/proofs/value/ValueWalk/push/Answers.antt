@@ -5,8 +5,8 @@ use Rattle.htag.proofs.value.ValueWalk.push.Goals as goal
 pub returns : goal.returns
 returns c =
     let before = c.args.errors.now.items in
-    let null = null_errors (record { ch = c.args.ch; at = c.args.at } ∷ []) in
-    let raised = c.in_ok-keep_if.ensures ∙ ap (λ (b : Bool). before ++ error_if b UnexpectedCharacterInUnquotedAttributeValue c.args.at) c.is_fault.ensures in
+    let null = null_errors (c.args.next ∷ []) in
+    let raised = c.in_ok-keep_if.ensures ∙ ap (λ (b : Bool). before ++ error_if b UnexpectedCharacterInUnquotedAttributeValue c.args.next.at) c.is_fault.ensures in
     on_ok_weaker c.push_value.result
     (λ bytes. record {
       reading_is = refl;

@@ -2,10 +2,10 @@ use Rattle.htag.proofs.Vocabulary.{◌≡◌, false, refl, arith, nat_tests, is_
 use Rattle.htag.proofs.Phases.{closing_ends, solidus_ends}
 use Rattle.htag.proofs.walk.TagWalk.after_solidus.Goals as goal
 
-pub returns-then-ch-eq62-clause-takes : goal.returns-then-ch-eq62-clause-takes
-returns-then-ch-eq62-clause-takes c = λ table names body h. closing_ends _ _ _ body _ _ h c.requires _ refl refl refl refl refl c.if-ch-eq62.true
+pub returns-then-next-eq62-clause-takes : goal.returns-then-next-eq62-clause-takes
+returns-then-next-eq62-clause-takes c = λ table names body h. closing_ends _ _ _ body _ _ h c.requires _ refl refl refl refl refl c.if-next-eq62.true
 
 pub returns-clause-takes : goal.returns-clause-takes
 returns-clause-takes c = λ table names body h.
-    let other : is_greater c.args.ch ≡ false = grind (arith, nat_tests) in
+    let other : is_greater c.args.next.ch ≡ false = grind (arith, nat_tests) in
     c.before_attribute.ensures.takes table names body (solidus_ends _ _ _ body _ _ h c.requires _ _ refl refl refl refl refl c.in_ok-keep_if.ensures other)

@@ -5,22 +5,22 @@ use Rattle.htag.proofs.walk.TagWalk.in_attribute_name.Goals as goal
 
 pub returns-then-is_ascii_whitespace-clause-takes : goal.returns-then-is_ascii_whitespace-clause-takes
 returns-then-is_ascii_whitespace-clause-takes c = λ table body h.
-    let is : is_space c.args.ch ≡ true = grind (arith, nat_tests) in
-    let stop : ends_attribute_name c.args.ch ≡ true = grind (arith, nat_tests) in
+    let is : is_space c.args.next.ch ≡ true = grind (arith, nat_tests) in
+    let stop : ends_attribute_name c.args.next.ch ≡ true = grind (arith, nat_tests) in
     space_after_name _ _ _ body _ _ h _ refl refl refl refl refl refl refl c.requires refl is stop
 
-pub returns-then-ch-eq61-clause-takes : goal.returns-then-ch-eq61-clause-takes
-returns-then-ch-eq61-clause-takes c = λ table body h.
-    equals_after_name _ _ _ body _ _ h _ refl refl refl refl refl refl refl c.requires refl c.if-ch-eq61.true
+pub returns-then-next-eq61-clause-takes : goal.returns-then-next-eq61-clause-takes
+returns-then-next-eq61-clause-takes c = λ table body h.
+    equals_after_name _ _ _ body _ _ h _ refl refl refl refl refl refl refl c.requires refl c.if-next-eq61.true
 
-pub returns-then-ch-eq47-clause-takes : goal.returns-then-ch-eq47-clause-takes
-returns-then-ch-eq47-clause-takes c = λ table body h.
-    let stop : ends_attribute_name c.args.ch ≡ true = grind (arith, nat_tests) in
-    let no_space : is_space c.args.ch ≡ false = grind (arith, nat_tests) in
-    let no_equals : is_equals c.args.ch ≡ false = grind (arith, nat_tests) in
+pub returns-then-next-eq47-clause-takes : goal.returns-then-next-eq47-clause-takes
+returns-then-next-eq47-clause-takes c = λ table body h.
+    let stop : ends_attribute_name c.args.next.ch ≡ true = grind (arith, nat_tests) in
+    let no_space : is_space c.args.next.ch ≡ false = grind (arith, nat_tests) in
+    let no_equals : is_equals c.args.next.ch ≡ false = grind (arith, nat_tests) in
     c.past_attribute.ensures.takes table body (λ after walk later ends. bare_ends _ _ _ body _ _ h c.requires after walk later ends stop no_space no_equals)
 
 pub returns-clause-takes : goal.returns-clause-takes
 returns-clause-takes c = λ table body h.
-    let stays : ends_attribute_name c.args.ch ≡ false = grind (arith, nat_tests) in
+    let stays : ends_attribute_name c.args.next.ch ≡ false = grind (arith, nat_tests) in
     name_goes_on _ _ _ body _ _ h c.requires _ _ c.in_ok-add_to_name.ensures stays

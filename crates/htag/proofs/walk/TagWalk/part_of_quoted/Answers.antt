@@ -12,7 +12,7 @@ returns c = λ at.
     let count = c.run_before-count.result in
     let few : count ≤ length rest = omega (arith, c.run_before-count.ensures.few, ap length c.as_bytes.ensures.value) in
     let counted = subst (λ bytes. count ≡ prefix_len (λ x. not (eqb x c.in-Ok.mark)) bytes) c.as_bytes.ensures.value c.run_before-count.ensures.counted in
-    part_goes_on _ _ c.args.run.now rest at c.args.from count c.requires.plain c.requires.within c.rest_of-rest.ensures.value few refl
+    part_goes_on _ _ c.args.run.now rest at c.args.from count c.requires.place.plain c.requires.place.within c.rest_of-rest.ensures.value few refl
     (λ table names body errors h.
     run_in_quotes table names _ body errors _ _ h c.args.mark (plain_take count rest c.rest_of-rest.ensures.plain)
     (counted_all (λ x. not (eqb x c.args.mark)) rest count (subst (λ m. count ≡ prefix_len (λ x. not (eqb x m)) rest) c.in-Ok.ensures.1 counted)) c.requires.phase c.requires.between

@@ -5,20 +5,20 @@ use Rattle.htag.proofs.walk.TagWalk.take_part.Goals as goal
 then : {old mid new : TagWalk} {run : List ℕ} {at from between to : ℕ} → TakesPart old run at from between mid → TakesPart mid run at between to new → TakesPart old run at from to new
 then a b = record { few = b.few; kind_is = b.kind_is ∙ a.kind_is; takes = λ table names body errors h. b.takes table names body errors (a.takes table names body errors h) }
 
-pub end_name-count-requires-clause-within : goal.end_name-count-requires-clause-within
-end_name-count-requires-clause-within c = (c.in_ok-count.ensures c.args.at).few
+pub end_name-count-requires : goal.end_name-count-requires
+end_name-count-requires c = record { plain = c.requires.plain; within = (c.in_ok-count.ensures c.args.at).few }
 
-pub part_of_attribute-requires-clause-within : goal.part_of_attribute-requires-clause-within
-part_of_attribute-requires-clause-within c = (c.end_name-count.ensures c.args.at).few
+pub part_of_attribute-requires-clause-place : goal.part_of_attribute-requires-clause-place
+part_of_attribute-requires-clause-place c = record { plain = c.requires.plain; within = (c.end_name-count.ensures c.args.at).few }
 
-pub open_value-count-requires-clause-within : goal.open_value-count-requires-clause-within
-open_value-count-requires-clause-within c = (c.take_equals-count.ensures c.args.at).few
+pub open_value-count-requires : goal.open_value-count-requires
+open_value-count-requires c = record { plain = c.requires.plain; within = (c.take_equals-count.ensures c.args.at).few }
 
-pub part_of_value-requires-clause-within : goal.part_of_value-requires-clause-within
-part_of_value-requires-clause-within c = (c.open_value-count.ensures c.args.at).few
+pub part_of_value-requires : goal.part_of_value-requires
+part_of_value-requires c = record { plain = c.requires.plain; within = (c.open_value-count.ensures c.args.at).few }
 
-pub close_value-requires-clause-within : goal.close_value-requires-clause-within
-close_value-requires-clause-within c = (c.in_ok-count-3.ensures c.args.at).few
+pub close_value-requires : goal.close_value-requires
+close_value-requires c = record { plain = c.requires.plain; within = (c.in_ok-count-3.ensures c.args.at).few }
 
 pub returns : goal.returns
 returns c =
