@@ -1,20 +1,16 @@
 -- Tags that stand whole in a run.
-use Rattle.htoken.proofs.Names.{◌≡◌, ◌≤◌, ◌<◌, ℕ, suc, ◌+◌, ◌-◌, true, false, ◌||◌, List, [], ◌∷◌, ◌++◌, length, take, drop, sym, refl, ap, ◌∙◌, subst, Result, Ok, Err, Option, Some, None, append-nil, append_assoc, arith, and_from, nat_tests, length-take-le, take-append-drop, IsUtf8-from_ascii, chars-nil, codes, is_some, slice_get, slice_index, is_ascii, list_all, chars, IsUtf8, ParseError, Placed, RawKind, RefusedName, Refusal, Memory, Texts, Grows, name_bytes, placed, raw_kind, refused_name, tag_named, is_plain_byte, IsCut, plain_chars, hand_one, Entities, TagWalk, IsInTag, IsWholeTag, State, Token, Tokenizer, IsSpan, IsSpanOf, next, EndsTag, TakesFront, TakesPart, IsTag, start_tag, end_tag, tag_mark, Tok, Span, Start, End, Item, ItemToken, Event, TokenMeans, gives_item, has_refused, AreFront, Reads, Stands, HasTaken, holds, Takes, take_ran_out, take_took, IsHeld, IsIn, IsLast, less, next_place}
-use Rattle.std.proofs.lemmas.Bool.{and_parts}
-use Rattle.std.specs.List.{slice_range}
+use Rattle.htoken.proofs.Names.{◌≡◌, ◌≤◌, ◌<◌, ℕ, suc, ◌+◌, ◌-◌, true, false, ◌||◌, List, [], ◌∷◌, ◌++◌, length, take, drop, sym, refl, ap, ◌∙◌, subst, Result, Ok, Err, Option, Some, None, append-nil, arith, and_from, nat_tests, length-take-le, take-append-drop, IsUtf8-from_ascii, chars-nil, codes, is_some, slice_get, slice_index, is_ascii, list_all, chars, IsUtf8, ParseError, Placed, RawKind, RefusedName, Refusal, Memory, Texts, Grows, name_bytes, placed, raw_kind, refused_name, tag_named, is_plain_byte, IsCut, plain_chars, hand_one, Entities, TagWalk, IsInTag, IsWholeTag, State, Token, Tokenizer, IsSpan, IsSpanOf, next, EndsTag, TakesFront, TakesPart, IsTag, start_tag, end_tag, tag_mark, Tok, Span, Start, End, Item, ItemToken, Event, TokenMeans, gives_item, has_refused, Reads, HasTaken, holds, Takes, take_took, IsHeld, IsIn, IsLast, less, next_place, slice_range, IsBareName, bare_bytes, bare_front, bare_no_errors, bare_placed, bare_plain, bare_within, tag, and_parts}
 use Rattle.names.specs.declared.raw.RawKind.TheVariants as kind
 use Rattle.htag.specs.declared.kind.TagKind.TheVariants as which
-use Rattle.htag.specs.AtOnce.{IsBareName}
-use Rattle.htag.proofs.AtOnce.{bare_bytes, bare_front, bare_no_errors, bare_placed, bare_plain, bare_within}
 use Rattle.htoken.specs.declared.state.State.TheVariants as state
-use Rattle.htoken.specs.Data.{tag}
 use Rattle.htoken.proofs.Fronts.{part_taken, takes_nothing}
 use Rattle.htoken.proofs.Going.{spans_end}
 use Rattle.htoken.proofs.Handing.{span_given}
 use Rattle.htoken.proofs.InData.{between_data}
 use Rattle.htoken.proofs.InRun.{next_run}
 use Rattle.htoken.proofs.InTag.{tag_handed}
-use Rattle.htoken.proofs.InText.{ascii_chars, each_ascii, reads_front}
+use Rattle.htoken.proofs.InText.{ascii_chars, each_ascii}
+use Rattle.htoken.proofs.Reading.{ran_out_before, reads_as, reads_held}
 
 -- A FRONT OF PLAIN BYTES
 
@@ -116,8 +112,7 @@ module _ (run rest : List ℕ) (size : ℕ) (u : IsUtf8 run) (run_is : run ≡ 4
 module _ (table : Entities) (start : RawKind) (t : Tokenizer) (names : Texts) (text : List Placed) (taken : List Event) (h : Reads table start t names text [] taken) where
   -- memory ran out, and nothing was handed over
   pub memory_out : {S : Type 0} (gives : S → Item → Result (Unit {0}) Refusal → S → Type 0) (fed : List Placed) (s : S) (new : Tokenizer) → Takes gives table start text fed taken names s (Err Memory) s new
-  memory_out gives fed s new = take_ran_out [] refl ([], tt, (refl, refl))
-      (λ more end. subst (λ (x : List Event). AreFront table start (text ++ (fed ++ more)) end x) (sym (append-nil taken)) (reads_front table start t names text [] taken h end (fed ++ more)))
+  memory_out gives fed s new = ran_out_before gives table start text fed names taken t h new s
 
   module _ (after_less : t.state ≡ state.Less) where
     held_less : (h.held ≡ less t ∷ []) × (t.raised.errors.items ≡ [])
@@ -127,20 +122,8 @@ module _ (table : Entities) (start : RawKind) (t : Tokenizer) (names : Texts) (t
     here_data = subst (λ (s : State). IsIn s h.here.kind) after_less h.is_in
 
     less_ahead : (fed : List Placed) (place : ℕ) → place ≡ next_place (text ++ fed) → Reads table start (record t { next = place }) names text fed taken
-    less_ahead fed place is = record {
-      accepts = h.accepts;
-      front = h.front;
-      held = h.held;
-      here = h.here;
-      table_is = h.table_is;
-      text_is = h.text_is;
-      next_is = is;
-      stands = λ end more. h.stands end (fed ++ more);
-      kind_is = h.kind_is;
-      name_is = h.name_is;
-      is_in = h.is_in;
-      is_held = subst (λ (s : State). IsHeld s table names h.here (record t { next = place }) h.held fed) (sym after_less) held_less;
-    }
+    less_ahead fed place is =
+        reads_as h (record t { next = place }) names fed taken refl refl is (λ end more. h.stands end (fed ++ more)) refl h.name_is h.is_in (subst (λ (s : State). IsHeld s table names h.here (record t { next = place }) h.held fed) (sym after_less) held_less)
 
     -- a tag without errors, after which data comes, was handed over
     module _ (fed : List Placed) (tok : Tok) (is_tag : (end : ℕ) (more : List Placed) → IsTag table end more (record { text = less t ∷ fed; tokens = tok ∷ []; errors = [] })) where
@@ -151,7 +134,7 @@ module _ (table : Entities) (start : RawKind) (t : Tokenizer) (names : Texts) (t
           → (next h.here (record { text = less t ∷ fed; tokens = tok ∷ []; errors = [] })).kind ≡ kind.None
           → (new : Tokenizer) → new ≡ record t { next = new.next; state = state.Text; last = new.last } → new.next ≡ next_place (text ++ fed) → IsLast names new.last (next h.here (record { text = less t ∷ fed; tokens = tok ∷ []; errors = [] })).name
           → (token : Token) → TokenMeans names token tok → (old s : S) (answer : Result (Unit {0}) Refusal) → gives_token old token answer s → Takes (gives_item gives gives_token) table start text fed taken names old answer s new
-      unfolding less_ahead
+      unfolding less_ahead reads_as
       tag_given gives gives_token allowed to_data new then place last token means old s answer given =
           spans_end (gives_item gives gives_token) table start text fed names taken (record t { next = new.next }) (less_ahead fed new.next place) span (ap (λ (x : List Placed). x ++ fed) (sym held_less.0))
           (λ end more. subst (λ (k : RawKind). IsSpanOf k table end h.here more span) (sym here_data) (tag (is_tag end more))) allowed
@@ -169,52 +152,26 @@ module _ (table : Entities) (start : RawKind) (t : Tokenizer) (names : Texts) (t
 
     -- another walk through tags changes nothing
     pub any_walk : (walk : TagWalk) → HasTaken table start (record t { tag = walk }) names text taken
-    any_walk walk = holds (record {
-      accepts = h.accepts;
-      front = h.front;
-      held = h.held;
-      here = h.here;
-      table_is = h.table_is;
-      text_is = h.text_is;
-      next_is = h.next_is;
-      stands = h.stands;
-      kind_is = h.kind_is;
-      name_is = h.name_is;
-      is_in = h.is_in;
-      is_held = subst (λ (s : State). IsHeld s table names h.here (record t { tag = walk }) h.held []) (sym after_less) held_less;
-    })
+    any_walk walk = holds (reads_as h (record t { tag = walk }) names [] taken refl refl h.next_is h.stands refl h.name_is h.is_in (subst (λ (s : State). IsHeld s table names h.here (record t { tag = walk }) h.held []) (sym after_less) held_less))
 
     module _ {S : Type 0} (gives : S → ParseError → Result (Unit {0}) Refusal → S → Type 0) (gives_token : S → Token → Result (Unit {0}) Refusal → S → Type 0) (fed : List Placed) (place : ℕ) (next_is : place ≡ next_place (text ++ fed)) (walk : TagWalk) (is_start : walk.kind ≡ which.Start) where
       pub plain_ends : (read : Texts) → Grows read names → IsWholeTag table read walk fed [] → (new : Tokenizer) (old s : S) (answer : Result (Unit {0}) Refusal) → EndsTag (gives_item gives gives_token) (record t { next = place; tag = walk }) names old answer new s
           → Takes (gives_item gives gives_token) table start text fed taken names old answer s new
-      unfolding less_ahead
+      unfolding less_ahead reads_as
       plain_ends read later whole =
           tag_handed gives gives_token table start text fed names taken (record t { next = place }) (less_ahead fed place next_is) [] fed (held_then fed) (λ end more span e is. fits_data end more span is) (record t { next = place; tag = walk })
           (record { kind_is = refl; last_is = refl; at_is = refl; stays = (refl, refl, refl) }) (sym (ap tag_mark is_start)) read later (subst (IsWholeTag table read walk fed) (sym held_less.1) whole)
 
       pub plain_goes_on : IsInTag table names walk fed [] [] → (s : S) → Takes (gives_item gives gives_token) table start text fed taken names s (Ok tt) s (record t { next = place; tag = walk; state = state.Tag })
-      plain_goes_on inside s = take_took [] refl ([], tt, (refl, refl)) (holds (record {
-        accepts = h.accepts;
-        front = h.front;
-        held = h.held ++ fed;
-        here = h.here;
-        table_is = h.table_is;
-        text_is = ap (λ (x : List Placed). x ++ fed) h.text_is ∙ append_assoc h.front h.held fed;
-        next_is = next_is ∙ ap next_place (sym (append-nil (text ++ fed)));
-        stands = λ end more. subst (λ (x : List Event). Stands table start end h.front ((h.held ++ fed) ++ ([] ++ more)) h.here x []) (sym (append-nil taken))
-            (subst (λ (x : List Placed). Stands table start end h.front x h.here taken []) (sym (append_assoc h.held fed more)) (h.stands end (fed ++ more)));
-        kind_is = h.kind_is;
-        name_is = h.name_is;
-        is_in = tt;
-        is_held = record {
-          opening = [];
-          body = fed;
-          held_is = sym (held_then fed);
-          opens = sym (ap tag_mark is_start);
-          in_tag = subst (IsInTag table names walk fed []) (sym held_less.1) inside;
-          fits = λ end more others span e is. fits_data end more span is;
-        };
-      }))
+      plain_goes_on inside s =
+          take_took [] refl ([], tt, (refl, refl)) (holds (reads_held h (record t { next = place; tag = walk; state = state.Tag }) fed refl refl next_is (λ end more. h.stands end (fed ++ more)) refl refl tt (record {
+            opening = [];
+            body = fed;
+            held_is = sym (held_then fed);
+            opens = sym (ap tag_mark is_start);
+            in_tag = subst (IsInTag table names walk fed []) (sym held_less.1) inside;
+            fits = λ end more others span e is. fits_data end more span is;
+          })))
 
     -- A BARE TAG
 

@@ -1,17 +1,13 @@
 -- An `&` that is text, and a whole reference, as a run shows them.
-use Rattle.htoken.proofs.Names.{◌≡◌, ◌≤◌, ◌<◌, ℕ, zero, suc, ◌+◌, ◌-◌, Bool, true, false, eqb, ◌&&◌, ◌||◌, List, [], ◌∷◌, ◌++◌, map, length, take, drop, reverse, sym, refl, ap, ◌∙◌, subst, arith, append_assoc, append-nil, Result, Ok, Err, Option, slice_index, list_all, prefix_len, is_ascii, len_utf8, encode_utf8, chars, IsUtf8, and_from, nat_tests, get_or-drop, length-append, length-drop, length-take-le, take-append-drop, take_all, take_at, drop_at, chars-IsAscii, encode_ascii, len_utf8_ascii, IsUtf8-from_ascii, prefix_len-le-length, prefix_len_stops, drop-length, UnknownNamedCharacterReference, ParseError, Placed, RawKind, Refusal, Texts, all, begins, past, is_alphanumeric, placed, error_if, Reference, IsRead, errors_of, characters_of, Entities, Piece, IsReference, IsTable, alone, ampersand, is_plain_byte, is_text_byte, IsCut, list_all-append, all_placed, cut_more, State, Tokenizer, all_at, bare_errors, first_placed, IsBare, IsFront, IsWhole, known_errors, piece_events, HandsEvents, has_references, Standing, run_events, Item, Event, Gives, Reports, Char, AreFront, after_place, holds, later_errors, next_place, IsBetween, IsHeld, IsIn, IsLast, Reads, Stands, Takes, take_sink_refused, take_took, backwards}
-use Rattle.std.proofs.lemmas.Bool.{and_parts}
-use Rattle.std.proofs.lemmas.List.{reverse-append}
-use Rattle.std.proofs.lemmas.Str.{IsAscii-take, IsAscii-drop}
-use Rattle.std.proofs.Math.Seq.{get_or-append_seam}
-use Rattle.htext.proofs.Runs.{counted, take_more}
+use Rattle.htoken.proofs.Names.{◌≡◌, ◌≤◌, ◌<◌, ℕ, zero, suc, ◌+◌, ◌-◌, Bool, true, false, eqb, ◌&&◌, ◌||◌, List, [], ◌∷◌, ◌++◌, map, length, take, drop, reverse, sym, refl, ap, ◌∙◌, subst, arith, append_assoc, append-nil, Result, Ok, Err, Option, slice_index, list_all, prefix_len, is_ascii, len_utf8, encode_utf8, chars, IsUtf8, and_from, nat_tests, get_or-drop, length-append, length-drop, length-take-le, take-append-drop, take_all, take_at, drop_at, chars-IsAscii, encode_ascii, len_utf8_ascii, IsUtf8-from_ascii, prefix_len-le-length, prefix_len_stops, drop-length, UnknownNamedCharacterReference, ParseError, Placed, RawKind, Refusal, Texts, all, begins, past, is_alphanumeric, placed, error_if, Reference, IsRead, errors_of, characters_of, Entities, Piece, IsReference, IsTable, alone, ampersand, is_plain_byte, is_text_byte, IsCut, list_all-append, all_placed, cut_more, State, Tokenizer, all_at, bare_errors, first_placed, IsBare, IsFront, IsWhole, known_errors, piece_events, HandsEvents, has_references, Standing, run_events, Item, Event, Gives, Reports, Char, AreFront, after_place, holds, later_errors, next_place, IsBetween, IsHeld, IsLast, Reads, Stands, Takes, take_sink_refused, take_took, backwards, reverse-append, IsAscii-take, IsAscii-drop, get_or-append_seam, counted, take_more, and_parts}
 use Rattle.htoken.specs.declared.state.State.TheVariants as state
 use Rattle.htoken.proofs.AfterRun.{later_same}
 use Rattle.htoken.proofs.Fronts.{takes_both}
 use Rattle.htoken.proofs.Going.{next_place-snoc}
 use Rattle.htoken.proofs.InReference.{same_between}
 use Rattle.htoken.proofs.InRun.{next_last}
-use Rattle.htoken.proofs.InText.{text_events, all_ascii, ascii_chars, ascii_placed, each_ascii, length_left, reads_front, unknown_is}
+use Rattle.htoken.proofs.InText.{text_events, all_ascii, ascii_chars, ascii_placed, each_ascii, length_left, unknown_is}
+use Rattle.htoken.proofs.Reading.{reads_front, reads_text}
 use Rattle.htoken.proofs.Pending.{later_told}
 use Rattle.htoken.proofs.Referring.{run_errors, stands_piece}
 
@@ -304,21 +300,11 @@ module _ {S : Type 0} (gives : S → Item → Result (Unit {0}) Refusal → S �
 
     -- it has been read, and what it leaves comes next
     own_read : Reads table start new names (text ++ (sign ∷ take own read)) (drop own read) (taken ++ events)
-    own_read = record {
-      accepts = ap (λ (x : Tokenizer). x.refused) then ∙ h.accepts;
-      front = text ++ (sign ∷ take own read);
-      held = [];
-      here = there;
-      table_is = ap (λ (x : Tokenizer). x.table.now) then ∙ h.table_is;
-      text_is = sym (append-nil (text ++ (sign ∷ take own read)));
-      next_is = next ∙ whole_next ∙ ap next_place (ap (λ (x : List Placed). text ++ x) (sym own_all) ∙ sym (append_assoc text (sign ∷ take own read) (drop own read)));
-      stands = stands_own;
-      kind_is = ap (λ (x : Tokenizer). x.kind) then ∙ h.kind_is;
-      name_is = subst (λ (x : Option ℕ). IsLast names x h.here.name) (sym (ap (λ (x : Tokenizer). x.last) then)) h.name_is;
-      is_in = subst (λ (x : State). IsIn x h.here.kind) (sym (ap (λ (x : Tokenizer). x.state) then ∙ in_text)) tt;
-      is_held = subst (λ (x : State). IsHeld x table names there new [] (drop own read)) (sym (ap (λ (x : Tokenizer). x.state) then ∙ in_text))
-          (refl, ap (λ (x : Tokenizer). x.raised.errors.items) then ∙ none.1, same_between h.here there t new may refl refl (ap (λ (x : Tokenizer). x.tag) then) none.2);
-    }
+    own_read =
+        reads_text there (ap (λ (x : Tokenizer). x.refused) then ∙ h.accepts) (ap (λ (x : Tokenizer). x.table.now) then ∙ h.table_is)
+        (next ∙ whole_next ∙ ap next_place (ap (λ (x : List Placed). text ++ x) (sym own_all) ∙ sym (append_assoc text (sign ∷ take own read) (drop own read)))) stands_own (ap (λ (x : Tokenizer). x.kind) then ∙ h.kind_is)
+        (subst (λ (x : Option ℕ). IsLast names x h.here.name) (sym (ap (λ (x : Tokenizer). x.last) then)) h.name_is) (ap (λ (x : Tokenizer). x.state) then ∙ in_text) (ap (λ (x : Tokenizer). x.raised.errors.items) then ∙ none.1)
+        (same_between h.here there t new may refl refl (ap (λ (x : Tokenizer). x.tag) then) none.2)
 
     pub whole_refused : (old s : S) (e : Refusal) → HandsEvents gives names old events (Err e) s → Takes gives table start text (placed at (chars (take (count + 1) run))) taken names old (Err e) s new
     whole_refused old s e handed = take_sink_refused e events refl handed (λ more end.

@@ -1,14 +1,9 @@
 -- What the characters after `<!` begin, and what they do not.
-use Rattle.htoken.proofs.Names.{◌≡◌, ℕ, zero, suc, ◌+◌, ◌<◌, get_or, take, Bool, true, false, ◌&&◌, ◌||◌, eqb, List, [], ◌∷◌, ◌++◌, map, length, sym, refl, ap, ◌∙◌, subst, Some, arith, append_assoc, append-nil, eqb-true, eq-eqb, codes, slice_get, is_some, to_ascii_lowercase, list_all, Placed, characters, lowered, all, is_letter, begins, place, spells_in_any_case, nat_tests, is_plain_in_bogus, and_no, and_parts, and_both, Opened, is_declaration, front_at, IsOpened}
-use Rattle.std.proofs.Math.Seq.{take-suc}
-use Rattle.names.specs.Placed.{spells}
+use Rattle.htoken.proofs.Names.{◌≡◌, ℕ, zero, suc, ◌+◌, ◌<◌, get_or, take, Bool, true, false, ◌&&◌, ◌||◌, eqb, List, [], ◌∷◌, ◌++◌, map, length, sym, refl, ap, ◌∙◌, subst, Some, arith, append_assoc, append-nil, eqb-true, eq-eqb, codes, slice_get, is_some, to_ascii_lowercase, list_all, Placed, characters, lowered, all, is_letter, begins, place, spells_in_any_case, nat_tests, is_plain_in_bogus, and_no, and_parts, and_both, Opened, is_declaration, front_at, IsOpened, take-suc, spells, Opens, Spelled, is_cdata, IsFrontOf, OpensAs}
 use Rattle.htoken.specs.declared.declaration.Opened.TheVariants as opened
-use Rattle.htoken.specs.declared.declaration.Opens.{Opens}
 use Rattle.htoken.specs.declared.declaration.Opens.TheVariants as opens
-use Rattle.htoken.specs.declared.declaration.Spelled.{Spelled}
 use Rattle.htoken.specs.declared.declaration.Spelled.TheVariants as spelled
-use Rattle.htoken.specs.Data.{is_cdata}
-use Rattle.htoken.specs.Declaration.{front_of, IsFrontOf, OpensAs}
+use Rattle.htoken.specs.Declaration.{front_of}
 
 -- whether a text begins with a word, as each of its characters is read
 abbrev pub spells_as : (ℕ → ℕ) → List ℕ → List Placed → Bool

@@ -1,8 +1,6 @@
 -- A character of a comment or a doctype, and the input's end in it.
-use Rattle.htoken.proofs.Names.{◌≡◌, ℕ, Bool, true, false, List, [], ◌∷◌, ◌++◌, sym, refl, ap, ◌∙◌, subst, Result, Ok, Err, Option, append_assoc, append-nil, ParseError, Placed, RawKind, Refusal, Memory, Texts, Hands, Entities, WalkEnds, Raised, Token, Tokenizer, Tok, Span, Event, TokenMeans, gives_item, Standing, next, has_refused, IsDataSpan, Reads, Takes, IsHeld, IsIn, IsLast, IsInMarkup, EndsHeld, held_ran_out, held_ended, Keeps, GivesSpan}
+use Rattle.htoken.proofs.Names.{◌≡◌, ℕ, Bool, true, false, List, [], ◌∷◌, ◌++◌, sym, refl, ap, ◌∙◌, subst, Result, Ok, Err, Option, append_assoc, append-nil, ParseError, Placed, RawKind, Refusal, Memory, Texts, Hands, Entities, WalkEnds, Raised, Token, Tokenizer, Tok, Span, Event, TokenMeans, gives_item, Standing, next, has_refused, IsDataSpan, Reads, Takes, IsHeld, IsIn, IsLast, IsInMarkup, EndsHeld, held_ran_out, held_ended, Keeps, GivesSpan, WalkTakes, walk_ran_out, sink_refused, walk_goes_on, walk_ended, raises}
 use Rattle.names.specs.declared.raw.RawKind.TheVariants as kind
-use Rattle.hmarkup.specs.Walk.{Takes as WalkTakes, ran_out as walk_ran_out, sink_refused, goes_on as walk_goes_on, ended as walk_ended}
-use Rattle.htoken.specs.Giving.{raises}
 use Rattle.htoken.proofs.Going.{stays_both, ran_out, goes_on, span_ends}
 use Rattle.htoken.proofs.Handing.{span_given}
 use Rattle.htoken.proofs.InData.{in_data, between_data}

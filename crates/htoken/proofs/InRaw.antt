@@ -1,15 +1,11 @@
 -- Characters of raw text, and its end tag.
-use Rattle.htoken.proofs.Names.{◌≡◌, ℕ, Bool, true, false, cond, ◌&&◌, eqb, List, [], ◌∷◌, ◌++◌, map, length, sym, refl, ap, ◌∙◌, subst, Result, Ok, Err, Option, Some, None, arith, append_assoc, append-nil, eqb-true, slice_get, is_some, nat_lt, MatchResult, Memory, to_ascii_lowercase, string_bytes, UnexpectedNullCharacter, ParseError, Placed, RawKind, Refusal, Texts, lowered, begins, all, is_letter, name_bytes, without_null, error, Entities, backwards, and_parts, and_no, no_null_error, State, TagWalk, Script, HasFront, level_number, Tokenizer, Span, Item, Event, Gives, Reports, Char, piece_span, Standing, is_raw, is_script, may_end, is_raw_end, name_ends, IsSpan, IsSpanOf, IsRawSpan, has_references, raw_character, raw_end, events_of, tokens_in, tokens_of, HandsEvents, run_events, ends_name, Stands, Reads, Takes, take_sink_refused, IsHeld, IsIn, IsLast, IsBetween, less, Stays, Keeps, IsInTag, tag_mark, tag_ahead}
+use Rattle.htoken.proofs.Names.{IsFollowed, ◌≡◌, ℕ, Bool, true, false, cond, ◌&&◌, eqb, List, [], ◌∷◌, ◌++◌, map, length, sym, refl, ap, ◌∙◌, subst, Result, Ok, Err, Option, Some, None, arith, append_assoc, append-nil, eqb-true, slice_get, is_some, nat_lt, MatchResult, Memory, to_ascii_lowercase, string_bytes, UnexpectedNullCharacter, ParseError, Placed, RawKind, Refusal, Texts, lowered, begins, all, is_letter, name_bytes, without_null, error, Entities, backwards, and_parts, and_no, no_null_error, State, TagWalk, Script, HasFront, level_number, Tokenizer, Span, Item, Event, Gives, Reports, Char, piece_span, Standing, is_raw, is_script, may_end, is_raw_end, name_ends, IsSpan, IsSpanOf, IsRawSpan, has_references, raw_character, raw_end, events_of, HandsEvents, run_events, ends_name, Stands, Reads, Takes, take_sink_refused, IsHeld, IsIn, IsLast, IsBetween, less, Stays, Keeps, IsInTag, tag_mark, tag_ahead, plain_piece, ends_by, IsAfterRawLess, IsInRawName, Holds, all-snoc}
 use Rattle.names.specs.declared.raw.RawKind.TheVariants as kind
 use Rattle.htoken.specs.declared.state.State.TheVariants as state
 use Rattle.htag.specs.declared.kind.TagKind.TheVariants as tag
-use Rattle.htag.specs.Value.{plain_piece}
-use Rattle.htoken.specs.Raw.{ends_by}
-use Rattle.htoken.specs.Tokenizing.{IsAfterRawLess, IsInRawName}
-use Rattle.htoken.specs.Steps.{Holds}
 use Rattle.htoken.proofs.Cutting.{stands_more}
 use Rattle.htoken.proofs.Going.{ran_out, goes_on, span_ends}
-use Rattle.htag.proofs.Parts.{all-snoc}
+use Rattle.htoken.proofs.Reading.{are_front, reads_as, reads_text}
 use Rattle.htoken.proofs.RawNames.{is_word, raw_word, word_letter, some_held}
 use Rattle.htoken.proofs.RawEnds.{differs, goes_past, is_whole, left_some, left_none, letter_not, name_is_lowered, no_solidus, no_name, a_name, other_goes_on, nameless_goes_on, inner_goes_on}
 
@@ -30,11 +26,6 @@ raw_span q = piece_span (plain_piece q)
 lowered-snoc : (xs : List Placed) (p : Placed) → lowered (xs ++ p ∷ []) ≡ lowered xs ++ to_ascii_lowercase p.ch ∷ []
 lowered-snoc [] p = refl
 lowered-snoc (x ∷ xs) p = ap (λ (cs : List ℕ). to_ascii_lowercase x.ch ∷ cs) (lowered-snoc xs p)
-
--- the level was followed
-pub record IsFollowed (t : Tokenizer) (c : ℕ) (new : Tokenizer) : Type 0 where
-  pub then : new ≡ record t { script = new.script }
-  pub follows : (at : ℕ) (front : List Placed) → is_script t.kind ≡ true → HasFront t.script front → HasFront new.script (record { ch = c; at = at } ∷ front)
 
 -- CHARACTERS, ONE AFTER ANOTHER
 
@@ -100,33 +91,13 @@ module _ {S : Type 0} (gives : S → Item → Result (Unit {0}) Refusal → S �
 
     pub characters_ended : (new : Tokenizer) → Stays t new → new.kind ≡ t.kind → new.last ≡ t.last → new.state ≡ state.Text → new.raised.errors.items ≡ [] → IsBetween (after_characters h.here qs) new
         → Reads table start new names text (p ∷ []) (taken ++ run_events qs)
-    characters_ended new stays kind last in_text none between = record {
-      accepts = stays.0 ∙ h.accepts;
-      table_is = ap (λ x. x.now) stays.1 ∙ h.table_is;
-      next_is = stays.2 ∙ h.next_is;
-      front = h.front ++ qs;
-      held = [];
-      here = after_characters h.here qs;
-      text_is = front_is ∙ sym (append-nil (h.front ++ qs));
-      stands = λ end more. stands_before end more;
-      kind_is = kind ∙ h.kind_is;
-      name_is = subst (λ (x : Option ℕ). IsLast names x h.here.name) (sym last) h.name_is;
-      is_in = subst (λ (x : State). IsIn x h.here.kind) (sym in_text) tt;
-      is_held = subst (λ (x : State). IsHeld x table names (after_characters h.here qs) new [] (p ∷ [])) (sym in_text) (refl, none, between);
-    }
+    characters_ended new stays kind last in_text none between =
+        reads_text (after_characters h.here qs) (stays.0 ∙ h.accepts) (ap (λ x. x.now) stays.1 ∙ h.table_is) (stays.2 ∙ h.next_is)
+        (λ end more. subst (λ (x : List Placed). Stands table start end x (p ∷ more) (after_characters h.here qs) (taken ++ run_events qs) []) (sym front_is) (stands_before end more))
+        (kind ∙ h.kind_is) (subst (λ (x : Option ℕ). IsLast names x h.here.name) (sym last) h.name_is) in_text none between
 
     pub characters_refused : (new : Tokenizer) (old s : S) (e : Refusal) → HandsEvents gives names old (run_events qs) (Err e) s → Takes gives table start text (p ∷ []) taken names old (Err e) s new
-    characters_refused new old s e handed = take_sink_refused e (run_events qs) refl handed (λ more end.
-        let then = stands_before end more in
-        record {
-          spans = then.spans;
-          rest = p ∷ more;
-          others = [];
-          text_is = ap (λ (x : List Placed). x ++ p ∷ more) (front_is ∙ then.front_is);
-          cut = then.cut;
-          in_profile = then.in_profile;
-          front_is = append-nil (tokens_in (taken ++ run_events qs)) ∙ then.tokens_are ∙ sym (append-nil (tokens_of then.spans));
-        })
+    characters_refused new old s e handed = take_sink_refused e (run_events qs) refl handed (λ more end. are_front (ap (λ (x : List Placed). x ++ p ∷ more) front_is) (stands_before end more))
 
   -- WHERE NOTHING IS HELD
 
@@ -319,28 +290,15 @@ module _ {S : Type 0} (gives : S → Item → Result (Unit {0}) Refusal → S �
       end_tag_begins new new_is kind ends begun =
           let i = in_name in
           let some : begins is_letter t.held.items ≡ true = some_letter t.held.items i.letters (some_held t.held.items (ap is_word name_whole ∙ word)) in
-          subst (λ (x : Tokenizer). Reads table start x names text (p ∷ []) taken) (sym new_is) (record {
-            accepts = h.accepts;
-            table_is = h.table_is;
-            next_is = h.next_is;
-            front = h.front;
-            held = h.held;
-            here = h.here;
-            text_is = h.text_is;
-            stands = h.stands;
-            kind_is = h.kind_is;
-            name_is = h.name_is;
-            is_in = tt;
-            is_held = record {
-              opening = record { ch = 47; at = at } ∷ [];
-              body = t.held.items;
-              held_is = i.held_is;
-              opens = sym (ap tag_mark kind);
-              in_tag = tag_ahead table names new.tag t.held.items t.raised.errors.items (subst (IsInTag table names new.tag t.held.items []) (sym i.raises_none)
-                  (begun t.held.items some i.letters (sym name_whole ∙ sym (name_is_lowered t.held.items i.letters)))) (p ∷ []);
-              fits = λ end rest more span e is. in_raw table end h.here rest span raw_here (raw_end (whole rest more span e) is);
-            };
-          }) where
+          subst (λ (x : Tokenizer). Reads table start x names text (p ∷ []) taken) (sym new_is) (reads_as h (record t { state = state.Tag; tag = new.tag }) names (p ∷ []) taken refl refl h.next_is h.stands refl h.name_is tt (record {
+            opening = record { ch = 47; at = at } ∷ [];
+            body = t.held.items;
+            held_is = i.held_is;
+            opens = sym (ap tag_mark kind);
+            in_tag = tag_ahead table names new.tag t.held.items t.raised.errors.items (subst (IsInTag table names new.tag t.held.items []) (sym i.raises_none)
+                (begun t.held.items some i.letters (sym name_whole ∙ sym (name_is_lowered t.held.items i.letters)))) (p ∷ []);
+            fits = λ end rest more span e is. in_raw table end h.here rest span raw_here (raw_end (whole rest more span e) is);
+          })) where
             whole : (rest more : List Placed) (span : Span) → span.text ≡ h.held ++ ((p ∷ []) ++ more) → is_raw_end h.here (span.text ++ rest) ≡ true
             whole rest more span e =
                 let same : span.text ++ rest ≡ less t ∷ record { ch = 47; at = at } ∷ (t.held.items ++ p ∷ (more ++ rest)) =

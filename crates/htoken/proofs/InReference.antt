@@ -1,19 +1,14 @@
 -- A character after an `&`, and the input's end there.
-use Rattle.htoken.proofs.Names.{◌≡◌, ℕ, ◌+◌, ◌-◌, ◌≤◌, Bool, true, false, true≢false, ◌&&◌, eqb, List, [], ◌∷◌, ◌++◌, map, length, drop, take, reverse, sym, refl, ap, ◌∙◌, subst, Result, Ok, Err, Option, arith, append_assoc, append-nil, string_bytes, UnknownNamedCharacterReference, ParseError, Placed, RawKind, Refusal, Texts, all, begins, past, is_alphanumeric, error_if, Reference, IsRead, characters_of, errors_of, Entities, IsTable, IsReference, WalkState, and_no, and_parts, State, Tokenizer, Tok, Span, Item, Event, Gives, Reports, Char, piece_span, Standing, next, is_raw, is_script, has_references, known_errors, piece_events, read_events, tokens_in, eof_of, tokens_of, HandsEvents, run_events, Stays, Stands, Reads, IsInAmbiguousAmpersand, Takes, take_took, take_sink_refused, in_ambiguous_ampersand, IsHeld, IsIn, IsLast, IsBetween, EndsHeld, held_ended, later_errors, next_place}
-use Rattle.std.proofs.lemmas.List.{drop-append-le, take-append-le}
-use Rattle.std.proofs.Math.Seq.{drop-append_seam, take-append_seam}
+use Rattle.htoken.proofs.Names.{◌≡◌, ℕ, ◌+◌, ◌-◌, ◌≤◌, Bool, true, false, true≢false, ◌&&◌, eqb, List, [], ◌∷◌, ◌++◌, map, length, drop, take, reverse, sym, refl, ap, ◌∙◌, subst, Result, Ok, Err, Option, arith, append_assoc, append-nil, string_bytes, UnknownNamedCharacterReference, ParseError, Placed, RawKind, Refusal, Texts, all, begins, past, is_alphanumeric, error_if, Reference, IsRead, characters_of, errors_of, Entities, IsTable, IsReference, WalkState, and_no, and_parts, State, Tokenizer, Span, Item, Event, Gives, Reports, Char, piece_span, Standing, next, is_raw, is_script, has_references, known_errors, piece_events, read_events, HandsEvents, run_events, Stays, Stands, Reads, IsInAmbiguousAmpersand, Takes, take_took, take_sink_refused, in_ambiguous_ampersand, IsHeld, IsIn, IsLast, IsBetween, EndsHeld, held_ended, later_errors, next_place, drop-append-le, take-append-le, drop-append_seam, take-append_seam, CharWalk, is_number, WalkHasTaken, LeavesLast, kept_none, kept_all, kept_nothing, is_other, drop-kept, drop-kept-end, BeginsReference, Finds, HoldsInReference, IsInReference}
 use Rattle.std.proofs.Math.ListN.{length-append}
 use Rattle.names.specs.declared.raw.RawKind.TheVariants as kind
-use Rattle.charref.specs.declared.walk.Walk.{Walk as CharWalk}
-use Rattle.charref.specs.Held.{is_number, kept}
-use Rattle.charref.specs.Walk.{HasTaken as WalkHasTaken, LeavesLast}
-use Rattle.charref.proofs.Keeping.{kept_none, kept_all, kept_nothing, is_other, drop-kept, drop-kept-end}
+use Rattle.charref.specs.Held.{kept}
 use Rattle.htoken.specs.declared.state.State.TheVariants as state
-use Rattle.htoken.specs.Steps.{BeginsReference, Finds, HoldsInReference}
-use Rattle.htoken.specs.Tokenizing.{IsInReference}
 use Rattle.htoken.proofs.Going.{goes_on, span_ends}
 use Rattle.htoken.proofs.Pending.{stands_on, stands_told, later_on, later_told}
-use Rattle.htoken.proofs.Referring.{is_kept, all-drop, held_kept, run_errors, after_reference, stands_read, plain_span, plain_is, alphanumeric_kept, reference_is, no_tag, gives_some, next_is}
+use Rattle.htoken.proofs.Plain.{is_itself, plain_is, plain_span}
+use Rattle.htoken.proofs.Reading.{are_front, reads_text}
+use Rattle.htoken.proofs.Referring.{all-drop, held_kept, run_errors, after_reference, stands_read, alphanumeric_itself, reference_is, no_tag, gives_some, next_is}
 
 -- what a walk that stays as it is has found with a character
 pub found_with : (table : Entities) (old new : CharWalk) (p : Placed) (found : Reference) → new ≡ old
@@ -25,7 +20,7 @@ found_with table old new p found same taken number = record {
 }
 
 -- where references may be no script does
-no_script : (k : RawKind) → has_references k ≡ true → is_script k ≡ true → ⊥
+pub no_script : (k : RawKind) → has_references k ≡ true → is_script k ≡ true → ⊥
 no_script kind.None e f = absurd cc
 no_script kind.Rcdata e f = absurd cc
 no_script kind.Rawtext e f = absurd cc
@@ -171,39 +166,19 @@ module _ {S : Type 0} (gives : S → Item → Result (Unit {0}) Refusal → S �
           let i = inside in
           subst (λ (x : List Event). Stands table start end text (p ∷ more) after (taken ++ x) (run_errors found t.at more)) given_is
           (subst (λ (x : List Placed). Stands table start end x (p ∷ more) after (taken ++ read_events found t.at read count) (run_errors found t.at more)) (ap (λ (x : List Placed). h.front ++ x) (sym i.held_is) ∙ sym h.text_is)
-          (stands_read table start end h.front h.here taken t.at read count found may i.is_table (all-drop is_kept count read (held_kept table false _ read i.has_taken.held)) (p ∷ more) more (is_before more)
+          (stands_read table start end h.front h.here taken t.at read count found may i.is_table (all-drop is_itself count read (held_kept table false _ read i.has_taken.held)) (p ∷ more) more (is_before more)
           (subst (λ (x : List Placed). Stands table start end h.front (x ++ (p ∷ more)) h.here taken []) i.held_is (h.stands end more))))
 
       pub reference_refused : (new : Tokenizer) (old s : S) (e : Refusal) → HandsEvents gives names old given (Err e) s → Takes gives table start text (p ∷ []) taken names old (Err e) s new
-      reference_refused new old s e handed = take_sink_refused e given refl handed (λ more end.
-          let then = stands_before end more in
-          record {
-            spans = then.spans;
-            rest = p ∷ more;
-            others = [];
-            text_is = ap (λ (x : List Placed). x ++ p ∷ more) then.front_is;
-            cut = then.cut;
-            in_profile = then.in_profile;
-            front_is = append-nil (tokens_in (taken ++ given)) ∙ then.tokens_are ∙ sym (append-nil (tokens_of then.spans));
-          })
+      reference_refused new old s e handed = take_sink_refused e given refl handed (λ more end. are_front refl (stands_before end more))
 
       -- what does not belong to it is read again
       pub reference_ended : (new : Tokenizer) → found.in_run ≡ false → Stays t new → new.kind ≡ t.kind → new.last ≡ t.last → new.state ≡ state.Text → new.raised.errors.items ≡ t.raised.errors.items → new.tag ≡ t.tag
           → Reads table start new names text (p ∷ []) (taken ++ given)
-      reference_ended new told stays kind last in_text raised tag = record {
-        accepts = stays.0 ∙ h.accepts;
-        front = text;
-        held = [];
-        here = after;
-        table_is = ap (λ x. x.now) stays.1 ∙ h.table_is;
-        text_is = sym (append-nil text);
-        next_is = stays.2 ∙ h.next_is;
-        stands = λ end more. subst (λ (b : Bool). Stands table start end text (p ∷ more) after (taken ++ given) (error_if (b && begins (λ c. eqb c 59) (past is_alphanumeric more)) UnknownNamedCharacterReference t.at)) told (stands_before end more);
-        kind_is = kind ∙ h.kind_is;
-        name_is = subst (λ (x : Option ℕ). IsLast names x h.here.name) (sym last) h.name_is;
-        is_in = subst (λ (x : State). IsIn x h.here.kind) (sym in_text) tt;
-        is_held = subst (λ (x : State). IsHeld x table names after new [] (p ∷ [])) (sym in_text) (refl, raised ∙ inside.raises_none, same_between h.here after t new may refl refl tag inside.between);
-      }
+      reference_ended new told stays kind last in_text raised tag =
+          reads_text after (stays.0 ∙ h.accepts) (ap (λ x. x.now) stays.1 ∙ h.table_is) (stays.2 ∙ h.next_is)
+          (λ end more. subst (λ (b : Bool). Stands table start end text (p ∷ more) after (taken ++ given) (error_if (b && begins (λ c. eqb c 59) (past is_alphanumeric more)) UnknownNamedCharacterReference t.at)) told (stands_before end more))
+          (kind ∙ h.kind_is) (subst (λ (x : Option ℕ). IsLast names x h.here.name) (sym last) h.name_is) in_text (raised ∙ inside.raises_none) (same_between h.here after t new may refl refl tag inside.between)
 
       -- a run of alphanumerics goes on, and its error comes later
       pub run_begins : (new : Tokenizer) → found.in_run ≡ true → is_alphanumeric p.ch ≡ true → Stays t new → new.kind ≡ t.kind → new.last ≡ t.last → new.state ≡ state.AmbiguousAmpersand t.at → new.raised.errors.items ≡ t.raised.errors.items → new.tag ≡ t.tag
@@ -245,7 +220,7 @@ module _ {S : Type 0} (gives : S → Item → Result (Unit {0}) Refusal → S �
       held_ended given after (kind ∙ h.kind_is) (λ e. absurd (no_script h.here.kind end_may e))
       (subst (Stands table start end text [] after (taken ++ given)) (ap (λ (b : Bool). error_if b UnknownNamedCharacterReference t.at) (and_no found.in_run false refl))
       (subst (λ (x : List Placed). Stands table start end x [] after (taken ++ given) (run_errors found t.at [])) (ap (λ (x : List Placed). h.front ++ x) (sym i.held_is) ∙ sym h.text_is)
-      (stands_read table start end h.front h.here taken t.at i.read count found end_may i.is_table (all-drop is_kept count i.read (held_kept table false _ i.read i.has_taken.held)) [] [] (r.reads (record { ch = 38; at = t.at }) refl)
+      (stands_read table start end h.front h.here taken t.at i.read count found end_may i.is_table (all-drop is_itself count i.read (held_kept table false _ i.read i.has_taken.held)) [] [] (r.reads (record { ch = 38; at = t.at }) refl)
       (subst (λ (x : List Placed). Stands table start end h.front (x ++ []) h.here taken []) i.held_is (h.stands end [])))))
       (subst (λ (x : List Placed). HandsEvents gives names old (piece_events found t.at ++ run_events x) answer s) back_is handed)
 
@@ -284,7 +259,7 @@ module _ {S : Type 0} (gives : S → Item → Result (Unit {0}) Refusal → S �
     stands_then : (end : ℕ) (more : List Placed) → Stands table start end (text ++ p ∷ []) more (record h.here { front = p ∷ h.here.front }) (taken ++ one) (later_errors amp more)
     stands_then end more =
         subst (Stands table start end (text ++ p ∷ []) more (record h.here { front = p ∷ h.here.front }) (taken ++ one)) (append-nil (later_errors amp (p ∷ more)) ∙ later_on amp p more letter)
-        (stands_on table start end text more h.here taken (plain_span p) (later_errors amp (p ∷ more)) (stands_now end more) (plain_is table end h.here more p h.may (alphanumeric_kept p.ch letter)) refl)
+        (stands_on table start end text more h.here taken (plain_span p) (later_errors amp (p ∷ more)) (stands_now end more) (plain_is table end h.here more p (alphanumeric_itself p.ch letter)) refl)
 
     pub run_goes_on : (old s : S) (answer : Result (Unit {0}) Refusal) → HandsEvents gives names old one answer s → Takes gives table start text (p ∷ []) taken names old answer s t
     run_goes_on old s (Ok u) handed = take_took one refl handed (in_ambiguous_ampersand (record {
@@ -301,17 +276,7 @@ module _ {S : Type 0} (gives : S → Item → Result (Unit {0}) Refusal → S �
       raises_none = h.raises_none;
       between = same_between h.here (record h.here { front = p ∷ h.here.front }) t t h.may refl refl refl h.between;
     }))
-    run_goes_on old s (Err e) handed = take_sink_refused e one refl handed (λ more end.
-        let then = stands_then end more in
-        record {
-          spans = then.spans;
-          rest = more;
-          others = eof_of end more;
-          text_is = sym (append_assoc text (p ∷ []) more) ∙ ap (λ (x : List Placed). x ++ more) then.front_is;
-          cut = then.cut;
-          in_profile = then.in_profile;
-          front_is = ap (λ (x : List Tok). x ++ eof_of end more) then.tokens_are;
-        })
+    run_goes_on old s (Err e) handed = take_sink_refused e one refl handed (λ more end. are_front (sym (append_assoc text (p ∷ []) more)) (stands_then end more))
 
   module _ (other : is_alphanumeric p.ch ≡ false) where
     abbrev told : List ParseError
@@ -322,35 +287,9 @@ module _ {S : Type 0} (gives : S → Item → Result (Unit {0}) Refusal → S �
 
     pub run_ended : (new : Tokenizer) → new ≡ record t { state = state.Text } → Reads table start new names text (p ∷ []) (taken ++ map Reports told)
     run_ended new then =
-        let in_text : new.state ≡ state.Text = ap (λ (x : Tokenizer). x.state) then in
-        record {
-          accepts = ap (λ (x : Tokenizer). x.refused) then ∙ h.accepts;
-          front = text;
-          held = [];
-          here = h.here;
-          table_is = ap (λ (x : Tokenizer). x.table.now) then ∙ h.table_is;
-          text_is = sym (append-nil text);
-          next_is = ap (λ (x : Tokenizer). x.next) then ∙ h.next_is;
-          stands = λ end more. stands_told_now end more;
-          kind_is = ap (λ (x : Tokenizer). x.kind) then ∙ h.kind_is;
-          name_is = subst (λ (x : Option ℕ). IsLast names x h.here.name) (sym (ap (λ (x : Tokenizer). x.last) then)) h.name_is;
-          is_in = subst (λ (x : State). IsIn x h.here.kind) (sym in_text) tt;
-          is_held = subst (λ (x : State). IsHeld x table names h.here new [] (p ∷ [])) (sym in_text) (
-            refl,
-            ap (λ (x : Tokenizer). x.raised.errors.items) then ∙ h.raises_none,
-            same_between h.here h.here t new h.may refl refl (ap (λ (x : Tokenizer). x.tag) then) h.between,
-          );
-        }
+        reads_text h.here (ap (λ (x : Tokenizer). x.refused) then ∙ h.accepts) (ap (λ (x : Tokenizer). x.table.now) then ∙ h.table_is) (ap (λ (x : Tokenizer). x.next) then ∙ h.next_is) stands_told_now
+        (ap (λ (x : Tokenizer). x.kind) then ∙ h.kind_is) (subst (λ (x : Option ℕ). IsLast names x h.here.name) (sym (ap (λ (x : Tokenizer). x.last) then)) h.name_is) (ap (λ (x : Tokenizer). x.state) then)
+        (ap (λ (x : Tokenizer). x.raised.errors.items) then ∙ h.raises_none) (same_between h.here h.here t new h.may refl refl (ap (λ (x : Tokenizer). x.tag) then) h.between)
 
     pub run_refused : (new : Tokenizer) (old s : S) (e : Refusal) → HandsEvents gives names old (map Reports told) (Err e) s → Takes gives table start text (p ∷ []) taken names old (Err e) s new
-    run_refused new old s e handed = take_sink_refused e (map Reports told) refl handed (λ more end.
-        let then = stands_told_now end more in
-        record {
-          spans = then.spans;
-          rest = p ∷ more;
-          others = [];
-          text_is = ap (λ (x : List Placed). x ++ p ∷ more) then.front_is;
-          cut = then.cut;
-          in_profile = then.in_profile;
-          front_is = append-nil (tokens_in (taken ++ map Reports told)) ∙ then.tokens_are ∙ sym (append-nil (tokens_of then.spans));
-        })
+    run_refused new old s e handed = take_sink_refused e (map Reports told) refl handed (λ more end. are_front refl (stands_told_now end more))

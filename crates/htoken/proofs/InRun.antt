@@ -1,22 +1,12 @@
 -- A run of plain characters, taken as a whole.
-use Rattle.htoken.proofs.Names.{◌≡◌, ◌≤◌, ◌<◌, ℕ, zero, suc, ◌+◌, Bool, true, false, cond, eqb, List, [], ◌∷◌, ◌++◌, length, take, sym, refl, ap, ◌∙◌, subst, arith, drop, Result, Ok, Err, Option, append_assoc, append-nil, nat_tests, list_all, not, ◌&&◌, ◌||◌, and_from, length-take-le, len_utf8, encode_utf8, chars, string_bytes, ParseError, Placed, RawKind, Refusal, Memory, Texts, Grows, all, placed, null_errors, is_clean, is_plain_byte, is_plain, IsCut, all_placed, plain_take, Entities, and_parts, and_no, no_null_error, HasReadOf, IsCommentOf, TakesRun, IsInTag, State, Tokenizer, Tok, Span, Item, Event, Gives, Char, Comment, Standing, is_script, FollowsAll, IsDataSpan, character, character_span, IsSpanOf, IsRawSpan, raw_character, has_references, tokens_in, eof_of, HandsEvents, run_events, replaced, tag_mark, after_place, next_from, next_place, less, Stands, Reads, HasTaken, holds, Takes, take_ran_out, take_sink_refused, take_took, IsHeld, IsIn, IsLast, IsBetween, IsInMarkup, IsInMarkedTag}
-use Rattle.std.specs.Prelude.{◌==◌}
-use Rattle.names.specs.declared.raw.RawKind.TheVariants as kind
-use Rattle.htext.proofs.Runs.{one_long}
-use Rattle.htext.proofs.Wide.{bytes_plain, last_char}
-use Rattle.hmarkup.specs.Walk.{run_ran_out, run_refused, run_goes_on}
+use Rattle.htoken.proofs.Names.{◌≡◌, ◌≤◌, ◌<◌, ℕ, zero, suc, ◌+◌, Bool, true, false, List, [], ◌∷◌, ◌++◌, length, take, sym, refl, ap, ◌∙◌, subst, arith, drop, Result, Ok, Err, Option, append_assoc, append-nil, nat_tests, list_all, not, ◌&&◌, ◌||◌, and_from, length-take-le, len_utf8, encode_utf8, chars, string_bytes, ParseError, Placed, RawKind, Refusal, Memory, Texts, Grows, all, placed, is_clean, is_plain_byte, is_plain, IsCut, all_placed, plain_take, Entities, and_parts, HasReadOf, IsCommentOf, TakesRun, IsInTag, State, Tokenizer, Item, Event, Comment, Standing, is_script, FollowsAll, IsDataSpan, HandsEvents, run_events, replaced, tag_mark, after_place, next_from, next_place, less, Stands, Reads, holds, Takes, take_sink_refused, take_took, IsHeld, IsIn, IsLast, IsBetween, IsInMarkup, IsInMarkedTag, ◌==◌, one_long, bytes_plain, last_char, run_ran_out, run_refused, run_goes_on, is_text}
 use Rattle.htoken.specs.declared.state.State.TheVariants as state
-use Rattle.htoken.specs.Run.{is_text}
-use Rattle.htoken.proofs.Cutting.{stands_more}
 use Rattle.htoken.proofs.InMarkup.{keeps, kept, refused}
-use Rattle.htoken.proofs.InRaw.{raw_span, after_characters}
+use Rattle.htoken.proofs.InRaw.{after_characters}
 use Rattle.htoken.proofs.InTag.{reads_kept}
-use Rattle.htoken.proofs.RawEnds.{other_goes_on}
+use Rattle.htoken.proofs.Plain.{is_itself, plain_stands}
+use Rattle.htoken.proofs.Reading.{are_front, ran_out_before, reads_as, reads_held, reads_text}
 use Rattle.htoken.proofs.Scripting.{all_followed}
-
--- a character that stands for itself, whatever kind of text it is in
-abbrev pub is_itself : ℕ → Bool
-is_itself c = not (c == 60 || c == 38 || c == 0)
 
 pub plain_is_clean : (cs : List ℕ) → list_all is_plain cs ≡ true → list_all is_clean cs ≡ true
 plain_is_clean [] h = refl
@@ -43,16 +33,6 @@ replaced_more (suc m) n at =
     let long : suc m + n ≡ suc (m + n) = omega arith in
     let place : at + 1 + m ≡ at + suc m = omega arith in
     ap (λ (k : ℕ). replaced at k) long ∙ ap (λ (ps : List Placed). record { ch = 0xFFFD; at = at } ∷ ps) (replaced_more m n (at + 1) ∙ ap (λ (k : ℕ). replaced (at + 1) m ++ replaced k n) place)
-
-module _ (c : ℕ) (h : is_itself c ≡ true) where
-  no_less : eqb c 60 ≡ false
-  no_less = grind (arith, nat_tests)
-
-  no_sign : eqb c 38 ≡ false
-  no_sign = grind (arith, nat_tests)
-
-  no_null : eqb c 0 ≡ false
-  no_null = grind (arith, nat_tests)
 
 -- where they may be taken as a run, text is that is no script
 pub ready_text : (s : State) (script : Bool) → (is_text s && not script) ≡ true → (s ≡ state.Text) × (script ≡ false)
@@ -113,42 +93,6 @@ next_replaced text at (suc n) some h = sym (next_from-append 0 text (replaced at
 
 -- TEXT
 
--- a plain character as a span, whatever kind of text is here
-abbrev plain_span : Placed → Span
-plain_span p = record { text = p ∷ []; tokens = Char p.ch p.at ∷ []; errors = [] }
-
-as_character : (p : Placed) → eqb p.ch 0 ≡ false → plain_span p ≡ character_span p
-as_character p some = ap (λ (es : List ParseError). record { text = p ∷ []; tokens = Char p.ch p.at ∷ []; errors = es }) (sym (no_null_error p some))
-
-as_raw : (p : Placed) → eqb p.ch 0 ≡ false → plain_span p ≡ raw_span p
-as_raw p some = as_character p some ∙ ap (λ (b : Bool). record { text = p ∷ []; tokens = Char (cond b 0xFFFD p.ch) p.at ∷ []; errors = null_errors (p ∷ []) }) (sym some)
-
-module _ (table : Entities) (end : ℕ) (here : Standing) (rest : List Placed) (p : Placed) (plain : is_itself p.ch ≡ true) where
-  in_raw : IsRawSpan table end here rest (plain_span p)
-  in_raw = raw_character p (other_goes_on here p rest (no_less p.ch plain)) (and_no (has_references here.kind) (eqb p.ch 38) (no_sign p.ch plain)) (as_raw p (no_null p.ch plain))
-
-  in_data : IsDataSpan table end rest (plain_span p)
-  in_data = let less : eqb p.ch 60 ≡ false = no_less p.ch plain in let sign : eqb p.ch 38 ≡ false = no_sign p.ch plain in character p (rw (less, sign) refl) (as_character p (no_null p.ch plain))
-
-  of_kind : (k : RawKind) → IsSpanOf k table end here rest (plain_span p)
-  of_kind kind.None = in_data
-  of_kind kind.Rcdata = in_raw
-  of_kind kind.Rawtext = in_raw
-  of_kind kind.Script = in_raw
-  of_kind kind.Plaintext = in_raw
-
-pub run_stands : (table : Entities) (start : RawKind) (end : ℕ) (run front rest : List Placed) (here : Standing) (taken : List Event) → all is_itself run ≡ true → Stands table start end front (run ++ rest) here taken []
-    → Stands table start end (front ++ run) rest (after_characters here run) (taken ++ run_events run) []
-run_stands table start end [] front rest here taken plain s =
-    subst (λ (x : List Placed). Stands table start end x rest here (taken ++ []) []) (sym (append-nil front)) (subst (λ (x : List Event). Stands table start end front rest here x []) (sym (append-nil taken)) s)
-run_stands table start end (q ∷ qs) front rest here taken plain s =
-    let k = and_parts (is_itself q.ch) (all is_itself qs) plain in
-    let one : Stands table start end (front ++ q ∷ []) (qs ++ rest) (record here { front = q ∷ here.front }) (taken ++ Gives (Char q.ch q.at) ∷ []) [] =
-    stands_more table start end front (qs ++ rest) here taken (plain_span q) s (of_kind table end here (qs ++ rest) q k.0 here.kind) refl in
-    subst (λ (x : List Placed). Stands table start end x rest (after_characters here (q ∷ qs)) (taken ++ run_events (q ∷ qs)) []) (append_assoc front (q ∷ []) qs)
-    (subst (λ (x : List Event). Stands table start end ((front ++ q ∷ []) ++ qs) rest (after_characters here (q ∷ qs)) x []) (append_assoc taken (Gives (Char q.ch q.at) ∷ []) (run_events qs))
-    (run_stands table start end qs (front ++ q ∷ []) rest (record here { front = q ∷ here.front }) (taken ++ Gives (Char q.ch q.at) ∷ []) k.1 one))
-
 module _ {S : Type 0} (gives : S → Item → Result (Unit {0}) Refusal → S → Type 0) (table : Entities) (start : RawKind) (names : Texts) (text : List Placed) (taken : List Event) (t : Tokenizer) (h : Reads table start t names text [] taken) (run : List Placed) where
   module _ (in_text : t.state ≡ state.Text) (plain : all is_itself run ≡ true) (new : Tokenizer) (then : new ≡ record t { next = new.next; script = new.script }) (next : new.next ≡ next_place (text ++ run))
       (follows : is_script t.kind ≡ true → FollowsAll t.script run new.script) where
@@ -167,78 +111,25 @@ module _ {S : Type 0} (gives : S → Item → Result (Unit {0}) Refusal → S �
       leveled = λ script. all_followed run t.script new.script h.here.front (follows (ap is_script h.kind_is ∙ script)) (none.2.leveled script);
     }
 
+    text_stands : (end : ℕ) (more : List Placed) → Stands table start end (text ++ run) more here (taken ++ run_events run) []
+    text_stands end more = subst (λ (x : List Placed). Stands table start end (x ++ run) more here (taken ++ run_events run) []) (sym front_is)
+        (plain_stands table start end run h.front more h.here taken [] plain (subst (λ (x : List Placed). Stands table start end h.front (x ++ (run ++ more)) h.here taken []) none.0 (h.stands end (run ++ more))))
+
     text_reads : Reads table start new names (text ++ run) [] (taken ++ run_events run)
-    text_reads = record {
-      accepts = ap (λ (x : Tokenizer). x.refused) then ∙ h.accepts;
-      front = h.front ++ run;
-      held = [];
-      here = here;
-      table_is = ap (λ (x : Tokenizer). x.table.now) then ∙ h.table_is;
-      text_is = ap (λ (x : List Placed). x ++ run) front_is ∙ sym (append-nil (h.front ++ run));
-      next_is = next ∙ ap next_place (sym (append-nil (text ++ run)));
-      stands = λ end more. run_stands table start end run h.front more h.here taken plain (subst (λ (x : List Placed). Stands table start end h.front (x ++ (run ++ more)) h.here taken []) none.0 (h.stands end (run ++ more)));
-      kind_is = ap (λ (x : Tokenizer). x.kind) then ∙ h.kind_is;
-      name_is = subst (λ (x : Option ℕ). IsLast names x h.here.name) (sym (ap (λ (x : Tokenizer). x.last) then)) h.name_is;
-      is_in = subst (λ (x : State). IsIn x h.here.kind) (sym (ap (λ (x : Tokenizer). x.state) then ∙ in_text)) tt;
-      is_held = subst (λ (x : State). IsHeld x table names here new [] []) (sym (ap (λ (x : Tokenizer). x.state) then ∙ in_text)) (refl, ap (λ (x : Tokenizer). x.raised.errors.items) then ∙ none.1, between);
-    }
+    text_reads =
+        reads_text here (ap (λ (x : Tokenizer). x.refused) then ∙ h.accepts) (ap (λ (x : Tokenizer). x.table.now) then ∙ h.table_is) (next ∙ ap next_place (sym (append-nil (text ++ run)))) text_stands (ap (λ (x : Tokenizer). x.kind) then ∙ h.kind_is)
+        (subst (λ (x : Option ℕ). IsLast names x h.here.name) (sym (ap (λ (x : Tokenizer). x.last) then)) h.name_is) (ap (λ (x : Tokenizer). x.state) then ∙ in_text) (ap (λ (x : Tokenizer). x.raised.errors.items) then ∙ none.1) between
 
     pub text_taken : (old s : S) (answer : Result (Unit {0}) Refusal) → HandsEvents gives names old (run_events run) answer s → Takes gives table start text run taken names old answer s new
-    unfolding text_reads
     text_taken old s (Ok u) handed = take_took (run_events run) refl handed (holds text_reads)
-    text_taken old s (Err e) handed = take_sink_refused e (run_events run) refl handed (λ more end.
-        let st = text_reads.stands end more in
-        record {
-          spans = st.spans;
-          rest = more;
-          others = eof_of end more;
-          text_is = sym (append_assoc text run more) ∙ ap (λ (x : List Placed). (x ++ run) ++ more) front_is ∙ ap (λ (x : List Placed). x ++ more) st.front_is;
-          cut = st.cut;
-          in_profile = st.in_profile;
-          front_is = ap (λ (x : List Tok). x ++ eof_of end more) st.tokens_are;
-        })
+    text_taken old s (Err e) handed = take_sink_refused e (run_events run) refl handed (λ more end. are_front (sym (append_assoc text run more)) (text_stands end more))
 
   -- MARKUP
 
-  -- memory ran out, and nothing was handed over
-  pub run_ran_out_here : (new : Tokenizer) (s : S) → Takes gives table start text run taken names s (Err Memory) s new
-  run_ran_out_here new s = take_ran_out [] refl ([], tt, (refl, refl)) (λ more end.
-      let st = h.stands end (run ++ more) in
-      let rest : List Placed = h.held ++ (run ++ more) in
-      record {
-        spans = st.spans;
-        rest = rest;
-        others = eof_of end rest;
-        text_is = ap (λ (x : List Placed). x ++ (run ++ more)) h.text_is ∙ append_assoc h.front h.held (run ++ more) ∙ ap (λ (x : List Placed). x ++ rest) st.front_is;
-        cut = st.cut;
-        in_profile = st.in_profile;
-        front_is = ap (λ (x : List Event). tokens_in x ++ eof_of end rest) (append-nil taken) ∙ ap (λ (x : List Tok). x ++ eof_of end rest) st.tokens_are;
-      })
-
   -- the span goes on
-  run_reads : (new : Tokenizer) → new.refused ≡ t.refused → new.table ≡ t.table → new.next ≡ next_place (text ++ run) → new.kind ≡ t.kind → new.last ≡ t.last → IsIn new.state h.here.kind
-      → IsHeld new.state table names h.here new (h.held ++ run) [] → Reads table start new names (text ++ run) [] taken
-  run_reads new refused same next kind last is_in held = record {
-    accepts = refused ∙ h.accepts;
-    front = h.front;
-    held = h.held ++ run;
-    here = h.here;
-    table_is = ap (λ x. x.now) same ∙ h.table_is;
-    text_is = ap (λ (x : List Placed). x ++ run) h.text_is ∙ append_assoc h.front h.held run;
-    next_is = next ∙ ap next_place (sym (append-nil (text ++ run)));
-    stands = λ end more. subst (λ (x : List Placed). Stands table start end h.front x h.here taken []) (sym (append_assoc h.held run more)) (h.stands end (run ++ more));
-    kind_is = kind ∙ h.kind_is;
-    name_is = subst (λ (x : Option ℕ). IsLast names x h.here.name) (sym last) h.name_is;
-    is_in = is_in;
-    is_held = held;
-  }
-
-  taken_so : (new : Tokenizer) (s : S) → Reads table start new names (text ++ run) [] taken → Takes gives table start text run taken names s (Ok tt) s new
-  taken_so new s k = take_took [] refl ([], tt, (refl, refl)) (subst (λ (x : List Event). HasTaken table start new names (text ++ run) x) (sym (append-nil taken)) (holds k))
-
-  pub run_goes_on_here : (new : Tokenizer) (s : S) → new.refused ≡ t.refused → new.table ≡ t.table → new.next ≡ next_place (text ++ run) → new.kind ≡ t.kind → new.last ≡ t.last → IsIn new.state h.here.kind
-      → IsHeld new.state table names h.here new (h.held ++ run) [] → Takes gives table start text run taken names s (Ok tt) s new
-  run_goes_on_here new s refused same next kind last is_in held = taken_so new s (run_reads new refused same next kind last is_in held)
+  went_on : (new : Tokenizer) → new.refused ≡ t.refused → new.table ≡ t.table → new.next ≡ next_place (text ++ run) → new.kind ≡ t.kind → new.last ≡ t.last → IsIn new.state h.here.kind → IsHeld new.state table names h.here new (h.held ++ run) []
+      → (s : S) → Takes gives table start text run taken names s (Ok tt) s new
+  went_on new refused same next kind last is_in held s = take_took [] refl ([], tt, (refl, refl)) (holds (reads_held h new run refused same next (λ end more. h.stands end (run ++ more)) kind last is_in held))
 
   -- a comment goes on
   module _ (in_comment : t.state ≡ state.Comment) where
@@ -252,10 +143,10 @@ module _ {S : Type 0} (gives : S → Item → Result (Unit {0}) Refusal → S �
     Took answer new = TakesRun keeps (HasReadOf comment_here.0) (IsCommentOf comment_here.0) inside.body inside.own run t.raised answer new.comment new.raised
 
     pub comment_stopped : (e : Refusal) (new last : Tokenizer) (s : S) → Took (Err e) new → Takes gives table start text run taken names s (Err e) s last
-    comment_stopped e new last s (run_ran_out reported is handed b) = subst (λ (x : Result (Unit {0}) Refusal). Takes gives table start text run taken names s x s last) (sym is) (run_ran_out_here last s)
+    comment_stopped e new last s (run_ran_out reported is handed b) = subst (λ (x : Result (Unit {0}) Refusal). Takes gives table start text run taken names s x s last) (sym is) (ran_out_before gives table start text run names taken t h last s)
     comment_stopped e new last s (run_refused x reported is handed b) =
         let why : x ≡ Memory = refused t.raised new.raised reported x handed in
-        subst (λ (y : Result (Unit {0}) Refusal). Takes gives table start text run taken names s y s last) (sym (is ∙ ap (λ (y : Refusal). Err y) why)) (run_ran_out_here last s)
+        subst (λ (y : Result (Unit {0}) Refusal). Takes gives table start text run taken names s y s last) (sym (is ∙ ap (λ (y : Refusal). Err y) why)) (ran_out_before gives table start text run names taken t h last s)
     comment_stopped e new last s (run_goes_on reported is handed has) = absurd cc
 
     pub comment_goes_on : (new : Tokenizer) (s : S) → new ≡ record t { next = new.next; comment = new.comment; raised = new.raised } → new.next ≡ next_place (text ++ run) → Took (Ok tt) new → Takes gives table start text run taken names s (Ok tt) s new
@@ -265,7 +156,7 @@ module _ {S : Type 0} (gives : S → Item → Result (Unit {0}) Refusal → S �
         let i = inside in
         let at_is : new.at ≡ t.at = ap (λ (x : Tokenizer). x.at) then in
         let state_is : new.state ≡ state.Comment = ap (λ (x : Tokenizer). x.state) then ∙ in_comment in
-        run_goes_on_here new s (ap (λ (x : Tokenizer). x.refused) then) (ap (λ (x : Tokenizer). x.table) then) next (ap (λ (x : Tokenizer). x.kind) then) (ap (λ (x : Tokenizer). x.last) then)
+        went_on new (ap (λ (x : Tokenizer). x.refused) then) (ap (λ (x : Tokenizer). x.table) then) next (ap (λ (x : Tokenizer). x.kind) then) (ap (λ (x : Tokenizer). x.last) then)
         (subst (λ (x : State). IsIn x h.here.kind) (sym state_is) (subst (λ (x : State). IsIn x h.here.kind) in_comment h.is_in))
         (subst (λ (x : State). IsHeld x table names h.here new (h.held ++ run) []) (sym state_is) (
           comment_here.0,
@@ -285,7 +176,7 @@ module _ {S : Type 0} (gives : S → Item → Result (Unit {0}) Refusal → S �
                 (subst (λ (a : ℕ). IsDataSpan table end rest (record { text = i.opening ++ (i.body ++ (run ++ more)); tokens = Comment contents a ∷ []; errors = i.first ++ errors })) (sym at_is)
                 (i.opens end rest (run ++ more) contents errors (subst (λ (x : List Placed). IsCommentOf comment_here.0 end rest x contents errors) same_text is)));
           },
-        ))
+        )) s
 
 -- A TAG
 
@@ -302,18 +193,18 @@ module _ {S : Type 0} (gives : S → Item → Result (Unit {0}) Refusal → S �
   now = reads_kept table start t names later text [] taken grows h
 
   pub tag_stopped : (e : Refusal) (new : Tokenizer) (s : S) → e ≡ Memory → Takes gives table start text run taken later s (Err e) s new
-  tag_stopped e new s is = subst (λ (x : Refusal). Takes gives table start text run taken later s (Err x) s new) (sym is) (run_ran_out_here gives table start later text taken t now run new s)
+  tag_stopped e new s is = subst (λ (x : Refusal). Takes gives table start text run taken later s (Err x) s new) (sym is) (ran_out_before gives table start text run later taken t now new s)
 
   -- it goes on
   module _ (new : Tokenizer) (then : new ≡ record t { next = new.next; tag = new.tag; raised = new.raised }) (next : new.next ≡ next_place (text ++ run)) (kind : new.tag.kind ≡ t.tag.kind)
       (more : IsInTag t.table.now later new.tag (tag_here.body ++ run) [] new.raised.errors.items) where
-    pub tag_reads : Reads table start new later (text ++ run) [] taken
-    unfolding now reads_kept
-    tag_reads =
+    pub tag_goes_on : (s : S) → Takes gives table start text run taken later s (Ok tt) s new
+    unfolding now reads_kept reads_as
+    tag_goes_on s =
         let i = tag_here in
         let at_is : new.at ≡ t.at = ap (λ (x : Tokenizer). x.at) then in
         let state_is : new.state ≡ state.Tag = ap (λ (x : Tokenizer). x.state) then ∙ in_tag in
-        run_reads gives table start later text taken t now run new (ap (λ (x : Tokenizer). x.refused) then) (ap (λ (x : Tokenizer). x.table) then) next (ap (λ (x : Tokenizer). x.kind) then) (ap (λ (x : Tokenizer). x.last) then)
+        went_on gives table start later text taken t now run new (ap (λ (x : Tokenizer). x.refused) then) (ap (λ (x : Tokenizer). x.table) then) next (ap (λ (x : Tokenizer). x.kind) then) (ap (λ (x : Tokenizer). x.last) then)
         (subst (λ (x : State). IsIn x h.here.kind) (sym state_is) tt)
         (subst (λ (x : State). IsHeld x table later h.here new (h.held ++ run) []) (sym state_is) (record {
           opening = i.opening;
@@ -322,11 +213,7 @@ module _ {S : Type 0} (gives : S → Item → Result (Unit {0}) Refusal → S �
           opens = i.opens ∙ ap tag_mark (sym kind);
           in_tag = subst (λ (x : Entities). IsInTag x later new.tag (i.body ++ run) [] new.raised.errors.items) h.table_is more;
           fits = λ end rest others span e is. i.fits end rest (run ++ others) span (e ∙ append_assoc h.held run others) is;
-        }))
-
-    pub tag_goes_on : (s : S) → Takes gives table start text run taken later s (Ok tt) s new
-    unfolding now reads_kept
-    tag_goes_on s = taken_so gives table start later text taken t now run new s tag_reads
+        })) s
 
 -- A RUN OF BYTES WHERE NOTHING IS HELD, of which the sink has taken what it took
 

@@ -1,20 +1,17 @@
 -- The text at the front of a run, and what ends it.
-use Rattle.htoken.proofs.Names.{◌≡◌, ◌≤◌, ◌<◌, ℕ, zero, suc, ◌+◌, true, false, eqb, ◌||◌, List, [], ◌∷◌, ◌++◌, map, length, take, drop, sym, refl, ap, ◌∙◌, subst, arith, Result, Ok, Err, Option, append_assoc, append-nil, and_from, drop-length, length-append, length-take-le, take_all, take_at, drop_at, nat_tests, chars-IsAscii, chars-nil, encode_ascii, len_utf8_ascii, IsUtf8-from_ascii, IsUtf8-past_char, chars_past_char, list_all, prefix_len, is_ascii, encode_utf8, len_utf8, chars, IsAscii, IsUtf8, string_bytes, UnknownNamedCharacterReference, ParseError, Placed, RawKind, Refusal, Texts, all, begins, past, is_alphanumeric, placed, error_if, is_clean, is_plain, is_text_byte, IsCut, all_placed, cut_more, placed_cut, placed_more, Entities, Piece, IsReference, named, kept, unknown, decimal, hexadecimal, no_digits, alone, ampersand, backwards, Script, Spread, State, Tokenizer, bare_errors, first_placed, IsBare, IsFront, RefusesFront, spread_ran_out, spread_refused, Tok, Span, Item, Event, Gives, Reports, Char, piece_span, HandsEvents, is_script, run_events, FollowsAll, has_references, Standing, next, tokens_in, errors_in, eof_of, AreFront, Stands, Reads, holds, Takes, take_ran_out, take_took, take_sink_refused, IsHeld, IsIn, IsLast, IsBetween, next_place}
-use Rattle.std.proofs.lemmas.Bool.{and_parts}
-use Rattle.std.proofs.Math.Seq.{drop-nil}
-use Rattle.names.specs.declared.raw.RawKind.TheVariants as kind
-use Rattle.htext.proofs.Clean.{text_front}
-use Rattle.htext.proofs.Wide.{chars_cut, has_characters}
+use Rattle.htoken.proofs.Names.{◌≡◌, ◌≤◌, ◌<◌, ℕ, zero, suc, ◌+◌, true, false, eqb, ◌||◌, List, [], ◌∷◌, ◌++◌, map, length, take, drop, sym, refl, ap, ◌∙◌, subst, arith, Result, Ok, Err, Option, append_assoc, append-nil, and_from, drop-length, length-append, length-take-le, take_all, take_at, drop_at, nat_tests, chars-IsAscii, chars-nil, encode_ascii, len_utf8_ascii, IsUtf8-from_ascii, IsUtf8-past_char, chars_past_char, list_all, prefix_len, is_ascii, encode_utf8, len_utf8, chars, IsAscii, IsUtf8, string_bytes, UnknownNamedCharacterReference, ParseError, Placed, RawKind, Refusal, Texts, all, begins, past, is_alphanumeric, placed, error_if, is_clean, is_plain, is_text_byte, IsCut, all_placed, cut_more, placed_cut, placed_more, Entities, Piece, IsReference, named, kept, unknown, decimal, hexadecimal, no_digits, alone, ampersand, backwards, Script, Spread, State, Tokenizer, bare_errors, first_placed, IsBare, IsFront, RefusesFront, spread_ran_out, spread_refused, Tok, Span, Item, Event, Gives, Reports, Char, piece_span, HandsEvents, is_script, run_events, FollowsAll, has_references, Standing, next, tokens_in, errors_in, eof_of, AreFront, Stands, Reads, holds, Takes, take_ran_out, take_took, take_sink_refused, IsHeld, IsLast, IsBetween, next_place, drop-nil, text_front, chars_cut, has_characters, spread_events, IsTakenFront, and_parts, length-drop}
 use Rattle.htoken.specs.declared.state.State.TheVariants as state
-use Rattle.htoken.specs.Front.{spread_events, IsTakenFront}
 use Rattle.htoken.proofs.Fronts.{takes_both}
 use Rattle.htoken.proofs.Cutting.{tokens_in-append, errors_in-append}
 use Rattle.htoken.proofs.Handing.{HandsEvents-append}
 use Rattle.htoken.proofs.InRaw.{after_characters}
-use Rattle.htoken.proofs.InRun.{is_itself, all_itself, run_stands}
+use Rattle.htoken.proofs.InRun.{all_itself}
+use Rattle.htoken.proofs.InReference.{no_script}
+use Rattle.htoken.proofs.Plain.{is_itself, plain_stands}
+use Rattle.htoken.proofs.Reading.{reads_as, reads_front, reads_text}
 use Rattle.htoken.proofs.Scripting.{all_followed}
 use Rattle.htoken.proofs.Pending.{stands_on, stands_told, stands_same, no_tokens_told, errors_told}
-use Rattle.htoken.proofs.Referring.{is_kept, all_imp, alphanumeric_kept, stands_plain, reference_is}
+use Rattle.htoken.proofs.Referring.{all_imp, alphanumeric_itself, reference_is}
 
 -- ASCII CHARACTERS
 
@@ -122,17 +119,10 @@ map-chars (x ∷ xs) ys = ap (λ (l : List Tok). Char x.ch x.at ∷ l) (map-char
 -- two texts, one after the other, are one text with the errors of both
 module _ (taken : List Event) (es fs : List ParseError) (xs ys : List Placed) where
   both_tokens : tokens_in (taken ++ text_events (es ++ fs) (xs ++ ys)) ≡ tokens_in ((taken ++ text_events es xs) ++ text_events fs ys)
-  both_tokens =
-      tokens_in-append taken (text_events (es ++ fs) (xs ++ ys)) ∙ ap (λ (x : List Tok). tokens_in taken ++ x) (text_tokens (es ++ fs) (xs ++ ys) ∙ map-chars xs ys)
-      ∙ sym (append_assoc (tokens_in taken) (map (λ p. Char p.ch p.at) xs) (map (λ p. Char p.ch p.at) ys))
-      ∙ sym (tokens_in-append (taken ++ text_events es xs) (text_events fs ys) ∙ ap (λ (x : List Tok). tokens_in (taken ++ text_events es xs) ++ x) (text_tokens fs ys)
-      ∙ ap (λ (x : List Tok). x ++ map (λ p. Char p.ch p.at) ys) (tokens_in-append taken (text_events es xs) ∙ ap (λ (x : List Tok). tokens_in taken ++ x) (text_tokens es xs)))
+  both_tokens = simp (tokens_in-append, no_tokens_told, tokens_run, map-chars, append_assoc)
 
   both_errors : errors_in (taken ++ text_events (es ++ fs) (xs ++ ys)) ≡ errors_in ((taken ++ text_events es xs) ++ text_events fs ys)
-  both_errors =
-      errors_in-append taken (text_events (es ++ fs) (xs ++ ys)) ∙ ap (λ (x : List ParseError). errors_in taken ++ x) (text_errors (es ++ fs) (xs ++ ys)) ∙ sym (append_assoc (errors_in taken) es fs)
-      ∙ sym (errors_in-append (taken ++ text_events es xs) (text_events fs ys) ∙ ap (λ (x : List ParseError). errors_in (taken ++ text_events es xs) ++ x) (text_errors fs ys)
-      ∙ ap (λ (x : List ParseError). x ++ fs) (errors_in-append taken (text_events es xs) ∙ ap (λ (x : List ParseError). errors_in taken ++ x) (text_errors es xs)))
+  both_errors = simp (errors_in-append, errors_told, errors_run, append-nil, append_assoc)
 
   pub both_stand : (table : Entities) (start : RawKind) (end : ℕ) (front rest : List Placed) (here : Standing) → Stands table start end front rest here ((taken ++ text_events es xs) ++ text_events fs ys) []
       → Stands table start end front rest here (taken ++ text_events (es ++ fs) (xs ++ ys)) []
@@ -142,16 +132,10 @@ module _ (taken : List Event) (es fs : List ParseError) (xs ys : List Placed) wh
 -- the errors may come after the text
 module _ (taken : List Event) (errors : List ParseError) (ps : List Placed) where
   text_first_tokens : tokens_in (taken ++ text_events errors ps) ≡ tokens_in ((taken ++ run_events ps) ++ map Reports errors)
-  text_first_tokens =
-      tokens_in-append taken (text_events errors ps) ∙ ap (λ (x : List Tok). tokens_in taken ++ x) (text_tokens errors ps)
-      ∙ sym (tokens_in-append (taken ++ run_events ps) (map Reports errors) ∙ ap (λ (x : List Tok). tokens_in (taken ++ run_events ps) ++ x) (no_tokens_told errors) ∙ append-nil (tokens_in (taken ++ run_events ps))
-      ∙ tokens_in-append taken (run_events ps) ∙ ap (λ (x : List Tok). tokens_in taken ++ x) (tokens_run ps))
+  text_first_tokens = simp (tokens_in-append, no_tokens_told, tokens_run, append-nil)
 
   text_first_errors : errors_in (taken ++ text_events errors ps) ≡ errors_in ((taken ++ run_events ps) ++ map Reports errors)
-  text_first_errors =
-      errors_in-append taken (text_events errors ps) ∙ ap (λ (x : List ParseError). errors_in taken ++ x) (text_errors errors ps)
-      ∙ sym (errors_in-append (taken ++ run_events ps) (map Reports errors) ∙ ap (λ (x : List ParseError). errors_in (taken ++ run_events ps) ++ x) (errors_told errors)
-      ∙ ap (λ (x : List ParseError). x ++ errors) (errors_in-append taken (run_events ps) ∙ ap (λ (x : List ParseError). errors_in taken ++ x) (errors_run ps) ∙ append-nil (errors_in taken)))
+  text_first_errors = simp (errors_in-append, errors_told, errors_run, append-nil)
 
 -- AN `&` THAT IS TEXT
 
@@ -189,7 +173,7 @@ module _ (table : Entities) (start : RawKind) (end : ℕ) (front : List Placed) 
   bare_stands is plain s =
       let span : Span = piece_span (ampersand amp errors) in
       let one = stands_on table start end front (letters ++ rest) here taken span [] s (reference_is table end here (letters ++ rest) (ampersand amp errors) may is) refl in
-      let two : Stands table start end ((front ++ amp ∷ []) ++ letters) rest (after_characters here (amp ∷ letters)) ((taken ++ Gives (Char 38 amp.at) ∷ []) ++ run_events letters) errors = stands_plain table start end letters (front ++ amp ∷ []) rest (record here { front = amp ∷ here.front }) (taken ++ Gives (Char 38 amp.at) ∷ []) errors may (all_imp is_alphanumeric is_kept letters alphanumeric_kept plain) one in
+      let two : Stands table start end ((front ++ amp ∷ []) ++ letters) rest (after_characters here (amp ∷ letters)) ((taken ++ Gives (Char 38 amp.at) ∷ []) ++ run_events letters) errors = plain_stands table start end letters (front ++ amp ∷ []) rest (record here { front = amp ∷ here.front }) (taken ++ Gives (Char 38 amp.at) ∷ []) errors (all_imp is_alphanumeric is_itself letters alphanumeric_itself plain) one in
       let given : (taken ++ Gives (Char 38 amp.at) ∷ []) ++ run_events letters ≡ taken ++ run_events (record { ch = 38; at = amp.at } ∷ letters) = append_assoc taken (Gives (Char 38 amp.at) ∷ []) (run_events letters) in
       let three = stands_told table start end ((front ++ amp ∷ []) ++ letters) rest (after_characters here (amp ∷ letters)) (taken ++ run_events (record { ch = 38; at = amp.at } ∷ letters)) errors
       (subst (λ (x : List Event). Stands table start end ((front ++ amp ∷ []) ++ letters) rest (after_characters here (amp ∷ letters)) x errors) given two) in
@@ -209,9 +193,7 @@ drop_on (suc i) n [] = drop-nil n ∙ sym (drop-nil (suc i + n))
 drop_on (suc i) n (x ∷ xs) = let e : suc i + n ≡ suc (i + n) = omega arith in drop_on i n xs ∙ ap (λ (k : ℕ). drop k (x ∷ xs)) (sym e)
 
 pub length_left : (n : ℕ) (xs : List ℕ) → n ≤ length xs → n + length (drop n xs) ≡ length xs
-length_left zero xs h = omega arith
-length_left (suc n) [] h = absurd (omega (arith, h))
-length_left (suc n) (x ∷ xs) h = omega (arith, length_left n xs (omega (arith, h)))
+length_left n xs h = omega (arith, h, length-drop n xs)
 
 -- the first character of a text is the first of a front that is not empty
 first_of_some : (at : ℕ) (cs others : List ℕ) → false ≡ eqb (length cs) 0 → (tail : List Placed) × (placed at cs ≡ placed at (take 1 (cs ++ others)) ++ tail)
@@ -244,7 +226,7 @@ module _ (table : Entities) (kind : RawKind) (run : List ℕ) (at : ℕ) where
         let part : List Placed = placed at (chars (take n run)) in
         let ahead : List Placed = first_placed (at + n) (drop n run) in
         let split = split_on at n run cut in
-        run_stands table start end part text (ahead ++ more) here taken plain (subst (λ (x : List Placed). Stands table start end text x here taken [])
+        plain_stands table start end part text (ahead ++ more) here taken [] plain (subst (λ (x : List Placed). Stands table start end text x here taken [])
         (sym (append_assoc (first_placed at run) split.0 more) ∙ ap (λ (x : List Placed). x ++ more) (sym split.1) ∙ append_assoc part ahead more) (s end (split.0 ++ more)));
   }
 
@@ -350,44 +332,15 @@ module _ {S : Type 0} (gives : S → Item → Result (Unit {0}) Refusal → S �
 
     pub front_reads : (new : Tokenizer) → new ≡ record t { next = new.next; script = new.script; spread = new.spread } → new.next ≡ next_place ((text ++ part) ++ next_ahead) → (is_script t.kind ≡ true → FollowsAll t.script part new.script)
         → Reads table start new names (text ++ part) next_ahead (taken ++ text_events errors given)
-    front_reads new then next follows = record {
-      accepts = ap (λ (x : Tokenizer). x.refused) then ∙ h.accepts;
-      front = text ++ part;
-      held = [];
-      here = after_characters h.here part;
-      table_is = ap (λ (x : Tokenizer). x.table.now) then ∙ h.table_is;
-      text_is = sym (append-nil (text ++ part));
-      next_is = next;
-      stands = front_stands;
-      kind_is = ap (λ (x : Tokenizer). x.kind) then ∙ h.kind_is;
-      name_is = subst (λ (x : Option ℕ). IsLast names x h.here.name) (sym (ap (λ (x : Tokenizer). x.last) then)) h.name_is;
-      is_in = subst (λ (x : State). IsIn x h.here.kind) (sym (ap (λ (x : Tokenizer). x.state) then ∙ in_text)) tt;
-      is_held = subst (λ (x : State). IsHeld x table names (after_characters h.here part) new [] next_ahead) (sym (ap (λ (x : Tokenizer). x.state) then ∙ in_text)) (
-        refl,
-        ap (λ (x : Tokenizer). x.raised.errors.items) then ∙ none.1,
-        record {
+    front_reads new then next follows =
+        reads_text (after_characters h.here part) (ap (λ (x : Tokenizer). x.refused) then ∙ h.accepts) (ap (λ (x : Tokenizer). x.table.now) then ∙ h.table_is) next front_stands (ap (λ (x : Tokenizer). x.kind) then ∙ h.kind_is)
+        (subst (λ (x : Option ℕ). IsLast names x h.here.name) (sym (ap (λ (x : Tokenizer). x.last) then)) h.name_is) (ap (λ (x : Tokenizer). x.state) then ∙ in_text) (ap (λ (x : Tokenizer). x.raised.errors.items) then ∙ none.1)
+        (record {
           named = λ raw name e. none.2.named raw name e ∙ ap (λ (x : Tokenizer). string_bytes x.tag.name) (sym then);
           leveled = λ script. all_followed part t.script new.script h.here.front (follows (ap is_script h.kind_is ∙ script)) (none.2.leveled script);
-        },
-      );
-    }
+        })
 
 -- A FRONT, AND WHAT ENDS IT
-
--- what has been read, and what comes next, are a front of the text
-pub reads_front : (table : Entities) (start : RawKind) (t : Tokenizer) (names : Texts) (text ahead : List Placed) (taken : List Event) → Reads table start t names text ahead taken → (end : ℕ) (more : List Placed) → AreFront table start (text ++ (ahead ++ more)) end taken
-reads_front table start t names text ahead taken h end more =
-    let st = h.stands end more in
-    let rest : List Placed = h.held ++ (ahead ++ more) in
-    record {
-      spans = st.spans;
-      rest = rest;
-      others = eof_of end rest;
-      text_is = ap (λ (x : List Placed). x ++ (ahead ++ more)) h.text_is ∙ append_assoc h.front h.held (ahead ++ more) ∙ ap (λ (x : List Placed). x ++ rest) st.front_is;
-      cut = st.cut;
-      in_profile = st.in_profile;
-      front_is = ap (λ (x : List Tok). x ++ eof_of end rest) st.tokens_are;
-    }
 
 first_then : (at : ℕ) (cs : List ℕ) → placed at cs ≡ placed at (take 1 cs) ++ drop 1 (placed at cs)
 first_then at [] = refl
@@ -411,20 +364,9 @@ run_front table start t names text run at count taken cut h more end =
 -- the same events in another order
 reads_same : (table : Entities) (start : RawKind) (t : Tokenizer) (names : Texts) (text ahead : List Placed) (taken others : List Event) → tokens_in others ≡ tokens_in taken → errors_in others ≡ errors_in taken → Reads table start t names text ahead taken
     → Reads table start t names text ahead others
-reads_same table start t names text ahead taken others tokens errors h = record {
-  accepts = h.accepts;
-  front = h.front;
-  held = h.held;
-  here = h.here;
-  table_is = h.table_is;
-  text_is = h.text_is;
-  next_is = h.next_is;
-  stands = λ end more. stands_same table start end h.front (h.held ++ (ahead ++ more)) h.here taken others [] [] tokens (ap (λ (x : List ParseError). x ++ []) errors) (h.stands end more);
-  kind_is = h.kind_is;
-  name_is = h.name_is;
-  is_in = h.is_in;
-  is_held = h.is_held;
-}
+reads_same table start t names text ahead taken others tokens errors h =
+    reads_as h t names ahead others refl refl h.next_is
+    (λ end more. stands_same table start end h.front (h.held ++ (ahead ++ more)) h.here taken others [] [] tokens (ap (λ (x : List ParseError). x ++ []) errors) (h.stands end more)) refl h.name_is h.is_in h.is_held
 
 -- text was handed over, and before it its errors
 module _ {S : Type 0} (gives : S → Item → Result (Unit {0}) Refusal → S → Type 0) (table : Entities) (start : RawKind) (names : Texts) (text : List Placed) (taken : List Event) (t : Tokenizer) (h : Reads table start t names text [] taken) (in_text : t.state ≡ state.Text)
@@ -453,13 +395,6 @@ module _ {S : Type 0} (gives : S → Item → Result (Unit {0}) Refusal → S �
   text_refused s e last given =
       let next : Tokenizer = record new { next = next_place ((text ++ text_part) ++ first_placed (at + count) (drop count run)) } in
       take_sink_refused e (text_events errors text_part) refl (both_told s (Err e) given) (run_front table start next names text run at count (taken ++ text_events errors text_part) front.cut (given_reads next refl refl))
-
-no_references : (k : RawKind) → has_references k ≡ true → is_script k ≡ true → ⊥
-no_references kind.None h s = absurd cc
-no_references kind.Rcdata h s = absurd cc
-no_references kind.Rawtext h s = absurd cc
-no_references kind.Script h s = absurd cc
-no_references kind.Plaintext h s = absurd cc
 
 module _ {S : Type 0} (gives : S → Item → Result (Unit {0}) Refusal → S → Type 0) (table : Entities) (start : RawKind) (names : Texts) (text : List Placed) (taken : List Event) (t : Tokenizer) (run : List ℕ) (at count : ℕ) (old mid : S)
     (front : IsTakenFront gives table start t names text taken run at count old mid) (cut : IsCut count run) where
@@ -524,7 +459,7 @@ module _ {S : Type 0} (gives : S → Item → Result (Unit {0}) Refusal → S �
           (front_reads gives table start names (text ++ front_part) next_part before there here_reads in_text (drop count run) (at + count) size errors given more [] (sym (append-nil next_part)) next
           (is ∙ ap (λ (x : Script). record t { next = next.next; script = x; spread = new.spread }) (sym (ap (λ (x : Tokenizer). x.script) is)) ∙ ap (λ (x : Spread). record t { next = next.next; script = next.script; spread = x }) (sym (ap (λ (x : Tokenizer). x.spread) is)))
           (place ∙ ap next_place (ap (λ (x : List Placed). x ++ first_placed (at + (count + size)) (drop (count + size) run)) (sym text_is) ∙ ap (λ (x : List Placed). ((text ++ front_part) ++ more_part) ++ x) (sym ahead_is)))
-          (λ script. absurd (no_references t.kind may script)))))
+          (λ script. absurd (no_script t.kind may script)))))
 
       pub spread_given : (new : Tokenizer) → new ≡ record t { spread = new.spread } → (s : S) → HandsEvents gives names mid (spread_events given errors) (Ok tt) s → IsTakenFront gives table start new names text taken run at (count + size) old s
       spread_given new then s handed = record {

@@ -1,9 +1,5 @@
 -- The names of raw texts are lower letters: wherever raw text is after a start tag, its name says the kind.
-use Rattle.htoken.proofs.Names.{◌≡◌, ℕ, zero, suc, Bool, true, false, not, cond, ◌||◌, ◌&&◌, eqb, List, [], ◌∷◌, length, sym, refl, ap, ◌∙◌, subst, Some, arith, nat_tests, slice_get, to_ascii_lowercase, list_all, Placed, RawKind, Tag, lowered, is_letter, raw_kind, and_parts, Tok, Span, Start, End, Char, Comment, Doctype, Eof, Standing, at_start, next, standing_after, is_raw}
-use Rattle.names.proofs.TableLemmas.{bytes_eq-true}
-use Rattle.std.specs.Prelude.{bytes_eq}
-use Rattle.names.specs.Tags.{tag_text, tags, tag_among}
-use Rattle.htoken.specs.Standing.{after_tokens}
+use Rattle.htoken.proofs.Names.{◌≡◌, ℕ, zero, suc, Bool, true, false, not, cond, ◌||◌, ◌&&◌, eqb, List, [], ◌∷◌, length, sym, refl, ap, ◌∙◌, subst, Some, arith, nat_tests, slice_get, to_ascii_lowercase, list_all, Placed, RawKind, Tag, lowered, is_letter, raw_kind, and_parts, Tok, Span, Start, End, Char, Comment, Doctype, Eof, Standing, at_start, next, standing_after, is_raw, bytes_eq-true, bytes_eq, tag_text, tags, tag_among, after_tokens}
 
 -- a lower letter
 abbrev pub is_lower : ℕ → Bool

@@ -1,63 +1,10 @@
 -- Where a reference is, and what follows it as text.
-use Rattle.htoken.proofs.Names.{◌≡◌, ℕ, suc, Bool, true, false, not, cond, ◌&&◌, ◌||◌, eqb, List, [], ◌∷◌, ◌++◌, map, length, drop, take, reverse, zero, sym, refl, ap, ◌∙◌, subst, Option, Some, None, arith, append_assoc, append-nil, nat_tests, take-append-drop, nat_lt, list_all, UnknownNamedCharacterReference, ParseError, Placed, RawKind, all, begins, past, is_alphanumeric, error_if, Reference, WalkState, characters_of, errors_of, Entities, Piece, IsTable, IsReference, named, kept, unknown, decimal, hexadecimal, no_digits, alone, backwards, and_parts, and_both, and_no, no_null_error, Tok, Span, Event, Gives, Char, piece_span, Standing, next, character_span, IsSpan, IsSpanOf, has_references, raw_character, raw_reference, known_errors, piece_events, read_events, run_events, has_refused, tokens_in, errors_in, Stands}
-use Rattle.std.specs.Prelude.{nat_eq}
-use Rattle.std.specs.List.{starts_with}
+use Rattle.htoken.proofs.Names.{◌≡◌, ℕ, suc, Bool, true, false, not, cond, ◌&&◌, eqb, List, [], ◌∷◌, ◌++◌, map, length, drop, take, reverse, zero, sym, refl, ap, ◌∙◌, subst, Option, Some, None, arith, append_assoc, append-nil, nat_tests, take-append-drop, nat_lt, list_all, UnknownNamedCharacterReference, ParseError, Placed, RawKind, all, begins, past, is_alphanumeric, error_if, Reference, WalkState, characters_of, errors_of, Entities, Piece, IsTable, IsReference, named, kept, unknown, decimal, hexadecimal, no_digits, alone, backwards, and_parts, and_both, Tok, Span, Event, Gives, Char, piece_span, Standing, next, IsSpan, IsSpanOf, has_references, raw_reference, known_errors, piece_events, read_events, run_events, has_refused, tokens_in, errors_in, Stands, nat_eq, starts_with, Base, Decimal, Hexadecimal, IsWalkHeld, IsSign, in_name, after_sign, after_x, in_number, number_sign, small_x, capital_x, is_digit_of, Entry, longest, longer, is_empty_list}
 use Rattle.names.specs.declared.raw.RawKind.TheVariants as kind
-use Rattle.charref.specs.declared.number.Base.{Base}
-use Rattle.charref.specs.declared.number.Base.TheVariants.{Decimal, Hexadecimal}
-use Rattle.charref.specs.Held.{IsHeld as IsWalkHeld, IsSign, in_name, after_sign, after_x, in_number, number_sign, small_x, capital_x}
-use Rattle.charref.specs.Number.{is_digit_of}
-use Rattle.charref.specs.Reference.{Entry, longest, longer, is_empty_list}
 use Rattle.htoken.specs.Data as d
 use Rattle.htoken.proofs.Cutting.{tokens_in-append, errors_in-append, tokens_in-map, errors_in-map}
-use Rattle.htoken.proofs.InRaw.{after_characters, raw_span}
 use Rattle.htoken.proofs.Pending.{stands_on, stands_same}
-use Rattle.htoken.proofs.RawEnds.{other_goes_on}
-
--- PLAIN CHARACTERS
-
--- a character that stands for itself wherever references may be
-abbrev pub is_kept : ℕ → Bool
-is_kept c = not (eqb c 60) && (not (eqb c 38) && not (eqb c 0))
-
-negated : (b : Bool) → not b ≡ true → b ≡ false
-negated true e = absurd cc
-negated false e = refl
-
-abbrev pub plain_span : Placed → Span
-plain_span q = record { text = q ∷ []; tokens = Char q.ch q.at ∷ []; errors = [] }
-
-neither : (a b : Bool) → a ≡ false → b ≡ false → a || b ≡ false
-neither a b e f = rw (e, f) refl
-
-plain_of : (k : RawKind) (table : Entities) (end : ℕ) (here : Standing) (rest : List Placed) (q : Placed) → has_references k ≡ true → eqb q.ch 60 ≡ false → eqb q.ch 38 ≡ false → eqb q.ch 0 ≡ false → IsSpanOf k table end here rest (plain_span q)
-plain_of kind.None table end here rest q may less sign null = d.character q (neither (eqb q.ch 60) (eqb q.ch 38) less sign)
-    (ap (λ (x : List ParseError). record { text = q ∷ []; tokens = Char q.ch q.at ∷ []; errors = x }) (sym (no_null_error q null)))
-plain_of kind.Rcdata table end here rest q may less sign null = raw_character q (other_goes_on here q rest less) (and_no (has_references here.kind) (eqb q.ch 38) sign)
-    (ap (λ (x : List ParseError). record { text = q ∷ []; tokens = Char q.ch q.at ∷ []; errors = x }) (sym (no_null_error q null))
-    ∙ ap (λ (b : Bool). record { text = q ∷ []; tokens = Char (cond b 0xFFFD q.ch) q.at ∷ []; errors = (raw_span q).errors }) (sym null))
-plain_of kind.Rawtext table end here rest q may less sign null = absurd cc
-plain_of kind.Script table end here rest q may less sign null = absurd cc
-plain_of kind.Plaintext table end here rest q may less sign null = absurd cc
-
-pub plain_is : (table : Entities) (end : ℕ) (here : Standing) (rest : List Placed) (q : Placed) → has_references here.kind ≡ true → is_kept q.ch ≡ true → IsSpan table end here rest (plain_span q)
-plain_is table end here rest q may k =
-    let one = and_parts (not (eqb q.ch 60)) (not (eqb q.ch 38) && not (eqb q.ch 0)) k in
-    let two = and_parts (not (eqb q.ch 38)) (not (eqb q.ch 0)) one.1 in
-    plain_of here.kind table end here rest q may (negated (eqb q.ch 60) one.0) (negated (eqb q.ch 38) two.0) (negated (eqb q.ch 0) two.1)
-
-pub stands_plain : (table : Entities) (start : RawKind) (end : ℕ) (qs front rest : List Placed) (here : Standing) (taken : List Event) (later : List ParseError) → has_references here.kind ≡ true → all is_kept qs ≡ true → Stands table start end front (qs ++ rest) here taken later
-    → Stands table start end (front ++ qs) rest (after_characters here qs) (taken ++ run_events qs) later
-stands_plain table start end [] front rest here taken later may k s =
-    subst (λ (x : List Placed). Stands table start end x rest here (taken ++ []) later) (sym (append-nil front)) (subst (λ (x : List Event). Stands table start end front rest here x later) (sym (append-nil taken)) s)
-stands_plain table start end (q ∷ qs) front rest here taken later may k s =
-    let parts = and_parts (is_kept q.ch) (all is_kept qs) k in
-    let one : Stands table start end (front ++ q ∷ []) (qs ++ rest) (record here { front = q ∷ here.front }) (taken ++ Gives (Char q.ch q.at) ∷ []) later =
-    subst (λ (x : List ParseError). Stands table start end (front ++ q ∷ []) (qs ++ rest) (record here { front = q ∷ here.front }) (taken ++ Gives (Char q.ch q.at) ∷ []) x) (append-nil later)
-    (stands_on table start end front (qs ++ rest) here taken (plain_span q) later s (plain_is table end here (qs ++ rest) q may parts.0) refl) in
-    let many = stands_plain table start end qs (front ++ q ∷ []) rest (record here { front = q ∷ here.front }) (taken ++ Gives (Char q.ch q.at) ∷ []) later may parts.1 one in
-    subst (λ (x : List Placed). Stands table start end x rest (after_characters here (q ∷ qs)) (taken ++ run_events (q ∷ qs)) later) (append_assoc front (q ∷ []) qs)
-    (subst (λ (x : List Event). Stands table start end ((front ++ q ∷ []) ++ qs) rest (after_characters here (q ∷ qs)) x later) (append_assoc taken (Gives (Char q.ch q.at) ∷ []) (run_events qs)) many)
+use Rattle.htoken.proofs.Plain.{is_itself, plain_stands}
 
 -- what a walk has taken is plain
 pub all_imp : (f g : ℕ → Bool) (xs : List Placed) → ((c : ℕ) → f c ≡ true → g c ≡ true) → all f xs ≡ true → all g xs ≡ true
@@ -73,24 +20,24 @@ all-drop f zero xs h = h
 all-drop f (suc n) [] h = refl
 all-drop f (suc n) (x ∷ xs) h = all-drop f n xs (and_parts (f x.ch) (all f xs) h).1
 
-pub alphanumeric_kept : (c : ℕ) → is_alphanumeric c ≡ true → is_kept c ≡ true
-alphanumeric_kept c h = grind (arith, nat_tests)
+pub alphanumeric_itself : (c : ℕ) → is_alphanumeric c ≡ true → is_itself c ≡ true
+alphanumeric_itself c h = grind (arith, nat_tests)
 
-digit_kept : (base : Base) (c : ℕ) → is_digit_of base c ≡ true → is_kept c ≡ true
+digit_kept : (base : Base) (c : ℕ) → is_digit_of base c ≡ true → is_itself c ≡ true
 digit_kept Decimal c h = grind (arith, nat_tests)
 digit_kept Hexadecimal c h = grind (arith, nat_tests)
 
-sign_kept : (base : Base) (text : List Placed) → IsSign base text → all is_kept text ≡ true
-sign_kept Decimal text (number_sign p e) = ap (λ (c : ℕ). is_kept c && true) e
+sign_kept : (base : Base) (text : List Placed) → IsSign base text → all is_itself text ≡ true
+sign_kept Decimal text (number_sign p e) = ap (λ (c : ℕ). is_itself c && true) e
 sign_kept Hexadecimal text (small_x p q e f) = rw (e, f) refl
 sign_kept Hexadecimal text (capital_x p q e f) = rw (e, f) refl
 
-pub held_kept : (table : Entities) (in_value : Bool) (s : WalkState) (text : List Placed) → IsWalkHeld table in_value s text → all is_kept text ≡ true
-held_kept table in_value s text (in_name search x read plain goes) = all_imp is_alphanumeric is_kept text alphanumeric_kept plain
+pub held_kept : (table : Entities) (in_value : Bool) (s : WalkState) (text : List Placed) → IsWalkHeld table in_value s text → all is_itself text ≡ true
+held_kept table in_value s text (in_name search x read plain goes) = all_imp is_alphanumeric is_itself text alphanumeric_itself plain
 held_kept table in_value s text (after_sign x sign) = sign_kept Decimal text sign
 held_kept table in_value s text (after_x x sign) = sign_kept Hexadecimal text sign
 held_kept table in_value s text (in_number base value sign digits x is signed first digit v) =
-    ap (all is_kept) is ∙ all-append is_kept sign digits (sign_kept base sign signed) (all_imp (is_digit_of base) is_kept digits (digit_kept base) digit)
+    ap (all is_itself) is ∙ all-append is_itself sign digits (sign_kept base sign signed) (all_imp (is_digit_of base) is_itself digits (digit_kept base) digit)
 
 -- A REFERENCE
 
@@ -185,12 +132,12 @@ module _ (table : Entities) (start : RawKind) (end : ℕ) (front : List Placed) 
       two
 
   -- and what is read again is plain
-  pub stands_read : all is_kept (drop count text) ≡ true → (rest after : List Placed) → IsReference table false (drop count text ++ rest) (piece after) → Stands table start end front ((amp ∷ text) ++ rest) here taken []
+  pub stands_read : all is_itself (drop count text) ≡ true → (rest after : List Placed) → IsReference table false (drop count text ++ rest) (piece after) → Stands table start end front ((amp ∷ text) ++ rest) here taken []
       → Stands table start end (front ++ (amp ∷ text)) rest (after_reference here at text count) (taken ++ read_events found at text count) (run_errors found at after)
   stands_read plain rest after is s =
       let whole : (amp ∷ take count text) ++ drop count text ≡ amp ∷ text = ap (λ (x : List Placed). amp ∷ x) (take-append-drop count text) in
       let split : (amp ∷ text) ++ rest ≡ (amp ∷ take count text) ++ (drop count text ++ rest) = ap (λ (x : List Placed). x ++ rest) (sym whole) ∙ append_assoc (amp ∷ take count text) (drop count text) rest in
-      let two = stands_plain table start end (drop count text) (front ++ (amp ∷ take count text)) rest there (taken ++ piece_events found at) (run_errors found at after) may plain
+      let two = plain_stands table start end (drop count text) (front ++ (amp ∷ take count text)) rest there (taken ++ piece_events found at) (run_errors found at after) plain
       (stands_piece rest after is (subst (λ (x : List Placed). Stands table start end front x here taken []) split s)) in
       subst (λ (x : List Placed). Stands table start end x rest (after_reference here at text count) (taken ++ read_events found at text count) (run_errors found at after)) (append_assoc front (amp ∷ take count text) (drop count text) ∙ ap (λ (x : List Placed). front ++ x) whole)
       (subst (λ (x : List Event). Stands table start end ((front ++ (amp ∷ take count text)) ++ drop count text) rest (after_reference here at text count) x (run_errors found at after)) (append_assoc taken (piece_events found at) (run_events (drop count text))) two)

@@ -1,16 +1,8 @@
 -- What is gathered of a run, to be handed over as one text.
-use Rattle.htoken.proofs.Names.{◌≡◌, ◌+◌, ◌-◌, ℕ, true, List, [], ◌∷◌, ◌++◌, take, drop, sym, refl, ap, ◌∙◌, subst, arith, append_assoc, Ok, Option, None, Some, IfSome, is_some, and_from, nat_tests, list_all-append, chars-nil, encode_utf8_all, list_all, chars, IsUtf8, ParseError, Placed, RawKind, all, characters, placed, characters_of, Entities, Reference, is_clean, clean_rest, Hands, Spread, Raised, all_at, Adds, IsFront, IsGathered, IsWhole, TellsText, known_errors, IsSpread, has_references}
-use Rattle.std.proofs.lemmas.List.{map-append}
-use Rattle.std.proofs.lemmas.Str.{chars_from_encodes, encodes-chars, IsUtf8-string_bytes}
-use Rattle.std.specs.Prelude.{string_bytes}
-use Rattle.charref.proofs.KeyTexts.{encode_utf8_all-append}
-use Rattle.htag.proofs.InRun.{characters_placed}
-use Rattle.htext.proofs.Clean.{nothing_front}
-use Rattle.names.proofs.Words.{all_weaker}
-use Rattle.htoken.specs.Run.{is_not_null, StartsAt}
+use Rattle.htoken.proofs.Names.{◌≡◌, ◌+◌, ◌-◌, ℕ, true, List, [], ◌∷◌, ◌++◌, take, drop, sym, refl, ap, ◌∙◌, subst, arith, append_assoc, Ok, Option, None, Some, IfSome, is_some, and_from, nat_tests, list_all-append, chars-nil, encode_utf8_all, list_all, chars, IsUtf8, ParseError, Placed, RawKind, all, characters, placed, characters_of, Entities, Reference, is_clean, clean_rest, Hands, Spread, Raised, all_at, Adds, IsFront, IsGathered, IsWhole, TellsText, known_errors, IsSpread, has_references, map-append, chars_from_encodes, encodes-chars, IsUtf8-string_bytes, encode_utf8_all-append, characters_placed, nothing_front, all_weaker, is_not_null, StartsAt, string_bytes}
 use Rattle.htoken.proofs.Bare.{few_left, front_whole}
 use Rattle.htoken.proofs.InMarkup.{keeps, kept}
-use Rattle.htoken.proofs.InRun.{is_itself}
+use Rattle.htoken.proofs.Plain.{is_itself}
 use Rattle.htoken.proofs.InText.{front_both, front_plain}
 use Rattle.htoken.proofs.Referring.{gives_some, IsSomeText}
 

@@ -1,22 +1,37 @@
--- The words of the contracts that several files cite, in one place.
+-- The words of the contracts, in one place.
 pub use Rattle.charref.specs.Pieces.{characters_of}
-pub use Rattle.charref.specs.Reference.{Entities}
-pub use Rattle.hmarkup.specs.Comment.{is_plain_in_bogus}
+pub use Rattle.charref.specs.Reference.{Entities, IsTable}
+pub use Rattle.hmarkup.specs.Comment.{is_only_data, is_plain_in_bogus}
 pub use Rattle.hmarkup.specs.CommentWalk.{backwards}
-pub use Rattle.htext.specs.Run.{is_plain_byte, IsCut, is_clean, is_text_byte}
+pub use Rattle.htag.specs.AtOnce.{IsBareName}
+pub use Rattle.htag.specs.Tag.{ends_name}
+pub use Rattle.htag.specs.TagWalk.{IsInTag}
+pub use Rattle.htext.specs.Run.{IsCut, is_clean, is_plain_byte, is_text_byte}
 pub use Rattle.htext.specs.declared.decoder.TheConstants.{MAX_INPUT}
-pub use Rattle.htoken.specs.Front.{IsWhole}
+pub use Rattle.htoken.specs.Calls.{EndsRead, FeedsFront, FeedsPart, FeedsText, TakesNext}
+pub use Rattle.htoken.specs.Data.{is_no_markup}
+pub use Rattle.htoken.specs.Declaration.{IsOpened, OpensAs, front_of}
+pub use Rattle.htoken.specs.Front.{Adds, GivesFront, GivesSpread, IsBare, IsGathered, IsWhole, RefusesFront, Shows, TakesOn, TellsText, bare_errors, first_placed}
+pub use Rattle.htoken.specs.Giving.{items_of, known_errors, piece_events, raises, read_events}
 pub use Rattle.htoken.specs.Handing.{HandsEvents}
-pub use Rattle.htoken.specs.Raw.{is_script}
-pub use Rattle.htoken.specs.Run.{run_events, run_tokens}
-pub use Rattle.htoken.specs.Script.{HasFront, level_number, FollowsAll}
+pub use Rattle.htoken.specs.HeldFrom.{HoldsFrom, from_of}
+pub use Rattle.htoken.specs.Raw.{ends_by, is_raw, is_script, name_ends}
+pub use Rattle.htoken.specs.Run.{IsSpread, TakesSpread, is_not_null, replaced, run_events, run_tokens, takes_bad}
+pub use Rattle.htoken.specs.Script.{FollowsAll, HasFront, idle, is_dashes, is_less_bang_dash, is_read, level_after, level_number, mark_after, word_after}
+pub use Rattle.htoken.specs.Spans.{has_references}
 pub use Rattle.htoken.specs.Standing.{start_kind}
-pub use Rattle.htoken.specs.Steps.{TakesFront, TakesPart, GivesSpan}
-pub use Rattle.htoken.specs.Token.{Event, gives_item, Gives, Reports, Char, TokenMeans}
-pub use Rattle.htoken.specs.Tokenizing.{HasTaken, Reads, Finishes, Takes}
-pub use Rattle.names.specs.Names.{Texts, Grows}
-pub use Rattle.names.specs.Placed.{all, error, placed, error_if}
+pub use Rattle.htoken.specs.Steps.{KeepsIf, BeginsBogus, BeginsReference, BeginsTag, CutsOff, EndsSpan, EndsStartTag, EndsTag, Finds, GivesSpan, Holds, HoldsInReference, IsFollowed, KeepsFaults, TakesFront, TakesPart, held_in_raw, script_errors}
+pub use Rattle.htoken.specs.Token.{Char, Comment, End, Eof, Event, Gives, Reports, TokenMeans, gives_item, place_of}
+pub use Rattle.htoken.specs.Tokenizing.{EndsHeld, Finishes, HasTaken, IsInAmbiguousAmpersand, Reads, Takes, after_place, doctype_token, less}
+pub use Rattle.htoken.specs.declared.token.Token.{Token as Given}
+pub use Rattle.htoken.specs.declared.token.Token.TheVariants.{Char as CharToken}
+pub use Rattle.htoken.specs.declared.tokenizer.Tokenizer.{Tokenizer as Reader}
+pub use Rattle.names.specs.Names.{Grows, Texts}
+pub use Rattle.names.specs.Placed.{all, error, error_if, place, placed}
+pub use Rattle.names.specs.Sets.{raw_kind, refused_name}
 pub use Rattle.names.specs.Sink.{Hands}
+pub use Rattle.names.specs.declared.error.ErrorCode.TheVariants.{EofBeforeTagName}
+pub use Rattle.names.specs.declared.error.ParseError.{ParseError as Error}
 pub use Rattle.names.specs.declared.placed.Placed.{Placed as Character}
 pub use Rattle.names.specs.declared.raw.RawKind.{RawKind as Kind}
 pub use Rattle.names.specs.declared.refusal.Refusal.{Refusal as Refused}

@@ -2,9 +2,7 @@
 
 ghost use Rattle.std.specs.Prelude.{◌≡◌, ◌≤◌, ◌<◌, ◌+◌, List, true, IfOk, length, drop, slice_index, None};
 ghost use Rattle.std.specs.List.{list_all};
-ghost use Rattle.htoken.specs.Vocabulary.{Character, Kind, Texts, Grows, MAX_INPUT, is_plain_byte, IsCut, Entities, TakesFront, TakesPart, Event, gives_item, HasTaken};
-ghost use Rattle.names.specs.Sets.{raw_kind, refused_name};
-ghost use Rattle.htag.specs.AtOnce.{IsBareName};
+ghost use Rattle.htoken.specs.Vocabulary.{FeedsFront, FeedsPart, gives_item, Grows, is_plain_byte, IsBareName, IsCut, MAX_INPUT, raw_kind, refused_name};
 
 use crate::sink::TokenSink;
 use crate::state::State;
@@ -35,9 +33,7 @@ impl<'t> Tokenizer<'t> {
         requires less { self.old.state ≡ State.Less }
         requires some { 0 < length run.now }
         requires within { at + length run.now ≤ MAX_INPUT }
-        ensures takes { (table : Entities) (start : Kind) (before : Texts) (text : List Character) (taken : List Event) → Grows before names.old
-            → HasTaken table start self.old before text taken
-            → TakesPart (gives_item S.gives S.gives_token) table start text at run.now taken names.new sink.old result sink.new self.new }
+        ensures takes { FeedsPart (gives_item S.gives S.gives_token) self.old names.old at run.now names.new sink.old result sink.new self.new }
         ensures cut { IfOk result (λ count. IsCut count run.now) }
         ensures grows { Grows names.old names.new }
     {
@@ -69,9 +65,7 @@ impl<'t> Tokenizer<'t> {
         requires solidus { slice_index run.now 0 ≡ 47 }
         requires bare { IsBareName (drop 1 run.now) size }
         requires within { at + length run.now ≤ MAX_INPUT }
-        ensures takes { (table : Entities) (start : Kind) (before : Texts) (text : List Character) (taken : List Event) → Grows before names.old
-            → HasTaken table start self.old before text taken
-            → TakesPart (gives_item S.gives S.gives_token) table start text at run.now taken names.new sink.old result sink.new self.new }
+        ensures takes { FeedsPart (gives_item S.gives S.gives_token) self.old names.old at run.now names.new sink.old result sink.new self.new }
         ensures cut { IfOk result (λ count. IsCut count run.now) }
         ensures grows { Grows names.old names.new }
     {
@@ -95,9 +89,7 @@ impl<'t> Tokenizer<'t> {
         requires less { self.old.state ≡ State.Less }
         requires bare { IsBareName run.now size }
         requires within { at + length run.now ≤ MAX_INPUT }
-        ensures takes { (table : Entities) (start : Kind) (before : Texts) (text : List Character) (taken : List Event) → Grows before names.old
-            → HasTaken table start self.old before text taken
-            → TakesPart (gives_item S.gives S.gives_token) table start text at run.now taken names.new sink.old result sink.new self.new }
+        ensures takes { FeedsPart (gives_item S.gives S.gives_token) self.old names.old at run.now names.new sink.old result sink.new self.new }
         ensures cut { IfOk result (λ count. IsCut count run.now) }
         ensures grows { Grows names.old names.new }
     {
@@ -129,9 +121,7 @@ impl<'t> Tokenizer<'t> {
         requires less { self.old.state ≡ State.Less }
         requires plain { list_all is_plain_byte run.now ≡ true }
         requires within { at + length run.now ≤ MAX_INPUT }
-        ensures takes { (table : Entities) (start : Kind) (before : Texts) (text : List Character) (taken : List Event) → Grows before names.old
-            → HasTaken table start self.old before text taken
-            → TakesFront (gives_item S.gives S.gives_token) table start text at run.now taken names.new sink.old result sink.new self.new }
+        ensures takes { FeedsFront (gives_item S.gives S.gives_token) self.old names.old at run.now names.new sink.old result sink.new self.new }
         ensures few { IfOk result (λ count. count ≤ length run.now) }
         ensures grows { Grows names.old names.new }
     {

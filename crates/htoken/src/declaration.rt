@@ -1,8 +1,7 @@
 //! What `<!` begins: a comment, a doctype, or what is read as a comment (HTML Standard, 13.2.5.42).
 
 ghost use Rattle.std.specs.Prelude.{◌≡◌, ◌∷◌, ◌++◌, [], List, length, true};
-ghost use Rattle.htoken.specs.Vocabulary.{Character, all, is_plain_in_bogus};
-ghost use Rattle.htoken.specs.Declaration.{IsOpened, OpensAs, front_of};
+ghost use Rattle.htoken.specs.Vocabulary.{all, Character, front_of, is_plain_in_bogus, IsOpened, OpensAs};
 
 use names::Placed;
 
@@ -46,17 +45,12 @@ pub(crate) enum Spelled {
 fn spell(word: &[u8], count: usize, ch: char) -> Spelled
     ensures { result ≡ front_of word.now count ch }
 {
-    match word.get(count) {
-        None => Spelled::Other,
-        Some(byte) => {
-            if u32::from(ch) != u32::from(*byte) {
-                Spelled::Other
-            } else if word.get(count + 1).is_some() {
-                Spelled::Front
-            } else {
-                Spelled::Whole
-            }
-        }
+    if count >= word.len() || u32::from(ch) != u32::from(word[count]) {
+        Spelled::Other
+    } else if count + 1 < word.len() {
+        Spelled::Front
+    } else {
+        Spelled::Whole
     }
 }
 
@@ -72,13 +66,8 @@ impl Opened {
                 '[' => Opens::Front(Opened::Cdata),
                 _ => Opens::Bogus,
             },
-            Opened::Dash => {
-                if ch == '-' {
-                    Opens::Comment
-                } else {
-                    Opens::Bogus
-                }
-            }
+            Opened::Dash if ch == '-' => Opens::Comment,
+            Opened::Dash => Opens::Bogus,
             Opened::Doctype => match spell(b"doctype", count, ch.to_ascii_lowercase()) {
                 Spelled::Front => Opens::Front(Opened::Doctype),
                 Spelled::Whole => Opens::Doctype,

@@ -3,9 +3,7 @@
 ghost use Rattle.std.specs.Prelude.{◌≡◌, ◌≤◌, ◌<◌, ◌+◌, List, true, false, IfOk, IfSome, is_some, MatchResult, Err, drop, length, slice_index, take};
 ghost use Rattle.std.specs.List.{list_all};
 ghost use Rattle.std.specs.Str.{chars};
-ghost use Rattle.htoken.specs.Vocabulary.{Character, Kind, Texts, placed, Hands, MAX_INPUT, is_clean, is_text_byte, IsCut, Entities, IsWhole, is_script, run_tokens, FollowsAll, TakesPart, Event, gives_item, HasTaken, Reads, Takes};
-ghost use Rattle.names.specs.declared.error.ParseError.{ParseError as Error};
-ghost use Rattle.htoken.specs.Front.{bare_errors, first_placed, GivesFront, IsBare, RefusesFront, Shows, TakesOn, TellsText};
+ghost use Rattle.htoken.specs.Vocabulary.{bare_errors, Character, Entities, Error, Event, first_placed, FollowsAll, gives_item, GivesFront, Hands, HasTaken, is_clean, is_script, is_text_byte, IsBare, IsCut, IsWhole, Kind, MAX_INPUT, placed, Reads, RefusesFront, run_tokens, Shows, Takes, TakesOn, TakesPart, TellsText, Texts};
 
 use crate::hand::{give_piece, tell_unknown};
 use crate::run::last_start;
@@ -77,7 +75,7 @@ pub(crate) fn text_before<S: ErrorSink>(
 
 /// What an `&` at the front of a run is, as far as the run shows it.
 #[inline(always)]
-fn at_ampersand<'t>(table: &Table, kind: RawKind, run: &str) -> Ampersand
+fn at_ampersand(table: &Table, kind: RawKind, run: &str) -> Ampersand
     requires { 0 < length run.now }
     ensures { Shows table.now kind run.now result }
 {

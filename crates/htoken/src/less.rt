@@ -1,8 +1,7 @@
 //! After `<` and `</` in data (HTML Standard, 13.2.5.6 and 13.2.5.7).
 
 ghost use Rattle.std.specs.Prelude.{◌≡◌, ◌∷◌, ℕ, List, [], true};
-ghost use Rattle.htoken.specs.Vocabulary.{Character, Kind, Texts, Entities, Event, gives_item, Reads, Takes};
-ghost use Rattle.htoken.specs.Data.{is_no_markup};
+ghost use Rattle.htoken.specs.Vocabulary.{gives_item, is_no_markup, TakesNext};
 
 use crate::declaration::Opened;
 use crate::hand::give_faulty;
@@ -22,9 +21,7 @@ impl<'t> Tokenizer<'t> {
         sink: &mut S,
     ) -> Result<(), Refusal>
         requires { self.old.state ≡ State.Less }
-        ensures { (table : Entities) (start : Kind) (names : Texts) (text : List Character) (taken : List Event)
-            → Reads table start self.old names text (record { ch = ch; at = at } ∷ []) taken
-            → Takes (gives_item S.gives S.gives_token) table start text (record { ch = ch; at = at } ∷ []) taken names sink.old result sink.new self.new }
+        ensures { TakesNext (gives_item S.gives S.gives_token) self.old (record { ch = ch; at = at }) sink.old result sink.new self.new }
     {
         match ch {
             '/' => {
@@ -49,9 +46,7 @@ impl<'t> Tokenizer<'t> {
     fn less_is_text<S: TokenSink>(&mut self, ch: char, at: u64, sink: &mut S) -> Result<(), Refusal>
         requires state { self.old.state ≡ State.Less }
         requires other { is_no_markup (record { ch = ch; at = at } ∷ []) ≡ true }
-        ensures { (table : Entities) (start : Kind) (names : Texts) (text : List Character) (taken : List Event)
-            → Reads table start self.old names text (record { ch = ch; at = at } ∷ []) taken
-            → Takes (gives_item S.gives S.gives_token) table start text (record { ch = ch; at = at } ∷ []) taken names sink.old result sink.new self.new }
+        ensures { TakesNext (gives_item S.gives S.gives_token) self.old (record { ch = ch; at = at }) sink.old result sink.new self.new }
     {
         self.state = State::Text;
         give_faulty(
@@ -73,9 +68,7 @@ impl<'t> Tokenizer<'t> {
         sink: &mut S,
     ) -> Result<(), Refusal>
         requires { (solidus : ℕ) × (self.old.state ≡ State.LessSolidus solidus) }
-        ensures { (table : Entities) (start : Kind) (names : Texts) (text : List Character) (taken : List Event)
-            → Reads table start self.old names text (record { ch = ch; at = at } ∷ []) taken
-            → Takes (gives_item S.gives S.gives_token) table start text (record { ch = ch; at = at } ∷ []) taken names sink.old result sink.new self.new }
+        ensures { TakesNext (gives_item S.gives S.gives_token) self.old (record { ch = ch; at = at }) sink.old result sink.new self.new }
     {
         match ch {
             '>' => {

@@ -1,13 +1,7 @@
 //! What follows `<!`, comments and doctypes (HTML Standard, 13.2.5.41 to 13.2.5.68).
 
 ghost use Rattle.std.specs.Prelude.{◌≡◌, ◌∷◌, List, [], true, OnOk, length, MatchResult};
-ghost use Rattle.htoken.specs.Vocabulary.{Character, Kind, Texts, all, error, Entities, is_plain_in_bogus, Event, TokenMeans, gives_item, Reads, Takes, GivesSpan};
-ghost use Rattle.names.specs.Placed.{place};
-ghost use Rattle.htoken.specs.declared.tokenizer.Tokenizer.{Tokenizer as Reader};
-ghost use Rattle.htoken.specs.Token.{Comment};
-ghost use Rattle.htoken.specs.Tokenizing.{doctype_token};
-ghost use Rattle.htoken.specs.SmallSteps.{BeginsComment, BeginsDoctype};
-ghost use Rattle.htoken.specs.Steps.{BeginsBogus};
+ghost use Rattle.htoken.specs.Vocabulary.{all, BeginsBogus, Character, Comment, doctype_token, Entities, error, Event, gives_item, GivesSpan, is_plain_in_bogus, Kind, place, Reader, Reads, Takes, TakesNext, Texts, TokenMeans};
 
 use crate::declaration::{Opened, Opens, plain_front};
 use crate::sink::TokenSink;
@@ -30,9 +24,7 @@ impl<'t> Tokenizer<'t> {
         sink: &mut S,
     ) -> Result<(), Refusal>
         requires { self.old.state ≡ State.Declaration bang so }
-        ensures { (table : Entities) (start : Kind) (names : Texts) (text : List Character) (taken : List Event)
-            → Reads table start self.old names text (record { ch = ch; at = at } ∷ []) taken
-            → Takes (gives_item S.gives S.gives_token) table start text (record { ch = ch; at = at } ∷ []) taken names sink.old result sink.new self.new }
+        ensures { TakesNext (gives_item S.gives S.gives_token) self.old (record { ch = ch; at = at }) sink.old result sink.new self.new }
     {
         match so.after(self.held_count(), ch) {
             Opens::Front(so) => {
@@ -40,35 +32,24 @@ impl<'t> Tokenizer<'t> {
                 self.hold(ch, at)
             }
             Opens::Comment => {
-                self.begin_comment();
+                self.comment = CommentWalk::comment(self.alloc);
+                self.state = State::Comment;
                 Ok(())
             }
             Opens::Doctype => {
-                self.begin_doctype();
+                self.doctype = DoctypeWalk::new(self.alloc);
+                self.state = State::Doctype;
                 Ok(())
             }
             Opens::Cdata => {
                 self.hold(ch, at)?;
                 self.begin_held(ErrorCode::CdataInHtmlContent, at)
             }
-            Opens::Bogus => self.begin_held_at(ErrorCode::IncorrectlyOpenedComment, ch, at, sink),
+            Opens::Bogus => {
+                self.begin_held(ErrorCode::IncorrectlyOpenedComment, at)?;
+                self.in_comment(ch, at, sink)
+            }
         }
-    }
-
-    /// Begins a comment after its mark (`#comment-start-state`).
-    fn begin_comment(&mut self)
-        ensures { BeginsComment self.old self.new }
-    {
-        self.comment = CommentWalk::comment(self.alloc);
-        self.state = State::Comment;
-    }
-
-    /// Begins a doctype after its mark (`#doctype-state`).
-    fn begin_doctype(&mut self)
-        ensures { BeginsDoctype self.old self.new }
-    {
-        self.doctype = DoctypeWalk::new(self.alloc);
-        self.state = State::Doctype;
     }
 
     /// Begins what is read as a comment with the characters that are held after `<!`. The error is at the first of them, or here.
@@ -83,36 +64,8 @@ impl<'t> Tokenizer<'t> {
         Ok(())
     }
 
-    /// Begins it in the same way, and takes this character, which comes after those that are held.
-    fn begin_held_at<S: TokenSink>(
-        &mut self,
-        code: ErrorCode,
-        ch: char,
-        at: u64,
-        sink: &mut S,
-    ) -> Result<(), Refusal>
-        ensures { (table : Entities) (start : Kind) (names : Texts) (text : List Character) (taken : List Event)
-            → Reads table start self.old names text (record { ch = ch; at = at } ∷ []) taken
-            → all is_plain_in_bogus self.old.held.items ≡ true
-            → ((new : Reader) → BeginsBogus self.old self.old.held.items (error code (place at self.old.held.items)) new
-            → Reads table start new names text (record { ch = ch; at = at } ∷ []) taken)
-            → Takes (gives_item S.gives S.gives_token) table start text (record { ch = ch; at = at } ∷ []) taken names sink.old result sink.new self.new }
-    {
-        self.begin_held(code, at)?;
-        self.in_comment(ch, at, sink)
-    }
-
-    /// Begins what is read as a comment up to the first `>`, with an error (the bogus comment state, `#bogus-comment-state`).
-    pub(crate) fn begin_bogus(&mut self, code: ErrorCode, at: u64) -> Result<(), AllocError>
-        ensures { OnOk result (BeginsBogus self.old [] (error code at) self.new) }
-    {
-        self.raised.errors.push(ParseError { code, at })?;
-        self.comment = CommentWalk::bogus(self.alloc);
-        self.state = State::Comment;
-        Ok(())
-    }
-
-    /// Begins it in the same way, and takes this character, which is the first of it.
+    /// Begins what is read as a comment up to the first `>`, with an error (the bogus comment state, `#bogus-comment-state`), and takes this
+    /// character, which is the first of it.
     pub(crate) fn begin_bogus_at<S: TokenSink>(
         &mut self,
         code: ErrorCode,
@@ -125,7 +78,9 @@ impl<'t> Tokenizer<'t> {
             → ((new : Reader) → BeginsBogus self.old [] (error code at) new → Reads table start new names text (record { ch = ch; at = at } ∷ []) taken)
             → Takes (gives_item S.gives S.gives_token) table start text (record { ch = ch; at = at } ∷ []) taken names sink.old result sink.new self.new }
     {
-        self.begin_bogus(code, at)?;
+        self.raised.errors.push(ParseError { code, at })?;
+        self.comment = CommentWalk::bogus(self.alloc);
+        self.state = State::Comment;
         self.in_comment(ch, at, sink)
     }
 
@@ -154,9 +109,7 @@ impl<'t> Tokenizer<'t> {
         sink: &mut S,
     ) -> Result<(), Refusal>
         requires { self.old.state ≡ State.Comment }
-        ensures { (table : Entities) (start : Kind) (names : Texts) (text : List Character) (taken : List Event)
-            → Reads table start self.old names text (record { ch = ch; at = at } ∷ []) taken
-            → Takes (gives_item S.gives S.gives_token) table start text (record { ch = ch; at = at } ∷ []) taken names sink.old result sink.new self.new }
+        ensures { TakesNext (gives_item S.gives S.gives_token) self.old (record { ch = ch; at = at }) sink.old result sink.new self.new }
     {
         if self.comment.take_char(ch, at, &mut self.raised)? {
             self.end_comment(sink)
@@ -184,9 +137,7 @@ impl<'t> Tokenizer<'t> {
         sink: &mut S,
     ) -> Result<(), Refusal>
         requires { self.old.state ≡ State.Doctype }
-        ensures { (table : Entities) (start : Kind) (names : Texts) (text : List Character) (taken : List Event)
-            → Reads table start self.old names text (record { ch = ch; at = at } ∷ []) taken
-            → Takes (gives_item S.gives S.gives_token) table start text (record { ch = ch; at = at } ∷ []) taken names sink.old result sink.new self.new }
+        ensures { TakesNext (gives_item S.gives S.gives_token) self.old (record { ch = ch; at = at }) sink.old result sink.new self.new }
     {
         if self.doctype.take_char(ch, at, &mut self.raised)? {
             self.end_doctype(sink)

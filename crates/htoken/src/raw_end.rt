@@ -1,9 +1,7 @@
 //! The end tag of raw text (HTML Standard, 13.2.5.9 to 13.2.5.17).
 
 ghost use Rattle.std.specs.Prelude.{◌≡◌, ◌∷◌, ◌++◌, List, [], slice_get, true, false, length, string_bytes, MatchResult};
-ghost use Rattle.htoken.specs.Vocabulary.{Character, Kind, Texts, Grows, Entities, HasFront, backwards, Event, gives_item, HandsEvents, is_script, run_events, Reads, Takes};
-ghost use Rattle.htoken.specs.Raw.{name_ends};
-ghost use Rattle.htoken.specs.Steps.{held_in_raw, Holds};
+ghost use Rattle.htoken.specs.Vocabulary.{backwards, Character, Entities, Event, gives_item, Grows, HandsEvents, HasFront, held_in_raw, Holds, is_script, Kind, name_ends, Reads, run_events, Takes, TakesNext, Texts};
 
 use crate::hand::{give, give_all};
 use crate::script::{agrees, ends_name};
@@ -22,9 +20,7 @@ impl<'t> Tokenizer<'t> {
         sink: &mut S,
     ) -> Result<(), Refusal>
         requires { self.old.state ≡ State.RawLess }
-        ensures { (table : Entities) (start : Kind) (names : Texts) (text : List Character) (taken : List Event)
-            → Reads table start self.old names text (record { ch = ch; at = at } ∷ []) taken
-            → Takes (gives_item S.gives S.gives_token) table start text (record { ch = ch; at = at } ∷ []) taken names sink.old result sink.new self.new }
+        ensures { TakesNext (gives_item S.gives S.gives_token) self.old (record { ch = ch; at = at }) sink.old result sink.new self.new }
     {
         if ch == '/' {
             self.state = State::RawName(at);

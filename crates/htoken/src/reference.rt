@@ -1,11 +1,7 @@
 //! References in text, and the runs of alphanumerics after an `&` (HTML Standard, 13.2.5.72 to 13.2.5.80).
 
 ghost use Rattle.std.specs.Prelude.{◌≡◌, ◌==◌, ◌∷◌, ◌+◌, ◌-◌, List, [], true, false, length, map, OnOk};
-ghost use Rattle.htoken.specs.Vocabulary.{Character, Kind, Texts, error_if, Entities, Event, Reports, gives_item, HandsEvents, Reads, Takes};
-ghost use Rattle.names.specs.declared.error.ErrorCode.TheVariants as error_code;
-ghost use Rattle.htoken.specs.Giving.{read_events};
-ghost use Rattle.htoken.specs.Tokenizing.{IsInAmbiguousAmpersand};
-ghost use Rattle.htoken.specs.Steps.{BeginsReference, Finds, HoldsInReference};
+ghost use Rattle.htoken.specs.Vocabulary.{BeginsReference, Character, Entities, Event, Finds, gives_item, HandsEvents, HoldsInReference, IsInAmbiguousAmpersand, Kind, read_events, Reads, Takes, TakesNext, Texts};
 
 use crate::hand::{after_first, give, give_all, give_piece, tell_unknown};
 use crate::sink::TokenSink;
@@ -35,9 +31,7 @@ impl<'t> Tokenizer<'t> {
         sink: &mut S,
     ) -> Result<(), Refusal>
         requires { self.old.state ≡ State.Reference }
-        ensures { (table : Entities) (start : Kind) (names : Texts) (text : List Character) (taken : List Event)
-            → Reads table start self.old names text (record { ch = ch; at = at } ∷ []) taken
-            → Takes (gives_item S.gives S.gives_token) table start text (record { ch = ch; at = at } ∷ []) taken names sink.old result sink.new self.new }
+        ensures { TakesNext (gives_item S.gives S.gives_token) self.old (record { ch = ch; at = at }) sink.old result sink.new self.new }
     {
         match self.reference.take(ch) {
             Some(found) => self.end_reference(&found, ch, at, sink),
@@ -74,28 +68,11 @@ impl<'t> Tokenizer<'t> {
             → Takes (gives_item S.gives S.gives_token) table start text (record { ch = ch; at = at } ∷ []) taken names sink.old result sink.new self.new }
     {
         if found.in_run {
-            self.end_in_ambiguous_ampersand(found, ch, at, sink)
-        } else {
-            self.end_known(found, ch, at, sink)
+            let amp = self.at;
+            self.state = State::AmbiguousAmpersand(amp);
+            self.give_reference(found, self.given_back(found.left), sink)?;
+            return self.in_ambiguous_ampersand(amp, ch, at, sink);
         }
-    }
-
-    /// Ends a reference or an `&` that is text, after which no run of alphanumerics goes on, and reads again what does not belong to it.
-    #[inline(always)]
-    fn end_known<S: TokenSink>(
-        &mut self,
-        found: &Reference,
-        ch: char,
-        at: u64,
-        sink: &mut S,
-    ) -> Result<(), Refusal>
-        requires state { self.old.state ≡ State.Reference }
-        requires known { found.now.in_run ≡ false }
-        ensures { (table : Entities) (start : Kind) (names : Texts) (text : List Character) (taken : List Event)
-            → Finds table self.old.reference (record { ch = ch; at = at }) found.now
-            → Reads table start self.old names text (record { ch = ch; at = at } ∷ []) taken
-            → Takes (gives_item S.gives S.gives_token) table start text (record { ch = ch; at = at } ∷ []) taken names sink.old result sink.new self.new }
-    {
         self.state = State::Text;
         if found.left == 0 {
             return give_piece(found, self.at, sink);
@@ -111,13 +88,6 @@ impl<'t> Tokenizer<'t> {
         (self.held.len() + 1).saturating_sub(left)
     }
 
-    /// How many of the held characters belong to a reference at the end of the input, where the last `left` are read again.
-    pub(crate) fn left_at_end(&self, left: usize) -> usize
-        ensures { result ≡ length self.now.held.items - left }
-    {
-        self.held.len().saturating_sub(left)
-    }
-
     /// Hands over a reference, and the held characters after the first `count`, which do not belong to it.
     #[inline(always)]
     pub(crate) fn give_reference<S: TokenSink>(
@@ -131,27 +101,6 @@ impl<'t> Tokenizer<'t> {
     {
         give_piece(found, self.at, sink)?;
         give_all(after_first(&self.held, count), sink)
-    }
-
-    /// Ends an `&` that no key begins, in the run of alphanumerics after it.
-    fn end_in_ambiguous_ampersand<S: TokenSink>(
-        &mut self,
-        found: &Reference,
-        ch: char,
-        at: u64,
-        sink: &mut S,
-    ) -> Result<(), Refusal>
-        requires state { self.old.state ≡ State.Reference }
-        requires run { found.now.in_run ≡ true }
-        ensures { (table : Entities) (start : Kind) (names : Texts) (text : List Character) (taken : List Event)
-            → Finds table self.old.reference (record { ch = ch; at = at }) found.now
-            → Reads table start self.old names text (record { ch = ch; at = at } ∷ []) taken
-            → Takes (gives_item S.gives S.gives_token) table start text (record { ch = ch; at = at } ∷ []) taken names sink.old result sink.new self.new }
-    {
-        let amp = self.at;
-        self.state = State::AmbiguousAmpersand(amp);
-        self.give_reference(found, self.given_back(found.left), sink)?;
-        self.in_ambiguous_ampersand(amp, ch, at, sink)
     }
 
     /// The ambiguous ampersand state (`#ambiguous-ampersand-state`), in the run of alphanumerics after an `&` that no key begins.
@@ -171,23 +120,8 @@ impl<'t> Tokenizer<'t> {
         if ch.is_ascii_alphanumeric() {
             return give(ch, at, sink);
         }
-        self.end_ambiguous_ampersand(amp, ch, sink)?;
-        self.in_text(ch, at, sink)
-    }
-
-    /// Ends the run of alphanumerics after an `&` that no key begins, before this character.
-    #[inline(always)]
-    fn end_ambiguous_ampersand<S: TokenSink>(
-        &mut self,
-        amp: u64,
-        ch: char,
-        sink: &mut S,
-    ) -> Result<(), Refusal>
-        ensures then { self.new ≡ record self.old { state = State.Text } }
-        ensures handed { (names : Texts) → HandsEvents (gives_item S.gives S.gives_token) names sink.old
-            (map Reports (error_if (ch == 59) error_code.UnknownNamedCharacterReference amp)) result sink.new }
-    {
         self.state = State::Text;
-        tell_unknown(ch, amp, sink)
+        tell_unknown(ch, amp, sink)?;
+        self.in_text(ch, at, sink)
     }
 }

@@ -3,10 +3,8 @@
 ghost use Rattle.std.specs.Prelude.{◌≡◌, ◌≤◌, ◌<◌, ◌+◌, ◌∷◌, ◌++◌, ℕ, List, true, Some, Err, IfErr, IfOk, length, take, drop};
 ghost use Rattle.std.specs.List.{list_all, prefix_len};
 ghost use Rattle.std.specs.Str.{chars};
-ghost use Rattle.htoken.specs.Vocabulary.{Character, Kind, Refused, Texts, Grows, placed, MAX_INPUT, is_clean, is_plain_byte, IsCut, Entities, is_script, FollowsAll, TakesFront, TakesPart, Event, gives_item, HasTaken, Takes};
+ghost use Rattle.htoken.specs.Vocabulary.{Character, Entities, Event, FeedsFront, FeedsPart, FeedsText, FollowsAll, gives_item, Grows, HasTaken, is_clean, is_only_data, is_plain_byte, is_script, IsCut, Kind, MAX_INPUT, placed, Refused, replaced, Takes, takes_bad, TakesFront, Texts};
 ghost use Rattle.std.specs.Char.{encode_utf8};
-ghost use Rattle.hmarkup.specs.Comment.{is_only_data};
-ghost use Rattle.htoken.specs.Run.{replaced, takes_bad};
 
 use crate::sink::TokenSink;
 use crate::state::State;
@@ -25,15 +23,6 @@ fn count_data(run: &str) -> usize
         }
     }
     run.len()
-}
-
-/// The first character of a text.
-#[inline]
-fn first(text: &str) -> char
-    requires { 0 < length text.now }
-    ensures { (rest : List ℕ) × (chars text.now ≡ result ∷ rest) }
-{
-    text.chars().next().unwrap()
 }
 
 /// Where the last character of a text begins.
@@ -160,9 +149,7 @@ impl<'t> Tokenizer<'t> {
         sink: &mut S,
     ) -> Result<(), Refusal>
         requires within { place + count ≤ MAX_INPUT }
-        ensures takes { (table : Entities) (start : Kind) (before : Texts) (text : List Character) (taken : List Event) → Grows before names.old
-            → HasTaken table start self.old before text taken
-            → Takes (gives_item S.gives S.gives_token) table start text (replaced place count) taken names.new sink.old result sink.new self.new }
+        ensures takes { FeedsText (gives_item S.gives S.gives_token) self.old names.old (replaced place count) names.new sink.old result sink.new self.new }
         ensures grows { Grows names.old names.new }
         ensures refused { IfErr result (λ refusal. self.new.refused ≡ Some refusal) }
     {
@@ -184,9 +171,8 @@ impl<'t> Tokenizer<'t> {
     ) -> Result<(), Refusal>
         requires clean { list_all is_clean (chars run.now) ≡ true }
         requires within { place + length run.now ≤ MAX_INPUT }
-        ensures takes { (table : Entities) (start : Kind) (before : Texts) (text : List Character) (taken : List Event) → Grows before names.old
-            → HasTaken table start self.old before text taken
-            → Takes (gives_item S.gives S.gives_token) table start text (placed place (chars run.now)) taken names.new sink.old result sink.new self.new }
+        ensures takes { FeedsText (gives_item S.gives S.gives_token) self.old names.old (placed place (chars run.now))
+            names.new sink.old result sink.new self.new }
         ensures grows { Grows names.old names.new }
     {
         let mut count = 0;
@@ -197,8 +183,8 @@ impl<'t> Tokenizer<'t> {
         Ok(())
     }
 
-    /// Takes a part of a run: where nothing is held, the text at its front and what ends that; where something is, what is ASCII up to what
-    /// may end it, or else one character. Returns the length.
+    /// Takes a part of a run: where nothing is held, the text at its front and what ends that; after a `<`, a whole tag without attributes; and
+    /// where something else is held, what is ASCII up to what may end it, or else one character. Returns the length.
     #[inline(always)]
     fn take_part<S: TokenSink>(
         &mut self,
@@ -210,43 +196,21 @@ impl<'t> Tokenizer<'t> {
         requires some { 0 < length run.now }
         requires clean { list_all is_clean (chars run.now) ≡ true }
         requires within { at + length run.now ≤ MAX_INPUT }
-        ensures takes { (table : Entities) (start : Kind) (before : Texts) (text : List Character) (taken : List Event) → Grows before names.old
-            → HasTaken table start self.old before text taken
-            → TakesPart (gives_item S.gives S.gives_token) table start text at run.now taken names.new sink.old result sink.new self.new }
+        ensures takes { FeedsPart (gives_item S.gives S.gives_token) self.old names.old at run.now names.new sink.old result sink.new self.new }
         ensures few { IfOk result (λ count. (0 < count) × IsCut count run.now) }
         ensures grows { Grows names.old names.new }
     {
         match self.state {
             State::Text => self.part_of_text(run, at, sink),
-            State::Less => self.part_after_less(names, run, at, sink),
+            State::Less => {
+                let count = self.tag_open(names, run, at, sink)?;
+                if count > 0 {
+                    return Ok(count);
+                }
+                self.part_of_markup(names, run, at, sink)
+            }
             _ => self.part_of_markup(names, run, at, sink),
         }
-    }
-
-    /// Takes what follows a `<`: a whole tag without attributes, or a part of any markup. Returns the length.
-    #[inline(always)]
-    fn part_after_less<S: TokenSink>(
-        &mut self,
-        names: &mut Names,
-        run: &str,
-        at: u64,
-        sink: &mut S,
-    ) -> Result<usize, Refusal>
-        requires less { self.old.state ≡ State.Less }
-        requires some { 0 < length run.now }
-        requires clean { list_all is_clean (chars run.now) ≡ true }
-        requires within { at + length run.now ≤ MAX_INPUT }
-        ensures takes { (table : Entities) (start : Kind) (before : Texts) (text : List Character) (taken : List Event) → Grows before names.old
-            → HasTaken table start self.old before text taken
-            → TakesPart (gives_item S.gives S.gives_token) table start text at run.now taken names.new sink.old result sink.new self.new }
-        ensures few { IfOk result (λ count. (0 < count) × IsCut count run.now) }
-        ensures grows { Grows names.old names.new }
-    {
-        let count = self.tag_open(names, run, at, sink)?;
-        if count > 0 {
-            return Ok(count);
-        }
-        self.part_of_markup(names, run, at, sink)
     }
 
     /// Takes what is ASCII up to the next `<` or `&`, or past the next `>`, or else one character. Returns the length.
@@ -261,37 +225,17 @@ impl<'t> Tokenizer<'t> {
         requires some { 0 < length run.now }
         requires clean { list_all is_clean (chars run.now) ≡ true }
         requires within { at + length run.now ≤ MAX_INPUT }
-        ensures takes { (table : Entities) (start : Kind) (before : Texts) (text : List Character) (taken : List Event) → Grows before names.old
-            → HasTaken table start self.old before text taken
-            → TakesPart (gives_item S.gives S.gives_token) table start text at run.now taken names.new sink.old result sink.new self.new }
+        ensures takes { FeedsPart (gives_item S.gives S.gives_token) self.old names.old at run.now names.new sink.old result sink.new self.new }
         ensures few { IfOk result (λ count. (0 < count) × IsCut count run.now) }
         ensures grows { Grows names.old names.new }
     {
         let count = inner_part(run);
         if count == 0 {
-            return self.take_one(names, run, at, sink);
+            let ch = run.chars().next().unwrap();
+            self.take(names, ch, at, sink)?;
+            return Ok(ch.len_utf8());
         }
         self.take_fronts(names, &run[..count], at, sink)
-    }
-
-    /// Takes the first character of a run, and returns its length.
-    fn take_one<S: TokenSink>(
-        &mut self,
-        names: &mut Names,
-        run: &str,
-        at: u64,
-        sink: &mut S,
-    ) -> Result<usize, Refusal>
-        requires some { 0 < length run.now }
-        ensures takes { (table : Entities) (start : Kind) (before : Texts) (text : List Character) (taken : List Event) → Grows before names.old
-            → HasTaken table start self.old before text taken
-            → TakesPart (gives_item S.gives S.gives_token) table start text at run.now taken names.new sink.old result sink.new self.new }
-        ensures few { IfOk result (λ count. (0 < count) × IsCut count run.now) }
-        ensures grows { Grows names.old names.new }
-    {
-        let ch = first(run);
-        self.take(names, ch, at, sink)?;
-        Ok(ch.len_utf8())
     }
 
     /// Takes a run, a front of what is left of it after another. Returns its length.
@@ -304,9 +248,7 @@ impl<'t> Tokenizer<'t> {
     ) -> Result<usize, Refusal>
         requires plain { list_all is_plain_byte run.now ≡ true }
         requires within { at + length run.now ≤ MAX_INPUT }
-        ensures takes { (table : Entities) (start : Kind) (before : Texts) (text : List Character) (taken : List Event) → Grows before names.old
-            → HasTaken table start self.old before text taken
-            → TakesFront (gives_item S.gives S.gives_token) table start text at run.now taken names.new sink.old result sink.new self.new }
+        ensures takes { FeedsFront (gives_item S.gives S.gives_token) self.old names.old at run.now names.new sink.old result sink.new self.new }
         ensures all { IfOk result (λ count. count ≡ length run.now) }
         ensures grows { Grows names.old names.new }
     {
@@ -329,9 +271,7 @@ impl<'t> Tokenizer<'t> {
         requires some { 0 < length run.now }
         requires plain { list_all is_plain_byte run.now ≡ true }
         requires within { at + length run.now ≤ MAX_INPUT }
-        ensures takes { (table : Entities) (start : Kind) (before : Texts) (text : List Character) (taken : List Event) → Grows before names.old
-            → HasTaken table start self.old before text taken
-            → TakesFront (gives_item S.gives S.gives_token) table start text at run.now taken names.new sink.old result sink.new self.new }
+        ensures takes { FeedsFront (gives_item S.gives S.gives_token) self.old names.old at run.now names.new sink.old result sink.new self.new }
         ensures few { IfOk result (λ count. (0 < count) × (count ≤ length run.now)) }
         ensures grows { Grows names.old names.new }
     {
@@ -339,37 +279,17 @@ impl<'t> Tokenizer<'t> {
             State::Text => self.run_of_text(run, at, sink),
             State::Comment => self.run_of_comment(names, run, at, sink),
             State::Tag => self.run_of_tag(names, run, at, sink),
-            State::Less => self.front_after_less(names, run, at, sink),
+            State::Less => {
+                let count = self.plain_start_tag(names, run, at, sink)?;
+                if count > 0 {
+                    return Ok(count);
+                }
+                self.take_first(names, run, at, sink)
+            }
             // With an arm of its own, so that the state is not asked for again.
             State::LessSolidus(_) => self.take_first(names, run, at, sink),
             _ => self.take_first(names, run, at, sink),
         }
-    }
-
-    /// Takes what follows a `<`: a start tag as far as it is plain, or one character. Returns the length.
-    #[inline(always)]
-    fn front_after_less<S: TokenSink>(
-        &mut self,
-        names: &mut Names,
-        run: &str,
-        at: u64,
-        sink: &mut S,
-    ) -> Result<usize, Refusal>
-        requires less { self.old.state ≡ State.Less }
-        requires some { 0 < length run.now }
-        requires plain { list_all is_plain_byte run.now ≡ true }
-        requires within { at + length run.now ≤ MAX_INPUT }
-        ensures takes { (table : Entities) (start : Kind) (before : Texts) (text : List Character) (taken : List Event) → Grows before names.old
-            → HasTaken table start self.old before text taken
-            → TakesFront (gives_item S.gives S.gives_token) table start text at run.now taken names.new sink.old result sink.new self.new }
-        ensures few { IfOk result (λ count. (0 < count) × (count ≤ length run.now)) }
-        ensures grows { Grows names.old names.new }
-    {
-        let count = self.plain_start_tag(names, run, at, sink)?;
-        if count > 0 {
-            return Ok(count);
-        }
-        self.take_first(names, run, at, sink)
     }
 
     /// Takes the first character of a run, and returns 1.
@@ -383,34 +303,12 @@ impl<'t> Tokenizer<'t> {
     ) -> Result<usize, Refusal>
         requires some { 0 < length run.now }
         requires plain { list_all is_plain_byte run.now ≡ true }
-        ensures takes { (table : Entities) (start : Kind) (before : Texts) (text : List Character) (taken : List Event) → Grows before names.old
-            → HasTaken table start self.old before text taken
-            → TakesFront (gives_item S.gives S.gives_token) table start text at run.now taken names.new sink.old result sink.new self.new }
+        ensures takes { FeedsFront (gives_item S.gives S.gives_token) self.old names.old at run.now names.new sink.old result sink.new self.new }
         ensures one { IfOk result (λ count. count ≡ 1) }
         ensures grows { Grows names.old names.new }
     {
         self.take(names, char::from(run.as_bytes()[0]), at, sink)?;
         Ok(1)
-    }
-
-    /// Takes the first character of a run in a tag, wherever the one before it was.
-    #[inline(always)]
-    fn first_in_tag<S: TokenSink>(
-        &mut self,
-        names: &mut Names,
-        run: &str,
-        at: u64,
-        sink: &mut S,
-    ) -> Result<(), Refusal>
-        requires tag { self.old.state ≡ State.Tag }
-        requires some { 0 < length run.now }
-        ensures takes { (table : Entities) (start : Kind) (before : Texts) (text : List Character) (taken : List Event) (next : ℕ) → Grows before names.old
-            → HasTaken table start (record self.old { next = next }) before text taken
-            → Takes (gives_item S.gives S.gives_token) table start text (placed at (take 1 run.now)) taken names.new sink.old result sink.new self.new }
-        ensures grows { Grows names.old names.new }
-    {
-        self.next = after(at);
-        self.in_tag(names, char::from(run.as_bytes()[0]), at, sink)
     }
 
     /// Takes a run where nothing is held: the sink takes it as a whole. Returns its length.
@@ -458,9 +356,7 @@ impl<'t> Tokenizer<'t> {
         requires some { 0 < length run.now }
         requires plain { list_all is_plain_byte run.now ≡ true }
         requires within { at + length run.now ≤ MAX_INPUT }
-        ensures takes { (table : Entities) (start : Kind) (before : Texts) (text : List Character) (taken : List Event) → Grows before names.old
-            → HasTaken table start self.old before text taken
-            → TakesFront (gives_item S.gives S.gives_token) table start text at run.now taken names.new sink.old result sink.new self.new }
+        ensures takes { FeedsFront (gives_item S.gives S.gives_token) self.old names.old at run.now names.new sink.old result sink.new self.new }
         ensures few { IfOk result (λ count. (0 < count) × (count ≤ length run.now)) }
         ensures grows { Grows names.old names.new }
     {
@@ -485,9 +381,7 @@ impl<'t> Tokenizer<'t> {
         requires some { 0 < length run.now }
         requires plain { list_all is_plain_byte run.now ≡ true }
         requires within { at + length run.now ≤ MAX_INPUT }
-        ensures takes { (table : Entities) (start : Kind) (before : Texts) (text : List Character) (taken : List Event) → Grows before names.old
-            → HasTaken table start self.old before text taken
-            → TakesFront (gives_item S.gives S.gives_token) table start text at run.now taken names.new sink.old result sink.new self.new }
+        ensures takes { FeedsFront (gives_item S.gives S.gives_token) self.old names.old at run.now names.new sink.old result sink.new self.new }
         ensures few { IfOk result (λ count. (0 < count) × (count ≤ length run.now)) }
         ensures grows { Grows names.old names.new }
     {
@@ -498,7 +392,10 @@ impl<'t> Tokenizer<'t> {
             self.next = at + count as u64;
             return Ok(count);
         }
-        self.first_in_tag(names, &run[count..], at + count as u64, sink)?;
+        let rest = &run[count..];
+        let end = at + count as u64;
+        self.next = after(end);
+        self.in_tag(names, char::from(rest.as_bytes()[0]), end, sink)?;
         Ok(count + 1)
     }
 }

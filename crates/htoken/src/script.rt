@@ -2,11 +2,8 @@
 
 ghost use Rattle.std.specs.Prelude.{◌≡◌, [], ◌∷◌, ◌==◌, ◌&&◌, ℕ, List, nat_lt, IsTrue};
 ghost use Rattle.std.specs.Str.{chars};
-ghost use Rattle.htoken.specs.Vocabulary.{Character, placed, backwards, HasFront, FollowsAll, level_number};
+ghost use Rattle.htoken.specs.Vocabulary.{Character, ends_name, FollowsAll, HasFront, idle, is_dashes, is_less_bang_dash, is_read, level_after, level_number, mark_after, placed, word_after};
 ghost use Rattle.std.specs.Char.{to_ascii_lowercase};
-ghost use Rattle.htag.specs.Tag.{ends_name};
-ghost use Rattle.htoken.specs.Script.{mark_after, word_after, next_word, level_after, is_dashes, is_less_bang_dash, idle};
-ghost use Rattle.htoken.specs.Script.{is_read};
 
 use names::Placed;
 
@@ -80,25 +77,12 @@ impl Level {
     fn after(self, ends: bool, begins: bool, opens: bool, closes: bool) -> Level
         ensures { result ≡ level_after self ends begins opens closes }
     {
-        if ends {
-            return Level::Plain;
-        }
         match self {
-            Level::Plain => { if begins { Level::Escaped } else { Level::Plain } }
-            Level::Escaped => {
-                if opens {
-                    Level::DoubleEscaped
-                } else {
-                    Level::Escaped
-                }
-            }
-            Level::DoubleEscaped => {
-                if closes {
-                    Level::Escaped
-                } else {
-                    Level::DoubleEscaped
-                }
-            }
+            _ if ends => Level::Plain,
+            Level::Plain if begins => Level::Escaped,
+            Level::Escaped if opens => Level::DoubleEscaped,
+            Level::DoubleEscaped if closes => Level::Escaped,
+            _ => self,
         }
     }
 }
@@ -113,10 +97,7 @@ impl Mark {
                 Mark::LessBang => Mark::LessBangDash,
                 Mark::LessBangDash | Mark::Dash | Mark::Dashes => Mark::Dashes,
             },
-            '!' => match self {
-                Mark::Less => Mark::LessBang,
-                _ => Mark::Nothing,
-            },
+            '!' if matches!(self, Mark::Less) => Mark::LessBang,
             '<' => Mark::Less,
             _ => Mark::Nothing,
         }
@@ -145,33 +126,8 @@ impl Word {
             return Word::Read(0);
         }
         match self {
-            Word::Nothing => Word::Nothing,
-            Word::Read(n) => Word::after_letters(name, n, ch),
-        }
-    }
-
-    /// How the end of the text is read on by a character that is no `<`, where so far it is `<` and the first `n` characters of the name.
-    fn after_letters(name: &[u8], n: usize, ch: char) -> Word
-        ensures { result ≡ next_word name.now (Word.Read n) ch }
-    {
-        match name.get(n) {
-            Some(byte) => {
-                if agrees(ch, *byte) {
-                    Word::Read(n + 1)
-                } else {
-                    Word::Nothing
-                }
-            }
-            None => Word::Nothing,
-        }
-    }
-
-    fn is_read(self, count: usize) -> bool
-        ensures { result ≡ is_read count self }
-    {
-        match self {
-            Word::Nothing => false,
-            Word::Read(n) => n == count,
+            Word::Read(n) if n < name.len() && agrees(ch, name[n]) => Word::Read(n + 1),
+            _ => Word::Nothing,
         }
     }
 
@@ -179,7 +135,7 @@ impl Word {
     fn ends(self, count: usize, ch: char) -> bool
         ensures { result ≡ (ends_name ch && is_read count self) }
     {
-        ends_name(ch) && self.is_read(count)
+        ends_name(ch) && matches!(self, Word::Read(n) if n == count)
     }
 }
 

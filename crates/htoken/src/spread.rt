@@ -3,10 +3,7 @@
 ghost use Rattle.std.specs.Prelude.{◌≡◌, ◌≤◌, ◌<◌, ◌+◌, ◌-◌, ◌++◌, List, true, false, IfOk, IfSome, MatchResult, OnOk, drop, length, slice_index, string_bytes, encode_utf8_all};
 ghost use Rattle.std.specs.List.{list_all};
 ghost use Rattle.std.specs.Str.{chars};
-ghost use Rattle.htoken.specs.Vocabulary.{Character, Texts, MAX_INPUT, is_clean, is_text_byte, characters_of, IsWhole, gives_item};
-ghost use Rattle.names.specs.declared.refusal.Refusal.TheVariants.{Memory};
-ghost use Rattle.htoken.specs.Front.{Adds, GivesSpread, IsGathered};
-ghost use Rattle.htoken.specs.Run.{is_not_null, IsSpread};
+ghost use Rattle.htoken.specs.Vocabulary.{Adds, Character, characters_of, gives_item, GivesSpread, is_clean, is_not_null, is_text_byte, IsGathered, IsSpread, IsWhole, MAX_INPUT, Texts};
 
 use crate::front::text_before;
 use crate::hand::{hand_errors, tell_known};
@@ -60,7 +57,7 @@ impl Spread {
         requires whole { IfSome whole (λ it. IsWhole table.now kind run.now it.0 it.1) }
         requires clean { list_all is_clean (chars run.now) ≡ true }
         requires within { at + length run.now ≤ MAX_INPUT }
-        ensures gathered { MatchResult result (λ it. IsGathered table.now kind run.now at it.0 self.new) (λ e. e ≡ Memory) }
+        ensures gathered { MatchResult result (λ it. IsGathered table.now kind run.now at it.0 self.new) (λ e. e ≡ Refusal.Memory) }
         ensures ends { IfOk result (λ it. it.0 < length run.now → is_text_byte (slice_index run.now it.0) ≡ false) }
         ensures whole { IfOk result (λ it. IfSome it.1 (λ next. IsWhole table.now kind (drop it.0 run.now) next.0 next.1)) }
     {
@@ -102,7 +99,7 @@ impl Spread {
         requires some { list_all is_not_null (characters_of found.now.characters) ≡ true }
         requires clean { list_all is_clean (chars run.now) ≡ true }
         requires within { at + length run.now ≤ MAX_INPUT }
-        ensures adds { MatchResult result (λ it. Adds table.now kind run.now at it.0 self.old self.new) (λ e. e ≡ Memory) }
+        ensures adds { MatchResult result (λ it. Adds table.now kind run.now at it.0 self.old self.new) (λ e. e ≡ Refusal.Memory) }
         ensures ends { IfOk result (λ it. it.0 < length run.now → is_text_byte (slice_index run.now it.0) ≡ false) }
         ensures whole { IfOk result (λ it. IfSome it.1 (λ next. IsWhole table.now kind (drop it.0 run.now) next.0 next.1)) }
     {

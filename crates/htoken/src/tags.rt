@@ -1,10 +1,7 @@
 //! Tags (HTML Standard, 13.2.5.8 and 13.2.5.32 to 13.2.5.40).
 
 ghost use Rattle.std.specs.Prelude.{◌≡◌, ◌∷◌, ℕ, List, [], slice_get, Some, OnOk};
-ghost use Rattle.htoken.specs.Vocabulary.{Character, Kind, Texts, Grows, Entities, Event, TokenMeans, gives_item, Reads, Takes, GivesSpan};
-ghost use Rattle.htoken.specs.Token.{End};
-ghost use Rattle.htoken.specs.SmallSteps.{KeepsIf};
-ghost use Rattle.htoken.specs.Steps.{KeepsFaults, BeginsTag, EndsStartTag, EndsTag};
+ghost use Rattle.htoken.specs.Vocabulary.{BeginsTag, Character, End, EndsStartTag, EndsTag, Entities, Event, gives_item, Grows, KeepsFaults, KeepsIf, Kind, Reads, Takes, Texts};
 
 use crate::script::Script;
 use crate::sink::TokenSink;
@@ -65,7 +62,9 @@ impl<'t> Tokenizer<'t> {
             TagKind::Start => self.end_start_tag(name, names, sink),
             TagKind::End => {
                 self.keep_faults()?;
-                self.end_end_tag(name, names, sink)
+                let at = self.at;
+                self.kind = RawKind::None;
+                self.end_tag_span(Token::End { name, at }, names, sink)
             }
         }
     }
@@ -92,22 +91,6 @@ impl<'t> Tokenizer<'t> {
             self.raised.errors.push(ParseError { code, at })?;
         }
         Ok(())
-    }
-
-    #[inline(always)]
-    fn end_end_tag<S: TokenSink>(
-        &mut self,
-        name: NameId,
-        names: &Names,
-        sink: &mut S,
-    ) -> Result<(), Refusal>
-        ensures { (text : List ℕ) → GivesSpan (gives_item S.gives S.gives_token)
-            (λ names token. slice_get names name ≡ Some text → TokenMeans names token (End text self.old.at)) (record self.old { kind = RawKind.None }) sink.old
-            result self.new sink.new }
-    {
-        let at = self.at;
-        self.kind = RawKind::None;
-        self.end_tag_span(Token::End { name, at }, names, sink)
     }
 
     /// Hands over a start tag of this name, unless it is left out of the profile.

@@ -1,9 +1,7 @@
 //! Text: data, RCDATA, RAWTEXT, script data and PLAINTEXT (HTML Standard, 13.2.5.1 to 13.2.5.5).
 
 ghost use Rattle.std.specs.Prelude.{◌≡◌, ◌∷◌, ℕ, List, [], true, ◌&&◌, is_some};
-ghost use Rattle.htoken.specs.Vocabulary.{Character, Kind, Texts, Entities, HasFront, level_number, HandsEvents, Char, Event, Gives, gives_item, is_script, Reads, Takes};
-ghost use Rattle.htoken.specs.Raw.{is_raw, ends_by};
-ghost use Rattle.htoken.specs.Spans.{has_references};
+ghost use Rattle.htoken.specs.Vocabulary.{Char, ends_by, Gives, gives_item, HandsEvents, has_references, is_raw, is_script, IsFollowed, level_number, Takes, TakesNext, Texts};
 
 use crate::hand::{give, give_faulty};
 use crate::sink::TokenSink;
@@ -28,9 +26,7 @@ impl<'t> Tokenizer<'t> {
         sink: &mut S,
     ) -> Result<(), Refusal>
         requires { self.old.state ≡ State.Text }
-        ensures { (table : Entities) (start : Kind) (names : Texts) (text : List Character) (taken : List Event)
-            → Reads table start self.old names text (record { ch = ch; at = at } ∷ []) taken
-            → Takes (gives_item S.gives S.gives_token) table start text (record { ch = ch; at = at } ∷ []) taken names sink.old result sink.new self.new }
+        ensures { TakesNext (gives_item S.gives S.gives_token) self.old (record { ch = ch; at = at }) sink.old result sink.new self.new }
     {
         match self.kind {
             RawKind::None => self.in_data(ch, at, sink),
@@ -50,9 +46,7 @@ impl<'t> Tokenizer<'t> {
     ) -> Result<(), Refusal>
         requires text { self.old.state ≡ State.Text }
         requires is_data { self.old.kind ≡ RawKind.None }
-        ensures { (table : Entities) (start : Kind) (names : Texts) (text : List Character) (taken : List Event)
-            → Reads table start self.old names text (record { ch = ch; at = at } ∷ []) taken
-            → Takes (gives_item S.gives S.gives_token) table start text (record { ch = ch; at = at } ∷ []) taken names sink.old result sink.new self.new }
+        ensures { TakesNext (gives_item S.gives S.gives_token) self.old (record { ch = ch; at = at }) sink.old result sink.new self.new }
     {
         match ch {
             '<' => {
@@ -72,9 +66,7 @@ impl<'t> Tokenizer<'t> {
     fn in_raw<S: TokenSink>(&mut self, ch: char, at: u64, sink: &mut S) -> Result<(), Refusal>
         requires text { self.old.state ≡ State.Text }
         requires raw { is_raw self.old.kind ≡ true }
-        ensures { (table : Entities) (start : Kind) (names : Texts) (text : List Character) (taken : List Event)
-            → Reads table start self.old names text (record { ch = ch; at = at } ∷ []) taken
-            → Takes (gives_item S.gives S.gives_token) table start text (record { ch = ch; at = at } ∷ []) taken names sink.old result sink.new self.new }
+        ensures { TakesNext (gives_item S.gives S.gives_token) self.old (record { ch = ch; at = at }) sink.old result sink.new self.new }
     {
         match ch {
             '<' => {
@@ -107,9 +99,7 @@ impl<'t> Tokenizer<'t> {
         at: u64,
         sink: &mut S,
     ) -> Result<(), Refusal>
-        ensures then { self.new ≡ record self.old { script = self.new.script } }
-        ensures follows { (place : ℕ) (front : List Character) → is_script self.old.kind ≡ true → HasFront self.old.script front
-            → HasFront self.new.script (record { ch = ch; at = place } ∷ front) }
+        ensures follows { IsFollowed self.old ch self.new }
         ensures handed { (names : Texts) → HandsEvents (gives_item S.gives S.gives_token) names sink.old (Gives (Char ch at) ∷ []) result sink.new }
     {
         self.follow(ch);
@@ -118,9 +108,7 @@ impl<'t> Tokenizer<'t> {
 
     /// Follows the level of script data.
     pub(crate) fn follow(&mut self, ch: char)
-        ensures then { self.new ≡ record self.old { script = self.new.script } }
-        ensures follows { (at : ℕ) (front : List Character) → is_script self.old.kind ≡ true → HasFront self.old.script front
-            → HasFront self.new.script (record { ch = ch; at = at } ∷ front) }
+        ensures { IsFollowed self.old ch self.new }
     {
         if self.is_in_script() {
             self.script = self.script.after(ch);
@@ -138,15 +126,9 @@ impl<'t> Tokenizer<'t> {
     fn may_end(&self) -> bool
         ensures { result ≡ (is_some self.now.last && ends_by self.now.kind (level_number self.now.script.level)) }
     {
-        self.last.is_some() && self.kind_may_end()
-    }
-
-    fn kind_may_end(&self) -> bool
-        ensures { result ≡ ends_by self.now.kind (level_number self.now.script.level) }
-    {
         match self.kind {
-            RawKind::Rcdata | RawKind::Rawtext => true,
-            RawKind::Script => self.script.may_end(),
+            RawKind::Rcdata | RawKind::Rawtext => self.last.is_some(),
+            RawKind::Script => self.last.is_some() && self.script.may_end(),
             RawKind::None | RawKind::Plaintext => false,
         }
     }

@@ -1,12 +1,7 @@
 //! Characters in, tokens out: a tokenizer, and which state takes a character (HTML Standard, 13.2.5).
 
 ghost use Rattle.std.specs.Prelude.{◌≡◌, ◌∷◌, List, [], Some, Err, IfErr, MatchBool};
-ghost use Rattle.htoken.specs.Vocabulary.{Character, Kind, Refused, Texts, Grows, Hands, Entities, Event, gives_item, start_kind, HasTaken, Takes, Finishes};
-ghost use Rattle.charref.specs.Reference.{IsTable};
-ghost use Rattle.htoken.specs.Giving.{items_of};
-ghost use Rattle.htoken.specs.HeldFrom.{HoldsFrom, from_of};
-ghost use Rattle.htoken.specs.Tokenizing.{after_place};
-ghost use Rattle.htoken.specs.Steps.{EndsSpan};
+ghost use Rattle.htoken.specs.Vocabulary.{after_place, Character, EndsSpan, Entities, Event, FeedsText, Finishes, from_of, gives_item, Grows, Hands, HasTaken, HoldsFrom, IsTable, items_of, Kind, Refused, start_kind, Takes, Texts};
 
 use crate::hand::hand_errors;
 use crate::script::Script;
@@ -183,10 +178,8 @@ impl<'t> Tokenizer<'t> {
         place: u64,
         sink: &mut S,
     ) -> Result<(), Refusal>
-        ensures takes { (table : Entities) (start : Kind) (before : Texts) (text : List Character) (taken : List Event) → Grows before names.old
-            → HasTaken table start self.old before text taken
-            → Takes (gives_item S.gives S.gives_token) table start text (record { ch = ch; at = place } ∷ []) taken names.new sink.old result sink.new
-            self.new }
+        ensures takes { FeedsText (gives_item S.gives S.gives_token) self.old names.old (record { ch = ch; at = place } ∷ [])
+            names.new sink.old result sink.new self.new }
         ensures grows { Grows names.old names.new }
         ensures refused { IfErr result (λ refusal. self.new.refused ≡ Some refusal) }
     {
@@ -206,9 +199,8 @@ impl<'t> Tokenizer<'t> {
         at: u64,
         sink: &mut S,
     ) -> Result<(), Refusal>
-        ensures takes { (table : Entities) (start : Kind) (before : Texts) (text : List Character) (taken : List Event) → Grows before names.old
-            → HasTaken table start self.old before text taken
-            → Takes (gives_item S.gives S.gives_token) table start text (record { ch = ch; at = at } ∷ []) taken names.new sink.old result sink.new self.new }
+        ensures takes { FeedsText (gives_item S.gives S.gives_token) self.old names.old (record { ch = ch; at = at } ∷ [])
+            names.new sink.old result sink.new self.new }
         ensures grows { Grows names.old names.new }
     {
         self.next = after(at);

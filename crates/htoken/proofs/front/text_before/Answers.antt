@@ -1,4 +1,4 @@
-use Rattle.htoken.proofs.Names.{◌≡◌, ◌<◌, ℕ, ◌+◌, List, [], ◌++◌, length, take, drop, sym, refl, ap, ◌∙◌, subst, arith, append-nil, get_or-drop, prefix_len-le-length, prefix_len_stops, err_from_is_err_and, IsCharBoundary-from_drop, slice_index, prefix_len, chars, IsUtf8, ParseError, placed, Hands-append, is_text_byte, clean_rest, cut_more, bare_errors, IsBare, IsFront}
+use Rattle.htoken.proofs.Names.{◌≡◌, ◌<◌, ℕ, ◌+◌, List, [], ◌++◌, length, take, drop, sym, refl, ap, ◌∙◌, subst, arith, append-nil, get_or-drop, prefix_len-le-length, prefix_len_stops, IsCharBoundary-from_drop, slice_index, prefix_len, chars, IsUtf8, ParseError, placed, Hands-append, is_text_byte, clean_rest, cut_more, bare_errors, IsBare, IsFront, err_is}
 use Rattle.htoken.proofs.InText.{bare_cut_of, bare_within, front_bare, front_on, front_text, length_left}
 use Rattle.htoken.proofs.front.text_before.Goals as goal
 
@@ -42,10 +42,9 @@ loop-count-preserved g c =
 
 pub returns-in_err-tell_bare-in-Text-clause-front : goal.returns-in_err-tell_bare-in-Text-clause-front
 returns-in_err-tell_bare-in-Text-clause-front g c =
-    let e = err_from_is_err_and c.from_residual.result c.from_residual.ensures.1 in
     let is = c.in-Text.ensures in
     let so = c.loop-count.invariant.so in
-    rw (e.1, e.2) (so.errors ++ bare_errors is.letters is.next (c.args.at + c.loop-count.count), Hands-append g.S.ErrorSink.gives _ _ _ so.errors _ _ so.handed (c.in_err-tell_bare-in-Text.ensures c.args.table.now c.args.kind is))
+    rw (err_is c.from_residual.result _ c.from_residual.ensures.1) (so.errors ++ bare_errors is.letters is.next (c.args.at + c.loop-count.count), Hands-append g.S.ErrorSink.gives _ _ _ so.errors _ _ so.handed (c.in_err-tell_bare-in-Text.ensures c.args.table.now c.args.kind is))
 
 pub range_from-requires : goal.range_from-requires
 range_from-requires g c = λ _.

@@ -1,4 +1,4 @@
-use Rattle.htoken.proofs.Names.{refl, err_from_is_err_and}
+use Rattle.htoken.proofs.Names.{refl, err_is}
 use Rattle.htoken.proofs.Running.{item_next, item_refused, item_taken}
 use Rattle.htoken.proofs.hand.hand_errors.Goals as goal
 
@@ -8,5 +8,4 @@ loop-error-preserved g c =
 
 pub returns-in_err-take_error : goal.returns-in_err-take_error
 returns-in_err-take_error g c =
-    let e = err_from_is_err_and c.from_residual.result c.from_residual.ensures.1 in
-    rw (e.1, e.2) (item_refused g.S.ErrorSink.gives _ _ c.args.errors.now _ _ _ (item_next c.args.errors.now c.loop-error.error-index _ _ c.loop-error-test.true refl) c.loop-error.invariant _ _ c.in_err-take_error.ensures)
+    rw (err_is c.from_residual.result _ c.from_residual.ensures.1) (item_refused g.S.ErrorSink.gives _ _ c.args.errors.now _ _ _ (item_next c.args.errors.now c.loop-error.error-index _ _ c.loop-error-test.true refl) c.loop-error.invariant _ _ c.in_err-take_error.ensures)

@@ -1,6 +1,4 @@
-use Rattle.htoken.proofs.Names.{◌≡◌, ◌<◌, true, ℕ, length, take, sym, ap, ◌∙◌, subst, rules, slice_index, list_all, prefix_len, is_plain_byte, IsCut}
-use Rattle.htext.specs.Run.{is_inner_byte}
-use Rattle.htext.proofs.Clean.{inner_front}
+use Rattle.htoken.proofs.Names.{◌≡◌, ◌<◌, true, ℕ, length, take, sym, ap, ◌∙◌, subst, rules, slice_index, list_all, prefix_len, is_plain_byte, IsCut, is_inner_byte, inner_front}
 use Rattle.htoken.proofs.Bare.{inner_through}
 use Rattle.htoken.proofs.run.inner_part.Goals as goal
 

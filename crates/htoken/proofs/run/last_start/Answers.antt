@@ -1,5 +1,4 @@
-use Rattle.htoken.proofs.Names.{◌∙◌, sym, arith}
-use Rattle.htext.proofs.Wide.{cut_last}
+use Rattle.htoken.proofs.Names.{◌∙◌, sym, arith, cut_last}
 use Rattle.htoken.proofs.run.last_start.Goals as goal
 
 pub returns-in-Some-clause-cut : goal.returns-in-Some-clause-cut

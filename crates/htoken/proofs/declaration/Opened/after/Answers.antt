@@ -12,10 +12,10 @@ returns-in-d c = λ text p is long h.
 pub returns-in-91 : goal.returns-in-91
 returns-in-91 c = λ text p is long h. first_bracket text p (subst (λ s. IsOpened s text) c.in-Nothing.is h) (is ∙ c.in-91.is)
 
-pub returns-else-ch-eq45 : goal.returns-else-ch-eq45
-returns-else-ch-eq45 c = λ text p is long h.
+pub returns-in-Dash-2 : goal.returns-in-Dash-2
+returns-in-Dash-2 c = λ text p is long h.
     let other : eqb c.args.ch 45 ≡ false = grind (arith, nat_tests) in
-    dash_alone text p (subst (λ s. IsOpened s text) c.in-Dash.is h) (ap (λ x. eqb x 45) is ∙ other)
+    dash_alone text p (subst (λ s. IsOpened s text) c.in-Dash-2.is h) (ap (λ x. eqb x 45) is ∙ other)
 
 pub returns-in-Front : goal.returns-in-Front
 returns-in-Front c = λ text p is long h.

@@ -1,5 +1,4 @@
-use Rattle.htoken.proofs.Names.{subst, sym, ap, List, ℕ, ◌∙◌, refl, IsUtf8-past_char, chars-nil, chars, placed, FollowsAll}
-use Rattle.std.proofs.lemmas.List.{nil_from_length}
+use Rattle.htoken.proofs.Names.{subst, sym, ap, List, ℕ, ◌∙◌, refl, IsUtf8-past_char, chars-nil, chars, placed, FollowsAll, nil_from_length}
 use Rattle.htoken.proofs.Scripting.{follow_char}
 use Rattle.htoken.proofs.script.Script.after_text.Goals as goal
 

@@ -1,11 +1,10 @@
-use Rattle.htoken.proofs.Names.{arith, err_from_is_err_and}
+use Rattle.htoken.proofs.Names.{arith, err_is}
 use Rattle.htoken.proofs.Running.{bad_goes_on, bad_refused}
 use Rattle.htoken.proofs.sink.TokenSink.take_bad_by_one.Goals as goal
 
 pub returns-in_err-take_text : goal.returns-in_err-take_text
 returns-in_err-take_text g c =
-    let e = err_from_is_err_and c.from_residual.result c.from_residual.ensures.1 in
-    rw (e.1, e.2) (bad_refused g.Self.TokenSink.gives_token _ _ c.args.at c.args.count c.loop-taken.taken c.loop-taken.invariant.takes c.in_err-take_text.field-0.0 _ c.loop-taken-test.true c.in_err-take_text.ensures)
+    rw (err_is c.from_residual.result _ c.from_residual.ensures.1) (bad_refused g.Self.TokenSink.gives_token _ _ c.args.at c.args.count c.loop-taken.taken c.loop-taken.invariant.takes c.in_err-take_text.field-0.0 _ c.loop-taken-test.true c.in_err-take_text.ensures)
 
 pub loop-taken-preserved : goal.loop-taken-preserved
 loop-taken-preserved g c = record {

@@ -1,5 +1,4 @@
-use Rattle.htoken.proofs.Names.{◌+◌, arith, err_from_is_err_and, IsUtf8-past_char, Placed, Token}
-use Rattle.htext.proofs.Wide.{one_more, one_refused, none_left}
+use Rattle.htoken.proofs.Names.{◌+◌, arith, IsUtf8-past_char, Placed, Token, err_is, one_more, one_refused, none_left}
 use Rattle.htoken.specs.declared.token.Token.TheVariants as code
 use Rattle.htoken.proofs.sink.TokenSink.take_run_by_one.Goals as goal
 
@@ -20,8 +19,7 @@ pub returns-in_err-take_text : goal.returns-in_err-take_text
 returns-in_err-take_text g c =
     let so = c.loop-index.invariant in
     let step = c.in-Some.ensures.steps in
-    let e = err_from_is_err_and c.from_residual.result c.from_residual.ensures.1 in
-    rw (e.1, e.2) (one_refused g.Self.TokenSink.gives_token token _ _ c.loop-index.self (c.args.at + c.loop-index.index-iterator.at) _ so.takes c.in-Some.ch _ so.utf8 step.1 (c.args.at + c.in-Some.index) (omega (arith, step.0))
+    rw (err_is c.from_residual.result _ c.from_residual.ensures.1) (one_refused g.Self.TokenSink.gives_token token _ _ c.loop-index.self (c.args.at + c.loop-index.index-iterator.at) _ so.takes c.in-Some.ch _ so.utf8 step.1 (c.args.at + c.in-Some.index) (omega (arith, step.0))
     c.take_text.new.self c.in_err-take_text.field-0.0 c.in_err-take_text.ensures)
 
 pub returns : goal.returns

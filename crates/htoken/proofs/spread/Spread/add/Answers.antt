@@ -1,5 +1,4 @@
-use Rattle.htoken.proofs.Names.{◌≡◌, true, ℕ, List, ◌++◌, sym, ap, ◌∙◌, subst, refl, encode_utf8_all, list_all, chars, err_from_is_err_and, IsCharBoundary-from_drop, is_clean, clean_rest, front_of}
-use Rattle.std.specs.Prelude.{string_bytes}
+use Rattle.htoken.proofs.Names.{◌≡◌, true, ℕ, List, ◌++◌, sym, ap, ◌∙◌, subst, refl, list_all, chars, IsCharBoundary-from_drop, is_clean, clean_rest, front_of, err_is, string_bytes}
 use Rattle.htoken.proofs.InMarkup.{refused}
 use Rattle.htoken.proofs.Spreading.{adds_is, own_front}
 use Rattle.htoken.proofs.spread.Spread.add.Goals as goal
@@ -16,8 +15,7 @@ text_before-requires-clause-clean c =
 
 pub returns-in_err-more-clause-adds : goal.returns-in_err-more-clause-adds
 returns-in_err-more-clause-adds c =
-    let e = err_from_is_err_and c.from_residual-in_err-more.result c.from_residual-in_err-more.ensures.1 in
-    rw (e.1, e.2) (refused _ _ _ _ c.in_err-more.ensures.front.1)
+    rw (err_is c.from_residual-in_err-more.result _ c.from_residual-in_err-more.ensures.1) (refused _ _ _ _ c.in_err-more.ensures.front.1)
 
 pub returns-clause-adds : goal.returns-clause-adds
 returns-clause-adds c =

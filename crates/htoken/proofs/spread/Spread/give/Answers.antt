@@ -1,23 +1,20 @@
-use Rattle.htoken.proofs.Names.{Bool, ℕ, List, sym, subst, Ok, Err, err_from_is_err_and, ParseError, Hands, run_events, IsSpread, gives_item}
-use Rattle.htoken.specs.Run.{TakesSpread}
+use Rattle.htoken.proofs.Names.{Bool, ℕ, List, sym, subst, Ok, Err, ParseError, Hands, run_events, IsSpread, gives_item, err_is, TakesSpread}
 use Rattle.htoken.proofs.Handing.{HandsEvents-append, reports_given}
 use Rattle.htoken.proofs.Running.{errors_left, run_given}
 use Rattle.htoken.proofs.spread.Spread.give.Goals as goal
 
 pub returns-in_err-take_spread : goal.returns-in_err-take_spread
 returns-in_err-take_spread g c =
-    let e = err_from_is_err_and c.from_residual.result c.from_residual.ensures.1 in
     let gives = g.S.ErrorSink.gives in
     let gives_token = g.S.TokenSink.gives_token in
-    rw (e.1, e.2) (λ names given spread. errors_left gives gives_token names _ _ (run_events given) c.args.self.now.raised.errors.items _
+    rw (err_is c.from_residual.result _ c.from_residual.ensures.1) (λ names given spread. errors_left gives gives_token names _ _ (run_events given) c.args.self.now.raised.errors.items _
     (run_given gives gives_token names _ _ given _ (c.in_err-take_spread.ensures given (subst (λ (x : List ℕ). IsSpread given x c.args.at) (sym c.as_str.ensures.value) spread))))
 
 pub returns-in_err-hand_errors : goal.returns-in_err-hand_errors
 returns-in_err-hand_errors g c =
-    let e = err_from_is_err_and c.from_residual-in_err-hand_errors.result c.from_residual-in_err-hand_errors.ensures.1 in
     let gives = g.S.ErrorSink.gives in
     let gives_token = g.S.TokenSink.gives_token in
-    rw (e.1, e.2) (λ names given spread. HandsEvents-append (gives_item gives gives_token) names _ _ _ (run_events given) _ _
+    rw (err_is c.from_residual-in_err-hand_errors.result _ c.from_residual-in_err-hand_errors.ensures.1) (λ names given spread. HandsEvents-append (gives_item gives gives_token) names _ _ _ (run_events given) _ _
     (run_given gives gives_token names _ _ given _ ((subst (λ (b : Bool). TakesSpread gives_token c.args.sink.now c.as_str.result.now c.args.at (Ok b) c.take_spread.new.self) c.if-not-branch.false c.in_ok-take_spread.ensures) given (subst (λ (x : List ℕ). IsSpread given x c.args.at) (sym c.as_str.ensures.value) spread)))
     (reports_given gives gives_token names c.args.self.now.raised.errors.items _ _ _ (subst (λ (es : List ParseError). Hands gives c.take_spread.new.self es (Err c.in_err-hand_errors.field-0.0) c.hand_errors.new.sink) c.deref.ensures.value c.in_err-hand_errors.ensures)))
 

@@ -1,12 +1,11 @@
-use Rattle.htoken.proofs.Names.{err_from_is_err_and, gives_item}
+use Rattle.htoken.proofs.Names.{gives_item, err_is}
 use Rattle.htoken.proofs.Going.{takes_after}
 use Rattle.htoken.proofs.InRaw.{name_given, name_refused}
 use Rattle.htoken.proofs.tokenizer.Tokenizer.after_held.Goals as goal
 
 pub returns-in_err-give_held : goal.returns-in_err-give_held
 returns-in_err-give_held g c =
-    let e = err_from_is_err_and c.from_residual.result c.from_residual.ensures.1 in
-    rw (e.1, e.2) (λ table start names text taken other h.
+    rw (err_is c.from_residual.result _ c.from_residual.ensures.1) (λ table start names text taken other h.
     name_refused (gives_item g.S.ErrorSink.gives g.S.TokenSink.gives_token) table start text (record { ch = c.args.ch; at = c.args.at }) names taken _ h c.args.solidus c.requires other _ _ _ _ (c.in_err-give_held.ensures.handed names))
 
 pub returns : goal.returns

@@ -1,4 +1,4 @@
-use Rattle.htoken.proofs.Names.{◌+◌, ◌-◌, ◌≡◌, ℕ, List, arith, ◌∙◌, sym, subst, ap, Ok, Err, err_from_is_err_and, Placed, grows_not, grows_on, replaced, gives_item, Takes}
+use Rattle.htoken.proofs.Names.{◌+◌, ◌-◌, ◌≡◌, ℕ, List, arith, ◌∙◌, sym, subst, ap, Ok, Err, Placed, grows_not, grows_on, replaced, gives_item, Takes, err_is}
 use Rattle.htoken.proofs.Fronts.{takes_nothing, part_taken, refused_longer}
 use Rattle.htoken.proofs.InRun.{replaced_more}
 use Rattle.htoken.proofs.Taking.{taken_kept}
@@ -30,8 +30,7 @@ returns-in_err-feed_char-clause-takes g c =
     let fed = c.loop-fed.fed in
     let left = c.args.count - (fed + 1) in
     let all : (fed + 1) + left ≡ c.args.count = omega (arith, c.loop-fed-test.true) in
-    let e = err_from_is_err_and c.from_residual.result c.from_residual.ensures.1 in
-    rw (e.1, e.2) (λ table start before text taken grows h.
+    rw (err_is c.from_residual.result _ c.from_residual.ensures.1) (λ table start before text taken grows h.
     subst (λ (ps : List Placed). Takes gives table start text ps taken c.feed_char.new.names c.args.sink.now (Err c.in_err-feed_char.field-0.0) c.feed_char.new.sink c.feed_char.new.self)
     (sym (replaced_more (fed + 1) left c.args.place) ∙ ap (replaced c.args.place) all)
     (refused_longer gives table start text (replaced c.args.place (fed + 1)) (replaced (c.args.place + (fed + 1)) left) taken c.feed_char.new.names c.args.sink.now c.feed_char.new.sink c.in_err-feed_char.field-0.0 c.feed_char.new.self c.feed_char.new.self

@@ -1,4 +1,4 @@
-use Rattle.htoken.proofs.Names.{◌+◌, ◌∙◌, List, ℕ, Some, take, drop, sym, refl, ap, subst, arith, err_from_is_err_and, grows_on, gives_item}
+use Rattle.htoken.proofs.Names.{◌+◌, ◌∙◌, List, ℕ, Some, take, drop, sym, refl, ap, subst, arith, grows_on, gives_item, err_is}
 use Rattle.htoken.proofs.AtOnce.{end_cut, end_given, first_is, memory_out, range_after_first}
 use Rattle.htoken.proofs.Fronts.{cut_refused}
 use Rattle.htoken.proofs.Taking.{IsCalm, taken_now}
@@ -6,17 +6,15 @@ use Rattle.htoken.proofs.tokenizer.Tokenizer.bare_end_tag.Goals as goal
 
 pub returns-in_err-name-clause-takes : goal.returns-in_err-name-clause-takes
 returns-in_err-name-clause-takes g c =
-    let e = err_from_is_err_and c.from_residual.result c.from_residual.ensures.1 in
-    rw (e.1, e.2) (λ table start before text taken grows h.
+    rw (err_is c.from_residual.result _ c.from_residual.ensures.1) (λ table start before text taken grows h.
     memory_out table start c.args.self.now c.intern.new.self text taken (taken_now table start c.args.self.now before c.intern.new.self text taken (subst IsCalm (sym c.requires.less) tt) (grows_on _ _ _ grows c.intern.ensures.grows) h)
     (gives_item g.S.ErrorSink.gives g.S.TokenSink.gives_token) _ _ _)
 
 pub returns-in_err-take_tag-clause-takes : goal.returns-in_err-take_tag-clause-takes
 returns-in_err-take_tag-clause-takes g c =
-    let e = err_from_is_err_and c.from_residual-in_err-take_tag.result c.from_residual-in_err-take_tag.ensures.1 in
     let run = c.args.run.now in
     let run_is = first_is run c.requires.some c.requires.solidus in
-    rw (e.1, e.2) (λ table start before text taken grows h.
+    rw (err_is c.from_residual-in_err-take_tag.result _ c.from_residual-in_err-take_tag.ensures.1) (λ table start before text taken grows h.
     let gives = gives_item g.S.ErrorSink.gives g.S.TokenSink.gives_token in
     let k = taken_now table start c.args.self.now before c.intern.new.self text taken (subst IsCalm (sym c.requires.less) tt) (grows_on _ _ _ grows c.in_ok-name.ensures.grows) h in
     cut_refused gives table start text c.args.at (c.args.size + 2) run (end_cut run (drop 1 run) c.args.size c.utf8.run run_is c.requires.bare) taken _ _ _ _ _ _

@@ -1,4 +1,4 @@
-use Rattle.htoken.proofs.Names.{◌+◌, ◌∙◌, List, ℕ, Some, [], take, sym, refl, ap, subst, arith, err_from_is_err_and, raw_kind, refused_name, tag_named, grows_on, front_of, AttrsMean, gives_item}
+use Rattle.htoken.proofs.Names.{◌+◌, ◌∙◌, List, ℕ, Some, [], take, sym, refl, ap, subst, arith, raw_kind, refused_name, tag_named, grows_on, front_of, AttrsMean, gives_item, err_is}
 use Rattle.htoken.proofs.AtOnce.{memory_out, nothing_taken, start_cut, start_given}
 use Rattle.htoken.proofs.Fronts.{cut_refused}
 use Rattle.htoken.proofs.Taking.{IsCalm, taken_kept, taken_now}
@@ -6,8 +6,7 @@ use Rattle.htoken.proofs.tokenizer.Tokenizer.bare_start_tag.Goals as goal
 
 pub returns-in_err-name-clause-takes : goal.returns-in_err-name-clause-takes
 returns-in_err-name-clause-takes g c =
-    let e = err_from_is_err_and c.from_residual.result c.from_residual.ensures.1 in
-    rw (e.1, e.2) (λ table start before text taken grows h.
+    rw (err_is c.from_residual.result _ c.from_residual.ensures.1) (λ table start before text taken grows h.
     memory_out table start c.args.self.now c.intern.new.self text taken (taken_now table start c.args.self.now before c.intern.new.self text taken (subst IsCalm (sym c.requires.less) tt) (grows_on _ _ _ grows c.intern.ensures.grows) h)
     (gives_item g.S.ErrorSink.gives g.S.TokenSink.gives_token) _ _ _)
 
@@ -18,10 +17,9 @@ returns-then-not-leads_to_data-clause-takes g c = λ table start before text tak
 
 pub returns-in_err-take_tag-clause-takes : goal.returns-in_err-take_tag-clause-takes
 returns-in_err-take_tag-clause-takes g c =
-    let e = err_from_is_err_and c.from_residual-in_err-take_tag.result c.from_residual-in_err-take_tag.ensures.1 in
     let run = c.args.run.now in
     let name = take c.args.size run in
-    rw (e.1, e.2) (λ table start before text taken grows h.
+    rw (err_is c.from_residual-in_err-take_tag.result _ c.from_residual-in_err-take_tag.ensures.1) (λ table start before text taken grows h.
     let gives = gives_item g.S.ErrorSink.gives g.S.TokenSink.gives_token in
     let k = taken_now table start c.args.self.now before c.intern.new.self text taken (subst IsCalm (sym c.requires.less) tt) (grows_on _ _ _ grows c.in_ok-name.ensures.grows) h in
     let named = c.range.ensures.value ∙ front_of c.args.size run in

@@ -1,11 +1,10 @@
-use Rattle.htoken.proofs.Names.{List, refl, ap, ◌∙◌, subst, Err, None, err_from_is_err_and, ParseError, Refusal, Hands, items_of, gives_item, cut_ran_out, cut_given}
+use Rattle.htoken.proofs.Names.{List, refl, ap, ◌∙◌, subst, Err, None, ParseError, Refusal, Hands, items_of, gives_item, cut_ran_out, cut_given, err_is}
 use Rattle.htoken.proofs.Handing.{no_token}
 use Rattle.htoken.proofs.tokenizer.Tokenizer.cut_off.Goals as goal
 
 pub returns-in_err-end-clause-cuts : goal.returns-in_err-end-clause-cuts
 returns-in_err-end-clause-cuts g c =
-    let e = err_from_is_err_and c.from_residual.result c.from_residual.ensures.1 in
-    rw (e.1, e.2) (λ table body h. cut_ran_out (ap (λ (x : Refusal). Err x) (c.in_err-end.ensures.cut table body h)) refl)
+    rw (err_is c.from_residual.result _ c.from_residual.ensures.1) (λ table body h. cut_ran_out (ap (λ (x : Refusal). Err x) (c.in_err-end.ensures.cut table body h)) refl)
 
 pub returns-clause-cuts : goal.returns-clause-cuts
 returns-clause-cuts g c = λ table body h. cut_given _ (c.in_ok-end.ensures.cut table body h)

@@ -1,5 +1,4 @@
-use Rattle.htoken.proofs.Names.{List, ℕ, sym, subst, refl, Ok, placed, Hands, run_tokens, FollowsAll}
-use Rattle.htext.proofs.Wide.{no_characters}
+use Rattle.htoken.proofs.Names.{List, ℕ, sym, subst, refl, Ok, placed, Hands, run_tokens, FollowsAll, no_characters}
 use Rattle.htoken.proofs.tokenizer.Tokenizer.give_front.Goals as goal
 
 pub returns-then-is_empty-clause-handed : goal.returns-then-is_empty-clause-handed

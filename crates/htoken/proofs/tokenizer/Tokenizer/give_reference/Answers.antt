@@ -1,12 +1,11 @@
-use Rattle.htoken.proofs.Names.{subst, drop, ◌∙◌, ap, err_from_is_err_and, Hands, run_tokens, gives_item}
+use Rattle.htoken.proofs.Names.{subst, drop, ◌∙◌, ap, Hands, run_tokens, gives_item, err_is}
 use Rattle.htoken.proofs.Handing.{HandsEvents-append}
 use Rattle.htoken.proofs.Running.{run_given, first_refused}
 use Rattle.htoken.proofs.tokenizer.Tokenizer.give_reference.Goals as goal
 
 pub returns-in_err-give_piece : goal.returns-in_err-give_piece
 returns-in_err-give_piece g c =
-    let e = err_from_is_err_and c.from_residual.result c.from_residual.ensures.1 in
-    rw (e.1, e.2) (λ names. first_refused g.S.ErrorSink.gives g.S.TokenSink.gives_token names _ _ _ (drop c.args.count c.args.self.now.held.items) _ (c.in_err-give_piece.ensures names))
+    rw (err_is c.from_residual.result _ c.from_residual.ensures.1) (λ names. first_refused g.S.ErrorSink.gives g.S.TokenSink.gives_token names _ _ _ (drop c.args.count c.args.self.now.held.items) _ (c.in_err-give_piece.ensures names))
 
 pub returns : goal.returns
 returns g c = λ names. HandsEvents-append (gives_item g.S.ErrorSink.gives g.S.TokenSink.gives_token) names _ _ _ _ _ _ (c.in_ok-give_piece.ensures names)

@@ -15,12 +15,12 @@ returns-in-Front g c = λ table start names text taken h.
 
 pub returns-in-Comment : goal.returns-in-Comment
 returns-in-Comment g c = λ table start names text taken h.
-    comment_begins (gives_item g.S.ErrorSink.gives g.S.TokenSink.gives_token) table start text (record { ch = c.args.ch; at = c.args.at }) names taken _ h c.args.bang c.args.so c.requires _ _ c.begin_comment.ensures.keeps c.begin_comment.ensures.state_is c.begin_comment.ensures.raised_is c.begin_comment.ensures.has_read
+    comment_begins (gives_item g.S.ErrorSink.gives g.S.TokenSink.gives_token) table start text (record { ch = c.args.ch; at = c.args.at }) names taken _ h c.args.bang c.args.so c.requires _ _ (record { kind_is = refl; last_is = refl; at_is = refl; stays = (refl, refl, refl) }) refl refl c.comment.ensures
     (c.in-Comment.ensures _ (record { ch = c.args.ch; at = c.args.at }) refl c.held_count.ensures (opened_by (gives_item g.S.ErrorSink.gives g.S.TokenSink.gives_token) table start text (record { ch = c.args.ch; at = c.args.at }) names taken _ h c.args.bang c.args.so c.requires))
 
 pub returns-in-Doctype : goal.returns-in-Doctype
 returns-in-Doctype g c = λ table start names text taken h.
-    doctype_begins (gives_item g.S.ErrorSink.gives g.S.TokenSink.gives_token) table start text (record { ch = c.args.ch; at = c.args.at }) names taken _ h c.args.bang c.args.so c.requires _ _ c.begin_doctype.ensures.keeps c.begin_doctype.ensures.state_is c.begin_doctype.ensures.raised_is c.begin_doctype.ensures.has_read
+    doctype_begins (gives_item g.S.ErrorSink.gives g.S.TokenSink.gives_token) table start text (record { ch = c.args.ch; at = c.args.at }) names taken _ h c.args.bang c.args.so c.requires _ _ (record { kind_is = refl; last_is = refl; at_is = refl; stays = (refl, refl, refl) }) refl refl c.new.ensures
     (c.in-Doctype.ensures _ (record { ch = c.args.ch; at = c.args.at }) refl c.held_count.ensures (opened_by (gives_item g.S.ErrorSink.gives g.S.TokenSink.gives_token) table start text (record { ch = c.args.ch; at = c.args.at }) names taken _ h c.args.bang c.args.so c.requires))
 
 pub returns-in_ok-hold-in-Cdata : goal.returns-in_ok-hold-in-Cdata
@@ -28,11 +28,13 @@ returns-in_ok-hold-in-Cdata g c = λ table start names text taken h.
     cdata_opened (gives_item g.S.ErrorSink.gives g.S.TokenSink.gives_token) table start text (record { ch = c.args.ch; at = c.args.at }) names taken _ h c.args.bang c.args.so c.requires c.hold-in-Cdata.new.self _ _ _ c.in_ok-hold-in-Cdata.ensures.then c.in_ok-hold-in-Cdata.ensures.held_is c.begin_held.ensures
     (c.in-Cdata.ensures _ (record { ch = c.args.ch; at = c.args.at }) refl c.held_count.ensures (opened_by (gives_item g.S.ErrorSink.gives g.S.TokenSink.gives_token) table start text (record { ch = c.args.ch; at = c.args.at }) names taken _ h c.args.bang c.args.so c.requires))
 
-pub returns-in-Bogus : goal.returns-in-Bogus
-returns-in-Bogus g c = λ table start names text taken h.
-    c.begin_held_at.ensures table start names text taken h (opened_plain c.args.so _ (opened_by (gives_item g.S.ErrorSink.gives g.S.TokenSink.gives_token) table start text (record { ch = c.args.ch; at = c.args.at }) names taken _ h c.args.bang c.args.so c.requires))
-    (λ new begun. declaration_follows (gives_item g.S.ErrorSink.gives g.S.TokenSink.gives_token) table start text (record { ch = c.args.ch; at = c.args.at }) names taken _ h c.args.bang c.args.so c.requires new begun
+pub returns-in_ok-begin_held-in-Bogus : goal.returns-in_ok-begin_held-in-Bogus
+returns-in_ok-begin_held-in-Bogus g c = λ table start names text taken h.
+    c.in_comment.ensures table start names text taken (declaration_follows (gives_item g.S.ErrorSink.gives g.S.TokenSink.gives_token) table start text (record { ch = c.args.ch; at = c.args.at }) names taken _ h c.args.bang c.args.so c.requires _ (c.in_ok-begin_held-in-Bogus.ensures.1 (opened_plain c.args.so _ (opened_by (gives_item g.S.ErrorSink.gives g.S.TokenSink.gives_token) table start text (record { ch = c.args.ch; at = c.args.at }) names taken _ h c.args.bang c.args.so c.requires)))
     (c.in-Bogus.ensures _ (record { ch = c.args.ch; at = c.args.at }) refl c.held_count.ensures (opened_by (gives_item g.S.ErrorSink.gives g.S.TokenSink.gives_token) table start text (record { ch = c.args.ch; at = c.args.at }) names taken _ h c.args.bang c.args.so c.requires)))
+
+pub returns-in_err-begin_held-in-Bogus : goal.returns-in_err-begin_held-in-Bogus
+returns-in_err-begin_held-in-Bogus g c = λ table start names text taken h. ran_out (gives_item g.S.ErrorSink.gives g.S.TokenSink.gives_token) table start text (record { ch = c.args.ch; at = c.args.at }) names taken _ h _ _ _ (search rules)
 
 pub returns-in_err-hold-in-Cdata : goal.returns-in_err-hold-in-Cdata
 returns-in_err-hold-in-Cdata g c = λ table start names text taken h. ran_out (gives_item g.S.ErrorSink.gives g.S.TokenSink.gives_token) table start text (record { ch = c.args.ch; at = c.args.at }) names taken _ h _ _ _ (search rules)

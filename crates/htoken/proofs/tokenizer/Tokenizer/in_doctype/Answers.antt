@@ -1,12 +1,11 @@
-use Rattle.htoken.proofs.Names.{refl, sym, subst, [], ◌∷◌, ◌++◌, err_from_is_err_and, State, IsHeld, IsIn, gives_item, doctype_token, IsDoctype, HasReadDoctype}
+use Rattle.htoken.proofs.Names.{refl, sym, subst, [], ◌∷◌, ◌++◌, State, IsHeld, IsIn, gives_item, doctype_token, IsDoctype, HasReadDoctype, err_is}
 use Rattle.htoken.proofs.InData.{doctype_in, doctype_here}
 use Rattle.htoken.proofs.InMarkup.{markup_stopped, markup_goes_on, markup_ends}
 use Rattle.htoken.proofs.tokenizer.Tokenizer.in_doctype.Goals as goal
 
 pub returns-in_err-take_char : goal.returns-in_err-take_char
 returns-in_err-take_char g c =
-    let e = err_from_is_err_and c.from_residual.result c.from_residual.ensures.1 in
-    rw (e.1, e.2) (λ table start names text taken h.
+    rw (err_is c.from_residual.result _ c.from_residual.ensures.1) (λ table start names text taken h.
     let i = doctype_in (gives_item g.S.ErrorSink.gives g.S.TokenSink.gives_token) table start text (record { ch = c.args.ch; at = c.args.at }) names taken _ h c.requires in
     let here = doctype_here (gives_item g.S.ErrorSink.gives g.S.TokenSink.gives_token) table start text (record { ch = c.args.ch; at = c.args.at }) names taken _ h c.requires in
     markup_stopped g.S.ErrorSink.gives g.S.TokenSink.gives_token HasReadDoctype IsDoctype doctype_token (λ here text value at errors. (refl, refl, refl)) table start text names taken _ (record { ch = c.args.ch; at = c.args.at }) h here c.args.self.now.doctype i _ c.take_char.new.self _ c.take_char.new.errors _ _ (c.in_err-take_char.ensures i.body i.own i.has_read))

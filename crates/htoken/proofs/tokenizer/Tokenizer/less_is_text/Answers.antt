@@ -1,12 +1,11 @@
-use Rattle.htoken.proofs.Names.{refl, err_from_is_err_and, gives_item}
+use Rattle.htoken.proofs.Names.{refl, gives_item, err_is}
 use Rattle.htoken.proofs.Going.{takes_after}
 use Rattle.htoken.proofs.InData.{other_follows, other_refused}
 use Rattle.htoken.proofs.tokenizer.Tokenizer.less_is_text.Goals as goal
 
 pub returns-in_err-give_faulty : goal.returns-in_err-give_faulty
 returns-in_err-give_faulty g c =
-    let e = err_from_is_err_and c.from_residual.result c.from_residual.ensures.1 in
-    rw (e.1, e.2) (λ table start names text taken h.
+    rw (err_is c.from_residual.result _ c.from_residual.ensures.1) (λ table start names text taken h.
     other_refused (gives_item g.S.ErrorSink.gives g.S.TokenSink.gives_token) table start text (record { ch = c.args.ch; at = c.args.at }) names taken _ h c.requires.state _ _ _ _ c.requires.other (c.in_err-give_faulty.ensures names))
 
 pub returns : goal.returns

@@ -1,4 +1,4 @@
-use Rattle.htoken.proofs.Names.{ℕ, List, [], refl, sym, ap, ◌∙◌, subst, Ok, Err, err_from_is_err_and, IsCharBoundary-from_drop, list_all, chars, placed, is_clean, clean_rest, front_of, HandsEvents, run_events, FollowsAll, gives_item}
+use Rattle.htoken.proofs.Names.{ℕ, List, [], refl, sym, ap, ◌∙◌, subst, Ok, Err, IsCharBoundary-from_drop, list_all, chars, placed, is_clean, clean_rest, front_of, HandsEvents, run_events, FollowsAll, gives_item, err_is}
 use Rattle.htoken.proofs.Handing.{reports_given}
 use Rattle.htoken.proofs.InText.{error_refused, text_given, text_refused}
 use Rattle.htoken.proofs.Running.{run_given}
@@ -14,16 +14,14 @@ give_front-requires-clause-clean g c =
 
 pub returns-in_err-count-clause-takes : goal.returns-in_err-count-clause-takes
 returns-in_err-count-clause-takes g c =
-    let e = err_from_is_err_and c.from_residual.result c.from_residual.ensures.1 in
     let told = c.in_err-count.ensures.front in
-    rw (e.1, e.2) (λ table start names text taken h.
+    rw (err_is c.from_residual.result _ c.from_residual.ensures.1) (λ table start names text taken h.
     let k = in_state table start c.args.self.now names text taken (subst IsCalm (sym c.requires.text) tt) h in
     error_refused (gives_item g.S.ErrorSink.gives g.S.TokenSink.gives_token) table start names text [] taken c.args.self.now k c.requires.text (placed c.args.at (chars c.args.run.now)) (placed c.args.at (chars c.args.run.now)) refl _ _ _ told.0
     (reports_given g.S.ErrorSink.gives g.S.TokenSink.gives_token names told.0 _ _ _ told.1))
 
 pub returns-in_err-give_front-clause-takes : goal.returns-in_err-give_front-clause-takes
 returns-in_err-give_front-clause-takes g c =
-    let e = err_from_is_err_and c.from_residual-in_err-give_front.result c.from_residual-in_err-give_front.ensures.1 in
     let gives = gives_item g.S.ErrorSink.gives g.S.TokenSink.gives_token in
     let run = c.args.run.now in
     let count = c.in_ok-count.count in
@@ -31,7 +29,7 @@ returns-in_err-give_front-clause-takes g c =
     let given = c.in_err-give_front.ensures in
     let new = c.give_front.new.self in
     let is = c.range.ensures.value ∙ front_of count run in
-    rw (e.1, e.2) (λ table start names text taken h.
+    rw (err_is c.from_residual-in_err-give_front.result _ c.from_residual-in_err-give_front.ensures.1) (λ table start names text taken h.
     let k = in_state table start c.args.self.now names text taken (subst IsCalm (sym c.requires.text) tt) h in
     text_refused gives table start names text taken c.args.self.now k c.requires.text run c.args.at count front.errors front.front c.args.sink.now c.text_before.new.sink
     (reports_given g.S.ErrorSink.gives g.S.TokenSink.gives_token names front.errors _ _ _ front.handed) new given.then (λ script. subst (λ (x : List ℕ). FollowsAll c.args.self.now.script (placed c.args.at (chars x)) new.script) is (given.follows script))

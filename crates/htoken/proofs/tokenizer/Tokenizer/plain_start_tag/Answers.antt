@@ -1,4 +1,4 @@
-use Rattle.htoken.proofs.Names.{◌+◌, ◌<◌, sym, subst, arith, err_from_is_err_and, grows_on, gives_item}
+use Rattle.htoken.proofs.Names.{◌+◌, ◌<◌, sym, subst, arith, grows_on, gives_item, err_is}
 use Rattle.htoken.proofs.AtOnce.{any_walk, memory_out, plain_ends, plain_goes_on}
 use Rattle.htoken.proofs.Fronts.{front_refused, takes_nothing}
 use Rattle.htoken.proofs.InRun.{next_front}
@@ -7,8 +7,7 @@ use Rattle.htoken.proofs.tokenizer.Tokenizer.plain_start_tag.Goals as goal
 
 pub returns-in_err-count-clause-takes : goal.returns-in_err-count-clause-takes
 returns-in_err-count-clause-takes g c =
-    let e = err_from_is_err_and c.from_residual.result c.from_residual.ensures.1 in
-    rw (e.1, e.2, c.in_err-count.ensures.memory) (λ table start before text taken grows h.
+    rw (err_is c.from_residual.result _ c.from_residual.ensures.1, c.in_err-count.ensures.memory) (λ table start before text taken grows h.
     memory_out table start c.args.self.now c.take_plain.new.names text taken (taken_now table start c.args.self.now before c.take_plain.new.names text taken (subst IsCalm (sym c.requires.less) tt) (grows_on _ _ _ grows c.take_plain.ensures.grows) h)
     (gives_item g.S.ErrorSink.gives g.S.TokenSink.gives_token) _ _ _)
 
@@ -20,12 +19,11 @@ returns-then-count-eq0-clause-takes g c = λ table start before text taken grows
 
 pub returns-in_err-end_tag-clause-takes : goal.returns-in_err-end_tag-clause-takes
 returns-in_err-end_tag-clause-takes g c =
-    let e = err_from_is_err_and c.from_residual-in_err-end_tag.result c.from_residual-in_err-end_tag.ensures.1 in
     let run = c.args.run.now in
     let count = c.in_ok-count.count in
     let few = c.in_ok-count.ensures.few in
     let some : 0 < count = omega (arith, c.if-count-eq0.false) in
-    rw (e.1, e.2) (λ table start before text taken grows h.
+    rw (err_is c.from_residual-in_err-end_tag.result _ c.from_residual-in_err-end_tag.ensures.1) (λ table start before text taken grows h.
     let k = taken_now table start c.args.self.now before c.end_tag.new.names text taken (subst IsCalm (sym c.requires.less) tt) (grows_on _ _ _ grows (grows_on _ _ _ c.take_plain.ensures.grows c.end_tag.ensures.grows)) h in
     let it = (rw c.if-ended.true at (c.in_ok-count.ensures.takes some table c.args.at)) in
     front_refused (gives_item g.S.ErrorSink.gives g.S.TokenSink.gives_token) table start text c.args.at count run c.requires.plain few taken _ _ _ _ _ _

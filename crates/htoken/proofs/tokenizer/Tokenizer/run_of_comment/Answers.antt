@@ -1,6 +1,5 @@
-use Rattle.htoken.proofs.Names.{ℕ, List, take, refl, sym, ap, ◌∙◌, subst, Ok, Err, arith, list_all, chars, IsUtf8, err_from_is_err_and, placed, is_only_data, HasReadOf, IsCommentOf, TakesRun, front_of, plain_take, plain_chars, gives_item}
+use Rattle.htoken.proofs.Names.{ℕ, List, take, refl, sym, ap, ◌∙◌, subst, Ok, Err, arith, list_all, chars, IsUtf8, placed, is_only_data, HasReadOf, IsCommentOf, TakesRun, front_of, plain_take, plain_chars, gives_item, err_is, prefix_all}
 use Rattle.htoken.proofs.InMarkup.{keeps}
-use Rattle.htag.proofs.InRun.{prefix_all}
 use Rattle.htoken.proofs.InRun.{next_front, comment_here, comment_stopped, comment_goes_on}
 use Rattle.htoken.proofs.Fronts.{front_refused, plain_boundary}
 use Rattle.htoken.proofs.Taking.{IsCalm, taken_now}
@@ -25,8 +24,7 @@ returns-clause-takes g c = λ table start before text taken grows h.
 
 pub returns-in_err-take_run-clause-takes : goal.returns-in_err-take_run-clause-takes
 returns-in_err-take_run-clause-takes g c =
-    let e = err_from_is_err_and c.from_residual.result c.from_residual.ensures.1 in
-    rw (e.1, e.2) (λ table start before text taken grows h.
+    rw (err_is c.from_residual.result _ c.from_residual.ensures.1) (λ table start before text taken grows h.
     let run = c.args.run.now in
     let count = c.count_data-count.result in
     let k = taken_now table start c.args.self.now before c.args.names.now text taken (subst IsCalm (sym c.requires.comment) tt) grows h in

@@ -1,5 +1,4 @@
-use Rattle.htoken.proofs.Names.{◌≡◌, List, ℕ, Ok, Err, true, length, sym, subst, arith, chars, take_all, err_from_is_err_and, placed, Hands, plain_chars, is_script, run_tokens, FollowsAll, gives_item, Takes}
-use Rattle.htext.proofs.Wide.{run_plain}
+use Rattle.htoken.proofs.Names.{◌≡◌, List, ℕ, Ok, Err, true, length, sym, subst, arith, chars, take_all, placed, Hands, plain_chars, is_script, run_tokens, FollowsAll, gives_item, Takes, err_is, run_plain}
 use Rattle.htoken.proofs.InRun.{bytes_taken, plain_is_clean}
 use Rattle.htoken.proofs.Running.{run_given}
 use Rattle.htoken.proofs.Taking.{IsCalm, in_state}
@@ -22,8 +21,7 @@ returns-clause-takes g c = λ table start names text taken h.
 
 pub returns-in_err-take_run-clause-takes : goal.returns-in_err-take_run-clause-takes
 returns-in_err-take_run-clause-takes g c =
-    let e = err_from_is_err_and c.from_residual.result c.from_residual.ensures.1 in
-    rw (e.1, e.2) (λ table start names text taken h.
+    rw (err_is c.from_residual.result _ c.from_residual.ensures.1) (λ table start names text taken h.
     let gives = gives_item g.S.ErrorSink.gives g.S.TokenSink.gives_token in
     let run = c.args.run.now in
     let is = plain_chars run c.requires.plain c.utf8.run in

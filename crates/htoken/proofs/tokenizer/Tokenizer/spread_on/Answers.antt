@@ -1,5 +1,4 @@
-use Rattle.htoken.proofs.Names.{Bool, [], Ok, sym, subst, refl, err_from_is_err_and, spread_ran_out, spread_refused, gives_item}
-use Rattle.htoken.specs.Front.{GivesSpread}
+use Rattle.htoken.proofs.Names.{Bool, [], Ok, sym, subst, refl, spread_ran_out, spread_refused, gives_item, err_is, GivesSpread}
 use Rattle.htoken.proofs.Spreading.{front_none, gathered_spread}
 use Rattle.htoken.proofs.tokenizer.Tokenizer.spread_on.Goals as goal
 
@@ -8,15 +7,13 @@ give-requires g c = record { some = (gathered_spread c.args.self.now.table.now c
 
 pub returns-in_err-size-clause-front : goal.returns-in_err-size-clause-front
 returns-in_err-size-clause-front g c =
-    let e = err_from_is_err_and c.from_residual.result c.from_residual.ensures.1 in
-    rw (e.1, e.2) (λ names. spread_ran_out c.in_err-size.ensures.gathered refl)
+    rw (err_is c.from_residual.result _ c.from_residual.ensures.1) (λ names. spread_ran_out c.in_err-size.ensures.gathered refl)
 
 pub returns-in_err-give-clause-front : goal.returns-in_err-give-clause-front
 returns-in_err-give-clause-front g c =
-    let e = err_from_is_err_and c.from_residual-in_err-give.result c.from_residual-in_err-give.ensures.1 in
     let is = c.in_ok-size.ensures.gathered in
     let spread = gathered_spread c.args.self.now.table.now c.args.self.now.kind c.args.run.now c.args.at _ _ is in
-    rw (e.1, e.2) (λ names. spread_refused _ (record { errors = _; given = is.given; front = is.front; handed = c.in_err-give.ensures names is.given spread.1 }))
+    rw (err_is c.from_residual-in_err-give.result _ c.from_residual-in_err-give.ensures.1) (λ names. spread_refused _ (record { errors = _; given = is.given; front = is.front; handed = c.in_err-give.ensures names is.given spread.1 }))
 
 pub returns-then-branch-clause-front : goal.returns-then-branch-clause-front
 returns-then-branch-clause-front g c = λ names.

@@ -1,4 +1,4 @@
-use Rattle.htoken.proofs.Names.{◌<◌, ◌+◌, ◌++◌, List, ℕ, length, take, refl, sym, ◌∙◌, subst, arith, Ok, Err, err_from_is_err_and, chars, Placed, placed, IsCut, cut_more, first_placed, gives_item, Reads, Takes}
+use Rattle.htoken.proofs.Names.{◌<◌, ◌+◌, ◌++◌, List, ℕ, length, take, refl, sym, ◌∙◌, subst, arith, Ok, Err, chars, Placed, placed, IsCut, cut_more, first_placed, gives_item, Reads, Takes, err_is}
 use Rattle.htoken.proofs.Bare.{mark_next}
 use Rattle.htoken.proofs.InRun.{next_last}
 use Rattle.htoken.proofs.InText.{all_taken, then_refused, then_taken}
@@ -13,14 +13,13 @@ returns-then-count-run-clause-takes g c = λ table start names text taken old fr
 
 pub returns-in_err-more-clause-takes : goal.returns-in_err-more-clause-takes
 returns-in_err-more-clause-takes g c =
-    let e = err_from_is_err_and c.from_residual.result c.from_residual.ensures.1 in
     let gives = gives_item g.S.ErrorSink.gives g.S.TokenSink.gives_token in
     let t = c.args.self.now in
     let run = c.args.run.now in
     let count = c.args.count in
     let left = c.range_from.ensures.value in
     let less : count < length run = omega (arith, c.if-count-run.false, c.requires.cut.within) in
-    rw (e.1, e.2) (λ table start names text taken old front.
+    rw (err_is c.from_residual.result _ c.from_residual.ensures.1) (λ table start names text taken old front.
     let part : List Placed = placed c.args.at (chars (take count run)) in
     let new = record t { next = c.after-self-2.result } in
     let reads = front.reads new refl (c.after-self-2.ensures ∙ mark_next (text ++ part) c.args.at count run c.requires.cut less (c.requires.ends less)) in

@@ -1,4 +1,4 @@
-use Rattle.htoken.proofs.Names.{◌≡◌, [], ◌+◌, List, ℕ, Option, Some, IfSome, sym, ap, ◌∙◌, subst, arith, Ok, Err, err_from_is_err_and, slice_index, Placed, RawKind, Entities, Reference, IsWhole, gives_item, Reads, Takes}
+use Rattle.htoken.proofs.Names.{◌≡◌, [], ◌+◌, List, ℕ, Option, Some, IfSome, sym, ap, ◌∙◌, subst, arith, Ok, Err, slice_index, Placed, RawKind, Entities, Reference, IsWhole, gives_item, Reads, Takes, err_is}
 use Rattle.htoken.proofs.Bare.{mark_first, whole_cut}
 use Rattle.htoken.proofs.Fronts.{cut_refused}
 use Rattle.htoken.proofs.tokenizer.Tokenizer.take_mark.Goals as goal
@@ -9,9 +9,8 @@ whole_of table kind run whole found count is may = subst (λ w. IfSome w (λ it.
 
 pub returns-in_err-take_whole-clause-takes : goal.returns-in_err-take_whole-clause-takes
 returns-in_err-take_whole-clause-takes g c =
-    let e = err_from_is_err_and c.from_residual.result c.from_residual.ensures.1 in
     let is = whole_of _ _ _ _ _ _ c.in-Some.is c.requires.whole in
-    rw (e.1, e.2) (λ table start names text taken h.
+    rw (err_is c.from_residual.result _ c.from_residual.ensures.1) (λ table start names text taken h.
     cut_refused (gives_item g.S.ErrorSink.gives g.S.TokenSink.gives_token) table start text c.args.at (c.in-Some.count + 1) c.args.run.now (whole_cut (gives_item g.S.ErrorSink.gives g.S.TokenSink.gives_token) table start names text taken c.args.self.now c.args.run.now c.args.at c.utf8.run c.in-Some.found c.in-Some.count is c.requires.text) taken _ _ _ _ c.take_whole.new.self _
     (c.in_err-take_whole.ensures table start names text taken h))
 
@@ -21,10 +20,9 @@ returns-in-Some-clause-few g c =
 
 pub returns-in_err-in_text-clause-takes : goal.returns-in_err-in_text-clause-takes
 returns-in_err-in_text-clause-takes g c =
-    let e = err_from_is_err_and c.from_residual-in_err-in_text.result c.from_residual-in_err-in_text.ensures.1 in
     let run = c.args.run.now in
     let first = mark_first run c.args.at c.from.result c.utf8.run c.requires.some (c.from.ensures ∙ ap (λ (bs : List ℕ). slice_index bs 0) c.as_bytes.ensures.value) c.requires.ends in
-    rw (e.1, e.2) (λ table start names text taken h.
+    rw (err_is c.from_residual-in_err-in_text.result _ c.from_residual-in_err-in_text.ensures.1) (λ table start names text taken h.
     cut_refused (gives_item g.S.ErrorSink.gives g.S.TokenSink.gives_token) table start text c.args.at 1 run first.2 taken _ _ _ _ c.in_text.new.self _
     (subst (λ (x : List Placed). Takes (gives_item g.S.ErrorSink.gives g.S.TokenSink.gives_token) table start text x taken names c.args.sink.now (Err c.in_err-in_text.field-0.0) c.in_text.new.sink c.in_text.new.self) (sym first.1)
     (c.in_err-in_text.ensures table start names text taken (subst (λ (x : List Placed). Reads table start c.args.self.now names text x taken) first.0 h))))

@@ -1,6 +1,18 @@
+use Rattle.htoken.proofs.Names.{arith, grows_not, gives_item, err_is}
+use Rattle.htoken.proofs.AtOnce.{nothing_then}
 use Rattle.htoken.proofs.Taking.{taken_kept}
 use Rattle.htoken.proofs.tokenizer.Tokenizer.take_part.Goals as goal
 
 pub returns-in-Text-clause-takes : goal.returns-in-Text-clause-takes
 returns-in-Text-clause-takes g c = λ table start before text taken grows h.
     c.part_of_text.ensures.takes table start c.args.names.now text taken (taken_kept table start c.args.self.now before c.args.names.now text taken grows h)
+
+pub returns-in_err-count-in-Less-clause-takes : goal.returns-in_err-count-in-Less-clause-takes
+returns-in_err-count-in-Less-clause-takes g c =
+    rw (err_is c.from_residual.result _ c.from_residual.ensures.1) (λ table start before text taken grows h. c.in_err-count-in-Less.ensures.takes table start before text taken grows h)
+
+pub returns-else-count-gt0-clause-takes : goal.returns-else-count-gt0-clause-takes
+returns-else-count-gt0-clause-takes g c = λ table start before text taken grows h.
+    nothing_then (gives_item g.S.ErrorSink.gives g.S.TokenSink.gives_token) table start text taken c.args.at c.in_ok-count-in-Less.count c.args.run.now c.tag_open.new.names c.part_of_markup.new.names _ _ _ _ _ _
+    (omega (arith, c.if-count-gt0.false)) c.part_of_markup.ensures.grows (c.in_ok-count-in-Less.ensures.takes table start before text taken grows h)
+    (λ fed events has. c.part_of_markup.ensures.takes table start c.tag_open.new.names fed events (grows_not _) has)

@@ -1,5 +1,4 @@
-use Rattle.htoken.proofs.Names.{◌+◌, arith, ◌∙◌, sym, subst, ap, List, ℕ, take, Ok, Err, list_all, chars, err_from_is_err_and, IsCharBoundary-from_drop, chars-nil, placed, grows_not, grows_on, is_clean, IsCut, clean_rest, cut_more, gives_item, Takes}
-use Rattle.std.proofs.lemmas.Str.{IsUtf8-nil}
+use Rattle.htoken.proofs.Names.{◌+◌, arith, ◌∙◌, sym, subst, ap, List, ℕ, take, Ok, Err, list_all, chars, IsCharBoundary-from_drop, chars-nil, placed, grows_not, grows_on, is_clean, IsCut, clean_rest, cut_more, gives_item, Takes, err_is, IsUtf8-nil}
 use Rattle.htoken.proofs.Fronts.{takes_nothing, cut_more_taken, cut_more_refused, cut_all_taken}
 use Rattle.htoken.proofs.Taking.{taken_kept}
 use Rattle.htoken.proofs.tokenizer.Tokenizer.take_parts.Goals as goal
@@ -37,8 +36,7 @@ loop-count-preserved g c =
 
 pub returns-in_err-more-clause-takes : goal.returns-in_err-more-clause-takes
 returns-in_err-more-clause-takes g c =
-    let e = err_from_is_err_and c.from_residual.result c.from_residual.ensures.1 in
-    rw (e.1, e.2) (λ table start before text taken grows h.
+    rw (err_is c.from_residual.result _ c.from_residual.ensures.1) (λ table start before text taken grows h.
     cut_more_refused (gives_item g.S.ErrorSink.gives g.S.TokenSink.gives_token) table start text c.args.place c.loop-count.count c.args.run.now c.loop-count.invariant.cut taken c.loop-count.names c.take_part.new.names c.take_part.ensures.grows
     c.args.sink.now c.loop-count.sink c.loop-count.self c.in_err-more.field-0.0 c.take_part.new.sink c.take_part.new.self (c.loop-count.invariant.takes table start before text taken grows h)
     (λ fed events has. subst (λ (x : List ℕ). Takes (gives_item g.S.ErrorSink.gives g.S.TokenSink.gives_token) table start fed (placed (c.args.place + c.loop-count.count) (chars x)) events c.take_part.new.names c.loop-count.sink (Err c.in_err-more.field-0.0) c.take_part.new.sink c.take_part.new.self)

@@ -1,5 +1,4 @@
-use Rattle.htoken.proofs.Names.{◌≡◌, ◌+◌, true, ℕ, List, [], drop, sym, subst, arith, Ok, err_from_is_err_and, IsCharBoundary-from_drop, list_all, chars, is_clean, IsCut, clean_rest, cut_more, RefusesFront, gives_item}
-use Rattle.htoken.specs.Front.{GivesFront}
+use Rattle.htoken.proofs.Names.{◌≡◌, ◌+◌, true, ℕ, List, [], drop, sym, subst, arith, Ok, IsCharBoundary-from_drop, list_all, chars, is_clean, IsCut, clean_rest, cut_more, RefusesFront, gives_item, err_is, GivesFront}
 use Rattle.htoken.proofs.InText.{spread_fails, spread_given}
 use Rattle.htoken.proofs.Spreading.{may_of}
 use Rattle.htoken.proofs.tokenizer.Tokenizer.take_references.Goals as goal
@@ -13,11 +12,10 @@ spread_on-requires-clause-clean g c =
 
 pub returns-in_err-more-clause-takes : goal.returns-in_err-more-clause-takes
 returns-in_err-more-clause-takes g c =
-    let e = err_from_is_err_and c.from_residual.result c.from_residual.ensures.1 in
     let gives = gives_item g.S.ErrorSink.gives g.S.TokenSink.gives_token in
     let t = c.args.self.now in
     let may = may_of t.table.now t.kind (drop c.args.count c.args.run.now) c.args.whole c.requires.some c.requires.whole in
-    rw (e.1, e.2) (λ table start names text taken old front.
+    rw (err_is c.from_residual.result _ c.from_residual.ensures.1) (λ table start names text taken old front.
     spread_fails gives table start names text taken t c.args.run.now c.args.at c.args.count old c.args.sink.now front c.requires.cut c.requires.text may _ c.spread_on.new.sink _
     (subst (λ (x : List ℕ). RefusesFront gives names t.table.now t.kind x (c.args.at + c.args.count) c.args.sink.now c.in_err-more.field-0.0 c.spread_on.new.sink) c.range_from.ensures.value (c.in_err-more.ensures.front names)))
 
