@@ -1,5 +1,5 @@
 -- The classes of texts, by their first characters. Each production of data is at the front of one class.
-use Rattle.hcuts.proofs.Names.{◌≡◌, ℕ, Bool, true, false, not, ◌&&◌, ◌||◌, eqb, List, [], ◌∷◌, ◌++◌, sym, refl, ap, ◌∙◌, subst, codes, eqb-true, false≢true, to_ascii_lowercase, Placed, characters, lowered, begins, spells, spells_in_any_case, is_letter, is_greater, and_parts, and_both, eqb_self, first_is, is_cdata, is_declaration}
+use Rattle.hcuts.proofs.Names.{arith, nat_tests, ◌≡◌, ℕ, Bool, true, false, not, ◌||◌, eqb, List, [], ◌∷◌, ◌++◌, sym, refl, ap, ◌∙◌, subst, codes, eqb-true, false≢true, to_ascii_lowercase, Placed, characters, lowered, begins, spells, spells_in_any_case, is_letter, is_greater, and_parts, and_both, first_is, is_cdata, is_declaration}
 use Rattle.htoken.specs.Data.{is_no_markup}
 use Rattle.hcuts.proofs.OneTag.{Side, Opens, Ends, mark_of}
 use Rattle.hcuts.proofs.OneValue.{lower_is}
@@ -84,12 +84,9 @@ pub alone_class : (a b : Bool) (more : List Placed) → (a || b) ≡ false → c
 alone_class false false more h = refl
 alone_class _ _ more h = absurd (false≢true (sym h))
 
-amp_first : (p : Placed) (more : List Placed) → p.ch ≡ 38 → class_of (p ∷ more) ≡ Ampersand
-amp_first p more h = ap (λ (c : ℕ). class_first (eqb c 60) (eqb c 38) more) h
-
 pub amp_class : (text more : List Placed) → begins (λ c. eqb c 38) text ≡ true → class_of (text ++ more) ≡ Ampersand
 amp_class [] more h = absurd (false≢true h)
-amp_class (p ∷ ps) more h = amp_first p (ps ++ more) (eqb-true p.ch 38 h)
+amp_class (p ∷ ps) more h = ap (λ (c : ℕ). class_first (eqb c 60) (eqb c 38) (ps ++ more)) (eqb-true p.ch 38 h)
 
 pub opens_less : (opening rest : List Placed) → characters opening ≡ codes "<" → class_of (opening ++ rest) ≡ class_less rest
 opens_less (p ∷ []) rest h = let is : p.ch ≡ 60 = cc in past_less p rest is
@@ -104,9 +101,7 @@ opens_bang (p ∷ q ∷ []) rest h = let is : p.ch ≡ 60 = cc in let then : q.c
 opens_bang _ rest h = absurd cc
 
 dashes_class : (r s : Placed) (rest : List Placed) → r.ch ≡ 45 → s.ch ≡ 45 → class_bang (r ∷ s ∷ rest) ≡ AComment
-dashes_class r s rest h k =
-    ap (λ (c : ℕ). class_declaration (eqb (to_ascii_lowercase c) 100 && spells_in_any_case (codes "octype") (s ∷ rest)) (eqb c 45 && spells (codes "-") (s ∷ rest)) (eqb c 91 && spells (codes "CDATA[") (s ∷ rest))) h
-    ∙ ap (λ (c : ℕ). class_declaration false (eqb c 45 && true) false) k
+dashes_class r s rest h k = rw (h, k) refl
 
 pub opens_comment : (opening rest : List Placed) → characters opening ≡ codes "<!--" → class_of (opening ++ rest) ≡ AComment
 opens_comment (p ∷ q ∷ r ∷ s ∷ []) rest h =
@@ -119,7 +114,7 @@ opens_comment _ rest h = absurd cc
 
 spells_low : (xs rest : List Placed) → spells_in_any_case (lowered xs) (xs ++ rest) ≡ true
 spells_low [] rest = refl
-spells_low (x ∷ xs) rest = and_both (eqb (to_ascii_lowercase x.ch) (to_ascii_lowercase x.ch)) (spells_in_any_case (lowered xs) (xs ++ rest)) (eqb_self (to_ascii_lowercase x.ch)) (spells_low xs rest)
+spells_low (x ∷ xs) rest = grind (arith, nat_tests, spells_low xs rest)
 
 low_tail : (x : Placed) (xs : List Placed) (c : ℕ) (cs : List ℕ) → lowered (x ∷ xs) ≡ c ∷ cs → (to_ascii_lowercase x.ch ≡ c) × (lowered xs ≡ cs)
 low_tail x xs c cs h = let a : to_ascii_lowercase x.ch ≡ c = cc in let b : lowered xs ≡ cs = cc in (a, b)
@@ -142,19 +137,13 @@ spells_more (c ∷ cs) (x ∷ xs) ys h = let k = and_parts (eqb x.ch c) (spells 
 pub cdata_follows : (text : List Placed) → is_cdata text ≡ true → class_bang text ≡ BogusCdata
 cdata_follows [] h = absurd (false≢true h)
 cdata_follows (p ∷ ps) h =
-    let k = and_parts (eqb p.ch 91) (spells (codes "CDATA[") ps) h in
-    ap (λ (c : ℕ). class_declaration (eqb (to_ascii_lowercase c) 100 && spells_in_any_case (codes "octype") ps) (eqb c 45 && spells (codes "-") ps) (eqb c 91 && spells (codes "CDATA[") ps)) (eqb-true p.ch 91 k.0)
-    ∙ ap (λ (b : Bool). class_declaration false false b) k.1
+    let k = and_parts (eqb p.ch 91) (spells (codes "CDATA[") ps) h in rw (eqb-true p.ch 91 k.0, k.1) refl
 
 pub cdata_more : (body rest : List Placed) → is_cdata body ≡ true → class_bang (body ++ rest) ≡ BogusCdata
 cdata_more body rest h = cdata_follows (body ++ rest) (spells_more (codes "[CDATA[") body rest h)
 
-none_of : (a b c : Bool) → (a || b || c) ≡ false → class_declaration b a c ≡ BogusDeclaration
-none_of false false false h = refl
-none_of _ _ _ h = absurd (false≢true (sym h))
-
 pub declaration_follows : (text : List Placed) → is_declaration text ≡ false → class_bang text ≡ BogusDeclaration
-declaration_follows text h = none_of (spells (codes "--") text) (spells_in_any_case (codes "doctype") text) (is_cdata text) h
+declaration_follows text h = grind arith
 
 pub letter_follows : (rest : List Placed) → begins is_letter rest ≡ true → class_less rest ≡ ATag Opens
 letter_follows [] h = absurd (false≢true h)
@@ -174,21 +163,11 @@ question_follows (p ∷ ps) h = ap (λ (c : ℕ). class_after c ps) (eqb-true p.
 
 pub other_ends : (rest : List Placed) → begins (λ c. not (is_letter c || is_greater c)) rest ≡ true → class_solidus rest ≡ BogusEnd
 other_ends [] h = absurd (false≢true h)
-other_ends (p ∷ ps) h = by (is_letter p.ch) (is_greater p.ch) h where
-  by : (i j : Bool) → not (i || j) ≡ true → class_end i j ≡ BogusEnd
-  by true j h = absurd (false≢true h)
-  by false true h = absurd (false≢true h)
-  by false false h = refl
+other_ends (p ∷ ps) h = grind (arith, nat_tests)
 
 pub no_markup_follows : (rest : List Placed) → is_no_markup rest ≡ true → class_less rest ≡ Less
 no_markup_follows [] h = absurd (false≢true h)
-no_markup_follows (p ∷ ps) h = by (is_letter p.ch) (eqb p.ch 47) (eqb p.ch 33) (eqb p.ch 63) h where
-  by : (i j k l : Bool) → not (i || j || k || l) ≡ true → class_markup i j k l ps ≡ Less
-  by true j k l h = absurd (false≢true h)
-  by false true k l h = absurd (false≢true h)
-  by false false true l h = absurd (false≢true h)
-  by false false false true h = absurd (false≢true h)
-  by false false false false h = refl
+no_markup_follows (p ∷ ps) h = grind (arith, nat_tests)
 
 pub end_follows : (rest : List Placed) → characters rest ≡ [] → class_less rest ≡ LessLast
 end_follows [] h = refl

@@ -1,5 +1,5 @@
 -- What a tokenizer holds back is a beginning of a span.
-use Rattle.hcuts.proofs.Names.{arith, nat_tests, ◌≡◌, ℕ, Bool, true, false, not, ◌||◌, eqb, List, [], ◌∷◌, ◌++◌, sym, refl, ap, ◌∙◌, subst, append_assoc, append-nil, eqb-true, false≢true, to_ascii_lowercase, IncorrectlyOpenedComment, ParseError, Placed, RawKind, Texts, characters, lowered, all, begins, is_letter, is_empty, place, stops, spells, spells_in_any_case, error, name_bytes, Entities, IsTable, CommentKind, IsBogus, closed_bogus, IsDoctype, and_parts, and_both, neither, parts_text, attributes_after, ends_name, tag_errors, end_tag_errors, Tok, Span, Event, Start, End, Comment, piece_span, is_declaration, is_cdata, comment_span, may_end, is_raw_end, IsSpanOf, has_references, raw_reference, raw_end, IsTag, start_tag, end_tag, inside, CanEnd}
+use Rattle.hcuts.proofs.Names.{arith, nat_tests, ◌≡◌, ℕ, Bool, true, false, not, eqb, List, [], ◌∷◌, ◌++◌, sym, refl, ap, ◌∙◌, subst, append_assoc, append-nil, false≢true, IncorrectlyOpenedComment, ParseError, Placed, RawKind, Texts, characters, lowered, all, begins, is_letter, is_empty, place, stops, spells, spells_in_any_case, error, name_bytes, Entities, IsTable, CommentKind, IsBogus, closed_bogus, IsDoctype, parts_text, attributes_after, ends_name, tag_errors, end_tag_errors, Tok, Span, Event, Start, End, Comment, piece_span, is_declaration, comment_span, may_end, is_raw_end, IsSpanOf, has_references, raw_reference, raw_end, IsTag, start_tag, end_tag, inside, CanEnd}
 use Rattle.std.specs.Prelude.{codes, map, Some}
 use Rattle.std.specs.String.{string_bytes}
 use Rattle.std.specs.List.{list_all}
@@ -60,27 +60,6 @@ module _ (table : Entities) (opening body : List Placed) (c : CanEnd table body)
     is_tag = end_tag opening c.name c.parts c.close c.closing (record { opens = opens; first = c.first; runs = record { passes_none = c.passes; stops_after = stop }; in_parts = c.are_parts 0 [] }) c.closes refl;
   }
 
--- `a>` after a mark
-letter : Placed
-letter = record { ch = 97; at = 0 }
-
-least : (table : Entities) → CanEnd table []
-unfolding letter
-least table = record {
-  more = letter ∷ greater ∷ [];
-  name = letter ∷ [];
-  parts = [];
-  close = greater ∷ [];
-  closing = false;
-  some = refl;
-  body_is = refl;
-  first = refl;
-  passes = refl;
-  ends = refl;
-  are_parts = λ end rest. tt;
-  closes = refl;
-}
-
 -- DECLARATIONS
 
 spells_not : (cs : List ℕ) (text more : List Placed) → list_all (λ c. not (eqb 62 c)) cs ≡ true → spells cs text ≡ false → spells cs (text ++ (greater ∷ more)) ≡ false
@@ -95,12 +74,7 @@ any_case_not (c ∷ cs) (p ∷ ps) more h e = grind (arith, nat_tests, any_case_
 
 no_declaration : (text more : List Placed) → is_declaration text ≡ false → is_declaration (text ++ (greater ∷ more)) ≡ false
 no_declaration text more e =
-    let k = neither (spells (codes "--") text || spells_in_any_case (codes "doctype") text) (is_cdata text) e in
-    let l = neither (spells (codes "--") text) (spells_in_any_case (codes "doctype") text) k.0 in
-    let dashes : spells (codes "--") (text ++ (greater ∷ more)) ≡ false = spells_not (codes "--") text more refl l.0 in
-    let word : spells_in_any_case (codes "doctype") (text ++ (greater ∷ more)) ≡ false = any_case_not (codes "doctype") text more refl l.1 in
-    let cdata : spells (codes "[CDATA[") (text ++ (greater ∷ more)) ≡ false = spells_not (codes "[CDATA[") text more refl k.1 in
-    rw (dashes, word, cdata) refl
+    grind (arith, spells_not (codes "--") text more refl, any_case_not (codes "doctype") text more refl, spells_not (codes "[CDATA[") text more refl)
 
 -- no `>` is in what is held after `<!`
 abbrev no_close : List Placed → Bool
@@ -108,13 +82,11 @@ no_close text = list_all (λ c. not (eqb c 62)) (characters text)
 
 list_front : (xs ys : List ℕ) → list_all (λ c. not (eqb c 62)) (xs ++ ys) ≡ true → list_all (λ c. not (eqb c 62)) xs ≡ true
 list_front [] ys h = refl
-list_front (x ∷ xs) ys h = let k = and_parts (not (eqb x 62)) (list_all (λ c. not (eqb c 62)) (xs ++ ys)) h in and_both (not (eqb x 62)) _ k.0 (list_front xs ys k.1)
+list_front (x ∷ xs) ys h = grind (arith, nat_tests, list_front xs ys)
 
 lowered_close : (text : List Placed) → list_all (λ c. not (eqb c 62)) (lowered text) ≡ true → no_close text ≡ true
 lowered_close [] h = refl
-lowered_close (p ∷ ps) h =
-    let k = and_parts (not (eqb (to_ascii_lowercase p.ch) 62)) (list_all (λ c. not (eqb c 62)) (lowered ps)) h in
-    and_both (not (eqb p.ch 62)) (no_close ps) (grind (arith, nat_tests)) (lowered_close ps k.1)
+lowered_close (p ∷ ps) h = grind (arith, nat_tests, lowered_close ps)
 
 opened_close : (so : Opened) (text : List Placed) → IsOpened so text → no_close text ≡ true
 opened_close opened.Nothing text h = ap no_close h
@@ -145,29 +117,20 @@ record IsRest (letters : List Placed) (left : List ℕ) : Type 0 where
   first : begins is_letter (letters ++ spelled left) ≡ true
   lowers : lowered (letters ++ spelled left) ≡ lowered letters ++ left
 
-lower_parts : (c : ℕ) → is_lower c ≡ true → (is_letter c ≡ true) × (eqb (to_ascii_lowercase c) c ≡ true)
-lower_parts c h = and_parts (is_letter c) (eqb (to_ascii_lowercase c) c) h
-
 rest_lowers : (letters : List Placed) (left : List ℕ) → list_all is_lower (lowered letters ++ left) ≡ true → lowered (letters ++ spelled left) ≡ lowered letters ++ left
 rest_lowers [] [] h = refl
-rest_lowers [] (c ∷ cs) h =
-    let k = and_parts (is_lower c) (list_all is_lower cs) h in
-    ap (λ (x : ℕ). x ∷ lowered (spelled cs)) (eqb-true (to_ascii_lowercase c) c (lower_parts c k.0).1) ∙ ap (λ (x : List ℕ). c ∷ x) (rest_lowers [] cs k.1)
-rest_lowers (l ∷ ls) left h = ap (λ (x : List ℕ). to_ascii_lowercase l.ch ∷ x) (rest_lowers ls left (and_parts (is_lower (to_ascii_lowercase l.ch)) (list_all is_lower (lowered ls ++ left)) h).1)
+rest_lowers [] (c ∷ cs) h = grind (arith, nat_tests, rest_lowers [] cs)
+rest_lowers (l ∷ ls) left h = grind (arith, nat_tests, rest_lowers ls left)
 
 rest_letters : (letters : List Placed) (left : List ℕ) → all is_letter letters ≡ true → list_all is_lower (lowered letters ++ left) ≡ true → all is_letter (letters ++ spelled left) ≡ true
 rest_letters [] [] are h = refl
-rest_letters [] (c ∷ cs) are h =
-    let k = and_parts (is_lower c) (list_all is_lower cs) h in
-    and_both (is_letter c) (all is_letter (spelled cs)) (lower_parts c k.0).0 (rest_letters [] cs are k.1)
-rest_letters (l ∷ ls) left are h =
-    let m = and_parts (is_letter l.ch) (all is_letter ls) are in
-    and_both (is_letter l.ch) (all is_letter (ls ++ spelled left)) m.0 (rest_letters ls left m.1 (and_parts (is_lower (to_ascii_lowercase l.ch)) (list_all is_lower (lowered ls ++ left)) h).1)
+rest_letters [] (c ∷ cs) are h = grind (arith, nat_tests, rest_letters [] cs)
+rest_letters (l ∷ ls) left are h = grind (arith, nat_tests, rest_letters ls left)
 
 rest_first : (letters : List Placed) (left : List ℕ) → all is_letter (letters ++ spelled left) ≡ true → is_word (lowered letters ++ left) ≡ true → begins is_letter (letters ++ spelled left) ≡ true
 rest_first [] [] are h = absurd cc
-rest_first [] (c ∷ cs) are h = (and_parts (is_letter c) (all is_letter (spelled cs)) are).0
-rest_first (l ∷ ls) left are h = (and_parts (is_letter l.ch) (all is_letter (ls ++ spelled left)) are).0
+rest_first [] (c ∷ cs) are h = grind arith
+rest_first (l ∷ ls) left are h = grind arith
 
 rest_of : (letters : List Placed) (left : List ℕ) → all is_letter letters ≡ true → is_word (lowered letters ++ left) ≡ true → IsRest letters left
 rest_of letters left are h =
@@ -191,6 +154,10 @@ name_can_end table letters left r = record {
   closes = refl;
 }
 
+-- `a>` after a mark
+least : (table : Entities) → CanEnd table []
+least table = name_can_end table [] (97 ∷ []) (rest_of [] (97 ∷ []) refl refl)
+
 -- BY STATE
 
 module _ (table : Entities) (is_table : IsTable table) (start : RawKind) (names : Texts) (text : List Placed) (taken : List Event) (t : Tokenizer) (h : Reads table start t names text [] taken) where
@@ -199,10 +166,9 @@ module _ (table : Entities) (is_table : IsTable table) (start : RawKind) (names 
 
   -- a mark that opens a tag of data
   marked : (which : TagKind) (opening : List Placed) → h.held ≡ opening → characters opening ≡ tag_mark which → h.here.kind ≡ kind.None → Begins
-  unfolding least
   marked which opening held opens plain =
       let w = whole_tag table opening [] (least table) which opens in
-      inside (least table).more [] 0 w.span refl (w.text_is ∙ ap (λ (x : List Placed). x ++ (least table).more) (sym held)) (in_data table 0 h.here [] w.span plain (d.tag w.is_tag))
+      inside (least table).more [] 0 w.span (least table).some (w.text_is ∙ ap (λ (x : List Placed). x ++ (least table).more) (sym held)) (in_data table 0 h.here [] w.span plain (d.tag w.is_tag))
 
   in_markup : {W V : Type 0} (HasRead : W → List Placed → List ParseError → Type 0) (IsOne : ℕ → List Placed → List Placed → V → List ParseError → Type 0) (token : V → ℕ → Tok) (walk : W) (i : IsInMarkup HasRead IsOne token walk table t h.held [])
       (p : Placed) (ps : List Placed) (value : V) (errors : List ParseError) → IsOne 0 [] (i.body ++ (p ∷ ps)) value errors → h.here.kind ≡ kind.None → Begins

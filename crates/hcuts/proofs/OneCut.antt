@@ -96,8 +96,7 @@ pub refused_parts : (xs ys : List Tok) → has_refused (xs ++ ys) ≡ false → 
 refused_parts [] ys h = (refl, h)
 refused_parts (x ∷ xs) ys h =
     let k = neither (is_refused_tag x) (has_refused (xs ++ ys)) h in
-    let m = refused_parts xs ys k.1 in
-    (or_none (is_refused_tag x) (has_refused xs) k.0 m.0, m.1)
+    let m = refused_parts xs ys k.1 in (or_none (is_refused_tag x) (has_refused xs) k.0 m.0, m.1)
 
 pub all_in_profile : (table : Entities) (end : ℕ) (spans : List Span) → has_refused (tokens_of spans) ≡ false → AllFit table end InProfile spans
 all_in_profile table end [] h = tt

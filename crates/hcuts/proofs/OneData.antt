@@ -176,12 +176,7 @@ module _ (rest rest' : List Placed) (span span' : Span) (e : span.text ++ rest �
       let marks = same_mark mark h.opening (h.body ++ rest) k.opening (k.body ++ rest') h.opens k.opens
       (sym (marked_whole h.opening h.body rest span (ap (λ (s : Span). s.text) h.span_is)) ∙ e ∙ marked_whole k.opening k.body rest' span' (ap (λ (s : Span). s.text) k.span_is)) in
       let same = one_of kind end rest rest' h.body k.body h.contents k.contents h.errors k.errors h.is_span k.is_span marks.1 in
-      (h.span_is ∙ same_comment h.opening k.opening h.body k.body h.contents k.contents h.errors k.errors marks.0 same.0 same.1 same.2 same.3 ∙ sym k.span_is, same.1)
-    where
-      same_comment : (o o' b b' : List Placed) (d d' : List ℕ) (es es' : List ParseError) → o ≡ o' → b ≡ b' → rest ≡ rest' → d ≡ d' → es ≡ es' → marked_span end first rest o b d es ≡ marked_span end first rest' o' b' d' es'
-      same_comment o o' b b' d d' es es' p q r s t =
-          ap (λ (x : List Placed). marked_span end first rest x b d es) p ∙ ap (λ (x : List Placed). marked_span end first rest o' x d es) q ∙ ap (λ (x : List Placed). marked_span end first x o' b' d es) r
-          ∙ ap (λ (x : List ℕ). marked_span end first rest' o' b' x es) s ∙ ap (marked_span end first rest' o' b' d') t
+      (h.span_is ∙ (λ i. marked_span end first (same.1 i) (marks.0 i) (same.0 i) (same.2 i) (same.3 i)) ∙ sym k.span_is, same.1)
 
   one_type : (end : ℕ) → IsADoctype end rest span → IsADoctype end rest' span' → Same rest rest' span span'
   one_type end h k =
@@ -189,8 +184,7 @@ module _ (rest rest' : List Placed) (span span' : Span) (e : span.text ++ rest �
       (sym (marked_whole h.opening h.body rest span (ap (λ (s : Span). s.text) h.span_is)) ∙ e ∙ marked_whole k.opening k.body rest' span' (ap (λ (s : Span). s.text) k.span_is))
       (sym (length-map h.opening (λ (p : Placed). to_ascii_lowercase p.ch)) ∙ ap length (h.opens ∙ sym k.opens) ∙ length-map k.opening (λ (p : Placed). to_ascii_lowercase p.ch)) in
       let same = one_doctype end rest rest' h.body k.body h.found k.found h.errors k.errors h.is_doctype k.is_doctype marks.1 in (
-        h.span_is ∙ ap (λ (x : List Placed). doctype_span end x h.body h.found h.errors) marks.0 ∙ ap (λ (x : List Placed). doctype_span end k.opening x h.found h.errors) same.0
-            ∙ ap (λ (x : Found). doctype_span end k.opening k.body x h.errors) same.2 ∙ ap (doctype_span end k.opening k.body k.found) same.3 ∙ sym k.span_is,
+        h.span_is ∙ (λ i. doctype_span end (marks.0 i) (same.0 i) (same.2 i) (same.3 i)) ∙ sym k.span_is,
         same.1,
       )
 

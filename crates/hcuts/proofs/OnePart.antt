@@ -1,5 +1,5 @@
 -- One part of a tag at most is at the front of the text after its name.
-use Rattle.hcuts.proofs.Names.{◌≡◌, ℕ, Bool, true, false, not, ◌&&◌, ◌||◌, ◌==◌, eqb, if◌then◌else◌, List, [], ◌∷◌, ◌++◌, drop, None, sym, refl, ap, ◌∙◌, subst, codes, append_assoc, append-nil, false≢true, eqb-true, ParseError, MissingAttributeValue, Placed, characters, place, begins, stops, all, RunsTo, past, is_empty, is_space, is_equals, is_greater, is_quote, and_parts, and_both, eqb_self, first_is, Entities, Piece, AreValue, pieces_text, value_bytes, Part, IsPart, IsAttributeName, ends_name, ends_attribute_name, ends_unquoted, is_sign, value_errors, unquoted_errors, attribute_part, space, solidus, bare, no_value, unquoted, quoted, unclosed}
+use Rattle.hcuts.proofs.Names.{arith, nat_tests, ◌≡◌, ℕ, Bool, true, false, not, ◌&&◌, ◌||◌, ◌==◌, eqb, if◌then◌else◌, List, [], ◌∷◌, ◌++◌, drop, None, sym, refl, ap, ◌∙◌, subst, codes, append_assoc, append-nil, false≢true, eqb-true, ParseError, MissingAttributeValue, Placed, characters, place, begins, stops, all, RunsTo, past, is_empty, is_space, is_equals, is_greater, is_quote, and_parts, and_both, eqb_self, first_is, Entities, Piece, AreValue, pieces_text, value_bytes, Part, IsPart, IsAttributeName, ends_name, ends_attribute_name, ends_unquoted, is_sign, value_errors, unquoted_errors, attribute_part, space, solidus, bare, no_value, unquoted, quoted, unclosed}
 use Rattle.names.specs.declared.error.ErrorCode.TheVariants.{MissingWhitespaceBetweenAttributes, UnexpectedSolidusInTag}
 use Rattle.names.specs.Placed.{error_if}
 use Rattle.hmarkup.proofs.Characters.{quote_is, quote_not_space}
@@ -35,13 +35,9 @@ nothing_kind : (rest : List Placed) → stops is_greater rest ≡ true → (kind
 nothing_kind [] h = (refl, refl)
 nothing_kind (p ∷ ps) h = (ap (λ (b : Bool). kind_by b (is_quote p.ch)) h, ap is_space (eqb-true p.ch 62 h))
 
-plain_by : (a b c : Bool) → not ((a || b) || c) ≡ true → (kind_by b c ≡ Plain) × (a ≡ false)
-plain_by false false false h = (refl, refl)
-plain_by _ _ _ h = absurd (false≢true h)
-
 plain_kind : (text : List Placed) → begins (λ c. not (ends_unquoted c || is_quote c)) text ≡ true → (kind_of text ≡ Plain) × (begins is_space text ≡ false)
 plain_kind [] h = absurd (false≢true h)
-plain_kind (p ∷ ps) h = plain_by (is_space p.ch) (is_greater p.ch) (is_quote p.ch) h
+plain_kind (p ∷ ps) h = (grind (arith, nat_tests), grind (arith, nat_tests))
 
 quoted_kind : (q : Placed) (more : List Placed) → is_quote q.ch ≡ true → (kind_of (q ∷ more) ≡ Quoted) × (is_space q.ch ≡ false)
 quoted_kind q more h = (quote_is q.ch h (λ c. kind_by (is_greater c) (is_quote c) ≡ Quoted) refl refl, quote_not_space q.ch h)
@@ -152,16 +148,13 @@ split_sign : (sign : List Placed) → is_sign sign ≡ true → IsSplitSign sign
 split_sign [] h = absurd (false≢true h)
 split_sign (p ∷ ps) h = split_by p ps (is_space p.ch) refl (split_sign ps) h
 
-equals_no_space : (p : Placed) (more : List Placed) → p.ch ≡ 61 → begins is_space (p ∷ more) ≡ false
-equals_no_space p more h = ap is_space h
-
 one_sign : (sign sign' x x' : List Placed) → is_sign sign ≡ true → is_sign sign' ≡ true → begins is_space x ≡ false → begins is_space x' ≡ false → sign ++ x ≡ sign' ++ x' → (sign ≡ sign') × (x ≡ x')
 one_sign sign sign' x x' h h' s s' e =
     let k = split_sign sign h in
     let k' = split_sign sign' h' in
     let whole : k.front ++ (k.equals ∷ (k.back ++ x)) ≡ k'.front ++ (k'.equals ∷ (k'.back ++ x')) =
     sym (append_assoc k.front (k.equals ∷ k.back) x) ∙ ap (λ (y : List Placed). y ++ x) (sym k.sign_is) ∙ e ∙ ap (λ (y : List Placed). y ++ x') k'.sign_is ∙ append_assoc k'.front (k'.equals ∷ k'.back) x' in
-    let fronts = one_run is_space k.front (k.equals ∷ (k.back ++ x)) k'.front (k'.equals ∷ (k'.back ++ x')) k.front_spaces (equals_no_space k.equals (k.back ++ x) k.equals_is) k'.front_spaces (equals_no_space k'.equals (k'.back ++ x') k'.equals_is) whole in
+    let fronts = one_run is_space k.front (k.equals ∷ (k.back ++ x)) k'.front (k'.equals ∷ (k'.back ++ x')) k.front_spaces (ap is_space k.equals_is) k'.front_spaces (ap is_space k'.equals_is) whole in
     let backs = one_run is_space k.back x k'.back x' k.back_spaces s k'.back_spaces s' (tails k.equals k'.equals (k.back ++ x) (k'.back ++ x') fronts.1) in (
       k.sign_is ∙ ap (λ (y : List Placed). y ++ (k.equals ∷ k.back)) fronts.0 ∙ ap (λ (p : Placed). k'.front ++ (p ∷ k.back)) (heads k.equals k'.equals (k.back ++ x) (k'.back ++ x') fronts.1)
           ∙ ap (λ (y : List Placed). k'.front ++ (k'.equals ∷ y)) backs.0 ∙ sym k'.sign_is,
@@ -169,14 +162,9 @@ one_sign sign sign' x x' h h' s s' e =
     )
 
 -- a sign is past white space
-has_by : (p : Placed) (ps x : List Placed) (b : Bool) → (is_sign ps ≡ true → begins is_equals (past is_space (ps ++ x)) ≡ true)
-    → (begins is_equals (if not b then p ∷ ps else past is_space ps) && all is_space (drop 1 (if not b then p ∷ ps else past is_space ps))) ≡ true → begins is_equals (if not b then p ∷ (ps ++ x) else past is_space (ps ++ x)) ≡ true
-has_by p ps x true next h = next h
-has_by p ps x false next h = (and_parts (is_equals p.ch) (all is_space ps) h).0
-
 sign_follows : (sign x : List Placed) → is_sign sign ≡ true → begins is_equals (past is_space (sign ++ x)) ≡ true
 sign_follows [] x h = absurd (false≢true h)
-sign_follows (p ∷ ps) x h = has_by p ps x (is_space p.ch) (sign_follows ps x) h
+sign_follows (p ∷ ps) x h = grind (arith, nat_tests, sign_follows ps x)
 
 -- ATTRIBUTES
 
@@ -206,7 +194,7 @@ one_name [] name' after after' h h' e = absurd (false≢true h.first)
 one_name (p ∷ ps) [] after after' h h' e = absurd (false≢true h'.first)
 one_name (p ∷ ps) (q ∷ qs) after after' h h' e =
     let same = one_run (λ c. not (ends_attribute_name c)) ps after qs after' h.runs.passes_none (goes_no_further ends_attribute_name after h.runs.stops_after) h'.runs.passes_none (goes_no_further ends_attribute_name after' h'.runs.stops_after) (tails p q (ps ++ after) (qs ++ after') e) in
-    (ap (λ (x : Placed). x ∷ ps) (heads p q (ps ++ after) (qs ++ after') e) ∙ ap (λ (x : List Placed). q ∷ x) same.0, same.1)
+    (λ i. heads p q (ps ++ after) (qs ++ after') e i ∷ same.0 i, same.1)
 
 -- PARTS
 
@@ -275,13 +263,9 @@ abbrev pub class_of : List Placed → Class
 class_of [] = End
 class_of (p ∷ ps) = class_by (is_space p.ch) (eqb p.ch 47) (is_greater p.ch)
 
-name_by : (a b c : Bool) → not ((a || b) || c) ≡ true → class_by a b c ≡ Name
-name_by false false false h = refl
-name_by _ _ _ h = absurd (false≢true h)
-
 name_class : (name more : List Placed) → begins (λ c. not (ends_name c)) name ≡ true → class_of (name ++ more) ≡ Name
 name_class [] more h = absurd (false≢true h)
-name_class (p ∷ ps) more h = name_by (is_space p.ch) (eqb p.ch 47) (is_greater p.ch) h
+name_class (p ∷ ps) more h = grind (arith, nat_tests)
 
 space_class : (p : Placed) (more : List Placed) → is_space p.ch ≡ true → class_of (p ∷ more) ≡ Space
 space_class p more h = ap (λ (b : Bool). class_by b (eqb p.ch 47) (is_greater p.ch)) h
@@ -291,9 +275,6 @@ solidus_class p more h = ap (λ (c : ℕ). class_by (is_space c) (eqb c 47) (is_
 
 attribute_whole : (name others rest : List Placed) (value : List ℕ) (errors : List ParseError) (part : Part) → part ≡ attribute_part name others value errors → part.text ++ rest ≡ name ++ (others ++ rest)
 attribute_whole name others rest value errors part is = ap (λ (x : Part). x.text ++ rest) is ∙ append_assoc name others rest
-
-attribute_same : (name name' others others' : List Placed) (value value' : List ℕ) (errors errors' : List ParseError) → name ≡ name' → others ≡ others' → value ≡ value' → errors ≡ errors' → attribute_part name others value errors ≡ attribute_part name' others' value' errors'
-attribute_same name name' others others' value value' errors errors' a b c d = cc
 
 module _ (table : Entities) (end : ℕ) where
   module _ (rest rest' : List Placed) (part part' : Part) (e : part.text ++ rest ≡ part'.text ++ rest') where
@@ -311,7 +292,7 @@ module _ (table : Entities) (end : ℕ) where
         let whole : name ++ (others ++ rest) ≡ name' ++ (others' ++ rest') = sym (attribute_whole name others rest value errors part is) ∙ e ∙ attribute_whole name' others' rest' value' errors' part' is' in
         let names = one_name name name' (others ++ rest) (others' ++ rest') n n' whole in
         let same = one_attribute table end rest rest' others others' value value' errors errors' names.1 a a' in
-        (is ∙ attribute_same name name' others others' value value' errors errors' names.0 same.tails_are same.values same.errors_are ∙ sym is', same.rests)
+        (is ∙ (λ i. attribute_part (names.0 i) (same.tails_are i) (same.values i) (same.errors_are i)) ∙ sym is', same.rests)
     one_normal (a_space p s is) (a_solidus p' s' n' is') =
         let no_way = differ Space Solidus (p ∷ rest) (p' ∷ rest') (ap (λ (x : Part). x.text ++ rest) is) (ap (λ (x : Part). x.text ++ rest') is') (space_class p rest s) (solidus_class p' rest' s') in absurd cc
     one_normal (a_space p s is) (an_attribute name' others' value' errors' n' a' is') =

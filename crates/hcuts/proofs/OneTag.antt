@@ -18,7 +18,7 @@ module _ (table : Entities) (end : ℕ) where
   one_list (p ∷ ps) (q ∷ qs) rest rest' h h' n n' e =
       let same = one_part table end (parts_text ps ++ rest) (parts_text qs ++ rest') p q h.0 h'.0 (sym (append_assoc p.text (parts_text ps) rest) ∙ e ∙ append_assoc q.text (parts_text qs) rest') in
       let others = one_list ps qs rest rest' h.1 h'.1 n n' same.1 in
-      (ap (λ (x : Part). x ∷ ps) same.0 ∙ ap (λ (xs : List Part). q ∷ xs) others.0, others.1)
+      (λ i. same.0 i ∷ others.0 i, others.1)
 
 -- TAGS OF EITHER SIDE
 

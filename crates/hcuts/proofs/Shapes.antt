@@ -1,5 +1,5 @@
 -- What tokens a span gives: one start tag, whose name begins with a letter, or none that is refused.
-use Rattle.hcuts.proofs.Names.{arith, ◌≡◌, ℕ, Bool, true, false, cond, eqb, List, [], ◌∷◌, ◌++◌, sym, refl, ap, ◌∙◌, subst, false≢true, nat_tests, to_ascii_lowercase, Placed, RawKind, begins, is_letter, name_bytes, Entities, Piece, Tok, Start, Span, piece_span, Standing, IsTag, start_tag, end_tag, unfinished, IsDataSpan, character, reference, less_than_last, less_than_solidus_last, less_than, nothing, tag, comment, bogus_end_tag, bogus_question, bogus_cdata, bogus_declaration, doctype, IsRawSpan, IsSpanOf, IsSpan, raw_character, raw_reference, raw_end, has_refused, IsName}
+use Rattle.hcuts.proofs.Names.{arith, ◌≡◌, ℕ, Bool, true, false, List, [], ◌∷◌, ◌++◌, sym, refl, ap, ◌∙◌, subst, false≢true, nat_tests, to_ascii_lowercase, Placed, RawKind, begins, is_letter, name_bytes, Entities, Piece, Tok, Start, Span, piece_span, Standing, IsTag, start_tag, end_tag, unfinished, IsDataSpan, character, reference, less_than_last, less_than_solidus_last, less_than, nothing, tag, comment, bogus_end_tag, bogus_question, bogus_cdata, bogus_declaration, doctype, IsRawSpan, IsSpanOf, IsSpan, raw_character, raw_reference, raw_end, has_refused, IsName}
 use Rattle.std.proofs.Common.{◌<◌, map}
 use Rattle.std.proofs.lemmas.Str.{encode_ascii}
 use Rattle.std.specs.Prelude.{encode_utf8_all}
@@ -12,21 +12,13 @@ use Rattle.hcuts.specs.SomeCut.{begins_letter}
 
 -- A NAME
 
-not_null : (c : ℕ) → is_letter c ≡ true → eqb c 0 ≡ false
-not_null c h = grind (arith, nat_tests)
-
-letter_ascii : (c : ℕ) → is_letter c ≡ true → c < 128
-letter_ascii c h = grind (arith, nat_tests)
-
-lower_letter : (c : ℕ) → is_letter c ≡ true → is_letter (to_ascii_lowercase c) ≡ true
-lower_letter c h = grind (arith, nat_tests)
-
 first_letter : (c : ℕ) (others : List ℕ) → is_letter c ≡ true → begins_letter (encode_utf8_all (to_ascii_lowercase (without_null c) ∷ others)) ≡ true
 first_letter c others h =
-    let kept : without_null c ≡ c = ap (λ (b : Bool). cond b 0xFFFD c) (not_null c h) in
-    let low : is_letter (to_ascii_lowercase c) ≡ true = lower_letter c h in
+    let kept : without_null c ≡ c = grind (arith, nat_tests) in
+    let small : to_ascii_lowercase c < 128 = grind (arith, nat_tests) in
+    let low : is_letter (to_ascii_lowercase c) ≡ true = grind (arith, nat_tests) in
     ap (λ (n : ℕ). begins_letter (encode_utf8 (to_ascii_lowercase n) ++ encode_utf8_all others)) kept
-    ∙ ap (λ (x : List ℕ). begins_letter (x ++ encode_utf8_all others)) (encode_ascii (to_ascii_lowercase c) (letter_ascii (to_ascii_lowercase c) low)) ∙ low
+    ∙ ap (λ (x : List ℕ). begins_letter (x ++ encode_utf8_all others)) (encode_ascii (to_ascii_lowercase c) small) ∙ low
 
 pub name_letter : (name : List Placed) → begins is_letter name ≡ true → begins_letter (name_bytes name) ≡ true
 name_letter [] h = absurd (false≢true h)
@@ -48,7 +40,7 @@ none_refused at (c ∷ cs) = none_refused at cs
 
 no_start : (at : ℕ) (cs : List ℕ) → NoStart (map (λ (c : ℕ). Char c at) cs)
 no_start at [] = tt
-no_start at (c ∷ cs) = tt
+no_start at _ = tt
 
 shape_of : (span span' : Span) → span ≡ span' → IsShape span'.tokens → IsShape span.tokens
 shape_of span span' e h = subst (λ (s : Span). IsShape s.tokens) (sym e) h

@@ -1,5 +1,5 @@
 -- Each text is cut, and has an answer.
-use Rattle.hcuts.proofs.Names.{arith, ◌≡◌, ℕ, zero, suc, ◌≤◌, Bool, true, false, ◌&&◌, ◌||◌, eqb, List, [], ◌∷◌, ◌++◌, length, Option, Some, None, sym, refl, ap, ◌∙◌, subst, append_assoc, append-nil, false≢true, eqb-true, nat_tests, is_some, to_ascii_lowercase, Placed, RawKind, RefusedName, spells, spells_in_any_case, is_letter, refused_name, tag_named, and_parts, or_none, Entities, IsTable, Tok, Eof, Span, Standing, at_start, next, standing_after, is_end_tag_of, is_raw_end, may_end, end_errors, IsRawSpan, IsSpanOf, IsSpan, has_references, raw_character, raw_reference, raw_end, spans_text, Cut, tokens_of, errors_of, is_refused_tag, has_refused, IsOut, HasTag, IsName, some_of}
+use Rattle.hcuts.proofs.Names.{arith, ◌≡◌, ℕ, zero, suc, ◌≤◌, Bool, true, false, ◌&&◌, ◌||◌, eqb, List, [], ◌∷◌, ◌++◌, length, Option, Some, None, sym, refl, ap, ◌∙◌, subst, append_assoc, append-nil, false≢true, eqb-true, nat_tests, is_some, Placed, RawKind, RefusedName, is_letter, refused_name, tag_named, and_parts, or_none, Entities, IsTable, Tok, Eof, Span, Standing, at_start, next, standing_after, is_end_tag_of, is_raw_end, may_end, end_errors, IsRawSpan, IsSpanOf, IsSpan, has_references, raw_character, raw_reference, raw_end, spans_text, Cut, tokens_of, errors_of, has_refused, IsOut, HasTag, IsName, some_of}
 use Rattle.names.proofs.Words.{or_second}
 use Rattle.names.specs.declared.raw.RawKind.TheVariants as kind
 use Rattle.hcuts.specs.SomeCut.{HasCut, HasAnswer, gives, refuses, SomeSpan, SomeCut, SomeAnswer}
@@ -19,26 +19,17 @@ record HasRaw (table : Entities) (end : ℕ) (here : Standing) (text : List Plac
   is_span : IsRawSpan table end here rest span
   long : 1 ≤ length span.text
 
-letter_of : (r c : ℕ) → to_ascii_lowercase r ≡ c → is_letter c ≡ true → is_letter r ≡ true
-letter_of r c g h = grind (arith, nat_tests)
-
-three_parts : (a b c : Bool) → (a && b && c) ≡ true → (a ≡ true) × (b ≡ true)
-three_parts a b c h = (grind (arith, nat_tests), grind (arith, nat_tests))
-
 module _ (table : Entities) (is_table : IsTable table) (end : ℕ) where
-  tag_here : (p q r : Placed) (rs : List Placed) (c : ℕ) → p.ch ≡ 60 → q.ch ≡ 47 → to_ascii_lowercase r.ch ≡ c → is_letter c ≡ true → HasTag table end (p ∷ q ∷ r ∷ rs)
-  tag_here p q r rs c h k l m = some_tag table is_table end Ends (p ∷ q ∷ []) r rs (ap (λ (n : ℕ). n ∷ q.ch ∷ []) h ∙ ap (λ (n : ℕ). 60 ∷ n ∷ []) k) (letter_of r.ch c l m)
-
   -- an end tag of a name that begins with a letter is a tag
   end_tag_here : (name : Option (List ℕ)) (text : List Placed) → IsName name → is_end_tag_of name text ≡ true → HasTag table end text
   end_tag_here (Some []) text n h = absurd (false≢true n)
-  end_tag_here (Some (c ∷ cs)) (p ∷ []) n h = absurd (false≢true (and_parts (eqb p.ch 60) false (three_parts (spells (60 ∷ 47 ∷ []) (p ∷ [])) (spells_in_any_case (c ∷ cs) []) _ h).0).1)
-  end_tag_here (Some (c ∷ cs)) (p ∷ q ∷ []) n h = absurd (false≢true (three_parts (spells (60 ∷ 47 ∷ []) (p ∷ q ∷ [])) (spells_in_any_case (c ∷ cs) []) _ h).1)
+  end_tag_here (Some (c ∷ cs)) (p ∷ []) n h = absurd (grind arith)
+  end_tag_here (Some (c ∷ cs)) (p ∷ q ∷ []) n h = absurd (grind arith)
   end_tag_here (Some (c ∷ cs)) (p ∷ q ∷ r ∷ rs) n h =
-      let k = three_parts (spells (60 ∷ 47 ∷ []) (p ∷ q ∷ r ∷ rs)) (spells_in_any_case (c ∷ cs) (r ∷ rs)) _ h in
-      let marks = and_parts (eqb p.ch 60) (eqb q.ch 47 && true) k.0 in
-      tag_here p q r rs c (eqb-true p.ch 60 marks.0) (eqb-true q.ch 47 (and_parts (eqb q.ch 47) true marks.1).0)
-      (eqb-true (to_ascii_lowercase r.ch) c (and_parts (eqb (to_ascii_lowercase r.ch) c) (spells_in_any_case cs rs) k.1).0) n
+      let less : p.ch ≡ 60 = grind (arith, nat_tests) in
+      let solidus : q.ch ≡ 47 = grind (arith, nat_tests) in
+      let letter : is_letter r.ch ≡ true = grind (arith, nat_tests) in
+      some_tag table is_table end Ends (p ∷ q ∷ []) r rs (λ i. less i ∷ solidus i ∷ []) letter
   end_tag_here _ _ n h = absurd (false≢true h)
 
   module _ (here : Standing) (named : IsName here.name) where
@@ -55,12 +46,9 @@ module _ (table : Entities) (is_table : IsTable table) (end : ℕ) where
         record { span = k.span; rest = k.rest; text_is = k.text_is; is_span = raw_end (ap (is_raw_end here) (sym k.text_is) ∙ e) k.is_tag; long = k.long }
     raw_by p ps false e = raw_char p ps (has_references here.kind && eqb p.ch 38) refl e
 
-    raw_here : (p : Placed) (ps : List Placed) → HasRaw table end here (p ∷ ps)
-    raw_here p ps = raw_by p ps (is_raw_end here (p ∷ ps)) refl
-
     span_by : (p : Placed) (ps : List Placed) (k : RawKind) → (span : Span) × (rest : List Placed) × (p ∷ ps ≡ span.text ++ rest) × IsSpanOf k table end here rest span × (1 ≤ length span.text)
     span_by p ps kind.None = let k = some_data_span table is_table end p ps in (k.span, k.rest, k.text_is, k.is_span, k.long)
-    span_by p ps _ = let k = raw_here p ps in (k.span, k.rest, k.text_is, k.is_span, k.long)
+    span_by p ps _ = let k = raw_by p ps (is_raw_end here (p ∷ ps)) refl in (k.span, k.rest, k.text_is, k.is_span, k.long)
 
 pub some_span : SomeSpan
 some_span table end here p text is_table named =
@@ -87,17 +75,12 @@ some_cut table start text end is_table = cut_by table is_table end (length text)
 
 -- ANSWERS
 
-or_assoc : (a b c : Bool) → (a || (b || c)) ≡ ((a || b) || c)
-or_assoc true b c = refl
-or_assoc false b c = refl
-
 refused_append : (xs ys : List Tok) → has_refused (xs ++ ys) ≡ (has_refused xs || has_refused ys)
 refused_append [] ys = refl
-refused_append (x ∷ xs) ys = ap (λ (b : Bool). is_refused_tag x || b) (refused_append xs ys) ∙ or_assoc (is_refused_tag x) (has_refused xs) (has_refused ys)
+refused_append (x ∷ xs) ys = grind (arith, refused_append xs ys)
 
 first_only : (b : Bool) → (b || false) ≡ true → b ≡ true
-first_only true h = refl
-first_only false h = h
+first_only b h = grind arith
 
 record HasName (found : Option RefusedName) : Type 0 where
   name : RefusedName

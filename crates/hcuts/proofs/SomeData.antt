@@ -1,5 +1,5 @@
 -- A span of data is at the front of each text but the empty one.
-use Rattle.hcuts.proofs.Names.{arith, ◌≡◌, ℕ, ◌≤◌, Bool, true, false, not, ◌&&◌, ◌||◌, eqb, List, [], ◌∷◌, ◌++◌, length, sym, refl, ap, ◌∙◌, subst, codes, append_assoc, append-nil, false≢true, eqb-true, to_ascii_lowercase, ParseError, Placed, characters, lowered, begins, spells, spells_in_any_case, is_letter, is_greater, IsBogus, closed_bogus, and_parts, or_none, Entities, IsTable, Span, IsDataSpan, character, reference, less_than_last, less_than_solidus_last, less_than, nothing, tag, comment, bogus_end_tag, bogus_question, bogus_cdata, bogus_declaration, doctype, is_cdata, is_declaration, some_of}
+use Rattle.hcuts.proofs.Names.{nat_tests, arith, ◌≡◌, ℕ, ◌≤◌, Bool, true, false, not, ◌&&◌, ◌||◌, eqb, List, [], ◌∷◌, ◌++◌, length, sym, refl, ap, ◌∙◌, subst, codes, append_assoc, append-nil, false≢true, eqb-true, to_ascii_lowercase, ParseError, Placed, characters, lowered, begins, spells, spells_in_any_case, is_letter, is_greater, IsBogus, closed_bogus, and_parts, or_none, Entities, IsTable, Span, IsDataSpan, character, reference, less_than_last, less_than_solidus_last, less_than, nothing, tag, comment, bogus_end_tag, bogus_question, bogus_cdata, bogus_declaration, doctype, is_cdata, is_declaration, some_of}
 use Rattle.hmarkup.specs.declared.comment.CommentKind.TheVariants as comments
 use Rattle.hmarkup.specs.Comment.{unclosed_bogus}
 use Rattle.hmarkup.proofs.SomeSpan.{some_span, some_doctype}
@@ -18,13 +18,13 @@ pub record HasData (table : Entities) (end : ℕ) (text : List Placed) : Type 0 
   pub long : 1 ≤ length span.text
 
 -- marks at the front of a text
-record IsMarkedBy (cs : List ℕ) (text : List Placed) : Type 0 where
+record IsMarkedBy (view : List Placed → List ℕ) (cs : List ℕ) (text : List Placed) : Type 0 where
   mark : List Placed
   more : List Placed
   text_is : text ≡ mark ++ more
-  is : characters mark ≡ cs
+  is : view mark ≡ cs
 
-marked_by : (cs : List ℕ) (text : List Placed) → spells cs text ≡ true → IsMarkedBy cs text
+marked_by : (cs : List ℕ) (text : List Placed) → spells cs text ≡ true → IsMarkedBy characters cs text
 marked_by [] text h = record { mark = []; more = text; text_is = refl; is = refl }
 marked_by (c ∷ cs) [] h = absurd (false≢true h)
 marked_by (c ∷ cs) (p ∷ ps) h =
@@ -32,13 +32,7 @@ marked_by (c ∷ cs) (p ∷ ps) h =
     let k = marked_by cs ps both.1 in
     record { mark = p ∷ k.mark; more = k.more; text_is = ap (λ (x : List Placed). p ∷ x) k.text_is; is = ap (λ (n : ℕ). n ∷ characters k.mark) (eqb-true p.ch c both.0) ∙ ap (λ (ns : List ℕ). c ∷ ns) k.is }
 
-record IsMarkedLow (cs : List ℕ) (text : List Placed) : Type 0 where
-  mark : List Placed
-  more : List Placed
-  text_is : text ≡ mark ++ more
-  is : lowered mark ≡ cs
-
-marked_low : (cs : List ℕ) (text : List Placed) → spells_in_any_case cs text ≡ true → IsMarkedLow cs text
+marked_low : (cs : List ℕ) (text : List Placed) → spells_in_any_case cs text ≡ true → IsMarkedBy lowered cs text
 marked_low [] text h = record { mark = []; more = text; text_is = refl; is = refl }
 marked_low (c ∷ cs) [] h = absurd (false≢true h)
 marked_low (c ∷ cs) (p ∷ ps) h =
@@ -51,8 +45,7 @@ bogus_some : (rest : List Placed) (contents : List ℕ) (errors : List ParseErro
 bogus_some rest contents errors p ps (closed_bogus inner close t b c d e) h = no_close inner close t c where
   no_close : (inner close : List Placed) → [] ≡ inner ++ close → characters close ≡ codes ">" → ⊥
   no_close [] [] t c = absurd cc
-  no_close [] (x ∷ xs) t c = absurd cc
-  no_close (x ∷ xs) close t c = absurd cc
+  no_close _ _ t c = absurd cc
 bogus_some rest contents errors p ps (unclosed_bogus r b d e) h = let no_way : p ∷ ps ≡ [] = h ∙ r in absurd cc
 
 bogus_begins : (test : ℕ → Bool) (rest body : List Placed) (contents : List ℕ) (errors : List ParseError) (p : Placed) (ps : List Placed) → IsBogus rest body contents errors → p ∷ ps ≡ body ++ rest → test p.ch ≡ true → begins test body ≡ true
@@ -65,15 +58,8 @@ no_greater (c ∷ cs) = not (eqb 62 c) && no_greater cs
 
 spells_before : (cs : List ℕ) (inner : List Placed) (q : Placed) (more : List Placed) → q.ch ≡ 62 → no_greater cs ≡ true → spells cs (inner ++ (q ∷ more)) ≡ true → spells cs inner ≡ true
 spells_before [] inner q more g n h = refl
-spells_before (c ∷ cs) [] q more g n h =
-    let k = and_parts (eqb q.ch c) (spells cs more) h in
-    let l = and_parts (not (eqb 62 c)) (no_greater cs) n in
-    absurd (false≢true (ap not (sym (sym (ap (λ (x : ℕ). eqb x c) g) ∙ k.0)) ∙ l.0))
-spells_before (c ∷ cs) (x ∷ xs) q more g n h =
-    let k = and_parts (eqb x.ch c) (spells cs (xs ++ (q ∷ more))) h in
-    let l = and_parts (not (eqb 62 c)) (no_greater cs) n in
-    let m = spells_before cs xs q more g l.1 k.1 in
-    ap (λ (b : Bool). b && spells cs xs) k.0 ∙ m
+spells_before (c ∷ cs) [] q more g n h = grind (arith, nat_tests)
+spells_before (c ∷ cs) (x ∷ xs) q more g n h = grind (arith, nat_tests, spells_before cs xs q more)
 
 bogus_spells : (cs : List ℕ) (rest body : List Placed) (contents : List ℕ) (errors : List ParseError) → no_greater cs ≡ true → IsBogus rest body contents errors → spells cs (body ++ rest) ≡ true → spells cs body ≡ true
 bogus_spells cs rest body contents errors n (closed_bogus inner close t b c d e) h =
@@ -83,15 +69,10 @@ bogus_spells cs rest body contents errors n (closed_bogus inner close t b c d e)
 bogus_spells cs rest body contents errors n (unclosed_bogus r b d e) h = ap (spells cs) (sym (append-nil body) ∙ ap (λ (x : List Placed). body ++ x) (sym r)) ∙ h
 
 three : (a b c : Bool) → a ≡ false → b ≡ false → c ≡ false → (a || b || c) ≡ false
-three true b c h k l = absurd (false≢true (sym h))
-three false true c h k l = absurd (false≢true (sym k))
-three false false c h k l = l
+three a b c h k l = grind arith
 
 four : (a b c d : Bool) → a ≡ false → b ≡ false → c ≡ false → d ≡ false → not (a || b || c || d) ≡ true
-four true b c d h k l m = absurd (false≢true (sym h))
-four false true c d h k l m = absurd (false≢true (sym k))
-four false false true d h k l m = absurd (false≢true (sym l))
-four false false false d h k l m = ap not m
+four a b c d h k l m = grind arith
 
 module _ (table : Entities) (is_table : IsTable table) (end : ℕ) where
   -- one character

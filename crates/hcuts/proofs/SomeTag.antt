@@ -9,7 +9,7 @@ front_long xs ys l = omega (arith, length-append xs ys, l)
 
 mark_long : (side : Side) (opening : List Placed) → characters opening ≡ mark_of side → 1 ≤ length opening
 mark_long Opens [] h = absurd cc
-mark_long Ends [] h = absurd cc
+mark_long _ [] h = absurd cc
 mark_long side (p ∷ ps) h = omega arith
 
 -- a tag of either side is one
