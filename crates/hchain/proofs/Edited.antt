@@ -1,7 +1,7 @@
 -- A number is taken out of a list that keeps where its groups are, or comes in where nothing is.
-use Rattle.hchain.proofs.Names.{◌≡◌, ◌≢◌, ℕ, suc, ◌<◌, ◌≤◌, ◌%◌, Bool, List, length, get_or, set, refl, sym, ◌∙◌, ap, subst, add-one, arith, get_or-set_same, get_or-set_other, length-set, none, last_up, numbers_of, is_in, IsChained, Link}
+use Rattle.hchain.proofs.Names.{◌≡◌, ◌≢◌, ℕ, suc, ◌<◌, ◌≤◌, ◌%◌, Bool, List, length, get_or, set, refl, sym, ◌∙◌, ap, subst, add-one, arith, get_or-set_same, get_or-set_other, length-set, none, last_up, numbers_of, is_in, IsChained, IsNext, Fit, Link}
 use Rattle.hchain.proofs.LastUp.{up-sought, up-other, up-within, up-alike}
-use Rattle.hchain.proofs.Relinked.{nth, IsNext, Fit, Differ, next-same, differ-set, not-in, group-in, length-numbers, number-at, before-at}
+use Rattle.hchain.proofs.Relinked.{nth, Differ, next-same, differ-set, not-in, group-in, length-numbers, number-at, before-at}
 
 -- the places before a number do not change with it
 up-set : (s : ℕ → Bool) (xs : List ℕ) (i n : ℕ) → last_up s (set xs i n) i ≡ last_up s xs i
@@ -45,10 +45,13 @@ module _ (last : List ℕ) (links : List Link) (i next : ℕ) (o : Out last link
   pub out-within : (nth links i).before ≤ length links
   out-within = omega (arith, o.within, out-kept, up-within (is_in (length last) ((nth links i).number % length last)) (numbers_of links) i)
 
-  pub out-next : IsNext (is_in (length last) ((nth links i).number % length last)) (set (numbers_of links) i none) i next
-  out-next =
-      next-same (is_in (length last) ((nth links i).number % length last)) (numbers_of links) (set (numbers_of links) i none) i next (length-set (numbers_of links) i none)
-      (λ j a. let ne : j ≢ i = omega arith in get_or-set_other (numbers_of links) i j none 0 ne) out-is-next
+  pub out-fit : Fit (length last) (set (numbers_of links) i none) i (record { number = (nth links i).number; before = (nth links i).before; hint = next })
+  out-fit = record {
+    before = out-before ∙ ap (λ k. last_up (is_in (length last) ((nth links i).number % length last)) (set (numbers_of links) i none) k) (sym (add-one i));
+    next =
+        next-same (is_in (length last) ((nth links i).number % length last)) (numbers_of links) (set (numbers_of links) i none) i next (length-set (numbers_of links) i none)
+        (λ j a. let ne : j ≢ i = omega arith in get_or-set_other (numbers_of links) i j none 0 ne) out-is-next;
+  }
 
 -- a link that is to be put in
 pub record In (last : List ℕ) (links : List Link) (i : ℕ) (x : Link) : Type 0 where

@@ -1,5 +1,5 @@
 -- A list of numbers that keeps where its groups are, where one number changes.
-use Rattle.hchain.proofs.Names.{◌≡◌, ◌≢◌, ℕ, zero, suc, ◌+◌, ◌-◌, ◌<◌, ◌≤◌, ◌%◌, eqb, Bool, true, false, cond, not, ◌&&◌, List, length, get_or, set, ◌⊎◌, inl, inr, refl, sym, ◌∙◌, ap, subst, add-one, arith, cases_Bool, cases_lt, false≢true, eqb-true, eqb-false, eq-eqb, false_from_ne_true, get_or-set_same, get_or-set_other, length-map, length-set, map-set, none, last_up, number_of, before_of, numbers_of, befores_of, is_in, Keep, Says, IsChained, Link}
+use Rattle.hchain.proofs.Names.{◌≡◌, ◌≢◌, ℕ, zero, suc, ◌+◌, ◌-◌, ◌<◌, ◌≤◌, ◌%◌, eqb, Bool, true, false, cond, not, ◌&&◌, List, length, get_or, set, ◌⊎◌, inl, inr, refl, sym, ◌∙◌, ap, subst, add-one, arith, cases_Bool, cases_lt, false≢true, eqb-true, eqb-false, eq-eqb, false_from_ne_true, get_or-set_same, get_or-set_other, length-map, length-set, map-set, none, last_up, number_of, before_of, numbers_of, befores_of, is_in, Keep, Says, IsChained, IsNext, Link}
 use Rattle.std.proofs.Math.ListN.{get_or-map}
 use Rattle.hchain.proofs.LastUp.{up-within, up-found, up-least, up-past, up-alike, up-alike-from}
 
@@ -23,11 +23,6 @@ until-ne len (suc n) j h ne e = ne (omega arith)
 until-other : (len next j : ℕ) → next ≤ j → 0 < next → j ≢ until len next
 until-other len zero j h some e = omega arith
 until-other len (suc n) j h some e = omega arith
-
--- the next place past an index where a number is sought; 0 is none
-pub record IsNext (s : ℕ → Bool) (xs : List ℕ) (i next : ℕ) : Type 0 where
-  pub found : 0 < next → (suc i < next) × (next ≤ length xs) × (s (get_or xs (next - 1) 0) ≡ true)
-  pub least : (j : ℕ) → i < j → j < length xs → s (get_or xs j 0) ≡ true → (0 < next) × (next ≤ suc j)
 
 module _ (w g : ℕ) where
   -- what is in a group
@@ -261,30 +256,6 @@ module _ (last new xs ys bs ds : List ℕ) (g i next v : ℕ) where
             let other : j ≢ i = eqb-false j i e in
             let is : get_or ys j 0 ≡ get_or xs j 0 = m.differ.same j other in
             kept-at keep j (omega (arith, m.differ.len)) other (λ n. some (is ∙ n)) ∙ ap (λ n. last_up (is_in (length last) (n % length last)) ys j) (sym is)
-
--- a next place, as clauses say it
-pub is-next : (s : ℕ → Bool) (xs : List ℕ) (i n len : ℕ) → len ≡ length xs → (0 < n → (i + 1 < n) × (n ≤ len) × (s (get_or xs (n - 1) 0) ≡ true)) → ((j : ℕ) → i < j → j < len → s (get_or xs j 0) ≡ true → (0 < n) × (n ≤ j + 1)) → IsNext s xs i n
-is-next s xs i n len e f l = record {
-  found = λ h. (omega (arith, (f h).0), omega (arith, (f h).1), (f h).2);
-  least = λ j a b t. (omega (arith, (l j a (omega arith) t).0), omega (arith, (l j a (omega arith) t).1));
-}
-
-pub next-found : (s : ℕ → Bool) (xs : List ℕ) (i n len : ℕ) → len ≡ length xs → IsNext s xs i n → 0 < n → (i + 1 < n) × (n ≤ len) × (s (get_or xs (n - 1) 0) ≡ true)
-next-found s xs i n len e m h = (omega (arith, (m.found h).0), omega (arith, (m.found h).1), (m.found h).2)
-
-pub next-least : (s : ℕ → Bool) (xs : List ℕ) (i n len : ℕ) → len ≡ length xs → IsNext s xs i n → (j : ℕ) → i < j → j < len → s (get_or xs j 0) ≡ true → (0 < n) × (n ≤ j + 1)
-next-least s xs i n len e m j a b t = (omega (arith, (m.least j a (omega arith) t).0), omega (arith, (m.least j a (omega arith) t).1))
-
--- what a link keeps is right for an index
-pub record Fit (w : ℕ) (ys : List ℕ) (i : ℕ) (x : Link) : Type 0 where
-  pub before : x.before ≡ last_up (is_in w (x.number % w)) ys (i + 1)
-  pub next : IsNext (is_in w (x.number % w)) ys i x.hint
-
-pub fit : (w : ℕ) (ys : List ℕ) (i : ℕ) (x : Link) (len : ℕ) → len ≡ length ys → x.before ≡ last_up (is_in w (x.number % w)) ys (i + 1)
-    → (0 < x.hint → (i + 1 < x.hint) × (x.hint ≤ len) × (is_in w (x.number % w) (get_or ys (x.hint - 1) 0) ≡ true))
-    → ((j : ℕ) → i < j → j < len → is_in w (x.number % w) (get_or ys j 0) ≡ true → (0 < x.hint) × (x.hint ≤ j + 1))
-    → Fit w ys i x
-fit w ys i x len e b f l = record { before = b; next = is-next (is_in w (x.number % w)) ys i x.hint len e f l }
 
 -- in a list that is the same past an index
 pub next-same : (s : ℕ → Bool) (xs ys : List ℕ) (i n : ℕ) → length ys ≡ length xs → ((j : ℕ) → i < j → get_or ys j 0 ≡ get_or xs j 0) → IsNext s xs i n → IsNext s ys i n

@@ -1,8 +1,8 @@
 -- What numbers keep where they move to a neighbouring place.
-use Rattle.hchain.proofs.Names.{◌≡◌, ◌≢◌, ℕ, suc, ◌+◌, ◌-◌, ◌<◌, ◌≤◌, ◌%◌, Bool, true, false, List, length, get_or, set, ◌⊎◌, inl, inr, refl, sym, ◌∙◌, ap, subst, add-one, arith, cases_lt, false≢true, get_or-set_same, get_or-set_other, length-set, set_comm, none, last_up, is_in, Link}
+use Rattle.hchain.proofs.Names.{◌≡◌, ◌≢◌, ℕ, suc, ◌+◌, ◌-◌, ◌<◌, ◌≤◌, ◌%◌, Bool, true, false, List, length, get_or, set, ◌⊎◌, inl, inr, refl, sym, ◌∙◌, ap, subst, add-one, arith, cases_lt, false≢true, get_or-set_same, get_or-set_other, length-set, set_comm, none, last_up, is_in, IsNext, Fit, Link}
 use Rattle.std.proofs.lemmas.List.{set-set}
 use Rattle.hchain.proofs.LastUp.{up-sought, up-other, up-alike}
-use Rattle.hchain.proofs.Relinked.{IsNext, Fit, next-same, group-in, not-in}
+use Rattle.hchain.proofs.Relinked.{next-same, group-in, not-in}
 
 -- for the index before, or for the next one, where nothing of its group is between
 module _ (s : ℕ → Bool) (ys : List ℕ) (i n : ℕ) (other : s (get_or ys (i + 1) 0) ≡ false) where
@@ -43,121 +43,76 @@ module _ (w : ℕ) (ys : List ℕ) (i : ℕ) (x : Link) (free : get_or ys (i + 1
     next = next-up (is_in w (x.number % w)) ys i x.hint other-here f.next;
   }
 
-pub fit-width : (w v : ℕ) (ys : List ℕ) (i : ℕ) (x : Link) → v ≡ w → Fit w ys i x → Fit v ys i x
-fit-width w v ys i x e f = subst (λ (n : ℕ). Fit n ys i x) (sym e) f
-
--- two neighbours that were taken out, the lower one first
-pub record Pair (w i : ℕ) (xs ys1 ys2 : List ℕ) (first second : Link) : Type 0 where
-  pub e1 : ys1 ≡ set xs i none
-  pub e2 : ys2 ≡ set ys1 (i + 1) none
-  pub within : i + 1 < length xs
-  pub n1 : first.number ≡ get_or xs i 0
-  pub n2 : second.number ≡ get_or ys1 (i + 1) 0
-  pub some : second.number ≢ none
-  pub f1 : Fit w ys1 i first
-  pub f2 : Fit w ys2 (i + 1) second
-
-module _ (w i : ℕ) (xs ys1 ys2 : List ℕ) (first second : Link) (p : Pair w i xs ys1 ys2 first second) where
+-- two neighbours were taken out, the lower one first, and the upper one came in below
+module _ (w i : ℕ) (xs ys1 ys2 ys3 : List ℕ) (first second : Link) (e1 : ys1 ≡ set xs i none) (e2 : ys2 ≡ set ys1 (i + 1) none) (e3 : ys3 ≡ set ys2 i second.number)
+    (within : i + 1 < length xs) (n2 : second.number ≡ get_or ys1 (i + 1) 0) where
   len1 : length ys1 ≡ length xs
-  len1 = ap length p.e1 ∙ length-set xs i none
+  len1 = ap length e1 ∙ length-set xs i none
 
   len2 : length ys2 ≡ length xs
-  len2 = ap length p.e2 ∙ length-set ys1 (i + 1) none ∙ len1
+  len2 = ap length e2 ∙ length-set ys1 (i + 1) none ∙ len1
+
+  len3 : length ys3 ≡ length xs
+  len3 = ap length e3 ∙ length-set ys2 i second.number ∙ len2
+
+  other : i + 1 ≢ i
+  other e = omega arith
 
   at1 : get_or ys1 i 0 ≡ none
-  at1 = ap (λ ys. get_or ys i 0) p.e1 ∙ get_or-set_same xs i none 0 (omega (arith, p.within))
+  at1 = ap (λ ys. get_or ys i 0) e1 ∙ get_or-set_same xs i none 0 (omega arith)
 
-  -- the index of the lower one is free ..
-  pub free-lower : get_or ys2 i 0 ≡ none
-  free-lower = let ne : i ≢ i + 1 = omega arith in ap (λ ys. get_or ys i 0) p.e2 ∙ get_or-set_other ys1 (i + 1) i none 0 ne ∙ at1
+  at3 : get_or ys3 i 0 ≡ second.number
+  at3 = ap (λ ys. get_or ys i 0) e3 ∙ get_or-set_same ys2 i second.number 0 (omega (arith, len2))
 
-  free-upper2 : get_or ys2 (i + 1) 0 ≡ none
-  free-upper2 = ap (λ ys. get_or ys (i + 1) 0) p.e2 ∙ get_or-set_same ys1 (i + 1) none 0 (omega (arith, p.within, len1))
+  free-upper : get_or ys3 (i + 1) 0 ≡ none
+  free-upper =
+      ap (λ ys. get_or ys (i + 1) 0) e3 ∙ get_or-set_other ys2 i (i + 1) second.number 0 other ∙ ap (λ ys. get_or ys (i + 1) 0) e2
+      ∙ get_or-set_same ys1 (i + 1) none 0 (omega (arith, len1))
 
-  pub fit-lower : (v : ℕ) → v ≡ w → Fit v ys2 i second
-  fit-lower v width = fit-width w v ys2 i second width (fit-down w ys2 i second free-upper2 p.f2)
+  same-past2 : (j : ℕ) → j ≢ i → get_or ys3 j 0 ≡ get_or ys2 j 0
+  same-past2 j ne = ap (λ ys. get_or ys j 0) e3 ∙ get_or-set_other ys2 i j second.number 0 ne
 
-  -- and, where the upper one came in below, that of the upper one
-  module _ (ys3 : List ℕ) (e3 : ys3 ≡ set ys2 i second.number) where
-    len3 : length ys3 ≡ length xs
-    len3 = ap length e3 ∙ length-set ys2 i second.number ∙ len2
+  same-past1 : (j : ℕ) → j ≢ i → j ≢ i + 1 → get_or ys3 j 0 ≡ get_or ys1 j 0
+  same-past1 j ne nf = same-past2 j ne ∙ ap (λ ys. get_or ys j 0) e2 ∙ get_or-set_other ys1 (i + 1) j none 0 nf
 
-    pub free-upper : get_or ys3 (i + 1) 0 ≡ none
-    free-upper = let ne : i + 1 ≢ i = omega arith in ap (λ ys. get_or ys (i + 1) 0) e3 ∙ get_or-set_other ys2 i (i + 1) second.number 0 ne ∙ free-upper2
+  -- both are of one group
+  pub fit-same : second.number ≢ none → Fit w ys2 (i + 1) second → first.number % w ≡ second.number % w → Fit w ys3 (i + 1) (record { number = first.number; before = i + 1; hint = second.hint })
+  fit-same some f group =
+      let s : ℕ → Bool = is_in w (second.number % w) in
+      let sought : s (get_or ys3 i 0) ≡ true = ap s at3 ∙ group-in w (second.number % w) second.number some refl in
+      let up : last_up s ys3 (i + 1 + 1) ≡ i + 1 = up-down s ys3 i second.hint (ap s free-upper) ∙ ap (λ k. last_up s ys3 k) (add-one i) ∙ up-sought s ys3 i sought ∙ sym (add-one i) in
+      record {
+        before = sym up ∙ ap (λ k. last_up (is_in w k) ys3 (i + 1 + 1)) (sym group);
+        next =
+            subst (λ (k : ℕ). IsNext (is_in w k) ys3 (i + 1) second.hint) (sym group)
+            (next-same s ys2 ys3 (i + 1) second.hint (len3 ∙ sym len2) (λ j a. same-past2 j (λ e. omega arith)) f.next);
+      }
 
-    at3 : get_or ys3 i 0 ≡ second.number
-    at3 = ap (λ ys. get_or ys i 0) e3 ∙ get_or-set_same ys2 i second.number 0 (omega (arith, p.within, len2))
+  -- they are of two groups
+  pub fit-other : Fit w ys1 i first → first.number % w ≢ second.number % w → Fit w ys3 (i + 1) first
+  fit-other f group = record {
+    before = f.before ∙ sym (up-down s ys3 i first.hint (ap s free-upper) ∙ up-alike s ys1 ys3 (i + 1) (λ j a. alike j a (cases_lt j i)));
+    next = next-same s ys1 ys3 (i + 1) first.hint (len3 ∙ sym len1) (λ j a. same-past1 j (λ e. omega arith) (λ e. omega arith)) (next-up s ys1 i first.hint (sym (ap s n2) ∙ not-second) f.next);
+  }
+    where
+      s : ℕ → Bool
+      s = is_in w (first.number % w)
 
-    same-past2 : (j : ℕ) → i + 1 < j → get_or ys3 j 0 ≡ get_or ys2 j 0
-    same-past2 j a = let ne : j ≢ i = omega arith in ap (λ ys. get_or ys j 0) e3 ∙ get_or-set_other ys2 i j second.number 0 ne
+      not-second : is_in w (first.number % w) second.number ≡ false
+      not-second = not-in w (second.number % w) (first.number % w) second.number group refl
 
-    same-past1 : (j : ℕ) → j ≢ i → j ≢ i + 1 → get_or ys3 j 0 ≡ get_or ys1 j 0
-    same-past1 j ne nf =
-        ap (λ ys. get_or ys j 0) e3 ∙ get_or-set_other ys2 i j second.number 0 ne ∙ ap (λ ys. get_or ys j 0) p.e2 ∙ get_or-set_other ys1 (i + 1) j none 0 nf
+      alike : (j : ℕ) → j < i + 1 → (j < i) ⊎ (i ≤ j) → is_in w (first.number % w) (get_or ys3 j 0) ≡ is_in w (first.number % w) (get_or ys1 j 0)
+      alike j a (inl less) = ap (is_in w (first.number % w)) (same-past1 j (λ e. omega arith) (λ e. omega arith))
+      alike j a (inr more) =
+          let here : j ≡ i = omega arith in
+          subst (λ (k : ℕ). is_in w (first.number % w) (get_or ys3 k 0) ≡ is_in w (first.number % w) (get_or ys1 k 0)) (sym here)
+          (ap (is_in w (first.number % w)) at3 ∙ not-second ∙ sym (ap (is_in w (first.number % w)) at1))
 
-    up-second : last_up (is_in w (second.number % w)) ys3 (i + 1 + 1) ≡ i + 1
-    up-second =
-        let s : ℕ → Bool = is_in w (second.number % w) in
-        let sought : s (get_or ys3 i 0) ≡ true = ap s at3 ∙ group-in w (second.number % w) second.number p.some refl in
-        up-down s ys3 i second.hint (ap s free-upper) ∙ ap (λ k. last_up s ys3 k) (add-one i) ∙ up-sought s ys3 i sought ∙ sym (add-one i)
-
-    -- both are of one group
-    same-group : first.number % w ≡ second.number % w → Fit w ys3 (i + 1) (record { number = first.number; before = i + 1; hint = second.hint })
-    same-group group =
-        let next2 : IsNext (is_in w (second.number % w)) ys3 (i + 1) second.hint =
-        next-same (is_in w (second.number % w)) ys2 ys3 (i + 1) second.hint (len3 ∙ sym len2) (λ j a. same-past2 j a) p.f2.next in
-        record {
-          before = sym up-second ∙ ap (λ k. last_up (is_in w k) ys3 (i + 1 + 1)) (sym group);
-          next = subst (λ (k : ℕ). IsNext (is_in w k) ys3 (i + 1) second.hint) (sym group) next2;
-        }
-
-    pub fit-same : (v : ℕ) → v ≡ w → first.number % v ≡ second.number % v → Fit v ys3 (i + 1) (record { number = first.number; before = i + 1; hint = second.hint })
-    fit-same v width group =
-        let group2 : first.number % w ≡ second.number % w = subst (λ (n : ℕ). first.number % n ≡ second.number % n) width group in
-        fit-width w v ys3 (i + 1) (record { number = first.number; before = i + 1; hint = second.hint }) width (same-group group2)
-
-    -- they are of two groups
-    other-group : first.number % w ≢ second.number % w → Fit w ys3 (i + 1) first
-    other-group group = record {
-      before = p.f1.before ∙ sym (up-down s ys3 i first.hint (ap s free-upper) ∙ up-alike s ys1 ys3 (i + 1) (λ j a. alike j a (cases_lt j i)));
-      next = next-same s ys1 ys3 (i + 1) first.hint (len3 ∙ sym len1) (λ j a. past j a) (next-up s ys1 i first.hint not-first p.f1.next);
-    }
-      where
-        s : ℕ → Bool
-        s = is_in w (first.number % w)
-
-        not-second : is_in w (first.number % w) second.number ≡ false
-        not-second = not-in w (second.number % w) (first.number % w) second.number group refl
-
-        not-first : is_in w (first.number % w) (get_or ys1 (i + 1) 0) ≡ false
-        not-first = sym (ap (λ n. is_in w (first.number % w) n) p.n2) ∙ not-second
-
-        past : (j : ℕ) → i + 1 < j → get_or ys3 j 0 ≡ get_or ys1 j 0
-        past j a =
-            let ne : j ≢ i = omega arith in
-            let nf : j ≢ i + 1 = omega arith in
-            same-past1 j ne nf
-
-        alike : (j : ℕ) → j < i + 1 → (j < i) ⊎ (i ≤ j) → is_in w (first.number % w) (get_or ys3 j 0) ≡ is_in w (first.number % w) (get_or ys1 j 0)
-        alike j a (inl less) =
-            let ne : j ≢ i = omega arith in
-            let nf : j ≢ i + 1 = omega arith in
-            ap (λ n. is_in w (first.number % w) n) (same-past1 j ne nf)
-        alike j a (inr more) =
-            let here : j ≡ i = omega arith in
-            subst (λ (k : ℕ). is_in w (first.number % w) (get_or ys3 k 0) ≡ is_in w (first.number % w) (get_or ys1 k 0)) (sym here)
-            (ap (λ n. is_in w (first.number % w) n) at3 ∙ not-second ∙ sym (ap (λ n. is_in w (first.number % w) n) at1))
-
-    pub fit-other : (v : ℕ) → v ≡ w → first.number % v ≢ second.number % v → Fit v ys3 (i + 1) first
-    fit-other v width group =
-        fit-width w v ys3 (i + 1) first width (other-group (λ same. group (subst (λ (n : ℕ). first.number % n ≡ second.number % n) (sym width) same)))
-
-    -- what comes out in the end
-    pub exchanged : set ys3 (i + 1) first.number ≡ set (set xs i (get_or xs (i + 1) 0)) (i + 1) (get_or xs i 0)
-    exchanged =
-        let ne : i + 1 ≢ i = omega arith in
-        let second_is : second.number ≡ get_or xs (i + 1) 0 = p.n2 ∙ ap (λ ys. get_or ys (i + 1) 0) p.e1 ∙ get_or-set_other xs i (i + 1) none 0 ne in
-        let lower : set ys1 i second.number ≡ set xs i second.number = ap (λ ys. set ys i second.number) p.e1 ∙ set-set xs i none second.number in
-        let three : ys3 ≡ set (set xs i second.number) (i + 1) none =
-        e3 ∙ ap (λ ys. set ys i second.number) p.e2 ∙ set_comm ys1 (i + 1) i none second.number ne ∙ ap (λ ys. set ys (i + 1) none) lower in
-        ap (λ ys. set ys (i + 1) first.number) three ∙ set-set (set xs i second.number) (i + 1) none first.number ∙ (λ t. set (set xs i (second_is t)) (i + 1) (p.n1 t))
+  -- what comes out in the end
+  pub exchanged : first.number ≡ get_or xs i 0 → set ys3 (i + 1) first.number ≡ set (set xs i (get_or xs (i + 1) 0)) (i + 1) (get_or xs i 0)
+  exchanged n1 =
+      let second_is : second.number ≡ get_or xs (i + 1) 0 = n2 ∙ ap (λ ys. get_or ys (i + 1) 0) e1 ∙ get_or-set_other xs i (i + 1) none 0 other in
+      let lower : set ys1 i second.number ≡ set xs i second.number = ap (λ ys. set ys i second.number) e1 ∙ set-set xs i none second.number in
+      let three : ys3 ≡ set (set xs i second.number) (i + 1) none =
+      e3 ∙ ap (λ ys. set ys i second.number) e2 ∙ set_comm ys1 (i + 1) i none second.number other ∙ ap (λ ys. set ys (i + 1) none) lower in
+      ap (λ ys. set ys (i + 1) first.number) three ∙ set-set (set xs i second.number) (i + 1) none first.number ∙ (λ t. set (set xs i (second_is t)) (i + 1) (n1 t))

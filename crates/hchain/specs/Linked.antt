@@ -1,6 +1,6 @@
 -- What is kept of a list of numbers: the numbers that leave the same remainder are a group, and each keeps the nearest place before it
 -- where one of its group is.
-use Rattle.std.specs.Prelude.{◌≡◌, ◌≢◌, ℕ, ◌+◌, ◌-◌, ◌<◌, ◌≤◌, ◌^◌, ◌%◌, ◌==◌, ◌&&◌, Bool, IsTrue, not, List, length, map, slice_index}
+use Rattle.std.specs.Prelude.{◌≡◌, ◌≢◌, ℕ, suc, ◌+◌, ◌-◌, ◌<◌, ◌≤◌, ◌^◌, ◌%◌, ◌==◌, ◌&&◌, Bool, true, not, List, length, map, slice_index}
 use Rattle.hchain.specs.Chains.{none, last_up}
 use Rattle.hchain.specs.declared.chains.Link.{Link}
 
@@ -24,15 +24,15 @@ is_in width group n = not (n == none) && n % width == group
 abbrev pub group_of : (width number : ℕ) → ℕ → Bool
 group_of width number = is_in width (number % width)
 
--- a place, if it is one, comes after an index, among this many numbers, and what is sought is there
-abbrev pub StandsAfter : (ℕ → Bool) → (count : ℕ) → (numbers : List ℕ) → (index place : ℕ) → Type 0
-StandsAfter sought count numbers index place =
-    0 < place → (index + 1 < place) × (place ≤ count) × IsTrue (sought (slice_index numbers (place - 1)))
+-- the next place past an index where a number is sought; 0 is none
+pub record IsNext (sought : ℕ → Bool) (numbers : List ℕ) (index place : ℕ) : Type 0 where
+  pub found : 0 < place → (suc index < place) × (place ≤ length numbers) × (sought (slice_index numbers (place - 1)) ≡ true)
+  pub least : (j : ℕ) → index < j → j < length numbers → sought (slice_index numbers j) ≡ true → (0 < place) × (place ≤ suc j)
 
--- what is sought is nowhere after an index and before a place; nor after the index at all where the place is 0
-abbrev pub NoneBetween : (ℕ → Bool) → (count : ℕ) → (numbers : List ℕ) → (index place : ℕ) → Type 0
-NoneBetween sought count numbers index place =
-    (j : ℕ) → index < j → j < count → IsTrue (sought (slice_index numbers j)) → (0 < place) × (place ≤ j + 1)
+-- what a link keeps is right for an index of the numbers: the nearest place of its group up to there, and the next one
+pub record Fit (width : ℕ) (numbers : List ℕ) (index : ℕ) (x : Link) : Type 0 where
+  pub before : x.before ≡ last_up (group_of width x.number) numbers (index + 1)
+  pub next : IsNext (group_of width x.number) numbers index x.hint
 
 -- each number keeps the nearest place before it where one of its group is
 abbrev pub Keep : (width : ℕ) → (numbers befores : List ℕ) → Type 0

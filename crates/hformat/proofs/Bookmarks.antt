@@ -1,6 +1,5 @@
 -- When there is an entry of a node, and a bookmark stays in the list.
-use Rattle.std.proofs.lemmas.Bool.Decides.{nat_tests}
-use Rattle.hformat.proofs.Names.{arith, ◌≡◌, ℕ, true, false, IsTrue, not, eqb, List, [], ◌∷◌, Option, is_some, refl, ◌∙◌, list_any, option_map, not-true, Listed, marker, entry, entry_of, is_entry, has_bookmark, After, without}
+use Rattle.hformat.proofs.Names.{arith, ◌≡◌, ℕ, true, false, IsTrue, not, eqb, List, [], ◌∷◌, Option, is_some, refl, ◌∙◌, list_any, option_map, not-true, Listed, marker, entry, entry_of, is_entry, has_bookmark, After, without, nat_tests}
 
 module _ {N : Type 0} where
   pub any-is_entry : (n : ℕ) (items : List (Listed N)) → list_any (is_entry n) items ≡ is_some (entry_of n items)

@@ -1,8 +1,5 @@
 -- Only the entries with its hash can be equal to an entry.
-use Rattle.std.proofs.lemmas.Bool.Decides.{nat_tests}
-use Rattle.hformat.proofs.Names.{add-zero, reverse, take, ◌≡◌, ℕ, zero, suc, ◌+◌, ◌-◌, ◌<◌, ◌≤◌, eqb, Bool, true, false, cond, List, [], ◌∷◌, Option, Some, length, map, filter, drop, get_or, refl, sym, ◌∙◌, ap, arith, if◌then◌else◌, slice_get, option_map_or, eqb-suc-zero, drop-map, take-map, get_or-reverse, length-map, EntryOf, Listed, marker, entry, as_entry, after_marker, number_by, item_of, items_of, Stored, drop_nearest, last_place-le}
-use Rattle.std.proofs.Math.Seq.{drop-nil}
-use Rattle.std.proofs.lemmas.List.{drop-drop, get_or-drop, length-drop}
+use Rattle.hformat.proofs.Names.{add-zero, reverse, take, ◌≡◌, ℕ, zero, suc, ◌+◌, ◌-◌, ◌<◌, ◌≤◌, eqb, Bool, true, false, cond, List, [], ◌∷◌, Option, Some, length, map, filter, drop, get_or, refl, sym, ◌∙◌, ap, arith, if◌then◌else◌, slice_get, option_map_or, eqb-suc-zero, drop-map, take-map, get_or-reverse, length-map, EntryOf, Listed, marker, entry, as_entry, after_marker, number_by, item_of, items_of, Stored, drop_nearest, last_place-le, nat_tests, drop-nil, drop-drop, get_or-drop, length-drop}
 use Rattle.hformat.proofs.Chained.{last_of}
 use Rattle.hformat.proofs.Earliest.{farthest}
 use Rattle.hformat.proofs.ItemLists.{length-items_of}

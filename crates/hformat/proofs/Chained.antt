@@ -1,6 +1,5 @@
 -- Where a number is last, in a list and in that list from its last member on; and edits of a vector in what its members are seen as.
-use Rattle.hformat.proofs.Names.{◌≡◌, ℕ, zero, suc, ◌≤◌, ◌==◌, Bool, List, [], ◌∷◌, length, reverse, take, take-suc, get_or, refl, sym, ◌∙◌, ap, arith, if◌then◌else◌, reverse-append, length-reverse, length-take-le, last_up, last_place}
-use Rattle.std.proofs.lemmas.List.{take_all}
+use Rattle.hformat.proofs.Names.{◌≡◌, ℕ, zero, suc, ◌≤◌, ◌==◌, Bool, List, [], ◌∷◌, length, reverse, take, take-suc, get_or, refl, sym, ◌∙◌, ap, arith, if◌then◌else◌, reverse-append, length-reverse, length-take-le, last_up, last_place, take_all}
 
 -- where a number is last, in a list whose last member comes first
 abbrev pub last_of : ℕ → List ℕ → ℕ

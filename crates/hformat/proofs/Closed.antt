@@ -1,10 +1,5 @@
 -- The holes of a list taken out, and the numbers of what is left.
-use Rattle.std.proofs.lemmas.Bool.Decides.{nat_tests}
-use Rattle.hformat.proofs.Names.{◌≡◌, ℕ, ◌+◌, ◌<◌, ◌≤◌, ◌==◌, Bool, true, false, not, cond, eqb, is_some, List, [], ◌∷◌, ◌++◌, length, get_or, take, drop, set, map, filter, refl, sym, ◌∙◌, ap, arith, subst, All, swap, not-true, append-nil, append_assoc, drop-map, drop-set-lt, length-append, length-take-le, map-append, take-map, swap_is, All-append, All-drop, All-get_or, All-head, All-tail, All-take, filter-append, entry_hash, none, EntryOf, IsStored, is_gone, item_of, IsListed, by_hash, by_name, by_node, number_by, numbers_by, unless_hole, Stored, Slots}
-use Rattle.std.specs.List.{between}
-use Rattle.std.proofs.lemmas.List.{drop_more, get_or-append_right, take-set-le, take_more}
-use Rattle.std.proofs.lemmas.List.Edits.{between_more, length-swap, swapped_from_swap}
-use Rattle.std.proofs.lemmas.List.Elements.{All-filter, filter_passes}
+use Rattle.hformat.proofs.Names.{◌≡◌, ℕ, ◌+◌, ◌<◌, ◌≤◌, ◌==◌, Bool, true, false, not, cond, eqb, is_some, List, [], ◌∷◌, ◌++◌, length, get_or, take, drop, set, map, filter, refl, sym, ◌∙◌, ap, arith, subst, All, swap, not-true, append-nil, append_assoc, drop-map, drop-set-lt, length-append, length-take-le, map-append, take-map, swap_is, All-append, All-drop, All-get_or, All-head, All-tail, All-take, filter-append, entry_hash, none, EntryOf, IsStored, is_gone, item_of, IsListed, by_hash, by_name, by_node, number_by, numbers_by, unless_hole, Stored, Slots, nat_tests, between, drop_more, get_or-append_right, take-set-le, take_more, between_more, length-swap, swapped_from_swap, All-filter, filter_passes}
 use Rattle.hformat.specs.declared.entry.Slot.TheVariants as stored
 use Rattle.hformat.proofs.Moved.{NoHoleFrom}
 

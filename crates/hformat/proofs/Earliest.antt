@@ -1,6 +1,5 @@
 -- The earliest of the entries after the last marker that are sought, by how many items come after it.
-use Rattle.hformat.proofs.Names.{◌≡◌, ℕ, suc, ◌+◌, ◌<◌, ◌≤◌, Bool, true, false, not, ◌&&◌, List, [], ◌∷◌, Option, Some, None, length, refl, ◌∙◌, ap, filter, arith, if◌then◌else◌, IfSome, list_any, remove, option_map, option_map_or, EntryOf, Listed, marker, entry, after_marker, without_earliest, most_equal, is_equal, with_room}
-use Rattle.std.proofs.lemmas.Bool.{le-leb, lt-leb}
+use Rattle.hformat.proofs.Names.{◌≡◌, ℕ, suc, ◌+◌, ◌<◌, ◌≤◌, Bool, true, false, not, ◌&&◌, List, [], ◌∷◌, Option, Some, None, length, refl, ◌∙◌, ap, filter, arith, if◌then◌else◌, IfSome, list_any, remove, option_map, option_map_or, EntryOf, Listed, marker, entry, after_marker, without_earliest, most_equal, is_equal, with_room, le-leb, lt-leb}
 
 module _ {N : Type 0} (sought : EntryOf N → Bool) where
   -- the farthest entry that is sought, where this many items come after the first of them; if none is, what was found before

@@ -1,15 +1,11 @@
 -- Vectors of items with holes, and where the entry of a node is in them.
-use Rattle.std.proofs.lemmas.Grind.{common_steps}
-use Rattle.std.proofs.lemmas.Bool.Decides.{nat_tests}
-use Rattle.hformat.proofs.Names.{◌≡◌, ℕ, zero, suc, ◌+◌, ◌-◌, ◌<◌, ◌≤◌, eqb, Bool, true, false, cond, not, List, [], ◌∷◌, ◌++◌, Option, Some, None, is_some, length, map, filter, take, take-suc, drop, get_or, refl, sym, ◌∙◌, ap, subst, arith, All, position, position_or_len, list_any, slice_get, find, option_and_then, option_map, eqb-zero-suc, append-nil, get_or-map, length-append, length-map, All-drop, All-take, filter-append, EntryOf, Listed, marker, entry, as_entry, entry_of, for_node, is_entry, nth_live, AreSlots, IsSlot, IsStored, hole, is_gone, is_hole, item_of, items_of, live, nowhere, told, by_node, number_by, unless_hole, changed_at, Stored, is_some-position, slice_get_nearest}
-use Rattle.std.proofs.lemmas.Bool.{lt-ltb}
-use Rattle.std.proofs.lemmas.List.{drop_at, take-append-drop, take_at}
+use Rattle.hformat.proofs.Names.{◌≡◌, ℕ, zero, suc, ◌+◌, ◌-◌, ◌<◌, ◌≤◌, eqb, Bool, true, false, cond, not, List, [], ◌∷◌, ◌++◌, Option, Some, None, is_some, length, map, filter, take, take-suc, drop, get_or, refl, sym, ◌∙◌, ap, subst, arith, All, position, position_or_len, list_any, slice_get, find, option_and_then, option_map, eqb-zero-suc, append-nil, get_or-map, length-append, length-map, All-drop, All-take, filter-append, EntryOf, Listed, marker, entry, as_entry, entry_of, for_node, is_entry, nth_live, AreSlots, IsSlot, IsStored, hole, is_gone, is_hole, item_of, items_of, live, nowhere, told, by_node, number_by, unless_hole, changed_at, Stored, is_some-position, slice_get_nearest, common_steps, nat_tests, lt-ltb, drop_at, take-append-drop, take_at, IsListed, Slots, ◌==◌, reverse, last_up, get_nearest, reverse_split}
 use Rattle.hformat.specs.declared.entry.Slot.TheVariants as stored
 use Rattle.hformat.proofs.ByHash.{last-at, number-at}
 use Rattle.hformat.proofs.ItemLists.{along_last, items_of_more, length-items_of}
 use Rattle.hformat.proofs.Live.{AllSolid, nth-none, nth-real, nth-within}
-use Rattle.hformat.proofs.Listed.{number-same, place, place-le}
-use Rattle.hchain.proofs.Nearest.{get_nearest, reverse_split}
+use Rattle.hformat.proofs.Chained.{last-is, last_of}
+use Rattle.hformat.proofs.Listed.{number-same, numbers-back, place, place-le}
 
 -- a smaller number is another
 pub apart : (a b : ℕ) → a < b → eqb a b ≡ false
@@ -101,6 +97,10 @@ module _ (of : EntryOf ℕ → ℕ) (items : List Stored) (n p : ℕ) (x : Store
 -- where the last entry of a node is
 abbrev pub node_place : ℕ → List (Listed ℕ) → ℕ
 node_place node items = place by_node (suc (suc node)) items
+
+-- as the numbers of the nodes tell it
+pub placed : (node number p : ℕ) (s : Slots) → IsListed s → number ≡ suc (suc node) → p ≡ last_up (λ k. k == number) s.nodes (length s.nodes) → p ≡ node_place node (items_of s.items.items)
+placed node number p s l e is = is ∙ last-is number s.nodes ∙ (λ i. last_of (e i) ((ap reverse l.nodes ∙ numbers-back by_node s.items.items) i))
 
 pub entry_of-is : (node : ℕ) (items : List (Listed ℕ)) → entry_of node items ≡ option_and_then as_entry (find (is_entry node) items)
 entry_of-is node [] = refl

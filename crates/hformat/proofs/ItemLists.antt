@@ -1,8 +1,5 @@
 -- What a vector of items says, from its last item on.
-use Rattle.hformat.proofs.Names.{arith, ◌≡◌, ℕ, suc, ◌+◌, get_or, false, Option, Some, None, is_some, IsTrue, List, [], ◌∷◌, ◌++◌, map, reverse, length, ap, sym, ◌∙◌, subst, reverse-append, reverse-reverse, length-reverse, length-map, Stored, list_any, position, find, Listed, is_entry, items_of, item_of, is_some-position, slice_get_nearest}
-use Rattle.std.proofs.lemmas.List.Folds.{find_at}
-use Rattle.std.proofs.lemmas.Option.{cond_some}
-use Rattle.hchain.proofs.Nearest.{reverse_push}
+use Rattle.hformat.proofs.Names.{arith, ◌≡◌, ℕ, suc, ◌+◌, get_or, false, Option, Some, None, is_some, IsTrue, List, [], ◌∷◌, ◌++◌, map, reverse, length, ap, sym, ◌∙◌, subst, reverse-append, reverse-reverse, length-reverse, length-map, Stored, list_any, position, find, Listed, is_entry, items_of, item_of, is_some-position, slice_get_nearest, find_at, cond_some, reverse_push}
 
 module _ {X : Type 0} (P : List X → Type 0) (none : P []) (more : (front : List X) (x : X) → P front → P (front ++ x ∷ [])) where
   along_turned : (ys : List X) → P (reverse ys)

@@ -1,7 +1,5 @@
 -- The numbers of the items of a list.
-use Rattle.std.proofs.lemmas.Bool.Decides.{nat_tests}
-use Rattle.hformat.proofs.Names.{◌≡◌, ℕ, suc, ◌-◌, ◌<◌, ◌≤◌, nat_eq, eqb, Bool, true, false, cond, not, List, [], ◌∷◌, None, length, map, reverse, take, drop, filter, refl, sym, ◌∙◌, ap, arith, list_any, slice_get, option_and_then, reverse-reverse, length-map, eqb-suc-zero, eqb-zero-suc, without, EntryOf, Listed, marker, entry, as_entry, cleared, find_entry, item_of, items_of, nowhere, by_name, number_by, unless_hole, Stored, reverse-map, drop_nearest, last_place-le}
-use Rattle.std.proofs.lemmas.Simd.{map-map}
+use Rattle.hformat.proofs.Names.{◌≡◌, ℕ, suc, ◌-◌, ◌<◌, ◌≤◌, nat_eq, eqb, Bool, true, false, cond, not, List, [], ◌∷◌, None, length, map, reverse, take, drop, filter, refl, sym, ◌∙◌, ap, arith, list_any, slice_get, option_and_then, reverse-reverse, length-map, eqb-suc-zero, eqb-zero-suc, without, EntryOf, Listed, marker, entry, as_entry, cleared, find_entry, item_of, items_of, nowhere, by_name, number_by, unless_hole, Stored, reverse-map, drop_nearest, last_place-le, nat_tests, map-map}
 use Rattle.hformat.proofs.Chained.{last_of}
 use Rattle.hformat.proofs.ItemLists.{length-items_of}
 

@@ -1,13 +1,11 @@
 -- An entry that moves to a bookmark.
-use Rattle.hformat.proofs.Names.{◌≡◌, ℕ, suc, ◌+◌, ◌-◌, ◌<◌, true, Some, List, length, get_or, sym, ◌∙◌, ap, arith, All, list_any, position, remove, option_map_or, get_or_default, booked, for_node, has_bookmark, is_entry, AreSlots, IsStored, item_of, items_of, live, nowhere, told, by_node, put_before, without, After, Stored}
-use Rattle.std.specs.Option.{is_some}
+use Rattle.hformat.proofs.Names.{◌≡◌, ℕ, suc, ◌+◌, ◌-◌, ◌<◌, true, Some, List, length, get_or, sym, ◌∙◌, ap, arith, All, list_any, position, remove, option_map_or, get_or_default, booked, for_node, has_bookmark, is_entry, AreSlots, IsStored, item_of, items_of, live, nowhere, told, by_node, put_before, without, After, Stored, is_some, remove_nearest}
 use Rattle.hformat.specs.declared.entry.Slot.TheVariants as stored
 use Rattle.hformat.proofs.Holes.{node-at, node-some, node_place, place-told, slots-are}
 use Rattle.hformat.proofs.ItemLists.{found_at, length-items_of}
 use Rattle.hformat.proofs.Listed.{place-le}
 use Rattle.hformat.proofs.Live.{any-live}
 use Rattle.hformat.proofs.LiveEdits.{booked-live, has_bookmark-live}
-use Rattle.hchain.proofs.Nearest.{remove_nearest}
 
 module _ (items : List Stored) (all : All IsStored items) (node p : ℕ) (low : node < nowhere) (place : p ≡ node_place node (items_of items)) (there : list_any (is_entry node) (live (items_of items)) ≡ true) where
   slots : AreSlots (items_of items)

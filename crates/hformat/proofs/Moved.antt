@@ -1,14 +1,10 @@
 -- Exchanges of neighbours in a list and what a run of them does; an entry that becomes that of another node, and where an entry
 -- is among the others.
-use Rattle.std.proofs.lemmas.Bool.Decides.{nat_tests}
-use Rattle.hformat.proofs.Names.{◌≡◌, ℕ, zero, suc, ◌+◌, ◌-◌, ◌<◌, ◌≤◌, ◌==◌, ◌⊎◌, inl, Bool, true, false, IsTrue, cond, eqb, List, [], ◌∷◌, ◌++◌, Option, Some, is_some, length, get_or, set, take, drop, map, reverse, refl, sym, ◌∙◌, ap, arith, subst, max, All, insert, list_any, position, remove, eqb-zero-suc, append_assoc, drop-set-lt, get_or-map, get_or-reverse, get_or-set_other, length-append, length-map, length-reverse, length-set, length-take-le, map-set, reverse-append, All-get_or, All-head, All-set, All-tail, last_up, none, EntryOf, for_node, is_entry, IsStored, entry_is, is_gone, item_of, items_of, nowhere, renamed, told, DefaultHasher, IsListed, by_hash, by_name, by_node, number_by, numbers_by, changed_at, put_before, last_place, Stored, Slots, reverse-map, set_nearest, last_place-le}
-use Rattle.std.proofs.lemmas.List.{set-get_or, set-set, set_split, take-set}
+use Rattle.hformat.proofs.Names.{◌≡◌, ℕ, zero, suc, ◌+◌, ◌-◌, ◌<◌, ◌≤◌, ◌==◌, ◌⊎◌, inl, Bool, true, false, IsTrue, cond, eqb, List, [], ◌∷◌, ◌++◌, Option, Some, is_some, length, get_or, set, take, drop, map, reverse, refl, sym, ◌∙◌, ap, arith, subst, max, All, insert, list_any, position, remove, eqb-zero-suc, append_assoc, drop-set-lt, get_or-map, get_or-reverse, get_or-set_other, length-append, length-map, length-reverse, length-set, length-take-le, map-set, reverse-append, All-get_or, All-head, All-set, All-tail, last_up, none, EntryOf, for_node, is_entry, IsStored, entry_is, is_gone, item_of, items_of, nowhere, renamed, told, DefaultHasher, IsListed, by_hash, by_name, by_node, number_by, numbers_by, changed_at, put_before, last_place, Stored, Slots, reverse-map, set_nearest, last_place-le, nat_tests, get_or-set_same, set-get_or, set-set, set_split, take-set, insert_nearest, position_nearest, position-none, position-some}
 use Rattle.hformat.specs.declared.entry.Slot.TheVariants as stored
 use Rattle.hformat.proofs.Chained.{last-is}
 use Rattle.hformat.proofs.ItemLists.{not_missing}
 use Rattle.hformat.proofs.Listed.{number-same}
-use Rattle.hchain.proofs.Nearest.{insert_nearest, position_nearest}
-use Rattle.hchain.proofs.Places.{position-none, position-some}
 
 -- the members at an index and at the next one in each other's place
 abbrev pub exchanged : {X : Type 0} → List X → ℕ → X → List X
@@ -199,3 +195,12 @@ insert-after mark rest y (suc i) is there =
 -- a write where the member is taken out
 pub remove-set : {X : Type 0} (xs : List X) (i : ℕ) (y : X) → remove (set xs i y) i ≡ remove xs i
 remove-set xs i y = ap (λ l. l ++ drop (suc i) (set xs i y)) (take-set xs i y) ∙ ap (λ l. take i xs ++ l) (drop-set-lt (suc i) xs i y (omega arith))
+
+-- an entry that becomes that of another node, and is put right after the entry of the mark
+pub moved-after : (node mark : ℕ) (items : List Stored) (i to : ℕ) (y : Stored) → i < length items → is_some (told (get_or items i stored.Hole)) ≡ true → y ≡ renamed node (get_or items i stored.Hole)
+    → to ≡ last_place (λ x. is_entry mark (item_of x)) (reverse (remove items i)) → IsTrue (list_any (is_entry mark) (items_of (remove items i)))
+    → items_of (insert (remove (set items i y) i) to (get_or (set items i y) i stored.Hole)) ≡ put_before (is_entry mark) (for_node node (item_of (get_or items i stored.Hole))) (items_of (remove items i))
+moved-after node mark items i to y within entry new is there =
+    ap items_of (ap (λ l. insert l to (get_or (set items i y) i stored.Hole)) (remove-set items i y) ∙ ap (insert (remove items i) to) (get_or-set_same items i y stored.Hole within ∙ new))
+    ∙ insert-after mark (remove items i) (renamed node (get_or items i stored.Hole)) to is there
+    ∙ ap (λ x. put_before (is_entry mark) x (items_of (remove items i))) (renamed-item node (get_or items i stored.Hole) entry)

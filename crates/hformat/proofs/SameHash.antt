@@ -1,19 +1,6 @@
 -- Equal entries have the same hash, and the same number by it.
-use Rattle.std.proofs.lemmas.Bool.Decides.{nat_tests}
-use Rattle.hformat.proofs.Names.{◌≡◌, ℕ, suc, ◌<◌, Bool, true, false, cond, ltb, eqb, nat_eq, ◌||◌, List, [], ◌∷◌, Option, map, refl, sym, ◌∙◌, ap, arith, list_any, option_map_or, ltb-true, eqb-false, Attribute, DefaultHasher, entry_hash, distinct, hash_of, EntryOf, are_among, as_entry, is_equal, same_attribute, item_of, nowhere, told, by_hash, Stored}
-use Rattle.std.proofs.Common.{nat_cmp, Less, IsSorted, IsPermutation}
-use Rattle.std.specs.List.{dedup, dedup_from, AllByRecursion}
+use Rattle.hformat.proofs.Names.{◌≡◌, ℕ, suc, ◌<◌, Bool, true, false, cond, ltb, eqb, nat_eq, ◌||◌, List, [], ◌∷◌, Option, map, refl, sym, ◌∙◌, ap, arith, list_any, option_map_or, ltb-true, eqb-false, Attribute, DefaultHasher, entry_hash, distinct, hash_of, EntryOf, are_among, as_entry, is_equal, same_attribute, item_of, nowhere, told, by_hash, Stored, nat_tests, nat_cmp, Less, IsSorted, IsPermutation, dedup, dedup_from, AllByRecursion, nat_cmp_is, unsigned_ties, nat_cmp-IsAntisymmetric, is_at, ltb-false, nat_cmp_total, IsStrictlySortedBy-dedup, list_any-IsPermutation, btree_set_from_contains, bytes_eq-true, put_in}
 use Rattle.std.specs.List.Sorted.{IsStrictlySortedBy}
-use Rattle.std.specs.Cmp.{nat_cmp_is, unsigned_ties}
-use Rattle.std.specs.FinMap.{nat_cmp-IsAntisymmetric}
-use Rattle.std.specs.BTreeMap.{is_at}
-use Rattle.std.proofs.lemmas.Bool.{ltb-false}
-use Rattle.std.proofs.lemmas.Cmp.{nat_cmp_total}
-use Rattle.std.proofs.lemmas.List.Kept.{IsStrictlySortedBy-dedup}
-use Rattle.std.proofs.lemmas.List.Sorted.{list_any-IsPermutation}
-use Rattle.std.proofs.lemmas.Map.Lookups.{btree_set_from_contains}
-use Rattle.names.proofs.TableLemmas.{bytes_eq-true}
-use Rattle.hformat.specs.Hashes.{put_in}
 
 -- numbers that ascend, with one more
 abbrev AllAbove : ℕ → List ℕ → Type 0

@@ -1,8 +1,5 @@
 -- The items of a list and their numbers, where the last ones leave, and where one becomes a hole.
-use Rattle.hformat.proofs.Names.{◌≡◌, ◌≢◌, ℕ, zero, suc, ◌+◌, ◌<◌, ◌≤◌, true, false, List, [], ◌∷◌, ◌++◌, length, take, set, get_or, min, subst, sym, ◌∙◌, ap, arith, All, length-append, map-append, take-map, map-set, length-set, length-take-le, get_or-set_other, All-append, All-take, All-set, entry_hash, none, EntryOf, IsStored, is_gone, item_of, IsListed, by_hash, by_name, by_node, number_by, numbers_by, unless_hole, Stored, Slots}
-use Rattle.std.proofs.Common.{max}
-use Rattle.std.specs.Option.{is_some}
-use Rattle.std.proofs.lemmas.List.{get_or-take}
+use Rattle.hformat.proofs.Names.{◌≡◌, ◌≢◌, ℕ, zero, suc, ◌+◌, ◌<◌, ◌≤◌, true, false, List, [], ◌∷◌, ◌++◌, length, take, set, get_or, min, subst, sym, ◌∙◌, ap, arith, All, length-append, map-append, take-map, map-set, length-set, length-take-le, get_or-set_other, All-append, All-take, All-set, entry_hash, none, EntryOf, IsStored, is_gone, item_of, IsListed, by_hash, by_name, by_node, number_by, numbers_by, unless_hole, Stored, Slots, max, is_some, get_or-take}
 use Rattle.hformat.specs.declared.entry.Slot.TheVariants as stored
 
 -- Where only the hashes have changed, all else is as it was.

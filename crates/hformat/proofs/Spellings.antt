@@ -1,11 +1,5 @@
 -- The list of active formatting elements under other names.
-use Rattle.hformat.proofs.Names.{arith, ◌≡◌, ℕ, Bool, true, false, cond, not, ◌&&◌, List, [], ◌∷◌, map, length, Option, Some, None, refl, ◌∙◌, ap, bytes_eq, list_any, option_map, option_map_or, length-map, any-map, without, put_before, EntryOf, Listed, marker, entry, is_of_node, is_entry, entry_at, entry_of, after_marker, cleared, for_node, with_node, booked, without_earliest, same_attribute, are_among, is_equal, pushed, find_entry, Bookmark, InPlace, After, Attribute}
-use Rattle.std.specs.Prelude.{if◌then◌else◌, filter, find}
-use Rattle.std.proofs.lemmas.Option.{slice_get-map}
-use Rattle.hchain.proofs.Images.{without-map, changed-map, put_before-map, filter-map, find-map, all-map, changed_at-map}
-use Rattle.hformat.specs.Formatting.{entries}
-use Rattle.hformat.specs.Spelled.{spelled_entry, spelled_item, spelled_items, FormattingKnowsNoNames}
-use Rattle.hnodes.specs.Spelled.{spelled_attribute}
+use Rattle.hformat.proofs.Names.{arith, ◌≡◌, ℕ, Bool, true, false, cond, not, ◌&&◌, List, [], ◌∷◌, map, length, Option, Some, None, refl, ◌∙◌, ap, bytes_eq, list_any, option_map, option_map_or, length-map, any-map, without, put_before, EntryOf, Listed, marker, entry, is_of_node, is_entry, entry_at, entry_of, after_marker, cleared, for_node, with_node, booked, without_earliest, same_attribute, are_among, is_equal, pushed, find_entry, Bookmark, InPlace, After, Attribute, if◌then◌else◌, filter, find, slice_get-map, without-map, changed-map, put_before-map, filter-map, find-map, all-map, changed_at-map, entries, spelled_entry, spelled_item, spelled_items, FormattingKnowsNoNames, spelled_attribute}
 
 module _ {N M : Type 0} (same : N → N → Bool) (same' : M → M → Bool) (g : N → M) (names : (a b : N) → same' (g a) (g b) ≡ same a b) where
   after_marker-map : (items : List (Listed N)) → after_marker (spelled_items g items) ≡ map (spelled_entry g) (after_marker items)

@@ -7,3 +7,4 @@ pub mod Hashes
 pub mod Holes
 pub mod Rows
 pub mod Spelled
+pub mod Vocabulary

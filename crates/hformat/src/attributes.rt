@@ -2,9 +2,7 @@
 
 ghost use Rattle.std.specs.Prelude.{◌≡◌, IfOk, map, nat_eq};
 ghost use Rattle.std.specs.List.{list_any};
-ghost use Rattle.hnodes.specs.Numbered.{numbers_of};
-ghost use Rattle.hnodes.specs.Rows.{attribute_of};
-ghost use Rattle.hformat.specs.Formatting.{same_attribute, are_among, same_attributes};
+ghost use Rattle.hformat.specs.Vocabulary.{are_among, attribute_of, numbers_of, same_attribute, same_attributes};
 
 use hchain::Chains;
 use hnodes::{FEW_ATTRIBUTES, index_attrs, name_number};

@@ -1,10 +1,8 @@
 //! Entries of the list of active formatting elements, and markers (HTML Standard, 13.2.4.3).
 
-ghost use Rattle.std.specs.Prelude.{◌≡◌, suc, IfOk, map, nat_eq, false};
-ghost use Rattle.hnodes.specs.Rows.{attribute_of};
+ghost use Rattle.std.specs.Prelude.{◌≡◌, IfOk, map, nat_eq, false};
 ghost use Rattle.std.specs.Option.{option_map, option_map_or};
-ghost use Rattle.hformat.specs.Formatting.{for_node, is_equal};
-ghost use Rattle.hformat.specs.Items.{entry_is, is_gone, item_of, renamed, told};
+ghost use Rattle.hformat.specs.Vocabulary.{attribute_of, entry_is, is_equal, is_gone, renamed, told};
 
 use crate::attributes::are_same;
 use hnodes::{Attributes, NodeId};
@@ -55,10 +53,7 @@ impl Slot {
     pub(crate) fn is_hole(&self) -> bool
         ensures { result ≡ is_gone self.now }
     {
-        match self {
-            Slot::Hole => true,
-            Slot::Marker | Slot::Entry(_) => false,
-        }
+        matches!(self, Slot::Hole)
     }
 
     /// Whether it is an entry that was made for an equal token: with the same name, and the same attributes in whatever order.
@@ -72,12 +67,10 @@ impl Slot {
         ensures { IfOk result (λ equal. equal
             ≡ option_map_or (is_equal nat_eq (record { node = 0; name = name; attrs = map attribute_of attrs.now })) (told self.now) false) }
     {
-        match self {
-            Slot::Hole | Slot::Marker => Ok(false),
-            Slot::Entry(entry) => Ok(
-                name == entry.name && are_same(alloc, attrs, entry.attrs.as_slice())?,
-            ),
-        }
+        let Slot::Entry(entry) = self else {
+            return Ok(false);
+        };
+        Ok(name == entry.name && are_same(alloc, attrs, entry.attrs.as_slice())?)
     }
 
     /// Sets the node of an entry; does nothing to a marker or a hole.

@@ -1,14 +1,11 @@
 //! The list of active formatting elements (HTML Standard, 13.2.4.3).
 
-ghost use Rattle.std.specs.Prelude.{◌≡◌, ℕ, suc, ◌-◌, ◌≤◌, ◌∷◌, [], IsTrue, OnOk, OnErr, find, length, map, nat_eq, remove, take};
+ghost use Rattle.std.specs.Prelude.{◌≡◌, ℕ, List, suc, ◌-◌, ◌≤◌, ◌∷◌, [], IsTrue, OnOk, OnErr, length, nat_eq};
 ghost use Rattle.std.specs.List.{All, list_any};
 ghost use Rattle.std.specs.Option.{is_some, option_map};
-ghost use Rattle.hformat.specs.Formatting.{cleared, entry_at, entry_of, find_entry, is_entry, marker, pushed, with_node, without_entry, for_node, booked};
-ghost use Rattle.hformat.specs.Formatting.{has_bookmark};
-ghost use Rattle.hformat.specs.Items.{IsStored, entry_is, items_of, live};
-ghost use Rattle.hformat.specs.Listed.{IsListed};
 ghost use Rattle.hchain.specs.Nearest.{changed_at, without};
-ghost use Rattle.hformat.specs.Holes.{nth_live};
+ghost use Rattle.hformat.specs.Vocabulary.{booked, cleared, entry_at, entry_is, entry_of, find_entry, for_node, has_bookmark, is_entry, items_of, live, marker};
+ghost use Rattle.hformat.specs.Vocabulary.{coded_items, nth_live, pushed, with_node, without_entry, IsListed, IsStored, Listed};
 
 use crate::bookmark::Bookmark;
 use crate::entry::{Entry, Slot};
@@ -34,40 +31,13 @@ pub struct Formatting {
 }
 
 impl Model for Formatting {
-    ghost use Rattle.std.specs.Prelude.{ℕ, List};
-    ghost use Rattle.hformat.specs.Formatting.{Listed};
-    ghost use Rattle.hformat.specs.ItemCoding.{coded_items};
-    ghost use Rattle.hformat.specs.Items.{items_of, live};
-
     ghost Value = { List (Listed ℕ) };
 
     ghost coded = { coded_items };
 
     ghost view = { λ f. live (items_of f.slots.items.items) };
 
-    ghost use Rattle.hformat.specs.Listed.{IsListed};
-
     ghost invariant = { λ f. IsListed f.slots };
-}
-
-/// The index of the item with `back` items after it, holes not counted, among the first items.
-fn walk(items: &[Slot], end: usize, back: usize) -> Option<usize>
-    requires within { end ≤ length items.now }
-    requires stored { All IsStored items.now }
-    ensures { result ≡ option_map (λ up. end - 1 - up) (nth_live back (items_of (take end items.now))) }
-{
-    let mut left = back;
-    let mut index = end;
-    while index > 0 {
-        index -= 1;
-        if !items[index].is_hole() {
-            if left == 0 {
-                return Some(index);
-            }
-            left -= 1;
-        }
-    }
-    None
 }
 
 /// The index of the item with `back` items after it, holes not counted.
@@ -79,7 +49,18 @@ fn slot(slots: &Slots, back: usize) -> Option<usize>
     if back < len - slots.solid {
         return Some(len - 1 - back);
     }
-    walk(&slots.items, len, back)
+    let mut left = back;
+    let mut index = len;
+    while index > 0 {
+        index -= 1;
+        if !slots.items[index].is_hole() {
+            if left == 0 {
+                return Some(index);
+            }
+            left -= 1;
+        }
+    }
+    None
 }
 
 /// Removes the holes at the end.
@@ -236,10 +217,8 @@ impl Formatting {
             return;
         }
         // twice as far, so that a loop that goes back closes few times
-        match slot(&self.slots, back.saturating_mul(2)) {
-            Some(index) => self.slots.close(index),
-            None => self.slots.close(0),
-        }
+        let index = slot(&self.slots, back.saturating_mul(2)).unwrap_or(0);
+        self.slots.close(index);
     }
 
     /// Removes the entry of a node; does nothing if it has no entry.

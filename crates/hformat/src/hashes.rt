@@ -1,8 +1,7 @@
 //! Numbers by which equal entries find each other.
 
 ghost use Rattle.std.specs.Prelude.{◌≡◌, suc, IfOk, map};
-ghost use Rattle.hnodes.specs.Rows.{attribute_of};
-ghost use Rattle.hformat.specs.Hashes.{entry_hash, distinct, fed_name, hash_of, total};
+ghost use Rattle.hformat.specs.Vocabulary.{attribute_of, distinct, entry_hash, fed_name, hash_of};
 
 use hnodes::name_number;
 use names::{Attr, Keys, NameId};
@@ -42,14 +41,6 @@ fn hash_attrs(alloc: Global, keys: Keys, attrs: &[Attr]) -> Result<Vec<u64>, All
     Ok(hashes)
 }
 
-fn total(keys: Keys, name: NameId, hashes: &[u64]) -> u64
-    ensures { result ≡ total keys name hashes.now }
-{
-    let mut hasher = feed_name(keys, name);
-    u64::hash_slice(hashes, &mut hasher);
-    hasher.finish() % HASHES
-}
-
 /// The number of the hash of an entry with a name and attributes. Equal entries have the same, and few others have it; without keys all
 /// entries of a name have it.
 #[inline(always)]
@@ -66,5 +57,7 @@ pub(crate) fn find_hash(
         return Ok(name_number(name));
     };
     let hashes = hash_attrs(alloc, keys, attrs)?;
-    Ok(total(keys, name, &hashes) as usize + 2)
+    let mut hasher = feed_name(keys, name);
+    u64::hash_slice(&hashes, &mut hasher);
+    Ok((hasher.finish() % HASHES) as usize + 2)
 }

@@ -4,13 +4,10 @@ ghost use Rattle.std.specs.Prelude.{◌≡◌, ◌≢◌, ℕ, suc, ◌+◌, ◌
 ghost use Rattle.std.specs.Prelude.{length, map, nat_eq, not, remove, slice_index_or, slice_set, filter, take, drop};
 ghost use Rattle.std.specs.List.{All, list_any};
 ghost use Rattle.std.specs.Option.{option_map_or};
-ghost use Rattle.hnodes.specs.Rows.{attribute_of};
-ghost use Rattle.hformat.specs.Hashes.{entry_hash};
 ghost use Rattle.hchain.specs.Chains.{none};
-ghost use Rattle.hformat.specs.Formatting.{for_node, is_entry, with_room};
-ghost use Rattle.hformat.specs.Items.{IsStored, is_gone, item_of, items_of, live, told, renamed};
-ghost use Rattle.hformat.specs.Listed.{IsListed, by_hash, by_name, by_node, number_by, numbers_by};
 ghost use Rattle.hchain.specs.Nearest.{changed_at, put_before};
+ghost use Rattle.hformat.specs.Vocabulary.{attribute_of, by_hash, by_name, by_node, entry_hash, for_node, is_entry, is_gone, item_of, items_of, number_by, numbers_by};
+ghost use Rattle.hformat.specs.Vocabulary.{told, with_room, IsListed, IsStored};
 ghost use Rattle.hformat.specs.declared.entry.Slot.TheVariants as stored;
 
 use crate::entry::Slot;
@@ -272,21 +269,6 @@ impl Slots {
         self.solid = self.solid.max(index + 2);
     }
 
-    /// Takes the item at an index out and puts it at an index of what is left, in a step for each item between them.
-    pub(crate) fn shift(&mut self, from: usize, to: usize)
-        requires listed { IsListed self.old }
-        requires from { from < length self.old.items.items }
-        requires to { to < length self.old.items.items }
-        ensures listed { IsListed self.new }
-        ensures items { self.new.items.items ≡ insert (remove self.old.items.items from) to (slice_index_or self.old.items.items from stored.Hole) }
-    {
-        if from < to {
-            self.raise(from, to);
-        } else {
-            self.lower(from, to);
-        }
-    }
-
     /// Moves an item up to a greater index.
     fn raise(&mut self, from: usize, to: usize)
         requires listed { IsListed self.old }
@@ -330,7 +312,11 @@ impl Slots {
         let place = self.nodes.last(node_number(mark));
         self.nodes.set(index, node_number(node));
         self.items[index].set_node(node);
-        self.shift(index, if place <= index { place } else { place - 1 });
+        if place <= index {
+            self.lower(index, place);
+        } else {
+            self.raise(index, place - 1);
+        }
     }
 
     /// Takes the holes from an index on out.

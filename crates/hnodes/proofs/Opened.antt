@@ -1,6 +1,9 @@
 -- What the vector says of the value of a tree, and what is left to show after an edit.
 use Rattle.hnodes.proofs.Names.{◌≡◌, ℕ, zero, suc, true, ltb, cond, is_none, ◌++◌, ◌<◌, ◌≤◌, List, [], ◌∷◌, Option, Some, None, length, refl, sym, ◌∙◌, ap, subst, arith, Forest, What, document, tree, none, roots, change_what, Nodes, AreNodes, Row, Look, Loose, StandsIn, standing, loose, is_loose, whole, parent_in, previous_in, next_in, with_what, look_in, IsWithin, IsChanged, IsUnchanged, nodes_of, IsTree, Node, Inside}
-use Rattle.std.proofs.Common.{Result, Ok, Err, OnOk, OnErr}
+use Rattle.hnodes.proofs.Rows.{changed}
+use Rattle.hnodes.proofs.Contents.{unchanged}
+use Rattle.hnodes.specs.Rows.{row_of}
+use Rattle.std.proofs.Common.{get_or, set}
 use Rattle.hnodes.proofs.Forests.{some_inj}
 use Rattle.hnodes.proofs.Within.{one-of, once-of, there, links-among}
 use Rattle.hnodes.proofs.Whats.{StandsIn-same, StandsIn-what, document-what}
@@ -91,21 +94,20 @@ module _ (t : Inside) (v : Nodes ℕ) (new : List Node) where
   pub stayed_view : Opened t v → IsUnchanged t.nodes.items new → record { limit = t.limit; made = length new; trees = whole (length new) (look_in new) } ≡ v
   stayed_view o is = edited_view t v new v.trees o is.0 (StandsIn-same (length t.nodes.items) (look_in t.nodes.items) (look_in new) v.trees o.stands is.1)
 
--- A call that may change what node n is.
-module _ {E : Type 0} (t : Inside) (v : Nodes ℕ) (new : List Node) (n : ℕ) (g : What ℕ → What ℕ) (r : Result (Unit {0}) E) where
-  pub became : Opened t v → g document ≡ document → OnOk r (IsChanged n (with_what g) t.nodes.items new) → OnErr r (IsUnchanged t.nodes.items new)
+-- A call that changes what node n is.
+module _ (t : Inside) (v : Nodes ℕ) (new : List Node) (n : ℕ) (g : What ℕ → What ℕ) where
+  pub became : Opened t v → g document ≡ document → IsChanged n (with_what g) t.nodes.items new
       → ((f : Forest ℕ) × StandsIn (length new) (look_in new) f) × (standing (look_in new 0) ≡ Some (document, None)) × (length new ≤ t.limit)
-  became o same = go r
-    where
-      go : (a : Result (Unit {0}) E) → OnOk a (IsChanged n (with_what g) t.nodes.items new) → OnErr a (IsUnchanged t.nodes.items new)
-          → ((f : Forest ℕ) × StandsIn (length new) (look_in new) f) × (standing (look_in new 0) ≡ Some (document, None)) × (length new ≤ t.limit)
-      go (Ok u) is _ = ((change_what n g v.trees, rw is.0 (StandsIn-what n g (length t.nodes.items) (look_in t.nodes.items) (look_in new) v.trees o.stands is.1)), document-what n g (look_in t.nodes.items) (look_in new) same is.1 0 o.begun, rw is.0 o.fits)
-      go (Err e) _ is = stayed t v new o is
+  became o same is =
+      ((change_what n g v.trees, rw is.0 (StandsIn-what n g (length t.nodes.items) (look_in t.nodes.items) (look_in new) v.trees o.stands is.1)), document-what n g (look_in t.nodes.items) (look_in new) same is.1 0 o.begun, rw is.0 o.fits)
 
-  pub became_view : Opened t v → OnOk r (IsChanged n (with_what g) t.nodes.items new)
-      → OnOk r (record { limit = t.limit; made = length new; trees = whole (length new) (look_in new) } ≡ record v { trees = change_what n g v.trees })
-  became_view o = go r
-    where
-      go : (a : Result (Unit {0}) E) → OnOk a (IsChanged n (with_what g) t.nodes.items new) → OnOk a (record { limit = t.limit; made = length new; trees = whole (length new) (look_in new) } ≡ record v { trees = change_what n g v.trees })
-      go (Ok u) is = edited_view t v new (change_what n g v.trees) o is.0 (StandsIn-what n g (length t.nodes.items) (look_in t.nodes.items) (look_in new) v.trees o.stands is.1)
-      go (Err e) is = tt
+  pub became_view : Opened t v → IsChanged n (with_what g) t.nodes.items new → record { limit = t.limit; made = length new; trees = whole (length new) (look_in new) } ≡ record v { trees = change_what n g v.trees }
+  became_view o is = edited_view t v new (change_what n g v.trees) o is.0 (StandsIn-what n g (length t.nodes.items) (look_in t.nodes.items) (look_in new) v.trees o.stands is.1)
+
+-- a write into what a node is, that shows or does not
+module _ (t : Inside) (v : Nodes ℕ) (n j : ℕ) (x y : Node) (o : Opened t v) (made : n < v.made) (same : j ≡ n) (is : x ≡ get_or t.nodes.items j x) where
+  pub written : (g : What ℕ → What ℕ) → row_of y ≡ with_what g (row_of x) → IsChanged n (with_what g) t.nodes.items (set t.nodes.items j y)
+  written g r = changed t.nodes.items j n x y (with_what g) same (omega (arith, o.made)) is r
+
+  pub unwritten : row_of y ≡ row_of x → IsUnchanged t.nodes.items (set t.nodes.items j y)
+  unwritten r = unchanged t.nodes.items j n x y same (omega (arith, o.made)) is r

@@ -16,3 +16,4 @@ pub mod View
 pub mod Worked
 pub mod Named
 pub mod Elements
+pub mod Vocabulary

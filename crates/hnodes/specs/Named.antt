@@ -1,9 +1,8 @@
 -- Trees whose names are numbers of a table.
-use Rattle.std.specs.Prelude.{◌≡◌, ℕ, ◌<◌, List, Some}
+use Rattle.std.specs.Prelude.{ℕ, List}
 use Rattle.std.specs.List.{AllByRecursion}
 use Rattle.names.specs.Names.{Texts, IsOf}
 use Rattle.hnodes.specs.Forest.{Attribute, What, element, Forest, none, tree}
-use Rattle.hnodes.specs.Spots.{what_of}
 
 abbrev pub AttributesAreOf : Texts → List (Attribute ℕ) → Type 0
 AttributesAreOf names attrs = AllByRecursion (λ a. IsOf names a.0) attrs
@@ -17,7 +16,3 @@ NodeIsOf names _ = Unit {0}
 abbrev pub AreOf : Texts → Forest ℕ → Type 0
 AreOf names none = Unit {0}
 AreOf names (tree n w kids rest) = NodeIsOf names w × AreOf names kids × AreOf names rest
-
--- a node that was made, and whose names are those of the table
-abbrev pub IsLent : Texts → (made : ℕ) → Forest ℕ → ℕ → Type 0
-IsLent names made f n = (n < made) × ((w : What ℕ) → what_of n f ≡ Some w → NodeIsOf names w)

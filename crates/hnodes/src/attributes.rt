@@ -1,11 +1,8 @@
 //! The attributes of an element that has many.
 
-ghost use Rattle.std.specs.Prelude.{◌≡◌, ◌↔◌, ◌&&◌, ◌++◌, ◌∷◌, [], suc, length, map, nat_eq, not, take, OnOk, OnErr, IfOk, IsTrue};
+ghost use Rattle.std.specs.Prelude.{◌≡◌, ◌&&◌, ◌++◌, ◌∷◌, [], suc, length, map, nat_eq, not, take, OnOk, OnErr, IfOk};
 ghost use Rattle.std.specs.List.{list_any};
-ghost use Rattle.std.specs.List.Sorted.{IsNonDecreasing, IsPermutation, IsStrictlyIncreasing};
-ghost use Rattle.hnodes.specs.Differing.{names_differ};
-ghost use Rattle.hnodes.specs.Numbered.{names_of, numbers_of};
-ghost use Rattle.hnodes.specs.Rows.{attribute_of};
+ghost use Rattle.hnodes.specs.Vocabulary.{attribute_of, names_differ, numbers_of};
 
 use hchain::Chains;
 use names::{Attr, NameId};
@@ -88,31 +85,19 @@ pub(crate) fn few_differ(attrs: &[Attr]) -> bool
     true
 }
 
-/// The names of attributes in ascending order.
-fn ordered_names(attrs: &[Attr], alloc: Global) -> Result<Vec<usize>, AllocError>
-    ensures permutation { IfOk result (λ names. IsPermutation (names_of attrs.now) names.items) }
-    ensures order { IfOk result (λ names. IsNonDecreasing names.items) }
+/// Whether the names of attributes differ. Sorts those of more than a few.
+pub(crate) fn do_differ(attrs: &[Attr], alloc: Global) -> Result<bool, AllocError>
+    ensures { IfOk result (λ differ. differ ≡ names_differ nat_eq (map attribute_of attrs.now)) }
 {
+    if attrs.len() <= FEW_ATTRIBUTES {
+        return Ok(few_differ(attrs));
+    }
     let mut names = Vec::new(alloc);
     for attr in attrs {
         names.push(attr.name.index())?;
     }
     names.sort_unstable();
-    Ok(names)
-}
-
-/// Whether each number is less than the next.
-fn rise(numbers: &[usize]) -> bool
-    ensures { IsTrue result ↔ IsStrictlyIncreasing numbers.now }
-{
-    numbers.is_sorted_by(|number, next| number < next)
-}
-
-/// Whether the names of attributes differ. Sorts them.
-pub(crate) fn many_differ(attrs: &[Attr], alloc: Global) -> Result<bool, AllocError>
-    ensures { IfOk result (λ differ. differ ≡ names_differ nat_eq (map attribute_of attrs.now)) }
-{
-    Ok(rise(&ordered_names(attrs, alloc)?))
+    Ok(names.is_sorted_by(|name, next| name < next))
 }
 
 impl Indexed {
@@ -132,7 +117,7 @@ impl Indexed {
         ensures ok { OnOk result (self.new ≡ map attribute_of attrs.old.items) }
         ensures err { OnErr result (attrs.new.items ≡ attrs.old.items) }
     {
-        self.differ = many_differ(attrs, alloc)?;
+        self.differ = do_differ(attrs, alloc)?;
         self.names = Chains::new(alloc);
         self.attrs = mem::replace(attrs, Vec::new(alloc));
         Ok(())

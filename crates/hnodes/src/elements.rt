@@ -1,14 +1,11 @@
 //! Questions on elements by names and their texts, and walks that pass over all other nodes.
 
-ghost use Rattle.std.specs.Prelude.{◌≡◌, ◌<◌, ◌↔◌, ℕ, [], Some, false, map, nat_eq, slice_get, unwrap_or, IfSome, IsTrue, OnOk, OnErr};
+ghost use Rattle.std.specs.Prelude.{◌≡◌, ◌<◌, ◌↔◌, ℕ, List, [], Some, false, length, map, nat_eq, slice_get, unwrap_or, IfSome, IsTrue, OnOk, OnErr};
+ghost use Rattle.std.specs.Iterator.{YieldsFirst, YieldsFirstBy, at_most, item_count};
 ghost use Rattle.std.specs.List.{All};
 ghost use Rattle.std.specs.Option.{option_map, option_map_or};
-ghost use Rattle.hnodes.specs.Edits.{AreNodes};
-ghost use Rattle.hnodes.specs.Elements.{elements_among, is_element, stands_for};
-ghost use Rattle.hnodes.specs.Forest.{roots, children_of};
-ghost use Rattle.hnodes.specs.Passed.{siblings_from};
-ghost use Rattle.hnodes.specs.Spelled.{spelled_attribute};
-ghost use Rattle.hnodes.specs.Spots.{attributes_of, kind_of, name_of, value_of};
+ghost use Rattle.hnodes.specs.Vocabulary.{attribute_of, attributes_of, children_of, elements_among, is_element, kind_of, name_of, roots, siblings_from};
+ghost use Rattle.hnodes.specs.Vocabulary.{spelled_attribute, stands_for, value_of, AreNodes, Attribute};
 ghost use Rattle.names.specs.Names.{text_of};
 ghost use Rattle.names.specs.Tags.{tag_of};
 
@@ -128,10 +125,6 @@ pub struct ChildElements<'a> {
 }
 
 impl<'a> Model for ChildElements<'a> {
-    ghost use Rattle.std.specs.Prelude.{ℕ, List, ◌<◌, IfSome, IsTrue};
-    ghost use Rattle.hnodes.specs.Elements.{elements_among, is_element};
-    ghost use Rattle.hnodes.specs.Passed.{siblings_from};
-
     ghost Value = { List ℕ };
 
     ghost view = { λ s. elements_among (siblings_from s.next s.tree.now.trees) s.tree.now.trees };
@@ -140,9 +133,6 @@ impl<'a> Model for ChildElements<'a> {
 }
 
 impl<'a> Iterator for ChildElements<'a> {
-    ghost use Rattle.std.specs.Prelude.{length};
-    ghost use Rattle.std.specs.Iterator.{YieldsFirst, at_most};
-
     type Item = NodeId;
 
     ghost next_gives = { YieldsFirst (λ s. s) };
@@ -164,20 +154,12 @@ pub struct AttributeTexts<'a> {
 }
 
 impl<'a> Model for AttributeTexts<'a> {
-    ghost use Rattle.std.specs.Prelude.{ℕ, List, map};
-    ghost use Rattle.hnodes.specs.Forest.{Attribute};
-    ghost use Rattle.hnodes.specs.Rows.{attribute_of};
-    ghost use Rattle.hnodes.specs.Spelled.{spelled_attribute};
-    ghost use Rattle.names.specs.Names.{text_of};
-
     ghost Value = { List (Attribute (List ℕ)) };
 
     ghost view = { λ s. map (spelled_attribute (text_of s.names.now)) (map attribute_of s.attrs.now) };
 }
 
 impl<'a> Iterator for AttributeTexts<'a> {
-    ghost use Rattle.std.specs.Iterator.{YieldsFirstBy, item_count};
-
     type Item = (&'a str, &'a str);
 
     ghost next_gives = { YieldsFirstBy (λ texts. (texts.0.now, texts.1.now)) (λ s. s) };

@@ -1,39 +1,9 @@
 //! The links between nodes of a vector.
 
 ghost use Rattle.std.specs.Prelude.{◌≡◌, ◌<◌, ◌≤◌, length};
-ghost use Rattle.hnodes.specs.Links.{with_next, with_previous, with_first, with_last, with_place, after_link, before_link, detached, hooked, parent_in};
-ghost use Rattle.hnodes.specs.Links.{previous_in, next_in};
-ghost use Rattle.hnodes.specs.Rows.{IsChanged, IsSeenAs, IsWithin, look_in};
+ghost use Rattle.hnodes.specs.Vocabulary.{after_link, before_link, detached, hooked, next_in, parent_in, previous_in, with_place, look_in, IsChanged, IsSeenAs, IsWithin};
 
 use crate::node::{Node, NodeId, NodeLink};
-
-fn set_next(nodes: &mut Vec<Node>, at: NodeId, to: NodeLink)
-    requires { at < length nodes.old.items }
-    ensures { IsChanged at (with_next to) nodes.old.items nodes.new.items }
-{
-    nodes[at.number as usize].next = to;
-}
-
-fn set_previous(nodes: &mut Vec<Node>, at: NodeId, to: NodeLink)
-    requires { at < length nodes.old.items }
-    ensures { IsChanged at (with_previous to) nodes.old.items nodes.new.items }
-{
-    nodes[at.number as usize].previous = to;
-}
-
-fn set_first(nodes: &mut Vec<Node>, at: NodeId, to: NodeLink)
-    requires { at < length nodes.old.items }
-    ensures { IsChanged at (with_first to) nodes.old.items nodes.new.items }
-{
-    nodes[at.number as usize].first = to;
-}
-
-fn set_last(nodes: &mut Vec<Node>, at: NodeId, to: NodeLink)
-    requires { at < length nodes.old.items }
-    ensures { IsChanged at (with_last to) nodes.old.items nodes.new.items }
-{
-    nodes[at.number as usize].last = to;
-}
 
 /// Sets the parent of a node, and its two siblings.
 fn set_place(
@@ -59,8 +29,8 @@ fn link_after(nodes: &mut Vec<Node>, parent: NodeId, before: NodeLink, to: NodeL
     ensures { IsSeenAs (after_link parent before to) nodes.old.items nodes.new.items }
 {
     match before.get() {
-        Some(before) => set_next(nodes, before, to),
-        None => set_first(nodes, parent, to),
+        Some(before) => nodes[before.number as usize].next = to,
+        None => nodes[parent.number as usize].first = to,
     }
 }
 
@@ -71,8 +41,8 @@ fn link_before(nodes: &mut Vec<Node>, parent: NodeId, after: NodeLink, to: NodeL
     ensures { IsSeenAs (before_link parent after to) nodes.old.items nodes.new.items }
 {
     match after.get() {
-        Some(after) => set_previous(nodes, after, to),
-        None => set_last(nodes, parent, to),
+        Some(after) => nodes[after.number as usize].previous = to,
+        None => nodes[parent.number as usize].last = to,
     }
 }
 

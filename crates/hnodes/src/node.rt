@@ -1,15 +1,12 @@
 //! Nodes and their numbers.
 
-ghost use Rattle.std.specs.Prelude.{◌≡◌, ◌<◌, Some, None, OnOk, OnErr, IfOk, IfErr, ◌++◌, length, map, string_bytes};
-ghost use Rattle.hnodes.specs.Edits.{with_char, with_text, with_attribute};
-ghost use Rattle.hnodes.specs.Forest.{element, text};
-ghost use Rattle.hnodes.specs.Links.{alone, with_what};
-ghost use Rattle.hnodes.specs.Rows.{attribute_of, content_is, row_of, IsChanged, IsUnchanged};
+ghost use Rattle.std.specs.Prelude.{◌≡◌, Some, None, OnOk, OnErr, IfOk, ◌++◌, ◌<◌, map};
+ghost use Rattle.hnodes.specs.Vocabulary.{alone, attribute_of, content_is, element, row_of, text, with_attribute, with_char, with_text};
 
 use crate::attributes::{FEW_ATTRIBUTES, Indexed};
 use crate::shared::Attributes;
 use arrayvec::ArrayString;
-use names::{Attr, NameId, Refusal};
+use names::{Attr, NameId};
 use std::alloc::{AllocError, Global};
 use std::marker::Model;
 
@@ -165,39 +162,7 @@ impl Node {
 }
 
 /// Adds a character at the end of a text.
-pub(crate) fn push_char(
-    nodes: &mut Vec<Node>,
-    at: NodeId,
-    c: char,
-    alloc: Global,
-) -> Result<(), Refusal>
-    requires { at < length nodes.old.items }
-    ensures ok { OnOk result (IsChanged at (with_what (with_char c)) nodes.old.items nodes.new.items) }
-    ensures err { OnErr result (IsUnchanged nodes.old.items nodes.new.items) }
-    ensures memory { IfErr result (λ e. e ≡ Refusal.Memory) }
-{
-    add_char(&mut nodes[at.number as usize].content, c, alloc)?;
-    Ok(())
-}
-
-/// Adds a text at the end of a text.
-pub(crate) fn push_text(
-    nodes: &mut Vec<Node>,
-    at: NodeId,
-    more: &str,
-    alloc: Global,
-) -> Result<(), Refusal>
-    requires { at < length nodes.old.items }
-    ensures ok { OnOk result (IsChanged at (with_what (with_text more.now)) nodes.old.items nodes.new.items) }
-    ensures err { OnErr result (IsUnchanged nodes.old.items nodes.new.items) }
-    ensures memory { IfErr result (λ e. e ≡ Refusal.Memory) }
-{
-    add_text(&mut nodes[at.number as usize].content, more, alloc)?;
-    Ok(())
-}
-
-/// Adds a character at the end of a text.
-fn add_char(content: &mut NodeData, c: char, alloc: Global) -> Result<(), AllocError>
+pub(crate) fn add_char(content: &mut NodeData, c: char, alloc: Global) -> Result<(), AllocError>
     ensures ok { OnOk result (content_is content.new ≡ with_char c (content_is content.old)) }
     ensures err { OnErr result (content_is content.new ≡ content_is content.old) }
 {
@@ -210,7 +175,7 @@ fn add_char(content: &mut NodeData, c: char, alloc: Global) -> Result<(), AllocE
 
 /// Adds a text at the end of a text.
 #[inline(always)]
-fn add_text(content: &mut NodeData, more: &str, alloc: Global) -> Result<(), AllocError>
+pub(crate) fn add_text(content: &mut NodeData, more: &str, alloc: Global) -> Result<(), AllocError>
     ensures ok { OnOk result (content_is content.new ≡ with_text more.now (content_is content.old)) }
     ensures err { OnErr result (content_is content.new ≡ content_is content.old) }
 {
@@ -225,7 +190,8 @@ fn add_text(content: &mut NodeData, more: &str, alloc: Global) -> Result<(), All
     Ok(())
 }
 
-/// Puts a short text and what follows it into a node. On an error the node stays as it was.
+/// Puts a short text and what follows it into a node. What is too long to be short is allocated once, with room for 64 bytes or
+/// more. On an error the node stays as it was.
 #[inline(never)]
 fn put_joined(
     content: &mut NodeData,
@@ -236,22 +202,16 @@ fn put_joined(
     ensures ok { OnOk result (content_is content.new ≡ text (start.bytes ++ more.now)) }
     ensures err { OnErr result (content_is content.new ≡ content_is content.old) }
 {
-    *content = joined(start, more, alloc)?;
-    Ok(())
-}
-
-/// A short text and what follows it. What is too long to be short is allocated once, with room for 64 bytes or more.
-fn joined(start: ArrayString<SHORT>, more: &str, alloc: Global) -> Result<NodeData, AllocError>
-    ensures { IfOk result (λ content. content_is content ≡ text (start.bytes ++ more.now)) }
-{
     let mut short = start;
     if short.try_push_str(more).is_ok() {
-        return Ok(NodeData::Short(short));
+        *content = NodeData::Short(short);
+        return Ok(());
     }
     let mut long = String::with_capacity(alloc, more.len().saturating_add(SHORT).max(4 * SHORT))?;
     long.push_str(&short)?;
     long.push_str(more)?;
-    Ok(NodeData::Text(long))
+    *content = NodeData::Text(long);
+    Ok(())
 }
 
 /// A text.
@@ -259,31 +219,14 @@ fn joined(start: ArrayString<SHORT>, more: &str, alloc: Global) -> Result<NodeDa
 pub(crate) fn text(run: &str, alloc: Global) -> Result<NodeData, AllocError>
     ensures { IfOk result (λ content. content_is content ≡ text run.now) }
 {
-    let content = match ArrayString::from(run) {
+    Ok(match ArrayString::from(run) {
         Ok(text) => NodeData::Short(text),
         Err(_) => NodeData::Text(String::from_str(alloc, run)?),
-    };
-    Ok(content)
-}
-
-/// Adds an attribute at the end of an element's.
-pub(crate) fn push_attr(
-    nodes: &mut Vec<Node>,
-    at: NodeId,
-    attr: Attr,
-    alloc: Global,
-) -> Result<(), Refusal>
-    requires { at < length nodes.old.items }
-    ensures ok { OnOk result (IsChanged at (with_what (with_attribute (attribute_of attr))) nodes.old.items nodes.new.items) }
-    ensures err { OnErr result (IsUnchanged nodes.old.items nodes.new.items) }
-    ensures memory { IfErr result (λ e. e ≡ Refusal.Memory) }
-{
-    add_attr(&mut nodes[at.number as usize].content, attr, alloc)?;
-    Ok(())
+    })
 }
 
 /// Adds an attribute at the end of an element's. One that shares its attributes gets its own.
-fn add_attr(content: &mut NodeData, attr: Attr, alloc: Global) -> Result<(), AllocError>
+pub(crate) fn add_attr(content: &mut NodeData, attr: Attr, alloc: Global) -> Result<(), AllocError>
     ensures ok { OnOk result (content_is content.new ≡ with_attribute (attribute_of attr) (content_is content.old)) }
     ensures err { OnErr result (content_is content.new ≡ content_is content.old) }
 {
@@ -310,26 +253,6 @@ pub(crate) fn element(name: NameId, attrs: Vec<Attr>, alloc: Global) -> Result<N
     Ok(content)
 }
 
-/// Makes an element with more than a few attributes wide, with an index of all their names.
-pub(crate) fn widen(nodes: &mut Vec<Node>, at: NodeId, alloc: Global) -> Result<(), Refusal>
-    requires { at < length nodes.old.items }
-    ensures same { IsUnchanged nodes.old.items nodes.new.items }
-    ensures memory { IfErr result (λ e. e ≡ Refusal.Memory) }
-{
-    index_content(&mut nodes[at.number as usize].content, alloc)?;
-    Ok(())
-}
-
-/// Takes attributes into a box. On an error they stay where they are.
-fn take_indexed(attrs: &mut Vec<Attr>, alloc: Global) -> Result<Box<Indexed>, AllocError>
-    ensures ok { IfOk result (λ indexed. indexed.value ≡ map attribute_of attrs.old.items) }
-    ensures err { OnErr result (attrs.new.items ≡ attrs.old.items) }
-{
-    let mut indexed = Box::new(alloc, Indexed::new(alloc))?;
-    indexed.take(attrs, alloc)?;
-    Ok(indexed)
-}
-
 /// Makes an element with more than a few attributes wide.
 #[inline(always)]
 fn widen_content(content: &mut NodeData, alloc: Global) -> Result<(), AllocError>
@@ -342,13 +265,14 @@ fn widen_content(content: &mut NodeData, alloc: Global) -> Result<(), AllocError
         return Ok(());
     }
     let name = *name;
-    let indexed = take_indexed(attrs, alloc)?;
+    let mut indexed = Box::new(alloc, Indexed::new(alloc))?;
+    indexed.take(attrs, alloc)?;
     *content = NodeData::Wide(name, indexed);
     Ok(())
 }
 
-/// The same, and takes all their names into the index.
-fn index_content(content: &mut NodeData, alloc: Global) -> Result<(), AllocError>
+/// The same, with an index of all their names.
+pub(crate) fn index_content(content: &mut NodeData, alloc: Global) -> Result<(), AllocError>
     ensures { content_is content.new ≡ content_is content.old }
 {
     widen_content(content, alloc)?;

@@ -1,10 +1,9 @@
 //! Attributes that are stored once, for all elements and entries that have them.
 
 ghost use Rattle.std.specs.Prelude.{◌≡◌, ◌++◌, ◌∷◌, [], IfOk, map, nat_eq};
-ghost use Rattle.hnodes.specs.Differing.{names_differ};
-ghost use Rattle.hnodes.specs.Rows.{attribute_of};
+ghost use Rattle.hnodes.specs.Vocabulary.{attribute_of, names_differ};
 
-use crate::attributes::{FEW_ATTRIBUTES, few_differ, many_differ};
+use crate::attributes::do_differ;
 use names::Attr;
 use std::alloc::{AllocError, Global};
 use std::marker::Model;
@@ -32,16 +31,6 @@ impl Model for Attributes {
     ghost view = { shared_in };
 
     ghost invariant = { IsShared };
-}
-
-/// Whether the names of attributes differ.
-fn do_differ(attrs: &[Attr], alloc: Global) -> Result<bool, AllocError>
-    ensures { IfOk result (λ differ. differ ≡ names_differ nat_eq (map attribute_of attrs.now)) }
-{
-    if attrs.len() <= FEW_ATTRIBUTES {
-        return Ok(few_differ(attrs));
-    }
-    many_differ(attrs, alloc)
 }
 
 impl Attributes {
@@ -95,19 +84,12 @@ impl Attributes {
     pub(crate) fn with(&self, attr: Attr, alloc: Global) -> Result<Vec<Attr>, AllocError>
         ensures { IfOk result (λ own. map attribute_of own.items ≡ self.now ++ attribute_of attr ∷ []) }
     {
-        let mut own = copies(self.as_slice(), alloc)?;
+        let attrs = self.as_slice();
+        let mut own = Vec::with_capacity(alloc, attrs.len())?;
+        for attr in attrs {
+            own.push(attr.copy(alloc)?)?;
+        }
         own.push(attr)?;
         Ok(own)
     }
-}
-
-/// Copies of attributes, in order.
-fn copies(attrs: &[Attr], alloc: Global) -> Result<Vec<Attr>, AllocError>
-    ensures { IfOk result (λ copies. map attribute_of copies.items ≡ map attribute_of attrs.now) }
-{
-    let mut copies = Vec::with_capacity(alloc, attrs.len())?;
-    for attr in attrs {
-        copies.push(attr.copy(alloc)?)?;
-    }
-    Ok(copies)
 }

@@ -3,26 +3,18 @@
 ghost use Rattle.std.specs.Prelude.{◌≡◌, ◌<◌, ◌≤◌, ◌↔◌, ◌⊎◌, ℕ, Some, None, OnOk, OnErr, IfOk, IfErr, IfSome, IsSome, IsFalse, IsTrue, map, string_bytes};
 ghost use Rattle.std.specs.Prelude.{length, leb, ltb, nat_eq, true, if◌then◌else◌};
 ghost use Rattle.std.specs.Option.{option_map, option_map_or};
-ghost use Rattle.hnodes.specs.Attributes.{add_missing, is_present};
-ghost use Rattle.hnodes.specs.Differing.{names_differ};
-ghost use Rattle.hnodes.specs.Forest.{document, doctype, element, comment, text, tree, none, change_what, IsOutside};
-ghost use Rattle.hnodes.specs.Spots.{parent_of, first_child_of, last_child_of, next_of, previous_of, kind_of, what_of, name_of, attributes_of};
-ghost use Rattle.hnodes.specs.Spots.{text_of, doctype_of};
-ghost use Rattle.hnodes.specs.Edits.{make, graft, graft_last, graft_before, move_all, add_attribute, add_char, add_chars, with_char, with_text, text_before};
-ghost use Rattle.hnodes.specs.Edits.{IsPlace, place_node, AreNodes};
-ghost use Rattle.hnodes.specs.Makes.{Makes};
-ghost use Rattle.hnodes.specs.Passed.{own_text as own_text_of};
-ghost use Rattle.hnodes.specs.declared.node.Place.{Place};
-ghost use Rattle.hnodes.specs.Rows.{attribute_of, content_is, doctype_texts};
-ghost use Rattle.names.specs.declared.refusal.Refusal.TheVariants.{TooManyNodes, Memory};
-ghost use Rattle.std.specs.Char.{encode_utf8};
 ghost use Rattle.std.specs.Str.{chars};
+ghost use Rattle.hnodes.specs.Vocabulary.{add_attribute, add_char, add_chars, add_missing, change_what, graft, graft_before, graft_last, make, move_all};
+ghost use Rattle.hnodes.specs.Vocabulary.{attribute_of, attributes_of, comment, content_is, doctype, doctype_of, doctype_texts, document, element, first_child_of};
+ghost use Rattle.hnodes.specs.Vocabulary.{is_present, kind_of, last_child_of, name_of, names_differ, next_of, none, own_text as own_text_of, parent_of, place_node};
+ghost use Rattle.hnodes.specs.Vocabulary.{previous_of, text, text_before, text_of, tree, what_of, with_char, with_text, AreNodes, IsOutside, IsPlace, Makes};
+ghost use Rattle.hnodes.specs.Vocabulary.{Memory, Place, TooManyNodes};
 
 use crate::attributes::{few_differ, has_name};
 use crate::links::{detach, hook};
 use crate::node::{
-    self, DocumentType, Node, NodeData, NodeId, NodeKind, NodeLink, Place, push_attr, push_char,
-    push_text, widen,
+    self, DocumentType, Node, NodeData, NodeId, NodeKind, NodeLink, Place, add_attr, add_char,
+    add_text, index_content,
 };
 use crate::shared::Attributes;
 use names::{Attr, NameId, Refusal};
@@ -44,8 +36,7 @@ pub struct Tree {
 
 impl Model for Tree {
     ghost use Rattle.std.specs.Prelude.{ℕ};
-    ghost use Rattle.hnodes.specs.Edits.{Nodes};
-    ghost use Rattle.hnodes.specs.Coding.{coded_nodes};
+    ghost use Rattle.hnodes.specs.Vocabulary.{coded_nodes, Nodes};
 
     ghost Value = { Nodes ℕ };
 
@@ -168,14 +159,6 @@ impl Tree {
         self.add(NodeData::Doctype(texts))
     }
 
-    /// Makes a text of one character, loose.
-    fn create_text(&mut self, c: char, at: u64) -> Result<NodeId, Refusal>
-        ensures { Makes (text (encode_utf8 c)) at self.old self.new result }
-    {
-        let mut buffer = [0; 4];
-        self.create_run(c.encode_utf8(&mut buffer), at)
-    }
-
     /// Makes a text, loose.
     #[inline(always)]
     fn create_run(&mut self, run: &str, at: u64) -> Result<NodeId, Refusal>
@@ -296,7 +279,8 @@ impl Tree {
         match self.text_before(here) {
             Some(text) => self.lengthen(text, c),
             None => {
-                let text = self.create_text(c, at)?;
+                let mut buffer = [0; 4];
+                let text = self.create_run(c.encode_utf8(&mut buffer), at)?;
                 self.insert(text, place);
                 Ok(())
             }
@@ -330,23 +314,29 @@ impl Tree {
     }
 
     /// Adds a text at the end of a text.
-    fn join(&mut self, before: NodeId, text: &str) -> Result<(), Refusal>
-        requires { before < self.old.made }
-        ensures ok { OnOk result (self.new ≡ record self.old { trees = change_what before (with_text text.now) self.old.trees }) }
+    fn join(&mut self, at: NodeId, text: &str) -> Result<(), Refusal>
+        requires { at < self.old.made }
+        ensures ok { OnOk result (self.new ≡ record self.old { trees = change_what at (with_text text.now) self.old.trees }) }
         ensures memory { IfErr result (λ e. e ≡ Memory) }
         ensures err { OnErr result (self.new ≡ self.old) }
     {
-        push_text(&mut self.nodes, before, text, self.alloc)
+        add_text(
+            &mut self.nodes[at.number as usize].content,
+            text,
+            self.alloc,
+        )?;
+        Ok(())
     }
 
     /// Adds a character at the end of a text.
-    fn lengthen(&mut self, text: NodeId, c: char) -> Result<(), Refusal>
-        requires { text < self.old.made }
-        ensures ok { OnOk result (self.new ≡ record self.old { trees = change_what text (with_char c) self.old.trees }) }
+    fn lengthen(&mut self, at: NodeId, c: char) -> Result<(), Refusal>
+        requires { at < self.old.made }
+        ensures ok { OnOk result (self.new ≡ record self.old { trees = change_what at (with_char c) self.old.trees }) }
         ensures memory { IfErr result (λ e. e ≡ Memory) }
         ensures err { OnErr result (self.new ≡ self.old) }
     {
-        push_char(&mut self.nodes, text, c, self.alloc)
+        add_char(&mut self.nodes[at.number as usize].content, c, self.alloc)?;
+        Ok(())
     }
 
     /// The text right before a place.
@@ -385,7 +375,12 @@ impl Tree {
         ensures memory { IfErr result (λ e. e ≡ Memory) }
         ensures err { OnErr result (self.new ≡ self.old) }
     {
-        push_attr(&mut self.nodes, at, attr, self.alloc)
+        add_attr(
+            &mut self.nodes[at.number as usize].content,
+            attr,
+            self.alloc,
+        )?;
+        Ok(())
     }
 
     /// Adds an attribute after an element's others, unless it has one of this name; does nothing to another node. Takes amortized
@@ -409,7 +404,8 @@ impl Tree {
         ensures same { self.new ≡ self.old }
         ensures memory { IfErr result (λ e. e ≡ Memory) }
     {
-        widen(&mut self.nodes, at, self.alloc)
+        index_content(&mut self.nodes[at.number as usize].content, self.alloc)?;
+        Ok(())
     }
 
     /// Whether an element has an attribute of a name.

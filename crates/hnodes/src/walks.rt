@@ -1,10 +1,9 @@
 //! Walks over the nodes of a tree.
 
-ghost use Rattle.std.specs.Prelude.{◌≡◌, ◌<◌, ◌∷◌, Some, IfOk, IfSome, IsTrue, string_bytes};
+ghost use Rattle.std.specs.Prelude.{◌≡◌, ◌<◌, ◌∷◌, ℕ, List, Some, IfOk, IfSome, IsTrue, length, string_bytes};
+ghost use Rattle.std.specs.Iterator.{YieldsFirst, at_most};
 ghost use Rattle.std.specs.List.{All};
-ghost use Rattle.hnodes.specs.Edits.{AreNodes};
-ghost use Rattle.hnodes.specs.Forest.{roots, children_of};
-ghost use Rattle.hnodes.specs.Passed.{ancestors_of, way_up, order, after_each, inside_from, is_among, texts};
+ghost use Rattle.hnodes.specs.Vocabulary.{after_each, ancestors_of, children_of, inside_from, is_among, order, roots, siblings_from, texts, way_up, AreNodes};
 
 use crate::node::NodeId;
 use crate::tree::Tree;
@@ -19,9 +18,6 @@ pub struct Children<'a> {
 }
 
 impl<'a> Model for Children<'a> {
-    ghost use Rattle.std.specs.Prelude.{ℕ, List, ◌<◌, IfSome};
-    ghost use Rattle.hnodes.specs.Passed.{siblings_from};
-
     ghost Value = { List ℕ };
 
     ghost view = { λ s. siblings_from s.next s.tree.now.trees };
@@ -116,9 +112,6 @@ impl Tree {
 }
 
 impl<'a> Iterator for Children<'a> {
-    ghost use Rattle.std.specs.Prelude.{length};
-    ghost use Rattle.std.specs.Iterator.{YieldsFirst, at_most};
-
     type Item = NodeId;
 
     ghost next_gives = { YieldsFirst (λ s. s) };
@@ -140,9 +133,6 @@ pub struct Ancestors<'a> {
 }
 
 impl<'a> Model for Ancestors<'a> {
-    ghost use Rattle.std.specs.Prelude.{ℕ, List, ◌<◌, IfSome};
-    ghost use Rattle.hnodes.specs.Passed.{way_up};
-
     ghost Value = { List ℕ };
 
     ghost view = { λ s. way_up s.next s.tree.now.trees };
@@ -151,9 +141,6 @@ impl<'a> Model for Ancestors<'a> {
 }
 
 impl<'a> Iterator for Ancestors<'a> {
-    ghost use Rattle.std.specs.Prelude.{length};
-    ghost use Rattle.std.specs.Iterator.{YieldsFirst, at_most};
-
     type Item = NodeId;
 
     ghost next_gives = { YieldsFirst (λ s. s) };
@@ -176,9 +163,6 @@ pub struct Descendants<'a> {
 }
 
 impl<'a> Model for Descendants<'a> {
-    ghost use Rattle.std.specs.Prelude.{ℕ, List, ◌<◌, IfSome, IsTrue};
-    ghost use Rattle.hnodes.specs.Passed.{inside_from, is_among, ancestors_of};
-
     ghost Value = { List ℕ };
 
     ghost view = { λ s. inside_from s.top s.next s.tree.now.trees };
@@ -187,9 +171,6 @@ impl<'a> Model for Descendants<'a> {
 }
 
 impl<'a> Iterator for Descendants<'a> {
-    ghost use Rattle.std.specs.Prelude.{length};
-    ghost use Rattle.std.specs.Iterator.{YieldsFirst, at_most};
-
     type Item = NodeId;
 
     ghost next_gives = { YieldsFirst (λ s. s) };

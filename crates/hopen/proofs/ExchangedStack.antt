@@ -1,8 +1,5 @@
 -- An exchange of two members of a vector in the words on lists whose nearest member is first.
-use Rattle.hopen.proofs.Names.{◌≡◌, ℕ, suc, ◌+◌, ◌-◌, ◌<◌, ◌≤◌, Bool, List, [], ◌∷◌, ◌++◌, Some, length, map, take, drop, reverse, insert, remove, set, zero, refl, sym, ◌∙◌, ap, arith, remove_range, position, lt-ltb, map-append, take-map, drop-map, length-map, length-reverse, without, put_before, opened_by, KeptNode, Open, remove_nearest, insert_nearest}
-use Rattle.std.specs.List.{position_or_len}
-use Rattle.std.proofs.lemmas.List.Edits.{length-remove}
-use Rattle.hchain.proofs.Nearest.{position_is}
+use Rattle.hopen.proofs.Names.{◌≡◌, ℕ, suc, ◌+◌, ◌-◌, ◌<◌, ◌≤◌, Bool, List, [], ◌∷◌, ◌++◌, Some, length, map, take, drop, reverse, insert, remove, set, zero, refl, sym, ◌∙◌, ap, arith, remove_range, position, lt-ltb, map-append, take-map, drop-map, length-map, length-reverse, without, put_before, opened_by, KeptNode, Open, remove_nearest, insert_nearest, position_or_len, length-remove, position_is}
 
 module _ {Y : Type 0} (leaves sought : Y → Bool) where
   -- what is nearer than the one that leaves stays where it is

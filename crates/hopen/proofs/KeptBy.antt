@@ -1,6 +1,5 @@
 -- What each open node keeps of those above it, as nodes come, go, change places and give way.
-use Rattle.hopen.proofs.Names.{◌≡◌, ℕ, zero, suc, ◌<◌, ◌≤◌, Bool, true, false, cond, not, List, [], ◌∷◌, ◌++◌, length, map, take, get_or, set, refl, sym, ◌∙◌, ap, arith, nat_eq, eqb-suc-zero, get_or-map, map-append, map-set, take-map, last_up, KeepSets, closing, must_close_in, name_of, names_in, nearest_in, node_of, nodes_in, swap_with_next, holds, set_node, OpenNode, NameSet, SetNodes, is_special, may_stay_open, tag_of}
-use Rattle.hopen.specs.Kept.{kept_by}
+use Rattle.hopen.proofs.Names.{◌≡◌, ℕ, zero, suc, ◌<◌, ◌≤◌, Bool, true, false, cond, not, List, [], ◌∷◌, ◌++◌, length, map, take, get_or, set, refl, sym, ◌∙◌, ap, arith, nat_eq, eqb-suc-zero, get_or-map, map-append, map-set, take-map, last_up, KeepSets, closing, must_close_in, name_of, names_in, nearest_in, node_of, nodes_in, swap_with_next, holds, set_node, OpenNode, NameSet, SetNodes, is_special, may_stay_open, tag_of, kept_by}
 use Rattle.hopen.proofs.AllSpecial.{special}
 
 -- what is above an index is in the front up to it

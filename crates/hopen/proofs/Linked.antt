@@ -1,8 +1,5 @@
 -- A table of the places where numbers are last, and what the members of their list keep, as members come, go and change places.
-use Rattle.hopen.proofs.Names.{◌≡◌, ◌≢◌, ℕ, suc, ◌<◌, ◌≤◌, eqb, Bool, true, false, cond, List, [], ◌∷◌, ◌++◌, length, map, reverse, get_or, set, ◌⊎◌, inl, inr, refl, sym, ◌∙◌, ap, arith, cases_Bool, cases_lt, eqb-true, eqb-false, get_or-set_same, get_or-set_other, get_or_past, length-map, length-reverse, map-append, reverse-append, reverse-reverse, last_up, last_place, up-sought, up-other, up-alike, IsLinked}
-use Rattle.std.proofs.Common.{length-append}
-use Rattle.std.proofs.lemmas.List.{get_or_append_left, get_or_push}
-use Rattle.hchain.specs.Places.{SaysPlaces}
+use Rattle.hopen.proofs.Names.{◌≡◌, ◌≢◌, ℕ, suc, ◌<◌, ◌≤◌, eqb, Bool, true, false, cond, List, [], ◌∷◌, ◌++◌, length, map, reverse, get_or, set, ◌⊎◌, inl, inr, refl, sym, ◌∙◌, ap, arith, cases_Bool, cases_lt, eqb-true, eqb-false, get_or-set_same, get_or-set_other, get_or_past, length-map, length-reverse, map-append, reverse-append, reverse-reverse, last_up, last_place, up-sought, up-other, up-alike, IsLinked, length-append, get_or_append_left, get_or_push, SaysPlaces}
 
 pub eqb-same : (n : ℕ) → eqb n n ≡ true
 eqb-same n = elim (cases_Bool (eqb n n)) [ inl e ↦ e | inr e ↦ absurd (eqb-false n n e refl) ]

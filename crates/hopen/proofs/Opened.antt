@@ -1,7 +1,5 @@
 -- What is seen of the open nodes after an edit of their vector.
-use Rattle.std.proofs.lemmas.Bool.Decides.{nat_tests}
-use Rattle.hopen.proofs.Names.{◌≡◌, ℕ, suc, ◌+◌, ◌-◌, ◌<◌, Bool, List, Option, Some, None, length, drop, map, reverse, sym, ◌∙◌, ap, subst, arith, cond, leb, position, length-drop, length-map, length-reverse, drop-length, unwrap_or, IfSome, after, words, no_words, OpenNode, OpenNodes, opened_by, open_nodes_of, KeptNode, Inside}
-use Rattle.std.proofs.Common.{MatchOption, Result, Ok, Err}
+use Rattle.hopen.proofs.Names.{◌≡◌, ℕ, suc, ◌+◌, ◌-◌, ◌<◌, Bool, List, Option, Some, None, length, drop, map, reverse, sym, ◌∙◌, ap, subst, arith, cond, leb, position, length-drop, length-map, length-reverse, drop-length, unwrap_or, IfSome, after, words, no_words, OpenNode, OpenNodes, opened_by, open_nodes_of, KeptNode, Inside, nat_tests, MatchOption, Result, Ok, Err}
 
 pub seen : (s : Inside) (n : OpenNodes ℕ) (word : List (OpenNode ℕ) → List (OpenNode ℕ)) (items : List KeptNode) → open_nodes_of s ≡ n → reverse (map opened_by items) ≡ word (reverse (map opened_by s.items.items))
     → ◌≡◌ {A = OpenNodes ℕ} (record { limit = s.limit; stack = reverse (map opened_by items) }) (record { limit = n.limit; stack = word n.stack })

@@ -1,7 +1,5 @@
 -- What is kept of the open nodes where one passes the one right below it.
-use Rattle.std.proofs.lemmas.Bool.Decides.{nat_tests}
-use Rattle.hopen.proofs.Names.{◌≡◌, ◌≢◌, ℕ, suc, ◌+◌, ◌<◌, ◌≤◌, eqb, cond, List, length, map, get_or, set, ◌⊎◌, inl, inr, refl, sym, ◌∙◌, ap, subst, arith, transport, cases_Bool, cases_lt, get_or-set_same, get_or-set_other, length-map, length-set, IsHeld, IsLinked, KeepSets, Stands, name_of, names_in, node_of, nodes_in, opened_by, same_name_of, same_node_of, sets_at, swap_with_next, place_after_swap, OpenNode, KeptNode, LastPlaces}
-use Rattle.hopen.specs.Kept.{CanPass}
+use Rattle.hopen.proofs.Names.{◌≡◌, ◌≢◌, ℕ, suc, ◌+◌, ◌<◌, ◌≤◌, eqb, cond, List, length, map, get_or, set, ◌⊎◌, inl, inr, refl, sym, ◌∙◌, ap, subst, arith, transport, cases_Bool, cases_lt, get_or-set_same, get_or-set_other, length-map, length-set, IsHeld, IsLinked, KeepSets, Stands, name_of, names_in, node_of, nodes_in, opened_by, same_name_of, same_node_of, sets_at, swap_with_next, place_after_swap, OpenNode, KeptNode, LastPlaces, nat_tests, CanPass}
 use Rattle.hopen.proofs.Projected.{length-nodes}
 use Rattle.hopen.proofs.Swapped.{held-none, linked-swapped, swapped-after, swapped-before, swapped-lower, swapped-map, swapped-upper, moved-other, moved-table, walk-in}
 

@@ -1,7 +1,5 @@
 -- Searches that go up the open nodes, in the words of the code.
-use Rattle.hopen.proofs.Names.{◌≡◌, ℕ, zero, suc, ◌<◌, ◌-◌, Bool, true, false, cond, List, [], ◌∷◌, ◌++◌, Option, Some, None, length, drop, map, reverse, subst, refl, sym, ◌∙◌, ap, arith, position, find, slice_get, option_or, unwrap_or, IfSome, words, no_words, reverse-append, length-reverse, length-map, OpenNode, current, topmost_special, furthest_block, is_node, Tag, is_special}
-use Rattle.hchain.specs.Nearest.{before}
-use Rattle.hchain.proofs.Nearest.{take_nearest, position_within}
+use Rattle.hopen.proofs.Names.{◌≡◌, ℕ, zero, suc, ◌<◌, ◌-◌, Bool, true, false, cond, List, [], ◌∷◌, ◌++◌, Option, Some, None, length, drop, map, reverse, subst, refl, sym, ◌∙◌, ap, arith, position, find, slice_get, option_or, unwrap_or, IfSome, words, no_words, reverse-append, length-reverse, length-map, OpenNode, current, topmost_special, furthest_block, is_node, Tag, is_special, before, take_nearest, position_within}
 
 option_or-none : {A : Type 0} (o : Option A) → o ≡ option_or o None
 option_or-none o = grind arith

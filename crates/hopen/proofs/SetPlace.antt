@@ -1,6 +1,5 @@
 -- The place of the nearest node of a set, by the node that is kept.
-use Rattle.hopen.proofs.Names.{◌≡◌, ℕ, zero, suc, ◌-◌, ◌<◌, ◌≤◌, true, false, cond, eqb, not, List, ◌∷◌, length, map, get_or, ◌⊎◌, inl, inr, refl, sym, ◌∙◌, ap, arith, nat_eq, list_all, cases_Bool, cases_lt, eqb-true, get_or_default, get_or_past, length-map, last_up, last_place, up-within, up-found, up-least, up-past, Stands, kept_above, must_close_in, name_of, names_in, nodes_in, opened_by, stack_of, holds, is_in, set_node, KeptNode, LastPlaces, NameSet, SetNodes, may_stay_open, tag_of, eqb-suc-zero}
-use Rattle.hchain.proofs.Places.{all-places}
+use Rattle.hopen.proofs.Names.{◌≡◌, ℕ, zero, suc, ◌-◌, ◌<◌, ◌≤◌, true, false, cond, eqb, not, List, ◌∷◌, length, map, get_or, ◌⊎◌, inl, inr, refl, sym, ◌∙◌, ap, arith, nat_eq, list_all, cases_Bool, cases_lt, eqb-true, get_or_default, get_or_past, length-map, last_up, last_place, up-within, up-found, up-least, up-past, Stands, kept_above, must_close_in, name_of, names_in, nodes_in, opened_by, stack_of, holds, is_in, set_node, KeptNode, LastPlaces, NameSet, SetNodes, may_stay_open, tag_of, eqb-suc-zero, all-places}
 use Rattle.hopen.proofs.KeptBy.{kept-closing, kept-nearest, node_at}
 use Rattle.hopen.proofs.Linked.{eqb-same, place-up}
 use Rattle.hopen.proofs.Projected.{length-names, length-nodes, same_node-at}

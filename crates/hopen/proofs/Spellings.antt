@@ -1,20 +1,12 @@
 -- The open nodes under other names.
-use Rattle.hopen.proofs.Names.{◌≡◌, ℕ, Bool, true, false, cond, not, ◌&&◌, ◌||◌, List, [], ◌∷◌, Option, Some, None, refl, ◌∙◌, ap, option_map, option_or, slice_get-map, find-map, OpenNode, is_node, current, in_scope, topmost_special, furthest_block, is_named, Tag, is_special}
-use Rattle.std.specs.Prelude.{if◌then◌else◌, slice_get, drop, reverse}
-use Rattle.hchain.proofs.Images.{before-map, after-map, without-map, changed-map, put_before-map, any-map, position-map}
-use Rattle.hchain.proofs.Nearest.{reverse-map}
-use Rattle.hopen.specs.Stack.{below}
-use Rattle.hopen.specs.Scopes.{stops_in, is_of, is_of_group}
-use Rattle.hopen.specs.Spelled.{spelled_open, spelled_stack, StackKnowsNoNames}
-use Rattle.hopen.specs.declared.scope.Scope.TheVariants.{Default}
-use Rattle.names.specs.Spelling.{IsSpelling}
+use Rattle.hopen.proofs.Names.{◌≡◌, ℕ, Bool, true, false, cond, not, ◌&&◌, ◌||◌, List, [], ◌∷◌, Option, Some, None, refl, ◌∙◌, ap, option_map, option_or, slice_get-map, find-map, OpenNode, is_node, current, in_scope, topmost_special, furthest_block, is_named, Tag, is_special, if◌then◌else◌, slice_get, drop, reverse, before-map, after-map, without-map, changed-map, put_before-map, any-map, position-map, reverse-map, below, stops, stops_in, is_of, is_of_group, spelled_open, spelled_stack, StackKnowsNoNames, Default, IsSpelling}
+
+pub scope-map : {N M : Type 0} (g : N → M) (p : OpenNode N → Bool) (q : OpenNode M → Bool) → ((x : OpenNode N) → q (spelled_open g x) ≡ p x) → (st : OpenNode N → Bool) (st' : OpenNode M → Bool)
+    → ((x : OpenNode N) → st' (spelled_open g x) ≡ st x) → (xs : List (OpenNode N)) → in_scope st' q (spelled_stack g xs) ≡ in_scope st p xs
+scope-map g p q e st st' d [] = refl
+scope-map g p q e st st' d (x ∷ xs) = λ i. e x i || (not (d x i) && scope-map g p q e st st' d xs i)
 
 module _ {N M : Type 0} (tag : N → Tag) (tag' : M → Tag) (same : N → N → Bool) (same' : M → M → Bool) (g : N → M) (s : IsSpelling tag tag' same same' g) where
-  scope-map : (stops : Tag → Bool) (p : OpenNode N → Bool) (q : OpenNode M → Bool) → ((x : OpenNode N) → q (spelled_open g x) ≡ p x) → (xs : List (OpenNode N))
-      → in_scope (λ x. stops (tag' x.name)) q (spelled_stack g xs) ≡ in_scope (λ x. stops (tag x.name)) p xs
-  scope-map stops p q e [] = refl
-  scope-map stops p q e (x ∷ xs) = λ i. e x i || (not (stops (s.tags x.name i)) && scope-map stops p q e xs i)
-
   from_top-map : (down : ℕ) (xs : List (OpenNode N)) → slice_get (reverse (spelled_stack g xs)) down ≡ option_map (spelled_open g) (slice_get (reverse xs) down)
   from_top-map down xs = ap (λ ys. slice_get ys down) (reverse-map (spelled_open g) xs) ∙ slice_get-map (spelled_open g) (reverse xs) down
 
@@ -54,9 +46,10 @@ module _ {N M : Type 0} (tag : N → Tag) (tag' : M → Tag) (same : N → N →
     remove = λ n. without-map (spelled_open g) (is_node n) (is_node n) (λ _. refl);
     replace = λ n new. changed-map (spelled_open g) (is_node n) (is_node n) (λ _. refl) (λ _. new) (λ _. spelled_open g new) (λ _. refl);
     insert_below = λ n new. put_before-map (spelled_open g) (is_node n) (is_node n) (λ _. refl) new;
-    is_in_scope = λ scope a. scope-map (stops_in scope) (is_named same a) (is_named same' (g a)) (λ x. s.names x.name a);
-    node_is_in_scope = λ n. scope-map (stops_in Default) (is_node n) (is_node n) (λ _. refl);
-    group_is_in_scope = λ scope group. scope-map (stops_in scope) (is_of tag group) (is_of tag' group) (λ x. ap (is_of_group group) (s.tags x.name));
-    is_before_special = λ a. scope-map is_special (is_named same a) (is_named same' (g a)) (λ x. s.names x.name a);
+    is_in_scope = λ scope a. scope-map g (is_named same a) (is_named same' (g a)) (λ x. s.names x.name a) (stops tag scope) (stops tag' scope) (λ x. ap (stops_in scope) (s.tags x.name));
+    node_is_in_scope = λ n. scope-map g (is_node n) (is_node n) (λ _. refl) (stops tag Default) (stops tag' Default) (λ x. ap (stops_in Default) (s.tags x.name));
+    group_is_in_scope = λ scope group.
+        scope-map g (is_of tag group) (is_of tag' group) (λ x. ap (is_of_group group) (s.tags x.name)) (stops tag scope) (stops tag' scope) (λ x. ap (stops_in scope) (s.tags x.name));
+    is_before_special = λ a. scope-map g (is_named same a) (is_named same' (g a)) (λ x. s.names x.name a) (λ x. is_special (tag x.name)) (λ x. is_special (tag' x.name)) (λ x. ap is_special (s.tags x.name));
     furthest = furthest-map;
   }

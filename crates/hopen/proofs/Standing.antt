@@ -1,10 +1,5 @@
 -- The kept places under each change of the items.
-use Rattle.hopen.proofs.Names.{◌≡◌, ℕ, zero, suc, ◌+◌, ◌-◌, ◌<◌, ◌≤◌, List, [], ◌∷◌, ◌++◌, length, map, take, drop, get_or, set, refl, sym, ◌∙◌, ap, subst, arith, transport, get_or_default, drop-drop, drop_at, length-take-le, length-reverse, length-map, length-set, map-append, take-map, drop-map, map-set, get_or-map, map-set_same, take-append_seam, remove_range, AreIn, CanGiveWay, IsLinked, KeepSets, KeepsFrom, Stands, closing, kept_above, must_close_in, name_of, names_in, nearest_in, node_of, nodes_in, opened_by, same_name_of, same_node_of, sets_at, stack_of, OpenNode, OpenNodes, open_nodes_of, Inside, KeptNode, LastPlaces, set_node, SetNodes, open_of, Open}
-use Rattle.std.proofs.Common.{add-one}
-use Rattle.std.proofs.lemmas.List.{drop-set}
-use Rattle.hopen.specs.Kept.{AreAlike, StandsAs}
-use Rattle.hchain.proofs.Nearest.{reverse_push}
-use Rattle.hchain.proofs.Tables.{take-more, drop-more}
+use Rattle.hopen.proofs.Names.{◌≡◌, ℕ, zero, suc, ◌+◌, ◌-◌, ◌<◌, ◌≤◌, List, [], ◌∷◌, ◌++◌, length, map, take, drop, get_or, set, refl, sym, ◌∙◌, ap, subst, arith, transport, get_or_default, drop-drop, drop_at, length-take-le, length-reverse, length-map, length-set, map-append, take-map, drop-map, map-set, get_or-map, map-set_same, take-append_seam, remove_range, AreIn, CanGiveWay, IsLinked, KeepSets, KeepsFrom, Stands, closing, kept_above, must_close_in, name_of, names_in, nearest_in, node_of, nodes_in, opened_by, same_name_of, same_node_of, sets_at, stack_of, OpenNode, OpenNodes, open_nodes_of, Inside, KeptNode, LastPlaces, set_node, SetNodes, open_of, Open, add-one, drop-set, AreAlike, StandsAs, reverse_push, take-more, drop-more}
 use Rattle.hopen.proofs.KeptBy.{above-front, sets-more, sets-renamed, sets-take}
 use Rattle.hopen.proofs.Linked.{linked-in, linked-less, linked-more}
 use Rattle.hopen.proofs.Projected.{length-names, length-nodes, node-at, same_node-at}

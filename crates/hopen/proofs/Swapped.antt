@@ -1,6 +1,5 @@
 -- Two neighbours of a list that change places, and the places that are kept of them.
-use Rattle.std.proofs.lemmas.Bool.Decides.{nat_tests}
-use Rattle.hopen.proofs.Names.{◌≡◌, ◌≢◌, ℕ, zero, suc, ◌-◌, ◌<◌, ◌≤◌, eqb, Bool, true, false, cond, ◌&&◌, List, [], ◌∷◌, length, map, get_or, set, ◌⊎◌, inl, inr, refl, sym, ◌∙◌, ap, subst, arith, remove, true≢false, cases_Bool, cases_lt, eqb-true, eqb-false, get_or-set_same, get_or-set_other, get_or_past, length-set, last_up, up-sought, up-other, up-within, up-found, up-least, up-past, up-alike, IsHeld, IsLinked, swap_with_next, place_after_swap}
+use Rattle.hopen.proofs.Names.{◌≡◌, ◌≢◌, ℕ, zero, suc, ◌-◌, ◌<◌, ◌≤◌, eqb, Bool, true, false, cond, ◌&&◌, List, [], ◌∷◌, length, map, get_or, set, ◌⊎◌, inl, inr, refl, sym, ◌∙◌, ap, subst, arith, remove, true≢false, cases_Bool, cases_lt, eqb-true, eqb-false, get_or-set_same, get_or-set_other, get_or_past, length-set, last_up, up-sought, up-other, up-within, up-found, up-least, up-past, up-alike, IsHeld, IsLinked, swap_with_next, place_after_swap, nat_tests}
 use Rattle.hopen.proofs.Linked.{eqb-same, eqb-not}
 
 -- where a place goes

@@ -1,7 +1,5 @@
 -- A vector after an edit of the slice that it lends, and tables that have grown.
-use Rattle.hopen.proofs.Names.{arith, ◌≡◌, ℕ, List, ◌++◌, ◌<◌, length, map, take, drop, sym, ◌∙◌, subst, take-append_seam, length-map, opened_by, Stands, KeptNode, LastPlaces}
-use Rattle.std.proofs.Common.{◌^◌}
-use Rattle.std.specs.Prelude.{slice_index}
+use Rattle.hopen.proofs.Names.{arith, ◌≡◌, ℕ, List, ◌++◌, ◌<◌, length, map, take, drop, sym, ◌∙◌, subst, take-append_seam, length-map, opened_by, Stands, KeptNode, LastPlaces, ◌^◌, slice_index}
 
 -- where the same nodes are open afterwards, the vector has the items of the slice
 pub written_back : (new old : List KeptNode) (n : ℕ) (lent : List KeptNode) → map opened_by new ≡ map opened_by lent → lent ≡ old → length lent ≡ n → take n (new ++ drop (length new) old) ≡ new

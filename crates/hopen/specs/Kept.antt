@@ -111,6 +111,21 @@ pub record AreAlike (xs ys : List KeptNode) : Type 0 where
   pub same_nodes : map same_node_of xs ≡ map same_node_of ys
   pub sets : map sets_at xs ≡ map sets_at ys
 
+-- the same, but for the places of the nodes of their names too
+pub record AreAlikeButNames (xs ys : List KeptNode) : Type 0 where
+  pub opened : map opened_by xs ≡ map opened_by ys
+  pub same_nodes : map same_node_of xs ≡ map same_node_of ys
+  pub sets : map sets_at xs ≡ map sets_at ys
+
+-- tables of the same lengths
+pub record AreAsLong (last other : LastPlaces) : Type 0 where
+  pub names : length last.names.items ≡ length other.names.items
+  pub nodes : length last.nodes.items ≡ length other.nodes.items
+
+-- a node and its name are in the tables
+abbrev pub HasRoom : LastPlaces → Open → Type 0
+HasRoom last x = (x.name < length last.names.items) × (x.node < length last.nodes.items)
+
 -- a node that is open at a place and nowhere else, and a new one of its name that is open nowhere; the name is not special
 pub record CanGiveWay (last : LastPlaces) (x : KeptNode) (place : ℕ) (new : Open) : Type 0 where
   pub name : x.opened.name ≡ new.name

@@ -7,3 +7,4 @@ pub mod Rows
 pub mod Spelled
 pub mod NameSets
 pub mod Kept
+pub mod Vocabulary

@@ -1,15 +1,11 @@
 //! A node leaves the stack, and a new one comes right below another: the end of the adoption agency (13.2.6.4.7). The node that leaves
 //! passes those from it down to that other one, one at a time, and then the new one takes its place: so nothing below is looked at.
 
-ghost use Rattle.std.specs.Prelude.{◌≡◌, ℕ, List, ◌∷◌, ◌++◌, ◌+◌, ◌<◌, ◌≤◌, ◌^◌, ◌==◌, ◌&&◌, false, true, suc, length, map, remove, reverse, slice_index, slice_set, vec_capacity, vec_len};
-ghost use Rattle.std.specs.Prelude.{if◌then◌else◌};
+ghost use Rattle.std.specs.Prelude.{◌≡◌, ℕ, List, ◌∷◌, ◌++◌, ◌+◌, ◌<◌, ◌≤◌, ◌^◌, ◌==◌, ◌&&◌, false, true, suc, length, map, remove, slice_index, slice_set};
+ghost use Rattle.std.specs.Prelude.{vec_capacity, vec_len, if◌then◌else◌};
 ghost use Rattle.hchain.specs.Nearest.{put_before, without};
-ghost use Rattle.hopen.specs.Opens.{open_of};
-ghost use Rattle.hopen.specs.Stack.{is_node, is_open};
-ghost use Rattle.hopen.specs.Kept.{IsHeld, IsLinked, KeepSets, CanPass, Stands, names_in, nodes_in, opened_by, same_name_of, same_node_of};
-ghost use Rattle.hopen.specs.Kept.{sets_at, stack_of, swap_with_next};
-ghost use Rattle.names.specs.Sets.{is_special};
-ghost use Rattle.names.specs.Tags.{tag_of};
+ghost use Rattle.hopen.specs.Vocabulary.{is_node, is_open, is_special, names_in, nodes_in, open_of, opened_by, same_name_of, same_node_of, sets_at, stack_of};
+ghost use Rattle.hopen.specs.Vocabulary.{swap_with_next, tag_of, AreAlikeButNames, AreAsLong, CanPass, HasRoom, IsHeld, IsLinked, KeepSets, Stands};
 
 use crate::kept::{KeptNode, LastPlaces, hint, insert, remove_run, replace, sets_from};
 use crate::stack::Open;
@@ -44,9 +40,7 @@ fn next_of_name(names: &[u32], items: &[KeptNode], index: usize) -> u32
 fn link(items: &mut [KeptNode], index: usize, same_name: u32, next_name: u32)
     requires { index < length items.old }
     ensures same_names { map same_name_of items.new ≡ slice_set (map same_name_of items.old) index same_name }
-    ensures opened { map opened_by items.new ≡ map opened_by items.old }
-    ensures same_nodes { map same_node_of items.new ≡ map same_node_of items.old }
-    ensures sets { map sets_at items.new ≡ map sets_at items.old }
+    ensures rest { AreAlikeButNames items.new items.old }
 {
     let item = items[index];
     items[index] = KeptNode {
@@ -62,9 +56,7 @@ fn keep(names: &mut [u32], items: &mut [KeptNode], name: NameId, next: u32, plac
     requires within { next ≤ length items.old }
     ensures table { (k : ℕ) → slice_index names.new k ≡ (if next == 0 && k == name then place else slice_index names.old k) }
     ensures befores { (j : ℕ) → slice_index (map same_name_of items.new) j ≡ (if next == suc j then place else slice_index (map same_name_of items.old) j) }
-    ensures opened { map opened_by items.new ≡ map opened_by items.old }
-    ensures same_nodes { map same_node_of items.new ≡ map same_node_of items.old }
-    ensures sets { map sets_at items.new ≡ map sets_at items.old }
+    ensures rest { AreAlikeButNames items.new items.old }
 {
     if next > 0 {
         let item = items[next as usize - 1];
@@ -80,9 +72,7 @@ fn swap_names(names: &mut [u32], items: &mut [KeptNode], index: usize)
     requires places { length items.old < 2 ^ 32 }
     requires within { index + 1 < length items.old }
     ensures linked { IsLinked names.new (swap_with_next index (names_in (map opened_by items.old))) (map same_name_of items.new) }
-    ensures opened { map opened_by items.new ≡ map opened_by items.old }
-    ensures same_nodes { map same_node_of items.new ≡ map same_node_of items.old }
-    ensures sets { map sets_at items.new ≡ map sets_at items.old }
+    ensures rest { AreAlikeButNames items.new items.old }
 {
     let upper = items[index];
     let lower = items[index + 1];
@@ -139,8 +129,7 @@ fn swap(last: &mut LastPlaces, items: &mut [KeptNode], index: usize)
     requires can_pass { CanPass last.old items.old index }
     ensures stands { Stands last.new items.new }
     ensures opened { map opened_by items.new ≡ swap_with_next index (map opened_by items.old) }
-    ensures names { length last.new.names.items ≡ length last.old.names.items }
-    ensures nodes { length last.new.nodes.items ≡ length last.old.nodes.items }
+    ensures tables { AreAsLong last.new last.old }
 {
     let upper = items[index];
     let lower = items[index + 1];
@@ -176,8 +165,7 @@ fn sink(last: &mut LastPlaces, items: &mut [KeptNode], from: usize, to: usize) -
     ensures stands { Stands last.new items.new }
     ensures within { result < length items.new }
     ensures rest { remove (map opened_by items.new) result ≡ remove (map opened_by items.old) from }
-    ensures names { length last.new.names.items ≡ length last.old.names.items }
-    ensures nodes { length last.new.nodes.items ≡ length last.old.nodes.items }
+    ensures tables { AreAsLong last.new last.old }
 {
     let mut index = from;
     while index < to && can_pass(last, items, index) {
@@ -185,30 +173,6 @@ fn sink(last: &mut LastPlaces, items: &mut [KeptNode], from: usize, to: usize) -
         index += 1;
     }
     index
-}
-
-/// Takes a node out and puts a new one right below another if that is open, by a pass over all nodes below.
-fn exchange_any(
-    last: &mut LastPlaces,
-    items: &mut Vec<KeptNode>,
-    index: usize,
-    above: NodeId,
-    new: Open,
-)
-    requires stands { Stands last.old items.old.items }
-    requires within { index < length items.old.items }
-    requires room { vec_len items.old ≤ vec_capacity items.old }
-    requires places { length items.old.items < 2 ^ 32 }
-    requires name_in { new.name < length last.old.names.items }
-    requires node_in { new.node < length last.old.nodes.items }
-    ensures stands { Stands last.new items.new.items }
-    ensures items { stack_of items.new.items ≡ put_before (is_node above) (open_of new) (reverse (remove (map opened_by items.old.items) index)) }
-{
-    remove_run(last, items, index, index + 1);
-    let place = last.of_node(above) as usize;
-    if place > 0 {
-        insert(last, items, place, new);
-    }
 }
 
 /// Takes a node out and puts a new one right below another, by a pass over those from the one down to the other, where the one can
@@ -224,8 +188,7 @@ pub(crate) fn exchange(
     requires open { is_open leaving (stack_of items.old.items) ≡ true }
     requires room { vec_len items.old ≤ vec_capacity items.old }
     requires places { length items.old.items < 2 ^ 32 }
-    requires name_in { new.name < length last.old.names.items }
-    requires node_in { new.node < length last.old.nodes.items }
+    requires new_in { HasRoom last.old new }
     ensures stands { Stands last.new items.new.items }
     ensures items { stack_of items.new.items ≡ put_before (is_node above) (open_of new) (without (is_node leaving) (stack_of items.old.items)) }
 {
@@ -235,7 +198,11 @@ pub(crate) fn exchange(
     let index = sink(last, items, from, to);
     if from < to && index == to {
         replace(last, items, index, Open { node, name });
-    } else {
-        exchange_any(last, items, index, above, Open { node, name });
+        return;
+    }
+    remove_run(last, items, index, index + 1);
+    let place = last.of_node(above) as usize;
+    if place > 0 {
+        insert(last, items, place, Open { node, name });
     }
 }

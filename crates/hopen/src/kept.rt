@@ -1,19 +1,17 @@
 //! The places that open nodes keep, so that no question has to search the stack.
 
-ghost use Rattle.std.specs.Prelude.{◌≡◌, true, suc, ℕ, ◌+◌, ◌<◌, ◌≤◌, ◌^◌, OnOk, OnErr, [], ◌∷◌, drop, insert, length, map, slice_index, slice_set, take};
+ghost use Rattle.std.specs.Prelude.{◌≡◌, true, suc, ℕ, ◌+◌, ◌<◌, ◌≤◌, ◌^◌, OnOk, OnErr, ◌∷◌, drop, insert, length, map, slice_index, slice_set, take};
 ghost use Rattle.std.specs.Prelude.{vec_capacity, vec_len, if◌then◌else◌};
 ghost use Rattle.std.specs.List.{remove_range};
 ghost use Rattle.std.specs.Option.{option_map};
-ghost use Rattle.hopen.specs.Opens.{open_of};
-ghost use Rattle.hopen.specs.Stack.{current};
-ghost use Rattle.hopen.specs.Kept.{AreAlike, AreIn, CanGiveWay, KeepsFrom, Stands, kept_above, must_close_in, opened_by, stack_of};
-ghost use Rattle.hopen.specs.NameSets.{set_node};
+ghost use Rattle.hopen.specs.Vocabulary.{current, kept_above, must_close_in, open_of, opened_by, set_node, stack_of, AreAlike, AreAsLong, AreIn, CanGiveWay};
+ghost use Rattle.hopen.specs.Vocabulary.{HasRoom, KeepsFrom, Stands};
 
 use crate::name_sets::{NameSet, SetNodes};
 use crate::stack::Open;
 use hnodes::NodeId;
 use names::NameId;
-use std::alloc::{AllocError, Global};
+use std::alloc::AllocError;
 
 /// An open node, and the places that are known of it. Places count from 1, the topmost; 0 is none.
 #[derive(Clone, Copy)]
@@ -42,11 +40,7 @@ pub(crate) struct LastPlaces {
 fn place_at(places: &[u32], number: usize) -> u32
     ensures { result ≡ slice_index places.now number }
 {
-    if number < places.len() {
-        places[number]
-    } else {
-        0
-    }
+    places.get(number).copied().unwrap_or(0)
 }
 
 /// How many numbers a table grows by at least: numbers mostly come in order, so the next ones have room then.
@@ -84,16 +78,6 @@ impl KeptNode {
 }
 
 impl LastPlaces {
-    pub(crate) fn new(alloc: Global) -> Self
-        ensures names { result.names.items ≡ [] }
-        ensures nodes { result.nodes.items ≡ [] }
-    {
-        LastPlaces {
-            names: Vec::new(alloc),
-            nodes: Vec::new(alloc),
-        }
-    }
-
     /// The nearest place of a name.
     pub(crate) fn of_name(&self, name: NameId) -> u32
         ensures { result ≡ slice_index self.now.names.items name }
@@ -114,8 +98,7 @@ impl LastPlaces {
         ensures same_names { (k : ℕ) → slice_index self.new.names.items k ≡ slice_index self.old.names.items k }
         ensures same_nodes { (k : ℕ) → slice_index self.new.nodes.items k ≡ slice_index self.old.nodes.items k }
         ensures fits { length self.old.nodes.items < 2 ^ 32 → length self.new.nodes.items < 2 ^ 32 }
-        ensures name_in { OnOk result (opened.name < length self.new.names.items) }
-        ensures node_in { OnOk result (opened.node < length self.new.nodes.items) }
+        ensures room { OnOk result (HasRoom self.new opened) }
     {
         make_room(&mut self.names, opened.name.index())?;
         make_room(&mut self.nodes, opened.node.index())
@@ -124,8 +107,7 @@ impl LastPlaces {
     /// Writes the places of a node and of its name.
     #[inline(always)]
     fn set(&mut self, opened: Open, of_name: u32, of_node: u32)
-        requires name_in { opened.name < length self.old.names.items }
-        requires node_in { opened.node < length self.old.nodes.items }
+        requires { HasRoom self.old opened }
         ensures names { self.new.names.items ≡ slice_set self.old.names.items opened.name of_name }
         ensures nodes { self.new.nodes.items ≡ slice_set self.old.nodes.items opened.node of_node }
     {
@@ -136,31 +118,11 @@ impl LastPlaces {
     /// Notes that the node of the lowest item is closed: what the item kept is the nearest again.
     #[inline(always)]
     pub(crate) fn take_back(&mut self, item: &KeptNode)
-        requires name_in { item.now.opened.name < length self.old.names.items }
-        requires node_in { item.now.opened.node < length self.old.nodes.items }
+        requires { HasRoom self.old item.now.opened }
         ensures names { self.new.names.items ≡ slice_set self.old.names.items item.now.opened.name item.now.same_name }
         ensures nodes { self.new.nodes.items ≡ slice_set self.old.nodes.items item.now.opened.node item.now.same_node }
     {
         self.set(item.opened, item.same_name, item.same_node);
-    }
-
-    /// The item of a node that is opened right below all others.
-    #[inline(always)]
-    pub(crate) fn item(&self, opened: Open, sets: SetNodes) -> KeptNode
-        requires name_in { opened.name < length self.now.names.items }
-        requires node_in { opened.node < length self.now.nodes.items }
-        ensures opened { result.opened ≡ opened }
-        ensures same_name { result.same_name ≡ slice_index self.now.names.items opened.name }
-        ensures same_node { result.same_node ≡ slice_index self.now.nodes.items opened.node }
-        ensures sets { result.sets ≡ sets }
-    {
-        KeptNode {
-            opened,
-            same_name: self.names[opened.name.index()],
-            next_name: 0,
-            same_node: self.nodes[opened.node.index()],
-            sets,
-        }
     }
 }
 
@@ -205,8 +167,7 @@ fn unwind(last: &mut LastPlaces, items: &[KeptNode], from: usize)
     requires within { from ≤ length items.now }
     ensures stands { Stands last.new (take from items.now) }
     ensures numbers { AreIn (length last.new.names.items) (length last.new.nodes.items) (drop from items.now) }
-    ensures names { length last.new.names.items ≡ length last.old.names.items }
-    ensures nodes { length last.new.nodes.items ≡ length last.old.nodes.items }
+    ensures tables { AreAsLong last.new last.old }
 {
     let mut end = items.len();
     while end > from {
@@ -225,17 +186,22 @@ fn open_at(last: &mut LastPlaces, items: &mut [KeptNode], index: usize)
     ensures stands { Stands last.new (take (index + 1) items.new) }
     ensures numbers { AreIn (length last.new.names.items) (length last.new.nodes.items) (drop (index + 1) items.new) }
     ensures same { map opened_by items.new ≡ map opened_by items.old }
-    ensures names { length last.new.names.items ≡ length last.old.names.items }
-    ensures nodes { length last.new.nodes.items ≡ length last.old.nodes.items }
+    ensures tables { AreAsLong last.new last.old }
 {
     let place = index as u32 + 1;
     let opened = items[index].opened;
     let Open { node, name } = opened;
     let sets = sets_from(items, index, Open { node, name });
-    let item = last.item(opened, sets);
-    let same_name = item.same_name;
-    last.set(item.opened, place, place);
-    items[index] = item;
+    let same_name = last.names[name.index()];
+    let same_node = last.nodes[node.index()];
+    items[index] = KeptNode {
+        opened: Open { node, name },
+        same_name,
+        next_name: 0,
+        same_node,
+        sets,
+    };
+    last.set(opened, place, place);
     hint(items, same_name, place);
 }
 
@@ -247,8 +213,7 @@ fn rewind(last: &mut LastPlaces, items: &mut [KeptNode], from: usize)
     requires places { length items.old < 2 ^ 32 }
     ensures stands { Stands last.new items.new }
     ensures same { map opened_by items.new ≡ map opened_by items.old }
-    ensures names { length last.new.names.items ≡ length last.old.names.items }
-    ensures nodes { length last.new.nodes.items ≡ length last.old.nodes.items }
+    ensures tables { AreAsLong last.new last.old }
 {
     let mut index = from;
     while index < items.len() {
@@ -298,8 +263,7 @@ pub(crate) fn remove_run(last: &mut LastPlaces, items: &mut Vec<KeptNode>, from:
     requires places { length items.old.items < 2 ^ 32 }
     ensures stands { Stands last.new items.new.items }
     ensures items { map opened_by items.new.items ≡ map opened_by (remove_range items.old.items from to) }
-    ensures names { length last.new.names.items ≡ length last.old.names.items }
-    ensures nodes { length last.new.nodes.items ≡ length last.old.nodes.items }
+    ensures tables { AreAsLong last.new last.old }
     ensures capacity { vec_capacity items.new ≡ vec_capacity items.old }
 {
     if from == to {
@@ -323,29 +287,13 @@ fn can_give_way(last: &LastPlaces, item: &KeptNode, place: u32, new: Open) -> bo
         && last.of_node(node) == 0
 }
 
-/// Puts a new node in the place of one, and updates the places below it.
-fn replace_any(last: &mut LastPlaces, items: &mut [KeptNode], index: usize, new: Open)
-    requires stands { Stands last.old items.old }
-    requires within { index < length items.old }
-    requires places { length items.old < 2 ^ 32 }
-    requires name_in { new.name < length last.old.names.items }
-    requires node_in { new.node < length last.old.nodes.items }
-    ensures stands { Stands last.new items.new }
-    ensures items { map opened_by items.new ≡ slice_set (map opened_by items.old) index (open_of new) }
-{
-    unwind(last, items, index);
-    items[index] = KeptNode::new(new);
-    rewind(last, items, index);
-}
-
 /// Puts a new node in the place of one. It takes constant time where the new node has the name of the old one, which is not special and
 /// open nowhere else; otherwise it updates what is kept below it.
 pub(crate) fn replace(last: &mut LastPlaces, items: &mut [KeptNode], index: usize, new: Open)
     requires stands { Stands last.old items.old }
     requires within { index < length items.old }
     requires places { length items.old < 2 ^ 32 }
-    requires name_in { new.name < length last.old.names.items }
-    requires node_in { new.node < length last.old.nodes.items }
+    requires new_in { HasRoom last.old new }
     ensures stands { Stands last.new items.new }
     ensures items { map opened_by items.new ≡ slice_set (map opened_by items.old) index (open_of new) }
 {
@@ -360,7 +308,9 @@ pub(crate) fn replace(last: &mut LastPlaces, items: &mut [KeptNode], index: usiz
             ..item
         };
     } else {
-        replace_any(last, items, index, Open { node, name });
+        unwind(last, items, index);
+        items[index] = KeptNode::new(Open { node, name });
+        rewind(last, items, index);
     }
 }
 
@@ -370,8 +320,7 @@ pub(crate) fn insert(last: &mut LastPlaces, items: &mut Vec<KeptNode>, index: us
     requires within { index ≤ length items.old.items }
     requires room { vec_len items.old < vec_capacity items.old }
     requires places { length items.old.items + 1 < 2 ^ 32 }
-    requires name_in { new.name < length last.old.names.items }
-    requires node_in { new.node < length last.old.nodes.items }
+    requires new_in { HasRoom last.old new }
     ensures stands { Stands last.new items.new.items }
     ensures items { map opened_by items.new.items ≡ insert (map opened_by items.old.items) index (open_of new) }
 {

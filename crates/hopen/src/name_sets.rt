@@ -26,7 +26,7 @@ pub(crate) enum NameSet {
 
 /// Of an open node and those above it: for each set of names, which is the nearest that has one of them, by the number after the
 /// node's own; 0 is none.
-#[derive(Clone, Copy)]
+#[derive(Clone, Copy, Default)]
 pub(crate) struct SetNodes {
     scope: u32,
     list_item_scope: u32,
@@ -55,19 +55,7 @@ impl SetNodes {
         ensures nodes { (set : NameSet) → set_node set result ≡ 0 }
         ensures must_close { result.must_close ≡ 0 }
     {
-        SetNodes {
-            scope: 0,
-            list_item_scope: 0,
-            button_scope: 0,
-            table_scope: 0,
-            special: 0,
-            item_stop: 0,
-            heading: 0,
-            table_section: 0,
-            cell: 0,
-            tells_mode: 0,
-            must_close: 0,
-        }
+        SetNodes::default()
     }
 
     /// The nearest node of a set; 0 if there is none.

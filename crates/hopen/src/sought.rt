@@ -3,11 +3,7 @@
 ghost use Rattle.std.specs.Prelude.{◌≡◌, ◌≤◌, length, map};
 ghost use Rattle.std.specs.List.{find};
 ghost use Rattle.hchain.specs.Chains.{last_up};
-ghost use Rattle.hchain.specs.Places.{last_place};
-ghost use Rattle.hopen.specs.Kept.{Stands, names_in, opened_by, stack_of};
-ghost use Rattle.hopen.specs.NameSets.{holds, is_in};
-ghost use Rattle.names.specs.Tags.{tag_of};
-ghost use Rattle.names.specs.Sets.{is_special};
+ghost use Rattle.hopen.specs.Vocabulary.{holds, is_in, is_special, last_place, names_in, opened_by, stack_of, tag_of, Stands};
 
 use crate::kept::{KeptNode, LastPlaces, sets_above};
 use crate::name_sets::{NameSet, SetNodes};

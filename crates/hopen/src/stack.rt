@@ -5,15 +5,9 @@ ghost use Rattle.std.specs.Prelude.{leb, if◌then◌else◌};
 ghost use Rattle.std.specs.List.{find, list_all, position, remove_range, slice_get};
 ghost use Rattle.std.specs.Option.{option_map};
 ghost use Rattle.hchain.specs.Nearest.{after, without, changed, put_before};
-ghost use Rattle.hopen.specs.Stack.{is_node, is_open, current as current_of, above as above_of, in_scope as is_in_scope, furthest_block as furthest_block_of};
-ghost use Rattle.hopen.specs.Scopes.{stops as stops_node, stops_item, is_named, is_of};
-ghost use Rattle.hopen.specs.Opens.{open_of, is_sought};
-ghost use Rattle.hchain.specs.Places.{last_place};
-ghost use Rattle.hopen.specs.NameSets.{is_in};
-ghost use Rattle.names.specs.Tags.{tag_of};
-ghost use Rattle.names.specs.Sets.{is_special, may_stay_open};
-ghost use Rattle.names.specs.declared.refusal.Refusal.TheVariants.{TooDeep, Memory};
-ghost use Rattle.hopen.specs.declared.scope.Scope.TheVariants.{Default};
+ghost use Rattle.hopen.specs.Vocabulary.{above as above_of, current as current_of, furthest_block as furthest_block_of, in_scope as is_in_scope, is_in, is_named};
+ghost use Rattle.hopen.specs.Vocabulary.{is_node, is_of, is_open, is_sought, is_special, last_place, may_stay_open, open_of, stops as stops_node, stops_item};
+ghost use Rattle.hopen.specs.Vocabulary.{tag_of, Default, Memory, TooDeep};
 
 use crate::exchange::exchange;
 use crate::kept::{KeptNode, LastPlaces, insert, pop, push, remove_run, replace, sets_above};
@@ -71,7 +65,10 @@ impl OpenStack {
     {
         OpenStack {
             items: Vec::new(alloc),
-            last: LastPlaces::new(alloc),
+            last: LastPlaces {
+                names: Vec::new(alloc),
+                nodes: Vec::new(alloc),
+            },
             limit,
         }
     }
@@ -183,15 +180,9 @@ impl OpenStack {
         ensures ok { OnOk result (self.new ≡ record self.old { stack = put_before (is_node above) (open_of new) (without (is_node leaving) self.old.stack) }) }
         ensures err { OnErr result (self.new ≡ self.old) }
     {
-        let Open { node, name } = new;
-        self.last.make_room(Open { node, name })?;
-        exchange(
-            &mut self.last,
-            &mut self.items,
-            leaving,
-            above,
-            Open { node, name },
-        );
+        let wanted = new;
+        self.last.make_room(wanted)?;
+        exchange(&mut self.last, &mut self.items, leaving, above, new);
         Ok(())
     }
 
@@ -258,22 +249,20 @@ impl OpenStack {
     pub fn get(&self, up: usize) -> Option<Open>
         ensures { option_map open_of result ≡ slice_get self.now.stack up }
     {
-        if up < self.items.len() {
-            Some(self.items[self.items.len() - 1 - up].opened)
-        } else {
-            None
+        if up >= self.items.len() {
+            return None;
         }
+        Some(self.items[self.items.len() - 1 - up].opened)
     }
 
     /// The open node with `down` nodes above it: 0 is the topmost, html.
     pub fn from_top(&self, down: usize) -> Option<Open>
         ensures { option_map open_of result ≡ slice_get (reverse self.now.stack) down }
     {
-        if down < self.items.len() {
-            Some(self.items[down].opened)
-        } else {
-            None
+        if down >= self.items.len() {
+            return None;
         }
+        Some(self.items[down].opened)
     }
 
     /// How many open nodes are below a node; `None` if it is not open.
@@ -344,16 +333,8 @@ impl OpenStack {
         match sought {
             Sought::Node(node) => self.last.of_node(node),
             Sought::Name(name) => self.last.of_name(name),
-            Sought::Group(group) => self.set_place(NameSet::Group(group)),
+            Sought::Group(group) => set_place(&self.last, &self.items, NameSet::Group(group)),
         }
-    }
-
-    /// The place of the nearest node whose name is in a set; 0 if none is open.
-    #[inline(always)]
-    fn set_place(&self, set: NameSet) -> u32
-        ensures { result ≡ last_place (is_in set) self.now.stack }
-    {
-        set_place(&self.last, &self.items, set)
     }
 
     /// How many open nodes are below the nearest that is sought; None if there is none.
@@ -397,6 +378,6 @@ impl OpenStack {
         ensures { result ≡ is_in_scope (is_in stops) (is_sought sought) self.now.stack }
     {
         let place = self.last_place(sought);
-        place > 0 && place >= self.set_place(stops)
+        place > 0 && place >= set_place(&self.last, &self.items, stops)
     }
 }

@@ -1,4 +1,4 @@
-use Rattle.hchain.proofs.Names.{◌≡◌, ◌≢◌, ℕ, ◌+◌, List, get_or, set, sym, ◌∙◌, ap, set-get_or, none, numbers_of, Link}
+use Rattle.hchain.proofs.Names.{◌≡◌, ◌≢◌, ℕ, ◌+◌, List, get_or, set, sym, ◌∙◌, ap, arith, set-get_or, set_comm, none, numbers_of, Link}
 use Rattle.hchain.proofs.Relinked.{nth, number-at}
 use Rattle.hchain.proofs.relink.swap_at.Goals as goal
 
@@ -18,18 +18,6 @@ returns-then-first-second-clause-numbers c =
     sym (ap (λ n. set (set old i n) (i + 1) (get_or old i 0)) (sym same) ∙ ap (λ ns. set ns (i + 1) (get_or old i 0)) (set-get_or old i 0)
     ∙ ap (λ n. set old (i + 1) n) same ∙ set-get_or old (i + 1) 0)
 
-pub move_down-requires-clause-free : goal.move_down-requires-clause-free
-move_down-requires-clause-free c = is-none c.args.links.now c.args.index c.if-first.true
-
-pub move_down-requires-clause-number : goal.move_down-requires-clause-number
-move_down-requires-clause-number c = is-some c.args.links.now (c.args.index + 1) (λ e. c.if-first-second.false (c.if-first.true ∙ sym e))
-
-pub move_up-requires-clause-free : goal.move_up-requires-clause-free
-move_up-requires-clause-free c = is-none c.args.links.now (c.args.index + 1) c.if-second.true
-
-pub move_up-requires-clause-number : goal.move_up-requires-clause-number
-move_up-requires-clause-number c = is-some c.args.links.now c.args.index c.if-first.false
-
 pub exchange-requires-clause-first : goal.exchange-requires-clause-first
 exchange-requires-clause-first c = is-some c.args.links.now c.args.index c.if-first.false
 
@@ -40,10 +28,6 @@ pub returns-then-first-clause-numbers : goal.returns-then-first-clause-numbers
 returns-then-first-clause-numbers c =
     let old : List ℕ = numbers_of c.args.links.now in
     let i : ℕ = c.args.index in
-    c.move_down.ensures.numbers ∙ ap (λ n. set (set old i (get_or old (i + 1) 0)) (i + 1) n) (sym (is-none c.args.links.now i c.if-first.true))
-
-pub returns-then-second-clause-numbers : goal.returns-then-second-clause-numbers
-returns-then-second-clause-numbers c =
-    let old : List ℕ = numbers_of c.args.links.now in
-    let i : ℕ = c.args.index in
-    c.move_up.ensures.numbers ∙ ap (λ n. set (set old i n) (i + 1) (get_or old i 0)) (sym (is-none c.args.links.now (i + 1) c.if-second.true))
+    let ne : i + 1 ≢ i = omega arith in
+    c.put_in.ensures.numbers ∙ ap (λ ys. set ys i c.take_out-link.result.number) c.take_out-link.ensures.numbers ∙ set_comm old (i + 1) i none c.take_out-link.result.number ne
+    ∙ (λ t. set (set old i (c.take_out-link.ensures.number t)) (i + 1) (sym (number-at c.args.links.now i ∙ c.if-first.true) t))

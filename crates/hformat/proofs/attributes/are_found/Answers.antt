@@ -1,5 +1,4 @@
-use Rattle.hformat.proofs.Names.{rules, tests, ◌∙◌, sym, nat_eq, map, list_any, YieldsList-from_slice, list_all-map, attribute_of, same_attribute}
-use Rattle.std.proofs.lemmas.Iterator.Search.{all_from_yields_List}
+use Rattle.hformat.proofs.Names.{rules, tests, ◌∙◌, sym, nat_eq, map, list_any, YieldsList-from_slice, list_all-map, attribute_of, same_attribute, all_from_yields_List}
 use Rattle.hformat.proofs.attributes.are_found.Goals as goal
 
 pub returns : goal.returns

@@ -1,6 +1,4 @@
-use Rattle.hformat.proofs.Names.{◌≡◌, Bool, false, List, map, nat_eq, rules, sym, ◌∙◌, ap, arith, list_all, list_any, list_all-map, attribute_of, Attr, are_among, same_attribute}
-use Rattle.std.proofs.lemmas.List.{take_all}
-use Rattle.std.proofs.lemmas.List.Folds.{list_all_at}
+use Rattle.hformat.proofs.Names.{◌≡◌, Bool, false, List, map, nat_eq, rules, sym, ◌∙◌, ap, arith, list_all, list_any, list_all-map, attribute_of, Attr, are_among, same_attribute, take_all, list_all_at}
 use Rattle.hformat.proofs.attributes.are_found_by_name.Goals as goal
 
 -- whether an attribute is in the other list

@@ -1,5 +1,4 @@
-use Rattle.hformat.proofs.Names.{rules, tests, ◌∙◌, sym, refl, nat_eq, YieldsList-from_slice, attribute_of, same_attribute, any-map}
-use Rattle.std.proofs.lemmas.Iterator.Search.{any_from_yields_List}
+use Rattle.hformat.proofs.Names.{rules, tests, ◌∙◌, sym, refl, nat_eq, YieldsList-from_slice, attribute_of, same_attribute, any-map, any_from_yields_List}
 use Rattle.hformat.proofs.attributes.contains.Goals as goal
 
 pub returns : goal.returns

@@ -1,7 +1,4 @@
-use Rattle.hformat.proofs.Names.{◌≡◌, ℕ, suc, ◌-◌, ◌<◌, ◌==◌, Bool, true, false, ◌&&◌, List, map, length, take, get_or, nat_eq, refl, sym, ◌∙◌, ap, subst, arith, list_any, eqb-true, length-map, last_up, attribute_of, Attr, same_attribute, any-map}
-use Rattle.std.proofs.Common.{bytes_eq}
-use Rattle.std.proofs.lemmas.List.{take_all}
-use Rattle.std.proofs.lemmas.List.Folds.{list_any_at}
+use Rattle.hformat.proofs.Names.{◌≡◌, ℕ, suc, ◌-◌, ◌<◌, ◌==◌, Bool, true, false, ◌&&◌, List, map, length, take, get_or, nat_eq, refl, sym, ◌∙◌, ap, subst, arith, list_any, eqb-true, length-map, last_up, attribute_of, Attr, same_attribute, any-map, bytes_eq, take_all, list_any_at}
 use Rattle.hformat.proofs.ByName.{Last, any-less, last-found}
 use Rattle.hformat.proofs.attributes.contains_by_name.Goals as goal
 

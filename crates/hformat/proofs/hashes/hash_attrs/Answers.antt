@@ -1,5 +1,4 @@
-use Rattle.hformat.proofs.Names.{eqb, map, ◌∙◌, ap, take_all, attribute_of, distinct, hash_of}
-use Rattle.std.proofs.lemmas.List.Filters.{dedup_is}
+use Rattle.hformat.proofs.Names.{eqb, map, ◌∙◌, ap, take_all, attribute_of, distinct, hash_of, dedup_is}
 use Rattle.hformat.proofs.SameHash.{sorted-distinct}
 use Rattle.hformat.proofs.hashes.hash_attrs.Goals as goal
 

@@ -1,5 +1,4 @@
-use Rattle.hformat.proofs.Names.{bytes_eq}
-use Rattle.std.specs.Prelude.{nat_eq}
+use Rattle.hformat.proofs.Names.{bytes_eq, nat_eq}
 use Rattle.hformat.proofs.Spellings.{formatting_spelled}
 use Rattle.hformat.proofs.laws.formatting_knows_no_names.Goals as goal
 

@@ -1,7 +1,4 @@
-use Rattle.hformat.proofs.Names.{◌≡◌, ℕ, suc, ◌+◌, ◌<◌, ◌++◌, ◌∷◌, [], List, length, take, get_or, set, subst, refl, sym, ◌∙◌, ap, arith, length-append, length-map, length-take-le, map-append, ne_eqb, All-get_or, none, EntryOf, IsStored, item_of, nowhere, by_hash, number_by, numbers_by, Stored}
-use Rattle.std.proofs.Math.Seq.{set-append_seam}
-use Rattle.hformat.specs.Hashes.{token_hash}
-use Rattle.hchain.proofs.Tables.{take-more}
+use Rattle.hformat.proofs.Names.{◌≡◌, ℕ, suc, ◌+◌, ◌<◌, ◌++◌, ◌∷◌, [], List, length, take, get_or, set, subst, refl, sym, ◌∙◌, ap, arith, length-append, length-map, length-take-le, map-append, ne_eqb, All-get_or, none, EntryOf, IsStored, item_of, nowhere, by_hash, number_by, numbers_by, Stored, set-append_seam, token_hash, take-more}
 use Rattle.hformat.proofs.slots.hash_items.Goals as goal
 use Rattle.hformat.proofs.slots.hash_items.Goals.{in-Entry+in_ok-find_hash-in-Entry+in_ok-push-in-Entry, in-Marker+in_ok-push-in-Marker, in-Hole+in_ok-push-in-Hole}
 

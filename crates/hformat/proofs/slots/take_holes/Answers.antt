@@ -1,5 +1,4 @@
-use Rattle.hformat.proofs.Names.{◌≡◌, ◌+◌, ◌<◌, get_or, length, sym, ◌∙◌, ap, arith, subst, get_or_read, is_gone, Stored}
-use Rattle.std.proofs.Common.{Vec, Global}
+use Rattle.hformat.proofs.Names.{◌≡◌, ◌+◌, ◌<◌, get_or, length, sym, ◌∙◌, ap, arith, subst, get_or_read, is_gone, Stored, Vec, Global}
 use Rattle.hformat.specs.declared.entry.Slot.TheVariants as stored
 use Rattle.hformat.proofs.Closed.{IsTaken, taken-hole, taken-item}
 use Rattle.hformat.proofs.slots.take_holes.Goals as goal

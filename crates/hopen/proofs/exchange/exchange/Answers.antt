@@ -1,5 +1,5 @@
-use Rattle.hopen.proofs.Names.{◌≡◌, ℕ, suc, ◌-◌, ◌<◌, ◌≤◌, true, List, Some, None, length, map, reverse, get_or, insert, remove, set, inl, inr, sym, ◌∙◌, ap, arith, true≢false, cases_lt, with_items_is, length-map, position, is_some, with_items, put_before, last_place, is_some-position, remove_nearest, last_place-le, position-none, position-some, Stands, node_of, opened_by, same_node_of, stack_of, open_of, is_node, is_open, KeptNode, LastPlaces}
-use Rattle.hopen.proofs.ExchangedStack.{exchanged-nearest, item_of, map-remove, set-insert}
+use Rattle.hopen.proofs.Names.{◌≡◌, ℕ, suc, ◌-◌, ◌<◌, ◌≤◌, true, List, Some, None, length, map, reverse, get_or, insert, remove, set, inl, inr, sym, ◌∙◌, ap, arith, true≢false, cases_lt, with_items_is, length-map, position, is_some, with_items, put_before, without, insert_nearest, no_words, remove_range, ◌+◌, last_place, is_some-position, remove_nearest, last_place-le, position-none, position-some, Stands, node_of, opened_by, same_node_of, stack_of, open_of, is_node, is_open, KeptNode, LastPlaces, OpenNode}
+use Rattle.hopen.proofs.ExchangedStack.{exchanged-nearest, item_of, length-left, map-insert, map-remove, map-remove_range, set-insert}
 use Rattle.hopen.proofs.Linked.{says-places}
 use Rattle.hopen.proofs.Standing.{length-stack_of}
 use Rattle.hopen.proofs.exchange.exchange.Goals as goal
@@ -20,6 +20,17 @@ module _ (last : LastPlaces) (items : List KeptNode) (s : Stands last items) (n 
 
   found-at : (i : ℕ) → p ≡ suc i → position (is_node n) (stack_of items) ≡ Some (length (stack_of items) - 1 - i)
   found-at i e = position-some (is_node n) (stack_of items) i (sym place-of ∙ e)
+
+  -- what is left without it
+  left-without : is_open n (stack_of items) ≡ true → (l : List (OpenNode ℕ)) → l ≡ remove (map opened_by items) (p - 1) → reverse l ≡ without (is_node n) (stack_of items)
+  left-without here l e =
+      let some = open-place here in
+      ap reverse (e ∙ sym (map-remove opened_by items (p - 1)))
+      ∙ remove_nearest opened_by (is_node n) items (p - 1) (length (stack_of items) - 1 - (p - 1)) (found-at (p - 1) (omega arith)) (omega (arith, some, place-le, length-stack_of items))
+
+-- a member leaves, where the vector was written anew before
+left-is : (base left : List KeptNode) (i : ℕ) → map opened_by left ≡ map opened_by (remove_range base i (i + 1)) → map opened_by left ≡ remove (map opened_by base) i
+left-is base left i e = let next : i + 1 ≡ suc i = omega arith in e ∙ map-remove_range opened_by base i (i + 1) ∙ ap (remove_range (map opened_by base) i) next
 
 pub overflow_sub-from : goal.overflow_sub-from
 overflow_sub-from c = omega (arith, open-place c.args.last.now c.args.items.now.items c.requires.stands c.args.leaving c.of_node.result c.of_node.ensures c.requires.open)
@@ -67,18 +78,66 @@ returns-then-index-to-clause-items c =
     (found-at last items c.requires.stands c.args.leaving c.of_node.result c.of_node.ensures from (omega (arith, start)))
     (found-at last items c.requires.stands c.args.above c.of_node-2.result c.of_node-2.ensures to (omega (arith, c.if-from-to.true, c.saturating_sub-to.ensures)))
 
-pub returns-else-from-to-clause-items : goal.returns-else-from-to-clause-items
-returns-else-from-to-clause-items c =
-    let last = c.args.last.now in
-    let items = c.args.items.now.items in
-    let from = c.of_node.result - 1 in
-    let index = c.sink-index.result in
+pub insert-requires-clause-within : goal.insert-requires-clause-within
+insert-requires-clause-within c =
+    let left = c.remove_run.new.items.items in
+    let place = c.of_node-place.ensures ∙ says-places node_of _ _ (map opened_by left) c.remove_run.ensures.stands.nodes c.args.above in
+    omega (arith, place, last_place-le (is_node c.args.above) (stack_of left), length-stack_of left)
+
+pub insert-requires-clause-room : goal.insert-requires-clause-room
+insert-requires-clause-room c =
     let sunk = c.sink-index.new.items in
-    let word = put_before (is_node c.args.above) (open_of c.args.new) in
-    let start = open-place last items c.requires.stands c.args.leaving c.of_node.result c.of_node.ensures c.requires.open in
-    let most = place-le last items c.requires.stands c.args.leaving c.of_node.result c.of_node.ensures in
+    omega (
+      arith,
+      c.requires.room,
+      c.remove_run.ensures.capacity,
+      c.sink-index.auto.items,
+      c.deref_mut.ensures.len,
+      length-left (with_items c.args.items.now sunk).items c.remove_run.new.items.items c.sink-index.result (omega (arith, c.sink-index.ensures.within, ap length (with_items_is c.args.items.now sunk (c.sink-index.auto.items ∙ c.deref_mut.ensures.len)))) c.remove_run.ensures.items,
+      ap length (with_items_is c.args.items.now sunk (c.sink-index.auto.items ∙ c.deref_mut.ensures.len)),
+    )
+
+pub insert-requires-clause-places : goal.insert-requires-clause-places
+insert-requires-clause-places c =
+    let sunk = c.sink-index.new.items in
+    omega (
+      arith,
+      c.requires.places,
+      c.sink-index.auto.items,
+      c.deref_mut.ensures.len,
+      length-left (with_items c.args.items.now sunk).items c.remove_run.new.items.items c.sink-index.result (omega (arith, c.sink-index.ensures.within, ap length (with_items_is c.args.items.now sunk (c.sink-index.auto.items ∙ c.deref_mut.ensures.len)))) c.remove_run.ensures.items,
+      ap length (with_items_is c.args.items.now sunk (c.sink-index.auto.items ∙ c.deref_mut.ensures.len)),
+    )
+
+pub returns-then-place-gt0-clause-items : goal.returns-then-place-gt0-clause-items
+returns-then-place-gt0-clause-items c =
+    let items = c.args.items.now.items in
+    let sunk = c.sink-index.new.items in
     let base = with_items_is c.args.items.now sunk (c.sink-index.auto.items ∙ c.deref_mut.ensures.len) in
-    let rest : remove (map opened_by sunk) index ≡ remove (map opened_by items) from = c.sink-index.ensures.rest ∙ ap (λ (xs : List KeptNode). remove (map opened_by xs) from) c.deref_mut.ensures.value in
-    let far = length (stack_of items) - 1 - from in
-    c.exchange_any.ensures.items ∙ ap (λ (xs : List KeptNode). word (reverse (remove (map opened_by xs) index))) base ∙ ap (λ l. word (reverse l)) (rest ∙ sym (map-remove opened_by items from))
-    ∙ ap word (remove_nearest opened_by (is_node c.args.leaving) items from far (found-at last items c.requires.stands c.args.leaving c.of_node.result c.of_node.ensures from (omega (arith, start))) (omega (arith, start, most, length-stack_of items)))
+    let left = c.remove_run.new.items.items in
+    let place = c.of_node-place.result in
+    let sought = is_node c.args.above in
+    let new : KeptNode = item_of c.args.new in
+    let gone = left-without c.args.last.now items c.requires.stands c.args.leaving c.of_node.result c.of_node.ensures c.requires.open (map opened_by left)
+    (left-is (with_items c.args.items.now sunk).items left c.sink-index.result c.remove_run.ensures.items ∙ ap (λ (xs : List KeptNode). remove (map opened_by xs) c.sink-index.result) base
+    ∙ c.sink-index.ensures.rest ∙ ap (λ (xs : List KeptNode). remove (map opened_by xs) (c.of_node.result - 1)) c.deref_mut.ensures.value) in
+    let says = c.of_node-place.ensures ∙ says-places node_of _ _ (map opened_by left) c.remove_run.ensures.stands.nodes c.args.above in
+    let next : place - 1 + 1 ≡ place = omega arith in
+    let long = length-stack_of left in
+    let most = last_place-le sought (stack_of left) in
+    ap reverse (c.insert.ensures.items ∙ ap (λ n. insert (map opened_by left) n (open_of c.args.new)) (sym next) ∙ sym (map-insert opened_by left (place - 1 + 1) new))
+    ∙ insert_nearest opened_by sought left (place - 1) (length (stack_of left) - 1 - (place - 1)) new (position-some sought (stack_of left) (place - 1) (omega arith)) (omega arith)
+    ∙ ap (put_before sought (open_of c.args.new)) gone
+
+pub returns-else-place-gt0-clause-items : goal.returns-else-place-gt0-clause-items
+returns-else-place-gt0-clause-items c =
+    let items = c.args.items.now.items in
+    let sunk = c.sink-index.new.items in
+    let base = with_items_is c.args.items.now sunk (c.sink-index.auto.items ∙ c.deref_mut.ensures.len) in
+    let left = c.remove_run.new.items.items in
+    let sought = is_node c.args.above in
+    let gone = left-without c.args.last.now items c.requires.stands c.args.leaving c.of_node.result c.of_node.ensures c.requires.open (map opened_by left)
+    (left-is (with_items c.args.items.now sunk).items left c.sink-index.result c.remove_run.ensures.items ∙ ap (λ (xs : List KeptNode). remove (map opened_by xs) c.sink-index.result) base
+    ∙ c.sink-index.ensures.rest ∙ ap (λ (xs : List KeptNode). remove (map opened_by xs) (c.of_node.result - 1)) c.deref_mut.ensures.value) in
+    let none = sym (says-places node_of _ _ (map opened_by left) c.remove_run.ensures.stands.nodes c.args.above) ∙ sym c.of_node-place.ensures in
+    sym ((no_words sought (stack_of left) (position-none sought (stack_of left) (omega arith))).put_is (open_of c.args.new)) ∙ ap (put_before sought (open_of c.args.new)) gone

@@ -12,6 +12,5 @@ loop-index-preserved c =
       stands = c.swap.ensures.stands;
       within = omega (arith, c.swap.auto.items, c.loop-index.auto.items, c.requires.to);
       rest = ap (λ l. remove l (i + 1)) c.swap.ensures.opened ∙ ap (remove _) next ∙ swapped-rest i ys (omega (arith, many, c.loop-index.auto.items, c.requires.to)) ∙ c.loop-index.invariant.rest;
-      names = c.swap.ensures.names ∙ c.loop-index.invariant.names;
-      nodes = c.swap.ensures.nodes ∙ c.loop-index.invariant.nodes;
+      tables = record { names = c.swap.ensures.tables.names ∙ c.loop-index.invariant.tables.names; nodes = c.swap.ensures.tables.nodes ∙ c.loop-index.invariant.tables.nodes };
     }

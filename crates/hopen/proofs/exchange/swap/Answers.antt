@@ -23,7 +23,7 @@ swap_items-requires-clause-fits c =
     omega (
       arith,
       c.requires.stands.fits,
-      ap (λ ys. get_or (nodes_in ys) (c.args.index + 1) 0) c.swap_names.ensures.opened,
+      ap (λ ys. get_or (nodes_in ys) (c.args.index + 1) 0) c.swap_names.ensures.rest.opened,
       walk-in c.args.last.now.nodes.items (nodes_in (map opened_by c.args.items.now)) (map same_node_of c.args.items.now) c.requires.stands.nodes (c.args.index + 1) (omega (arith, length-nodes c.args.items.now, c.requires.can_pass.within)),
     )
 
@@ -37,7 +37,7 @@ returns-clause-stands c =
     let within = c.requires.can_pass.within in
     let first = c.index-items-index.is in
     let second = c.index-items-index-2.is in
-    stands-passed last items i c.requires.stands c.requires.can_pass _ c.swap_items.new.items (c.swap_items.ensures.opened ∙ ap (swap_with_next i) c.swap_names.ensures.opened) (c.swap_items.ensures.same_nodes ∙ ap (swap_with_next i) c.swap_names.ensures.same_nodes)
+    stands-passed last items i c.requires.stands c.requires.can_pass _ c.swap_items.new.items (c.swap_items.ensures.opened ∙ ap (swap_with_next i) c.swap_names.ensures.rest.opened) (c.swap_items.ensures.same_nodes ∙ ap (swap_with_next i) c.swap_names.ensures.rest.same_nodes)
     (transport (λ t. IsLinked (sym (with_items_is last.names c.swap_names.new.names (c.swap_names.auto.names ∙ c.deref_mut.ensures.len)) t) (swap_with_next i (names_in (map opened_by items))) (sym c.swap_items.ensures.same_names t)) c.swap_names.ensures.linked)
     (λ t. set (set last.nodes.items ((c.index.ensures ∙ sym (node-of items i x (omega (arith, within)) first)) t) (i + 1 + 1)) ((c.index-2.ensures ∙ sym (node-of items (i + 1) y within second)) t) (i + 1))
     c.swap_items.ensures.sets

@@ -1,5 +1,4 @@
-use Rattle.hopen.proofs.Names.{◌≡◌, ◌<◌, ◌∷◌, List, take, drop, length, ◌∙◌, sym, ap, subst, map, rules, arith, drop_at, length-take-le, AreIn, Stands, opened_by, open_of, KeptNode, Open, common_steps}
-use Rattle.std.specs.List.{insert}
+use Rattle.hopen.proofs.Names.{◌≡◌, ◌<◌, ◌∷◌, List, take, drop, length, ◌∙◌, sym, ap, subst, map, rules, arith, drop_at, length-take-le, AreIn, Stands, opened_by, open_of, KeptNode, Open, common_steps, insert}
 use Rattle.hopen.proofs.ExchangedStack.{map-insert}
 use Rattle.hopen.proofs.WrittenBack.{written_back}
 use Rattle.hopen.proofs.kept.insert.Goals as goal
@@ -24,7 +23,7 @@ rewind-requires-clause-numbers c =
     let left : drop c.args.index (insert all c.args.index c.new.result) ≡ c.new.result ∷ drop c.args.index all = drop_at (take c.args.index all) (c.new.result ∷ drop c.args.index all) c.args.index (length-take-le c.args.index all c.requires.within) in
     let numbers : AreIn (length c.unwind.new.last.names.items) (length c.unwind.new.last.nodes.items) (drop c.args.index all) = subst (λ (xs : List KeptNode). AreIn (length c.unwind.new.last.names.items) (length c.unwind.new.last.nodes.items) (drop c.args.index xs)) c.deref.ensures.value c.unwind.ensures.numbers in
     subst (AreIn (length c.unwind.new.last.names.items) (length c.unwind.new.last.nodes.items)) (sym (ap (drop c.args.index) (c.deref_mut.ensures.value ∙ put) ∙ left)) (
-      subst (λ (z : Open). z.name < length c.unwind.new.last.names.items) (sym c.new.ensures) (omega (arith, c.requires.name_in, c.unwind.ensures.names)),
-      subst (λ (z : Open). z.node < length c.unwind.new.last.nodes.items) (sym c.new.ensures) (omega (arith, c.requires.node_in, c.unwind.ensures.nodes)),
+      subst (λ (z : Open). z.name < length c.unwind.new.last.names.items) (sym c.new.ensures) (omega (arith, c.requires.new_in.0, c.unwind.ensures.tables.names)),
+      subst (λ (z : Open). z.node < length c.unwind.new.last.nodes.items) (sym c.new.ensures) (omega (arith, c.requires.new_in.1, c.unwind.ensures.tables.nodes)),
       numbers,
     )

@@ -1,11 +1,8 @@
 use Rattle.hopen.proofs.Standing.{stands-in, stands-less}
 use Rattle.hopen.proofs.kept.pop.Goals as goal
 
-pub take_back-requires-clause-name_in : goal.take_back-requires-clause-name_in
-take_back-requires-clause-name_in c = (stands-in c.pop.new.self.items c.in_ok-item.item c.args.last.now (rw c.in_ok-item.ensures.items at c.requires)).0
-
-pub take_back-requires-clause-node_in : goal.take_back-requires-clause-node_in
-take_back-requires-clause-node_in c = (stands-in c.pop.new.self.items c.in_ok-item.item c.args.last.now (rw c.in_ok-item.ensures.items at c.requires)).1
+pub take_back-requires : goal.take_back-requires
+take_back-requires c = stands-in c.pop.new.self.items c.in_ok-item.item c.args.last.now (rw c.in_ok-item.ensures.items at c.requires)
 
 pub returns-clause-stands : goal.returns-clause-stands
 returns-clause-stands c =

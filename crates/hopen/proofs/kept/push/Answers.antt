@@ -18,8 +18,8 @@ open_at-requires-clause-numbers c =
     let left : drop c.len-index.result c.deref_mut.result.now ≡ c.new.result ∷ [] =
     ap (drop c.len-index.result) (c.deref_mut.ensures.value ∙ c.in_ok-push.ensures.items) ∙ drop_at items (c.new.result ∷ []) c.len-index.result (omega arith) in
     subst (AreIn (length last.names.items) (length last.nodes.items)) (sym left) (
-      subst (λ (z : Open). z.name < length last.names.items) (sym c.new.ensures) c.in_ok-make_room.ensures.name_in,
-      subst (λ (z : Open). z.node < length last.nodes.items) (sym c.new.ensures) c.in_ok-make_room.ensures.node_in,
+      subst (λ (z : Open). z.name < length last.names.items) (sym c.new.ensures) c.in_ok-make_room.ensures.room.0,
+      subst (λ (z : Open). z.node < length last.nodes.items) (sym c.new.ensures) c.in_ok-make_room.ensures.room.1,
       tt,
     )
 

@@ -7,8 +7,7 @@ loop-index-preserved c = record {
   stands = c.open_at.ensures.stands;
   numbers = c.open_at.ensures.numbers;
   same = c.open_at.ensures.same ∙ c.loop-index.invariant.same;
-  names = c.open_at.ensures.names ∙ c.loop-index.invariant.names;
-  nodes = c.open_at.ensures.nodes ∙ c.loop-index.invariant.nodes;
+  tables = record { names = c.open_at.ensures.tables.names ∙ c.loop-index.invariant.tables.names; nodes = c.open_at.ensures.tables.nodes ∙ c.loop-index.invariant.tables.nodes };
 }
 
 pub returns-clause-stands : goal.returns-clause-stands

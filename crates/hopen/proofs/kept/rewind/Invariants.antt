@@ -1,4 +1,4 @@
-use Rattle.hopen.proofs.Names.{◌≡◌, ◌≤◌, ◌-◌, length, map, take, drop, Stands, AreIn, opened_by}
+use Rattle.hopen.proofs.Names.{◌≡◌, ◌≤◌, ◌-◌, length, map, take, drop, Stands, AreIn, opened_by, AreAsLong}
 use Rattle.hopen.proofs.kept.rewind.Given as goal
 
 abbrev pub invariant-loop-index : goal.invariant-loop-index
@@ -7,8 +7,7 @@ invariant-loop-index l = record {
   stands : Stands l.last (take l.index l.items);
   numbers : AreIn (length l.last.names.items) (length l.last.nodes.items) (drop l.index l.items);
   same : map opened_by l.items ≡ map opened_by l.initial.items;
-  names : length l.last.names.items ≡ length l.initial.last.names.items;
-  nodes : length l.last.nodes.items ≡ length l.initial.last.nodes.items;
+  tables : AreAsLong l.last l.initial.last;
 }
 
 abbrev pub decreases-loop-index : goal.decreases-loop-index

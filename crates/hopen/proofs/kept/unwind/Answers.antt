@@ -2,13 +2,8 @@ use Rattle.hopen.proofs.Names.{◌≡◌, suc, ◌-◌, ◌<◌, length, ap, ◌
 use Rattle.hopen.proofs.Standing.{taken-in, taken-less, numbers-more}
 use Rattle.hopen.proofs.kept.unwind.Goals as goal
 
-pub take_back-requires-clause-name_in : goal.take_back-requires-clause-name_in
-take_back-requires-clause-name_in c =
-    (taken-in c.args.items.now c.loop-end.end (c.loop-end.end - 1) c.index-items-end.result (omega arith) (omega arith) c.index-items-end.is c.loop-end.last c.loop-end.invariant.stands).0
-
-pub take_back-requires-clause-node_in : goal.take_back-requires-clause-node_in
-take_back-requires-clause-node_in c =
-    (taken-in c.args.items.now c.loop-end.end (c.loop-end.end - 1) c.index-items-end.result (omega arith) (omega arith) c.index-items-end.is c.loop-end.last c.loop-end.invariant.stands).1
+pub take_back-requires : goal.take_back-requires
+take_back-requires c = taken-in c.args.items.now c.loop-end.end (c.loop-end.end - 1) c.index-items-end.result (omega arith) (omega arith) c.index-items-end.is c.loop-end.last c.loop-end.invariant.stands
 
 pub loop-end-preserved : goal.loop-end-preserved
 loop-end-preserved c =
@@ -23,6 +18,5 @@ loop-end-preserved c =
       above = omega arith;
       stands = taken-less c.args.items.now c.loop-end.end (c.loop-end.end - 1) x next within c.index-items-end.is c.loop-end.last c.take_back.new.self c.loop-end.invariant.stands c.take_back.ensures.names c.take_back.ensures.nodes;
       numbers = rw (names, nodes) (numbers-more c.args.items.now c.loop-end.end (c.loop-end.end - 1) x next within c.index-items-end.is (length c.loop-end.last.names.items) (length c.loop-end.last.nodes.items) c.loop-end.invariant.numbers both.0 both.1);
-      names = omega arith;
-      nodes = omega arith;
+      tables = record { names = omega arith; nodes = omega arith };
     }

@@ -1,4 +1,4 @@
-use Rattle.hopen.proofs.Names.{◌≡◌, ◌≤◌, length, take, drop, Stands, AreIn}
+use Rattle.hopen.proofs.Names.{◌≤◌, length, take, drop, Stands, AreIn, AreAsLong}
 use Rattle.hopen.proofs.kept.unwind.Given as goal
 
 abbrev pub invariant-loop-end : goal.invariant-loop-end
@@ -7,8 +7,7 @@ invariant-loop-end l = record {
   above : l.from ≤ l.end;
   stands : Stands l.last (take l.end l.items);
   numbers : AreIn (length l.last.names.items) (length l.last.nodes.items) (drop l.end l.items);
-  names : length l.last.names.items ≡ length l.initial.last.names.items;
-  nodes : length l.last.nodes.items ≡ length l.initial.last.nodes.items;
+  tables : AreAsLong l.last l.initial.last;
 }
 
 abbrev pub decreases-loop-end : goal.decreases-loop-end

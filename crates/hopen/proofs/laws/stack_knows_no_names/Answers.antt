@@ -1,6 +1,4 @@
-use Rattle.hopen.proofs.Names.{nat_eq, tag_of}
-use Rattle.std.specs.Prelude.{bytes_eq}
-use Rattle.names.specs.Tags.{tag_named}
+use Rattle.hopen.proofs.Names.{nat_eq, tag_of, bytes_eq, tag_named}
 use Rattle.hopen.proofs.Spellings.{stack_spelled}
 use Rattle.hopen.proofs.laws.stack_knows_no_names.Goals as goal
 

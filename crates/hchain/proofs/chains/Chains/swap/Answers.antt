@@ -1,4 +1,4 @@
-use Rattle.hchain.proofs.Names.{◌+◌, get_or, set, ap, ◌∙◌, arith, with_items_is, numbers_of}
+use Rattle.hchain.proofs.Names.{◌+◌, get_or, set, ap, ◌∙◌, with_items_is, numbers_of}
 use Rattle.hchain.proofs.Lent.{lent, lent-within}
 use Rattle.hchain.proofs.chains.Chains.swap.Goals as goal
 
@@ -6,11 +6,9 @@ pub swap_at-requires : goal.swap_at-requires
 swap_at-requires c =
     let last = c.deref_mut.ensures.value in
     let links = c.deref_mut-2.ensures.value in
-    let are = lent _ c.deref_mut.result.now _ c.deref_mut-2.result.now last links c.self.invariant in
     let same = ap numbers_of links ∙ c.self.view_is in
     record {
-      chained = are.chained;
-      fits = are.fits;
+      chains = lent _ c.deref_mut.result.now _ c.deref_mut-2.result.now last links c.self.invariant;
       within = lent-within _ _ (c.args.index + 1) same c.requires;
     }
 
@@ -18,7 +16,7 @@ pub invariant_of-self : goal.invariant_of-self
 invariant_of-self c =
     let last = with_items_is c.self.inside.last c.swap_at.new.last (c.swap_at.auto.last ∙ c.deref_mut.ensures.len) in
     let links = with_items_is c.self.inside.links c.swap_at.new.links (c.swap_at.auto.links ∙ c.deref_mut-2.ensures.len) in
-    lent c.swap_at.new.last _ c.swap_at.new.links _ last links (record { chained = c.swap_at.ensures.chained; fits = omega (arith, c.self.invariant.fits) })
+    lent c.swap_at.new.last _ c.swap_at.new.links _ last links c.swap_at.ensures.chains
 
 pub returns : goal.returns
 returns c =

@@ -1,17 +1,14 @@
-use Rattle.hformat.proofs.Names.{◌≡◌, suc, ◌+◌, ◌-◌, ◌<◌, length, reverse, sym, ◌∙◌, ap, arith, option_and_then, as_entry, entry_of, is_entry, item_of, items_of, by_node, no_words, slice_get_nearest, words}
-use Rattle.hformat.proofs.Chained.{last-is, last_of}
-use Rattle.hformat.proofs.Holes.{entry_of-is, no-position, node-at, node-none, node_place, place-there, slots-are, told-is}
+use Rattle.hformat.proofs.Names.{◌≡◌, suc, ◌+◌, ◌-◌, ◌<◌, length, sym, ◌∙◌, ap, arith, option_and_then, as_entry, entry_of, is_entry, item_of, items_of, by_node, no_words, slice_get_nearest, words}
+use Rattle.hformat.proofs.Holes.{entry_of-is, no-position, node-at, node-none, node_place, place-there, placed, slots-are, told-is}
 use Rattle.hformat.proofs.ItemLists.{length-items_of}
-use Rattle.hformat.proofs.Listed.{numbers-back, place-le}
+use Rattle.hformat.proofs.Listed.{place-le}
 use Rattle.hformat.proofs.Live.{entry_of-live}
 use Rattle.hformat.proofs.formatting.Formatting.entry_of.Goals as goal
 
 pub returns-then-place-eq0 : goal.returns-then-place-eq0
 returns-then-place-eq0 c =
     let items = c.self.inside.slots.items.items in
-    let numbers = ap reverse c.self.invariant.nodes ∙ numbers-back by_node items in
-    let place : c.last-place.result ≡ node_place c.args.node (items_of items) =
-    c.last-place.ensures ∙ last-is c.node_number.result c.self.inside.slots.nodes ∙ (λ i. last_of (c.node_number.ensures i) (numbers i)) in
+    let place = placed c.args.node c.node_number.result c.last-place.result c.self.inside.slots c.self.invariant c.node_number.ensures c.last-place.ensures in
     let slots = slots-are items c.self.invariant.stored in
     let none = node-none c.args.node (omega arith) (items_of items) slots (sym place ∙ c.if-place-eq0.true) in
     sym (ap (entry_of c.args.node) (sym c.self.view_is) ∙ entry_of-live c.args.node (items_of items) slots (omega arith) ∙ entry_of-is c.args.node (items_of items)
@@ -20,17 +17,13 @@ returns-then-place-eq0 c =
 pub index-requires : goal.index-requires
 index-requires c =
     let items = c.self.inside.slots.items.items in
-    let numbers = ap reverse c.self.invariant.nodes ∙ numbers-back by_node items in
-    let place : c.last-place.result ≡ node_place c.args.node (items_of items) =
-    c.last-place.ensures ∙ last-is c.node_number.result c.self.inside.slots.nodes ∙ (λ i. last_of (c.node_number.ensures i) (numbers i)) in
+    let place = placed c.args.node c.node_number.result c.last-place.result c.self.inside.slots c.self.invariant c.node_number.ensures c.last-place.ensures in
     omega (arith, c.if-place-eq0.false, place-le by_node (suc (suc c.args.node)) (items_of items), length-items_of items)
 
 pub returns : goal.returns
 returns c =
     let items = c.self.inside.slots.items.items in
-    let numbers = ap reverse c.self.invariant.nodes ∙ numbers-back by_node items in
-    let place : c.last-place.result ≡ node_place c.args.node (items_of items) =
-    c.last-place.ensures ∙ last-is c.node_number.result c.self.inside.slots.nodes ∙ (λ i. last_of (c.node_number.ensures i) (numbers i)) in
+    let place = placed c.args.node c.node_number.result c.last-place.result c.self.inside.slots c.self.invariant c.node_number.ensures c.last-place.ensures in
     let slots = slots-are items c.self.invariant.stored in
     let some : 0 < c.last-place.result = omega (arith, c.if-place-eq0.false) in
     let x = c.index.result.now in

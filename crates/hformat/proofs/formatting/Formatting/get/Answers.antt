@@ -1,5 +1,4 @@
-use Rattle.hformat.proofs.Names.{sym, ◌∙◌, ap, option_and_then, option_map, as_entry, entry_at, entry_is, items_of, live}
-use Rattle.std.proofs.lemmas.Option.{slice_get_past}
+use Rattle.hformat.proofs.Names.{sym, ◌∙◌, ap, option_and_then, option_map, as_entry, entry_at, entry_is, items_of, live, slice_get_past}
 use Rattle.hformat.proofs.Holes.{nth-index, nth-item, nth-missing, nth-there, told-is}
 use Rattle.hformat.proofs.Live.{nth-get}
 use Rattle.hformat.proofs.formatting.Formatting.get.Goals as goal

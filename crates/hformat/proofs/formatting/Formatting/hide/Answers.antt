@@ -1,10 +1,8 @@
-use Rattle.hformat.proofs.Names.{◌≡◌, suc, ◌+◌, ◌-◌, ◌<◌, length, reverse, refl, sym, ◌∙◌, ap, arith, list_any, remove, is_entry, hole, item_of, items_of, live, by_node, without, drop_nearest, is_some-position, no_words, set_nearest, words}
-use Rattle.std.specs.Option.{is_some}
+use Rattle.hformat.proofs.Names.{◌≡◌, suc, ◌+◌, ◌-◌, ◌<◌, length, refl, sym, ◌∙◌, ap, arith, list_any, remove, is_entry, hole, item_of, items_of, live, by_node, without, drop_nearest, is_some-position, no_words, set_nearest, words, is_some}
 use Rattle.hformat.specs.declared.entry.Slot.TheVariants as stored
-use Rattle.hformat.proofs.Chained.{last-is, last_of}
-use Rattle.hformat.proofs.Holes.{no-position, node-at, node-none, node_place, slots-are}
+use Rattle.hformat.proofs.Holes.{no-position, node-at, node-none, node_place, placed, slots-are}
 use Rattle.hformat.proofs.ItemLists.{length-items_of}
-use Rattle.hformat.proofs.Listed.{numbers-back, place-le}
+use Rattle.hformat.proofs.Listed.{place-le}
 use Rattle.hformat.proofs.Live.{any-live}
 use Rattle.hformat.proofs.LiveEdits.{hide-live, without1-live}
 use Rattle.hformat.proofs.formatting.Formatting.hide.Goals as goal
@@ -13,16 +11,14 @@ use Rattle.hformat.proofs.formatting.Formatting.hide.Goals.{then-place-len, else
 pub returns-then-place-eq0-clause-there : goal.returns-then-place-eq0-clause-there
 returns-then-place-eq0-clause-there c =
     let items = c.self.inside.slots.items.items in
-    let place : c.last-place.result ≡ node_place c.args.node (items_of items) =
-    c.last-place.ensures ∙ last-is c.node_number.result c.self.inside.slots.nodes ∙ (λ i. last_of (c.node_number.ensures i) ((ap reverse c.self.invariant.nodes ∙ numbers-back by_node items) i)) in
+    let place = placed c.args.node c.node_number.result c.last-place.result c.self.inside.slots c.self.invariant c.node_number.ensures c.last-place.ensures in
     let slots = slots-are items c.self.invariant.stored in
     sym (ap (list_any (is_entry c.args.node)) (sym c.self.view_is) ∙ any-live c.args.node (items_of items) slots (omega arith) ∙ node-none c.args.node (omega arith) (items_of items) slots (omega arith))
 
 pub returns-then-place-eq0-clause-entry : goal.returns-then-place-eq0-clause-entry
 returns-then-place-eq0-clause-entry c =
     let items = c.self.inside.slots.items.items in
-    let place : c.last-place.result ≡ node_place c.args.node (items_of items) =
-    c.last-place.ensures ∙ last-is c.node_number.result c.self.inside.slots.nodes ∙ (λ i. last_of (c.node_number.ensures i) ((ap reverse c.self.invariant.nodes ∙ numbers-back by_node items) i)) in
+    let place = placed c.args.node c.node_number.result c.last-place.result c.self.inside.slots c.self.invariant c.node_number.ensures c.last-place.ensures in
     let slots = slots-are items c.self.invariant.stored in
     let none = no-position (is_entry c.args.node) (items_of items) (node-none c.args.node (omega arith) (items_of items) slots (omega arith)) in
     sym c.self.view_is ∙ ap live (sym (no_words (is_entry c.args.node) (items_of items) none).without_is)
@@ -31,24 +27,21 @@ returns-then-place-eq0-clause-entry c =
 pub hide-requires-clause-within : goal.hide-requires-clause-within
 hide-requires-clause-within c =
     let items = c.self.inside.slots.items.items in
-    let place : c.last-place.result ≡ node_place c.args.node (items_of items) =
-    c.last-place.ensures ∙ last-is c.node_number.result c.self.inside.slots.nodes ∙ (λ i. last_of (c.node_number.ensures i) ((ap reverse c.self.invariant.nodes ∙ numbers-back by_node items) i)) in
+    let place = placed c.args.node c.node_number.result c.last-place.result c.self.inside.slots c.self.invariant c.node_number.ensures c.last-place.ensures in
     let slots = slots-are items c.self.invariant.stored in
     omega (arith, c.if-place-eq0.false, place-le by_node (suc (suc c.args.node)) (items_of items), length-items_of items)
 
 pub truncate-requires-clause-within : goal.truncate-requires-clause-within
 truncate-requires-clause-within c =
     let items = c.self.inside.slots.items.items in
-    let place : c.last-place.result ≡ node_place c.args.node (items_of items) =
-    c.last-place.ensures ∙ last-is c.node_number.result c.self.inside.slots.nodes ∙ (λ i. last_of (c.node_number.ensures i) ((ap reverse c.self.invariant.nodes ∙ numbers-back by_node items) i)) in
+    let place = placed c.args.node c.node_number.result c.last-place.result c.self.inside.slots c.self.invariant c.node_number.ensures c.last-place.ensures in
     let slots = slots-are items c.self.invariant.stored in
     omega (arith, c.if-place-eq0.false, place-le by_node (suc (suc c.args.node)) (items_of items), length-items_of items)
 
 pub returns-clause-there : goal.returns-clause-there
 returns-clause-there c =
     let items = c.self.inside.slots.items.items in
-    let place : c.last-place.result ≡ node_place c.args.node (items_of items) =
-    c.last-place.ensures ∙ last-is c.node_number.result c.self.inside.slots.nodes ∙ (λ i. last_of (c.node_number.ensures i) ((ap reverse c.self.invariant.nodes ∙ numbers-back by_node items) i)) in
+    let place = placed c.args.node c.node_number.result c.last-place.result c.self.inside.slots c.self.invariant c.node_number.ensures c.last-place.ensures in
     let slots = slots-are items c.self.invariant.stored in
     let some : 0 < c.last-place.result = omega (arith, c.if-place-eq0.false) in
     sym (ap (list_any (is_entry c.args.node)) (sym c.self.view_is) ∙ any-live c.args.node (items_of items) slots (omega arith)
@@ -57,8 +50,7 @@ returns-clause-there c =
 pub returns-clause-entry : goal.returns-clause-entry
 returns-clause-entry c =
     let items = c.self.inside.slots.items.items in
-    let place : c.last-place.result ≡ node_place c.args.node (items_of items) =
-    c.last-place.ensures ∙ last-is c.node_number.result c.self.inside.slots.nodes ∙ (λ i. last_of (c.node_number.ensures i) ((ap reverse c.self.invariant.nodes ∙ numbers-back by_node items) i)) in
+    let place = placed c.args.node c.node_number.result c.last-place.result c.self.inside.slots c.self.invariant c.node_number.ensures c.last-place.ensures in
     let slots = slots-are items c.self.invariant.stored in
     let some : 0 < c.last-place.result = omega (arith, c.if-place-eq0.false) in
     let up = length (items_of items) - node_place c.args.node (items_of items) in

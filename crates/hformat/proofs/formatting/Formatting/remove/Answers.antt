@@ -1,7 +1,6 @@
-use Rattle.hformat.proofs.Names.{◌≡◌, length, true, false, sym, ◌∙◌, ap, arith, list_any, is_entry, without_entry, no_words}
+use Rattle.hformat.proofs.Names.{◌≡◌, length, true, false, sym, ◌∙◌, ap, arith, list_any, is_entry, without_entry, no_words, length-without}
 use Rattle.hformat.proofs.Holes.{no-position}
 use Rattle.hformat.proofs.Listed.{filter-all, filter-without}
-use Rattle.hchain.proofs.Nearest.{length-without}
 use Rattle.hformat.proofs.formatting.Formatting.remove.Goals as goal
 
 pub loop-node-smaller : goal.loop-node-smaller

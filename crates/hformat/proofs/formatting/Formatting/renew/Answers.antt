@@ -1,9 +1,7 @@
-use Rattle.hformat.proofs.Names.{◌≡◌, ◌-◌, false, Some, length, sym, ◌∙◌, ap, arith, for_node, entry_is, items_of, live, told, changed_at}
-use Rattle.std.specs.Option.{is_some}
+use Rattle.hformat.proofs.Names.{◌≡◌, ◌-◌, false, Some, length, sym, ◌∙◌, ap, arith, for_node, entry_is, items_of, live, told, changed_at, is_some, changed_at_past}
 use Rattle.hformat.proofs.Bookmarks.{is_some-option_map}
 use Rattle.hformat.proofs.Holes.{changed-marker, marker-is, nth-index, nth-item, nth-missing, nth-there}
 use Rattle.hformat.proofs.Live.{is_hole-for_node, nth-changed}
-use Rattle.hchain.proofs.Nearest.{changed_at_past}
 use Rattle.hformat.proofs.formatting.Formatting.renew.Goals as goal
 
 pub returns-then-is_some : goal.returns-then-is_some

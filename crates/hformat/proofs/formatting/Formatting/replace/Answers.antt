@@ -1,25 +1,22 @@
-use Rattle.hformat.proofs.Names.{◌≡◌, suc, ◌-◌, ◌<◌, length, get_or, reverse, sym, ◌∙◌, ap, arith, get_or_default, for_node, is_entry, with_node, items_of, live, by_node, changed_at, no_words, words}
+use Rattle.hformat.proofs.Names.{◌≡◌, suc, ◌-◌, ◌<◌, length, get_or, sym, ◌∙◌, ap, arith, get_or_default, for_node, is_entry, with_node, items_of, live, by_node, changed_at, no_words, words}
 use Rattle.hformat.specs.declared.entry.Slot.TheVariants as stored
-use Rattle.hformat.proofs.Chained.{last-is, last_of}
-use Rattle.hformat.proofs.Holes.{no-position, node-at, node-none, node_place, place-told, slots-are}
+use Rattle.hformat.proofs.Holes.{no-position, node-at, node-none, node_place, place-told, placed, slots-are}
 use Rattle.hformat.proofs.ItemLists.{length-items_of}
-use Rattle.hformat.proofs.Listed.{numbers-back, place-le}
+use Rattle.hformat.proofs.Listed.{place-le}
 use Rattle.hformat.proofs.LiveEdits.{with_node-live}
 use Rattle.hformat.proofs.formatting.Formatting.replace.Goals as goal
 
 pub renew-requires-clause-within : goal.renew-requires-clause-within
 renew-requires-clause-within c =
     let items = c.self.inside.slots.items.items in
-    let place : c.last-place.result ≡ node_place c.args.from (items_of items) =
-    c.last-place.ensures ∙ last-is c.node_number.result c.self.inside.slots.nodes ∙ (λ i. last_of (c.node_number.ensures i) ((ap reverse c.self.invariant.nodes ∙ numbers-back by_node items) i)) in
+    let place = placed c.args.from c.node_number.result c.last-place.result c.self.inside.slots c.self.invariant c.node_number.ensures c.last-place.ensures in
     let slots = slots-are items c.self.invariant.stored in
     omega (arith, place-le by_node (suc (suc c.args.from)) (items_of items), length-items_of items)
 
 pub renew-requires-clause-entry : goal.renew-requires-clause-entry
 renew-requires-clause-entry c =
     let items = c.self.inside.slots.items.items in
-    let place : c.last-place.result ≡ node_place c.args.from (items_of items) =
-    c.last-place.ensures ∙ last-is c.node_number.result c.self.inside.slots.nodes ∙ (λ i. last_of (c.node_number.ensures i) ((ap reverse c.self.invariant.nodes ∙ numbers-back by_node items) i)) in
+    let place = placed c.args.from c.node_number.result c.last-place.result c.self.inside.slots c.self.invariant c.node_number.ensures c.last-place.ensures in
     let slots = slots-are items c.self.invariant.stored in
     let i = c.last-place.result - 1 in
     let x = get_or items i stored.Hole in
@@ -29,8 +26,7 @@ renew-requires-clause-entry c =
 pub returns-then-place-gt0 : goal.returns-then-place-gt0
 returns-then-place-gt0 c =
     let items = c.self.inside.slots.items.items in
-    let place : c.last-place.result ≡ node_place c.args.from (items_of items) =
-    c.last-place.ensures ∙ last-is c.node_number.result c.self.inside.slots.nodes ∙ (λ i. last_of (c.node_number.ensures i) ((ap reverse c.self.invariant.nodes ∙ numbers-back by_node items) i)) in
+    let place = placed c.args.from c.node_number.result c.last-place.result c.self.inside.slots c.self.invariant c.node_number.ensures c.last-place.ensures in
     let slots = slots-are items c.self.invariant.stored in
     let up = length (items_of items) - node_place c.args.from (items_of items) in
     let at : length items - 1 - (c.last-place.result - 1) ≡ up = omega (arith, length-items_of items) in
@@ -41,8 +37,7 @@ returns-then-place-gt0 c =
 pub returns-else-place-gt0 : goal.returns-else-place-gt0
 returns-else-place-gt0 c =
     let items = c.self.inside.slots.items.items in
-    let place : c.last-place.result ≡ node_place c.args.from (items_of items) =
-    c.last-place.ensures ∙ last-is c.node_number.result c.self.inside.slots.nodes ∙ (λ i. last_of (c.node_number.ensures i) ((ap reverse c.self.invariant.nodes ∙ numbers-back by_node items) i)) in
+    let place = placed c.args.from c.node_number.result c.last-place.result c.self.inside.slots c.self.invariant c.node_number.ensures c.last-place.ensures in
     let slots = slots-are items c.self.invariant.stored in
     let none = no-position (is_entry c.args.from) (items_of items) (node-none c.args.from (omega arith) (items_of items) slots (omega arith)) in
     sym c.self.view_is ∙ ap live (sym ((no_words (is_entry c.args.from) (items_of items) none).changed_is (for_node c.args.to)))

@@ -1,5 +1,4 @@
-use Rattle.hformat.proofs.Names.{◌≡◌, ℕ, suc, ◌+◌, ◌-◌, ◌<◌, ◌≤◌, None, Some, Option, List, [], IfSome, map, length, get_or, take, nat_eq, drop, reverse, add-zero, ap, sym, ◌∙◌, subst, Bool, true, false, arith, if◌then◌else◌, remove, option_map_or, length-map, attribute_of, EntryOf, Listed, after_marker, as_entry, is_equal, item_of, items_of, nowhere, by_hash, number_by, numbers_by, Stored, slice_get_nearest}
-use Rattle.std.proofs.Common.{drop_of_length-le, zero-add}
+use Rattle.hformat.proofs.Names.{◌≡◌, ℕ, suc, ◌+◌, ◌-◌, ◌<◌, ◌≤◌, None, Some, Option, List, [], IfSome, map, length, get_or, take, nat_eq, drop, reverse, add-zero, ap, sym, ◌∙◌, subst, Bool, true, false, arith, if◌then◌else◌, remove, option_map_or, length-map, attribute_of, EntryOf, Listed, after_marker, as_entry, is_equal, item_of, items_of, nowhere, by_hash, number_by, numbers_by, Stored, slice_get_nearest, drop_of_length-le, zero-add}
 use Rattle.hformat.proofs.ByHash.{Steps, last-at, length-after, number-at, numbers-before, skips, steps}
 use Rattle.hformat.proofs.Chained.{before-is, last-is, last_of}
 use Rattle.hformat.proofs.Earliest.{farthest, farthest-within, room-made, room-there}

@@ -1,5 +1,4 @@
-use Rattle.hformat.proofs.Names.{◌≡◌, ◌+◌, true, is_some, set, ap, sym, ◌∙◌, false≢true, none}
-use Rattle.std.proofs.Common.{max}
+use Rattle.hformat.proofs.Names.{◌≡◌, ◌+◌, true, is_some, set, ap, sym, ◌∙◌, false≢true, none, max}
 use Rattle.hformat.specs.declared.entry.Slot.TheVariants as stored
 use Rattle.hformat.proofs.Slotted.{all-but-hashes, listed-hide}
 use Rattle.hformat.proofs.slots.Slots.hide.Goals as goal

@@ -1,5 +1,4 @@
-use Rattle.hformat.proofs.Names.{◌≡◌, ◌+◌, length, get_or, sym, ◌∙◌, ap, arith, remove, length-remove}
-use Rattle.std.proofs.lemmas.List.Edits.{length-insert}
+use Rattle.hformat.proofs.Names.{◌≡◌, ◌+◌, length, get_or, sym, ◌∙◌, ap, arith, remove, length-remove, length-insert}
 use Rattle.hformat.specs.declared.entry.Slot.TheVariants as stored
 use Rattle.hformat.proofs.Moved.{exchanged, exchanged-up, insert-remove}
 use Rattle.hformat.proofs.slots.Slots.raise.Goals as goal

@@ -1,9 +1,24 @@
-use Rattle.hnodes.proofs.Names.{refl, with_char}
-use Rattle.hnodes.proofs.Opened.{opened, became, became_view}
+use Rattle.hnodes.proofs.Names.{err_from_is_err_and, refl, ap, row_of, with_char}
+use Rattle.hnodes.proofs.Opened.{opened, became, became_view, stayed, stayed_view, written, unwritten}
 use Rattle.hnodes.proofs.tree.Tree.lengthen.Goals as goal
 
 pub invariant_of-self : goal.invariant_of-self
-invariant_of-self c = became c.self.inside c.args.self.now c.push_char.new.nodes.items c.args.text (with_char c.args.c) c.push_char.result (opened c.self.inside c.args.self.now c.self.view_is c.self.invariant) refl c.push_char.ensures.ok c.push_char.ensures.err
+invariant_of-self c =
+    stayed c.self.inside c.args.self.now _ (opened c.self.inside c.args.self.now c.self.view_is c.self.invariant)
+    (unwritten c.self.inside c.args.self.now c.args.at _ c.index_mut.result.now _ (opened c.self.inside c.args.self.now c.self.view_is c.self.invariant) c.requires c.at.view_is c.index_mut.ensures.value (ap (λ w. record (row_of c.index_mut.result.now) { what = w }) c.in_err-add_char.ensures.err))
+
+pub invariant_of-self-2 : goal.invariant_of-self-2
+invariant_of-self-2 c =
+    became c.self.inside c.args.self.now _ c.args.at (with_char c.args.c) (opened c.self.inside c.args.self.now c.self.view_is c.self.invariant) refl
+    (written c.self.inside c.args.self.now c.args.at _ c.index_mut.result.now _ (opened c.self.inside c.args.self.now c.self.view_is c.self.invariant) c.requires c.at.view_is c.index_mut.ensures.value (with_char c.args.c) (ap (λ w. record (row_of c.index_mut.result.now) { what = w }) c.in_ok-add_char.ensures.ok))
 
 pub returns-clause-ok : goal.returns-clause-ok
-returns-clause-ok c = became_view c.self.inside c.args.self.now c.push_char.new.nodes.items c.args.text (with_char c.args.c) c.push_char.result (opened c.self.inside c.args.self.now c.self.view_is c.self.invariant) c.push_char.ensures.ok
+returns-clause-ok c =
+    became_view c.self.inside c.args.self.now _ c.args.at (with_char c.args.c) (opened c.self.inside c.args.self.now c.self.view_is c.self.invariant)
+    (written c.self.inside c.args.self.now c.args.at _ c.index_mut.result.now _ (opened c.self.inside c.args.self.now c.self.view_is c.self.invariant) c.requires c.at.view_is c.index_mut.ensures.value (with_char c.args.c) (ap (λ w. record (row_of c.index_mut.result.now) { what = w }) c.in_ok-add_char.ensures.ok))
+
+pub returns-in_err-add_char-clause-err : goal.returns-in_err-add_char-clause-err
+returns-in_err-add_char-clause-err c =
+    let p = err_from_is_err_and c.from_residual.result c.from_residual.ensures.1 in
+    rw p.1 (stayed_view c.self.inside c.args.self.now _ (opened c.self.inside c.args.self.now c.self.view_is c.self.invariant)
+    (unwritten c.self.inside c.args.self.now c.args.at _ c.index_mut.result.now _ (opened c.self.inside c.args.self.now c.self.view_is c.self.invariant) c.requires c.at.view_is c.index_mut.ensures.value (ap (λ w. record (row_of c.index_mut.result.now) { what = w }) c.in_err-add_char.ensures.err)))

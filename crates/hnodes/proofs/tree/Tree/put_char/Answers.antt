@@ -1,9 +1,9 @@
-use Rattle.hnodes.proofs.Names.{encode_utf8, text, place_node}
+use Rattle.hnodes.proofs.Names.{text, place_node}
 use Rattle.hnodes.proofs.Fresh.{place-made, place-under}
 use Rattle.hnodes.proofs.tree.Tree.put_char.Goals as goal
 
 pub insert-requires-clause-place : goal.insert-requires-clause-place
-insert-requires-clause-place c = rw c.in_ok-text-in-None.ensures.ok (place-made c.args.place c.args.self.now (text (encode_utf8 c.args.c)) c.requires)
+insert-requires-clause-place c = rw c.in_ok-text-in-None.ensures.ok (place-made c.args.place c.args.self.now (text c.encode_utf8.result.now) c.requires)
 
 pub insert-requires-clause-not_inside : goal.insert-requires-clause-not_inside
 insert-requires-clause-not_inside c =

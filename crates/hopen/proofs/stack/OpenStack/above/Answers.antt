@@ -1,5 +1,4 @@
-use Rattle.hopen.proofs.Names.{◌≡◌, ℕ, Some, suc, ◌+◌, ◌-◌, length, drop, ◌∙◌, ap, sym, arith, option_map, drop-length, opened_by, stack_of, KeptNode, open_of, OpenNodes, is_node, current, words, no_words, slice_get_nearest}
-use Rattle.hopen.specs.Stack.{above}
+use Rattle.hopen.proofs.Names.{◌≡◌, ℕ, Some, suc, ◌+◌, ◌-◌, length, drop, ◌∙◌, ap, sym, arith, option_map, drop-length, opened_by, stack_of, KeptNode, open_of, OpenNodes, is_node, current, words, no_words, slice_get_nearest, above}
 use Rattle.hopen.proofs.Searches.{current-drop}
 use Rattle.hopen.proofs.Opened.{found}
 use Rattle.hopen.proofs.stack.OpenStack.above.Goals as goal

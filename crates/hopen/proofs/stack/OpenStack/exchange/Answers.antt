@@ -1,5 +1,4 @@
-use Rattle.hopen.proofs.Names.{ℕ, length, refl, ap, ◌∙◌, arith, without, put_before, open_of, OpenNodes, is_node, is_open, stack_of}
-use Rattle.hchain.proofs.Nearest.{length-without}
+use Rattle.hopen.proofs.Names.{ℕ, length, refl, ap, ◌∙◌, arith, without, put_before, open_of, OpenNodes, is_node, is_open, stack_of, length-without}
 use Rattle.hopen.proofs.Opened.{seen}
 use Rattle.hopen.proofs.Standing.{length-stack_of}
 use Rattle.hopen.proofs.WrittenBack.{stands_same}

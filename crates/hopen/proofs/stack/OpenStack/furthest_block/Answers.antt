@@ -1,6 +1,4 @@
-use Rattle.hopen.proofs.Names.{◌≡◌, ℕ, ◌-◌, List, length, drop, map, refl, ◌∙◌, ap, sym, rules, find, position, option_map, unwrap_or, is_special, tag_of, opened_by, open_of, OpenNodes, is_node, furthest_block, KeptNode, find-map}
-use Rattle.std.proofs.lemmas.List.{take_rest}
-use Rattle.std.proofs.lemmas.Simd.{map-map}
+use Rattle.hopen.proofs.Names.{◌≡◌, ℕ, ◌-◌, List, length, drop, map, refl, ◌∙◌, ap, sym, rules, find, position, option_map, unwrap_or, is_special, tag_of, opened_by, open_of, OpenNodes, is_node, furthest_block, KeptNode, find-map, take_rest, map-map}
 use Rattle.hopen.proofs.Searches.{furthest-nearest}
 use Rattle.hopen.proofs.stack.OpenStack.furthest_block.Goals as goal
 

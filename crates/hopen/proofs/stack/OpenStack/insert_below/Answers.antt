@@ -1,10 +1,8 @@
-use Rattle.hopen.proofs.Names.{◌≤◌, ◌+◌, List, length, ◌∙◌, sym, ap, map, reverse, subst, arith, ℕ, ◌≡◌, insert_nearest, no_words, put_before, is_node, OpenNodes, open_of, opened_by, KeptNode, length-map}
+use Rattle.hopen.proofs.Names.{◌≤◌, ◌+◌, List, length, ◌∙◌, sym, ap, map, reverse, subst, arith, ℕ, ◌≡◌, insert_nearest, no_words, put_before, is_node, OpenNodes, open_of, opened_by, KeptNode, length-map, insert, length-insert}
 use Rattle.hopen.proofs.ExchangedStack.{item_of, map-insert}
 use Rattle.hopen.proofs.Opened.{seen, found, none_found, kept, room-left}
 use Rattle.hopen.proofs.WrittenBack.{stands_same}
-use Rattle.std.specs.List.{insert}
 use Rattle.hopen.proofs.Standing.{many}
-use Rattle.std.proofs.lemmas.List.Edits.{length-insert}
 use Rattle.hopen.proofs.stack.OpenStack.insert_below.Goals as goal
 
 pub returns-in_ok-reserve-clause-ok : goal.returns-in_ok-reserve-clause-ok

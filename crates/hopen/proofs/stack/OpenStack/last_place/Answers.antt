@@ -1,5 +1,4 @@
-use Rattle.hopen.proofs.Names.{ℕ, ap, sym, ◌∙◌, map, last_place, name_of, node_of, opened_by, is_sought, OpenNodes, is_node, is_named, nat_eq}
-use Rattle.hopen.specs.declared.sought.Sought.{Sought}
+use Rattle.hopen.proofs.Names.{ℕ, ap, sym, ◌∙◌, map, last_place, name_of, node_of, opened_by, is_sought, OpenNodes, is_node, is_named, nat_eq, Sought}
 use Rattle.hopen.proofs.Linked.{says-places}
 use Rattle.hopen.proofs.stack.OpenStack.last_place.Goals as goal
 

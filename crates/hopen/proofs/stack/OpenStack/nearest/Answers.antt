@@ -1,5 +1,4 @@
-use Rattle.hopen.proofs.Names.{◌∙◌, ap, sym, option_map, open_of, is_named, words, no_words}
-use Rattle.std.proofs.Common.{nat_eq}
+use Rattle.hopen.proofs.Names.{◌∙◌, ap, sym, option_map, open_of, is_named, words, no_words, nat_eq}
 use Rattle.hopen.proofs.stack.OpenStack.nearest.Goals as goal
 
 pub returns-in_err-place_of : goal.returns-in_err-place_of

@@ -1,6 +1,5 @@
-use Rattle.hopen.proofs.Names.{◌≡◌, ◌+◌, ◌-◌, ℕ, length, ap, sym, ◌∙◌, arith, reverse, remove_range, OpenNodes, opened_by}
+use Rattle.hopen.proofs.Names.{◌≡◌, ◌+◌, ◌-◌, ℕ, length, ap, sym, ◌∙◌, arith, reverse, remove_range, OpenNodes, opened_by, remove_run_nearest}
 use Rattle.hopen.proofs.Opened.{seen}
-use Rattle.hchain.proofs.Nearest.{remove_run_nearest}
 use Rattle.hopen.proofs.Standing.{length-stack_of}
 use Rattle.hopen.proofs.stack.OpenStack.remove_run.Goals as goal
 

@@ -1,8 +1,6 @@
-use Rattle.hopen.proofs.Names.{◌∙◌, ap, sym, refl, reverse, arith, with_items_is, map-set, with_items, no_words, is_node, open_of, opened_by, stack_of, KeptNode}
+use Rattle.hopen.proofs.Names.{◌∙◌, ap, sym, refl, reverse, arith, with_items_is, map-set, with_items, no_words, is_node, open_of, opened_by, stack_of, KeptNode, change_nearest, changed}
 use Rattle.hopen.proofs.ExchangedStack.{item_of}
 use Rattle.hopen.proofs.Opened.{seen, found, none_found, kept}
-use Rattle.hchain.proofs.Nearest.{change_nearest}
-use Rattle.hchain.specs.Nearest.{changed}
 use Rattle.hopen.proofs.stack.OpenStack.replace.Goals as goal
 
 pub returns-in_ok-make_room-clause-ok : goal.returns-in_ok-make_room-clause-ok
