@@ -1,21 +1,35 @@
--- The words of the contracts that several files cite, in one place.
-pub use Rattle.hadopt.specs.Adopts.{adopted}
+-- The words of the contracts, in one place.
+pub use Rattle.hadopt.specs.Adopts.{most_kept, node_replaced, inner_turn, inner_loop, after_inner_loop, with_furthest_block, with_formatting_element}
+pub use Rattle.hadopt.specs.Adopts.{outer_turn, outer_loop, is_unlisted, adopted}
+pub use Rattle.hadopt.specs.AfterInnerLoop.{AfterInnerLoop, WithFurthestBlock}
+pub use Rattle.hadopt.specs.Closes.{closed, closed_p, other_end, past, popped_to}
 pub use Rattle.hadopt.specs.Gives.{Gives}
-pub use Rattle.hadopt.specs.Inserts.{made}
-pub use Rattle.hadopt.specs.Kept.{Kept, PlaceStands}
-pub use Rattle.hadopt.specs.Naming.{numbers}
-pub use Rattle.hadopt.specs.Places.{is_fostering}
-pub use Rattle.hadopt.specs.Site.{Goes, and_then, stack, with_items, trees, with_stack, with_trees, from_top}
-pub use Rattle.hchain.specs.Nearest.{before, without}
-pub use Rattle.hformat.specs.Formatting.{find_entry, entry_at}
+pub use Rattle.hadopt.specs.InnerLoops.{AreDifferent, HalfGives, way_after, way_left, without_entries}
+pub use Rattle.hadopt.specs.Inserts.{made, added, pushed, inserted, put, put_each, listed, with_missing}
+pub use Rattle.hadopt.specs.Kept.{Kept, PlaceStands, OpenStands}
+pub use Rattle.hadopt.specs.Meets.{inner_loop_of, InnerLoopGives, TurnGives}
+pub use Rattle.hadopt.specs.Naming.{numbers, texts}
+pub use Rattle.hadopt.specs.Passings.{passes}
+pub use Rattle.hadopt.specs.Places.{is_fostering, beside, foster_place, place_in, place}
+pub use Rattle.hadopt.specs.Reconstructs.{stops_going_back, renewed, reconstructed}
+pub use Rattle.hadopt.specs.Site.{Goes, stack, trees, with_stack, with_trees, and_then, with_items, SiteOf, from_top, node_of, current_is, with_error}
+pub use Rattle.hadopt.specs.Site.{error_unless}
+pub use Rattle.hadopt.specs.Spelled.{Agree, OperationsKnowNoNames}
+pub use Rattle.hchain.specs.Nearest.{without, before, changed, put_before, changed_at}
+pub use Rattle.hformat.specs.Formatting.{find_entry, EntryOf, entry_at, marker, cleared, is_entry, without_entry, with_node, for_node, booked, has_bookmark}
 pub use Rattle.hformat.specs.Items.{entry_is}
-pub use Rattle.hnodes.specs.Edits.{IsPlace, graft, place_node}
-pub use Rattle.hnodes.specs.Forest.{element, IsOutside}
+pub use Rattle.hformat.specs.declared.bookmark.Bookmark.TheVariants.{InPlace}
+pub use Rattle.hnodes.specs.Edits.{IsPlace, graft, place_node, move_all}
+pub use Rattle.hnodes.specs.Forest.{document, none, element, IsOutside, comment, doctype, tree}
 pub use Rattle.hnodes.specs.Rows.{attribute_of}
 pub use Rattle.hnodes.specs.declared.node.Place.{Place}
 pub use Rattle.hnodes.specs.declared.node.Place.TheVariants.{LastIn}
 pub use Rattle.hopen.specs.Opens.{open_of}
-pub use Rattle.hopen.specs.Scopes.{is_named, is_of}
-pub use Rattle.hopen.specs.Stack.{is_node, is_open, furthest_block}
+pub use Rattle.hopen.specs.Scopes.{is_named, is_of, stops as stops_node, stops_item}
+pub use Rattle.hopen.specs.Stack.{is_node, is_open, furthest_block, above, current, current as current_of, in_scope as is_in_scope}
 pub use Rattle.hopen.specs.declared.scope.Scope.TheVariants.{Default}
-pub use Rattle.names.specs.Tags.{tag_of}
+pub use Rattle.names.specs.Names.{Texts, AreNames}
+pub use Rattle.names.specs.Placed.{placed}
+pub use Rattle.names.specs.Sets.{may_stay_open}
+pub use Rattle.names.specs.Spelling.{spelling}
+pub use Rattle.names.specs.Tags.{number_of, tag_of}

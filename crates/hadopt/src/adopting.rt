@@ -1,24 +1,19 @@
 //! The adoption agency algorithm (HTML Standard, 13.2.6.4.7, `#adoption-agency-algorithm`), with the numbers of its steps.
 
-ghost use Rattle.std.specs.Prelude.{◌≡◌, ℕ, ◌<◌, ◌≤◌, ◌+◌, IfOk, Some, length, nat_eq, ◌*◌};
+ghost use Rattle.std.specs.Prelude.{◌≡◌, ℕ, ◌<◌, ◌≤◌, ◌+◌, IfOk, Some, length, nat_eq, ◌*◌, map, OnOk, true};
 ghost use Rattle.std.specs.Option.{option_map};
-ghost use Rattle.hadopt.specs.Vocabulary.{element, before, is_node, is_open, furthest_block, Default, find_entry, tag_of, open_of, entry_is, numbers, Goes, and_then, stack, with_items, made, adopted, Gives, Kept};
-ghost use Rattle.std.specs.List.{slice_get};
-ghost use Rattle.hopen.specs.Stack.{above, in_scope};
-ghost use Rattle.hopen.specs.Scopes.{stops};
-ghost use Rattle.hformat.specs.Formatting.{EntryOf};
-ghost use Rattle.hformat.specs.declared.bookmark.Bookmark.TheVariants.{InPlace};
-ghost use Rattle.hadopt.specs.InnerLoops.{AreDifferent, HalfGives, way_after, way_left, without_entries};
-ghost use Rattle.hadopt.specs.Adopts.{most_kept, node_replaced, inner_turn, inner_loop, after_inner_loop, with_furthest_block, with_formatting_element};
-ghost use Rattle.hadopt.specs.Adopts.{outer_turn, outer_loop, is_unlisted};
-ghost use Rattle.hadopt.specs.Meets.{inner_loop_of, InnerLoopGives, TurnGives};
-ghost use Rattle.hadopt.specs.AfterInnerLoop.{AfterInnerLoop, WithFurthestBlock};
+ghost use Rattle.hadopt.specs.Vocabulary.{most_kept, node_replaced, inner_turn, inner_loop, after_inner_loop, with_furthest_block, with_formatting_element, outer_turn, outer_loop, is_unlisted, AfterInnerLoop};
+ghost use Rattle.hadopt.specs.Vocabulary.{WithFurthestBlock, AreDifferent, HalfGives, way_after, way_left, without_entries, inner_loop_of, InnerLoopGives, TurnGives, IsPlace, graft, place_node, element, IsOutside};
+ghost use Rattle.hadopt.specs.Vocabulary.{attribute_of, Place, without, open_of, is_node, is_open, Gives, made, Goes, stack, trees, with_stack, with_trees, before, furthest_block, find_entry, entry_is, numbers, and_then};
+ghost use Rattle.hadopt.specs.Vocabulary.{with_items, adopted, Kept, changed, put_before, EntryOf, InPlace, move_all, above};
 
+use crate::listing::copy;
 use crate::site::Site;
 use hformat::{Bookmark, Entry};
-use hnodes::{NodeId, Place};
+use hnodes::{Attributes, NodeId, Place};
 use hopen::Open;
-use names::{ErrorCode, NameId, Refusal};
+use names::{Attr, ErrorCode, NameId, Refusal};
+use std::alloc::AllocError;
 
 /// How a turn of the outer loop ends: another one comes, or the algorithm returns.
 #[derive(Clone, Copy)]
@@ -105,7 +100,7 @@ impl Site {
         ensures last_node { IfOk result (λ c. (0 < c.last_node) × (c.last_node < self.new.nodes.made)) }
         ensures few { self.new.nodes.made ≤ self.old.nodes.made + 1 }
     {
-        match self.entry_of(node.node)? {
+        match copy(self.list.entry_of(node.node))? {
             Some(entry) => self.replace_node(inner, furthest_block, node.node, entry, at),
             None => {
                 self.leave(node.node);
@@ -179,7 +174,7 @@ impl Site {
         ensures { self.new ≡ way_left formatting_element below self.old }
     {
         let end = self.remove_entries(formatting_element, below);
-        self.leave_run(below, end - below);
+        self.stack.remove_run(below, end - below);
     }
 
     /// Steps 4.10 to 4.13: the inner loop, up from the furthest block to the formatting element.
@@ -302,7 +297,7 @@ impl Site {
         self.error_unless(found, ErrorCode::TreeInBody, at)?;
         match self.furthest_block(node) {
             Some(furthest_block) => {
-                let Some(formatting_element) = self.find_entry(subject)? else {
+                let Some(formatting_element) = copy(self.list.find(subject))? else {
                     unreachable!()
                 };
                 self.with_furthest_block(formatting_element, furthest_block.node, at)
@@ -335,10 +330,8 @@ impl Site {
     fn is_unlisted(&self, subject: NameId) -> bool
         ensures { (at : ℕ) → result ≡ is_unlisted numbers at subject self.now }
     {
-        match self.stack.current() {
-            Some(top) => top.name == subject && self.list.entry_of(top.node).is_none(),
-            None => false,
-        }
+        self.stack.current().is_some_and(|top| top.name == subject
+            && self.list.entry_of(top.node).is_none())
     }
 
     /// Steps 3, 4.1 and 4.2: up to `most` turns.
@@ -371,5 +364,92 @@ impl Site {
             return Ok(());
         }
         self.outer_loop(MOST_TURNS, subject, at)
+    }
+
+    /// Makes a new element, which has no parent yet.
+    #[inline(always)]
+    pub(crate) fn create(
+        &mut self,
+        name: NameId,
+        attrs: Vec<Attr>,
+        at: u64,
+    ) -> Result<NodeId, Refusal>
+        ensures done { Gives result self.new (made at (element name (map attribute_of attrs.items)) self.old) }
+        ensures number { IfOk result (λ n. (n ≡ self.old.nodes.made) × (0 < n)) }
+        ensures outside { IfOk result (λ n. (k : ℕ) → k < n → IsOutside k n (trees self.new)) }
+        ensures apart { IfOk result (λ n. (k : ℕ) → k < n → IsOutside n k (trees self.new)) }
+        ensures places { IfOk result (λ n. (p : Place) → IsPlace p self.old.nodes → IsPlace p self.new.nodes) }
+        ensures few { self.new.nodes.made ≤ self.old.nodes.made + 1 }
+    {
+        self.tree.create_element(name, attrs, at)
+    }
+
+    /// Creates an element for a token (`#create-an-element-for-the-token`), whose attributes it shares.
+    #[inline(always)]
+    pub(crate) fn create_sharing(
+        &mut self,
+        name: NameId,
+        attrs: Attributes,
+        at: u64,
+    ) -> Result<NodeId, Refusal>
+        ensures done { Gives result self.new (made at (element name attrs) self.old) }
+        ensures number { IfOk result (λ n. (n ≡ self.old.nodes.made) × (0 < n)) }
+        ensures outside { IfOk result (λ n. (k : ℕ) → k < n → IsOutside k n (trees self.new)) }
+        ensures apart { IfOk result (λ n. (k : ℕ) → k < n → IsOutside n k (trees self.new)) }
+        ensures places { IfOk result (λ n. (p : Place) → IsPlace p self.old.nodes → IsPlace p self.new.nodes) }
+        ensures few { self.new.nodes.made ≤ self.old.nodes.made + 1 }
+    {
+        self.tree.create_sharing(name, attrs, at)
+    }
+
+    /// Moves a node from where it is to a place.
+    #[inline(always)]
+    pub(crate) fn graft(&mut self, child: NodeId, place: Place)
+        requires child_in { child < self.old.nodes.made }
+        requires place { IsPlace place self.old.nodes }
+        requires not_document { 0 < child }
+        requires not_inside { IsOutside (place_node place) child (trees self.old) }
+        ensures { self.new ≡ with_trees (graft child place (trees self.old)) self.old }
+    {
+        self.tree.insert(child, place);
+    }
+
+    /// Moves the children of a node to the end of another node.
+    pub(crate) fn move_children(&mut self, from: NodeId, to: NodeId)
+        requires from_in { from < self.old.nodes.made }
+        requires to_in { to < self.old.nodes.made }
+        requires not_inside { IsOutside to from (trees self.old) }
+        ensures moved { self.new ≡ with_trees (move_all from to (trees self.old)) self.old }
+        ensures outside { IsOutside from to (trees self.old) → IsOutside from to (trees self.new) }
+    {
+        self.tree.move_children(from, to);
+    }
+
+    /// Puts another node in the place of an open one.
+    pub(crate) fn replace(&mut self, node: NodeId, by: Open) -> Result<(), AllocError>
+        requires begun { 0 < by.node }
+        requires by_in { by.node < self.old.nodes.made }
+        ensures done { OnOk result (self.new ≡ with_stack (changed (is_node node) (λ _. open_of by) (stack self.old)) self.old) }
+        ensures nodes { self.new.nodes ≡ self.old.nodes }
+    {
+        self.stack.replace(node, by)
+    }
+
+    /// Removes an open node and inserts a new one right below another, which is never too deep.
+    pub(crate) fn exchange(
+        &mut self,
+        leaving: NodeId,
+        above: NodeId,
+        new: Open,
+    ) -> Result<(), Refusal>
+        requires begun { 0 < new.node }
+        requires new_in { new.node < self.old.nodes.made }
+        requires leaving { is_open leaving (stack self.old) ≡ true }
+        ensures done { Gives result self.new
+            (Goes (with_stack (put_before (is_node above) (open_of new) (without (is_node leaving) (stack self.old))) self.old)) }
+        ensures nodes { self.new.nodes ≡ self.old.nodes }
+    {
+        self.stack.exchange(leaving, above, new)?;
+        Ok(())
     }
 }

@@ -1,14 +1,9 @@
 //! What is inserted (HTML Standard, 13.2.6.1).
 
-ghost use Rattle.std.specs.Prelude.{◌≡◌, ◌<◌, ◌+◌, ◌∷◌, ℕ, List, Some, false, length, map, nat_eq, IfOk, OnOk, ◌^◌, string_bytes};
-ghost use Rattle.hadopt.specs.Vocabulary.{IsPlace, graft, place_node, IsOutside, attribute_of, LastIn, Place, open_of, Gives, Kept, PlaceStands, numbers, Goes, and_then, stack, trees, with_items, with_trees};
+ghost use Rattle.std.specs.Prelude.{◌≡◌, ◌<◌, ◌∷◌, false, map, nat_eq, IfOk, string_bytes};
 ghost use Rattle.std.specs.Str.{chars};
-ghost use Rattle.hnodes.specs.Forest.{comment, doctype};
-ghost use Rattle.hformat.specs.Formatting.{pushed as entry_pushed};
-ghost use Rattle.names.specs.Placed.{placed};
-ghost use Rattle.names.specs.Tags.{number_of};
-ghost use Rattle.hadopt.specs.Inserts.{added, pushed, inserted, put, put_each, listed, with_missing};
-ghost use Rattle.hadopt.specs.Kept.{OpenStands};
+ghost use Rattle.hadopt.specs.Vocabulary.{IsPlace, graft, place_node, IsOutside, attribute_of, LastIn, open_of, Gives, Kept, PlaceStands, numbers, Goes, and_then, stack, trees, with_trees, comment, doctype, placed};
+ghost use Rattle.hadopt.specs.Vocabulary.{number_of, added, pushed, inserted, put, put_each, listed, with_missing, OpenStands};
 
 use crate::site::Site;
 use hnodes::{Attributes, DocumentType, NodeId, Place};
@@ -85,15 +80,8 @@ impl Site {
     {
         let attrs = Attributes::new(attrs, self.alloc)?;
         let new = self.insert_sharing(name, attrs.share()?, place, at)?;
-        self.add_entry(new, name, attrs)?;
+        self.list.push(new, name, attrs)?;
         Ok(new)
-    }
-
-    /// Adds an entry for an element.
-    fn add_entry(&mut self, node: NodeId, name: NameId, attrs: Attributes) -> Result<(), AllocError>
-        ensures { OnOk result (self.new ≡ with_items (entry_pushed nat_eq (record { node = node; name = name; attrs = attrs }) self.old.items) self.old) }
-    {
-        self.list.push(node, name, attrs)
     }
 
     /// Inserts a comment at a place (`#insert-a-comment`).

@@ -1,12 +1,7 @@
 //! Laws of the operations on a site: names may be numbers or texts, and the adoption agency makes few elements.
 
 ghost use Rattle.std.specs.Prelude.{◌≡◌, ◌≤◌, ◌+◌, ℕ, List};
-ghost use Rattle.hadopt.specs.Vocabulary.{adopted, numbers, Goes};
-ghost use Rattle.names.specs.Names.{Texts, AreNames};
-ghost use Rattle.names.specs.Spelling.{spelling};
-ghost use Rattle.hadopt.specs.Naming.{texts};
-ghost use Rattle.hadopt.specs.Site.{SiteOf};
-ghost use Rattle.hadopt.specs.Spelled.{Agree, OperationsKnowNoNames};
+ghost use Rattle.hadopt.specs.Vocabulary.{adopted, numbers, Goes, Texts, AreNames, spelling, texts, SiteOf, Agree, OperationsKnowNoNames};
 
 /// What the operations do with numbers of names they do with the texts that the numbers stand for.
 pub fn operations_know_no_names()

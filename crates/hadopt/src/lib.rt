@@ -3,8 +3,6 @@
 #![tactic(auto)]
 
 pub mod adopting;
-pub mod closing;
-mod edits;
 pub mod insertion;
 pub mod laws;
 pub mod listing;

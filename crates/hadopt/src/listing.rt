@@ -1,20 +1,18 @@
-//! The entries of the list of active formatting elements (HTML Standard, 13.2.4.3), as the rules edit it.
+//! The list of active formatting elements (HTML Standard, 13.2.4.3), as the rules edit it.
 
-ghost use Rattle.std.specs.Prelude.{◌≡◌, ◌∷◌, IfOk, nat_eq, IsTrue};
-ghost use Rattle.std.specs.Option.{option_map};
-ghost use Rattle.hadopt.specs.Vocabulary.{entry_at, find_entry, entry_is, Gives, Kept, numbers, Goes, with_items};
+ghost use Rattle.std.specs.Prelude.{◌≡◌, IfOk, ◌∷◌, IsTrue};
 ghost use Rattle.std.specs.List.{list_any};
-ghost use Rattle.hformat.specs.Formatting.{marker, cleared, entry_of, is_entry, without_entry, with_node, for_node, booked, has_bookmark};
-ghost use Rattle.hchain.specs.Nearest.{changed_at};
+ghost use Rattle.std.specs.Option.{option_map};
+ghost use Rattle.hadopt.specs.Vocabulary.{Gives, Kept, numbers, Goes, entry_is, with_items, changed_at, marker, cleared, is_entry, without_entry, with_node, for_node, booked, has_bookmark};
 
 use crate::site::Site;
 use hformat::{Bookmark, Entry};
 use hnodes::NodeId;
-use names::{NameId, Refusal};
+use names::Refusal;
 use std::alloc::AllocError;
 
 /// A copy of an entry.
-fn copy(entry: Option<&Entry>) -> Result<Option<Entry>, AllocError>
+pub(crate) fn copy(entry: Option<&Entry>) -> Result<Option<Entry>, AllocError>
     ensures { IfOk result (λ copy. option_map entry_is copy ≡ option_map (λ e. entry_is e.now) entry.entry) }
 {
     match entry {
@@ -72,26 +70,5 @@ impl Site {
         ensures { self.new ≡ with_items (booked from to bookmark self.old.items) self.old }
     {
         self.list.move_to_bookmark(from, to, bookmark);
-    }
-
-    /// A copy of the entry of a node.
-    pub(crate) fn entry_of(&self, node: NodeId) -> Result<Option<Entry>, AllocError>
-        ensures { IfOk result (λ copy. option_map entry_is copy ≡ entry_of node self.now.items) }
-    {
-        copy(self.list.entry_of(node))
-    }
-
-    /// A copy of the entry with `back` items after it.
-    pub(crate) fn entry_at(&self, back: usize) -> Result<Option<Entry>, AllocError>
-        ensures { IfOk result (λ copy. option_map entry_is copy ≡ entry_at back self.now.items) }
-    {
-        copy(self.list.get(back))
-    }
-
-    /// A copy of the last entry of a name after the last marker.
-    pub(crate) fn find_entry(&self, name: NameId) -> Result<Option<Entry>, AllocError>
-        ensures { IfOk result (λ copy. option_map entry_is copy ≡ find_entry nat_eq name self.now.items) }
-    {
-        copy(self.list.find(name))
     }
 }

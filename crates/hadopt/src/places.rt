@@ -2,10 +2,7 @@
 
 ghost use Rattle.std.specs.Prelude.{◌≡◌, ◌<◌, IfSome, false, ◌&&◌};
 ghost use Rattle.std.specs.Option.{option_map, option_map_or};
-ghost use Rattle.hadopt.specs.Vocabulary.{IsPlace, LastIn, open_of, tag_of, Kept, PlaceStands, numbers, is_fostering, stack, trees, from_top};
-ghost use Rattle.hopen.specs.Stack.{current};
-ghost use Rattle.hadopt.specs.Places.{beside, foster_place, place_in, place};
-ghost use Rattle.hadopt.specs.Site.{node_of};
+ghost use Rattle.hadopt.specs.Vocabulary.{IsPlace, LastIn, open_of, tag_of, Kept, PlaceStands, numbers, is_fostering, stack, trees, from_top, current, beside, foster_place, place_in, place, node_of};
 
 use crate::site::Site;
 use hnodes::Place;
@@ -78,10 +75,7 @@ impl Site {
     fn is_fostered(&self, target: &Option<Open>) -> bool
         ensures { result ≡ (self.now.foster && option_map_or (λ x. is_fostering (tag_of x.name)) (option_map open_of target.now) false) }
     {
-        match target {
-            Some(top) => self.foster && fosters(top.name.tag()),
-            None => false,
-        }
+        target.is_some_and(|top| self.foster && fosters(top.name.tag()))
     }
 
     /// The place of a node that is foster parented (`#foster-parent`).

@@ -1,13 +1,10 @@
 //! What the rules ask of the open nodes and of the formatting elements.
 
 ghost use Rattle.std.specs.Prelude.{◌≡◌, ◌<◌, IfSome, length, nat_eq, slice_get};
-ghost use Rattle.std.specs.Option.{option_map};
-ghost use Rattle.hadopt.specs.Vocabulary.{find_entry, open_of, is_named, is_of, is_node, is_open, furthest_block, Default, tag_of, is_fostering, stack, from_top};
 ghost use Rattle.std.specs.List.{list_all, position};
-ghost use Rattle.hopen.specs.Scopes.{stops as stops_node, stops_item};
-ghost use Rattle.hopen.specs.Stack.{current as current_of, in_scope as is_in_scope};
-ghost use Rattle.names.specs.Sets.{may_stay_open};
-ghost use Rattle.hadopt.specs.Site.{current_is};
+ghost use Rattle.std.specs.Option.{option_map};
+ghost use Rattle.hadopt.specs.Vocabulary.{find_entry, open_of, is_named, is_of, is_node, is_open, furthest_block, Default, tag_of, is_fostering, stack, from_top, stops_node, stops_item, current_of, is_in_scope};
+ghost use Rattle.hadopt.specs.Vocabulary.{may_stay_open, current_is};
 
 use crate::places::fosters;
 use crate::site::Site;
@@ -58,40 +55,32 @@ impl Site {
     pub fn is_current(&self, node: NodeId) -> bool
         ensures { result ≡ current_is (is_node node) self.now }
     {
-        match self.stack.current() {
-            Some(top) => top.node == node,
-            None => false,
-        }
+        self.stack.current().is_some_and(|top| top.node == node)
     }
 
     /// Whether the current node has a name.
     pub fn current_is(&self, name: NameId) -> bool
         ensures { result ≡ current_is (is_named nat_eq name) self.now }
     {
-        match self.stack.current() {
-            Some(top) => top.name == name,
-            None => false,
-        }
+        self.stack.current().is_some_and(|top| top.name == name)
     }
 
     /// Whether the name of the current node is of a group.
     pub fn current_is_of(&self, group: Group) -> bool
         ensures { result ≡ current_is (is_of tag_of group) self.now }
     {
-        match self.stack.current() {
-            Some(top) => group.has(top.name.tag()),
-            None => false,
-        }
+        self.stack
+            .current()
+            .is_some_and(|top| group.has(top.name.tag()))
     }
 
     /// Whether the current node is a table, tbody, tfoot, thead or tr.
     pub fn current_fosters(&self) -> bool
         ensures { result ≡ current_is (λ x. is_fostering (tag_of x.name)) self.now }
     {
-        match self.stack.current() {
-            Some(top) => fosters(top.name.tag()),
-            None => false,
-        }
+        self.stack
+            .current()
+            .is_some_and(|top| fosters(top.name.tag()))
     }
 
     /// Whether an element of a name is in a scope.

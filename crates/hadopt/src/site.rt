@@ -1,11 +1,7 @@
 //! The site that the tree rules edit: nodes, open elements, formatting elements, foster parenting, parse errors.
 
 ghost use Rattle.std.specs.Prelude.{◌≡◌, ◌<◌, IfOk, false, []};
-ghost use Rattle.hnodes.specs.Forest.{document, tree, none};
-ghost use Rattle.hadopt.specs.Gives.{Gives};
-ghost use Rattle.hadopt.specs.Kept.{Kept};
-ghost use Rattle.hadopt.specs.Naming.{numbers};
-ghost use Rattle.hadopt.specs.Site.{Goes, with_error, error_unless};
+ghost use Rattle.hadopt.specs.Vocabulary.{document, none, tree, Gives, Kept, numbers, Goes, with_error, error_unless};
 
 use hformat::Formatting;
 use hnodes::Tree;

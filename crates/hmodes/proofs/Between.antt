@@ -1,5 +1,6 @@
 -- What holds of the state between two rules.
-use Rattle.hmodes.proofs.Vocabulary.{◌≡◌, ℕ, ◌<◌, Bool, true, false, not, cond, List, Option, Some, None, refl, subst, ◌&&◌, IfSome, QuirkLine, NonVoidHtmlElementStartTagWithTrailingSolidus, deep-there, Naming, numbers, texts, Outcome, Goes, stack, trees, with_error, TellsTables, Kept, OnGoes, from-well, numbers-tell, texts-tell, Well, Mode, AfterHead, Limits, document_begins, fragment_begins, Reached, fragment, after, Token, State, Flow, Done, Again, Refused, is_self_closing, kind_of, TokenKind, Rule, Chain, Step, ends, refuses, goes_again, drops, goes, begun, finished}
+use Rattle.hmodes.proofs.Vocabulary.{cond_both, ◌≡◌, ℕ, ◌<◌, false, not, List, Some, refl, subst, ◌&&◌, IfSome, QuirkLine, NonVoidHtmlElementStartTagWithTrailingSolidus, deep-there, Naming, numbers, texts, Outcome, Goes, stack, trees, with_error, TellsTables, Kept, OnGoes, from-well, numbers-tell, texts-tell, Well, Mode, AfterHead, Limits, document_begins, fragment_begins, Reached, fragment, after, Token, State, Flow, Done, Again, Refused, is_self_closing, kind_of, TokenKind, Rule, Chain, Step, ends, refuses, goes_again, drops, goes, begun, finished}
+use Rattle.hmodes.proofs.Every.{by_option}
 use Rattle.names.specs.declared.tag.Tag.TheVariants as tag
 use Rattle.hmodes.specs.Reached.{document}
 use Rattle.hmodes.proofs.Down.{Sound, FlowHolds, Any, cap, rule-down}
@@ -40,11 +41,7 @@ module _ {N : Type 0} (n : Naming N) where
   orderly-kept s o = from-well n s.site o.well
 
   pub orderly-head : (s : State N) → Orderly s → s.control.mode ≡ AfterHead → IfSome s.control.head (λ k. (0 < k) × (k < s.site.nodes.made))
-  orderly-head s o is = go s.control.head refl
-    where
-      go : (p : Option ℕ) → s.control.head ≡ p → IfSome p (λ k. (0 < k) × (k < s.site.nodes.made))
-      go None e = tt
-      go (Some h) e = let out = (out-of s o.head is h e).0 in (out.1, (deep-there s.site.nodes.made (trees s.site) o.well.counted h 0 out.0).0)
+  orderly-head s o is = by_option s.control.head (λ p. IfSome p (λ k. (0 < k) × (k < s.site.nodes.made))) (λ e. tt) (λ h e. let out = (out-of s o.head is h e).0 in (out.1, (deep-there s.site.nodes.made (trees s.site) o.well.counted h 0 out.0).0))
 
   -- where a document or a fragment begins
   pub orderly-document : (quirks : List QuirkLine) (limits : Limits) → Orderly (document_begins quirks limits)
@@ -64,11 +61,7 @@ module _ {N : Type 0} (n : Naming N) where
   orderly-begins s o = record { well = record { counted = o.well.counted; each = o.well.each; order = o.well.order; plain = o.well.plain }; head = o.head; sound = o.sound }
 
   pub orderly-finishes : (at : ℕ) (t : Token N) (s : State N) → Orderly s → Orderly (finished at t s)
-  orderly-finishes at t s o = go (is_self_closing t && not s.control.acknowledged)
-    where
-      go : (v : Bool) → Orderly (cond v (record s { site = with_error NonVoidHtmlElementStartTagWithTrailingSolidus at s.site }) s)
-      go true = record { well = record { counted = o.well.counted; each = o.well.each; order = o.well.order; plain = o.well.plain }; head = o.head; sound = o.sound }
-      go false = o
+  orderly-finishes at t s o = cond_both (is_self_closing t && not s.control.acknowledged) (record s { site = with_error NonVoidHtmlElementStartTagWithTrailingSolidus at s.site }) s Orderly (λ _. record { well = record { counted = o.well.counted; each = o.well.each; order = o.well.order; plain = o.well.plain }; head = o.head; sound = o.sound }) (λ _. o)
 
   module _ (tells : Tells n) where
     together : (f : Flow N) (l : TokenKind × ℕ) → FlowWell n f → FlowFacts f → FlowHolds n tells.img (Some l) Any false f → FlowOrderly f

@@ -1,5 +1,5 @@
 -- Each rule that has a token go again does so in a mode that is lower for it, or with fewer open tables.
-use Rattle.hmodes.proofs.Vocabulary.{◌≡◌, ℕ, ◌+◌, ◌<◌, Bool, true, false, not, cond, if◌then◌else◌, List, [], ◌∷◌, Option, Some, None, refl, sym, ◌∙◌, subst, arith, leb, ltb, leb-true, ltb-true, ◌&&◌, ◌||◌, ◌==◌, Placed, is_space, Naming, Outcome, Goes, SiteOf, stack, Mode, Initial, BeforeHtml, BeforeHead, InHead, InHeadNoscript, AfterHead, InBody, Text, InTable, InTableText, InColumnGroup, InTableBody, InRow, AfterBody, AfterAfterBody, TokenKind, Nul, Ws, Char, Start, End, Do, ◌▸◌, when, unless, choose, fostered, each_pending, again, again_as, to, save_mode, to_saved, reset, insert, insert_named, insert_root, insert_root_named, insert_comment, comment_in_document, comment_in_first, insert_doctype, put, push_head, reconstruct, adopt, adopt_listed, Token, doctype, start, end, comment, character, eof, Control, State, Flow, Done, Again, Refused, flow_then, flow_map, kind_of, renamed, answer_of, perform, with_foster, with_control, each_of, flow_of, rule_of, Rule}
+use Rattle.hmodes.proofs.Vocabulary.{cond_both, ◌≡◌, ℕ, ◌+◌, ◌<◌, Bool, true, false, not, cond, if◌then◌else◌, List, [], ◌∷◌, Option, Some, None, refl, sym, ◌∙◌, subst, arith, leb, ltb, leb-true, ltb-true, ◌&&◌, ◌||◌, ◌==◌, Placed, is_space, Naming, Outcome, Goes, SiteOf, stack, Mode, Initial, BeforeHtml, BeforeHead, InHead, InHeadNoscript, AfterHead, InBody, Text, InTable, InTableText, InColumnGroup, InTableBody, InRow, AfterBody, AfterAfterBody, TokenKind, Nul, Ws, Char, Start, End, Do, ◌▸◌, when, unless, choose, fostered, each_pending, again, again_as, to, save_mode, to_saved, reset, insert, insert_named, insert_root, insert_root_named, insert_comment, comment_in_document, comment_in_first, insert_doctype, put, push_head, reconstruct, adopt, adopt_listed, Token, start, character, Control, State, Flow, Done, Again, Refused, flow_then, flow_map, kind_of, renamed, answer_of, perform, with_foster, with_control, each_of, flow_of, rule_of, Rule}
 use Rattle.names.specs.declared.tag.Tag.TheVariants as tag
 use Rattle.hadopt.specs.Site as site
 use Rattle.hmodes.specs.declared.family.Family.TheVariants as family
@@ -233,31 +233,20 @@ module _ {N : Type 0} (n : Naming N) (tells : n.tag (n.known tag.Img) ≡ tag.Im
 
   renamed-kind : (t : Token N) (k : TokenKind) → kind_of n t ≡ k → is_start k ≡ true → kind_of n (renamed (n.known tag.Img) t) ≡ Start family.Area
   renamed-kind (start x attrs closing) k e i = rw tells refl
-  renamed-kind (end x) k e i = let clash = subst (λ (j : TokenKind). is_start j ≡ true) (sym e) i in cc
-  renamed-kind (doctype a b c d) k e i = let clash = subst (λ (j : TokenKind). is_start j ≡ true) (sym e) i in cc
-  renamed-kind (comment a) k e i = let clash = subst (λ (j : TokenKind). is_start j ≡ true) (sym e) i in cc
-  renamed-kind eof k e i = let clash = subst (λ (j : TokenKind). is_start j ≡ true) (sym e) i in cc
   renamed-kind (character c) k e i = not-start (c == 0) (is_space c) (subst (λ (j : TokenKind). is_start j ≡ true) (sym e) i)
     where
       not-start : (u v : Bool) → is_start (cond u Nul (cond v Ws Char)) ≡ true → kind_of n (renamed (n.known tag.Img) (character c)) ≡ Start family.Area
       not-start true v e = cc
       not-start false true e = cc
       not-start false false e = cc
+  renamed-kind t k e i = let clash = subst (λ (j : TokenKind). is_start j ≡ true) (sym e) i in cc
 
   perform-down : (l : Option (TokenKind × ℕ)) (w : Known) (b : Bool) (p : Do) → goes_down l w b p ≡ true → (at : ℕ) (t : Token N) → IsOf l t → (s : State N) → Holds w b s.control → FlowHolds l (mode_after w p) (leaves b p) (perform n at t p s)
   perform-down l w b (p ▸ q) calm at t o s h =
       let parts = both (goes_down l w b p) (goes_down l (mode_after w p) (leaves b p) q) calm in
       holds-then l (mode_after w p) (mode_after (mode_after w p) q) (leaves b p) (leaves (leaves b p) q) (perform n at t p s) (perform n at t q) (perform-down l w b p parts.0 at t o s h) (λ u m. perform-down l (mode_after w p) (leaves b p) q parts.1 at t o u m)
-  perform-down l w b (when question p) calm at t o s h = go (answer_of n t question s) (flow-weaker l (met w (mode_after w p)) (mode_after w p) b (leaves b p) (perform n at t p s) (met-right w (mode_after w p)) (wider b p) (perform-down l w b p calm at t o s h))
-    where
-      go : (x : Bool) → FlowHolds l (met w (mode_after w p)) b (perform n at t p s) → FlowHolds l (met w (mode_after w p)) b (cond x (perform n at t p s) (Done s))
-      go true m = m
-      go false m = weaker (met w (mode_after w p)) w b b s.control (met-left w (mode_after w p) s.control.mode) (λ e. e) h
-  perform-down l w b (unless question p) calm at t o s h = go (answer_of n t question s) (flow-weaker l (met w (mode_after w p)) (mode_after w p) b (leaves b p) (perform n at t p s) (met-right w (mode_after w p)) (wider b p) (perform-down l w b p calm at t o s h))
-    where
-      go : (x : Bool) → FlowHolds l (met w (mode_after w p)) b (perform n at t p s) → FlowHolds l (met w (mode_after w p)) b (cond x (Done s) (perform n at t p s))
-      go true m = weaker (met w (mode_after w p)) w b b s.control (met-left w (mode_after w p) s.control.mode) (λ e. e) h
-      go false m = m
+  perform-down l w b (when question p) calm at t o s h = cond_both (answer_of n t question s) (perform n at t p s) (Done s) (FlowHolds l (met w (mode_after w p)) b) (λ _. flow-weaker l (met w (mode_after w p)) (mode_after w p) b (leaves b p) (perform n at t p s) (met-right w (mode_after w p)) (wider b p) (perform-down l w b p calm at t o s h)) (λ _. weaker (met w (mode_after w p)) w b b s.control (met-left w (mode_after w p) s.control.mode) (λ e. e) h)
+  perform-down l w b (unless question p) calm at t o s h = cond_both (answer_of n t question s) (Done s) (perform n at t p s) (FlowHolds l (met w (mode_after w p)) b) (λ _. weaker (met w (mode_after w p)) w b b s.control (met-left w (mode_after w p) s.control.mode) (λ e. e) h) (λ _. flow-weaker l (met w (mode_after w p)) (mode_after w p) b (leaves b p) (perform n at t p s) (met-right w (mode_after w p)) (wider b p) (perform-down l w b p calm at t o s h))
   perform-down l w b (choose question p q) calm at t o s h =
       let parts = both (goes_down l w b p) (goes_down l w b q) calm in
       let v = met (mode_after w p) (mode_after w q) in

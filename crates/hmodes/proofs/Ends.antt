@@ -1,5 +1,5 @@
 -- The rules that process a token end: a number that falls with each.
-use Rattle.hmodes.proofs.Vocabulary.{◌≡◌, ℕ, zero, suc, ◌+◌, ◌<◌, ◌≤◌, Bool, true, false, cond, if◌then◌else◌, List, [], ◌∷◌, Option, Some, leb, length, drop, refl, sym, ◌∙◌, ap, subst, arith, eqb-true, leb-true, not, ◌&&◌, ◌||◌, ◌==◌, stops, OpenNode, in_scope, is, Naming, Outcome, Goes, stack, with_error, Mode, Text, InTable, InTableText, InColumnGroup, InTableBody, InRow, TokenKind, Nul, Ws, Char, Start, ◌▸◌, pop_to, reset, again, Token, State, Flow, Done, Again, Refused, kind_of, perform, with_site, rule_of, code_of, Rule, Chain, Step, ends, refuses, goes_again, drops, goes, is_dropped, begun, finished, in_table, in_table_text}
+use Rattle.hmodes.proofs.Vocabulary.{by_test, cond_both, ◌≡◌, ℕ, zero, suc, ◌+◌, ◌<◌, ◌≤◌, Bool, true, false, cond, if◌then◌else◌, List, [], ◌∷◌, Option, Some, leb, length, drop, refl, sym, ◌∙◌, ap, subst, arith, eqb-true, leb-true, not, ◌&&◌, ◌||◌, ◌==◌, stops, OpenNode, in_scope, is, Naming, Outcome, Goes, stack, with_error, Mode, Text, InTable, InTableText, InColumnGroup, InTableBody, InRow, TokenKind, Nul, Ws, Char, Start, ◌▸◌, pop_to, reset, again, Token, State, Flow, Done, Again, Refused, kind_of, perform, with_site, rule_of, code_of, Rule, Chain, Step, ends, refuses, goes_again, drops, goes, is_dropped, begun, finished, in_table, in_table_text}
 use Rattle.hchain.specs.Nearest.{after}
 use Rattle.hopen.specs.declared.scope.Scope.TheVariants as scope
 use Rattle.names.specs.declared.tag.Tag.TheVariants as tag
@@ -45,11 +45,7 @@ cap-most : (k : TokenKind) (m : Mode) → cap k m ≤ 40
 cap-most k m = leb-true (cap k m) 40 (in-each (λ m k. leb (cap k m) 40) refl m k)
 
 weight-most : (k : TokenKind) (m : Mode) (count : ℕ) → is_texty m ≡ false → weight k m count ≤ 32 + (count + count)
-weight-most k m count e = go (is_tabular k m)
-  where
-    go : (v : Bool) → 1 + cond v (30 + (count + count) + extra m) (level k m) ≤ 32 + (count + count)
-    go true = omega (arith, extra-most m)
-    go false = omega (arith, leb-true (level k m) 30 (level-plain k m e))
+weight-most k m count e = cond_both (is_tabular k m) (30 + (count + count) + extra m) (level k m) (λ z. 1 + z ≤ 32 + (count + count)) (λ _. omega (arith, extra-most m)) (λ _. omega (arith, leb-true (level k m) 30 (level-plain k m e)))
 
 -- no character is reprocessed in table text
 waits : (k : TokenKind) → is_char k ≡ true → may_again (in_table_text k) ≡ false
@@ -207,8 +203,4 @@ module _ {N : Type 0} (n : Naming N) where
 
     -- so a token has a result
     pub some-step : (at : ℕ) (t : Token N) (s : State N) → Sound s.control → (o : Outcome (State N)) × Step n at t s o
-    some-step at t s sound = go (is_dropped t s) refl
-      where
-        go : (v : Bool) → is_dropped t s ≡ v → (o : Outcome (State N)) × Step n at t s o
-        go true e = (Goes (begun s), drops e)
-        go false e = let c = some-chain (left at t (begun s) + 1) at t (begun s) (omega arith) sound in (c.0, goes e c.1)
+    some-step at t s sound = by_test (is_dropped t s) (λ v. (o : Outcome (State N)) × Step n at t s o) (λ e. (Goes (begun s), drops e)) (λ e. let c = some-chain (left at t (begun s) + 1) at t (begun s) (omega arith) sound in (c.0, goes e c.1))

@@ -1,5 +1,6 @@
 -- A test that is computed of each mode and each kind of token holds of all of them.
-use Rattle.hmodes.proofs.Vocabulary.{◌≡◌, ℕ, zero, suc, Bool, true, false, List, [], ◌∷◌, refl, sym, get_or, ◌&&◌, ◌||◌, list_all, false≢true, Family, Mode, Initial, BeforeHtml, BeforeHead, InHead, InHeadNoscript, AfterHead, InBody, Text, InTable, InTableText, InCaption, InColumnGroup, InTableBody, InRow, InCell, AfterBody, AfterAfterBody, TokenKind, Nul, Ws, Char, Comment, Doctype, Start, End, Eof}
+use Rattle.hmodes.proofs.Vocabulary.{◌≡◌, ℕ, zero, suc, Bool, true, false, List, [], ◌∷◌, refl, sym, get_or, ◌&&◌, ◌||◌, list_all, false≢true, Family, Mode, Initial, BeforeHtml, BeforeHead, InHead, InHeadNoscript, AfterHead, InBody, Text, InTable, InTableText, InCaption, InColumnGroup, InTableBody, InRow, InCell, AfterBody, AfterAfterBody, TokenKind, Nul, Ws, Char, Comment, Doctype, Start, End, Eof, Option, Some, None, Outcome, Goes, Refusal}
+use Rattle.hadopt.specs.Site as site
 use Rattle.hmodes.specs.declared.family.Family.TheVariants as family
 
 pub never : {A : Type 0} → false ≡ true → A
@@ -13,6 +14,15 @@ both false y e = never e
 pub other : (x y : Bool) → (x || y) ≡ true → x ≡ false → y ≡ true
 other true y e isnt = never (sym isnt)
 other false y e isnt = e
+
+-- what holds of a value or without one, and where it goes on or is refused
+pub by_option : {A : Type 0} (o : Option A) (P : Option A → Type 0) → (o ≡ None → P None) → ((x : A) → o ≡ Some x → P (Some x)) → P o
+by_option None P a b = a refl
+by_option (Some x) P a b = b x refl
+
+pub by_outcome : {S : Type 0} (o : Outcome S) (P : Outcome S → Type 0) → ((s : S) → o ≡ Goes s → P (Goes s)) → ((r : Refusal) → o ≡ site.Refused r → P (site.Refused r)) → P o
+by_outcome (Goes s) P a b = a s refl
+by_outcome (site.Refused r) P a b = b r refl
 
 -- at each place of a list, and past its end
 at : {X : Type 0} (f : X → Bool) (last : X) → f last ≡ true → (xs : List X) (k : ℕ) → list_all f xs ≡ true → f (get_or xs k last) ≡ true

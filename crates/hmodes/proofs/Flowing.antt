@@ -1,5 +1,7 @@
 -- What comes of the parts of a rule comes of the rule.
 use Rattle.hmodes.proofs.Vocabulary.{◌≡◌, ℕ, refl, sym, subst, ap, ◌∙◌, inl, inr, nat_eq, Option, Some, None, ◌⊎◌, Result, Ok, Err, option_map, option_map_or, IsErrAnd, EntryOf, find_entry, Refusal, Memory, adopted, Gives, numbers, Outcome, Goes, SiteOf, and_then, FlowGives, StateGives, performed_for, perform, flow_of, with_site, forgotten, Token, State, Flow, Done, Refused, flow_then, Do, ◌▸◌, adopt_listed, Answer}
+use Rattle.hmodes.specs.Ended.{ended}
+use Rattle.hmodes.specs.declared.tree_construction.Flow.TheVariants as answer
 use Rattle.hadopt.specs.Site as site
 
 -- an operation on the site
@@ -48,3 +50,8 @@ module _ (at name : ℕ) (s : State ℕ) where
   listed-done y found h is =
       ap (λ o. flow_of s (and_then o after)) h
       ∙ ap (λ x. Done (with_site x s)) (forgets y (find_entry nat_eq name s.site.items) ∙ ap (λ o. option_map_or (λ k. forgotten k y) o y) (sym is))
+
+-- a rule ends as its call answers
+pub ends-as : (flow : Answer) (at : ℕ) (t : Token ℕ) (s : State ℕ) → FlowGives (Ok flow) t s (perform numbers at t (ended flow) s)
+ends-as answer.Done at t s = refl
+ends-as answer.Again at t s = refl

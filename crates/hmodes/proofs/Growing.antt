@@ -1,5 +1,6 @@
 -- Nodes are made and never taken away: no token leads to fewer.
-use Rattle.hmodes.proofs.Vocabulary.{ℕ, zero, suc, ◌≤◌, Bool, true, false, not, cond, leb, List, [], ◌∷◌, Option, Some, None, subst, length, drop, arith, ◌&&◌, is_none, option_map_or, TreeInBody, NonVoidHtmlElementStartTagWithTrailingSolidus, Placed, TooManyNodes, TooDeep, make, char_into, text_before, What, Attribute, element, Place, LastIn, before, stops, is_named, OpenNode, is_node, is_open, current, above, in_scope, furthest_block, Default, EntryOf, entry_of, entry_at, find_entry, without_entry, Turn, Next, Ended, next_turn, InnerLoop, most_turns, inner_turn, inner_loop, node_replaced, left, after_inner_loop, entries_for, with_furthest_block, popped_with, with_formatting_element, outer_turn, outer_loop, is_unlisted, adopted, is, closed, without_implied, made, added, pushed, inserted, Naming, place, renewed, renewed_each, stops_going_back, Outcome, Goes, SiteOf, and_then, stack, trees, with_stack, with_items, with_error, error_unless, current_is, from_top, node_of, OnGoes, goes-then, doctype_node, perform, with_foster, with_control, each_of, flow_of, forgotten, current_node, adopted_listed, head_pushed, answer_of, rule_of, Token, character, State, Flow, Done, Again, Refused, kind_of, flow_then, flow_map, token_name, token_attrs, token_text, token_char, is_self_closing, Chain, ends, refuses, goes_again, Step, drops, goes, begun, finished, Do, ◌▸◌, when, unless, choose, fostered, each_pending, insert, insert_named, insert_root, insert_root_named, insert_comment, comment_in_document, comment_in_first, insert_doctype, push_head, reconstruct, close_p, adopt, adopt_listed}
+use Rattle.hmodes.proofs.Vocabulary.{cond_both, ℕ, zero, suc, ◌≤◌, Bool, true, false, not, cond, leb, List, [], ◌∷◌, Option, Some, None, subst, length, drop, arith, ◌&&◌, is_none, option_map_or, TreeInBody, NonVoidHtmlElementStartTagWithTrailingSolidus, Placed, TooManyNodes, TooDeep, make, char_into, text_before, What, Attribute, element, Place, LastIn, before, stops, is_named, OpenNode, is_node, is_open, current, above, in_scope, furthest_block, Default, EntryOf, entry_of, entry_at, find_entry, without_entry, Turn, Next, Ended, next_turn, InnerLoop, most_turns, inner_turn, inner_loop, node_replaced, left, after_inner_loop, entries_for, with_furthest_block, popped_with, with_formatting_element, outer_turn, outer_loop, is_unlisted, adopted, is, closed, without_implied, made, added, pushed, inserted, Naming, place, renewed, renewed_each, stops_going_back, Outcome, Goes, SiteOf, and_then, stack, trees, with_stack, with_items, with_error, error_unless, current_is, from_top, node_of, OnGoes, goes-then, doctype_node, perform, with_foster, with_control, each_of, flow_of, forgotten, current_node, adopted_listed, head_pushed, answer_of, rule_of, Token, character, State, Flow, Done, Again, Refused, kind_of, flow_then, flow_map, token_name, token_attrs, token_text, token_char, is_self_closing, Chain, ends, refuses, goes_again, Step, drops, goes, begun, finished, Do, ◌▸◌, when, unless, choose, fostered, each_pending, insert, insert_named, insert_root, insert_root_named, insert_comment, comment_in_document, comment_in_first, insert_doctype, push_head, reconstruct, close_p, adopt, adopt_listed}
+use Rattle.hmodes.proofs.Every.{by_option}
 use Rattle.names.specs.declared.error.ErrorCode.{ErrorCode}
 use Rattle.names.specs.declared.tag.Tag.TheVariants as tag
 use Rattle.names.specs.Sets.{is_special}
@@ -23,21 +24,13 @@ module _ {N : Type 0} (k : ℕ) where
   then = goes-then Holds Holds
 
   made-holds : (at : ℕ) (w : What N) (s : SiteOf N) → Holds s → Keeps (made at w s)
-  made-holds at w s h = go (leb s.nodes.limit s.nodes.made)
-    where
-      go : (v : Bool) → Keeps (cond v (site.Refused (TooManyNodes at)) (Goes (record s { nodes = make w s.nodes })))
-      go true = tt
-      go false = omega (arith, h)
+  made-holds at w s h = cond_both (leb s.nodes.limit s.nodes.made) (site.Refused (TooManyNodes at)) (Goes (record s { nodes = make w s.nodes })) Keeps (λ _. tt) (λ _. omega (arith, h))
 
   added-holds : (at : ℕ) (w : What N) (p : Place) (s : SiteOf N) → Holds s → Keeps (added at w p s)
   added-holds at w p s h = then (made at w s) _ (made-holds at w s h) (λ t g. g)
 
   pushed-holds : (at : ℕ) (x : OpenNode N) (s : SiteOf N) → Holds s → Keeps (pushed at x s)
-  pushed-holds at x s h = go (leb s.open_nodes.limit (length (stack s)))
-    where
-      go : (v : Bool) → Keeps (cond v (site.Refused (TooDeep at)) (Goes (with_stack (x ∷ stack s) s)))
-      go true = tt
-      go false = h
+  pushed-holds at x s h = cond_both (leb s.open_nodes.limit (length (stack s))) (site.Refused (TooDeep at)) (Goes (with_stack (x ∷ stack s) s)) Keeps (λ _. tt) (λ _. h)
 
   inserted-holds : (at : ℕ) (name : N) (attrs : List (Attribute N)) (p : Place) (s : SiteOf N) → Holds s → Keeps (inserted at name attrs p s)
   inserted-holds at name attrs p s h = then (added at (element name attrs) p s) _ (added-holds at (element name attrs) p s h) (λ t g. pushed-holds at _ t g)
@@ -67,11 +60,7 @@ module _ {N : Type 0} (k : ℕ) where
     closed-holds sought s h = error-holds (current_is sought (without_implied n sought s)) (without_implied n sought s) TreeInBody h
 
     other-holds : (name : N) (s : SiteOf N) → Holds s → Holds (other_end n at name s)
-    other-holds name s h = go (in_scope (λ x. is_special (n.tag x.name)) (is_named n.same name) (stack s))
-      where
-        go : (v : Bool) → Holds (cond v (closed n at (is_named n.same name) s) (with_error TreeInBody at s))
-        go true = closed-holds (is_named n.same name) s h
-        go false = h
+    other-holds name s h = cond_both (in_scope (λ x. is_special (n.tag x.name)) (is_named n.same name) (stack s)) (closed n at (is_named n.same name) s) (with_error TreeInBody at s) Holds (λ _. closed-holds (is_named n.same name) s h) (λ _. h)
 
     -- the adoption agency
     inner-turn-holds : (block passed : ℕ) (x : OpenNode N) (c : InnerLoop N) → Holds c.site → OnGoes (λ d. Holds d.site) (inner_turn n at block passed x c)
@@ -115,11 +104,7 @@ module _ {N : Type 0} (k : ℕ) where
         go true true z = under (error_unless z TreeInBody at s) (error-holds z s TreeInBody h) (furthest_block n.tag f.node (stack (error_unless z TreeInBody at s)))
 
     outer-turn-holds : (name : N) (s : SiteOf N) → Holds s → OnGoes HoldsAfter (outer_turn n at name s)
-    outer-turn-holds name s h = go (find_entry n.same name s.items)
-      where
-        go : (o : Option (EntryOf N)) → OnGoes HoldsAfter (option_map_or (λ f. with_formatting_element n at f s) o (Goes (Ended (other_end n at name s))))
-        go None = other-holds name s h
-        go (Some f) = with-holds f s h
+    outer-turn-holds name s h = by_option (find_entry n.same name s.items) (λ o. OnGoes HoldsAfter (option_map_or (λ f. with_formatting_element n at f s) o (Goes (Ended (other_end n at name s))))) (λ _. other-holds name s h) (λ f _. with-holds f s h)
 
     outer-loop-holds : (turns_left : ℕ) (name : N) (s : SiteOf N) → Holds s → Keeps (outer_loop n at turns_left name s)
     outer-loop-holds zero name s h = h
@@ -130,11 +115,7 @@ module _ {N : Type 0} (k : ℕ) where
         next r (Ended t) m = m
 
     adopted-holds : (name : N) (s : SiteOf N) → Holds s → Keeps (adopted n at name s)
-    adopted-holds name s h = go (is_unlisted n at name s)
-      where
-        go : (v : Bool) → Keeps (cond v (Goes (with_stack (drop 1 (stack s)) s)) (outer_loop n at most_turns name s))
-        go true = h
-        go false = outer-loop-holds most_turns name s h
+    adopted-holds name s h = cond_both (is_unlisted n at name s) (Goes (with_stack (drop 1 (stack s)) s)) (outer_loop n at most_turns name s) Keeps (λ _. h) (λ _. outer-loop-holds most_turns name s h)
 
     listed-holds : (name : N) (s : SiteOf N) → Holds s → Keeps (adopted_listed n at name s)
     listed-holds name s h = then (adopted n at name s) _ (adopted-holds name s h) (λ y g. go y g (find_entry n.same name s.items))
@@ -173,21 +154,9 @@ module _ {N : Type 0} (k : ℕ) where
   module _ (n : Naming N) where
     perform-holds : (p : Do) (at : ℕ) (t : Token N) (s : State N) → Holds s.site → KeepsFlow (perform n at t p s)
     perform-holds (p ▸ q) at t s h = flow-then (perform n at t p s) (perform n at t q) (perform-holds p at t s h) (λ u m. perform-holds q at t u m)
-    perform-holds (when question p) at t s h = go (answer_of n t question s) (perform-holds p at t s h)
-      where
-        go : (x : Bool) → KeepsFlow (perform n at t p s) → KeepsFlow (cond x (perform n at t p s) (Done s))
-        go true m = m
-        go false m = h
-    perform-holds (unless question p) at t s h = go (answer_of n t question s) (perform-holds p at t s h)
-      where
-        go : (x : Bool) → KeepsFlow (perform n at t p s) → KeepsFlow (cond x (Done s) (perform n at t p s))
-        go true m = h
-        go false m = m
-    perform-holds (choose question p q) at t s h = go (answer_of n t question s) (perform-holds p at t s h) (perform-holds q at t s h)
-      where
-        go : (x : Bool) → KeepsFlow (perform n at t p s) → KeepsFlow (perform n at t q s) → KeepsFlow (cond x (perform n at t p s) (perform n at t q s))
-        go true m k = m
-        go false m k = k
+    perform-holds (when question p) at t s h = cond_both (answer_of n t question s) (perform n at t p s) (Done s) KeepsFlow (λ _. perform-holds p at t s h) (λ _. h)
+    perform-holds (unless question p) at t s h = cond_both (answer_of n t question s) (Done s) (perform n at t p s) KeepsFlow (λ _. h) (λ _. perform-holds p at t s h)
+    perform-holds (choose question p q) at t s h = cond_both (answer_of n t question s) (perform n at t p s) (perform n at t q s) KeepsFlow (λ _. perform-holds p at t s h) (λ _. perform-holds q at t s h)
     perform-holds (fostered p) at t s h = flow-map false (perform n at t p (with_foster true s)) (perform-holds p at t (with_foster true s) h)
     perform-holds (each_pending p) at t s h =
         flow-each (λ c. perform n c.at (character c.ch) p) (λ c u m. perform-holds p c.at (character c.ch) u m) s.control.pending (with_control (record s.control { pending = [] }) s) h
@@ -209,11 +178,7 @@ module _ {N : Type 0} (k : ℕ) where
     perform-holds _ at t s h = h
 
     finished-holds : (at : ℕ) (t : Token N) (s : State N) → Holds s.site → Holds (finished at t s).site
-    finished-holds at t s h = go (is_self_closing t && not s.control.acknowledged)
-      where
-        go : (v : Bool) → Holds (cond v (record s { site = with_error NonVoidHtmlElementStartTagWithTrailingSolidus at s.site }) s).site
-        go true = h
-        go false = h
+    finished-holds at t s h = cond_both (is_self_closing t && not s.control.acknowledged) (record s { site = with_error NonVoidHtmlElementStartTagWithTrailingSolidus at s.site }) s (λ z. Holds z.site) (λ _. h) (λ _. h)
 
     chain-holds : (at : ℕ) (t : Token N) (s : State N) (o : Outcome (State N)) → Holds s.site → Chain n at t s o → OnGoes (λ u. Holds u.site) o
     chain-holds at t s o h (ends {s' = s'} rule) = finished-holds at t s' (subst KeepsFlow rule (perform-holds (rule_of s.control.mode (kind_of n t)) at t s h))

@@ -1,10 +1,10 @@
 -- Every rule keeps what its mode knows of the head.
-use Rattle.hmodes.proofs.Vocabulary.{◌≡◌, ◌≢◌, ℕ, ◌<◌, Bool, true, false, cond, leb, List, [], ◌∷◌, Option, Some, None, refl, sym, ◌∙◌, ap, subst, arith, drop, length, ◌&&◌, eq-eqb, ne_eqb, Attribute, element, LastIn, OpenNode, Refusal, TooDeep, Naming, Outcome, Goes, SiteOf, stack, trees, with_stack, with_error, from_top, node_of, place, inserted, Each, Pairs, TellsTables, deep, deep-there, OnGoes, Well, erred, inserted-well, place-fits, BeforeHead, InHead, InHeadNoscript, AfterHead, InBody, Text, TokenKind, Nul, Ws, Char, Comment, Doctype, Start, End, Eof, Do, ◌▸◌, nothing, again, error, to, save_mode, to_saved, head_pointer, insert, insert_named, insert_comment, put, pop, push_head, remove_head, add_missing_to_first, Token, State, Flow, Done, Again, Refused, flow_then, token_name, token_attrs, token_text, token_char, void, raw, html_again, code_of, before_head, head_unwritten, in_head, head_ends, in_head_noscript, noscript_ends, after_head, body_unwritten, late, text, perform, with_site, flow_of, current_node, head_pushed, removed}
+use Rattle.hmodes.proofs.Vocabulary.{◌≡◌, ◌≢◌, ℕ, ◌<◌, Bool, true, false, cond, leb, List, [], ◌∷◌, Option, Some, None, refl, sym, ◌∙◌, ap, subst, arith, drop, length, ◌&&◌, eq-eqb, ne_eqb, Attribute, element, LastIn, OpenNode, Refusal, TooDeep, Naming, Goes, SiteOf, stack, trees, with_stack, with_error, from_top, node_of, place, inserted, Each, Pairs, TellsTables, deep, deep-there, OnGoes, Well, erred, inserted-well, place-fits, BeforeHead, InHead, InHeadNoscript, AfterHead, InBody, Text, TokenKind, Nul, Ws, Char, Comment, Doctype, Start, End, Eof, Do, ◌▸◌, nothing, again, error, to, save_mode, to_saved, head_pointer, insert, insert_named, insert_comment, put, pop, push_head, remove_head, add_missing_to_first, Token, State, Flow, Done, Again, Refused, flow_then, token_name, token_attrs, token_text, token_char, void, raw, html_again, code_of, before_head, head_unwritten, in_head, head_ends, in_head_noscript, noscript_ends, after_head, body_unwritten, late, text, perform, with_site, flow_of, current_node, head_pushed, removed}
 use Rattle.hnodes.specs.Forest as forest
 use Rattle.names.specs.declared.tag.Tag.TheVariants as tag
 use Rattle.hadopt.specs.Site as site
 use Rattle.hmodes.specs.declared.family.Family.TheVariants as family
-use Rattle.hmodes.proofs.Every.{never, both}
+use Rattle.hmodes.proofs.Every.{never, both, by_outcome}
 use Rattle.hmodes.proofs.Stands.{tame, perform-well}
 use Rattle.hmodes.proofs.Heads.{Steady, steady-same, steady-then, added-steady, Deeper, inserted-steady, put-steady, missing-steady}
 use Rattle.hmodes.proofs.HeadFacts.{IsAt, OutOf, Knows, Facts, HeadFacts, FlowFacts, knows-steady, out-steady, FlowQuiet, quiet-flow, on-quiet, quiet-then}
@@ -122,11 +122,7 @@ module _ {N : Type 0} (n : Naming N) (tells : TellsTables n) (at : ℕ) (t : Tok
   after-insert : (P : Flow N → Type 0) (name : N) (attrs : List (Attribute N)) (s : State N) → Well n s.site → (g : State N → Flow N) → ((r : Refusal) → P (Refused r))
       → ((x : SiteOf N) → Well n x → Deeper n s.site x → P (g (with_site x s))) → P (flow_then (flow_of s (inserted at name attrs (place n s.site) s.site)) g)
   after-insert P name attrs s w g none k =
-      go (inserted at name attrs (place n s.site) s.site) (inserted-well n at name attrs (place n s.site) s.site w (place-fits n (element name attrs) s.site w)) (inserted-steady n at name attrs (place n s.site) s.site w)
-    where
-      go : (o : Outcome (SiteOf N)) → OnGoes (Well n) o → OnGoes (Deeper n s.site) o → P (flow_then (flow_of s o) g)
-      go (Goes x) a d = k x a d
-      go (site.Refused r) a d = none r
+      by_outcome (inserted at name attrs (place n s.site) s.site) (λ o. OnGoes (Well n) o → OnGoes (Deeper n s.site) o → P (flow_then (flow_of s o) g)) (λ x _ a d. k x a d) (λ r _ a d. none r) (inserted-well n at name attrs (place n s.site) s.site w (place-fits n (element name attrs) s.site w)) (inserted-steady n at name attrs (place n s.site) s.site w)
 
   void-quiet : (s : State N) → Well n s.site → FlowQuiet n s (perform n at t void s)
   void-quiet s w = after-insert (FlowQuiet n s) (token_name n t) (token_attrs t) s w _ (λ r. tt)

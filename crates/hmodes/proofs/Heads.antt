@@ -1,5 +1,5 @@
 -- The modes of the head keep what they know of it.
-use Rattle.hmodes.proofs.Vocabulary.{◌≡◌, ◌≢◌, ℕ, ◌+◌, ◌<◌, Bool, true, false, cond, leb, List, [], ◌∷◌, Option, Some, None, refl, sym, ◌∙◌, subst, arith, length, is_none, ◌&&◌, encode_utf8, is_present, Attribute, What, element, Forest, tree, join, change_what, graft, make, char_into, with_char, with_attribute, add_attribute, text_before, attributes_of, Place, OpenNode, TooManyNodes, TooDeep, Naming, Goes, SiteOf, and_then, stack, trees, with_stack, with_trees, added, inserted, pushed, with_missing, deep, deep-is, at-most, not-there, deep-there, counted-new, OnGoes, Well}
+use Rattle.hmodes.proofs.Vocabulary.{cond_both, ◌≡◌, ◌≢◌, ℕ, ◌+◌, ◌<◌, Bool, true, false, cond, leb, List, [], ◌∷◌, Option, Some, None, refl, sym, ◌∙◌, subst, arith, length, is_none, ◌&&◌, encode_utf8, is_present, Attribute, What, element, Forest, tree, join, change_what, graft, make, char_into, with_char, with_attribute, add_attribute, text_before, attributes_of, Place, OpenNode, TooManyNodes, TooDeep, Naming, Goes, SiteOf, and_then, stack, trees, with_stack, with_trees, added, inserted, pushed, with_missing, deep, deep-is, at-most, not-there, deep-there, counted-new, OnGoes, Well}
 use Rattle.hnodes.specs.Forest.{text, none}
 use Rattle.hadopt.specs.Site.{Refused}
 use Rattle.hadopt.specs.Inserts.{put}
@@ -38,11 +38,7 @@ module _ {N : Type 0} (n : Naming N) where
     }
 
     pub added-steady : (at : ℕ) → OnGoes (λ t. Steady s t × (stack t ≡ stack s)) (added at w p s)
-    added-steady at = go (leb s.nodes.limit s.nodes.made)
-      where
-        go : (v : Bool) → OnGoes (λ t. Steady s t × (stack t ≡ stack s)) (and_then (cond v (Refused (TooManyNodes at)) (Goes (record s { nodes = make w s.nodes }))) (λ t. Goes (with_trees (graft s.nodes.made p (trees t)) t)))
-        go true = tt
-        go false = (grown-steady, refl)
+    added-steady at = cond_both (leb s.nodes.limit s.nodes.made) (Refused (TooManyNodes at)) (Goes (record s { nodes = make w s.nodes })) (λ z. OnGoes (λ t. Steady s t × (stack t ≡ stack s)) (and_then z (λ t. Goes (with_trees (graft s.nodes.made p (trees t)) t)))) (λ _. tt) (λ _. (grown-steady, refl))
 
   abbrev pub Deeper : SiteOf N → SiteOf N → Type 0
   Deeper s t = Steady s t × ((x : OpenNode N) × (stack t ≡ x ∷ stack s) × (x.node ≡ s.nodes.made))

@@ -1,5 +1,5 @@
 -- Programs that never have the token go again, save no mode and adopt nothing: what refuses them is a limit.
-use Rattle.hmodes.proofs.Vocabulary.{◌≡◌, inl, inr, ℕ, zero, suc, Bool, true, false, cond, leb, List, [], ◌∷◌, Option, Some, None, refl, ◌∙◌, length, is_none, ◌&&◌, option_map_or, Attribute, What, element, graft, make, add_char, text_before, Place, LastIn, before, changed_at, OpenNode, EntryOf, entry_at, for_node, Placed, TooManyNodes, TooDeep, Naming, Outcome, Goes, SiteOf, and_then, stack, trees, with_trees, with_stack, with_items, from_top, node_of, place, made, added, inserted, pushed, stops_going_back, renewed, renewed_each, Do, ◌▸◌, when, unless, choose, fostered, each_pending, again, again_as, save_mode, insert, insert_named, insert_root, insert_root_named, insert_comment, comment_in_document, comment_in_first, insert_doctype, put, push_head, reconstruct, adopt, adopt_listed, Token, character, State, Flow, Done, Again, Refused, flow_then, flow_map, token_name, token_attrs, token_text, token_char, doctype_node, answer_of, perform, with_foster, with_control, each_of, flow_of, head_pushed, current_node, IsLimit}
+use Rattle.hmodes.proofs.Vocabulary.{cond_both, ◌≡◌, inl, inr, ℕ, zero, suc, Bool, true, false, leb, List, [], ◌∷◌, Option, Some, None, refl, ◌∙◌, length, is_none, ◌&&◌, option_map_or, Attribute, What, element, graft, make, add_char, text_before, Place, LastIn, before, changed_at, OpenNode, EntryOf, entry_at, for_node, Placed, TooManyNodes, TooDeep, Naming, Outcome, Goes, SiteOf, and_then, stack, trees, with_trees, with_stack, with_items, from_top, node_of, place, made, added, inserted, pushed, stops_going_back, renewed, renewed_each, Do, ◌▸◌, when, unless, choose, fostered, each_pending, again, again_as, save_mode, insert, insert_named, insert_root, insert_root_named, insert_comment, comment_in_document, comment_in_first, insert_doctype, put, push_head, reconstruct, adopt, adopt_listed, Token, character, State, Flow, Done, Again, Refused, flow_then, flow_map, token_name, token_attrs, token_text, token_char, doctype_node, answer_of, perform, with_foster, with_control, each_of, flow_of, head_pushed, current_node, IsLimit}
 use Rattle.hnodes.specs.Forest as forest
 use Rattle.names.specs.declared.tag.Tag.TheVariants as tag
 use Rattle.hadopt.specs.Site as site
@@ -31,32 +31,20 @@ limited-then (site.Refused r) f h k = h
 
 module _ {N : Type 0} where
   limited-made : (at : ℕ) (w : What N) (s : SiteOf N) → Limited (made at w s)
-  limited-made at w s = go (leb s.nodes.limit s.nodes.made)
-    where
-      go : (v : Bool) → Limited (cond v (site.Refused (TooManyNodes at)) (Goes (record s { nodes = make w s.nodes })))
-      go true = (at, inl refl)
-      go false = tt
+  limited-made at w s = cond_both (leb s.nodes.limit s.nodes.made) (site.Refused (TooManyNodes at)) (Goes (record s { nodes = make w s.nodes })) Limited (λ _. (at, inl refl)) (λ _. tt)
 
   limited-added : (at : ℕ) (w : What N) (p : Place) (s : SiteOf N) → Limited (added at w p s)
   limited-added at w p s = limited-then (made at w s) (λ t. Goes (with_trees (graft s.nodes.made p (trees t)) t)) (limited-made at w s) (λ t. tt)
 
   limited-pushed : (at : ℕ) (x : OpenNode N) (s : SiteOf N) → Limited (pushed at x s)
-  limited-pushed at x s = go (leb s.open_nodes.limit (length (stack s)))
-    where
-      go : (v : Bool) → Limited (cond v (site.Refused (TooDeep at)) (Goes (with_stack (x ∷ stack s) s)))
-      go true = (at, inr refl)
-      go false = tt
+  limited-pushed at x s = cond_both (leb s.open_nodes.limit (length (stack s))) (site.Refused (TooDeep at)) (Goes (with_stack (x ∷ stack s) s)) Limited (λ _. (at, inr refl)) (λ _. tt)
 
   pub limited-inserted : (at : ℕ) (name : N) (attrs : List (Attribute N)) (p : Place) (s : SiteOf N) → Limited (inserted at name attrs p s)
   limited-inserted at name attrs p s =
       limited-then (added at (element name attrs) p s) (pushed at (record { node = s.nodes.made; name = name })) (limited-added at (element name attrs) p s) (limited-pushed at (record { node = s.nodes.made; name = name }))
 
   limited-put : (at c : ℕ) (p : Place) (s : SiteOf N) → Limited (inserts.put at c p s)
-  limited-put at c p s = go (is_none (text_before p (trees s)) && leb s.nodes.limit s.nodes.made)
-    where
-      go : (v : Bool) → Limited (cond v (site.Refused (TooManyNodes at)) (Goes (record s { nodes = add_char c p s.nodes })))
-      go true = (at, inl refl)
-      go false = tt
+  limited-put at c p s = cond_both (is_none (text_before p (trees s)) && leb s.nodes.limit s.nodes.made) (site.Refused (TooManyNodes at)) (Goes (record s { nodes = add_char c p s.nodes })) Limited (λ _. (at, inl refl)) (λ _. tt)
 
 module _ {N : Type 0} (n : Naming N) (at : ℕ) where
   limited-head : (o : Option ℕ) (s : SiteOf N) → Limited (head_pushed n at o s)
@@ -108,21 +96,9 @@ module _ {N : Type 0} (n : Naming N) where
   perform-mild (p ▸ q) mild at t s =
       let parts = both (is_mild p) (is_mild q) mild in
       mild-then s (perform n at t p s) (perform n at t q) (perform-mild p parts.0 at t s) (perform-mild q parts.1 at t)
-  perform-mild (when question p) mild at t s = go (answer_of n t question s) (perform-mild p mild at t s)
-    where
-      go : (v : Bool) → Mild s (perform n at t p s) → Mild s (cond v (perform n at t p s) (Done s))
-      go true h = h
-      go false h = refl
-  perform-mild (unless question p) mild at t s = go (answer_of n t question s) (perform-mild p mild at t s)
-    where
-      go : (v : Bool) → Mild s (perform n at t p s) → Mild s (cond v (Done s) (perform n at t p s))
-      go true h = refl
-      go false h = h
-  perform-mild (choose question p q) mild at t s = go (answer_of n t question s) (perform-mild p (both (is_mild p) (is_mild q) mild).0 at t s) (perform-mild q (both (is_mild p) (is_mild q) mild).1 at t s)
-    where
-      go : (v : Bool) → Mild s (perform n at t p s) → Mild s (perform n at t q s) → Mild s (cond v (perform n at t p s) (perform n at t q s))
-      go true h k = h
-      go false h k = k
+  perform-mild (when question p) mild at t s = cond_both (answer_of n t question s) (perform n at t p s) (Done s) (Mild s) (λ _. perform-mild p mild at t s) (λ _. refl)
+  perform-mild (unless question p) mild at t s = cond_both (answer_of n t question s) (Done s) (perform n at t p s) (Mild s) (λ _. refl) (λ _. perform-mild p mild at t s)
+  perform-mild (choose question p q) mild at t s = cond_both (answer_of n t question s) (perform n at t p s) (perform n at t q s) (Mild s) (λ _. perform-mild p (both (is_mild p) (is_mild q) mild).0 at t s) (λ _. perform-mild q (both (is_mild p) (is_mild q) mild).1 at t s)
   perform-mild (fostered p) mild at t s = mild-foster s (perform n at t p (with_foster true s)) (perform-mild p mild at t (with_foster true s))
   perform-mild (each_pending p) mild at t s =
       mild-each (λ c. perform n c.at (character c.ch) p) (λ c v. perform-mild p mild c.at (character c.ch) v) s.control.pending (with_control (record s.control { pending = [] }) s)

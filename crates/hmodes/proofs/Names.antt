@@ -1,5 +1,7 @@
 -- The rules under other names.
-use Rattle.hmodes.proofs.Vocabulary.{◌≡◌, ℕ, Bool, true, false, not, ◌&&◌, ◌||◌, cond, List, [], ◌∷◌, ◌++◌, map, reverse, Option, Some, None, refl, sym, ◌∙◌, ap, subst, is_some, slice_get, unwrap_or, codes, list_any, list_all, option_map, option_map_or, str_eq_ignore_ascii_case, is_present, Attribute, Forest, attributes_of, add_attribute, spelled_attribute, spelled_what, spelled, LastIn, OpenNode, is_node, current, stops, stops_item, is_of, is_of_group, stops_in, Default, EntryOf, find_entry, Tag, Placed, Naming, Outcome, Goes, SiteOf, and_then, stack, trees, with_trees, with_stack, with_items, from_top, node_of, place, is_fostering, added, inserted, listed, with_missing, is, is_table_context, is_body_context, is_row_context, popped_while_not, adopted, InBody, Start, End, Test, Do, ◌▸◌, when, unless, choose, fostered, each_pending, again, again_as, reset, head_pointer, form_pointer, judge_quirks, pend, insert, insert_named, insert_root, insert_root_named, insert_comment, comment_in_document, comment_in_first, insert_doctype, put, add_missing_to_first, add_missing_to_second, pop, pop_to, pop_to_name, pop_to_group, implied, implied_except, implied_except_name, clear_to_table, clear_to_body, clear_to_row, push_head, remove_head, remove_form, reconstruct, push_to_list, clear_to_marker, close_p, adopt, adopt_listed, other_end, has_in, has_name_in, has_group_in, has_form_in_scope, current_is_name, current_is_group, current_is_form, current_is_fostering, item_is_near, second_is_body, all_may_stay_open, name_is_listed, form_is_set, is_in_quirks, is_fragment, doctype_conforms, input_is_hidden, pending_is_ws, Token, doctype, start, end, comment, character, eof, PlacedToken, State, Flow, Done, Again, Refused, flow_then, flow_map, token_name, token_attrs, token_text, token_char, is_self_closing, renamed, kind_of, family_of, rule_of, open_mode, context_mode, reset_mode, conforms, forces_quirks, doctype_node, has, is_token_name, is_hidden, answer_of, with_site, with_control, with_foster, flow_of, each_of, removed, forgotten, current_node, inserted_here, completed, adopted_listed, head_pushed, perform, Rule, Chain, Step, Steps, is_dropped, begun, finished, ends, refuses, goes_again, drops, goes, none, and, refused, spelled_token, spelled_placed, spelled_state, spelled_flow, StepsKnowNoNames, in_scope}
+use Rattle.hmodes.proofs.Vocabulary.{◌≡◌, ℕ, Bool, true, false, not, ◌&&◌, ◌||◌, cond, List, [], ◌∷◌, ◌++◌, map, reverse, Option, Some, None, refl, sym, ◌∙◌, ap, subst, is_some, slice_get, unwrap_or, codes, list_any, option_map, option_map_or, str_eq_ignore_ascii_case, is_present, Attribute, Forest, attributes_of, add_attribute, spelled_attribute, spelled_what, spelled, LastIn, OpenNode, is_node, current, stops, stops_item, is_of, is_of_group, stops_in, Default, EntryOf, find_entry, Tag, Placed, Naming, Outcome, Goes, SiteOf, and_then, stack, trees, with_trees, with_stack, with_items, from_top, node_of, place, is_fostering, added, inserted, listed, with_missing, is, is_table_context, is_body_context, is_row_context, popped_while_not, adopted, InBody, Start, End, Test, Do, ◌▸◌, when, unless, choose, fostered, each_pending, again, again_as, reset, head_pointer, form_pointer, judge_quirks, pend, insert, insert_named, insert_root, insert_root_named, insert_comment, comment_in_document, comment_in_first, insert_doctype, put, add_missing_to_first, add_missing_to_second, pop, pop_to, pop_to_name, pop_to_group, implied, implied_except, implied_except_name, clear_to_table, clear_to_body, clear_to_row, push_head, remove_head, remove_form, reconstruct, push_to_list, clear_to_marker, close_p, adopt, adopt_listed, other_end, has_in, has_name_in, has_group_in, has_form_in_scope, current_is_name, current_is_group, current_is_form, current_is_fostering, item_is_near, second_is_body, all_may_stay_open, name_is_listed, form_is_set, is_in_quirks, is_fragment, doctype_conforms, input_is_hidden, pending_is_ws, Token, doctype, start, end, character, PlacedToken, State, Flow, Done, Again, Refused, flow_then, flow_map, token_name, token_attrs, token_text, token_char, is_self_closing, renamed, kind_of, family_of, rule_of, open_mode, context_mode, reset_mode, conforms, forces_quirks, doctype_node, has, is_token_name, is_hidden, answer_of, with_site, with_control, with_foster, flow_of, each_of, removed, forgotten, current_node, inserted_here, completed, adopted_listed, head_pushed, perform, Rule, Chain, Step, Steps, is_dropped, begun, finished, ends, refuses, goes_again, drops, goes, none, and, refused, spelled_token, spelled_placed, spelled_state, spelled_flow, StepsKnowNoNames, in_scope}
+use Rattle.hopen.proofs.Spellings.{scope-map}
+use Rattle.hmodes.proofs.Every.{by_option}
 use Rattle.std.proofs.lemmas.Option.{slice_get-map}
 use Rattle.hnodes.specs.Forest as forest
 use Rattle.hnodes.proofs.Spellings.{edits, questions}
@@ -15,7 +17,9 @@ use Rattle.hadopt.specs.Site as site
 use Rattle.hadopt.specs.Inserts as inserts
 use Rattle.hadopt.specs.Spelled.{Agree, spelled_site, outcome_map}
 use Rattle.hadopt.proofs.Spellings as site_names
+use Rattle.hchain.proofs.Images.{any-map, all-map}
 use Rattle.hchain.proofs.Nearest.{reverse-map}
+use Rattle.hadopt.proofs.Choices.{cond-map, or-map}
 use Rattle.names.specs.declared.error.ErrorCode.TheVariants as code
 use Rattle.hadopt.specs.Closes as closes
 use Rattle.hmodes.specs.Words.{current_is}
@@ -41,67 +45,31 @@ module _ {N M : Type 0} (g : N → M) where
 
   attrs-spelled : (t : Token N) → token_attrs (spelled_token g t) ≡ map (spelled_attribute g) (token_attrs t)
   attrs-spelled (doctype a b c d) = refl
-  attrs-spelled (start x attrs closing) = refl
-  attrs-spelled (end x) = refl
-  attrs-spelled (comment text) = refl
-  attrs-spelled (character c) = refl
-  attrs-spelled eof = refl
+  attrs-spelled t = refl
 
   text-spelled : (t : Token N) → token_text (spelled_token g t) ≡ token_text t
   text-spelled (doctype a b c d) = refl
-  text-spelled (start x attrs closing) = refl
-  text-spelled (end x) = refl
-  text-spelled (comment text) = refl
-  text-spelled (character c) = refl
-  text-spelled eof = refl
+  text-spelled t = refl
 
   char-spelled : (t : Token N) → token_char (spelled_token g t) ≡ token_char t
   char-spelled (doctype a b c d) = refl
-  char-spelled (start x attrs closing) = refl
-  char-spelled (end x) = refl
-  char-spelled (comment text) = refl
-  char-spelled (character c) = refl
-  char-spelled eof = refl
+  char-spelled t = refl
 
   renamed-spelled : (x : N) (t : Token N) → renamed (g x) (spelled_token g t) ≡ spelled_token g (renamed x t)
   renamed-spelled x (doctype a b c d) = refl
-  renamed-spelled x (start y attrs closing) = refl
-  renamed-spelled x (end y) = refl
-  renamed-spelled x (comment text) = refl
-  renamed-spelled x (character c) = refl
-  renamed-spelled x eof = refl
+  renamed-spelled x t = refl
 
   doctype-spelled : (t : Token N) → doctype_node (spelled_token g t) ≡ spelled_what g (doctype_node t)
   doctype-spelled (doctype a b c d) = refl
-  doctype-spelled (start y attrs closing) = refl
-  doctype-spelled (end y) = refl
-  doctype-spelled (comment text) = refl
-  doctype-spelled (character c) = refl
-  doctype-spelled eof = refl
+  doctype-spelled t = refl
 
   conforms-spelled : (t : Token N) → conforms (spelled_token g t) ≡ conforms t
   conforms-spelled (doctype a b c d) = refl
-  conforms-spelled (start y attrs closing) = refl
-  conforms-spelled (end y) = refl
-  conforms-spelled (comment text) = refl
-  conforms-spelled (character c) = refl
-  conforms-spelled eof = refl
+  conforms-spelled t = refl
 
   quirks-spelled : (s : State N) (t : Token N) → forces_quirks (spelled_state g s) (spelled_token g t) ≡ forces_quirks s t
   quirks-spelled s (doctype a b c d) = refl
-  quirks-spelled s (start y attrs closing) = refl
-  quirks-spelled s (end y) = refl
-  quirks-spelled s (comment text) = refl
-  quirks-spelled s (character c) = refl
-  quirks-spelled s eof = refl
-
-any-map : {X Y : Type 0} (h : X → Y) (p : X → Bool) (q : Y → Bool) → ((x : X) → q (h x) ≡ p x) → (xs : List X) → list_any q (map h xs) ≡ list_any p xs
-any-map h p q e [] = refl
-any-map h p q e (x ∷ xs) = λ i. e x i || any-map h p q e xs i
-
-all-map : {X Y : Type 0} (h : X → Y) (p : X → Bool) (q : Y → Bool) → ((x : X) → q (h x) ≡ p x) → (xs : List X) → list_all q (map h xs) ≡ list_all p xs
-all-map h p q e [] = refl
-all-map h p q e (x ∷ xs) = λ i. e x i && all-map h p q e xs i
+  quirks-spelled s t = refl
 
 some-map : {X Y : Type 0} (h : X → Y) (o : Option X) → is_some (option_map h o) ≡ is_some o
 some-map h None = refl
@@ -115,20 +83,14 @@ module _ {N M : Type 0} (m : Naming N) (n : Naming M) (g : N → M) (a : Agree m
   list-words = formatting_spelled m.same n.same g a.spelling.names
 
   name-spelled : (t : Token N) → token_name n (spelled_token g t) ≡ g (token_name m t)
-  name-spelled (doctype b c d e) = a.known tag.Html
   name-spelled (start x attrs closing) = refl
   name-spelled (end x) = refl
-  name-spelled (comment text) = a.known tag.Html
-  name-spelled (character c) = a.known tag.Html
-  name-spelled eof = a.known tag.Html
+  name-spelled t = a.known tag.Html
 
   kind-spelled : (t : Token N) → kind_of n (spelled_token g t) ≡ kind_of m t
-  kind-spelled (doctype b c d e) = refl
   kind-spelled (start x attrs closing) = ap (λ y. Start (family_of y)) (a.spelling.tags x)
   kind-spelled (end x) = ap (λ y. End (family_of y)) (a.spelling.tags x)
-  kind-spelled (comment text) = refl
-  kind-spelled (character c) = refl
-  kind-spelled eof = refl
+  kind-spelled t = refl
 
   reset-spelled : (context : Option N) (st : List (OpenNode N)) → reset_mode n (option_map g context) (spelled_stack g st) ≡ reset_mode m context st
   reset-spelled context [] = refl
@@ -139,15 +101,6 @@ module _ {N M : Type 0} (m : Naming N) (n : Naming M) (g : N → M) (a : Agree m
   token-test : (t : Token N) (x : OpenNode N) → is_token_name n (spelled_token g t) (spelled_open g x) ≡ is_token_name m t x
   token-test t x = ap (n.same (g x.name)) (name-spelled t) ∙ a.spelling.names x.name (token_name m t)
 
-  scope-map : (p : OpenNode N → Bool) (q : OpenNode M → Bool) → ((x : OpenNode N) → q (spelled_open g x) ≡ p x) → (st : OpenNode N → Bool) (st' : OpenNode M → Bool) → ((x : OpenNode N) → st' (spelled_open g x) ≡ st x)
-      → (xs : List (OpenNode N)) → in_scope st' q (spelled_stack g xs) ≡ in_scope st p xs
-  scope-map p q e st st' d [] = refl
-  scope-map p q e st st' d (x ∷ xs) = λ i. e x i || (not (d x i) && scope-map p q e st st' d xs i)
-
-  current-test : (p : OpenNode N → Bool) (q : OpenNode M → Bool) → ((x : OpenNode N) → q (spelled_open g x) ≡ p x) → (o : Option (OpenNode N)) → option_map_or q (option_map (spelled_open g) o) false ≡ option_map_or p o false
-  current-test p q e None = refl
-  current-test p q e (Some x) = e x
-
   top-spelled : (k : ℕ) (x : SiteOf N) → from_top k (spelled_site g x) ≡ option_map (spelled_open g) (from_top k x)
   top-spelled k x = ap (λ l. slice_get l k) (reverse-map (spelled_open g) (stack x)) ∙ slice_get-map (spelled_open g) (reverse (stack x)) k
 
@@ -155,28 +108,20 @@ module _ {N M : Type 0} (m : Naming N) (n : Naming M) (g : N → M) (a : Agree m
   current-spelled x = ap (λ (o : Option (OpenNode M)). node_of o) (stack-words.current_node (stack x)) ∙ site_names.node_of-map g (current (stack x))
 
   has-spelled : (scope : Scope) (p : OpenNode N → Bool) (q : OpenNode M → Bool) → ((x : OpenNode N) → q (spelled_open g x) ≡ p x) → (s : State N) → has n scope q (spelled_state g s) ≡ has m scope p s
-  has-spelled scope p q e s = scope-map p q e (stops m.tag scope) (stops n.tag scope) (λ x. ap (stops_in scope) (a.spelling.tags x.name)) (stack s.site)
+  has-spelled scope p q e s = scope-map g p q e (stops m.tag scope) (stops n.tag scope) (λ x. ap (stops_in scope) (a.spelling.tags x.name)) (stack s.site)
 
   answer-spelled : (t : Token N) (question : Test) (s : State N) → answer_of n (spelled_token g t) question (spelled_state g s) ≡ answer_of m t question s
   answer-spelled t (has_in scope x) s = has-spelled scope (is m x) (is n x) (site_names.is-map m n g a x) s
   answer-spelled t (has_name_in scope) s = has-spelled scope (is_token_name m t) (is_token_name n (spelled_token g t)) (token-test t) s
   answer-spelled t (has_group_in scope group) s = has-spelled scope (is_of m.tag group) (is_of n.tag group) (λ x. ap (is_of_group group) (a.spelling.tags x.name)) s
-  answer-spelled t has_form_in_scope s = go s.control.form
-    where
-      go : (o : Option ℕ) → option_map_or (λ k. has n Default (is_node k) (spelled_state g s)) o false ≡ option_map_or (λ k. has m Default (is_node k) s) o false
-      go None = refl
-      go (Some k) = has-spelled Default (is_node k) (is_node k) (λ x. refl) s
+  answer-spelled t has_form_in_scope s = by_option s.control.form (λ o. option_map_or (λ k. has n Default (is_node k) (spelled_state g s)) o false ≡ option_map_or (λ k. has m Default (is_node k) s) o false) (λ _. refl) (λ k _. has-spelled Default (is_node k) (is_node k) (λ x. refl) s)
   answer-spelled t (current_is x) s = site_names.current_is-map m n g a (is m x) (is n x) (site_names.is-map m n g a x) s.site
   answer-spelled t current_is_name s = site_names.current_is-map m n g a (is_token_name m t) (is_token_name n (spelled_token g t)) (token-test t) s.site
   answer-spelled t (current_is_group group) s = site_names.current_is-map m n g a (is_of m.tag group) (is_of n.tag group) (λ x. ap (is_of_group group) (a.spelling.tags x.name)) s.site
-  answer-spelled t current_is_form s = go s.control.form
-    where
-      go : (o : Option ℕ) → option_map_or (λ k. site.current_is (is_node k) (spelled_site g s.site)) o false ≡ option_map_or (λ k. site.current_is (is_node k) s.site) o false
-      go None = refl
-      go (Some k) = site_names.current_is-map m n g a (is_node k) (is_node k) (λ x. refl) s.site
+  answer-spelled t current_is_form s = by_option s.control.form (λ o. option_map_or (λ k. site.current_is (is_node k) (spelled_site g s.site)) o false ≡ option_map_or (λ k. site.current_is (is_node k) s.site) o false) (λ _. refl) (λ k _. site_names.current_is-map m n g a (is_node k) (is_node k) (λ x. refl) s.site)
   answer-spelled t current_is_fostering s = site_names.current_is-map m n g a (λ x. is_fostering (m.tag x.name)) (λ x. is_fostering (n.tag x.name)) (λ x. ap is_fostering (a.spelling.tags x.name)) s.site
-  answer-spelled t (item_is_near x) s = scope-map (is m x) (is n x) (site_names.is-map m n g a x) (λ y. stops_item (m.tag y.name)) (λ y. stops_item (n.tag y.name)) (λ y. ap stops_item (a.spelling.tags y.name)) (stack s.site)
-  answer-spelled t second_is_body s = ap (λ o. option_map_or (is n tag.Body) o false) (top-spelled 1 s.site) ∙ current-test (is m tag.Body) (is n tag.Body) (site_names.is-map m n g a tag.Body) (from_top 1 s.site)
+  answer-spelled t (item_is_near x) s = scope-map g (is m x) (is n x) (site_names.is-map m n g a x) (λ y. stops_item (m.tag y.name)) (λ y. stops_item (n.tag y.name)) (λ y. ap stops_item (a.spelling.tags y.name)) (stack s.site)
+  answer-spelled t second_is_body s = ap (λ o. option_map_or (is n tag.Body) o false) (top-spelled 1 s.site) ∙ or-map (spelled_open g) (λ v. v) (is m tag.Body) (is n tag.Body) (site_names.is-map m n g a tag.Body) false (from_top 1 s.site)
   answer-spelled t all_may_stay_open s = all-map (spelled_open g) (λ x. may_stay_open (m.tag x.name)) (λ x. may_stay_open (n.tag x.name)) (λ x. ap may_stay_open (a.spelling.tags x.name)) (stack s.site)
   answer-spelled t name_is_listed s = ap (λ y. is_some (find_entry n.same y (spelled_items g s.site.items))) (name-spelled t) ∙ ap (λ (o : Option (EntryOf M)). is_some o) (list-words.find (token_name m t) s.site.items) ∙ some-map (spelled_entry g) (find_entry m.same (token_name m t) s.site.items)
   answer-spelled t form_is_set s = refl
@@ -247,21 +192,9 @@ module _ {N M : Type 0} (m : Naming N) (n : Naming M) (g : N → M) (a : Agree m
 
   perform-spelled : (p : Do) (at : ℕ) (t : Token N) (s : State N) → perform n at (spelled_token g t) p (spelled_state g s) ≡ spelled_flow g (perform m at t p s)
   perform-spelled (p ▸ q) at t s = ap (λ f. flow_then f (perform n at (spelled_token g t) q)) (perform-spelled p at t s) ∙ then-spelled g (perform m at t p s) (perform m at t q) (perform n at (spelled_token g t) q) (perform-spelled q at t)
-  perform-spelled (when question p) at t s = (λ i. cond (answer-spelled t question s i) (perform-spelled p at t s i) (Done (spelled_state g s))) ∙ go (answer_of m t question s)
-    where
-      go : (v : Bool) → cond v (spelled_flow g (perform m at t p s)) (Done (spelled_state g s)) ≡ spelled_flow g (cond v (perform m at t p s) (Done s))
-      go true = refl
-      go false = refl
-  perform-spelled (unless question p) at t s = (λ i. cond (answer-spelled t question s i) (Done (spelled_state g s)) (perform-spelled p at t s i)) ∙ go (answer_of m t question s)
-    where
-      go : (v : Bool) → cond v (Done (spelled_state g s)) (spelled_flow g (perform m at t p s)) ≡ spelled_flow g (cond v (Done s) (perform m at t p s))
-      go true = refl
-      go false = refl
-  perform-spelled (choose question p q) at t s = (λ i. cond (answer-spelled t question s i) (perform-spelled p at t s i) (perform-spelled q at t s i)) ∙ go (answer_of m t question s)
-    where
-      go : (v : Bool) → cond v (spelled_flow g (perform m at t p s)) (spelled_flow g (perform m at t q s)) ≡ spelled_flow g (cond v (perform m at t p s) (perform m at t q s))
-      go true = refl
-      go false = refl
+  perform-spelled (when question p) at t s = (λ i. cond (answer-spelled t question s i) (perform-spelled p at t s i) (Done (spelled_state g s))) ∙ cond-map (spelled_flow g) (answer_of m t question s) (perform m at t p s) (Done s)
+  perform-spelled (unless question p) at t s = (λ i. cond (answer-spelled t question s i) (Done (spelled_state g s)) (perform-spelled p at t s i)) ∙ cond-map (spelled_flow g) (answer_of m t question s) (Done s) (perform m at t p s)
+  perform-spelled (choose question p q) at t s = (λ i. cond (answer-spelled t question s i) (perform-spelled p at t s i) (perform-spelled q at t s i)) ∙ cond-map (spelled_flow g) (answer_of m t question s) (perform m at t p s) (perform m at t q s)
   perform-spelled (fostered p) at t s = ap (flow_map (with_foster false)) (perform-spelled p at t (with_foster true s)) ∙ unfoster-spelled g (perform m at t p (with_foster true s))
   perform-spelled (each_pending p) at t s = each-spelled g (λ c. perform m c.at (character c.ch) p) (λ c. perform n c.at (character c.ch) p) (λ c v. perform-spelled p c.at (character c.ch) v) s.control.pending (with_control (record s.control { pending = [] }) s)
   perform-spelled again at t s = refl
@@ -308,19 +241,11 @@ module _ {N M : Type 0} (m : Naming N) (n : Naming M) (g : N → M) (a : Agree m
   rule-spelled at t s = ap (λ k. perform n at (spelled_token g t) (rule_of s.control.mode k) (spelled_state g s)) (kind-spelled t) ∙ perform-spelled (rule_of s.control.mode (kind_of m t)) at t s
 
   finished-spelled : (at : ℕ) (t : Token N) (s : State N) → finished at (spelled_token g t) (spelled_state g s) ≡ spelled_state g (finished at t s)
-  finished-spelled at t s = ap (λ v. cond (v && not s.control.acknowledged) (with_site (site.with_error code.NonVoidHtmlElementStartTagWithTrailingSolidus at (spelled_site g s.site)) (spelled_state g s)) (spelled_state g s)) (closing t) ∙ go (is_self_closing t && not s.control.acknowledged)
+  finished-spelled at t s = ap (λ v. cond (v && not s.control.acknowledged) (with_site (site.with_error code.NonVoidHtmlElementStartTagWithTrailingSolidus at (spelled_site g s.site)) (spelled_state g s)) (spelled_state g s)) (closing t) ∙ cond-map (spelled_state g) (is_self_closing t && not s.control.acknowledged) (with_site (site.with_error code.NonVoidHtmlElementStartTagWithTrailingSolidus at s.site) s) s
     where
       closing : (t : Token N) → is_self_closing (spelled_token g t) ≡ is_self_closing t
       closing (doctype b c d e) = refl
-      closing (start x attrs closed) = refl
-      closing (end x) = refl
-      closing (comment text) = refl
-      closing (character c) = refl
-      closing eof = refl
-
-      go : (v : Bool) → cond v (with_site (site.with_error code.NonVoidHtmlElementStartTagWithTrailingSolidus at (spelled_site g s.site)) (spelled_state g s)) (spelled_state g s) ≡ spelled_state g (cond v (with_site (site.with_error code.NonVoidHtmlElementStartTagWithTrailingSolidus at s.site) s) s)
-      go true = refl
-      go false = refl
+      closing t = refl
 
   chain-spelled : (at : ℕ) (t : Token N) (s : State N) (o : Outcome (State N)) → Chain m at t s o → Chain n at (spelled_token g t) (spelled_state g s) (outcome_map (spelled_state g) o)
   chain-spelled at t s o (ends {s' = s'} rule) = subst (λ (x : State M). Chain n at (spelled_token g t) (spelled_state g s) (Goes x)) (finished-spelled at t s') (ends (rule-spelled at t s ∙ ap (spelled_flow g) rule))
@@ -329,11 +254,7 @@ module _ {N M : Type 0} (m : Naming N) (n : Naming M) (g : N → M) (a : Agree m
 
   dropped-spelled : (t : Token N) (s : State N) → is_dropped (spelled_token g t) (spelled_state g s) ≡ is_dropped t s
   dropped-spelled (doctype b c d e) s = refl
-  dropped-spelled (start x attrs closed) s = refl
-  dropped-spelled (end x) s = refl
-  dropped-spelled (comment text) s = refl
-  dropped-spelled (character c) s = refl
-  dropped-spelled eof s = refl
+  dropped-spelled t s = refl
 
   step-spelled : (at : ℕ) (t : Token N) (s : State N) (o : Outcome (State N)) → Step m at t s o → Step n at (spelled_token g t) (spelled_state g s) (outcome_map (spelled_state g) o)
   step-spelled at t s o (drops is) = drops (dropped-spelled t s ∙ is)

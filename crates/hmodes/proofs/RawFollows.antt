@@ -1,5 +1,5 @@
 -- A start tag of a raw kind leads to the mode "text", by a test on the programs of each mode.
-use Rattle.hmodes.proofs.Vocabulary.{◌≡◌, ◌≢◌, ◌⊎◌, inl, inr, ℕ, ◌<◌, Bool, true, false, not, cond, leb, List, ◌∷◌, Option, Some, None, refl, sym, ◌∙◌, ap, subst, arith, length, ◌&&◌, ◌||◌, IfSome, ne_eqb, Attribute, OpenNode, current, TooManyNodes, TooDeep, Tag, Naming, Outcome, Goes, SiteOf, and_then, stack, trees, with_stack, with_trees, with_error, OnGoes, Family, Mode, Initial, BeforeHtml, BeforeHead, InHead, InHeadNoscript, AfterHead, InBody, Text, InTable, InTableText, InCaption, InColumnGroup, InTableBody, InRow, InCell, AfterBody, AfterAfterBody, family_of, Do, Start, Char, ◌▸◌, choose, fostered, each_pending, again, to, to_saved, save_mode, insert, put, drop_lf, push_head, remove_head, pending_is_ws, raw, after_head, late, perform, with_foster, with_site, inserted_here, flow_of, head_pushed, removed, rule_of, code_of, NonVoidHtmlElementStartTagWithTrailingSolidus, Token, start, Control, State, Flow, Done, Again, Refused, flow_then, flow_map, Rule, Chain, ends, refuses, goes_again, drops, goes, begun, finished, is_ended, IsLimit, Inserts, at_once, in_first, in_second, in_fostered, RulesInsert, by_rule, by_next, IsInText, ComesToText, RawFollows, Place, element, graft, make, place, inserted, pushed, in_table_text, other_in_table}
+use Rattle.hmodes.proofs.Vocabulary.{cond_both, ◌≡◌, ◌≢◌, ◌⊎◌, inl, inr, ℕ, ◌<◌, Bool, true, false, not, cond, leb, List, ◌∷◌, Option, Some, None, refl, sym, ◌∙◌, ap, subst, arith, length, ◌&&◌, ◌||◌, IfSome, ne_eqb, Attribute, OpenNode, current, TooManyNodes, TooDeep, Tag, Naming, Outcome, Goes, SiteOf, and_then, stack, trees, with_stack, with_trees, with_error, OnGoes, Family, Mode, AfterHead, Text, InTableText, family_of, Do, Start, Char, ◌▸◌, choose, fostered, each_pending, again, to, to_saved, save_mode, insert, put, drop_lf, push_head, remove_head, pending_is_ws, raw, after_head, late, perform, with_foster, with_site, inserted_here, flow_of, head_pushed, removed, rule_of, code_of, NonVoidHtmlElementStartTagWithTrailingSolidus, Token, start, Control, State, Flow, Done, Again, Refused, flow_then, flow_map, Rule, Chain, ends, refuses, goes_again, drops, goes, begun, finished, is_ended, IsLimit, Inserts, at_once, in_first, in_second, in_fostered, RulesInsert, by_rule, by_next, IsInText, ComesToText, RawFollows, Place, element, graft, make, place, inserted, pushed, in_table_text, other_in_table}
 use Rattle.names.specs.Sets.{raw_kind}
 use Rattle.names.specs.declared.tag.Tag.TheVariants as tag
 use Rattle.hadopt.specs.Site as site
@@ -7,7 +7,7 @@ use Rattle.hmodes.specs.declared.family.Family.TheVariants.{Title, Noframes, Sty
 use Rattle.hmodes.proofs.Mild.{is_mild, Mild, perform-mild}
 use Rattle.hmodes.proofs.Facts.{is_texty}
 use Rattle.hmodes.proofs.Between.{Tells, Orderly, orderly-head, orderly-begins, again-orderly, reached-orderly}
-use Rattle.hmodes.proofs.Every.{never, both}
+use Rattle.hmodes.proofs.Every.{never, both, by_outcome}
 
 -- the programs that insert an element and go to text, at once or after others, or have the token go by rules outside of text
 
@@ -84,21 +84,10 @@ is_ruled AfterHead = false
 is_ruled m = is_outside m
 
 ruled-leads : (m : Mode) → is_ruled m ≡ true → for_all (λ f. leads (rule_of m (Start f))) ≡ true
-ruled-leads Initial e = refl
-ruled-leads BeforeHtml e = refl
-ruled-leads BeforeHead e = refl
-ruled-leads InHead e = refl
-ruled-leads InHeadNoscript e = refl
-ruled-leads InBody e = refl
-ruled-leads InTable e = refl
-ruled-leads InCaption e = refl
-ruled-leads InColumnGroup e = refl
-ruled-leads InTableBody e = refl
-ruled-leads InRow e = refl
-ruled-leads InCell e = refl
-ruled-leads AfterBody e = refl
-ruled-leads AfterAfterBody e = refl
-ruled-leads _ e = never e
+ruled-leads Text e = never e
+ruled-leads InTableText e = never e
+ruled-leads AfterHead e = never e
+ruled-leads m e = refl
 
 raw-is : (p : Do) → is_raw p ≡ true → p ≡ raw
 raw-is (insert ▸ (save_mode ▸ to Text)) e = refl
@@ -164,11 +153,7 @@ module _ {N : Type 0} (n : Naming N) (at : ℕ) (name : N) (attrs : List (Attrib
   foster-off s0 (Refused r) h = h
 
   raw-leads : (s0 s : State N) → LeadsBy s0 raw s
-  raw-leads s0 s on_way = go (inserted_here n at name attrs s.site) refl (perform-mild n insert refl at tag_token s)
-    where
-      go : (o : Outcome (SiteOf N)) → inserted_here n at name attrs s.site ≡ o → Mild s (flow_of s o) → Leads s0 (flow_then (flow_of s o) (perform n at tag_token (save_mode ▸ to Text)))
-      go (Goes x) is m = record { before = s; way = on_way s (in_first at_once); after = x; insertion = is; nodes_are = refl; current_is = refl; mode_is = refl }
-      go (site.Refused r) is m = m
+  raw-leads s0 s on_way = by_outcome (inserted_here n at name attrs s.site) (λ o. Mild s (flow_of s o) → Leads s0 (flow_then (flow_of s o) (perform n at tag_token (save_mode ▸ to Text)))) (λ x is m. record { before = s; way = on_way s (in_first at_once); after = x; insertion = is; nodes_are = refl; current_is = refl; mode_is = refl }) (λ r is m. m) (perform-mild n insert refl at tag_token s)
 
   raw-drops : (s0 s : State N) → LeadsBy s0 (raw ▸ drop_lf) s
   raw-drops s0 s on_way = go (perform n at tag_token raw s) (raw-leads s0 s (λ v w. on_way v (in_first w)))
@@ -299,11 +284,7 @@ module _ {N : Type 0} (n : Naming N) (at : ℕ) (name : N) (attrs : List (Attrib
 
 module _ {N : Type 0} (n : Naming N) (tells : Tells n) (at : ℕ) (name : N) (attrs : List (Attribute N)) (closing : Bool) (ended : is_ended (raw_kind (n.tag name)) ≡ true) where
   finished-text : (s0 s : State N) → IsInText n at name attrs closing s0 s → IsInText n at name attrs closing s0 (finished at (start name attrs closing) s)
-  finished-text s0 s h = go (closing && not s.control.acknowledged)
-    where
-      go : (v : Bool) → IsInText n at name attrs closing s0 (cond v (with_site (with_error NonVoidHtmlElementStartTagWithTrailingSolidus at s.site) s) s)
-      go true = record { before = h.before; way = h.way; after = h.after; insertion = h.insertion; nodes_are = h.nodes_are; current_is = h.current_is; mode_is = h.mode_is }
-      go false = h
+  finished-text s0 s h = cond_both (closing && not s.control.acknowledged) (with_site (with_error NonVoidHtmlElementStartTagWithTrailingSolidus at s.site) s) s (IsInText n at name attrs closing s0) (λ _. record { before = h.before; way = h.way; after = h.after; insertion = h.insertion; nodes_are = h.nodes_are; current_is = h.current_is; mode_is = h.mode_is }) (λ _. h)
 
   -- the head pointer's node was made
   head-below : (s : State N) → Orderly n s → s.control.mode ≡ AfterHead → (h : ℕ) → s.control.head ≡ Some h → h < s.site.nodes.made

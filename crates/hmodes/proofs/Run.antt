@@ -1,5 +1,5 @@
 -- A run keeps that the open nodes are, from the beginning of a document or a fragment on.
-use Rattle.hmodes.proofs.Vocabulary.{◌≡◌, ℕ, zero, suc, ◌+◌, Bool, true, false, not, cond, eqb, ltb, if◌then◌else◌, List, [], ◌∷◌, refl, subst, arith, ◌&&◌, lt-leb, ne_eqb, element, tree, QuirkLine, NonVoidHtmlElementStartTagWithTrailingSolidus, Naming, Outcome, Goes, with_error, TellsTables, OnGoes, Well, erred, AfterHead, Token, PlacedToken, State, Flow, Done, Again, Refused, is_self_closing, Rule, Chain, ends, refuses, goes_again, Step, drops, goes, Steps, none, and, refused, begun, finished, Limits, document_begins, fragment_begins}
+use Rattle.hmodes.proofs.Vocabulary.{cond_both, ◌≡◌, ℕ, zero, suc, ◌+◌, not, eqb, ltb, if◌then◌else◌, List, [], ◌∷◌, refl, subst, arith, ◌&&◌, lt-leb, ne_eqb, element, tree, QuirkLine, NonVoidHtmlElementStartTagWithTrailingSolidus, Naming, Outcome, Goes, with_error, TellsTables, OnGoes, Well, erred, AfterHead, Token, PlacedToken, State, Flow, Done, Again, Refused, is_self_closing, Rule, Chain, ends, refuses, goes_again, Step, drops, goes, Steps, none, and, refused, begun, finished, Limits, document_begins, fragment_begins}
 use Rattle.hnodes.specs.Forest as forest
 use Rattle.names.specs.declared.tag.Tag.TheVariants as tag
 use Rattle.hmodes.proofs.Stands.{FlowWell, HeadOut, rule-well}
@@ -22,11 +22,7 @@ module _ {N : Type 0} (n : Naming N) (tells : TellsTables n) (Fits : State N →
 
   module _ (facts : KeepsFacts) where
     finished-well : (at : ℕ) (t : Token N) (s : State N) → Well n s.site → Well n (finished at t s).site
-    finished-well at t s h = go (is_self_closing t && not s.control.acknowledged)
-      where
-        go : (v : Bool) → Well n (cond v (record s { site = with_error NonVoidHtmlElementStartTagWithTrailingSolidus at s.site }) s).site
-        go true = erred n s.site _ at h
-        go false = h
+    finished-well at t s h = cond_both (is_self_closing t && not s.control.acknowledged) (record s { site = with_error NonVoidHtmlElementStartTagWithTrailingSolidus at s.site }) s (λ z. Well n z.site) (λ _. erred n s.site _ at h) (λ _. h)
 
     chain-good : (at : ℕ) (t : Token N) (s : State N) (o : Outcome (State N)) → Good s → Chain n at t s o → OnGoes Good o
     chain-good at t s o g (ends {s' = s'} rule) =

@@ -1,5 +1,5 @@
 -- Every rule keeps what the open nodes need: they are in the document's tree, each outside of those below it.
-use Rattle.hmodes.proofs.Vocabulary.{◌≡◌, ℕ, ◌<◌, Bool, true, false, not, cond, leb, List, [], ◌∷◌, Option, Some, None, refl, subst, length, filter, ◌&&◌, ◌||◌, ◌==◌, nat_le, option_map_or, list_any, element, LastIn, is_node, EntryOf, Listed, entry, cleared, find_entry, without_entry, with_room, without_earliest, is_equal, after_marker, most_equal, Placed, Tag, is_space, TooDeep, Naming, Outcome, Goes, SiteOf, stack, trees, with_stack, with_error, from_top, node_of, place, listed, is, adopted, Each, TellsTables, deep, OnGoes, goes-then, Plain, PlainEntries, plain-without, Well, among-past, among-drop, fewer, listed-as, erred, closed-well, other-well, adopted-well, missing-well, first-fits, here-fits, root-fits, place-fits, added-well, inserted-well, put-well, reconstructed-well, Mode, AfterHead, family_of, TokenKind, Nul, Ws, Char, Start, Do, ◌▸◌, when, unless, choose, fostered, each_pending, error, insert, insert_named, insert_root, insert_root_named, insert_comment, comment_in_document, comment_in_first, insert_doctype, put, add_missing_to_first, add_missing_to_second, pop, pop_to, pop_to_name, pop_to_group, implied, implied_except, implied_except_name, clear_to_table, clear_to_body, clear_to_row, push_head, remove_head, remove_form, reconstruct, push_to_list, clear_to_marker, close_p, adopt, adopt_listed, other_end, Token, character, start, end, doctype, comment, eof, State, Flow, Done, Again, Refused, kind_of, flow_then, flow_map, token_name, token_attrs, token_text, token_char, answer_of, doctype_node, perform, with_foster, with_control, with_site, each_of, flow_of, removed, forgotten, current_node, adopted_listed, head_pushed, rule_of, code_of, Rule, in_head, after_head, late}
+use Rattle.hmodes.proofs.Vocabulary.{by_test, cond_both, ◌≡◌, ℕ, ◌<◌, Bool, true, false, not, cond, leb, List, [], ◌∷◌, Option, Some, None, refl, subst, length, filter, ◌&&◌, ◌||◌, ◌==◌, nat_le, option_map_or, list_any, element, LastIn, is_node, EntryOf, Listed, entry, cleared, find_entry, without_entry, with_room, without_earliest, is_equal, after_marker, most_equal, Placed, Tag, is_space, TooDeep, Naming, Outcome, Goes, SiteOf, stack, trees, with_stack, with_error, from_top, node_of, place, listed, is, adopted, Each, TellsTables, deep, OnGoes, goes-then, Plain, PlainEntries, plain-without, Well, among-past, among-drop, fewer, listed-as, erred, closed-well, other-well, adopted-well, missing-well, first-fits, here-fits, root-fits, place-fits, added-well, inserted-well, put-well, reconstructed-well, Mode, AfterHead, family_of, TokenKind, Nul, Ws, Char, Start, Do, ◌▸◌, when, unless, choose, fostered, each_pending, error, insert, insert_named, insert_root, insert_root_named, insert_comment, comment_in_document, comment_in_first, insert_doctype, put, add_missing_to_first, add_missing_to_second, pop, pop_to, pop_to_name, pop_to_group, implied, implied_except, implied_except_name, clear_to_table, clear_to_body, clear_to_row, push_head, remove_head, remove_form, reconstruct, push_to_list, clear_to_marker, close_p, adopt, adopt_listed, other_end, Token, character, start, State, Flow, Done, Again, Refused, kind_of, flow_then, flow_map, token_name, token_attrs, token_text, token_char, answer_of, doctype_node, perform, with_foster, with_control, with_site, each_of, flow_of, removed, forgotten, current_node, adopted_listed, head_pushed, rule_of, code_of, Rule, in_head, after_head, late}
 use Rattle.hnodes.specs.Forest as forest
 use Rattle.hformat.specs.Formatting as list
 use Rattle.names.specs.declared.tag.Tag.TheVariants as tag
@@ -71,18 +71,10 @@ module _ {N : Type 0} (n : Naming N) where
   plain-earliest : (p : EntryOf N → Bool) (items : List (Listed N)) → PlainEntries n items → PlainEntries n (without_earliest p items)
   plain-earliest p [] h = tt
   plain-earliest p (list.marker ∷ items) h = h
-  plain-earliest p (entry e ∷ items) h = go (p e && not (list_any p (after_marker items))) (plain-earliest p items h.1)
-    where
-      go : (v : Bool) → PlainEntries n (without_earliest p items) → PlainEntries n (cond v items (entry e ∷ without_earliest p items))
-      go true r = h.1
-      go false r = (h.0, r)
+  plain-earliest p (entry e ∷ items) h = cond_both (p e && not (list_any p (after_marker items))) items (entry e ∷ without_earliest p items) (PlainEntries n) (λ _. h.1) (λ _. (h.0, (plain-earliest p items h.1)))
 
   plain-room : (e : EntryOf N) (items : List (Listed N)) → PlainEntries n items → PlainEntries n (with_room n.same e items)
-  plain-room e items h = go (nat_le most_equal (length (filter (is_equal n.same e) (after_marker items))))
-    where
-      go : (v : Bool) → PlainEntries n (cond v (without_earliest (is_equal n.same e) items) items)
-      go true = plain-earliest (is_equal n.same e) items h
-      go false = h
+  plain-room e items h = cond_both (nat_le most_equal (length (filter (is_equal n.same e) (after_marker items)))) (without_earliest (is_equal n.same e) items) items (PlainEntries n) (λ _. plain-earliest (is_equal n.same e) items h) (λ _. h)
 
   listed-well : (t : Token N) → Plain n (token_name n t) → (s : SiteOf N) → Well n s → Well n (listed n (token_name n t) (token_attrs t) s)
   listed-well t name s h = listed-as n s _ (name, plain-room (record { node = current_node s; name = token_name n t; attrs = token_attrs t }) s.items h.plain) h
@@ -99,21 +91,9 @@ module _ {N : Type 0} (n : Naming N) where
     perform-well v (p ▸ q) calm at t name s h =
         let parts = both (tame v p) (tame v q) calm in
         well-then (perform n at t p s) (perform n at t q) (perform-well v p parts.0 at t name s h) (λ u m. perform-well v q parts.1 at t name u m)
-    perform-well v (when question p) calm at t name s h = go (answer_of n t question s) (perform-well v p calm at t name s h)
-      where
-        go : (x : Bool) → FlowWell (perform n at t p s) → FlowWell (cond x (perform n at t p s) (Done s))
-        go true m = m
-        go false m = h
-    perform-well v (unless question p) calm at t name s h = go (answer_of n t question s) (perform-well v p calm at t name s h)
-      where
-        go : (x : Bool) → FlowWell (perform n at t p s) → FlowWell (cond x (Done s) (perform n at t p s))
-        go true m = h
-        go false m = m
-    perform-well v (choose question p q) calm at t name s h = go (answer_of n t question s) (perform-well v p (both (tame v p) (tame v q) calm).0 at t name s h) (perform-well v q (both (tame v p) (tame v q) calm).1 at t name s h)
-      where
-        go : (x : Bool) → FlowWell (perform n at t p s) → FlowWell (perform n at t q s) → FlowWell (cond x (perform n at t p s) (perform n at t q s))
-        go true m k = m
-        go false m k = k
+    perform-well v (when question p) calm at t name s h = cond_both (answer_of n t question s) (perform n at t p s) (Done s) FlowWell (λ _. perform-well v p calm at t name s h) (λ _. h)
+    perform-well v (unless question p) calm at t name s h = cond_both (answer_of n t question s) (Done s) (perform n at t p s) FlowWell (λ _. h) (λ _. perform-well v p calm at t name s h)
+    perform-well v (choose question p q) calm at t name s h = cond_both (answer_of n t question s) (perform n at t p s) (perform n at t q s) FlowWell (λ _. perform-well v p (both (tame v p) (tame v q) calm).0 at t name s h) (λ _. perform-well v q (both (tame v p) (tame v q) calm).1 at t name s h)
     perform-well v (fostered p) calm at t name s h = well-map false (perform n at t p (with_foster true s)) (perform-well v p calm at t name (with_foster true s) (flagged true s.site h))
     perform-well v (each_pending p) calm at t name s h =
         well-each (λ c. perform n c.at (character c.ch) p) (λ c u m. perform-well false p calm c.at (character c.ch) (λ e. cc) u m) s.control.pending (with_control (record s.control { pending = [] }) s) h
@@ -176,21 +156,14 @@ list-plain x may is = let clash : may_list (Start (family_of tag.Table)) ≡ tru
 
 module _ {N : Type 0} (n : Naming N) (tells : TellsTables n) where
   plain-token : (t : Token N) → may_list (kind_of n t) ≡ true → Plain n (token_name n t)
-  plain-token (start x attrs closing) may = go (n.same x (n.known tag.Table)) refl
-    where
-      go : (v : Bool) → n.same x (n.known tag.Table) ≡ v → v ≡ false
-      go false e = refl
-      go true e = absurd (list-plain (n.tag x) may (tells x e))
-  plain-token (end x) may = cc
-  plain-token (doctype a b c d) may = cc
-  plain-token (comment a) may = cc
-  plain-token eof may = cc
+  plain-token (start x attrs closing) may = by_test (n.same x (n.known tag.Table)) (λ v. v ≡ false) (λ e. absurd (list-plain (n.tag x) may (tells x e))) (λ e. refl)
   plain-token (character c) may = go (c == 0) (is_space c) may
     where
       go : (u v : Bool) → may_list (cond u Nul (cond v Ws Char)) ≡ true → Plain n (n.known Html)
       go true v e = cc
       go false true e = cc
       go false false e = cc
+  plain-token t may = cc
 
   -- what a rule that opens the head again asks: the head is in the document's tree, and no open node is inside it
   pub record HeadIsOut (h : ℕ) (s : SiteOf N) : Type 0 where
@@ -202,11 +175,7 @@ module _ {N : Type 0} (n : Naming N) (tells : TellsTables n) where
 
   pub head-pushed-well : (at : ℕ) (o : Option ℕ) (s : SiteOf N) → ((h : ℕ) → o ≡ Some h → HeadIsOut h s) → Well n s → OnGoes (Well n) (head_pushed n at o s)
   head-pushed-well at None s out k = k
-  head-pushed-well at (Some h) s out k = go (leb s.open_nodes.limit (length (stack s)))
-    where
-      go : (v : Bool) → OnGoes (Well n) (cond v (site.Refused (TooDeep at)) (Goes (with_stack (record { node = h; name = n.known tag.Head } ∷ stack s) s)))
-      go true = tt
-      go false = let o = out h refl in record { counted = k.counted; each = (o.stands, k.each); order = (o.out, k.order); plain = k.plain }
+  head-pushed-well at (Some h) s out k = cond_both (leb s.open_nodes.limit (length (stack s))) (site.Refused (TooDeep at)) (Goes (with_stack (record { node = h; name = n.known tag.Head } ∷ stack s) s)) (OnGoes (Well n)) (λ _. tt) (λ _. let o = out h refl in record { counted = k.counted; each = (o.stands, k.each); order = (o.out, k.order); plain = k.plain })
 
   late-well : (p : Do) → tame false p ≡ true → (at : ℕ) (t : Token N) (s : State N) → HeadOut s → Well n s.site → FlowWell n (perform n at t (late p) s)
   late-well p calm at t s out h =

@@ -1,4 +1,5 @@
 -- The names of other crates and of specs/ that several proofs cite, in one place.
+pub use Rattle.hadopt.proofs.Choices.{by_test}
 pub use Rattle.hadopt.proofs.Agreeing.{numbers-agree}
 pub use Rattle.hadopt.proofs.Climbing.{OnGoes, Plain, PlainEntries, goes-then, plain-without}
 pub use Rattle.hadopt.proofs.Inserting.{added-well, first-fits, here-fits, inserted-well, missing-well, place-fits, put-well, reconstructed-well, root-fits}
@@ -66,7 +67,7 @@ pub use Rattle.names.specs.declared.refusal.Refusal.{Refusal}
 pub use Rattle.names.specs.declared.refusal.Refusal.TheVariants.{Memory, TooDeep, TooManyNodes}
 pub use Rattle.names.specs.declared.tag.Tag.{Tag}
 pub use Rattle.std.proofs.Common.{Bool, Err, List, None, Ok, Option, Result, Some, [], ap, ap₂, arith, cond, drop, eqb, false, filter, get_or, if◌then◌else◌, inl, inr, is_none, leb, length, ltb, map, max, nat_eq, not, refl, reverse, rules, subst, suc, sym, true, unwrap_or, zero, ℕ, ◌&&◌, ◌++◌, ◌+◌, ◌-◌, ◌<◌, ◌||◌, ◌∙◌, ◌∷◌, ◌≡◌, ◌≢◌, ◌≤◌, ◌⊎◌}
-pub use Rattle.std.proofs.lemmas.Bool.{and_parts, eq-eqb, eqb-true, false≢true, leb-true, lt-leb, ltb-false, ltb-true, ne_eqb, true≢false}
+pub use Rattle.std.proofs.lemmas.Bool.{and_parts, cond_both, eq-eqb, eqb-true, false≢true, leb-true, lt-leb, ltb-false, ltb-true, ne_eqb, true≢false}
 pub use Rattle.std.proofs.lemmas.Bool.Decides.{nat_tests}
 pub use Rattle.std.proofs.lemmas.Grind.{common_steps}
 pub use Rattle.std.proofs.lemmas.Result.{err_from_is_err_and}

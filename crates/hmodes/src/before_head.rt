@@ -1,26 +1,19 @@
 //! The insertion modes before the head (HTML Standard, 13.2.6.4.2 and 13.2.6.4.3).
 
-ghost use Rattle.std.specs.Prelude.{ℕ};
-ghost use Rattle.hmodes.specs.Vocabulary.{numbers, FlowGives, perform, TokenOf, state_of, token_of};
-ghost use Rattle.hmodes.specs.Head.{before_html, html_unwritten, before_head, head_unwritten};
+ghost use Rattle.hmodes.specs.Vocabulary.{before_html, html_unwritten, before_head, head_unwritten, Performs, AlwaysPerforms};
 
 use crate::family::Family;
 use crate::mode::Mode;
 use crate::token::{take_attrs, token_name};
 use crate::token_kind::TokenKind;
-use crate::tree_construction::{Flow, TreeConstruction};
+use crate::tree_construction::{Flow, Ruling, TreeConstruction};
 use htoken::Token;
-use names::{Refusal, Tag};
+use names::Tag;
 
 impl<'q> TreeConstruction<'q> {
     /// The "before html" insertion mode (`#the-before-html-insertion-mode`).
-    pub(crate) fn before_html(
-        &mut self,
-        kind: TokenKind,
-        token: &mut Token,
-        at: u64,
-    ) -> Result<Flow, Refusal>
-        ensures { FlowGives result (token_of token.new) (state_of self.new) (perform numbers at (token_of token.old) (before_html kind) (state_of self.old)) }
+    pub(crate) fn before_html(&mut self, kind: TokenKind, token: &mut Token, at: u64) -> Ruling
+        ensures { Performs at (before_html kind) token.old self.old result token.new self.new }
     {
         match kind {
             TokenKind::Comment => self.comment_in_document(token, at),
@@ -42,8 +35,8 @@ impl<'q> TreeConstruction<'q> {
     }
 
     /// An html that no tag began.
-    fn html_unwritten(&mut self, at: u64) -> Result<Flow, Refusal>
-        ensures { (t : TokenOf ℕ) → FlowGives result t (state_of self.new) (perform numbers at t html_unwritten (state_of self.old)) }
+    fn html_unwritten(&mut self, at: u64) -> Ruling
+        ensures { AlwaysPerforms at html_unwritten self.old result self.new }
     {
         let place = self.site.place_in_document();
         self.site
@@ -53,13 +46,8 @@ impl<'q> TreeConstruction<'q> {
     }
 
     /// The "before head" insertion mode (`#the-before-head-insertion-mode`).
-    pub(crate) fn before_head(
-        &mut self,
-        kind: TokenKind,
-        token: &mut Token,
-        at: u64,
-    ) -> Result<Flow, Refusal>
-        ensures { FlowGives result (token_of token.new) (state_of self.new) (perform numbers at (token_of token.old) (before_head kind) (state_of self.old)) }
+    pub(crate) fn before_head(&mut self, kind: TokenKind, token: &mut Token, at: u64) -> Ruling
+        ensures { Performs at (before_head kind) token.old self.old result token.new self.new }
     {
         match kind {
             TokenKind::Ws => Ok(Flow::Done),
@@ -80,8 +68,8 @@ impl<'q> TreeConstruction<'q> {
     }
 
     /// A head that no tag began.
-    fn head_unwritten(&mut self, at: u64) -> Result<Flow, Refusal>
-        ensures { (t : TokenOf ℕ) → FlowGives result t (state_of self.new) (perform numbers at t head_unwritten (state_of self.old)) }
+    fn head_unwritten(&mut self, at: u64) -> Ruling
+        ensures { AlwaysPerforms at head_unwritten self.old result self.new }
     {
         self.insert_named(Tag::Head.number(), at)?;
         self.control.head = Some(self.current_node());

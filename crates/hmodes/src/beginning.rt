@@ -1,9 +1,7 @@
 //! Where a document and a fragment begin (HTML Standard, 13.4).
 
-ghost use Rattle.std.specs.Prelude.{◌≡◌, [], IfOk, Some, MatchResult};
-ghost use Rattle.hmodes.specs.Vocabulary.{tag_of, numbers, context_mode, state_of};
-ghost use Rattle.names.specs.declared.refusal.Refusal.TheVariants.{Memory};
-ghost use Rattle.hmodes.specs.Beginning.{control_in, form_of, document_begins, fragment_begins, fragment_site};
+ghost use Rattle.std.specs.Prelude.{◌≡◌, IfOk, MatchResult};
+ghost use Rattle.hmodes.specs.Vocabulary.{tag_of, numbers, state_of, Memory, control_in, form_of, document_begins, fragment_begins, fragment_site};
 
 use crate::control::Control;
 use crate::limits::Limits;
@@ -88,25 +86,14 @@ impl<'q> TreeConstruction<'q> {
         ensures { MatchResult result (λ r. (state_of r.0 ≡ fragment_begins numbers context limits.tree) × (r.1 ≡ 1)) (λ e. e ≡ Memory) }
     {
         let (site, root) = fragment_site(alloc, keys, limits)?;
-        Ok((TreeConstruction::in_context(alloc, context, site), root))
-    }
-
-    /// The state in a context element of a name, over the tree in which a fragment begins.
-    fn in_context(alloc: Global, context: NameId, site: Site) -> TreeConstruction<'q>
-        ensures { state_of result ≡ record {
-          site = site;
-          control = control_in (context_mode (tag_of context)) (form_of (tag_of context));
-          context = Some context;
-          quirks_list = [];
-        } }
-    {
         let form = form_pointer(&site, context);
-        TreeConstruction {
+        let state = TreeConstruction {
             site,
             control: control_in(alloc, context_mode(context.tag()), form),
             context: Some(context),
             quirks_list: None,
             alloc,
-        }
+        };
+        Ok((state, root))
     }
 }

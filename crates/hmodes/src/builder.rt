@@ -4,19 +4,8 @@ ghost use Rattle.std.specs.Prelude.{◌≡◌, ◌+◌, ◌-◌, ◌<◌, ◌≤
 ghost use Rattle.std.specs.List.{list_all};
 ghost use Rattle.std.specs.Result.{result_err};
 ghost use Rattle.std.specs.Str.{chars};
-ghost use Rattle.names.specs.declared.refusal.Refusal.{Refusal as Refused};
-ghost use Rattle.names.specs.declared.refusal.Refusal.TheVariants.{Memory};
-ghost use Rattle.hadopt.specs.Naming.{numbers};
-ghost use Rattle.hmodes.specs.Beginning.{document_begins, fragment_begins};
-ghost use Rattle.hmodes.specs.Tokens.{token_of};
-ghost use Rattle.hmodes.specs.Building.{Takes, TakesToken, puts_run};
-ghost use Rattle.hmodes.specs.Runs.{AreSome, puts_each, takes_char};
-ghost use Rattle.htext.specs.Run.{is_clean};
-ghost use Rattle.htext.specs.declared.decoder.TheConstants.{MAX_INPUT};
-ghost use Rattle.htoken.specs.Run.{run_tokens, IsSpread};
-ghost use Rattle.names.specs.Placed.{placed};
-ghost use Rattle.names.specs.declared.placed.Placed.{Placed};
-ghost use Rattle.names.specs.Sink.{Hands};
+ghost use Rattle.hmodes.specs.Vocabulary.{Refused, Memory, numbers, document_begins, fragment_begins, token_of, Takes, TakesToken, puts_run, AreSome, puts_each, takes_char, is_clean, MAX_INPUT, run_tokens, IsSpread, placed};
+ghost use Rattle.hmodes.specs.Vocabulary.{Placed, Hands};
 
 use crate::limits::Limits;
 use crate::tree_construction::TreeConstruction;

@@ -1,32 +1,24 @@
 //! The "in body" insertion mode (HTML Standard, 13.2.6.4.7).
 
-ghost use Rattle.std.specs.Prelude.{ℕ};
-ghost use Rattle.hmodes.specs.Vocabulary.{Kept, numbers, ended, FlowGives, StateGives, performed, perform, TokenOf, character, state_of, token_of, Start};
-ghost use Rattle.hmodes.specs.Vocabulary.{End, ◌▸◌, when, choose, error, to, insert, reconstruct, second_is_body, has_in, InBody, AfterBody};
+ghost use Rattle.hmodes.specs.Vocabulary.{in_body, body_ends, character_in_body, End, ◌▸◌, choose, error, to, insert, reconstruct, has_in, InBody, AfterBody, Kept, numbers, ended, StateGives, perform, character, state_of, Start, other_end, Performs, AlwaysPerforms, Does};
+ghost use Rattle.hmodes.specs.declared.family.Family.TheVariants as family;
 ghost use Rattle.hopen.specs.declared.scope.Scope.TheVariants as scope;
 ghost use Rattle.names.specs.declared.tag.Tag.TheVariants as tag;
-ghost use Rattle.hmodes.specs.Body.{in_body, body_ends, character_in_body};
-ghost use Rattle.hmodes.specs.Words.{add_missing_to_second, other_end};
 
 use crate::family::Family;
 use crate::mode::Mode;
 use crate::token::{token_char, token_name};
 use crate::token_kind::TokenKind;
-use crate::tree_construction::{Flow, TreeConstruction, done};
+use crate::tree_construction::{Flow, Ruling, TreeConstruction, done};
 use hopen::Scope;
 use htoken::Token;
 use names::{Refusal, Tag};
 
 impl<'q> TreeConstruction<'q> {
     /// The "in body" insertion mode (`#parsing-main-inbody`).
-    pub(crate) fn in_body(
-        &mut self,
-        kind: TokenKind,
-        token: &mut Token,
-        at: u64,
-    ) -> Result<Flow, Refusal>
+    pub(crate) fn in_body(&mut self, kind: TokenKind, token: &mut Token, at: u64) -> Ruling
         requires { Kept numbers self.old.site }
-        ensures { FlowGives result (token_of token.new) (state_of self.new) (perform numbers at (token_of token.old) (in_body kind) (state_of self.old)) }
+        ensures { Performs at (in_body kind) token.old self.old result token.new self.new }
     {
         match kind {
             TokenKind::Nul | TokenKind::Doctype => self.ignore(Mode::InBody, at),
@@ -39,10 +31,9 @@ impl<'q> TreeConstruction<'q> {
     }
 
     /// A start tag.
-    fn start_in_body(&mut self, family: Family, token: &mut Token, at: u64) -> Result<Flow, Refusal>
+    fn start_in_body(&mut self, family: Family, token: &mut Token, at: u64) -> Ruling
         requires { Kept numbers self.old.site }
-        ensures { FlowGives result (token_of token.new) (state_of self.new)
-            (perform numbers at (token_of token.old) (in_body (Start family)) (state_of self.old)) }
+        ensures { Performs at (in_body (Start family)) token.old self.old result token.new self.new }
     {
         match family {
             Family::Html => self.html_again(token, at),
@@ -86,10 +77,9 @@ impl<'q> TreeConstruction<'q> {
     }
 
     /// An end tag.
-    fn end_in_body(&mut self, family: Family, token: &mut Token, at: u64) -> Result<Flow, Refusal>
+    fn end_in_body(&mut self, family: Family, token: &mut Token, at: u64) -> Ruling
         requires { Kept numbers self.old.site }
-        ensures { FlowGives result (token_of token.new) (state_of self.new)
-            (perform numbers at (token_of token.old) (in_body (End family)) (state_of self.old)) }
+        ensures { Performs at (in_body (End family)) token.old self.old result token.new self.new }
     {
         match family {
             Family::Body => self.end_body(Flow::Done, at),
@@ -97,8 +87,8 @@ impl<'q> TreeConstruction<'q> {
             Family::Block | Family::Button | Family::Pre => self.close_block(token, at),
             Family::Form => self.end_form(at),
             Family::P => self.end_p(at),
-            Family::Li => self.end_li(token, at),
-            Family::Dd => self.end_dd(token, at),
+            Family::Li => self.end_item(Scope::ListItem, token, at),
+            Family::Dd => self.end_item(Scope::Default, token, at),
             Family::Heading => self.end_heading(token, at),
             Family::A | Family::Formatting | Family::Nobr => self.adopt(token, at),
             Family::Object => self.end_object(token, at),
@@ -108,8 +98,8 @@ impl<'q> TreeConstruction<'q> {
     }
 
     /// A character other than NUL.
-    pub(crate) fn character_in_body(&mut self, token: &Token, at: u64) -> Result<Flow, Refusal>
-        ensures { FlowGives result (token_of token.now) (state_of self.new) (perform numbers at (token_of token.now) (character_in_body) (state_of self.old)) }
+    pub(crate) fn character_in_body(&mut self, token: &Token, at: u64) -> Ruling
+        ensures { Performs at character_in_body token.now self.old result token.now self.new }
     {
         done(self.put_in_body(token_char(token), at))
     }
@@ -125,7 +115,7 @@ impl<'q> TreeConstruction<'q> {
 
     /// A parse error if an element is open that may not be at the end of the body.
     pub(crate) fn check_open(&mut self, at: u64) -> Result<(), Refusal>
-        ensures { StateGives result (state_of self.new) (performed at (body_ends) (state_of self.old)) }
+        ensures { Does at body_ends self.old result self.new }
     {
         if self.site.all_may_stay_open() {
             return Ok(());
@@ -134,9 +124,8 @@ impl<'q> TreeConstruction<'q> {
     }
 
     /// The start tag body where it is not the first.
-    pub(crate) fn body_again(&mut self, token: &mut Token, at: u64) -> Result<Flow, Refusal>
-        ensures { FlowGives result (token_of token.new) (state_of self.new)
-            (perform numbers at (token_of token.old) (error InBody ▸ when second_is_body add_missing_to_second) (state_of self.old)) }
+    pub(crate) fn body_again(&mut self, token: &mut Token, at: u64) -> Ruling
+        ensures { Performs at (in_body (Start family.Body)) token.old self.old result token.new self.new }
     {
         self.error(Mode::InBody, at)?;
         if !self.second_is_body() {
@@ -146,9 +135,8 @@ impl<'q> TreeConstruction<'q> {
     }
 
     /// The end tags body and html, of which the latter is reprocessed then.
-    pub(crate) fn end_body(&mut self, flow: Flow, at: u64) -> Result<Flow, Refusal>
-        ensures { (t : TokenOf ℕ) → FlowGives result t (state_of self.new)
-            (perform numbers at t (choose (has_in scope.Default tag.Body) (body_ends ▸ to AfterBody ▸ ended flow) (error InBody)) (state_of self.old)) }
+    pub(crate) fn end_body(&mut self, flow: Flow, at: u64) -> Ruling
+        ensures { AlwaysPerforms at (choose (has_in scope.Default tag.Body) (body_ends ▸ to AfterBody ▸ ended flow) (error InBody)) self.old result self.new }
     {
         if !self.site.in_scope(Scope::Default, Tag::Body.number()) {
             return self.ignore(Mode::InBody, at);
@@ -159,17 +147,16 @@ impl<'q> TreeConstruction<'q> {
     }
 
     /// Any other start tag.
-    pub(crate) fn other_start(&mut self, token: &mut Token, at: u64) -> Result<Flow, Refusal>
-        ensures { FlowGives result (token_of token.new) (state_of self.new)
-            (perform numbers at (token_of token.old) (reconstruct ▸ insert) (state_of self.old)) }
+    pub(crate) fn other_start(&mut self, token: &mut Token, at: u64) -> Ruling
+        ensures { Performs at (reconstruct ▸ insert) token.old self.old result token.new self.new }
     {
         self.site.reconstruct(at)?;
         done(self.insert(token, at))
     }
 
     /// Any other end tag.
-    pub(crate) fn other_end(&mut self, token: &Token, at: u64) -> Result<Flow, Refusal>
-        ensures { FlowGives result (token_of token.now) (state_of self.new) (perform numbers at (token_of token.now) (other_end) (state_of self.old)) }
+    pub(crate) fn other_end(&mut self, token: &Token, at: u64) -> Ruling
+        ensures { Performs at other_end token.now self.old result token.now self.new }
     {
         done(self.site.other_end(token_name(token), at))
     }

@@ -1,27 +1,20 @@
 //! The insertion modes of captions and column groups (HTML Standard, 13.2.6.4.11 and 13.2.6.4.12).
 
-ghost use Rattle.std.specs.Prelude.{ℕ};
-ghost use Rattle.hmodes.specs.Vocabulary.{Kept, numbers, ended, FlowGives, perform, TokenOf, state_of, token_of};
-ghost use Rattle.hmodes.specs.Table.{in_caption, close_caption, in_column_group};
+ghost use Rattle.hmodes.specs.Vocabulary.{in_caption, close_caption, in_column_group, Kept, numbers, ended, Performs, AlwaysPerforms};
 
 use crate::family::Family;
 use crate::mode::Mode;
 use crate::token_kind::TokenKind;
-use crate::tree_construction::{Flow, TreeConstruction, done};
+use crate::tree_construction::{Flow, Ruling, TreeConstruction, done};
 use hopen::Scope;
 use htoken::Token;
-use names::{Refusal, Tag};
+use names::Tag;
 
 impl<'q> TreeConstruction<'q> {
     /// The "in caption" insertion mode (`#parsing-main-incaption`).
-    pub(crate) fn in_caption(
-        &mut self,
-        kind: TokenKind,
-        token: &mut Token,
-        at: u64,
-    ) -> Result<Flow, Refusal>
+    pub(crate) fn in_caption(&mut self, kind: TokenKind, token: &mut Token, at: u64) -> Ruling
         requires { Kept numbers self.old.site }
-        ensures { FlowGives result (token_of token.new) (state_of self.new) (perform numbers at (token_of token.old) (in_caption kind) (state_of self.old)) }
+        ensures { Performs at (in_caption kind) token.old self.old result token.new self.new }
     {
         match kind {
             TokenKind::End(Family::Caption) => self.close_caption(Flow::Done, at),
@@ -48,8 +41,8 @@ impl<'q> TreeConstruction<'q> {
     }
 
     /// The caption is closed, by its end tag or by a token that is reprocessed then.
-    pub(crate) fn close_caption(&mut self, flow: Flow, at: u64) -> Result<Flow, Refusal>
-        ensures { (t : TokenOf ℕ) → FlowGives result t (state_of self.new) (perform numbers at t (close_caption (ended flow)) (state_of self.old)) }
+    pub(crate) fn close_caption(&mut self, flow: Flow, at: u64) -> Ruling
+        ensures { AlwaysPerforms at (close_caption (ended flow)) self.old result self.new }
     {
         let caption = Tag::Caption.number();
         if !self.site.in_scope(Scope::Table, caption) {
@@ -61,14 +54,8 @@ impl<'q> TreeConstruction<'q> {
     }
 
     /// The "in column group" insertion mode (`#parsing-main-incolgroup`).
-    pub(crate) fn in_column_group(
-        &mut self,
-        kind: TokenKind,
-        token: &mut Token,
-        at: u64,
-    ) -> Result<Flow, Refusal>
-        ensures { FlowGives result (token_of token.new) (state_of self.new)
-            (perform numbers at (token_of token.old) (in_column_group kind) (state_of self.old)) }
+    pub(crate) fn in_column_group(&mut self, kind: TokenKind, token: &mut Token, at: u64) -> Ruling
+        ensures { Performs at (in_column_group kind) token.old self.old result token.new self.new }
     {
         match kind {
             TokenKind::Ws => self.put(token, at),

@@ -1,17 +1,13 @@
 //! The "in cell" insertion mode (HTML Standard, 13.2.6.4.15).
 
-ghost use Rattle.std.specs.Prelude.{ℕ};
-ghost use Rattle.hmodes.specs.Vocabulary.{Kept, numbers, FlowGives, StateGives, performed, perform, TokenOf, state_of, token_of, ◌▸◌, unless, error};
-ghost use Rattle.hmodes.specs.Vocabulary.{again, current_is_group};
+ghost use Rattle.hmodes.specs.Vocabulary.{in_cell, close_cell, Kept, numbers, ◌▸◌, unless, error, again, current_is_group, InCell, Performs, AlwaysPerforms, Does};
 ghost use Rattle.hopen.specs.declared.scope.Group.TheVariants as group;
-ghost use Rattle.hmodes.specs.Table.{in_cell, close_cell};
-ghost use Rattle.hmodes.specs.declared.mode.Mode.TheVariants.{InCell};
 
 use crate::family::Family;
 use crate::mode::Mode;
 use crate::token::token_name;
 use crate::token_kind::TokenKind;
-use crate::tree_construction::{Flow, TreeConstruction};
+use crate::tree_construction::{Flow, Ruling, TreeConstruction};
 use hadopt::Passing;
 use hopen::{Group, Scope};
 use htoken::Token;
@@ -19,14 +15,9 @@ use names::Refusal;
 
 impl<'q> TreeConstruction<'q> {
     /// The "in cell" insertion mode (`#parsing-main-intd`).
-    pub(crate) fn in_cell(
-        &mut self,
-        kind: TokenKind,
-        token: &mut Token,
-        at: u64,
-    ) -> Result<Flow, Refusal>
+    pub(crate) fn in_cell(&mut self, kind: TokenKind, token: &mut Token, at: u64) -> Ruling
         requires { Kept numbers self.old.site }
-        ensures { FlowGives result (token_of token.new) (state_of self.new) (perform numbers at (token_of token.old) (in_cell kind) (state_of self.old)) }
+        ensures { Performs at (in_cell kind) token.old self.old result token.new self.new }
     {
         match kind {
             TokenKind::End(Family::Cell) => {
@@ -61,7 +52,7 @@ impl<'q> TreeConstruction<'q> {
 
     /// A parse error if the current node is no cell.
     fn expect_cell(&mut self, at: u64) -> Result<(), Refusal>
-        ensures { StateGives result (state_of self.new) (performed at (unless (current_is_group group.Cell) (error InCell)) (state_of self.old)) }
+        ensures { Does at (unless (current_is_group group.Cell) (error InCell)) self.old result self.new }
     {
         if self.site.current_is_of(Group::Cell) {
             return Ok(());
@@ -69,23 +60,15 @@ impl<'q> TreeConstruction<'q> {
         self.error(Mode::InCell, at)
     }
 
-    /// Closes the cell (`#close-the-cell`).
-    pub(crate) fn close_cell(&mut self, at: u64) -> Result<(), Refusal>
-        ensures { StateGives result (state_of self.new) (performed at (close_cell) (state_of self.old)) }
+    /// Closes a cell that no end tag closed (`#close-the-cell`).
+    fn cell_ends(&mut self, at: u64) -> Ruling
+        ensures { AlwaysPerforms at (close_cell ▸ again) self.old result self.new }
     {
         self.site.pop_past(Passing::Implied(None));
         self.expect_cell(at)?;
         self.site.pop_to_group(Group::Cell);
         self.site.clear_to_marker();
         self.control.mode = Mode::InRow;
-        Ok(())
-    }
-
-    /// A cell that no end tag closed.
-    pub(crate) fn cell_ends(&mut self, at: u64) -> Result<Flow, Refusal>
-        ensures { (t : TokenOf ℕ) → FlowGives result t (state_of self.new) (perform numbers at t (close_cell ▸ again) (state_of self.old)) }
-    {
-        self.close_cell(at)?;
         Ok(Flow::Again)
     }
 }

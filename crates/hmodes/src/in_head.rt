@@ -1,29 +1,20 @@
 //! The insertion modes of the head (HTML Standard, 13.2.6.4.4 to 13.2.6.4.6).
 
-ghost use Rattle.std.specs.Prelude.{◌≡◌, ◌<◌, ℕ, IfSome};
-ghost use Rattle.hmodes.specs.Vocabulary.{numbers, ended, FlowGives, StateGives, performed, perform, with_site, TokenOf, state_of};
-ghost use Rattle.hmodes.specs.Vocabulary.{token_of, void, raw, ◌▸◌, error, to, insert, pop, AfterHead};
-ghost use Rattle.hmodes.specs.Perform.{removed};
-ghost use Rattle.hmodes.specs.Head.{in_head, in_head_noscript, noscript_ends, after_head, body_unwritten, late};
-ghost use Rattle.hmodes.specs.Words.{push_head};
+ghost use Rattle.std.specs.Prelude.{◌≡◌, ◌<◌, IfSome};
+ghost use Rattle.hmodes.specs.Vocabulary.{in_head, in_head_noscript, noscript_ends, after_head, body_unwritten, late, removed, state_of, error, ended, with_site, void, raw, ◌▸◌, to, insert, pop, AfterHead, push_head, Performs, AlwaysPerforms, Does};
 
 use crate::family::Family;
 use crate::mode::Mode;
 use crate::token_kind::TokenKind;
-use crate::tree_construction::{Flow, TreeConstruction, done};
+use crate::tree_construction::{Flow, Ruling, TreeConstruction, done};
 use hopen::Open;
 use htoken::Token;
 use names::{Refusal, Tag};
 
 impl<'q> TreeConstruction<'q> {
     /// The "in head" insertion mode (`#parsing-main-inhead`).
-    pub(crate) fn in_head(
-        &mut self,
-        kind: TokenKind,
-        token: &mut Token,
-        at: u64,
-    ) -> Result<Flow, Refusal>
-        ensures { FlowGives result (token_of token.new) (state_of self.new) (perform numbers at (token_of token.old) (in_head kind) (state_of self.old)) }
+    pub(crate) fn in_head(&mut self, kind: TokenKind, token: &mut Token, at: u64) -> Ruling
+        ensures { Performs at (in_head kind) token.old self.old result token.new self.new }
     {
         match kind {
             TokenKind::Ws => self.put(token, at),
@@ -52,13 +43,8 @@ impl<'q> TreeConstruction<'q> {
     }
 
     /// An element, whose content goes by another mode.
-    pub(crate) fn insert_and_go(
-        &mut self,
-        mode: Mode,
-        token: &mut Token,
-        at: u64,
-    ) -> Result<Flow, Refusal>
-        ensures { FlowGives result (token_of token.new) (state_of self.new) (perform numbers at (token_of token.old) (insert ▸ to mode) (state_of self.old)) }
+    pub(crate) fn insert_and_go(&mut self, mode: Mode, token: &mut Token, at: u64) -> Ruling
+        ensures { Performs at (insert ▸ to mode) token.old self.old result token.new self.new }
     {
         self.insert(token, at)?;
         self.control.mode = mode;
@@ -66,8 +52,8 @@ impl<'q> TreeConstruction<'q> {
     }
 
     /// The current node is closed, and another mode comes.
-    pub(crate) fn pop_and_go(&mut self, mode: Mode, flow: Flow) -> Result<Flow, Refusal>
-        ensures { (t : TokenOf ℕ) → FlowGives result t (state_of self.new) (perform numbers 0 t (pop ▸ to mode ▸ ended flow) (state_of self.old)) }
+    pub(crate) fn pop_and_go(&mut self, mode: Mode, flow: Flow) -> Ruling
+        ensures { AlwaysPerforms 0 (pop ▸ to mode ▸ ended flow) self.old result self.new }
     {
         self.site.pop();
         self.control.mode = mode;
@@ -75,14 +61,8 @@ impl<'q> TreeConstruction<'q> {
     }
 
     /// The "in head noscript" insertion mode (`#parsing-main-inheadnoscript`).
-    pub(crate) fn in_head_noscript(
-        &mut self,
-        kind: TokenKind,
-        token: &mut Token,
-        at: u64,
-    ) -> Result<Flow, Refusal>
-        ensures { FlowGives result (token_of token.new) (state_of self.new)
-            (perform numbers at (token_of token.old) (in_head_noscript kind) (state_of self.old)) }
+    pub(crate) fn in_head_noscript(&mut self, kind: TokenKind, token: &mut Token, at: u64) -> Ruling
+        ensures { Performs at (in_head_noscript kind) token.old self.old result token.new self.new }
     {
         match kind {
             TokenKind::Start(Family::Html) => self.html_again(token, at),
@@ -100,8 +80,8 @@ impl<'q> TreeConstruction<'q> {
     }
 
     /// A noscript that no tag closed.
-    fn noscript_ends(&mut self, at: u64) -> Result<Flow, Refusal>
-        ensures { (t : TokenOf ℕ) → FlowGives result t (state_of self.new) (perform numbers at t noscript_ends (state_of self.old)) }
+    fn noscript_ends(&mut self, at: u64) -> Ruling
+        ensures { AlwaysPerforms at noscript_ends self.old result self.new }
     {
         self.error(Mode::InHeadNoscript, at)?;
         self.site.pop();
@@ -110,14 +90,9 @@ impl<'q> TreeConstruction<'q> {
     }
 
     /// The "after head" insertion mode (`#the-after-head-insertion-mode`).
-    pub(crate) fn after_head(
-        &mut self,
-        kind: TokenKind,
-        token: &mut Token,
-        at: u64,
-    ) -> Result<Flow, Refusal>
+    pub(crate) fn after_head(&mut self, kind: TokenKind, token: &mut Token, at: u64) -> Ruling
         requires { IfSome self.old.control.head (λ k. (0 < k) × (k < self.old.site.nodes.made)) }
-        ensures { FlowGives result (token_of token.new) (state_of self.new) (perform numbers at (token_of token.old) (after_head kind) (state_of self.old)) }
+        ensures { Performs at (after_head kind) token.old self.old result token.new self.new }
     {
         match kind {
             TokenKind::Ws => self.put(token, at),
@@ -139,7 +114,7 @@ impl<'q> TreeConstruction<'q> {
     /// The head is open again.
     fn open_head(&mut self, at: u64) -> Result<(), Refusal>
         requires { IfSome self.old.control.head (λ k. (0 < k) × (k < self.old.site.nodes.made)) }
-        ensures { StateGives result (state_of self.new) (performed at (error AfterHead ▸ push_head) (state_of self.old)) }
+        ensures { Does at (error AfterHead ▸ push_head) self.old result self.new }
     {
         let head = self.control.head;
         self.error(Mode::AfterHead, at)?;
@@ -160,9 +135,9 @@ impl<'q> TreeConstruction<'q> {
     }
 
     /// A void element that belongs in the head.
-    fn late_void(&mut self, token: &mut Token, at: u64) -> Result<Flow, Refusal>
+    fn late_void(&mut self, token: &mut Token, at: u64) -> Ruling
         requires { IfSome self.old.control.head (λ k. (0 < k) × (k < self.old.site.nodes.made)) }
-        ensures { FlowGives result (token_of token.new) (state_of self.new) (perform numbers at (token_of token.old) (late void) (state_of self.old)) }
+        ensures { Performs at (late void) token.old self.old result token.new self.new }
     {
         self.open_head(at)?;
         self.void(token, at)?;
@@ -171,9 +146,9 @@ impl<'q> TreeConstruction<'q> {
     }
 
     /// An element with raw text that belongs in the head.
-    fn late_raw(&mut self, token: &mut Token, at: u64) -> Result<Flow, Refusal>
+    fn late_raw(&mut self, token: &mut Token, at: u64) -> Ruling
         requires { IfSome self.old.control.head (λ k. (0 < k) × (k < self.old.site.nodes.made)) }
-        ensures { FlowGives result (token_of token.new) (state_of self.new) (perform numbers at (token_of token.old) (late raw) (state_of self.old)) }
+        ensures { Performs at (late raw) token.old self.old result token.new self.new }
     {
         self.open_head(at)?;
         self.raw(token, at)?;
@@ -182,8 +157,8 @@ impl<'q> TreeConstruction<'q> {
     }
 
     /// A body that no tag began.
-    fn body_unwritten(&mut self, at: u64) -> Result<Flow, Refusal>
-        ensures { (t : TokenOf ℕ) → FlowGives result t (state_of self.new) (perform numbers at t body_unwritten (state_of self.old)) }
+    fn body_unwritten(&mut self, at: u64) -> Ruling
+        ensures { AlwaysPerforms at body_unwritten self.old result self.new }
     {
         self.insert_named(Tag::Body.number(), at)?;
         self.control.mode = Mode::InBody;

@@ -1,29 +1,22 @@
 //! The "in row" insertion mode (HTML Standard, 13.2.6.4.14).
 
-ghost use Rattle.std.specs.Prelude.{ℕ};
-ghost use Rattle.hmodes.specs.Vocabulary.{Kept, numbers, ended, FlowGives, perform, TokenOf, state_of, token_of};
-ghost use Rattle.hmodes.specs.Table.{in_row, close_row};
+ghost use Rattle.hmodes.specs.Vocabulary.{in_row, close_row, Kept, numbers, ended, Performs, AlwaysPerforms};
 
 use crate::family::Family;
 use crate::mode::Mode;
 use crate::token::token_name;
 use crate::token_kind::TokenKind;
-use crate::tree_construction::{Flow, TreeConstruction, done};
+use crate::tree_construction::{Flow, Ruling, TreeConstruction, done};
 use hadopt::Passing;
 use hopen::Scope;
 use htoken::Token;
-use names::{Refusal, Tag};
+use names::Tag;
 
 impl<'q> TreeConstruction<'q> {
     /// The "in row" insertion mode (`#parsing-main-intr`).
-    pub(crate) fn in_row(
-        &mut self,
-        kind: TokenKind,
-        token: &mut Token,
-        at: u64,
-    ) -> Result<Flow, Refusal>
+    pub(crate) fn in_row(&mut self, kind: TokenKind, token: &mut Token, at: u64) -> Ruling
         requires { Kept numbers self.old.site }
-        ensures { FlowGives result (token_of token.new) (state_of self.new) (perform numbers at (token_of token.old) (in_row kind) (state_of self.old)) }
+        ensures { Performs at (in_row kind) token.old self.old result token.new self.new }
     {
         match kind {
             TokenKind::Start(Family::Cell) => {
@@ -66,8 +59,8 @@ impl<'q> TreeConstruction<'q> {
     }
 
     /// The row is closed, by its end tag `</tr>` or by a token that is reprocessed then.
-    pub(crate) fn close_row(&mut self, flow: Flow, at: u64) -> Result<Flow, Refusal>
-        ensures { (t : TokenOf ℕ) → FlowGives result t (state_of self.new) (perform numbers at t (close_row (ended flow)) (state_of self.old)) }
+    pub(crate) fn close_row(&mut self, flow: Flow, at: u64) -> Ruling
+        ensures { AlwaysPerforms at (close_row (ended flow)) self.old result self.new }
     {
         if !self.site.in_scope(Scope::Table, Tag::Tr.number()) {
             return self.ignore(Mode::InRow, at);

@@ -1,34 +1,25 @@
 //! The "in table" insertion mode (HTML Standard, 13.2.6.4.9).
 
 ghost use Rattle.std.specs.Prelude.{◌≡◌};
-ghost use Rattle.hmodes.specs.Vocabulary.{Kept, numbers, FlowGives, performed, perform, state_of, token_of, other_in_table, Start, End, ◌▸◌, unless};
-ghost use Rattle.hmodes.specs.Vocabulary.{error, to, insert, pop, pop_to, form_pointer, form_is_set, InTable};
-ghost use Rattle.names.specs.declared.tag.Tag.TheVariants as tag;
-ghost use Rattle.hmodes.specs.State.{Done as DoneOf};
+ghost use Rattle.hmodes.specs.Vocabulary.{DoneOf, in_table, character_in_table, Kept, numbers, performed, state_of, ◌▸◌, unless, error, other_in_table, Start, End, to, insert, pop, pop_to, form_pointer, form_is_set, InTable, reset, clear_to_table, Performs};
 ghost use Rattle.hmodes.specs.declared.family.Family.TheVariants as family;
-ghost use Rattle.hmodes.specs.Table.{in_table, character_in_table};
-ghost use Rattle.hmodes.specs.Words.{reset, clear_to_table};
+ghost use Rattle.names.specs.declared.tag.Tag.TheVariants as tag;
 
 use crate::family::Family;
 use crate::mode::Mode;
 use crate::token::is_hidden;
 use crate::token_kind::TokenKind;
-use crate::tree_construction::{Flow, TreeConstruction, done};
+use crate::tree_construction::{Flow, Ruling, TreeConstruction, done};
 use hadopt::Passing;
 use hopen::Scope;
 use htoken::Token;
-use names::{Refusal, Tag};
+use names::Tag;
 
 impl<'q> TreeConstruction<'q> {
     /// The "in table" insertion mode (`#parsing-main-intable`).
-    pub(crate) fn in_table(
-        &mut self,
-        kind: TokenKind,
-        token: &mut Token,
-        at: u64,
-    ) -> Result<Flow, Refusal>
+    pub(crate) fn in_table(&mut self, kind: TokenKind, token: &mut Token, at: u64) -> Ruling
         requires { Kept numbers self.old.site }
-        ensures { FlowGives result (token_of token.new) (state_of self.new) (perform numbers at (token_of token.old) (in_table kind) (state_of self.old)) }
+        ensures { Performs at (in_table kind) token.old self.old result token.new self.new }
     {
         match kind {
             TokenKind::Nul | TokenKind::Ws | TokenKind::Char => self.character_in_table(
@@ -43,15 +34,9 @@ impl<'q> TreeConstruction<'q> {
     }
 
     /// A start tag in a table.
-    fn start_in_table(
-        &mut self,
-        family: Family,
-        token: &mut Token,
-        at: u64,
-    ) -> Result<Flow, Refusal>
+    fn start_in_table(&mut self, family: Family, token: &mut Token, at: u64) -> Ruling
         requires { Kept numbers self.old.site }
-        ensures { FlowGives result (token_of token.new) (state_of self.new)
-            (perform numbers at (token_of token.old) (in_table (Start family)) (state_of self.old)) }
+        ensures { Performs at (in_table (Start family)) token.old self.old result token.new self.new }
     {
         match family {
             Family::Caption => {
@@ -89,10 +74,9 @@ impl<'q> TreeConstruction<'q> {
     }
 
     /// An end tag in a table.
-    fn end_in_table(&mut self, family: Family, token: &mut Token, at: u64) -> Result<Flow, Refusal>
+    fn end_in_table(&mut self, family: Family, token: &mut Token, at: u64) -> Ruling
         requires { Kept numbers self.old.site }
-        ensures { FlowGives result (token_of token.new) (state_of self.new)
-            (perform numbers at (token_of token.old) (in_table (End family)) (state_of self.old)) }
+        ensures { Performs at (in_table (End family)) token.old self.old result token.new self.new }
     {
         match family {
             Family::Table => {
@@ -116,15 +100,9 @@ impl<'q> TreeConstruction<'q> {
     }
 
     /// Anything else in a table: by the rules of the body, with foster parenting on (`#foster-parent`).
-    pub(crate) fn other_in_table(
-        &mut self,
-        kind: TokenKind,
-        token: &mut Token,
-        at: u64,
-    ) -> Result<Flow, Refusal>
+    pub(crate) fn other_in_table(&mut self, kind: TokenKind, token: &mut Token, at: u64) -> Ruling
         requires { Kept numbers self.old.site }
-        ensures { FlowGives result (token_of token.new) (state_of self.new)
-            (perform numbers at (token_of token.old) (other_in_table kind) (state_of self.old)) }
+        ensures { Performs at (other_in_table kind) token.old self.old result token.new self.new }
     {
         self.error(Mode::InTable, at)?;
         self.site.set_foster(true);
@@ -139,10 +117,9 @@ impl<'q> TreeConstruction<'q> {
         kind: TokenKind,
         token: &mut Token,
         at: u64,
-    ) -> Result<Flow, Refusal>
+    ) -> Ruling
         requires { Kept numbers self.old.site }
-        ensures { FlowGives result (token_of token.new) (state_of self.new)
-            (perform numbers at (token_of token.old) (character_in_table kind) (state_of self.old)) }
+        ensures { Performs at (character_in_table kind) token.old self.old result token.new self.new }
     {
         if !self.site.current_fosters() {
             return self.other_in_table(kind, token, at);
@@ -154,9 +131,8 @@ impl<'q> TreeConstruction<'q> {
     }
 
     /// A part of a table, whose content goes by another mode.
-    fn insert_in_table(&mut self, mode: Mode, token: &mut Token, at: u64) -> Result<Flow, Refusal>
-        ensures { FlowGives result (token_of token.new) (state_of self.new)
-            (perform numbers at (token_of token.old) (clear_to_table ▸ insert ▸ to mode) (state_of self.old)) }
+    fn insert_in_table(&mut self, mode: Mode, token: &mut Token, at: u64) -> Ruling
+        ensures { Performs at (clear_to_table ▸ insert ▸ to mode) token.old self.old result token.new self.new }
     {
         self.site.pop_past(Passing::Table);
         self.insert_and_go(mode, token, at)
@@ -171,10 +147,9 @@ impl<'q> TreeConstruction<'q> {
     }
 
     /// The start tag input in a table.
-    pub(crate) fn input_in_table(&mut self, token: &mut Token, at: u64) -> Result<Flow, Refusal>
+    pub(crate) fn input_in_table(&mut self, token: &mut Token, at: u64) -> Ruling
         requires { Kept numbers self.old.site }
-        ensures { FlowGives result (token_of token.new) (state_of self.new)
-            (perform numbers at (token_of token.old) (in_table (Start family.Input)) (state_of self.old)) }
+        ensures { Performs at (in_table (Start family.Input)) token.old self.old result token.new self.new }
     {
         if !is_hidden(token) {
             return self.other_in_table(TokenKind::Start(Family::Input), token, at);
@@ -184,9 +159,8 @@ impl<'q> TreeConstruction<'q> {
     }
 
     /// The start tag form in a table.
-    pub(crate) fn form_in_table(&mut self, token: &mut Token, at: u64) -> Result<Flow, Refusal>
-        ensures { FlowGives result (token_of token.new) (state_of self.new)
-            (perform numbers at (token_of token.old) (error InTable ▸ unless form_is_set (insert ▸ form_pointer ▸ pop)) (state_of self.old)) }
+    pub(crate) fn form_in_table(&mut self, token: &mut Token, at: u64) -> Ruling
+        ensures { Performs at (error InTable ▸ unless form_is_set (insert ▸ form_pointer ▸ pop)) token.old self.old result token.new self.new }
     {
         self.error(Mode::InTable, at)?;
         if self.control.form.is_some() {

@@ -2,21 +2,14 @@
 
 ghost use Rattle.std.specs.Prelude.{◌≡◌, [], string_bytes, option_map, unwrap_or};
 ghost use Rattle.std.specs.Option.{option_map_or};
-ghost use Rattle.hmodes.specs.Vocabulary.{numbers, FlowGives, StateGives, perform, state_of, token_of, unless, error};
+ghost use Rattle.hmodes.specs.Vocabulary.{text_of, list_matches, is_text, conforms, forces_quirks, doctype_node, initial, state_of, token_of, Performs};
 ghost use Rattle.hnodes.specs.Forest as forest;
-ghost use Rattle.hmarkup.specs.DoctypeWalk.{text_of};
-ghost use Rattle.hmarkup.specs.Quirks.{list_matches};
-ghost use Rattle.hmodes.specs.Doctypes.{is_text, conforms, forces_quirks, doctype_node};
-ghost use Rattle.hmodes.specs.Head.{initial};
-ghost use Rattle.hmodes.specs.Words.{doctype_conforms};
-ghost use Rattle.hmodes.specs.declared.mode.Mode.TheVariants.{Initial};
 
 use crate::mode::Mode;
 use crate::token_kind::TokenKind;
-use crate::tree_construction::{Flow, TreeConstruction};
+use crate::tree_construction::{Flow, Ruling, TreeConstruction};
 use hnodes::DocumentType;
 use htoken::Token;
-use names::Refusal;
 use std::alloc::Global;
 
 /// The system identifier that is no error.
@@ -86,19 +79,16 @@ fn take_doctype(alloc: Global, token: &mut Token) -> DocumentType
 
 impl<'q> TreeConstruction<'q> {
     /// The "initial" insertion mode (`#the-initial-insertion-mode`).
-    pub(crate) fn initial(
-        &mut self,
-        kind: TokenKind,
-        token: &mut Token,
-        at: u64,
-    ) -> Result<Flow, Refusal>
-        ensures { FlowGives result (token_of token.new) (state_of self.new) (perform numbers at (token_of token.old) (initial kind) (state_of self.old)) }
+    pub(crate) fn initial(&mut self, kind: TokenKind, token: &mut Token, at: u64) -> Ruling
+        ensures { Performs at (initial kind) token.old self.old result token.new self.new }
     {
         match kind {
             TokenKind::Ws => Ok(Flow::Done),
             TokenKind::Comment => self.comment_in_document(token, at),
             TokenKind::Doctype => {
-                self.judge(token, at)?;
+                if !conforms(token) {
+                    self.error(Mode::Initial, at)?;
+                }
                 let quirks = self.forces_quirks(token);
                 let texts = take_doctype(self.alloc, token);
                 self.site.insert_doctype(texts, at)?;
@@ -144,16 +134,5 @@ impl<'q> TreeConstruction<'q> {
             }
             _ => false,
         }
-    }
-
-    /// A parse error if the doctype is one.
-    fn judge(&mut self, token: &Token, at: u64) -> Result<(), Refusal>
-        ensures { StateGives result (state_of self.new)
-            (perform numbers at (token_of token.now) (unless doctype_conforms (error Initial)) (state_of self.old)) }
-    {
-        if conforms(token) {
-            return Ok(());
-        }
-        self.error(Mode::Initial, at)
     }
 }

@@ -2,7 +2,6 @@
 #![tactic(auto)]
 
 mod after_body;
-mod asks;
 mod before_head;
 mod beginning;
 mod blocks;
@@ -21,7 +20,6 @@ mod limits;
 mod mode;
 mod phrases;
 mod reset;
-mod rule;
 mod runs;
 mod step;
 mod table_body;

@@ -1,9 +1,7 @@
 //! How long an input may be, and how large its tree may become.
 
 ghost use Rattle.std.specs.Prelude.{◌≡◌, ◌≤◌, MatchResult};
-ghost use Rattle.names.specs.declared.refusal.Refusal.TheVariants.{BadLimits};
-ghost use Rattle.htext.specs.declared.decoder.TheConstants.{MAX_INPUT};
-ghost use Rattle.hmodes.specs.Bounds.{AreLimits, Bounds};
+ghost use Rattle.hmodes.specs.Vocabulary.{BadLimits, MAX_INPUT, AreLimits, Bounds};
 
 use htext::MAX_INPUT;
 use names::Refusal;

@@ -1,20 +1,16 @@
 //! Formatting and other elements among text in the body (HTML Standard, 13.2.6.4.7).
 
-ghost use Rattle.std.specs.Prelude.{◌≡◌, ℕ};
+ghost use Rattle.std.specs.Prelude.{◌≡◌};
 ghost use Rattle.std.specs.Option.{option_map_or};
-ghost use Rattle.hmodes.specs.Vocabulary.{Kept, numbers, FlowGives, StateGives, performed, performed_for, perform, with_site, TokenOf};
-ghost use Rattle.hmodes.specs.Vocabulary.{state_of, token_of, close_p_in_scope, void, raw, ◌▸◌, when, unless, choose, error, to, insert, insert_named, pop};
-ghost use Rattle.hmodes.specs.Vocabulary.{pop_to_name, implied, reconstruct, drop_lf, clear_to_marker, current_is_name, has_in, InBody, InTable};
+ghost use Rattle.hmodes.specs.Vocabulary.{Kept, numbers, StateGives, perform, with_site, state_of, token_of, ◌▸◌, when, error, insert, reconstruct, has_in, InBody, forgotten, formatting, void_in_text, push_to_list, adopt};
+ghost use Rattle.hmodes.specs.Vocabulary.{adopt_listed, name_is_listed, unless, implied_except, current_is, Does, Performs, AlwaysPerforms, DoesFor, in_body, Start, End};
+ghost use Rattle.hmodes.specs.declared.family.Family.TheVariants as family;
 ghost use Rattle.hopen.specs.declared.scope.Scope.TheVariants as scope;
 ghost use Rattle.names.specs.declared.tag.Tag.TheVariants as tag;
-ghost use Rattle.hmodes.specs.Perform.{forgotten};
-ghost use Rattle.hmodes.specs.Body.{formatting, void_in_text};
-ghost use Rattle.hmodes.specs.Words.{again_as, push_to_list, has_name_in, implied_except, marker, adopt, adopt_listed, current_is, name_is_listed};
-ghost use Rattle.hmodes.specs.Words.{is_in_quirks};
 
 use crate::mode::Mode;
 use crate::token::{rename, take_attrs, token_name};
-use crate::tree_construction::{Flow, TreeConstruction, done};
+use crate::tree_construction::{Flow, Ruling, TreeConstruction, done};
 use hadopt::Passing;
 use hnodes::NodeId;
 use hopen::Scope;
@@ -35,8 +31,8 @@ impl<'q> TreeConstruction<'q> {
 
     /// The start tag of a formatting element.
     #[inline(always)]
-    pub(crate) fn formatting(&mut self, token: &mut Token, at: u64) -> Result<Flow, Refusal>
-        ensures { FlowGives result (token_of token.new) (state_of self.new) (perform numbers at (token_of token.old) (formatting) (state_of self.old)) }
+    pub(crate) fn formatting(&mut self, token: &mut Token, at: u64) -> Ruling
+        ensures { Performs at formatting token.old self.old result token.new self.new }
     {
         self.site.reconstruct(at)?;
         done(self.insert_formatting(token, at))
@@ -45,7 +41,7 @@ impl<'q> TreeConstruction<'q> {
     /// The adoption agency runs.
     fn run_adoption(&mut self, name: NameId, at: u64) -> Result<(), Refusal>
         requires { Kept numbers self.old.site }
-        ensures { StateGives result (state_of self.new) (performed_for name at adopt (state_of self.old)) }
+        ensures { DoesFor name at adopt self.old result self.new }
     {
         self.site.adopt(name, at)
     }
@@ -63,7 +59,7 @@ impl<'q> TreeConstruction<'q> {
     /// The adoption agency runs for a listed element of the name, which leaves then.
     fn adopt_listed(&mut self, name: NameId, at: u64) -> Result<(), Refusal>
         requires { Kept numbers self.old.site }
-        ensures { StateGives result (state_of self.new) (performed_for name at (error InBody ▸ adopt_listed) (state_of self.old)) }
+        ensures { DoesFor name at (error InBody ▸ adopt_listed) self.old result self.new }
     {
         self.error(Mode::InBody, at)?;
         let found = self.site.find(name);
@@ -75,7 +71,7 @@ impl<'q> TreeConstruction<'q> {
     /// A listed element of the name is closed.
     fn close_listed(&mut self, name: NameId, at: u64) -> Result<(), Refusal>
         requires { Kept numbers self.old.site }
-        ensures { StateGives result (state_of self.new) (performed_for name at (when name_is_listed (error InBody ▸ adopt_listed)) (state_of self.old)) }
+        ensures { DoesFor name at (when name_is_listed (error InBody ▸ adopt_listed)) self.old result self.new }
     {
         if self.site.find(name).is_none() {
             return Ok(());
@@ -84,10 +80,9 @@ impl<'q> TreeConstruction<'q> {
     }
 
     /// The start tag a.
-    pub(crate) fn anchor(&mut self, token: &mut Token, at: u64) -> Result<Flow, Refusal>
+    pub(crate) fn anchor(&mut self, token: &mut Token, at: u64) -> Ruling
         requires { Kept numbers self.old.site }
-        ensures { FlowGives result (token_of token.new) (state_of self.new)
-            (perform numbers at (token_of token.old) (when name_is_listed (error InBody ▸ adopt_listed) ▸ formatting) (state_of self.old)) }
+        ensures { Performs at (in_body (Start family.A)) token.old self.old result token.new self.new }
     {
         self.close_listed(token_name(token), at)?;
         self.formatting(token, at)
@@ -96,7 +91,7 @@ impl<'q> TreeConstruction<'q> {
     /// The adoption agency runs for a nobr that is open.
     fn adopt_nobr(&mut self, name: NameId, at: u64) -> Result<(), Refusal>
         requires { Kept numbers self.old.site }
-        ensures { StateGives result (state_of self.new) (performed_for name at (error InBody ▸ adopt ▸ reconstruct) (state_of self.old)) }
+        ensures { DoesFor name at (error InBody ▸ adopt ▸ reconstruct) self.old result self.new }
     {
         self.error(Mode::InBody, at)?;
         self.run_adoption(name, at)?;
@@ -106,8 +101,7 @@ impl<'q> TreeConstruction<'q> {
     /// A nobr in scope is closed.
     fn close_nobr(&mut self, name: NameId, at: u64) -> Result<(), Refusal>
         requires { Kept numbers self.old.site }
-        ensures { StateGives result (state_of self.new)
-            (performed_for name at (when (has_in scope.Default tag.Nobr) (error InBody ▸ adopt ▸ reconstruct)) (state_of self.old)) }
+        ensures { DoesFor name at (when (has_in scope.Default tag.Nobr) (error InBody ▸ adopt ▸ reconstruct)) self.old result self.new }
     {
         if !self.site.in_scope(Scope::Default, Tag::Nobr.number()) {
             return Ok(());
@@ -116,11 +110,9 @@ impl<'q> TreeConstruction<'q> {
     }
 
     /// The start tag nobr.
-    pub(crate) fn nobr(&mut self, token: &mut Token, at: u64) -> Result<Flow, Refusal>
+    pub(crate) fn nobr(&mut self, token: &mut Token, at: u64) -> Ruling
         requires { Kept numbers self.old.site }
-        ensures { FlowGives result (token_of token.new) (state_of self.new)
-            (perform numbers at (token_of token.old)
-            (reconstruct ▸ when (has_in scope.Default tag.Nobr) (error InBody ▸ adopt ▸ reconstruct) ▸ insert ▸ push_to_list) (state_of self.old)) }
+        ensures { Performs at (in_body (Start family.Nobr)) token.old self.old result token.new self.new }
     {
         self.site.reconstruct(at)?;
         self.close_nobr(token_name(token), at)?;
@@ -128,17 +120,16 @@ impl<'q> TreeConstruction<'q> {
     }
 
     /// The end tag of a formatting element.
-    pub(crate) fn adopt(&mut self, token: &Token, at: u64) -> Result<Flow, Refusal>
+    pub(crate) fn adopt(&mut self, token: &Token, at: u64) -> Ruling
         requires { Kept numbers self.old.site }
-        ensures { FlowGives result (token_of token.now) (state_of self.new) (perform numbers at (token_of token.now) (adopt) (state_of self.old)) }
+        ensures { Performs at adopt token.now self.old result token.now self.new }
     {
         done(self.run_adoption(token_name(token), at))
     }
 
     /// The start tags applet, marquee and object.
-    pub(crate) fn object(&mut self, token: &mut Token, at: u64) -> Result<Flow, Refusal>
-        ensures { FlowGives result (token_of token.new) (state_of self.new)
-            (perform numbers at (token_of token.old) (reconstruct ▸ insert ▸ marker) (state_of self.old)) }
+    pub(crate) fn object(&mut self, token: &mut Token, at: u64) -> Ruling
+        ensures { Performs at (in_body (Start family.Object)) token.old self.old result token.new self.new }
     {
         self.site.reconstruct(at)?;
         self.insert(token, at)?;
@@ -146,11 +137,8 @@ impl<'q> TreeConstruction<'q> {
     }
 
     /// The end tags applet, marquee and object.
-    pub(crate) fn end_object(&mut self, token: &Token, at: u64) -> Result<Flow, Refusal>
-        ensures { FlowGives result (token_of token.now) (state_of self.new)
-            (perform numbers at (token_of token.now)
-            (choose (has_name_in scope.Default) (implied ▸ unless current_is_name (error InBody) ▸ pop_to_name ▸ clear_to_marker) (error InBody))
-            (state_of self.old)) }
+    pub(crate) fn end_object(&mut self, token: &Token, at: u64) -> Ruling
+        ensures { Performs at (in_body (End family.Object)) token.now self.old result token.now self.new }
     {
         let name = token_name(token);
         if !self.site.in_scope(Scope::Default, name) {
@@ -159,29 +147,19 @@ impl<'q> TreeConstruction<'q> {
         done(self.close_marked(Mode::InBody, name, at))
     }
 
-    /// A p is closed before a table, but not in quirks mode.
-    pub(crate) fn close_p_before_table(&mut self, at: u64) -> Result<(), Refusal>
-        ensures { StateGives result (state_of self.new) (performed at (unless is_in_quirks close_p_in_scope) (state_of self.old)) }
+    /// The start tag table. An open p is closed before it, but not in quirks mode.
+    pub(crate) fn table(&mut self, token: &mut Token, at: u64) -> Ruling
+        ensures { Performs at (in_body (Start family.Table)) token.old self.old result token.new self.new }
     {
-        if self.control.quirks {
-            return Ok(());
+        if !self.control.quirks {
+            self.close_p_in_scope(at)?;
         }
-        self.close_p_in_scope(at)
-    }
-
-    /// The start tag table.
-    pub(crate) fn table(&mut self, token: &mut Token, at: u64) -> Result<Flow, Refusal>
-        ensures { FlowGives result (token_of token.new) (state_of self.new)
-            (perform numbers at (token_of token.old) (unless is_in_quirks close_p_in_scope ▸ insert ▸ to InTable) (state_of self.old)) }
-    {
-        self.close_p_before_table(at)?;
         self.insert_and_go(Mode::InTable, token, at)
     }
 
     /// The end tag br.
-    pub(crate) fn end_br(&mut self, at: u64) -> Result<Flow, Refusal>
-        ensures { (t : TokenOf ℕ) → FlowGives result t (state_of self.new)
-            (perform numbers at t (error InBody ▸ reconstruct ▸ insert_named tag.Br ▸ pop) (state_of self.old)) }
+    pub(crate) fn end_br(&mut self, at: u64) -> Ruling
+        ensures { AlwaysPerforms at (in_body (End family.Br)) self.old result self.new }
     {
         self.error(Mode::InBody, at)?;
         self.site.reconstruct(at)?;
@@ -191,26 +169,24 @@ impl<'q> TreeConstruction<'q> {
     }
 
     /// A void element among formatting elements.
-    pub(crate) fn void_in_text(&mut self, token: &mut Token, at: u64) -> Result<Flow, Refusal>
-        ensures { FlowGives result (token_of token.new) (state_of self.new) (perform numbers at (token_of token.old) (void_in_text) (state_of self.old)) }
+    pub(crate) fn void_in_text(&mut self, token: &mut Token, at: u64) -> Ruling
+        ensures { Performs at void_in_text token.old self.old result token.new self.new }
     {
         self.site.reconstruct(at)?;
         done(self.void(token, at))
     }
 
     /// The start tag hr.
-    pub(crate) fn hr(&mut self, token: &mut Token, at: u64) -> Result<Flow, Refusal>
-        ensures { FlowGives result (token_of token.new) (state_of self.new)
-            (perform numbers at (token_of token.old) (close_p_in_scope ▸ void) (state_of self.old)) }
+    pub(crate) fn hr(&mut self, token: &mut Token, at: u64) -> Ruling
+        ensures { Performs at (in_body (Start family.Hr)) token.old self.old result token.new self.new }
     {
         self.close_p_in_scope(at)?;
         done(self.void(token, at))
     }
 
     /// The start tag image, which is reprocessed as img.
-    pub(crate) fn image(&mut self, token: &mut Token, at: u64) -> Result<Flow, Refusal>
-        ensures { FlowGives result (token_of token.new) (state_of self.new)
-            (perform numbers at (token_of token.old) (error InBody ▸ again_as tag.Img) (state_of self.old)) }
+    pub(crate) fn image(&mut self, token: &mut Token, at: u64) -> Ruling
+        ensures { Performs at (in_body (Start family.Image)) token.old self.old result token.new self.new }
     {
         self.error(Mode::InBody, at)?;
         rename(token, Tag::Img.number());
@@ -218,8 +194,8 @@ impl<'q> TreeConstruction<'q> {
     }
 
     /// The start tag textarea.
-    pub(crate) fn textarea(&mut self, token: &mut Token, at: u64) -> Result<Flow, Refusal>
-        ensures { FlowGives result (token_of token.new) (state_of self.new) (perform numbers at (token_of token.old) (raw ▸ drop_lf) (state_of self.old)) }
+    pub(crate) fn textarea(&mut self, token: &mut Token, at: u64) -> Ruling
+        ensures { Performs at (in_body (Start family.Textarea)) token.old self.old result token.new self.new }
     {
         self.raw(token, at)?;
         self.control.drop_lf = true;
@@ -227,45 +203,32 @@ impl<'q> TreeConstruction<'q> {
     }
 
     /// The start tag xmp.
-    pub(crate) fn xmp(&mut self, token: &mut Token, at: u64) -> Result<Flow, Refusal>
-        ensures { FlowGives result (token_of token.new) (state_of self.new)
-            (perform numbers at (token_of token.old) (close_p_in_scope ▸ reconstruct ▸ raw) (state_of self.old)) }
+    pub(crate) fn xmp(&mut self, token: &mut Token, at: u64) -> Ruling
+        ensures { Performs at (in_body (Start family.Xmp)) token.old self.old result token.new self.new }
     {
         self.close_p_in_scope(at)?;
         self.site.reconstruct(at)?;
         done(self.raw(token, at))
     }
 
-    /// Implied end tags in a ruby, which should be the current node then.
-    pub(crate) fn in_ruby(&mut self, at: u64) -> Result<(), Refusal>
-        ensures { StateGives result (state_of self.new)
-            (performed at (when (has_in scope.Default tag.Ruby) implied ▸ unless (current_is tag.Ruby) (error InBody)) (state_of self.old)) }
+    /// The start tags rb and rtc. Implied end tags are generated in a ruby, which should be the current node then.
+    pub(crate) fn rb(&mut self, token: &mut Token, at: u64) -> Ruling
+        ensures { Performs at (in_body (Start family.Rb)) token.old self.old result token.new self.new }
     {
         let ruby = Tag::Ruby.number();
         if self.site.in_scope(Scope::Default, ruby) {
             self.site.pop_past(Passing::Implied(None));
         }
-        if self.site.current_is(ruby) {
-            return Ok(());
+        if !self.site.current_is(ruby) {
+            self.error(Mode::InBody, at)?;
         }
-        self.error(Mode::InBody, at)
-    }
-
-    /// The start tags rb and rtc.
-    pub(crate) fn rb(&mut self, token: &mut Token, at: u64) -> Result<Flow, Refusal>
-        ensures { FlowGives result (token_of token.new) (state_of self.new)
-            (perform numbers at (token_of token.old) (when (has_in scope.Default tag.Ruby) implied ▸ unless (current_is tag.Ruby) (error InBody) ▸ insert)
-            (state_of self.old)) }
-    {
-        self.in_ruby(at)?;
         done(self.insert(token, at))
     }
 
     /// Implied end tags but rtc in a ruby; it or an rtc should be the current node then.
-    pub(crate) fn in_ruby_text(&mut self, at: u64) -> Result<(), Refusal>
-        ensures { StateGives result (state_of self.new)
-            (performed at (when (has_in scope.Default tag.Ruby) (implied_except tag.Rtc) ▸ unless (current_is tag.Rtc)
-            (unless (current_is tag.Ruby) (error InBody))) (state_of self.old)) }
+    fn in_ruby_text(&mut self, at: u64) -> Result<(), Refusal>
+        ensures { Does at (when (has_in scope.Default tag.Ruby) (implied_except tag.Rtc) ▸ unless (current_is tag.Rtc) (unless (current_is tag.Ruby) (error InBody)))
+            self.old result self.new }
     {
         let ruby = Tag::Ruby.number();
         let rtc = Tag::Rtc.number();
@@ -279,11 +242,8 @@ impl<'q> TreeConstruction<'q> {
     }
 
     /// The start tags rp and rt.
-    pub(crate) fn rp(&mut self, token: &mut Token, at: u64) -> Result<Flow, Refusal>
-        ensures { FlowGives result (token_of token.new) (state_of self.new)
-            (perform numbers at (token_of token.old)
-            (when (has_in scope.Default tag.Ruby) (implied_except tag.Rtc) ▸ unless (current_is tag.Rtc) (unless (current_is tag.Ruby) (error InBody)) ▸ insert)
-            (state_of self.old)) }
+    pub(crate) fn rp(&mut self, token: &mut Token, at: u64) -> Ruling
+        ensures { Performs at (in_body (Start family.Rp)) token.old self.old result token.new self.new }
     {
         self.in_ruby_text(at)?;
         done(self.insert(token, at))

@@ -2,9 +2,7 @@
 
 ghost use Rattle.std.specs.Prelude.{◌≡◌, option_and_then, slice_get};
 ghost use Rattle.std.specs.Option.{option_map_or};
-ghost use Rattle.hmodes.specs.Vocabulary.{numbers, from_top, tag_of, InBody, context_mode};
-ghost use Rattle.hadopt.specs.Site.{stack};
-ghost use Rattle.hmodes.specs.Reset.{open_mode, root_mode, reset_mode};
+ghost use Rattle.hmodes.specs.Vocabulary.{numbers, from_top, tag_of, InBody, context_mode, stack, open_mode, root_mode, reset_mode};
 
 use crate::mode::Mode;
 use crate::tree_construction::TreeConstruction;

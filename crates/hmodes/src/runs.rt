@@ -1,10 +1,7 @@
 //! Characters of text, one alone or a run.
 
 ghost use Rattle.std.specs.Prelude.{◌≡◌, List};
-ghost use Rattle.hmodes.specs.Vocabulary.{Gives, numbers, StateGives, perform, with_site, character, state_of};
-ghost use Rattle.names.specs.declared.placed.Placed.{Placed};
-ghost use Rattle.htoken.specs.Run.{IsSpread};
-ghost use Rattle.hmodes.specs.Runs.{puts_each, before_text, put_all, takes_char, char_rule};
+ghost use Rattle.hmodes.specs.Vocabulary.{Gives, numbers, StateGives, perform, with_site, character, state_of, Placed, IsSpread, puts_each, before_text, put_all, takes_char, char_rule};
 
 use crate::mode::Mode;
 use crate::tree_construction::TreeConstruction;

@@ -1,14 +1,12 @@
 //! A token: how it begins, the rules that it goes by, and how it ends (HTML Standard, 13.2.6).
 
-ghost use Rattle.std.specs.Prelude.{◌≡◌, ℕ};
-ghost use Rattle.hmodes.specs.Vocabulary.{Gives, numbers, TokenOf, state_of, token_of};
-ghost use Rattle.hadopt.specs.Site.{Goes};
-ghost use Rattle.hmodes.specs.State.{is_self_closing};
-ghost use Rattle.hmodes.specs.Step.{is_dropped, begun, finished};
-ghost use Rattle.hmodes.specs.Building.{HasBegun, ChainGives, StepGives};
-ghost use Rattle.hmodes.specs.Reached.{Reached};
+ghost use Rattle.std.specs.Prelude.{◌≡◌, ℕ, ◌<◌, IfSome};
+ghost use Rattle.hmodes.specs.Vocabulary.{Goes, HasBegun, ChainGives, StepGives, Reached, rule_of, is_self_closing, Rule, is_dropped, begun, finished, Gives, numbers, TokenOf, state_of, token_of, Kept, FlowGives, AfterHead};
+ghost use Rattle.hmodes.specs.Vocabulary.{Performs};
 
-use crate::tree_construction::{Flow, TreeConstruction};
+use crate::mode::Mode;
+use crate::token_kind::TokenKind;
+use crate::tree_construction::{Flow, Ruling, TreeConstruction};
 use htoken::Token;
 use names::{ErrorCode, Refusal};
 
@@ -70,6 +68,48 @@ impl<'q> TreeConstruction<'q> {
         }
         let code = ErrorCode::NonVoidHtmlElementStartTagWithTrailingSolidus;
         self.site.error(code, at)
+    }
+
+    /// One rule for a token: of the mode that holds, which is "in body" for most tokens.
+    #[inline(always)]
+    pub(crate) fn rule(&mut self, token: &mut Token, at: u64) -> Ruling
+        requires kept { Kept numbers self.old.site }
+        requires head { self.old.control.mode ≡ AfterHead → IfSome self.old.control.head (λ k. (0 < k) × (k < self.old.site.nodes.made)) }
+        ensures { FlowGives result (token_of token.new) (state_of self.new) (Rule numbers at (token_of token.old) (state_of self.old)) }
+    {
+        let kind = TokenKind::of(token);
+        match self.control.mode {
+            Mode::InBody => self.in_body(kind, token, at),
+            _ => self.rule_of_mode(kind, token, at),
+        }
+    }
+
+    /// The rule for a kind of token of the mode that holds.
+    #[inline(never)]
+    fn rule_of_mode(&mut self, kind: TokenKind, token: &mut Token, at: u64) -> Ruling
+        requires kept { Kept numbers self.old.site }
+        requires head { self.old.control.mode ≡ AfterHead → IfSome self.old.control.head (λ k. (0 < k) × (k < self.old.site.nodes.made)) }
+        ensures { Performs at (rule_of self.old.control.mode kind) token.old self.old result token.new self.new }
+    {
+        match self.control.mode {
+            Mode::Initial => self.initial(kind, token, at),
+            Mode::BeforeHtml => self.before_html(kind, token, at),
+            Mode::BeforeHead => self.before_head(kind, token, at),
+            Mode::InHead => self.in_head(kind, token, at),
+            Mode::InHeadNoscript => self.in_head_noscript(kind, token, at),
+            Mode::AfterHead => self.after_head(kind, token, at),
+            Mode::InBody => self.in_body(kind, token, at),
+            Mode::Text => self.text(kind, token, at),
+            Mode::InTable => self.in_table(kind, token, at),
+            Mode::InTableText => self.in_table_text(kind, token, at),
+            Mode::InCaption => self.in_caption(kind, token, at),
+            Mode::InColumnGroup => self.in_column_group(kind, token, at),
+            Mode::InTableBody => self.in_table_body(kind, token, at),
+            Mode::InRow => self.in_row(kind, token, at),
+            Mode::InCell => self.in_cell(kind, token, at),
+            Mode::AfterBody => self.after_body(kind, token, at),
+            Mode::AfterAfterBody => self.after_after_body(kind, token, at),
+        }
     }
 }
 

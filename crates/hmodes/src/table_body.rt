@@ -1,29 +1,22 @@
 //! The "in table body" insertion mode (HTML Standard, 13.2.6.4.13).
 
-ghost use Rattle.std.specs.Prelude.{ℕ};
-ghost use Rattle.hmodes.specs.Vocabulary.{Kept, numbers, FlowGives, perform, TokenOf, state_of, token_of};
-ghost use Rattle.hmodes.specs.Table.{in_table_body, section_ends};
+ghost use Rattle.hmodes.specs.Vocabulary.{in_table_body, section_ends, Kept, numbers, Performs, AlwaysPerforms};
 
 use crate::family::Family;
 use crate::mode::Mode;
 use crate::token::token_name;
 use crate::token_kind::TokenKind;
-use crate::tree_construction::{Flow, TreeConstruction};
+use crate::tree_construction::{Flow, Ruling, TreeConstruction};
 use hadopt::Passing;
 use hopen::{Group, Scope};
 use htoken::Token;
-use names::{Refusal, Tag};
+use names::Tag;
 
 impl<'q> TreeConstruction<'q> {
     /// The "in table body" insertion mode (`#parsing-main-intbody`).
-    pub(crate) fn in_table_body(
-        &mut self,
-        kind: TokenKind,
-        token: &mut Token,
-        at: u64,
-    ) -> Result<Flow, Refusal>
+    pub(crate) fn in_table_body(&mut self, kind: TokenKind, token: &mut Token, at: u64) -> Ruling
         requires { Kept numbers self.old.site }
-        ensures { FlowGives result (token_of token.new) (state_of self.new) (perform numbers at (token_of token.old) (in_table_body kind) (state_of self.old)) }
+        ensures { Performs at (in_table_body kind) token.old self.old result token.new self.new }
     {
         match kind {
             TokenKind::Start(Family::Row) => {
@@ -64,8 +57,8 @@ impl<'q> TreeConstruction<'q> {
     }
 
     /// A table body that no end tag closed.
-    pub(crate) fn section_ends(&mut self, at: u64) -> Result<Flow, Refusal>
-        ensures { (t : TokenOf ℕ) → FlowGives result t (state_of self.new) (perform numbers at t (section_ends) (state_of self.old)) }
+    pub(crate) fn section_ends(&mut self, at: u64) -> Ruling
+        ensures { AlwaysPerforms at section_ends self.old result self.new }
     {
         if !self.site.group_in_scope(Scope::Table, Group::TableSection) {
             return self.ignore(Mode::InTableBody, at);

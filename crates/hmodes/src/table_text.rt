@@ -1,18 +1,13 @@
 //! The "in table text" insertion mode (HTML Standard, 13.2.6.4.10).
 
 ghost use Rattle.std.specs.Prelude.{◌≡◌, [], if◌then◌else◌};
-ghost use Rattle.hmodes.specs.Vocabulary.{numbers, FlowGives, StateGives, performed, perform, state_of, token_of, other_in_table};
-ghost use Rattle.hmodes.specs.Vocabulary.{character, choose, put};
 ghost use Rattle.std.specs.List.{list_all};
-ghost use Rattle.names.specs.Placed.{is_space};
-ghost use Rattle.hmodes.specs.Table.{in_table_text};
-ghost use Rattle.hmodes.specs.Perform.{each_of, with_control};
-ghost use Rattle.hmodes.specs.Words.{Char, each_pending, pend, pending_is_ws};
+ghost use Rattle.hmodes.specs.Vocabulary.{each_of, with_control, in_table_text, numbers, StateGives, perform, state_of, other_in_table, character, choose, put, Char, each_pending, pend, pending_is_ws, is_space, Performs, Does};
 
 use crate::mode::Mode;
 use crate::token::token_char;
 use crate::token_kind::TokenKind;
-use crate::tree_construction::{Flow, TreeConstruction, done};
+use crate::tree_construction::{Flow, Ruling, TreeConstruction, done};
 use htoken::Token;
 use names::{Placed, Refusal};
 use std::mem;
@@ -26,13 +21,8 @@ fn are_ws(pending: &[Placed]) -> bool
 
 impl<'q> TreeConstruction<'q> {
     /// The "in table text" insertion mode (`#parsing-main-intabletext`).
-    pub(crate) fn in_table_text(
-        &mut self,
-        kind: TokenKind,
-        token: &mut Token,
-        at: u64,
-    ) -> Result<Flow, Refusal>
-        ensures { FlowGives result (token_of token.new) (state_of self.new) (perform numbers at (token_of token.old) (in_table_text kind) (state_of self.old)) }
+    pub(crate) fn in_table_text(&mut self, kind: TokenKind, token: &mut Token, at: u64) -> Ruling
+        ensures { Performs at (in_table_text kind) token.old self.old result token.new self.new }
     {
         match kind {
             TokenKind::Nul => self.ignore(Mode::InTableText, at),
@@ -56,19 +46,10 @@ impl<'q> TreeConstruction<'q> {
 
     /// All pending characters are put.
     fn put_pending(&mut self) -> Result<(), Refusal>
-        ensures { StateGives result (state_of self.new)
-            (performed 0 (choose pending_is_ws (each_pending put) (each_pending (other_in_table Char))) (state_of self.old)) }
+        ensures { Does 0 (choose pending_is_ws (each_pending put) (each_pending (other_in_table Char))) self.old result self.new }
     {
         let pending = self.take_pending();
         self.put_all(pending)
-    }
-
-    /// Takes the pending characters out.
-    fn take_pending(&mut self) -> Vec<Placed>
-        ensures taken { result.items ≡ self.old.control.pending }
-        ensures rest { state_of self.new ≡ with_control (record self.old.control { pending = [] }) (state_of self.old) }
-    {
-        mem::replace(&mut self.control.pending, Vec::new(self.alloc))
     }
 
     /// Characters that were pending: white space is put as it is, others go as anything else in a table.
@@ -81,6 +62,14 @@ impl<'q> TreeConstruction<'q> {
             return self.put_each(pending);
         }
         self.foster_each(pending)
+    }
+
+    /// Takes the pending characters out.
+    fn take_pending(&mut self) -> Vec<Placed>
+        ensures taken { result.items ≡ self.old.control.pending }
+        ensures rest { state_of self.new ≡ with_control (record self.old.control { pending = [] }) (state_of self.old) }
+    {
+        mem::replace(&mut self.control.pending, Vec::new(self.alloc))
     }
 
     /// Each character is put at its own place.

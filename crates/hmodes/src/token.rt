@@ -1,11 +1,8 @@
 //! What the rules of the insertion modes take of a token: its name, attributes, text or character.
 
 ghost use Rattle.std.specs.Prelude.{◌≡◌, string_bytes, map};
-ghost use Rattle.hmodes.specs.Vocabulary.{numbers, token_attrs, token_of};
-ghost use Rattle.hnodes.specs.Rows.{attribute_of};
-ghost use Rattle.hmodes.specs.State.{token_name, token_text, token_char, renamed};
-ghost use Rattle.hmodes.specs.Questions.{is_hidden};
 ghost use Rattle.std.specs.List.{list_any};
+ghost use Rattle.hmodes.specs.Vocabulary.{numbers, token_attrs, token_of, attribute_of, token_name, token_text, token_char, renamed, is_hidden};
 
 use htoken::Token;
 use names::{Attr, NameId, Tag};

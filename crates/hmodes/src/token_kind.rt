@@ -1,8 +1,7 @@
 //! The kinds of tokens by which the rules of the insertion modes are chosen.
 
-ghost use Rattle.std.specs.Prelude.{◌≡◌, ◌==◌};
-ghost use Rattle.hmodes.specs.Vocabulary.{numbers, token_of};
-ghost use Rattle.hmodes.specs.State.{character_kind, kind_of};
+ghost use Rattle.std.specs.Prelude.{◌≡◌};
+ghost use Rattle.hmodes.specs.Vocabulary.{numbers, token_of, character_kind, kind_of};
 
 use crate::family::Family;
 use htoken::Token;

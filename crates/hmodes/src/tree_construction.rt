@@ -1,9 +1,7 @@
 //! The state that the rules of all insertion modes work on, how a rule ends, and the codes of its errors.
 
 ghost use Rattle.std.specs.Prelude.{◌≡◌, ℕ};
-ghost use Rattle.hmodes.specs.Vocabulary.{FlowGives, StateGives, TokenOf};
-ghost use Rattle.hmodes.specs.Rules.{code_of};
-ghost use Rattle.hmodes.specs.State.{State as StateOf, Flow as FlowOf};
+ghost use Rattle.hmodes.specs.Vocabulary.{FlowGives, StateGives, TokenOf, code_of, StateOf, FlowOf};
 
 use crate::control::Control;
 use crate::mode::Mode;
@@ -31,8 +29,11 @@ pub(crate) struct TreeConstruction<'q> {
     pub(crate) alloc: Global,
 }
 
+/// What a rule answers: how it ends, or a refusal.
+pub(crate) type Ruling = Result<Flow, Refusal>;
+
 /// A rule ends with its last step.
-pub(crate) fn done(last: Result<(), Refusal>) -> Result<Flow, Refusal>
+pub(crate) fn done(last: Result<(), Refusal>) -> Ruling
     ensures { (t : TokenOf ℕ) (s : StateOf ℕ) (f : FlowOf ℕ) → StateGives last s f → FlowGives result t s f }
 {
     last?;

@@ -1,17 +1,15 @@
-//! The steps that the rules of the insertion modes are made of: errors, insertions, raw text, closings (HTML Standard, 13.2.6.1 to 13.2.6.4).
+//! The steps that the rules of the insertion modes are made of, and what they ask (HTML Standard, 13.2.6.1 to 13.2.6.4).
 
-ghost use Rattle.std.specs.Prelude.{ℕ, IfOk, []};
-ghost use Rattle.hmodes.specs.Vocabulary.{Kept, numbers, from_top, FlowGives, StateGives, performed, performed_for, perform, void, raw};
-ghost use Rattle.hmodes.specs.Vocabulary.{close_p_in_scope, TokenOf, character, token_attrs, state_of, token_of, InBody, error, insert, put, unless};
-ghost use Rattle.hmodes.specs.Vocabulary.{current_is_name, pop_to_name, implied, clear_to_marker, ◌▸◌};
-ghost use Rattle.hmodes.specs.Perform.{on_site, site_becomes, inserted_here, completed};
-ghost use Rattle.hmodes.specs.Programs.{html_again};
-ghost use Rattle.hmodes.specs.Words.{insert_comment, comment_in_document, comment_in_first, implied_except_name};
+ghost use Rattle.std.specs.Prelude.{IfOk, [], ◌≡◌};
+ghost use Rattle.hmodes.specs.Vocabulary.{current_node, on_site, site_becomes, inserted_here, completed, html_again, answer_of, eof, Kept, numbers, from_top, StateGives, perform, void, raw, close_p_in_scope, character};
+ghost use Rattle.hmodes.specs.Vocabulary.{token_attrs, state_of, token_of, InBody, error, insert, put, unless, current_is_name, pop_to_name, implied, clear_to_marker, ◌▸◌, second_is_body, current_is_form, has_form_in_scope};
+ghost use Rattle.hmodes.specs.Vocabulary.{insert_comment, comment_in_document, comment_in_first, implied_except_name, Performs, AlwaysPerforms, Does, DoesFor};
 
 use crate::mode::Mode;
 use crate::token::{take_attrs, take_text, token_char, token_name};
-use crate::tree_construction::{Flow, TreeConstruction, done};
+use crate::tree_construction::{Flow, Ruling, TreeConstruction, done};
 use hadopt::Passing;
+use hnodes::NodeId;
 use hopen::Scope;
 use htoken::Token;
 use names::{NameId, Refusal, Tag};
@@ -19,15 +17,15 @@ use names::{NameId, Refusal, Tag};
 impl<'q> TreeConstruction<'q> {
     /// One more parse error, by the rules of a mode.
     pub(crate) fn error(&mut self, mode: Mode, at: u64) -> Result<(), Refusal>
-        ensures done { StateGives result (state_of self.new) (performed at (error mode) (state_of self.old)) }
+        ensures done { Does at (error mode) self.old result self.new }
         ensures kept { Kept numbers self.old.site → IfOk result (λ _. Kept numbers self.new.site) }
     {
         self.site.error(mode.code(), at)
     }
 
     /// A parse error, by the rules of a mode, and the token is ignored.
-    pub(crate) fn ignore(&mut self, mode: Mode, at: u64) -> Result<Flow, Refusal>
-        ensures { (t : TokenOf ℕ) → FlowGives result t (state_of self.new) (perform numbers at t (error mode) (state_of self.old)) }
+    pub(crate) fn ignore(&mut self, mode: Mode, at: u64) -> Ruling
+        ensures { AlwaysPerforms at (error mode) self.old result self.new }
     {
         done(self.error(mode, at))
     }
@@ -56,8 +54,8 @@ impl<'q> TreeConstruction<'q> {
     }
 
     /// A comment last in the current node (`#insert-a-comment`).
-    pub(crate) fn insert_comment(&mut self, token: &mut Token, at: u64) -> Result<Flow, Refusal>
-        ensures done { FlowGives result (token_of token.new) (state_of self.new) (perform numbers at (token_of token.old) insert_comment (state_of self.old)) }
+    pub(crate) fn insert_comment(&mut self, token: &mut Token, at: u64) -> Ruling
+        ensures done { Performs at insert_comment token.old self.old result token.new self.new }
     {
         let text = take_text(self.alloc, token);
         let place = self.site.place_in_current();
@@ -66,13 +64,8 @@ impl<'q> TreeConstruction<'q> {
     }
 
     /// A comment last in the document.
-    pub(crate) fn comment_in_document(
-        &mut self,
-        token: &mut Token,
-        at: u64,
-    ) -> Result<Flow, Refusal>
-        ensures done { FlowGives result (token_of token.new) (state_of self.new)
-            (perform numbers at (token_of token.old) comment_in_document (state_of self.old)) }
+    pub(crate) fn comment_in_document(&mut self, token: &mut Token, at: u64) -> Ruling
+        ensures done { Performs at comment_in_document token.old self.old result token.new self.new }
     {
         let text = take_text(self.alloc, token);
         let place = self.site.place_in_document();
@@ -81,9 +74,8 @@ impl<'q> TreeConstruction<'q> {
     }
 
     /// A comment last in the first open node.
-    pub(crate) fn comment_in_first(&mut self, token: &mut Token, at: u64) -> Result<Flow, Refusal>
-        ensures done { FlowGives result (token_of token.new) (state_of self.new)
-            (perform numbers at (token_of token.old) comment_in_first (state_of self.old)) }
+    pub(crate) fn comment_in_first(&mut self, token: &mut Token, at: u64) -> Ruling
+        ensures done { Performs at comment_in_first token.old self.old result token.new self.new }
     {
         let text = take_text(self.alloc, token);
         let place = self.site.place_in_first();
@@ -92,8 +84,8 @@ impl<'q> TreeConstruction<'q> {
     }
 
     /// The token's character at the appropriate place.
-    pub(crate) fn put(&mut self, token: &Token, at: u64) -> Result<Flow, Refusal>
-        ensures { FlowGives result (token_of token.now) (state_of self.new) (perform numbers at (token_of token.now) put (state_of self.old)) }
+    pub(crate) fn put(&mut self, token: &Token, at: u64) -> Ruling
+        ensures { Performs at put token.now self.old result token.now self.new }
     {
         done(self.put_char(token_char(token), at))
     }
@@ -121,8 +113,8 @@ impl<'q> TreeConstruction<'q> {
     }
 
     /// The start tag html where it is not the first.
-    pub(crate) fn html_again(&mut self, token: &mut Token, at: u64) -> Result<Flow, Refusal>
-        ensures { FlowGives result (token_of token.new) (state_of self.new) (perform numbers at (token_of token.old) html_again (state_of self.old)) }
+    pub(crate) fn html_again(&mut self, token: &mut Token, at: u64) -> Ruling
+        ensures { Performs at html_again token.old self.old result token.new self.new }
     {
         self.error(Mode::InBody, at)?;
         done(self.add_missing(0, token))
@@ -152,7 +144,7 @@ impl<'q> TreeConstruction<'q> {
     /// Closes an open p in button scope.
     #[inline(always)]
     pub(crate) fn close_p_in_scope(&mut self, at: u64) -> Result<(), Refusal>
-        ensures done { StateGives result (state_of self.new) (performed at close_p_in_scope (state_of self.old)) }
+        ensures done { Does at close_p_in_scope self.old result self.new }
     {
         if self.site.in_scope(Scope::Button, Tag::P.number()) {
             return self.site.close_p(at);
@@ -162,7 +154,7 @@ impl<'q> TreeConstruction<'q> {
 
     /// Pops up to and with the nearest element of a name; it is an error unless that is the current node.
     pub(crate) fn pop_to(&mut self, mode: Mode, name: NameId, at: u64) -> Result<(), Refusal>
-        ensures { StateGives result (state_of self.new) (performed_for name at (unless current_is_name (error mode) ▸ pop_to_name) (state_of self.old)) }
+        ensures { DoesFor name at (unless current_is_name (error mode) ▸ pop_to_name) self.old result self.new }
     {
         if !self.site.current_is(name) {
             self.error(mode, at)?;
@@ -173,8 +165,7 @@ impl<'q> TreeConstruction<'q> {
 
     /// Closes the nearest element of a name, and the formatting elements up to its marker.
     pub(crate) fn close_marked(&mut self, mode: Mode, name: NameId, at: u64) -> Result<(), Refusal>
-        ensures { StateGives result (state_of self.new)
-            (performed_for name at (implied ▸ unless current_is_name (error mode) ▸ pop_to_name ▸ clear_to_marker) (state_of self.old)) }
+        ensures { DoesFor name at (implied ▸ unless current_is_name (error mode) ▸ pop_to_name ▸ clear_to_marker) self.old result self.new }
     {
         self.site.pop_past(Passing::Implied(None));
         self.pop_to(mode, name, at)?;
@@ -184,10 +175,48 @@ impl<'q> TreeConstruction<'q> {
 
     /// Closes the nearest element of a name, all whose implied end tags are generated but for its own.
     pub(crate) fn close_item(&mut self, name: NameId, at: u64) -> Result<(), Refusal>
-        ensures { StateGives result (state_of self.new)
-            (performed_for name at (implied_except_name ▸ unless current_is_name (error InBody) ▸ pop_to_name) (state_of self.old)) }
+        ensures { DoesFor name at (implied_except_name ▸ unless current_is_name (error InBody) ▸ pop_to_name) self.old result self.new }
     {
         self.site.pop_past(Passing::Implied(Some(name)));
         self.pop_to(Mode::InBody, name, at)
+    }
+
+    /// The current node; the document where no node is open.
+    pub(crate) fn current_node(&self) -> NodeId
+        ensures { result ≡ current_node self.now.site }
+    {
+        match self.site.current() {
+            Some(open_node) => open_node.node,
+            None => self.site.tree().document(),
+        }
+    }
+
+    /// Whether the second open node is a body.
+    pub(crate) fn second_is_body(&self) -> bool
+        ensures { result ≡ answer_of numbers eof second_is_body (state_of self.now) }
+    {
+        self.site
+            .from_top(1)
+            .is_some_and(|open_node| open_node.name == Tag::Body.number())
+    }
+
+    /// Whether the form pointer is set, and its node in scope.
+    pub(crate) fn form_in_scope(&self) -> bool
+        ensures { result ≡ answer_of numbers eof has_form_in_scope (state_of self.now) }
+    {
+        match self.control.form {
+            Some(form) => self.site.node_in_scope(form),
+            None => false,
+        }
+    }
+
+    /// Whether the form pointer's node is the current one.
+    pub(crate) fn current_is_form(&self) -> bool
+        ensures { result ≡ answer_of numbers eof current_is_form (state_of self.now) }
+    {
+        match self.control.form {
+            Some(form) => self.site.is_current(form),
+            None => false,
+        }
     }
 }
