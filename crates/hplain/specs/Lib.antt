@@ -4,3 +4,4 @@ pub mod Plain
 pub mod PlainRows
 pub mod Testing
 pub mod Regions
+pub mod Vocabulary

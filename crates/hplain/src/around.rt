@@ -1,8 +1,7 @@
 //! Where a list of trees is.
 
 ghost use Rattle.std.specs.Prelude.{◌≡◌, if◌then◌else◌};
-ghost use Rattle.hplain.specs.Plain.{is_a, is_button, is_nested};
-ghost use Rattle.hplain.specs.Testing.{alone, marked, inside_is, standing_in, standing_at_top};
+ghost use Rattle.hplain.specs.Vocabulary.{is_a, is_button, is_nested, alone, marked, inside_is, standing_in, standing_at_top};
 
 use crate::content::{Content, Texts};
 use crate::rows::row;
@@ -57,7 +56,11 @@ impl Around {
         Around {
             in_a: now_if(is_a(tag), inside, self.in_a),
             in_button: now_if(is_button(tag), inside, self.in_button),
-            in_phrasing: now_if(row(tag).1.is_phrasing(), inside, self.in_phrasing),
+            in_phrasing: now_if(
+                matches!(row(tag).1, Content::Phrasing),
+                inside,
+                self.in_phrasing,
+            ),
         }
     }
 }

@@ -1,8 +1,7 @@
 //! The words of the table of plain content.
 
 ghost use Rattle.std.specs.Prelude.{◌≡◌};
-ghost use Rattle.hplain.specs.ContentTable.{takes_role, texts_in, takes_comments};
-ghost use Rattle.hplain.specs.Testing.{content_among, is_phrasing, top_content, texts_at_top};
+ghost use Rattle.hplain.specs.Vocabulary.{takes_role, texts_in, takes_comments, content_among, top_content, texts_at_top};
 
 /// What an element is among its siblings.
 #[derive(Clone, Copy)]
@@ -94,13 +93,6 @@ impl Content {
             self,
             Content::Text | Content::RawText | Content::ScriptText | Content::Empty
         )
-    }
-
-    /// Whether phrasing elements alone do.
-    pub(crate) fn is_phrasing(self) -> bool
-        ensures { result ≡ is_phrasing self }
-    {
-        matches!(self, Content::Phrasing)
     }
 
     /// Which texts do.

@@ -1,16 +1,7 @@
 //! Whether a list of trees is plain.
 
 ghost use Rattle.std.specs.Prelude.{◌≡◌, ◌<◌, ◌&&◌, ◌||◌, IfSome, Some, false, map};
-ghost use Rattle.names.specs.Names.{text_of};
-ghost use Rattle.names.specs.Tags.{tag_of};
-ghost use Rattle.hnodes.specs.Forest.{children_of};
-ghost use Rattle.hnodes.specs.Rows.{attribute_of};
-ghost use Rattle.hnodes.specs.Spelled.{spelled, spelled_attribute};
-ghost use Rattle.hnodes.specs.Spots.{attributes_of, first_child_of, next_of, parent_of, what_of};
-ghost use Rattle.hplain.specs.Plain.{are_plain_attributes, is_form, is_plain, drops_line_feed};
-ghost use Rattle.hplain.specs.Regions.{are_region_content, form_after, in_region};
-ghost use Rattle.hplain.specs.Testing.{tag_at, standing_of, inside_is, is_phrasing, is_text_at, begins_at, is_plain_element, is_plain_at, after_visit};
-ghost use Rattle.hserialize.specs.Walk.{node_of};
+ghost use Rattle.hplain.specs.Vocabulary.{text_of, tag_of, children_of, attribute_of, spelled, spelled_attribute, attributes_of, first_child_of, next_of, parent_of, what_of, are_plain_attributes, is_form, is_plain, drops_line_feed, are_region_content, form_after, in_region, tag_at, standing_of, inside_is, is_phrasing, is_text_at, begins_at, is_plain_element, is_plain_at, after_visit, node_of};
 
 use crate::around::{Around, Standing};
 use crate::content::Content;
@@ -51,14 +42,6 @@ fn is_text(tree: &Tree, node: Option<NodeId>) -> bool
         Some(node) => matches!(tree.kind(node), NodeKind::Text),
         None => false,
     }
-}
-
-/// Whether a text comes right after a node.
-fn is_before_text(tree: &Tree, node: NodeId) -> bool
-    requires { node < tree.now.made }
-    ensures { result ≡ is_text_at (next_of node tree.now.trees) tree.now.trees }
-{
-    is_text(tree, tree.next(node))
 }
 
 /// Whether there is a node, and it is a text that begins with LF.
@@ -123,7 +106,7 @@ fn is_plain_node(tree: &Tree, names: &Names, standing: Standing, node: NodeId) -
             tree, names, standing, node, name, attrs,
         ),
         NodeView::Text(text) => {
-            is_plain_text(standing.texts, text) && !is_before_text(tree, node)
+            is_plain_text(standing.texts, text) && !is_text(tree, tree.next(node))
         }
         NodeView::Comment(data) => standing.content.takes_comments() && is_plain_comment(data),
         NodeView::Document | NodeView::Doctype(_) => false,
@@ -145,10 +128,8 @@ fn after_visit(
     match visit {
         Visit::Enter(node) => {
             let standing = standing_of(tree, root, top, around, node);
-            if !is_plain_node(tree, names, standing, node) {
-                return None;
-            }
-            Some(around.marked(tag_at(tree, node), true))
+            let marked = around.marked(tag_at(tree, node), true);
+            is_plain_node(tree, names, standing, node).then_some(marked)
         }
         Visit::Leave(node) => Some(around.marked(tag_at(tree, node), false)),
     }
@@ -179,20 +160,6 @@ fn is_form(tag: Tag) -> bool
     matches!(tag, Tag::Form)
 }
 
-/// Whether an element of this name is a form in a form, where a form is around it or not.
-fn is_form_in_form(in_form: bool, tag: Tag) -> bool
-    ensures { result ≡ (in_form && is_form tag) }
-{
-    in_form && is_form(tag)
-}
-
-/// Whether a form is around what is in an element of this name. No marker hides a form.
-fn has_form_around(in_form: bool, tag: Tag) -> bool
-    ensures { result ≡ (in_form || is_form tag) }
-{
-    in_form || is_form(tag)
-}
-
 /// Whether a form is around the nodes that come after a visit. None if a form is in a form, or if what is in an element
 /// that inserts a marker is not its content.
 fn form_after(tree: &Tree, names: &Names, in_form: bool, visit: Visit) -> Option<bool>
@@ -202,13 +169,13 @@ fn form_after(tree: &Tree, names: &Names, in_form: bool, visit: Visit) -> Option
     match visit {
         Visit::Enter(node) => {
             let tag = tag_at(tree, node);
-            if is_form_in_form(in_form, tag) {
+            if in_form && is_form(tag) {
                 return None;
             }
             if inserts_marker(tag) && !is_plain_region(tree, names, node, Content::Flow) {
                 return None;
             }
-            Some(has_form_around(in_form, tag))
+            Some(in_form || is_form(tag))
         }
         Visit::Leave(node) => Some(in_form && !is_form(tag_at(tree, node))),
     }

@@ -2,10 +2,7 @@
 
 ghost use Rattle.std.specs.Prelude.{◌≡◌, map};
 ghost use Rattle.std.specs.List.{list_all};
-ghost use Rattle.names.specs.Names.{text_of};
-ghost use Rattle.hnodes.specs.Rows.{attribute_of};
-ghost use Rattle.hplain.specs.Plain.{begins_with, has_part, is_clean, is_among_texts, is_plain_text, is_plain_comment, is_name_byte, is_plain_name};
-ghost use Rattle.hplain.specs.Testing.{is_plain_attribute};
+ghost use Rattle.hplain.specs.Vocabulary.{text_of, attribute_of, begins_with, has_part, is_clean, is_among_texts, is_plain_text, is_plain_comment, is_name_byte, is_plain_name, is_plain_attribute};
 
 use crate::content::Texts;
 use names::{Attr, Names};
@@ -28,18 +25,14 @@ pub(crate) fn begins_with(text: &str, part: &str) -> bool
 fn is_clean(text: &str) -> bool
     ensures { result ≡ is_clean text.now }
 {
-    text.as_bytes()
-        .iter()
-        .all(|&byte| !(byte == 0 || byte == b'\r'))
+    text.bytes().all(|byte| byte != 0 && byte != b'\r')
 }
 
 /// Whether it is white space.
 fn is_white_space(text: &str) -> bool
     ensures { result ≡ is_among_texts Texts.WhiteSpace text.now }
 {
-    text.as_bytes()
-        .iter()
-        .all(|byte| byte.is_ascii_whitespace())
+    text.bytes().all(|byte| byte.is_ascii_whitespace())
 }
 
 /// Whether a text may be where these may.
@@ -77,11 +70,7 @@ pub(crate) fn is_plain_comment(text: &str) -> bool
 fn is_name_byte(byte: u8) -> bool
     ensures { result ≡ is_name_byte byte }
 {
-    byte.is_ascii_lowercase()
-        || byte.is_ascii_digit()
-        || byte == b'-'
-        || byte == b'_'
-        || byte == b':'
+    matches!(byte, b'a'..=b'z' | b'0'..=b'9' | b'-' | b'_' | b':')
 }
 
 /// Whether all bytes may.

@@ -1,17 +1,13 @@
 -- Lines that are put together of parts.
-use Rattle.hprint.proofs.Names.{◌≡◌, ℕ, suc, ◌+◌, ◌-◌, ◌<◌, ◌≤◌, ◌&&◌, false, cond, List, [], ◌∷◌, ◌++◌, length, drop, get_or, map, sym, ap, ◌∙◌, arith, append_assoc, flat_map, repeat, codes, Attribute, attribute_line, indented}
+use Rattle.hprint.proofs.Names.{◌≡◌, ℕ, suc, ◌+◌, ◌-◌, ◌<◌, ◌≤◌, ◌&&◌, false, cond, List, [], ◌∷◌, ◌++◌, length, drop, get_or, map, sym, ap, ◌∙◌, arith, append_assoc, flat_map, repeat, codes, Attribute, attribute_line, indented, pair_of}
 use Rattle.std.proofs.Common.{drop-cons, add-one}
+use Rattle.std.specs.Borrow.{Bor}
 use Rattle.hprint.specs.Lines.{between_quotes, identifiers}
 use Rattle.hserialize.specs.Words.{is_empty}
 
 -- the lines from an index on, by the first of them
 pub next_lines : {A : Type 0} (f : A → List ℕ) (xs : List A) (i : ℕ) (d : A) → i < length xs → flat_map f (drop i xs) ≡ f (get_or xs i d) ++ flat_map f (drop (i + 1) xs)
 next_lines f xs i d h = ap (flat_map f) (drop-cons xs i d h ∙ (λ k. get_or xs i d ∷ drop (sym (add-one i) k) xs))
-
--- the first of some items that are left, and those after it
-pub next_items : {A B : Type 0} (f : B → List ℕ) (g : A → B) (xs : List A) (i : ℕ) (d : A) → i < length xs
-    → flat_map f (map g (drop i xs)) ≡ f (g (get_or xs i d)) ++ flat_map f (map g (drop (i + 1) xs))
-next_items f g xs i d h = ap (λ l. flat_map f (map g l)) (drop-cons xs i d h ∙ (λ k. get_or xs i d ∷ drop (sym (add-one i) k) xs))
 
 -- the spaces of a line: at first, after two more, and at the end
 pub first_level : (depth : ℕ) → codes "| " ++ repeat depth (codes "  ") ≡ codes "| " ++ repeat (depth - 0) (codes "  ")
@@ -29,6 +25,13 @@ line_parts depth words = append_assoc (codes "| " ++ repeat depth (codes "  ")) 
 
 pub attribute_parts : (depth : ℕ) (name value : List ℕ) → indented depth (name ++ (codes "=\"" ++ (value ++ codes "\""))) ≡ attribute_line depth (name, value)
 attribute_parts depth name value = ap (indented depth) (sym (append_assoc name (codes "=") (between_quotes value)))
+
+-- the line of an attribute, of its parts as they are lent, and the lines of the attributes after it
+pub next_attribute : (depth : ℕ) (xs : List (Bor (List ℕ) × ℕ × Bor (List ℕ))) (i : ℕ) (d : Bor (List ℕ) × ℕ × Bor (List ℕ)) (name value : List ℕ) → i < length xs → name ≡ (get_or xs i d).0.now → value ≡ (get_or xs i d).2.now
+    → flat_map (attribute_line depth) (map pair_of (drop i xs)) ≡ indented depth (name ++ (codes "=\"" ++ (value ++ codes "\""))) ++ flat_map (attribute_line depth) (map pair_of (drop (i + 1) xs))
+next_attribute depth xs i d name value h n v =
+    ap (λ l. flat_map (attribute_line depth) (map pair_of l)) (drop-cons xs i d h ∙ (λ k. get_or xs i d ∷ drop (sym (add-one i) k) xs))
+    ∙ ap (λ t. t ++ flat_map (attribute_line depth) (map pair_of (drop (i + 1) xs))) (sym ((λ k. indented depth (n k ++ (codes "=\"" ++ (v k ++ codes "\"")))) ∙ attribute_parts depth (get_or xs i d).0.now (get_or xs i d).2.now))
 
 pub doctype_parts : (depth : ℕ) (name public_id system_id : List ℕ) → is_empty public_id && is_empty system_id ≡ false
     → indented depth (codes "<!DOCTYPE " ++ (name ++ (codes " \"" ++ (public_id ++ (codes "\" \"" ++ (system_id ++ codes "\">"))))))

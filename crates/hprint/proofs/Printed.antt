@@ -1,5 +1,5 @@
 -- What a walk prints.
-use Rattle.hprint.proofs.Names.{◌≡◌, ℕ, suc, ◌+◌, ◌<◌, ◌≤◌, List, [], ◌∷◌, ◌++◌, length, refl, sym, ◌∙◌, ap, subst, arith, append_assoc, text_of, what_of, zero, ◌^◌, append-nil, Texts, Forest, none, tree, children_of, spelled, spelled_what, node_lines, tree_lines, tree_text, Taken, Adds, Fails, none_added, both_added, then_failed, cond_both}
+use Rattle.hprint.proofs.Names.{◌≡◌, ℕ, suc, ◌+◌, ◌-◌, ◌<◌, ◌≤◌, List, [], ◌∷◌, ◌++◌, length, refl, sym, ◌∙◌, ap, subst, arith, append_assoc, text_of, what_of, zero, ◌^◌, append-nil, Texts, Forest, none, tree, children_of, spelled, spelled_what, node_lines, tree_lines, tree_text, Taken, Adds, Fails, none_added, both_added, then_failed, cond_both}
 use Rattle.hnodes.specs.Edits.{AreCounted}
 use Rattle.hprint.specs.Printing.{one_less, depth_after, IsOpen, lines_of, visit_lines}
 use Rattle.hserialize.specs.Walk.{goes_in, visits}
@@ -54,6 +54,10 @@ pub record IsPrinting (names : Texts) (f : Forest ℕ) (root depth : ℕ) (out :
   pub balanced : Balanced depth left
   pub same : run (enters (text_of names) f) (leaves (text_of names) f) left (depth, out) ≡ (0, tree_text (spelled (text_of names) (children_of root f)))
 
+pub one_less_is : (depth : ℕ) → depth - 1 ≡ one_less depth
+one_less_is zero = refl
+one_less_is (suc depth) = omega arith
+
 deepens : (v : Visit) (depth : ℕ) → depth_after v depth ≤ depth + 1
 deepens (Enter n) depth = omega arith
 deepens (Leave n) zero = omega arith
@@ -73,12 +77,6 @@ goes_on names f root depth depth' out out' v old left is s d o =
       balanced = subst (λ k. Balanced k left) (sym d) t.balanced.1;
       same = (λ i. run (enters (text_of names) f) (leaves (text_of names) f) left (d i, o i)) ∙ sym (one-visit (text_of names) f v left depth out) ∙ t.same;
     }
-
--- what the next visit asks for
-pub next_is : (names : Texts) (f : Forest ℕ) (root depth : ℕ) (out : List ℕ) (v : Visit) (old left : List Visit) → old ≡ v ∷ left → IsPrinting names f root depth out old
-    → (depth < 2 ^ 33) × IsOpen depth v
-next_is names f root depth out v old left is s =
-    let t = subst (IsPrinting names f root depth out) is s in let long = t.few in (omega (arith, long), t.balanced.0)
 
 -- What was added so far is a beginning of the text.
 pub record IsPutting (names : Texts) (f : Forest ℕ) (root depth : ℕ) (old now : Taken) (left : List Visit) : Type 0 where

@@ -3,3 +3,4 @@ pub mod ErrorLines
 pub mod LineRows
 pub mod Printing
 pub mod Entries
+pub mod Vocabulary

@@ -1,9 +1,7 @@
 //! The line of an error, put together before it is written: one write is cheaper than four.
 
 ghost use Rattle.std.specs.Prelude.{◌≡◌};
-ghost use Rattle.hprint.specs.Lines.{error_line};
-ghost use Rattle.hprint.specs.ErrorLines.{IsLine};
-ghost use Rattle.hserialize.specs.Output.{Puts, taken};
+ghost use Rattle.hprint.specs.Vocabulary.{error_line, IsLine, Puts, taken};
 
 use hserialize::{Sink, Target, put};
 use itoa::write_digits;

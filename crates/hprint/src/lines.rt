@@ -3,18 +3,7 @@
 ghost use Rattle.std.specs.Prelude.{◌≡◌, ◌++◌, ◌<◌, ◌≤◌, ◌^◌, ◌&&◌, ℕ, codes, flat_map, length, map, vec_capacity, OnOk};
 ghost use Rattle.std.specs.List.{repeat};
 ghost use Rattle.std.specs.String.{string_bytes};
-ghost use Rattle.names.specs.Names.{text_of};
-ghost use Rattle.hnodes.specs.Forest.{children_of, element};
-ghost use Rattle.hnodes.specs.Rows.{attribute_of};
-ghost use Rattle.hnodes.specs.Spots.{what_of};
-ghost use Rattle.hnodes.specs.Spelled.{spelled, spelled_what};
-ghost use Rattle.hprint.specs.Entries.{pair_of};
-ghost use Rattle.hprint.specs.Lines.{indented, attribute_line, identifiers, node_lines, error_lines, tree_text};
-ghost use Rattle.hserialize.specs.Gathered.{Holds};
-ghost use Rattle.hserialize.specs.Output.{IsFlushed, Puts, WritesText, taken};
-ghost use Rattle.hprint.specs.Printing.{IsOpen, attribute_count, depth_after, lines_of, visit_lines};
-ghost use Rattle.hserialize.specs.Words.{is_empty};
-ghost use Rattle.hserialize.specs.Walk.{node_of};
+ghost use Rattle.hprint.specs.Vocabulary.{text_of, children_of, element, attribute_of, what_of, spelled, spelled_what, pair_of, indented, attribute_line, identifiers, node_lines, error_lines, tree_text, Holds, IsFlushed, Puts, WritesText, taken, attribute_count, lines_of, is_empty};
 
 use crate::error_line::{ErrorLine, put_error};
 use crate::sorted::{NamedAttr, in_order};
@@ -43,22 +32,6 @@ fn put_line<W: Target>(out: &mut Sink<'_, W>, depth: usize, parts: &[&[u8]]) -> 
     put(out, b"\n")
 }
 
-/// Writes the line of an attribute.
-fn put_attribute<W: Target>(
-    out: &mut Sink<'_, W>,
-    depth: usize,
-    name: &str,
-    value: &str,
-) -> Result<(), Refusal>
-    ensures { Puts (taken W.written W.failed out.old) (taken W.written W.failed out.new) (attribute_line depth (name.now, value.now)) result }
-{
-    put_line(
-        out,
-        depth,
-        &[name.as_bytes(), b"=\"", value.as_bytes(), b"\""],
-    )
-}
-
 /// Writes the lines of attributes.
 fn put_attributes<W: Target>(
     out: &mut Sink<'_, W>,
@@ -68,7 +41,8 @@ fn put_attributes<W: Target>(
     ensures { Puts (taken W.written W.failed out.old) (taken W.written W.failed out.new) (flat_map (attribute_line depth) (map pair_of entries.now)) result }
 {
     for entry in entries {
-        put_attribute(out, depth, entry.0, entry.2)?;
+        let (name, value) = (entry.0.as_bytes(), entry.2.as_bytes());
+        put_line(out, depth, &[name, b"=\"", value, b"\""])?;
     }
     Ok(())
 }
@@ -104,18 +78,17 @@ fn has_none(public_id: &str, system_id: &str) -> bool
 fn put_doctype<W: Target>(
     out: &mut Sink<'_, W>,
     depth: usize,
-    name: &str,
-    public_id: &str,
-    system_id: &str,
+    texts: &DocumentType,
 ) -> Result<(), Refusal>
     ensures { Puts (taken W.written W.failed out.old) (taken W.written W.failed out.new)
-        (indented depth (codes "<!DOCTYPE " ++ name.now ++ identifiers public_id.now system_id.now ++ codes ">")) result }
+        (indented depth (codes "<!DOCTYPE " ++ string_bytes texts.now.name
+        ++ identifiers (string_bytes texts.now.public_id) (string_bytes texts.now.system_id) ++ codes ">")) result }
 {
-    let name = name.as_bytes();
-    if has_none(public_id, system_id) {
+    let name = texts.name.as_bytes();
+    if has_none(&texts.public_id, &texts.system_id) {
         return put_line(out, depth, &[b"<!DOCTYPE ", name, b">"]);
     }
-    let (public_id, system_id) = (public_id.as_bytes(), system_id.as_bytes());
+    let (public_id, system_id) = (texts.public_id.as_bytes(), texts.system_id.as_bytes());
     put_line(
         out,
         depth,
@@ -129,32 +102,6 @@ fn put_doctype<W: Target>(
             b"\">",
         ],
     )
-}
-
-/// Writes the line of a doctype with its identifiers.
-fn put_texts<W: Target>(
-    out: &mut Sink<'_, W>,
-    depth: usize,
-    texts: &DocumentType,
-) -> Result<(), Refusal>
-    ensures { Puts (taken W.written W.failed out.old) (taken W.written W.failed out.new)
-        (indented depth (codes "<!DOCTYPE " ++ string_bytes texts.now.name
-        ++ identifiers (string_bytes texts.now.public_id) (string_bytes texts.now.system_id) ++ codes ">")) result }
-{
-    put_doctype(out, depth, &texts.name, &texts.public_id, &texts.system_id)
-}
-
-/// Writes a line of words between two marks.
-fn put_words<W: Target>(
-    out: &mut Sink<'_, W>,
-    depth: usize,
-    before: &[u8],
-    words: &str,
-    after: &[u8],
-) -> Result<(), Refusal>
-    ensures { Puts (taken W.written W.failed out.old) (taken W.written W.failed out.new) (indented depth (before.now ++ words.now ++ after.now)) result }
-{
-    put_line(out, depth, &[before, words.as_bytes(), after])
 }
 
 /// Writes the lines of a node.
@@ -175,44 +122,10 @@ fn put_node<'a, W: Target>(
 {
     match NodeView::of(tree, node) {
         NodeView::Document => Ok(()),
-        NodeView::Doctype(texts) => put_texts(out, depth, texts),
+        NodeView::Doctype(texts) => put_doctype(out, depth, texts),
         NodeView::Element(name, attrs) => put_element(out, entries, names, depth, name, attrs),
-        NodeView::Comment(data) => put_words(out, depth, b"<!-- ", data, b" -->"),
-        NodeView::Text(data) => put_words(out, depth, b"\"", data, b"\""),
-    }
-}
-
-/// Writes what a visit prints.
-fn put_visit<'a, W: Target>(
-    out: &mut Sink<'_, W>,
-    entries: &mut Vec<NamedAttr<'a>>,
-    tree: &'a Tree,
-    names: &'a Names,
-    depth: usize,
-    visit: &Visit,
-) -> Result<(), Refusal>
-    requires deep { depth < 2 ^ 33 }
-    requires room { attribute_count (what_of (node_of visit.now) tree.now.trees) ≤ vec_capacity entries.old }
-    requires made { node_of visit.now < tree.now.made }
-    ensures text { Puts (taken W.written W.failed out.old) (taken W.written W.failed out.new)
-        (visit_lines (text_of names.now) tree.now.trees depth visit.now) result }
-    ensures room { vec_capacity entries.old ≤ vec_capacity entries.new }
-{
-    match visit {
-        Visit::Enter(node) => put_node(out, entries, tree, names, depth, *node),
-        Visit::Leave(_) => Ok(()),
-    }
-}
-
-/// The depth after a visit.
-fn depth_after(visit: &Visit, depth: usize) -> usize
-    requires deep { depth < 2 ^ 33 }
-    requires opened { IsOpen depth visit.now }
-    ensures { result ≡ depth_after visit.now depth }
-{
-    match visit {
-        Visit::Enter(_) => depth + 1,
-        Visit::Leave(_) => depth - 1,
+        NodeView::Comment(data) => put_line(out, depth, &[b"<!-- ", data.as_bytes(), b" -->"]),
+        NodeView::Text(data) => put_line(out, depth, &[b"\"", data.as_bytes(), b"\""]),
     }
 }
 
@@ -255,30 +168,15 @@ fn put_nodes<'a, W: Target>(
 {
     let mut depth = 0;
     for visit in TreeWalk::new(tree, root, Reach::Whole) {
-        put_visit(out, entries, tree, names, depth, &visit)?;
-        depth = depth_after(&visit, depth);
+        match visit {
+            Visit::Enter(node) => {
+                put_node(out, entries, tree, names, depth, node)?;
+                depth += 1;
+            }
+            Visit::Leave(_) => depth -= 1,
+        }
     }
     Ok(())
-}
-
-/// Prints the nodes inside a node, where there is room for the attributes of each.
-fn print_nodes<'a, W: Target>(
-    alloc: Global,
-    entries: &mut Vec<NamedAttr<'a>>,
-    tree: &'a Tree,
-    names: &'a Names,
-    root: NodeId,
-    target: &mut W,
-) -> Result<(), Refusal>
-    requires made { root < tree.now.made }
-    requires room { (n : ℕ) → n < tree.now.made → attribute_count (what_of n tree.now.trees) ≤ vec_capacity entries.old }
-    ensures text { WritesText W.written W.failed (tree_text (spelled (text_of names.now) (children_of root tree.now.trees))) target.old target.new result }
-    ensures flushed { OnOk result (IsFlushed W.flushes target.new) }
-{
-    let mut held = room(alloc)?;
-    let mut out = Sink::new(target, &mut held);
-    put_nodes(&mut out, entries, tree, names, root)?;
-    out.finish()
 }
 
 /// Prints the nodes inside a node, and flushes: a line each, two spaces deeper than the line of its parent, and a line each for
@@ -296,7 +194,10 @@ pub fn print_tree<W: Target>(
     ensures flushed { OnOk result (IsFlushed W.flushes target.new) }
 {
     let mut entries = Vec::with_capacity(alloc, most_attributes(tree))?;
-    print_nodes(alloc, &mut entries, tree, names, root, target)
+    let mut held = room(alloc)?;
+    let mut out = Sink::new(target, &mut held);
+    put_nodes(&mut out, &mut entries, tree, names, root)?;
+    out.finish()
 }
 
 /// The text that [`print_tree`] writes. An error is `Memory`.

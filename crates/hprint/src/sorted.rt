@@ -1,11 +1,7 @@
 //! Attributes in the order of their names.
 
 ghost use Rattle.std.specs.Prelude.{◌≡◌, ◌<◌, ◌≤◌, [], ◌∷◌, ◌++◌, length, map, vec_capacity};
-ghost use Rattle.names.specs.Names.{text_of};
-ghost use Rattle.hnodes.specs.Rows.{attribute_of};
-ghost use Rattle.hnodes.specs.Spelled.{spelled_attribute};
-ghost use Rattle.hprint.specs.Entries.{AreNumbered, pair_of};
-ghost use Rattle.hprint.specs.Lines.{in_order};
+ghost use Rattle.hprint.specs.Vocabulary.{text_of, attribute_of, spelled_attribute, AreNumbered, pair_of, in_order};
 
 use names::{Attr, Names};
 

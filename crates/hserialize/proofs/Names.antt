@@ -5,30 +5,24 @@ pub use Rattle.hnodes.proofs.Families.{spot-children}
 pub use Rattle.hnodes.proofs.Forests.{some_inj, join-assoc}
 pub use Rattle.hnodes.proofs.TreeOrder.{own-inside, IsInside, apart}
 pub use Rattle.hnodes.specs.Edits.{AreCounted}
-pub use Rattle.hnodes.specs.Forest.{none, tree, What, children_of, Forest, text, comment, join, doctype, tree_at, document, Attribute, element, times}
-pub use Rattle.hnodes.specs.Passed.{way_up, ancestors_of, is_among}
-pub use Rattle.hnodes.specs.Rows.{attribute_of}
-pub use Rattle.hnodes.specs.Spelled.{spelled_attribute, spelled}
-pub use Rattle.hnodes.specs.Spots.{what_of, spot_of, Spot, first_child_of, name_in, next_of, first_or, parent_of}
+pub use Rattle.hserialize.specs.Vocabulary.{What, children_of, tree_at, ancestors_of, is_among, attribute_of, spelled_attribute, spelled, what_of, escaped, gathered, failures_of, what_is, taken, Puts, WritesText, goes_in, visits, visits_from, stands_raw, opening_of, closing_of, start_tag_text, end_tag_text, attribute_text, written, Leave, Enter, text_of, Write}
+pub use Rattle.hnodes.specs.Forest.{none, tree, Forest, text, comment, join, doctype, document, Attribute, element, times}
+pub use Rattle.hnodes.specs.Passed.{way_up}
+pub use Rattle.hnodes.specs.Spots.{spot_of, Spot, first_child_of, name_in, next_of, first_or, parent_of}
 pub use Rattle.hserialize.specs.Calls.{counted}
-pub use Rattle.hserialize.specs.Escaping.{escaped}
-pub use Rattle.hserialize.specs.Gathered.{gathered, failures_of}
-pub use Rattle.hserialize.specs.Lent.{what_is}
-pub use Rattle.hserialize.specs.Output.{taken, Fails, Adds, Puts, WritesText, Taken, text_written, text_cut}
-pub use Rattle.hserialize.specs.Walk.{goes_in, visits, visits_from, after_ends}
-pub use Rattle.hserialize.specs.Writing.{stands_raw, opening_of, closing_of, ending_of, opening}
-pub use Rattle.hserialize.specs.Written.{start_tag_text, end_tag_text, attribute_text, written_among, written}
+pub use Rattle.hserialize.specs.Output.{Fails, Adds, Taken, text_written, text_cut}
+pub use Rattle.hserialize.specs.Walk.{after_ends}
+pub use Rattle.hserialize.specs.Writing.{opening}
+pub use Rattle.hserialize.specs.Written.{written_among}
 pub use Rattle.hserialize.specs.declared.escaping.Escaping.{Escaping}
 pub use Rattle.hserialize.specs.declared.walk.Reach.{Reach}
 pub use Rattle.hserialize.specs.declared.walk.Reach.TheVariants.{Whole}
 pub use Rattle.hserialize.specs.declared.walk.Visit.{Visit}
-pub use Rattle.hserialize.specs.declared.walk.Visit.TheVariants.{Leave, Enter}
-pub use Rattle.names.specs.Names.{text_of, Texts, AreNames}
+pub use Rattle.names.specs.Names.{Texts, AreNames}
 pub use Rattle.names.specs.Sets.{is_void}
 pub use Rattle.names.specs.Tags.{tag_named, tag_of}
 pub use Rattle.names.specs.declared.attr.Attr.{Attr}
 pub use Rattle.names.specs.declared.refusal.Refusal.{Refusal}
-pub use Rattle.names.specs.declared.refusal.Refusal.TheVariants.{Write}
 pub use Rattle.std.proofs.Common.{ap, ◌∙◌, ◌≡◌, ℕ, ◌++◌, sym, List, [], refl, ◌∷◌, subst, ◌<◌, length, arith, rules, Some, cond, Option, true, drop, false, ◌+◌, Bool, None, map, eqb, ◌≤◌, option_and_then, length-append, codes, suc, zero, Ok, take, ◌-◌, Err, get_or, inl, Result, drop-cons, add-one, ◌⊎◌, inr}
 pub use Rattle.std.proofs.KnownBytes.{Appends-trans}
 pub use Rattle.std.proofs.lemmas.Bool.{cond_both, eq-eqb}

@@ -8,3 +8,4 @@ pub mod WrittenRows
 pub mod Writing
 pub mod Walk
 pub mod Lent
+pub mod Vocabulary

@@ -3,10 +3,10 @@ use Rattle.std.specs.Prelude.{ℕ, Bool, false, List, [], ◌++◌, Option, Some
 use Rattle.names.specs.Sets.{is_void, raw_kind}
 use Rattle.names.specs.Tags.{tag_of}
 use Rattle.hnodes.specs.Forest.{What, document, doctype, element, comment, text, Forest}
-use Rattle.hnodes.specs.Spelled.{spelled, spelled_attribute}
+use Rattle.hnodes.specs.Spelled.{spelled_attribute}
 use Rattle.hnodes.specs.Spots.{parent_of, name_of, what_of}
 use Rattle.hserialize.specs.Escaping.{escaped}
-use Rattle.hserialize.specs.Written.{has_no_references, start_tag_text, end_tag_text, written}
+use Rattle.hserialize.specs.Written.{has_no_references, start_tag_text, end_tag_text}
 use Rattle.hserialize.specs.declared.escaping.Escaping.{Escaping}
 use Rattle.hserialize.specs.declared.escaping.Setting.TheVariants.{Text}
 use Rattle.hserialize.specs.declared.walk.Visit.{Visit}
@@ -47,15 +47,6 @@ module _ (escaping : Escaping) (texts : ℕ → List ℕ) where
   abbrev pub opening_of : (raw : Bool) → Option (What ℕ) → List ℕ
   opening_of raw None = []
   opening_of raw (Some w) = opening raw w
-
-  -- what comes after that, with what is in the node
-  abbrev pub ending : What ℕ → (children : Forest ℕ) → List ℕ
-  ending (element name attrs) kids = if is_void (tag_of name) then [] else written escaping (Some (texts name)) (spelled texts kids) ++ end_tag_text (texts name)
-  ending _ kids = []
-
-  abbrev pub ending_of : Option (What ℕ) → (children : Forest ℕ) → List ℕ
-  ending_of None kids = []
-  ending_of (Some w) kids = ending w kids
 
   abbrev pub visit_text : Forest ℕ → Visit → List ℕ
   visit_text f (Enter n) = opening_of (stands_raw n f) (what_of n f)

@@ -2,8 +2,7 @@
 
 ghost use Rattle.std.specs.Prelude.{◌≡◌, IfSome, None};
 ghost use Rattle.std.specs.Char.{encode_utf8};
-ghost use Rattle.hserialize.specs.Escaping.{escaped, written_char};
-ghost use Rattle.hserialize.specs.Output.{Puts, taken};
+ghost use Rattle.hserialize.specs.Vocabulary.{escaped, written_char, Puts, taken};
 
 use crate::escaping::{Escaping, Setting};
 use crate::sink::{Sink, put, put_before};

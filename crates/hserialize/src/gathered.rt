@@ -1,8 +1,7 @@
 //! A text in memory, as a target.
 
 ghost use Rattle.std.specs.Prelude.{◌≡◌, ℕ, List, [], Ok, Some};
-ghost use Rattle.hserialize.specs.Gathered.{Holds, failures_of, gathered};
-ghost use Rattle.hserialize.specs.Output.{WritesText};
+ghost use Rattle.hserialize.specs.Vocabulary.{Holds, failures_of, gathered, WritesText};
 
 use crate::target::Target;
 use names::Refusal;

@@ -1,8 +1,7 @@
 //! Nodes as a tree lends them.
 
 ghost use Rattle.std.specs.Prelude.{◌≡◌, ◌<◌, Some};
-ghost use Rattle.hnodes.specs.Spots.{what_of};
-ghost use Rattle.hserialize.specs.Lent.{what_is};
+ghost use Rattle.hserialize.specs.Vocabulary.{what_of, what_is};
 
 use hnodes::{DocumentType, NodeId, NodeKind, Tree};
 use names::{Attr, NameId};

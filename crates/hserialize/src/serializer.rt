@@ -2,18 +2,7 @@
 
 ghost use Rattle.std.specs.Prelude.{◌≡◌, ◌++◌, ◌<◌, codes, map, OnOk, if◌then◌else◌};
 ghost use Rattle.std.specs.Option.{option_map};
-ghost use Rattle.names.specs.Names.{text_of};
-ghost use Rattle.hnodes.specs.Forest.{children_of, tree_at};
-ghost use Rattle.hnodes.specs.Rows.{attribute_of};
-ghost use Rattle.hnodes.specs.Spelled.{spelled, spelled_attribute};
-ghost use Rattle.hnodes.specs.Spots.{name_of, what_of};
-ghost use Rattle.hserialize.specs.Escaping.{escaped};
-ghost use Rattle.hserialize.specs.Gathered.{Holds};
-ghost use Rattle.hserialize.specs.Output.{IsFlushed, Puts, WritesText, taken};
-ghost use Rattle.hserialize.specs.Walk.{node_of};
-ghost use Rattle.hserialize.specs.Written.{attribute_text, start_tag_text, end_tag_text, written};
-ghost use Rattle.hserialize.specs.Writing.{stands_raw, holds_raw, name_around, opening_of, closing_of, ending_of, visit_text};
-ghost use Rattle.hserialize.specs.declared.escaping.Setting.TheVariants.{Text};
+ghost use Rattle.hserialize.specs.Vocabulary.{text_of, children_of, tree_at, attribute_of, spelled, spelled_attribute, name_of, what_of, escaped, Holds, IsFlushed, Puts, WritesText, taken, attribute_text, start_tag_text, end_tag_text, written, stands_raw, name_around, opening_of, closing_of, Text};
 
 use crate::escaped::put_escaped;
 use crate::escaping::{Escaping, Setting};
@@ -21,7 +10,7 @@ use crate::gathered::Gathered;
 use crate::node_view::NodeView;
 use crate::sink::{Sink, put, put_before, put_between, room};
 use crate::target::Target;
-use crate::walk::{Reach, TreeWalk, Visit};
+use crate::walk::{Reach, TreeWalk, Visit, goes_in};
 use hnodes::{NodeId, Tree};
 use names::{Attr, NameId, Names, RawKind, Refusal};
 use std::alloc::Global;
@@ -58,50 +47,21 @@ fn put_start_tag<W: Target>(
     put(out, b">")
 }
 
-/// Writes an end tag.
-fn put_end_tag<W: Target>(out: &mut Sink<'_, W>, name: &str) -> Result<(), Refusal>
-    ensures { Puts (taken W.written W.failed out.old) (taken W.written W.failed out.new) (end_tag_text name.now) result }
-{
-    put_between(out, b"</", name, b">")
-}
-
-/// Writes a text, raw or escaped.
-fn put_text<W: Target>(
-    out: &mut Sink<'_, W>,
-    escaping: Escaping,
-    source: &str,
-    raw: bool,
-) -> Result<(), Refusal>
-    ensures { Puts (taken W.written W.failed out.old) (taken W.written W.failed out.new) (if raw then source.now else escaped escaping Text source.now) result }
-{
-    if raw {
-        return put(out, source.as_bytes());
-    }
-    put_escaped(out, source, escaping, Setting::Text)
-}
-
-/// Whether texts in an element of this name, or in no element, are written as they are.
-fn holds_raw(name: Option<NameId>) -> bool
-    ensures { result ≡ holds_raw name }
-{
-    match name {
-        Some(name) => matches!(
-            name.tag().raw_kind(),
-            RawKind::Rawtext | RawKind::Script | RawKind::Plaintext
-        ),
-        None => false,
-    }
-}
-
-/// The same of texts next to a node.
+/// Whether texts next to a node are written as they are: by the name of what they are in.
 fn stands_raw(tree: &Tree, node: NodeId) -> bool
     requires { node < tree.now.made }
     ensures { result ≡ stands_raw node tree.now.trees }
 {
-    match tree.parent(node) {
-        Some(parent) => holds_raw(tree.name(parent)),
-        None => false,
-    }
+    let Some(parent) = tree.parent(node) else {
+        return false;
+    };
+    let Some(name) = tree.name(parent) else {
+        return false;
+    };
+    matches!(
+        name.tag().raw_kind(),
+        RawKind::Rawtext | RawKind::Script | RawKind::Plaintext
+    )
 }
 
 /// Writes where a node begins.
@@ -122,7 +82,13 @@ fn put_opening<W: Target>(
         NodeView::Doctype(texts) => put_between(out, b"<!DOCTYPE ", &texts.name, b">"),
         NodeView::Element(name, attrs) => put_start_tag(out, escaping, names, name, attrs),
         NodeView::Comment(data) => put_between(out, b"<!--", data, b"-->"),
-        NodeView::Text(data) => put_text(out, escaping, data, stands_raw(tree, node)),
+        NodeView::Text(data) => {
+            if stands_raw(tree, node) {
+                put(out, data.as_bytes())
+            } else {
+                put_escaped(out, data, escaping, Setting::Text)
+            }
+        }
     }
 }
 
@@ -137,25 +103,10 @@ fn put_closing<W: Target>(
     ensures { Puts (taken W.written W.failed out.old) (taken W.written W.failed out.new) (closing_of (text_of names.now) (what_of node tree.now.trees)) result }
 {
     match NodeView::of(tree, node) {
-        NodeView::Element(name, _) if !name.tag().is_void() => put_end_tag(out, names.text(name)),
+        NodeView::Element(name, _) if !name.tag().is_void() => {
+            put_between(out, b"</", names.text(name), b">")
+        }
         _ => Ok(()),
-    }
-}
-
-/// Writes what a visit writes.
-fn put_visit<W: Target>(
-    out: &mut Sink<'_, W>,
-    escaping: Escaping,
-    tree: &Tree,
-    names: &Names,
-    visit: Visit,
-) -> Result<(), Refusal>
-    requires { node_of visit < tree.now.made }
-    ensures { Puts (taken W.written W.failed out.old) (taken W.written W.failed out.new) (visit_text escaping (text_of names.now) tree.now.trees visit) result }
-{
-    match visit {
-        Visit::Enter(node) => put_opening(out, escaping, tree, names, node),
-        Visit::Leave(node) => put_closing(out, tree, names, node),
     }
 }
 
@@ -174,30 +125,12 @@ fn put_children<W: Target>(
 {
     names.are_names();
     for visit in TreeWalk::new(tree, node, Reach::Written) {
-        put_visit(out, escaping, tree, names, visit)?;
+        match visit {
+            Visit::Enter(node) => put_opening(out, escaping, tree, names, node)?,
+            Visit::Leave(node) => put_closing(out, tree, names, node)?,
+        }
     }
     Ok(())
-}
-
-/// Writes what comes after the opening of an element that is not void: what is in it, and its end tag.
-fn put_ending<W: Target>(
-    out: &mut Sink<'_, W>,
-    escaping: Escaping,
-    tree: &Tree,
-    names: &Names,
-    node: NodeId,
-) -> Result<(), Refusal>
-    requires { node < tree.now.made }
-    ensures { Puts (taken W.written W.failed out.old) (taken W.written W.failed out.new)
-        (ending_of escaping (text_of names.now) (what_of node tree.now.trees) (children_of node tree.now.trees)) result }
-{
-    match NodeView::of(tree, node) {
-        NodeView::Element(name, _) if !name.tag().is_void() => {
-            put_children(out, escaping, tree, names, node)?;
-            put_end_tag(out, names.text(name))
-        }
-        _ => Ok(()),
-    }
 }
 
 /// Writes a node and what is in it. Nothing is handed on.
@@ -216,7 +149,10 @@ fn put_outer<W: Target>(
     names.are_names();
     tree.are_nodes();
     put_opening(out, escaping, tree, names, node)?;
-    put_ending(out, escaping, tree, names, node)
+    if goes_in(tree, Reach::Written, node) {
+        put_children(out, escaping, tree, names, node)?;
+    }
+    put_closing(out, tree, names, node)
 }
 
 /// Writes the children of a node as text, by the HTML fragment serialization algorithm (`#html-fragment-serialisation-algorithm`), and

@@ -2,9 +2,7 @@
 
 ghost use Rattle.std.specs.Prelude.{◌≡◌, ℕ, ⊤, true, List, Option, IfErr, OnOk, OnErr};
 ghost use Rattle.std.specs.Io.KnownBytes.{Appends, Keeps};
-ghost use Rattle.hserialize.specs.Calls.{counted_by, counted_unless, Writes, counted_by_result};
-ghost use Rattle.hserialize.specs.Output.{AppendsBeginning};
-ghost use Rattle.names.specs.declared.refusal.Refusal.TheVariants.{Write};
+ghost use Rattle.hserialize.specs.Vocabulary.{counted_by, counted_unless, Writes, counted_by_result, AppendsBeginning, Write};
 
 use names::Refusal;
 

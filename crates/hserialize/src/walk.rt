@@ -2,12 +2,7 @@
 
 ghost use Rattle.std.specs.Prelude.{◌≡◌, ◌<◌, ◌∷◌, ◌^◌, ℕ, length, Bool, true, false, not, Some, IfSome, IsTrue};
 ghost use Rattle.std.specs.List.{All};
-ghost use Rattle.hnodes.specs.Edits.{AreNodes};
-ghost use Rattle.hnodes.specs.Forest.{What, children_of};
-ghost use Rattle.hnodes.specs.Passed.{ancestors_of, is_among};
-ghost use Rattle.hserialize.specs.Walk.{goes_in, inserts_marker, visits, visits_from, node_of};
-ghost use Rattle.hnodes.specs.Spots.{what_of};
-ghost use Rattle.hserialize.specs.declared.walk.Visit.TheVariants.{Enter, Leave};
+ghost use Rattle.hserialize.specs.Vocabulary.{AreNodes, What, children_of, ancestors_of, is_among, goes_in, inserts_marker, visits, visits_from, node_of, what_of, Enter, Leave};
 
 use hnodes::{NodeId, Tree};
 use names::Tag;
@@ -100,10 +95,8 @@ fn first_visit(tree: &Tree, root: NodeId) -> Option<Visit>
     ensures inside { IfSome result (λ v. (node_of v < tree.now.made) × IsTrue (is_among root (ancestors_of (node_of v) tree.now.trees))) }
     ensures nodes { AreNodes tree.now }
 {
-    match tree.first_child(root) {
-        Some(child) => Some(Visit::Enter(child)),
-        None => None,
-    }
+    let child = tree.first_child(root)?;
+    Some(Visit::Enter(child))
 }
 
 /// The visit after a node was entered.
@@ -113,13 +106,9 @@ fn visit_inside(tree: &Tree, root: NodeId, reach: Reach, node: NodeId) -> Visit
     ensures visits { visits_from reach root (Some (Enter node)) tree.now.trees ≡ Enter node ∷ visits_from reach root (Some result) tree.now.trees }
     ensures inside { (node_of result < tree.now.made) × IsTrue (is_among root (ancestors_of (node_of result) tree.now.trees)) }
 {
-    let child = tree.first_child(node);
-    if !goes_in(tree, reach, node) {
-        return Visit::Leave(node);
-    }
-    match child {
-        Some(child) => Visit::Enter(child),
-        None => Visit::Leave(node),
+    match tree.first_child(node) {
+        Some(child) if goes_in(tree, reach, node) => Visit::Enter(child),
+        _ => Visit::Leave(node),
     }
 }
 
@@ -134,16 +123,15 @@ pub fn inserts_marker(tag: Tag) -> bool
 }
 
 /// Whether a walk goes into a node.
-fn goes_in(tree: &Tree, reach: Reach, node: NodeId) -> bool
+pub(crate) fn goes_in(tree: &Tree, reach: Reach, node: NodeId) -> bool
     requires { node < tree.now.made }
     ensures { (w : What ℕ) → what_of node tree.now.trees ≡ Some w → goes_in reach w ≡ result }
 {
     match (reach, tree.name(node)) {
-        (Reach::Whole, _) => true,
-        (Reach::Written, Some(name)) => !name.tag().is_void(),
+        (Reach::Whole, _) | (Reach::Region, None) => true,
         (Reach::Written, None) => false,
+        (Reach::Written, Some(name)) => !name.tag().is_void(),
         (Reach::Region, Some(name)) => !inserts_marker(name.tag()),
-        (Reach::Region, None) => true,
     }
 }
 

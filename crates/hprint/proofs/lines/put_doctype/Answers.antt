@@ -1,4 +1,6 @@
-use Rattle.hprint.proofs.Names.{◌∙◌, ◌++◌, codes, subst, sym, indented, Puts, taken}
+use Rattle.hprint.proofs.Names.{◌∙◌, ◌&&◌, ◌++◌, codes, subst, sym, indented, Puts, taken}
+use Rattle.std.specs.String.{string_bytes}
+use Rattle.hserialize.specs.Words.{is_empty}
 use Rattle.hprint.proofs.LineTexts.{doctype_parts}
 use Rattle.hprint.proofs.lines.put_doctype.Goals as goal
 
@@ -6,4 +8,5 @@ pub returns : goal.returns
 returns g c =
     subst (λ t. Puts (taken g.W.Target.written g.W.Target.failed c.args.out.now) (taken g.W.Target.written g.W.Target.failed c.put_line-2.new.out) t c.put_line-2.result)
     ((λ i. indented c.args.depth (codes "<!DOCTYPE " ++ (c.as_bytes-name.ensures.value i ++ (codes " \"" ++ (c.as_bytes-public_id.ensures.value i ++ (codes "\" \"" ++ (c.as_bytes-system_id.ensures.value i ++ codes "\">")))))))
-    ∙ doctype_parts c.args.depth c.args.name.now c.args.public_id.now c.args.system_id.now (sym c.has_none.ensures ∙ c.if-has_none.false)) c.put_line-2.ensures
+    ∙ doctype_parts c.args.depth (string_bytes c.args.texts.now.name) (string_bytes c.args.texts.now.public_id) (string_bytes c.args.texts.now.system_id)
+    ((λ i. is_empty (sym c.deref.ensures i) && is_empty (sym c.deref-2.ensures i)) ∙ sym c.has_none.ensures ∙ c.if-has_none.false)) c.put_line-2.ensures

@@ -1,5 +1,6 @@
-use Rattle.hprint.proofs.Names.{arith, passed_on}
-use Rattle.hprint.proofs.Printed.{begun_putting, next_is, put_more, put_failed, all_printed}
+use Rattle.hprint.proofs.Names.{◌∙◌, ◌∷◌, ap, arith, none_added, passed_on}
+use Rattle.hprint.proofs.Printed.{begun_putting, put_more, put_failed, all_printed, one_less_is}
+use Rattle.hserialize.specs.declared.walk.Visit.TheVariants.{Enter, Leave}
 use Rattle.hprint.proofs.lines.put_nodes.Goals as goal
 
 pub loop-visit-init : goal.loop-visit-init
@@ -9,28 +10,22 @@ loop-visit-init g c = record {
   room = omega arith;
 }
 
-pub put_visit-requires-clause-deep : goal.put_visit-requires-clause-deep
-put_visit-requires-clause-deep g c =
-    let s = c.loop-visit.invariant.putting in
-    (next_is c.args.names.now c.args.tree.now.trees c.args.root c.loop-visit.depth s.done c.in-Some.visit c.loop-visit.visit-iterator c.next.new.self c.in-Some.ensures.steps s.printing).0
-
-pub depth_after-depth-requires : goal.depth_after-depth-requires
-depth_after-depth-requires g c =
-    let s = c.loop-visit.invariant.putting in
-    let n = next_is c.args.names.now c.args.tree.now.trees c.args.root c.loop-visit.depth s.done c.in-Some.visit c.loop-visit.visit-iterator c.next.new.self c.in-Some.ensures.steps s.printing in
-    record { deep = n.0; opened = n.1 }
+pub loop-visit-preserved-in-Enter : goal.loop-visit-preserved-in-Enter
+loop-visit-preserved-in-Enter g c = record {
+  putting = put_more c.args.names.now c.args.tree.now.trees c.args.root c.loop-visit.depth _ _ (Enter c.in-Enter.node) c.loop-visit.visit-iterator _ (c.in-Some.ensures.steps ∙ ap (λ v. v ∷ c.next.new.self) c.in-Enter.is) c.loop-visit.invariant.putting _ _ (omega arith) c.in_ok-put_node-in-Enter.ensures.text;
+  room = let before = c.loop-visit.invariant.room in let after = c.in_ok-put_node-in-Enter.ensures.room in omega (arith, before, after);
+}
 
 pub loop-visit-preserved : goal.loop-visit-preserved
 loop-visit-preserved g c = record {
-  putting = put_more c.args.names.now c.args.tree.now.trees c.args.root c.loop-visit.depth _ _ c.in-Some.visit c.loop-visit.visit-iterator _ c.in-Some.ensures.steps c.loop-visit.invariant.putting _ _
-      c.depth_after-depth.ensures c.in_ok-put_visit.ensures.text;
-  room = let before = c.loop-visit.invariant.room in let after = c.in_ok-put_visit.ensures.room in omega (arith, before, after);
+  putting = put_more c.args.names.now c.args.tree.now.trees c.args.root c.loop-visit.depth _ _ (Leave c.in-Leave.field-0) c.loop-visit.visit-iterator _ (c.in-Some.ensures.steps ∙ ap (λ v. v ∷ c.next.new.self) c.in-Leave.is) c.loop-visit.invariant.putting _ _ (one_less_is c.loop-visit.depth) (none_added _);
+  room = c.loop-visit.invariant.room;
 }
 
-pub returns-in_err-put_visit : goal.returns-in_err-put_visit
-returns-in_err-put_visit g c =
+pub returns-in_err-put_node-in-Enter : goal.returns-in_err-put_node-in-Enter
+returns-in_err-put_node-in-Enter g c =
     passed_on _ _ _ _ c.from_residual.ensures.1
-    (put_failed c.args.names.now c.args.tree.now.trees c.args.root c.loop-visit.depth _ _ c.in-Some.visit c.loop-visit.visit-iterator _ c.in-Some.ensures.steps c.loop-visit.invariant.putting _ c.in_err-put_visit.ensures.text)
+    (put_failed c.args.names.now c.args.tree.now.trees c.args.root c.loop-visit.depth _ _ (Enter c.in-Enter.node) c.loop-visit.visit-iterator _ (c.in-Some.ensures.steps ∙ ap (λ v. v ∷ c.next.new.self) c.in-Enter.is) c.loop-visit.invariant.putting _ c.in_err-put_node-in-Enter.ensures.text)
 
 pub returns : goal.returns
 returns g c = all_printed c.args.names.now c.args.tree.now.trees c.args.root c.loop-visit.depth _ _ c.loop-visit.visit-iterator c.in-None.ensures.steps.0 c.loop-visit.invariant.putting

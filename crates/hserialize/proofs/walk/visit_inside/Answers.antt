@@ -4,9 +4,9 @@ use Rattle.hserialize.proofs.walk.visit_inside.Goals as goal
 
 pub returns-in-Some-clause-visits : goal.returns-in-Some-clause-visits
 returns-in-Some-clause-visits c =
-    (descends c.args.tree.now.made c.args.tree.now.trees c.first_child-child.ensures.nodes.counted c.args.root c.args.reach c.args.node c.in-Some.child c.requires.made c.requires.inside (sym c.first_child-child.ensures.child ∙ c.in-Some.is)).0
-    (λ w is. c.goes_in.ensures w is ∙ search (rules, c.if-not-goes_in.false))
+    (descends c.args.tree.now.made c.args.tree.now.trees c.first_child.ensures.nodes.counted c.args.root c.args.reach c.args.node c.in-Some.child c.requires.made c.requires.inside (sym c.first_child.ensures.child ∙ c.in-Some.is)).0
+    (λ w is. c.goes_in.ensures w is ∙ search (rules, c.if-goes_in.true))
 
 pub returns-in-Some-clause-inside : goal.returns-in-Some-clause-inside
 returns-in-Some-clause-inside c =
-    (descends c.args.tree.now.made c.args.tree.now.trees c.first_child-child.ensures.nodes.counted c.args.root c.args.reach c.args.node c.in-Some.child c.requires.made c.requires.inside (sym c.first_child-child.ensures.child ∙ c.in-Some.is)).1
+    (descends c.args.tree.now.made c.args.tree.now.trees c.first_child.ensures.nodes.counted c.args.root c.args.reach c.args.node c.in-Some.child c.requires.made c.requires.inside (sym c.first_child.ensures.child ∙ c.in-Some.is)).1

@@ -1,5 +1,5 @@
 use Rattle.hprint.proofs.Names.{◌∙◌, ap, rules, cut_short, finished}
-use Rattle.hprint.proofs.lines.print_nodes.Goals as goal
+use Rattle.hprint.proofs.lines.print_tree.Goals as goal
 
 pub returns-in_err-put_nodes-clause-text : goal.returns-in_err-put_nodes-clause-text
 returns-in_err-put_nodes-clause-text g c =
