@@ -1,5 +1,5 @@
 -- A context in which lists are plain is one that a parser takes.
-use Rattle.hlaws.proofs.Names.{◌≡◌, ℕ, Bool, true, not, ◌&&◌, ◌||◌, List, refl, sym, ◌∙◌, ap, false≢true, nat_le, bytes_eq, codes, Tag, is_refused, tags, tag_named, tag_text, Forest, row, are_content_if, in_context_of, is_form, is_context}
+use Rattle.hlaws.proofs.Names.{◌≡◌, ℕ, Bool, true, not, ◌&&◌, ◌||◌, List, refl, sym, ◌∙◌, ap, nat_le, bytes_eq, codes, Tag, is_refused, tags, tag_named, tag_text, Forest, row, are_content_if, in_context_of, is_form, is_context}
 use Rattle.std.specs.Prelude.{length}
 use Rattle.names.specs.declared.tag.Tag.TheVariants as tag
 use Rattle.hplain.specs.Plain.{is_plain}
@@ -15,18 +15,8 @@ abbrev is_plain_in : Tag → Forest (List ℕ) → Bool
 is_plain_in t l = are_content_if (in_context_of (row t).1 (is_form t)) l
 
 known : (t : Tag) (l : Forest (List ℕ)) → is_plain_in t l ≡ true → is_taken t (tag_text t) ≡ true
-known tag.Other l h = absurd (false≢true h)
-known tag.Colgroup l h = absurd (false≢true h)
-known tag.Math l h = absurd (false≢true h)
-known tag.Svg l h = absurd (false≢true h)
-known tag.Template l h = absurd (false≢true h)
-known tag.Select l h = absurd (false≢true h)
-known tag.Option l h = absurd (false≢true h)
-known tag.Optgroup l h = absurd (false≢true h)
-known tag.Frame l h = absurd (false≢true h)
-known tag.Frameset l h = absurd (false≢true h)
-known tag.Keygen l h = absurd (false≢true h)
-known _ l h = refl
+known tag.Other l h = cc
+known _ l h = cc
 
 pub context_taken : (context : List ℕ) (l : Forest (List ℕ)) → is_plain context l ≡ true → is_context context ≡ true
 context_taken context l plain =

@@ -50,18 +50,11 @@ ends_body _ = false
 
 eof_rule : (m : Mode) → ends_body m ≡ true → rule_of m Eof ≡ rule_of InBody Eof
 eof_rule InBody h = refl
-eof_rule InCaption h = refl
-eof_rule InCell h = refl
-eof_rule InTable h = refl
-eof_rule InTableBody h = refl
-eof_rule InRow h = refl
-eof_rule _ h = absurd (false≢true h)
+eof_rule _ h = cc
 
 flow_ends : (m : Mode) → is_flow_mode m ≡ true → ends_body m ≡ true
 flow_ends InBody h = refl
-flow_ends InCaption h = refl
-flow_ends InCell h = refl
-flow_ends _ h = absurd (false≢true h)
+flow_ends _ h = cc
 
 module _ (opts : ParseOptions) (escaping : Escaping) (context : List ℕ) (allowed_here : is_context context ≡ true) (l : Forest (List ℕ)) (utf8 : AreTexts l) (fits : Fits opts (written escaping (Some context) l) l)
     (read : AreRead opts.table (raw_kind (tag_named context)) (written escaping (Some context) l) (tokens_of texts l ++ eof ∷ [])) where

@@ -1,5 +1,5 @@
 -- Facts of content, of the modes in which it is and of the names that it holds.
-use Rattle.hlaws.proofs.Names.{◌≡◌, Bool, true, false, not, refl, ap, false≢true, stops_item, Tag, is_heading, Mode, InBody, InCaption, InCell, InTable, InTableBody, InRow, InColumnGroup, Comment, rule_of, Content, Role, takes_role, texts_in, Inside, is_nested, is_a, is_button, is_form, inserts_marker, is_flow_mode, fits_mode, fits_current, is_list, is_dl}
+use Rattle.hlaws.proofs.Names.{◌≡◌, Bool, true, false, not, refl, ap, false≢true, stops_item, Tag, is_heading, Mode, InBody, InTable, InTableBody, InRow, InColumnGroup, Comment, rule_of, Content, Role, takes_role, texts_in, Inside, is_nested, is_a, is_button, is_form, inserts_marker, is_flow_mode, fits_mode, fits_current, is_list, is_dl}
 use Rattle.names.specs.declared.tag.Tag.TheVariants as tag
 use Rattle.names.specs.Sets.{stops_scope}
 use Rattle.hmodes.specs.Words.{insert_comment}
@@ -22,19 +22,13 @@ has_home role.Phrasing = false
 has_home _ = true
 
 pub stands_in : (k : Content) (r : Role) → has_home r ≡ true → takes_role k r ≡ true → k ≡ home r
-stands_in content.Flow role.Flow p h = refl
-stands_in content.ListItems role.ListItem p h = refl
-stands_in content.Definitions role.Definition p h = refl
-stands_in content.TableParts role.TablePart p h = refl
-stands_in content.Columns role.Column p h = refl
-stands_in content.TableRows role.TableRow p h = refl
-stands_in content.Cells role.Cell p h = refl
-stands_in k role.Phrasing p h = absurd (false≢true p)
-stands_in _ _ p h = absurd (false≢true h)
+stands_in k role.Phrasing p h = cc
+stands_in content.Flow _ p h = cc
+stands_in _ _ p h = cc
 
-pub no_nowhere : (k : Content) → takes_role k role.Nowhere ≡ true → ⊥
-no_nowhere content.Flow h = false≢true h
-no_nowhere _ h = false≢true h
+pub no_nowhere : (k : Content) → takes_role k role.Nowhere ≡ false
+no_nowhere content.Flow = refl
+no_nowhere _ = refl
 
 -- MODES
 
@@ -61,9 +55,7 @@ columns_mode_is _ h = absurd (false≢true h)
 
 flow_comment : (m : Mode) → is_flow_mode m ≡ true → rule_of m Comment ≡ insert_comment
 flow_comment InBody h = refl
-flow_comment InCaption h = refl
-flow_comment InCell h = refl
-flow_comment _ h = absurd (false≢true h)
+flow_comment _ h = cc
 
 pub comment_rule : (k : Content) (m : Mode) → fits_mode k m ≡ true → rule_of m Comment ≡ insert_comment
 comment_rule content.TableParts m h = ap (λ o. rule_of o Comment) (parts_mode_is m h)
@@ -93,18 +85,11 @@ nested_form i _ h = absurd (false≢true h)
 
 pub marker_stops : (t : Tag) → inserts_marker t ≡ true → stops_scope t ≡ true
 marker_stops tag.Caption h = refl
-marker_stops tag.Td h = refl
-marker_stops tag.Th h = refl
-marker_stops tag.Object h = refl
-marker_stops tag.Marquee h = refl
-marker_stops _ h = absurd (false≢true h)
+marker_stops _ h = cc
 
 pub list_stops : (t : Tag) → is_list t ≡ true → stops_item t ≡ true
 list_stops tag.Ul h = refl
-list_stops tag.Ol h = refl
-list_stops tag.Menu h = refl
-list_stops tag.Dir h = refl
-list_stops _ h = absurd (false≢true h)
+list_stops _ h = cc
 
 pub dl_stops : (t : Tag) → is_dl t ≡ true → stops_item t ≡ true
 dl_stops tag.Dl h = refl

@@ -1,33 +1,20 @@
 -- A list that the table calls content is good.
-use Rattle.hlaws.proofs.Names.{◌≡◌, ℕ, zero, suc, ◌<◌, ◌≤◌, Bool, true, false, not, ◌&&◌, ◌||◌, List, [], ◌∷◌, ◌++◌, refl, sym, ◌∙◌, ap, subst, arith, ◌⊎◌, inl, inr, and_parts, false≢true, eqb-true, lt-leb, cases_lt, not-true, encodes-chars, encode_ascii, list_all-append, IsUtf8, chars, encode_utf8, encode_utf8_all, codes, ◌==◌, list_all, Forest, none, tree, element, text, tag_named, texts, Content, row, takes_role, takes_comments, texts_in, takes_space, AreTexts, Inside, inside_element, inside_node, is_nested, are_content, is_plain_node, are_plain_attributes, is_plain_text, is_plain_comment, is_clean, is_among_texts, begins_with, begins_with_text, begins_with_line_feed, drops_line_feed, is_empty}
-use Rattle.std.proofs.Common.{leb}
-use Rattle.std.proofs.lemmas.Bool.{and_right as and_no}
+use Rattle.hlaws.proofs.Names.{nat_tests, false_from_ne_true, ◌≡◌, ℕ, zero, suc, ◌<◌, Bool, true, false, not, ◌&&◌, List, [], ◌∷◌, ◌++◌, refl, sym, ◌∙◌, ap, subst, arith, ◌⊎◌, inl, inr, and_parts, false≢true, eqb-true, not-true, encodes-chars, encode_ascii, IsUtf8, chars, encode_utf8, encode_utf8_all, codes, ◌==◌, list_all, Forest, none, tree, element, text, tag_named, texts, Content, row, takes_role, takes_comments, texts_in, takes_space, AreTexts, Inside, inside_element, inside_node, is_nested, are_content, is_plain_node, are_plain_attributes, is_plain_text, is_plain_comment, is_clean, is_among_texts, begins_with, begins_with_text, begins_with_line_feed, drops_line_feed, is_empty}
 use Rattle.std.proofs.lemmas.Str.{encodes-IsAscii, chars_from_encodes}
 use Rattle.std.specs.Prelude.{IsAscii}
 use Rattle.std.specs.Char.{is_ascii_whitespace}
 use Rattle.hnodes.specs.Forest as forest
 use Rattle.hplain.specs.declared.content.Content.TheVariants as content
 use Rattle.hplain.specs.declared.content.Texts.TheVariants as allowed
+use Rattle.hlaws.proofs.TokensText.{clean_not_null, clean_text, is_clean_char}
 use Rattle.hlaws.proofs.TokenLists.{AllOk, IsText, NoNul}
 use Rattle.hlaws.proofs.Whole.{Good, LfSafe, TextFits}
 
 -- TEXTS
 
-abbrev is_clean_byte : ℕ → Bool
-is_clean_byte b = not (b == 0 || b == 13)
-
-no_nul : (cs : List ℕ) → list_all is_clean_byte (encode_utf8_all cs) ≡ true → NoNul cs
+no_nul : (cs : List ℕ) → list_all is_clean_char cs ≡ true → NoNul cs
 no_nul [] h = tt
-no_nul (c ∷ cs) h =
-    let both : (list_all is_clean_byte (encode_utf8 c) && list_all is_clean_byte (encode_utf8_all cs)) ≡ true = sym (list_all-append is_clean_byte (encode_utf8 c) (encode_utf8_all cs)) ∙ h in
-    (go (c == 0) refl (and_parts _ _ both).0, no_nul cs (and_parts (list_all is_clean_byte (encode_utf8 c)) _ both).1)
-  where
-    go : (b : Bool) → (c == 0) ≡ b → list_all is_clean_byte (encode_utf8 c) ≡ true → (c == 0) ≡ false
-    go false e k = e
-    go true e k =
-        let zero_is : c ≡ 0 = eqb-true c 0 e in
-        let bytes : encode_utf8 c ≡ 0 ∷ [] = ap encode_utf8 zero_is ∙ encode_ascii 0 (omega arith) in
-        absurd (let z = ap (list_all is_clean_byte) bytes in cc)
+no_nul (c ∷ cs) h = let both = and_parts _ _ h in (clean_not_null c both.0, no_nul cs both.1)
 
 is_text : (t : List ℕ) → IsUtf8 t → is_empty t ≡ false → is_clean t ≡ true → IsText t
 is_text t u some clean = go (chars t) refl
@@ -39,20 +26,10 @@ is_text t u some clean = go (chars t) refl
     go [] e = absurd (let z : [] ≡ t = sym (ap encode_utf8_all e) ∙ bytes_are in let y = ap is_empty z in cc)
     go (c ∷ cs) e =
         let b : encode_utf8_all (c ∷ cs) ≡ t = sym (ap encode_utf8_all e) ∙ bytes_are in
-        record { one = c; more = cs; spelled = e; bytes = b; no_nul = no_nul (c ∷ cs) (ap (list_all is_clean_byte) b ∙ clean) }
-
-no_space : (b : ℕ) → 128 ≤ b → is_ascii_whitespace b ≡ false
-no_space b h = rw (lt-leb b 10 (omega arith), lt-leb b 13 (omega arith), lt-leb b 32 (omega arith)) (go (leb 9 b) (leb 12 b) (leb 32 b))
-  where
-    go : (x y z : Bool) → ((x && false || (y && false)) || (z && false)) ≡ false
-    go x y z = rw (and_no x false refl, and_no y false refl, and_no z false refl) refl
+        record { one = c; more = cs; spelled = e; bytes = b; no_nul = no_nul (c ∷ cs) (ap (list_all is_clean_char) (sym e) ∙ clean_text t u clean) }
 
 space_small : (b : ℕ) → is_ascii_whitespace b ≡ true → b < 128
-space_small b h = go (cases_lt b 128)
-  where
-    go : (b < 128) ⊎ (128 ≤ b) → b < 128
-    go (inl l) = l
-    go (inr g) = absurd (let z = no_space b g in cc)
+space_small b h = grind (arith, nat_tests)
 
 spaces_ascii : (t : List ℕ) → list_all is_ascii_whitespace t ≡ true → IsAscii t
 spaces_ascii [] h i = omega arith
@@ -69,14 +46,10 @@ spaced t is u h =
     all_spaces (is.one ∷ is.more) (sym (ap (list_all is_ascii_whitespace) (same ∙ is.spelled)) ∙ h)
 
 first_line_feed : (t : List ℕ) (is : IsText t) → begins_with (codes "\n") t ≡ false → (is.one == 10) ≡ false
-first_line_feed t is h = go (is.one == 10) refl
-  where
-    go : (b : Bool) → (is.one == 10) ≡ b → (is.one == 10) ≡ false
-    go false e = e
-    go true e =
-        let ten : is.one ≡ 10 = eqb-true is.one 10 e in
-        let bytes : 10 ∷ encode_utf8_all is.more ≡ t = sym (ap (λ c. encode_utf8 c ++ encode_utf8_all is.more) ten ∙ ap (λ l. l ++ encode_utf8_all is.more) (encode_ascii 10 (omega arith))) ∙ is.bytes in
-        absurd (let z = ap (begins_with (codes "\n")) bytes in cc)
+first_line_feed t is h = false_from_ne_true _ (λ e.
+    let ten : is.one ≡ 10 = eqb-true is.one 10 e in
+    let bytes : 10 ∷ encode_utf8_all is.more ≡ t = sym (ap (λ c. encode_utf8 c ++ encode_utf8_all is.more) ten ∙ ap (λ l. l ++ encode_utf8_all is.more) (encode_ascii 10 (omega arith))) ∙ is.bytes in
+    let z = ap (begins_with (codes "\n")) bytes in cc)
 
 -- WHERE TEXTS STAND
 
@@ -103,26 +76,15 @@ text_fits i t is u (inl e) h = go i.content refl
     go content.Cells c = back content.Cells c (spaced t is u (among content.Cells c), space_in content.Cells c)
     go content.Columns c = back content.Columns c (spaced t is u (among content.Columns c))
     go content.Empty c = absurd (let z = among content.Empty c in cc)
-    go content.Flow c = back content.Flow c tt
-    go content.Phrasing c = back content.Phrasing c tt
     go content.Around c = absurd (let z = among content.Around c in cc)
-    go content.ListItems c = back content.ListItems c tt
-    go content.Definitions c = back content.Definitions c tt
-    go content.Text c = back content.Text c tt
-    go content.RawText c = back content.RawText c tt
-    go content.ScriptText c = back content.ScriptText c tt
+    go k c = back k c tt
 
 -- LISTS OF TREES
 
-not_among : (t : List ℕ) → is_plain_text allowed.None t ≡ true → ⊥
-not_among t h = let z = (and_parts (not (is_empty t) && is_clean t) false h).1 in cc
-
 not_empty : (i : Inside) (b : ℕ) (w : forest.What (List ℕ)) (kids rest : Forest (List ℕ)) → is_plain_node (record i { content = content.Empty; texts = allowed.None }) w kids rest ≡ true → ⊥
-not_empty i b (element x attrs) kids rest h = cc
-not_empty i b (text t) kids rest h = not_among t (and_parts (is_plain_text allowed.None t) (not (begins_with_text rest)) h).0
-not_empty i b (forest.comment t) kids rest h = cc
-not_empty i b forest.document kids rest h = cc
-not_empty i b (forest.doctype a p s) kids rest h = cc
+not_empty i b (text t) kids rest h =
+    let z = (and_parts (not (is_empty t) && is_clean t) false (and_parts (is_plain_text allowed.None t) (not (begins_with_text rest)) h).0).1 in cc
+not_empty i b _ kids rest h = cc
 
 pub lf_safe : (v : Bool) (kids : Forest (List ℕ)) → not (v && begins_with_line_feed kids) ≡ true → LfSafe v kids
 lf_safe false (tree b (text t) kids rest) h = λ is. refl
@@ -159,11 +121,10 @@ good i (tree b (element x attrs) kids rest) fit u h =
     )
 good i (tree b (text t) none rest) fit u h =
     let h3 = three i b (text t) none rest h in
-    let plain : is_plain_text i.texts t ≡ true = (and_parts (is_plain_text i.texts t) (not (begins_with_text rest)) h3.node).0 in
-    let some_clean : (not (is_empty t) && is_clean t) ≡ true = (and_parts (not (is_empty t) && is_clean t) (is_among_texts i.texts t) plain).0 in
-    let is = is_text t u.0 (not-true (is_empty t) (and_parts (not (is_empty t)) (is_clean t) some_clean).0) (and_parts (not (is_empty t)) (is_clean t) some_clean).1 in (
-      record { is = is; fits = text_fits i t is u.0 fit (and_parts (not (is_empty t) && is_clean t) (is_among_texts i.texts t) plain).1 },
-      not-true (begins_with_text rest) (and_parts (is_plain_text i.texts t) (not (begins_with_text rest)) h3.node).1,
+    let node = h3.node in
+    let is = is_text t u.0 (grind arith) (grind arith) in (
+      record { is = is; fits = text_fits i t is u.0 fit (grind arith) },
+      grind arith,
       good i rest fit u.2 h3.others,
     )
 good i (tree b (text t) (tree b' w' kids' rest') rest) fit u h =

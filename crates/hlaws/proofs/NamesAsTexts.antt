@@ -1,5 +1,5 @@
 -- What is used of names, where they are texts.
-use Rattle.hlaws.proofs.Names.{◌≡◌, ℕ, Bool, true, false, cond, List, [], ◌∷◌, refl, sym, ◌∙◌, ap, false≢true, bytes_eq-Decides, bytes_eq, Tag, tag_text, tags, tag_named, texts, Family, family_of, is_list, is_dl, is_a, is_button}
+use Rattle.hlaws.proofs.Names.{false_from_ne_true, ◌≡◌, ℕ, Bool, true, false, cond, List, [], ◌∷◌, refl, sym, ◌∙◌, ap, false≢true, bytes_eq-Decides, bytes_eq, Tag, tag_text, tags, tag_named, texts, family_of, is_list, is_dl, is_a, is_button}
 use Rattle.names.specs.declared.tag.Tag.TheVariants as tag
 use Rattle.names.specs.Tags.{tag_among}
 use Rattle.names.proofs.KnownTags.{different}
@@ -22,27 +22,11 @@ knows t test proper is only x = go (bytes_eq x (tag_text t)) refl
   where
     go : (b : Bool) → bytes_eq x (tag_text t) ≡ b → bytes_eq x (tag_text t) ≡ test (tag_named x)
     go true e = e ∙ sym (ap (λ y. test (tag_named y)) ((bytes_eq-Decides x (tag_text t)).0 e) ∙ is)
-    go false e = e ∙ sym (other (test (tag_named x)) refl)
-      where
-        other : (v : Bool) → test (tag_named x) ≡ v → test (tag_named x) ≡ false
-        other false s = s
-        other true s = absurd (let y = (bytes_eq-Decides x (tag_text t)).1 (named_back tags x t (only (tag_named x) s) proper) in cc)
+    go false e = e ∙ sym (false_from_ne_true _ (λ s. let y = (bytes_eq-Decides x (tag_text t)).1 (named_back tags x t (only (tag_named x) s) proper) in cc))
 
 -- a text that is known by this name
 is_named : (t : Tag) → (t ≡ tag.Other → ⊥) → (x : List ℕ) → tag_named x ≡ t → bytes_eq x (tag_text t) ≡ true
 is_named t proper x e = (bytes_eq-Decides x (tag_text t)).1 (named_back tags x t e proper)
-
-abbrev is_table : Family → Bool
-is_table family.Table = true
-is_table _ = false
-
-abbrev is_caption : Family → Bool
-is_caption family.Caption = true
-is_caption _ = false
-
-abbrev is_row : Family → Bool
-is_row family.Row = true
-is_row _ = false
 
 only_p : (u : Tag) → is_p u ≡ true → u ≡ tag.P
 only_p tag.P h = refl
@@ -54,15 +38,15 @@ only_button _ h = absurd (false≢true h)
 
 only_table : (u : Tag) → family_of u ≡ family.Table → u ≡ tag.Table
 only_table tag.Table h = refl
-only_table _ h = absurd (false≢true (ap is_table h))
+only_table _ h = cc
 
 only_caption : (u : Tag) → family_of u ≡ family.Caption → u ≡ tag.Caption
 only_caption tag.Caption h = refl
-only_caption _ h = absurd (false≢true (ap is_caption h))
+only_caption _ h = cc
 
 only_row : (u : Tag) → family_of u ≡ family.Row → u ≡ tag.Tr
 only_row tag.Tr h = refl
-only_row _ h = absurd (false≢true (ap is_row h))
+only_row _ h = cc
 
 -- a text of another name
 not_named : (t : Tag) (test : Tag → Bool) (x : List ℕ) → test (tag_named (tag_text t)) ≡ false → test (tag_named x) ≡ true → bytes_eq x (tag_text t) ≡ false

@@ -1,5 +1,5 @@
 -- Parse errors have one order at most by place and code.
-use Rattle.hlaws.proofs.Names.{nat_tests, ◌≡◌, ℕ, suc, ◌+◌, Bool, true, false, cond, List, [], ◌∷◌, refl, sym, ap, ◌∙◌, subst, arith, IsPermutation, IsSorted, false≢true, ErrorCode, ParseError, code_rank, error_cmp}
+use Rattle.hlaws.proofs.Names.{nat_tests, ◌≡◌, ℕ, suc, ◌+◌, Bool, false, cond, List, [], ◌∷◌, refl, sym, ap, ◌∙◌, subst, arith, IsPermutation, IsSorted, false≢true, ParseError, code_rank, error_cmp}
 use Rattle.std.specs.Prelude.{slice_index_or}
 use Rattle.std.specs.Cmp.{IsTotalOrder, IsStrictWeakOrder}
 use Rattle.std.specs.List.{sum_by}
@@ -21,19 +21,13 @@ before a b = is_lt (error_cmp a b)
 order : IsStrictWeakOrder before
 order = ranks_by error-total (λ (e : ParseError). e)
 
-same-error : (c d : ErrorCode) (m n : ℕ) → c ≡ d → m ≡ n → ◌≡◌ {A = ParseError} (record { code = c; at = m }) (record { code = d; at = n })
-same-error c d m n codes places =
-    let code_changed : ErrorCode → ParseError = λ x. record { code = x; at = m } in
-    let place_changed : ℕ → ParseError = λ x. record { code = d; at = x } in
-    ap code_changed codes ∙ ap place_changed places
-
 -- of two errors that are not one, one comes first
 equal-one : (a b : ParseError) → error_cmp a b ≡ Equal → a ≡ b
 equal-one a b e =
     let both = exact_pairs nat_cmp nat_cmp exact_unsigned exact_unsigned (a.at, code_rank a.code) (b.at, code_rank b.code) e in
     let places : a.at ≡ b.at = ap (λ (p : ℕ × ℕ). p.0) both in
     let codes : a.code ≡ b.code = one-code a.code b.code (ap (λ (p : ℕ × ℕ). p.1) both) in
-    same-error a.code b.code a.at b.at codes places
+    λ i. record { code = codes i; at = places i }
 
 neither-one : (a b : ParseError) → before a b ≡ false → before b a ≡ false → a ≡ b
 neither-one a b not_before not_after = go (error_cmp a b) refl

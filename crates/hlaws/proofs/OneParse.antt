@@ -1,5 +1,5 @@
 -- The bytes of a document or of a fragment have exactly one tree and list of errors, or refusal.
-use Rattle.hlaws.proofs.Names.{◌≡◌, ℕ, false, List, [], ◌∷◌, ◌++◌, length, map, Option, None, Some, Result, Ok, Err, refl, sym, ap, ◌∙◌, subst, append-nil, IsPermutation, IsSorted, map-append, ParseError, Placed, RawKind, RefusedName, Refusal, OutOfProfile, input_errors, read_len, refusal_of, Tok, Span, Gives, at_start, start_kind, spans_text, Cut, has_refused, Tokens, AreFront, eof_of, texts, Outcome, Goes, Refused, PlacedToken, State, Step, Steps, and, HasAnswer, gives, refuses, one_list_of_tokens, no_tokens_of_refused, one_refusal, some_answer, error_cmp, reads_in, text_in, ParseOptions, fragment, Parse, Parses, manner, policy, start_of, refused_token, refused_tag, accepted, placed, ExactlyOne, in_order, order-permutes, order-sorted}
+use Rattle.hlaws.proofs.Names.{◌≡◌, ℕ, false, List, [], ◌∷◌, ◌++◌, length, map, Option, None, Some, Result, Ok, Err, refl, sym, ap, ◌∙◌, subst, append-nil, IsPermutation, map-append, ParseError, Placed, RawKind, RefusedName, Refusal, OutOfProfile, input_errors, read_len, refusal_of, Tok, Span, Gives, at_start, start_kind, spans_text, Cut, has_refused, Tokens, AreFront, eof_of, texts, Outcome, Goes, Refused, PlacedToken, State, Step, Steps, and, HasAnswer, gives, refuses, one_list_of_tokens, no_tokens_of_refused, one_refusal, some_answer, reads_in, text_in, ParseOptions, fragment, Parse, Parses, manner, policy, start_of, refused_token, refused_tag, accepted, placed, ExactlyOne, in_order, order-permutes, order-sorted}
 use Rattle.htoken.specs.Tokens.{IsRefused, tokens_in, tokens_of}
 use Rattle.hmodes.specs.Reached.{Reached, after}
 use Rattle.hmodes.specs.Reached as reached
@@ -10,7 +10,7 @@ use Rattle.hmodes.proofs.Single.{step-one}
 use Rattle.hcuts.proofs.Fronts.{one_front, one_front_of_refused}
 use Rattle.hparse.specs.Parse.{ParseCase, document, begins, refused_bytes}
 use Rattle.hlaws.specs.OneAnswer.{OneParse}
-use Rattle.hlaws.proofs.OneInput.{all-read, one-some, never-both, one-list}
+use Rattle.hlaws.proofs.OneInput.{all-read, one-list}
 
 -- tokens in order have one result
 steps-one : (ts : List (PlacedToken (List ℕ))) (s : State (List ℕ)) (o o' : Outcome (State (List ℕ))) → Steps texts ts s o → Steps texts ts s o' → o ≡ o'
@@ -60,12 +60,6 @@ module _ (opts : ParseOptions) (parse_case : ParseCase) (bytes : List ℕ) where
   abbrev Leads : List Tok → Outcome (State (List ℕ)) → Type 0
   Leads tokens o = Steps texts (map placed tokens) (begins opts parse_case) o
 
-  one-result : (tokens : List Tok) (o o' : Outcome (State (List ℕ))) → Leads tokens o → Leads tokens o' → o ≡ o'
-  one-result tokens o o' = steps-one (map placed tokens) (begins opts parse_case) o o'
-
-  never-both-ways : (tokens : List Tok) (r : Refusal) (state : State (List ℕ)) → Leads tokens (Refused r) → Leads tokens (Goes state) → ⊥
-  never-both-ways tokens r state h k = let clash = one-result tokens (Refused r) (Goes state) h k in cc
-
   -- what a front of tokens is refused for they are refused for
   refused-whole : (tokens front others : List Tok) (r : Refusal) → tokens ≡ front ++ others → Leads front (Refused r) → Leads tokens (Refused r)
   refused-whole tokens front others r are h =
@@ -93,100 +87,80 @@ module _ (opts : ParseOptions) (parse_case : ParseCase) (bytes : List ℕ) where
       } in
       refused_token r (map Gives tokens) front (led tokens (tokens_in (map Gives tokens)) (Refused r) (sym (given tokens)) steps)
 
+  -- a result that the outcome of these tokens decides
+  record Decided (answer : Outcome (State (List ℕ)) → Result Parse Refusal) (tokens : List Tok) (x : Result Parse Refusal) : Type 0 where
+    outcome : Outcome (State (List ℕ))
+    leads : Leads tokens outcome
+    is : x ≡ answer outcome
+
+  only : (answer : Outcome (State (List ℕ)) → Result Parse Refusal) (tokens : List Tok) → ((y : Result Parse Refusal) → Parses opts parse_case bytes y → Decided answer tokens y)
+      → (x : Result Parse Refusal) → Parses opts parse_case bytes x → ExactlyOne (Parses opts parse_case bytes)
+  only answer tokens decided x h = record {
+    one = x;
+    is = h;
+    other = λ y k. let a = decided y k in let b = decided x h in a.is ∙ ap answer (steps-one (map placed tokens) (begins opts parse_case) a.outcome b.outcome a.leads b.leads) ∙ sym b.is;
+  }
+
   -- the text is refused for a start tag
   module _ (tokens : List Tok) (name : RefusedName) (at : ℕ) (out : IsRefused opts.table kind text end tokens name at) where
-    data OfRefused (x : Result Parse Refusal) : Type 0 where
-      by_rules : (r : Refusal) → Leads tokens (Refused r) → x ≡ Err r → OfRefused x
-      by_tag : (state : State (List ℕ)) → Leads tokens (Goes state) → x ≡ Err (OutOfProfile name at) → OfRefused x
+    abbrev out_of_profile : Outcome (State (List ℕ)) → Result Parse Refusal
+    out_of_profile (Refused r) = Err r
+    out_of_profile (Goes state) = Err (OutOfProfile name at)
 
-    of-refused : (x : Result Parse Refusal) → Parses opts parse_case bytes x → OfRefused x
+    of-refused : (x : Result Parse Refusal) → Parses opts parse_case bytes x → Decided out_of_profile tokens x
     of-refused x (refused_token r events front steps) =
         let k = one_front_of_refused opts.table kind text end at name tokens events out front in
-        by_rules r (refused-whole tokens (tokens_in events) k.0 r k.1 steps) refl
+        record { outcome = Refused r; leads = refused-whole tokens (tokens_in events) k.0 r k.1 steps; is = refl }
     of-refused x (refused_tag name' at' tokens' state out' steps) =
         let same = one_refusal opts.table kind text end at' at name' name tokens' tokens out' out in
-        by_tag state (led tokens' tokens (Goes state) same.2 steps) (ap (λ (n : RefusedName). Err (OutOfProfile n at')) same.0 ∙ ap (λ (n : ℕ). Err (OutOfProfile name n)) same.1)
+        record { outcome = Goes state; leads = led tokens' tokens (Goes state) same.2 steps; is = λ i. Err (OutOfProfile (same.0 i) (same.1 i)) }
     of-refused x (refused_bytes r errors state builds e) = absurd (no_tokens_of_refused opts.table kind text end at name builds.tokens tokens errors builds.read out)
     of-refused x (accepted errors sorted state builds p s whole) = absurd (no_tokens_of_refused opts.table kind text end at name builds.tokens tokens errors (at-end whole builds.read) out)
 
-    one-of-refused : (x y : Result Parse Refusal) → OfRefused x → OfRefused y → x ≡ y
-    one-of-refused x y (by_rules r h e) (by_rules r' k f) =
-        let same = one-result tokens (Refused r) (Refused r') h k in
-        let refusals : r ≡ r' = cc in
-        e ∙ ap (λ (q : Refusal). Err q) refusals ∙ sym f
-    one-of-refused x y (by_rules r h e) (by_tag state k f) = absurd (never-both-ways tokens r state h k)
-    one-of-refused x y (by_tag state h e) (by_rules r k f) = absurd (never-both-ways tokens r state k h)
-    one-of-refused x y (by_tag state h e) (by_tag state' k f) = e ∙ sym f
-
-    only-refused : (x : Result Parse Refusal) → Parses opts parse_case bytes x → ExactlyOne (Parses opts parse_case bytes)
-    only-refused x h = record { one = x; is = h; other = λ y k. one-of-refused y x (of-refused y k) (of-refused x h) }
-
     exactly-refused : (o : Outcome (State (List ℕ))) × Leads tokens o → ExactlyOne (Parses opts parse_case bytes)
-    exactly-refused (Goes state, steps) = only-refused (Err (OutOfProfile name at)) (refused_tag name at tokens state out steps)
+    exactly-refused (Goes state, steps) = only out_of_profile tokens of-refused (Err (OutOfProfile name at)) (refused_tag name at tokens state out steps)
     exactly-refused (Refused r, steps) =
-        only-refused (Err r) (refused-front tokens (eof_of end out.rest) out.spans out.rest r out.text_is out.cut out.in_profile (ap (λ (ts : List Tok). ts ++ eof_of end out.rest) out.tokens_are) steps)
+        only out_of_profile tokens of-refused (Err r) (refused-front tokens (eof_of end out.rest) out.spans out.rest r out.text_is out.cut out.in_profile (ap (λ (ts : List Tok). ts ++ eof_of end out.rest) out.tokens_are) steps)
 
   -- the text has tokens
   module _ (tokens : List Tok) (errors : List ParseError) (read : Tokens opts.table kind text end tokens errors) where
     abbrev all_errors : State (List ℕ) → List ParseError
     all_errors state = input_errors (reads_in (manner opts parse_case) bytes) ++ (errors ++ state.site.errors)
 
-    data OfTokens (x : Result Parse Refusal) : Type 0 where
-      by_rules : (r : Refusal) → Leads tokens (Refused r) → x ≡ Err r → OfTokens x
-      by_bytes : (r : Refusal) (state : State (List ℕ)) → Leads tokens (Goes state) → refusal_of (policy opts parse_case) bytes ≡ Some r → x ≡ Err r → OfTokens x
-      whole : (state : State (List ℕ)) (sorted : List ParseError) → Leads tokens (Goes state) → IsPermutation (all_errors state) sorted → IsSorted error_cmp sorted
-          → refusal_of (policy opts parse_case) bytes ≡ None → x ≡ Ok (record { trees = state.site.nodes.trees; errors = sorted }) → OfTokens x
+    abbrev answer : Outcome (State (List ℕ)) → Option Refusal → Result Parse Refusal
+    answer (Refused r) refusal = Err r
+    answer (Goes state) (Some r) = Err r
+    answer (Goes state) None = Ok (record { trees = state.site.nodes.trees; errors = in_order (all_errors state) })
 
-    of-tokens : (x : Result Parse Refusal) → Parses opts parse_case bytes x → OfTokens x
+    abbrev by_bytes : Outcome (State (List ℕ)) → Result Parse Refusal
+    by_bytes o = answer o (refusal_of (policy opts parse_case) bytes)
+
+    of-tokens : (x : Result Parse Refusal) → Parses opts parse_case bytes x → Decided by_bytes tokens x
     of-tokens x (refused_token r events front steps) =
         let k = one_front opts.table kind text end tokens errors events read front in
-        by_rules r (refused-whole tokens (tokens_in events) k.0 r k.1 steps) refl
+        record { outcome = Refused r; leads = refused-whole tokens (tokens_in events) k.0 r k.1 steps; is = refl }
     of-tokens x (refused_tag name at tokens' state out steps) = absurd (no_tokens_of_refused opts.table kind text end at name tokens tokens' errors read out)
     of-tokens x (refused_bytes r es state builds e) =
         let same = one_list_of_tokens opts.table kind text end builds.tokens tokens es errors builds.read read in
-        by_bytes r state (led builds.tokens tokens (Goes state) same.0 builds.steps) e refl
+        record { outcome = Goes state; leads = led builds.tokens tokens (Goes state) same.0 builds.steps; is = ap (answer (Goes state)) (sym e) }
     of-tokens x (accepted es sorted state builds p s e) =
         let same = one_list_of_tokens opts.table kind text end tokens builds.tokens errors es read (at-end e builds.read) in
-        whole state sorted (led builds.tokens tokens (Goes state) (sym same.0) builds.steps)
-        (subst (λ (x : List ParseError). IsPermutation (input_errors (reads_in (manner opts parse_case) bytes) ++ (x ++ state.site.errors)) sorted) (sym same.1) p) s e refl
-
-    one-tree : (state state' : State (List ℕ)) (sorted sorted' : List ParseError) → state ≡ state' → IsPermutation (all_errors state) sorted → IsPermutation (all_errors state') sorted'
-        → IsSorted error_cmp sorted → IsSorted error_cmp sorted' → ◌≡◌ {A = Parse} (record { trees = state.site.nodes.trees; errors = sorted }) (record { trees = state'.site.nodes.trees; errors = sorted' })
-    one-tree state state' sorted sorted' same p p' s s' =
-        let lists : sorted ≡ sorted' = one-list (all_errors state) sorted sorted' p (subst (λ (u : State (List ℕ)). IsPermutation (all_errors u) sorted') (sym same) p') s s' in
-        cc
-
-    one-of-tokens : (x y : Result Parse Refusal) → OfTokens x → OfTokens y → x ≡ y
-    one-of-tokens x y (by_rules r h e) (by_rules r' k f) =
-        let same = one-result tokens (Refused r) (Refused r') h k in
-        let refusals : r ≡ r' = cc in
-        e ∙ ap (λ (q : Refusal). Err q) refusals ∙ sym f
-    one-of-tokens x y (by_rules r h e) (by_bytes r' state k b f) = absurd (never-both-ways tokens r state h k)
-    one-of-tokens x y (by_rules r h e) (whole state sorted k p s b f) = absurd (never-both-ways tokens r state h k)
-    one-of-tokens x y (by_bytes r state h b e) (by_rules r' k f) = absurd (never-both-ways tokens r' state k h)
-    one-of-tokens x y (by_bytes r state h b e) (by_bytes r' state' k b' f) = e ∙ ap (λ (q : Refusal). Err q) (one-some r r' (refusal_of (policy opts parse_case) bytes) b b') ∙ sym f
-    one-of-tokens x y (by_bytes r state h b e) (whole state' sorted k p s b' f) = absurd (never-both r (refusal_of (policy opts parse_case) bytes) b b')
-    one-of-tokens x y (whole state sorted h p s b e) (by_rules r k f) = absurd (never-both-ways tokens r state k h)
-    one-of-tokens x y (whole state sorted h p s b e) (by_bytes r state' k b' f) = absurd (never-both r (refusal_of (policy opts parse_case) bytes) b' b)
-    one-of-tokens x y (whole state sorted h p s b e) (whole state' sorted' k p' s' b' f) =
-        let same = one-result tokens (Goes state) (Goes state') h k in
-        let states : state ≡ state' = cc in
-        e ∙ ap (λ (t : Parse). Ok t) (one-tree state state' sorted sorted' states p p' s s') ∙ sym f
-
-    only-tokens : (x : Result Parse Refusal) → Parses opts parse_case bytes x → ExactlyOne (Parses opts parse_case bytes)
-    only-tokens x h = record { one = x; is = h; other = λ y k. one-of-tokens y x (of-tokens y k) (of-tokens x h) }
+        let all : List ParseError = all_errors state in
+        let lists : sorted ≡ in_order all = one-list all sorted (in_order all)
+        (subst (λ (x : List ParseError). IsPermutation (input_errors (reads_in (manner opts parse_case) bytes) ++ (x ++ state.site.errors)) sorted) (sym same.1) p) (order-permutes all) s (order-sorted all) in
+        record { outcome = Goes state; leads = led builds.tokens tokens (Goes state) (sym same.0) builds.steps; is = (λ i. Ok (record { trees = state.site.nodes.trees; errors = lists i })) ∙ ap (answer (Goes state)) (sym e) }
 
     exactly-tokens : (o : Outcome (State (List ℕ))) × Leads tokens o → ExactlyOne (Parses opts parse_case bytes)
     exactly-tokens (Refused r, steps) =
-        only-tokens (Err r) (refused-front tokens [] read.spans [] r (read.text_is ∙ sym (append-nil (spans_text read.spans))) read.cut read.in_profile (append-nil tokens ∙ read.tokens_are) steps)
+        only by_bytes tokens of-tokens (Err r) (refused-front tokens [] read.spans [] r (read.text_is ∙ sym (append-nil (spans_text read.spans))) read.cut read.in_profile (append-nil tokens ∙ read.tokens_are) steps)
     exactly-tokens (Goes state, steps) = by (refusal_of (policy opts parse_case) bytes) refl
       where
         by : (r : Option Refusal) → refusal_of (policy opts parse_case) bytes ≡ r → ExactlyOne (Parses opts parse_case bytes)
-        by (Some r) e = only-tokens (Err r) (refused_bytes r errors state (record { tokens = tokens; read = read; steps = steps }) e)
+        by (Some r) e = only by_bytes tokens of-tokens (Err r) (refused_bytes r errors state (record { tokens = tokens; read = read; steps = steps }) e)
         by None e =
             let all = all_errors state in
             let end_read = subst (λ (n : ℕ). Tokens opts.table kind text n tokens errors) (all-read (policy opts parse_case) bytes e) read in
-            only-tokens (Ok (record { trees = state.site.nodes.trees; errors = in_order all }))
+            only by_bytes tokens of-tokens (Ok (record { trees = state.site.nodes.trees; errors = in_order all }))
             (accepted errors (in_order all) state (record { tokens = tokens; read = end_read; steps = steps }) (order-permutes all) (order-sorted all) e)
 
   exactly-one : HasAnswer opts.table kind text end → ExactlyOne (Parses opts parse_case bytes)

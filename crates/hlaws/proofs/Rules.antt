@@ -1,5 +1,5 @@
 -- What the rules do with the tokens of plain elements, where the state is quiet.
-use Rattle.hlaws.proofs.Names.{◌≡◌, ℕ, suc, ◌+◌, ◌<◌, Bool, true, false, List, [], ◌∷◌, ◌++◌, length, map, Some, None, refl, sym, ◌∙◌, ap, eq-eqb, lt-leb, false≢true, list_all, nat_le, encode_utf8, ◌==◌, Attribute, element, text, Forest, none, tree, times, join, graft_last, text_before, LastIn, OpenNode, in_scope, stops, stops_item, Listed, marker, entry, entry_of, find_entry, without_entry, cleared, Placed, is_space, has_implied_end, is_heading, Naming, Outcome, Goes, is, is_table_context, is_body_context, is_row_context, is_fostering, Family, Mode, InBody, InCaption, InCell, Text, InTable, InTableText, InTableBody, InRow, InColumnGroup, Comment, Start, End, void, raw, family_of, void_in_text, rule_of, reset_mode, perform, Token, start, end, character, Control, State, Done, kind_of, Rule, goes_again, begun, is_flow_mode, under, EntriesOpen}
+use Rattle.hlaws.proofs.Names.{arith, ◌≡◌, ℕ, suc, ◌+◌, ◌<◌, Bool, true, false, List, [], ◌∷◌, ◌++◌, length, map, Some, None, refl, sym, ◌∙◌, ap, eq-eqb, lt-leb, false≢true, list_all, nat_le, encode_utf8, ◌==◌, Attribute, element, text, Forest, none, tree, times, join, graft_last, text_before, LastIn, OpenNode, in_scope, stops, stops_item, Listed, marker, entry, entry_of, find_entry, without_entry, cleared, Placed, is_space, has_implied_end, is_heading, Naming, Outcome, Goes, is, is_table_context, is_body_context, is_row_context, is_fostering, Family, Mode, InBody, InCaption, InCell, Text, InTable, InTableText, InTableBody, InRow, InColumnGroup, Comment, Start, End, void, raw, family_of, void_in_text, rule_of, reset_mode, perform, Token, start, end, character, Control, State, Done, kind_of, Rule, goes_again, begun, is_flow_mode, under, EntriesOpen}
 use Rattle.hmodes.specs.Step.{Chain}
 use Rattle.std.proofs.lemmas.List.{append-nil, append_assoc}
 use Rattle.std.specs.Str.{encode_utf8_all}
@@ -52,9 +52,7 @@ is_parts_mode _ = false
 
 parts_rule : (m : Mode) → is_parts_mode m ≡ true → rule_of m Ws ≡ rule_of InTable Ws
 parts_rule InTable h = refl
-parts_rule InTableBody h = refl
-parts_rule InRow h = refl
-parts_rule _ h = absurd (false≢true h)
+parts_rule _ h = cc
 
 -- what is used of a kind of names
 pub record Laws {N : Type 0} (n : Naming N) : Type 0 where
@@ -171,11 +169,7 @@ module _ {N : Type 0} (n : Naming N) (laws : Laws n) (z : State N) where
         start_dd fam no_p no_dd no_dt = starts m family.Dd fam (by_start family.Dd) _ (refl, refl, refl) (simp (no_dd, no_dt, no_p, full, high, new) refl)
 
         pub start_table : family_of (n.tag x) ≡ family.Table → NoP → Opens items (record c { mode = InTable })
-        start_table fam no_p = starts m family.Table fam (by_start family.Table) _ (refl, refl, refl) (go c.quirks refl)
-          where
-            go : (b : Bool) → c.quirks ≡ b → perform n at (start x attrs false) (rule_of InBody (Start family.Table)) now ≡ Done (state z (made + 1) grown (node made x ∷ d ∷ up) items (record c { mode = InTable }))
-            go true e = simp (e, full, high, new) refl
-            go false e = simp (e, no_p, full, high, new) refl
+        start_table fam no_p = starts m family.Table fam (by_start family.Table) _ (refl, refl, refl) (grind (arith, no_p, full, high, new))
 
         pub start_hr : family_of (n.tag x) ≡ family.Hr → NoP → Stays
         start_hr fam no_p = starts m family.Hr fam (by_start family.Hr) _ (refl, refl, refl) (simp (no_p, full, high, new) refl)
@@ -224,11 +218,7 @@ module _ {N : Type 0} (n : Naming N) (laws : Laws n) (z : State N) where
 
         -- of an item of a list or of a definition list
         pub end_item_of : (s : Scope) → IsFlowRule (End w) (end_item s) → Closes items c
-        end_item_of s h = ends (end_item s) items c h (go (has_implied_end (n.tag x)) refl)
-          where
-            go : (b : Bool) → has_implied_end (n.tag x) ≡ b → perform n at (end x) (end_item s) (state z made f (node k x ∷ d ∷ up) items c) ≡ Done now
-            go true e = simp (self, e) refl
-            go false e = simp (self, e) refl
+        end_item_of s h = ends (end_item s) items c h (grind (arith, self))
 
         -- a formatting element: its entry was lost, or is the last one
         pub end_unlisted : IsFlowRule (End w) (by_end family.A) → entry_of k items ≡ None → Closes items c
@@ -358,12 +348,7 @@ module _ {N : Type 0} (n : Naming N) (laws : Laws n) (z : State N) where
     -- what a token does that is no character: the white space goes in, and the token is reprocessed
     other_rule : (k : TokenKind) → is_other k ≡ true → rule_of InTableText k ≡ rule_of InTableText Comment
     other_rule Comment h = refl
-    other_rule (Start x) h = refl
-    other_rule (End x) h = refl
-    other_rule Nul h = absurd cc
-    other_rule Ws h = absurd cc
-    other_rule Char h = absurd cc
-    other_rule _ h = refl
+    other_rule _ h = cc
 
     module _ (at : ℕ) (t : Token N) (p : Placed) (ps : List Placed) (made : ℕ) (f : Forest N) (c : Control) (other : is_other (kind_of n t) ≡ true) (m : c.mode ≡ InTableText) (waiting : c.pending ≡ p ∷ ps) (spaces : list_all (λ p. is_space p.ch) (p ∷ ps) ≡ true)
         (once : times d.node f ≡ 1) (absent : times made f ≡ 0) (room : made < z.site.nodes.limit) (none_before : text_before (LastIn d.node) f ≡ None) where

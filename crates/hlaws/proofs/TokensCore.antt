@@ -1,5 +1,5 @@
 -- A character as it is written, and the key that it is written by.
-use Rattle.hlaws.proofs.Names.{◌≡◌, ℕ, ◌≤◌, Bool, true, false, not, cond, ◌&&◌, ◌||◌, nat_eq, Some, List, [], ◌∷◌, ◌++◌, length, refl, sym, ◌∙◌, ap, subst, arith, scalar, scalars, and_parts, eqb-true, bytes_eq-Decides, codes, flat_map, encode_utf8, ◌==◌, list_all, is_alphanumeric, Entities, IsTable, HasCore, longest, ends_in_semicolon, Escaping, written_char}
+use Rattle.hlaws.proofs.Names.{nat_tests, ◌≡◌, ℕ, ◌≤◌, Bool, true, false, not, cond, ◌&&◌, nat_eq, Some, List, [], ◌∷◌, ◌++◌, length, refl, sym, ◌∙◌, ap, subst, arith, scalar, scalars, and_parts, eqb-true, bytes_eq-Decides, codes, flat_map, encode_utf8, ◌==◌, list_all, is_alphanumeric, Entities, IsTable, HasCore, longest, ends_in_semicolon, Escaping, written_char}
 use Rattle.std.proofs.Common.{bytes_eq, Contains}
 use Rattle.std.specs.List.{starts_with}
 use Rattle.charref.specs.Reference.{Entry, is_key, is_key_name}
@@ -18,16 +18,11 @@ use Rattle.hlaws.proofs.TokensText.{Spells, spells-nil, spells-append, spells_as
 -- a key goes on past no `;`
 key_ends : (name front : List ℕ) → is_key_name name ≡ true → starts_with nat_eq name front ≡ true → ends_in_semicolon front ≡ true → length name ≤ length front
 key_ends (c ∷ cs) (p ∷ []) k s e =
-    let same : p ≡ c = eqb-true p c (and_parts _ _ s).0 in
-    let semicolon : p ≡ 59 = eqb-true p 59 e in
-    absurd (let x = ap is_alphanumeric (sym same ∙ semicolon) in let y : is_alphanumeric c ≡ true = (and_parts (is_alphanumeric c) _ k).0 in cc)
+    absurd (grind (arith, nat_tests))
 key_ends (c ∷ []) (p ∷ q ∷ front) k s e = omega arith
 key_ends (c ∷ d ∷ ds) (p ∷ q ∷ front) k s e =
-    go (bytes_eq (d ∷ ds) (codes ";")) refl (and_parts _ _ k).1 (λ h. key_ends (d ∷ ds) (q ∷ front) h (and_parts _ _ s).1 e)
-  where
-    go : (b : Bool) → bytes_eq (d ∷ ds) (codes ";") ≡ b → (b || is_key_name (d ∷ ds)) ≡ true → (is_key_name (d ∷ ds) ≡ true → length (d ∷ ds) ≤ length (q ∷ front)) → length (c ∷ d ∷ ds) ≤ length (p ∷ q ∷ front)
-    go true e h more = let x = ap length ((bytes_eq-Decides (d ∷ ds) (codes ";")).0 e) in omega (arith, x)
-    go false e h more = let x = more h in omega (arith, x)
+    let last : bytes_eq (d ∷ ds) (codes ";") ≡ true → length (d ∷ ds) ≡ 1 = λ h. ap length ((bytes_eq-Decides (d ∷ ds) (codes ";")).0 h) in
+    grind (arith, nat_tests, last, key_ends (d ∷ ds) (q ∷ front))
 key_ends _ _ k s e = absurd cc
 
 no_longer_key : (key name : List ℕ) → is_key key ≡ true → ends_in_semicolon name ≡ true → starts_with nat_eq key (38 ∷ name) ≡ true → length key ≤ length (38 ∷ name)
@@ -75,14 +70,11 @@ pub record Ways (table : Entities) (where_is : Setting) (c : ℕ) (bytes : List 
 -- `<` is escaped in texts, in each way of escaping
 less_escaped : (how : Escaping) → escapes_angles how setting.Text ≡ true
 less_escaped escaping.One = refl
-less_escaped escaping.Two = refl
-
-and_true : (a b : Bool) → b ≡ true → (a && b) ≡ false → a ≡ false
-and_true a b e h = grind arith
+less_escaped _ = refl
 
 no_mark : (how : Escaping) (where_is : Setting) (c : ℕ) → (c == 34 && escapes_quote where_is) ≡ false → (c == 60 && escapes_angles how where_is) ≡ false → is_mark where_is c ≡ false
-no_mark how setting.Text c q l = and_true (c == 60) (escapes_angles how setting.Text) (less_escaped how) l
-no_mark how setting.Value c q l = and_true (c == 34) true refl q
+no_mark how setting.Text c q l = let e = less_escaped how in grind arith
+no_mark how setting.Value c q l = grind arith
 
 module _ (table : Entities) (core : HasCore table) (how : Escaping) (where_is : Setting) where
   -- by one of the keys
@@ -96,9 +88,6 @@ module _ (table : Entities) (core : HasCore table) (how : Escaping) (where_is : 
         way = by_name name refl (record { contains = subst (λ (x : ℕ). Contains table (entry_of name x)) (sym same) contains; begins = a; ends = b; ends_whole = d; no_quote = q });
       }
 
-  of_both : (x y : Bool) → (x && y) ≡ true → x ≡ true
-  of_both x y h = (and_parts x y h).0
-
   pub ways : (c : ℕ) → scalar c ≡ true → is_no_return c ≡ true → Ways table where_is c (written_char how where_is c)
   ways c s r = go (c == 0x26) (c == 0xA0) (c == 0x22 && escapes_quote where_is) (c == 0x3C && escapes_angles how where_is) (c == 0x3E && escapes_angles how where_is) refl refl refl refl refl
     where
@@ -106,9 +95,9 @@ module _ (table : Entities) (core : HasCore table) (how : Escaping) (where_is : 
           → Ways table where_is c (cond a (codes "&amp;") (cond n (codes "&nbsp;") (cond q (codes "&quot;") (cond l (codes "&lt;") (cond g (codes "&gt;") (encode_utf8 c))))))
       go true n q l g ea en eq el eg = a_key (codes "&amp;") (codes "amp;") 38 c refl ea core.0 refl refl refl refl refl
       go false true q l g ea en eq el eg = a_key (codes "&nbsp;") (codes "nbsp;") 160 c refl en core.1.1.1.0 refl refl refl refl refl
-      go false false true l g ea en eq el eg = a_key (codes "&quot;") (codes "quot;") 34 c refl (of_both _ _ eq) core.1.1.1.1.0 refl refl refl refl refl
-      go false false false true g ea en eq el eg = a_key (codes "&lt;") (codes "lt;") 60 c refl (of_both _ _ el) core.1.1.0 refl refl refl refl refl
-      go false false false false true ea en eq el eg = a_key (codes "&gt;") (codes "gt;") 62 c refl (of_both _ _ eg) core.1.0 refl refl refl refl refl
+      go false false true l g ea en eq el eg = a_key (codes "&quot;") (codes "quot;") 34 c refl (and_parts _ _ eq).0 core.1.1.1.1.0 refl refl refl refl refl
+      go false false false true g ea en eq el eg = a_key (codes "&lt;") (codes "lt;") 60 c refl (and_parts _ _ el).0 core.1.1.0 refl refl refl refl refl
+      go false false false false true ea en eq el eg = a_key (codes "&gt;") (codes "gt;") 62 c refl (and_parts _ _ eg).0 core.1.0 refl refl refl refl refl
       go false false false false false ea en eq el eg = record { codes_are = c ∷ []; spells = spells_char c s r; way = by_itself refl ea (no_mark how where_is c eq el) }
 
 -- TEXTS

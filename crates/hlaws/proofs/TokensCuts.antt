@@ -1,5 +1,5 @@
 -- Texts that are cut into spans, one after another, and the characters among them.
-use Rattle.hlaws.proofs.Names.{◌≡◌, ℕ, ◌⊎◌, inl, inr, Bool, true, false, not, cond, ◌&&◌, ◌||◌, Some, List, [], ◌∷◌, ◌++◌, map, refl, sym, ◌∙◌, ap, subst, append-nil, append_assoc, and_right, or_from, flat_map-append, map-append, ◌==◌, first_is, Placed, RawKind, characters, begins, is_alphanumeric, Entities, Piece, IsTable, longest, named_piece, ends_in_semicolon, Span, piece_span, Standing, next, standing_after, IsSpan, IsSpanOf, raw_character, is_raw_end, is_end_tag_of, plain_piece, Cut, spans_text, has_refused, Token, character, taken}
+use Rattle.hlaws.proofs.Names.{arith, ◌≡◌, ℕ, ◌⊎◌, inl, inr, Bool, true, false, not, cond, ◌&&◌, ◌||◌, Some, List, [], ◌∷◌, ◌++◌, map, refl, sym, ◌∙◌, ap, subst, append-nil, append_assoc, and_right, or_from, flat_map-append, map-append, ◌==◌, first_is, Placed, RawKind, characters, begins, is_alphanumeric, Entities, Piece, IsTable, longest, named_piece, ends_in_semicolon, Span, piece_span, Standing, next, standing_after, IsSpan, IsSpanOf, raw_character, is_raw_end, is_end_tag_of, plain_piece, Cut, spans_text, has_refused, Token, character, taken}
 use Rattle.std.specs.Prelude.{Option, None}
 use Rattle.names.specs.declared.raw.RawKind.TheVariants as kind
 use Rattle.charref.specs.Reference.{IsReference, named}
@@ -108,9 +108,7 @@ module _ (table : Entities) (is_table : IsTable table) where
       whole name rest bytes e = let x : characters (name ++ rest) ≡ bytes ++ characters rest = map-append (λ (p : Placed). p.ch) name rest ∙ ap (λ (y : List ℕ). y ++ characters rest) e in λ i. is_amp i ∷ x i
 
       not_kept : (a b d : Bool) → b ≡ true → (a && not b && d) ≡ false
-      not_kept true true d e = refl
-      not_kept false true d e = refl
-      not_kept a false d e = absurd cc
+      not_kept a b d e = grind arith
 
   -- CHARACTERS
 

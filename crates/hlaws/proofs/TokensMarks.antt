@@ -1,5 +1,5 @@
 -- Tags and comments, whole.
-use Rattle.hlaws.proofs.Names.{◌≡◌, ℕ, Bool, true, false, not, cond, ◌&&◌, ◌||◌, nat_eq, Some, List, [], ◌∷◌, ◌++◌, map, refl, sym, ◌∙◌, ap, subst, arith, append-nil, append_assoc, and_parts, and_right, or_from, or_parts, nat_tests, map-append, codes, encode_utf8_all, list_all, all-characters, all_weaker, first_is, Placed, RawKind, characters, place, begins, spells, all, is_letter, without_null, name_bytes, raw_kind, is_refused, tag_named, Entities, IsTable, Attribute, Span, Standing, next, parts_text, attributes_after, ends_name, IsSpanOf, has_refused, start, end, comment, taken, begins_with, has_part}
+use Rattle.hlaws.proofs.Names.{◌≡◌, ℕ, Bool, true, false, not, ◌&&◌, ◌||◌, nat_eq, Some, List, [], ◌∷◌, ◌++◌, map, refl, sym, ◌∙◌, ap, subst, arith, append-nil, append_assoc, and_right, or_from, or_parts, nat_tests, map-append, codes, encode_utf8_all, list_all, all-characters, all_weaker, first_is, Placed, RawKind, characters, place, begins, spells, all, is_letter, without_null, name_bytes, raw_kind, is_refused, tag_named, Entities, IsTable, Attribute, Span, Standing, next, parts_text, attributes_after, ends_name, IsSpanOf, has_refused, start, end, comment, taken, begins_with, has_part}
 use Rattle.names.specs.declared.raw.RawKind.TheVariants as kind
 use Rattle.names.specs.Placed.{stops, before, Avoids, text_bytes}
 use Rattle.hmarkup.specs.Comment.{IsComment, closed, closes_comment, closes_at_once}
@@ -111,23 +111,17 @@ module _ (table : Entities) (end_at : ℕ) where
 
 -- COMMENTS
 
-eq_comm : (x y : ℕ) → nat_eq x y ≡ nat_eq y x
-eq_comm x y = grind (arith, nat_tests)
-
 pub spells_is : (mark : List ℕ) (text : List Placed) → spells mark text ≡ begins_with mark (characters text)
-spells_is (c ∷ cs) (p ∷ ps) = let x = eq_comm p.ch c in let y = spells_is cs ps in λ i. x i && y i
+spells_is (c ∷ cs) (p ∷ ps) = let x : nat_eq p.ch c ≡ nat_eq c p.ch = grind (arith, nat_tests) in let y = spells_is cs ps in λ i. x i && y i
 spells_is _ _ = refl
 
 no_close : (c : ℕ) (cs : List ℕ) → has_part (codes "-->") (c ∷ cs) ≡ false → begins_with (codes "-->") (c ∷ cs ++ codes "-->") ≡ false
-no_close c [] h = and_right _ _ refl
-no_close c (d ∷ []) h = and_right _ _ (and_right _ _ refl)
 no_close c (d ∷ e ∷ cs) h = (or_parts _ _ h).0
+no_close c _ h = grind arith
 
 no_bang_close : (c : ℕ) (cs : List ℕ) → has_part (codes "--!>") (c ∷ cs) ≡ false → begins_with (codes "--!>") (c ∷ cs ++ codes "-->") ≡ false
-no_bang_close c [] h = and_right _ _ refl
-no_bang_close c (d ∷ []) h = and_right _ _ (and_right _ _ refl)
-no_bang_close c (d ∷ e ∷ []) h = and_right (nat_eq 45 c) _ (and_right (nat_eq 45 d) _ (and_right (nat_eq 33 e) _ refl))
 no_bang_close c (d ∷ e ∷ f ∷ cs) h = (or_parts _ _ h).0
+no_bang_close c _ h = grind arith
 
 avoids_close : (inner close : List Placed) (cs : List ℕ) → characters inner ≡ cs → characters close ≡ codes "-->" → has_part (codes "-->") cs ≡ false → has_part (codes "--!>") cs ≡ false → Avoids closes_comment inner close
 avoids_close [] close cs e k h g = tt
@@ -153,13 +147,7 @@ no_dash_arrow (c ∷ d ∷ cs) h = h
 bytes_of_text : (text : List Placed) (cs : List ℕ) → characters text ≡ cs → list_all is_clean_char cs ≡ true → map (λ p. without_null p.ch) text ≡ cs
 bytes_of_text [] cs e h = e
 bytes_of_text (p ∷ ps) [] e h = absurd cc
-bytes_of_text (p ∷ ps) (c ∷ cs) e h =
-    let same : p.ch ≡ c = first_is p ps c cs e in
-    let others : characters ps ≡ cs = tail_of p ps c cs e in
-    let both = and_parts (is_clean_char c) (list_all is_clean_char cs) h in
-    let x : without_null p.ch ≡ c = ap without_null same ∙ ap (λ (b : Bool). cond b 0xFFFD c) (clean_not_null c both.0) in
-    let y = bytes_of_text ps cs others both.1 in
-    λ i. x i ∷ y i
+bytes_of_text (p ∷ ps) (c ∷ cs) e h = grind (arith, nat_tests, clean_not_null c, bytes_of_text ps cs)
 
 -- the characters of a plain comment
 pub record IsCommentText (cs t : List ℕ) : Type 0 where

@@ -1,5 +1,5 @@
 -- Plain lists are read as their own tokens.
-use Rattle.hlaws.proofs.Names.{◌≡◌, ℕ, inl, Bool, true, false, not, ◌&&◌, ◌||◌, List, [], ◌∷◌, ◌++◌, map, refl, sym, ◌∙◌, ap, subst, true≢false, and_parts, and_from, or_from, or_parts, false_from_ne_true, false≢true, not-true, bytes_eq-Decides, encodes-chars, scalars-chars, codes, chars, IsUtf8, flat_map, list_all, list_any, Placed, RawKind, Tag, characters, raw_kind, is_refused, is_void, tag_named, tag_text, tags, Entities, IsTable, HasCore, Attribute, Standing, standing_after, is_known, Token, start, end, comment, character, Content, Role, Escaping, escaped, row, takes_role, are_plain_attributes, is_plain_comment, is_clean, is_name_byte, begins_with, has_part, start_tag_text, end_tag_text}
+use Rattle.hlaws.proofs.Names.{arith, ◌≡◌, ℕ, inl, Bool, true, false, not, ◌&&◌, ◌||◌, List, [], ◌∷◌, ◌++◌, map, refl, sym, ◌∙◌, ap, subst, true≢false, and_parts, and_from, or_from, or_parts, false_from_ne_true, not-true, bytes_eq-Decides, encodes-chars, scalars-chars, codes, chars, IsUtf8, flat_map, list_all, list_any, Placed, RawKind, Tag, characters, raw_kind, is_refused, is_void, tag_named, tag_text, tags, Entities, IsTable, HasCore, Attribute, Standing, standing_after, is_known, Token, start, end, comment, character, Content, Role, Escaping, escaped, row, takes_role, are_plain_attributes, is_plain_comment, is_clean, is_name_byte, begins_with, has_part, start_tag_text, end_tag_text}
 use Rattle.std.proofs.Common.{bytes_eq}
 use Rattle.std.specs.Char.{is_ascii_lowercase}
 use Rattle.names.proofs.Words.{or_second}
@@ -53,16 +53,9 @@ all_contexts tag.A = refl
 all_contexts _ = refl
 
 somewhere : (c : Content) (r : Role) → takes_role c r ≡ true → is_nowhere r ≡ false
-somewhere c role.Phrasing h = refl
-somewhere c role.Flow h = refl
-somewhere c role.ListItem h = refl
-somewhere c role.Definition h = refl
-somewhere c role.TablePart h = refl
-somewhere c role.Column h = refl
-somewhere c role.TableRow h = refl
-somewhere c role.Cell h = refl
-somewhere content.Around role.Nowhere h = absurd (false≢true h)
-somewhere _ role.Nowhere h = absurd (false≢true h)
+somewhere c role.Phrasing h = cc
+somewhere content.Around _ h = cc
+somewhere _ _ h = cc
 
 -- a name that is somewhere
 pub record IsKnownName (name : List ℕ) : Type 0 where
@@ -122,14 +115,11 @@ reads-append table bs cs ts us a b = record {
 
 -- NAMES AND ATTRIBUTES
 
-lower_name : (b : ℕ) → is_ascii_lowercase b ≡ true → is_name_byte b ≡ true
-lower_name b h = rw h refl
-
 good_attribute : (name : List ℕ) → is_plain_name name ≡ true → (list_all is_good name ≡ true) × (is_some_name name ≡ true)
 good_attribute [] h = absurd cc
 good_attribute (b ∷ bs) h =
     let both = and_parts (is_ascii_lowercase b) (list_all is_name_byte bs) h in
-    (names_good (b ∷ bs) (and_from _ _ (lower_name b both.0) both.1), refl)
+    (names_good (b ∷ bs) (and_from _ _ (rw both.0 refl) both.1), refl)
 
 eq_other : (a b : List ℕ) → bytes_eq a b ≡ false → bytes_eq b a ≡ false
 eq_other a b h = false_from_ne_true _ (λ e. let x : a ≡ b = sym ((bytes_eq-Decides b a).0 e) in true≢false (sym ((bytes_eq-Decides a b).1 x) ∙ h))
@@ -148,9 +138,7 @@ new_more a before names (b ∷ others) new h =
 are_new : (attrs : List (Attribute (List ℕ))) → are_plain_attributes attrs ≡ true → AreNew [] attrs
 are_new [] h = tt
 are_new (a ∷ others) h =
-    let x = and_parts ((is_plain_name a.0 && is_clean a.1) && not (list_any (λ b. bytes_eq a.0 b.0) others)) _ h in
-    let y = and_parts (is_plain_name a.0 && is_clean a.1) _ x.0 in
-    (refl, new_more a.0 [] [] others (are_new others x.1) (not-true _ y.1))
+    (refl, new_more a.0 [] [] others (are_new others (grind arith)) (grind arith))
 
 pub record AttributesRead (table : Entities) (attrs : List (Attribute (List ℕ))) (bytes : List ℕ) : Type 0 where
   pub codes_are : List ℕ

@@ -1,10 +1,10 @@
 -- Raw texts, and the end tags that end them.
-use Rattle.hlaws.proofs.Names.{◌≡◌, ℕ, suc, ◌+◌, Bool, true, false, not, cond, ◌&&◌, Some, None, List, [], ◌∷◌, ◌++◌, map, length, drop, refl, sym, ◌∙◌, ap, subst, arith, append_assoc, true≢false, and_parts, and_from, and_right, or_parts, or_right, eqb-true, false_from_ne_true, map-append, ◌==◌, codes, to_ascii_lowercase, list_all, first_is, Placed, RawKind, characters, begins, spells, without_null, Entities, Span, piece_span, Standing, IsSpanOf, raw_character, has_references, is_raw_end, is_end_tag_of, may_end, ends_name, ends_attribute_name, plain_piece, end, character, begins_with, has_part}
+use Rattle.hlaws.proofs.Names.{nat_tests, ◌≡◌, ℕ, suc, ◌+◌, Bool, true, false, not, cond, ◌&&◌, Some, None, List, [], ◌∷◌, ◌++◌, map, length, drop, refl, sym, ◌∙◌, ap, subst, arith, append_assoc, true≢false, and_parts, and_from, and_right, or_parts, or_right, false_from_ne_true, map-append, ◌==◌, codes, to_ascii_lowercase, list_all, first_is, Placed, RawKind, characters, begins, spells, without_null, Entities, Span, piece_span, Standing, IsSpanOf, raw_character, has_references, is_raw_end, is_end_tag_of, may_end, ends_name, ends_attribute_name, plain_piece, end, character, begins_with, has_part}
 use Rattle.std.specs.Prelude.{Option}
 use Rattle.names.specs.declared.raw.RawKind.TheVariants as kind
 use Rattle.names.specs.Placed.{spells_in_any_case}
 use Rattle.htoken.specs.Spans.{IsRawSpan, raw_end}
-use Rattle.htoken.specs.Raw.{level, level_from, ended}
+use Rattle.htoken.specs.Raw.{level}
 use Rattle.hlaws.proofs.TokensText.{is_clean_char, clean_not_null, is_written_ascii, tail_of}
 use Rattle.hlaws.proofs.TokensCuts.{split, Cuts, one, join, cuts_as, cuts_none}
 use Rattle.hlaws.proofs.TokensTags.{is_good}
@@ -90,23 +90,12 @@ has_part-put_back part (p ∷ front) cs h = has_part-put_back part front (p.ch �
 
 no_opening : (front : List Placed) (cs : List ℕ) → has_part (codes "<!--") (put_back front cs) ≡ false → spells (codes "--!<") front ≡ false
 no_opening [] cs h = refl
-no_opening (p ∷ []) cs h = and_right _ _ refl
-no_opening (p ∷ q ∷ []) cs h = and_right _ _ (and_right _ _ refl)
-no_opening (p ∷ q ∷ r ∷ []) cs h = and_right (p.ch == 45) _ (and_right (q.ch == 45) _ (and_right (r.ch == 33) _ refl))
+no_opening (p ∷ []) cs h = grind arith
+no_opening (p ∷ q ∷ []) cs h = grind arith
+no_opening (p ∷ q ∷ r ∷ []) cs h = grind arith
 no_opening (p ∷ q ∷ r ∷ s ∷ front) cs h = false_from_ne_true _ (λ e.
-    let a = and_parts (p.ch == 45) _ e in
-    let b = and_parts (q.ch == 45) _ a.1 in
-    let c = and_parts (r.ch == 33) _ b.1 in
-    let d = and_parts (s.ch == 60) _ c.1 in
-    let p_is : p.ch ≡ 45 = eqb-true p.ch 45 a.0 in
-    let q_is : q.ch ≡ 45 = eqb-true q.ch 45 b.0 in
-    let r_is : r.ch ≡ 33 = eqb-true r.ch 33 c.0 in
-    let s_is : s.ch ≡ 60 = eqb-true s.ch 60 d.0 in
-    let here : has_part (codes "<!--") (s.ch ∷ r.ch ∷ q.ch ∷ p.ch ∷ cs) ≡ true = rw (p_is, q_is, r_is, s_is) refl in
+    let here : has_part (codes "<!--") (s.ch ∷ r.ch ∷ q.ch ∷ p.ch ∷ cs) ≡ true = grind (arith, nat_tests) in
     true≢false (sym (has_part-put_back (codes "<!--") front (s.ch ∷ r.ch ∷ q.ch ∷ p.ch ∷ cs) here) ∙ h))
-
-level_stays : (p : Placed) (front : List Placed) → level front ≡ 0 → spells (codes "--!<") (p ∷ front) ≡ false → level (p ∷ front) ≡ 0
-level_stays p front z h = grind arith
 
 pub level_zero : (text front : List Placed) (cs : List ℕ) → characters text ≡ cs → level front ≡ 0 → has_part (codes "<!--") (put_back front cs) ≡ false → level (pushed text front) ≡ 0
 level_zero [] front cs e z h = z
@@ -115,16 +104,14 @@ level_zero (p ∷ ps) front (c ∷ cs) e z h =
     let same : p.ch ≡ c = first_is p ps c cs e in
     let others : characters ps ≡ cs = tail_of p ps c cs e in
     let moved : has_part (codes "<!--") (put_back (p ∷ front) cs) ≡ false = ap (λ (x : ℕ). has_part (codes "<!--") (put_back front (x ∷ cs))) same ∙ h in
-    level_zero ps (p ∷ front) cs others (level_stays p front z (no_opening (p ∷ front) cs moved)) moved
+    level_zero ps (p ∷ front) cs others (let none = no_opening (p ∷ front) cs moved in let still : level (p ∷ front) ≡ 0 = grind arith in still) moved
 
 -- THE END TAG
 
 good_lower : (c : ℕ) → is_good c ≡ true → (to_ascii_lowercase c == c) ≡ true
-good_lower c h = go (c == 0) refl (and_parts _ _ (and_parts (not (ends_attribute_name c) && to_ascii_lowercase (without_null c) == c) (is_written_ascii c) h).0).1
-  where
-    go : (b : Bool) → (c == 0) ≡ b → (to_ascii_lowercase (cond b 0xFFFD c) == c) ≡ true → (to_ascii_lowercase c == c) ≡ true
-    go false e k = k
-    go true e k = let x : c ≡ 0 = eqb-true c 0 e in absurd (let y = ap (λ (n : ℕ). to_ascii_lowercase 0xFFFD == n) x in cc)
+good_lower c h =
+    let k = (and_parts (not (ends_attribute_name c)) (to_ascii_lowercase (without_null c) == c) (and_parts (not (ends_attribute_name c) && to_ascii_lowercase (without_null c) == c) (is_written_ascii c) h).0).1 in
+    grind (arith, nat_tests)
 
 spells_name : (name : List ℕ) (text rest : List Placed) → characters text ≡ name → list_all is_good name ≡ true → spells_in_any_case name (text ++ rest) ≡ true
 spells_name [] text rest e h = refl
@@ -140,9 +127,6 @@ past_name [] [] rest e = refl
 past_name (c ∷ cs) (p ∷ ps) rest e = past_name cs ps rest (tail_of p ps c cs e)
 past_name _ _ rest e = absurd cc
 
-two_more : (n : ℕ) → 2 + n ≡ suc (suc n)
-two_more n = omega arith
-
 stands_here : (name : List ℕ) (opening middle close rest : List Placed) → list_all is_good name ≡ true → characters opening ≡ codes "</" → characters middle ≡ name → characters close ≡ codes ">"
     → is_end_tag_of (Some name) (opening ++ (middle ++ (close ++ rest))) ≡ true
 stands_here name (o ∷ q ∷ []) middle (g ∷ close) rest h e m k =
@@ -150,7 +134,7 @@ stands_here name (o ∷ q ∷ []) middle (g ∷ close) rest h e m k =
     let is_solidus : q.ch ≡ 47 = first_is q [] 47 [] (tail_of o (q ∷ []) 60 (codes "/") e) in
     let is_greater : g.ch ≡ 62 = first_is g close 62 [] k in
     let opens : spells (codes "</") (o ∷ q ∷ (middle ++ (g ∷ close ++ rest))) ≡ true = rw (is_less, is_solidus) refl in
-    let ends : begins ends_name (drop (2 + length name) (o ∷ q ∷ (middle ++ (g ∷ close ++ rest)))) ≡ true = ap (λ (n : ℕ). begins ends_name (drop n (o ∷ q ∷ (middle ++ (g ∷ close ++ rest))))) (two_more (length name)) ∙ ap (begins ends_name) (past_name name middle (g ∷ close ++ rest) m) ∙ ap ends_name is_greater in
+    let ends : begins ends_name (drop (2 + length name) (o ∷ q ∷ (middle ++ (g ∷ close ++ rest)))) ≡ true = ap (λ (n : ℕ). begins ends_name (drop n (o ∷ q ∷ (middle ++ (g ∷ close ++ rest))))) (let two : 2 + length name ≡ suc (suc (length name)) = omega arith in two) ∙ ap (begins ends_name) (past_name name middle (g ∷ close ++ rest) m) ∙ ap ends_name is_greater in
     and_from _ _ (and_from _ _ opens (spells_name name middle (g ∷ close ++ rest) m h)) ends
 stands_here name _ middle _ rest h e m k = absurd cc
 

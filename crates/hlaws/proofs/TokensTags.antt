@@ -1,7 +1,6 @@
 -- Tags and comments as they are written are spans.
-use Rattle.hlaws.proofs.Names.{◌≡◌, ℕ, zero, suc, ◌<◌, Bool, true, false, not, cond, ◌&&◌, ◌||◌, nat_eq, nat_lt, Some, None, List, [], ◌∷◌, ◌++◌, drop, refl, sym, ◌∙◌, ap, subst, arith, append-nil, append_assoc, and_parts, and_from, eqb-true, ltb-true, nat_tests, encode_ascii, ◌==◌, codes, encode_utf8_all, to_ascii_lowercase, list_all, all-characters, all_weaker, first_is, Placed, characters, place, begins, all, is_letter, is_space, without_null, name_bytes, Entities, Piece, IsTable, named_piece, Attribute, plain_piece, parts_text, ends_name, ends_attribute_name, is_known, attributes_after, is_name_byte}
+use Rattle.hlaws.proofs.Names.{list_all-append, ◌≡◌, ℕ, zero, suc, ◌<◌, Bool, true, false, not, cond, ◌&&◌, ◌||◌, nat_eq, Some, None, List, [], ◌∷◌, ◌++◌, drop, refl, sym, ◌∙◌, ap, subst, arith, append_assoc, and_parts, and_from, eqb-true, nat_tests, encode_ascii, ◌==◌, codes, encode_utf8_all, to_ascii_lowercase, list_all, all-characters, all_weaker, first_is, Placed, characters, place, begins, all, is_letter, is_space, without_null, name_bytes, Entities, Piece, IsTable, named_piece, Attribute, plain_piece, parts_text, ends_name, ends_attribute_name, is_known, attributes_after, is_name_byte}
 use Rattle.std.specs.List.{flat_map}
-use Rattle.names.proofs.Words.{implied}
 use Rattle.names.specs.Placed.{error_if, stops}
 use Rattle.htag.specs.Value.{IsPiece, plain, pieces_text, AreValue, value_bytes}
 use Rattle.htag.specs.Value as piece
@@ -24,17 +23,13 @@ are_good_below (suc n) = (not (is_name_byte n) || is_good n) && are_good_below n
 
 good_below : (n c : ℕ) → are_good_below n ≡ true → c < n → is_name_byte c ≡ true → is_good c ≡ true
 good_below zero c all less h = absurd (omega (arith, less))
-good_below (suc n) c all less h = go (nat_eq c n) refl (good_below n c (and_parts (not (is_name_byte n) || is_good n) _ all).1)
-  where
-    go : (b : Bool) → nat_eq c n ≡ b → (c < n → is_name_byte c ≡ true → is_good c ≡ true) → is_good c ≡ true
-    go true e others = let same : c ≡ n = eqb-true c n e in implied (is_name_byte c) (is_good c) (subst (λ (x : ℕ). (not (is_name_byte x) || is_good x) ≡ true) (sym same) (and_parts _ _ all).0) h
-    go false e others = others (grind (arith, nat_tests)) h
-
-name_byte_small : (c : ℕ) → is_name_byte c ≡ true → c < 128
-name_byte_small c h = grind (arith, nat_tests)
+good_below (suc n) c all less h =
+    let k = and_parts (not (is_name_byte n) || is_good n) _ all in
+    let here : nat_eq c n ≡ true → c ≡ n = eqb-true c n in
+    grind (arith, nat_tests, good_below n c)
 
 pub name_byte_good : (c : ℕ) → is_name_byte c ≡ true → is_good c ≡ true
-name_byte_good c h = good_below 128 c refl (name_byte_small c h) h
+name_byte_good c h = good_below 128 c refl (let small : c < 128 = grind (arith, nat_tests) in small) h
 
 pub names_good : (cs : List ℕ) → list_all is_name_byte cs ≡ true → list_all is_good cs ≡ true
 names_good [] h = refl
@@ -48,24 +43,11 @@ pub good_ends_none : (c : ℕ) → is_good c ≡ true → not (ends_attribute_na
 good_ends_none c h = (and_parts _ _ (and_parts _ (is_written_ascii c) h).0).0
 
 pub good_no_end : (c : ℕ) → is_good c ≡ true → not (ends_name c) ≡ true
-good_no_end c h = go (ends_name c) (c == 61) (good_ends_none c h)
-  where
-    go : (a b : Bool) → not (a || b) ≡ true → not a ≡ true
-    go true b e = e
-    go false b e = refl
+good_no_end c h = let e = good_ends_none c h in grind (arith, nat_tests)
 
 pub name_bytes_are : (text : List Placed) (name : List ℕ) → characters text ≡ name → list_all is_good name ≡ true → name_bytes text ≡ name
 name_bytes_are [] [] e h = refl
-name_bytes_are (p ∷ ps) (c ∷ cs) e h =
-    let same : p.ch ≡ c = first_is p ps c cs e in
-    let others : characters ps ≡ cs = tail_of p ps c cs e in
-    let both = and_parts (is_good c) (list_all is_good cs) h in
-    let parts = and_parts (not (ends_attribute_name c) && to_ascii_lowercase (without_null c) == c) (is_written_ascii c) both.0 in
-    let lower : to_ascii_lowercase (without_null c) ≡ c = eqb-true _ _ (and_parts (not (ends_attribute_name c)) (to_ascii_lowercase (without_null c) == c) parts.0).1 in
-    let small : c < 128 = ltb-true c 128 (and_parts (nat_lt c 128) (not (c == 13)) parts.1).0 in
-    let first : encode_utf8_all (to_ascii_lowercase (without_null p.ch) ∷ []) ≡ c ∷ [] = ap (λ (x : ℕ). encode_utf8_all (to_ascii_lowercase (without_null x) ∷ [])) same ∙ ap (λ (x : ℕ). encode_utf8_all (x ∷ [])) lower ∙ append-nil _ ∙ encode_ascii c small in
-    let more : name_bytes ps ≡ cs = name_bytes_are ps cs others both.1 in
-    ap (λ (x : List ℕ). x ++ name_bytes ps) (sym (append-nil _) ∙ first) ∙ ap (λ (x : List ℕ). c ∷ x) more
+name_bytes_are (p ∷ ps) (c ∷ cs) e h = grind (arith, nat_tests, encode_ascii c, name_bytes_are ps cs)
 name_bytes_are _ _ e h = absurd cc
 
 abbrev pub begins_letter : List ℕ → Bool
@@ -100,12 +82,8 @@ pub record Valued (table : Entities) (text : List Placed) (cs : List ℕ) : Type
 
 no_quotes : (table : Entities) (cs es : List ℕ) → AreWritten table setting.Value cs es → list_all (λ c. not (c == 34)) es ≡ true
 no_quotes table [] es w = rw w refl
-no_quotes table (c ∷ cs) es (ds, more, is, way, no_null, others) = rw is (append_all ds more (of_way ds way) (no_quotes table cs more others))
+no_quotes table (c ∷ cs) es (ds, more, is, way, no_null, others) = rw is (list_all-append (λ c. not (c == 34)) ds more ∙ and_from _ _ (of_way ds way) (no_quotes table cs more others))
   where
-    append_all : (xs ys : List ℕ) → list_all (λ c. not (c == 34)) xs ≡ true → list_all (λ c. not (c == 34)) ys ≡ true → list_all (λ c. not (c == 34)) (xs ++ ys) ≡ true
-    append_all [] ys h k = k
-    append_all (x ∷ xs) ys h k = let both = and_parts _ _ h in and_from _ _ both.0 (append_all xs ys both.1 k)
-
     of_way : (ds : List ℕ) → Way table setting.Value c ds → list_all (λ c. not (c == 34)) ds ≡ true
     of_way ds (by_name name d key) = rw d key.no_quote
     of_way ds (by_itself d no_amp no_quote) = rw (d, no_quote) refl

@@ -1,5 +1,5 @@
 -- Plain lists are read as their own tokens, in every context.
-use Rattle.hlaws.proofs.Names.{◌≡◌, ℕ, ◌⊎◌, inl, inr, Bool, true, false, not, cond, ◌&&◌, nat_lt, Option, Some, None, List, [], ◌∷◌, ◌++◌, map, length, refl, sym, ◌∙◌, ap, subst, append-nil, append_assoc, and_parts, false≢true, not-true, map-append, scalars-chars, codes, chars, IsUtf8, flat_map, Placed, RawKind, characters, raw_kind, is_void, tag_named, Entities, IsTable, HasCore, Attribute, What, Forest, none, tree, Eof, Standing, at_start, standing_after, has_references, may_end, texts, Token, start, end, comment, character, eof, Content, Role, Escaping, escaped, written_char, row, takes_role, takes_comments, Inside, inside_element, inside_node, in_context_of, is_form, are_content, are_content_if, is_plain_node, is_plain_text, is_plain_comment, are_plain_attributes, is_among_texts, is_clean, begins_with_text, begins_with_line_feed, has_part, is_nested, drops_line_feed, is_empty, tokens_of, start_tag_text, end_tag_text, AreTexts, AreRead, PlainTokens, text_of, taken}
+use Rattle.hlaws.proofs.Names.{arith, ◌≡◌, ℕ, ◌⊎◌, inl, inr, Bool, true, false, not, cond, ◌&&◌, nat_lt, Option, Some, None, List, [], ◌∷◌, ◌++◌, map, length, refl, sym, ◌∙◌, ap, subst, append-nil, append_assoc, and_parts, false≢true, not-true, map-append, scalars-chars, codes, chars, IsUtf8, flat_map, Placed, RawKind, characters, raw_kind, is_void, tag_named, Entities, IsTable, HasCore, Attribute, What, Forest, none, tree, Eof, Standing, at_start, standing_after, has_references, may_end, texts, Token, start, end, comment, character, eof, Content, Role, Escaping, escaped, written_char, row, takes_role, takes_comments, Inside, inside_element, inside_node, in_context_of, is_form, are_content, are_content_if, is_plain_node, is_plain_text, is_plain_comment, are_plain_attributes, is_among_texts, is_clean, begins_with_text, begins_with_line_feed, has_part, is_nested, drops_line_feed, is_empty, tokens_of, start_tag_text, end_tag_text, AreTexts, AreRead, PlainTokens, text_of, taken}
 use Rattle.std.proofs.lemmas.Str.{chars-nil, IsUtf8-nil}
 use Rattle.names.specs.declared.raw.RawKind.TheVariants as kind
 use Rattle.hnodes.specs.Forest as forest
@@ -26,16 +26,12 @@ holds_text content.ScriptText = true
 holds_text _ = false
 
 no_role : (c : Content) (r : Role) → holds_text c ≡ true → takes_role c r ≡ false
-no_role content.Text r h = refl
-no_role content.RawText r h = refl
-no_role content.ScriptText r h = refl
-no_role _ r h = absurd (false≢true h)
+no_role content.Text r h = cc
+no_role _ r h = cc
 
 no_comment : (c : Content) → holds_text c ≡ true → takes_comments c ≡ false
-no_comment content.Text h = refl
-no_comment content.RawText h = refl
-no_comment content.ScriptText h = refl
-no_comment _ h = absurd (false≢true h)
+no_comment content.Text h = cc
+no_comment _ h = cc
 
 -- the content of the elements whose text is read in a kind
 abbrev raw_content : RawKind → Content
@@ -56,13 +52,9 @@ abbrev text_inside : Bool → Inside
 text_inside form = record { content = content.Text; texts = allowed.Any; in_a = false; in_button = false; in_form = form }
 
 text_context : (k : RawKind) (c : Content) (form : Bool) (l : Forest (List ℕ)) → is_raw k ≡ true → fits_context k c ≡ true → are_content_if (in_context_of c form) l ≡ true → are_content (text_inside form) l ≡ true
-text_context kind.None c form l r h a = absurd (false≢true r)
-text_context kind.Rcdata content.Text form l r h a = a
-text_context kind.Rawtext content.RawText form l r h a = a
-text_context kind.Script content.ScriptText form l r h a = a
-text_context _ content.Columns form l r h a = absurd (false≢true a)
-text_context _ content.Empty form l r h a = absurd (false≢true a)
-text_context _ _ form l r h a = absurd (false≢true h)
+text_context kind.None c form l r h a = cc
+text_context _ content.Text form l r h a = cc
+text_context _ _ form l r h a = cc
 
 -- A list that is one text, or nothing.
 pub record OneText (how : Escaping) (which : Texts) (l : Forest (List ℕ)) : Type 0 where
@@ -82,10 +74,7 @@ no_text_among which (inr (inr e)) = ap (λ (x : Texts). is_among_texts x []) e
 -- only texts are there
 only_text : (m : ℕ) (inside : Inside) (w : What (List ℕ)) (kids rest : Forest (List ℕ)) → holds_text inside.content ≡ true → is_plain_node inside w kids rest ≡ true → begins_with_text (tree m w kids rest) ≡ true
 only_text m inside (forest.element name attrs) kids rest h p =
-    let a = and_parts ((takes_role inside.content (row (tag_named name)).0 && not (is_nested inside (tag_named name))) && are_plain_attributes attrs) (not (drops_line_feed (tag_named name) && begins_with_line_feed kids)) p in
-    let b = and_parts (takes_role inside.content (row (tag_named name)).0 && not (is_nested inside (tag_named name))) _ a.0 in
-    let c : takes_role inside.content (row (tag_named name)).0 ≡ true = (and_parts (takes_role inside.content (row (tag_named name)).0) _ b.0).0 in
-    absurd (let x = no_role inside.content (row (tag_named name)).0 h in cc)
+    absurd (let x = no_role inside.content (row (tag_named name)).0 h in grind arith)
 only_text m inside (forest.text t) kids rest h p = refl
 only_text m inside (forest.comment t) kids rest h p = absurd (let x = no_comment inside.content h in let y = (and_parts (takes_comments inside.content) (is_plain_comment t) p).0 in cc)
 only_text m inside _ kids rest h p = absurd (false≢true p)

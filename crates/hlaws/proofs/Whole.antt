@@ -1,5 +1,5 @@
 -- The tokens of a plain list of trees build it under the current node.
-use Rattle.hlaws.proofs.Names.{◌≡◌, ℕ, suc, ◌+◌, ◌<◌, ◌≤◌, Bool, true, false, not, ◌&&◌, ◌||◌, cond, eqb, List, [], ◌∷◌, ◌++◌, length, map, Option, Some, None, refl, sym, ◌∙◌, ap, subst, arith, inl, inr, and_parts, or_parts, and_right, eq-eqb, ne_eqb, lt-leb, false≢true, not-true, nat_le, encode_utf8, encode_utf8_all, chars, ◌==◌, list_all, Attribute, What, element, text, Forest, none, tree, size, times, if_text, text_before, LastIn, OpenNode, in_scope, stops, EntryOf, Listed, marker, entry, with_room, without_entry, entry_of, find_entry, cleared, Placed, is_space, is_void, is_heading, stops_button_scope, Naming, Goes, is, is_table_context, is_body_context, is_row_context, is_fostering, Family, Start, End, Mode, InCaption, InCell, Text, InTable, InTableText, InTableBody, InRow, InColumnGroup, family_of, perform, void, raw, void_in_text, Token, start, end, comment, character, eof, PlacedToken, Control, State, Done, kind_of, reset_mode, open_mode, Rule, begun, ends, goes_again, Step, goes, Steps, and, Content, Role, row, takes_role, takes_comments, texts_in, Inside, inside_element, is_nested, is_a, is_button, is_form, drops_line_feed, inserts_marker, is_flow_mode, fits_mode, fits_current, is_list, is_dl, takes_space, numbered, under, Thinned, same, kept, lost, EntriesOpen, EntriesLower, tokens_of}
+use Rattle.hlaws.proofs.Names.{◌≡◌, ℕ, suc, ◌+◌, ◌<◌, ◌≤◌, Bool, true, false, not, ◌&&◌, ◌||◌, eqb, List, [], ◌∷◌, ◌++◌, length, map, Option, Some, None, refl, sym, ◌∙◌, ap, subst, arith, inl, inr, and_parts, or_parts, and_right, eq-eqb, ne_eqb, lt-leb, false≢true, not-true, nat_le, encode_utf8, encode_utf8_all, chars, ◌==◌, list_all, Attribute, What, element, text, Forest, none, tree, size, times, if_text, text_before, LastIn, OpenNode, in_scope, stops, EntryOf, Listed, marker, entry, with_room, without_entry, entry_of, find_entry, cleared, Placed, is_space, is_void, is_heading, stops_button_scope, Naming, Goes, is, is_table_context, is_body_context, is_row_context, is_fostering, Family, Start, End, Mode, InCaption, InCell, Text, InTable, InTableText, InTableBody, InRow, InColumnGroup, family_of, perform, void, raw, void_in_text, Token, start, end, comment, character, PlacedToken, Control, State, Done, kind_of, reset_mode, open_mode, Rule, begun, ends, goes_again, Step, goes, Steps, and, Content, Role, row, takes_role, takes_comments, texts_in, Inside, inside_element, is_nested, is_a, is_button, is_form, drops_line_feed, inserts_marker, is_flow_mode, fits_mode, fits_current, is_list, is_dl, takes_space, numbered, under, Thinned, same, kept, lost, EntriesOpen, EntriesLower, tokens_of}
 use Rattle.std.proofs.lemmas.List.{append-nil, append_assoc}
 use Rattle.std.specs.Prelude.{unwrap_or}
 use Rattle.hnodes.proofs.Counts.{times-hung}
@@ -7,7 +7,6 @@ use Rattle.hnodes.specs.Forest as forest
 use Rattle.hopen.specs.declared.scope.Scope.TheVariants as scope
 use Rattle.names.specs.declared.tag.Tag.TheVariants as tag
 use Rattle.hmodes.specs.declared.family.Family.TheVariants as family
-use Rattle.hmodes.specs.State.{doctype}
 use Rattle.hmodes.specs.Step as step
 use Rattle.hplain.specs.declared.content.Content.TheVariants as content
 use Rattle.hplain.specs.declared.content.Role.TheVariants as role
@@ -15,8 +14,7 @@ use Rattle.hplain.specs.Plain.{content_within}
 use Rattle.hlaws.specs.Building.{closes_p, is_character, ActsAs, depth, AllLower}
 use Rattle.hlaws.proofs.Growing.{graft-new, times-numbered, under-none, under-under, under-new, text_before-new, text_before-leaf}
 use Rattle.hlaws.proofs.Thinned.{then, thinned-room, open-thinned, open-pushed, lower-thinned, entries-more, no-entry}
-use Rattle.hlaws.proofs.Classes.{Class, VoidClass, Profile, profile, plain_profile, around, class_profile, void_profile, Classed, with_content, without, classed, has_content, has_none, is_p}
-use Rattle.hlaws.proofs.Classes as class
+use Rattle.hlaws.proofs.Classes.{Profile, profile, plain_profile, around, class_profile, classed, void_empty, is_p}
 use Rattle.hlaws.proofs.Content.{home, has_home, stands_in, no_nowhere, phrasing_mode, parts_mode_is, rows_mode_is, cells_mode_is, columns_mode_is, comment_rule, around_fits, nested_a, nested_button, nested_form, marker_stops, list_stops, dl_stops}
 use Rattle.hlaws.proofs.Rules as rules
 use Rattle.hlaws.proofs.Rules.{Laws, IsFlowRule, by_end, state, node}
@@ -170,6 +168,17 @@ module _ {N : Type 0} (n : Naming N) (laws : NameLaws n) (z : State N) where
   pub itself : (s : State N) → ActsAs n s s
   itself s at t o h chain = chain
 
+  -- a node after which the state stands as the law says
+  as_it_stands : (b : ℕ) (w : What N) (kids : Forest N) (made : ℕ) (f : Forest N) (d : OpenNode N) (up : List (OpenNode N)) (items items' : List (Listed N)) (c c' : Control) (s : State N) (ts us : List (PlacedToken N)) → ts ≡ us
+      → Steps n us s (Goes (state z (made + (1 + (size kids + 0))) (under d.node (numbered made (tree b w kids none)) f) (d ∷ up) items' c')) → Thinned items items' → Keeps c c' → c'.drop_lf ≡ false → NodeBuilt b w kids made f d up items c s ts
+  as_it_stands b w kids made f d up items items' c c' s ts us is steps t k drop =
+      let s1 : State N = state z (made + (1 + (size kids + 0))) (under d.node (numbered made (tree b w kids none)) f) (d ∷ up) items' c' in
+      record {
+        built = record { items' = items'; control' = c'; reached = s1; steps = subst (λ (us : List (PlacedToken N)). Steps n us s (Goes s1)) (sym is) steps; acts = itself s1; thinned = t; keeps = k };
+        no_drop = drop;
+        exact = λ e. refl;
+      }
+
   -- COMMENTS
 
   comment_built : (i : Inside) (b : ℕ) (t : List ℕ) (made : ℕ) (f : Forest N) (d : OpenNode N) (up : List (OpenNode N)) (items : List (Listed N)) (c : Control) (s : State N) (ts : List (PlacedToken N))
@@ -182,19 +191,8 @@ module _ {N : Type 0} (n : Naming N) (laws : NameLaws n) (z : State N) where
       let rule : Rule n p.at (comment t) s0 ≡ Done s1 =
       ap (λ r. perform n p.at (comment t) r s0) (comment_rule i.content c.mode q.mode_fits) ∙ simp (full, graft-new d.node made (forest.comment t) f (q.fresh made (omega arith))) refl in
       let one : Step n p.at (comment t) s (Goes s1) = goes refl (acts p.at (comment t) (Goes s1) refl (ends rule)) in
-      record {
-        built = record {
-          items' = items;
-          control' = begun_control c;
-          reached = s1;
-          steps = subst (λ (us : List (PlacedToken N)). Steps n us s (Goes s1)) (sym (p.is ∙ ap (λ us. record { token = comment t; at = p.at } ∷ us) (ended p.others p.rest))) (and one step.none);
-          acts = itself s1;
-          thinned = same;
-          keeps = record { mode = refl; head = refl; form = refl; quirks = refl };
-        };
-        no_drop = refl;
-        exact = λ e. refl;
-      }
+      as_it_stands b (forest.comment t) none made f d up items items c (begun_control c) s ts _ (p.is ∙ ap (λ us. record { token = comment t; at = p.at } ∷ us) (ended p.others p.rest)) (and one step.none) same
+      (record { mode = refl; head = refl; form = refl; quirks = refl }) refl
 
   -- TEXTS
 
@@ -258,19 +256,7 @@ module _ {N : Type 0} (n : Naming N) (laws : NameLaws n) (z : State N) where
   module _ (b : ℕ) (t : List ℕ) (is : IsText t) (made : ℕ) (f : Forest N) (d : OpenNode N) (up : List (OpenNode N)) (items : List (Listed N)) (c : Control) (once : times d.node f ≡ 1) (absent : times made f ≡ 0) (listed : EntriesOpen (d ∷ up) items)
       (none_before : text_before (LastIn d.node) f ≡ None) (safe : (c.drop_lf && is.one == 10) ≡ false) (room : made < z.site.nodes.limit) where
     as_node : (ts : List (PlacedToken N)) → CharsBuilt (made + 1) (under d.node (tree made (text t) none none) f) d up items c (state z made f (d ∷ up) items c) ts → NodeBuilt b (text t) none made f d up items c (state z made f (d ∷ up) items c) ts
-    as_node ts k = record {
-      built = record {
-        items' = items;
-        control' = k.control';
-        reached = state z (made + 1) (under d.node (tree made (text t) none none) f) (d ∷ up) items k.control';
-        steps = k.steps;
-        acts = itself (state z (made + 1) (under d.node (tree made (text t) none none) f) (d ∷ up) items k.control');
-        thinned = same;
-        keeps = k.keeps;
-      };
-      no_drop = k.no_drop;
-      exact = λ e. absurd cc;
-    }
+    as_node ts k = as_it_stands b (text t) none made f d up items items c k.control' (state z made f (d ∷ up) items c) ts ts refl k.steps same k.keeps k.no_drop
 
     -- in flow
     flow_text : (ts : List (PlacedToken N)) → is_flow_mode c.mode ≡ true → AreTokens ts (map (λ ch. character ch) (chars t)) → NodeBuilt b (text t) none made f d up items c (state z made f (d ∷ up) items c) ts
@@ -288,22 +274,20 @@ module _ {N : Type 0} (n : Naming N) (laws : NameLaws n) (z : State N) where
   -- WHITE SPACE OF TABLES
 
   record HeldChars (made : ℕ) (f : Forest N) (d : OpenNode N) (up : List (OpenNode N)) (items : List (Listed N)) (c : Control) (chs : List ℕ) (s : State N) (ts : List (PlacedToken N)) : Type 0 where
-    pub control' : Control
+    pub acknowledged : Bool
     pub added : List Placed
-    pub steps : Steps n ts s (Goes (state z made f (d ∷ up) items control'))
+    pub steps : Steps n ts s (Goes (state z made f (d ∷ up) items (record c { drop_lf = false; acknowledged = acknowledged; pending = c.pending ++ added })))
     pub characters : map (λ p. p.ch) added ≡ chs
-    pub pending : control'.pending ≡ c.pending ++ added
-    pub mode : control'.mode ≡ InTableText
-    pub saved : control'.saved ≡ c.saved
-    pub head : control'.head ≡ c.head
-    pub form : control'.form ≡ c.form
-    pub quirks : control'.quirks ≡ c.quirks
-    pub no_drop : control'.drop_lf ≡ false
 
   module _ (made : ℕ) (f : Forest N) (d : OpenNode N) (up : List (OpenNode N)) (items : List (Listed N)) where
     held_chars : (chs : List ℕ) (c : Control) (ts : List (PlacedToken N)) → c.mode ≡ InTableText → c.drop_lf ≡ false → NoNul chs → AllOk (λ ch. is_space ch ≡ true) chs → AreTokens ts (map (λ ch. character ch) chs)
         → HeldChars made f d up items c chs (state z made f (d ∷ up) items c) ts
-    held_chars [] c [] m drop ok spaces h = record { control' = c; added = []; steps = step.none; characters = refl; pending = sym (append-nil c.pending); mode = m; saved = refl; head = refl; form = refl; quirks = refl; no_drop = drop }
+    held_chars [] c [] m drop ok spaces h = record {
+      acknowledged = c.acknowledged;
+      added = [];
+      steps = subst (λ (v : Control). Steps n [] (state z made f (d ∷ up) items c) (Goes (state z made f (d ∷ up) items v))) (λ i. record c { drop_lf = drop i; pending = sym (append-nil c.pending) i }) step.none;
+      characters = refl;
+    }
     held_chars [] c (u ∷ us) m drop ok spaces h = absurd cc
     held_chars (ch ∷ chs) c ts m drop ok spaces h =
         let p = first ts (character ch) (map (λ ch. character ch) chs) h in
@@ -315,21 +299,15 @@ module _ {N : Type 0} (n : Naming N) (laws : NameLaws n) (z : State N) where
         let one : Step n p.at (character ch) s (Goes s1) = char_step p.at ch s s1 (rw drop refl) rule in
         let others = held_chars chs c1 p.others m refl ok.1 spaces.1 p.rest in
         record {
-          control' = others.control';
+          acknowledged = others.acknowledged;
           added = new ∷ others.added;
-          steps = subst (λ (us : List (PlacedToken N)). Steps n us s (Goes (state z made f (d ∷ up) items others.control'))) (sym p.is) (and one others.steps);
+          steps = subst (λ (us : List (PlacedToken N)). Steps n us s (Goes (state z made f (d ∷ up) items (record c { drop_lf = false; acknowledged = others.acknowledged; pending = c.pending ++ new ∷ others.added })))) (sym p.is)
+              (subst (λ (l : List Placed). Steps n (record { token = character ch; at = p.at } ∷ p.others) s (Goes (state z made f (d ∷ up) items (record c { drop_lf = false; acknowledged = others.acknowledged; pending = l })))) (append_assoc c.pending (new ∷ []) others.added) (and one others.steps));
           characters = ap (λ l. ch ∷ l) others.characters;
-          pending = others.pending ∙ append_assoc c.pending (new ∷ []) others.added;
-          mode = others.mode;
-          saved = others.saved;
-          head = others.head;
-          form = others.form;
-          quirks = others.quirks;
-          no_drop = others.no_drop;
         }
 
   other_kind : (t : Token N) → is_character t ≡ false → rules.is_other (kind_of n t) ≡ true
-  other_kind (character ch) h = absurd cc
+  other_kind (character ch) h = cc
   other_kind _ h = refl
 
   all_spaces : (ps : List Placed) (chs : List ℕ) → map (λ p. p.ch) ps ≡ chs → AllOk (λ ch. is_space ch ≡ true) chs → list_all (λ p. is_space p.ch) ps ≡ true
@@ -355,13 +333,13 @@ module _ {N : Type 0} (n : Naming N) (laws : NameLaws n) (z : State N) where
       let holds : Rule n p.at (character is.one) s0 ≡ Done s1 = rules.held n laws.basic z p.at made f d up items c0 is.one refl is.no_nul.0 spaces.0 in
       let one : Step n p.at (character is.one) s (Goes s1) = goes safe (goes_again waits (ends holds)) in
       let others = held_chars made f d up items is.more c1 p.others refl refl is.no_nul.1 spaces.1 p.rest in
-      let c2 : Control = others.control' in
+      let c2 : Control = record c1 { acknowledged = others.acknowledged; pending = new ∷ others.added } in
       let s2 : State N = state z made f (d ∷ up) items c2 in
       let bytes : encode_utf8_all (map (λ p. p.ch) (new ∷ others.added)) ≡ t = ap (λ l. encode_utf8_all (is.one ∷ l)) others.characters ∙ is.bytes in
       let c3 : Control = record c2 { pending = []; mode = c2.saved } in
       let q : List ℕ → State N = λ u. state z (made + 1) (under d.node (tree made (text u) none none) f) (d ∷ up) items c3 in
       let acts : ActsAs n s2 (q (encode_utf8_all (map (λ p. p.ch) (new ∷ others.added)))) =
-      λ at t o other chain. rules.acts n laws.basic z d up items at t new others.added made f c2 o (other_kind t other) others.mode others.pending (all_spaces (new ∷ others.added) (is.one ∷ is.more) (ap (λ l. is.one ∷ l) others.characters) spaces) once absent room none_before chain in
+      λ at t o other chain. rules.acts n laws.basic z d up items at t new others.added made f c2 o (other_kind t other) refl refl (all_spaces (new ∷ others.added) (is.one ∷ is.more) (ap (λ l. is.one ∷ l) others.characters) spaces) once absent room none_before chain in
       record {
         built = record {
           items' = items;
@@ -370,9 +348,9 @@ module _ {N : Type 0} (n : Naming N) (laws : NameLaws n) (z : State N) where
           steps = subst (λ (us : List (PlacedToken N)). Steps n us s (Goes s2)) (sym p.is) (and one others.steps);
           acts = subst (λ (u : List ℕ). ActsAs n s2 (q u)) bytes acts;
           thinned = same;
-          keeps = record { mode = others.saved; head = others.head; form = others.form; quirks = others.quirks };
+          keeps = record { mode = refl; head = refl; form = refl; quirks = refl };
         };
-        no_drop = others.no_drop;
+        no_drop = refl;
         exact = λ e. absurd cc;
       }
 
@@ -425,19 +403,7 @@ module _ {N : Type 0} (n : Naming N) (laws : NameLaws n) (z : State N) where
         let one : Step n t.at (start x attrs false) s (Goes s1) = start_step t.at x attrs s (state z made f (d ∷ up) items c) s1 from (opening t.at) in
         let three : Step n t.at_end (end x) inner.reached (Goes s3) = goes refl (inner.acts t.at_end (end x) (Goes s3) refl (ends (close.rule t.at_end (made + (1 + (size kids + 0))) (under d.node (numbered made (tree b (element x attrs) kids none)) f)))) in
         let all : Steps n (record { token = start x attrs false; at = t.at } ∷ t.inner ++ record { token = end x; at = t.at_end } ∷ []) s (Goes s3) = and one (after inner.steps (and three step.none)) in
-        record {
-          built = record {
-            items' = close.items3;
-            control' = close.control3;
-            reached = s3;
-            steps = subst (λ (us : List (PlacedToken N)). Steps n us s (Goes s3)) (sym t.is) all;
-            acts = itself s3;
-            thinned = close.thins;
-            keeps = close.keeps;
-          };
-          no_drop = close.no_drop;
-          exact = λ e. refl;
-        }
+        as_it_stands b (element x attrs) kids made f d up items close.items3 c close.control3 s ts _ t.is all close.thins close.keeps close.no_drop
 
     -- children that are built by the law
     inner_built : (ts : List (PlacedToken N)) → Built kids (made + 1) (under d.node (tree made (element x attrs) none none) f) (node made x) (d ∷ up) items1 c1 (state z (made + 1) (under d.node (tree made (element x attrs) none none) f) (node made x ∷ d ∷ up) items1 c1) ts → Inner ts
@@ -564,7 +530,7 @@ module _ {N : Type 0} (n : Naming N) (laws : NameLaws n) (z : State N) where
     Spells ts = AreTokens ts (start x attrs false ∷ tokens_of n kids ++ end x ∷ [])
 
     p_below : is_p (n.tag x) ≡ false → in_scope (stops n.tag scope.Button) (is n tag.P) (d ∷ up) ≡ false → in_scope (stops n.tag scope.Button) (is n tag.P) (node made x ∷ d ∷ up) ≡ false
-    p_below p h = rw (laws.basic.knows_p x, p, h) (and_right (not (stops n.tag scope.Button (node made x))) false refl)
+    p_below p h = grind (arith, laws.basic.knows_p x)
 
     p_stopped : is_p (n.tag x) ≡ false → stops_button_scope (n.tag x) ≡ true → in_scope (stops n.tag scope.Button) (is n tag.P) (node made x ∷ d ∷ up) ≡ false
     p_stopped p h = rw (laws.basic.knows_p x, p, h) refl
@@ -575,7 +541,7 @@ module _ {N : Type 0} (n : Naming N) (laws : NameLaws n) (z : State N) where
       where
         go : (m : Bool) → inserts_marker (n.tag x) ≡ m → ((not m && i.in_button) || is_button (n.tag x)) ≡ false → in_scope (stops n.tag scope.Default) (is n tag.Button) (node made x ∷ d ∷ up) ≡ false
         go true e k = rw (laws.button x, (or_parts false (is_button (n.tag x)) k).1, marker_stops (n.tag x) e) refl
-        go false e k = rw (laws.button x, (or_parts i.in_button (is_button (n.tag x)) k).1, q.no_button (or_parts i.in_button (is_button (n.tag x)) k).0) (and_right (not (stops n.tag scope.Default (node made x))) false refl)
+        go false e k = let m = or_parts i.in_button (is_button (n.tag x)) k in rw (laws.button x, m.1, q.no_button m.0) (and_right (not (stops n.tag scope.Default (node made x))) false refl)
 
     -- what is asked of the list inside the element
     abbrev EntriesFit : List (Listed N) → Type 0
@@ -689,78 +655,6 @@ module _ {N : Type 0} (n : Naming N) (laws : NameLaws n) (z : State N) where
         (λ at. rules.start_block n laws.basic z at made f d up items (begun_control c) x attrs absent1 room_here deep_here flows family.Block (ap (λ r. r.family) p) (refl, refl, refl) no_p)
         (λ at m g items2 c2 mode. rules.end_block n laws.basic z at m g d up items2 c2 made x mode family.Block (ap (λ r. r.family) p) (refl, refl, refl) (ap (λ r. r.has_implied_end) p))
 
-    a_paragraph : profile (n.tag x) ≡ class_profile class.Paragraph → (ts : List (PlacedToken N)) → Spells ts → Node ts
-    a_paragraph p =
-        let e : i.content ≡ content.Flow = stands _ p refl in
-        let flows : is_flow_mode c.mode ≡ true = mode_in n q content.Flow e in
-        own _ p content.Phrasing refl flows (λ m. refl) refl refl refl (λ h. absurd (false≢true h))
-        (λ at. rules.start_block n laws.basic z at made f d up items (begun_control c) x attrs absent1 room_here deep_here flows family.P (ap (λ r. r.family) p) (refl, refl, refl) (q.no_p (ap closes_p e)))
-        (λ at m g items2 c2 mode. rules.end_p n laws.basic z at m g d up items2 c2 made x mode (ap (λ r. r.family) p) (ap (λ r. r.is_p) p) (ap (λ r. r.has_implied_end) p))
-
-    a_heading : profile (n.tag x) ≡ class_profile class.Heading → (ts : List (PlacedToken N)) → Spells ts → Node ts
-    a_heading p =
-        let e : i.content ≡ content.Flow = stands _ p refl in
-        let flows : is_flow_mode c.mode ≡ true = mode_in n q content.Flow e in
-        own _ p content.Phrasing refl flows (λ m. refl) refl refl refl (λ h. absurd (false≢true h))
-        (λ at. rules.start_heading n laws.basic z at made f d up items (begun_control c) x attrs absent1 room_here deep_here flows (ap (λ r. r.family) p) (q.no_p (ap closes_p e)) (not-true (is_heading (n.tag d.name)) (current_in n q content.Flow e)))
-        (λ at m g items2 c2 mode. rules.end_heading n laws.basic z at m g d up items2 c2 made x mode (ap (λ r. r.has_implied_end) p) (ap (λ r. r.family) p) (ap (λ r. r.is_heading) p))
-
-    an_item : profile (n.tag x) ≡ class_profile class.Item → (ts : List (PlacedToken N)) → Spells ts → Node ts
-    an_item p =
-        let e : i.content ≡ content.ListItems = stands _ p refl in
-        let flows : is_flow_mode c.mode ≡ true = mode_in n q content.ListItems e in
-        let within : is_list (n.tag d.name) ≡ true = current_in n q content.ListItems e in
-        let no_p = q.no_p (ap closes_p e) in
-        own _ p content.Flow refl flows (λ m. refl) (ap (λ r. not r.is_heading) p) refl refl (λ h. p_below (ap (λ r. r.is_p) p) no_p)
-        (λ at. rules.start_li n laws.basic z at made f d up items (begun_control c) x attrs absent1 room_here deep_here flows (ap (λ r. r.family) p) no_p (rw (laws.li d.name within, list_stops (n.tag d.name) within) refl))
-        (λ at m g items2 c2 mode. rules.end_item_of n laws.basic z at m g d up items2 c2 made x mode family.Li (ap (λ r. r.family) p) scope.ListItem (refl, refl, refl))
-
-    a_definition : profile (n.tag x) ≡ class_profile class.Definition → (ts : List (PlacedToken N)) → Spells ts → Node ts
-    a_definition p =
-        let e : i.content ≡ content.Definitions = stands _ p refl in
-        let flows : is_flow_mode c.mode ≡ true = mode_in n q content.Definitions e in
-        let within : is_dl (n.tag d.name) ≡ true = current_in n q content.Definitions e in
-        let no_p = q.no_p (ap closes_p e) in
-        own _ p content.Flow refl flows (λ m. refl) (ap (λ r. not r.is_heading) p) refl refl (λ h. p_below (ap (λ r. r.is_p) p) no_p)
-        (λ at. rules.start_dd n laws.basic z at made f d up items (begun_control c) x attrs absent1 room_here deep_here flows (ap (λ r. r.family) p) no_p
-        (rw (laws.dd d.name within, dl_stops (n.tag d.name) within) refl) (rw (laws.dt d.name within, dl_stops (n.tag d.name) within) refl))
-        (λ at m g items2 c2 mode. rules.end_item_of n laws.basic z at m g d up items2 c2 made x mode family.Dd (ap (λ r. r.family) p) scope.Default (refl, refl, refl))
-
-    a_pre : profile (n.tag x) ≡ class_profile class.Pre → (ts : List (PlacedToken N)) → Spells ts → Node ts
-    a_pre p =
-        let e : i.content ≡ content.Flow = stands _ p refl in
-        let o : j.content ≡ content.Phrasing = content_is _ p in
-        let flows : is_flow_mode c.mode ≡ true = mode_in n q content.Flow e in
-        by_law items (record (begun_control c) { drop_lf = true })
-        (pushed items (record (begun_control c) { drop_lf = true }) (same_mode _ p refl) (fits_at _ p content.Phrasing o c.mode flows) (current_at _ p content.Phrasing o refl) as_before (not_closed _ p content.Phrasing o refl)
-        (anchors_same (ap (λ r. r.marks) p)) forms_same)
-        (subst (λ (v : Bool). LfSafe v kids) (ap (λ r. r.drops) p) lf)
-        (λ at. rules.start_pre n laws.basic z at made f d up items (begun_control c) x attrs absent1 room_here deep_here flows (ap (λ r. r.family) p) (q.no_p (ap closes_p e)))
-        (λ items2 c2 t k. plain_closing flows
-        (λ at m g items2 c2 mode. rules.end_block n laws.basic z at m g d up items2 c2 made x mode family.Pre (ap (λ r. r.family) p) (refl, refl, refl) (ap (λ r. r.has_implied_end) p)) items2 c2 t k.mode k.head k.form k.quirks)
-
-    a_form : profile (n.tag x) ≡ class_profile class.Form → (ts : List (PlacedToken N)) → Spells ts → Node ts
-    a_form p =
-        let e : i.content ≡ content.Flow = stands _ p refl in
-        let o : j.content ≡ content.Flow = content_is _ p in
-        let flows : is_flow_mode c.mode ≡ true = mode_in n q content.Flow e in
-        let no_p = q.no_p (ap closes_p e) in
-        let formed : is_form (n.tag x) ≡ true = ap (λ r. r.is_form) p in
-        let pointer : c.form ≡ None = q.no_form (sym (nested_form i (n.tag x) formed) ∙ alone) in
-        by_law items (record (begun_control c) { form = Some made })
-        (pushed items (record (begun_control c) { form = Some made }) (same_mode _ p refl) (fits_at _ p content.Flow o c.mode flows) (current_at _ p content.Flow o (ap (λ r. not r.is_heading) p)) as_before
-        (λ h. p_below (ap (λ r. r.is_p) p) no_p) (anchors_same (ap (λ r. r.marks) p)) (λ h. absurd (let y = (or_parts i.in_form (is_form (n.tag x)) h).1 in cc)))
-        (lf_none kids)
-        (λ at. rules.start_form n laws.basic z at made f d up items (begun_control c) x attrs absent1 room_here deep_here flows (ap (λ r. r.family) p) no_p pointer)
-        (λ items2 c2 t k. record {
-          items3 = items2;
-          control3 = record (begun_control c2) { form = None };
-          thins = t;
-          keeps = record { mode = k.mode; head = k.head; form = sym pointer; quirks = k.quirks };
-          no_drop = refl;
-          rule = λ at m g. rules.end_form n laws.basic z at m g d up items2 (begun_control c2) made x (ap is_flow_mode k.mode ∙ flows) (ap (λ r. r.has_implied_end) p) (ap (λ r. r.family) p) k.form;
-        })
-
     -- PHRASING ELEMENTS: WHAT STANDS AROUND MAY STAND INSIDE
 
     -- formatting elements have an entry
@@ -833,31 +727,6 @@ module _ {N : Type 0} (n : Naming N) (laws : NameLaws n) (z : State N) where
           (pushed (entry new ∷ with_room n.same new items) (begun_control c) (same_mode _ p refl) fits_around current_around around_new p_around anchors forms_same)
           (lf_none kids) opening (formatting_closing w (ap (λ r. r.family) p) adopts flows_around)
 
-    a_span : profile (n.tag x) ≡ class_profile class.Span → (ts : List (PlacedToken N)) → Spells ts → Node ts
-    a_span p =
-        plain_around family.Other false false p
-        (λ at. rules.start_span n laws.basic z at made f d up items (begun_control c) x attrs absent1 room_here deep_here (flows_around family.Other false false p) family.Other (ap (λ r. r.family) p) (refl, refl, refl) q.listed)
-        (λ at m g items2 c2 mode. rules.end_span n laws.basic z at m g d up items2 c2 made x mode (ap (λ r. r.has_implied_end) p) (ap (λ r. r.family) p))
-
-    a_button : profile (n.tag x) ≡ class_profile class.Button → (ts : List (PlacedToken N)) → Spells ts → Node ts
-    a_button p =
-        plain_around family.Button false true p
-        (λ at. rules.start_button n laws.basic z at made f d up items (begun_control c) x attrs absent1 room_here deep_here (flows_around family.Button false true p) (ap (λ r. r.family) p) q.listed (q.no_button (sym (nested_button i (n.tag x) (ap (λ r. r.is_button) p)) ∙ alone)))
-        (λ at m g items2 c2 mode. rules.end_block n laws.basic z at m g d up items2 c2 made x mode family.Button (ap (λ r. r.family) p) (refl, refl, refl) (ap (λ r. r.has_implied_end) p))
-
-    a_formatting : profile (n.tag x) ≡ class_profile class.Formatting → (ts : List (PlacedToken N)) → Spells ts → Node ts
-    a_formatting p =
-        listed_around family.Formatting false false p (refl, refl, refl)
-        (λ h y e. rw (laws.anchor x y e (ap (λ r. r.is_a) p)) (find-thinned n.same y roomy (anchors_same (ap (λ r. r.marks) p) h y e)))
-        (λ at. rules.start_formatting n laws.basic z at made f d up items (begun_control c) x attrs absent1 room_here deep_here (flows_around family.Formatting false false p) (ap (λ r. r.family) p) q.listed)
-
-    an_anchor : profile (n.tag x) ≡ class_profile class.Anchor → (ts : List (PlacedToken N)) → Spells ts → Node ts
-    an_anchor p =
-        let named : is_a (n.tag x) ≡ true = ap (λ r. r.is_a) p in
-        listed_around family.A true false p (refl, refl, refl)
-        (λ h y e. absurd (let v = (or_parts (not (inserts_marker (n.tag x)) && i.in_a) (is_a (n.tag x)) h).1 in cc))
-        (λ at. rules.start_a n laws.basic z at made f d up items (begun_control c) x attrs absent1 room_here deep_here (flows_around family.A true false p) (ap (λ r. r.family) p) q.listed (q.no_a (sym (nested_a i (n.tag x) named) ∙ alone) x named))
-
     -- RAW TEXTS
 
     -- title, textarea, style, script and iframe
@@ -885,10 +754,6 @@ module _ {N : Type 0} (n : Naming N) (laws : NameLaws n) (z : State N) where
     a_raw_element w k rule p within no_comments no_elements =
         a_raw w k false p within no_comments no_elements (λ flows at. rules.start_raw n laws.basic z at made f d up items (begun_control c) x attrs absent1 room_here deep_here flows w (ap (λ r. r.family) p) rule)
 
-    a_textarea : profile (n.tag x) ≡ class_profile class.Textarea → (ts : List (PlacedToken N)) → Spells ts → Node ts
-    a_textarea p =
-        a_raw family.Textarea content.Text true p refl refl (λ r. refl) (λ flows at. rules.start_textarea n laws.basic z at made f d up items (begun_control c) x attrs absent1 room_here deep_here flows (ap (λ r. r.family) p))
-
     -- TABLES
 
     -- a table and its parts: a mode of their own inside, and the mode that was after them
@@ -911,37 +776,6 @@ module _ {N : Type 0} (n : Naming N) (laws : NameLaws n) (z : State N) where
           rule = λ at made' g'. ending at made' g' items2 (begun_control c2) k.mode;
         })
 
-    a_table : profile (n.tag x) ≡ class_profile class.Table → (ts : List (PlacedToken N)) → Spells ts → Node ts
-    a_table p =
-        let e : i.content ≡ content.Flow = stands _ p refl in
-        in_parts content.TableParts InTable (reset_mode n z.context (d ∷ up)) _ p refl refl refl refl (ap (λ r. r.table_context && (r.fosters || false)) p) refl q.mode_is
-        (λ at. rules.start_table n laws.basic z at made f d up items (begun_control c) x attrs absent1 room_here deep_here (mode_in n q content.Flow e) (ap (λ r. r.family) p) (q.no_p (ap closes_p e)))
-        (λ at m g items2 c2 mode. rules.end_table n laws.basic z at m g d up items2 c2 made x mode (ap (λ r. r.family) p) (laws.table x (ap (λ r. r.family) p)))
-
-    a_colgroup : profile (n.tag x) ≡ class_profile class.Colgroup → (ts : List (PlacedToken N)) → Spells ts → Node ts
-    a_colgroup p =
-        let e : i.content ≡ content.TableParts = stands _ p refl in
-        let mode_at : c.mode ≡ InTable = parts_mode_is c.mode (mode_in n q content.TableParts e) in
-        in_parts content.Columns InColumnGroup InTable _ p refl refl refl refl (ap (λ r. r.is_colgroup) p) refl (sym mode_at)
-        (λ at. rules.start_colgroup n laws.basic z at made f d up items (begun_control c) x attrs absent1 room_here deep_here mode_at (ap (λ r. r.family) p) (and_parts (is_table_context (n.tag d.name)) _ (current_in n q content.TableParts e)).0)
-        (λ at m g items2 c2 mode. rules.end_colgroup n laws.basic z at m g d up items2 c2 made x mode (ap (λ r. r.family) p))
-
-    a_section : profile (n.tag x) ≡ class_profile class.Section → (ts : List (PlacedToken N)) → Spells ts → Node ts
-    a_section p =
-        let e : i.content ≡ content.TableParts = stands _ p refl in
-        let mode_at : c.mode ≡ InTable = parts_mode_is c.mode (mode_in n q content.TableParts e) in
-        in_parts content.TableRows InTableBody InTable _ p refl refl refl refl (ap (λ r. r.body_context && (r.fosters || false)) p) refl (sym mode_at)
-        (λ at. rules.start_section n laws.basic z at made f d up items (begun_control c) x attrs absent1 room_here deep_here mode_at (ap (λ r. r.family) p) (and_parts (is_table_context (n.tag d.name)) _ (current_in n q content.TableParts e)).0)
-        (λ at m g items2 c2 mode. rules.end_section n laws.basic z at m g d up items2 c2 made x mode (ap (λ r. r.family) p) (ap (λ r. r.body_context) p))
-
-    a_row : profile (n.tag x) ≡ class_profile class.Row → (ts : List (PlacedToken N)) → Spells ts → Node ts
-    a_row p =
-        let e : i.content ≡ content.TableRows = stands _ p refl in
-        let mode_at : c.mode ≡ InTableBody = rows_mode_is c.mode (mode_in n q content.TableRows e) in
-        in_parts content.Cells InRow InTableBody _ p refl refl refl refl (ap (λ r. r.row_context && (r.fosters || false)) p) refl (sym mode_at)
-        (λ at. rules.start_row n laws.basic z at made f d up items (begun_control c) x attrs absent1 room_here deep_here mode_at (ap (λ r. r.family) p) (and_parts (is_body_context (n.tag d.name)) _ (current_in n q content.TableRows e)).0)
-        (λ at m g items2 c2 mode. rules.end_row n laws.basic z at m g d up items2 c2 made x mode (ap (λ r. r.family) p) (laws.table_row x (ap (λ r. r.family) p)) (ap (λ r. r.row_context) p))
-
     -- a caption, a cell and an object: flow content after a marker, after which the list is as it was
     marking : (m back : Mode) (r : Profile) (p : profile (n.tag x) ≡ r) → content_within i.content r.content ≡ content.Flow → unwrap_or (open_mode (n.tag x)) (reset_mode n z.context (d ∷ up)) ≡ m → is_flow_mode m ≡ true → r.is_heading ≡ false → r.is_p ≡ false → r.stops_button ≡ true → back ≡ c.mode
         → Opens (marker ∷ items) (record (begun_control c) { mode = m })
@@ -962,55 +796,134 @@ module _ {N : Type 0} (n : Naming N) (laws : NameLaws n) (z : State N) where
           rule = λ at made' g'. ending at made' g' items2 (begun_control c2) k.mode;
         })
 
-    a_caption : profile (n.tag x) ≡ class_profile class.Caption → (ts : List (PlacedToken N)) → Spells ts → Node ts
-    a_caption p =
+    of_class : (w : Family) (k : Content) → profile (n.tag x) ≡ class_profile w k → is_void (n.tag x) ≡ false → (ts : List (PlacedToken N)) → Spells ts → Node ts
+    of_class family.Block content.ListItems p plain = a_block content.ListItems true false p refl (λ m. refl) (ap (λ r. r.is_list) p)
+    of_class family.Block content.Definitions p plain = a_block content.Definitions false true p refl (λ m. refl) (ap (λ r. r.is_dl) p)
+    of_class family.Block _ p plain = a_block content.Flow false false p refl (λ m. refl) (ap (λ r. not r.is_heading) p)
+    of_class family.Title k p plain = a_raw_element family.Title content.Text (refl, refl, refl) p refl refl (λ r. refl)
+    of_class family.Style k p plain = a_raw_element family.Style content.RawText (refl, refl, refl) p refl refl (λ r. refl)
+    of_class family.Script k p plain = a_raw_element family.Script content.ScriptText (refl, refl, refl) p refl refl (λ r. refl)
+    of_class family.Iframe k p plain = a_raw_element family.Iframe content.RawText (refl, refl, refl) p refl refl (λ r. refl)
+    of_class family.P k p plain =
+        let e : i.content ≡ content.Flow = stands _ p refl in
+        let flows : is_flow_mode c.mode ≡ true = mode_in n q content.Flow e in
+        own _ p content.Phrasing refl flows (λ m. refl) refl refl refl (λ h. absurd (false≢true h))
+        (λ at. rules.start_block n laws.basic z at made f d up items (begun_control c) x attrs absent1 room_here deep_here flows family.P (ap (λ r. r.family) p) (refl, refl, refl) (q.no_p (ap closes_p e)))
+        (λ at m g items2 c2 mode. rules.end_p n laws.basic z at m g d up items2 c2 made x mode (ap (λ r. r.family) p) (ap (λ r. r.is_p) p) (ap (λ r. r.has_implied_end) p))
+    of_class family.Heading k p plain =
+        let e : i.content ≡ content.Flow = stands _ p refl in
+        let flows : is_flow_mode c.mode ≡ true = mode_in n q content.Flow e in
+        own _ p content.Phrasing refl flows (λ m. refl) refl refl refl (λ h. absurd (false≢true h))
+        (λ at. rules.start_heading n laws.basic z at made f d up items (begun_control c) x attrs absent1 room_here deep_here flows (ap (λ r. r.family) p) (q.no_p (ap closes_p e)) (not-true (is_heading (n.tag d.name)) (current_in n q content.Flow e)))
+        (λ at m g items2 c2 mode. rules.end_heading n laws.basic z at m g d up items2 c2 made x mode (ap (λ r. r.has_implied_end) p) (ap (λ r. r.family) p) (ap (λ r. r.is_heading) p))
+    of_class family.Li k p plain =
+        let e : i.content ≡ content.ListItems = stands _ p refl in
+        let flows : is_flow_mode c.mode ≡ true = mode_in n q content.ListItems e in
+        let within : is_list (n.tag d.name) ≡ true = current_in n q content.ListItems e in
+        let no_p = q.no_p (ap closes_p e) in
+        own _ p content.Flow refl flows (λ m. refl) (ap (λ r. not r.is_heading) p) refl refl (λ h. p_below (ap (λ r. r.is_p) p) no_p)
+        (λ at. rules.start_li n laws.basic z at made f d up items (begun_control c) x attrs absent1 room_here deep_here flows (ap (λ r. r.family) p) no_p (rw (laws.li d.name within, list_stops (n.tag d.name) within) refl))
+        (λ at m g items2 c2 mode. rules.end_item_of n laws.basic z at m g d up items2 c2 made x mode family.Li (ap (λ r. r.family) p) scope.ListItem (refl, refl, refl))
+    of_class family.Dd k p plain =
+        let e : i.content ≡ content.Definitions = stands _ p refl in
+        let flows : is_flow_mode c.mode ≡ true = mode_in n q content.Definitions e in
+        let within : is_dl (n.tag d.name) ≡ true = current_in n q content.Definitions e in
+        let no_p = q.no_p (ap closes_p e) in
+        own _ p content.Flow refl flows (λ m. refl) (ap (λ r. not r.is_heading) p) refl refl (λ h. p_below (ap (λ r. r.is_p) p) no_p)
+        (λ at. rules.start_dd n laws.basic z at made f d up items (begun_control c) x attrs absent1 room_here deep_here flows (ap (λ r. r.family) p) no_p
+        (rw (laws.dd d.name within, dl_stops (n.tag d.name) within) refl) (rw (laws.dt d.name within, dl_stops (n.tag d.name) within) refl))
+        (λ at m g items2 c2 mode. rules.end_item_of n laws.basic z at m g d up items2 c2 made x mode family.Dd (ap (λ r. r.family) p) scope.Default (refl, refl, refl))
+    of_class family.Pre k p plain =
+        let e : i.content ≡ content.Flow = stands _ p refl in
+        let o : j.content ≡ content.Phrasing = content_is _ p in
+        let flows : is_flow_mode c.mode ≡ true = mode_in n q content.Flow e in
+        by_law items (record (begun_control c) { drop_lf = true })
+        (pushed items (record (begun_control c) { drop_lf = true }) (same_mode _ p refl) (fits_at _ p content.Phrasing o c.mode flows) (current_at _ p content.Phrasing o refl) as_before (not_closed _ p content.Phrasing o refl)
+        (anchors_same (ap (λ r. r.marks) p)) forms_same)
+        (subst (λ (v : Bool). LfSafe v kids) (ap (λ r. r.drops) p) lf)
+        (λ at. rules.start_pre n laws.basic z at made f d up items (begun_control c) x attrs absent1 room_here deep_here flows (ap (λ r. r.family) p) (q.no_p (ap closes_p e)))
+        (λ items2 c2 t k. plain_closing flows
+        (λ at m g items2 c2 mode. rules.end_block n laws.basic z at m g d up items2 c2 made x mode family.Pre (ap (λ r. r.family) p) (refl, refl, refl) (ap (λ r. r.has_implied_end) p)) items2 c2 t k.mode k.head k.form k.quirks)
+    of_class family.Form k p plain =
+        let e : i.content ≡ content.Flow = stands _ p refl in
+        let o : j.content ≡ content.Flow = content_is _ p in
+        let flows : is_flow_mode c.mode ≡ true = mode_in n q content.Flow e in
+        let no_p = q.no_p (ap closes_p e) in
+        let formed : is_form (n.tag x) ≡ true = ap (λ r. r.is_form) p in
+        let pointer : c.form ≡ None = q.no_form (sym (nested_form i (n.tag x) formed) ∙ alone) in
+        by_law items (record (begun_control c) { form = Some made })
+        (pushed items (record (begun_control c) { form = Some made }) (same_mode _ p refl) (fits_at _ p content.Flow o c.mode flows) (current_at _ p content.Flow o (ap (λ r. not r.is_heading) p)) as_before
+        (λ h. p_below (ap (λ r. r.is_p) p) no_p) (anchors_same (ap (λ r. r.marks) p)) (λ h. absurd (let y = (or_parts i.in_form (is_form (n.tag x)) h).1 in cc)))
+        (lf_none kids)
+        (λ at. rules.start_form n laws.basic z at made f d up items (begun_control c) x attrs absent1 room_here deep_here flows (ap (λ r. r.family) p) no_p pointer)
+        (λ items2 c2 t k. record {
+          items3 = items2;
+          control3 = record (begun_control c2) { form = None };
+          thins = t;
+          keeps = record { mode = k.mode; head = k.head; form = sym pointer; quirks = k.quirks };
+          no_drop = refl;
+          rule = λ at m g. rules.end_form n laws.basic z at m g d up items2 (begun_control c2) made x (ap is_flow_mode k.mode ∙ flows) (ap (λ r. r.has_implied_end) p) (ap (λ r. r.family) p) k.form;
+        })
+    of_class family.Other k p plain =
+        plain_around family.Other false false p
+        (λ at. rules.start_span n laws.basic z at made f d up items (begun_control c) x attrs absent1 room_here deep_here (flows_around family.Other false false p) family.Other (ap (λ r. r.family) p) (refl, refl, refl) q.listed)
+        (λ at m g items2 c2 mode. rules.end_span n laws.basic z at m g d up items2 c2 made x mode (ap (λ r. r.has_implied_end) p) (ap (λ r. r.family) p))
+    of_class family.Button k p plain =
+        plain_around family.Button false true p
+        (λ at. rules.start_button n laws.basic z at made f d up items (begun_control c) x attrs absent1 room_here deep_here (flows_around family.Button false true p) (ap (λ r. r.family) p) q.listed (q.no_button (sym (nested_button i (n.tag x) (ap (λ r. r.is_button) p)) ∙ alone)))
+        (λ at m g items2 c2 mode. rules.end_block n laws.basic z at m g d up items2 c2 made x mode family.Button (ap (λ r. r.family) p) (refl, refl, refl) (ap (λ r. r.has_implied_end) p))
+    of_class family.Formatting k p plain =
+        listed_around family.Formatting false false p (refl, refl, refl)
+        (λ h y e. rw (laws.anchor x y e (ap (λ r. r.is_a) p)) (find-thinned n.same y roomy (anchors_same (ap (λ r. r.marks) p) h y e)))
+        (λ at. rules.start_formatting n laws.basic z at made f d up items (begun_control c) x attrs absent1 room_here deep_here (flows_around family.Formatting false false p) (ap (λ r. r.family) p) q.listed)
+    of_class family.A k p plain =
+        let named : is_a (n.tag x) ≡ true = ap (λ r. r.is_a) p in
+        listed_around family.A true false p (refl, refl, refl)
+        (λ h y e. absurd (let v = (or_parts (not (inserts_marker (n.tag x)) && i.in_a) (is_a (n.tag x)) h).1 in cc))
+        (λ at. rules.start_a n laws.basic z at made f d up items (begun_control c) x attrs absent1 room_here deep_here (flows_around family.A true false p) (ap (λ r. r.family) p) q.listed (q.no_a (sym (nested_a i (n.tag x) named) ∙ alone) x named))
+    of_class family.Textarea k p plain =
+        a_raw family.Textarea content.Text true p refl refl (λ r. refl) (λ flows at. rules.start_textarea n laws.basic z at made f d up items (begun_control c) x attrs absent1 room_here deep_here flows (ap (λ r. r.family) p))
+    of_class family.Table k p plain =
+        let e : i.content ≡ content.Flow = stands _ p refl in
+        in_parts content.TableParts InTable (reset_mode n z.context (d ∷ up)) _ p refl refl refl refl (ap (λ r. r.table_context && (r.fosters || false)) p) refl q.mode_is
+        (λ at. rules.start_table n laws.basic z at made f d up items (begun_control c) x attrs absent1 room_here deep_here (mode_in n q content.Flow e) (ap (λ r. r.family) p) (q.no_p (ap closes_p e)))
+        (λ at m g items2 c2 mode. rules.end_table n laws.basic z at m g d up items2 c2 made x mode (ap (λ r. r.family) p) (laws.table x (ap (λ r. r.family) p)))
+    of_class family.Colgroup k p plain =
+        let e : i.content ≡ content.TableParts = stands _ p refl in
+        let mode_at : c.mode ≡ InTable = parts_mode_is c.mode (mode_in n q content.TableParts e) in
+        in_parts content.Columns InColumnGroup InTable _ p refl refl refl refl (ap (λ r. r.is_colgroup) p) refl (sym mode_at)
+        (λ at. rules.start_colgroup n laws.basic z at made f d up items (begun_control c) x attrs absent1 room_here deep_here mode_at (ap (λ r. r.family) p) (and_parts (is_table_context (n.tag d.name)) _ (current_in n q content.TableParts e)).0)
+        (λ at m g items2 c2 mode. rules.end_colgroup n laws.basic z at m g d up items2 c2 made x mode (ap (λ r. r.family) p))
+    of_class family.TableSection k p plain =
+        let e : i.content ≡ content.TableParts = stands _ p refl in
+        let mode_at : c.mode ≡ InTable = parts_mode_is c.mode (mode_in n q content.TableParts e) in
+        in_parts content.TableRows InTableBody InTable _ p refl refl refl refl (ap (λ r. r.body_context && (r.fosters || false)) p) refl (sym mode_at)
+        (λ at. rules.start_section n laws.basic z at made f d up items (begun_control c) x attrs absent1 room_here deep_here mode_at (ap (λ r. r.family) p) (and_parts (is_table_context (n.tag d.name)) _ (current_in n q content.TableParts e)).0)
+        (λ at m g items2 c2 mode. rules.end_section n laws.basic z at m g d up items2 c2 made x mode (ap (λ r. r.family) p) (ap (λ r. r.body_context) p))
+    of_class family.Row k p plain =
+        let e : i.content ≡ content.TableRows = stands _ p refl in
+        let mode_at : c.mode ≡ InTableBody = rows_mode_is c.mode (mode_in n q content.TableRows e) in
+        in_parts content.Cells InRow InTableBody _ p refl refl refl refl (ap (λ r. r.row_context && (r.fosters || false)) p) refl (sym mode_at)
+        (λ at. rules.start_row n laws.basic z at made f d up items (begun_control c) x attrs absent1 room_here deep_here mode_at (ap (λ r. r.family) p) (and_parts (is_body_context (n.tag d.name)) _ (current_in n q content.TableRows e)).0)
+        (λ at m g items2 c2 mode. rules.end_row n laws.basic z at m g d up items2 c2 made x mode (ap (λ r. r.family) p) (laws.table_row x (ap (λ r. r.family) p)) (ap (λ r. r.row_context) p))
+    of_class family.Caption k p plain =
         let e : i.content ≡ content.TableParts = stands _ p refl in
         let mode_at : c.mode ≡ InTable = parts_mode_is c.mode (mode_in n q content.TableParts e) in
         marking InCaption InTable _ p refl (ap (λ r. unwrap_or r.mode (reset_mode n z.context (d ∷ up))) p) refl refl refl refl (sym mode_at)
         (λ at. rules.start_caption n laws.basic z at made f d up items (begun_control c) x attrs absent1 room_here deep_here mode_at (ap (λ r. r.family) p) (and_parts (is_table_context (n.tag d.name)) _ (current_in n q content.TableParts e)).0)
         (λ at m g items2 c2 mode. rules.end_caption n laws.basic z at m g d up items2 c2 made x mode (ap (λ r. r.family) p) (laws.caption x (ap (λ r. r.family) p)) (ap (λ r. r.has_implied_end) p))
-
-    a_cell : profile (n.tag x) ≡ class_profile class.Cell → (ts : List (PlacedToken N)) → Spells ts → Node ts
-    a_cell p =
+    of_class family.Cell k p plain =
         let e : i.content ≡ content.Cells = stands _ p refl in
         let mode_at : c.mode ≡ InRow = cells_mode_is c.mode (mode_in n q content.Cells e) in
         marking InCell InRow _ p refl (ap (λ r. unwrap_or r.mode (reset_mode n z.context (d ∷ up))) p) refl refl refl refl (sym mode_at)
         (λ at. rules.start_cell n laws.basic z at made f d up items (begun_control c) x attrs absent1 room_here deep_here mode_at (ap (λ r. r.family) p) (and_parts (is_row_context (n.tag d.name)) _ (current_in n q content.Cells e)).0)
         (λ at m g items2 c2 mode. rules.end_cell n laws.basic z at m g d up items2 c2 made x mode (ap (λ r. r.family) p) (ap (λ r. r.has_implied_end) p))
-
-    an_object : profile (n.tag x) ≡ class_profile class.Object → (ts : List (PlacedToken N)) → Spells ts → Node ts
-    an_object p =
+    of_class family.Object k p plain =
         let flows : is_flow_mode c.mode ≡ true = phrasing_flows _ p refl in
         marking c.mode c.mode _ p refl (same_mode _ p refl) flows refl refl refl refl
         (λ at. rules.start_object n laws.basic z at made f d up items (begun_control c) x attrs absent1 room_here deep_here flows (ap (λ r. r.family) p) q.listed)
         (λ at m g items2 c2 mode. rules.end_object n laws.basic z at m g d up items2 c2 made x (ap is_flow_mode mode ∙ flows) (ap (λ r. r.has_implied_end) p) (ap (λ r. r.family) p) ∙ (λ v. Done (state z m g (d ∷ up) (cleared items2) (record c2 { mode = mode v }))))
-
-    of_class : (k : Class) → profile (n.tag x) ≡ class_profile k → (ts : List (PlacedToken N)) → Spells ts → Node ts
-    of_class class.Block p = a_block content.Flow false false p refl (λ m. refl) (ap (λ r. not r.is_heading) p)
-    of_class class.ListOf p = a_block content.ListItems true false p refl (λ m. refl) (ap (λ r. r.is_list) p)
-    of_class class.DefinitionList p = a_block content.Definitions false true p refl (λ m. refl) (ap (λ r. r.is_dl) p)
-    of_class class.Paragraph p = a_paragraph p
-    of_class class.Heading p = a_heading p
-    of_class class.Pre p = a_pre p
-    of_class class.Form p = a_form p
-    of_class class.Item p = an_item p
-    of_class class.Definition p = a_definition p
-    of_class class.Formatting p = a_formatting p
-    of_class class.Anchor p = an_anchor p
-    of_class class.Button p = a_button p
-    of_class class.Span p = a_span p
-    of_class class.Title p = a_raw_element family.Title content.Text (refl, refl, refl) p refl refl (λ r. refl)
-    of_class class.Textarea p = a_textarea p
-    of_class class.Style p = a_raw_element family.Style content.RawText (refl, refl, refl) p refl refl (λ r. refl)
-    of_class class.Script p = a_raw_element family.Script content.ScriptText (refl, refl, refl) p refl refl (λ r. refl)
-    of_class class.Iframe p = a_raw_element family.Iframe content.RawText (refl, refl, refl) p refl refl (λ r. refl)
-    of_class class.Object p = an_object p
-    of_class class.Table p = a_table p
-    of_class class.Caption p = a_caption p
-    of_class class.Colgroup p = a_colgroup p
-    of_class class.Section p = a_section p
-    of_class class.Row p = a_row p
-    of_class class.Cell p = a_cell p
+    of_class _ k p plain = absurd (false≢true (sym plain ∙ ap (λ r. r.is_void) p))
 
   -- VOID ELEMENTS
 
@@ -1032,19 +945,8 @@ module _ {N : Type 0} (n : Naming N) (laws : NameLaws n) (z : State N) where
         let c1 : Control = record (begun_control c) { acknowledged = true } in
         let s1 : State N = state z (made + 1) (under d.node (tree made (element x attrs) none none) f) (d ∷ up) items c1 in
         let one : Step n t.at (start x attrs false) s (Goes s1) = start_step t.at x attrs s (state z made f (d ∷ up) items c) s1 from (opening t.at) in
-        record {
-          built = record {
-            items' = items;
-            control' = c1;
-            reached = s1;
-            steps = subst (λ (us : List (PlacedToken N)). Steps n us s (Goes s1)) (sym (t.is ∙ ap (λ us. record { token = start x attrs false; at = t.at } ∷ us) (ended t.others t.rest))) (and one step.none);
-            acts = itself s1;
-            thinned = same;
-            keeps = record { mode = refl; head = refl; form = refl; quirks = refl };
-          };
-          no_drop = refl;
-          exact = λ e. refl;
-        }
+        as_it_stands b (element x attrs) none made f d up items items c c1 s ts _ (t.is ∙ ap (λ us. record { token = start x attrs false; at = t.at } ∷ us) (ended t.others t.rest)) (and one step.none) same
+        (record { mode = refl; head = refl; form = refl; quirks = refl }) refl
 
     room_for : made < z.site.nodes.limit
     room_for = omega (arith, room)
@@ -1063,23 +965,24 @@ module _ {N : Type 0} (n : Naming N) (laws : NameLaws n) (z : State N) where
     plain_void w r rule p fam phrasing = void_built (λ at. rules.start_void n laws.basic z at made f d up items (begun_control c) x attrs (q.fresh made (omega arith)) room_for deep_for
         (phrasing_mode i.content c.mode (ap (takes_role i.content) (sym phrasing) ∙ void_role r p) q.mode_fits) w (ap (λ o. o.family) p ∙ fam) rule)
 
-    of_void : (k : VoidClass) → profile (n.tag x) ≡ void_profile k → (ts : List (PlacedToken N)) → Void ts
-    of_void class.Break p = in_text family.Br _ (refl, refl, refl) p refl refl
-    of_void class.Input p = in_text family.Input _ (refl, refl, refl) p refl refl
-    of_void class.Void p = in_text family.Area _ (refl, refl, refl) p refl refl
-    of_void class.Source p = plain_void family.Param _ (refl, refl, refl) p refl refl
-    of_void class.Link p = plain_void family.Link _ (refl, refl, refl) p refl refl
-    of_void class.Column p = void_built (λ at. rules.start_col n laws.basic z at made f d up items (begun_control c) x attrs (q.fresh made (omega arith)) room_for deep_for
+    of_void : (w : Family) (k : Content) → profile (n.tag x) ≡ class_profile w k → is_void (n.tag x) ≡ true → (ts : List (PlacedToken N)) → Void ts
+    of_void family.Br k p void_is = in_text family.Br _ (refl, refl, refl) p refl refl
+    of_void family.Input k p void_is = in_text family.Input _ (refl, refl, refl) p refl refl
+    of_void family.Area k p void_is = in_text family.Area _ (refl, refl, refl) p refl refl
+    of_void family.Param k p void_is = plain_void family.Param _ (refl, refl, refl) p refl refl
+    of_void family.Link k p void_is = plain_void family.Link _ (refl, refl, refl) p refl refl
+    of_void family.Col k p void_is = void_built (λ at. rules.start_col n laws.basic z at made f d up items (begun_control c) x attrs (q.fresh made (omega arith)) room_for deep_for
         (columns_mode_is c.mode (mode_in n q _ (stands_in i.content role.Column refl (void_role _ p)))) (ap (λ r. r.family) p))
-    of_void class.Rule p =
+    of_void family.Hr k p void_is =
         let e : i.content ≡ content.Flow = stands_in i.content role.Flow refl (void_role _ p) in
         void_built (λ at. rules.start_hr n laws.basic z at made f d up items (begun_control c) x attrs (q.fresh made (omega arith)) room_for deep_for (mode_in n q content.Flow e) (ap (λ r. r.family) p) (q.no_p (ap closes_p e)))
+    of_void family.Block content.ListItems p void_is = absurd (false≢true (sym (ap (λ r. r.is_void) p) ∙ void_is))
+    of_void _ _ p void_is = absurd (let v = ap (λ r. r.is_void) p in let o = ap (λ r. r.role) p in let none = no_nowhere i.content in cc)
 
   -- THE INDUCTION
 
   fosters_at : (a b : Bool) → (a || not b) ≡ true → b ≡ true → a ≡ true
-  fosters_at true b h e = refl
-  fosters_at false _ h e = absurd cc
+  fosters_at a b h e = grind arith
 
   text_node : (i : Inside) (b : ℕ) (t : List ℕ) (made : ℕ) (f : Forest N) (d : OpenNode N) (up : List (OpenNode N)) (items : List (Listed N)) (c : Control) → Quiet n z.context i made f d up items c → (good : GoodText i t)
       → text_before (LastIn d.node) f ≡ None → (c.drop_lf && good.is.one == 10) ≡ false → made < z.site.nodes.limit → (ts : List (PlacedToken N)) → AreTokens ts (map (λ ch. character ch) (chars t)) → NodeBuilt b (text t) none made f d up items c (state z made f (d ∷ up) items c) ts
@@ -1151,23 +1054,30 @@ module _ {N : Type 0} (n : Naming N) (laws : NameLaws n) (z : State N) where
       }
   builds none i made f d up items c s (t ∷ ts) q g from no_text before safe room deep h = absurd cc
   builds (tree b (element x attrs) kids rest) i made f d up items c s ts q g from no_text before safe room deep h =
-      go (classed (n.tag x) (λ e. no_nowhere i.content (ap (takes_role i.content) (sym e) ∙ g.0))) (builds kids) (builds rest)
+      go (is_void (n.tag x)) refl (builds kids) (builds rest)
     where
-      go : Classed (n.tag x) → LawOf kids → LawOf rest → Built (tree b (element x attrs) kids rest) made f d up items c s ts
-      go (with_content k p) law_kids law_rest =
-          let plain : is_void (n.tag x) ≡ false = ap (λ r. r.is_void) p ∙ has_content k in
+      w : Family
+      w = family_of (n.tag x)
+
+      k : Content
+      k = (row (n.tag x)).1
+
+      p : profile (n.tag x) ≡ class_profile w k
+      p = classed (n.tag x) (λ e. false≢true (sym (no_nowhere i.content) ∙ ap (takes_role i.content) (sym e) ∙ g.0))
+
+      go : (v : Bool) → is_void (n.tag x) ≡ v → LawOf kids → LawOf rest → Built (tree b (element x attrs) kids rest) made f d up items c s ts
+      go false plain law_kids law_rest =
           let h1 : AreTokens ts (start x attrs false ∷ (tokens_of n kids ++ end x ∷ tokens_of n rest)) = h ∙ (rw plain refl) in
           let h2 : AreTokens ts ((start x attrs false ∷ tokens_of n kids ++ end x ∷ []) ++ tokens_of n rest) = h1 ∙ ap (λ us. start x attrs false ∷ us) (seam (tokens_of n kids) (tokens_of n rest) (end x)) in
           node_and_rest b (element x attrs) kids rest law_rest i made f d up items c s ts (start x attrs false ∷ tokens_of n kids ++ end x ∷ []) q g.4 (λ e. refl) (λ e. refl) room (omega arith) h2
-          (λ front e. of_class b x attrs kids law_kids i made f d up items c s q from g.0 g.1 g.2 g.3 (omega arith) (omega arith) k p front e)
-      go (without k p) law_kids law_rest =
-          let empty : kids ≡ none = good-empty (inside_element (n.tag x) i) kids (ap (λ o. content_within i.content o.content) p ∙ ap (content_within i.content) (has_none k).1) g.3 in
-          let void_is : is_void (n.tag x) ≡ true = ap (λ r. r.is_void) p ∙ (has_none k).0 in
+          (λ front e. of_class b x attrs kids law_kids i made f d up items c s q from g.0 g.1 g.2 g.3 (omega arith) (omega arith) w k p plain front e)
+      go true void_is law_kids law_rest =
+          let empty : kids ≡ none = good-empty (inside_element (n.tag x) i) kids (ap (λ o. content_within i.content o.content) p ∙ ap (content_within i.content) (void_empty w k (sym (ap (λ r. r.is_void) p) ∙ void_is))) g.3 in
           let h1 : AreTokens ts (start x attrs false ∷ tokens_of n rest) = h ∙ (rw void_is refl) in
           let sized : size kids ≡ 0 = ap size empty in
           subst (λ (k : Forest N). Built (tree b (element x attrs) k rest) made f d up items c s ts) (sym empty)
           (node_and_rest b (element x attrs) none rest law_rest i made f d up items c s ts (start x attrs false ∷ []) q g.4 (λ e. refl) (λ e. refl) (omega arith) (omega arith) h1
-          (λ front e. of_void b x attrs i made f d up items c s q from g.0 (omega arith) (omega arith) k p front e))
+          (λ front e. of_void b x attrs i made f d up items c s q from g.0 (omega arith) (omega arith) w k p void_is front e))
   builds (tree b (text t) none rest) i made f d up items c s ts q g from no_text before safe room deep h =
       subst (λ (u : State N). Built (tree b (text t) none rest) made f d up items c u ts) (sym (no_text refl))
       (node_and_rest b (text t) none rest (builds rest) i made f d up items c (state z made f (d ∷ up) items c) ts (map (λ ch. character ch) (chars t)) q g.2 (λ e. absurd (let z = g.1 in cc)) (λ e. absurd cc) room deep h
