@@ -15,3 +15,4 @@ pub mod Shown
 pub mod Taken
 pub mod TokenRun
 pub mod Unrefused
+pub mod Vocabulary

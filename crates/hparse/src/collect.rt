@@ -1,8 +1,7 @@
 //! What a run collects.
 
 ghost use Rattle.std.specs.Prelude.{◌≡◌, [], MatchResult};
-ghost use Rattle.names.specs.declared.refusal.Refusal.TheVariants.{Memory};
-ghost use Rattle.hparse.specs.Collecting.{IsRunOf};
+ghost use Rattle.hparse.specs.Vocabulary.{Memory, IsRunOf};
 
 use crate::errors::sort_errors;
 use crate::token_run::TokenRun;

@@ -2,12 +2,7 @@
 
 ghost use Rattle.std.specs.Prelude.{◌≡◌, ℕ, List, [], MatchResult};
 ghost use Rattle.std.specs.List.{flat_map};
-ghost use Rattle.charref.specs.Reference.{Entities};
-ghost use Rattle.names.specs.declared.refusal.Refusal.TheVariants.{Memory};
-ghost use Rattle.htext.specs.declared.BadBytes.{BadBytes as Bad};
-ghost use Rattle.hparse.specs.Answer.{of_document};
-ghost use Rattle.hparse.specs.Collecting.{IsRunOf};
-ghost use Rattle.hparse.specs.Shown.{HasReadTokens, Shows};
+ghost use Rattle.hparse.specs.Vocabulary.{Entities, Memory, Bad, of_document, IsRunOf, HasReadTokens, Shows};
 
 use crate::collect::Collected;
 use crate::options::Options;

@@ -1,14 +1,7 @@
 //! A tokenizer that is fed the text of an input.
 
 ghost use Rattle.std.specs.Prelude.{◌≡◌, ◌+◌, ◌≤◌, List, [], true};
-ghost use Rattle.names.specs.Names.{AreNames};
-ghost use Rattle.names.specs.Sink.{Hands};
-ghost use Rattle.charref.specs.Reference.{IsTable};
-ghost use Rattle.htext.specs.declared.decoder.TheConstants.{MAX_INPUT};
-ghost use Rattle.htext.specs.Items.{CharItem, bad_each, input_errors};
-ghost use Rattle.htoken.specs.Token.{gives_item};
-ghost use Rattle.hparse.specs.Holding.{HoldsItems, EndsText, Refuses};
-ghost use Rattle.hparse.specs.Input.{Manner, Began};
+ghost use Rattle.hparse.specs.Vocabulary.{AreNames, Hands, IsTable, MAX_INPUT, CharItem, bad_each, input_errors, gives_item, HoldsItems, EndsText, Refuses, Manner, Began};
 
 use charref::Table;
 use hmarkup::ErrorSink;

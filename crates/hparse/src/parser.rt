@@ -1,12 +1,7 @@
 //! A parser that is fed bytes.
 
 ghost use Rattle.std.specs.Prelude.{◌≡◌, ◌<◌, ◌⊎◌, ℕ, List, [], ◌++◌, None, Some, true, false, Err, option_map, IfErr, MatchResult};
-ghost use Rattle.names.specs.declared.refusal.Refusal.{Refusal as Refused};
-ghost use Rattle.names.specs.declared.refusal.Refusal.TheVariants.{BadContext, Memory};
-ghost use Rattle.hparse.specs.Parse.{ParseCase, ParseOptions, document, fragment, is_context};
-ghost use Rattle.hparse.specs.Reader.{ReadsInput};
-ghost use Rattle.hparse.specs.Parsing.{AnswersParse, FeedsParser, HasParsed, IsBuilt, IsMadeOf, ShowsParse, options_of};
-ghost use Rattle.hparse.specs.Unrefused.{IsUnrefused};
+ghost use Rattle.hparse.specs.Vocabulary.{Refused, BadContext, Memory, ParseCase, ParseOptions, document, fragment, is_context, ReadsInput, AnswersParse, FeedsParser, HasParsed, IsBuilt, IsMadeOf, ShowsParse, options_of, IsUnrefused};
 
 use crate::context::is_context;
 use crate::errors::sort_errors;

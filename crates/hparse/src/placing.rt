@@ -1,11 +1,7 @@
 //! A builder of a tree that keeps where the nodes came from.
 
 ghost use Rattle.std.specs.Prelude.{◌≡◌, option_map, IfOk, IfErr};
-ghost use Rattle.names.specs.declared.refusal.Refusal.TheVariants.{Memory};
-ghost use Rattle.htoken.specs.declared.token.Token.{Token as Given};
-ghost use Rattle.hmodes.specs.Tokens.{token_of};
-ghost use Rattle.hparse.specs.Origins.{is_character, with_token};
-ghost use Rattle.hparse.specs.Placing.{PlacesToken, origins_if};
+ghost use Rattle.hparse.specs.Vocabulary.{Memory, Given, token_of, is_character, with_token, PlacesToken, origins_if};
 
 use crate::origins::{Origin, Origins};
 use hmarkup::ErrorSink;

@@ -1,12 +1,7 @@
 //! An input from a reader.
 
 ghost use Rattle.std.specs.Prelude.{◌<◌, ◌≤◌, ℕ, List, []};
-ghost use Rattle.htoken.specs.Token.{gives_item};
-ghost use Rattle.hparse.specs.Fed.{HasRead, WasRead};
-ghost use Rattle.hparse.specs.Input.{Manner, Began, Comes};
-ghost use Rattle.hparse.specs.Into.{as_document, ComesInto};
-ghost use Rattle.hparse.specs.Reader.{ReadsInput};
-ghost use Rattle.hparse.specs.Unrefused.{IsUnrefusedText};
+ghost use Rattle.hparse.specs.Vocabulary.{gives_item, HasRead, WasRead, Manner, Began, Comes, as_document, ComesInto, ReadsInput, IsUnrefusedText};
 
 use crate::options::Options;
 use crate::reading::Reading;

@@ -1,9 +1,7 @@
 //! An input that comes in pieces.
 
 ghost use Rattle.std.specs.Prelude.{◌≡◌, ℕ, List, [], ◌++◌};
-ghost use Rattle.htoken.specs.Token.{gives_item};
-ghost use Rattle.hparse.specs.Fed.{HasRead, FeedsPiece, EndsInput};
-ghost use Rattle.hparse.specs.Input.{Manner, Began, bom_of};
+ghost use Rattle.hparse.specs.Vocabulary.{gives_item, HasRead, FeedsPiece, EndsInput, Manner, Began, bom_of};
 
 use crate::feeding::Feeding;
 use crate::options::Options;

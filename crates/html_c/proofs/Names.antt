@@ -1,28 +1,18 @@
 -- The names of other crates and of specs/ that several proofs cite, in one place.
 pub use Rattle.charref.specs.Reading.{table_of}
-pub use Rattle.hmarkup.specs.Quirks.{ReadsQuirks}
-pub use Rattle.hnodes.specs.Forest.{Forest, none, tree, children_of}
-pub use Rattle.hnodes.specs.Spelled.{spelled}
+pub use Rattle.html_c.specs.Vocabulary.{ReadsQuirks, children_of, spelled, ParseOptions, options_of, ComesToNone, IsPiece, Tells, context_told, parts_of, kind_number, link_to, rows_of, words_of, ended, ReadsTable, ComesToParse, GivesParse, name_of, AllowsContext, context_of, prints_of, Memory}
+pub use Rattle.hnodes.specs.Forest.{Forest, none, tree}
 pub use Rattle.hnodes.specs.Spots.{kind_in}
-pub use Rattle.hparse.specs.Parse.{ParseOptions}
-pub use Rattle.hparse.specs.Parsing.{options_of}
 pub use Rattle.hparse.specs.declared.parsed.Parsed.{Parsed}
-pub use Rattle.html_c.specs.Exports.{ComesToNone, none_for_memory, none_of_bytes, no_command, unmet_rows}
-pub use Rattle.html_c.specs.Given.{IsPiece, Tells, context_told, unmet}
+pub use Rattle.html_c.specs.Exports.{none_for_memory, none_of_bytes, no_command, unmet_rows}
+pub use Rattle.html_c.specs.Given.{unmet}
 pub use Rattle.html_c.specs.Input.{left_in}
-pub use Rattle.html_c.specs.Parts.{parts_of}
-pub use Rattle.html_c.specs.Rows.{kind_number, link_to, rows_of, words_of, ended}
-pub use Rattle.html_c.specs.Table.{ReadsTable}
-pub use Rattle.html_c.specs.Trees.{ComesToParse, GivesParse}
 pub use Rattle.html_c.specs.declared.answer.Given.{Given}
 pub use Rattle.html_c.specs.declared.fault.CallFault.{CallFault}
 pub use Rattle.html_c.specs.declared.fitted.Fitted.{Fitted}
-pub use Rattle.hwrite.specs.Command.{name_of}
-pub use Rattle.hwrite.specs.Context.{AllowsContext, case_in}
-pub use Rattle.hwrite.specs.Prints.{context_of, prints_of}
+pub use Rattle.hwrite.specs.Context.{case_in}
 pub use Rattle.names.specs.Names.{text_of}
 pub use Rattle.names.specs.declared.refusal.Refusal.{Refusal}
-pub use Rattle.names.specs.declared.refusal.Refusal.TheVariants.{Memory}
 pub use Rattle.std.proofs.Common.{◌≡◌, ℕ, ◌<◌, List, [], ◌∷◌, ◌++◌, Some, map, refl, sym, ap, ap₂, subst, ◌∙◌, Bool, true, Result, Ok, Err, inl, inr, length, ◌+◌, drop, Option, None}
 pub use Rattle.std.proofs.lemmas.List.{append_assoc, append-nil}
 pub use Rattle.std.specs.List.{flat_map}

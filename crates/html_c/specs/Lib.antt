@@ -10,3 +10,4 @@ pub mod Rows
 pub mod Table
 pub mod Trees
 pub mod Version
+pub mod Vocabulary

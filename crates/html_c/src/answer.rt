@@ -85,12 +85,10 @@ pub struct PageAnswer {
 }
 
 // The sizes that the header asserts.
-const _: () = prove!(size_of::<Given<'static>>() == 104);
-
-const _: () = prove!(size_of::<Answer>() == 32);
-
-const _: () = prove!(size_of::<NodeRow>() == 20);
-
-const _: () = prove!(size_of::<ErrorRow>() == 16);
-
-const _: () = prove!(size_of::<PageAnswer>() == 48);
+const _: () = prove!(
+    size_of::<Given<'static>>() == 104
+        && size_of::<Answer>() == 32
+        && size_of::<NodeRow>() == 20
+        && size_of::<ErrorRow>() == 16
+        && size_of::<PageAnswer>() == 48
+);

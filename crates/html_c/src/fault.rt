@@ -94,28 +94,12 @@ fn refusal_number(refusal: Refusal) -> u32
 fn element_number(name: RefusedName) -> u32
     ensures { result ≡ element_number name }
 {
-    match name {
-        RefusedName::Math => 1,
-        RefusedName::Svg => 2,
-        RefusedName::Template => 3,
-        RefusedName::Select => 4,
-        RefusedName::Option => 5,
-        RefusedName::Optgroup => 6,
-        RefusedName::Frame => 7,
-        RefusedName::Frameset => 8,
-        RefusedName::Keygen => 9,
-    }
+    name as u32 + 1
 }
 
 /// The number of what is wrong with a table of references.
 fn cause_number(cause: TableFault) -> u32
     ensures { result ≡ cause_number cause }
 {
-    match cause {
-        TableFault::Json => 1,
-        TableFault::Shape => 2,
-        TableFault::Key => 3,
-        TableFault::Codepoints => 4,
-        TableFault::Characters => 5,
-    }
+    cause as u32 + 1
 }

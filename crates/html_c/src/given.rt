@@ -1,12 +1,7 @@
 //! The options of a call.
 
 ghost use Rattle.std.specs.Prelude.{◌≡◌, ◌<◌, ◌≤◌, MatchResult, Some, None, Ok, true};
-ghost use Rattle.hmarkup.specs.Quirks.{ReadsQuirks};
-ghost use Rattle.hparse.specs.Parsing.{options_of};
-ghost use Rattle.hwrite.specs.Command.{name_of};
-ghost use Rattle.hwrite.specs.Context.{AllowsContext};
-ghost use Rattle.html_c.specs.Given.{bad_told, context_told, escaping_told, may_be_in, task_told};
-ghost use Rattle.html_c.specs.Given.{HasLimits, HasLists, IsCommand, IsPiece, IsSize, NoCommand, NoEscaping, Tells, Unmet};
+ghost use Rattle.html_c.specs.Vocabulary.{ReadsQuirks, options_of, name_of, AllowsContext, bad_told, context_told, escaping_told, may_be_in, task_told, HasLimits, HasLists, IsCommand, IsPiece, IsSize, NoCommand, NoEscaping, Tells, Unmet};
 ghost use Rattle.html_c.specs.declared.fault.CallFault.TheVariants as fault;
 
 use crate::answer::Given;
@@ -52,28 +47,6 @@ fn may_be_in(task: Task, context: Option<&str>) -> bool
     }
 }
 
-/// The way of escaping of a number.
-fn escaping_of(number: u32) -> Option<Escaping>
-    ensures { result ≡ escaping_told number }
-{
-    match number {
-        1 => Some(Escaping::One),
-        2 => Some(Escaping::Two),
-        _ => None,
-    }
-}
-
-/// What becomes of bad bytes, by its number.
-fn bad_bytes_of(number: u32) -> Option<BadBytes>
-    ensures { result ≡ bad_told number }
-{
-    match number {
-        0 => Some(BadBytes::Refuse),
-        1 => Some(BadBytes::Replace),
-        _ => None,
-    }
-}
-
 /// The lists that are given.
 #[derive(Drop)]
 pub(crate) struct Lists {
@@ -97,9 +70,10 @@ impl<'a> Given<'a> {
     pub(crate) fn escaping(&self) -> Result<Escaping, CallFault>
         ensures { MatchResult result (λ how. escaping_told self.now.escaping ≡ Some how) (NoEscaping self.now) }
     {
-        match escaping_of(self.escaping) {
-            Some(escaping) => Ok(escaping),
-            None => Err(CallFault::BadNumber),
+        match self.escaping {
+            1 => Ok(Escaping::One),
+            2 => Ok(Escaping::Two),
+            _ => Err(CallFault::BadNumber),
         }
     }
 
@@ -181,9 +155,10 @@ impl<'a> Given<'a> {
     pub(crate) fn bad_bytes(&self) -> Result<BadBytes, CallFault>
         ensures { MatchResult result (λ bad. bad_told self.now.bad_bytes ≡ Some bad) (Unmet self.now) }
     {
-        match bad_bytes_of(self.bad_bytes) {
-            Some(bad_bytes) => Ok(bad_bytes),
-            None => Err(CallFault::BadNumber),
+        match self.bad_bytes {
+            0 => Ok(BadBytes::Refuse),
+            1 => Ok(BadBytes::Replace),
+            _ => Err(CallFault::BadNumber),
         }
     }
 

@@ -1,12 +1,7 @@
 //! A law: a table in its flat form is the same table.
 
 ghost use Rattle.std.specs.Prelude.{◌≡◌, ◌↔◌, Ok};
-ghost use Rattle.charref.specs.Flat.{flat_of, IsReadable};
-ghost use Rattle.charref.specs.Reference.{Entities};
-ghost use Rattle.hparse.specs.Parse.{ParseOptions};
-ghost use Rattle.html_c.specs.Given.{AreSameButTables, Tells};
-ghost use Rattle.html_c.specs.Table.{ReadsTable};
-ghost use Rattle.html_c.specs.declared.answer.Given.{Given as Told};
+ghost use Rattle.html_c.specs.Vocabulary.{flat_of, IsReadable, Entities, ParseOptions, AreSameButTables, Tells, ReadsTable, Told};
 
 use charref::one_flat_table;
 

@@ -3,10 +3,7 @@
 #![tactic(auto)]
 
 ghost use Rattle.std.specs.Prelude.{◌≡◌};
-ghost use Rattle.html_c.specs.Exports.{AnswersText, AnswersTree};
-ghost use Rattle.html_c.specs.Page.{parts, AnswersPage};
-ghost use Rattle.html_c.specs.Table.{AnswersTable};
-ghost use Rattle.html_c.specs.Version.{version};
+ghost use Rattle.html_c.specs.Vocabulary.{AnswersText, AnswersTree, parts, AnswersPage, AnswersTable, version};
 
 mod answer;
 mod fault;

@@ -1,13 +1,8 @@
 //! A page: the tree of an input, its parse errors as rows, and its HTML, by one parse.
 
 ghost use Rattle.std.specs.Prelude.{◌≡◌, if◌then◌else◌, ℕ, List, [], length, map, None, IfOk, MatchResult};
-ghost use Rattle.names.specs.declared.refusal.Refusal.TheVariants.{Memory};
-ghost use Rattle.hwrite.specs.Prints.{parsed_text};
+ghost use Rattle.html_c.specs.Vocabulary.{Memory, parsed_text, IsFitted, all_fit, error_row, page_answer, parts, put_parts, wants_told, GivesNoPage, GivesPage, parts_of, IsPage};
 ghost use Rattle.hwrite.specs.declared.command.Task.TheVariants as task;
-ghost use Rattle.html_c.specs.Fitted.{IsFitted};
-ghost use Rattle.html_c.specs.Page.{all_fit, error_row, page_answer, parts, put_parts, wants_told, GivesNoPage, GivesPage};
-ghost use Rattle.html_c.specs.Parts.{parts_of};
-ghost use Rattle.html_c.specs.Trees.{IsPage};
 
 use crate::answer::{ErrorRow, Given, NodeRow, PageAnswer};
 use crate::fault::CallFault;

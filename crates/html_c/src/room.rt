@@ -1,10 +1,7 @@
 //! The caller's rooms.
 
 ghost use Rattle.std.specs.Prelude.{◌≡◌, ◌≤◌, true, length, nat_le};
-ghost use Rattle.html_c.specs.Exports.{fit};
-ghost use Rattle.html_c.specs.Fitted.{text_of};
-ghost use Rattle.html_c.specs.Page.{page_fault};
-ghost use Rattle.html_c.specs.Room.{fault_answer, fit_status, put_over, room_answer};
+ghost use Rattle.html_c.specs.Vocabulary.{fit, text_of, page_fault, fault_answer, fit_status, put_over, room_answer};
 
 use crate::answer::{Answer, NodeRow, PageAnswer};
 use crate::fault::CallFault;

@@ -2,11 +2,7 @@
 
 ghost use Rattle.std.specs.Prelude.{◌≡◌, ◌<◌, ◌++◌, ◌∷◌, [], Some, flat_map, map, IfOk, IfSome, OnOk, string_bytes};
 ghost use Rattle.names.specs.Names.{text_of};
-ghost use Rattle.hnodes.specs.Forest.{children_of};
-ghost use Rattle.hnodes.specs.Rows.{attribute_of};
-ghost use Rattle.hnodes.specs.Spelled.{spelled, spelled_attribute, spelled_what};
-ghost use Rattle.hnodes.specs.Spots.{what_of};
-ghost use Rattle.html_c.specs.Rows.{attribute_words, ended, kind_number, link_to, row_at, rows_of, node_words_at, words_at, words_of};
+ghost use Rattle.html_c.specs.Vocabulary.{children_of, attribute_of, spelled, spelled_attribute, spelled_what, what_of, attribute_words, ended, kind_number, link_to, row_at, rows_of, node_words_at, words_at, words_of};
 
 use crate::answer::NodeRow;
 use hnodes::{DocumentType, NodeId, NodeKind, Tree};
@@ -94,13 +90,7 @@ fn push_words(
 fn kind_number(kind: NodeKind) -> u32
     ensures { result ≡ kind_number kind }
 {
-    match kind {
-        NodeKind::Document => 0,
-        NodeKind::Doctype => 1,
-        NodeKind::Element => 2,
-        NodeKind::Comment => 3,
-        NodeKind::Text => 4,
-    }
+    kind as u32
 }
 
 /// The number of a link to a node of a tree, or to none.

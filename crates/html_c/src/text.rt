@@ -1,14 +1,7 @@
 //! The text of a task.
 
 ghost use Rattle.std.specs.Prelude.{◌≡◌, ◌<◌, ℕ, IfOk, MatchResult, Ok};
-ghost use Rattle.hparse.specs.Parsing.{options_of};
-ghost use Rattle.hwrite.specs.Command.{name_of};
-ghost use Rattle.hwrite.specs.Context.{AllowsContext};
-ghost use Rattle.hwrite.specs.Prints.{context_of, prints_of};
-ghost use Rattle.html_c.specs.Exports.{ComesToNone, GivesNone, GivesText};
-ghost use Rattle.html_c.specs.Faults.{kept};
-ghost use Rattle.html_c.specs.Fitted.{text_of as written_in};
-ghost use Rattle.html_c.specs.Given.{HasLists, IsCommand};
+ghost use Rattle.html_c.specs.Vocabulary.{options_of, name_of, AllowsContext, context_of, prints_of, ComesToNone, GivesNone, GivesText, kept, written_in, HasLists, IsCommand};
 
 use crate::answer::Given;
 use crate::fault::CallFault;

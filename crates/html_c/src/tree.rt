@@ -1,13 +1,7 @@
 //! What an input is parsed as, and the rows of its tree.
 
 ghost use Rattle.std.specs.Prelude.{◌≡◌, ◌<◌, MatchResult};
-ghost use Rattle.names.specs.declared.refusal.Refusal.TheVariants.{Memory};
-ghost use Rattle.hparse.specs.Parsing.{options_of};
-ghost use Rattle.hwrite.specs.Command.{name_of};
-ghost use Rattle.hwrite.specs.Context.{AllowsContext};
-ghost use Rattle.html_c.specs.Exports.{GivesNoRows, GivesRows};
-ghost use Rattle.html_c.specs.Given.{HasLists, IsPiece, IsSize, context_told};
-ghost use Rattle.html_c.specs.Trees.{ComesToParse, GivesParse, HasRows};
+ghost use Rattle.html_c.specs.Vocabulary.{Memory, options_of, name_of, AllowsContext, GivesNoRows, GivesRows, HasLists, IsPiece, IsSize, context_told, ComesToParse, GivesParse, HasRows};
 
 use crate::answer::Given;
 use crate::fault::CallFault;

@@ -3,3 +3,4 @@ pub mod Fault
 pub mod Line
 pub mod Numeric
 pub mod Program
+pub mod Vocabulary

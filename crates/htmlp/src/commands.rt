@@ -1,9 +1,7 @@
 //! The commands of the program, as `clap` reads them.
 
 ghost use Rattle.std.specs.Prelude.{◌≡◌, map, false, codes, IfOk};
-ghost use Rattle.clap.specs.Words.{app_of, new_app, rule_of, with_rule, with_subcommand};
-ghost use Rattle.clap.specs.declared.builder.command.Command.TheViews.{out-Command as fields_of};
-ghost use Rattle.htmlp.specs.Line.{bare_program, choice_rule, command_app, context_rules, file_rule, named_reads, program, with_commands, with_rules};
+ghost use Rattle.htmlp.specs.Vocabulary.{app_of, new_app, rule_of, with_rule, fields_of, bare_program, choice_rule, command_app, context_rules, file_rule, named_reads, program, with_commands, with_rules};
 
 use clap::{Arg, Command};
 use std::alloc::{AllocError, Global};
@@ -176,26 +174,10 @@ fn with_commands<'a>(
 {
     let mut line = line;
     for entry in entries {
-        line = with_command(alloc, line, entry)?;
+        let command = command(alloc, entry)?;
+        line = line.subcommand(command)?;
     }
     Ok(line)
-}
-
-/// The command line with one more command.
-fn with_command<'a>(
-    alloc: Global,
-    line: Command<'a>,
-    entry: &CommandEntry,
-) -> Result<Command<'a>, AllocError>
-    ensures { IfOk result (λ new. app_of new ≡ with_subcommand (app_of line.entry) (command_app (named_reads entry.now)).top) }
-{
-    match command(alloc, entry) {
-        Ok(command) => line.subcommand(command),
-        Err(error) => {
-            drop(line);
-            Err(error)
-        }
-    }
 }
 
 /// A command, with its file and its options.

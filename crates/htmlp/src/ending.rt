@@ -1,10 +1,7 @@
 //! How the program ends: its status, and its lines on standard error.
 
 ghost use Rattle.std.specs.Prelude.{◌≡◌, ◌∷◌, ◌++◌, [], IfSome, Some, codes, option_map};
-ghost use Rattle.hwrite.specs.Calls.{EndsWith, WritesAll};
-ghost use Rattle.htmlp.specs.Ending.{around_name, ending_text, fault_status, fault_text, limit_line, name_line, number_lines, range_text};
-ghost use Rattle.htmlp.specs.Ending.{refusal_line, refusal_status, status_of};
-ghost use Rattle.names.specs.RefusalText.{detail_text, number_text, refusal_text};
+ghost use Rattle.htmlp.specs.Vocabulary.{EndsWith, WritesAll, around_name, ending_text, fault_status, fault_text, limit_line, name_line, number_lines, range_text, refusal_line, status_of, detail_text, number_text, refusal_text};
 
 use crate::fault::Fault;
 use crate::numeric::Numeric;
@@ -41,18 +38,12 @@ fn status(fault: &Fault) -> u8
     ensures { result ≡ fault_status fault.now }
 {
     match fault {
-        Fault::Limit(_) => REFUSED,
-        Fault::Refused { refusal, .. } => refusal_status(*refusal),
+        Fault::Refused {
+            refusal: Refusal::Read | Refusal::Write,
+            ..
+        } => FAULT,
+        Fault::Refused { .. } | Fault::Limit(_) => REFUSED,
         _ => FAULT,
-    }
-}
-
-fn refusal_status(refusal: Refusal) -> u8
-    ensures { result ≡ refusal_status refusal }
-{
-    match refusal {
-        Refusal::Read | Refusal::Write => FAULT,
-        _ => REFUSED,
     }
 }
 

@@ -2,9 +2,8 @@
 
 ghost use Rattle.std.specs.Prelude.{◌≡◌, ◌≢◌, Some};
 ghost use Rattle.std.specs.Process.{exit_status};
-ghost use Rattle.htmlp.specs.Fault.{IsUnread};
+ghost use Rattle.htmlp.specs.Vocabulary.{IsUnread, HasRun};
 ghost use Rattle.htmlp.specs.declared.fault.Fault.TheVariants as fault;
-ghost use Rattle.htmlp.specs.Program.{HasRun};
 
 use crate::fault::Fault;
 use crate::program::run_program;

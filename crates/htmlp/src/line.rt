@@ -1,11 +1,7 @@
 //! The command line.
 
 ghost use Rattle.std.specs.Prelude.{◌≡◌, ◌<◌, ◌≤◌, [], true, codes, map, None, Some, string_bytes, IfOk, IfErr, OnOk, IsSome, MatchResult};
-ghost use Rattle.clap.specs.Words.{fault_of, first_value, found_of, takes};
-ghost use Rattle.hwrite.specs.Command.{task_named};
-ghost use Rattle.htmlp.specs.Line.{bad_bytes_of, escaping_of, number_or, program, task_of, value_of, AreGood, FaultOf, IsNumber, IsNumberFault};
-ghost use Rattle.htmlp.specs.Line.{OptionFault, Says};
-ghost use Rattle.htmlp.specs.Numeric.{accepted, name_of, IsWithin};
+ghost use Rattle.htmlp.specs.Vocabulary.{fault_of, first_value, found_of, takes, task_named, bad_bytes_of, escaping_of, number_or, program, task_of, value_of, AreGood, FaultOf, IsNumber, IsNumberFault, OptionFault, Says, accepted, name_of, IsWithin};
 ghost use Rattle.htmlp.specs.declared.fault.Fault.TheVariants as fault;
 
 use crate::commands::command_line;

@@ -1,13 +1,7 @@
 //! The program: does what the words of its command line say.
 
 ghost use Rattle.std.specs.Prelude.{◌≡◌, ◌<◌, ◌⊎◌, List, map, option_map, MatchResult, Ok, Err, string_bytes};
-ghost use Rattle.clap.specs.Words.{Text};
-ghost use Rattle.hmodes.specs.Bounds.{AreLimits, Bounds};
-ghost use Rattle.hwrite.specs.Context.{AllowsContext};
-ghost use Rattle.htmlp.specs.Fault.{IsLimitFault, IsRefused};
-ghost use Rattle.htmlp.specs.Line.{task_of, value_of, Says};
-ghost use Rattle.htmlp.specs.Numeric.{range_of, IsWithin};
-ghost use Rattle.htmlp.specs.Program.{AnswersFile, AnswersInput, AnswersWords, Answers, Ends, FindsQuirks, FindsTable, told_of};
+ghost use Rattle.htmlp.specs.Vocabulary.{Text, AreLimits, Bounds, AllowsContext, IsLimitFault, IsRefused, task_of, value_of, Says, range_of, IsWithin, AnswersFile, AnswersInput, AnswersWords, Answers, Ends, FindsQuirks, FindsTable, told_of};
 
 use crate::ending::ending;
 use crate::fault::Fault;

@@ -1,8 +1,7 @@
 //! The version of the program.
 
 ghost use Rattle.std.specs.Prelude.{◌≡◌, map, string_bytes};
-ghost use Rattle.htmlp.specs.Line.{asks_version};
-ghost use Rattle.htmlp.specs.Program.{WritesVersion};
+ghost use Rattle.htmlp.specs.Vocabulary.{asks_version, WritesVersion};
 
 use crate::fault::Fault;
 use hwrite::{Target, write_text};

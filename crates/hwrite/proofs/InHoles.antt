@@ -20,17 +20,7 @@ next_hole names text holes bytes i id h is fills =
 pub last_rest : (names : Texts) (text holes bytes : List ℕ) (i : ℕ) → length holes ≤ i → Fills names text (drop i holes) bytes → bytes ≡ text
 last_rest names text holes bytes i past fills = Fills-none names text bytes (subst (λ (hs : List ℕ). Fills names text hs bytes) (drop_all i holes past) fills)
 
--- the first hole, where there is one
-found : (xs : List ℕ) (at : ℕ) (v : Bool) → nat_lt (position_or_len is_hole xs) (length xs) ≡ v → cond v (Some (position_or_len is_hole xs)) None ≡ Some at → (position_or_len is_hole xs ≡ at) × (at < length xs)
-found xs at true e is =
-    let same : position_or_len is_hole xs ≡ at = cc in
-    let within : position_or_len is_hole xs < length xs = grind (arith, nat_tests, e) in
-    (same, omega (arith, same, within))
-found xs at false e is = absurd cc
-
-pub hole_found : (xs : List ℕ) (at : ℕ) → position is_hole xs ≡ Some at → (position_or_len is_hole xs ≡ at) × (at < length xs)
-hole_found xs at is = found xs at (nat_lt (position_or_len is_hole xs) (length xs)) refl is
-
+-- where there is no hole
 missed : (xs : List ℕ) (v : Bool) → nat_lt (position_or_len is_hole xs) (length xs) ≡ v → cond v (Some (position_or_len is_hole xs)) None ≡ None → length xs ≤ position_or_len is_hole xs
 missed xs true e is = absurd cc
 missed xs false e is = grind (arith, nat_tests, e)

@@ -1,5 +1,5 @@
 -- Lines that are written while a line of characters may be open.
-use Rattle.hwrite.proofs.Vocabulary.{◌≡◌, ℕ, Bool, true, false, List, [], ◌∷◌, ◌++◌, refl, sym, ap, subst, ◌∙◌, append_assoc, codes, decimal, encode_utf8, flat_map, Texts, Token, to_write, escaped, escaped_byte, Tok, TokenMeans, Line, Characters, joined, line_of, line_text}
+use Rattle.hwrite.proofs.Vocabulary.{◌≡◌, ℕ, Bool, true, false, List, [], ◌∷◌, ◌++◌, refl, sym, ap, subst, ◌∙◌, append_assoc, codes, decimal, flat_map, Texts, Token, to_write, escaped, escaped_byte, Tok, TokenMeans, Line, Characters, joined, line_of, line_text}
 use Rattle.std.proofs.lemmas.List.Concat.{flat_map-append}
 use Rattle.htoken.specs.declared.token.Token.TheVariants as code
 use Rattle.hwrite.specs.Draft.{after_characters}
@@ -61,10 +61,6 @@ module _ (before after : Bool) (line : Line) (lines : List Line) (old new all : 
   pub next_words : before ≡ false → after ≡ false → IsWords line
       → new ≡ old ++ line_text line → old ++ to_write before (joined line lines) ≡ all → new ++ to_write after lines ≡ all
   next_words b a is n h = rw (a, n) (append_assoc old (line_text line) (flat_map line_text lines) ∙ (rw (flat_map-words line lines is) at (rw b at h)))
-
--- the line of a character
-pub line_of-character : (names : Texts) (token : Token) (meant : Tok) (ch at : ℕ) → token ≡ code.Char ch at → TokenMeans names token meant → line_of meant ≡ Characters at (encode_utf8 ch)
-line_of-character names token meant ch at is means = ap line_of (subst (λ (t : Token). TokenMeans names t meant) is means)
 
 -- the line of a token that is no character
 pub IsWords-line_of : (names : Texts) (token : Token) (meant : Tok) → ((ch at : ℕ) → token ≡ code.Char ch at → ⊥) → TokenMeans names token meant → IsWords (line_of meant)

@@ -1,30 +1,19 @@
 -- The names of other crates and of specs/ that several proofs cite, in one place.
 pub use Rattle.hnodes.specs.Forest.{Forest}
-pub use Rattle.hnodes.specs.Spelled.{spelled}
-pub use Rattle.hparse.specs.Answer.{Answers, of_document}
-pub use Rattle.hparse.specs.Calls.{counted}
-pub use Rattle.hparse.specs.Into.{as_document}
-pub use Rattle.hparse.specs.Parse.{Parses, ParseOptions}
-pub use Rattle.hparse.specs.Parsing.{AnswersParse, options_of}
-pub use Rattle.hparse.specs.Reader.{ReadsInput}
-pub use Rattle.hparse.specs.TokenRun.{TokensMean}
-pub use Rattle.hparse.specs.Unrefused.{IsUnrefusedText}
+pub use Rattle.hwrite.specs.Vocabulary.{spelled, Answers, of_document, counted, as_document, Parses, AnswersParse, options_of, ReadsInput, TokensMean, IsUnrefusedText, WritesText, taken, AttrsMean, Doctype, Comment, Char, Tok, TokenMeans, Start, name_of, case_in, is_hole, Fills, drafted, ComesTo, AnswersDraft, Adds, Prints, tokens_text, plain_line, escaped_byte, escaped, quoted, Runs, RunsIn, BeginsIn, quoted_or_none, line_of, line_text, token_lines, attribute_words, Texts}
+pub use Rattle.hparse.specs.Parse.{ParseOptions}
 pub use Rattle.hparse.specs.declared.parsed.Parsed.{Parsed}
 pub use Rattle.hprint.specs.Lines.{error_lines}
 pub use Rattle.hserialize.proofs.Output.{none_put, part_put, part_failed, last_put, passed_on, HasLeft}
-pub use Rattle.hserialize.specs.Output.{WritesText, AppendsBeginning, taken}
+pub use Rattle.hserialize.specs.Output.{AppendsBeginning}
 pub use Rattle.hserialize.specs.declared.escaping.Escaping.{Escaping}
-pub use Rattle.htag.specs.Attributes.{AttrsMean}
-pub use Rattle.htoken.specs.Token.{Doctype, Comment, Char, Eof, Tok, TokenMeans, Start}
+pub use Rattle.htoken.specs.Token.{Eof}
 pub use Rattle.htoken.specs.declared.token.Token.{Token}
-pub use Rattle.hwrite.specs.Command.{name_of}
-pub use Rattle.hwrite.specs.Context.{case_in}
-pub use Rattle.hwrite.specs.Draft.{hole, is_hole, Fills, Drafted, drafted, ComesTo, AnswersDraft, nothing, Extends, Adds, to_write}
-pub use Rattle.hwrite.specs.Prints.{Prints, tokens_text, printed, plain_line, not_printed}
-pub use Rattle.hwrite.specs.Quoted.{escaped_byte, escaped, quoted, is_unescaped}
-pub use Rattle.hwrite.specs.Running.{Runs, RunsIn, ran, allowed, BeginsIn}
-pub use Rattle.hwrite.specs.TokenLines.{quoted_or_none, line_of, line_text, lines_of, token_lines, Line, Characters, attribute_words, joined}
-pub use Rattle.names.specs.Names.{Texts}
+pub use Rattle.hwrite.specs.Draft.{hole, Drafted, nothing, Extends, to_write}
+pub use Rattle.hwrite.specs.Prints.{printed, not_printed}
+pub use Rattle.hwrite.specs.Quoted.{is_unescaped}
+pub use Rattle.hwrite.specs.Running.{ran, allowed}
+pub use Rattle.hwrite.specs.TokenLines.{lines_of, Line, Characters, joined}
 pub use Rattle.names.specs.Spelling.{spelling}
 pub use Rattle.names.specs.declared.refusal.Refusal.{Refusal}
 pub use Rattle.names.specs.declared.refusal.Refusal.TheVariants.{Memory, Write}

@@ -9,3 +9,4 @@ pub mod Quoted
 pub mod Running
 pub mod TokenLineRows
 pub mod TokenLines
+pub mod Vocabulary

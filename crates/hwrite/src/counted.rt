@@ -1,8 +1,7 @@
 //! Readers and writers that count their failed calls.
 
 ghost use Rattle.std.specs.Prelude.{◌≡◌};
-ghost use Rattle.hparse.specs.Calls.{counted};
-ghost use Rattle.hwrite.specs.Counted.{failures_of, inner_of};
+ghost use Rattle.hwrite.specs.Vocabulary.{counted, failures_of, inner_of};
 
 use hparse::Source;
 use hserialize::Target;

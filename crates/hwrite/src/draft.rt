@@ -3,12 +3,7 @@
 ghost use Rattle.std.specs.Prelude.{◌≡◌, [], ℕ, List, slice_get, Some, false, true, OnOk, encode_utf8};
 ghost use Rattle.std.specs.List.{flat_map};
 ghost use Rattle.std.specs.String.{string_bytes};
-ghost use Rattle.names.specs.Names.{Texts};
-ghost use Rattle.htag.specs.Attributes.{AttrsMean};
-ghost use Rattle.htoken.specs.Token.{Tok, Start, End, TokenMeans};
-ghost use Rattle.hwrite.specs.Quoted.{quoted};
-ghost use Rattle.hwrite.specs.Draft.{Adds, AddsCharacters, AddsText, Drafts, drafted, empty, end_of_characters};
-ghost use Rattle.hwrite.specs.TokenLines.{attribute_words, line_of, line_text};
+ghost use Rattle.hwrite.specs.Vocabulary.{Texts, AttrsMean, Tok, Start, End, TokenMeans, quoted, Adds, AddsCharacters, AddsText, Drafts, drafted, empty, end_of_characters, attribute_words, line_of, line_text};
 
 use crate::quoted::{push_escaped, push_quoted};
 use crate::words::{

@@ -1,21 +1,7 @@
 //! An input from a reader, and what is made of it to a writer.
 
 ghost use Rattle.std.specs.Prelude.{◌≡◌, ◌<◌, ◌≤◌, [], OnOk};
-ghost use Rattle.names.specs.Names.{text_of};
-ghost use Rattle.hnodes.specs.Forest.{children_of};
-ghost use Rattle.hnodes.specs.Spelled.{spelled};
-ghost use Rattle.hparse.specs.Answer.{Answers, of_document};
-ghost use Rattle.hparse.specs.Parse.{Parses};
-ghost use Rattle.hparse.specs.Parsing.{options_of, AnswersParse};
-ghost use Rattle.hparse.specs.Unrefused.{IsUnrefused, IsUnrefusedText};
-ghost use Rattle.hparse.specs.Into.{as_document};
-ghost use Rattle.hparse.specs.Reader.{ReadsInput};
-ghost use Rattle.hwrite.specs.Command.{name_of};
-ghost use Rattle.hwrite.specs.Context.{case_in};
-ghost use Rattle.hwrite.specs.Prints.{is_plain_in, parse_text, parsed_text, plain_line, tokens_text, Prints};
-ghost use Rattle.hwrite.specs.Draft.{AnswersDraft};
-ghost use Rattle.hwrite.specs.Running.{BeginsIn, ReadsIn, Runs, RunsIn, RunsTask};
-ghost use Rattle.hserialize.specs.Output.{IsFlushed, WritesText};
+ghost use Rattle.hwrite.specs.Vocabulary.{text_of, children_of, spelled, Answers, of_document, Parses, options_of, AnswersParse, IsUnrefused, IsUnrefusedText, as_document, ReadsInput, name_of, case_in, is_plain_in, parse_text, parsed_text, plain_line, tokens_text, Prints, AnswersDraft, BeginsIn, ReadsIn, Runs, RunsIn, RunsTask, IsFlushed, WritesText};
 
 use crate::command::{Command, Task};
 use crate::draft::Draft;
@@ -130,17 +116,12 @@ fn print_parsed<W: Target>(
         target.old target.new result }
     ensures flushed { OnOk result (IsFlushed W.flushes target.new) }
 {
-    let Parsed {
-        tree,
-        names,
-        root,
-        ..
-    } = parsed;
+    let (tree, names) = (&parsed.tree, &parsed.names);
     match command.task {
         Task::Errors => print_errors(alloc, &parsed.errors, target),
-        Task::Write => serialize(alloc, tree, names, *root, command.escaping, target),
+        Task::Write => serialize(alloc, tree, names, parsed.root, command.escaping, target),
         Task::Plain => write_text(target, plain_line(is_plain_in(command.context, parsed))),
-        Task::Tree | Task::Tokens => print_tree(alloc, tree, names, *root, target),
+        Task::Tree | Task::Tokens => print_tree(alloc, tree, names, parsed.root, target),
     }
 }
 

@@ -3,9 +3,7 @@
 ghost use Rattle.std.specs.Prelude.{◌≡◌, ◌<◌, ℕ, List, [], OnOk, position};
 ghost use Rattle.std.specs.Char.{digit_char};
 ghost use Rattle.std.specs.List.{after_first, before_first};
-ghost use Rattle.hwrite.specs.Draft.{ComesTo, Fills, drafted, is_hole};
-ghost use Rattle.hwrite.specs.Quoted.{escaped, escaped_byte, quoted};
-ghost use Rattle.hserialize.specs.Output.{IsFlushed, Puts, WritesText, taken};
+ghost use Rattle.hwrite.specs.Vocabulary.{ComesTo, Fills, drafted, is_hole, escaped, escaped_byte, quoted, IsFlushed, Puts, WritesText, taken};
 
 use crate::draft::{Draft, HOLE};
 use crate::words::END_OF_CHARACTERS;

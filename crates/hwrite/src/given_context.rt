@@ -1,9 +1,7 @@
 //! The element in which an input is.
 
 ghost use Rattle.std.specs.Prelude.{◌≡◌, MatchResult};
-ghost use Rattle.names.specs.declared.refusal.Refusal.TheVariants.{BadContext};
-ghost use Rattle.hwrite.specs.Command.{name_of};
-ghost use Rattle.hwrite.specs.Context.{AllowsContext};
+ghost use Rattle.hwrite.specs.Vocabulary.{BadContext, name_of, AllowsContext};
 
 use hparse::is_context;
 use names::Refusal;

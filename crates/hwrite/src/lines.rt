@@ -1,10 +1,7 @@
 //! Tokens as they are printed.
 
 ghost use Rattle.std.specs.Prelude.{◌≡◌, [], ℕ, List, IfOk, IfErr};
-ghost use Rattle.htoken.specs.Token.{Tok};
-ghost use Rattle.hparse.specs.TokenRun.{TokensMean};
-ghost use Rattle.hwrite.specs.Draft.{ComesTo, drafted};
-ghost use Rattle.hwrite.specs.TokenLines.{token_lines};
+ghost use Rattle.hwrite.specs.Vocabulary.{Tok, TokensMean, ComesTo, drafted, token_lines};
 
 use crate::draft::Draft;
 use crate::filling::print_draft;

@@ -3,8 +3,7 @@
 ghost use Rattle.std.specs.Prelude.{◌≡◌, ◌++◌, codes, decimal, OnOk};
 ghost use Rattle.std.specs.String.{string_bytes};
 ghost use Rattle.hmarkup.specs.DoctypeWalk.{text_of};
-ghost use Rattle.htoken.specs.Token.{Doctype, Comment, Char};
-ghost use Rattle.hwrite.specs.TokenLines.{quoted_or_none, line_of, line_text};
+ghost use Rattle.hwrite.specs.Vocabulary.{Doctype, Comment, Char, quoted_or_none, line_of, line_text};
 
 use crate::quoted::{push_escaped, push_quoted};
 use itoa::Buffer;
