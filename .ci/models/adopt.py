@@ -37,18 +37,13 @@ EDITS = {  # of a site and the words after that of the call
     "pop-past": lambda site, word: site.clear_back(CONTEXTS[word]) if word in CONTEXTS else site.imply_ends(word),
     "leave": lambda site, down: site.open.pop(int(down)),
     "clear": lambda site, _: site.clear(),
-    "unlist": lambda site, index: site.unlist(site.list[int(index)]),
+    "unlist": lambda site, back: site.unlist(site.list[-1 - int(back)]),
     "foster": lambda site, word: setattr(site, "foster", word == "on"),
     "push": lambda site, _: site.push(site.open[-1]),
-    "reopen": lambda site, _: site.push(site.open.pop()),
 }
 QUESTIONS = {
-    "name": lambda site, name: site.about_name(name),
-    "group": lambda site, group: site.about_group(GROUPS[group]),
-    "flags": lambda site, _: site.flags(),
-    "nodes": lambda site, _: site.shown_nodes(),
-    "errors": lambda site, _: str(len(site.errors)) + "".join(f" {at} tree-in-body" for at in site.errors),
-    "tree": lambda site, _: "yes",
+    "about": lambda site, words: site.about(*words.split(" ")),
+    "nodes": lambda site, _: " ".join(map(site.shown, site.nodes)),
 }
 
 
@@ -64,18 +59,18 @@ class Script:
         if call in ("missing", "leave"):
             return int(word) >= len(self.site.open)
         if call == "unlist":
-            return int(word) >= len(self.site.list) or self.site.list[int(word)] == MARKER
+            return int(word) >= len(self.site.list) or self.site.list[-1 - int(word)] == MARKER
         return call == "adopt" and not self.sound or (call, word) == ("formatting", "table")
 
     def edit(self, call, words):
         if self.is_barred(call, words.split(" ")[0]):
-            return "-"
+            return f"- {self.site.state()}"
         try:
             EDITS[call](self.site, words)
         except Refused as refusal:
             self.sound = False
             return f"refused {refusal}"
-        self.sound = self.sound and call not in ("push", "reopen")
+        self.sound = self.sound and call != "push"
         return self.site.state()
 
     def answer(self, line):
@@ -156,8 +151,7 @@ def run_edits(script, supply):
         for line in supply.edit():
             if script.say(line if fits(line, script.site) else "reconstruct").startswith("refused"):
                 return False
-        script.say(supply.fill("name NAME"))
-        script.say(supply.fill("group GROUP"))
+        script.say(supply.fill("about NAME GROUP"))
         if count % 10 == 0:
             script.say("nodes")
     return True
@@ -168,19 +162,19 @@ def ample_limits(name, weights, lists):
     for _ in range(lists):
         script.say("new 10000 1000")
         want(run_edits(script, supply), "an edit within ample limits")
-        for line in ("errors", "flags", "reopen", "nodes"):
+        for line in ("push", "nodes"):
             script.say(line)
     return script
 
 
 def narrow_limits():
-    """Edits of which many are refused. The nodes are a tree even then."""
+    """Edits of which many are refused. The nodes are those of the model even then."""
     script, supply, refused = Script("limits"), Supply(EDIT_WEIGHTS), []
     for _ in range(300):
         script.say(f"new {supply.pick(50) + 2} {supply.pick(16) + 1}")
         if not run_edits(script, supply):
             refused.append(script.answers[-1])
-        script.say("tree")
+        script.say("nodes")
     for limit in ("TooManyNodes", "TooDeep"):
         want(sum(limit in answer for answer in refused) > 50, f"how often {limit} comes")
     return script

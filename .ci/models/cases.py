@@ -3,8 +3,8 @@
 
 A line of a file X.jsonl is what comes of an input: the words of a command line of htmlp, the input, the text that is printed, the line
 of the refusal, and where they are not the program's own the table of references, the quirks list and the limit of the input; `at_once`
-says that the refusal comes with the last byte. The engine reads each input whole, in small pieces, and cut in two at each byte; `yes` says
-that the calls that give the tokens or the errors as a text in memory answer the same.
+says that the refusal comes with the last byte. The engine reads each input whole and in pieces of each size; `yes` says that the calls that
+give the tokens or the errors as a text in memory answer the same.
 
 A file X.dat has records in the form of html5lib's tests of trees: a line with the name of a section, and then the section's lines. An
 empty line is between two records. A page has `#data`, `#errors`, `#document-fragment` with the name of its context if it is a fragment,
@@ -28,13 +28,13 @@ VOID = set("area base basefont bgsound br col embed hr img input link meta param
 # What has its text as it is, since its text has no references.
 RAW = set("iframe noembed noframes plaintext script style xmp".split())
 QUOTE, ANGLES = {'"': "&quot;"}, {"<": "&lt;", ">": "&gt;"}
-PAGE = {"tokens": "44 tokens, 1 errors\n", "tree": "14 nodes, 2 errors\n"}
+PAGE = {"tree": "14 nodes, 2 errors\n"}
 
 
 def coded(text):
     """A text or bytes as a word: a byte that could not stand there is the character 256 after its own."""
     given = text.encode() if isinstance(text, str) else text
-    return "".join(chr(byte) if 0x2D < byte < 0x7F else chr(byte + 256) for byte in given)
+    return "".join(chr(byte) if 0x2D < byte < 0x7F and byte != 0x3D else chr(byte + 256) for byte in given)
 
 
 def refused(line):
@@ -53,7 +53,7 @@ class Script:
 
     def read_list(self, call, why, refusal):
         """Reads a table or a quirks list, unless the last one was the same, and says whether it is accepted."""
-        kind, is_good = call.split(" ")[0], why not in refusal
+        kind, is_good = call.startswith("quirks"), why not in refusal
         if self.lists.get(kind) != call:
             self.say(call, "ok" if is_good else refused(refusal))
             if is_good:
@@ -62,7 +62,7 @@ class Script:
 
     def run(self, words, given, text, refusal, told):
         """Runs the engine as the words of a command line say, and what a case tells besides."""
-        table = f"table read {told['entities']}" if "entities" in told else "table core"
+        table = f"table {told['entities']}" if "entities" in told else "core"
         quirks = f"quirks {coded(told.get('quirks', ''))}"
         if not self.read_list(table, "BadTable", refusal) or not self.read_list(quirks, "BadQuirks", refusal):
             return
@@ -73,7 +73,7 @@ class Script:
         context = coded(options.pop("--in")) if "--in" in options else "-"
         if options:
             raise SystemExit(f"{words}: what is told the engine?")
-        came = " ".join([f'"{text}"', *([refused(refusal)] if refusal else []), "- - yes", *(["yes"] if at_once == "yes" else [])])
+        came = " ".join([f'"{text}"', *([refused(refusal)] if refusal else []), "- yes", *(["yes"] if at_once == "yes" else [])])
         self.say(
             " ".join(map(str, ["run", words[0], *most, escape, bad, at_once, context, coded(given)])),
             refused(refusal) if "BadLimits" in refusal else came,
@@ -137,20 +137,27 @@ def page(script, record):
 
 
 class Node:
-    def __init__(self, number, name=None, text=None, comment=None):
-        self.number, self.name, self.text, self.comment, self.attrs, self.children = number, name, text, comment, [], []
+    def __init__(self, number, **held):
+        self.number, self.attrs, self.children = number, [], []
+        self.name, self.text, self.comment = map(held.get, ("element", "text", "comment"))
 
 
 class Grower:
-    """The words that make a list of trees, whose root is node 1, and the list."""
+    """A list of trees, whose root is node 1, and the calls of a script that make it."""
 
-    def __init__(self, context):
-        self.root, self.made, self.words = Node(1, name=context), 2, []
+    def __init__(self, script, context):
+        self.root, self.made, self.say = Node(1, element=context), 2, script.say
+        self.say("tree new 1000", "ok")
+        self.say(f"tree element {context}", "1")
 
     def make(self, parent, kind, text):
-        self.words.append(f"{parent.number}:{kind}:{coded(text)}")
-        node = Node(self.made, **{"name" if kind == "element" else kind: text})
+        node = Node(self.made, **{kind: text})
         self.made += 1
+        if kind == "text":
+            self.say(f"tree text {parent.number} in {coded(text)}", "ok")
+        else:
+            self.say(f"tree {kind} {coded(text)}", str(node.number))
+            self.say(f"tree append {node.number} {parent.number}", "ok")
         return node
 
     def add(self, parent, line):
@@ -163,8 +170,8 @@ class Grower:
         elif line.startswith('"'):
             self.add_text(parent, line[1:-1])
         else:
-            self.words.append(f"{parent.number}:attr:{coded(line[:-1])}")
             parent.attrs.append(line[:-1].split('="', 1))
+            self.say(f"tree attr {parent.number} {'='.join(map(coded, parent.attrs[-1]))}", "ok")
             return None
         return parent.children[-1]
 
@@ -174,7 +181,7 @@ class Grower:
         between = self.make(parent, "comment", "") if is_next else None
         parent.children.append(self.make(parent, "text", text))
         if between:
-            self.words.append(f"{between.number}:out:")
+            self.say(f"tree append {between.number} 0", "ok")
 
     def grow(self, text):
         """The root, with what the text of a tree says in it."""
@@ -214,13 +221,12 @@ def trees(script, record):
     it = {name: text.replace("\\r", "\r").replace("\\0", "\0") for name, text in record.items()}
     context, tree, written = (it[name] for name in ("#document-fragment", "#document", "#written"))
     context, written, back = context.removesuffix("\n"), written.removesuffix("\n"), it.get("#back", tree)
-    grower = Grower(context)
-    root = grower.grow(tree)
+    root = Grower(script, context).grow(tree)
     if html(root, QUOTE) != written:
         raise SystemExit(f"{written!r} is stored, and {html(root, QUOTE)!r} should be written")
     is_plain = "yes" if back == tree else "no"
     answer = f'{is_plain} "{tree}" "{written}" "{html(root, QUOTE | ANGLES)}" -'
-    script.say(" ".join(["trees", coded(context), *grower.words]), answer)
+    script.say(f"tree written 1 {context}", answer)
     text, refusal = ("", back) if back.startswith("refused: ") else (back, "")
     for given in (written, html(root, QUOTE | ANGLES)):
         script.run(["fragment", "--in", context], given, text, refusal, {})

@@ -10,7 +10,6 @@ this beginning.
 """
 import random
 import sys
-from functools import cache
 from pathlib import Path
 
 NOTHING = 1
@@ -25,26 +24,17 @@ def quoted(text):
 
 
 def spaced(items):
-    return " ".join("-" if item is None else str(item) for item in items)
+    return " ".join("-" if item is None else str(item) for item in items) or "ok"
+
+
+def coded(text):
+    """A text as it stands in a script: each byte as a character."""
+    return text.encode().decode("latin-1")
 
 
 def last_place(numbers, number):
     """The last place of a number, counted from 1; 0 if there is none."""
     return max((place for place, other in enumerate(numbers, 1) if other == number != NOTHING), default=0)
-
-
-def fnv(numbers):
-    """FNV-1a, of numbers in place of bytes."""
-    total = 0xCBF29CE484222325
-    for number in numbers:
-        total = (total ^ number) * 0x100000001B3 & 0xFFFFFFFFFFFFFFFF
-    return total
-
-
-@cache
-def node_sum(links, text):
-    """The sum of what stands around a node, each one more and 0 for none, and of its text."""
-    return fnv([*(0 if link is None else link + 1 for link in links), 0 if text is None else fnv(text.encode())])
 
 
 def edit_list(numbers, word, number):
@@ -66,7 +56,7 @@ def edit_list(numbers, word, number):
 def entries(numbers):
     """Each number, the place before it where it stands too, and the last one."""
     told = [(n, last_place(numbers[:index], n), last_place(numbers, n)) for index, n in enumerate(numbers)]
-    return spaced([len(numbers), *(number for each in told for number in each)])
+    return spaced([len(numbers), *(number for each in told for number in (each if each[0] != NOTHING else [None]))])
 
 
 class Node:
@@ -136,7 +126,7 @@ class Forest:
         self.nodes[source].children = []
         return "ok"
 
-    def put(self, side, number, text):
+    def put(self, number, side, text):
         """Puts a text before a node, or last in it."""
         parent, index = self.place_of(number) if side == "before" else (number, len(self.nodes[number].children))
         if parent is None:
@@ -156,12 +146,12 @@ class Forest:
             self.nodes[number].attrs.setdefault(*attr)
         return "ok"
 
-    def all_of(self, number, shown):
+    def all_of(self, number, shown, links):
         """A node, with what it holds and what stands around it. `shown` is how names are shown."""
         node = self.nodes[number]
         held = [] if node.name is None else [shown(node.name), *(f"{shown(name)}={value}" for name, value in node.attrs.items())]
         text = [] if node.text is None else [quoted(node.text)]
-        return spaced([number, node.kind, *held, *text, *self.links()[number]])
+        return spaced([number, node.kind, *held, *text, *links[number]])
 
     def question(self, word, number, name=None):
         inside = self.descendants(number)
@@ -205,7 +195,7 @@ class Script:
                 self.numbers = []
                 return "ok"
             case "last":
-                return str(last_place(self.numbers, number))
+                return "-" if number == NOTHING else str(last_place(self.numbers, number))
             case "entries":
                 return entries(self.numbers)
             case _:
@@ -229,11 +219,11 @@ class Script:
                 return getattr(self.forest, word)(*nodes)
             case "made",:
                 return str(len(self.forest.nodes))
-            case "sum",:
-                pairs = zip(self.forest.links(), self.forest.nodes)
-                return str(fnv(node_sum(tuple(links), node.text) for links, node in pairs))
+            case "all",:
+                links = self.forest.links()
+                return spaced(self.forest.all_of(number, self.shown, links) for number in range(len(links)))
             case "node", number:
-                return self.forest.all_of(number, self.shown)
+                return self.forest.all_of(number, self.shown, self.forest.links())
         return self.forest.question(word, *words)
 
     def call(self, line, by_hand=None):
@@ -241,7 +231,7 @@ class Script:
         answer = self.answer(*line.split(" "))
         if by_hand not in (None, answer):
             raise SystemExit(f"{line}: the model says {answer!r}, and by hand it is {by_hand!r}")
-        self.pairs.append((line, answer))
+        self.pairs.append((coded(line), answer))
 
     def worked(self, rows):
         for row in rows.splitlines():
@@ -325,17 +315,17 @@ def moves(script):
 
 
 def edits(script):
-    """Ten thousand edits, allowed or not, with the sum of all nodes after each of them, and each node at times."""
+    """Ten thousand edits, allowed or not, with all nodes after each of them, and each question about each at times."""
     picked = random.Random(2)
     script.call("tree new 120", "ok")
     for turn in range(10_000):
         one, other = picked.choices(range(len(script.forest.nodes)), k=2)
         make = picked.choice(("element div", "element div", "comment no text"))
         put = picked.choice(("char {} {} ä", "char {} {} \U0001F600", "text {} {} ", "text {} {} ab"))
-        put = put.format(picked.choice(("in", "before")), one)
+        put = put.format(one, picked.choice(("in", "before")))
         moves = [f"append {one} {other}"] * 3 + [f"before {one} {other}"] * 2 + [f"move {one} {other}"]
         script.call("tree " + picked.choice([make, put, *moves]))
-        script.call("tree sum")
+        script.call("tree all")
         if turn % 2500 == 2499:
             script.ask_each()
     script.call("tree made", "120")
@@ -369,7 +359,7 @@ def again_nodes(script):
     for turn in range(20):
         number = len(script.forest.nodes)
         script.worked(f"tree element name{turn} made{turn}=1 -> {number}\n tree attr {number} a{turn}=2 -> ok")
-        script.worked("\n".join([f"tree char in {number} c -> ok"] * turn))
+        script.worked("\n".join([f"tree char {number} in c -> ok"] * turn))
     script.call("tree made", "40")
     script.call("tree comment some text")
     script.ask_each()

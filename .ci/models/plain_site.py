@@ -9,11 +9,9 @@ main marquee menu meta nav noembed noframes noscript object ol p param plaintext
 tbody td textarea tfoot th thead title tr track ul wbr xmp""".split())
 FORMATTING = set("a b big code em font i nobr s small strike strong tt u".split())
 IMPLIED = set("dd dt li p rb rp rt rtc".split())
-MAY_STAY_OPEN = set("body dd dt html li p rb rp rt rtc tbody td tfoot th thead tr".split())
 FOSTERING = set("table tbody tfoot thead tr".split())
 SECTIONS = set("tbody tfoot thead".split())
 STOPS = set("applet caption html table td th marquee object".split())
-SCOPES = [STOPS, STOPS | {"ol", "ul"}, STOPS | {"button"}, {"html", "table"}]  # default, list item, button, table
 GROUPS = {"heading": set("h1 h2 h3 h4 h5 h6".split()), "table_section": SECTIONS, "cell": {"td", "th"},
           "tells_mode": set("body caption colgroup table tbody td tfoot th thead tr".split())}
 CONTEXTS = {"to-table": {"table", "html"}, "to-body": SECTIONS | {"html"}, "to-row": {"tr", "html"}}
@@ -264,32 +262,18 @@ class Site:
 
     def state(self):
         parent, before = self.place()
-        listed = " ".join(["list", *("-" if item == MARKER else named(item) + words(item.token) for item in self.list)])
+        listed = " ".join("-" if item == MARKER else named(item) + words(item.token) for item in [MARKER, *self.list][::-1])
         place = f"before {before.number}" if before else f"in {parent.number}"
-        return f"{' '.join(['open', *map(named, self.open)])} {listed} errors {len(self.errors)} {place}"
+        last = f" {self.errors[-1]} tree-in-body" if self.errors else ""
+        return f"{' '.join(['open', *map(named, self.open)])} list {listed} errors {len(self.errors)}{last} {place}"
 
-    def about_name(self, name):
-        found = self.find(name)
-        is_near = self.is_near({name}, SPECIAL - {"address", "div", "p"})
-        return f"{found.number if found else '-'} {said(self.current().name == name)} {said(is_near)} {self.scopes({name})}"
-
-    def about_group(self, group):
-        places = [up for up, node in enumerate(reversed(self.open)) if node.name in group]
-        return f"{said(self.current().name in group)} {places[0] if places else '-'} {self.scopes(group)}"
-
-    def scopes(self, names):
-        return " ".join(said(self.is_near(names, stops)) for stops in SCOPES)
-
-    def flags(self):
-        stay = all(node.name in MAY_STAY_OPEN for node in self.open)
-        return " ".join(map(said, (self.foster, self.current().name in FOSTERING, stay, self.first_closed() == len(self.list))))
-
-    def shown_nodes(self):
-        """How many nodes were made, and those of the document in tree order."""
-        return " ".join([str(len(self.nodes)), *self.shown(self.nodes[0])])
+    def about(self, name, group):
+        current = self.current().name
+        holds = (current == name, current in GROUPS[group], self.foster, current in FOSTERING, self.first_closed() == len(self.list))
+        return " ".join([number(self.find(name)), *map(said, holds)])
 
     def shown(self, node):
-        """A node, and those inside it: what it holds, its parent, the siblings after and before it, its first and last child, and all."""
+        """What a node holds, its parent, the siblings after and before it, its first and last child."""
         held = [node.name + words(node.attrs)] if node.name else []
         if node.kind == "Doctype":
             held = [f'"{node.text}" "" ""']
@@ -298,9 +282,7 @@ class Site:
         siblings = [None, *node.parent.children, None] if node.parent else [None, node, None]
         at, ends = siblings.index(node), node.children or [None]
         links = [number(it) for it in (node.parent, siblings[at + 1], siblings[at - 1], ends[0], ends[-1])]
-        yield " ".join([str(node.number), node.kind, *held, *links, ":", *map(number, node.children)])
-        for child in node.children:
-            yield from self.shown(child)
+        return " ".join([str(node.number), node.kind, *held, *links])
 
     def page(self, node=None):
         """The nodes below one as HTML, or all, without attributes."""

@@ -353,7 +353,7 @@ def again_stack():
     """Each call by itself, for a run in which memory is refused."""
     script, picks, stack = Script(), Picks(), Stack(20)
     script.make_each(40)
-    script.say("names intern other", str(FIRST_OTHER))
+    script.say("name other", str(FIRST_OTHER))
     script.say("stack new 40")
     for index in range(30):
         script.say(f"stack push {index} name{index}")

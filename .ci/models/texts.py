@@ -36,18 +36,18 @@ def names_of(count):
 def ask_names(script, count):
     numbers = {}
     for name in names_of(count):
-        script.say(f"names intern {name}", str(numbers.setdefault(name, FIRST_OTHER + len(numbers))))
+        script.say(f"name {name}", str(numbers.setdefault(name, FIRST_OTHER + len(numbers))))
 
 
 def read_table(script, table):
-    script.say(f"table read {json.dumps(table)}")
+    script.say(f"table {json.dumps(table)}")
 
 
 def ask_table(script, table, texts):
     for text in texts:
         key = max((key for key in table if text.startswith(key)), key=len, default=None)
-        numbers = [len(key), *table[key]["codepoints"]] if key else ["none"]
-        script.say(f"table longest {text}", " ".join(map(str, numbers)))
+        numbers = [len(key), *table[key]["codepoints"]] if key else ["-"]
+        script.say(f"longest {text}", " ".join(map(str, numbers)))
 
 
 def texts_around(keys):
@@ -67,11 +67,11 @@ def tables():
     script = Script()
     with open(f"{DATA}/entities.json", encoding="utf-8") as file:
         table = json.load(file)
-    script.say("table longest &amp;", "-")
+    script.say("longest &notin;", "-")
     read_table(script, table)
     ask_table(script, table, texts_around(sorted(table)[::3]))
     for text, cause in BAD:
-        script.say(f"table read {text}", f"refused BadTable {cause}")
+        script.say(f"table {text}", f"refused BadTable {cause}")
     ask_table(script, table, ("&notit;", "&notin;", "&", "x"))
     return script
 
@@ -87,7 +87,7 @@ def again_texts():
         read_table(script, some)
         ask_table(script, some, texts_around(some))
     for text, cause in BAD:
-        script.say(f"table read {text}", f"refused BadTable {cause}")
+        script.say(f"table {text}", f"refused BadTable {cause}")
     ask_table(script, some, texts_around(some))
     return script
 

@@ -1,11 +1,11 @@
 //! What is answered: a line for each call, of words.
 
-use crate::structures::Reply;
 use hformat::Entry;
 use hnodes::{NodeId, NodeKind};
 use hopen::Open;
 use names::{Attr, NameId, Refusal, Tag};
 use std::alloc::{AllocError, Global};
+use std::fmt::Display;
 
 /// How many bytes of answers need no more memory.
 const ROOM: usize = 1 << 20;
@@ -36,21 +36,75 @@ impl Answers {
         Ok(&self.text)
     }
 
-    fn end_line(&mut self) {
+    /// Ends a line with what a call answers: `ok` if it has said nothing.
+    pub fn end(&mut self, answer: Result<(), Refusal>) {
+        match answer {
+            Ok(()) if self.has_word => {}
+            Ok(()) => self.add("ok"),
+            Err(refusal) => self.refusal(refusal),
+        }
         self.add("\n");
         self.has_word = false;
     }
 
-    fn add(&mut self, text: &str) {
-        if self.text.push_str(text).is_err() {
+    fn add<T: Display + Drop>(&mut self, text: T) {
+        if write!(self.text, "{text}").is_err() {
             self.is_lost = true;
         }
     }
 
-    fn add_number(&mut self, number: usize) {
-        if write!(self.text, "{number}").is_err() {
-            self.is_lost = true;
+    /// A word, after a space if it is not the first of a line.
+    pub fn say<T: Display + Drop>(&mut self, word: T) {
+        if self.has_word {
+            self.add(" ");
         }
+        self.has_word = true;
+        self.add(word);
+    }
+
+    pub fn refusal(&mut self, refusal: Refusal) {
+        self.say("refused");
+        self.say(refusal);
+    }
+
+    pub fn flag(&mut self, holds: bool) {
+        self.say(if holds { "yes" } else { "no" });
+    }
+
+    /// A number, or `-`.
+    pub fn place(&mut self, place: Option<usize>) {
+        match place {
+            Some(place) => self.say(place),
+            None => self.say("-"),
+        }
+    }
+
+    /// The number of a node, or `-`.
+    pub fn node(&mut self, node: Option<NodeId>) {
+        self.place(node.map(|node| node.index()));
+    }
+
+    pub fn nodes(&mut self, nodes: Vec<NodeId>) {
+        for node in nodes {
+            self.say(node.index());
+        }
+    }
+
+    /// A text in quotes, or `-`.
+    pub fn quoted(&mut self, text: Option<&str>) {
+        match text {
+            Some(text) => {
+                self.say("\"");
+                self.add(text);
+                self.add("\"");
+            }
+            None => self.say("-"),
+        }
+    }
+
+    /// The text of bytes in quotes; `-` if they are none.
+    pub fn bytes(&mut self, bytes: &[u8]) {
+        self.quoted(str::from_utf8(bytes).ok());
     }
 
     /// A name that a rule knows; any other is its number in the table of names.
@@ -58,67 +112,14 @@ impl Answers {
         match name.tag() {
             Tag::Other => {
                 self.add("#");
-                self.add_number(name.index());
+                self.add(name.index());
             }
             tag => self.add(tag.text()),
         }
     }
 
-    /// A space, but before the first word of a line.
-    fn begin_word(&mut self) {
-        if self.has_word {
-            self.add(" ");
-        }
-        self.has_word = true;
-    }
-
-    pub fn word(&mut self, word: &str) {
-        self.begin_word();
-        self.add(word);
-    }
-
-    pub fn number(&mut self, number: usize) {
-        self.begin_word();
-        self.add_number(number);
-    }
-
-    pub fn flag(&mut self, holds: bool) {
-        self.word(if holds { "yes" } else { "no" });
-    }
-
-    /// A number, or `-`.
-    pub fn place(&mut self, place: Option<usize>) {
-        match place {
-            Some(place) => self.number(place),
-            None => self.word("-"),
-        }
-    }
-
-    /// The number of a node, or `-`.
-    pub fn node(&mut self, node: Option<NodeId>) {
-        match node {
-            Some(node) => self.number(node.index()),
-            None => self.word("-"),
-        }
-    }
-
-    /// A text in quotes.
-    pub fn quoted(&mut self, text: &str) {
-        self.word("\"");
-        self.add(text);
-        self.add("\"");
-    }
-
-    /// The text of bytes in quotes.
-    pub fn bytes(&mut self, bytes: &[u8]) {
-        match str::from_utf8(bytes) {
-            Ok(text) => self.quoted(text),
-            Err(_) => self.word("not UTF-8"),
-        }
-    }
-
     pub fn name(&mut self, name: NameId) {
-        self.begin_word();
+        self.say("");
         self.add_name(name);
     }
 
@@ -127,65 +128,38 @@ impl Answers {
         for attr in attrs {
             self.name(attr.name);
             self.add("=");
-            self.add(&attr.value);
+            self.add(attr.value.as_str());
         }
     }
 
-    /// A node and its name, as `3:p`.
-    fn element(&mut self, node: NodeId, name: NameId) {
-        self.number(node.index());
+    /// An open node, as `3:p`, or `-`.
+    pub fn open(&mut self, open: Option<Open>) {
+        let Some(Open { node, name }) = open else {
+            return self.say("-");
+        };
+        self.say(node.index());
         self.add(":");
         self.add_name(name);
     }
 
-    /// An open node, or `-`.
-    pub fn open(&mut self, open: Option<Open>) {
-        match open {
-            Some(open) => self.element(open.node, open.name),
-            None => self.word("-"),
-        }
-    }
-
-    /// An entry and its attributes, or `-`.
+    /// An entry, as `3:b dir=1`, or `-`.
     pub fn entry(&mut self, entry: Option<&Entry>) {
         match entry {
-            Some(entry) => {
-                self.element(entry.node, entry.name);
-                self.attrs(entry.attrs.as_slice());
+            Some(Entry { node, name, attrs }) => {
+                self.open(Some(Open {
+                    node: *node,
+                    name: *name,
+                }));
+                self.attrs(attrs.as_slice());
             }
-            None => self.word("-"),
+            None => self.say("-"),
         }
     }
 
     pub fn kind(&mut self, kind: NodeKind) {
-        self.begin_word();
+        self.say("");
         if write!(self.text, "{kind:?}").is_err() {
             self.is_lost = true;
-        }
-    }
-
-    pub fn refusal(&mut self, refusal: Refusal) {
-        self.word("refused ");
-        if write!(self.text, "{refusal}").is_err() {
-            self.is_lost = true;
-        }
-    }
-
-    /// Ends a line with what a call answers.
-    pub fn answer(&mut self, answer: Result<Reply, Refusal>) {
-        match answer {
-            Ok(answer) => self.end(answer),
-            Err(refusal) => self.refusal(refusal),
-        }
-        self.end_line();
-    }
-
-    fn end(&mut self, answer: Reply) {
-        match answer {
-            Reply::Done => self.word("ok"),
-            Reply::NotMade => self.word("-"),
-            Reply::Number(number) => self.number(number),
-            Reply::Said => {}
         }
     }
 }

@@ -1,13 +1,14 @@
-//! What the words of a line stand for.
-
-ghost use Rattle.std.specs.Prelude.{◌<◌, IfSome};
+//! What each call has at hand: a tree, names, and the answers.
 
 use crate::answers::Answers;
-use crate::words::{number, word};
+use crate::words::{number, text, word};
 use hnodes::{DocumentType, NodeId, Tree};
 use hopen::Open;
 use names::{Attr, Keys, NameId, Names};
 use std::alloc::{AllocError, Global};
+
+/// The place of the token that each call is made for, if a refusal names it.
+pub const PLACE: u64 = 7;
 
 /// A tree, whose nodes words name by their numbers, the names, and the answers.
 #[derive(Drop)]
@@ -21,27 +22,17 @@ pub struct Hand {
 impl Hand {
     /// The document alone, and no answers.
     pub fn new(alloc: Global) -> Result<Self, AllocError> {
-        let out = Answers::new(alloc)?;
-        let tree = Tree::new(alloc, 1)?;
-        let names = Names::new(alloc, Keys::for_tests());
         Ok(Hand {
             alloc,
-            tree,
-            names,
-            out,
+            tree: Tree::new(alloc, 1)?,
+            names: Names::new(alloc, Keys::for_tests()),
+            out: Answers::new(alloc)?,
         })
     }
 
-    /// The node with the number that a word is.
-    pub fn node(&self, line: &str, index: usize) -> Option<NodeId>
-        ensures { IfSome result (λ n. n < self.now.tree.made) }
-    {
-        self.tree.node(number(line, index)?)
-    }
-
-    /// The same; the document if there is none.
-    pub fn near(&self, line: &str, index: usize) -> NodeId {
-        match self.node(line, index) {
+    /// The node with the number that a word is; the document if there is none.
+    pub fn node(&self, line: &str, index: usize) -> NodeId {
+        match self.tree.node(number(line, index)) {
             Some(node) => node,
             None => self.tree.document(),
         }
@@ -52,49 +43,40 @@ impl Hand {
         self.names.intern(self.alloc, word(line, index))
     }
 
-    /// The node and the name that two words are.
-    pub fn open(&mut self, line: &str, index: usize) -> Result<Open, AllocError> {
-        let node = self.near(line, index);
-        let name = self.name(line, index.saturating_add(1))?;
+    /// The node and the name that the words after a call are.
+    pub fn open(&mut self, line: &str) -> Result<Open, AllocError> {
+        let node = self.node(line, 2);
+        let name = self.name(line, 3)?;
         Ok(Open { node, name })
     }
+}
 
-    /// The attributes that words are, as `dir=1`.
-    pub fn attrs(&mut self, words: &str) -> Result<Vec<Attr>, AllocError> {
-        let mut attrs = Vec::new(self.alloc);
-        for word in words.split(' ') {
-            if let Some((name, value)) = word.split_once('=') {
-                self.push_attr(&mut attrs, name, value)?;
-            }
+/// The attribute that words are, as `dir=1`.
+pub fn attr(names: &mut Names, alloc: Global, words: &str) -> Result<Attr, AllocError> {
+    let (name, value) = words.split_once('=').unwrap_or((words, ""));
+    let name = names.intern(alloc, &text(alloc, name)?)?;
+    let value = text(alloc, value)?;
+    Ok(Attr { name, value })
+}
+
+/// The attributes that words are.
+pub fn attrs(names: &mut Names, alloc: Global, words: &str) -> Result<Vec<Attr>, AllocError> {
+    let mut attrs = Vec::new(alloc);
+    for word in words.split(' ') {
+        if !word.is_empty() {
+            let attr = attr(names, alloc, word)?;
+            attrs.push(attr)?;
         }
-        Ok(attrs)
     }
+    Ok(attrs)
+}
 
-    fn push_attr(
-        &mut self,
-        attrs: &mut Vec<Attr>,
-        name: &str,
-        value: &str,
-    ) -> Result<(), AllocError> {
-        let attr = self.attr(name, value)?;
-        attrs.push(attr)?;
-        Ok(())
-    }
-
-    /// An attribute.
-    pub fn attr(&mut self, name: &str, value: &str) -> Result<Attr, AllocError> {
-        let name = self.names.intern(self.alloc, name)?;
-        let value = String::from_str(self.alloc, value)?;
-        Ok(Attr { name, value })
-    }
-
-    /// The texts of a doctype: its name, its public identifier and its system identifier.
-    pub fn doctype(&self, words: [&str; 3]) -> Result<DocumentType, AllocError> {
-        let [name, public_id, system_id] = words;
-        Ok(DocumentType {
-            name: String::from_str(self.alloc, name)?,
-            public_id: String::from_str(self.alloc, public_id)?,
-            system_id: String::from_str(self.alloc, system_id)?,
-        })
-    }
+/// A doctype of these texts.
+pub fn doctype(alloc: Global, texts: [&str; 3]) -> Result<DocumentType, AllocError> {
+    let [name, public_id, system_id] = texts;
+    Ok(DocumentType {
+        name: String::from_str(alloc, name)?,
+        public_id: String::from_str(alloc, public_id)?,
+        system_id: String::from_str(alloc, system_id)?,
+    })
 }

@@ -1,7 +1,7 @@
 //! Makes the calls of a script, one a line, and prints a line for each: what it answers, `ok` where it answers nothing, `refused` and
 //! why where it is refused, and `-` where it is not made, since there is no such call or its condition is not met. The first word of a
-//! line says what is called. Lines that are empty or begin with `#` are skipped. `model_runs tokens FILE..` and `model_runs tree FILE..`
-//! count what is in files, in pieces of 65,536 bytes, without printing it.
+//! line says what is called. Lines that are empty or begin with `#` are skipped. `model_runs tree FILE` counts what is in a file, in
+//! pieces of 65,536 bytes, without printing it.
 //!
 //! What the calls are made on, and the room for the answers, is there before the script is read. So after its end memory is asked for by
 //! its calls alone, unless the answers are longer than that room.
@@ -12,51 +12,40 @@ ghost use Rattle.hadopt.specs.Kept.{Kept};
 ghost use Rattle.hadopt.specs.Naming.{numbers};
 
 mod answers;
-mod chain;
-mod count;
 mod engine;
-mod grown;
 mod hand;
-mod in_memory;
-mod list;
-mod making;
+mod lists;
 mod nodes;
 mod site;
-mod site_edits;
-mod site_questions;
 mod stack;
-mod stack_questions;
-mod structures;
-mod sums;
-mod texts;
 mod tree;
 mod words;
-mod written;
 
-use crate::count::print_count;
-use crate::site::{Run, call_site};
-use crate::structures::{Reply, Structures};
-use crate::words::word;
-use hopen::Open;
-use names::Refusal;
+use crate::engine::print_count;
+use crate::hand::Hand;
+use crate::site::Run;
+use crate::words::{after, text, word};
+use charref::Table;
+use hchain::Chains;
+use hformat::Formatting;
+use hmarkup::Quirks;
+use hopen::{Open, OpenStack};
+use names::{Keys, Refusal};
+use std::alloc::{AllocError, Global};
 use std::{env, io};
 
 const _: () = prove!(std::mem::size_of::<Open>() == 8);
 
 fn main(rt: HostRuntime) -> io::Result<()> {
-    let mut words = env::args(&rt)?.skip(1);
-    let Some(task) = words.next() else {
-        return run_script(&rt);
-    };
-    for name in words {
-        print_count(&rt, &task, &name)?;
+    match env::args(&rt)?.nth(2) {
+        Some(name) => print_count(&rt, &name),
+        None => run_script(&rt),
     }
-    Ok(())
 }
 
 /// Makes the calls of the script.
 fn run_script(rt: &HostRuntime) -> io::Result<()> {
-    let mut structures = Structures::new(rt.alloc())?;
+    let mut structures = Structures::new(rt.alloc()).map_err(|_| AllocError)?;
     let done = begin(rt, &mut structures);
     drop(structures);
     done
@@ -84,15 +73,10 @@ fn play(structures: &mut Structures, run: &mut Run, script: &str)
     requires { IsTrue run.old.sound → Kept numbers run.old.site }
 {
     for line in script.lines() {
-        if !is_comment(line) {
+        if !line.is_empty() && !line.starts_with('#') {
             answer(structures, run, line);
         }
     }
-}
-
-/// Whether a line of the script is no call.
-fn is_comment(line: &str) -> bool {
-    line.is_empty() || line.starts_with('#')
 }
 
 /// Makes the call of a line, and says what it answers.
@@ -101,33 +85,63 @@ fn answer(structures: &mut Structures, run: &mut Run, line: &str)
     ensures { IsTrue run.new.sound → Kept numbers run.new.site }
 {
     let answer = if word(line, 0) == "site" {
-        call_site(run, &mut structures.hand, line)
+        run.call(&mut structures.hand, line)
     } else {
-        call_again(structures, line)
+        structures.call_again(line)
     };
-    structures.hand.out.answer(answer);
+    structures.hand.out.end(answer);
 }
 
-/// Makes a call, and makes it again where memory was refused: the call that failed has changed nothing.
-fn call_again(structures: &mut Structures, line: &str) -> Result<Reply, Refusal> {
-    match call(structures, line) {
-        Err(Refusal::Memory) => call(structures, line),
-        answer => answer,
+/// A list of numbers, a stack of open elements, a list of active formatting elements, a table of references, a quirks list, and a tree,
+/// names and answers for all calls.
+#[derive(Drop)]
+struct Structures {
+    hand: Hand,
+    chain: Chains,
+    stack: OpenStack,
+    list: Formatting,
+    table: Table,
+    quirks: Quirks,
+}
+
+impl Structures {
+    /// Empty lists, and the document alone.
+    fn new(alloc: Global) -> Result<Self, Refusal> {
+        Ok(Structures {
+            hand: Hand::new(alloc)?,
+            chain: Chains::new(alloc),
+            stack: OpenStack::new(alloc, 0),
+            list: Formatting::new(alloc, Keys::for_tests()),
+            table: Table::core(alloc)?,
+            quirks: Quirks::read(alloc, "")?,
+        })
     }
-}
 
-/// Makes a call.
-fn call(structures: &mut Structures, line: &str) -> Result<Reply, Refusal> {
-    match word(line, 0) {
-        "chain" => chain::call(&mut structures.chain, &mut structures.hand, line),
-        "tree" => making::call(&mut structures.hand, line),
-        "stack" => stack::call(&mut structures.stack, &mut structures.hand, line),
-        "list" => list::call(&mut structures.list, &mut structures.hand, line),
-        "names" => texts::call_names(&mut structures.hand, line),
-        "run" => engine::call(structures, line),
-        "quirks" => engine::call_quirks(structures, line),
-        "trees" => written::call(&mut structures.hand, line),
-        "table" => texts::call_table(&mut structures.table, &mut structures.hand, line),
-        _ => Ok(Reply::NotMade),
+    /// Makes a call, and makes it again where memory was refused: the call that failed has changed nothing.
+    fn call_again(&mut self, line: &str) -> Result<(), Refusal> {
+        match self.call(line) {
+            Err(Refusal::Memory) => self.call(line),
+            answer => answer,
+        }
+    }
+
+    fn call(&mut self, line: &str) -> Result<(), Refusal> {
+        let hand = &mut self.hand;
+        match word(line, 0) {
+            "chain" => lists::call_chain(&mut self.chain, hand, line)?,
+            "tree" => tree::call(hand, line)?,
+            "stack" => stack::call(&mut self.stack, hand, line)?,
+            "list" => lists::call(&mut self.list, hand, line)?,
+            "name" => hand
+                .out
+                .say(hand.names.intern(hand.alloc, after(line, 1))?.index()),
+            "core" => self.table = Table::core(hand.alloc)?,
+            "table" => self.table = Table::read(hand.alloc, after(line, 1))?,
+            "longest" => lists::say_longest(&self.table, after(line, 1), &mut hand.out),
+            "quirks" => self.quirks = Quirks::read(hand.alloc, &text(hand.alloc, word(line, 1))?)?,
+            "run" => engine::call(hand, &self.table, &self.quirks, line)?,
+            _ => hand.out.say("-"),
+        }
+        Ok(())
     }
 }

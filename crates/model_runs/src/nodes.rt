@@ -4,127 +4,60 @@ ghost use Rattle.std.specs.Prelude.{◌<◌};
 
 use crate::answers::Answers;
 use crate::hand::Hand;
-use crate::structures::Reply;
-use crate::sums::sum;
 use crate::words::word;
 use hnodes::{NodeId, Tree};
-use names::{Names, Refusal};
+use hwrite::{Counted, Escaping, Names, Refusal, is_plain, serialize, serialize_to_vec, tree_text};
 use std::alloc::Global;
 
-/// Answers a question about a tree.
-pub fn ask(hand: &mut Hand, line: &str) -> Result<Reply, Refusal> {
-    match word(line, 1) {
-        "made" => Ok(Reply::Number(hand.tree.made() as usize)),
-        "sum" => Ok(Reply::Number(sum(&hand.tree) as usize)),
-        "named" => Ok(ask_name(hand, line)),
-        word => ask_node(hand, word, line),
-    }
-}
-
-/// Says whether a node is an element of a name, and the value of its attribute of that name, or `-`.
-fn ask_name(hand: &mut Hand, line: &str) -> Reply {
-    match hand.node(line, 2) {
-        Some(node) => say_named(&hand.tree, &hand.names, node, word(line, 3), &mut hand.out),
-        None => Reply::NotMade,
-    }
-}
-
-fn say_named(tree: &Tree, names: &Names, node: NodeId, name: &str, out: &mut Answers) -> Reply
-    requires { node < tree.now.made }
-{
-    out.flag(tree.is_element(names, node, name));
-    match tree.attribute(names, node, name) {
-        Some(value) => out.quoted(value),
-        None => out.word("-"),
-    }
-    Reply::Said
-}
-
 /// Answers a question about a node.
-fn ask_node(hand: &mut Hand, word: &str, line: &str) -> Result<Reply, Refusal> {
-    match hand.node(line, 2) {
-        Some(node) if word == "content" => {
-            say_content(&hand.tree, hand.alloc, node, &mut hand.out)
+pub fn ask(hand: &mut Hand, question: &str, node: NodeId, line: &str) -> Result<(), Refusal>
+    requires { node < hand.old.tree.made }
+{
+    let (alloc, tree, names, out) = (hand.alloc, &hand.tree, &hand.names, &mut hand.out);
+    match question {
+        "named" => {
+            out.flag(tree.is_element(names, node, word(line, 3)));
+            out.quoted(tree.attribute(names, node, word(line, 3)));
         }
-        Some(node) => Ok(say_about(&hand.tree, word, node, &mut hand.out)),
-        None => Ok(Reply::NotMade),
-    }
-}
-
-/// Says the text inside a node.
-fn say_content(
-    tree: &Tree,
-    alloc: Global,
-    node: NodeId,
-    out: &mut Answers,
-) -> Result<Reply, Refusal>
-    requires { node < tree.now.made }
-{
-    let content = tree.text_content(alloc, node)?;
-    out.quoted(&content);
-    Ok(Reply::Said)
-}
-
-/// Says what a node is, or which nodes are below or above it.
-fn say_about(tree: &Tree, word: &str, node: NodeId, out: &mut Answers) -> Reply
-    requires { node < tree.now.made }
-{
-    match word {
         "node" => say_node(tree, node, out),
-        "children" => say_children(tree, node, out),
-        "elements" => say_elements(tree, node, out),
-        "ancestors" => say_ancestors(tree, node, out),
-        "descendants" => say_descendants(tree, node, out),
-        _ => return Reply::NotMade,
+        "children" => out.nodes(tree.children(node).collect(alloc)?),
+        "elements" => out.nodes(tree.child_elements(node).collect(alloc)?),
+        "ancestors" => out.nodes(tree.ancestors(node).collect(alloc)?),
+        "descendants" => out.nodes(tree.descendants(node).collect(alloc)?),
+        "content" => out.quoted(Some(&tree.text_content(alloc, node)?)),
+        _ => out.say("-"),
     }
-    Reply::Said
+    Ok(())
 }
 
-fn say_ancestors(tree: &Tree, node: NodeId, out: &mut Answers)
-    requires { node < tree.now.made }
-{
-    for above in tree.ancestors(node) {
-        out.number(above.index());
-    }
-}
-
-fn say_descendants(tree: &Tree, node: NodeId, out: &mut Answers)
-    requires { node < tree.now.made }
-{
-    for inside in tree.descendants(node) {
-        out.number(inside.index());
+/// Says of each node that was made what it is.
+pub fn say_all(tree: &Tree, out: &mut Answers) {
+    for number in 0..tree.made() as usize {
+        if let Some(node) = tree.node(number) {
+            say_node(tree, node, out);
+        }
     }
 }
 
-fn say_elements(tree: &Tree, node: NodeId, out: &mut Answers)
+/// Says a node's number and kind, the name and the attributes of an element, the text of a comment or a text, or the texts of a
+/// doctype, its parent, its siblings after and before it, and its first and its last child.
+fn say_node(tree: &Tree, node: NodeId, out: &mut Answers)
     requires { node < tree.now.made }
 {
-    for child in tree.child_elements(node) {
-        out.number(child.index());
-    }
-}
-
-pub fn say_children(tree: &Tree, node: NodeId, out: &mut Answers)
-    requires { node < tree.now.made }
-{
-    for child in tree.children(node) {
-        out.number(child.index());
-    }
-}
-
-/// Says a node's number and kind, what it holds, its parent, its siblings after and before it, and its first and its last child.
-pub fn say_node(tree: &Tree, node: NodeId, out: &mut Answers)
-    requires { node < tree.now.made }
-{
-    out.number(node.index());
+    out.say(node.index());
     out.kind(tree.kind(node));
-    say_held(tree, node, out);
-    say_links(tree, node, out);
-}
-
-fn say_links(tree: &Tree, node: NodeId, out: &mut Answers)
-    requires { node < tree.now.made }
-{
+    if let Some(name) = tree.name(node) {
+        out.name(name);
+        out.attrs(tree.attrs(node).unwrap_or(&[]));
+    }
+    if let Some(text) = tree.text(node) {
+        out.quoted(Some(text));
+    }
+    if let Some(texts) = tree.doctype(node) {
+        out.quoted(Some(&texts.name));
+        out.quoted(Some(&texts.public_id));
+        out.quoted(Some(&texts.system_id));
+    }
     out.node(tree.parent(node));
     out.node(tree.next(node));
     out.node(tree.previous(node));
@@ -132,22 +65,40 @@ fn say_links(tree: &Tree, node: NodeId, out: &mut Answers)
     out.node(tree.last_child(node));
 }
 
-/// Says the name and the attributes of an element, the text of a comment or a text, or the texts of a doctype.
-fn say_held(tree: &Tree, node: NodeId, out: &mut Answers)
+/// Says whether what is in a node is plain in a context, its text, its HTML in both ways of escaping, and the least room of which a
+/// writer of that size does not take just what fits.
+pub fn say_written(hand: &mut Hand, node: NodeId, context: &str) -> Result<(), Refusal>
+    requires { node < hand.old.tree.made }
+{
+    let (alloc, tree, names, out) = (hand.alloc, &hand.tree, &hand.names, &mut hand.out);
+    out.flag(is_plain(tree, names, node, context));
+    out.bytes(&tree_text(alloc, tree, names, node)?);
+    let html = serialize_to_vec(alloc, tree, names, node, Escaping::One)?;
+    out.bytes(&html);
+    out.bytes(&serialize_to_vec(alloc, tree, names, node, Escaping::Two)?);
+    out.place(wrong_room(alloc, tree, names, node, &html)?);
+    Ok(())
+}
+
+/// The least room of which a writer takes anything but the front of the HTML that fits, or does not fail though not all fits.
+fn wrong_room(
+    alloc: Global,
+    tree: &Tree,
+    names: &Names,
+    node: NodeId,
+    html: &[u8],
+) -> Result<Option<usize>, Refusal>
     requires { node < tree.now.made }
 {
-    if let Some(name) = tree.name(node) {
-        out.name(name);
+    for room in 0..=html.len() {
+        let (front, _) = html.split_at(room);
+        let mut taken = Vec::from_slice(alloc, front)?;
+        taken.fill(0);
+        let mut target = Counted::new(taken.as_mut_slice());
+        let answer = serialize(alloc, tree, names, node, Escaping::One, &mut target);
+        if answer.is_ok() != (room == html.len()) || taken.as_slice() != front {
+            return Ok(Some(room));
+        }
     }
-    if let Some(attrs) = tree.attrs(node) {
-        out.attrs(attrs);
-    }
-    if let Some(text) = tree.text(node) {
-        out.quoted(text);
-    }
-    if let Some(texts) = tree.doctype(node) {
-        out.quoted(&texts.name);
-        out.quoted(&texts.public_id);
-        out.quoted(&texts.system_id);
-    }
+    Ok(None)
 }

@@ -4,46 +4,22 @@ ghost use Rattle.std.specs.Prelude.{◌≡◌, ◌<◌, IfOk, IsTrue};
 ghost use Rattle.hadopt.specs.Kept.{Kept};
 ghost use Rattle.hadopt.specs.Naming.{numbers};
 
-use crate::hand::Hand;
-use crate::site_edits::change;
-use crate::site_questions::{ask, say_state};
-use crate::structures::{Reply, done};
-use crate::words::{count, word};
-use hadopt::Site;
-use names::{Keys, Refusal};
+use crate::answers::Answers;
+use crate::hand::{Hand, attrs, doctype};
+use crate::words::{after, count, group, number, word};
+use crate::{lists, nodes};
+use hadopt::{Passing, Site};
+use hnodes::Place;
+use names::{ErrorCode, Keys, NameId, Refusal, Tag};
 use std::alloc::{AllocError, Global};
-use std::mem;
 
 /// A site, and whether it is sound: the adoption agency may be called. It is not after a refusal, and once a node was pushed.
 #[derive(Drop)]
 pub struct Run {
-    pub site: Site,
-    pub sound: bool,
+    site: Site,
+    sound: bool,
     /// How many calls were made on the site.
-    pub at: u64,
-}
-
-/// Makes a call. It is not made again where memory is refused: a call of a site is many.
-pub fn call_site(run: &mut Run, hand: &mut Hand, line: &str) -> Result<Reply, Refusal>
-    requires { IsTrue run.old.sound → Kept numbers run.old.site }
-    ensures { IsTrue run.new.sound → Kept numbers run.new.site }
-{
-    run.at = run.at.wrapping_add(1);
-    match word(line, 1) {
-        "name" | "group" | "flags" | "nodes" | "errors" | "tree" => ask(&run.site, hand, line),
-        _ => run.edit(hand, line),
-    }
-}
-
-/// Pushes the current node again, after it was popped or not.
-fn push_again(site: &mut Site, pops: bool, at: u64) -> Result<(), Refusal> {
-    let Some(open) = site.current() else {
-        return Ok(());
-    };
-    if pops {
-        site.pop();
-    }
-    site.push(open, at)
+    at: u64,
 }
 
 impl Run {
@@ -58,55 +34,174 @@ impl Run {
         })
     }
 
-    /// Makes an edit, and says what the site then is.
-    fn edit(&mut self, hand: &mut Hand, line: &str) -> Result<Reply, Refusal>
+    /// Makes a call. It is not made again where memory is refused: a call of a site is many.
+    pub fn call(&mut self, hand: &mut Hand, line: &str) -> Result<(), Refusal>
         requires { IsTrue self.old.sound → Kept numbers self.old.site }
         ensures { IsTrue self.new.sound → Kept numbers self.new.site }
     {
-        let answer = self.change(hand, line)?;
-        if let Reply::NotMade = answer {
-            return Ok(answer);
-        }
-        say_state(&self.site, &mut hand.out);
-        Ok(Reply::Said)
-    }
-
-    fn change(&mut self, hand: &mut Hand, line: &str) -> Result<Reply, Refusal>
-        requires { IsTrue self.old.sound → Kept numbers self.old.site }
-        ensures { IsTrue self.new.sound → Kept numbers self.new.site }
-    {
+        self.at = self.at.wrapping_add(1);
         match word(line, 1) {
-            "new" => self.begin(hand.alloc, count(line, 2), count(line, 3)),
-            "push" => self.push(false),
-            "reopen" => self.push(true),
-            _ => self.change_site(hand, line),
+            "nodes" => nodes::say_all(self.site.tree(), &mut hand.out),
+            "about" => say_about(&self.site, hand, line)?,
+            _ => {
+                self.edit(hand, line)?;
+                say_state(&self.site, &mut hand.out);
+            }
         }
+        Ok(())
     }
 
-    fn begin(&mut self, alloc: Global, most_nodes: u32, most_open: u32) -> Result<Reply, Refusal>
-        requires { IsTrue self.old.sound → Kept numbers self.old.site }
-        ensures { IsTrue self.new.sound → Kept numbers self.new.site }
-    {
-        let new = Run::new(alloc, most_nodes, most_open)?;
-        drop(mem::replace(self, new));
-        Ok(Reply::Done)
-    }
-
-    fn push(&mut self, pops: bool) -> Result<Reply, Refusal>
-        ensures { IsTrue self.new.sound → Kept numbers self.new.site }
-    {
-        self.sound = false;
-        done(push_again(&mut self.site, pops, self.at))
-    }
-
-    fn change_site(&mut self, hand: &mut Hand, line: &str) -> Result<Reply, Refusal>
+    /// Makes an edit.
+    fn edit(&mut self, hand: &mut Hand, line: &str) -> Result<(), Refusal>
         requires { IsTrue self.old.sound → Kept numbers self.old.site }
         ensures { IsTrue self.new.sound → Kept numbers self.new.site }
     {
         let sound = self.sound;
         self.sound = false;
-        let answer = change(&mut self.site, sound, hand, line, self.at)?;
+        let name = hand.name(line, 2)?;
+        match word(line, 1) {
+            "new" => {
+                *self = Run::new(hand.alloc, count(line, 2), count(line, 3))?;
+                return Ok(());
+            }
+            "push" => {
+                return match self.site.current() {
+                    Some(open) => self.site.push(open, self.at),
+                    None => Ok(()),
+                };
+            }
+            "adopt" if sound => self.site.adopt(name, self.at)?,
+            "element" | "formatting" | "comment" | "doctype" | "text" | "char" => {
+                insert(&mut self.site, hand, name, line, self.at)?;
+            }
+            _ => change(&mut self.site, hand, name, line, self.at)?,
+        }
         self.sound = sound;
-        Ok(answer)
+        Ok(())
     }
+}
+
+/// Puts a node at its place, or a text.
+fn insert(
+    site: &mut Site,
+    hand: &mut Hand,
+    name: NameId,
+    line: &str,
+    at: u64,
+) -> Result<(), Refusal>
+    ensures { Kept numbers site.old → IfOk result (λ _. Kept numbers site.new) }
+{
+    let attrs = attrs(&mut hand.names, hand.alloc, after(line, 3))?;
+    let text = after(line, 2);
+    let place = site.place();
+    match word(line, 1) {
+        "element" => {
+            site.insert_element(name, attrs, place, at)?;
+        }
+        "formatting" if name != Tag::Table.number() => {
+            site.insert_formatting(name, attrs, place, at)?;
+        }
+        "comment" => insert_comment(site, hand, line, at)?,
+        "doctype" => {
+            site.insert_doctype(doctype(hand.alloc, [text, "", ""])?, at)?;
+        }
+        "text" => site.put_text(text, place, at)?,
+        "char" => site.put(text.chars().next().unwrap_or(' '), place, at)?,
+        _ => hand.out.say("-"),
+    }
+    Ok(())
+}
+
+fn insert_comment(site: &mut Site, hand: &Hand, line: &str, at: u64) -> Result<(), Refusal>
+    ensures { Kept numbers site.old → IfOk result (λ _. Kept numbers site.new) }
+{
+    let text = String::from_str(hand.alloc, after(line, 3))?;
+    let place = match word(line, 2) {
+        "first" => site.place_in_first(),
+        "document" => site.place_in_document(),
+        _ => site.place_in_current(),
+    };
+    site.insert_comment(text, place, at)?;
+    Ok(())
+}
+
+/// Edits the open nodes or the list.
+fn change(
+    site: &mut Site,
+    hand: &mut Hand,
+    name: NameId,
+    line: &str,
+    at: u64,
+) -> Result<(), Refusal>
+    ensures { Kept numbers site.old → IfOk result (λ _. Kept numbers site.new) }
+{
+    let attrs = attrs(&mut hand.names, hand.alloc, after(line, 3))?;
+    let index = number(line, 2);
+    let open = site.from_top(index).map(|open| open.node);
+    let listed = site.formatting().get(index).map(|entry| entry.node);
+    match (word(line, 1), open, listed) {
+        ("missing", Some(node), _) => site.add_missing(node, attrs)?,
+        ("leave", Some(node), _) => site.leave(node),
+        ("unlist", _, Some(node)) => site.remove_entry(node),
+        ("close", ..) => site.close(name, at)?,
+        ("other-end", ..) => site.other_end(name, at)?,
+        ("close-p", ..) => site.close_p(at)?,
+        ("marker", ..) => site.marker()?,
+        ("reconstruct", ..) => site.reconstruct(at)?,
+        ("error", ..) => site.error(ErrorCode::TreeInBody, at)?,
+        ("pop", ..) => site.pop(),
+        ("pop-to", ..) => site.pop_to(name),
+        ("pop-past", ..) => site.pop_past(passing(name, word(line, 2))),
+        ("pop-to-group", ..) => site.pop_to_group(group(word(line, 2))),
+        ("clear", ..) => site.clear_to_marker(),
+        ("foster", ..) => site.set_foster(word(line, 2) == "on"),
+        _ => hand.out.say("-"),
+    }
+    Ok(())
+}
+
+fn passing(name: NameId, word: &str) -> Passing {
+    match word {
+        "to-table" => Passing::Table,
+        "to-body" => Passing::Body,
+        "to-row" => Passing::Row,
+        "implied" => Passing::Implied(None),
+        _ => Passing::Implied(Some(name)),
+    }
+}
+
+/// The entry of a name, whether the current node has the name, and whether it is of a group; whether there is foster parenting, whether
+/// the current node fosters, and whether all entries are reconstructed.
+fn say_about(site: &Site, hand: &mut Hand, line: &str) -> Result<(), Refusal> {
+    let name = hand.name(line, 2)?;
+    let out = &mut hand.out;
+    out.node(site.find(name));
+    out.flag(site.current_is(name));
+    out.flag(site.current_is_of(group(word(line, 3))));
+    out.flag(site.fosters());
+    out.flag(site.current_fosters());
+    out.flag(site.is_reconstructed());
+    Ok(())
+}
+
+/// The open nodes, the entries, how many errors there are with the last one, and the appropriate place.
+fn say_state(site: &Site, out: &mut Answers) {
+    out.say("open");
+    for down in 0..site.open_count() {
+        out.open(site.from_top(down));
+    }
+    out.say("list");
+    lists::say_all(site.formatting(), out);
+    out.say("errors");
+    out.say(site.errors().len());
+    if let Some(error) = site.errors().last() {
+        out.say(error.at);
+        out.say(error.code.text());
+    }
+    let (word, node) = match site.place() {
+        Place::LastIn(node) => ("in", node),
+        Place::Before(node) => ("before", node),
+    };
+    out.say(word);
+    out.node(Some(node));
 }

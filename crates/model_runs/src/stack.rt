@@ -1,105 +1,89 @@
-//! Edits of the stack of open elements.
+//! Calls of the stack of open elements.
 
-use crate::hand::Hand;
-use crate::stack_questions::ask;
-use crate::structures::{PLACE, Reply, done};
-use crate::words::{count, group, word};
+use crate::answers::Answers;
+use crate::hand::{Hand, PLACE};
+use crate::words::{count, group, number, scope, word};
 use hnodes::NodeId;
-use hopen::{Open, OpenStack};
-use names::Refusal;
-use std::alloc::Global;
+use hopen::{Group, OpenStack, Scope};
+use names::{NameId, Refusal};
 
-/// Makes a call.
-pub fn call(stack: &mut OpenStack, hand: &mut Hand, line: &str) -> Result<Reply, Refusal> {
+/// Makes a call. Where it opens a node, that and its name come first.
+pub fn call(stack: &mut OpenStack, hand: &mut Hand, line: &str) -> Result<(), Refusal> {
+    let near = hand.node(line, 4);
     match word(line, 1) {
-        "new" => Ok(begin(stack, hand.alloc, count(line, 2))),
-        "push" | "insert_below" | "replace" => open(stack, hand, line),
-        "exchange" => exchange(stack, hand, line),
-        _ => shorten(stack, hand, line),
+        "new" => *stack = OpenStack::new(hand.alloc, count(line, 2)),
+        "push" => stack.push(hand.open(line)?, PLACE)?,
+        "insert_below" => stack.insert_below(near, hand.open(line)?, PLACE)?,
+        "replace" => stack.replace(near, hand.open(line)?)?,
+        "exchange" if stack.contains(near) => {
+            stack.exchange(near, hand.node(line, 5), hand.open(line)?)?;
+        }
+        "pop_to" => stack.pop_to(hand.name(line, 2)?),
+        "name" => say_name(
+            stack,
+            hand.name(line, 2)?,
+            scope(word(line, 3)),
+            &mut hand.out,
+        ),
+        call => call_of_node(stack, hand, call, line),
     }
+    Ok(())
 }
 
-/// Calls that close nodes.
-fn shorten(stack: &mut OpenStack, hand: &mut Hand, line: &str) -> Result<Reply, Refusal> {
-    match word(line, 1) {
-        "pop_to" => pop_to(stack, hand, line),
-        "pop" => Ok(pop(stack, hand)),
-        "remove_run" => Ok(remove_run(stack, count(line, 2), count(line, 3))),
-        _ => close(stack, hand, line),
-    }
-}
-
-fn begin(stack: &mut OpenStack, alloc: Global, limit: u32) -> Reply {
-    *stack = OpenStack::new(alloc, limit);
-    Reply::Done
-}
-
-/// Opens a node, whose number and name come first.
-fn open(stack: &mut OpenStack, hand: &mut Hand, line: &str) -> Result<Reply, Refusal> {
-    let open = hand.open(line, 2)?;
-    let near = hand.near(line, 4);
-    done(open_at(stack, word(line, 1), open, near))
-}
-
-/// Opens a node as the current one, below another, or in its place.
-fn open_at(stack: &mut OpenStack, word: &str, open: Open, near: NodeId) -> Result<(), Refusal> {
-    match word {
-        "push" => stack.push(open, PLACE),
-        "insert_below" => stack.insert_below(near, open, PLACE),
-        _ => Ok(stack.replace(near, open)?),
-    }
-}
-
-/// Opens a node right below another one, for one that leaves.
-fn exchange(stack: &mut OpenStack, hand: &mut Hand, line: &str) -> Result<Reply, Refusal> {
-    let new = hand.open(line, 2)?;
-    let leaving = hand.near(line, 4);
-    let above = hand.near(line, 5);
-    exchange_open(stack, leaving, above, new)
-}
-
-fn exchange_open(
-    stack: &mut OpenStack,
-    leaving: NodeId,
-    above: NodeId,
-    new: Open,
-) -> Result<Reply, Refusal> {
-    if !stack.contains(leaving) {
-        return Ok(Reply::NotMade);
-    }
-    stack.exchange(leaving, above, new)?;
-    Ok(Reply::Done)
-}
-
-fn pop_to(stack: &mut OpenStack, hand: &mut Hand, line: &str) -> Result<Reply, Refusal> {
-    let name = hand.name(line, 2)?;
-    stack.pop_to(name);
-    Ok(Reply::Done)
-}
-
-fn pop(stack: &mut OpenStack, hand: &mut Hand) -> Reply {
-    hand.out.open(stack.pop());
-    Reply::Said
-}
-
-fn remove_run(stack: &mut OpenStack, up: u32, count: u32) -> Reply {
-    let up = up as usize;
-    let count = count as usize;
-    if up + count > stack.len() {
-        return Reply::NotMade;
-    }
-    stack.remove_run(up, count);
-    Reply::Done
-}
-
-/// Calls that close nodes up to one, or one alone.
-fn close(stack: &mut OpenStack, hand: &mut Hand, line: &str) -> Result<Reply, Refusal> {
-    let node = hand.near(line, 2);
-    match word(line, 1) {
+/// Makes a call that neither opens a node nor has a name.
+fn call_of_node(stack: &mut OpenStack, hand: &mut Hand, call: &str, line: &str) {
+    let (node, group) = (hand.node(line, 2), group(word(line, 2)));
+    let (up, count) = (count(line, 2) as usize, count(line, 3) as usize);
+    let out = &mut hand.out;
+    match call {
+        "pop" => out.open(stack.pop()),
         "pop_to_node" => stack.pop_to_node(node),
-        "pop_to_group" => stack.pop_to_group(group(line, 2)),
+        "pop_to_group" => stack.pop_to_group(group),
         "remove" => stack.remove(node),
-        _ => return ask(stack, hand, node, line),
+        "remove_run" if up + count <= stack.len() => stack.remove_run(up, count),
+        "ends" => say_ends(stack, out),
+        "all" => say_all(stack, out),
+        "node" => say_node(stack, node, out),
+        "block" => out.open(stack.furthest_block(node)),
+        "group" => {
+            out.flag(stack.group_in_scope(scope(word(line, 3)), group));
+            out.place(stack.group_place(group));
+        }
+        _ => out.say("-"),
     }
-    Ok(Reply::Done)
+}
+
+/// `len`, `current` and `all_may_stay_open`.
+fn say_ends(stack: &OpenStack, out: &mut Answers) {
+    out.say(stack.len());
+    out.open(stack.current());
+    out.flag(stack.all_may_stay_open());
+}
+
+/// The same, and then each `get` and each `from_top`, with the first past the end.
+fn say_all(stack: &OpenStack, out: &mut Answers) {
+    say_ends(stack, out);
+    for up in 0..=stack.len() {
+        out.open(stack.get(up));
+    }
+    for down in 0..=stack.len() {
+        out.open(stack.from_top(down));
+    }
+}
+
+/// `place`, `contains`, `depth`, `above` and `node_in_scope`.
+fn say_node(stack: &OpenStack, node: NodeId, out: &mut Answers) {
+    out.place(stack.place(node));
+    out.flag(stack.contains(node));
+    out.say(stack.depth(node));
+    out.open(stack.above(node));
+    out.flag(stack.node_in_scope(node));
+}
+
+/// `in_scope`, `before_special`, `item_is_near` and `nearest`.
+fn say_name(stack: &OpenStack, name: NameId, scope: Scope, out: &mut Answers) {
+    out.flag(stack.in_scope(scope, name));
+    out.flag(stack.before_special(name));
+    out.flag(stack.item_is_near(name));
+    out.open(stack.nearest(name));
 }

@@ -1,85 +1,102 @@
-//! Calls that move nodes of a tree, or change what they hold.
+//! Calls of a tree.
 
 ghost use Rattle.std.specs.Prelude.{◌<◌, IfSome};
 ghost use Rattle.hnodes.specs.Edits.{IsPlace};
 
-use crate::hand::Hand;
-use crate::nodes::ask;
-use crate::structures::{PLACE, Reply, done};
-use crate::words::{after, word};
+use crate::hand::{Hand, PLACE, attr, attrs, doctype};
+use crate::nodes::{ask, say_all, say_written};
+use crate::words::{after, count, number, text, word};
 use hnodes::{NodeId, Place, Tree};
-use names::{Attr, Refusal};
+use names::Refusal;
+use std::alloc::Global;
 
-/// Makes a call, if it edits the tree.
-pub fn edit(hand: &mut Hand, line: &str) -> Result<Reply, Refusal> {
+/// Makes a call. Where it is one of a node, that comes first.
+pub fn call(hand: &mut Hand, line: &str) -> Result<(), Refusal> {
+    let limit = count(line, 2);
     match word(line, 1) {
-        "append" | "before" | "move" => Ok(move_nodes(hand, line)),
-        "char" | "text" => put(hand, line),
-        "attr" | "missing" => add_attr(hand, line),
-        _ => ask(hand, line),
+        "new" if limit > 0 => hand.tree = Tree::new(hand.alloc, limit)?,
+        "element" | "comment" | "doctype" => make(hand, line)?,
+        "made" => hand.out.say(hand.tree.made()),
+        "all" => say_all(&hand.tree, &mut hand.out),
+        word => match hand.tree.node(number(line, 2)) {
+            Some(node) => edit(hand, word, node, line)?,
+            None => hand.out.say("-"),
+        },
     }
+    Ok(())
+}
+
+/// Makes a node, and says its number.
+fn make(hand: &mut Hand, line: &str) -> Result<(), Refusal> {
+    let (alloc, tree, names) = (hand.alloc, &mut hand.tree, &mut hand.names);
+    let made = match word(line, 1) {
+        "comment" => tree.create_comment(text(alloc, after(line, 2))?, PLACE)?,
+        "doctype" => {
+            let texts = [word(line, 2), word(line, 3), after(line, 4)];
+            tree.create_doctype(doctype(alloc, texts)?, PLACE)?
+        }
+        _ => {
+            let name = names.intern(alloc, &text(alloc, word(line, 2))?)?;
+            let attrs = attrs(names, alloc, after(line, 3))?;
+            tree.create_element(name, attrs, PLACE)?
+        }
+    };
+    hand.out.say(made.index());
+    Ok(())
+}
+
+/// Makes an edit, or asks a question.
+fn edit(hand: &mut Hand, call: &str, node: NodeId, line: &str) -> Result<(), Refusal>
+    requires { node < hand.old.tree.made }
+{
+    match call {
+        "append" | "before" | "move" => match hand.tree.node(number(line, 3)) {
+            Some(to) if is_moved(&mut hand.tree, call, node, to) => {}
+            _ => hand.out.say("-"),
+        },
+        "char" | "text" => match place(&hand.tree, word(line, 3), node) {
+            Some(place) => {
+                let text = text(hand.alloc, after(line, 4))?;
+                put(&mut hand.tree, call, &text, place)?;
+            }
+            None => hand.out.say("-"),
+        },
+        "attr" => {
+            let attr = attr(&mut hand.names, hand.alloc, after(line, 3))?;
+            hand.tree.add_attr(node, attr)?;
+        }
+        "missing" => {
+            let attr = attr(&mut hand.names, hand.alloc, after(line, 3))?;
+            hand.tree.add_missing_attr(node, attr)?;
+        }
+        "nest" | "fill" => {
+            let (tree, count) = (&mut hand.tree, number(line, 3));
+            let last = grow(tree, hand.alloc, node, count, call == "nest")?;
+            hand.out.say(last.index());
+        }
+        "written" => say_written(hand, node, word(line, 3))?,
+        _ => ask(hand, call, node, line)?,
+    }
+    Ok(())
 }
 
 /// Moves a node, or the children of one, where that is allowed.
-fn move_nodes(hand: &mut Hand, line: &str) -> Reply {
-    let is_moved = match (hand.node(line, 2), hand.node(line, 3)) {
-        (Some(node), Some(to)) => is_moved(&mut hand.tree, word(line, 1), node, to),
-        _ => false,
-    };
-    if is_moved {
-        Reply::Done
-    } else {
-        Reply::NotMade
-    }
-}
-
-fn is_moved(tree: &mut Tree, word: &str, node: NodeId, to: NodeId) -> bool
+fn is_moved(tree: &mut Tree, call: &str, node: NodeId, to: NodeId) -> bool
     requires node { node < tree.old.made }
     requires to { to < tree.old.made }
 {
-    match word {
-        "append" => append(tree, node, to),
-        "before" => insert_before(tree, node, to),
-        _ => move_children(tree, node, to),
+    if tree.is_inside(to, node) {
+        return false;
     }
-}
-
-/// Appends a node to the children of another.
-fn append(tree: &mut Tree, child: NodeId, parent: NodeId) -> bool
-    requires child_in { child < tree.old.made }
-    requires parent_in { parent < tree.old.made }
-{
-    let fits = child != tree.document() && !tree.is_inside(parent, child);
-    if fits {
-        tree.append(child, parent);
+    match call {
+        "move" => tree.move_children(node, to),
+        "append" if node != tree.document() => tree.append(node, to),
+        "before" if node != tree.document() && tree.parent(to).is_some() => {
+            tree.insert_before(node, to);
+        }
+        _ => return false,
     }
-    fits
-}
-
-/// Inserts a node right before another.
-fn insert_before(tree: &mut Tree, child: NodeId, sibling: NodeId) -> bool
-    requires child_in { child < tree.old.made }
-    requires sibling_in { sibling < tree.old.made }
-{
-    let fits = child != tree.document()
-        && tree.parent(sibling).is_some()
-        && !tree.is_inside(sibling, child);
-    if fits {
-        tree.insert_before(child, sibling);
-    }
-    fits
-}
-
-/// Moves the children of a node to another.
-fn move_children(tree: &mut Tree, from: NodeId, to: NodeId) -> bool
-    requires from_in { from < tree.old.made }
-    requires to_in { to < tree.old.made }
-{
-    let fits = !tree.is_inside(to, from);
-    if fits {
-        tree.move_children(from, to);
-    }
-    fits
+    true
 }
 
 /// A place: `in` a node, after its last child, or `before` one that has a parent.
@@ -95,50 +112,31 @@ fn place(tree: &Tree, side: &str, node: NodeId) -> Option<Place>
 }
 
 /// Puts a text, or its first character, at a place.
-fn put(hand: &mut Hand, line: &str) -> Result<Reply, Refusal> {
-    match hand.node(line, 3) {
-        Some(node) => put_beside(&mut hand.tree, node, line),
-        None => Ok(Reply::NotMade),
-    }
-}
-
-fn put_beside(tree: &mut Tree, node: NodeId, line: &str) -> Result<Reply, Refusal>
-    requires { node < tree.old.made }
-{
-    match place(tree, word(line, 2), node) {
-        Some(place) => done(put_at(tree, word(line, 1), after(line, 4), place)),
-        None => Ok(Reply::NotMade),
-    }
-}
-
-fn put_at(tree: &mut Tree, word: &str, text: &str, place: Place) -> Result<(), Refusal>
+fn put(tree: &mut Tree, call: &str, text: &str, place: Place) -> Result<(), Refusal>
     requires { IsPlace place tree.old }
 {
-    if word == "text" {
-        return tree.put_text(text, place, PLACE);
-    }
     match text.chars().next() {
-        Some(c) => tree.put_char(c, place, PLACE),
-        None => Ok(()),
+        Some(c) if call == "char" => tree.put_char(c, place, PLACE),
+        _ => tree.put_text(text, place, PLACE),
     }
 }
 
-/// Adds an attribute to a node: `attr` one that the script knows that it lacks, `missing` one if it lacks it.
-fn add_attr(hand: &mut Hand, line: &str) -> Result<Reply, Refusal> {
-    let (name, value) = after(line, 3).split_once('=').unwrap_or(("", ""));
-    let attr = hand.attr(name, value)?;
-    match hand.node(line, 2) {
-        Some(node) => done(add(&mut hand.tree, word(line, 1), node, attr)),
-        None => Ok(Reply::NotMade),
+/// Makes this many comments: below a node, or the first below it and each other below the one before. Each is a call of its own, so
+/// where memory is refused a few are there. Returns the last.
+fn grow(
+    tree: &mut Tree,
+    alloc: Global,
+    top: NodeId,
+    count: usize,
+    is_nested: bool,
+) -> Result<NodeId, Refusal> {
+    let mut last = top;
+    for _ in 0..count {
+        let parent = if is_nested { last } else { top };
+        if tree.has(parent) {
+            last = tree.create_comment(String::new(alloc), PLACE)?;
+            tree.append(last, parent);
+        }
     }
-}
-
-fn add(tree: &mut Tree, word: &str, node: NodeId, attr: Attr) -> Result<(), Refusal>
-    requires { node < tree.old.made }
-{
-    if word == "attr" {
-        tree.add_attr(node, attr)
-    } else {
-        tree.add_missing_attr(node, attr)
-    }
+    Ok(last)
 }

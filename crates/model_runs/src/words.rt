@@ -3,34 +3,27 @@
 use hopen::{Group, Scope};
 use std::alloc::{AllocError, Global};
 
-/// The first word of a text, and what comes after it.
-fn cut(text: &str) -> (&str, &str) {
-    match text.split_once(' ') {
-        Some(parts) => parts,
-        None => (text, ""),
-    }
-}
-
 /// What comes after this many words.
 pub fn after(line: &str, count: usize) -> &str {
     let mut rest = line;
     for _ in 0..count {
-        rest = cut(rest).1;
+        rest = rest.split_once(' ').unwrap_or((rest, "")).1;
     }
     rest
 }
 
 /// The word with this many before it; an empty one if there is none.
 pub fn word(line: &str, index: usize) -> &str {
-    cut(after(line, index)).0
-}
-
-/// The number that a word is.
-pub fn number(line: &str, index: usize) -> Option<usize> {
-    word(line, index).parse::<usize>().ok()
+    let rest = after(line, index);
+    rest.split_once(' ').unwrap_or((rest, "")).0
 }
 
 /// The number that a word is; 0 if it is none.
+pub fn number(line: &str, index: usize) -> usize {
+    word(line, index).parse::<usize>().unwrap_or(0)
+}
+
+/// A number of 32 bits; 0 if the word is none.
 pub fn count(line: &str, index: usize) -> u32 {
     word(line, index).parse::<u32>().unwrap_or(0)
 }
@@ -46,13 +39,12 @@ pub fn bytes(alloc: Global, word: &str) -> Result<Vec<u8>, AllocError> {
 
 /// The text of the bytes that a word is; an empty one if they are none.
 pub fn text(alloc: Global, word: &str) -> Result<String, AllocError> {
-    let bytes = bytes(alloc, word)?;
-    Ok(String::from_utf8(bytes).unwrap_or(String::new(alloc)))
+    Ok(String::from_utf8(bytes(alloc, word)?).unwrap_or(String::new(alloc)))
 }
 
 /// The scope that a word is; the default one of any other.
-pub fn scope(line: &str, index: usize) -> Scope {
-    match word(line, index) {
+pub fn scope(word: &str) -> Scope {
+    match word {
         "list_item" => Scope::ListItem,
         "button" => Scope::Button,
         "table" => Scope::Table,
@@ -61,8 +53,8 @@ pub fn scope(line: &str, index: usize) -> Scope {
 }
 
 /// The group that a word is; the cells of any other.
-pub fn group(line: &str, index: usize) -> Group {
-    match word(line, index) {
+pub fn group(word: &str) -> Group {
+    match word {
         "heading" => Group::Heading,
         "table_section" => Group::TableSection,
         "tells_mode" => Group::TellsMode,

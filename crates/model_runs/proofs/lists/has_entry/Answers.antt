@@ -1,7 +1,7 @@
 use Rattle.std.proofs.Common.{is_some, sym, ◌∙◌, ap}
 use Rattle.hformat.specs.Items.{entry_is}
 use Rattle.hformat.proofs.Bookmarks.{any-is_entry, is_some-option_map}
-use Rattle.model_runs.proofs.list.has_entry.Goals as goal
+use Rattle.model_runs.proofs.lists.has_entry.Goals as goal
 
 pub returns : goal.returns
 returns c =

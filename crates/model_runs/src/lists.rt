@@ -1,0 +1,127 @@
+//! Calls of a list of numbers, of the list of active formatting elements, and of a table of references.
+
+ghost use Rattle.std.specs.Prelude.{◌≡◌, IsTrue};
+ghost use Rattle.std.specs.List.{list_any};
+ghost use Rattle.hformat.specs.Formatting.{is_entry, has_bookmark};
+
+use crate::answers::Answers;
+use crate::hand::{Hand, attrs};
+use crate::words::{after, number, word};
+use charref::{Characters, Table};
+use hchain::{Chains, NONE};
+use hformat::{Bookmark, Formatting};
+use hnodes::{Attributes, NodeId};
+use names::{Keys, Refusal};
+
+/// Makes a call of a list of numbers.
+pub fn call_chain(chain: &mut Chains, hand: &mut Hand, line: &str) -> Result<(), Refusal> {
+    let number = number(line, 2);
+    let len = chain.len();
+    match word(line, 1) {
+        "new" => *chain = Chains::new(hand.alloc),
+        "push" if number != NONE => chain.push(number)?,
+        "clear" if number < len => chain.clear(number),
+        "truncate" if number <= len => chain.truncate(number),
+        "compact" if number <= len => chain.compact(number),
+        "last" if number != NONE => hand.out.say(chain.last(number)),
+        "entries" => say_entries(chain, &mut hand.out),
+        _ => hand.out.say("-"),
+    }
+    Ok(())
+}
+
+/// Says the numbers, each with the place before it where it is too, and the last one.
+fn say_entries(chain: &Chains, out: &mut Answers) {
+    let len = chain.len();
+    out.say(len);
+    for index in 0..len {
+        match chain.get(index) {
+            Some(number) if number != NONE && index < chain.len() => {
+                out.say(number);
+                out.say(chain.before(index + 1));
+                out.say(chain.last(number));
+            }
+            _ => out.say("-"),
+        }
+    }
+}
+
+/// Makes a call of a list of formatting elements. The node of the entry comes first, then the one in its place.
+pub fn call(list: &mut Formatting, hand: &mut Hand, line: &str) -> Result<(), Refusal> {
+    let (from, to) = (hand.node(line, 2), hand.node(line, 3));
+    let back = number(line, 2);
+    match word(line, 1) {
+        "new" => *list = Formatting::new(hand.alloc, Keys::for_tests()),
+        "push" => {
+            let open = hand.open(line)?;
+            let attrs = attrs(&mut hand.names, hand.alloc, after(line, 4))?;
+            list.push(open.node, open.name, Attributes::new(attrs, hand.alloc)?)?;
+        }
+        "marker" => list.marker()?,
+        "clear" => list.clear(),
+        "remove" => list.remove(from),
+        "replace" => list.replace(from, to),
+        "renew" => list.renew(back, to),
+        "reach" => list.reach(back),
+        "keep" if is_moved(list, from, to, Bookmark::InPlace) => {}
+        "move" if is_moved(list, from, to, Bookmark::After(hand.node(line, 4))) => {}
+        "find" => {
+            let name = hand.name(line, 2)?;
+            hand.out.entry(list.find(name));
+        }
+        "len" => hand.out.say(list.len()),
+        "get" => hand.out.entry(list.get(back)),
+        "all" => say_all(list, &mut hand.out),
+        "entry" => hand.out.entry(list.entry_of(from)),
+        _ => hand.out.say("-"),
+    }
+    Ok(())
+}
+
+/// Each `get`, with the first past the end.
+pub fn say_all(list: &Formatting, out: &mut Answers) {
+    for back in 0..=list.len() {
+        out.entry(list.get(back));
+    }
+}
+
+/// Moves an entry where it may be moved. Whether it is.
+fn is_moved(list: &mut Formatting, from: NodeId, to: NodeId, bookmark: Bookmark) -> bool {
+    let may_move = has_entry(list, from) && is_marked(list, from, &bookmark);
+    if may_move {
+        list.move_to_bookmark(from, to, bookmark);
+    }
+    may_move
+}
+
+/// Whether a node has an entry.
+fn has_entry(list: &Formatting, node: NodeId) -> bool
+    ensures { result ≡ list_any (is_entry node) list.now }
+{
+    list.entry_of(node).is_some()
+}
+
+/// Whether there is a bookmark that the entry of a node may move to.
+fn is_marked(list: &Formatting, from: NodeId, bookmark: &Bookmark) -> bool
+    ensures { IsTrue result → IsTrue (has_bookmark from bookmark.now list.now) }
+{
+    match bookmark {
+        Bookmark::InPlace => true,
+        Bookmark::After(mark) => from != *mark && has_entry(list, *mark),
+    }
+}
+
+/// Says the length of the longest key that a text begins with, and the numbers of the characters that it stands for.
+pub fn say_longest(table: &Table, text: &str, out: &mut Answers) {
+    let Some(found) = table.longest(text.as_bytes()) else {
+        return out.say("-");
+    };
+    out.say(found.length);
+    match found.characters {
+        Characters::One(only) => out.say(only as u32),
+        Characters::Two(first, second) => {
+            out.say(first as u32);
+            out.say(second as u32);
+        }
+    }
+}
