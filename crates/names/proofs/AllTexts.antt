@@ -1,10 +1,11 @@
 -- Texts for all numbers.
-use Rattle.names.proofs.Vocabulary.{◌≡◌, ℕ, ◌+◌, ◌<◌, ◌≤◌, zero, suc, Bool, true, false, cond, List, [], ◌∷◌, length, map, sym, refl, ap, ◌∙◌, subst, arith, inl, inr, bytes_eq, replicate, nat_le, list_all, length-replicate, length-append, get_or_past, cases_lt, leb-true, and_parts, slice_get-get_or, slice_get_within, get_or_from_slice_get, Tag, Other, tag_text, tags, tag_of, tag_named, tag_among, type_name, Texts, text_of, AreDistinct, AreNames, total, spelling}
+use Rattle.names.proofs.Vocabulary.{◌≡◌, ℕ, ◌+◌, ◌<◌, ◌≤◌, zero, suc, Bool, true, false, cond, List, [], ◌∷◌, length, sym, refl, ap, ◌∙◌, subst, arith, inl, inr, bytes_eq, replicate, nat_le, list_all, length-replicate, get_or_past, cases_lt, leb-true, and_parts, slice_get-get_or, slice_get_within, get_or_from_slice_get, Tag, Other, tag_text, tags, tag_of, tag_named, tag_among, Texts, text_of, AreDistinct, AreNames, total, spelling, known}
 use Rattle.std.specs.Prelude.{nat_eq}
 use Rattle.std.proofs.lemmas.Bool.{lt-ltb, le-ltb}
+use Rattle.std.proofs.lemmas.List.{length-take}
 use Rattle.std.proofs.lemmas.Bool.Decides.{eqb_tells}
 use Rattle.names.specs.Spelling.{IsSpelled}
-use Rattle.names.proofs.KnownTags.{different, after_tags, tag_of-named}
+use Rattle.names.proofs.KnownTags.{different, tag_of-named}
 use Rattle.names.proofs.TableLemmas.{bytes_eq-same}
 
 abbrev pub beyond : Texts → ℕ → List ℕ
@@ -65,17 +66,15 @@ tag_among-long (t ∷ ts) text short long =
     let no : bytes_eq (tag_text t) text ≡ false = different (tag_text t) text (λ e. let k : length (tag_text t) ≡ length text = ap length e in let le : length (tag_text t) ≤ 16 = leb-true (length (tag_text t)) 16 first in omega (arith, le, k)) in
     ap (λ (v : Bool). cond v t (tag_among ts text)) no ∙ tag_among-long ts text rest long
 
-known_are_first : (names : Texts) → AreNames names → length tags ≤ length names
-known_are_first names h =
-    let (others, e) = after_tags (map tag_text tags) (type_name ∷ []) names h.known_first in
-    let n : length names ≡ length (map tag_text tags) + length others = ap length e ∙ length-append (map tag_text tags) others in
-    omega (arith, n)
+-- the known names are of each table
+pub known-within : (names : Texts) → AreNames names → length known ≤ length names
+known-within names h = omega (arith, ap length h.known_first, length-take (length known) names)
 
 same_tags : (names : Texts) → AreNames names → (a : ℕ) → tag_named (spelling names a) ≡ tag_of a
 same_tags names h a = elim (cases_lt a (length names)) [
   | inl a_in ↦ ap tag_named (spelled_within names a a_in) ∙ sym (tag_of-named names a (text_of names a) h (slice_get-get_or names a [] a_in))
   | inr a_past ↦
-      let many : length tags ≤ length names = known_are_first names h in
+      let many : length known ≤ length names = known-within names h in
       ap tag_named (spelled_beyond names a a_past)
       ∙ tag_among-long tags (beyond names a) refl (subst (λ (n : ℕ). 16 < n) (sym (length-replicate (1 + (total names + a)) 0)) (omega (arith, many, a_past)))
       ∙ sym (get_or_past tags a Other (omega (arith, many, a_past)))

@@ -1,6 +1,7 @@
 -- The known name of a number is the one of its text.
 use Rattle.names.proofs.Vocabulary.{◌≡◌, ℕ, ◌<◌, Bool, true, false, List, [], ◌∷◌, ◌++◌, drop, length, map, get_or, Some, sym, refl, ap, ◌∙◌, subst, append_assoc, arith, cond, suc, zero, take-append-drop, get_or_past, slice_get_within, get_or_from_slice_get, bytes_eq-Decides, list_any, bytes_eq, slice_get, ◌||◌, Tag, Other, tag_text, tags, tag_of, tag_named, tag_among, type_name, Texts, text_of, AreDistinct, AreNames}
 use Rattle.std.proofs.Common.{take}
+use Rattle.std.proofs.lemmas.Bool.{both_ways}
 
 pub different : (a b : List ℕ) → (a ≡ b → ⊥) → bytes_eq a b ≡ false
 different a b h = elim (bytes_eq a b) as (λ v. bytes_eq a b ≡ v → v ≡ false) [ true ↦ λ e. absurd (h ((bytes_eq-Decides a b).0 e)) | false ↦ λ e. refl ] refl
@@ -33,17 +34,14 @@ tag_of-named names id text h at =
     (subst (λ (x : Texts). id < length x) e (slice_get_within names id text at))
     (subst (λ (x : Texts). text_of x id ≡ text) e (get_or_from_slice_get names id text [] at))
 
-no_first : (b r : Bool) → (b || r) ≡ false → r ≡ false
-no_first true r e = cc
-no_first false r e = e
+neither : (b r : Bool) → (b || r) ≡ false → (b ≡ false) × (r ≡ false)
+neither true r e = absurd cc
+neither false r e = (refl, e)
 
 -- a text that is none of the tags' texts names no tag
 pub none_named : (ts : List Tag) (others : Texts) (text : List ℕ) → list_any (bytes_eq text) (map tag_text ts ++ others) ≡ false → tag_among ts text ≡ Other
 none_named [] others text e = refl
-none_named (t ∷ ts) others text e = go (none_named ts others text (no_first _ _ e)) (bytes_eq (tag_text t) text) refl where
-  go : tag_among ts text ≡ Other → (b : Bool) → bytes_eq (tag_text t) text ≡ b → tag_among (t ∷ ts) text ≡ Other
-  go later true is =
-      let there : bytes_eq text (tag_text t) ≡ true = (bytes_eq-Decides text (tag_text t)).1 (sym ((bytes_eq-Decides (tag_text t) text).0 is)) in
-      let clash : true ≡ false = sym (ap (λ (b : Bool). b || list_any (bytes_eq text) (map tag_text ts ++ others)) there) ∙ e in
-      cc
-  go later false is = ap (λ (b : Bool). cond b t (tag_among ts text)) is ∙ later
+none_named (t ∷ ts) others text e =
+    let parts : (bytes_eq text (tag_text t) ≡ false) × (list_any (bytes_eq text) (map tag_text ts ++ others) ≡ false) = neither _ _ e in
+    let no : bytes_eq (tag_text t) text ≡ false = different (tag_text t) text (λ same. both_ways _ parts.0 ((bytes_eq-Decides text (tag_text t)).1 (sym same))) in
+    ap (λ (b : Bool). cond b t (tag_among ts text)) no ∙ none_named ts others text parts.1

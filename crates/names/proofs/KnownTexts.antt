@@ -1,7 +1,6 @@
 -- The known names as they are in every table.
-use Rattle.names.proofs.Vocabulary.{◌≡◌, ℕ, suc, ◌+◌, ◌<◌, ◌≤◌, Bool, true, false, ◌&&◌, ◌||◌, nat_lt, List, [], ◌∷◌, length, map, sym, refl, ap, ◌∙◌, arith, inl, inr, get_or, Option, Some, None, zero-add, replicate, and_parts, cases_lt, leb-true, get_or-map, get_or-range_with_len, get_or_from_slice_get, slice_get-get_or, slice_get-map, bytes_eq-Decides, bytes_eq, nat_le, option_map, slice_get, list_any, position, range_with_len, Texts, text_of, AreDistinct, known, tags, tag_text, type_name, Tag, A}
-use Rattle.std.proofs.lemmas.Bool.{false≢true, ltb-true}
-use Rattle.std.proofs.lemmas.List.{get_or-replicate}
+use Rattle.names.proofs.Vocabulary.{◌≡◌, ℕ, suc, ◌+◌, ◌<◌, ◌≤◌, Bool, true, false, ◌&&◌, ◌||◌, nat_lt, List, [], ◌∷◌, length, map, sym, refl, ap, ◌∙◌, arith, inl, inr, get_or, Option, Some, None, zero-add, and_parts, cases_lt, leb-true, get_or-map, get_or-range_with_len, get_or_from_slice_get, slice_get-get_or, slice_get-map, bytes_eq-Decides, bytes_eq, nat_le, option_map, slice_get, list_any, position, range_with_len, Texts, text_of, AreDistinct, known, tags, tag_text, type_name, Tag, A}
+use Rattle.std.proofs.lemmas.Bool.{agree_below_at, false≢true, ltb-true}
 use Rattle.names.specs.Table.{letter_of}
 use Rattle.names.specs.declared.known.TheConstants.{FIRST}
 use Rattle.names.proofs.Handing.{slice_get-append}
@@ -32,14 +31,8 @@ abbrev stands : Option ℕ → ℕ → Bool
 stands None i = false
 stands (Some letter) i = nat_le (get_or FIRST letter 0) i && nat_lt i (get_or FIRST (letter + 1) 0)
 
-in_order : map (λ i. stands (letter_of (get_or known i [])) i) (range_with_len 0 127) ≡ replicate 127 true
-in_order = refl
-
 stands_at : (i : ℕ) → i < 127 → stands (letter_of (text_of known i)) i ≡ true
-stands_at i within =
-    ap (λ (n : ℕ). stands (letter_of (text_of known n)) n) (sym (get_or-range_with_len 0 127 i 0 within ∙ zero-add i))
-    ∙ sym (get_or-map (λ n. stands (letter_of (get_or known n [])) n) (range_with_len 0 127) i 0 false within)
-    ∙ ap (λ (x : List Bool). get_or x i false) in_order ∙ get_or-replicate 127 i true false within
+stands_at i within = agree_below_at (λ n. stands (letter_of (text_of known n)) n) (λ n. true) 127 i refl within
 
 none_any : (p : List ℕ → Bool) (xs : Texts) → ((i : ℕ) → i < length xs → p (text_of xs i) ≡ false) → list_any p xs ≡ false
 none_any p [] h = refl
@@ -61,14 +54,8 @@ passed_more letter end text within h not_it i from to = elim (cases_lt i end) [
       ∙ ap (λ (x : List ℕ). bytes_eq x text) (get_or_from_slice_get known end (tag_text (get_or tags end A)) [] (known_tag end A within)) ∙ not_it
 ]
 
-first_most : map (λ n. nat_le (get_or FIRST n 0) 127) (range_with_len 0 27) ≡ replicate 27 true
-first_most = refl
-
 first_within : (n : ℕ) → n < 27 → get_or FIRST n 0 ≤ 127
-first_within n within = leb-true (get_or FIRST n 0) 127
-    (ap (λ (k : ℕ). nat_le (get_or FIRST k 0) 127) (sym (get_or-range_with_len 0 27 n 0 within ∙ zero-add n))
-    ∙ sym (get_or-map (λ n. nat_le (get_or FIRST n 0) 127) (range_with_len 0 27) n 0 false within)
-    ∙ ap (λ (x : List Bool). get_or x n false) first_most ∙ get_or-replicate 27 n true false within)
+first_within n within = leb-true (get_or FIRST n 0) 127 (agree_below_at (λ n. nat_le (get_or FIRST n 0) 127) (λ n. true) 27 n refl within)
 
 pub tag_within : (letter i : ℕ) → letter < 26 → i < get_or FIRST (letter + 1) 0 → i < 127
 tag_within letter i few less = omega (arith, less, first_within (letter + 1) (omega (arith, few)))

@@ -1,16 +1,11 @@
 -- A table with one text more spells the numbers of the table as it did, and all others differently.
-use Rattle.names.proofs.Vocabulary.{◌≡◌, ℕ, zero, suc, ◌+◌, ◌<◌, ◌≤◌, List, [], ◌∷◌, ◌++◌, length, sym, refl, ap, ◌∙◌, arith, inl, inr, replicate, length-replicate, length-append, cases_lt, Texts, text_of, AreDistinct, AreNames, known, total, spelling}
-use Rattle.std.proofs.lemmas.List.{length-take, take-append-le}
+use Rattle.names.proofs.Vocabulary.{◌≡◌, ℕ, zero, suc, ◌+◌, ◌<◌, List, [], ◌∷◌, ◌++◌, length, sym, refl, ap, ◌∙◌, arith, inl, inr, replicate, length-replicate, length-append, cases_lt, Texts, text_of, AreDistinct, AreNames, known, total, spelling}
+use Rattle.std.proofs.Math.Seq.{get_or-append_seam}
+use Rattle.std.proofs.lemmas.List.{get_or_append_left, take-append-le}
+use Rattle.names.proofs.TableLemmas.{joined}
 use Rattle.names.proofs.AllTexts.{length-text_of, spelled_within, spelled_beyond}
-
-text_of-first : (names : Texts) (x : List ℕ) (id : ℕ) → id < length names → text_of (names ++ x ∷ []) id ≡ text_of names id
-text_of-first [] x id within = absurd (omega (arith, within))
-text_of-first (text ∷ names) x zero within = refl
-text_of-first (text ∷ names) x (suc id) within = text_of-first names x id (omega (arith, within))
-
-text_of-last : (names : Texts) (x : List ℕ) → text_of (names ++ x ∷ []) (length names) ≡ x
-text_of-last [] x = refl
-text_of-last (text ∷ names) x = text_of-last names x
+-- under the name by which the crates above cite it
+pub use Rattle.names.proofs.AllTexts.{known-within}
 
 total-last : (names : Texts) (x : List ℕ) → total (names ++ x ∷ []) ≡ total names + length x
 total-last [] x = omega arith
@@ -35,27 +30,11 @@ no-fresh names id within e =
     omega (arith, length-text_of names id within, same)
 
 longer-distinct : (names : Texts) → AreDistinct names → AreDistinct (longer names)
-longer-distinct names distinct i j p q e = elim (cases_lt i (length names)) [
-  | inl i_in ↦ elim (cases_lt j (length names)) [
-    | inl j_in ↦ distinct i j i_in j_in (sym (text_of-first names (fresh names) i i_in) ∙ e ∙ text_of-first names (fresh names) j j_in)
-    | inr j_past ↦
-        let last : j ≡ length names = omega (arith, longer-length names) in
-        absurd (no-fresh names i i_in (sym (text_of-first names (fresh names) i i_in) ∙ e ∙ ap (text_of (longer names)) last ∙ text_of-last names (fresh names)))
-  ]
-  | inr i_past ↦ elim (cases_lt j (length names)) [
-    | inl j_in ↦
-        let last : i ≡ length names = omega (arith, longer-length names) in
-        absurd (no-fresh names j j_in (sym (text_of-first names (fresh names) j j_in) ∙ sym e ∙ ap (text_of (longer names)) last ∙ text_of-last names (fresh names)))
-    | inr j_past ↦ omega (arith, longer-length names)
-  ]
-]
-
--- the known names are of each table
-pub known-within : (names : Texts) → AreNames names → length known ≤ length names
-known-within names h =
-    let least = ap length h.known_first in
-    let taken = length-take (length known) names in
-    omega (arith, least, taken)
+longer-distinct names distinct = joined names (fresh names ∷ []) distinct (λ i j p q e. omega (arith, p, q)) (λ i j p q e. no-fresh names i p (e ∙ only j q))
+  where
+    only : (j : ℕ) → j < 1 → text_of (fresh names ∷ []) j ≡ fresh names
+    only zero q = refl
+    only (suc j) q = absurd (omega (arith, q))
 
 pub longer-names : (names : Texts) → AreNames names → AreNames (longer names)
 longer-names names h = record {
@@ -67,7 +46,7 @@ longer-names names h = record {
 pub spelled-alike : (names : Texts) (id : ℕ) → id < length names → spelling names id ≡ spelling (longer names) id
 spelled-alike names id within =
     let more : id < length (longer names) = omega (arith, within, longer-length names) in
-    spelled_within names id within ∙ sym (text_of-first names (fresh names) id within) ∙ sym (spelled_within (longer names) id more)
+    spelled_within names id within ∙ sym (get_or_append_left names (fresh names ∷ []) [] id within) ∙ sym (spelled_within (longer names) id more)
 
 -- and no others
 pub alike-within : (names : Texts) (id : ℕ) → spelling names id ≡ spelling (longer names) id → id < length names
@@ -79,7 +58,7 @@ alike-within names id e = elim (cases_lt id (length names)) [
         | inl within ↦
             let last : id ≡ length names = omega (arith, past, within, longer-length names) in
             let there : length (spelling (longer names) id) ≡ 2 + (total names + length names) =
-            ap length (spelled_within (longer names) id within ∙ ap (text_of (longer names)) last ∙ text_of-last names (fresh names)) ∙ fresh-length names in
+            ap length (spelled_within (longer names) id within ∙ ap (text_of (longer names)) last ∙ get_or-append_seam names (fresh names) [] []) ∙ fresh-length names in
             absurd (omega (arith, ap length e, here, there, last))
         | inr beyond_both ↦
             let there : length (spelling (longer names) id) ≡ 1 + (total (longer names) + id) = ap length (spelled_beyond (longer names) id beyond_both) ∙ length-replicate (1 + (total (longer names) + id)) 0 in

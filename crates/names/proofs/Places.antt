@@ -1,5 +1,6 @@
 -- Where a text is among the texts of a table.
-use Rattle.names.proofs.Vocabulary.{◌≡◌, ℕ, suc, ◌+◌, Bool, true, false, ◌||◌, cond, List, [], ◌∷◌, ◌++◌, length, map, sym, refl, ap, ◌∙◌, arith, Some, string_bytes, get_or_from_slice_get, slice_get_within, String, bytes_eq, option_map, slice_get, list_any, position, known}
+use Rattle.names.proofs.Vocabulary.{◌≡◌, inl, inr, ℕ, ◌+◌, Bool, true, false, ◌||◌, cond, List, [], ◌∷◌, ◌++◌, length, map, sym, refl, ap, ◌∙◌, arith, Some, string_bytes, get_or_from_slice_get, slice_get_within, String, bytes_eq, option_map, slice_get, list_any, position, known}
+use Rattle.std.proofs.lemmas.Bool.{cases_Bool}
 use Rattle.std.proofs.lemmas.Iterator.Adapters.{position_from-zero}
 use Rattle.std.specs.List.{position_from}
 use Rattle.names.proofs.KnownTexts.{place_of}
@@ -8,27 +9,21 @@ module _ {X : Type 0} (test : X → Bool) where
   -- after elements that do not pass, and before others
   from-none : (i : ℕ) (xs ys : List X) → list_any test xs ≡ false → position_from test i (xs ++ ys) ≡ position_from test (i + length xs) ys
   from-none i [] ys h = ap (λ (n : ℕ). position_from test n ys) (omega arith)
-  from-none i (x ∷ xs) ys h = by (test x) (from-none (i + 1) xs ys) h where
-    by : (b : Bool) → (list_any test xs ≡ false → position_from test (i + 1) (xs ++ ys) ≡ position_from test (i + 1 + length xs) ys) → (b || list_any test xs) ≡ false
-        → cond b (Some i) (position_from test (i + 1) (xs ++ ys)) ≡ position_from test (i + suc (length xs)) ys
-    by true rest e = absurd cc
-    by false rest e = rest e ∙ ap (λ (n : ℕ). position_from test n ys) (omega arith)
+  from-none i (x ∷ xs) ys h = elim (cases_Bool (test x)) [
+    | inl is ↦ let clash : true ≡ false = sym (ap (λ b. b || list_any test xs) is) ∙ h in absurd cc
+    | inr not ↦ rw not (from-none (i + 1) xs ys (rw not at h) ∙ ap (λ (n : ℕ). position_from test n ys) (omega arith))
+  ]
 
   from-some : (i j : ℕ) (xs ys : List X) → position_from test i xs ≡ Some j → position_from test i (xs ++ ys) ≡ Some j
   from-some i j [] ys h = absurd cc
-  from-some i j (x ∷ xs) ys h = by (test x) (from-some (i + 1) j xs ys) h where
-    by : (b : Bool) → (position_from test (i + 1) xs ≡ Some j → position_from test (i + 1) (xs ++ ys) ≡ Some j) → cond b (Some i) (position_from test (i + 1) xs) ≡ Some j
-        → cond b (Some i) (position_from test (i + 1) (xs ++ ys)) ≡ Some j
-    by true rest e = e
-    by false rest e = rest e
+  from-some i j (x ∷ xs) ys h = elim (cases_Bool (test x)) [ inl is ↦ rw is (rw is at h) | inr not ↦ rw not (from-some (i + 1) j xs ys (rw not at h)) ]
 
   from-later : (a i : ℕ) (xs : List X) → position_from test (a + i) xs ≡ option_map (λ n. a + n) (position_from test i xs)
   from-later a i [] = refl
-  from-later a i (x ∷ xs) = by (test x) (from-later a (i + 1) xs) where
-    by : (b : Bool) → position_from test (a + (i + 1)) xs ≡ option_map (λ n. a + n) (position_from test (i + 1) xs)
-        → cond b (Some (a + i)) (position_from test (a + i + 1) xs) ≡ option_map (λ n. a + n) (cond b (Some i) (position_from test (i + 1) xs))
-    by true rest = refl
-    by false rest = ap (λ (n : ℕ). position_from test n xs) (omega arith) ∙ rest
+  from-later a i (x ∷ xs) = elim (cases_Bool (test x)) [
+    | inl is ↦ rw is refl
+    | inr not ↦ rw not (ap (λ (n : ℕ). position_from test n xs) (omega arith) ∙ from-later a (i + 1) xs)
+  ]
 
 from-map : {A : Type 0} (text : List ℕ) (i : ℕ) (keys : List (String A)) → position_from (bytes_eq text) i (map string_bytes keys) ≡ position_from (λ k. bytes_eq text (string_bytes k)) i keys
 from-map text i [] = refl

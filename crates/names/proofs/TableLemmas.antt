@@ -1,7 +1,7 @@
 -- Laws of a table's texts.
 use Rattle.names.proofs.Vocabulary.{◌≡◌, ℕ, zero, suc, ◌+◌, ◌<◌, ◌≤◌, true, false, List, [], ◌∷◌, ◌++◌, length, map, get_or, Option, Some, None, sym, refl, ap, ◌∙◌, arith, length-append, bytes_eq-Decides, String, option_map, slice_get, position, list_all, list_any, append-nil, zero-add, cond, nat_lt, not, ◌&&◌, cases_lt, and_parts, slice_get-get_or, slice_get-map, inl, inr, Texts, text_of, AreDistinct, AreNames, known, AreOthers}
 use Rattle.std.proofs.Common.{◌-◌, ◌^◌, rules}
-use Rattle.std.proofs.lemmas.List.{append_assoc, map-append, get_or_append_left}
+use Rattle.std.proofs.lemmas.List.{append_assoc, map-append, get_or_append_left, get_or-append-add}
 use Rattle.std.proofs.lemmas.Map.Keys.{apart_from_distinct}
 use Rattle.std.proofs.lemmas.List.Quantifiers.{position-Some}
 use Rattle.std.proofs.lemmas.Grind.{common_steps}
@@ -96,11 +96,7 @@ number_last {A = A} old new key text is e = rw e (go old)
 
 -- what is after others
 pub text_of-after : (xs ys : Texts) (i : ℕ) → length xs ≤ i → text_of (xs ++ ys) i ≡ text_of ys (i - length xs)
-text_of-after [] ys i past = let e : i ≡ i - 0 = omega arith in ap (text_of ys) e
-text_of-after (x ∷ xs) ys zero past = absurd (omega (arith, past))
-text_of-after (x ∷ xs) ys (suc i) past =
-    let e : i - length xs ≡ suc i - suc (length xs) = omega arith in
-    text_of-after xs ys i (omega (arith, past)) ∙ ap (text_of ys) e
+text_of-after xs ys i past = let e : i ≡ length xs + (i - length xs) = omega (arith, past) in ap (text_of (xs ++ ys)) e ∙ get_or-append-add xs ys (i - length xs) []
 
 pub slice_get-after : (xs ys : Texts) (i : ℕ) → slice_get (xs ++ ys) (length xs + i) ≡ slice_get ys i
 slice_get-after [] ys i = ap (slice_get ys) (zero-add i)
@@ -109,7 +105,7 @@ slice_get-after (x ∷ xs) ys i =
     ap (slice_get (x ∷ xs ++ ys)) e ∙ slice_get-after xs ys i
 
 -- texts that are different, after others that are
-joined : (xs ys : Texts) → AreDistinct xs → AreDistinct ys → ((i j : ℕ) → i < length xs → j < length ys → text_of xs i ≡ text_of ys j → ⊥) → AreDistinct (xs ++ ys)
+pub joined : (xs ys : Texts) → AreDistinct xs → AreDistinct ys → ((i j : ℕ) → i < length xs → j < length ys → text_of xs i ≡ text_of ys j → ⊥) → AreDistinct (xs ++ ys)
 joined xs ys first last differ i j p q same =
     let p' : i < length xs + length ys = simp length-append at p in
     let q' : j < length xs + length ys = simp length-append at q in

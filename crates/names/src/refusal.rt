@@ -1,8 +1,7 @@
 //! Why an input, a list or a limit is refused.
 
 ghost use Rattle.std.specs.Prelude.{◌≡◌, Some, option_map};
-ghost use Rattle.std.specs.Fmt.{WritesOnOk};
-ghost use Rattle.names.specs.RefusalText.{cause_text, detail_of, detail_text, name_of, number_of, number_text, refusal_text};
+ghost use Rattle.names.specs.RefusalText.{cause_text, detail_of, name_of, number_of, refusal_text};
 ghost use Rattle.names.specs.declared.refusal.Refusal.TheVariants.{Memory};
 
 use crate::raw::RefusedName;
@@ -132,26 +131,6 @@ impl Refusal {
             _ => None,
         }
     }
-
-    /// Writes what it names after a space, if it names anything.
-    fn write_detail<W: fmt::Write>(self, f: &mut fmt::Formatter<W>) -> fmt::Result
-        ensures { WritesOnOk W.write_str_gives f.old result (detail_text (detail_of self)) f.new }
-    {
-        match self.detail() {
-            Some(detail) => write!(f, " {detail}"),
-            None => Ok(()),
-        }
-    }
-
-    /// Writes the word for its number and the number, each after a space, if it has one.
-    fn write_number<W: fmt::Write>(self, f: &mut fmt::Formatter<W>) -> fmt::Result
-        ensures { WritesOnOk W.write_str_gives f.old result (number_text (number_of self)) f.new }
-    {
-        match self.number() {
-            Some((word, number)) => write!(f, " {word} {number}"),
-            None => Ok(()),
-        }
-    }
 }
 
 impl fmt::Display for TableFault {
@@ -169,8 +148,13 @@ impl fmt::Display for Refusal {
 
     fn fmt<W: fmt::Write>(&self, f: &mut fmt::Formatter<W>) -> fmt::Result {
         f.write_str(self.name())?;
-        self.write_detail(f)?;
-        self.write_number(f)
+        if let Some(detail) = self.detail() {
+            write!(f, " {detail}")?;
+        }
+        match self.number() {
+            Some((word, number)) => write!(f, " {word} {number}"),
+            None => Ok(()),
+        }
     }
 }
 

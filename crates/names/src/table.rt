@@ -190,7 +190,7 @@ impl Names {
         }
     }
 
-    /// The number of a text, that of a known name without a hash.
+    /// The number of a text: that of a known name without a hash, and else by its hash.
     fn number_of(&mut self, alloc: Global, text: &str) -> Result<NameId, AllocError>
         requires names { AreNames self.old }
         ensures number { IfOk result (λ id. slice_get self.new id ≡ Some text.now) }
@@ -200,22 +200,9 @@ impl Names {
         ensures names { AreNames self.new }
         ensures unchanged { OnErr result (self.new ≡ self.old) }
     {
-        match known_number(text) {
-            Some(index) => Ok(NameId { index }),
-            None => self.look_up(alloc, text),
+        if let Some(index) = known_number(text) {
+            return Ok(NameId { index });
         }
-    }
-
-    /// The number of a text that is no known name, by its hash.
-    fn look_up(&mut self, alloc: Global, text: &str) -> Result<NameId, AllocError>
-        requires other { list_any (bytes_eq text.now) known ≡ false }
-        ensures number { IfOk result (λ id. slice_get self.new id ≡ Some text.now) }
-        ensures tag { IfOk result (λ id. tag_of id ≡ tag_named text.now) }
-        ensures grows { Grows self.old self.new }
-        ensures added { IfOk result (λ id. self.new ≡ interned text.now id self.old) }
-        ensures names { AreNames self.new }
-        ensures unchanged { OnErr result (self.new ≡ self.old) }
-    {
         match self.others.get_index_of(text) {
             Some(index) => Ok(NameId {
                 index: (KNOWN + index) as u32,

@@ -1,5 +1,7 @@
-use Rattle.names.proofs.Vocabulary.{◌≡◌, ℕ, Bool, true, List, [], ◌∷◌, get_or, refl, and_parts, list_all, Tag, Other}
+use Rattle.names.proofs.Vocabulary.{◌≡◌, ℕ, Bool, true, List, [], ◌∷◌, get_or, refl, sym, ◌∙◌, ◌<◌, arith, inl, inr, list_all, Tag, Other}
 use Rattle.std.proofs.Math.Bool.{beq}
+use Rattle.std.proofs.lemmas.Bool.{cases_Bool, false≢true}
+use Rattle.std.proofs.lemmas.List.Folds.{list_all_at}
 use Rattle.std.specs.Cmp.{booleans_Decides}
 use denote.Enum.Declared as enum
 use Rattle.names.specs.contracts.tag.Tag as contract
@@ -23,38 +25,30 @@ told : (t : Tag) → list_all (λ s. beq (has_set (bits_at t) s.0) (s.1 t)) ever
 told Other = refl
 told _ = refl
 
-is : (a b : Bool) → beq a b ≡ true → a ≡ b
-is a b h = (booleans_Decides a b).0 h
+-- whether a name is in the set at a place
+abbrev is_in : ℕ → Tag → Bool
+is_in n t = (get_or every_set n (VOID, is_void)).1 t
+
+told_at : (t : Tag) (n : ℕ) → n < 14 → has_set (bits_at t) (get_or every_set n (VOID, is_void)).0 ≡ is_in n t
+told_at t n within = elim (cases_Bool (beq (has_set (bits_at t) (get_or every_set n (VOID, is_void)).0) (is_in n t))) [
+  | inl same ↦ (booleans_Decides _ _).0 same
+  | inr other ↦ absurd (false≢true (sym (list_all_at (λ s. beq (has_set (bits_at t) s.0) (s.1 t)) every_set n (VOID, is_void) within other) ∙ told t))
+]
 
 pub returns : goal.returns
-returns c =
-    let a = and_parts _ _ (told c.args.self) in
-    let b = and_parts _ _ a.1 in
-    let d = and_parts _ _ b.1 in
-    let e = and_parts _ _ d.1 in
-    let f = and_parts _ _ e.1 in
-    let g = and_parts _ _ f.1 in
-    let h = and_parts _ _ g.1 in
-    let i = and_parts _ _ h.1 in
-    let j = and_parts _ _ i.1 in
-    let k = and_parts _ _ j.1 in
-    let l = and_parts _ _ k.1 in
-    let m = and_parts _ _ l.1 in
-    let n = and_parts _ _ m.1 in
-    let o = and_parts _ _ n.1 in
-    record {
-      special = is _ _ a.0;
-      formatting = is _ _ b.0;
-      implied_end = is _ _ d.0;
-      scope = is _ _ e.0;
-      list_item_scope = is _ _ f.0;
-      button_scope = is _ _ g.0;
-      table_scope = is _ _ h.0;
-      item_stop = is _ _ i.0;
-      may_stay_open = is _ _ j.0;
-      heading = is _ _ k.0;
-      table_section = is _ _ l.0;
-      cell = is _ _ m.0;
-      tells_mode = is _ _ n.0;
-      void = is _ _ o.0;
-    }
+returns c = record {
+  special = told_at c.args.self 0 (omega arith);
+  formatting = told_at c.args.self 1 (omega arith);
+  implied_end = told_at c.args.self 2 (omega arith);
+  scope = told_at c.args.self 3 (omega arith);
+  list_item_scope = told_at c.args.self 4 (omega arith);
+  button_scope = told_at c.args.self 5 (omega arith);
+  table_scope = told_at c.args.self 6 (omega arith);
+  item_stop = told_at c.args.self 7 (omega arith);
+  may_stay_open = told_at c.args.self 8 (omega arith);
+  heading = told_at c.args.self 9 (omega arith);
+  table_section = told_at c.args.self 10 (omega arith);
+  cell = told_at c.args.self 11 (omega arith);
+  tells_mode = told_at c.args.self 12 (omega arith);
+  void = told_at c.args.self 13 (omega arith);
+}
