@@ -1,9 +1,10 @@
 -- What the bytes after an `&` settle of it.
-use Rattle.charref.proofs.Names.{arith, ◌≡◌, ℕ, zero, suc, ◌+◌, ◌-◌, ◌≤◌, ◌<◌, min, Bool, true, false, true≢false, not, nat_eq, nat_le, nat_lt, List, [], ◌∷◌, ◌++◌, length, take, drop, slice_get, get_or, Option, Some, None, refl, sym, ap, ◌∙◌, subst, length-append, append_assoc, and_parts, and_from, nat_tests, take_more, length-map, is_ascii, starts_with, list_all, some_same, Placed, placed, characters, all, is_alphanumeric, is_empty, Reference, Characters, Search, Alphanumeric, Walk, Entry, Entities, IsTable, Piece, longest, is_key, is_key_name, ends_in_semicolon, code_at, AreMarked, IsAfterKey, IsOpenKey, OpenKey, IsSortedTable, IsRange, IsOver, GoesOn, HasNone, HasRead, key_bytes, IsOpen, IsRead, characters_of, errors_of, unknown_of, HasTaken, IsOpenKeyOf, HasWalked, Settles, SettlesNothing}
+use Rattle.charref.proofs.Names.{arith, ◌≡◌, inl, inr, ℕ, zero, suc, ◌+◌, ◌-◌, ◌≤◌, ◌<◌, min, Bool, true, false, true≢false, not, nat_eq, List, [], ◌∷◌, ◌++◌, length, take, drop, slice_get, get_or, Option, Some, None, refl, sym, ap, ◌∙◌, subst, length-append, append_assoc, and_parts, and_from, nat_tests, take_more, length-map, is_ascii, starts_with, list_all, some_same, Placed, placed, characters, all, is_alphanumeric, is_empty, Reference, Characters, Search, Alphanumeric, Walk, Entry, Entities, IsTable, Piece, longest, is_key, is_key_name, ends_in_semicolon, code_at, AreMarked, IsAfterKey, IsOpenKey, OpenKey, IsSortedTable, IsRange, IsOver, GoesOn, HasNone, HasRead, key_bytes, IsOpen, IsRead, characters_of, errors_of, unknown_of, HasTaken, IsOpenKeyOf, HasWalked, Settles, SettlesNothing}
 use Rattle.std.proofs.Common.{take-take, take-append-drop}
 use Rattle.std.proofs.lemmas.List.{length-take, length-take-le, get_or-take, get_or-set_same, get_or-set_other}
 use Rattle.std.proofs.Common.{set}
 use Rattle.charref.specs.Table.{code_of}
+use Rattle.std.proofs.lemmas.Bool.{cases_lt}
 use Rattle.std.proofs.lemmas.List.Folds.{list_all_at}
 use Rattle.std.specs.Option.{IsNone, MatchOption}
 use Rattle.std.specs.Char.{len_utf8}
@@ -15,7 +16,7 @@ use Rattle.charref.proofs.Naming.{is_key_of, key_of}
 use Rattle.charref.proofs.Ranges.{only_first, within}
 use Rattle.charref.proofs.Searching.{read_ampersand}
 use Rattle.charref.proofs.Fronts.{run_more}
-use Rattle.charref.proofs.Extending.{front_of, follows, ends, closes, continues, last_letter, best_before, settled_before}
+use Rattle.charref.proofs.Extending.{opens_more, front_of, follows, ends, closes, continues, last_letter, best_before, settled_before}
 use Rattle.charref.proofs.Opening.{open_taken}
 use Rattle.charref.proofs.OneReference.{one_of}
 use Rattle.charref.proofs.Telling.{read_named, read_unknown}
@@ -91,20 +92,17 @@ front_placed at (suc n) (x ∷ xs) = let more = front_placed (at + len_utf8 x) n
 -- a walk that has taken all of the bytes, or all before one that is not ASCII
 pub nothing_settled : (walk : Walk) (table : Entities) (bytes : List ℕ) (count : ℕ) → IsTable table → HasWalked walk table bytes count → (count < length bytes → is_ascii (get_or bytes count 0) ≡ false) → SettlesNothing table bytes
 nothing_settled walk table bytes count is_table walked stops n found settles =
-    let few : n ≤ count = before (nat_le n count) refl in
+    let few : n ≤ count = elim (cases_lt count n) [ inl within ↦ absurd (past within) | inr most ↦ most ] in
     let more = front_placed 0 n (take count bytes) in
     let amp : Placed = record { ch = 38; at = 0 } in
     let text-is : placed 0 (take count bytes) ≡ placed 0 (take n bytes) ++ more.0 = more.1 ∙ ap (λ xs. placed 0 xs ++ more.0) (take-take n count bytes few) in
     unsettled table amp (placed 0 (take n bytes)) more.0 found refl (subst (IsOpen table amp) text-is (open_taken walk table (placed 0 (take count bytes)) amp is_table (walked.taken 0) refl)) (settles.read 0)
   where
-    before : (b : Bool) → nat_le n count ≡ b → n ≤ count
-    before true is = grind (arith, nat_tests)
-    before false is =
-        let within : count < n = grind (arith, nat_tests) in
+    past : count < n → ⊥
+    past within =
         let least : n ≤ length bytes = settles.few in
-        let none : list_all is_ascii (take n bytes) ≡ false =
-        list_all_at is_ascii (take n bytes) count 0 (let size : length (take n bytes) ≡ n = length-take-le n bytes least in omega arith) (ap is_ascii (get_or-take n bytes count 0 within) ∙ stops (omega arith)) in
-        absurd (true≢false (sym settles.ascii ∙ none))
+        let size : length (take n bytes) ≡ n = length-take-le n bytes least in
+        true≢false (sym settles.ascii ∙ list_all_at is_ascii (take n bytes) count 0 (omega arith) (ap is_ascii (get_or-take n bytes count 0 within) ∙ stops (omega arith)))
 
 -- no key begins with the first letter
 none_over : (table : Entities) (bytes : List ℕ) (low high : ℕ) → IsRange table bytes low high → low ≡ high → HasNone table bytes
@@ -148,13 +146,12 @@ no_semicolon_after (p ∷ ps) run h = no_semicolon p.ch ps (and_parts _ _ run).0
 
 -- no key goes on after it
 closed_over : (table : Entities) (text : List Placed) → IsTable table → ends_in_semicolon (key_bytes text) ≡ true → IsOver table (key_bytes text)
-closed_over table text is_table closed = record { no_more = λ k e at opens. by k e at opens (nat_lt (length (key_bytes text)) (length e.key)) refl }
-  where
-    by : (k : ℕ) (e : Entry) → slice_get table k ≡ Some e → starts_with nat_eq e.key (key_bytes text) ≡ true → (b : Bool) → nat_lt (length (key_bytes text)) (length e.key) ≡ b → length e.key ≤ length (key_bytes text)
-    by k e at opens false is = grind (arith, nat_tests)
-    by k e at opens true is =
-        let goes : GoesOn table (key_bytes text) = record { place = k; entry = e; stands = at; opens = opens; is_longer = grind (arith, nat_tests) } in
-        absurd (no_semicolon_after text (front_of table text is_table goes) closed)
+closed_over table text is_table closed = record {
+  no_more = λ k e at opens. elim (cases_lt (length (key_bytes text)) (length e.key)) [
+    | inl longer ↦ absurd (no_semicolon_after text (front_of table text is_table (record { place = k; entry = e; stands = at; opens = opens; is_longer = longer })) closed)
+    | inr most ↦ most
+  ];
+}
 
 -- so what it stands for comes, whatever follows
 abbrev whole : Characters → Reference
@@ -216,12 +213,6 @@ key_settles table bytes place count lent has size stands =
 some_placed : (at : ℕ) (bytes : List ℕ) → 0 < length bytes → is_empty (placed at bytes) ≡ false
 some_placed at [] some = absurd (omega arith)
 some_placed at (x ∷ xs) some = refl
-
-opens_more : (key bytes : List ℕ) (byte : ℕ) → starts_with nat_eq key (bytes ++ byte ∷ []) ≡ true → (starts_with nat_eq key bytes ≡ true) × (slice_get key (length bytes) ≡ Some byte)
-opens_more [] [] byte h = absurd (true≢false (sym h))
-opens_more (x ∷ xs) [] byte h = (refl, ap Some (let t : nat_eq byte x ≡ true = (and_parts (nat_eq byte x) true h).0 in grind (arith, nat_tests)))
-opens_more [] (b ∷ bs) byte h = absurd (true≢false (sym h))
-opens_more (x ∷ xs) (b ∷ bs) byte h = let more = opens_more xs bs byte (and_parts _ _ h).1 in (and_from _ _ (and_parts _ _ h).0 more.0, more.1)
 
 pub after_key : (table : Entities) (place : ℕ) (e : Entry) (search : Search) → IsSortedTable table → slice_get table place ≡ Some e → HasRead search table e.key → GoesOn table e.key → IsAfterKey table search
 after_key table place e search sorted at read goes =

@@ -1,39 +1,30 @@
 -- One key and its characters, looked up.
-use Rattle.charref.proofs.Names.{◌≡◌, ℕ, zero, suc, Bool, true, false, true≢false, cond, nat_eq, nat_lt, bytes_eq, List, [], ◌∷◌, map, length, slice_get, Option, Some, None, refl, sym, ap, ◌∙◌, subst, bytes_eq-Decides, slice_get_within, get_or_from_slice_get, slice_get-get_or, starts_with, AllByRecursion, some_same, Entry, Entities, IsTable, longest, longer, core, IsReadable}
+use Rattle.charref.proofs.Names.{◌≡◌, ◌⊎◌, inl, inr, ℕ, zero, suc, Bool, true, false, true≢false, cond, nat_eq, nat_lt, bytes_eq, List, [], ◌∷◌, map, length, slice_get, Option, Some, None, refl, sym, ap, ◌∙◌, subst, bytes_eq-Decides, slice_get_within, get_or_from_slice_get, slice_get-get_or, starts_with, some_same, Entry, Entities, IsTable, longest, longer, core, IsReadable}
 use Rattle.std.specs.List.Sorted.{IsStrictlySortedBy}
 use Rattle.std.specs.List.{IsDistinct}
 use Rattle.std.proofs.Common.{Contains}
-use Rattle.charref.proofs.Keys.{whole, longest-whole}
+use Rattle.std.proofs.lemmas.Bool.{cases_Bool}
+use Rattle.charref.proofs.Keys.{below_each, whole, longest-whole}
 use Rattle.charref.proofs.Members.{readable_from_parts}
+
+-- the longest key is the first entry's, or that of the others
+first_or_later : (x : Entry) (b : Bool) (o : Option Entry) (e : Entry) → cond b (longer x o) o ≡ Some e → ((b ≡ true) × (x ≡ e)) ⊎ (o ≡ Some e)
+first_or_later x false o e h = inr h
+first_or_later x true None e h = inl (refl, some_same x e h)
+first_or_later x true (Some f) e h = elim (cases_Bool (nat_lt (length f.key) (length x.key))) [
+  | inl test ↦ inl (refl, some_same x e (sym (ap (λ b. cond b (Some x) (Some f)) test) ∙ h))
+  | inr test ↦ inr (sym (ap (λ b. cond b (Some x) (Some f)) test) ∙ h)
+]
 
 -- the longest key is a key of the table that the text begins with
 pub longest_among : (table : Entities) (text : List ℕ) (e : Entry) → longest table text ≡ Some e → (k : ℕ) × (slice_get table k ≡ Some e) × (starts_with nat_eq text e.key ≡ true)
 longest_among [] text e h = absurd (cc)
-longest_among (x ∷ xs) text e h = by (starts_with nat_eq text x.key) (longest xs text) refl refl h (longest_among xs text)
-  where
-    later : ((k : ℕ) × (slice_get xs k ≡ Some e) × (starts_with nat_eq text e.key ≡ true)) → (k : ℕ) × (slice_get (x ∷ xs) k ≡ Some e) × (starts_with nat_eq text e.key ≡ true)
-    later found = (suc found.0, found.1, found.2)
-
-    here : x ≡ e → starts_with nat_eq text x.key ≡ true → (k : ℕ) × (slice_get (x ∷ xs) k ≡ Some e) × (starts_with nat_eq text e.key ≡ true)
-    here is test = (zero, ap Some is, subst (λ (y : Entry). starts_with nat_eq text y.key ≡ true) is test)
-
-    choose : (b : Bool) (f : Entry) → longest xs text ≡ Some f → starts_with nat_eq text x.key ≡ true → cond b (Some x) (Some f) ≡ Some e
-        → ((g : Entry) → longest xs text ≡ Some g → (k : ℕ) × (slice_get xs k ≡ Some g) × (starts_with nat_eq text g.key ≡ true)) → (k : ℕ) × (slice_get (x ∷ xs) k ≡ Some e) × (starts_with nat_eq text e.key ≡ true)
-    choose true f others test h among = here (some_same x e h) test
-    choose false f others test h among = later (among e (others ∙ h))
-
-    by : (b : Bool) (o : Option Entry) → starts_with nat_eq text x.key ≡ b → longest xs text ≡ o → cond b (longer x o) o ≡ Some e
-        → ((g : Entry) → longest xs text ≡ Some g → (k : ℕ) × (slice_get xs k ≡ Some g) × (starts_with nat_eq text g.key ≡ true)) → (k : ℕ) × (slice_get (x ∷ xs) k ≡ Some e) × (starts_with nat_eq text e.key ≡ true)
-    by false o test others h among = later (among e (others ∙ h))
-    by true None test others h among = here (some_same x e h) test
-    by true (Some f) test others h among = choose (nat_lt (length f.key) (length x.key)) f others test h among
+longest_among (x ∷ xs) text e h = elim (first_or_later x (starts_with nat_eq text x.key) (longest xs text) e h) [
+  | inl here ↦ (zero, ap Some here.1, subst (λ (y : Entry). starts_with nat_eq text y.key ≡ true) here.1 here.0)
+  | inr later ↦ let found = longest_among xs text e later in (suc found.0, found.1, found.2)
+]
 
 -- a key is once in a table
-other_below : (keys : Entities) (key : List ℕ) (k : ℕ) (e : Entry) → AllByRecursion (λ y. bytes_eq key y ≡ false) (map (λ e. e.key) keys) → slice_get keys k ≡ Some e → bytes_eq key e.key ≡ false
-other_below [] key k e all h = absurd (cc)
-other_below (x ∷ xs) key zero e all h = let same : x ≡ e = cc in subst (λ (y : Entry). bytes_eq key y.key ≡ false) same all.0
-other_below (x ∷ xs) key (suc k) e all h = other_below xs key k e all.1 h
-
 same_key : (a b : List ℕ) → a ≡ b → bytes_eq a b ≡ false → ⊥
 same_key a b is other = true≢false (sym ((bytes_eq-Decides a b).1 is) ∙ other)
 
@@ -41,8 +32,8 @@ pub once : (table : Entities) → IsDistinct bytes_eq (map (λ e. e.key) table) 
 unfolding IsDistinct
 once [] distinct j k e f p q is = absurd (cc)
 once (x ∷ xs) distinct zero zero e f p q is = refl
-once (x ∷ xs) distinct zero (suc k) e f p q is = absurd (let same : x ≡ e = cc in same_key x.key f.key (ap (λ (y : Entry). y.key) same ∙ is) (other_below xs x.key k f distinct.0 q))
-once (x ∷ xs) distinct (suc j) zero e f p q is = absurd (let same : x ≡ f = cc in same_key x.key e.key (ap (λ (y : Entry). y.key) same ∙ sym is) (other_below xs x.key j e distinct.0 p))
+once (x ∷ xs) distinct zero (suc k) e f p q is = absurd (let same : x ≡ e = cc in same_key x.key f.key (ap (λ (y : Entry). y.key) same ∙ is) (below_each xs (λ y. bytes_eq x.key y ≡ false) k f distinct.0 q))
+once (x ∷ xs) distinct (suc j) zero e f p q is = absurd (let same : x ≡ f = cc in same_key x.key e.key (ap (λ (y : Entry). y.key) same ∙ sym is) (below_each xs (λ y. bytes_eq x.key y ≡ false) j e distinct.0 p))
 once (x ∷ xs) distinct (suc j) (suc k) e f p q is = let s : j ≡ k = once xs distinct.1 j k e f p q is in ap suc s
 
 pub same_entry : (e : Entry) (key characters : List ℕ) → e.key ≡ key → e.stands_for ≡ characters → e ≡ record { key = key; stands_for = characters }

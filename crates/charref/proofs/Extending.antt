@@ -1,5 +1,6 @@
 -- A name with one character more.
 use Rattle.charref.proofs.Names.{arith, ◌≡◌, ℕ, ◌+◌, ◌≤◌, ◌<◌, Bool, true, false, true≢false, not, ◌&&◌, ◌||◌, ◌==◌, cond, nat_eq, bytes_eq, codes, List, [], ◌∷◌, ◌++◌, length, slice_get, Some, refl, sym, ap, ◌∙◌, subst, length-append, append-nil, map-append, length-map, bytes_eq-Decides, and_parts, and_from, nat_tests, starts_with, Placed, characters, all, is_empty, is_alphanumeric, is_equals, Alphanumeric, Semicolon, Equals, Other, Search, Entry, Entities, IsTable, longest, is_key, is_key_name, is_empty_list, ends_in_semicolon, is_kept, best_entry, is_whole, IsOver, GoesOn, HasNone, HasRead, key_bytes, IsSettled, last_of, is_letter_or_digit}
+use Rattle.std.proofs.Math.Bool.{and-false}
 use Rattle.charref.specs.Table.{is_as_long}
 use Rattle.charref.proofs.Keys.{no_longer, longest-over, longest-more, begins_itself, whole}
 use Rattle.charref.proofs.Core.{longest_among}
@@ -12,12 +13,6 @@ is_in_names c = is_alphanumeric c || c == 59
 by_letter : (c x : ℕ) → c ≡ x → is_alphanumeric x ≡ true → is_in_names c ≡ true
 by_letter c x same letter = grind (arith, nat_tests)
 
-by_semicolon : (c : ℕ) → nat_eq c 59 ≡ true → is_in_names c ≡ true
-by_semicolon c is = grind (arith, nat_tests)
-
-one_semicolon : (cs : List ℕ) → bytes_eq cs (codes ";") ≡ true → cs ≡ 59 ∷ []
-one_semicolon cs h = (bytes_eq-Decides cs (codes ";")).0 h
-
 -- what follows a character of a name
 pub data Follows (cs : List ℕ) : Type 0 where
   ends : cs ≡ [] → Follows cs
@@ -29,7 +24,7 @@ follows [] h = ends refl
 follows (c ∷ cs) h = by (bytes_eq (c ∷ cs) (codes ";")) refl h
   where
     by : (b : Bool) → bytes_eq (c ∷ cs) (codes ";") ≡ b → (b || is_key_name (c ∷ cs)) ≡ true → Follows (c ∷ cs)
-    by true is h = closes (one_semicolon (c ∷ cs) is)
+    by true is h = closes ((bytes_eq-Decides (c ∷ cs) (codes ";")).0 is)
     by false is h = continues h
 
 name_has : (name bytes : List ℕ) (c : ℕ) → is_key_name name ≡ true → starts_with nat_eq name (bytes ++ c ∷ []) ≡ true → is_in_names c ≡ true
@@ -46,7 +41,7 @@ name_has (x ∷ xs) (b ∷ bs) c h p = elim (follows xs (and_parts (is_alphanume
     none (b ∷ bs) q = true≢false (sym q)
 
     one : (bs : List ℕ) → starts_with nat_eq (59 ∷ []) (bs ++ c ∷ []) ≡ true → is_in_names c ≡ true
-    one [] q = by_semicolon c (and_parts _ _ q).0
+    one [] q = let is : nat_eq c 59 ≡ true = (and_parts _ _ q).0 in grind (arith, nat_tests)
     one (b ∷ bs) q = absurd (none bs (and_parts _ _ q).1)
 
 key_has : (key bytes : List ℕ) (c : ℕ) → is_key key ≡ true → starts_with nat_eq key (38 ∷ bytes ++ c ∷ []) ≡ true → is_in_names c ≡ true
@@ -56,15 +51,17 @@ key_has (x ∷ xs) bytes c h p = name_has xs bytes c (and_parts _ _ h).1 (and_pa
 pub none_past_names : (table : Entities) (bytes : List ℕ) (c : ℕ) → IsTable table → is_in_names c ≡ false → HasNone table (38 ∷ bytes ++ c ∷ [])
 none_past_names table bytes c is_table not-in = record { none = λ k e h p. true≢false (sym (key_has e.key bytes c (is_key_of table k e is_table h) p) ∙ not-in) }
 
-begins_less : (key bytes : List ℕ) (c : ℕ) → starts_with nat_eq key (bytes ++ c ∷ []) ≡ true → starts_with nat_eq key bytes ≡ true
-begins_less key [] c p = refl
-begins_less [] (b ∷ bs) c p = absurd (true≢false (sym p))
-begins_less (x ∷ xs) (b ∷ bs) c p = and_from _ _ (and_parts _ _ p).0 (begins_less xs bs c (and_parts _ _ p).1)
+-- a key that begins with one byte more
+pub opens_more : (key bytes : List ℕ) (byte : ℕ) → starts_with nat_eq key (bytes ++ byte ∷ []) ≡ true → (starts_with nat_eq key bytes ≡ true) × (slice_get key (length bytes) ≡ Some byte)
+opens_more [] [] byte h = absurd (true≢false (sym h))
+opens_more (x ∷ xs) [] byte h = (refl, ap Some (let t : nat_eq byte x ≡ true = (and_parts (nat_eq byte x) true h).0 in grind (arith, nat_tests)))
+opens_more [] (b ∷ bs) byte h = absurd (true≢false (sym h))
+opens_more (x ∷ xs) (b ∷ bs) byte h = let more = opens_more xs bs byte (and_parts _ _ h).1 in (and_from _ _ (and_parts _ _ h).0 more.0, more.1)
 
 pub none_past_over : (table : Entities) (bytes : List ℕ) (c : ℕ) → IsOver table bytes → HasNone table (bytes ++ c ∷ [])
 none_past_over table bytes c over = record {
   none = λ k e h p.
-      let most : length e.key ≤ length bytes = over.no_more k e h (begins_less e.key bytes c p) in
+      let most : length e.key ≤ length bytes = over.no_more k e h (opens_more e.key bytes c p).0 in
       let least : length (bytes ++ c ∷ []) ≤ length e.key = no_longer e.key (bytes ++ c ∷ []) p in
       let more : length (bytes ++ c ∷ []) ≡ length bytes + 1 = length-append bytes (c ∷ []) in
       omega arith;
@@ -212,14 +209,8 @@ some_snoc (q ∷ qs) h some = snoc q qs h
 pub settled_at_end : (table : Entities) (in_value : Bool) (text : List Placed) → IsSettled table in_value text []
 settled_at_end table in_value text = record {
   same = ap (longest table) (append-nil (key_bytes text));
-  not_kept = λ e found size. by in_value (not (ends_in_semicolon e.key));
+  not_kept = λ e found size. and-false (in_value && not (ends_in_semicolon e.key));
 }
-  where
-    by : (a b : Bool) → (a && b && false) ≡ false
-    by true true = refl
-    by true false = refl
-    by false true = refl
-    by false false = refl
 
 pub last_letter : (c : ℕ) → is_alphanumeric c ≡ true → Alphanumeric ≡ last_of c
 last_letter c h = rw h refl

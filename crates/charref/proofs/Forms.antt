@@ -1,5 +1,5 @@
 -- A flat form is of one table only.
-use Rattle.charref.proofs.Names.{arith, ◌≡◌, ℕ, ◌+◌, ◌≤◌, ◌<◌, Bool, true, not, ◌&&◌, ◌||◌, nat_lt, nat_le, nat_eq, ◌==◌, List, [], ◌∷◌, ◌++◌, length, take, get_or, Result, Ok, Err, inl, inr, refl, sym, ap, ◌∙◌, subst, append_assoc, and_parts, and_from, nat_tests, append-nil, take_more, list_all, flat_map, is_alphanumeric, Refusal, TableFault, Memory, Entry, Entities, is_key, is_key_name, is_character, IsRefusedWith, is_one_or_two, flat_character, flat_characters, flat_entry, flat_of, IsReadable, is_count, is_entry}
+use Rattle.charref.proofs.Names.{arith, ◌≡◌, ℕ, ◌≤◌, ◌<◌, Bool, true, not, ◌&&◌, ◌||◌, nat_lt, nat_le, nat_eq, ◌==◌, List, [], ◌∷◌, ◌++◌, length, Result, Ok, Err, inl, inr, refl, sym, ap, ◌∙◌, subst, append_assoc, and_parts, and_from, nat_tests, append-nil, list_all, flat_map, is_alphanumeric, Refusal, TableFault, Memory, Entry, Entities, is_key, is_key_name, is_character, IsRefusedWith, is_one_or_two, flat_character, flat_characters, flat_entry, flat_of, IsReadable, is_count, is_entry}
 use Rattle.std.proofs.Common.{◌^◌, IfOk, IfErr}
 use Rattle.std.proofs.lemmas.Nat.{from_le_bytes-to_le_bytes_4}
 use Rattle.std.proofs.lemmas.List.Concat.{flat_map-append}

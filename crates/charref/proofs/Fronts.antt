@@ -1,5 +1,7 @@
 -- The names and keys that bytes begin with.
-use Rattle.charref.proofs.Names.{arith, ◌≡◌, ℕ, zero, suc, ◌+◌, ◌<◌, ◌⊎◌, inl, inr, Bool, true, false, true≢false, nat_eq, ◌||◌, ◌==◌, bytes_eq, codes, List, [], ◌∷◌, ◌++◌, length, take, slice_get, get_or, refl, sym, ◌∙◌, subst, and_parts, and_from, agree_below_at, nat_tests, list_all, slice_index, is_alphanumeric, ALPHANUMERICS, is_key, is_key_name, is_empty_list, passes, is_count, IsCounted, HasNoCounted}
+use Rattle.charref.proofs.Names.{arith, ◌≡◌, ℕ, zero, suc, ◌+◌, ◌<◌, ◌⊎◌, inl, inr, Bool, true, false, true≢false, nat_eq, ◌||◌, bytes_eq, codes, List, [], ◌∷◌, ◌++◌, length, take, slice_get, get_or, refl, sym, ◌∙◌, subst, and_parts, and_from, agree_below_at, nat_tests, append-nil, take_more, ap, list_all, slice_index, is_alphanumeric, ALPHANUMERICS, is_key, is_key_name, is_empty_list, passes, is_count, IsCounted, HasNoCounted}
+use Rattle.std.proofs.Math.Bool.{or-true}
+use Rattle.std.proofs.lemmas.List.{length-take-le}
 use Rattle.std.proofs.lemmas.List.Folds.{list_all_more}
 use Rattle.charref.specs.Front.{is_semicolon}
 use Rattle.charref.proofs.Extending.{follows, ends, closes, continues}
@@ -7,23 +9,14 @@ use Rattle.charref.proofs.Extending.{follows, ends, closes, continues}
 pub told : (byte : ℕ) → byte < 256 → nat_eq (slice_index ALPHANUMERICS byte) 1 ≡ is_alphanumeric byte
 told byte within = agree_below_at (λ b. nat_eq (slice_index ALPHANUMERICS b) 1) is_alphanumeric 256 byte refl within
 
--- a run of letters and digits, byte by byte
-pub stopped : (bytes : List ℕ) (n : ℕ) → n < length bytes → is_alphanumeric (get_or bytes n 0) ≡ false → passes is_alphanumeric (slice_get bytes n) ≡ false
-stopped [] n less test = absurd (omega arith)
-stopped (b ∷ bs) zero less test = test
-stopped (b ∷ bs) (suc n) less test = stopped bs n (omega arith) test
-
-pub past_end : (bytes : List ℕ) → passes is_alphanumeric (slice_get bytes (length bytes)) ≡ false
-past_end [] = refl
-past_end (b ∷ bs) = past_end bs
-
+-- a run, byte by byte
 pub run_more : (test : ℕ → Bool) (bytes : List ℕ) (n : ℕ) → n < length bytes → list_all test (take n bytes) ≡ true → test (get_or bytes n 0) ≡ true → list_all test (take (n + 1) bytes) ≡ true
 run_more test bytes n less run one = list_all_more test bytes n 0 less ∙ and_from _ _ run one
 
-pub passes_within : (test : ℕ → Bool) (bytes : List ℕ) (n : ℕ) → passes test (slice_get bytes n) ≡ true → n < length bytes
-passes_within test [] n h = absurd (true≢false (sym h))
-passes_within test (b ∷ bs) zero h = omega arith
-passes_within test (b ∷ bs) (suc n) h = let less : n < length bs = passes_within test bs n h in omega arith
+pub passes_at : (test : ℕ → Bool) (bytes : List ℕ) (n : ℕ) → passes test (slice_get bytes n) ≡ true → (n < length bytes) × (test (get_or bytes n 0) ≡ true)
+passes_at test [] n h = absurd (true≢false (sym h))
+passes_at test (b ∷ bs) zero h = (omega arith, h)
+passes_at test (b ∷ bs) (suc n) h = let more = passes_at test bs n h in (omega (arith, more.0), more.1)
 
 -- where a name ends
 pub record Ends (bytes : List ℕ) (end : ℕ) : Type 0 where
@@ -59,45 +52,28 @@ pub no_name : (bytes : List ℕ) (end : ℕ) → list_all is_alphanumeric (take 
 no_name bytes end run stop none key rest count is counts same =
     none (subst (λ bs. Ends bs end) (sym same) (name_ends key rest count end is counts (subst (λ bs. list_all is_alphanumeric (take end bs) ≡ true) same run) (subst (λ bs. passes is_alphanumeric (slice_get bs end) ≡ false) same stop)))
 
--- what may follow a letter or digit of a name
-abbrev follows_name : List ℕ → Bool
-follows_name cs = is_empty_list cs || bytes_eq cs (codes ";") || is_key_name cs
-
-goes_on : (d : ℕ) (ds : List ℕ) → is_key_name (d ∷ ds) ≡ true → follows_name (d ∷ ds) ≡ true
-goes_on d ds name = rw name (by (bytes_eq (d ∷ ds) (codes ";")))
-  where
-    by : (b : Bool) → (b || true) ≡ true
-    by true = refl
-    by false = refl
-
 -- a run of letters and digits is a name, and so it is with a `;`
+run_name : (run tail : List ℕ) → 0 < length run → list_all is_alphanumeric run ≡ true → (is_empty_list tail || bytes_eq tail (codes ";")) ≡ true → is_key_name (run ++ tail) ≡ true
+run_name [] tail some run last = absurd (omega arith)
+run_name (c ∷ []) tail some run last = and_from (is_alphanumeric c) _ (and_parts (is_alphanumeric c) _ run).0 (ap (λ b. b || is_key_name tail) last)
+run_name (c ∷ d ∷ ds) tail some run last =
+    let others : is_key_name (d ∷ ds ++ tail) ≡ true = run_name (d ∷ ds) tail (omega arith) (and_parts (is_alphanumeric c) _ run).1 last in
+    and_from (is_alphanumeric c) _ (and_parts (is_alphanumeric c) _ run).0 (ap (λ b. bytes_eq (d ∷ ds ++ tail) (codes ";") || b) others ∙ or-true (bytes_eq (d ∷ ds ++ tail) (codes ";")))
+
 pub run_counted : (bytes : List ℕ) (end : ℕ) → 0 < end → list_all is_alphanumeric (take end bytes) ≡ true → passes is_count (slice_get bytes end) ≡ true → IsCounted is_key_name bytes end
-run_counted bytes end some run counted = record { within = passes_within is_count bytes end counted; passing = by bytes end some run counted; counted = counted }
-  where
-    by : (bytes : List ℕ) (end : ℕ) → 0 < end → list_all is_alphanumeric (take end bytes) ≡ true → passes is_count (slice_get bytes end) ≡ true → is_key_name (take end bytes) ≡ true
-    by bytes zero some run counted = absurd (omega arith)
-    by [] (suc end) some run counted = absurd (true≢false (sym counted))
-    by (c ∷ []) (suc end) some run counted = absurd (true≢false (sym counted))
-    by (c ∷ d ∷ ds) (suc zero) some run counted = and_from (is_alphanumeric c) _ (and_parts (is_alphanumeric c) _ run).0 refl
-    by (c ∷ d ∷ ds) (suc (suc end)) some run counted =
-        let name : is_key_name (take (suc end) (d ∷ ds)) ≡ true = by (d ∷ ds) (suc end) (omega arith) (and_parts (is_alphanumeric c) _ run).1 counted in
-        and_from (is_alphanumeric c) _ (and_parts (is_alphanumeric c) _ run).0 (goes_on d (take end ds) name)
+run_counted bytes end some run counted =
+    let within : end < length bytes = (passes_at is_count bytes end counted).0 in
+    let size : length (take end bytes) ≡ end = length-take-le end bytes (omega arith) in
+    record { within = within; passing = subst (λ xs. is_key_name xs ≡ true) (append-nil (take end bytes)) (run_name (take end bytes) [] (omega arith) run refl); counted = counted }
 
 pub closed_counted : (bytes : List ℕ) (end : ℕ) → 0 < end → list_all is_alphanumeric (take end bytes) ≡ true → passes is_semicolon (slice_get bytes end) ≡ true
     → passes is_count (slice_get bytes (end + 1)) ≡ true → IsCounted is_key_name bytes (end + 1)
-closed_counted bytes end some run close counted = record { within = passes_within is_count bytes (end + 1) counted; passing = subst (λ n. is_key_name (take n bytes) ≡ true) (let e : suc end ≡ end + 1 = omega arith in e) (by bytes end some run close); counted = counted }
-  where
-    semicolon : (c : ℕ) → is_semicolon c ≡ true → c ≡ 59
-    semicolon c h = grind (arith, nat_tests)
-
-    by : (bytes : List ℕ) (end : ℕ) → 0 < end → list_all is_alphanumeric (take end bytes) ≡ true → passes is_semicolon (slice_get bytes end) ≡ true → is_key_name (take (suc end) bytes) ≡ true
-    by bytes zero some run close = absurd (omega arith)
-    by [] (suc end) some run close = absurd (true≢false (sym close))
-    by (c ∷ []) (suc end) some run close = absurd (true≢false (sym close))
-    by (c ∷ d ∷ ds) (suc zero) some run close = and_from (is_alphanumeric c) _ (and_parts (is_alphanumeric c) _ run).0 (subst (λ x. follows_name (x ∷ []) ≡ true) (sym (semicolon d close)) refl)
-    by (c ∷ d ∷ ds) (suc (suc end)) some run close =
-        let name : is_key_name (take (suc (suc end)) (d ∷ ds)) ≡ true = by (d ∷ ds) (suc end) (omega arith) (and_parts (is_alphanumeric c) _ run).1 close in
-        and_from (is_alphanumeric c) _ (and_parts (is_alphanumeric c) _ run).0 (goes_on d (take (suc end) ds) name)
+closed_counted bytes end some run close counted =
+    let within : end < length bytes = (passes_at is_semicolon bytes end close).0 in
+    let size : length (take end bytes) ≡ end = length-take-le end bytes (omega arith) in
+    let semicolon : get_or bytes end 0 ≡ 59 = (let test = (passes_at is_semicolon bytes end close).1 in grind (arith, nat_tests, test)) in
+    let one_more : take end bytes ++ 59 ∷ [] ≡ take (end + 1) bytes = ap (λ c. take end bytes ++ c ∷ []) (sym semicolon) ∙ sym (take_more bytes end 0 within) in
+    record { within = (passes_at is_count bytes (end + 1) counted).0; passing = subst (λ xs. is_key_name xs ≡ true) one_more (run_name (take end bytes) (59 ∷ []) (omega arith) run refl); counted = counted }
 
 pub no_key : (name : List ℕ) → HasNoCounted is_key_name name → HasNoCounted is_key (38 ∷ name)
 no_key name none [] rest count is counts same = true≢false (sym is)

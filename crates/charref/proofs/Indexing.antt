@@ -2,6 +2,7 @@
 use Rattle.charref.proofs.Names.{arith, ◌≡◌, inl, inr, ℕ, ◌+◌, ◌≤◌, ◌<◌, Bool, true, false, nat_lt, List, [], ◌∷◌, ◌++◌, length, slice_get, get_or, Option, Some, None, nat_le, refl, sym, ap, ◌∙◌, subst, length-append, and_from, nat_tests, slice_get_within, slice_get-get_or, get_or_from_slice_get, Search, Entry, Entities, code_at, IsSortedTable, IsRange, IsRising, IsStart, IsIndex, HasRead}
 use Rattle.std.proofs.Common.{IfSome}
 use Rattle.std.proofs.lemmas.List.{get_or_append_left, get_or-append-add}
+use Rattle.std.proofs.lemmas.Bool.{cases_lt}
 use Rattle.std.proofs.lemmas.Option.{slice_get_cases}
 use Rattle.charref.specs.Table.{is_place, is_search_within}
 use Rattle.charref.proofs.Ranges.{range_rises, range_more}
@@ -53,20 +54,19 @@ pub below_next : (table : Entities) (place code : ℕ) → IsStart table place c
 below_next table place code start k e p h = (let less : code_at e.key 1 < code = start.parted.below k e p (omega arith) h in omega arith)
 
 -- the starts of a byte's code and of the next are the range of the byte
-starts_ordered : (table : Entities) (code from to : ℕ) → IsStart table from code → IsStart table to (code + 1) → (b : Bool) → nat_lt to from ≡ b → from ≤ to
-starts_ordered table code from to first second false test = grind (arith, nat_tests)
-starts_ordered table code from to first second true test =
-    let less : to < from = grind (arith, nat_tests) in
-    let most : from ≤ length table = first.within in
-    elim (slice_get_cases table to).1 [
-      | inl some ↦ absurd (let below : code_at some.0.key 1 < code = first.parted.below to some.0 some.2 (omega arith) less in let above : code + 1 ≤ code_at some.0.key 1 = second.parted.above to some.0 some.2 (omega arith) (omega arith) in omega arith)
-      | inr none ↦ absurd (let past : length table ≤ to = none.0 in omega arith)
-    ]
+starts_ordered : (table : Entities) (code from to : ℕ) → IsStart table from code → IsStart table to (code + 1) → from ≤ to
+starts_ordered table code from to first second = let most : from ≤ length table = first.within in elim (cases_lt to from) [
+  | inr le ↦ le
+  | inl less ↦ elim (slice_get_cases table to).1 [
+    | inl some ↦ absurd (let below : code_at some.0.key 1 < code = first.parted.below to some.0 some.2 (omega arith) less in let above : code + 1 ≤ code_at some.0.key 1 = second.parted.above to some.0 some.2 (omega arith) (omega arith) in omega arith)
+    | inr none ↦ absurd (let past : length table ≤ to = none.0 in omega arith)
+  ]
+]
 
 pub start_range : (table : Entities) (byte from to : ℕ) → IsSortedTable table → IsStart table from (byte + 1) → IsStart table to (byte + 2) → IsRange table (38 ∷ byte ∷ []) from to
 start_range table byte from to sorted first second =
     let next : byte + 2 ≡ byte + 1 + 1 = omega arith in
-    let ordered : from ≤ to = starts_ordered table (byte + 1) from to first (subst (λ n. IsStart table to n) next second) (nat_lt to from) refl in
+    let ordered : from ≤ to = starts_ordered table (byte + 1) from to first (subst (λ n. IsStart table to n) next second) in
     range_more table (38 ∷ []) byte 0 (length table) from to (read_ampersand table (length table) sorted refl).range (omega arith) ordered second.within first.parted
     (record { below = λ k e p l h. second.parted.below k e p (omega arith) h; above = second.parted.above })
 

@@ -1,5 +1,7 @@
 -- Keys that begin with some bytes, in a list whose keys are in order.
 use Rattle.charref.proofs.Names.{arith, ◌≡◌, ℕ, zero, suc, ◌+◌, ◌≤◌, ◌<◌, ◌⊎◌, inl, inr, Bool, true, false, true≢false, ◌&&◌, nat_eq, nat_lt, cond, List, [], ◌∷◌, ◌++◌, map, length, slice_get, Option, Some, None, Less, Equal, Greater, refl, sym, ap, ◌∙◌, subst, length-append, and_parts, and_from, nat_tests, slice_cmp, nat_cmp, starts_with, AllByRecursion, Entry, Entities, longest, longer, code_at, IsOver}
+use Rattle.std.proofs.Math.Bool.{and_assoc}
+use Rattle.std.proofs.lemmas.Bool.{cases_lt}
 use Rattle.std.specs.List.Sorted.{IsStrictlySortedBy}
 use Rattle.std.specs.Cmp.{nat_cmp_is}
 use Rattle.std.specs.Ordering.{ordering_then}
@@ -15,14 +17,10 @@ above x y h = sym (nat_cmp_is x y Greater h)
 
 -- the first bytes of two keys in order
 code_at_first : (x y : ℕ) (xs ys : List ℕ) → slice_cmp nat_cmp (x ∷ xs) (y ∷ ys) ≡ Less → x + 1 ≤ y + 1
-code_at_first x y xs ys h = by (nat_lt y x) refl
-  where
-    by : (b : Bool) → nat_lt y x ≡ b → x + 1 ≤ y + 1
-    by false e = grind (arith, nat_tests)
-    by true e =
-        let lt : y < x = grind (arith, nat_tests) in
-        let greater : nat_cmp x y ≡ Greater = above x y lt in
-        absurd (cc)
+code_at_first x y xs ys h = elim (cases_lt y x) [
+  | inl less ↦ let greater : nat_cmp x y ≡ Greater = above x y less in absurd (cc)
+  | inr le ↦ omega arith
+]
 
 -- of two keys in order that begin with these bytes, the byte after them
 pub code_at-le : (bytes a b : List ℕ) → starts_with nat_eq a bytes ≡ true → starts_with nat_eq b bytes ≡ true → slice_cmp nat_cmp a b ≡ Less
@@ -45,12 +43,7 @@ pub starts_with-more : (bytes : List ℕ) (byte : ℕ) (key : List ℕ)
 starts_with-more [] byte [] = grind (arith, nat_tests)
 starts_with-more [] byte (x ∷ xs) = grind (arith, nat_tests)
 starts_with-more (c ∷ cs) byte [] = refl
-starts_with-more (c ∷ cs) byte (x ∷ xs) = by (nat_eq c x) (starts_with-more cs byte xs)
-  where
-    by : (b : Bool) → starts_with nat_eq xs (cs ++ byte ∷ []) ≡ (starts_with nat_eq xs cs && nat_eq (byte + 1) (code_at xs (length cs)))
-        → (b && starts_with nat_eq xs (cs ++ byte ∷ [])) ≡ ((b && starts_with nat_eq xs cs) && nat_eq (byte + 1) (code_at xs (length cs)))
-    by true more = more
-    by false more = refl
+starts_with-more (c ∷ cs) byte (x ∷ xs) = ap (λ b. nat_eq c x && b) (starts_with-more cs byte xs) ∙ sym (and_assoc (nat_eq c x) (starts_with nat_eq xs cs) (nat_eq (byte + 1) (code_at xs (length cs))))
 
 -- a key that begins with a key comes no earlier
 pub begins_later : (key bytes : List ℕ) → starts_with nat_eq key bytes ≡ true → slice_cmp nat_cmp key bytes ≡ Less → ⊥
@@ -63,7 +56,7 @@ begins_later (x ∷ xs) (c ∷ cs) p h =
     begins_later xs cs (and_parts _ _ p).1 (subst (λ o. ordering_then o (slice_cmp nat_cmp xs cs) ≡ Less) same h)
 
 -- keys in order, by their places
-below_each : (keys : Entities) (P : List ℕ → Type 0) (k : ℕ) (e : Entry) → AllByRecursion P (map (λ e. e.key) keys) → slice_get keys k ≡ Some e → P e.key
+pub below_each : (keys : Entities) (P : List ℕ → Type 0) (k : ℕ) (e : Entry) → AllByRecursion P (map (λ e. e.key) keys) → slice_get keys k ≡ Some e → P e.key
 below_each [] P k e all h = absurd (cc)
 below_each (x ∷ xs) P zero e all h =
     let same : x ≡ e = cc in

@@ -1,5 +1,6 @@
 -- A name that has been read: its key, or none.
-use Rattle.charref.proofs.Names.{arith, ◌≡◌, ℕ, zero, suc, ◌-◌, ◌≤◌, ◌<◌, true, true≢false, nat_eq, List, [], ◌∷◌, ◌++◌, length, take, drop, slice_get, get_or, Some, refl, sym, ap, ◌∙◌, subst, and_parts, nat_tests, starts_with, list_all, Placed, characters, begins, all, past, is_alphanumeric, Entry, Entities, IsTable, is_key, ends_in_semicolon}
+use Rattle.charref.proofs.Names.{arith, ◌≡◌, ℕ, zero, suc, ◌-◌, ◌<◌, true, true≢false, nat_eq, List, [], ◌∷◌, ◌++◌, length, take, drop, slice_get, get_or, Some, refl, sym, ap, ◌∙◌, subst, and_parts, nat_tests, starts_with, list_all, Placed, characters, begins, all, past, is_alphanumeric, Entry, Entities, IsTable, is_key, ends_in_semicolon}
+use Rattle.std.proofs.Math.Seq.{drop-append_seam}
 -- under the name by which the crates above cite it
 pub use Rattle.names.proofs.Words.{all-append}
 
@@ -36,15 +37,7 @@ begins-drop (p ∷ ps) ys zero h lt = (and_parts _ _ h).0
 begins-drop (p ∷ ps) ys (suc n) h lt = begins-drop ps ys n (and_parts _ _ h).1 (omega arith)
 
 pub drop-seam : (xs ys : List Placed) (n : ℕ) → n ≡ length xs → drop n (xs ++ ys) ≡ ys
-drop-seam [] ys zero h = refl
-drop-seam [] ys (suc n) h = absurd (omega arith)
-drop-seam (p ∷ ps) ys zero h = absurd (omega arith)
-drop-seam (p ∷ ps) ys (suc n) h = drop-seam ps ys n (omega arith)
-
-pub drop-within : (xs ys : List Placed) (n : ℕ) → n ≤ length xs → drop n (xs ++ ys) ≡ drop n xs ++ ys
-drop-within xs ys zero h = refl
-drop-within [] ys (suc n) h = absurd (omega arith)
-drop-within (p ∷ ps) ys (suc n) h = drop-within ps ys n (omega arith)
+drop-seam xs ys n h = ap (λ k. drop k (xs ++ ys)) h ∙ drop-append_seam xs ys
 
 -- keys of a table
 pub key_in : (table : Entities) (k : ℕ) (e : Entry) → list_all (λ entry. is_key entry.key) table ≡ true → slice_get table k ≡ Some e → is_key e.key ≡ true

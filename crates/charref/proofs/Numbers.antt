@@ -1,10 +1,15 @@
 -- Numbers, digit by digit.
-use Rattle.charref.proofs.Names.{arith, ◌≡◌, ◌⊎◌, inl, inr, ℕ, zero, suc, ◌+◌, ◌-◌, ◌*◌, ◌≤◌, ◌<◌, min, Bool, true, false, not, ◌&&◌, ◌||◌, ◌==◌, nat_eq, nat_lt, nat_le, List, [], ◌∷◌, ◌++◌, map, length, take, drop, Some, None, refl, sym, ap, ◌∙◌, append_assoc, length-append, append-nil, and_parts, and_from, nat_tests, to_ascii_lowercase, all-one, begins-append, Placed, AbsenceOfDigitsInNumericCharacterReference, MissingSemicolonAfterCharacterReference, begins, stops, all, is_empty, is_digit, is_alphanumeric, error, error_if, Base, Decimal, Hexadecimal, One, NumberSign, HexadecimalSign, Number, Entities, is_hex_digit, digit_value, begins_number, is_semicolon_if_any, IsReference, decimal, hexadecimal, no_digits, alone, is_digit_of, radix, IsSign, number_sign, IsHeld, after_sign, after_x, in_number, IsRead, errors_of, number_of}
+use Rattle.charref.proofs.Names.{arith, ◌≡◌, ◌⊎◌, inl, inr, ℕ, ◌+◌, ◌-◌, ◌*◌, ◌≤◌, ◌<◌, min, Bool, true, false, not, ◌||◌, ◌==◌, nat_eq, nat_lt, List, [], ◌∷◌, ◌++◌, map, length, take, drop, Some, None, refl, sym, ap, ◌∙◌, append_assoc, length-append, append-nil, and_parts, and_from, nat_tests, to_ascii_lowercase, all-one, begins-append, Placed, AbsenceOfDigitsInNumericCharacterReference, MissingSemicolonAfterCharacterReference, begins, stops, all, is_empty, is_digit, is_alphanumeric, error, error_if, Base, Decimal, Hexadecimal, One, NumberSign, HexadecimalSign, Number, Entities, is_hex_digit, digit_value, begins_number, is_semicolon_if_any, IsReference, decimal, hexadecimal, no_digits, alone, is_digit_of, radix, IsSign, number_sign, IsHeld, after_sign, after_x, in_number, IsRead, errors_of, number_of}
 use Rattle.std.proofs.Common.{option_to_list}
+use Rattle.std.proofs.Math.Bool.{and-false}
+use Rattle.std.proofs.Math.Nat.{zero-mul}
+use Rattle.std.proofs.Math.Seq.{take-append_seam}
+use Rattle.std.proofs.lemmas.Bool.{cases_lt}
+use Rattle.std.proofs.lemmas.List.{drop_all, take_all}
 use Rattle.charref.specs.Reference.{number_from, numbered, number_fault}
 use Rattle.charref.specs.Held.{small_x, capital_x}
 use Rattle.charref.proofs.Naming.{drop-seam}
-use Rattle.charref.proofs.Telling.{no_run, read_text, drop-all}
+use Rattle.charref.proofs.Telling.{no_run, read_text}
 
 -- SIGNS
 
@@ -32,31 +37,21 @@ no_sign table in_value _ (number_sign q is) =
     (let first : nat_eq q.ch 35 ≡ true = grind (arith, nat_tests) in rw first refl) refl)
 
 no_number_after : (q r : Placed) (rest : List Placed) → q.ch ≡ 35 → is_digit r.ch ≡ false → begins is_hex_digit rest ≡ false → begins_number (q ∷ r ∷ rest) ≡ false
-no_number_after q r rest is digit hex = let first : nat_eq q.ch 35 ≡ true = grind (arith, nat_tests) in rw (first, digit, hex) (by (nat_eq r.ch 120 || nat_eq r.ch 88))
-  where
-    by : (b : Bool) → (b && false) ≡ false
-    by true = refl
-    by false = refl
-
-x_no_digit : (r : Placed) → r.ch ≡ 120 → is_digit r.ch ≡ false
-x_no_digit r is = ap is_digit is
-
-capital_no_digit : (r : Placed) → r.ch ≡ 88 → is_digit r.ch ≡ false
-capital_no_digit r is = ap is_digit is
+no_number_after q r rest is digit hex = let first : nat_eq q.ch 35 ≡ true = grind (arith, nat_tests) in rw (first, digit, hex) (and-false (nat_eq r.ch 120 || nat_eq r.ch 88))
 
 pub no_hexadecimal : (table : Entities) (in_value : Bool) (text after : List Placed) (p : Placed) → IsSign Hexadecimal text → is_hex_digit p.ch ≡ false
     → IsRead table in_value (text ++ p ∷ []) after (record { characters = One 38; left = 3; missing_semicolon = false; fault = Some AbsenceOfDigitsInNumericCharacterReference; in_run = false })
 no_hexadecimal table in_value _ after p (small_x q r is x) digit =
-    read_text table in_value (q ∷ r ∷ p ∷ []) after _ refl refl (λ amp amp-is. no_digits amp amp-is (begins_sign q (r ∷ p ∷ after) is) (no_number_after q r (p ∷ after) is (x_no_digit r x) digit) refl)
+    read_text table in_value (q ∷ r ∷ p ∷ []) after _ refl refl (λ amp amp-is. no_digits amp amp-is (begins_sign q (r ∷ p ∷ after) is) (no_number_after q r (p ∷ after) is (ap is_digit x) digit) refl)
 no_hexadecimal table in_value _ after p (capital_x q r is x) digit =
-    read_text table in_value (q ∷ r ∷ p ∷ []) after _ refl refl (λ amp amp-is. no_digits amp amp-is (begins_sign q (r ∷ p ∷ after) is) (no_number_after q r (p ∷ after) is (capital_no_digit r x) digit) refl)
+    read_text table in_value (q ∷ r ∷ p ∷ []) after _ refl refl (λ amp amp-is. no_digits amp amp-is (begins_sign q (r ∷ p ∷ after) is) (no_number_after q r (p ∷ after) is (ap is_digit x) digit) refl)
 
 pub no_x : (table : Entities) (in_value : Bool) (text : List Placed) → IsSign Hexadecimal text
     → IsRead table in_value text [] (record { characters = One 38; left = 2; missing_semicolon = false; fault = Some AbsenceOfDigitsInNumericCharacterReference; in_run = false })
 no_x table in_value _ (small_x q r is x) =
-    read_text table in_value (q ∷ r ∷ []) [] _ refl refl (λ amp amp-is. no_digits amp amp-is (begins_sign q (r ∷ []) is) (no_number_after q r [] is (x_no_digit r x) refl) refl)
+    read_text table in_value (q ∷ r ∷ []) [] _ refl refl (λ amp amp-is. no_digits amp amp-is (begins_sign q (r ∷ []) is) (no_number_after q r [] is (ap is_digit x) refl) refl)
 no_x table in_value _ (capital_x q r is x) =
-    read_text table in_value (q ∷ r ∷ []) [] _ refl refl (λ amp amp-is. no_digits amp amp-is (begins_sign q (r ∷ []) is) (no_number_after q r [] is (capital_no_digit r x) refl) refl)
+    read_text table in_value (q ∷ r ∷ []) [] _ refl refl (λ amp amp-is. no_digits amp amp-is (begins_sign q (r ∷ []) is) (no_number_after q r [] is (ap is_digit x) refl) refl)
 
 -- an `&` before something else, or before nothing
 pub alone_before : (table : Entities) (in_value : Bool) (p : Placed) (after : List Placed) → is_alphanumeric p.ch ≡ false → nat_eq p.ch 35 ≡ false
@@ -80,32 +75,24 @@ min-more Hexadecimal n d = omega arith
 pub min-digit : (d : ℕ) → d < 16 → d ≡ min d 0x110000
 min-digit d h = omega arith
 
-too_great : (n : ℕ) → 0x110000 ≤ n → numbered n ≡ 0xFFFD
-too_great n h =
-    let none : nat_eq n 0 ≡ false = grind (arith, nat_tests) in
-    let great : nat_lt 0x10FFFF n ≡ true = grind (arith, nat_tests) in
-    rw (none, great) refl
-
-fault_of_great : (n : ℕ) → 0x110000 ≤ n → number_fault n ≡ number_fault 0x110000
-fault_of_great n h =
-    let none : nat_eq n 0 ≡ false = grind (arith, nat_tests) in
-    let great : nat_lt 0x10FFFF n ≡ true = grind (arith, nat_tests) in
-    rw (none, great) refl
-
 -- above the greatest code all numbers are as one
-pub numbered-min : (n : ℕ) → numbered (min n 0x110000) ≡ numbered n
-numbered-min n = by (nat_le 0x110000 n) refl
-  where
-    by : (b : Bool) → nat_le 0x110000 n ≡ b → numbered (min n 0x110000) ≡ numbered n
-    by true test = let h : 0x110000 ≤ n = grind (arith, nat_tests) in let is : min n 0x110000 ≡ 0x110000 = omega arith in ap numbered is ∙ too_great 0x110000 (omega arith) ∙ sym (too_great n h)
-    by false test = let is : min n 0x110000 ≡ n = (let h : n < 0x110000 = grind (arith, nat_tests) in omega arith) in ap numbered is
+great : (n : ℕ) → 0x110000 ≤ n → (numbered n ≡ 0xFFFD) × (number_fault n ≡ number_fault 0x110000)
+great n h =
+    let none : nat_eq n 0 ≡ false = grind (arith, nat_tests) in
+    let past : nat_lt 0x10FFFF n ≡ true = grind (arith, nat_tests) in
+    (rw (none, past) refl, rw (none, past) refl)
 
-pub number_fault-min : (n : ℕ) → number_fault (min n 0x110000) ≡ number_fault n
-number_fault-min n = by (nat_le 0x110000 n) refl
-  where
-    by : (b : Bool) → nat_le 0x110000 n ≡ b → number_fault (min n 0x110000) ≡ number_fault n
-    by true test = let h : 0x110000 ≤ n = grind (arith, nat_tests) in let is : min n 0x110000 ≡ 0x110000 = omega arith in ap number_fault is ∙ sym (fault_of_great n h)
-    by false test = let is : min n 0x110000 ≡ n = (let h : n < 0x110000 = grind (arith, nat_tests) in omega arith) in ap number_fault is
+min_same : {A : Type 0} (f : ℕ → A) (n : ℕ) → (0x110000 ≤ n → f n ≡ f 0x110000) → f (min n 0x110000) ≡ f n
+min_same f n same = elim (cases_lt n 0x110000) [
+  | inl less ↦ (let is : min n 0x110000 ≡ n = omega arith in ap f is)
+  | inr past ↦ (let is : min n 0x110000 ≡ 0x110000 = omega arith in ap f is ∙ sym (same past))
+]
+
+numbered-min : (n : ℕ) → numbered (min n 0x110000) ≡ numbered n
+numbered-min n = min_same numbered n (λ past. (great n past).0 ∙ sym (great 0x110000 (omega arith)).0)
+
+number_fault-min : (n : ℕ) → number_fault (min n 0x110000) ≡ number_fault n
+number_fault-min n = min_same number_fault n (λ past. (great n past).1)
 
 all-not-not : (test : ℕ → Bool) (xs : List Placed) → all test xs ≡ true → all (λ c. not (not (test c))) xs ≡ true
 all-not-not test [] h = refl
@@ -116,11 +103,7 @@ pub first_digit : (table : Entities) (in_value : Bool) (base : Base) (sign : Lis
     → IsHeld table in_value (Number base d) (sign ++ p ∷ [])
 first_digit table in_value base sign p d is test value small =
     in_number base d sign (p ∷ []) (sign ++ p ∷ []) refl is test (and_from _ _ test refl)
-    (min-digit d small ∙ ap (λ n. min n 0x110000) (value ∙ (let z : digit_value p.ch ≡ 0 * radix base + digit_value p.ch = omega (arith, mul_zero base) in z)))
-  where
-    mul_zero : (b : Base) → 0 * radix b ≡ 0
-    mul_zero Decimal = refl
-    mul_zero Hexadecimal = refl
+    (min-digit d small ∙ ap (λ n. min n 0x110000) (value ∙ (let z : digit_value p.ch ≡ 0 * radix base + digit_value p.ch = omega (arith, zero-mul (radix base)) in z)))
 
 pub next_digit : (table : Entities) (in_value : Bool) (base : Base) (value : ℕ) (text : List Placed) (p : Placed) (d next : ℕ) → IsHeld table in_value (Number base value) text → is_digit_of base p.ch ≡ true → d ≡ digit_value p.ch
     → next ≡ min (value * radix base + d) 0x110000 → IsHeld table in_value (Number base next) (text ++ p ∷ [])
@@ -163,25 +146,12 @@ no_digit_semicolon : (base : Base) → is_digit_of base 59 ≡ false
 no_digit_semicolon Decimal = refl
 no_digit_semicolon Hexadecimal = refl
 
-pub take-all : (xs : List Placed) (n : ℕ) → n ≡ length xs → take n xs ≡ xs
-take-all [] zero h = refl
-take-all [] (suc n) h = refl
-take-all (p ∷ ps) zero h = absurd (omega arith)
-take-all (p ∷ ps) (suc n) h = ap (λ qs. p ∷ qs) (take-all ps n (omega arith))
-
-take-seam : (xs ys : List Placed) (n : ℕ) → n ≡ length xs → take n (xs ++ ys) ≡ xs
-take-seam [] ys zero h = refl
-take-seam [] ys (suc n) h = absurd (omega arith)
-take-seam (p ∷ ps) ys zero h = absurd (omega arith)
-take-seam (p ∷ ps) ys (suc n) h = ap (λ qs. p ∷ qs) (take-seam ps ys n (omega arith))
-
 -- the `;` of a number
 pub number_closed : (table : Entities) (in_value : Bool) (base : Base) (value : ℕ) (text after : List Placed) (p : Placed) → IsHeld table in_value (Number base value) text → p.ch ≡ 59
     → IsRead table in_value (text ++ p ∷ []) after (number_of value 0 false)
 number_closed table in_value _ _ _ after p (in_number base value sign digits text text-is is opens run value-is) semicolon =
-    let size : length (text ++ p ∷ []) - 0 ≡ length (text ++ p ∷ []) = omega arith in
-    let belongs : take (length (text ++ p ∷ []) - 0) (text ++ p ∷ []) ≡ sign ++ digits ++ p ∷ [] = take-all (text ++ p ∷ []) (length (text ++ p ∷ []) - 0) size ∙ ap (λ xs. xs ++ p ∷ []) text-is in
-    let gone : drop (length (text ++ p ∷ []) - 0) (text ++ p ∷ []) ≡ [] = drop-all (text ++ p ∷ []) (length (text ++ p ∷ []) - 0) (omega arith) in
+    let belongs : take (length (text ++ p ∷ []) - 0) (text ++ p ∷ []) ≡ sign ++ digits ++ p ∷ [] = take_all _ (text ++ p ∷ []) (omega arith) ∙ ap (λ xs. xs ++ p ∷ []) text-is in
+    let gone : drop (length (text ++ p ∷ []) - 0) (text ++ p ∷ []) ≡ [] = drop_all _ (text ++ p ∷ []) (omega arith) in
     record {
       within = omega arith;
       run = no_run false refl;
@@ -194,8 +164,9 @@ pub number_open : (table : Entities) (in_value : Bool) (base : Base) (value : �
     → IsRead table in_value (text ++ p ∷ []) after (number_of value 1 true)
 number_open table in_value _ _ _ after p (in_number base value sign digits text text-is is opens run value-is) digit semicolon =
     let size : length (text ++ p ∷ []) ≡ length text + 1 = length-append text (p ∷ []) in
-    let belongs : take (length (text ++ p ∷ []) - 1) (text ++ p ∷ []) ≡ sign ++ digits ++ [] = take-seam text (p ∷ []) (length (text ++ p ∷ []) - 1) (omega arith) ∙ text-is ∙ sym (append-nil (sign ++ digits)) in
-    let gone : drop (length (text ++ p ∷ []) - 1) (text ++ p ∷ []) ≡ p ∷ [] = drop-seam text (p ∷ []) (length (text ++ p ∷ []) - 1) (omega arith) in
+    let before : length (text ++ p ∷ []) - 1 ≡ length text = omega arith in
+    let belongs : take (length (text ++ p ∷ []) - 1) (text ++ p ∷ []) ≡ sign ++ digits ++ [] = ap (λ n. take n (text ++ p ∷ [])) before ∙ take-append_seam text (p ∷ []) ∙ text-is ∙ sym (append-nil (sign ++ digits)) in
+    let gone : drop (length (text ++ p ∷ []) - 1) (text ++ p ∷ []) ≡ p ∷ [] = drop-seam text (p ∷ []) _ before in
     record {
       within = omega arith;
       run = no_run false refl;
@@ -204,9 +175,8 @@ number_open table in_value _ _ _ after p (in_number base value sign digits text 
 
 pub number_at_end : (table : Entities) (in_value : Bool) (base : Base) (value : ℕ) (text : List Placed) → IsHeld table in_value (Number base value) text → IsRead table in_value text [] (number_of value 0 true)
 number_at_end table in_value _ _ _ (in_number base value sign digits text text-is is opens run value-is) =
-    let size : length text - 0 ≡ length text = omega arith in
-    let belongs : take (length text - 0) text ≡ sign ++ digits ++ [] = take-all text (length text - 0) size ∙ text-is ∙ sym (append-nil (sign ++ digits)) in
-    let gone : drop (length text - 0) text ≡ [] = drop-all text (length text - 0) (omega arith) in
+    let belongs : take (length text - 0) text ≡ sign ++ digits ++ [] = take_all _ text (omega arith) ∙ text-is ∙ sym (append-nil (sign ++ digits)) in
+    let gone : drop (length text - 0) text ≡ [] = drop_all _ text (omega arith) in
     record {
       within = omega arith;
       run = no_run false refl;

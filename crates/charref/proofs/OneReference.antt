@@ -1,6 +1,8 @@
 -- A text has one reference at most at its front: the one that a function with a case for each production reads.
-use Rattle.charref.proofs.Names.{arith, ◌≡◌, ℕ, ◌+◌, ◌-◌, Bool, true, false, not, ◌&&◌, ◌||◌, ◌==◌, cond, nat_lt, List, [], ◌∷◌, ◌++◌, length, take, drop, Option, Some, None, refl, sym, ap, ◌∙◌, subst, append_assoc, codes, and_parts, false≢true, nat_tests, length-map, to_ascii_lowercase, begins-append, Placed, UnknownNamedCharacterReference, AbsenceOfDigitsInNumericCharacterReference, characters, begins, stops, all, past, is_digit, is_alphanumeric, error, error_if, Entry, Entities, Piece, longest, is_kept, is_hex_digit, begins_number, is_semicolon_if_any, named_piece, IsReference, named, kept, unknown, decimal, hexadecimal, no_digits, alone}
+use Rattle.charref.proofs.Names.{arith, ◌≡◌, ◌⊎◌, inl, inr, ℕ, ◌-◌, Bool, true, false, not, ◌&&◌, ◌||◌, ◌==◌, cond, List, [], ◌∷◌, ◌++◌, length, take, drop, Option, Some, None, refl, sym, ap, ◌∙◌, subst, append_assoc, codes, and_parts, false≢true, nat_tests, length-map, to_ascii_lowercase, begins-append, Placed, UnknownNamedCharacterReference, AbsenceOfDigitsInNumericCharacterReference, characters, begins, stops, all, past, is_digit, is_alphanumeric, error, error_if, Entry, Entities, Piece, longest, is_kept, is_hex_digit, begins_number, is_semicolon_if_any, named_piece, IsReference, named, kept, unknown, decimal, hexadecimal, no_digits, alone}
+use Rattle.std.proofs.Math.Bool.{or-true}
 use Rattle.std.proofs.Math.Seq.{drop-append_seam, take-append_seam}
+use Rattle.std.proofs.lemmas.Bool.{not-true, not-false}
 use Rattle.names.specs.Placed.{lowered, RunsTo}
 use Rattle.charref.specs.Reference.{ampersand, numeric_piece}
 
@@ -13,21 +15,14 @@ abbrev pub after_run : (ℕ → Bool) → List Placed → List Placed
 after_run test [] = []
 after_run test (p ∷ ps) = cond (test p.ch) (after_run test ps) (p ∷ ps)
 
-run_stops : (test : ℕ → Bool) (m : Placed) (ms : List Placed) (b : Bool) → not b ≡ true → (cond b (m ∷ run test ms) [] ≡ []) × (cond b (after_run test ms) (m ∷ ms) ≡ m ∷ ms)
-run_stops test m ms true h = absurd (false≢true h)
-run_stops test m ms false h = (refl, refl)
-
-run_on : (test : ℕ → Bool) (x : Placed) (xs more : List Placed) (b : Bool) → not (not b) ≡ true → (run test (xs ++ more) ≡ xs) × (after_run test (xs ++ more) ≡ more)
-    → (cond b (x ∷ run test (xs ++ more)) [] ≡ x ∷ xs) × (cond b (after_run test (xs ++ more)) (x ∷ xs ++ more) ≡ more)
-run_on test x xs more true h k = (ap (λ (ys : List Placed). x ∷ ys) k.0, k.1)
-run_on test x xs more false h k = absurd (false≢true h)
-
 run_is : (test : ℕ → Bool) (xs more : List Placed) → all (λ c. not (not (test c))) xs ≡ true → stops (λ c. not (test c)) more ≡ true → (run test (xs ++ more) ≡ xs) × (after_run test (xs ++ more) ≡ more)
 run_is test [] [] a s = (refl, refl)
-run_is test [] (m ∷ ms) a s = run_stops test m ms (test m.ch) s
+run_is test [] (m ∷ ms) a s = let stop : test m.ch ≡ false = not-true _ s in rw stop (refl, refl)
 run_is test (x ∷ xs) more a s =
     let both = and_parts (not (not (test x.ch))) (all (λ c. not (not (test c))) xs) a in
-    run_on test x xs more (test x.ch) both.0 (run_is test xs more both.1 s)
+    let on : test x.ch ≡ true = not-false _ (not-true _ both.0) in
+    let k = run_is test xs more both.1 s in
+    rw on (ap (λ (ys : List Placed). x ∷ ys) k.0, k.1)
 
 abbrev Read : Type 0
 Read = Piece × List Placed
@@ -38,14 +33,9 @@ abbrev read_close : ℕ → List Placed → List Placed → List Placed → Read
 read_close base opening digits [] = (numeric_piece base opening digits [], [])
 read_close base opening digits (p ∷ ps) = cond (p.ch == 59) (numeric_piece base opening digits (p ∷ []), ps) (numeric_piece base opening digits [], p ∷ ps)
 
-close_open : (base : ℕ) (opening digits : List Placed) (p : Placed) (ps : List Placed) (b : Bool) → not b ≡ true
-    → ◌≡◌ {A = Read} (cond b (numeric_piece base opening digits (p ∷ []), ps) (numeric_piece base opening digits [], p ∷ ps)) (numeric_piece base opening digits [], p ∷ ps)
-close_open base opening digits p ps true h = absurd (false≢true h)
-close_open base opening digits p ps false h = refl
-
 close_is : (base : ℕ) (opening digits close rest : List Placed) → is_semicolon_if_any close rest ≡ true → read_close base opening digits (close ++ rest) ≡ (numeric_piece base opening digits close, rest)
 close_is base opening digits [] [] h = refl
-close_is base opening digits [] (p ∷ ps) h = close_open base opening digits p ps (p.ch == 59) h
+close_is base opening digits [] (p ∷ ps) h = ap (λ (b : Bool). cond b (numeric_piece base opening digits (p ∷ []), ps) (numeric_piece base opening digits [], p ∷ ps)) (not-true (p.ch == 59) h)
 close_is base opening digits (p ∷ []) rest h = ap (λ (b : Bool). cond b (numeric_piece base opening digits (p ∷ []), rest) (numeric_piece base opening digits [], p ∷ rest)) (and_parts (p.ch == 59) true h).0
 close_is base opening digits (p ∷ q ∷ qs) rest h = absurd (false≢true (and_parts (p.ch == 59) false h).1)
 
@@ -82,11 +72,7 @@ read table in_value (amp ∷ text) = read_by table in_value amp text (begins is_
 -- the tests of a text
 by_tests : (table : Entities) (in_value : Bool) (amp : Placed) (text : List Placed) (a h n d : Bool) → begins is_alphanumeric text ≡ a → begins (λ c. c == 35) text ≡ h → begins_number text ≡ n → begins is_digit (drop 1 text) ≡ d
     → read table in_value (amp ∷ text) ≡ read_by table in_value amp text a h n d
-by_tests table in_value amp text a h n d ea eh en ed =
-    ap (λ (b : Bool). read_by table in_value amp text b (begins (λ c. c == 35) text) (begins_number text) (begins is_digit (drop 1 text))) ea
-    ∙ ap (λ (b : Bool). read_by table in_value amp text a b (begins_number text) (begins is_digit (drop 1 text))) eh
-    ∙ ap (λ (b : Bool). read_by table in_value amp text a h b (begins is_digit (drop 1 text))) en
-    ∙ ap (λ (b : Bool). read_by table in_value amp text a h n b) ed
+by_tests table in_value amp text a h n d ea eh en ed = λ i. read_by table in_value amp text (ea i) (eh i) (en i) (ed i)
 
 by_name : (table : Entities) (in_value : Bool) (amp : Placed) (text : List Placed) → begins is_alphanumeric text ≡ true → read table in_value (amp ∷ text) ≡ read_name in_value amp text (longest table (characters (amp ∷ text)))
 by_name table in_value amp text e = by_tests table in_value amp text true _ _ _ e refl refl refl
@@ -111,28 +97,15 @@ sign_tests : (rest : List Placed) → begins (λ c. c == 35) rest ≡ true → b
 sign_tests [] h = refl
 sign_tests (p ∷ ps) h = sign_no_letter p.ch h
 
-lower_sign : (c : ℕ) (a b : Bool) → nat_lt c 65 ≡ a → cond a c (cond b (c + 32) c) ≡ 35 → c ≡ 35
-lower_sign c true b e h = h
-lower_sign c false true e h = absurd (grind (arith, nat_tests))
-lower_sign c false false e h = h
+lower_sign : (c : ℕ) → to_ascii_lowercase c ≡ 35 → c ≡ 35
+lower_sign c h = grind (arith, nat_tests, h)
 
-lower_x : (c : ℕ) (a b : Bool) → nat_lt c 65 ≡ a → cond a c (cond b (c + 32) c) ≡ 120 → ((c == 120 || c == 88) ≡ true) × (is_digit c ≡ false)
-lower_x c true b e h = absurd (grind (arith, nat_tests))
-lower_x c false true e h = (grind (arith, nat_tests), grind (arith, nat_tests))
-lower_x c false false e h = (grind (arith, nat_tests), grind (arith, nat_tests))
+lower_x : (c : ℕ) → to_ascii_lowercase c ≡ 120 → ((c == 120 || c == 88) ≡ true) × (is_digit c ≡ false)
+lower_x c h = (grind (arith, nat_tests, h), grind (arith, nat_tests, h))
 
-number_tests : (a b c d : Bool) → a ≡ true → (b || (c && d)) ≡ true → ((a && true) && (b || (c && d))) ≡ true
-number_tests true b c d e h = h
-number_tests false b c d e h = absurd (false≢true e)
-
-first_digit_test : (b c d : Bool) → b ≡ true → (b || (c && d)) ≡ true
-first_digit_test true c d e = refl
-first_digit_test false c d e = absurd (false≢true e)
-
-second_digit_test : (b c d : Bool) → c ≡ true → d ≡ true → (b || (c && d)) ≡ true
-second_digit_test true c d e f = refl
-second_digit_test false true d e f = f
-second_digit_test false false d e f = absurd (false≢true e)
+number_tests : (a b c d : Bool) → a ≡ true → (b ≡ true) ⊎ ((c ≡ true) × (d ≡ true)) → ((a && true) && (b || (c && d))) ≡ true
+number_tests a b c d e (inl first) = rw (e, first) refl
+number_tests a b c d e (inr second) = rw (e, second.0, second.1) (or-true b)
 
 module _ (table : Entities) (in_value : Bool) (rest : List Placed) where
   decimal_is : (opening digits close : List Placed) → characters opening ≡ codes "&#" → begins is_digit digits ≡ true → RunsTo (λ c. not (is_digit c)) digits (close ++ rest) → is_semicolon_if_any close rest ≡ true
@@ -145,8 +118,7 @@ module _ (table : Entities) (in_value : Bool) (rest : List Placed) where
       let more = digits ++ (close ++ rest) in
       let digit : begins is_digit more ≡ true = begins-append is_digit digits (close ++ rest) d in
       by_tests table in_value a (q ∷ more) false true true true (sign_no_letter q.ch sign) sign
-      (number_tests (q.ch == 35) (begins is_digit more) (begins (λ c. c == 120 || c == 88) more) (begins is_hex_digit (drop 1 more)) sign
-      (first_digit_test (begins is_digit more) (begins (λ c. c == 120 || c == 88) more) (begins is_hex_digit (drop 1 more)) digit)) digit
+      (number_tests (q.ch == 35) (begins is_digit more) (begins (λ c. c == 120 || c == 88) more) (begins is_hex_digit (drop 1 more)) sign (inl digit)) digit
       ∙ number_is 10 (a ∷ q ∷ []) is_digit digits close rest r s
   decimal_is (a ∷ q ∷ x ∷ xs) digits close o d r s = absurd cc
 
@@ -157,14 +129,14 @@ module _ (table : Entities) (in_value : Bool) (rest : List Placed) where
   hexadecimal_is (a ∷ q ∷ []) digits close o d r s = absurd cc
   hexadecimal_is (a ∷ q ∷ x ∷ []) digits close o d r s =
       let low : to_ascii_lowercase q.ch ≡ 35 = cc in
-      let is : q.ch ≡ 35 = lower_sign q.ch (nat_lt q.ch 65) (nat_lt q.ch 91) refl low in
+      let is : q.ch ≡ 35 = lower_sign q.ch low in
       let sign : (q.ch == 35) ≡ true = ap (λ (c : ℕ). c == 35) is in
       let low_x : to_ascii_lowercase x.ch ≡ 120 = cc in
-      let marks = lower_x x.ch (nat_lt x.ch 65) (nat_lt x.ch 91) refl low_x in
+      let marks = lower_x x.ch low_x in
       let more = digits ++ (close ++ rest) in
       let digit : begins is_hex_digit more ≡ true = begins-append is_hex_digit digits (close ++ rest) d in
       by_tests table in_value a (q ∷ x ∷ more) false true true false (sign_no_letter q.ch sign) sign
-      (number_tests (q.ch == 35) (is_digit x.ch) (x.ch == 120 || x.ch == 88) (begins is_hex_digit more) sign (second_digit_test (is_digit x.ch) (x.ch == 120 || x.ch == 88) (begins is_hex_digit more) marks.0 digit)) marks.1
+      (number_tests (q.ch == 35) (is_digit x.ch) (x.ch == 120 || x.ch == 88) (begins is_hex_digit more) sign (inr (marks.0, digit))) marks.1
       ∙ number_is 16 (a ∷ q ∷ x ∷ []) is_hex_digit digits close rest r s
   hexadecimal_is (a ∷ q ∷ x ∷ y ∷ ys) digits close o d r s = absurd cc
 

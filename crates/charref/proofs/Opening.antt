@@ -1,8 +1,9 @@
 -- A walk outside of a value goes on only while what it has taken may become a reference.
-use Rattle.charref.proofs.Names.{arith, ◌≡◌, ℕ, ◌-◌, ◌<◌, true, false, nat_eq, List, [], ◌∷◌, ◌++◌, map, length, drop, Some, refl, sym, ap, ◌∙◌, append_assoc, append-nil, map-append, take-append-drop, and_parts, slice_get_within, get_or_from_slice_get, starts_with, Placed, characters, all, is_empty, is_alphanumeric, Base, Decimal, Hexadecimal, ReferenceState, NumberSign, Number, Walk, Entry, Entities, IsTable, longest, named, named_piece, GoesOn, key_bytes, IsSign, IsHeld, in_name, after_sign, after_x, in_number, IsOpen, IsRead, number_of, HasTaken}
+use Rattle.charref.proofs.Names.{arith, ◌≡◌, ℕ, ◌<◌, true, false, nat_eq, List, [], ◌∷◌, ◌++◌, map, length, drop, Some, refl, sym, ap, ◌∙◌, append_assoc, append-nil, map-append, take-append-drop, and_parts, slice_get_within, get_or_from_slice_get, starts_with, Placed, characters, all, is_empty, is_alphanumeric, Base, Decimal, Hexadecimal, ReferenceState, NumberSign, Number, Walk, Entry, Entities, IsTable, longest, named, named_piece, GoesOn, key_bytes, IsSign, IsHeld, in_name, after_sign, after_x, in_number, IsOpen, IsRead, number_of, HasTaken}
 use Rattle.charref.proofs.Core.{has_found}
 use Rattle.charref.proofs.Naming.{key_of}
-use Rattle.charref.proofs.Numbers.{one_number_sign, first_digit, number_closed, take-all}
+use Rattle.std.proofs.lemmas.List.{take_all}
+use Rattle.charref.proofs.Numbers.{one_number_sign, first_digit, number_closed}
 
 at_once : ℕ → Placed
 at_once c = record { ch = c; at = 0 }
@@ -27,7 +28,7 @@ open_number table amp base value text is held =
       rest = _;
       piece = _;
       is_more = refl;
-      text_is = ap (λ xs. amp ∷ xs) (take-all (text ++ at_once 59 ∷ []) (length (text ++ at_once 59 ∷ []) - 0) (omega arith));
+      text_is = ap (λ xs. amp ∷ xs) (take_all _ (text ++ at_once 59 ∷ []) (omega arith));
       is_reference = read.reads amp is;
     }
 

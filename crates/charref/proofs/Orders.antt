@@ -1,30 +1,22 @@
 -- Keys in order, one after another.
-use Rattle.charref.proofs.Names.{arith, ◌≡◌, ℕ, zero, suc, ◌≤◌, ◌<◌, true, false, List, [], ◌∷◌, ◌++◌, length, drop, is_lt, Less, refl, ap, ◌∙◌, slice_cmp, AllByRecursion}
+use Rattle.charref.proofs.Names.{arith, ◌≡◌, ℕ, ◌≤◌, ◌<◌, true, false, List, [], ◌∷◌, ◌++◌, length, drop, is_lt, Less, refl, ap, ◌∙◌, slice_cmp, AllByRecursion}
 use Rattle.std.specs.List.Sorted.{IsStrictlySortedBy}
 use Rattle.std.proofs.Common.{nat_cmp}
+use Rattle.std.proofs.Math.Seq.{drop-cons}
 use Rattle.std.proofs.lemmas.Cmp.{nat_list_cmp_total}
+use Rattle.std.proofs.lemmas.List.{drop_all}
 
 -- the beginning of a longer key is before it; no key is before its own beginning
 pub shorter_before : (a b : List ℕ) (n : ℕ) → n ≡ length a → n < length b → is_lt (slice_cmp nat_cmp (drop n a) (drop n b)) ≡ true
-shorter_before [] [] n is less = absurd (omega arith)
-shorter_before [] (y ∷ ys) zero is less = refl
-shorter_before [] (y ∷ ys) (suc n) is less = absurd (omega arith)
-shorter_before (x ∷ xs) b zero is less = absurd (omega arith)
-shorter_before (x ∷ xs) [] (suc n) is less = absurd (omega arith)
-shorter_before (x ∷ xs) (y ∷ ys) (suc n) is less = shorter_before xs ys n (omega arith) (omega arith)
-
-nothing_left : (b : List ℕ) (n : ℕ) → length b ≤ n → drop n b ≡ []
-nothing_left [] zero less = refl
-nothing_left [] (suc n) less = refl
-nothing_left (y ∷ ys) zero less = absurd (omega arith)
-nothing_left (y ∷ ys) (suc n) less = nothing_left ys n (omega arith)
+shorter_before a b n is less =
+    ap (λ xs. is_lt (slice_cmp nat_cmp xs (drop n b))) (drop_all n a (omega arith)) ∙ ap (λ xs. is_lt (slice_cmp nat_cmp [] xs)) (drop-cons b n 0 less)
 
 none_first : (a : List ℕ) → is_lt (slice_cmp nat_cmp a []) ≡ false
 none_first [] = refl
 none_first (x ∷ xs) = refl
 
 pub never_before : (a b : List ℕ) (n : ℕ) → length b ≤ n → is_lt (slice_cmp nat_cmp (drop n a) (drop n b)) ≡ false
-never_before a b n less = ap (λ xs. is_lt (slice_cmp nat_cmp (drop n a) xs)) (nothing_left b n less) ∙ none_first (drop n a)
+never_before a b n less = ap (λ xs. is_lt (slice_cmp nat_cmp (drop n a) xs)) (drop_all n b less) ∙ none_first (drop n a)
 
 -- the last of some keys, or the empty key, which is before all
 abbrev pub last_key : List (List ℕ) → List ℕ

@@ -1,5 +1,6 @@
 -- The range of the keys that begin with what was read, and how a byte narrows it.
-use Rattle.charref.proofs.Names.{arith, ◌≡◌, ℕ, ◌+◌, ◌≤◌, ◌<◌, Bool, true, false, ◌&&◌, nat_eq, nat_lt, nat_le, List, [], ◌∷◌, ◌++◌, length, slice_get, get_or, Option, Some, None, option_map, Less, refl, sym, ap, ◌∙◌, subst, and_parts, and_from, nat_tests, slice_get-get_or, slice_get_within, length-map, slice_cmp, nat_cmp, starts_with, some_same, Entity, Entry, Entities, entry, entries, code_at, IsSortedTable, IsRange, IsRising, IsParted, IsOver}
+use Rattle.charref.proofs.Names.{arith, ◌≡◌, inl, inr, ℕ, ◌+◌, ◌≤◌, ◌<◌, true, ◌&&◌, nat_eq, nat_lt, nat_le, List, [], ◌∷◌, ◌++◌, length, slice_get, get_or, Some, option_map, Less, sym, ap, ◌∙◌, subst, and_parts, and_from, nat_tests, slice_get-get_or, slice_get_within, length-map, slice_cmp, nat_cmp, starts_with, some_same, Entity, Entry, Entities, entry, entries, code_at, IsSortedTable, IsRange, IsRising, IsParted, IsOver}
+use Rattle.std.proofs.lemmas.Bool.{cases_lt}
 use Rattle.std.proofs.lemmas.Option.{slice_get-map}
 use Rattle.charref.proofs.Keys.{code_at-le, starts_with-more, begins_later, in_order, begins_itself, IsOnly}
 
@@ -44,21 +45,23 @@ range_rises table bytes low high sorted range = record {
   at = λ j k e f p q from le to.
       let first : starts_with nat_eq e.key bytes ≡ true = range.exact j e p ∙ inside low high j from (omega arith) in
       let second : starts_with nat_eq f.key bytes ≡ true = range.exact k f q ∙ inside low high k (omega arith) to in
-      by j k e f p q le first second (nat_lt j k) refl;
+      elim (cases_lt j k) [
+        | inl less ↦ code_at-le bytes e.key f.key first second (in_order table sorted.sorted j k e f p q less)
+        | inr most ↦
+            let place : j ≡ k = omega (arith, le, most) in
+            let same : e ≡ f = some_same e f (sym p ∙ ap (slice_get table) place ∙ q) in
+            subst (λ (y : Entry). code_at e.key (length bytes) ≤ code_at y.key (length bytes)) same (omega arith)
+      ];
 }
-  where
-    by : (j k : ℕ) (e f : Entry) → slice_get table j ≡ Some e → slice_get table k ≡ Some f → j ≤ k → starts_with nat_eq e.key bytes ≡ true → starts_with nat_eq f.key bytes ≡ true
-        → (b : Bool) → nat_lt j k ≡ b → code_at e.key (length bytes) ≤ code_at f.key (length bytes)
-    by j k e f p q le first second true is = code_at-le bytes e.key f.key first second (in_order table sorted.sorted j k e f p q (grind (arith, nat_tests)))
-    by j k e f p q le first second false is =
-        let place : j ≡ k = grind (arith, nat_tests) in
-        let both : Some e ≡ Some f = sym p ∙ ap (slice_get table) place ∙ q in
-        let same : e ≡ f = some_same e f both in
-        subst (λ (y : Entry). code_at e.key (length bytes) ≤ code_at y.key (length bytes)) same (omega arith)
 
 -- a part of what rises rises
 pub rises_later : (table : Entities) (low middle high depth : ℕ) → low ≤ middle → IsRising table low high depth → IsRising table middle high depth
 rises_later table low middle high depth h rising = record { at = λ j k e f p q from le to. rising.at j k e f p q (omega arith) le to }
+
+-- A code that rises with the place is this one between the two places that part the range.
+between : (low from to high k at code : ℕ) → low ≤ from → from ≤ to → to ≤ high → (low ≤ k → k < from → at < code) → (from ≤ k → k < high → code ≤ at) → (from ≤ k → k < to → at < code + 1) → (to ≤ k → k < high → code < at)
+    → ((nat_le low k && nat_lt k high) && nat_eq code at) ≡ (nat_le from k && nat_lt k to)
+between low from to high k at code a b c below above same past = grind (arith, nat_tests)
 
 -- The keys that begin with one byte more.
 pub range_more : (table : Entities) (bytes : List ℕ) (byte low high from to : ℕ) → IsRange table bytes low high → low ≤ from → from ≤ to → to ≤ high
@@ -66,35 +69,9 @@ pub range_more : (table : Entities) (bytes : List ℕ) (byte low high from to : 
 range_more table bytes byte low high from to range a b c first second = record {
   ordered = b;
   within = (let w : high ≤ length table = range.within in omega arith);
-  exact = λ k e p. starts_with-more bytes byte e.key ∙ ap (λ t. t && nat_eq (byte + 1) (code_at e.key (length bytes))) (range.exact k e p) ∙ by k e p (nat_le low k) (nat_lt k from) (nat_lt k to) (nat_lt k high) refl refl refl refl;
+  exact = λ k e p. starts_with-more bytes byte e.key ∙ ap (λ t. t && nat_eq (byte + 1) (code_at e.key (length bytes))) (range.exact k e p)
+      ∙ between low from to high k (code_at e.key (length bytes)) (byte + 1) a b c (first.below k e p) (first.above k e p) (λ h g. let less : code_at e.key (length bytes) < byte + 2 = second.below k e p h g in omega arith) (λ h g. let le : byte + 2 ≤ code_at e.key (length bytes) = second.above k e p h g in omega arith);
 }
-  where
-    by : (k : ℕ) (e : Entry) → slice_get table k ≡ Some e → (l f t h : Bool) → nat_le low k ≡ l → nat_lt k from ≡ f → nat_lt k to ≡ t → nat_lt k high ≡ h
-        → ((nat_le low k && nat_lt k high) && nat_eq (byte + 1) (code_at e.key (length bytes))) ≡ (nat_le from k && nat_lt k to)
-    by k e p false f t h is-l is-f is-t is-h = let test : nat_le from k ≡ false = grind (arith, nat_tests) in rw (is-l, test)
-    by k e p true true t h is-l is-f is-t is-h =
-        let code : code_at e.key (length bytes) < byte + 1 = first.below k e p (grind (arith, nat_tests)) (grind (arith, nat_tests)) in
-        let other : nat_eq (byte + 1) (code_at e.key (length bytes)) ≡ false = grind (arith, nat_tests) in
-        let test : nat_le from k ≡ false = grind (arith, nat_tests) in
-        let in-high : nat_lt k high ≡ true = grind (arith, nat_tests) in
-        rw (is-l, in-high, other, test)
-    by k e p true false true h is-l is-f is-t is-h =
-        let here : from ≤ k = grind (arith, nat_tests) in
-        let less : k < high = grind (arith, nat_tests) in
-        let least : byte + 1 ≤ code_at e.key (length bytes) = first.above k e p here less in
-        let most : code_at e.key (length bytes) < byte + 2 = second.below k e p here (grind (arith, nat_tests)) in
-        let same : nat_eq (byte + 1) (code_at e.key (length bytes)) ≡ true = grind (arith, nat_tests) in
-        let test : nat_le from k ≡ true = grind (arith, nat_tests) in
-        let in-high : nat_lt k high ≡ true = grind (arith, nat_tests) in
-        rw (is-l, in-high, same, test, is-t)
-    by k e p true false false false is-l is-f is-t is-h =
-        let test : nat_le from k ≡ true = grind (arith, nat_tests) in
-        rw (is-l, is-h, test, is-t)
-    by k e p true false false true is-l is-f is-t is-h =
-        let least : byte + 2 ≤ code_at e.key (length bytes) = second.above k e p (grind (arith, nat_tests)) (grind (arith, nat_tests)) in
-        let other : nat_eq (byte + 1) (code_at e.key (length bytes)) ≡ false = grind (arith, nat_tests) in
-        let test : nat_le from k ≡ true = grind (arith, nat_tests) in
-        rw (is-l, is-h, other, test, is-t)
 
 -- Where the range is empty, no key goes on.
 pub range_over : (table : Entities) (bytes : List ℕ) (low high : ℕ) → IsRange table bytes low high → low ≡ high → IsOver table bytes
@@ -105,17 +82,14 @@ pub only_first : (table : Entities) (bytes : List ℕ) (low high : ℕ) → IsSo
 only_first table bytes low high sorted range = record {
   here = λ k e p is.
       let at : (low ≤ k) × (k < high) = within low high k (sym (range.exact k e p) ∙ subst (λ x. starts_with nat_eq x bytes ≡ true) (sym is) (begins_itself bytes)) in
-      by k e p is at.0 at.1 (nat_lt low k) refl (slice_get table low) refl;
+      elim (cases_lt low k) [
+        | inr most ↦ (let least : low ≤ k = at.0 in omega arith)
+        | inl less ↦ absurd (
+            let inside_table : k < length table = slice_get_within table k e p in
+            let to : k < high = at.1 in
+            let f : Entry = get_or table low e in
+            let got : slice_get table low ≡ Some f = slice_get-get_or table low e (omega arith) in
+            let begins : starts_with nat_eq f.key bytes ≡ true = range.exact low f got ∙ inside low high low (omega arith) (omega arith) in
+            begins_later f.key bytes begins (subst (λ x. slice_cmp nat_cmp f.key x ≡ Less) is (in_order table sorted.sorted low k f e got p less)))
+      ];
 }
-  where
-    by : (k : ℕ) (e : Entry) → slice_get table k ≡ Some e → e.key ≡ bytes → low ≤ k → k < high → (b : Bool) → nat_lt low k ≡ b → (o : Option Entry) → slice_get table low ≡ o → k ≡ low
-    by k e p is from to false test o got = grind (arith, nat_tests)
-    by k e p is from to true test None got =
-        let less : k < length table = slice_get_within table k e p in
-        let some : low < length table = grind (arith, nat_tests) in
-        absurd (let f : slice_get table low ≡ Some (get_or table low e) = slice_get-get_or table low e some in cc)
-    by k e p is from to true test (Some f) got =
-        let less : low < k = grind (arith, nat_tests) in
-        let begins : starts_with nat_eq f.key bytes ≡ true = range.exact low f got ∙ inside low high low (omega arith) (omega arith) in
-        let order : slice_cmp nat_cmp f.key e.key ≡ Less = in_order table sorted.sorted low k f e got p less in
-        absurd (begins_later f.key bytes begins (subst (λ x. slice_cmp nat_cmp f.key x ≡ Less) is order))

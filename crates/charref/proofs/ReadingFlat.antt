@@ -1,10 +1,12 @@
 -- Reading a flat form, entry by entry.
-use Rattle.charref.proofs.Names.{arith, ◌≡◌, ℕ, zero, suc, ◌+◌, ◌-◌, ◌*◌, ◌≤◌, ◌<◌, Bool, true, false, true≢false, ◌&&◌, nat_le, List, [], ◌∷◌, ◌++◌, map, length, take, drop, slice_get, get_or, is_lt, Less, Equal, Greater, refl, sym, ap, ◌∙◌, subst, append_assoc, and_parts, and_from, nat_tests, append-nil, take-append-drop, take_rest, drop-drop, length-drop, map-append, slice_cmp, list_all, flat_map, Entity, Characters, characters_of, Entry, Entities, is_key, is_character, key_at, entry, entries, is_one_or_two, flat_character, flat_characters, flat_entry, flat_of, IsReadable, passes, is_count, BeginsWith, BeginsWithNone, IsCounted, HasNoCounted, IsEntryAt, is_entry}
+use Rattle.charref.proofs.Names.{arith, ◌≡◌, ℕ, suc, ◌+◌, ◌-◌, ◌*◌, ◌≤◌, ◌<◌, Bool, true, false, true≢false, ◌&&◌, nat_le, List, [], ◌∷◌, ◌++◌, map, length, take, drop, slice_get, get_or, is_lt, Less, refl, sym, ap, ◌∙◌, subst, append_assoc, and_parts, and_from, nat_tests, append-nil, take-append-drop, take_rest, drop-drop, length-drop, map-append, slice_cmp, list_all, flat_map, Entity, Characters, characters_of, Entry, Entities, is_key, is_character, key_at, entry, entries, is_one_or_two, flat_character, flat_characters, flat_entry, flat_of, IsReadable, passes, is_count, BeginsWith, BeginsWithNone, IsCounted, HasNoCounted, IsEntryAt, is_entry}
 use Rattle.std.specs.List.Sorted.{IsStrictlySortedBy}
 use Rattle.std.proofs.Common.{nat_cmp, Ordering}
 use Rattle.std.proofs.lemmas.List.{drop_all, drop_more}
 use Rattle.std.proofs.lemmas.List.Folds.{list_all-append}
 use Rattle.charref.specs.Table.{is_inside}
+use Rattle.std.proofs.Math.Seq.{drop-cons}
+use Rattle.charref.proofs.Fronts.{passes_at}
 use Rattle.charref.proofs.Members.{readable_from_parts}
 use Rattle.charref.proofs.Orders.{last_key, last_key-more, sorted_more, last_below}
 use Rattle.charref.proofs.Forms.{flat_more, counted, key_past, same_key, same_entries, entry_split, are_entries, Rest, rest_of, tail_of}
@@ -31,9 +33,7 @@ no_second bytes two none (c ∷ d ∷ e ∷ es) rest is same = (let many : get_o
 -- ENTRIES
 
 counted_at : (bytes : List ℕ) (n : ℕ) → passes is_count (slice_get bytes n) ≡ true → (c : ℕ) × (r : List ℕ) × (drop n bytes ≡ c ∷ r) × (is_count c ≡ true)
-counted_at [] n h = absurd (true≢false (sym h))
-counted_at (b ∷ bs) zero h = (b, bs, refl, h)
-counted_at (b ∷ bs) (suc n) h = counted_at bs n h
+counted_at bytes n h = let at = passes_at is_count bytes n h in (get_or bytes n 0, drop (suc n) bytes, drop-cons bytes n 0 at.0, at.1)
 
 pub no_entry_key : (bytes : List ℕ) → HasNoCounted is_key bytes → BeginsWithNone is_entry flat_entry bytes
 no_entry_key bytes none e rest is same =
@@ -109,8 +109,7 @@ is_less a b h = by (slice_cmp nat_cmp a b) h
   where
     by : (o : Ordering) → is_lt o ≡ true → o ≡ Less
     by Less h = refl
-    by Equal h = absurd (true≢false (sym h))
-    by Greater h = absurd (true≢false (sym h))
+    by _ h = cc
 
 pub one_more : (text : List ℕ) (es : List Entity) (last : List ℕ) (start : ℕ) (d : Entity) (end : ℕ) → HasReadTo text es last start → IsEntryAt text start d end
     → is_lt (slice_cmp nat_cmp last (key_at text d)) ≡ true → HasReadTo text (es ++ d ∷ []) (key_at text d) end

@@ -1,42 +1,28 @@
 -- Each text that begins with `&` begins with a reference.
-use Rattle.charref.proofs.Names.{arith, ◌≡◌, ℕ, zero, suc, ◌-◌, ◌≤◌, Bool, true, false, not, ◌&&◌, ◌||◌, ◌==◌, cond, List, [], ◌∷◌, ◌++◌, length, take, drop, Option, Some, None, refl, sym, ap, ◌∙◌, subst, append_assoc, and_parts, false≢true, nat_tests, take-append-drop, to_ascii_lowercase, Placed, characters, begins, stops, all, is_digit, is_alphanumeric, Entry, Entities, IsTable, longest, is_kept, is_hex_digit, begins_number, is_semicolon_if_any, named, kept, unknown, decimal, hexadecimal, no_digits, alone}
+use Rattle.charref.proofs.Names.{arith, ◌≡◌, inl, inr, ℕ, zero, suc, ◌-◌, ◌≤◌, Bool, true, false, not, ◌&&◌, ◌||◌, ◌==◌, cond, List, [], ◌∷◌, ◌++◌, length, take, drop, Option, Some, None, refl, sym, ap, ◌∙◌, subst, append_assoc, and_parts, false≢true, nat_tests, take-append-drop, to_ascii_lowercase, Placed, characters, begins, is_digit, is_alphanumeric, Entry, Entities, IsTable, longest, is_kept, is_hex_digit, begins_number, is_semicolon_if_any, named, kept, unknown, decimal, hexadecimal, no_digits, alone}
+use Rattle.std.proofs.lemmas.Bool.{or_cases}
+use Rattle.names.specs.Placed.{RunsTo}
 use Rattle.charref.specs.Open.{HasReference}
 use Rattle.charref.proofs.Core.{longest_among}
 use Rattle.charref.proofs.Naming.{key_of, take-map, is_key_of, key_opens}
 use Rattle.charref.proofs.OneReference.{run, after_run}
 
 -- a run, and what follows it
-passes_on : (test : ℕ → Bool) (p : Placed) (ps : List Placed) (b : Bool) → test p.ch ≡ b → all (λ c. not (not (test c))) (run test ps) ≡ true → all (λ c. not (not (test c))) (cond b (p ∷ run test ps) []) ≡ true
-passes_on test p ps true e k = ap (λ (b : Bool). not (not b) && all (λ c. not (not (test c))) (run test ps)) e ∙ k
-passes_on test p ps false e k = refl
-
-run_passes : (test : ℕ → Bool) (text : List Placed) → all (λ c. not (not (test c))) (run test text) ≡ true
-run_passes test [] = refl
-run_passes test (p ∷ ps) = passes_on test p ps (test p.ch) refl (run_passes test ps)
-
-stops_on : (test : ℕ → Bool) (p : Placed) (ps : List Placed) (b : Bool) → test p.ch ≡ b → stops (λ c. not (test c)) (after_run test ps) ≡ true → stops (λ c. not (test c)) (cond b (after_run test ps) (p ∷ ps)) ≡ true
-stops_on test p ps true e k = k
-stops_on test p ps false e k = ap not e
-
-run_stops : (test : ℕ → Bool) (text : List Placed) → stops (λ c. not (test c)) (after_run test text) ≡ true
-run_stops test [] = refl
-run_stops test (p ∷ ps) = stops_on test p ps (test p.ch) refl (run_stops test ps)
-
-split_on : (test : ℕ → Bool) (p : Placed) (ps : List Placed) (b : Bool) → ps ≡ run test ps ++ after_run test ps → p ∷ ps ≡ cond b (p ∷ run test ps) [] ++ cond b (after_run test ps) (p ∷ ps)
-split_on test p ps true k = ap (λ (xs : List Placed). p ∷ xs) k
-split_on test p ps false k = refl
+runs_to : (test : ℕ → Bool) (text : List Placed) → RunsTo (λ c. not (test c)) (run test text) (after_run test text)
+runs_to test [] = record { passes_none = refl; stops_after = refl }
+runs_to test (p ∷ ps) = by (test p.ch) refl (runs_to test ps)
+  where
+    by : (b : Bool) → test p.ch ≡ b → RunsTo (λ c. not (test c)) (run test ps) (after_run test ps) → RunsTo (λ c. not (test c)) (cond b (p ∷ run test ps) []) (cond b (after_run test ps) (p ∷ ps))
+    by true is k = record { passes_none = rw is k.passes_none; stops_after = k.stops_after }
+    by false is k = record { passes_none = refl; stops_after = ap not is }
 
 run_split : (test : ℕ → Bool) (text : List Placed) → text ≡ run test text ++ after_run test text
 run_split test [] = refl
-run_split test (p ∷ ps) = split_on test p ps (test p.ch) (run_split test ps)
-
-begins_by : (test : ℕ → Bool) (p : Placed) (ps : List Placed) (b : Bool) → test p.ch ≡ b → b ≡ true → begins test (cond b (p ∷ run test ps) []) ≡ true
-begins_by test p ps true e h = e
-begins_by test p ps false e h = absurd (false≢true h)
+run_split test (p ∷ ps) = elim (test p.ch) as (λ b. p ∷ ps ≡ cond b (p ∷ run test ps) [] ++ cond b (after_run test ps) (p ∷ ps)) [ true ↦ ap (λ (xs : List Placed). p ∷ xs) (run_split test ps) | false ↦ refl ]
 
 run_begins : (test : ℕ → Bool) (text : List Placed) → begins test text ≡ true → begins test (run test text) ≡ true
 run_begins test [] h = h
-run_begins test (p ∷ ps) h = begins_by test p ps (test p.ch) refl h
+run_begins test (p ∷ ps) h = rw h h
 
 -- a `;`, if one follows
 record Close (after : List Placed) : Type 0 where
@@ -56,23 +42,15 @@ close_of (p ∷ ps) = close_by p ps (p.ch == 59) refl
 sign_code : (c : ℕ) → (c == 35) ≡ true → c ≡ 35
 sign_code c h = grind (arith, nat_tests)
 
-x_lower : (c : ℕ) → (c == 120) ≡ true → to_ascii_lowercase c ≡ 120
-x_lower c h = let is : c ≡ 120 = grind (arith, nat_tests) in ap to_ascii_lowercase is
-
-capital_lower : (c : ℕ) → (c == 88) ≡ true → to_ascii_lowercase c ≡ 120
-capital_lower c h = let is : c ≡ 88 = grind (arith, nat_tests) in ap to_ascii_lowercase is
-
-x_of : (c : ℕ) (a : Bool) → (c == 120) ≡ a → (a || c == 88) ≡ true → to_ascii_lowercase c ≡ 120
-x_of c true e h = x_lower c e
-x_of c false e h = capital_lower c h
-
-neither_of : (a b : Bool) → a ≡ false → b ≡ false → (a || b) ≡ false
-neither_of true b h k = absurd (false≢true (sym h))
-neither_of false b h k = k
+x_of : (c : ℕ) → (c == 120 || c == 88) ≡ true → to_ascii_lowercase c ≡ 120
+x_of c h = elim (or_cases (c == 120) (c == 88) h) [
+  | inl test ↦ (let is : c ≡ 120 = grind (arith, nat_tests, test) in ap to_ascii_lowercase is)
+  | inr test ↦ (let is : c ≡ 88 = grind (arith, nat_tests, test) in ap to_ascii_lowercase is)
+]
 
 not_begun : (rest : List Placed) → begins is_alphanumeric rest ≡ false → begins (λ c. c == 35) rest ≡ false → begins (λ c. is_alphanumeric c || c == 35) rest ≡ false
 not_begun [] h k = refl
-not_begun (p ∷ ps) h k = neither_of (is_alphanumeric p.ch) (p.ch == 35) h k
+not_begun (p ∷ ps) h k = rw (h, k) refl
 
 begins_take : (n : ℕ) (text : List Placed) → begins is_alphanumeric text ≡ true → 1 ≤ n → begins is_alphanumeric (take n text) ≡ true
 begins_take zero text h l = absurd (grind (arith, l))
@@ -97,7 +75,7 @@ module _ (table : Entities) (in_value : Bool) (is_table : IsTable table) (amp : 
         is_reference = decimal (amp ∷ q ∷ []) (run is_digit text) k.close
             (ap (λ (c : ℕ). c ∷ q.ch ∷ []) is ∙ ap (λ (c : ℕ). 38 ∷ c ∷ []) (sign_code q.ch sign))
             (run_begins is_digit text digit)
-            (record { passes_none = run_passes is_digit text; stops_after = subst (λ (xs : List Placed). stops (λ c. not (is_digit c)) xs ≡ true) k.after_is (run_stops is_digit text) }) k.closes refl;
+            (subst (RunsTo (λ c. not (is_digit c)) (run is_digit text)) k.after_is (runs_to is_digit text)) k.closes refl;
       }
 
   hexadecimal_here : (q x : Placed) (text : List Placed) → (q.ch == 35) ≡ true → (x.ch == 120 || x.ch == 88) ≡ true → begins is_hex_digit text ≡ true → HasReference table in_value (amp ∷ q ∷ x ∷ text)
@@ -109,9 +87,9 @@ module _ (table : Entities) (in_value : Bool) (is_table : IsTable table) (amp : 
         text_is = ap (λ (xs : List Placed). amp ∷ q ∷ x ∷ xs) (run_split is_hex_digit text ∙ ap (λ (xs : List Placed). run is_hex_digit text ++ xs) k.after_is ∙ sym (append_assoc (run is_hex_digit text) k.close k.rest));
         is_reference = hexadecimal (amp ∷ q ∷ x ∷ []) (run is_hex_digit text) k.close
             (ap (λ (c : ℕ). to_ascii_lowercase c ∷ to_ascii_lowercase q.ch ∷ to_ascii_lowercase x.ch ∷ []) is ∙ ap (λ (c : ℕ). 38 ∷ to_ascii_lowercase c ∷ to_ascii_lowercase x.ch ∷ []) (sign_code q.ch sign)
-            ∙ ap (λ (c : ℕ). 38 ∷ 35 ∷ c ∷ []) (x_of x.ch (x.ch == 120) refl mark))
+            ∙ ap (λ (c : ℕ). 38 ∷ 35 ∷ c ∷ []) (x_of x.ch mark))
             (run_begins is_hex_digit text digit)
-            (record { passes_none = run_passes is_hex_digit text; stops_after = subst (λ (xs : List Placed). stops (λ c. not (is_hex_digit c)) xs ≡ true) k.after_is (run_stops is_hex_digit text) }) k.closes refl;
+            (subst (RunsTo (λ c. not (is_hex_digit c)) (run is_hex_digit text)) k.after_is (runs_to is_hex_digit text)) k.closes refl;
       }
 
   number_by : (q : Placed) (text : List Placed) (digit : Bool) → (q.ch == 35) ≡ true → begins is_digit text ≡ digit

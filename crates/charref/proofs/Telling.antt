@@ -1,12 +1,15 @@
 -- A reference that was reported, as the definition has it.
-use Rattle.charref.proofs.Names.{arith, ◌≡◌, ℕ, zero, suc, ◌+◌, ◌-◌, ◌≤◌, ◌<◌, Bool, true, false, true≢false, not, ◌&&◌, ◌||◌, ◌==◌, cond, nat_eq, nat_lt, List, [], ◌∷◌, ◌++◌, length, take, drop, slice_get, Some, None, refl, sym, ap, ◌∙◌, subst, append_assoc, length-append, append-nil, map-append, length-map, take-append-drop, and_parts, nat_tests, starts_with, begins-append, Placed, MissingSemicolonAfterCharacterReference, UnknownNamedCharacterReference, characters, begins, all, is_empty, past, is_alphanumeric, is_equals, error_if, Alphanumeric, Semicolon, Equals, Other, Reference, Characters, One, Entry, Entities, IsTable, longest, ends_in_semicolon, is_kept, IsReference, named, kept, unknown, key_bytes, IsSettled, last_of, is_kept_before, IsRead, characters_of, errors_of, unknown_of}
+use Rattle.charref.proofs.Names.{arith, ◌≡◌, ◌⊎◌, inl, inr, ℕ, suc, ◌+◌, ◌-◌, ◌≤◌, ◌<◌, Bool, true, false, true≢false, not, ◌&&◌, ◌||◌, ◌==◌, cond, nat_eq, nat_lt, List, [], ◌∷◌, ◌++◌, length, take, drop, slice_get, Some, None, refl, sym, ap, ◌∙◌, subst, append_assoc, length-append, append-nil, map-append, length-map, take-append-drop, and_parts, nat_tests, starts_with, begins-append, Placed, MissingSemicolonAfterCharacterReference, UnknownNamedCharacterReference, characters, begins, all, is_empty, past, is_alphanumeric, is_equals, error_if, Alphanumeric, Semicolon, Equals, Other, Reference, Characters, One, Entry, Entities, IsTable, longest, ends_in_semicolon, is_kept, IsReference, named, kept, unknown, key_bytes, IsSettled, last_of, is_kept_before, IsRead, characters_of, errors_of, unknown_of}
+use Rattle.std.proofs.Math.Bool.{or-true, and-false}
+use Rattle.std.proofs.lemmas.Bool.{cases_order}
+use Rattle.std.proofs.lemmas.List.{drop_all, drop-append-le}
 use Rattle.names.proofs.Words.{all-append}
 use Rattle.names.specs.declared.error.ParseError.{ParseError}
 use Rattle.charref.specs.declared.last.Last.{Last}
 use Rattle.charref.specs.Last.{goes_on_name}
 use Rattle.charref.proofs.Keys.{no_longer}
 use Rattle.charref.proofs.Core.{longest_among}
-use Rattle.charref.proofs.Naming.{key_of, take-map, past-run, begins-drop, drop-seam, drop-within, is_key_of, Opens, key_opens}
+use Rattle.charref.proofs.Naming.{key_of, take-map, past-run, begins-drop, drop-seam, is_key_of, Opens, key_opens}
 
 begins_first : (test : ℕ → Bool) (name : List Placed) (c : ℕ) (cs : List ℕ) → characters name ≡ c ∷ cs → begins test name ≡ test c
 begins_first test [] c cs h = absurd (cc)
@@ -14,11 +17,7 @@ begins_first test (p ∷ ps) c cs h = let first : p.ch ≡ c = cc in ap test fir
 
 begins_or : (xs : List Placed) → begins is_alphanumeric xs ≡ true → begins (λ c. is_equals c || is_alphanumeric c) xs ≡ true
 begins_or [] h = absurd (true≢false (sym h))
-begins_or (p ∷ ps) h = by (is_equals p.ch)
-  where
-    by : (b : Bool) → (b || is_alphanumeric p.ch) ≡ true
-    by true = refl
-    by false = h
+begins_or (p ∷ ps) h = ap (λ b. is_equals p.ch || b) h ∙ or-true (is_equals p.ch)
 
 -- an `&` that is text: all that was read is left
 read_run : (table : Entities) (in_value : Bool) (text after : List Placed) (found : Reference) → found.left ≡ length text
@@ -102,55 +101,39 @@ module _ (table : Entities) (in_value : Bool) (text after : List Placed) (is_tab
   read_kept left left-is keeps =
       read_text table in_value text after _ left-is refl (λ amp is.
       kept amp e is text_opens (always amp is (text ++ after) refl)
-      (let size : length e.key ≤ length text + 1 = most in ap (is_kept in_value e.key) (drop-within text after (length e.key - 1) (omega arith)) ∙ keeps) refl)
-
-pub drop-all : (xs : List Placed) (n : ℕ) → length xs ≤ n → drop n xs ≡ []
-drop-all [] zero h = refl
-drop-all [] (suc n) h = refl
-drop-all (p ∷ ps) zero h = absurd (omega arith)
-drop-all (p ∷ ps) (suc n) h = drop-all ps n (omega arith)
-
-and_none : (a b : Bool) → (a && b && false) ≡ false
-and_none true true = refl
-and_none true false = refl
-and_none false true = refl
-and_none false false = refl
+      (let size : length e.key ≤ length text + 1 = most in ap (is_kept in_value e.key) (drop-append-le (length e.key - 1) text after (omega arith)) ∙ keeps) refl)
 
 last_follows : (c : ℕ) → (is_equals c || is_alphanumeric c) ≡ goes_on_name (last_of c)
 last_follows c = choose (is_alphanumeric c) (nat_eq c 59) (is_equals c) refl refl
   where
     choose : (a b d : Bool) → nat_eq c 59 ≡ b → is_equals c ≡ d → (d || a) ≡ goes_on_name (cond a Alphanumeric (cond b Semicolon (cond d Equals Other)))
-    choose true b true y z = refl
-    choose true b false y z = refl
-    choose false true false y z = refl
+    choose true b d y z = or-true d
     choose false true true y z = absurd (grind (arith, nat_tests))
+    choose false true false y z = refl
     choose false false true y z = refl
     choose false false false y z = refl
 
 -- whether a key is kept, by what is left after it and the last character
 is_kept_at : (in_value : Bool) (front : List Placed) (p : Placed) (after : List Placed) (key : List ℕ) (n left : ℕ) → all is_alphanumeric front ≡ true → n ≤ length front + 1 → left ≡ length (front ++ p ∷ []) - n
     → (left ≡ 0 → is_kept in_value key after ≡ false) → is_kept in_value key (drop n (front ++ p ∷ []) ++ after) ≡ is_kept_before in_value (ends_in_semicolon key) left (last_of p.ch)
-is_kept_at in_value front p after key n left run most left-is whole = by (nat_lt n (length front)) (nat_eq n (length front)) refl refl
+is_kept_at in_value front p after key n left run most left-is whole = by (cases_order n (length front))
   where
     size : length (front ++ p ∷ []) ≡ length front + 1
     size = length-append front (p ∷ [])
 
-    by : (b d : Bool) → nat_lt n (length front) ≡ b → nat_eq n (length front) ≡ d → is_kept in_value key (drop n (front ++ p ∷ []) ++ after) ≡ is_kept_before in_value (ends_in_semicolon key) left (last_of p.ch)
-    by true d x y =
-        let less : n < length front = grind (arith, nat_tests) in
+    by : (n ≡ length front) ⊎ ((n < length front) ⊎ (length front < n)) → is_kept in_value key (drop n (front ++ p ∷ []) ++ after) ≡ is_kept_before in_value (ends_in_semicolon key) left (last_of p.ch)
+    by (inr (inl less)) =
         let many : nat_lt 1 left ≡ true = (let h : 1 < left = omega (arith, size) in grind (arith, nat_tests)) in
         let begins-is : begins (λ c. is_equals c || is_alphanumeric c) (drop n (front ++ p ∷ []) ++ after) ≡ true =
         begins-append (λ c. is_equals c || is_alphanumeric c) (drop n (front ++ p ∷ [])) after (begins_or (drop n (front ++ p ∷ [])) (begins-drop front (p ∷ []) n run less)) in
         rw (begins-is, many)
-    by false true x y =
-        let is : n ≡ length front = grind (arith, nat_tests) in
+    by (inl is) =
         let one : left ≡ 1 = omega (arith, size) in
         rw (drop-seam front (p ∷ []) n is, one, last_follows p.ch)
-    by false false x y =
-        let is : n ≡ length front + 1 = (let h : length front ≤ n = grind (arith, nat_tests) in let g : n ≡ length front → ⊥ = (λ e. absurd (true≢false (sym (let t : nat_eq n (length front) ≡ true = grind (arith, nat_tests) in t) ∙ y))) in omega (arith, g)) in
+    by (inr (inr past)) =
         let none : left ≡ 0 = omega (arith, size) in
-        let gone : drop n (front ++ p ∷ []) ≡ [] = drop-all (front ++ p ∷ []) n (omega (arith, size)) in
-        rw (gone, none, whole none) (sym (and_none in_value (not (ends_in_semicolon key))))
+        let gone : drop n (front ++ p ∷ []) ≡ [] = drop_all n (front ++ p ∷ []) (omega (arith, size)) in
+        rw (gone, none, whole none) (sym (and-false (in_value && not (ends_in_semicolon key))))
 
 -- no key: the errors are those of the run of alphanumerics
 unknown_errors : (front : List Placed) (p : Placed) (after : List Placed) (at left : ℕ) → all is_alphanumeric front ≡ true
@@ -167,15 +150,11 @@ unknown_errors front p after at left run = by (is_alphanumeric p.ch) (nat_eq p.c
 
 unknown_left : (left : ℕ) (last : Last) → (unknown_of left last).left ≡ left
 unknown_left left Alphanumeric = refl
-unknown_left left Semicolon = refl
-unknown_left left Equals = refl
-unknown_left left Other = refl
+unknown_left left _ = refl
 
 unknown_gives : (left : ℕ) (last : Last) → characters_of (unknown_of left last).characters ≡ 38 ∷ []
 unknown_gives left Alphanumeric = refl
-unknown_gives left Semicolon = refl
-unknown_gives left Equals = refl
-unknown_gives left Other = refl
+unknown_gives left _ = refl
 
 run_opens : (front : List Placed) (p : Placed) (after : List Placed) → all is_alphanumeric front ≡ true → (is_empty front ≡ true → is_alphanumeric p.ch ≡ true) → begins is_alphanumeric (front ++ p ∷ [] ++ after) ≡ true
 run_opens [] p after run first = first refl
@@ -186,9 +165,9 @@ unknown_run left front p run = by (is_alphanumeric p.ch) (nat_eq p.ch 59) (is_eq
   where
     by : (a b d : Bool) → is_alphanumeric p.ch ≡ a → (unknown_of left (cond a Alphanumeric (cond b Semicolon (cond d Equals Other)))).in_run ≡ true → all is_alphanumeric (front ++ p ∷ []) ≡ true
     by true b d is told = all-append is_alphanumeric front (p ∷ []) run (rw is refl)
-    by false true d is told = absurd (true≢false (sym told))
-    by false false true is told = absurd (true≢false (sym told))
-    by false false false is told = absurd (true≢false (sym told))
+    by false true d is told = cc
+    by false false true is told = cc
+    by false false false is told = cc
 
 pub read_unknown : (table : Entities) (in_value : Bool) (front : List Placed) (p : Placed) (after : List Placed) (left : ℕ) → all is_alphanumeric front ≡ true → (is_empty front ≡ true → is_alphanumeric p.ch ≡ true)
     → left ≡ length (front ++ p ∷ []) → longest table (key_bytes (front ++ p ∷ [])) ≡ None → IsSettled table in_value (front ++ p ∷ []) after → IsRead table in_value (front ++ p ∷ []) after (unknown_of left (last_of p.ch))

@@ -1,5 +1,6 @@
 -- A numeric reference that stands whole in a run of the input, outside a value.
 use Rattle.charref.proofs.Names.{arith, ◌≡◌, ℕ, ◌+◌, ◌*◌, ◌≤◌, ◌<◌, min, Bool, true, false, nat_eq, List, [], ◌∷◌, ◌++◌, length, take, slice_get, get_or, Some, inl, inr, ◌⊎◌, refl, sym, ap, ◌∙◌, subst, nat_tests, is_ascii, list_all, some_same, Placed, placed, Base, Decimal, Hexadecimal, Reference, Number, Entities, digit_value, is_digit_of, radix, IsHeld, IsSign, number_sign, IsRead, number_of, Settles}
+use Rattle.std.proofs.Math.Nat.{zero-mul}
 use Rattle.charref.specs.AtOnce.{HasSign}
 use Rattle.charref.proofs.Numbers.{two_signs, first_digit, next_digit, number_closed}
 use Rattle.charref.proofs.Taking.{held_x}
@@ -14,10 +15,6 @@ sign_first (b ∷ bs) is =
     let same : b ≡ 35 = some_same b 35 is in
     record { few = omega arith; ascii = subst (λ x. list_all is_ascii (x ∷ []) ≡ true) (sym same) refl; sign = λ at. number_sign (record { ch = b; at = at }) same }
 
-is_x : (c d : ℕ) → c ≡ d → (d ≡ 120) ⊎ (d ≡ 88) → (c ≡ 120) ⊎ (c ≡ 88)
-is_x c d same (inl h) = inl (same ∙ h)
-is_x c d same (inr h) = inr (same ∙ h)
-
 x_ascii : (c : ℕ) → (c ≡ 120) ⊎ (c ≡ 88) → is_ascii c ≡ true
 x_ascii c (inl h) = ap is_ascii h
 x_ascii c (inr h) = ap is_ascii h
@@ -25,10 +22,10 @@ x_ascii c (inr h) = ap is_ascii h
 pub x_taken : (bytes : List ℕ) (x : ℕ) → HasSign Decimal bytes 1 → 1 < length bytes → x ≡ get_or bytes 1 0 → (x ≡ 120) ⊎ (x ≡ 88) → HasSign Hexadecimal bytes 2
 x_taken bytes x before within same is = record {
   few = omega arith;
-  ascii = run_more is_ascii bytes 1 within before.ascii (x_ascii (get_or bytes 1 0) (is_x (get_or bytes 1 0) x (sym same) is));
+  ascii = run_more is_ascii bytes 1 within before.ascii (x_ascii (get_or bytes 1 0) (subst (λ c. (c ≡ 120) ⊎ (c ≡ 88)) same is));
   sign = λ at. let last : Last at (take 1 bytes) (get_or bytes 1 0) = last_placed at (take 1 bytes) (get_or bytes 1 0) in
       subst (IsSign Hexadecimal) (sym (more_bytes bytes 1 within at last))
-      (held_x [] false (placed at (take 1 bytes) ++ last.p ∷ []) (two_signs [] false (placed at (take 1 bytes)) last.p (before.sign at) (is_x last.p.ch x (last.ch ∙ sym same) is)));
+      (held_x [] false (placed at (take 1 bytes) ++ last.p ∷ []) (two_signs [] false (placed at (take 1 bytes)) last.p (before.sign at) (subst (λ c. (c ≡ 120) ⊎ (c ≡ 88)) (same ∙ sym last.ch) is)));
 }
 
 -- DIGITS
@@ -61,14 +58,11 @@ one_digit_more base bytes start count value byte d next sign before within is di
           (held table at last.p (last.ch ∙ sym is) (nat_eq count start) refl);
     }
   where
-    first : (b : Base) → next ≡ min (0 * radix b + d) 0x110000 → next ≡ d
-    first Decimal h = omega arith
-    first Hexadecimal h = omega arith
-
     held : (table : Entities) (at : ℕ) (p : Placed) → p.ch ≡ byte → (b : Bool) → nat_eq count start ≡ b → IsHeld table false (Number base next) (placed at (take count bytes) ++ p ∷ [])
     held table at p ch true test =
         let same : count ≡ start = grind (arith, nat_tests) in
-        let next-d : next ≡ d = first base (next-is ∙ ap (λ v. min (v * radix base + d) 0x110000) (before.none same)) in
+        let first : next ≡ min (0 * radix base + d) 0x110000 = next-is ∙ ap (λ v. min (v * radix base + d) 0x110000) (before.none same) in
+        let next-d : next ≡ d = omega (arith, zero-mul (radix base)) in
         first_digit table false base (placed at (take count bytes)) p next (subst (λ n. IsSign base (placed at (take n bytes))) (sym same) (sign.sign at))
         (ap (is_digit_of base) ch ∙ digit) (next-d ∙ d-is ∙ ap digit_value (sym ch)) (omega arith)
     held table at p ch false test =

@@ -37,7 +37,7 @@ pub record HasWalked (walk : Walk) (table : Entities) (bytes : List ℕ) (count 
   pub ascii : list_all is_ascii (take count bytes) ≡ true
   pub taken : (at : ℕ) → HasTaken walk table false (placed at (take count bytes))
 
--- A key with which a longer one begins: with all of it after its `&` these bytes begin.
+-- An open key, with all of which, after its `&`, these bytes begin.
 pub record IsOpenKeyOf (table : Entities) (bytes : List ℕ) (key : OpenKey) : Type 0 where
   pub is : IsOpenKey table key
   pub opens : starts_with nat_eq bytes (drop 1 is.read.entry.key) ≡ true

@@ -1,6 +1,6 @@
 -- What is at the front of the rest of a flat form.
 use Rattle.std.specs.Prelude.{◌≡◌, ℕ, ◌≤◌, ◌<◌, Bool, true, false, ◌&&◌, ◌==◌, nat_le, List, ◌∷◌, ◌++◌, length, take, drop, slice_get, Option, Some, None}
-use Rattle.charref.specs.declared.entity.Entity.{Entity}
+use Rattle.charref.specs.declared.entries.Entity.{Entity}
 use Rattle.charref.specs.Reference.{Entry, is_key}
 use Rattle.charref.specs.Table.{entry, is_inside}
 use Rattle.charref.specs.Flat.{is_one_or_two, flat_entry}

@@ -5,7 +5,7 @@ use Rattle.std.specs.List.{starts_with}
 use Rattle.std.specs.List.Sorted.{IsStrictlySortedBy}
 use Rattle.std.specs.Cmp.Lexicographic.{slice_cmp}
 use Rattle.std.specs.Ordering.{nat_cmp}
-use Rattle.charref.specs.declared.entity.Entity.{Entity}
+use Rattle.charref.specs.declared.entries.Entity.{Entity}
 use Rattle.charref.specs.declared.open_keys.OpenKey.{OpenKey}
 use Rattle.charref.specs.declared.search.Search.{Search}
 use Rattle.charref.specs.Pieces.{characters_of}
@@ -94,11 +94,12 @@ pub record IsAfterKey (table : Entities) (search : Search) : Type 0 where
   pub read : HasRead search table entry.key
   pub goes_on : GoesOn table entry.key
 
--- The code of each byte is marked with which a key, from where the search begins up to `high`, goes on after what the search has read.
+-- Of each key from where the search begins up to `high` the code right after what the search has read is marked (`code_at`): the key's
+-- next byte plus one, or 0 where the key ends there.
 pub record AreMarked (table : Entities) (search : Search) (high : ℕ) (marks : List Bool) : Type 0 where
   pub at : (k : ℕ) (e : Entry) → slice_get table k ≡ Some e → search.low ≤ k → k < high → get_or marks (code_at e.key search.depth) false ≡ true
 
--- a key with which a longer one begins, and the bytes with which those go on
+-- an open key, as `&not`, with which `&notin;` begins, and the codes with which keys go on after it
 pub record IsOpenKey (table : Entities) (key : OpenKey) : Type 0 where
   pub read : IsAfterKey table key.search
   pub marked : AreMarked table key.search key.search.high key.goes_on

@@ -2,8 +2,8 @@
 use Rattle.std.specs.Prelude.{◌≡◌, ℕ, ◌≤◌, Bool, true, false, List, Option, MatchOption}
 use Rattle.names.specs.declared.placed.Placed.{Placed}
 use Rattle.charref.specs.declared.reference.Reference.{Reference}
-use Rattle.charref.specs.declared.next.Next.{Next}
-use Rattle.charref.specs.declared.next.Next.TheVariants.{Goes, Ended}
+use Rattle.charref.specs.declared.walking.Next.{Next}
+use Rattle.charref.specs.declared.walking.Next.TheVariants.{Goes, Ended}
 use Rattle.charref.specs.declared.walk.Walk.{Walk}
 use Rattle.charref.specs.Reference.{Entities}
 use Rattle.charref.specs.Held.{IsHeld, is_number, is_within}

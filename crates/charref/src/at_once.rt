@@ -1,7 +1,7 @@
 //! What the bytes after an `&` settle of it, outside an attribute value.
 
 ghost use Rattle.std.specs.Prelude.{◌≡◌, ◌<◌, ◌≤◌, ℕ, List, true, false, length, take, IfSome, IsNone, IsTrue, MatchOption};
-ghost use Rattle.charref.specs.Vocabulary.{is_ascii, list_all, Placed, placed, Entities, IsTable, IsRead, number_of, is_search_within, HasSign, HasWhole, Settles, SettlesNothing};
+ghost use Rattle.charref.specs.Vocabulary.{is_ascii, list_all, Placed, placed, IsTable, IsRead, is_search_within, HasSign, HasWhole, Settles, SettlesNothing};
 
 use crate::flat::Flat;
 use crate::key::is_alphanumeric;
@@ -53,7 +53,7 @@ fn settled(table: &Table, bytes: &[u8]) -> Option<(Reference, usize)>
             }
         }
     }
-    // (field by field: else both results have one room in memory, and what is written there in parts is read at once, which waits)
+    // (taken apart and put together again: so the result comes back in registers, and not through memory)
     match settled_otherwise(table, bytes) {
         Some((found, count)) => Some((found, count)),
         None => None,
@@ -164,31 +164,20 @@ fn settled_number(table: &Table, bytes: &[u8]) -> Option<(Reference, usize)>
     requires { HasSign Base.Decimal bytes.now 1 }
     ensures { MatchOption result (SettlesNothing table.now bytes.now) (λ it. Settles table.now bytes.now it.1 it.0) }
 {
-    match whole_number(bytes) {
-        Some((value, count)) => Some((number(value, 0, false), count)),
-        None => settled_by_steps(table, bytes),
+    if let Some(second) = bytes.get(1) {
+        let second = *second;
+        if second == b'x' || second == b'X' {
+            return number_after(table, Base::Hexadecimal, bytes, 2);
+        }
     }
+    number_after(table, Base::Decimal, bytes, 1)
 }
 
-/// The number of a numeric reference, if these bytes, the first of them a `#`, begin with the rest of it after its `&`, and it has a
-/// digit and a `;`; and how many of the bytes are its own.
+/// The same, where the digits, in this base, begin at `start`: at once if there is one and a `;` follows them.
 #[inline(always)]
-fn whole_number(bytes: &[u8]) -> Option<(u32, usize)>
-    requires { HasSign Base.Decimal bytes.now 1 }
-    ensures { IfSome result (λ it. (table : Entities) → Settles table bytes.now it.1 (number_of it.0 0 false)) }
-{
-    let second = *bytes.get(1)?;
-    if second == b'x' || second == b'X' {
-        return number_after(Base::Hexadecimal, bytes, 2);
-    }
-    number_after(Base::Decimal, bytes, 1)
-}
-
-/// The same, in this base, where the digits begin at `start`.
-#[inline(always)]
-fn number_after(base: Base, bytes: &[u8], start: usize) -> Option<(u32, usize)>
+fn number_after(table: &Table, base: Base, bytes: &[u8], start: usize) -> Option<(Reference, usize)>
     requires { HasSign base bytes.now start }
-    ensures { IfSome result (λ it. (table : Entities) → Settles table bytes.now it.1 (number_of it.0 0 false)) }
+    ensures { MatchOption result (SettlesNothing table.now bytes.now) (λ it. Settles table.now bytes.now it.1 it.0) }
 {
     let mut value = 0;
     let mut count = start;
@@ -201,7 +190,7 @@ fn number_after(base: Base, bytes: &[u8], start: usize) -> Option<(u32, usize)>
         count += 1;
     }
     if count == start || count == bytes.len() || bytes[count] != b';' {
-        return None;
+        return settled_by_steps(table, bytes);
     }
-    Some((value, count + 1))
+    Some((number(value, 0, false), count + 1))
 }

@@ -1,13 +1,42 @@
-//! Reading the entries of a flat form.
+//! The entries of a table, and how they are written to its flat form and read from it.
 
-ghost use Rattle.std.specs.Prelude.{◌≡◌, ◌+◌, ◌*◌, ◌≤◌, Some, None, length, drop, if◌then◌else◌, true, IfOk, IfErr, MatchOption};
+ghost use Rattle.std.specs.Prelude.{◌≡◌, ◌+◌, ◌*◌, ◌≤◌, Some, None, length, drop, ◌++◌, OnOk, if◌then◌else◌, true, IfOk, IfErr, MatchOption};
 ghost use Rattle.charref.specs.Vocabulary.{is_character, list_all, characters_of, entries, is_inside, is_one_or_two, flat_character, flat_characters, flat_entry, flat_of, IsReadable, IsRefusedFlat, BeginsWith, BeginsWithNone, is_entry, IsEntryAt};
 
-use crate::entity::Entity;
 use crate::key::{is_before, key_at_front};
 use crate::reference::Characters;
 use names::{Refusal, TableFault};
-use std::alloc::Global;
+use std::alloc::{AllocError, Global};
+
+/// An entry: where its key, with its `&`, begins and ends in the table's flat form, and the characters that it stands for.
+#[derive(Clone, Copy)]
+pub(crate) struct Entity {
+    pub(crate) start: usize,
+    pub(crate) end: usize,
+    pub(crate) characters: Characters,
+}
+
+/// Appends the entry of a key: the key, the count of its characters, and these.
+pub(crate) fn add_flat(
+    flat: &mut Vec<u8>,
+    key: &[u8],
+    characters: Characters,
+) -> Result<(), AllocError>
+    ensures { OnOk result (flat.new.items ≡ flat.old.items ++ flat_entry (record { key = key.now; stands_for = characters_of characters })) }
+{
+    flat.extend_from_slice(key)?;
+    match characters {
+        Characters::One(only) => {
+            flat.push(1)?;
+            flat.extend_from_slice(&u32::from(only).to_le_bytes())
+        }
+        Characters::Two(first, second) => {
+            flat.push(2)?;
+            flat.extend_from_slice(&u32::from(first).to_le_bytes())?;
+            flat.extend_from_slice(&u32::from(second).to_le_bytes())
+        }
+    }
+}
 
 /// The character with this number, if it is one other than NUL.
 #[inline(always)]

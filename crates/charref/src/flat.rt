@@ -7,8 +7,7 @@ ghost use Rattle.charref.specs.Table.{entry, entries, is_inside};
 ghost use Rattle.charref.specs.Flat.{flat_of, IsReadable, IsRefusedFlat};
 ghost use Rattle.charref.specs.Pieces.{characters_of};
 
-use crate::entity::Entity;
-use crate::entries::entities_of;
+use crate::entries::{Entity, entities_of};
 use crate::key::begin_with;
 use crate::reference::Characters;
 use names::Refusal;

@@ -64,20 +64,14 @@ pub(crate) fn alphanumerics(bytes: &[u8]) -> usize
 fn is_count(bytes: &[u8], at: usize) -> bool
     ensures { result ≡ passes is_count (slice_get bytes.now at) }
 {
-    match bytes.get(at) {
-        Some(byte) => *byte <= 2,
-        None => false,
-    }
+    matches!(bytes.get(at), Some(0..=2))
 }
 
 #[inline(always)]
 fn is_semicolon(bytes: &[u8], at: usize) -> bool
     ensures { result ≡ passes is_semicolon (slice_get bytes.now at) }
 {
-    match bytes.get(at) {
-        Some(byte) => *byte == b';',
-        None => false,
-    }
+    matches!(bytes.get(at), Some(b';'))
 }
 
 /// The length of the name that these bytes begin with, if a count comes after it.

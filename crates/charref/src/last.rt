@@ -1,7 +1,7 @@
 //! The last character that a walk has read.
 
 ghost use Rattle.std.specs.Prelude.{◌≡◌};
-ghost use Rattle.charref.specs.Vocabulary.{last_of, is_letter_or_digit, goes_on_name, is_kept_before};
+ghost use Rattle.charref.specs.Vocabulary.{last_of, is_letter_or_digit, is_kept_before};
 
 /// What kind of character was read last, as far as the end of a reference depends on it.
 #[derive(Clone, Copy)]
@@ -29,19 +29,14 @@ impl Last {
     {
         matches!(self, Last::Alphanumeric)
     }
-
-    /// Whether this character, right after a key in a value, keeps the key as text.
-    fn goes_on(self) -> bool
-        ensures { result ≡ goes_on_name self }
-    {
-        matches!(self, Last::Alphanumeric | Last::Equals)
-    }
 }
 
 /// Whether the rule for attribute values keeps a key as text, where `left` characters were read after it
-/// (`#named-character-reference-state`).
+/// (`#named-character-reference-state`): a letter, a digit or `=` right after it does so.
 pub(crate) fn is_kept(in_value: bool, semicolon: bool, left: usize, last: Last) -> bool
     ensures { result ≡ is_kept_before in_value semicolon left last }
 {
-    in_value && !semicolon && (left > 1 || left == 1 && last.goes_on())
+    in_value
+        && !semicolon
+        && (left > 1 || left == 1 && matches!(last, Last::Alphanumeric | Last::Equals))
 }

@@ -3,13 +3,11 @@
 #![tactic(auto)]
 
 mod at_once;
-mod entity;
 mod entries;
 mod flat;
 mod key;
 mod last;
 mod laws;
-mod next;
 mod number;
 mod open_keys;
 mod read;
@@ -21,7 +19,6 @@ mod starts;
 mod table;
 mod walk;
 mod walking;
-mod writing;
 
 pub use laws::{goes_on_in_a_reference, one_flat_table, one_reference, some_reference};
 pub use reference::{Characters, Reference};

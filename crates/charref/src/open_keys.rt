@@ -1,4 +1,5 @@
-//! The look-ups that have read a key without a `;`, by the first two letters of its name.
+//! Open keys: the keys of the table of named character references without a `;`, with which longer keys begin, such as `&not` of
+//! `&notin;`. Stored are the look-ups that have read them, by the first two letters of their names.
 
 ghost use Rattle.std.specs.Prelude.{◌≡◌, ◌<◌, ◌≤◌, length, IfOk, IfSome};
 ghost use Rattle.charref.specs.Vocabulary.{All, AreMarked, IsAfterKey, IsOpenKey, IsOpenKeyOf, IsSortedTable};
@@ -14,18 +15,17 @@ const PAIRS: usize = 64 * 64;
 /// How many keys are tried for a name: in HTML's table no more than three keys without a `;` have the same first two letters.
 const KEYS_TRIED: usize = 3;
 
-/// How many codes there are: of the end of a key, and of each byte.
+/// How many codes there are (`code_at`): 0 for the end of a key, and for each byte one more than the byte.
 const CODES: usize = 257;
 
-/// A key without a `;` with which a longer key begins: the look-up that has read it, and for each code whether a key goes on with it.
+/// An open key: the look-up that has read it, and for each code whether a key goes on with it.
 #[derive(Clone, Copy)]
 pub(crate) struct OpenKey {
     pub(crate) search: Search,
     pub(crate) goes_on: [bool; CODES],
 }
 
-/// The keys without a `;` with which a longer key begins, in the order of the keys; and by the first two letters of a name, how many
-/// there are up to the last one of these letters.
+/// The open keys, in the order of the table; and by the first two letters of a name, how many there are up to the last one of these letters.
 #[derive(Drop)]
 pub(crate) struct OpenKeys {
     pub(crate) read: Vec<OpenKey>,
@@ -56,7 +56,7 @@ fn after_key(flat: &Flat, place: usize) -> Option<Search>
     }
 }
 
-/// The codes with which keys go on after what this look-up has read.
+/// The codes (`code_at`) with which keys go on after what this look-up has read.
 fn next_codes(flat: &Flat, search: &Search) -> [bool; CODES]
     requires { (search.now.low ≤ search.now.high) × (search.now.high ≤ length flat.now) }
     ensures { AreMarked flat.now search.now search.now.high result }

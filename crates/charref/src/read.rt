@@ -3,11 +3,10 @@
 ghost use Rattle.std.specs.Prelude.{◌≡◌, ◌⊎◌, ℕ, List, [], ◌∷◌, ◌++◌, Ok, Err, Some, IfOk, IfErr, OnOk, option_map, option_and_then, bytes_eq, codes, string_bytes, encode_utf8_all};
 ghost use Rattle.charref.specs.Vocabulary.{get, as_str, as_array, TableFault, view, items_view, members_view, IsMemory, Entry, Entities, codepoint, codepoints, fields, entry_of, entry_of_characters, entities_of, table_of, table_of_members, IsRefusedWith, characters_of, flat_entry, flat_of, IsStrictlySortedBy, keys_of, string_cmp};
 
-use crate::entries::character;
+use crate::entries::{add_flat, character};
 use crate::key::is_key;
 use crate::reference::Characters;
 use crate::table::Table;
-use crate::writing::add_flat;
 use names::{Refusal, TableFault};
 use serde_json::{Error, Map, Value};
 use std::alloc::{AllocError, Global};
@@ -30,34 +29,13 @@ fn codepoints(list: &[Value]) -> Option<Characters>
     }
 }
 
-/// Whether a text is that of some characters, which is written to see it.
-fn is_text_of(room: &mut String, text: &str, characters: Characters) -> Result<bool, AllocError>
-    ensures { IfOk result (λ same. same ≡ bytes_eq text.now (encode_utf8_all (characters_of characters))) }
-{
-    room.clear();
-    characters.push_to(room)?;
-    Ok(text == room.as_str())
-}
-
-/// The list of an entry, if it has one.
-fn list_of(value: &Value) -> Option<&Vec<Value>>
-    ensures { option_map (λ list. items_view list.now.items) result ≡ option_and_then as_array (get (codes "codepoints") (view value.now)) }
-{
-    value.get("codepoints")?.as_array()
-}
-
-/// The text of an entry, if it has one.
-fn written(value: &Value) -> Option<&str>
-    ensures { option_map (λ text. text.now) result ≡ option_and_then as_str (get (codes "characters") (view value.now)) }
-{
-    value.get("characters")?.as_str()
-}
-
 /// The list and the text of an entry, if it is an object that has both.
 fn fields(value: &Value) -> Option<(&Vec<Value>, &str)>
     ensures { option_map (λ pair. (items_view pair.0.now.items, pair.1.now)) result ≡ fields (view value.now) }
 {
-    Some((list_of(value)?, written(value)?))
+    let list = value.get("codepoints")?.as_array()?;
+    let text = value.get("characters")?.as_str()?;
+    Some((list, text))
 }
 
 fn fault(cause: TableFault) -> Refusal
@@ -78,7 +56,7 @@ fn json_fault(error: Error) -> Refusal
     }
 }
 
-/// The characters of an entry, by its list and its text.
+/// The characters of an entry, by its list and its text, which is compared with what is written of the characters into `room`.
 fn characters_with(room: &mut String, list: &[Value], text: &str) -> Result<Characters, Refusal>
     ensures ok { IfOk result (λ characters. (key : List ℕ) → entry_of_characters key text.now (codepoints (items_view list.now))
         ≡ Ok (record { key = key; stands_for = characters_of characters })) }
@@ -87,7 +65,9 @@ fn characters_with(room: &mut String, list: &[Value], text: &str) -> Result<Char
     let Some(characters) = codepoints(list) else {
         return Err(fault(TableFault::Codepoints));
     };
-    if is_text_of(room, text, characters)? {
+    room.clear();
+    characters.push_to(room)?;
+    if text == room.as_str() {
         Ok(characters)
     } else {
         Err(fault(TableFault::Characters))

@@ -1,11 +1,10 @@
 //! The steps of a walk.
 
-ghost use Rattle.std.specs.Prelude.{◌≡◌, ◌+◌, [], ◌∷◌, ◌++◌, Bool, true, false, ◌&&◌, ℕ, List, length, IfSome, IsSome, IsNone, MatchOption, ◌<◌, ◌≤◌};
+ghost use Rattle.std.specs.Prelude.{◌≡◌, ◌+◌, [], ◌∷◌, ◌++◌, Bool, true, false, ◌&&◌, ℕ, List, length, Some, IfSome, IsSome, IsNone, MatchOption, ◌<◌, ◌≤◌};
 ghost use Rattle.charref.specs.Vocabulary.{Placed, all, is_empty, is_alphanumeric, Entities, IsTable, longest, ends_in_semicolon, best_entry, is_search_within, is_whole, HasRead, HasNone, key_bytes, is_number, IsHeld, IsSign, last_of, is_letter_or_digit, IsSettled, IsRead, unknown_of, number_of, HasTaken, Takes, NextIs, LeavesLast, StaysNumber, is_next_within};
 
 use crate::flat::Flat;
 use crate::last::{Last, is_kept};
-use crate::next::Next;
 use crate::number::{Base, TOO_GREAT, number_fault, numbered};
 use crate::reference::{Characters, Reference};
 use crate::reference_state::ReferenceState;
@@ -13,6 +12,13 @@ use crate::search::Search;
 use crate::table::Table;
 use crate::walk::Walk;
 use names::ErrorCode;
+
+/// The outcome of a step: the walk continues in a state, or has found the end of a reference.
+#[derive(Clone, Copy)]
+pub(crate) enum Next {
+    Goes(ReferenceState),
+    Ended(Reference),
+}
 
 impl<'t> Walk<'t> {
     /// A walk that starts right after an `&`, in an attribute value or not.
@@ -82,16 +88,8 @@ impl<'t> Walk<'t> {
     {
         match self.state {
             ReferenceState::Name(search) => name_at_end(self.table, self.in_value, search),
-            ReferenceState::NumberSign => as_text(
-                1,
-                Some(ErrorCode::AbsenceOfDigitsInNumericCharacterReference),
-                false,
-            ),
-            ReferenceState::HexadecimalSign => as_text(
-                2,
-                Some(ErrorCode::AbsenceOfDigitsInNumericCharacterReference),
-                false,
-            ),
+            ReferenceState::NumberSign => no_digits(1),
+            ReferenceState::HexadecimalSign => no_digits(2),
             ReferenceState::Number(_, value) => number(value, 0, true),
         }
     }
@@ -108,6 +106,17 @@ fn as_text(left: usize, fault: Option<ErrorCode>, in_run: bool) -> Reference
         fault,
         in_run,
     }
+}
+
+/// An `&` that is text because no digit follows `#` or `#x`.
+fn no_digits(left: usize) -> Reference
+    ensures { result ≡ record { characters = Characters.One 38; left = left; missing_semicolon = false; fault = Some ErrorCode.AbsenceOfDigitsInNumericCharacterReference; in_run = false } }
+{
+    as_text(
+        left,
+        Some(ErrorCode::AbsenceOfDigitsInNumericCharacterReference),
+        false,
+    )
 }
 
 /// Whether a key ends in a `;`.
@@ -186,11 +195,7 @@ fn after_sign(ch: char) -> Next
     }
     match Base::Decimal.digit(ch) {
         Some(digit) => Next::Goes(ReferenceState::Number(Base::Decimal, digit)),
-        None => Next::Ended(as_text(
-            2,
-            Some(ErrorCode::AbsenceOfDigitsInNumericCharacterReference),
-            false,
-        )),
+        None => Next::Ended(no_digits(2)),
     }
 }
 
@@ -202,11 +207,7 @@ fn after_x(ch: char) -> Next
 {
     match Base::Hexadecimal.digit(ch) {
         Some(digit) => Next::Goes(ReferenceState::Number(Base::Hexadecimal, digit)),
-        None => Next::Ended(as_text(
-            3,
-            Some(ErrorCode::AbsenceOfDigitsInNumericCharacterReference),
-            false,
-        )),
+        None => Next::Ended(no_digits(3)),
     }
 }
 
@@ -224,20 +225,6 @@ fn after_digits(base: Base, value: u32, ch: char) -> Next
         Some(digit) => Next::Goes(ReferenceState::Number(base, base.more(value, digit))),
         None if ch == ';' => Next::Ended(number(value, 0, false)),
         None => Next::Ended(number(value, 1, true)),
-    }
-}
-
-/// Right after the `&`, before a character that is no alphanumeric (`#character-reference-state`).
-#[inline(always)]
-fn after_ampersand(ch: char) -> Next
-    ensures within { (count : ℕ) → is_next_within result count ≡ true }
-    ensures next { (table : Entities) (in_value : Bool) (p : Placed) → p.ch ≡ ch → is_alphanumeric ch ≡ false
-        → NextIs table in_value (p ∷ []) result }
-{
-    if ch == '#' {
-        Next::Goes(ReferenceState::NumberSign)
-    } else {
-        Next::Ended(as_text(1, None, false))
     }
 }
 
@@ -284,7 +271,8 @@ pub(crate) fn longer(table: &Table, search: Search, ch: char) -> Option<Search>
     }
 }
 
-/// The named character reference state (`#named-character-reference-state`), after the beginning of a name.
+/// The character reference state (`#character-reference-state`), and after the beginning of a name the named character reference
+/// state (`#named-character-reference-state`).
 #[inline(always)]
 fn after_name(table: &Table, in_value: bool, search: Search, ch: char) -> Next
     requires { is_search_within search (length table.now) ≡ true }
@@ -294,7 +282,10 @@ fn after_name(table: &Table, in_value: bool, search: Search, ch: char) -> Next
 {
     let last = Last::of(ch);
     if search.depth == 1 && !last.is_alphanumeric() {
-        return after_ampersand(ch);
+        if ch == '#' {
+            return Next::Goes(ReferenceState::NumberSign);
+        }
+        return Next::Ended(as_text(1, None, false));
     }
     let Some(next) = extended(table, search, ch) else {
         return Next::Ended(decided(table, in_value, search.best, search.depth, last));

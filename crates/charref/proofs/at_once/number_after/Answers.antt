@@ -1,4 +1,4 @@
-use Rattle.charref.proofs.Names.{arith, ◌<◌, length, refl, nat_tests}
+use Rattle.charref.proofs.Names.{arith, ◌<◌, length, nat_tests}
 use Rattle.charref.proofs.WholeNumbers.{HasDigits, one_digit_more, number_settles}
 use Rattle.charref.proofs.at_once.number_after.Goals as goal
 
@@ -12,4 +12,4 @@ returns c =
     let digits : HasDigits c.args.base c.args.bytes.now c.args.start c.loop-count.count c.loop-count.value = c.loop-count.invariant in
     let some : c.args.start < c.loop-count.count = (let after = digits.after in let no = c.if-count-start.false in grind (arith, nat_tests)) in
     let within : c.loop-count.count < length c.args.bytes.now = (let few = digits.few in let no = c.if-count-bytes.false in grind (arith, nat_tests)) in
-    number_settles c.args.base c.args.bytes.now c.args.start c.loop-count.count c.loop-count.value _ digits some within (let no = c.if-bytes-count-ne59.false in grind (arith, nat_tests)) refl
+    number_settles c.args.base c.args.bytes.now c.args.start c.loop-count.count c.loop-count.value _ digits some within (let no = c.if-bytes-count-ne59.false in grind (arith, nat_tests)) c.number.ensures c.args.table.now

@@ -1,4 +1,4 @@
-use Rattle.charref.proofs.Names.{◌≡◌, [], ◌∷◌, ◌++◌, ◌+◌, ◌-◌, ◌≤◌, true≢false, false, length, get_or, refl, sym, ap, ◌∙◌, subst, arith, is_ascii, IsTable, IsOpenKeyOf, IsOpenKey, HasNone, key_bytes, last_of, OpenKey}
+use Rattle.charref.proofs.Names.{◌≡◌, [], ◌∷◌, ◌++◌, ◌+◌, ◌-◌, ◌≤◌, true≢false, false, length, get_or, refl, sym, ap, ◌∙◌, subst, arith, is_ascii, IsTable, IsOpenKeyOf, HasNone, key_bytes, last_of}
 use Rattle.charref.proofs.AtOnce.{key_settles_before, none_unmarked}
 use Rattle.charref.proofs.Extending.{best_before, settled_before, count_read}
 use Rattle.charref.proofs.Telling.{some_key}

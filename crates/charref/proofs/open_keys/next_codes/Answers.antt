@@ -1,4 +1,4 @@
-use Rattle.charref.proofs.Names.{arith, ◌≡◌, ◌<◌, length, true, refl, sym, ap, ◌∙◌, subst, AreMarked, code_at}
+use Rattle.charref.proofs.Names.{arith, ◌≡◌, ◌<◌, length, true, refl, ap, ◌∙◌, subst, AreMarked, code_at}
 use Rattle.std.proofs.lemmas.List.{length-set}
 use Rattle.charref.proofs.AtOnce.{marked_more}
 use Rattle.charref.proofs.open_keys.next_codes.Goals as goal
@@ -15,4 +15,4 @@ loop-place-preserved c =
     (marked_more c.args.flat.now c.args.search.now c.loop-place.place c.from.result c.key.ensures.0 c.loop-place.found c.loop-place.invariant.0 c.key.ensures.1 code (omega arith), length-set c.loop-place.found c.from.result true ∙ size)
 
 pub returns : goal.returns
-returns c = subst (λ n. AreMarked c.args.flat.now c.args.search.now n c.loop-place.found) (let ends = c.loop-place.auto.place-end c.requires.0 in let over = c.loop-place-test.false in omega arith) c.loop-place.invariant.0
+returns c = subst (λ n. AreMarked c.args.flat.now c.args.search.now n c.loop-place.found) (omega arith) c.loop-place.invariant.0

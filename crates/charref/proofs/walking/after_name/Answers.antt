@@ -1,13 +1,20 @@
-use Rattle.charref.proofs.Names.{◌≡◌, [], ◌∷◌, ◌++◌, true, false, true≢false, ◌&&◌, refl, sym, ap, ◌∙◌, subst, and_parts, all-one, characters, is_empty, is_alphanumeric, Entities, IsTable, is_whole, HasRead, HasNone, IsOver, GoesOn, key_bytes, in_name, last_of, is_letter_or_digit, NextIs}
+use Rattle.charref.proofs.Names.{arith, nat_tests, nat_eq, NumberSign, IsRead, ◌≡◌, [], ◌∷◌, ◌++◌, true, false, true≢false, ◌&&◌, refl, sym, ap, ◌∙◌, subst, and_parts, all-one, characters, is_empty, is_alphanumeric, Entities, IsTable, is_whole, HasRead, HasNone, IsOver, GoesOn, key_bytes, in_name, last_of, is_letter_or_digit, NextIs}
 use Rattle.charref.proofs.Extending.{key_bytes-more, front_of, best_before, settled_before, best_after, settled_after, letter_of, nothing_read, something_read, count_read}
+use Rattle.charref.specs.declared.walking.Next.TheVariants.{Goes}
+use Rattle.charref.proofs.Numbers.{one_number_sign, alone_before}
 use Rattle.charref.proofs.walking.after_name.Goals as goal
 use Rattle.charref.proofs.walking.after_name.Goals.{else-search-eq1-via-then-search-eq1+else-not-is_alphanumeric, else-search-eq1-via-else-search-eq1}
 
+pub returns-then-ch-eq35-clause-next : goal.returns-then-ch-eq35-clause-next
+returns-then-ch-eq35-clause-next c = λ text p read run is.
+    subst (λ xs. NextIs c.args.table.now c.args.in_value (xs ++ p ∷ []) (Goes NumberSign)) (sym (nothing_read text (sym read.depth ∙ c.if-search-eq1.true))) (one_number_sign c.args.table.now c.args.in_value p (is ∙ c.if-ch-eq35.true))
+
 pub returns-then-not-is_alphanumeric-clause-next : goal.returns-then-not-is_alphanumeric-clause-next
-returns-then-not-is_alphanumeric-clause-next c = λ text p read run is.
-    let none : text ≡ [] = nothing_read text (sym read.depth ∙ c.if-search-eq1.true) in
-    let letter : is_alphanumeric c.args.ch ≡ false = sym (letter_of c.args.ch) ∙ ap is_letter_or_digit (sym c.of-last.ensures) ∙ sym c.is_alphanumeric.ensures ∙ c.if-not-is_alphanumeric.true in
-    subst (λ xs. NextIs c.args.table.now c.args.in_value (xs ++ p ∷ []) c.after_ampersand.result) (sym none) (c.after_ampersand.ensures.next c.args.table.now c.args.in_value p is letter)
+returns-then-not-is_alphanumeric-clause-next c = λ text p read run is after.
+    let letter : is_alphanumeric p.ch ≡ false = ap is_alphanumeric is ∙ sym (letter_of c.args.ch) ∙ ap is_letter_or_digit (sym c.of-last.ensures) ∙ sym c.is_alphanumeric.ensures ∙ c.if-not-is_alphanumeric.true in
+    let other : nat_eq p.ch 35 ≡ false = (let no = c.if-ch-eq35.false in grind (arith, nat_tests)) in
+    subst (λ xs. IsRead c.args.table.now c.args.in_value (xs ++ p ∷ []) after c.as_text.result) (sym (nothing_read text (sym read.depth ∙ c.if-search-eq1.true)))
+    (subst (λ r. IsRead c.args.table.now c.args.in_value (p ∷ []) after r) (sym c.as_text.ensures) (alone_before c.args.table.now c.args.in_value p after letter other))
 
 pub returns-in_default-clause-next : goal.returns-in_default-clause-next
 returns-in_default-clause-next c = λ text p read run is after.

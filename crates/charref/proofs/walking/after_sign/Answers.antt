@@ -14,4 +14,4 @@ returns-in-Some-clause-next c = λ table in_value text p sign is. first_digit ta
 
 pub returns-in-None-clause-next : goal.returns-in-None-clause-next
 returns-in-None-clause-next c = λ table in_value text p sign is after.
-    subst (λ r. IsRead table in_value (text ++ p ∷ []) after r) (sym c.as_text.ensures) (no_decimal table in_value text after p sign (ap is_digit is ∙ c.in-None.ensures) (let no = c.if-ch-eq120.false in grind (arith, nat_tests)) (let no = c.if-ch-eq88.false in grind (arith, nat_tests)))
+    subst (λ r. IsRead table in_value (text ++ p ∷ []) after r) (sym c.no_digits.ensures) (no_decimal table in_value text after p sign (ap is_digit is ∙ c.in-None.ensures) (let no = c.if-ch-eq120.false in grind (arith, nat_tests)) (let no = c.if-ch-eq88.false in grind (arith, nat_tests)))

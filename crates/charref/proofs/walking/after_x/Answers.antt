@@ -7,4 +7,4 @@ returns-in-Some-clause-next c = λ table in_value text p sign is. first_digit ta
 
 pub returns-in-None-clause-next : goal.returns-in-None-clause-next
 returns-in-None-clause-next c = λ table in_value text p sign is after.
-    subst (λ r. IsRead table in_value (text ++ p ∷ []) after r) (sym c.as_text.ensures) (no_hexadecimal table in_value text after p sign (ap is_hex_digit is ∙ c.in-None.ensures))
+    subst (λ r. IsRead table in_value (text ++ p ∷ []) after r) (sym c.no_digits.ensures) (no_hexadecimal table in_value text after p sign (ap is_hex_digit is ∙ c.in-None.ensures))

@@ -11,11 +11,11 @@ returns-in-Name-clause-read c = λ table in_value text taken.
 
 pub returns-in-NumberSign-clause-read : goal.returns-in-NumberSign-clause-read
 returns-in-NumberSign-clause-read c = λ table in_value text taken.
-    subst (λ r. IsRead table in_value text [] r) (sym c.as_text.ensures) (no_sign table in_value text (held_sign c.args.self.now.table.now c.args.self.now.in_value text (own c.args.self.now table in_value text NumberSign taken c.in-NumberSign.is)))
+    subst (λ r. IsRead table in_value text [] r) (sym c.no_digits.ensures) (no_sign table in_value text (held_sign c.args.self.now.table.now c.args.self.now.in_value text (own c.args.self.now table in_value text NumberSign taken c.in-NumberSign.is)))
 
 pub returns-in-HexadecimalSign-clause-read : goal.returns-in-HexadecimalSign-clause-read
 returns-in-HexadecimalSign-clause-read c = λ table in_value text taken.
-    subst (λ r. IsRead table in_value text [] r) (sym c.as_text-in-HexadecimalSign.ensures) (no_x table in_value text (held_x c.args.self.now.table.now c.args.self.now.in_value text (own c.args.self.now table in_value text HexadecimalSign taken c.in-HexadecimalSign.is)))
+    subst (λ r. IsRead table in_value text [] r) (sym c.no_digits-in-HexadecimalSign.ensures) (no_x table in_value text (held_x c.args.self.now.table.now c.args.self.now.in_value text (own c.args.self.now table in_value text HexadecimalSign taken c.in-HexadecimalSign.is)))
 
 pub returns-in-Number-clause-read : goal.returns-in-Number-clause-read
 returns-in-Number-clause-read c = λ table in_value text taken.
