@@ -2,7 +2,7 @@
 use Rattle.htext.proofs.Names.{encode_ascii, length-append, nil_from_length, ◌≡◌, ℕ, ◌<◌, ◌≤◌, ◌+◌, ◌-◌, ◌*◌, ◌/◌, ◌%◌, true, List, [], ◌∷◌, ◌++◌, length, take, drop, sym, refl, ap, ◌∙◌, subst, arith, inl, inr, append_assoc, None, Some, is_in_range, nat_tests, cases_lt, lt-ltb, le-ltb, le-leb, leb-true, and_parts, take_at, take-append-drop, take-append-le, low_scalar, utf8_valid_len, utf8_error_len, second_byte_min, second_byte_max, IsScalar, encode_utf8, valid_len, BeginsCharacter}
 use Rattle.std.proofs.Math.Utf8.{scalar_cases}
 use Rattle.htext.proofs.Valid.{starts_back, none_valid}
-use Rattle.htext.proofs.Errors.{tested, next_tests, is_by_bytes, test_passed, tested_short, error_more}
+use Rattle.htext.proofs.Errors.{tested, next_tests, is_by_bytes, test_passed, tested_short, error_bounds, error_more}
 
 pub in_range : (low high c : ℕ) → low ≤ c → c ≤ high → is_in_range low high c ≡ true
 in_range low high c a b = rw (le-leb low c a, le-leb c high b) refl
@@ -28,16 +28,13 @@ tested_follows x y h = grind (arith, nat_tests)
 -- FRONTS OF A CHARACTER
 
 pub one_open : (x : ℕ) → 0xC2 ≤ x → x ≤ 0xF4 → utf8_error_len (x ∷ []) ≡ None
-unfolding utf8_error_len
-one_open x a b = rw (in_range 0xC2 0xF4 x a b) refl
+one_open x a b = is_by_bytes (x ∷ []) ∙ rw (in_range 0xC2 0xF4 x a b) refl
 
 two_open : (x y : ℕ) → 0xC2 ≤ x → x ≤ 0xF4 → MayFollow x y → utf8_error_len (x ∷ y ∷ []) ≡ None
-unfolding utf8_error_len
-two_open x y a b h = rw (in_range 0xC2 0xF4 x a b, follows_tested x y h) refl
+two_open x y a b h = is_by_bytes (x ∷ y ∷ []) ∙ rw (in_range 0xC2 0xF4 x a b, follows_tested x y h) refl
 
 three_open : (x y z : ℕ) → 0xC2 ≤ x → x ≤ 0xF4 → MayFollow x y → 128 ≤ z → z ≤ 191 → utf8_error_len (x ∷ y ∷ z ∷ []) ≡ None
-unfolding utf8_error_len
-three_open x y z a b h d e = rw (in_range 0xC2 0xF4 x a b, follows_tested x y h, in_range 0x80 0xBF z d e) refl
+three_open x y z a b h d e = is_by_bytes (x ∷ y ∷ z ∷ []) ∙ rw (in_range 0xC2 0xF4 x a b, follows_tested x y h, in_range 0x80 0xBF z d e) refl
 
 -- the bytes of a character of two, three and four bytes
 pub two_bytes : (c : ℕ) → 128 ≤ c → c < 2048 → encode_utf8 c ≡ (192 + c / 64) ∷ (128 + c % 64) ∷ []
@@ -46,16 +43,11 @@ two_bytes c a b = rw (le-ltb c 128 a, lt-ltb c 2048 b) refl
 
 pub three_bytes : (c : ℕ) → 2048 ≤ c → c < 65536 → encode_utf8 c ≡ (224 + c / 4096) ∷ (128 + c / 64 % 64) ∷ (128 + c % 64) ∷ []
 unfolding encode_utf8
-three_bytes c a b =
-    let d : 128 ≤ c = omega arith in
-    rw (le-ltb c 128 d, le-ltb c 2048 a, lt-ltb c 65536 b) refl
+three_bytes c a b = grind (arith, nat_tests)
 
 pub four_bytes : (c : ℕ) → 65536 ≤ c → encode_utf8 c ≡ (240 + c / 262144) ∷ (128 + c / 4096 % 64) ∷ (128 + c / 64 % 64) ∷ (128 + c % 64) ∷ []
 unfolding encode_utf8
-four_bytes c a =
-    let d : 128 ≤ c = omega arith in
-    let e : 2048 ≤ c = omega arith in
-    rw (le-ltb c 128 d, le-ltb c 2048 e, le-ltb c 65536 a) refl
+four_bytes c a = grind (arith, nat_tests)
 
 pub second_of_two : (c : ℕ) → 128 ≤ c → c < 2048 → MayFollow (192 + c / 64) (128 + c % 64)
 second_of_two c a b = grind arith
@@ -123,7 +115,7 @@ front_of c rest more r s e some none = elim (cases_lt (length rest) (length (enc
 -- COMPLETIONS
 
 high_scalar : (c : ℕ) → 57344 ≤ c → c < 1114112 → IsScalar c
-high_scalar c a b = let d : 55296 ≤ c = omega arith in rw (le-ltb c 55296 d, le-leb 57344 c a, lt-ltb c 1114112 b) refl
+high_scalar c a b = grind (arith, nat_tests)
 
 complete_two : (x y : ℕ) → 0xC2 ≤ x → x ≤ 0xDF → 128 ≤ y → y ≤ 191 → (c : ℕ) × IsScalar c × (encode_utf8 c ≡ x ∷ y ∷ [])
 complete_two x y a b d e =
@@ -192,7 +184,7 @@ after_one x a b =
 -- open bytes are three at most
 pub open_short : (bytes : List ℕ) → utf8_error_len bytes ≡ None → length bytes ≤ 3
 open_short [] h = omega arith
-open_short (x ∷ xs) h = let (_, on) = test_passed _ (tested (next_tests x) 1 xs) 1 (sym (is_by_bytes (x ∷ xs)) ∙ h) in omega (arith, tested_short (next_tests x) 1 xs on)
+open_short (x ∷ xs) h = grind (arith, is_by_bytes (x ∷ xs), tested_short (next_tests x) 1 xs)
 
 -- open bytes, if there are any, become a character with some more
 completed_by : (x : ℕ) (xs : List ℕ) → 0xC2 ≤ x → x ≤ 0xF4 → utf8_valid_len (x ∷ xs) ≡ 0 → tested (next_tests x) 1 xs ≡ None → BeginsCharacter (x ∷ xs)
@@ -221,15 +213,10 @@ completed (x ∷ xs) some none open' =
 
 -- WHATEVER COMES AFTER
 
-pub some_left : (rest : List ℕ) (k : ℕ) → utf8_error_len rest ≡ Some k → 0 < length rest
-unfolding utf8_error_len
-some_left [] k h = absurd cc
-some_left (x ∷ xs) k h = omega arith
-
 -- no character begins in what stays without one, whatever comes after
 pub none_after : (rest more : List ℕ) (k : ℕ) → utf8_valid_len rest ≡ 0 → utf8_error_len rest ≡ Some k → utf8_valid_len (rest ++ more) ≡ 0
 none_after rest more k none fault = none_valid (rest ++ more) (λ c r s e.
-    let open' : utf8_error_len rest ≡ None = front_of c rest more r s e (some_left rest k fault) none in
+    let open' : utf8_error_len rest ≡ None = front_of c rest more r s e (omega (arith, error_bounds rest k fault)) none in
     absurd cc)
 
 -- what begins with no character does so under a limit too

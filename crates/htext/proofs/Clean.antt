@@ -9,14 +9,11 @@ use Rattle.htext.proofs.Wide.{chars_cut}
 take_scalars : (n : ℕ) (cs : List ℕ) → scalars cs ≡ true → (scalars (take n cs) ≡ true) × (scalars (drop n cs) ≡ true)
 take_scalars zero cs s = (refl, s)
 take_scalars (suc n) [] s = (refl, refl)
-take_scalars (suc n) (c ∷ cs) s = let k = and_parts _ (scalars cs) s in let more = take_scalars n cs k.1 in (and_from _ _ k.0 more.0, more.1)
+take_scalars (suc n) (c ∷ cs) s = (grind (arith, take_scalars n cs), grind (arith, take_scalars n cs))
 
 through : (test : ℕ → Bool) (xs ys : List ℕ) → list_all test xs ≡ true → prefix_len test (xs ++ ys) ≡ length xs + prefix_len test ys
 through test [] ys h = omega arith
-through test (x ∷ xs) ys h =
-    let k = and_parts (test x) (list_all test xs) h in
-    let more : prefix_len test (xs ++ ys) ≡ length xs + prefix_len test ys = through test xs ys k.1 in
-    rw k.0 (omega (arith, more))
+through test (x ∷ xs) ys h = grind (arith, nat_tests, through test xs ys)
 
 -- a test of characters, and one of bytes that all bytes of the characters that pass do, and the first byte of no other
 module _ (test byte_test : ℕ → Bool) (inside : (c : ℕ) → test c ≡ true → list_all byte_test (encode_utf8 c) ≡ true)
@@ -75,19 +72,13 @@ clean_rest n run cut clean =
 
 both_pass : (first second third : ℕ → Bool) → ((c : ℕ) → first c ≡ true → second c ≡ true → third c ≡ true) → (cs : List ℕ) → list_all first cs ≡ true → list_all second cs ≡ true → list_all third cs ≡ true
 both_pass first second third joined [] f s = refl
-both_pass first second third joined (c ∷ cs) f s =
-    let k = and_parts (first c) (list_all first cs) f in
-    let m = and_parts (second c) (list_all second cs) s in
-    and_from _ _ (joined c k.0 m.0) (both_pass first second third joined cs k.1 m.1)
+both_pass first second third joined (c ∷ cs) f s = grind (arith, joined c, both_pass first second third joined cs)
 
 of_long : (byte : ℕ) → 128 ≤ byte → is_text_byte byte ≡ true
 of_long byte l = grind (arith, nat_tests)
 
 text_bytes : (c : ℕ) → is_text_byte c ≡ true → list_all is_text_byte (encode_utf8 c) ≡ true
-text_bytes c h = elim (cases_lt c 128) [
-  | inl one ↦ ap (list_all is_text_byte) (encode_ascii c one) ∙ and_from _ _ h refl
-  | inr above ↦ long_bytes is_text_byte of_long c above
-]
+text_bytes c h = grind (arith, nat_tests, encode_ascii c, long_bytes is_text_byte of_long c)
 
 mark_bytes : (c : ℕ) → is_text_byte c ≡ false → BeginsOutside is_text_byte (encode_utf8 c)
 mark_bytes c h = elim (cases_lt c 128) [

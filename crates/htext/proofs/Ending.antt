@@ -1,5 +1,5 @@
 -- The end of an input.
-use Rattle.htext.proofs.Names.{◌≡◌, ℕ, ◌<◌, ◌≤◌, ◌+◌, ◌-◌, Bool, true, false, cond, eqb, List, [], ◌∷◌, ◌++◌, length, take, drop, sym, refl, ap, ◌∙◌, subst, arith, append-nil, None, Some, Option, Result, Ok, Err, nat_tests, length-drop, take-append-drop, take_all, unwrap_or, utf8_valid_len, utf8_error_len, utf8_invalid_len, Hands, Refusal, NotUtf8, Bom, BadBytes, Refuse, Replace, Front, NextBad, Waits, Refused, next_of, Read, Bad, normalized, ends_in_return, reads, text_of, valid_len, fitting_within, fitting, front_len, refusal_of, refusal_with, decoded, settled, reads_at, CharItem, items, HasRead, IsReading, IsUndecided, HandsOn}
+use Rattle.htext.proofs.Names.{◌≡◌, ℕ, ◌<◌, ◌≤◌, ◌+◌, ◌-◌, Bool, true, false, List, [], ◌∷◌, ◌++◌, length, take, drop, sym, refl, ap, ◌∙◌, subst, arith, append-nil, None, Some, Option, Result, Ok, Err, nat_tests, length-drop, take-append-drop, take_all, unwrap_or, utf8_valid_len, utf8_error_len, utf8_invalid_len, Hands, Refusal, NotUtf8, Bom, BadBytes, Refuse, Replace, Front, NextBad, Waits, Refused, next_of, Read, Bad, normalized, ends_in_return, reads, text_of, valid_len, fitting_within, fitting, front_len, refusal_of, refusal_with, decoded, settled, reads_at, CharItem, items, HasRead, IsReading, IsUndecided, HandsOn}
 use Rattle.htext.specs.Decoding.{Ends, end_refused, end_reached, answer_at_end}
 use Rattle.htext.proofs.Valid.{refusal_within, refusal_past}
 use Rattle.htext.proofs.Errors.{error_bounds}
@@ -11,13 +11,10 @@ use Rattle.htext.proofs.Handing.{HandsOn-none}
 use Rattle.htext.proofs.Stopping.{WhatWaits, what_waits, what_is_bad}
 use Rattle.htext.proofs.Advancing.{policy, reading_on, front_here, len_front, within_here, bad_reading, refused_here}
 
-first_none : (a b : ℕ) → a + b ≡ 0 → a ≡ 0
-first_none a b e = omega arith
-
 stuck_by : (bad : BadBytes) (room : ℕ) (rest : List ℕ) → front_len false bad room rest ≡ 0 → valid_len room rest ≡ 0
 unfolding fitting_within
 stuck_by Refuse room rest unread = unread
-stuck_by Replace room rest unread = first_none (valid_len room rest) _ unread
+stuck_by Replace room rest unread = omega (arith, unread)
 
 module _ (bom : Bom) (bad : BadBytes) (limit read : ℕ) (after_return : Bool) (fed : List ℕ) (h : HasRead (policy bom bad limit) read after_return fed) (u : IsUndecided (policy bom bad limit) fed) where
   reading : IsReading (policy bom bad limit) read after_return fed
@@ -60,9 +57,7 @@ module _ (bom : Bom) (bad : BadBytes) (limit read : ℕ) (after_return : Bool) (
     ends_at_once nothing =
         let all : front_len true bad limit fed ≡ length fed = omega (arith, past true, read_all nothing, front_le true bad limit fed) in
         let same : front_len true bad limit fed ≡ front_len false bad limit fed = omega (arith, all, read_all nothing, h.length_is) in
-        let test : eqb (front_len true bad limit fed) (length fed) ≡ true = grind (arith, nat_tests) in
-        let none : refusal_of (policy bom bad limit) fed ≡ None =
-        ap (λ (b : Bool). cond b None (Some (refusal_with bad (utf8_valid_len fed - front_len true bad limit fed) (front_len true bad limit fed)))) test in
+        let none : refusal_of (policy bom bad limit) fed ≡ None = grind (arith, nat_tests) in
         end_reached (subst (λ (x : List Read). HandsOn gives (settled (policy bom bad limit) fed) x old (Ok tt) old) (sym (ap (λ (n : ℕ). text_of bom (take n fed)) same)) (HandsOn-none gives (settled (policy bom bad limit) fed) old))
         (sym (ap answer_at_end none))
 

@@ -49,30 +49,24 @@ tested_more (t ∷ ts) n (b ∷ bs) more m h = grind (arith, tested_more ts (suc
 tested_open : (ts : List (ℕ → Bool)) (n : ℕ) (bs more : List ℕ) (m : ℕ) → tested ts n bs ≡ None → tested ts n (bs ++ more) ≡ Some m → n + length bs ≤ m
 tested_open ts n [] more m h g = omega (arith, (tested_is ts n more m g).0)
 tested_open [] n (b ∷ bs) more m h g = absurd cc
-tested_open (t ∷ ts) n (b ∷ bs) more m h g =
-    let (passed, on) = test_passed (t b) _ n h in
-    omega (arith, tested_open ts (suc n) bs more m on (rw passed at g))
+tested_open (t ∷ ts) n (b ∷ bs) more m h g = grind (arith, tested_open ts (suc n) bs more m)
 
 -- open bytes are no more than the tests
 pub tested_short : (ts : List (ℕ → Bool)) (n : ℕ) (bs : List ℕ) → tested ts n bs ≡ None → length bs ≤ length ts
 tested_short ts n [] h = omega arith
 tested_short [] n (b ∷ bs) h = absurd cc
-tested_short (t ∷ ts) n (b ∷ bs) h = let (_, on) = test_passed (t b) _ n h in omega (arith, tested_short ts (suc n) bs on)
+tested_short (t ∷ ts) n (b ∷ bs) h = grind (arith, tested_short ts (suc n) bs)
 
 -- THE SAME OF THE LENGTH ITSELF
 
 -- a bad part of more than one byte is told by the byte after it
 pub error_short : (bs : List ℕ) (m : ℕ) → utf8_error_len bs ≡ Some m → (m ≡ 1) ⊎ (m < length bs)
-error_short bs m h = by bs (sym (is_by_bytes bs) ∙ h) where
-  by : (bs : List ℕ) → by_bytes bs ≡ Some m → (m ≡ 1) ⊎ (m < length bs)
-  by [] h = absurd cc
-  by (x ∷ xs) h = elim (cases_eq m 1) [ inl one ↦ inl one | inr more ↦ inr (grind (arith, tested_is (next_tests x) 1 xs m)) ]
+error_short [] m h = let none = is_by_bytes [] in absurd cc
+error_short (x ∷ xs) m h = elim (cases_eq m 1) [ inl one ↦ inl one | inr more ↦ inr (grind (arith, is_by_bytes (x ∷ xs), tested_is (next_tests x) 1 xs m)) ]
 
 pub error_bounds : (bs : List ℕ) (m : ℕ) → utf8_error_len bs ≡ Some m → (1 ≤ m) × (m ≤ length bs)
-error_bounds bs m h = by bs (sym (is_by_bytes bs) ∙ h) where
-  by : (bs : List ℕ) → by_bytes bs ≡ Some m → (1 ≤ m) × (m ≤ length bs)
-  by [] h = absurd cc
-  by (x ∷ xs) h = (grind (arith, tested_is (next_tests x) 1 xs m), grind (arith, tested_is (next_tests x) 1 xs m))
+error_bounds [] m h = let none = is_by_bytes [] in absurd cc
+error_bounds (x ∷ xs) m h = (grind (arith, is_by_bytes (x ∷ xs), tested_is (next_tests x) 1 xs m), grind (arith, is_by_bytes (x ∷ xs), tested_is (next_tests x) 1 xs m))
 
 -- a byte that is a bad part by itself: it begins no character, or the next one can't follow it
 pub error_first : (x : ℕ) (xs : List ℕ) → is_in_range 0xC2 0xF4 x ≡ false → utf8_error_len (x ∷ xs) ≡ Some 1
@@ -87,18 +81,12 @@ error_follows x y ys m first second h =
     (tested_is _ 2 ys m (rw (first, second) at (sym (is_by_bytes (x ∷ y ∷ ys)) ∙ h))).0
 
 pub error_more : (bs more : List ℕ) (m : ℕ) → utf8_error_len bs ≡ Some m → utf8_error_len (bs ++ more) ≡ Some m
-error_more bs more m h = is_by_bytes (bs ++ more) ∙ by bs (sym (is_by_bytes bs) ∙ h) where
-  by : (bs : List ℕ) → by_bytes bs ≡ Some m → by_bytes (bs ++ more) ≡ Some m
-  by [] h = absurd cc
-  by (x ∷ xs) h = grind (arith, tested_more (next_tests x) 1 xs more m)
+error_more [] more m h = let none = is_by_bytes [] in absurd cc
+error_more (x ∷ xs) more m h = grind (arith, is_by_bytes (x ∷ xs), is_by_bytes (x ∷ xs ++ more), tested_more (next_tests x) 1 xs more m)
 
 pub error_open : (bs more : List ℕ) (m : ℕ) → utf8_error_len bs ≡ None → utf8_error_len (bs ++ more) ≡ Some m → length bs ≤ m
-error_open bs more m h g = by bs (sym (is_by_bytes bs) ∙ h) (sym (is_by_bytes (bs ++ more)) ∙ g) where
-  by : (bs : List ℕ) → by_bytes bs ≡ None → by_bytes (bs ++ more) ≡ Some m → length bs ≤ m
-  by [] h g = omega arith
-  by (x ∷ xs) h g =
-      let (passed, on) = test_passed (is_in_range 0xC2 0xF4 x) _ 1 h in
-      omega (arith, tested_open (next_tests x) 1 xs more m on (rw passed at g))
+error_open [] more m h g = omega arith
+error_open (x ∷ xs) more m h g = grind (arith, is_by_bytes (x ∷ xs), is_by_bytes (x ∷ xs ++ more), tested_open (next_tests x) 1 xs more m)
 
 -- where the bytes end within or right after the part, or later
 pub error_cut : (bs more : List ℕ) (m : ℕ) → utf8_error_len (bs ++ more) ≡ Some m → m ≤ length bs → utf8_invalid_len bs ≡ m

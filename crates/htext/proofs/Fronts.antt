@@ -123,9 +123,6 @@ fit_bad e k room part ys none bad within =
 pub settled_bad : (e : Bool) (rest : List ℕ) (m : ℕ) → utf8_valid_len rest ≡ 0 → utf8_error_len rest ≡ Some m → bad_len e rest ≡ Some m
 settled_bad e rest m none bad = ap (λ (n : ℕ). cond (nat_lt 0 n) None (or_rest e rest (utf8_error_len rest))) none ∙ ap (or_rest e rest) bad
 
-sum_of : (i j k n : ℕ) → k ≡ i + j → i + (j + n) ≡ k + n
-sum_of i j k n is = omega arith
-
 fit_past : (e : Bool) (room : ℕ) (front rest : List ℕ) → Parts front rest → length front ≤ room → fitting e room (front ++ rest) ≡ length front + fitting e (room - length front) rest
 fit_past e room _ rest (no_part r) within = let same : room ≡ room - 0 = omega arith in ap (λ (x : ℕ). fitting e x rest) same ∙ sym (zero_plus _)
 fit_past e room _ rest (after_text a b r u q) within =
@@ -137,7 +134,7 @@ fit_past e room _ rest (after_text a b r u q) within =
     (fit_fuel e (length (a ++ (b ++ rest))) (length (b ++ rest)) (room - length a) (b ++ rest) (omega (arith, length-append a (b ++ rest))) (omega arith)
     ∙ fit_past e (room - length a) b rest q (omega arith)
     ∙ ap (λ (x : ℕ). length b + fitting e x rest) left)
-    ∙ sum_of (length a) (length b) (length (a ++ b)) _ len
+    ∙ omega arith
 fit_past e room _ rest (after_bad part b r none bad q) within =
     let len : length (part ++ b) ≡ length part + length b = length-append part b in
     let whole : List ℕ = part ++ (b ++ rest) in
@@ -153,7 +150,7 @@ fit_past e room _ rest (after_bad part b r none bad q) within =
     ∙ fit_fuel e k (length (b ++ rest)) (room - length part) (b ++ rest) (omega (arith, long, some)) (omega arith)
     ∙ fit_past e (room - length part) b rest q (omega arith)
     ∙ ap (λ (x : ℕ). length b + fitting e x rest) left)
-    ∙ sum_of (length part) (length b) (length (part ++ b)) _ len
+    ∙ omega arith
 
 -- the front that is read is such a one
 text_then : (n m : ℕ) (bytes : List ℕ) → n ≤ length bytes → IsUtf8 (take n bytes) → Parts (take m (drop n bytes)) (drop m (drop n bytes)) → Parts (take (n + m) bytes) (drop (n + m) bytes)

@@ -18,8 +18,7 @@ Hands-front gives old (x ∷ xs) ys e new (Err d, next, given, rest) = (Err d, n
 -- no more is read of what is refused whatever follows
 nothing_more : (xs ys zs whole : List Read) → whole ≡ (xs ++ ys) ++ zs → whole ≡ xs → ys ≡ []
 nothing_more xs ys zs whole e same =
-    let two : length ((xs ++ ys) ++ zs) ≡ length (xs ++ ys) + length zs = length-append (xs ++ ys) zs in
-    nil_from_length ys (omega (arith, ap length e, ap length same, two, length-append xs ys))
+    nil_from_length ys (omega (arith, ap length e, ap length same, length-append (xs ++ ys) zs, length-append xs ys))
 
 stays_same : (how : Policy) (bytes more : List ℕ) (e : Refusal) → IsRefusedFrom how bytes e → settled how (bytes ++ more) ≡ settled how bytes
 stays_same how bytes more e refused =

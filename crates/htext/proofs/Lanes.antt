@@ -1,11 +1,11 @@
 -- Runs of bytes, seen a vector at a time through the mask of those that end them.
-use Rattle.htext.proofs.Names.{nat_tests, ◌≡◌, ℕ, zero, suc, ◌+◌, ◌*◌, ◌/◌, ◌%◌, ◌<◌, ◌≤◌, Bool, true, false, not, cond, eqb, ◌&&◌, List, [], ◌∷◌, map, length, drop, get_or, replicate, bit_and, refl, sym, ap, ◌∙◌, subst, arith, zip2_splat, map-map, length-map, and_le_r, prefix_len-le-length, eqb-true, prefix_len, zip2, count_trailing_zeros}
-use Rattle.std.proofs.Common.{◌^◌, T, ap₂, w8, Fits}
+use Rattle.htext.proofs.Names.{cases_eq, inl, inr, and_parts, nat_tests, ◌≡◌, ℕ, zero, suc, ◌+◌, ◌/◌, ◌%◌, ◌<◌, ◌≤◌, Bool, true, false, not, cond, eqb, ◌&&◌, List, [], ◌∷◌, map, length, drop, get_or, replicate, bit_and, refl, sym, ap, ◌∙◌, arith, zip2_splat, map-map, length-map, and_le_r, prefix_len-le-length, prefix_len, zip2, count_trailing_zeros}
+use Rattle.std.proofs.Common.{◌^◌, ap₂, w8, Fits}
 use Rattle.std.proofs.lemmas.Simd.{chunk-drop, length-chunk, mask_l-mod, leading_from_mask_l, trailing_mask_l, swz_l, SwzOk, SwzOk-from_below, length-swz_l, get_or-swz_l_below, length-zip2, Each1-all, Each1-weaker, Each1-zip2, Each1-get_or, Each2-splat, below_from_Fits}
 use Rattle.std.proofs.lemmas.List.{get_or-map, ext_get_or}
 use Rattle.std.proofs.lemmas.List.Folds.{prefix_len-append}
 use Rattle.std.proofs.Math.Bool.{not-not}
-use Rattle.std.proofs.lemmas.Bool.{eq-eqb, ne_eqb, eqb-false}
+use Rattle.std.proofs.lemmas.Bool.{eq-eqb, ne_eqb}
 use lib.Lanes.{chunk, mask_l, top, Each1}
 
 -- COMPARISONS, LANE BY LANE
@@ -61,29 +61,22 @@ abbrev pub same : Bool → Bool → Bool
 same true b = b
 same false b = not b
 
-both : (a b : Bool) → T (a && b) → T a × T b
-both true b h = (tt, h)
-both false b h = absurd h
+same_is : (a b : Bool) → same a b ≡ true → a ≡ b
+same_is a b h = grind arith
 
-same_is : (a b : Bool) → T (same a b) → a ≡ b
-same_is true true h = refl
-same_is false false h = refl
-same_is _ _ h = absurd h
-
-here_or_below : (p : ℕ → Bool) (n i : ℕ) (b : Bool) → eqb i n ≡ b → i < suc n → T (p n) → ((i < n) → T (p i)) → T (p i)
-here_or_below p n i true e lt here more = subst (λ (x : ℕ). T (p x)) (sym (eqb-true i n e)) here
-here_or_below p n i false e lt here more = let not_it = eqb-false i n e in more (omega arith)
-
-upto_sound : (p : ℕ → Bool) (n : ℕ) → T (upto p n) → (i : ℕ) → i < n → T (p i)
+upto_sound : (p : ℕ → Bool) (n : ℕ) → upto p n ≡ true → (i : ℕ) → i < n → p i ≡ true
 upto_sound p zero h i lt = absurd (omega (arith, lt))
-upto_sound p (suc n) h i lt = here_or_below p n i (eqb i n) refl lt (both (p n) (upto p n) h).0 (upto_sound p n (both (p n) (upto p n) h).1 i)
+upto_sound p (suc n) h i lt = elim (cases_eq i n) [
+  | inl here ↦ ap p here ∙ (and_parts (p n) (upto p n) h).0
+  | inr below ↦ upto_sound p n (and_parts (p n) (upto p n) h).1 i (omega arith)
+]
 
-each_byte : (f : ℕ → ℕ) (p : ℕ → Bool) → T (upto (λ x. same (top 7 (f x)) (p x)) 256) → (v : List ℕ) → Each1 (Fits w8) v → map (top 7) (map f v) ≡ map p v
+each_byte : (f : ℕ → ℕ) (p : ℕ → Bool) → upto (λ x. same (top 7 (f x)) (p x)) 256 ≡ true → (v : List ℕ) → Each1 (Fits w8) v → map (top 7) (map f v) ≡ map p v
 each_byte f p all [] fits = refl
 each_byte f p all (x ∷ xs) fits = ap₂ (λ a b. a ∷ b) (same_is _ _ (upto_sound (λ y. same (top 7 (f y)) (p y)) 256 all x fits.0.fits)) (each_byte f p all xs fits.1)
 
 -- a mask that is computed lane by lane is that of a test, where the two agree at each of the 256 bytes
-pub masked : (f : ℕ → ℕ) (p : ℕ → Bool) (v z : List ℕ) → length v ≤ 64 → Each1 (Fits w8) v → z ≡ map f v → T (upto (λ x. same (top 7 (f x)) (p x)) 256)
+pub masked : (f : ℕ → ℕ) (p : ℕ → Bool) (v z : List ℕ) → length v ≤ 64 → Each1 (Fits w8) v → z ≡ map f v → upto (λ x. same (top 7 (f x)) (p x)) 256 ≡ true
     → mask_l (map (top 7) z) % 2 ^ 64 ≡ mask_l (map p v)
 masked f p v z short fits e all =
     ap (λ l. mask_l l % 2 ^ 64) (ap (map (top 7)) e ∙ each_byte f p all v fits) ∙ mask_l-mod (map p v) 64 (omega (arith, length-map v p))
@@ -103,9 +96,6 @@ hit_top x y = grind arith
 
 -- RUNS
 
-none_fails : (b : Bool) (n l m : ℕ) → n ≤ l → cond (not b) (1 + n) 0 ≡ 1 + l → (n ≡ l → m ≡ 0) → cond b 1 0 + 2 * m ≡ 0
-none_fails b n l m le e ih = grind (arith, nat_tests, ih)
-
 module _ (q : ℕ → Bool) where
   abbrev pub fails : ℕ → Bool
   fails x = not (q x)
@@ -116,7 +106,7 @@ module _ (q : ℕ → Bool) where
 
   all_pass : (xs : List ℕ) → prefix_len (λ x. not (fails x)) xs ≡ length xs → mask_l (map fails xs) ≡ 0
   all_pass [] e = refl
-  all_pass (x ∷ xs) e = none_fails (fails x) _ (length xs) _ (prefix_len-le-length (λ y. not (fails y)) xs) (omega arith) (all_pass xs)
+  all_pass (x ∷ xs) e = grind (arith, nat_tests, prefix_len-le-length (λ y. not (fails y)) xs, all_pass xs)
 
   split : (d : List ℕ) (i n : ℕ) → prefix_len q (drop i d) ≡ cond (eqb (prefix_len q (chunk i n d)) (length (chunk i n d))) (length (chunk i n d) + prefix_len q (drop (i + n) d)) (prefix_len q (chunk i n d))
   split d i n = ap (prefix_len q) (chunk-drop i n d) ∙ prefix_len-append q (chunk i n d) (drop (i + n) d)

@@ -1,5 +1,5 @@
 -- Characters and bad parts, one after another.
-use Rattle.htext.proofs.Names.{drop_at, ◌≡◌, ℕ, zero, suc, ◌<◌, ◌≤◌, ◌+◌, ◌-◌, Bool, true, false, cond, eqb, List, [], ◌∷◌, ◌++◌, length, map, take, drop, sym, refl, ap, ◌∙◌, arith, append_assoc, append-nil, nat_tests, length-append, length-drop, take-append-add, drop-append-add, chars-append, chars-nil, encodes-chars, length-encode, utf8_valid_len_le, chars, IsUtf8, utf8_valid_len, utf8_invalid_len, encode_utf8, len_utf8, placed, Placed, Read, Whole, Bad, reads_within, reads_at}
+use Rattle.htext.proofs.Names.{drop_at, ◌≡◌, ℕ, zero, suc, ◌<◌, ◌≤◌, ◌+◌, ◌-◌, Bool, false, cond, eqb, List, [], ◌∷◌, ◌++◌, length, map, take, drop, sym, refl, ap, ◌∙◌, arith, append_assoc, append-nil, nat_tests, length-append, length-drop, take-append-add, drop-append-add, chars-append, chars-nil, encodes-chars, length-encode, utf8_valid_len_le, chars, IsUtf8, utf8_valid_len, utf8_invalid_len, encode_utf8, len_utf8, placed, Placed, Read, Whole, Bad, reads_within, reads_at}
 use Rattle.std.proofs.lemmas.List.{map-append}
 use Rattle.std.specs.Str.{encode_utf8_all}
 use Rattle.htext.proofs.Valid.{utf8_valid_len-append}
@@ -10,8 +10,7 @@ abbrev tail_at : ℕ → ℕ → List ℕ → ℕ → List Read
 tail_at k at bytes n = cond (eqb n (length bytes)) [] (Bad (at + n) ∷ reads_within k (at + n + utf8_invalid_len (drop n bytes)) (drop (n + utf8_invalid_len (drop n bytes)) bytes))
 
 same_tail : (b : Bool) (xs ys : List Read) → (b ≡ false → xs ≡ ys) → cond b [] xs ≡ cond b [] ys
-same_tail true xs ys f = refl
-same_tail false xs ys f = f refl
+same_tail b xs ys f = grind (arith, f)
 
 pub more_left : (n : ℕ) (bytes : List ℕ) → n ≤ length bytes → eqb n (length bytes) ≡ false → 0 < length (drop n bytes)
 more_left n bytes le e = let d : length (drop n bytes) ≡ length bytes - n = length-drop n bytes in grind (arith, nat_tests)
@@ -54,14 +53,11 @@ placed-append at (c ∷ cs) ds =
     ap (λ (x : List Placed). record { ch = c; at = at } ∷ x)
     (placed-append (at + len_utf8 c) cs ds ∙ ap (λ (x : ℕ). placed (at + len_utf8 c) cs ++ placed x ds) (omega (arith, length-append (encode_utf8 c) (encode_utf8_all cs), length-encode c)))
 
-same_sum : (a m n : ℕ) → eqb (a + m) (a + n) ≡ eqb m n
-same_sum a m n = grind (arith, nat_tests)
-
 tail_past : (k at : ℕ) (xs ys : List ℕ) (n : ℕ) → n ≤ length ys → tail_at k at (xs ++ ys) (length xs + n) ≡ tail_at k (at + length xs) ys n
 tail_past k at xs ys n within =
     let m : ℕ = utf8_invalid_len (drop n ys) in
     let same : drop (length xs + n) (xs ++ ys) ≡ drop n ys = drop-append-add xs ys n in
-    let test : eqb (length xs + n) (length (xs ++ ys)) ≡ eqb n (length ys) = ap (eqb (length xs + n)) (length-append xs ys) ∙ same_sum (length xs) n (length ys) in
+    let test : eqb (length xs + n) (length (xs ++ ys)) ≡ eqb n (length ys) = let l = length-append xs ys in grind (arith, nat_tests) in
     let after : drop (length xs + n + m) (xs ++ ys) ≡ drop (n + m) ys = ap (λ (x : ℕ). drop x (xs ++ ys)) (omega arith) ∙ drop-append-add xs ys (n + m) in
     let place : at + (length xs + n) ≡ at + length xs + n = omega arith in
     rw (same, test, after) (ap (λ (x : ℕ). cond (eqb n (length ys)) [] (Bad x ∷ reads_within k (x + m) (drop (n + m) ys))) place)

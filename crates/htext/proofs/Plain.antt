@@ -1,10 +1,7 @@
 -- Plain and clean characters, and the bytes of characters in UTF-8.
-use Rattle.htext.proofs.Names.{◌≡◌, ℕ, ◌<◌, ◌≤◌, ◌+◌, ◌/◌, ◌%◌, Bool, true, false, eqb, List, [], ◌∷◌, refl, ◌∙◌, arith, nat_le, list_all, nat_tests, encode_utf8, Bom, Keep, Whole, read_as, Character, items_of, is_plain_byte, is_plain, is_clean, is_clean_byte, is_inner_byte, is_text_byte}
+use Rattle.htext.proofs.Names.{◌≡◌, ℕ, ◌<◌, ◌≤◌, ◌+◌, ◌/◌, ◌%◌, Bool, true, false, eqb, List, [], ◌∷◌, refl, arith, nat_le, list_all, nat_tests, encode_utf8, Bom, Whole, read_as, Character, items_of, is_plain_byte, is_plain, is_clean, is_clean_byte, is_inner_byte, is_text_byte}
 use Rattle.std.specs.Prelude.{◌&&◌}
 use Rattle.std.proofs.lemmas.Bool.{or_left}
-use Rattle.names.specs.Placed.{is_noncharacter}
-use Rattle.htext.specs.declared.Bom.TheVariants.{Drop}
-use Rattle.htext.specs.Items.{is_stray_control}
 use Rattle.htext.proofs.Beginnings.{BytesOf, takes_one, takes_two, takes_three, takes_four, bytes_of}
 
 -- a plain byte is ASCII, and a plain character
@@ -25,49 +22,22 @@ plain_of_inner c h m = grind (arith, nat_tests)
 pub no_return : (x : ℕ) → is_clean x ≡ true → eqb x 13 ≡ false
 no_return x h = grind (arith, nat_tests)
 
-no_mark : (x : ℕ) → is_clean x ≡ true → eqb x 0xFEFF ≡ false
-no_mark x h = grind (arith, nat_tests)
-
-no_stray : (x : ℕ) → is_clean x ≡ true → is_stray_control x ≡ false
-no_stray x h = grind (arith, nat_tests)
-
-clean_below : (x : ℕ) → is_clean x ≡ true → x < 0xF000
-clean_below x h = grind (arith, nat_tests)
-
-no_nonchar : (x : ℕ) → is_clean x ≡ true → is_noncharacter x ≡ false
-no_nonchar x h =
-    let small : x < 0xF000 = clean_below x h in
-    let low : nat_le 0xFDD0 x ≡ false = grind (arith, nat_tests) in
-    let rest : x % 0x10000 < 0xF000 = omega (arith, small) in
-    let last : nat_le 0xFFFE (x % 0x10000) ≡ false = grind (arith, nat_tests) in
-    rw (low, last) refl
-
 pub as_it_came : (bom : Bom) (x at : ℕ) → is_clean x ≡ true → read_as bom false (record { ch = x; at = at }) ≡ record { ch = x; at = at } ∷ []
-as_it_came Drop x at h = rw (no_mark x h, no_return x h) (grind (arith, nat_tests))
-as_it_came Keep x at h = rw (no_return x h) refl
+as_it_came bom x at h = grind (arith, nat_tests)
 
 pub item_alone : (x at : ℕ) → is_clean x ≡ true → items_of (Whole (record { ch = x; at = at })) ≡ Character (record { ch = x; at = at }) ∷ []
-item_alone x at h = rw (no_stray x h, no_nonchar x h) refl
+item_alone x at h = let rest : (x < 0xF000 → x % 0x10000 < 0xF000) = λ h. omega arith in grind (arith, nat_tests, rest)
 
 -- IN UTF-8
 
 high : (c : ℕ) → 128 ≤ c → is_clean c ≡ true → (192 ≤ c) × (c ≤ 0xEFFF)
 high c l h = (grind (arith, nat_tests), grind (arith, nat_tests))
 
-small_clean : (c : ℕ) → c < 128 → is_clean_byte c ≡ is_clean c
-small_clean c l = grind (arith, nat_tests)
-
-next_clean : (n : ℕ) → is_clean_byte (128 + n % 64) ≡ true
-next_clean n = let l : n % 64 < 64 = omega arith in grind (arith, nat_tests)
-
 -- the bytes of a clean character are clean
 clean_by : (c : ℕ) (bytes : List ℕ) → is_clean c ≡ true → BytesOf c bytes → list_all is_clean_byte bytes ≡ true
-clean_by c _ h (takes_one a) = rw (small_clean c a, h) refl
-clean_by c _ h (takes_two a b) = let is = high c a h in let lead : is_clean_byte (192 + c / 64) ≡ true = grind (arith, nat_tests) in rw (lead, next_clean c) refl
-clean_by c _ h (takes_three a b) =
-    let is = high c (omega arith) h in
-    let lead : is_clean_byte (224 + c / 4096) ≡ true = grind (arith, nat_tests, is.1) in
-    rw (lead, next_clean (c / 64), next_clean c) refl
+clean_by c _ h (takes_one a) = grind (arith, nat_tests)
+clean_by c _ h (takes_two a b) = grind (arith, nat_tests)
+clean_by c _ h (takes_three a b) = let is = high c (omega arith) h in grind (arith, nat_tests, is.1)
 clean_by c _ h (takes_four a) = absurd (omega (arith, high c (omega arith) h))
 
 pub clean_bytes : (c : ℕ) → is_clean c ≡ true → list_all is_clean_byte (encode_utf8 c) ≡ true
@@ -78,7 +48,7 @@ abbrev pub BeginsOutside : (ℕ → Bool) → List ℕ → Type 0
 BeginsOutside test bytes = (b : ℕ) × (bs : List ℕ) × (bytes ≡ b ∷ bs) × (test b ≡ false)
 
 other_by : (c : ℕ) (bytes : List ℕ) → is_clean c ≡ false → BytesOf c bytes → BeginsOutside is_clean_byte bytes
-other_by c _ h (takes_one a) = (_, _, refl, small_clean c a ∙ h)
+other_by c _ h (takes_one a) = (_, _, refl, grind (arith, nat_tests))
 other_by c _ h (takes_two a b) = (_, _, refl, grind (arith, nat_tests))
 other_by c _ h (takes_three a b) = (_, _, refl, grind (arith, nat_tests))
 other_by c _ h (takes_four a) = (_, _, refl, grind (arith, nat_tests))

@@ -1,6 +1,6 @@
 -- Which bytes are refused, and how.
-use Rattle.htext.proofs.Names.{◌≡◌, ℕ, ◌<◌, ◌≤◌, ◌+◌, ◌-◌, Bool, true, false, cond, eqb, List, ◌++◌, length, take, drop, sym, refl, ap, ◌∙◌, subst, arith, inl, inr, append_assoc, None, Some, Option, zero, suc, cases_lt, le-leb, nat_tests, take_all, take-append-drop, length-append, length-take, length-take-le, length-drop, encode_same, length-encode, utf8_valid_len-IsUtf8, ◌↔◌, nat_le, IsScalar, encode_utf8, len_utf8, IsUtf8, utf8_valid_len, utf8_invalid_len, Bom, NotUtf8, TooLarge, Refuse, Replace, valid_len, bad_len, after_part, fitting_within, fitting, refusal_with, refusal_of, BeginsNoCharacter}
-use Rattle.htext.proofs.Valid.{refusal_within, valid_len_le, valid_front_utf8, utf8_valid_len-append, starts_back, none_valid, refusal_same, refusal_past}
+use Rattle.htext.proofs.Names.{◌≡◌, ℕ, ◌<◌, ◌≤◌, ◌+◌, ◌-◌, true, List, ◌++◌, length, take, drop, sym, refl, ap, ◌∙◌, subst, arith, inl, inr, append_assoc, None, Some, zero, suc, cases_lt, le-leb, nat_tests, take_all, take-append-drop, length-append, length-take, length-take-le, length-drop, encode_same, length-encode, utf8_valid_len-IsUtf8, ◌↔◌, nat_le, IsScalar, encode_utf8, len_utf8, IsUtf8, utf8_valid_len, utf8_invalid_len, Bom, NotUtf8, TooLarge, Refuse, Replace, valid_len, bad_len, fitting_within, fitting, refusal_with, refusal_of, BeginsNoCharacter}
+use Rattle.htext.proofs.Valid.{refusal_within, valid_len_le, valid_front_utf8, utf8_valid_len-append, starts_back, none_valid, refusal_past}
 use Rattle.htext.proofs.Errors.{invalid_bounds}
 use Rattle.htext.proofs.Beginnings.{under_limit}
 use Rattle.htext.proofs.Fronts.{Parts, front_le, front_past, fit_le}
@@ -13,8 +13,7 @@ accepted limit bytes = (
       (subst IsUtf8 (ap (λ (n : ℕ). take n bytes) all ∙ take_all (length bytes) bytes (omega arith)) (valid_front_utf8 limit bytes), omega (arith, all, valid_len_le limit bytes)),
   λ h.
       let all : valid_len limit bytes ≡ length bytes = ap utf8_valid_len (take_all limit bytes h.1) ∙ utf8_valid_len-IsUtf8 bytes h.0 in
-      let e : eqb (valid_len limit bytes) (length bytes) ≡ true = grind (arith, nat_tests) in
-      ap (λ (b : Bool). cond b None (Some (refusal_with Refuse (utf8_valid_len bytes - valid_len limit bytes) (valid_len limit bytes)))) e,
+      grind (arith, nat_tests),
 )
 
 pub not_utf8 : (limit : ℕ) (front rest : List ℕ) → IsUtf8 front → length front ≤ limit → 0 < length rest → BeginsNoCharacter rest → refusal_within limit (front ++ rest) ≡ Some (NotUtf8 (length front))
@@ -23,7 +22,7 @@ not_utf8 limit front rest u within some none =
     refusal_past limit front rest u within (under_limit (limit - length front) rest nothing) some ∙ ap (λ (n : ℕ). Some (refusal_with Refuse n (length front))) nothing
 
 -- a character that is longer than the limit is not in the valid front
-too_long : (limit ch : ℕ) (rest : List ℕ) → limit < len_utf8 ch → BeginsNoCharacter (take limit (encode_utf8 ch ++ rest))
+pub too_long : (limit ch : ℕ) (rest : List ℕ) → limit < len_utf8 ch → BeginsNoCharacter (take limit (encode_utf8 ch ++ rest))
 too_long limit ch rest longer c more scalar is =
     let same = encode_same ch c rest (more ++ drop limit (encode_utf8 ch ++ rest))
     (sym (take-append-drop limit (encode_utf8 ch ++ rest)) ∙ ap (λ (x : List ℕ). x ++ drop limit (encode_utf8 ch ++ rest)) is ∙ append_assoc (encode_utf8 c) more (drop limit (encode_utf8 ch ++ rest))) in
@@ -35,7 +34,7 @@ too_large limit front ch rest u scalar within longer =
     let begun : 0 < utf8_valid_len what = starts_back what rest ch scalar refl in
     let long : 0 < length what = omega (arith, length-append (encode_utf8 ch) rest, length-encode ch, longer) in
     let stuck : valid_len (limit - length front) what ≡ 0 = none_valid _ (too_long (limit - length front) ch rest (omega arith)) in
-    refusal_past limit front what u within stuck long ∙ ap Some (refusal_same (utf8_valid_len what) 1 (length front) (λ _. omega arith) (λ _. begun))
+    refusal_past limit front what u within stuck long ∙ grind (arith, nat_tests)
 
 -- WHERE BAD BYTES ARE REPLACED
 
@@ -61,10 +60,7 @@ all_step k limit bytes within after =
           let test : nat_le m (limit - n) ≡ true = le-leb m (limit - n) (omega (arith, bounds)) in
           let left : length (drop (n + m) bytes) ≡ length bytes - (n + m) = length-drop (n + m) bytes in
           let more : fitting_within true k (limit - (n + m)) (drop (n + m) bytes) ≡ length (drop (n + m) bytes) = after (limit - (n + m)) (drop (n + m) bytes) (omega arith) (omega (arith, bounds)) in
-          ap (λ (o : Option ℕ). n + after_part o (limit - n) (λ i. fitting_within true k (limit - (n + i)) (drop (n + i) bytes))) (last_part rest none some)
-          ∙ ap (λ (b : Bool). n + cond b (m + fitting_within true k (limit - (n + m)) (drop (n + m) bytes)) 0) test
-          ∙ ap (λ (x : ℕ). n + (m + x)) more
-          ∙ omega (arith, bounds)
+          rw (last_part rest none some, test, more) (omega (arith, bounds))
       | inr nothing ↦ omega (arith, fit_le true (suc k) limit bytes)
     ]
 
@@ -82,13 +78,11 @@ replaced bom limit bytes = (
       omega (arith, all, front_le true Replace limit bytes),
   λ within.
       let all : fitting true limit bytes ≡ length bytes = all_read limit bytes within in
-      let e : eqb (fitting true limit bytes) (length bytes) ≡ true = grind (arith, nat_tests) in
-      ap (λ (b : Bool). cond b None (Some (TooLarge (fitting true limit bytes)))) e,
+      grind (arith, nat_tests),
 )
 
 -- what follows a front that doesn't fit
 pub replaced_past : (bom : Bom) (limit : ℕ) (front rest : List ℕ) → Parts front rest → length front ≤ limit → fitting true (limit - length front) rest ≡ 0 → 0 < length rest → refusal_of (record { bom = bom; bad = Replace; limit = limit }) (front ++ rest) ≡ Some (TooLarge (length front))
 replaced_past bom limit front rest p within stuck some =
     let n : fitting true limit (front ++ rest) ≡ length front = omega (arith, front_past true Replace limit front rest p within, stuck) in
-    let e : eqb (length front) (length (front ++ rest)) ≡ false = let l = length-append front rest in grind (arith, nat_tests) in
-    ap (λ (x : ℕ). cond (eqb x (length (front ++ rest))) None (Some (TooLarge x))) n ∙ ap (λ (b : Bool). cond b None (Some (TooLarge (length front)))) e
+    grind (arith, nat_tests, length-append front rest)

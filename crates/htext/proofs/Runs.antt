@@ -1,8 +1,10 @@
 -- Runs of plain bytes, each a character.
-use Rattle.htext.proofs.Names.{◌≡◌, ℕ, ◌<◌, ◌≤◌, ◌+◌, ◌-◌, suc, Bool, true, false, cond, List, [], ◌∷◌, ◌++◌, length, take, drop, sym, refl, ap, ◌∙◌, subst, arith, append-nil, encode_utf8_all, list_all, prefix_len, take-add, length-take-le, take-append-drop, list_all-append, and_parts, and_from, encode_ascii, IsUtf8-past_char, chars_past_char, chars-nil, chars, IsUtf8, encode_utf8, len_utf8, placed, Placed, is_plain_byte}
+use Rattle.htext.proofs.Names.{zero, ◌≡◌, ℕ, ◌<◌, ◌≤◌, ◌+◌, ◌-◌, suc, Bool, true, false, cond, List, [], ◌∷◌, ◌++◌, length, take, drop, sym, refl, ap, ◌∙◌, arith, encode_utf8_all, list_all, prefix_len, take-add, length-take-le, take-append-drop, list_all-append, and_parts, and_from, chars, IsUtf8, len_utf8, placed, is_plain_byte}
 use Rattle.std.specs.List.{slice_range}
-use Rattle.std.proofs.lemmas.Str.{len_utf8_ascii}
+use Rattle.std.proofs.lemmas.Str.{len_utf8_ascii, chars-IsAscii, encodes-IsAscii}
+use Rattle.std.specs.Str.{IsAscii}
 use Rattle.names.specs.Placed.{all}
+use Rattle.htext.proofs.Parts.{placed-append as placed_text}
 use Rattle.htext.proofs.Plain.{plain_small}
 -- under the name by which the crates above cite it
 pub use Rattle.std.proofs.Math.Seq.{take-add as take_more}
@@ -10,15 +12,17 @@ pub use Rattle.std.proofs.Math.Seq.{take-add as take_more}
 pub one_long : (x : ℕ) → is_plain_byte x ≡ true → len_utf8 x ≡ 1
 one_long x h = let small : x < 127 = plain_small x h in len_utf8_ascii x (omega arith)
 
--- the characters of a text that begins with a run
-run_chars : (xs ys : List ℕ) → list_all is_plain_byte xs ≡ true → IsUtf8 (xs ++ ys) → IsUtf8 ys × (chars (xs ++ ys) ≡ xs ++ chars ys)
-run_chars [] ys a u = (u, refl)
-run_chars (x ∷ xs) ys a u =
-    let k = and_parts (is_plain_byte x) (list_all is_plain_byte xs) a in
-    let small : x < 127 = plain_small x k.0 in
-    let is : x ∷ (xs ++ ys) ≡ encode_utf8 x ++ (xs ++ ys) = ap (λ (e : List ℕ). e ++ (xs ++ ys)) (sym (encode_ascii x (omega arith))) in
-    let more = run_chars xs ys k.1 (IsUtf8-past_char (x ∷ (xs ++ ys)) (xs ++ ys) x u is) in
-    (more.0, chars_past_char (x ∷ (xs ++ ys)) (xs ++ ys) x u is ∙ ap (λ (cs : List ℕ). x ∷ cs) more.1)
+-- the bytes and the characters of a run
+plain_ascii : (xs : List ℕ) → list_all is_plain_byte xs ≡ true → IsAscii xs
+plain_ascii [] h i = omega arith
+plain_ascii (x ∷ xs) h zero = let small : x < 127 = plain_small x (and_parts _ _ h).0 in omega arith
+plain_ascii (x ∷ xs) h (suc i) = plain_ascii xs (and_parts _ _ h).1 i
+
+pub plain_chars : (xs : List ℕ) → list_all is_plain_byte xs ≡ true → IsUtf8 xs → chars xs ≡ xs
+plain_chars xs h u = chars-IsAscii xs (plain_ascii xs h)
+
+pub plain_bytes : (xs : List ℕ) → list_all is_plain_byte xs ≡ true → encode_utf8_all xs ≡ xs
+plain_bytes xs h = encodes-IsAscii xs (plain_ascii xs h)
 
 -- what is counted passes
 pub counted : (test : ℕ → Bool) (xs : List ℕ) → list_all test (take (prefix_len test xs) xs) ≡ true
@@ -35,15 +39,10 @@ front_of n xs = let all : n - 0 ≡ n = omega arith in ap (λ (k : ℕ). take k 
 -- a run as placed characters
 pub all_placed : (test : ℕ → Bool) (at : ℕ) (run : List ℕ) → list_all test run ≡ true → all test (placed at run) ≡ true
 all_placed test at [] h = refl
-all_placed test at (x ∷ xs) h = let k = and_parts (test x) (list_all test xs) h in and_from _ _ k.0 (all_placed test (at + len_utf8 x) xs k.1)
+all_placed test at (x ∷ xs) h = grind (arith, all_placed test (at + len_utf8 x) xs)
 
 pub placed-append : (at : ℕ) (xs ys : List ℕ) → list_all is_plain_byte xs ≡ true → placed at (xs ++ ys) ≡ placed at xs ++ placed (at + length xs) ys
-placed-append at [] ys h = let same : at ≡ at + 0 = omega arith in ap (λ (n : ℕ). placed n ys) same
-placed-append at (x ∷ xs) ys h =
-    let k = and_parts (is_plain_byte x) (list_all is_plain_byte xs) h in
-    let end : (at + len_utf8 x) + length xs ≡ at + length (x ∷ xs) = omega (arith, one_long x k.0) in
-    ap (λ (ps : List Placed). record { ch = x; at = at } ∷ ps) (placed-append (at + len_utf8 x) xs ys k.1)
-    ∙ ap (λ (n : ℕ). record { ch = x; at = at } ∷ (placed (at + len_utf8 x) xs ++ placed n ys)) end
+placed-append at xs ys h = placed_text at xs ys ∙ ap (λ (n : ℕ). placed at xs ++ placed (at + n) ys) (ap length (plain_bytes xs h))
 
 plain_parts : (n : ℕ) (xs : List ℕ) → list_all is_plain_byte xs ≡ true → (list_all is_plain_byte (take n xs) ≡ true) × (list_all is_plain_byte (drop n xs) ≡ true)
 plain_parts n xs h = and_parts _ _ (sym (list_all-append is_plain_byte (take n xs) (drop n xs)) ∙ ap (list_all is_plain_byte) (take-append-drop n xs) ∙ h)
@@ -62,14 +61,3 @@ placed_part at i n run h l =
 pub placed_rest : (at i : ℕ) (run : List ℕ) → list_all is_plain_byte run ≡ true → i ≤ length run → placed at run ≡ placed at (take i run) ++ placed (at + i) (drop i run)
 placed_rest at i run h l =
     ap (placed at) (sym (take-append-drop i run)) ∙ placed-append at (take i run) (drop i run) (plain_take i run h) ∙ ap (λ (k : ℕ). placed at (take i run) ++ placed (at + k) (drop i run)) (length-take-le i run l)
-
--- the text of a run
-pub plain_chars : (xs : List ℕ) → list_all is_plain_byte xs ≡ true → IsUtf8 xs → chars xs ≡ xs
-plain_chars xs h u = ap chars (sym (append-nil xs)) ∙ (run_chars xs [] h (subst IsUtf8 (sym (append-nil xs)) u)).1 ∙ ap (λ (ys : List ℕ). xs ++ ys) chars-nil ∙ append-nil xs
-
-pub plain_bytes : (xs : List ℕ) → list_all is_plain_byte xs ≡ true → encode_utf8_all xs ≡ xs
-plain_bytes [] h = refl
-plain_bytes (x ∷ xs) h =
-    let k = and_parts (is_plain_byte x) (list_all is_plain_byte xs) h in
-    let small : x < 127 = plain_small x k.0 in
-    ap (λ (e : List ℕ). e ++ encode_utf8_all xs) (encode_ascii x (omega arith)) ∙ ap (λ (ys : List ℕ). x ∷ ys) (plain_bytes xs k.1)

@@ -1,15 +1,11 @@
 -- What is left of bytes after a front, and doesn't fit or isn't settled.
-use Rattle.htext.proofs.Names.{◌≡◌, ℕ, suc, ◌<◌, ◌≤◌, ◌+◌, ◌-◌, Bool, true, false, List, [], ◌++◌, length, take, drop, sym, refl, ap, ◌∙◌, arith, append_assoc, append-nil, Option, None, Some, lt-ltb, nat_tests, length-append, take_at, utf8_valid_len, utf8_error_len, Refusal, TooLarge, Bom, BadBytes, Refuse, Replace, Waits, Refused, next_of, valid_len, bad_len, after_part, fitting_within, front_len, refusal_of, StaysRefused, text_of, IsRefusedFrom, IsUndecided}
+use Rattle.htext.proofs.Names.{◌≡◌, ℕ, suc, ◌<◌, ◌≤◌, ◌+◌, ◌-◌, Bool, true, false, List, [], ◌++◌, length, take, drop, sym, refl, ap, ◌∙◌, arith, append_assoc, append-nil, Option, None, Some, nat_tests, length-append, take_at, utf8_valid_len, utf8_error_len, Refusal, TooLarge, Bom, BadBytes, Refuse, Replace, Waits, Refused, next_of, valid_len, bad_len, after_part, fitting_within, front_len, refusal_of, StaysRefused, text_of, IsRefusedFrom, IsUndecided}
 use Rattle.htext.specs.declared.progress.Front.TheVariants.{Bad}
 use Rattle.htext.proofs.Valid.{going_on}
 use Rattle.htext.proofs.Errors.{error_bounds, error_more, error_open}
 use Rattle.htext.proofs.Fronts.{IsFront, Parts-more, front_more, front_past, fit_after, undecided_bad}
 use Rattle.htext.proofs.Refusals.{replaced, replaced_past}
-use Rattle.htext.proofs.Deciding.{stays_refused, undecided, NextIs, a_character, a_part, a_long_part, not_yet, too_much, next_is, some_next, valid_next}
-
--- how long a bad part is at least
-part_long : (e : Bool) (bs : List ℕ) (m n : ℕ) → bad_len e bs ≡ Some m → n ≤ length bs → ((k : ℕ) → utf8_error_len bs ≡ Some k → n ≤ k) → n ≤ m
-part_long e bs m n h within part = grind (arith, nat_tests, part)
+use Rattle.htext.proofs.Deciding.{stays_refused, undecided, some_next, valid_next}
 
 -- nothing is read of what begins with no character and no bad part that fits
 none_fits : (o : Option ℕ) (room : ℕ) (f : ℕ → ℕ) → ((m : ℕ) → o ≡ Some m → room < m) → after_part o room f ≡ 0
@@ -24,34 +20,25 @@ fit_stuck e k room bytes stuck long =
 
 -- WHAT IS REFUSED
 
-part_next : (rest : List ℕ) (room at : ℕ) (r : Refusal) → NextIs rest room at Replace (Refused r) → (e : Bool) (more : List ℕ) (m : ℕ) → bad_len e (rest ++ more) ≡ Some m → room < m
-part_next rest room at _ (a_character _ begun) e more m h = let g = rw (lt-ltb 0 (utf8_valid_len (rest ++ more)) (going_on rest more begun)) at h in absurd cc
-part_next rest room at _ (a_long_part k none fault long) e more m h =
-    let on : utf8_error_len (rest ++ more) ≡ Some k = error_more rest more k fault in
-    omega (arith, long, part_long e (rest ++ more) m k h (omega (arith, error_bounds (rest ++ more) k on)) (λ j g. let same : j ≡ k = cc in omega arith))
-part_next rest room at _ (too_much none open' long) e more m h =
-    omega (arith, long, part_long e (rest ++ more) m (length rest) h (omega (arith, length-append rest more)) (λ j g. error_open rest more j open' g))
+part_next : (rest : List ℕ) (room at : ℕ) (r : Refusal) → next_of Replace rest room at ≡ Refused r → (e : Bool) (more : List ℕ) (m : ℕ) → bad_len e (rest ++ more) ≡ Some m → room < m
+part_next rest room at r is e more m h =
+    grind (arith, nat_tests, going_on rest more, error_more rest more, error_bounds rest, error_open rest more, length-append rest more)
 
 pub stuck_by : (bad : BadBytes) (rest : List ℕ) (room at : ℕ) → valid_len room rest ≡ 0 → (r : Refusal) → next_of bad rest room at ≡ Refused r → (e : Bool) (more : List ℕ) → front_len e bad room (rest ++ more) ≡ 0
-stuck_by Refuse rest room at stuck r is e more = valid_next rest room at Refuse r (next_is Refuse rest room at _ is) stuck more
-stuck_by Replace rest room at stuck r is e more =
-    let next = next_is Replace rest room at _ is in
-    fit_stuck e (length (rest ++ more)) room (rest ++ more) (valid_next rest room at Replace r next stuck more) (part_next rest room at r next e more)
+stuck_by Refuse rest room at stuck r is e more = valid_next Refuse rest room at r is stuck more
+stuck_by Replace rest room at stuck r is e more = fit_stuck e (length (rest ++ more)) room (rest ++ more) (valid_next Replace rest room at r is stuck more) (part_next rest room at r is e more)
 
-too_large_next : (rest : List ℕ) (room at : ℕ) (r : Refusal) → NextIs rest room at Replace (Refused r) → r ≡ TooLarge at
-too_large_next rest room at _ (a_character _ begun) = refl
-too_large_next rest room at _ (a_long_part k none fault long) = refl
-too_large_next rest room at _ (too_much none open' long) = refl
+too_large_next : (rest : List ℕ) (room at : ℕ) (r : Refusal) → next_of Replace rest room at ≡ Refused r → r ≡ TooLarge at
+too_large_next rest room at r is = grind (arith, nat_tests)
 
 pub refused_by : (bom : Bom) (bad : BadBytes) (limit : ℕ) (front rest : List ℕ) → IsFront bad front rest → length front ≤ limit → valid_len (limit - length front) rest ≡ 0 → (r : Refusal) → next_of bad rest (limit - length front) (length front) ≡ Refused r
     → StaysRefused (record { bom = bom; bad = bad; limit = limit }) (front ++ rest) r
-refused_by bom Refuse limit front rest u within stuck r is more = stays_refused limit front rest u within stuck r (next_is Refuse rest _ _ _ is) more
+refused_by bom Refuse limit front rest u within stuck r is more = stays_refused limit front rest u within stuck r is more
 refused_by bom Replace limit front rest p within stuck r is more =
-    let next = next_is Replace rest _ _ _ is in
     ap (refusal_of (record { bom = bom; bad = Replace; limit = limit })) (append_assoc front rest more)
     ∙ replaced_past bom limit front (rest ++ more) (Parts-more front rest more p) within (stuck_by Replace rest _ _ stuck r is true more)
-    (omega (arith, length-append rest more, some_next rest _ _ _ r next))
-    ∙ ap Some (sym (too_large_next rest _ _ r next))
+    (omega (arith, length-append rest more, some_next Replace rest _ _ r is))
+    ∙ ap Some (sym (too_large_next rest _ _ r is))
 
 -- no more of the bytes is read then
 pub only_front : (e : Bool) (bad : BadBytes) (limit : ℕ) (front rest : List ℕ) → IsFront bad front rest → length front ≤ limit → front_len e bad (limit - length front) rest ≡ 0 → take (front_len e bad limit (front ++ rest)) (front ++ rest) ≡ front
@@ -82,17 +69,12 @@ pub record WhatIsBad (bad : BadBytes) (rest : List ℕ) (room n : ℕ) : Type 0 
   pub is_bad : utf8_error_len rest ≡ Some n
   pub fits : n ≤ room
 
-waits_by : (rest : List ℕ) (room at : ℕ) (bad : BadBytes) → NextIs rest room at bad Waits → WhatWaits bad rest room
-waits_by rest room at _ (not_yet bad none open' fits) = record { none = none; is_open = open'; fits = fits }
-
 pub what_waits : (bad : BadBytes) (rest : List ℕ) (room at : ℕ) → next_of bad rest room at ≡ Waits → WhatWaits bad rest room
-what_waits bad rest room at e = waits_by rest room at bad (next_is bad rest room at _ e)
-
-bad_by : (rest : List ℕ) (room at n : ℕ) (bad : BadBytes) → NextIs rest room at bad (Bad n) → WhatIsBad bad rest room n
-bad_by rest room at _ _ (a_part k none fault fits) = record { how = refl; none = none; is_bad = fault; fits = fits }
+what_waits bad rest room at e = record { none = grind (arith, nat_tests); is_open = grind (arith, nat_tests); fits = grind (arith, nat_tests) }
 
 pub what_is_bad : (bad : BadBytes) (rest : List ℕ) (room at n : ℕ) → next_of bad rest room at ≡ Bad n → WhatIsBad bad rest room n
-what_is_bad bad rest room at n e = bad_by rest room at n bad (next_is bad rest room at _ e)
+what_is_bad bad rest room at n e =
+    record { how = grind (arith, nat_tests); none = grind (arith, nat_tests); is_bad = grind (arith, nat_tests); fits = grind (arith, nat_tests) }
 
 -- nothing is read of what waits
 pub waits_unread : (bad : BadBytes) (rest : List ℕ) (room : ℕ) → valid_len room rest ≡ 0 → WhatWaits bad rest room → front_len false bad room rest ≡ 0

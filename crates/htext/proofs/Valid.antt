@@ -1,5 +1,5 @@
 -- Laws of the valid front.
-use Rattle.htext.proofs.Names.{cases_eq, ◌≡◌, ℕ, zero, suc, ◌<◌, ◌≤◌, ◌+◌, ◌-◌, Bool, true, false, cond, List, [], ◌∷◌, ◌++◌, length, take, drop, sym, refl, ap, ◌∙◌, subst, arith, inl, inr, append_assoc, eqb, None, Some, Option, nat_tests, cases_lt, and_parts, take_at, take-take, drop_at, length-append, length-take, length-take-le, take-append-drop, take-append-add, IsUtf8-nil, IsUtf8-append, IsUtf8-drop, utf8_valid_len_le, length-encode, len_utf8_bounds, IsUtf8-encode, scalars, IsUtf8, utf8_valid_len, IsScalar, encode_utf8, Refusal, Refuse, Keep, valid_len, refusal_with, refusal_of, BeginsNoCharacter}
+use Rattle.htext.proofs.Names.{cases_eq, ◌≡◌, ℕ, zero, suc, ◌<◌, ◌≤◌, ◌+◌, ◌-◌, Bool, true, false, cond, List, [], ◌∷◌, ◌++◌, length, take, drop, sym, refl, ap, ◌∙◌, subst, arith, inl, inr, append_assoc, Some, Option, nat_tests, cases_lt, and_parts, take_at, take-take, drop_at, length-append, length-take, length-take-le, take-append-drop, take-append-add, IsUtf8-nil, IsUtf8-append, IsUtf8-drop, utf8_valid_len_le, length-encode, len_utf8_bounds, IsUtf8-encode, scalars, IsUtf8, utf8_valid_len, IsScalar, encode_utf8, Refusal, Refuse, Keep, valid_len, refusal_with, refusal_of, BeginsNoCharacter}
 use Rattle.std.proofs.lemmas.Str.{IsCharBoundary-from_take, IsUtf8-from_is_utf8, is_utf8-from_IsUtf8}
 use Rattle.std.specs.Str.{is_utf8, encode_utf8_all}
 use Rattle.std.specs.Str.Lossy.{valid_len_up_to}
@@ -109,15 +109,7 @@ none_valid bs none = elim (cases_lt 0 (utf8_valid_len bs)) [
 pub going_on : (rest more : List ℕ) → 0 < utf8_valid_len rest → 0 < utf8_valid_len (rest ++ more)
 going_on rest more h = let (c, r, s, e) = starts rest h in starts_back (rest ++ more) (r ++ more) c s (ap (λ (x : List ℕ). x ++ more) e ∙ append_assoc (encode_utf8 c) r more)
 
--- the refusal depends on whether a character follows, and not on how many do
-pub refusal_same : (j k at : ℕ) → (0 < j → 0 < k) → (0 < k → 0 < j) → refusal_with Refuse j at ≡ refusal_with Refuse k at
-refusal_same j k at to from = grind (arith, nat_tests, to, from)
-
-refusal_value : (v len u w r k : ℕ) → v ≡ w → len ≡ w + r → 0 < r → u ≡ w + k → cond (eqb v len) None (Some (refusal_with Refuse (u - v) v)) ≡ Some (refusal_with Refuse k w)
-refusal_value v len u w r k a b c d = let e : u - v ≡ k = omega arith in grind (arith, nat_tests)
-
 -- where the valid front ends before the bytes do
 pub refusal_past : (limit : ℕ) (front rest : List ℕ) → IsUtf8 front → length front ≤ limit → valid_len (limit - length front) rest ≡ 0 → 0 < length rest → refusal_within limit (front ++ rest) ≡ Some (refusal_with Refuse (utf8_valid_len rest) (length front))
 refusal_past limit front rest u within stuck some =
-    refusal_value (valid_len limit (front ++ rest)) (length (front ++ rest)) (utf8_valid_len (front ++ rest)) (length front) (length rest) (utf8_valid_len rest)
-    (omega (arith, valid_len-append limit front rest u within)) (length-append front rest) some (utf8_valid_len-append front rest u)
+    grind (arith, nat_tests, valid_len-append limit front rest u within, length-append front rest, utf8_valid_len-append front rest u)

@@ -48,14 +48,10 @@ module _ (n m : ℕ) (bytes : List ℕ) (cut : IsCut n bytes) (again : IsCut m (
 
 -- a text that is empty has no characters, and another one has some
 pub no_characters : (bytes : List ℕ) → true ≡ eqb (length bytes) 0 → chars bytes ≡ []
-no_characters [] none = chars-nil
-no_characters (b ∷ bs) none = absurd (omega (arith, eqb-true (length (b ∷ bs)) 0 (sym none)))
+no_characters bytes none = ap chars (nil_from_length bytes (omega (arith, eqb-true (length bytes) 0 (sym none)))) ∙ chars-nil
 
 pub has_characters : (bytes : List ℕ) → IsUtf8 bytes → false ≡ eqb (length bytes) 0 → false ≡ eqb (length (chars bytes)) 0
-has_characters bytes u some = by (chars bytes) (encodes-chars bytes u) where
-  by : (cs : List ℕ) → encode_utf8_all cs ≡ bytes → false ≡ eqb (length cs) 0
-  by [] e = some ∙ sym (ap (λ (l : List ℕ). eqb (length l) 0) e)
-  by (c ∷ cs) e = grind (arith, nat_tests)
+has_characters bytes u some = grind (arith, nat_tests, nil_from_length (chars bytes), encodes-chars bytes u)
 
 -- the first character of a text
 module _ (bytes : List ℕ) (u : IsUtf8 bytes) (c : ℕ) (cs : List ℕ) (is : chars bytes ≡ c ∷ cs) where

@@ -17,7 +17,7 @@ abbrev pub char_errors : Placed → List ParseError
 char_errors p = error_if (is_stray_control p.ch) ControlCharacterInInputStream p.at
     ++ error_if (is_noncharacter p.ch) NoncharacterInInputStream p.at
 
--- those of what is in a text, and of a text
+-- the errors of a character or a bad part, and those of a text
 abbrev pub errors_of : Read → List ParseError
 errors_of (Whole p) = char_errors p
 errors_of (Bad at) = error ReplacedBytes at ∷ []
@@ -30,7 +30,7 @@ pub data CharItem : Type 0 where
   Character : Placed → CharItem
   InputError : ParseError → CharItem
 
--- a character right after its errors, and so each of a text
+-- the items of a character or a bad part, the errors first, and those of a text
 abbrev pub items_of : Read → List CharItem
 items_of r = map InputError (errors_of r) ++ Character (character_of r) ∷ []
 

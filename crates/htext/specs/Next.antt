@@ -1,4 +1,4 @@
--- What is at the front of bytes that begin with no character that fits.
+-- What is at the front of bytes that begin with no character within the limit: of them `room` fit, and the first is at `at`.
 use Rattle.std.specs.Prelude.{◌≡◌, ◌<◌, ◌≤◌, ℕ, zero, suc, false, nat_lt, if◌then◌else◌, List, length, drop, Option, Some, None}
 use Rattle.std.specs.Str.Lossy.{utf8_valid_len, utf8_error_len}
 use Rattle.names.specs.declared.refusal.Refusal.TheVariants.{NotUtf8, TooLarge}
@@ -8,7 +8,7 @@ use Rattle.htext.specs.declared.BadBytes.TheVariants.{Refuse, Replace}
 use Rattle.htext.specs.declared.progress.Front.{Front}
 use Rattle.htext.specs.declared.progress.Front.TheVariants.{Bad, Waits, Refused}
 
--- the same where there are `len` bytes, which begin with no character: with a bad part of that length, or with none that is settled
+-- Of `len` bytes that begin with no character at all: a bad part of `n` bytes, or with `None` what may still become a character.
 abbrev pub next_part : BadBytes → Option ℕ → ℕ → ℕ → ℕ → Front
 next_part Refuse (Some n) len room at = Refused (NotUtf8 at)
 next_part Refuse None len room at = Waits
@@ -23,13 +23,14 @@ abbrev pub AreBad : ℕ → List ℕ → Type 0
 AreBad zero bytes = Unit {0}
 AreBad (suc n) bytes = IsBadAlone bytes × AreBad n (drop 1 bytes)
 
--- this many of them are replaced, one by one
+-- the first `n` bytes are replaced, one by one
 pub record AreReplaced (bad : BadBytes) (rest : List ℕ) (room n : ℕ) : Type 0 where
   pub how : 0 < n → bad ≡ Replace
   pub are_bad : AreBad n rest
   pub within : n ≤ length rest
   pub fits : n ≤ room
 
+-- of any such bytes; a character at their front is one that doesn't fit
 abbrev pub next_of : BadBytes → List ℕ → ℕ → ℕ → Front
 next_of bad rest room at =
     if nat_lt 0 (utf8_valid_len rest) then Refused (TooLarge at)

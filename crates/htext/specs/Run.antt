@@ -29,7 +29,7 @@ is_clean_byte byte = is_plain_byte byte || byte == 60 || byte == 38 || (nat_le 0
 abbrev pub is_text_byte : ℕ → Bool
 is_text_byte byte = not (byte == 60 || byte == 38)
 
--- such a byte in ASCII other than `>`
+-- an ASCII byte that is neither `<`, `&` nor `>`
 abbrev pub is_inner_byte : ℕ → Bool
 is_inner_byte byte = is_ascii byte && is_text_byte byte && not (byte == 62)
 

@@ -1,7 +1,7 @@
 //! How a character is handed over.
 
 ghost use Rattle.std.specs.Prelude.{◌≡◌, ◌<◌, map};
-ghost use Rattle.htext.specs.Vocabulary.{Hands, Whole, items, items_of, is_stray_control, read_as};
+ghost use Rattle.htext.specs.Vocabulary.{Hands, Whole, items, items_of, read_as};
 
 use crate::Bom;
 use crate::decoder::MAX_INPUT;
@@ -40,7 +40,7 @@ fn hand_read<S: CharSink>(ch: char, at: u64, sink: &mut S) -> Result<(), Refusal
     requires { at < MAX_INPUT }
     ensures { Hands S.gives sink.old (items_of (Whole (record { ch = ch; at = at }))) result sink.new }
 {
-    if is_stray_control(ch) {
+    if ch.is_control() && ch != '\0' && !ch.is_ascii_whitespace() {
         sink.take_error(ParseError {
             code: ErrorCode::ControlCharacterInInputStream,
             at,
@@ -53,10 +53,4 @@ fn hand_read<S: CharSink>(ch: char, at: u64, sink: &mut S) -> Result<(), Refusal
         })?;
     }
     sink.take_char(ch, at)
-}
-
-fn is_stray_control(ch: char) -> bool
-    ensures { result ≡ is_stray_control ch }
-{
-    ch.is_control() && !(ch == '\0' || ch.is_ascii_whitespace())
 }

@@ -79,8 +79,8 @@ impl Decoder {
         answer
     }
 
-    /// The same for a decoder that has refused nothing yet, which doesn't keep its refusal. A character that a piece has cut is
-    /// completed byte by byte; the rest is read without a copy.
+    /// The same for a decoder that has refused nothing yet; a refusal is for the caller to keep. A character that was cut by the end of
+    /// the last piece is completed byte by byte; the rest is read without a copy.
     fn read_on<S: CharSink>(&mut self, bytes: &[u8], sink: &mut S) -> Result<(), Refusal>
         ensures feeds { (fed : List ℕ) → HasFed self.old fed
             → Feeds S.gives self.old.how fed bytes.now sink.old result sink.new }
@@ -129,8 +129,8 @@ impl Decoder {
         self.reading.read
     }
 
-    /// Ends the input. It must not end inside a character, unless bad bytes are replaced. Nothing is held then, so a second call does
-    /// nothing. An error leaves what was read and what was held, and each call after it returns it.
+    /// Ends the input. It must not end inside a character, unless bad bytes are replaced. No byte is held after it, so a second call does
+    /// nothing. An error leaves what was read and what is held as it was, and each later call returns the same error.
     pub fn finish<S: CharSink>(&mut self, sink: &mut S) -> Result<(), Refusal>
         ensures ends { (fed : List ℕ) → HasFed self.old fed → Ends S.gives self.old.how fed sink.old result sink.new }
         ensures whole { OnOk result ((fed : List ℕ) → HasFed self.old fed → self.new.read ≡ length fed) }

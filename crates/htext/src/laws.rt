@@ -13,13 +13,13 @@ pub fn items_are_characters_and_errors()
     ensures errors { (text : List Read) → errors_among (items text) ≡ input_errors text }
 {}
 
-/// What is in bytes that are UTF-8 is their characters.
+/// Bytes that are UTF-8 are read as their characters.
 pub fn valid_bytes_are_characters()
     ensures { (bytes : List ℕ) → IsUtf8 bytes → reads bytes ≡ map Whole (placed 0 (chars bytes)) }
 {}
 
-/// Where no character is, a bad part is read, as its definition has it: at the end of the input, and before it as soon as it is the same
-/// whatever follows.
+/// Where no character begins, a bad part is read, as its definition says: at the end of the input, and before it as soon as the part is
+/// the same whatever follows.
 pub fn bad_parts_begin_characters()
     ensures at_end { (bytes : List ℕ) (n : ℕ) → (bad_len true bytes ≡ Some n) ↔ IsBadPart bytes n }
     ensures before_end { (bytes : List ℕ) (n : ℕ) → (bad_len false bytes ≡ Some n) ↔ ((more : List ℕ) → IsBadPart (bytes ++ more) n) }

@@ -1,4 +1,4 @@
-//! How far an input has been read.
+//! Reads bytes as UTF-8 as far as their text is the same whatever follows, and hands that text to a sink.
 
 ghost use Rattle.std.specs.Prelude.{◌≡◌, ℕ, ◌+◌, ◌-◌, ◌<◌, ◌≤◌, true, false, List, [], ◌∷◌, ◌++◌, length, map, take, drop, Ok, Err, IfOk, OnOk, IfErr};
 ghost use Rattle.std.specs.Prelude.{MatchOption, MatchResult};
@@ -30,19 +30,20 @@ pub(crate) struct Progress {
     ghost within: { read ≤ limit },
 }
 
-/// What is at the front of bytes that begin with no character that fits.
+/// What is at the front of bytes that begin with no character within the limit.
 pub(crate) enum Front {
     /// A bad part of this length, to be replaced.
     Bad(usize),
-    /// Nothing that is settled before more bytes follow.
+    /// Nothing yet: what it is depends on the bytes that follow.
     Waits,
     /// What is refused, whatever follows.
     Refused(Refusal),
 }
 
 impl Progress {
-    /// Reads the longest front of the bytes, which follow those read before, that is read whatever follows them. It hands the text of
-    /// that to the sink, and returns its length. The bytes are refused as soon as what is left can't become what fits.
+    /// Reads bytes that follow those read before, as many as are read whatever follows them, and hands their text to the sink. It returns
+    /// how many these are; at most three are left, which may begin a character. The bytes are refused as soon as what is left can become
+    /// neither a character nor a bad part within the limit.
     pub(crate) fn advance<S: CharSink>(
         &mut self,
         bytes: &[u8],
@@ -95,7 +96,7 @@ impl Progress {
         }
     }
 
-    /// What is read of bytes whose front fits: as much as there is room for.
+    /// As many of the bytes as are within the limit.
     fn fitting<'a>(&self, bytes: &'a [u8]) -> &'a [u8]
         ensures { result.now ≡ take (self.now.limit - self.now.read) bytes.now }
     {
@@ -103,7 +104,7 @@ impl Progress {
         &bytes[..room]
     }
 
-    /// How many bytes at the front are bad parts by themselves, which fit: none where bad bytes are refused.
+    /// How many bytes at the front are within the limit and each a bad part by itself; none where bad bytes are refused.
     fn bad_alone(&self, rest: &[u8]) -> usize
         ensures replaced { AreReplaced self.now.bad_bytes rest.now (self.now.limit - self.now.read) result }
         ensures all { self.now.bad_bytes ≡ Replace → result < self.now.limit - self.now.read → IsBadAlone (drop result rest.now) → ⊥ }
@@ -114,7 +115,7 @@ impl Progress {
         }
     }
 
-    /// What is at the front of bytes that begin with no character that fits.
+    /// What is at the front of bytes that begin with no character within the limit.
     fn next(&self, rest: &[u8]) -> Front
         ensures { result ≡ next_of self.now.bad_bytes rest.now (self.now.limit - self.now.read) self.now.read }
     {
@@ -137,8 +138,8 @@ impl Progress {
         }
     }
 
-    /// Hands over what replaces this many bad parts, which have this length in all, as the next of the input. Of more than one, each is
-    /// of one byte.
+    /// Hands over what replaces the next `count` bad parts of the input, which have `len` bytes in all. Where they are more than one,
+    /// each has one byte.
     fn hand_bad<S: CharSink>(
         &mut self,
         count: usize,
@@ -159,7 +160,8 @@ impl Progress {
         Ok(())
     }
 
-    /// Hands a text to the sink, as the next of the input.
+    /// Hands the next text of the input to the sink.
+    #[inline(always)]
     fn hand_text<S: CharSink>(&mut self, text: &str, sink: &mut S) -> Result<(), Refusal>
         requires { self.old.read + length text.now ≤ self.old.limit }
         ensures handed { Hands S.gives sink.old
@@ -202,8 +204,8 @@ fn split_first(text: &str) -> Option<(char, &str)>
     Some((first, chars.as_str()))
 }
 
-/// How many bytes the run of clean characters has at the front of a text that begins with this one. None after a CR, where an LF is not
-/// handed over. At a character that often ends a run, none are looked for.
+/// How many bytes the run of clean characters at the front of a text has, whose first character is `first`. It is 0 after a CR, since an
+/// LF is left out there, and where `first` is in a range that has no clean characters.
 #[inline(always)]
 fn run_at(text: &str, first: char, after_return: bool) -> usize
     ensures front { IsCleanFront result text.now }
@@ -230,6 +232,7 @@ fn valid_text(bytes: &[u8], after_bad: bool) -> &str
     }
 }
 
+/// The same, byte by byte.
 fn valid_text_by_one(bytes: &[u8]) -> &str
     ensures { result.now ≡ take (utf8_valid_len bytes.now) bytes.now }
 {

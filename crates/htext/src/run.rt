@@ -1,4 +1,4 @@
-//! Runs of bytes.
+//! How long the run of bytes of one kind at the front of a text is, counted 16 bytes at a time.
 
 ghost use Rattle.std.specs.Prelude.{◌≡◌, ◌<◌, ◌≤◌, ◌==◌, ◌↔◌, not, map, length, drop, IsTrue};
 ghost use Rattle.std.specs.Int.{is_in_range};
@@ -12,11 +12,11 @@ use std::simd::prelude::*;
 /// Which bytes make up a run.
 #[derive(Clone, Copy)]
 pub(crate) enum RunBytes {
-    /// Those in ASCII but `<`, `>` and `&`.
+    /// All of ASCII but `<`, `>` and `&`.
     Inner,
     /// All but `<` and `&`.
     Text,
-    /// Those of clean characters.
+    /// Those of clean characters (`clean_run` says which).
     Clean,
     /// ASCII letters and digits.
     Alphanumeric,
@@ -24,8 +24,8 @@ pub(crate) enum RunBytes {
     Other(u8),
 }
 
-/// The bytes of clean characters by their halves: a bit for each kind of high half, 1 for 0, 2 for 2 to 6, 4 for 7, 8 for 8 to B and D,
-/// 16 for C, and 32 for E. A byte is clean where its low half has the bit of its high one.
+/// The bytes of clean characters, by their low and high halves (four bits each). Each bit stands for some high halves: 1 for 0, 2 for
+/// 2 to 6, 4 for 7, 8 for 8 to B and D, 16 for C, and 32 for E. A byte is clean where the entries of its two halves share a bit.
 const BY_LOW: [u8; 16] = [
     46, 46, 46, 62, 62, 62, 62, 62, 62, 63, 63, 62, 63, 62, 62, 26,
 ];
@@ -88,7 +88,7 @@ pub(crate) fn bad_run(bytes: &[u8], most: usize) -> usize
     count
 }
 
-/// Whether the first byte is a bad part by itself, whatever follows: it begins no character, or the next one can't follow it there.
+/// Whether the first byte is a bad part by itself, whatever follows: it begins no character, or the next byte can't be the second of one.
 #[inline(always)]
 fn is_bad_alone(bytes: &[u8]) -> bool
     requires { 0 < length bytes.now }
@@ -116,6 +116,7 @@ fn may_follow(first: u8, second: u8) -> bool
         }
 }
 
+/// Counts the bytes at the front that may be in a run, a vector at a time.
 #[inline(always)]
 fn run(kind: RunBytes, bytes: &[u8]) -> usize
     ensures { result ≡ prefix_len (is_of kind) bytes.now }

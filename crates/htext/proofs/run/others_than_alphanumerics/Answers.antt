@@ -1,4 +1,4 @@
-use Rattle.htext.proofs.Names.{◌≡◌, ◌∙◌, ℕ, List, ap, bit_and, bit_or, cond, length, map, replicate, sym, arith, length-map, map-map, zip2_of_maps, zip2_splat, zip2_splat_left, zip2, is_not_of}
+use Rattle.htext.proofs.Names.{refl, ◌≡◌, ◌∙◌, ℕ, List, ap, bit_and, bit_or, cond, length, map, replicate, sym, arith, length-map, map-map, zip2_of_maps, zip2_splat, zip2_splat_left, zip2, is_not_of}
 use Rattle.std.proofs.Common.{ltb}
 use Rattle.std.proofs.lemmas.List.{map-id}
 use Rattle.htext.specs.declared.run.RunBytes.TheVariants.{Alphanumeric}
@@ -27,4 +27,4 @@ returns c =
     let v = c.args.bytes in
     let long = c.fits-bytes.0 in
     masked (λ x. bit_and (bit_or (below (small x) 97) (below 122 (small x))) (bit_or (below x 48) (below 57 x))) (is_not_of Alphanumeric) v _ (omega arith) c.fits-bytes.1
-    (zip2_of_maps bit_and _ _ v (outside v small 97 122 long (zip2_splat bit_or v 16 32 long)) (outside v (λ x. x) 48 57 long (sym (map-id v)))) tt
+    (zip2_of_maps bit_and _ _ v (outside v small 97 122 long (zip2_splat bit_or v 16 32 long)) (outside v (λ x. x) 48 57 long (sym (map-id v)))) refl

@@ -1,4 +1,4 @@
-use Rattle.htext.proofs.Names.{◌≡◌, ℕ, List, bit_or, cond, length, map, replicate, arith, zip2_splat, zip2_splat_left, zip2_of_maps, zip2, is_not_of}
+use Rattle.htext.proofs.Names.{refl, ◌≡◌, ℕ, List, bit_or, cond, length, map, replicate, arith, zip2_splat, zip2_splat_left, zip2_of_maps, zip2, is_not_of}
 use Rattle.std.proofs.Common.{leb}
 use Rattle.htext.specs.declared.run.RunBytes.TheVariants.{Inner, Text, Other}
 use Rattle.htext.proofs.Lanes.{hit, hit_top, masked, masked_by}
@@ -19,10 +19,10 @@ returns-in-Inner c =
     let v = c.args.bytes in
     let long = c.fits-bytes.0 in
     rw c.in-Inner.is (masked (λ x. bit_or (bit_or (mark x) (hit x 62)) (at_most 128 x)) (is_not_of Inner) v _ (omega arith) c.fits-bytes.1
-    (zip2_of_maps bit_or _ _ v (zip2_of_maps bit_or _ _ v (marks v long) (zip2_splat hit v 16 62 long)) (zip2_splat_left at_most 128 16 v long)) tt)
+    (zip2_of_maps bit_or _ _ v (zip2_of_maps bit_or _ _ v (marks v long) (zip2_splat hit v 16 62 long)) (zip2_splat_left at_most 128 16 v long)) refl)
 
 pub returns-in-Text : goal.returns-in-Text
-returns-in-Text c = rw c.in-Text.is (masked mark (is_not_of Text) c.args.bytes _ (omega arith) c.fits-bytes.1 (marks c.args.bytes c.fits-bytes.0) tt)
+returns-in-Text c = rw c.in-Text.is (masked mark (is_not_of Text) c.args.bytes _ (omega arith) c.fits-bytes.1 (marks c.args.bytes c.fits-bytes.0) refl)
 
 pub returns-in-Other : goal.returns-in-Other
 returns-in-Other c =

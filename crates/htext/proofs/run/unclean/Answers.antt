@@ -1,4 +1,4 @@
-use Rattle.htext.proofs.Names.{◌/◌, ℕ, bit_and, get_or, arith, and_le_r, zip2_splat, zip2_of_maps, is_not_of}
+use Rattle.htext.proofs.Names.{refl, ◌/◌, ℕ, bit_and, get_or, arith, and_le_r, zip2_splat, zip2_of_maps, is_not_of}
 use Rattle.htext.specs.declared.run.RunBytes.TheVariants.{Clean}
 use Rattle.htext.specs.declared.run.TheConstants.{BY_LOW, BY_HIGH}
 use Rattle.htext.proofs.Lanes.{down, hit, hit_of, low_half, high_half, looked_up, masked}
@@ -20,4 +20,4 @@ returns c =
     let long = c.fits-bytes.0 in
     let low = looked_up BY_LOW (λ x. bit_and x 15) v c.fits-bytes (zip2_splat bit_and v 16 15 long) (λ x h. omega (arith, and_le_r x 15)) in
     let high = looked_up BY_HIGH (λ x. x / 16) v c.fits-bytes (zip2_splat down v 16 4 long) (λ x h. omega arith) in
-    masked found (is_not_of Clean) v _ (omega arith) c.fits-bytes.1 (hit_of _ 0 16 v long (zip2_of_maps bit_and _ _ v low high)) tt
+    masked found (is_not_of Clean) v _ (omega arith) c.fits-bytes.1 (hit_of _ 0 16 v long (zip2_of_maps bit_and _ _ v low high)) refl
