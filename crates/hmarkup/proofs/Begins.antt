@@ -1,8 +1,9 @@
 -- Each comment at the front of a text begins with what was read of it, and its errors begin with those reported.
-use Rattle.hmarkup.proofs.Names.{◌≡◌, ℕ, ◌≤◌, true, false, eqb, List, [], ◌∷◌, ◌++◌, length, sym, refl, ap, ◌∙◌, codes, arith, append_assoc, append-nil, map-append, false≢true, eqb-true, and_parts, or_left, or_right, encode_utf8, ParseError, AbruptClosingOfEmptyComment, EofInComment, IncorrectlyClosedComment, Placed, characters, place, spells, is_front, error, null_errors, without_null, CommentKind, Comment, Bogus, closes_comment, closes_at_once, closes_bogus, errors_here, errors_after, IsComment, closed_at_once, closed_with_bang, unclosed, IsBogus, closed_bogus, unclosed_bogus, Begins, BeginsSpans, IsOpen, IsOneSpan, Progress, IsInComment, IsInBogus, HasReadOf, IsSpan, backwards}
+use Rattle.hmarkup.proofs.Names.{◌≡◌, ℕ, ◌≤◌, true, false, eqb, List, [], ◌∷◌, ◌++◌, length, sym, refl, ap, ◌∙◌, codes, arith, append_assoc, append-nil, map-append, false≢true, eqb-true, and_parts, or_left, or_right, encode_utf8, ParseError, Placed, characters, spells, is_front, null_errors, without_null, CommentKind, Comment, Bogus, closes_comment, closes_at_once, closes_bogus, errors_here, errors_after, IsComment, closed_at_once, closed_with_bang, unclosed, IsBogus, closed_bogus, unclosed_bogus, Begins, BeginsSpans, IsOpen, IsOneSpan, Progress, IsInComment, IsInBogus, HasReadOf, IsSpan, backwards}
 use Rattle.hmarkup.specs.Comment.{closed}
 use Rattle.hmarkup.proofs.Marks.{not_past, spells-characters, first_is, null_errors-append}
 use Rattle.hmarkup.proofs.Fronts.{IsFront, front_of, front_more}
+use Rattle.hmarkup.proofs.Unique.{told_of}
 use Rattle.hmarkup.proofs.Walking.{before-text, errors-append}
 use Rattle.hmarkup.proofs.InBogus.{before-bogus, bogus_kept}
 
@@ -43,13 +44,6 @@ pub open_of : (kind : CommentKind) (w : Progress) (text : List Placed) (errs : L
 open_of Comment w text errs h = λ end rest d es s. not_ended w text errs h end rest text d es s [] (sym (append-nil text))
 open_of Bogus w text errs h = λ end rest d es s. not_ended_bogus w text errs h rest text d es s [] (sym (append-nil text))
 
--- a comment's errors: those of its characters, and that of its end
-comment_errors : (end : ℕ) (rest span : List Placed) (d : List ℕ) (es : List ParseError) → IsComment end rest span d es → (last : List ParseError) × (es ≡ errors_after [] span ++ last)
-comment_errors end rest span d es (closed_at_once dash close t f c data_is errors_are) = (error AbruptClosingOfEmptyComment (place end close) ∷ [], errors_are)
-comment_errors end rest span d es (closed inner close t s b c data_is errors_are) = ([], errors_are ∙ sym (append-nil (errors_after [] span)))
-comment_errors end rest span d es (closed_with_bang inner dashes close t s b c1 c data_is errors_are) = (error IncorrectlyClosedComment (place end close) ∷ [], errors_are)
-comment_errors end rest span d es (unclosed r s b data_is errors_are) = (error EofInComment end ∷ [], errors_are)
-
 no_null : (close : List Placed) → characters close ≡ codes ">" → null_errors close ≡ []
 no_null [] c = refl
 no_null (q ∷ r ∷ qs) c = absurd cc
@@ -64,14 +58,14 @@ bogus_errors rest span d es (unclosed_bogus r b data_is errors_are) = errors_are
 begins_with : (text after rest span : List Placed) (errs : List ParseError) (end : ℕ) (d : List ℕ) (es : List ParseError) → errs ≡ errors_after [] text → IsFront text after rest span → IsComment end rest span d es
     → Begins text after rest span errs es
 begins_with text after rest span errs end d es e front s =
-    let all = comment_errors end rest span d es s in
+    let told = told_of end rest span d es s in
     record {
       more = front.more;
-      later = errors_after (backwards [] text) front.more ++ all.0;
+      later = errors_after (backwards [] text) front.more ++ told.last;
       span_is = front.span_is;
       after_is = front.after_is;
-      all_are = all.1 ∙ ap (λ (x : List Placed). errors_after [] x ++ all.0) front.span_is ∙ ap (λ (x : List ParseError). x ++ all.0) (errors-append [] text front.more)
-          ∙ append_assoc (errors_after [] text) (errors_after (backwards [] text) front.more) all.0 ∙ ap (λ (x : List ParseError). x ++ (errors_after (backwards [] text) front.more ++ all.0)) (sym e);
+      all_are = told.errors_are ∙ ap (λ (x : List Placed). errors_after [] x ++ told.last) front.span_is ∙ ap (λ (x : List ParseError). x ++ told.last) (errors-append [] text front.more)
+          ∙ append_assoc (errors_after [] text) (errors_after (backwards [] text) front.more) told.last ∙ ap (λ (x : List ParseError). x ++ (errors_after (backwards [] text) front.more ++ told.last)) (sym e);
     }
 
 -- so far, and after one more character

@@ -69,6 +69,10 @@ module _ (known : Found) (end : ℕ) (rest : List Placed) (found : Found) where
     skipped_goes h is = goes_there h.skipped h.close h.text_is h.without h.closes h.found_is h.errors_are is
 
     -- backwards
+    pub skipped_none : is_greater p.ch ≡ true → ps ≡ [] → found ≡ known → IsSkipped known end rest (p ∷ ps) found []
+    skipped_none is t f =
+        record { skipped = []; close = p ∷ ps; text_is = refl; without = refl; closes = subst (λ (x : List Placed). is_greater_or_end (p ∷ x) rest ≡ true) (sym t) (and_from (is_greater p.ch) true is refl); found_is = f; errors_are = refl }
+
     pub skipped_more : IsSkipped known end rest ps found errors → is_greater p.ch ≡ false → IsSkipped known end rest (p ∷ ps) found (null_errors (p ∷ []) ++ errors)
     skipped_more h is = record {
       skipped = p ∷ h.skipped;

@@ -1,5 +1,5 @@
 -- A bogus comment that has not ended, and one more character or the end.
-use Rattle.hmarkup.proofs.Names.{arith, ◌≡◌, ℕ, Bool, true, false, not, ◌&&◌, ◌||◌, eqb, List, [], ◌∷◌, ◌++◌, sym, refl, ap, ◌∙◌, append-nil, encode_utf8, ParseError, Placed, all, before, Avoids, null_errors, text_bytes, without_null, Bogus, errors_here, closes_bogus, IsBogus, closed_bogus, unclosed_bogus, Progress, begun, IsInBogus}
+use Rattle.hmarkup.proofs.Names.{nat_tests, and_parts, arith, ◌≡◌, ℕ, Bool, true, false, ◌&&◌, eqb, List, [], ◌∷◌, ◌++◌, sym, refl, ap, ◌∙◌, append-nil, encode_utf8, ParseError, Placed, all, before, Avoids, null_errors, text_bytes, without_null, Bogus, errors_here, closes_bogus, IsBogus, closed_bogus, unclosed_bogus, Progress, begun, IsInBogus}
 use Rattle.hmarkup.specs.Comment.{is_plain_in_bogus}
 use Rattle.hmarkup.proofs.Marks.{Avoids-more, Avoids-append, before-avoids, text_bytes-append, null_errors-append}
 
@@ -34,20 +34,13 @@ pub bogus_unclosed : (w : Progress) (text : List Placed) (errs : List ParseError
 bogus_unclosed w text errs h = unclosed_bogus refl (before-bogus w text errs h) h.data_is (append-nil errs ∙ h.errors_are)
 
 -- plain characters have been read: they close nothing, and none is an error
-plain_parts : (greater null others : Bool) → (not (greater || null) && others) ≡ true → (greater ≡ false) × (null ≡ false) × (others ≡ true)
-plain_parts greater null others h = (grind arith, grind arith, grind arith)
-
 plain_avoids : (text : List Placed) → all is_plain_in_bogus text ≡ true → Avoids closes_bogus text []
 plain_avoids [] h = tt
-plain_avoids (p ∷ ps) h =
-    let k = plain_parts (eqb p.ch 62) (eqb p.ch 0) (all is_plain_in_bogus ps) h in
-    (ap (λ (b : Bool). b && true) k.0, plain_avoids ps k.2)
+plain_avoids (p ∷ ps) h = (grind (arith, nat_tests), plain_avoids ps (and_parts _ _ h).1)
 
 plain_errors : (text : List Placed) → all is_plain_in_bogus text ≡ true → null_errors text ≡ []
 plain_errors [] h = refl
-plain_errors (p ∷ ps) h =
-    let k = plain_parts (eqb p.ch 62) (eqb p.ch 0) (all is_plain_in_bogus ps) h in
-    rw k.1 (plain_errors ps k.2)
+plain_errors (p ∷ ps) h = let null : eqb p.ch 0 ≡ false = grind (arith, nat_tests) in rw null (plain_errors ps (and_parts _ _ h).1)
 
 pub plain_read : (text : List Placed) → all is_plain_in_bogus text ≡ true → IsInBogus (begun Bogus (text_bytes text)) text []
 plain_read text h = record { kind_is = refl; no_close = plain_avoids text h; data_is = refl; errors_are = sym (plain_errors text h) }

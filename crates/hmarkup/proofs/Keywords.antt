@@ -1,17 +1,18 @@
 -- What is after the name of a doctype, and letters of its keywords: each character.
-use Rattle.hmarkup.proofs.Names.{◌≡◌, ℕ, suc, ◌+◌, ◌≤◌, ◌<◌, nat_lt, drop, length, get_or, Bool, true, false, ◌&&◌, eqb, if◌then◌else◌, List, [], ◌∷◌, ◌++◌, sym, refl, ap, ◌∙◌, subst, codes, Option, Some, None, arith, to_ascii_lowercase, false≢true, eqb-true, and_from, and_parts, and_right, or_from, or_parts, nat_tests, drop_all, list_all, ParseError, InvalidCharacterSequenceAfterDoctypeName, Placed, characters, begins, is_space, is_greater, is_greater_or_end, spells_in_any_case, error, null_errors, Identifier, Public, System, Letters, Found, closed, force, IsSkipped, AfterName, name_ends, name_skips, names_identifier, FollowsName, after_name, begins_keyword, first_letter, goes_on_with, in_keyword, next_letter, letters_after, step_errors, found_by, IsInKeyword, whole, fails}
+use Rattle.hmarkup.proofs.Names.{◌≡◌, ℕ, suc, ◌+◌, ◌≤◌, ◌<◌, nat_lt, drop, length, get_or, Bool, true, false, eqb, if◌then◌else◌, List, [], ◌∷◌, ◌++◌, sym, refl, ap, ◌∙◌, subst, Option, Some, None, arith, to_ascii_lowercase, false≢true, eqb-true, and_parts, and_right, nat_tests, drop_all, list_all, ParseError, InvalidCharacterSequenceAfterDoctypeName, Placed, begins, is_space, is_greater, spells_in_any_case, error, null_errors, Identifier, Public, System, Letters, Found, force, IsSkipped, AfterName, name_ends, name_skips, names_identifier, FollowsName, after_name, begins_keyword, first_letter, goes_on_with, in_keyword, next_letter, letters_after, step_errors, found_by, IsInKeyword, whole, fails}
 use Rattle.std.proofs.Common.{zero, nat_le}
 use Rattle.std.proofs.lemmas.Bool.{and_left}
 use Rattle.std.proofs.lemmas.List.{drop_more}
+use Rattle.names.proofs.Words.{not_second}
 use Rattle.names.specs.Placed.{lowered}
 use Rattle.hmarkup.specs.Doctype.{is_keyword, keyword, FollowsKeyword}
-use Rattle.hmarkup.specs.DoctypeSteps.{begun}
+use Rattle.hmarkup.specs.DoctypeSteps.{begun, ends}
 use Rattle.hmarkup.specs.DoctypeWalk.{left}
 use Rattle.hmarkup.proofs.Marks.{eqb_self}
 use Rattle.hmarkup.proofs.Characters.{lower_is_far, far_not_space, far_not_greater, far_not_null, no_null_error}
 use Rattle.hmarkup.proofs.Spaces.{past_space, at_once, with_space, with_none, any_space}
-use Rattle.hmarkup.proofs.Endings.{greater_spells, end_at, end_not_space, skipped_ends, skipped_goes, skipped_more, skips_at, skips_from, skips_not_space}
-use Rattle.hmarkup.proofs.Stepping.{Goes, Stepped, passed, plain_errors, space_error, greater_error}
+use Rattle.hmarkup.proofs.Endings.{end_at, end_not_space, skipped_ends, skipped_goes, skipped_none, skipped_more, skips_at, skips_from, skips_not_space}
+use Rattle.hmarkup.proofs.Stepping.{ends_by, skips_by, ended, Goes, Stepped, passed, plain_errors, space_error, greater_error}
 
 -- keywords, a letter at a time
 pub left_after : Option Letters → List ℕ
@@ -65,10 +66,6 @@ letter_not_greater p c h l = far_not_greater p.ch (lower_is_far p.ch c h l)
 pub letter_not_space : (p : Placed) (c : ℕ) → to_ascii_lowercase p.ch ≡ c → 97 ≤ c → is_space p.ch ≡ false
 letter_not_space p c h l = far_not_space p.ch (lower_is_far p.ch c h l)
 
-pub rest_no : (a b : Bool) → a ≡ true → (a && b) ≡ false → b ≡ false
-rest_no true b e h = h
-rest_no false b e h = absurd (false≢true e)
-
 -- the first letter of a keyword, if it is one
 abbrev pub first_by : Bool → Bool → Option Letters
 first_by a b = if a then Some (begun Public) else (if b then Some (begun System) else None)
@@ -87,9 +84,34 @@ worded p ps (x ∷ xs) after c cs t w =
     let letter : to_ascii_lowercase x.ch ≡ c = cc in
     record { more = xs; letter = ap (λ (q : Placed). to_ascii_lowercase q.ch) head ∙ letter; text_is = cc; others = cc }
 
-keyword_begins : (which : Identifier) (p : Placed) (ps word after : List Placed) → p ∷ ps ≡ word ++ after → lowered word ≡ keyword which → (c : ℕ) × (97 ≤ c) × (to_ascii_lowercase p.ch ≡ c)
-keyword_begins Public p ps word after t w = (112, omega arith, (worded p ps word after 112 (codes "ublic") t w).letter)
-keyword_begins System p ps word after t w = (115, omega arith, (worded p ps word after 115 (codes "ystem") t w).letter)
+-- a keyword of which no letter has been read, and its first letter
+abbrev unread : Identifier → Letters
+unread which = record { which = which; read = 0 }
+
+first_is : (which : Identifier) (c : ℕ) → to_ascii_lowercase c ≡ next_letter (unread which) → first_letter c ≡ Some (begun which)
+first_is Public c l = ap (λ (n : ℕ). first_by (eqb n 112) (eqb n 115)) l
+first_is System c l = ap (λ (n : ℕ). first_by (eqb n 112) (eqb n 115)) l
+
+first_back : (c : ℕ) (letters : Letters) → first_letter c ≡ Some letters → (letters ≡ begun letters.which) × (to_ascii_lowercase c ≡ next_letter (unread letters.which))
+first_back c letters e = by (eqb (to_ascii_lowercase c) 112) (eqb (to_ascii_lowercase c) 115) refl refl e
+  where
+    by : (a b : Bool) → eqb (to_ascii_lowercase c) 112 ≡ a → eqb (to_ascii_lowercase c) 115 ≡ b → first_by a b ≡ Some letters → (letters ≡ begun letters.which) × (to_ascii_lowercase c ≡ next_letter (unread letters.which))
+    by true b ea eb e = let is : begun Public ≡ letters = cc in subst (λ (l : Letters). (l ≡ begun l.which) × (to_ascii_lowercase c ≡ next_letter (unread l.which))) is (refl, eqb-true _ _ ea)
+    by false true ea eb e = let is : begun System ≡ letters = cc in subst (λ (l : Letters). (l ≡ begun l.which) × (to_ascii_lowercase c ≡ next_letter (unread l.which))) is (refl, eqb-true _ _ eb)
+    by false false ea eb e = absurd cc
+
+first_none : (p : Placed) (ps : List Placed) → first_letter p.ch ≡ None → is_keyword (p ∷ ps) ≡ false
+first_none p ps e = grind (arith, nat_tests)
+
+keyword_rest : (which : Identifier) (p : Placed) (ps : List Placed) → to_ascii_lowercase p.ch ≡ next_letter (unread which) → is_keyword (p ∷ ps) ≡ spells_in_any_case (left (begun which)) ps
+keyword_rest Public p ps l = grind (arith, nat_tests)
+keyword_rest System p ps l = grind (arith, nat_tests)
+
+-- what begins with a keyword
+module _ (which : Identifier) (p : Placed) (ps word after : List Placed) (t : p ∷ ps ≡ word ++ after) (w : lowered word ≡ keyword which) where
+  begins_word : Worded p ps (next_letter (unread which)) (left (begun which)) after
+  unfolding left_after
+  begins_word = worded p ps word after _ _ t (w ∙ left_is (unread which) (omega arith))
 
 pub no_keyword : (which : Identifier) (word after : List Placed) → [] ≡ word ++ after → lowered word ≡ keyword which → ⊥
 no_keyword Public [] after t w = cc
@@ -102,108 +124,14 @@ module _ (known : Found) (end : ℕ) (rest : List Placed) (found : Found) where
   name_not_space text errors (name_ends h) = end_not_space known end rest text found errors h
   name_not_space text errors (name_skips h) = skips_not_space _ _ (force known) end rest text found errors h
   name_not_space [] errors (names_identifier which word after t w k) = refl
-  name_not_space (p ∷ ps) errors (names_identifier which word after t w k) = let b = keyword_begins which p ps word after t w in letter_not_space p b.0 b.2 b.1
+  name_not_space (p ∷ ps) errors (names_identifier which word after t w k) = letter_not_space p _ (begins_word which p ps word after t w).letter (next_is_letter (unread which) (omega arith))
 
 module _ (known : Found) (end : ℕ) (rest : List Placed) (p : Placed) (ps : List Placed) (found : Found) where
   pub name_ended : (errors : List ParseError) → is_greater p.ch ≡ true → AfterName known end rest (p ∷ ps) found errors → (ps ≡ []) × (found ≡ known) × (errors ≡ [])
   name_ended errors eg (name_ends h) = let k = end_at known end rest p ps found errors h in (k.1, k.2, k.3)
   name_ended errors eg (name_skips h) = absurd (false≢true (sym (skips_at (force known) end rest found p ps errors _ _ h).1 ∙ eg))
   name_ended errors eg (names_identifier which word after t w k) =
-      let b = keyword_begins which p ps word after t w in
-      absurd (false≢true (sym (letter_not_greater p b.0 b.2 b.1) ∙ eg))
-
-  skips_by : (errors : List ParseError) (a b : Bool) → eqb (to_ascii_lowercase p.ch) 112 ≡ a → eqb (to_ascii_lowercase p.ch) 115 ≡ b
-      → is_keyword (p ∷ ps) ≡ false → (later : List ParseError) → errors ≡ (error InvalidCharacterSequenceAfterDoctypeName p.at ∷ null_errors (p ∷ [])) ++ later → IsSkipped (force known) end rest ps found later
-      → Stepped (begins_keyword (first_by a b) p.at) known end rest p ps found errors
-  skips_by errors true b ea eb none later e h =
-      let c : to_ascii_lowercase p.ch ≡ 112 = eqb-true (to_ascii_lowercase p.ch) 112 ea in
-      let n : null_errors (p ∷ []) ≡ [] = letter_error p 112 c (omega arith) in
-      passed _ known end rest p ps found errors n (fails later (rest_no (eqb (to_ascii_lowercase p.ch) 112) (spells_in_any_case (codes "ublic") ps) ea (or_parts _ _ none).0) h (e ∙ plain_errors p n (Some (error InvalidCharacterSequenceAfterDoctypeName p.at)) later))
-  skips_by errors false true ea eb none later e h =
-      let c : to_ascii_lowercase p.ch ≡ 115 = eqb-true (to_ascii_lowercase p.ch) 115 eb in
-      let n : null_errors (p ∷ []) ≡ [] = letter_error p 115 c (omega arith) in
-      passed _ known end rest p ps found errors n (fails later (rest_no (eqb (to_ascii_lowercase p.ch) 115) (spells_in_any_case (codes "ystem") ps) eb (or_parts _ _ none).1) h (e ∙ plain_errors p n (Some (error InvalidCharacterSequenceAfterDoctypeName p.at)) later))
-  skips_by errors false false ea eb none later e h = record { later = later; errors_are = e; goes = h }
-
-  keyword_by : (errors : List ParseError) (which : Identifier) (word after : List Placed) (a b : Bool) → eqb (to_ascii_lowercase p.ch) 112 ≡ a → eqb (to_ascii_lowercase p.ch) 115 ≡ b
-      → p ∷ ps ≡ word ++ after → lowered word ≡ keyword which → FollowsKeyword which known end rest after found errors
-      → Stepped (begins_keyword (first_by a b) p.at) known end rest p ps found errors
-  keyword_by errors Public word after a b ea eb t w k =
-      let v : Worded p ps 112 (codes "ublic") after = worded p ps word after 112 (codes "ublic") t w in
-      let is : a ≡ true = sym ea ∙ ap (λ (n : ℕ). eqb n 112) v.letter in
-      rw is (passed _ known end rest p ps found errors (letter_error p 112 v.letter (omega arith)) (whole v.more after v.text_is v.others k))
-  keyword_by errors System word after a b ea eb t w k =
-      let v : Worded p ps 115 (codes "ystem") after = worded p ps word after 115 (codes "ystem") t w in
-      let is : a ≡ false = sym ea ∙ ap (λ (n : ℕ). eqb n 112) v.letter in
-      let is_s : b ≡ true = sym eb ∙ ap (λ (n : ℕ). eqb n 115) v.letter in
-      rw (is, is_s) (passed _ known end rest p ps found errors (letter_error p 115 v.letter (omega arith)) (whole v.more after v.text_is v.others k))
-
-  -- after the name, neither white space nor `>`
-  from_name_core : (errors : List ParseError) (g a b : Bool) → is_greater p.ch ≡ g → eqb (to_ascii_lowercase p.ch) 112 ≡ a → eqb (to_ascii_lowercase p.ch) 115 ≡ b
-      → AfterName known end rest (p ∷ ps) found errors → Stepped (after_name false g (first_by a b) p.at) known end rest p ps found errors
-  from_name_core errors true a b eg ea eb h =
-      let k = name_ended errors eg h in
-      record { later = []; errors_are = k.2 ∙ sym (plain_errors p (greater_error p eg) None []); goes = (k.0, k.1, refl) }
-  from_name_core errors false a b eg ea eb (name_ends h) = absurd (false≢true (sym eg ∙ (end_at known end rest p ps found errors h).0))
-  from_name_core errors false a b eg ea eb (name_skips h) =
-      let k = skips_at (force known) end rest found p ps errors _ _ h in
-      skips_by errors a b ea eb k.2 k.3.0 k.3.1 k.3.2
-  from_name_core errors false a b eg ea eb (names_identifier which word after t w k) = keyword_by errors which word after a b ea eb t w k
-
-  pub from_after_name : (errors : List ParseError) (s g : Bool) → is_space p.ch ≡ s → is_greater p.ch ≡ g → FollowsName known end rest (p ∷ ps) found errors
-      → Stepped (after_name s g (first_letter p.ch) p.at) known end rest p ps found errors
-  from_after_name errors true g es eg h = passed _ known end rest p ps found errors (space_error p es) (any_space (AfterName known) true false end rest ps found errors (past_space (λ spaced. AfterName known) false end rest found errors p ps h es (λ b text. name_not_space known end rest found text errors)))
-  from_after_name errors false g es eg h = from_name_core errors g _ _ eg refl refl (at_once (λ spaced. AfterName known) false end rest found errors (p ∷ ps) h es)
-
-  -- backwards
-  other_letter : (c : ℕ) (cs : List ℕ) (text : List Placed) → to_ascii_lowercase p.ch ≡ c → (d : ℕ) → eqb c d ≡ false → spells_in_any_case (d ∷ cs) (p ∷ text) ≡ false
-  other_letter c cs text l d e = and_left (eqb (to_ascii_lowercase p.ch) d) (spells_in_any_case cs text) (ap (λ (n : ℕ). eqb n d) l ∙ e)
-
-  same_letter : (c : ℕ) (cs : List ℕ) (text : List Placed) → spells_in_any_case cs text ≡ false → spells_in_any_case (c ∷ cs) (p ∷ text) ≡ false
-  same_letter c cs text e = and_right (eqb (to_ascii_lowercase p.ch) c) (spells_in_any_case cs text) e
-
-  skips_letter : (later more : List ParseError) (c : ℕ) → to_ascii_lowercase p.ch ≡ c → 97 ≤ c → is_keyword (p ∷ ps) ≡ false → IsSkipped (force known) end rest ps found more
-      → later ≡ error InvalidCharacterSequenceAfterDoctypeName p.at ∷ more → AfterName known end rest (p ∷ ps) found later
-  skips_letter later more c l far none h e =
-      subst (λ (x : List ParseError). AfterName known end rest (p ∷ ps) found x)
-      (plain_errors p (letter_error p c l far) (Some (error InvalidCharacterSequenceAfterDoctypeName p.at)) more ∙ sym e)
-      (name_skips (skips_from (force known) end rest found p ps more is_keyword InvalidCharacterSequenceAfterDoctypeName (letter_not_space p c l far) (letter_not_greater p c l far) none h))
-
-  to_public : (later : List ParseError) → to_ascii_lowercase p.ch ≡ 112 → IsInKeyword (begun Public) p.at known end rest ps found later → AfterName known end rest (p ∷ ps) found later
-  to_public later l (whole word after t w k) =
-      names_identifier Public (p ∷ word) after (ap (λ (x : List Placed). p ∷ x) t) (ap (λ (c : ℕ). c ∷ lowered word) l ∙ ap (λ (x : List ℕ). 112 ∷ x) w) k
-  to_public later l (fails more sp h e) =
-      skips_letter later more 112 l (omega arith) (or_from _ _ (same_letter 112 (codes "ublic") ps sp) (other_letter 112 (codes "ystem") ps l 115 refl)) h e
-
-  to_system : (later : List ParseError) → to_ascii_lowercase p.ch ≡ 115 → IsInKeyword (begun System) p.at known end rest ps found later → AfterName known end rest (p ∷ ps) found later
-  to_system later l (whole word after t w k) =
-      names_identifier System (p ∷ word) after (ap (λ (x : List Placed). p ∷ x) t) (ap (λ (c : ℕ). c ∷ lowered word) l ∙ ap (λ (x : List ℕ). 115 ∷ x) w) k
-  to_system later l (fails more sp h e) =
-      skips_letter later more 115 l (omega arith) (or_from _ _ (other_letter 115 (codes "ublic") ps l 112 refl) (same_letter 115 (codes "ystem") ps sp)) h e
-
-  to_name_core : (later : List ParseError) (a b : Bool) → is_space p.ch ≡ false → is_greater p.ch ≡ false → eqb (to_ascii_lowercase p.ch) 112 ≡ a → eqb (to_ascii_lowercase p.ch) 115 ≡ b
-      → Goes (begins_keyword (first_by a b) p.at).next (found_by (begins_keyword (first_by a b) p.at) p known) end rest ps found later
-      → AfterName known end rest (p ∷ ps) found (step_errors (begins_keyword (first_by a b) p.at) p ++ later)
-  to_name_core later true b es eg ea eb h =
-      let l : to_ascii_lowercase p.ch ≡ 112 = eqb-true (to_ascii_lowercase p.ch) 112 ea in
-      subst (λ (x : List ParseError). AfterName known end rest (p ∷ ps) found x) (sym (plain_errors p (letter_error p 112 l (omega arith)) None later)) (to_public later l h)
-  to_name_core later false true es eg ea eb h =
-      let l : to_ascii_lowercase p.ch ≡ 115 = eqb-true (to_ascii_lowercase p.ch) 115 eb in
-      subst (λ (x : List ParseError). AfterName known end rest (p ∷ ps) found x) (sym (plain_errors p (letter_error p 115 l (omega arith)) None later)) (to_system later l h)
-  to_name_core later false false es eg ea eb h =
-      name_skips (skips_from (force known) end rest found p ps later is_keyword InvalidCharacterSequenceAfterDoctypeName es eg
-      (or_from _ _ (and_left (eqb (to_ascii_lowercase p.ch) 112) (spells_in_any_case (codes "ublic") ps) ea) (and_left (eqb (to_ascii_lowercase p.ch) 115) (spells_in_any_case (codes "ystem") ps) eb)) h)
-
-  pub to_after_name : (later : List ParseError) (s g : Bool) → is_space p.ch ≡ s → is_greater p.ch ≡ g
-      → Goes (after_name s g (first_letter p.ch) p.at).next (found_by (after_name s g (first_letter p.ch) p.at) p known) end rest ps found later
-      → FollowsName known end rest (p ∷ ps) found (step_errors (after_name s g (first_letter p.ch) p.at) p ++ later)
-  to_after_name later true g es eg h =
-      subst (λ (x : List ParseError). FollowsName known end rest (p ∷ ps) found x) (sym (plain_errors p (space_error p es) None later))
-      (with_space (λ spaced. AfterName known) false end rest found later p ps es (any_space (AfterName known) false true end rest ps found later h))
-  to_after_name later false true es eg (t, f, e) =
-      with_none (λ spaced. AfterName known) false end rest found _ (p ∷ ps)
-      (name_ends (closed (ap (λ (x : List Placed). characters (p ∷ x)) t ∙ greater_spells p eg) f (plain_errors p (greater_error p eg) None later ∙ e)))
-  to_after_name later false false es eg h = with_none (λ spaced. AfterName known) false end rest found _ (p ∷ ps) (to_name_core later _ _ es eg refl refl h)
+      absurd (false≢true (sym (letter_not_greater p _ (begins_word which p ps word after t w).letter (next_is_letter (unread which) (omega arith))) ∙ eg))
 
   -- letters of a keyword
   keyword_goes : (letters : Letters) (first : ℕ) (errors : List ParseError) (next : Option Letters) (word after : List Placed) → GoesOnAs letters.which next → ps ≡ word ++ after → lowered word ≡ left_after next
@@ -214,6 +142,65 @@ module _ (known : Found) (end : ℕ) (rest : List Placed) (p : Placed) (ps : Lis
   keyword_goes letters first errors None [] after w t l k n = passed _ known end rest p ps found errors n (subst (λ (x : List Placed). FollowsKeyword letters.which known end rest x found errors) (sym t) k)
   keyword_goes letters first errors (Some next) word after w t l k n = passed _ known end rest p ps found errors n (whole word after t l (subst (λ (x : Identifier). FollowsKeyword x known end rest after found errors) (sym w.0) k))
 
+  -- after the name, neither white space nor `>`
+  from_name_core : (errors : List ParseError) (g : Bool) (letters : Option Letters) → is_greater p.ch ≡ g → first_letter p.ch ≡ letters
+      → AfterName known end rest (p ∷ ps) found errors → Stepped (after_name false g letters p.at) known end rest p ps found errors
+  unfolding left_after
+  from_name_core errors true letters eg el h =
+      let k = name_ended errors eg h in
+      record { later = []; errors_are = k.2 ∙ sym (plain_errors p (greater_error p eg) None []); goes = (k.0, k.1, refl) }
+  from_name_core errors false letters eg el (name_ends h) = ends_by known end rest p ps found errors _ false eg h
+  from_name_core errors false None eg el (name_skips h) = skips_by known end rest p ps found errors _ _ true ends ends false false eg (first_none p ps el) h
+  from_name_core errors false (Some letters) eg el (name_skips h) =
+      let k = skips_at (force known) end rest found p ps errors _ _ h in
+      let (is, l) = first_back p.ch letters el in
+      let n : null_errors (p ∷ []) ≡ [] = letter_error p _ l (next_is_letter (unread letters.which) (omega arith)) in
+      passed _ known end rest p ps found errors n
+      (fails k.3.0 (ap (λ (x : Letters). spells_in_any_case (left x) ps) is ∙ sym (keyword_rest letters.which p ps l) ∙ k.2) k.3.2 (k.3.1 ∙ plain_errors p n (Some (error InvalidCharacterSequenceAfterDoctypeName p.at)) k.3.0))
+  from_name_core errors false letters eg el (names_identifier which word after t w k) =
+      let v = begins_word which p ps word after t w in
+      let is : letters ≡ Some (begun which) = sym el ∙ first_is which p.ch v.letter in
+      rw is (keyword_goes (unread which) p.at errors (Some (begun which)) v.more after (refl, omega arith) v.text_is v.others k (letter_error p _ v.letter (next_is_letter (unread which) (omega arith))))
+
+  pub from_after_name : (errors : List ParseError) (s g : Bool) → is_space p.ch ≡ s → is_greater p.ch ≡ g → FollowsName known end rest (p ∷ ps) found errors
+      → Stepped (after_name s g (first_letter p.ch) p.at) known end rest p ps found errors
+  from_after_name errors true g es eg h = passed _ known end rest p ps found errors (space_error p es) (any_space (AfterName known) true false end rest ps found errors (past_space (λ spaced. AfterName known) false end rest found errors p ps h es (λ b text. name_not_space known end rest found text errors)))
+  from_after_name errors false g es eg h = from_name_core errors g _ eg refl (at_once (λ spaced. AfterName known) false end rest found errors (p ∷ ps) h es)
+
+  -- backwards
+  skips_letter : (later more : List ParseError) (c : ℕ) → to_ascii_lowercase p.ch ≡ c → 97 ≤ c → is_keyword (p ∷ ps) ≡ false → IsSkipped (force known) end rest ps found more
+      → later ≡ error InvalidCharacterSequenceAfterDoctypeName p.at ∷ more → AfterName known end rest (p ∷ ps) found later
+  skips_letter later more c l far none h e =
+      subst (λ (x : List ParseError). AfterName known end rest (p ∷ ps) found x)
+      (plain_errors p (letter_error p c l far) (Some (error InvalidCharacterSequenceAfterDoctypeName p.at)) more ∙ sym e)
+      (name_skips (skips_from (force known) end rest found p ps more is_keyword InvalidCharacterSequenceAfterDoctypeName (letter_not_space p c l far) (letter_not_greater p c l far) none h))
+
+  to_name_core : (later : List ParseError) (letters : Option Letters) → is_space p.ch ≡ false → is_greater p.ch ≡ false → first_letter p.ch ≡ letters
+      → Goes (begins_keyword letters p.at).next (found_by (begins_keyword letters p.at) p known) end rest ps found later
+      → AfterName known end rest (p ∷ ps) found (step_errors (begins_keyword letters p.at) p ++ later)
+  unfolding left_after
+  to_name_core later None es eg el h = name_skips (skips_from (force known) end rest found p ps later is_keyword InvalidCharacterSequenceAfterDoctypeName es eg (first_none p ps el) h)
+  to_name_core later (Some letters) es eg el h =
+      let (is, l) = first_back p.ch letters el in
+      let far : 97 ≤ next_letter (unread letters.which) = next_is_letter (unread letters.which) (omega arith) in
+      subst (λ (x : List ParseError). AfterName known end rest (p ∷ ps) found x) (sym (plain_errors p (letter_error p _ l far) None later))
+      (by letters.which l far (subst (λ (x : Letters). IsInKeyword x p.at known end rest ps found later) is h))
+    where
+      by : (which : Identifier) → to_ascii_lowercase p.ch ≡ next_letter (unread which) → 97 ≤ next_letter (unread which) → IsInKeyword (begun which) p.at known end rest ps found later → AfterName known end rest (p ∷ ps) found later
+      by which l far (whole word after t w k) =
+          names_identifier which (p ∷ word) after (ap (λ (x : List Placed). p ∷ x) t) (ap (λ (c : ℕ). c ∷ lowered word) l ∙ ap (λ (x : List ℕ). next_letter (unread which) ∷ x) w ∙ sym (left_is (unread which) (omega arith))) k
+      by which l far (fails more sp h e) = skips_letter later more _ l far (keyword_rest which p ps l ∙ sp) h e
+
+  pub to_after_name : (later : List ParseError) (s g : Bool) → is_space p.ch ≡ s → is_greater p.ch ≡ g
+      → Goes (after_name s g (first_letter p.ch) p.at).next (found_by (after_name s g (first_letter p.ch) p.at) p known) end rest ps found later
+      → FollowsName known end rest (p ∷ ps) found (step_errors (after_name s g (first_letter p.ch) p.at) p ++ later)
+  to_after_name later true g es eg h =
+      subst (λ (x : List ParseError). FollowsName known end rest (p ∷ ps) found x) (sym (plain_errors p (space_error p es) None later))
+      (with_space (λ spaced. AfterName known) false end rest found later p ps es (any_space (AfterName known) false true end rest ps found later h))
+  to_after_name later false true es eg h = with_none (λ spaced. AfterName known) false end rest found _ (p ∷ ps) (name_ends (ended known end rest p ps found later eg h))
+  to_after_name later false false es eg h = with_none (λ spaced. AfterName known) false end rest found _ (p ∷ ps) (to_name_core later _ es eg refl h)
+
+  -- letters of a keyword that are not its first
   keyword_fails : (letters : Letters) (first : ℕ) (errors later : List ParseError) (next : Option Letters) → spells_in_any_case (left_after next) ps ≡ false → IsSkipped (force known) end rest ps found later
       → errors ≡ error InvalidCharacterSequenceAfterDoctypeName first ∷ later → null_errors (p ∷ []) ≡ [] → Stepped (goes_on_with letters.which next first) known end rest p ps found errors
   unfolding left_after
@@ -234,7 +221,7 @@ module _ (known : Found) (end : ℕ) (rest : List Placed) (p : Placed) (ps : Lis
       let k = skipped_goes (force known) end rest found p ps later h (letter_not_greater p _ l far) in
       let n : null_errors (p ∷ []) ≡ [] = letter_error p _ l far in
       let sp' : spells_in_any_case (next_letter letters ∷ left_after (letters_after letters)) (p ∷ ps) ≡ false = ap (λ (x : List ℕ). spells_in_any_case x (p ∷ ps)) (sym (left_is letters fits)) ∙ sp in
-      keyword_fails letters first errors k.0 (letters_after letters) (rest_no _ _ em sp') k.2 (e ∙ ap (λ (x : List ParseError). error InvalidCharacterSequenceAfterDoctypeName first ∷ x) (k.1 ∙ ap (λ (x : List ParseError). x ++ k.0) n)) n
+      keyword_fails letters first errors k.0 (letters_after letters) (not_second _ _ sp' em) k.2 (e ∙ ap (λ (x : List ParseError). error InvalidCharacterSequenceAfterDoctypeName first ∷ x) (k.1 ∙ ap (λ (x : List ParseError). x ++ k.0) n)) n
   from_keyword letters first errors fits false true em eg (fails later sp h e) =
       let k = skipped_ends (force known) end rest found p ps later h eg in
       record {
@@ -260,7 +247,7 @@ module _ (known : Found) (end : ℕ) (rest : List Placed) (p : Placed) (ps : Lis
   keyword_on letters first later (Some next) fits o w l (fails more sp h e) =
       let far : 97 ≤ next_letter letters = next_is_letter letters fits in
       let n : null_errors (p ∷ []) ≡ [] = letter_error p _ l far in
-      let all_no : spells_in_any_case (next_letter letters ∷ left next) (p ∷ ps) ≡ false = same_letter (next_letter letters) (left next) ps sp in
+      let all_no : spells_in_any_case (next_letter letters ∷ left next) (p ∷ ps) ≡ false = and_right (eqb (to_ascii_lowercase p.ch) (next_letter letters)) (spells_in_any_case (left next) ps) sp in
       fails more (ap (λ (x : List ℕ). spells_in_any_case x (p ∷ ps)) (left_is letters fits ∙ ap (λ (x : Option Letters). next_letter letters ∷ left_after x) o) ∙ all_no)
       (subst (λ (x : List ParseError). IsSkipped (force known) end rest (p ∷ ps) found x) (ap (λ (x : List ParseError). x ++ more) n) (skipped_more (force known) end rest found p ps more h (letter_not_greater p _ l far))) e
 
@@ -280,7 +267,7 @@ module _ (known : Found) (end : ℕ) (rest : List Placed) (p : Placed) (ps : Lis
       no_errors letters first later (Some next) n = plain_errors p n None later
   to_keyword letters first later fits false true em eg (t, f, e) =
       fails [] (other_no letters fits em)
-      (record { skipped = []; close = p ∷ ps; text_is = refl; without = refl; closes = subst (λ (x : List Placed). is_greater_or_end (p ∷ x) rest ≡ true) (sym t) (and_from (is_greater p.ch) true eg refl); found_is = f; errors_are = refl })
+      (skipped_none (force known) end rest found p ps [] eg t f)
       (plain_errors p (greater_error p eg) (Some (error InvalidCharacterSequenceAfterDoctypeName first)) later ∙ ap (λ (x : List ParseError). error InvalidCharacterSequenceAfterDoctypeName first ∷ x) e)
   to_keyword letters first later fits false false em eg h =
       fails (null_errors (p ∷ []) ++ later) (other_no letters fits em) (skipped_more (force known) end rest found p ps later h eg) refl

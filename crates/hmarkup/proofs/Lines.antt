@@ -1,5 +1,5 @@
 -- Lines of a text, and texts that are cut at a mark.
-use Rattle.hmarkup.proofs.Names.{nat_tests, ◌≡◌, ℕ, ◌+◌, ◌<◌, suc, Bool, false, ◌||◌, eqb, cond, List, [], ◌∷◌, ◌++◌, length, get_or, sym, refl, ap, ◌∙◌, subst, Option, Some, None, Ok, Err, append-nil, arith, eqb-true, false_from_ne_true, or_parts, lines, AreQuirkLines}
+use Rattle.hmarkup.proofs.Names.{nat_tests, ◌≡◌, ℕ, ◌+◌, ◌<◌, suc, eqb, List, [], ◌∷◌, ◌++◌, length, get_or, sym, refl, ap, ◌∙◌, subst, Option, Some, None, Ok, Err, append-nil, arith, or_parts, lines, AreQuirkLines}
 use Rattle.std.proofs.Common.{◌≢◌, Bor}
 use Rattle.std.specs.Prelude.{MatchOption}
 use Rattle.std.specs.List.{list_any}
@@ -8,14 +8,12 @@ use Rattle.std.proofs.lemmas.Str.Pattern.{IsSplitOnceResult, split_parts}
 use Rattle.hmarkup.specs.declared.quirks.QuirkKind.{QuirkKind}
 use Rattle.hmarkup.specs.declared.quirks.QuirkKind.TheVariants.{PublicIs}
 use Rattle.names.specs.declared.refusal.Refusal.TheVariants.{BadQuirks}
-use Rattle.hmarkup.specs.Quirks.{QuirkLine, quirk_word, IsQuirkLine, IsNoQuirkLine, in_line, ReadsQuirks, bad_line, read_all, IsWordless, Lacks, HasParts}
+use Rattle.hmarkup.specs.Quirks.{QuirkLine, quirk_word, IsQuirkLine, IsNoQuirkLine, ReadsQuirks, bad_line, read_all, IsWordless, Lacks, HasParts}
 
 -- a text without a mark
 pub lacks_of : (c : ℕ) (bs : List ℕ) → ((i : ℕ) → i < length bs → get_or bs i 0 ≢ c) → Lacks c bs
 lacks_of c [] h = refl
-lacks_of c (b ∷ bs) h =
-    let first : eqb b c ≡ false = false_from_ne_true (eqb b c) (λ e. h 0 (omega arith) (eqb-true b c e)) in
-    ap (λ (x : Bool). x || list_any (λ d. eqb d c) bs) first ∙ lacks_of c bs (λ i l. h (suc i) (omega (arith, l)))
+lacks_of c (b ∷ bs) h = grind (arith, nat_tests, h 0 (omega arith), lacks_of c bs (λ i l. h (suc i) (omega (arith, l))))
 
 pub parts_of : (c : ℕ) (bs : List ℕ) (r : Option (Bor (List ℕ) × Bor (List ℕ))) → MatchOption r ((i : ℕ) → i < length bs → get_or bs i 0 ≢ c) (λ x. (bs ≡ x.0.now ++ (c ∷ x.1.now)) × ((i : ℕ) → i < length x.0.now → get_or x.0.now i 0 ≢ c))
     → MatchOption r (Lacks c bs) (λ x. HasParts c bs x.0.now x.1.now)
@@ -28,16 +26,12 @@ parts_at c bs r h l = parts_of c bs r (split_parts c bs r h l)
 -- lines
 line_before : (line after : List ℕ) → Lacks 10 line → lines (line ++ 10 ∷ after) ≡ line ∷ lines after
 line_before [] after h = refl
-line_before (c ∷ cs) after h =
-    let k = or_parts (eqb c 10) (list_any (λ d. eqb d 10) cs) h in
-    ap (λ (b : Bool). cond b ([] ∷ lines (cs ++ 10 ∷ after)) (in_line c (lines (cs ++ 10 ∷ after)))) k.0 ∙ ap (in_line c) (line_before cs after k.1)
+line_before (c ∷ cs) after h = grind (arith, nat_tests, line_before cs after)
 
 last_of : (text : List ℕ) → Lacks 10 text → 0 < length text → lines text ≡ text ∷ []
 last_of [] h l = absurd (omega (arith, l))
-last_of (c ∷ []) h l = let k = or_parts (eqb c 10) false h in ap (λ (b : Bool). cond b ([] ∷ []) ((c ∷ []) ∷ [])) k.0
-last_of (c ∷ d ∷ cs) h l =
-    let k = or_parts (eqb c 10) (list_any (λ d. eqb d 10) (d ∷ cs)) h in
-    ap (λ (b : Bool). cond b ([] ∷ lines (d ∷ cs)) (in_line c (lines (d ∷ cs)))) k.0 ∙ ap (in_line c) (last_of (d ∷ cs) k.1 (omega arith))
+last_of (c ∷ []) h l = grind (arith, nat_tests)
+last_of (c ∷ d ∷ cs) h l = grind (arith, nat_tests, last_of (d ∷ cs))
 
 pub first_of : (text : List ℕ) (r : Option (Bor (List ℕ) × Bor (List ℕ))) (whole : Bor (List ℕ) × Bor (List ℕ)) → MatchOption r (Lacks 10 text) (λ x. HasParts 10 text x.0.now x.1.now) → 0 < length text → whole.0.now ≡ text → whole.1.now ≡ []
     → lines text ≡ (unwrap_or r whole).0.now ∷ lines (unwrap_or r whole).1.now

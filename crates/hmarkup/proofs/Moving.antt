@@ -1,5 +1,5 @@
 -- The last characters of a comment that has not ended, when one more comes.
-use Rattle.hmarkup.proofs.Names.{ap, ◌≡◌, ℕ, Bool, true, false, eqb, List, [], ◌∷◌, ◌++◌, sym, refl, ◌∙◌, subst, append-nil, codes, arith, ◌≤◌, length, false≢true, eqb-true, false_from_ne_true, or_from, or_parts, encode, Placed, characters, spells, is_front, before, Avoids, text_bytes, Ending, Plain, Dash, Dashes, Bang, closes_comment, is_ending, holds_nothing, next_ending, decided}
+use Rattle.hmarkup.proofs.Names.{ap, ◌≡◌, ℕ, Bool, true, false, eqb, List, [], ◌∷◌, ◌++◌, sym, refl, ◌∙◌, subst, append-nil, codes, arith, ◌≤◌, length, false≢true, eqb-true, false_from_ne_true, encode, Placed, characters, is_front, before, Avoids, text_bytes, Ending, Plain, Dash, Dashes, Bang, closes_comment, is_ending, holds_nothing, next_ending, decided}
 use Rattle.std.proofs.Common.{◌⊎◌}
 use mathlib.Core.Logic.{inl, inr}
 use Rattle.hmarkup.specs.CommentWalk.{IsHeld, holds_dash, holds_dashes, holds_bang}
@@ -10,11 +10,7 @@ pub ending-more : (p q : Placed) (x : List Placed) → is_ending (q ∷ x) ≡ f
 ending-more p q x h _ = false_from_ne_true (is_ending (q ∷ x ++ p ∷ [])) (λ e. false≢true (sym h ∙ front-less (q ∷ x) p (codes "--!") e))
 
 pub closes-more : (p q : Placed) (x : List Placed) → is_ending (q ∷ x) ≡ false → closes_comment (q ∷ x) ≡ false → closes_comment (q ∷ x ++ p ∷ []) ≡ false
-closes-more p q x h k =
-    let parts = or_parts (spells (codes "-->") (q ∷ x)) (spells (codes "--!>") (q ∷ x)) k in
-    let short : is_front (q ∷ x) (codes "--") ≡ false = false_from_ne_true (is_front (q ∷ x) (codes "--")) (λ e. false≢true (sym h ∙ front-longer (q ∷ x) (codes "--") (codes "!") e)) in
-    or_from (spells (codes "-->") (q ∷ x ++ p ∷ [])) (spells (codes "--!>") (q ∷ x ++ p ∷ []))
-    (spells-more (codes "--") 62 (q ∷ x) p short parts.0) (spells-more (codes "--!") 62 (q ∷ x) p h parts.1)
+closes-more p q x h k = grind (arith, front-longer (q ∷ x) (codes "--") (codes "!"), spells-more (codes "--") 62 (q ∷ x) p, spells-more (codes "--!") 62 (q ∷ x) p)
 
 -- The characters held, and one more: some are data now, and some are held.
 pub record Moves (ending : Ending) (held : List Placed) (p : Placed) : Type 0 where
@@ -88,15 +84,15 @@ pub moves : (ending : Ending) (held : List Placed) (ch at : ℕ) → (closes end
 moves ending held ch at n62 h = on_tests ending held ch at n62 h (eqb ch 45) (eqb ch 33) refl refl
 
 -- what is held at the closing character, and at the end
-pub dashes_close : (ending : Ending) (held : List Placed) (at : ℕ) → IsHeld ending held → ending ≡ Dashes
-    → (before closes_comment (held ++ record { ch = 62; at = at } ∷ []) ≡ []) × (characters (held ++ record { ch = 62; at = at } ∷ []) ≡ codes "-->")
-dashes_close ending held at (holds_dashes a b) e = (refl, refl)
-dashes_close ending held at _ e = absurd cc
+pub dashes_close : (ending : Ending) (held : List Placed) (ch at : ℕ) → ch ≡ 62 → IsHeld ending held → ending ≡ Dashes
+    → (before closes_comment (held ++ record { ch = ch; at = at } ∷ []) ≡ []) × (characters (held ++ record { ch = ch; at = at } ∷ []) ≡ codes "-->")
+dashes_close ending held ch at is (holds_dashes a b) e = rw is (refl, refl)
+dashes_close ending held ch at is _ e = absurd cc
 
-pub bang_closes : (ending : Ending) (held : List Placed) (at : ℕ) → IsHeld ending held → ending ≡ Bang
-    → (before closes_comment (held ++ record { ch = 62; at = at } ∷ []) ≡ []) × (characters held ≡ codes "--!")
-bang_closes ending held at (holds_bang a b d) e = (refl, refl)
-bang_closes ending held at _ e = absurd cc
+pub bang_closes : (ending : Ending) (held : List Placed) (ch at : ℕ) → ch ≡ 62 → IsHeld ending held → ending ≡ Bang
+    → (before closes_comment (held ++ record { ch = ch; at = at } ∷ []) ≡ []) × (characters held ≡ codes "--!")
+bang_closes ending held ch at is (holds_bang a b d) e = rw is (refl, refl)
+bang_closes ending held ch at is _ e = absurd cc
 
 pub dash_held : (ending : Ending) (held : List Placed) → IsHeld ending held → closes ending ≡ false
     → is_front held (codes "-") ≡ true

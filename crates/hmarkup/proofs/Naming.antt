@@ -1,5 +1,5 @@
 -- The name of a doctype: each character.
-use Rattle.hmarkup.proofs.Names.{◌≡◌, ℕ, Bool, true, false, not, ◌||◌, if◌then◌else◌, List, [], ◌∷◌, ◌++◌, sym, refl, ap, ◌∙◌, subst, Option, Some, None, append_assoc, is_some, false≢true, and_from, and_parts, not-true, or_from, or_left, or_right, ParseError, MissingDoctypeName, MissingWhitespaceBeforeDoctypeName, Placed, characters, begins, all, is_space, is_greater, error, null_errors, name_bytes, Found, closed, name_ends, named, AfterSpace, AfterName, FollowsName, AfterOpening, begins_name, nameless, unfinished, before_name, in_name, step_errors, fault_errors, found_by}
+use Rattle.hmarkup.proofs.Names.{◌≡◌, ℕ, Bool, true, false, not, ◌||◌, if◌then◌else◌, List, [], ◌∷◌, ◌++◌, sym, refl, ap, ◌∙◌, subst, Option, Some, None, append_assoc, is_some, false≢true, and_from, and_parts, not-true, or_from, or_left, or_right, ParseError, MissingDoctypeName, MissingWhitespaceBeforeDoctypeName, Placed, characters, begins, all, is_space, is_greater, error, null_errors, name_bytes, Found, name_ends, named, AfterSpace, AfterName, FollowsName, AfterOpening, begins_name, nameless, unfinished, before_name, in_name, step_errors, fault_errors, found_by}
 use Rattle.names.specs.Placed.{stops}
 use Rattle.hmarkup.specs.Doctype.{IsName}
 use Rattle.hmarkup.proofs.Marks.{null_errors-append}
@@ -7,7 +7,7 @@ use Rattle.hmarkup.proofs.Characters.{greater_not_space}
 use Rattle.hmarkup.proofs.Parts.{named-cons, named_not}
 use Rattle.hmarkup.proofs.Spaces.{past_space, at_once, with_space, with_none, any_space}
 use Rattle.hmarkup.proofs.Endings.{only_greater, greater_spells, neither_of, not_either}
-use Rattle.hmarkup.proofs.Stepping.{Goes, Stepped, passed, plain_errors, space_error, greater_error, fault_if}
+use Rattle.hmarkup.proofs.Stepping.{refused_by, ended, refused_at, Goes, Stepped, passed, plain_errors, space_error, greater_error, fault_if}
 use Rattle.hmarkup.proofs.Keywords.{name_not_space, name_ended}
 
 module _ (known : Found) (end : ℕ) (rest : List Placed) (p : Placed) (ps : List Placed) (found : Found) where
@@ -93,9 +93,8 @@ module _ (known : Found) (end : ℕ) (rest : List Placed) (p : Placed) (ps : Lis
   to_name later true g es eg begun h = over_name _ begun (or_left (is_space p.ch) (is_greater p.ch) es)
       (subst (λ (x : List ParseError). FollowsName known end rest (p ∷ ps) found x) (sym (plain_errors p (space_error p es) None later))
       (with_space (λ spaced. AfterName known) false end rest found later p ps es (any_space (AfterName known) false true end rest ps found later h)))
-  to_name later false true es eg begun (t, f, e) = over_name _ begun (or_right (is_space p.ch) (is_greater p.ch) eg)
-      (with_none (λ spaced. AfterName known) false end rest found _ (p ∷ ps)
-      (name_ends (closed (ap (λ (x : List Placed). characters (p ∷ x)) t ∙ greater_spells p eg) f (plain_errors p (greater_error p eg) None later ∙ e))))
+  to_name later false true es eg begun h = over_name _ begun (or_right (is_space p.ch) (is_greater p.ch) eg)
+      (with_none (λ spaced. AfterName known) false end rest found _ (p ∷ ps) (name_ends (ended known end rest p ps found later eg h)))
   to_name later false false es eg begun h = longer_name later es eg h
 
   -- before the name
@@ -117,12 +116,7 @@ module _ (known : Found) (end : ℕ) (rest : List Placed) (p : Placed) (ps : Lis
             ∙ sym (append_assoc (fault_errors fault) (null_errors (p ∷ [])) k.0);
         goes = k.2;
       }
-  from_opening errors spaced true es eg (nameless c f e) = record {
-    later = [];
-    errors_are = e ∙ sym (plain_errors p (greater_error p eg) (Some (error MissingDoctypeName p.at)) []);
-    goes = ((only_greater p ps c).1, f, refl);
-  }
-  from_opening errors spaced false es eg (nameless c f e) = absurd (false≢true (sym eg ∙ (only_greater p ps c).0))
+  from_opening errors spaced g es eg (nameless c f e) = refused_by known end rest p ps found errors MissingDoctypeName _ g eg c f e
   from_opening errors spaced g es eg (unfinished r t f e) = absurd cc
 
   pub from_before : (errors : List ParseError) (spaced s g : Bool) → is_space p.ch ≡ s → is_greater p.ch ≡ g → AfterSpace (AfterOpening known) spaced end rest (p ∷ ps) found errors
@@ -137,8 +131,7 @@ module _ (known : Found) (end : ℕ) (rest : List Placed) (p : Placed) (ps : Lis
       (with_space (AfterOpening known) spaced end rest found later p ps es h)
   to_before later spaced false true es eg (t, f, e) =
       with_none (AfterOpening known) spaced end rest found _ (p ∷ ps)
-      (nameless (ap (λ (x : List Placed). characters (p ∷ x)) t ∙ greater_spells p eg) f
-      (plain_errors p (greater_error p eg) (Some (error MissingDoctypeName p.at)) later ∙ ap (λ (x : List ParseError). error MissingDoctypeName p.at ∷ x) e))
+      (nameless (ap (λ (x : List Placed). characters (p ∷ x)) t ∙ greater_spells p eg) f (refused_at known end rest p ps found later MissingDoctypeName eg e))
   to_before later spaced false false es eg h =
       let fault : Option ParseError = if spaced then None else Some (error MissingWhitespaceBeforeDoctypeName p.at) in
       with_none (AfterOpening known) spaced end rest found _ (p ∷ ps)

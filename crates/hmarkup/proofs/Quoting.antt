@@ -1,5 +1,5 @@
 -- The identifiers of a doctype, and what is before them: each character.
-use Rattle.hmarkup.proofs.Names.{Step, ◌≡◌, ℕ, Bool, true, false, not, ◌||◌, eqb, if◌then◌else◌, List, [], ◌∷◌, ◌++◌, sym, refl, ap, ◌∙◌, subst, codes, Some, None, append_assoc, is_some, false≢true, eqb-true, and_from, and_parts, ParseError, ErrorCode, EofInDoctype, MissingWhitespaceBetweenDoctypePublicAndSystemIdentifiers, Placed, characters, place, begins, all, is_space, is_greater, is_quote, error, error_if, null_errors, text_bytes, Identifier, Public, System, Found, Stands, closed, force, identified, AfterSpace, IsInside, quoted, abrupt, AfterPublicIdentifier, public_ends, public_skips, second, Follows, AfterKeyword, identifier, missing, keyword_skips, keyword_cut_off, after_keyword, after_public, follows, in_quotes, step_errors, fault_errors, found_by, GoesOn, identifier_of}
+use Rattle.hmarkup.proofs.Names.{Step, ◌≡◌, ℕ, Bool, true, false, not, ◌||◌, eqb, if◌then◌else◌, List, [], ◌∷◌, ◌++◌, sym, refl, ap, ◌∙◌, subst, codes, Some, None, append_assoc, is_some, false≢true, eqb-true, and_from, and_parts, ParseError, ErrorCode, EofInDoctype, MissingWhitespaceBetweenDoctypePublicAndSystemIdentifiers, Placed, characters, place, begins, all, is_space, is_greater, is_quote, error, error_if, null_errors, text_bytes, Identifier, Public, System, Found, Stands, force, identified, AfterSpace, IsInside, quoted, abrupt, AfterPublicIdentifier, public_ends, public_skips, second, Follows, AfterKeyword, identifier, missing, keyword_skips, keyword_cut_off, after_keyword, after_public, follows, in_quotes, step_errors, fault_errors, found_by, GoesOn, identifier_of}
 use Rattle.hmarkup.specs.Doctype.{no_space_after_keyword, no_identifier, no_quote, abrupt_identifier, unclosed, IsIdentifier, FollowsSystem}
 use Rattle.hmarkup.specs.DoctypeSteps.{faulty}
 use Rattle.hmarkup.specs.declared.doctype_state.Keeps.TheVariants as keeps
@@ -8,8 +8,8 @@ use Rattle.hmarkup.proofs.Marks.{null_errors-append, eqb_self}
 use Rattle.hmarkup.proofs.Characters.{quote_not_space, quote_not_greater, greater_not_space}
 use Rattle.hmarkup.proofs.Parts.{identified-cons, identified_not}
 use Rattle.hmarkup.proofs.Spaces.{past_space, at_once, with_space, with_none}
-use Rattle.hmarkup.proofs.Endings.{only_greater, greater_spells, neither_of, not_either, end_at, end_not_space, skips_at, skips_from, skips_not_space}
-use Rattle.hmarkup.proofs.Stepping.{Goes, Stepped, passed, plain_errors, space_error, greater_error, quote_error, fault_if}
+use Rattle.hmarkup.proofs.Endings.{only_greater, greater_spells, neither_of, not_either, end_not_space, skips_from, skips_not_space}
+use Rattle.hmarkup.proofs.Stepping.{ends_by, refused_by, skips_by, ended, refused_at, Goes, Stepped, passed, plain_errors, space_error, quote_error, fault_if}
 
 -- a quote that begins an identifier
 module _ (which : Identifier) (code : ErrorCode) (After : Found → Stands) (known : Found) (spaced : Bool) (end : ℕ) (rest : List Placed) (found : Found) where
@@ -23,21 +23,18 @@ module _ (which : Identifier) (code : ErrorCode) (After : Found → Stands) (kno
     errors_are : errors ≡ (fault_errors (if spaced then None else Some (error code p.at)) ++ null_errors (p ∷ [])) ++ later
 
   quote_at : (p : Placed) (ps : List Placed) (errors : List ParseError) → IsIdentifier which code After known spaced end rest (p ∷ ps) found errors → Quoted p ps errors
-  quote_at p ps errors h = of_parts h.quote h.more h.later h.text_is h.is_mark h.inside h.errors_are
-    where
-      of_parts : (quote : Placed) (more : List Placed) (later : List ParseError) → p ∷ ps ≡ quote ∷ more → is_quote quote.ch ≡ true → IsInside which quote.ch After (identified which [] known) end rest more found later
-          → errors ≡ error_if (not spaced) code quote.at ++ later → Quoted p ps errors
-      of_parts quote more later t m i e =
-          let head : quote ≡ p = cc in
-          let tail : more ≡ ps = cc in
-          let is_mark : is_quote p.ch ≡ true = subst (λ (x : Placed). is_quote x.ch ≡ true) head m in
-          record {
-            later = later;
-            is_mark = is_mark;
-            inside = subst (λ (x : Placed). IsInside which x.ch After (identified which [] known) end rest ps found later) head (subst (λ (x : List Placed). IsInside which quote.ch After (identified which [] known) end rest x found later) tail i);
-            errors_are = e ∙ ap (λ (x : Placed). error_if (not spaced) code x.at ++ later) head ∙ ap (λ (x : List ParseError). x ++ later) (fault_if spaced code p.at)
-                ∙ sym (plain_errors p (quote_error p is_mark) (if spaced then None else Some (error code p.at)) later);
-          }
+  quote_at p ps errors h =
+      let t = h.text_is in
+      let head : h.quote ≡ p = cc in
+      let tail : h.more ≡ ps = cc in
+      let is_mark : is_quote p.ch ≡ true = subst (λ (x : Placed). is_quote x.ch ≡ true) head h.is_mark in
+      record {
+        later = h.later;
+        is_mark = is_mark;
+        inside = subst (λ (x : Placed). IsInside which x.ch After (identified which [] known) end rest ps found h.later) head (subst (λ (x : List Placed). IsInside which h.quote.ch After (identified which [] known) end rest x found h.later) tail h.inside);
+        errors_are = h.errors_are ∙ ap (λ (x : Placed). error_if (not spaced) code x.at ++ h.later) head ∙ ap (λ (x : List ParseError). x ++ h.later) (fault_if spaced code p.at)
+            ∙ sym (plain_errors p (quote_error p is_mark) (if spaced then None else Some (error code p.at)) h.later);
+      }
 
   identifier_from : (p : Placed) (ps : List Placed) (later : List ParseError) → is_quote p.ch ≡ true → IsInside which p.ch After (identified which [] known) end rest ps found later
       → IsIdentifier which code After known spaced end rest (p ∷ ps) found ((fault_errors (if spaced then None else Some (error code p.at)) ++ null_errors (p ∷ [])) ++ later)
@@ -63,18 +60,6 @@ module _ (which : Identifier) (mark : ℕ) (known : Found) (end : ℕ) (rest : L
   abbrev apart : ℕ → Bool
   apart c = not (eqb c mark || is_greater c)
 
-  -- inside an identifier: a character of it
-  first_apart : (c g : Bool) → eqb p.ch mark ≡ c → is_greater p.ch ≡ g → (x : Placed) → x ≡ p → apart x.ch ≡ true → (c ≡ false) × (g ≡ false)
-  first_apart c g ec eg x e a =
-      let k = neither_of (eqb x.ch mark) (is_greater x.ch) a in
-      (sym ec ∙ ap (λ (q : Placed). eqb q.ch mark) (sym e) ∙ k.0, sym eg ∙ ap (λ (q : Placed). is_greater q.ch) (sym e) ∙ k.1)
-
-  inside_step : (errors later : List ParseError) (c g : Bool) → c ≡ false → g ≡ false → errors ≡ null_errors (p ∷ []) ++ later
-      → IsInside which mark (Follows which) (identified which (text_bytes (p ∷ [])) known) end rest ps found later → Stepped (in_quotes which mark c g p.at) known end rest p ps found errors
-  inside_step errors later true g ec eg e h = absurd (false≢true (sym ec))
-  inside_step errors later false true ec eg e h = absurd (false≢true (sym eg))
-  inside_step errors later false false ec eg e h = record { later = later; errors_are = e; goes = h }
-
   null_split : (x : Placed) (xs : List Placed) (later : List ParseError) → x ≡ p → null_errors (x ∷ xs) ++ later ≡ null_errors (p ∷ []) ++ (null_errors xs ++ later)
   null_split x xs later e = ap (λ (y : List ParseError). y ++ later) (null_errors-append (x ∷ []) xs) ∙ append_assoc (null_errors (x ∷ [])) (null_errors xs) later
       ∙ ap (λ (q : Placed). null_errors (q ∷ []) ++ (null_errors xs ++ later)) e
@@ -95,18 +80,23 @@ module _ (which : Identifier) (mark : ℕ) (known : Found) (end : ℕ) (rest : L
         subst (λ (b : Bool). Stepped (in_quotes which mark b g p.at) known end rest p ps found errors) (sym same) (passed _ known end rest p ps found errors (quote_error p quote) (goes_follows which known end rest ps found errors (subst (λ (x : Found). Follows which x end rest ps found errors) (identified_not which known begun) (subst (λ (x : List Placed). Follows which (identified which [] known) end rest x found errors) tail h))))
     closed_by errors c g ec _ after t m h = absurd cc
 
-    greater_now : (errors : List ParseError) (c g : Bool) → eqb p.ch mark ≡ c → is_greater p.ch ≡ g → characters (p ∷ ps) ≡ codes ">" → found ≡ force (identified which [] known) → errors ≡ error (abrupt_identifier which) p.at ∷ []
-        → Stepped (in_quotes which mark c g p.at) known end rest p ps found errors
-    greater_now errors true g ec eg t f e =
-        absurd (false≢true (sym (quote_not_greater mark is_mark) ∙ ap is_greater (sym (eqb-true p.ch mark ec)) ∙ (only_greater p ps t).0))
-    greater_now errors false false ec eg t f e = absurd (false≢true (sym eg ∙ (only_greater p ps t).0))
-    greater_now errors false true ec eg t f e =
-        record { later = []; errors_are = e ∙ sym (plain_errors p (greater_error p eg) (Some (error (abrupt_identifier which) p.at)) []); goes = ((only_greater p ps t).1, f ∙ ap force (identified_not which known begun), refl) }
-
     abrupt_by : (errors : List ParseError) (c g : Bool) → eqb p.ch mark ≡ c → is_greater p.ch ≡ g → (close : List Placed) → p ∷ ps ≡ close → characters close ≡ codes ">"
         → found ≡ force (identified which [] known) → errors ≡ error (abrupt_identifier which) (place end close) ∷ [] → Stepped (in_quotes which mark c g p.at) known end rest p ps found errors
-    abrupt_by errors c g ec eg close t m f e =
-        greater_now errors c g ec eg (ap characters t ∙ m) f (e ∙ ap (λ (x : List Placed). error (abrupt_identifier which) (place end x) ∷ []) (sym t))
+    abrupt_by errors true g ec eg close t m f e =
+        absurd (false≢true (sym (quote_not_greater mark is_mark) ∙ ap is_greater (sym (eqb-true p.ch mark ec)) ∙ (only_greater p ps (ap characters t ∙ m)).0))
+    abrupt_by errors false g ec eg close t m f e =
+        refused_by known end rest p ps found errors (abrupt_identifier which) _ g eg (ap characters t ∙ m) (f ∙ ap force (identified_not which known begun))
+        (e ∙ ap (λ (x : List Placed). error (abrupt_identifier which) (place end x) ∷ []) (sym t))
+
+    -- inside an identifier: a character of it
+    inside_on : (errors later : List ParseError) (c g : Bool) → eqb p.ch mark ≡ c → is_greater p.ch ≡ g → (x : Placed) (xs : List Placed) → x ≡ p → all apart (x ∷ xs) ≡ true → errors ≡ null_errors (x ∷ xs) ++ later
+        → (all apart xs ≡ true → IsInside which mark (Follows which) (identified which (text_bytes (p ∷ [])) known) end rest ps found (null_errors xs ++ later)) → Stepped (in_quotes which mark c g p.at) known end rest p ps found errors
+    inside_on errors later c g ec eg x xs head a e goes =
+        let parts = and_parts (apart x.ch) (all apart xs) a in
+        let k = neither_of (eqb x.ch mark) (is_greater x.ch) parts.0 in
+        let goes_on : c ≡ false = sym ec ∙ ap (λ (q : Placed). eqb q.ch mark) (sym head) ∙ k.0 in
+        let no_greater : g ≡ false = sym eg ∙ ap (λ (q : Placed). is_greater q.ch) (sym head) ∙ k.1 in
+        rw (goes_on, no_greater) (record { later = null_errors xs ++ later; errors_are = e ∙ null_split x xs later head; goes = goes parts.1 })
 
     pub from_inside : (errors : List ParseError) (c g : Bool) → eqb p.ch mark ≡ c → is_greater p.ch ≡ g → IsInside which mark (Follows which) known end rest (p ∷ ps) found errors
         → Stepped (in_quotes which mark c g p.at) known end rest p ps found errors
@@ -114,22 +104,12 @@ module _ (which : Identifier) (mark : ℕ) (known : Found) (end : ℕ) (rest : L
         subst (λ (x : List ParseError). Stepped (in_quotes which mark c g p.at) known end rest p ps found x) (sym e) (closed_by later c g ec close after t m h)
     from_inside errors c g ec eg (quoted (x ∷ xs) close after later t a m h e) =
         let head : x ≡ p = cc in
-        let parts = and_parts (apart x.ch) (all apart xs) a in
-        let k = first_apart c g ec eg x head parts.0 in
-        inside_step errors (null_errors xs ++ later) c g k.0 k.1 (e ∙ null_split x xs later head)
-        (quoted xs close after later (cc) parts.1 m (subst (λ (y : Found). Follows which y end rest after found later) (identified_split x xs head) h) refl)
+        inside_on errors later c g ec eg x xs head a e (λ others. quoted xs close after later (cc) others m (subst (λ (y : Found). Follows which y end rest after found later) (identified_split x xs head) h) refl)
     from_inside errors c g ec eg (abrupt [] close t a m f e) = abrupt_by errors c g ec eg close t m f e
     from_inside errors c g ec eg (abrupt (x ∷ xs) close t a m f e) =
         let head : x ≡ p = cc in
-        let parts = and_parts (apart x.ch) (all apart xs) a in
-        let k = first_apart c g ec eg x head parts.0 in
-        inside_step errors (null_errors xs ++ error (abrupt_identifier which) (place end close) ∷ []) c g k.0 k.1 (e ∙ null_split x xs (error (abrupt_identifier which) (place end close) ∷ []) head)
-        (abrupt xs close (cc) parts.1 m (f ∙ ap force (identified_split x xs head)) refl)
-    from_inside errors c g ec eg (unclosed r a f e) =
-        let parts = and_parts (apart p.ch) (all apart ps) a in
-        let k = first_apart c g ec eg p refl parts.0 in
-        inside_step errors (null_errors ps ++ error EofInDoctype end ∷ []) c g k.0 k.1 (e ∙ null_split p ps (error EofInDoctype end ∷ []) refl)
-        (unclosed r parts.1 (f ∙ ap force (identified_split p ps refl)) refl)
+        inside_on errors _ c g ec eg x xs head a e (λ others. abrupt xs close (cc) others m (f ∙ ap force (identified_split x xs head)) refl)
+    from_inside errors c g ec eg (unclosed r a f e) = inside_on errors _ c g ec eg p ps refl a e (λ others. unclosed r others (f ∙ ap force (identified_split p ps refl)) refl)
 
     -- backwards
     inside_more : (later : List ParseError) → eqb p.ch mark ≡ false → is_greater p.ch ≡ false → IsInside which mark (Follows which) (identified which (text_bytes (p ∷ [])) known) end rest ps found later
@@ -153,7 +133,7 @@ module _ (which : Identifier) (mark : ℕ) (known : Found) (end : ℕ) (rest : L
         (subst (λ (x : Found). Follows which x end rest ps found later) (sym (identified_not which known begun)) (follows_goes which known end rest ps found later h)) (plain_errors p (quote_error p quote) None later)
     to_inside later false true ec eg (t, f, e) =
         abrupt [] (p ∷ ps) refl refl (ap (λ (x : List Placed). characters (p ∷ x)) t ∙ greater_spells p eg) (f ∙ ap force (sym (identified_not which known begun)))
-        (plain_errors p (greater_error p eg) (Some (error (abrupt_identifier which) p.at)) later ∙ ap (λ (x : List ParseError). error (abrupt_identifier which) p.at ∷ x) e)
+        (refused_at known end rest p ps found later (abrupt_identifier which) eg e)
     to_inside later false false ec eg h = inside_more later ec eg h
 
 -- a quote where an identifier may be, after other steps at `>` and at what is neither
@@ -179,14 +159,8 @@ module _ (which : Identifier) (known : Found) (end : ℕ) (rest : List Placed) (
   from_keyword_core : (errors : List ParseError) (spaced g q : Bool) → is_greater p.ch ≡ g → is_quote p.ch ≡ q → AfterKeyword which known spaced end rest (p ∷ ps) found errors
       → Stepped (after_keyword which spaced false g q p.ch p.at) known end rest p ps found errors
   from_keyword_core errors spaced g q eg eq (identifier h) = quote_by which (no_space_after_keyword which) known spaced end rest p ps found errors _ _ g q eg eq h
-  from_keyword_core errors spaced true q eg eq (missing c f e) =
-      record { later = []; errors_are = e ∙ sym (plain_errors p (greater_error p eg) (Some (error (no_identifier which) p.at)) []); goes = ((only_greater p ps c).1, f, refl) }
-  from_keyword_core errors spaced false q eg eq (missing c f e) = absurd (false≢true (sym eg ∙ (only_greater p ps c).0))
-  from_keyword_core errors spaced true q eg eq (keyword_skips h) = absurd (false≢true (sym (skips_at (force known) end rest found p ps errors _ _ h).1 ∙ eg))
-  from_keyword_core errors spaced false true eg eq (keyword_skips h) = absurd (false≢true (sym (skips_at (force known) end rest found p ps errors _ _ h).2 ∙ eq))
-  from_keyword_core errors spaced false false eg eq (keyword_skips h) =
-      let k = skips_at (force known) end rest found p ps errors _ _ h in
-      record { later = k.3.0; errors_are = k.3.1; goes = k.3.2 }
+  from_keyword_core errors spaced g q eg eq (missing c f e) = refused_by known end rest p ps found errors (no_identifier which) _ g eg c f e
+  from_keyword_core errors spaced g q eg eq (keyword_skips h) = skips_by known end rest p ps found errors _ _ true _ _ g q eg eq h
   from_keyword_core errors spaced g q eg eq (keyword_cut_off r t f e) = absurd cc
 
   pub from_after_keyword : (errors : List ParseError) (spaced s g q : Bool) → is_space p.ch ≡ s → is_greater p.ch ≡ g → is_quote p.ch ≡ q → AfterSpace (AfterKeyword which known) spaced end rest (p ∷ ps) found errors
@@ -202,8 +176,7 @@ module _ (which : Identifier) (known : Found) (end : ℕ) (rest : List Placed) (
       (with_space (AfterKeyword which known) spaced end rest found later p ps es h)
   to_after_keyword later spaced false true q es eg eq (t, f, e) =
       with_none (AfterKeyword which known) spaced end rest found _ (p ∷ ps)
-      (missing (ap (λ (x : List Placed). characters (p ∷ x)) t ∙ greater_spells p eg) f
-      (plain_errors p (greater_error p eg) (Some (error (no_identifier which) p.at)) later ∙ ap (λ (x : List ParseError). error (no_identifier which) p.at ∷ x) e))
+      (missing (ap (λ (x : List Placed). characters (p ∷ x)) t ∙ greater_spells p eg) f (refused_at known end rest p ps found later (no_identifier which) eg e))
   to_after_keyword later spaced false false true es eg eq h =
       with_none (AfterKeyword which known) spaced end rest found _ (p ∷ ps) (identifier (identifier_from which (no_space_after_keyword which) (Follows which) known spaced end rest found p ps later eq h))
   to_after_keyword later spaced false false false es eg eq h =
@@ -218,15 +191,8 @@ module _ (known : Found) (end : ℕ) (rest : List Placed) (p : Placed) (ps : Lis
 
   from_public_core : (errors : List ParseError) (spaced g q : Bool) → is_greater p.ch ≡ g → is_quote p.ch ≡ q → AfterPublicIdentifier known spaced end rest (p ∷ ps) found errors
       → Stepped (after_public spaced false g q p.ch p.at) known end rest p ps found errors
-  from_public_core errors spaced true q eg eq (public_ends h) =
-      let k = end_at known end rest p ps found errors h in
-      record { later = []; errors_are = k.3 ∙ sym (plain_errors p (greater_error p eg) None []); goes = (k.1, k.2, refl) }
-  from_public_core errors spaced false q eg eq (public_ends h) = absurd (false≢true (sym eg ∙ (end_at known end rest p ps found errors h).0))
-  from_public_core errors spaced true q eg eq (public_skips h) = absurd (false≢true (sym (skips_at (force known) end rest found p ps errors _ _ h).1 ∙ eg))
-  from_public_core errors spaced false true eg eq (public_skips h) = absurd (false≢true (sym (skips_at (force known) end rest found p ps errors _ _ h).2 ∙ eq))
-  from_public_core errors spaced false false eg eq (public_skips h) =
-      let k = skips_at (force known) end rest found p ps errors _ _ h in
-      record { later = k.3.0; errors_are = k.3.1; goes = k.3.2 }
+  from_public_core errors spaced g q eg eq (public_ends h) = ends_by known end rest p ps found errors _ g eg h
+  from_public_core errors spaced g q eg eq (public_skips h) = skips_by known end rest p ps found errors _ _ true _ _ g q eg eq h
   from_public_core errors spaced g q eg eq (second h) = quote_by System _ known spaced end rest p ps found errors _ _ g q eg eq h
 
   pub from_public : (errors : List ParseError) (spaced s g q : Bool) → is_space p.ch ≡ s → is_greater p.ch ≡ g → is_quote p.ch ≡ q → AfterSpace (AfterPublicIdentifier known) spaced end rest (p ∷ ps) found errors
@@ -240,9 +206,8 @@ module _ (known : Found) (end : ℕ) (rest : List Placed) (p : Placed) (ps : Lis
   to_public later spaced true g q es eg eq h =
       subst (λ (x : List ParseError). AfterSpace (AfterPublicIdentifier known) spaced end rest (p ∷ ps) found x) (sym (plain_errors p (space_error p es) None later))
       (with_space (AfterPublicIdentifier known) spaced end rest found later p ps es h)
-  to_public later spaced false true q es eg eq (t, f, e) =
-      with_none (AfterPublicIdentifier known) spaced end rest found _ (p ∷ ps)
-      (public_ends (closed (ap (λ (x : List Placed). characters (p ∷ x)) t ∙ greater_spells p eg) f (plain_errors p (greater_error p eg) None later ∙ e)))
+  to_public later spaced false true q es eg eq h =
+      with_none (AfterPublicIdentifier known) spaced end rest found _ (p ∷ ps) (public_ends (ended known end rest p ps found later eg h))
   to_public later spaced false false true es eg eq h =
       with_none (AfterPublicIdentifier known) spaced end rest found _ (p ∷ ps)
       (second (identifier_from System MissingWhitespaceBetweenDoctypePublicAndSystemIdentifiers FollowsSystem known spaced end rest found p ps later eq h))

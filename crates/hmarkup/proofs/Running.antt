@@ -1,5 +1,5 @@
 -- A run of characters that are only data in a comment.
-use Rattle.hmarkup.proofs.Names.{◌≡◌, ℕ, ◌+◌, Bool, true, false, eqb, List, [], ◌∷◌, ◌++◌, length, nat_lt, sym, refl, ap, ◌∙◌, subst, append_assoc, append-nil, arith, encode_utf8, list_all, IsUtf8, chars, and_parts, nat_tests, ParseError, NestedComment, Placed, all, placed, error_if, text_bytes, without_null, CommentKind, errors_here, Progress, begun, IsInComment, IsInBogus, is_whole, next}
+use Rattle.hmarkup.proofs.Names.{◌≡◌, ℕ, ◌+◌, Bool, true, false, eqb, List, [], ◌∷◌, ◌++◌, length, sym, refl, ap, ◌∙◌, subst, append_assoc, append-nil, arith, encode_utf8, list_all, IsUtf8, chars, and_parts, nat_tests, ParseError, NestedComment, Placed, all, placed, error_if, text_bytes, without_null, CommentKind, errors_here, Progress, begun, IsInComment, IsInBogus, is_whole, next}
 use Rattle.std.proofs.Common.{encode_utf8_all}
 use Rattle.std.specs.Char.{len_utf8}
 use Rattle.std.proofs.lemmas.List.Folds.{list_all-append}
@@ -9,56 +9,44 @@ use Rattle.hmarkup.specs.Steps.{next_run, ending_text}
 use Rattle.hmarkup.proofs.InBogus.{bogus_kept}
 use Rattle.hmarkup.proofs.Walking.{kept_other}
 
-record IsOnlyData (c : ℕ) : Type 0 where
-  dash : eqb c 45 ≡ false
-  bang : eqb c 33 ≡ false
-  less : eqb c 60 ≡ false
-  greater : eqb c 62 ≡ false
-  null : eqb c 0 ≡ false
+-- what is only data is no mark, and no error
+no_greater : (c : ℕ) → is_only_data c ≡ true → eqb c 62 ≡ false
+no_greater c h = grind (arith, nat_tests)
 
-only_data : (c : ℕ) → is_only_data c ≡ true → IsOnlyData c
-only_data c h = record {
-  dash = grind (arith, nat_tests);
-  bang = grind (arith, nat_tests);
-  less = grind (arith, nat_tests);
-  greater = grind (arith, nat_tests);
-  null = grind (arith, nat_tests);
-}
+no_null : (c : ℕ) → is_only_data c ≡ true → eqb c 0 ≡ false
+no_null c h = grind (arith, nat_tests)
 
 -- the characters of a run, by its bytes
-by_size : (c : ℕ) (small : Bool) → nat_lt c 128 ≡ small → list_all is_only_data (encode_utf8 c) ≡ true → is_only_data c ≡ true
-by_size c true is h = (and_parts _ _ (rw (encode_ascii c (grind (arith, nat_tests))) at h)).0
-by_size c false is h = grind (arith, nat_tests)
+by_size : (c : ℕ) → list_all is_only_data (encode_utf8 c) ≡ true → is_only_data c ≡ true
+by_size c h = grind (arith, nat_tests, encode_ascii c)
 
 run_characters : (at : ℕ) (cs : List ℕ) → list_all is_only_data (encode_utf8_all cs) ≡ true → all is_only_data (placed at cs) ≡ true
 run_characters at [] h = refl
 run_characters at (c ∷ cs) h =
     let k = and_parts _ _ (sym (list_all-append is_only_data (encode_utf8 c) (encode_utf8_all cs)) ∙ h) in
-    rw (by_size c (nat_lt c 128) refl k.0) (run_characters (at + len_utf8 c) cs k.1)
+    rw (by_size c k.0) (run_characters (at + len_utf8 c) cs k.1)
 
 -- the bytes of a run
 run_bytes : (at : ℕ) (cs : List ℕ) → all is_only_data (placed at cs) ≡ true → text_bytes (placed at cs) ≡ encode_utf8_all cs
 run_bytes at [] h = refl
 run_bytes at (c ∷ cs) h =
     let k = and_parts _ _ h in
-    let d = only_data c k.0 in
-    rw d.null (ap (λ (x : List ℕ). encode_utf8 c ++ x) (run_bytes (at + len_utf8 c) cs k.1))
+    rw (no_null c k.0) (ap (λ (x : List ℕ). encode_utf8 c ++ x) (run_bytes (at + len_utf8 c) cs k.1))
 
 -- what a character of a run does to a comment
-data_error : (nested : Bool) (p : Placed) → IsOnlyData p.ch → errors_here nested p ≡ error_if nested NestedComment p.at
-data_error true p d = simp (d.greater, d.null)
-data_error false p d = simp d.null
+data_error : (nested : Bool) (p : Placed) → is_only_data p.ch ≡ true → errors_here nested p ≡ error_if nested NestedComment p.at
+data_error true p h = simp (no_greater p.ch h, no_null p.ch h)
+data_error false p h = simp (no_null p.ch h)
 
-next_data : (w : Progress) (c : ℕ) → IsOnlyData c → next w c ≡ next_run w (encode_utf8 (without_null c))
-next_data w c d = simp (d.dash, d.bang, d.less)
+next_data : (w : Progress) (c : ℕ) → is_only_data c ≡ true → next w c ≡ next_run w (encode_utf8 (without_null c))
+next_data w c h = grind (arith, nat_tests)
 
 first_data : (w : Progress) (text : List Placed) (errs : List ParseError) (p : Placed) → is_only_data p.ch ≡ true → IsInComment w text errs
     → IsInComment (next_run w (encode_utf8 (without_null p.ch))) (text ++ p ∷ []) (errs ++ error_if (is_whole w.opening) NestedComment p.at)
 first_data w text errs p h k =
-    let d = only_data p.ch h in
-    subst (λ (x : Progress). IsInComment x (text ++ p ∷ []) (errs ++ error_if (is_whole w.opening) NestedComment p.at)) (next_data w p.ch d)
-    (subst (λ (x : List ParseError). IsInComment (next w p.ch) (text ++ p ∷ []) (errs ++ x)) (data_error (is_whole w.opening) p d)
-    (kept_other w text errs p.ch p.at (is_whole w.opening) refl k d.greater))
+    subst (λ (x : Progress). IsInComment x (text ++ p ∷ []) (errs ++ error_if (is_whole w.opening) NestedComment p.at)) (next_data w p.ch h)
+    (subst (λ (x : List ParseError). IsInComment (next w p.ch) (text ++ p ∷ []) (errs ++ x)) (data_error (is_whole w.opening) p h)
+    (kept_other w text errs p.ch p.at (is_whole w.opening) refl k (no_greater p.ch h)))
 
 -- what a run does to a comment in which no mark has begun, and to any other
 more_data : (kind : CommentKind) («data» : List ℕ) (text : List Placed) (errs : List ParseError) (run : List Placed) → all is_only_data run ≡ true → IsInComment (begun kind «data») text errs
@@ -90,10 +78,9 @@ run_bogus : (w : Progress) (text : List Placed) (errs : List ParseError) (run : 
 run_bogus w text errs [] h k = rw (append-nil w.data, append-nil text) k
 run_bogus w text errs (p ∷ ps) h k =
     let parts = and_parts _ _ h in
-    let d = only_data p.ch parts.0 in
     let first : List ℕ = encode_utf8 (without_null p.ch) in
     let one : IsInBogus (after_bogus w first) (text ++ p ∷ []) errs =
-    rw (data_error false p d, append-nil errs) at (bogus_kept w text errs p.ch p.at k (after_bogus w first) k.kind_is d.greater refl) in
+    rw (data_error false p parts.0, append-nil errs) at (bogus_kept w text errs p.ch p.at k (after_bogus w first) k.kind_is (no_greater p.ch parts.0) refl) in
     rw (← append_assoc text (p ∷ []) ps, ← append_assoc w.data first (text_bytes ps))
     (run_bogus (after_bogus w first) (text ++ p ∷ []) errs ps parts.1 one)
 

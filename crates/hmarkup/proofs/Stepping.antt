@@ -1,6 +1,8 @@
 -- A character of a doctype: what goes on after it.
-use Rattle.hmarkup.proofs.Names.{sym, ◌≡◌, ℕ, Bool, true, false, not, if◌then◌else◌, List, [], ◌∷◌, ◌++◌, refl, ap, ◌∙◌, Option, Some, None, append-nil, ParseError, ErrorCode, Placed, is_space, is_greater, is_quote, error, error_if, null_errors, DoctypeState, Step, Found, Stands, found_by, step_errors, fault_errors, GoesOn}
-use Rattle.hmarkup.specs.DoctypeSteps.{goes_to}
+use Rattle.hmarkup.proofs.Names.{codes, false≢true, characters, IsEnd, closed, force, sym, ◌≡◌, ℕ, Bool, true, false, not, if◌then◌else◌, List, [], ◌∷◌, ◌++◌, refl, ap, ◌∙◌, Option, Some, None, append-nil, ParseError, ErrorCode, Placed, is_space, is_greater, is_quote, error, error_if, null_errors, DoctypeState, Step, Found, Stands, found_by, step_errors, fault_errors, GoesOn}
+use Rattle.hmarkup.specs.Doctype.{Skips}
+use Rattle.hmarkup.specs.DoctypeSteps.{goes_to, ends, refuses, skips}
+use Rattle.hmarkup.proofs.Endings.{end_at, only_greater, greater_spells, skips_at}
 use Rattle.hmarkup.proofs.Characters.{space_not_null, greater_not_null, quote_not_null, no_null_error}
 
 -- what is after the character: the rest of the doctype, or nothing
@@ -35,3 +37,29 @@ quote_error p h = no_null_error p (quote_not_null p.ch h)
 pub fault_if : (spaced : Bool) (code : ErrorCode) (at : ℕ) → error_if (not spaced) code at ≡ fault_errors (if spaced then None else Some (error code at))
 fault_if true code at = refl
 fault_if false code at = refl
+
+-- at an end, at a `>` that is an error, and at the beginning of a skipped rest: by the tests that the phase makes
+module _ (known : Found) (end : ℕ) (rest : List Placed) (p : Placed) (ps : List Placed) (found : Found) (errors : List ParseError) where
+  pub ends_by : (other : Step) (g : Bool) → is_greater p.ch ≡ g → IsEnd known end rest (p ∷ ps) found errors → Stepped (if g then ends else other) known end rest p ps found errors
+  ends_by other true eg h =
+      let k = end_at known end rest p ps found errors h in
+      record { later = []; errors_are = k.3 ∙ sym (plain_errors p (greater_error p eg) None []); goes = (k.1, k.2, refl) }
+  ends_by other false eg h = absurd (false≢true (sym eg ∙ (end_at known end rest p ps found errors h).0))
+
+  pub refused_by : (code : ErrorCode) (other : Step) (g : Bool) → is_greater p.ch ≡ g → characters (p ∷ ps) ≡ codes ">" → found ≡ force known → errors ≡ error code p.at ∷ []
+      → Stepped (if g then refuses code p.at else other) known end rest p ps found errors
+  refused_by code other true eg c f e = record { later = []; errors_are = e ∙ sym (plain_errors p (greater_error p eg) (Some (error code p.at)) []); goes = ((only_greater p ps c).1, f, refl) }
+  refused_by code other false eg c f e = absurd (false≢true (sym eg ∙ (only_greater p ps c).0))
+
+  pub skips_by : (test : List Placed → Bool) (code : ErrorCode) (forced : Bool) (closes other : Step) (g q : Bool) → is_greater p.ch ≡ g → test (p ∷ ps) ≡ q → Skips test code (if forced then force known else known) end rest (p ∷ ps) found errors
+      → Stepped (if g then closes else (if q then other else skips code p.at forced)) known end rest p ps found errors
+  skips_by test code forced closes other true q eg eq h = absurd (false≢true (sym (skips_at _ end rest found p ps errors test code h).1 ∙ eg))
+  skips_by test code forced closes other false true eg eq h = absurd (false≢true (sym (skips_at _ end rest found p ps errors test code h).2 ∙ eq))
+  skips_by test code forced closes other false false eg eq h = let k = skips_at _ end rest found p ps errors test code h in record { later = k.3.0; errors_are = k.3.1; goes = k.3.2 }
+
+  -- backwards
+  pub ended : is_greater p.ch ≡ true → Goes None known end rest ps found errors → IsEnd known end rest (p ∷ ps) found (step_errors ends p ++ errors)
+  ended eg (t, f, e) = closed (ap (λ (x : List Placed). characters (p ∷ x)) t ∙ greater_spells p eg) f (plain_errors p (greater_error p eg) None errors ∙ e)
+
+  pub refused_at : (code : ErrorCode) → is_greater p.ch ≡ true → errors ≡ [] → step_errors (refuses code p.at) p ++ errors ≡ error code p.at ∷ []
+  refused_at code eg e = plain_errors p (greater_error p eg) (Some (error code p.at)) errors ∙ ap (λ (x : List ParseError). error code p.at ∷ x) e

@@ -1,5 +1,5 @@
 -- A text begins with at most one comment.
-use Rattle.hmarkup.proofs.Names.{nat_tests, ◌≡◌, ℕ, ◌≤◌, ◌+◌, Bool, true, false, eqb, List, [], ◌∷◌, ◌++◌, length, sym, refl, ap, ◌∙◌, subst, codes, arith, length-append, append_assoc, append-nil, if◌then◌else◌, drop, false≢true, eqb-true, and_parts, or_from, or_left, or_parts, or_right, drop_at, drop_all, map-append, ParseError, AbruptClosingOfEmptyComment, EofInComment, IncorrectlyClosedComment, Placed, characters, place, spells, is_front, before, Avoids, error, text_bytes, closes_comment, closes_at_once, is_ending, errors_after, IsComment, closed_at_once, closed_with_bang, unclosed, IsOneSpan}
+use Rattle.hmarkup.proofs.Names.{nat_tests, ◌≡◌, ℕ, ◌≤◌, ◌+◌, Bool, true, false, eqb, List, [], ◌∷◌, ◌++◌, length, sym, refl, ap, ◌∙◌, subst, codes, arith, length-append, append_assoc, append-nil, if◌then◌else◌, drop, false≢true, eqb-true, and_parts, or_left, or_right, drop_at, drop_all, map-append, ParseError, AbruptClosingOfEmptyComment, EofInComment, IncorrectlyClosedComment, Placed, characters, place, spells, is_front, before, Avoids, error, text_bytes, closes_comment, closes_at_once, is_ending, errors_after, IsComment, closed_at_once, closed_with_bang, unclosed, IsOneSpan}
 use Rattle.std.proofs.lemmas.List.{length-map}
 use Rattle.hmarkup.specs.Comment.{closed}
 use Rattle.hmarkup.proofs.Marks.{before-avoids, before-here, avoids-before, spells-long, spells-characters, first_is}
@@ -41,9 +41,7 @@ pub record IsTold (end : ℕ) (rest text : List Placed) (bytes : List ℕ) (erro
 
 -- no mark comes into a text when more follows a closing mark
 closes-long : (xs ys : List Placed) → 4 ≤ length xs → closes_comment xs ≡ false → closes_comment (xs ++ ys) ≡ false
-closes-long xs ys l h =
-    let k = or_parts (spells (codes "-->") xs) (spells (codes "--!>") xs) h in
-    or_from (spells (codes "-->") (xs ++ ys)) (spells (codes "--!>") (xs ++ ys)) (spells-long (codes "-->") xs ys (omega (arith, l)) k.0) (spells-long (codes "--!>") xs ys (omega (arith, l)) k.1)
+closes-long xs ys l h = grind (arith, spells-long (codes "-->") xs ys, spells-long (codes "--!>") xs ys)
 
 Avoids-long : (xs close rest : List Placed) → 3 ≤ length close → Avoids closes_comment xs close → Avoids closes_comment xs (close ++ rest)
 Avoids-long [] close rest l h = tt

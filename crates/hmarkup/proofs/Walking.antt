@@ -1,5 +1,5 @@
 -- A comment that has not ended, and one more character or the end.
-use Rattle.hmarkup.proofs.Names.{nat_tests, ◌≡◌, ℕ, ◌≤◌, Bool, true, false, eqb, List, [], ◌∷◌, ◌++◌, map, length, sym, refl, ap, ◌∙◌, subst, append_assoc, append-nil, codes, arith, length-append, false≢true, ParseError, AbruptClosingOfEmptyComment, EofInComment, IncorrectlyClosedComment, Placed, characters, error, before, Avoids, text_bytes, without_null, Comment, Dashes, Bang, closes_comment, closes_at_once, is_ending, errors_here, errors_after, IsComment, closed_at_once, closed_with_bang, unclosed, Progress, begun, holds_nothing, IsInComment, backwards, is_whole, next, decided}
+use Rattle.hmarkup.proofs.Names.{nat_tests, ◌≡◌, ℕ, ◌≤◌, Bool, true, false, eqb, List, [], ◌∷◌, ◌++◌, map, length, sym, refl, ap, ◌∙◌, subst, append_assoc, append-nil, arith, length-append, false≢true, ParseError, AbruptClosingOfEmptyComment, EofInComment, IncorrectlyClosedComment, Placed, error, before, Avoids, text_bytes, without_null, Comment, Dashes, Bang, closes_comment, closes_at_once, is_ending, errors_here, errors_after, IsComment, closed_at_once, closed_with_bang, unclosed, Progress, begun, holds_nothing, IsInComment, backwards, is_whole, next, decided}
 use Rattle.std.proofs.lemmas.Str.{length-le-encodes}
 use Rattle.hmarkup.specs.declared.tail.Opening.{Opening}
 use Rattle.hmarkup.specs.Comment.{ends_with_opening, closed}
@@ -122,15 +122,13 @@ module _ (w : Progress) (text : List Placed) (errs : List ParseError) (ch at : �
   -- it is closed by `-->`
   pub closed_now : ch ≡ 62 → w.ending ≡ Dashes → (end : ℕ) (rest : List Placed) → IsComment end rest now w.data errors_now
   closed_now is e end rest =
-      let k : (before closes_comment (h.held ++ p ∷ []) ≡ []) × (characters (h.held ++ p ∷ []) ≡ codes "-->")
-      = subst (λ (c : ℕ). (before closes_comment (h.held ++ record { ch = c; at = at } ∷ []) ≡ []) × (characters (h.held ++ record { ch = c; at = at } ∷ []) ≡ codes "-->")) (sym is) (dashes_close w.ending h.held at h.is_held e) in
+      let k = dashes_close w.ending h.held ch at is h.is_held e in
       closed h.inner (h.held ++ p ∷ []) now_is (starts_not (ap closes e)) (before_now k.0) k.1 h.data_is errors_now_are
 
   -- it is closed by `--!>`
   pub bang_closed_now : ch ≡ 62 → w.ending ≡ Bang → (end : ℕ) (rest : List Placed) → IsComment end rest now w.data (errs ++ (errors_here nested p ++ error IncorrectlyClosedComment at ∷ []))
   bang_closed_now is e end rest =
-      let k : (before closes_comment (h.held ++ p ∷ []) ≡ []) × (characters h.held ≡ codes "--!")
-      = subst (λ (c : ℕ). (before closes_comment (h.held ++ record { ch = c; at = at } ∷ []) ≡ []) × (characters h.held ≡ codes "--!")) (sym is) (bang_closes w.ending h.held at h.is_held e) in
+      let k = bang_closes w.ending h.held ch at is h.is_held e in
       closed_with_bang h.inner h.held (p ∷ []) (ap (λ (x : List Placed). x ++ p ∷ []) h.text_is) (starts_not (ap closes e)) (before_now k.0) k.1 (ap (λ (c : ℕ). c ∷ []) is) h.data_is
       (sym (append_assoc errs (errors_here nested p) (error IncorrectlyClosedComment at ∷ [])) ∙ ap (λ (es : List ParseError). es ++ error IncorrectlyClosedComment at ∷ []) errors_now_are)
 

@@ -41,7 +41,7 @@ decided_by_bang Dash = codes "-!"
 decided_by_bang Dashes = []
 decided_by_bang Bang = codes "--!!"
 
--- the same without the character itself, unless it is `-` or `!`
+-- the same for any character: without the character itself, unless it is `-` or `!`; and with it
 abbrev pub decided_text : Ending → ℕ → List ℕ
 decided_text ending c = if c == 45 then decided_by_dash ending else (if c == 33 then decided_by_bang ending else ending_text ending)
 

@@ -170,8 +170,7 @@ impl CommentWalk {
         }
         let nested = self.opening.is_whole();
         tell_if(nested, ErrorCode::NestedComment, at, errors)?;
-        self.keep_run(run)?;
-        Ok(())
+        Ok(self.keep_run(run)?)
     }
 
     /// Keeps characters that are only data.

@@ -1,6 +1,6 @@
 //! The quirks list (HTML Standard, 13.2.6.4.1): the doctype identifiers that put a document into quirks mode.
 
-ghost use Rattle.std.specs.Prelude.{◌≡◌, ◌∷◌, ◌<◌, ◌+◌, ℕ, List, [], length, option_map, IfOk, MatchOption};
+ghost use Rattle.std.specs.Prelude.{◌≡◌, ◌∷◌, ◌<◌, ℕ, List, [], length, option_map, IfOk, MatchOption};
 ghost use Rattle.std.specs.Int.{is_in_range};
 ghost use Rattle.std.specs.List.{list_all};
 ghost use Rattle.std.specs.Str.{IsUtf8};
@@ -152,15 +152,6 @@ fn begins(id: Option<&str>, text: &str) -> bool
     }
 }
 
-/// The refusal of the line after these.
-fn bad_line(lines: &[QuirksLine]) -> Refusal
-    ensures { result ≡ Refusal.BadQuirks (length lines.now + 1) }
-{
-    Refusal::BadQuirks {
-        line: lines.len() as u64 + 1,
-    }
-}
-
 impl Quirks {
     /// Parses a list. An error is `Memory`, or `BadQuirks` with the number, from 1, of the first line that has none of these forms.
     pub fn read(alloc: Global, text: &str) -> Result<Quirks, Refusal>
@@ -170,10 +161,12 @@ impl Quirks {
         let mut rest = text;
         while !rest.is_empty() {
             let (line, after) = first_line(rest);
-            match QuirksLine::read(alloc, line)? {
-                Some(line) => lines.push(line)?,
-                None => return Err(bad_line(&lines)),
-            }
+            let Some(line) = QuirksLine::read(alloc, line)? else {
+                return Err(Refusal::BadQuirks {
+                    line: lines.len() as u64 + 1,
+                });
+            };
+            lines.push(line)?;
             rest = after;
         }
         Ok(Quirks { lines })

@@ -1,4 +1,4 @@
-use Rattle.hmarkup.proofs.Names.{List, ℕ, [], ◌∷◌, ◌++◌, length, sym, ap, ◌∙◌, arith, append_assoc, nat_tests, lines}
+use Rattle.hmarkup.proofs.Names.{List, ℕ, [], ◌∷◌, ◌++◌, sym, ap, ◌∙◌, arith, append_assoc, nat_tests, lines}
 use Rattle.hmarkup.proofs.Lines.{are_more, at_bad_line, at_end}
 use Rattle.hmarkup.proofs.quirks.Quirks.read.Goals as goal
 
@@ -8,14 +8,13 @@ loop-rest-preserved c = record {
   before = c.loop-rest.invariant.before ++ c.first_line.result.0.now ∷ [];
   lines_are = c.loop-rest.invariant.lines_are ∙ ap (λ (x : List (List ℕ)). c.loop-rest.invariant.before ++ x) c.first_line.ensures.first
       ∙ sym (append_assoc c.loop-rest.invariant.before (c.first_line.result.0.now ∷ []) (lines c.first_line.result.1.now));
-  read = rw c.in_ok-push-in-Some.ensures.items (are_more c.loop-rest.invariant.before c.first_line.result.0.now c.loop-rest.lines.items _ c.loop-rest.invariant.read (rw c.in-Some.is at c.in_ok-line.ensures));
+  read = rw c.in_ok-push.ensures.items (are_more c.loop-rest.invariant.before c.first_line.result.0.now c.loop-rest.lines.items _ c.loop-rest.invariant.read (rw c.in-Some.is at c.in_ok-line.ensures));
 }
 
-pub returns-in-None : goal.returns-in-None
-returns-in-None c =
-    rw c.bad_line.ensures
-    (at_bad_line c.args.text.now c.loop-rest.rest.now _ c.first_line.result.1.now c.loop-rest.invariant.before c.loop-rest.lines.items (length c.deref.result.now) c.loop-rest.invariant.lines_are c.loop-rest.invariant.read c.first_line.ensures.first
-    (rw c.in-None.is at c.in_ok-line.ensures) (ap length c.deref.ensures.value))
+pub returns-in_default : goal.returns-in_default
+returns-in_default c =
+    at_bad_line c.args.text.now c.loop-rest.rest.now _ c.first_line.result.1.now c.loop-rest.invariant.before c.loop-rest.lines.items c.len.result c.loop-rest.invariant.lines_are c.loop-rest.invariant.read c.first_line.ensures.first
+    (rw c.in_default.is at c.in_ok-line.ensures) (omega arith)
 
 pub returns : goal.returns
 returns c = at_end c.args.text.now c.loop-rest.rest.now c.loop-rest.invariant.before _ c.loop-rest.invariant.lines_are c.loop-rest.invariant.read (grind (arith, nat_tests))
