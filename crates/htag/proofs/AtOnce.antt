@@ -1,9 +1,9 @@
 -- Tags that stand whole in a run.
-use Rattle.htag.proofs.Vocabulary.{◌≡◌, ◌≤◌, ◌<◌, ℕ, zero, suc, ◌+◌, ◌-◌, Bool, true, not, ◌||◌, List, [], ◌∷◌, ◌++◌, length, take, drop, sym, refl, ap, ◌∙◌, subst, append_assoc, append-nil, arith, false, eqb, Some, None, Vec, Global, nat_tests, length-drop, length-take-le, take-append-drop, take_all, slice_index, string_bytes, flat_map, list_all, prefix_len, len_utf8, ParseError, Placed, Attr, MissingWhitespaceBetweenAttributes, UnexpectedEqualsSignBeforeAttributeName, Texts, Grows, all, begins, stops, characters, error_if, is_equals, is_greater, is_letter, is_quote, is_space, past, name_bytes, place, placed, is_plain_byte, all_weaker, all_placed, placed_part, plain_drop, Entities, TagWalk, HasReadParts, AttrsMean, HasSeen, has_number, AreValue, IsPiece, pieces_text, value_bytes, plain_pieces, Seen, TagState, HasAttributes, HasPhase, IsInTag, IsPast, IsWholeTag, WholeOrNot, names_after, is_unquoted_byte, is_word_byte, Attribute, AreParts, IsPart, Part, attribute_name_errors, attributes_after, attribute_part, ends_attribute_name, ends_name, ends_unquoted, is_odd, errors_after, name_errors_here, parts_text, repeated, tag_close, tag_errors, unquoted_errors, value_errors}
+use Rattle.htag.proofs.Vocabulary.{◌≡◌, ◌≤◌, ◌<◌, ℕ, zero, suc, ◌+◌, ◌-◌, Bool, true, not, ◌||◌, List, [], ◌∷◌, ◌++◌, length, take, drop, sym, refl, ap, ◌∙◌, subst, append_assoc, append-nil, arith, false, eqb, Some, None, Vec, Global, nat_tests, length-drop, length-take-le, take-append-drop, take_all, slice_index, string_bytes, flat_map, list_all, prefix_len, len_utf8, ParseError, Placed, Attr, MissingWhitespaceBetweenAttributes, UnexpectedEqualsSignBeforeAttributeName, Texts, Grows, all, begins, stops, characters, error_if, is_equals, is_greater, is_letter, is_quote, is_space, past, name_bytes, place, placed, is_plain_byte, all_weaker, all_placed, placed_part, plain_drop, Entities, TagWalk, HasReadParts, AttrsMean, HasSeen, has_number, AreValue, IsPiece, pieces_text, value_bytes, plain_pieces, Seen, TagState, HasAttributes, HasPhase, IsInTag, IsPast, IsWholeTag, WholeOrNot, names_after, is_unquoted_byte, is_word_byte, Attribute, AreParts, IsPart, Part, attribute_name_errors, attributes_after, attribute_part, ends_attribute_name, ends_name, ends_unquoted, is_odd, errors_after, name_errors_here, parts_text, repeated, tag_close, tag_errors, unquoted_errors, value_errors, ◌&&◌}
 use Rattle.std.proofs.Common.{inl, inr}
-use Rattle.std.proofs.Math.Seq.{drop-cons, drop-nil}
-use Rattle.std.proofs.lemmas.Bool.{and_from, and_parts}
-use Rattle.std.proofs.lemmas.List.{length-append, take_at, drop_at}
+use Rattle.std.proofs.Math.Seq.{drop-cons}
+use Rattle.std.proofs.lemmas.Bool.{and_parts}
+use Rattle.std.proofs.lemmas.List.{length-append, take_at, drop_at, drop-drop}
 use Rattle.std.proofs.lemmas.List.Folds.{list_all-append}
 use Rattle.std.proofs.lemmas.List.Sums.{prefix_len_stops}
 use Rattle.std.specs.Prelude.{◌⊎◌}
@@ -74,10 +74,7 @@ module _ (run : List ℕ) (count : ℕ) (is : IsBareName run count) where
   bare_within = omega (arith, is.count_is, ap length is.run_is, length-append name (62 ∷ is.others))
 
   pub bare_plain : list_all is_plain_byte (take (count + 1) run) ≡ true
-  bare_plain = ap (list_all is_plain_byte) bare_taken_whole ∙ and_more name plain_name where
-    and_more : (xs : List ℕ) → list_all is_plain_byte xs ≡ true → list_all is_plain_byte (xs ++ 62 ∷ []) ≡ true
-    and_more [] h = refl
-    and_more (x ∷ xs) h = let k = and_parts (is_plain_byte x) (list_all is_plain_byte xs) h in and_from _ _ k.0 (and_more xs k.1)
+  bare_plain = ap (list_all is_plain_byte) bare_taken_whole ∙ list_all-append is_plain_byte name (62 ∷ []) ∙ ap (λ (b : Bool). b && true) plain_name
 
   module _ (at : ℕ) where
     -- the name and the `>`, with their places
@@ -102,11 +99,6 @@ module _ (run : List ℕ) (count : ℕ) (is : IsBareName run count) where
     }
 
 -- AN ATTRIBUTE
-
-drop_more : (n m : ℕ) (xs : List ℕ) → drop m (drop n xs) ≡ drop (n + m) xs
-drop_more zero m xs = let none : m ≡ 0 + m = omega arith in ap (λ (k : ℕ). drop k xs) none
-drop_more (suc n) m [] = drop-nil m ∙ sym (drop-nil (suc n + m))
-drop_more (suc n) m (x ∷ xs) = let long : suc n + m ≡ suc (n + m) = omega arith in drop_more n m xs ∙ ap (λ (k : ℕ). drop k (x ∷ xs)) (sym long)
 
 not_mark : (c mark : ℕ) → not (eqb c mark) ≡ false → c ≡ mark
 not_mark c mark h = grind (arith, nat_tests)
@@ -245,7 +237,7 @@ module _ (run : List ℕ) (found : PlainAttribute) (found_is : IsPlainAttribute 
 
   pub attribute_value : take found.value.value (drop (found.name + found.value.before) run) ≡ found_is.value.value
   attribute_value =
-      ap (take found.value.value) (sym (drop_more found.name found.value.before run) ∙ ap (drop found.value.before) found_is.value.run_is ∙ drop_at found_is.value.before (found_is.value.value ++ (found_is.value.after ++ found_is.value.next ∷ found_is.value.others)) found.value.before (sym found_is.value.before_is))
+      ap (take found.value.value) (sym (drop-drop found.value.before found.name run) ∙ ap (drop found.value.before) found_is.value.run_is ∙ drop_at found_is.value.before (found_is.value.value ++ (found_is.value.after ++ found_is.value.next ∷ found_is.value.others)) found.value.before (sym found_is.value.before_is))
       ∙ take_at found_is.value.value (found_is.value.after ++ found_is.value.next ∷ found_is.value.others) found.value.value (sym found_is.value.value_is)
 
   module _ (plain : list_all is_plain_byte run ≡ true) where
@@ -399,7 +391,7 @@ module _ (run : List ℕ) (count at : ℕ) (plain : list_all is_plain_byte run �
         ∙ ap (λ (x : List Placed). parts_text so.parts ++ x) added.plain.text_is ∙ sym (parts_text-snoc so.parts added.part);
     no_errors = errors-snoc [] so.parts added.part ∙ ap (λ (x : List ParseError). x ++ (added.part.errors ++ repeated (names_after [] so.parts) added.part.attribute)) so.no_errors
         ∙ ap (λ (x : List ParseError). x ++ repeated (names_after [] so.parts) added.part.attribute) added.plain.no_errors ∙ added.first;
-    are = λ table end rest next. AreParts-snoc table end so.parts added.part rest (before_it table end rest) (added.plain.is_part table end rest (next ∙ ap (take 1) (sym (drop_more count more run))));
+    are = λ table end rest next. AreParts-snoc table end so.parts added.part rest (before_it table end rest) (added.plain.is_part table end rest (next ∙ ap (take 1) (sym (drop-drop more count run))));
     are_free = λ free table end rest. AreParts-snoc table end so.parts added.part rest (before_it table end rest) (added.plain.is_free free table end rest);
     has = added.has;
   } where

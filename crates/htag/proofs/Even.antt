@@ -1,5 +1,5 @@
 -- What a reference is written with.
-use Rattle.htag.proofs.Vocabulary.{◌≡◌, ℕ, Bool, true, false, not, ◌||◌, ◌&&◌, eqb, List, [], ◌∷◌, ◌++◌, sym, refl, ap, ◌∙◌, subst, arith, nat_tests, codes, bytes_eq, list_all, to_ascii_lowercase, Placed, characters, lowered, all, is_alphanumeric, and_parts, and_both, Entities, Piece, IsReference, IsTable, longest_among, all-append, is_odd}
+use Rattle.htag.proofs.Vocabulary.{◌≡◌, ℕ, Bool, true, false, not, ◌||◌, ◌&&◌, eqb, List, [], ◌∷◌, ◌++◌, sym, refl, ap, ◌∙◌, subst, arith, nat_tests, codes, bytes_eq, list_all, to_ascii_lowercase, Placed, characters, lowered, all, is_alphanumeric, and_parts, and_both, Entities, Piece, IsReference, IsTable, longest_among, all-append, is_odd, all-characters}
 use Rattle.names.specs.Placed.{is_digit}
 use Rattle.charref.specs.declared.number.Base.{Base}
 use Rattle.charref.specs.declared.number.Base.TheVariants.{Decimal, Hexadecimal}
@@ -8,17 +8,15 @@ use Rattle.charref.specs.Number.{is_digit_of}
 use Rattle.charref.specs.Held.{IsHeld, IsSign}
 use Rattle.charref.specs.Reference.{is_hex_digit, is_key, is_key_name, is_empty_list, is_semicolon_if_any}
 use Rattle.charref.proofs.Naming.{is_key_of}
-use Rattle.htag.proofs.Pieces.{is_even, is_quiet, quiet_run, quiet_odd}
+use Rattle.names.proofs.TableLemmas.{bytes_eq-true}
+use Rattle.htag.proofs.Pieces.{all_imp, is_even, is_quiet, quiet_run, quiet_odd}
 
 quiet_digit : (base : Base) (c : ℕ) → is_digit_of base c ≡ true → is_quiet c ≡ true
 quiet_digit Decimal c h = let k : is_digit c ≡ true = h in grind (arith, nat_tests)
 quiet_digit Hexadecimal c h = let k : is_hex_digit c ≡ true = h in grind (arith, nat_tests)
 
 quiet_digits : (base : Base) (text : List Placed) → all (is_digit_of base) text ≡ true → all is_quiet text ≡ true
-quiet_digits base [] h = refl
-quiet_digits base (p ∷ ps) h =
-    let parts = and_parts (is_digit_of base p.ch) (all (is_digit_of base) ps) h in
-    and_both (is_quiet p.ch) (all is_quiet ps) (quiet_digit base p.ch parts.0) (quiet_digits base ps parts.1)
+quiet_digits base text h = all_imp (is_digit_of base) is_quiet (quiet_digit base) text h
 
 quiet_sign : (base : Base) (text : List Placed) → IsSign base text → all is_quiet text ≡ true
 quiet_sign _ _ (IsSign.number_sign p e) = rw e refl
@@ -44,18 +42,11 @@ even_of (p ∷ ps) h =
     let even : is_odd p.ch ≡ false = grind (arith, nat_tests) in
     rw even (even_of ps parts.1)
 
-of_characters : (text : List Placed) → all not_odd text ≡ list_all not_odd (characters text)
-of_characters [] = refl
-of_characters (p ∷ ps) = ap (λ (b : Bool). not_odd p.ch && b) (of_characters ps)
-
 letter_even : (c : ℕ) → is_alphanumeric c ≡ true → not_odd c ≡ true
 letter_even c h = grind (arith, nat_tests)
 
 quiet_even : (text : List Placed) → all is_quiet text ≡ true → all not_odd text ≡ true
-quiet_even [] h = refl
-quiet_even (p ∷ ps) h =
-    let parts = and_parts (is_quiet p.ch) (all is_quiet ps) h in
-    and_both (not_odd p.ch) (all not_odd ps) (ap not (quiet_odd p.ch parts.0)) (quiet_even ps parts.1)
+quiet_even text h = all_imp is_quiet not_odd (λ c quiet. ap not (quiet_odd c quiet)) text h
 
 -- a key's characters
 key_name_even : (cs : List ℕ) → is_key_name cs ≡ true → list_all not_odd cs ≡ true
@@ -64,18 +55,11 @@ key_name_even (c ∷ cs) h =
     let parts = and_parts (is_alphanumeric c) (is_empty_list cs || bytes_eq cs (codes ";") || is_key_name cs) h in
     and_both (not_odd c) (list_all not_odd cs) (letter_even c parts.0) (others cs (key_name_even cs) parts.1)
   where
-    semicolon : (d : ℕ) → eqb d 59 ≡ true → not_odd d ≡ true
-    semicolon d e = grind (arith, nat_tests)
-
     others : (ds : List ℕ) → (is_key_name ds ≡ true → list_all not_odd ds ≡ true) → (is_empty_list ds || bytes_eq ds (codes ";") || is_key_name ds) ≡ true → list_all not_odd ds ≡ true
     others [] then e = refl
     others (d ∷ ds) then e = by (bytes_eq (d ∷ ds) (codes ";")) refl e where
-      alone : (es : List ℕ) → bytes_eq (d ∷ es) (codes ";") ≡ true → list_all not_odd (d ∷ es) ≡ true
-      alone [] k = and_both (not_odd d) true (semicolon d (and_parts (eqb d 59) true k).0) refl
-      alone (x ∷ xs) k = let no = and_parts (eqb d 59) false k in absurd (cc (no.1))
-
       by : (b : Bool) → bytes_eq (d ∷ ds) (codes ";") ≡ b → (b || is_key_name (d ∷ ds)) ≡ true → list_all not_odd (d ∷ ds) ≡ true
-      by true k e = alone ds k
+      by true k e = ap (list_all not_odd) (bytes_eq-true (d ∷ ds) (codes ";") k)
       by false k e = then e
 
 key_even : (cs : List ℕ) → is_key cs ≡ true → list_all not_odd cs ≡ true
@@ -98,7 +82,7 @@ lowered_even (p ∷ ps) cs is h =
     and_both (not_odd p.ch) (all not_odd ps) one (lowered_even ps (lowered ps) refl parts.1)
 
 amp_even : (amp : Placed) → amp.ch ≡ 38 → all not_odd (amp ∷ []) ≡ true
-amp_even amp is = of_characters (amp ∷ []) ∙ ap (λ (c : ℕ). list_all not_odd (c ∷ [])) is
+amp_even amp is = all-characters not_odd (amp ∷ []) ∙ ap (λ (c : ℕ). list_all not_odd (c ∷ [])) is
 
 pub alone_even : (amp : Placed) → amp.ch ≡ 38 → is_even (amp ∷ [])
 alone_even amp is = even_of (amp ∷ []) (amp_even amp is)
@@ -110,13 +94,13 @@ passes test (p ∷ ps) h = grind (arith, nat_tests, passes test ps)
 pub reference_even : (table : Entities) (in_value : Bool) (rest : List Placed) (piece : Piece) → IsTable table → IsReference table in_value rest piece → is_even piece.text
 reference_even table in_value rest piece is_table (IsReference.named amp name entry is letter found key kept e) =
     let among = longest_among table (characters (amp ∷ name ++ rest)) entry found in
-    subst (λ (x : Piece). is_even x.text) (sym e) (even_of (amp ∷ name) (of_characters (amp ∷ name) ∙ ap (list_all not_odd) key ∙ key_even entry.key (is_key_of table among.0 entry is_table among.1)))
+    subst (λ (x : Piece). is_even x.text) (sym e) (even_of (amp ∷ name) (all-characters not_odd (amp ∷ name) ∙ ap (list_all not_odd) key ∙ key_even entry.key (is_key_of table among.0 entry is_table among.1)))
 reference_even table in_value rest piece is_table (IsReference.kept amp entry is letter found kept e) = subst (λ (x : Piece). is_even x.text) (sym e) (alone_even amp is)
 reference_even table in_value rest piece is_table (IsReference.unknown amp is letter none e) = subst (λ (x : Piece). is_even x.text) (sym e) (alone_even amp is)
 reference_even table in_value rest piece is_table (IsReference.decimal opening digits close is digit runs closes e) =
     subst (λ (x : Piece). is_even x.text) (sym e)
     (even_of (opening ++ digits ++ close) (all-append not_odd (opening ++ digits) close
-    (all-append not_odd opening digits (of_characters opening ∙ ap (list_all not_odd) is) (quiet_even digits (quiet_digits Decimal digits (passes is_digit digits runs.passes_none)))) (semicolon_even close rest closes)))
+    (all-append not_odd opening digits (all-characters not_odd opening ∙ ap (list_all not_odd) is) (quiet_even digits (quiet_digits Decimal digits (passes is_digit digits runs.passes_none)))) (semicolon_even close rest closes)))
 reference_even table in_value rest piece is_table (IsReference.hexadecimal opening digits close is digit runs closes e) =
     subst (λ (x : Piece). is_even x.text) (sym e)
     (even_of (opening ++ digits ++ close) (all-append not_odd (opening ++ digits) close

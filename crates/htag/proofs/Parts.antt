@@ -1,18 +1,12 @@
 -- Parts of a tag, one by one.
 use Rattle.std.proofs.Math.Bool.{or-false}
 use Rattle.htag.proofs.Vocabulary.{◌≡◌, ℕ, Bool, true, false, ◌||◌, List, [], ◌∷◌, ◌++◌, sym, refl, ap, ◌∙◌, subst, append_assoc, append-nil, Option, None, is_some, Vec, Global, flat_map-append, ParseError, Placed, begins, stops, all, is_space, past, Texts, and_parts, and_both, Entities, Attr, Seen, TagWalk, AttrsMean, HasSeen, Attribute, Part, IsPart, AreParts, parts_text, errors_after, attributes_after, has_attribute, named_by, kept, repeated, names_after, NumbersMean, HasAttributes, arith, nat_tests}
-
-pub begins-more : (test : ℕ → Bool) (xs ys : List Placed) → begins test xs ≡ true → begins test (xs ++ ys) ≡ true
-begins-more test [] ys h = absurd cc
-begins-more test (x ∷ xs) ys h = h
+-- under the names by which they are cited
+pub use Rattle.names.proofs.Words.{begins-append as begins-more, all-one as all-snoc}
 
 pub begins_stops : (test : ℕ → Bool) (xs ys : List Placed) → begins test xs ≡ true → stops test (xs ++ ys) ≡ true
 begins_stops test [] ys e = absurd cc
 begins_stops test (x ∷ xs) ys e = e
-
-pub all-snoc : (test : ℕ → Bool) (xs : List Placed) (p : Placed) → all test xs ≡ true → test p.ch ≡ true → all test (xs ++ p ∷ []) ≡ true
-all-snoc test [] p h k = and_both (test p.ch) true k refl
-all-snoc test (x ∷ xs) p h k = let parts = and_parts (test x.ch) (all test xs) h in and_both (test x.ch) (all test (xs ++ p ∷ [])) parts.0 (all-snoc test xs p parts.1 k)
 
 pub parts_text-append : (xs ys : List Part) → parts_text (xs ++ ys) ≡ parts_text xs ++ parts_text ys
 parts_text-append xs ys = flat_map-append (λ (s : Part). s.text) xs ys

@@ -1,5 +1,5 @@
 -- Pieces of a value, one after another.
-use Rattle.htag.proofs.Vocabulary.{◌≡◌, ℕ, Bool, true, false, not, ◌&&◌, ◌||◌, eqb, List, [], ◌∷◌, ◌++◌, sym, refl, ap, ◌∙◌, subst, append_assoc, append-nil, arith, encode_utf8_all, encode_utf8, flat_map, nat_tests, flat_map-append, encodes-append, UnexpectedCharacterInUnquotedAttributeValue, ParseError, Placed, characters, all, is_alphanumeric, error_if, null_errors, without_null, and_parts, and_both, Entities, Piece, IsPiece, AreValue, pieces_text, plain_piece, value_bytes, is_odd, Begins, pieces_errors, plain_pieces}
+use Rattle.htag.proofs.Vocabulary.{◌≡◌, ℕ, Bool, true, false, not, ◌&&◌, ◌||◌, eqb, List, [], ◌∷◌, ◌++◌, sym, refl, ap, ◌∙◌, subst, append_assoc, append-nil, arith, encode_utf8_all, encode_utf8, flat_map, nat_tests, flat_map-append, encodes-append, UnexpectedCharacterInUnquotedAttributeValue, ParseError, Placed, characters, all, is_alphanumeric, error_if, null_errors, without_null, and_parts, Entities, Piece, IsPiece, AreValue, pieces_text, plain_piece, value_bytes, is_odd, Begins, pieces_errors, plain_pieces, all-characters, all_weaker}
 use Rattle.names.specs.Placed.{errors_at}
 
 pub pieces_text-append : (xs ys : List Piece) → pieces_text (xs ++ ys) ≡ pieces_text xs ++ pieces_text ys
@@ -34,12 +34,12 @@ errors-even false piece even = append-nil (errors_at UnexpectedCharacterInUnquot
 abbrev pub is_quiet : ℕ → Bool
 is_quiet c = is_alphanumeric c || eqb c 35
 
+-- what passes a test passes a weaker one
+pub all_imp : (test other : ℕ → Bool) → ((c : ℕ) → test c ≡ true → other c ≡ true) → (text : List Placed) → all test text ≡ true → all other text ≡ true
+all_imp test other weaker text h = all-characters other text ∙ all_weaker test other weaker (characters text) (sym (all-characters test text) ∙ h)
+
 pub quiet_run : (text : List Placed) → all is_alphanumeric text ≡ true → all is_quiet text ≡ true
-quiet_run [] h = refl
-quiet_run (p ∷ ps) h =
-    let parts = and_parts (is_alphanumeric p.ch) (all is_alphanumeric ps) h in
-    let first : is_alphanumeric p.ch ≡ true = parts.0 in
-    and_both (is_quiet p.ch) (all is_quiet ps) (rw first refl) (quiet_run ps parts.1)
+quiet_run text h = all_imp is_alphanumeric is_quiet (λ c letter. ap (λ (b : Bool). b || eqb c 35) letter) text h
 
 module _ (c : ℕ) (h : is_quiet c ≡ true) where
   pub quiet_plain : eqb c 38 ≡ false

@@ -2,6 +2,7 @@
 use Rattle.htag.proofs.Vocabulary.{◌≡◌, ℕ, zero, suc, ◌-◌, ◌≤◌, Bool, true, false, true≢false, not, ◌||◌, ◌&&◌, eqb, List, [], ◌∷◌, ◌++◌, length, take, drop, map, slice_get, sym, refl, ap, ◌∙◌, subst, append-nil, arith, Option, Some, None, if◌then◌else◌, option_to_list, codes, ErrorCode, MissingSemicolonAfterCharacterReference, UnknownNamedCharacterReference, ParseError, Placed, characters, lowered, place, begins, all, past, is_alphanumeric, is_space, error, error_if, Reference, IsRead, characters_of, errors_of, Entities, Piece, IsReference, ampersand, and_parts, and_both, longest_among, told, nat_tests}
 use Rattle.std.proofs.Common.{nat_eq, nat_lt, cond}
 use Rattle.std.specs.List.{starts_with}
+use Rattle.std.proofs.lemmas.List.{map-append}
 use Rattle.names.specs.declared.error.ErrorCode.TheVariants.{CharacterReferenceOutsideUnicodeRange, ControlCharacterReference, NoncharacterCharacterReference, NullCharacterReference, SurrogateCharacterReference}
 use Rattle.names.specs.Placed.{is_empty, is_noncharacter}
 use Rattle.charref.specs.Reference.{Entry, longest, longer, ends_in_semicolon, number_from, number_fault, is_surrogate, is_control}
@@ -127,8 +128,7 @@ pub record IsRunRead (text : List Placed) (found : Reference) : Type 0 where
   pub gives : characters_of found.characters ≡ 38 ∷ []
 
 pub characters-append : (xs ys : List Placed) → characters (xs ++ ys) ≡ characters xs ++ characters ys
-characters-append [] ys = refl
-characters-append (x ∷ xs) ys = ap (λ (cs : List ℕ). x.ch ∷ cs) (characters-append xs ys)
+characters-append xs ys = map-append (λ (p : Placed). p.ch) xs ys
 
 take_none : (n : ℕ) (xs : List Placed) → 1 ≤ length xs → take n xs ≡ [] → n ≡ 0
 take_none zero xs l e = refl

@@ -23,7 +23,7 @@ pub use Rattle.htag.specs.declared.walk.TagWalk.{TagWalk}
 pub use Rattle.htext.proofs.Runs.{all_placed, placed_part, plain_drop}
 pub use Rattle.htext.specs.Run.{is_plain_byte}
 pub use Rattle.names.proofs.Handing.{grows_not, grows_on}
-pub use Rattle.names.proofs.Words.{all_weaker}
+pub use Rattle.names.proofs.Words.{all_weaker, all-characters}
 pub use Rattle.names.specs.Names.{Texts, Grows, AreNames}
 pub use Rattle.names.specs.Placed.{characters, all, is_alphanumeric, error_if, null_errors, without_null, begins, place, is_equals, name_bytes, lowered, past, is_space, error, is_letter, stops, is_greater, placed, is_quote}
 pub use Rattle.names.specs.declared.attr.Attr.{Attr}
