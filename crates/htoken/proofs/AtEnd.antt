@@ -1,7 +1,6 @@
 -- What is held is a span where the input ends.
-use Rattle.htoken.proofs.Names.{◌≡◌, ℕ, true, false, List, [], ◌++◌, sym, ap, ◌∙◌, subst, append-nil, Placed, RawKind, Texts, Entities, State, Tokenizer, Span, Event, next, is_script, IsSpan, events_of, has_refused, Stands, Reads, IsHeld, IsIn}
+use Rattle.htoken.proofs.Names.{◌≡◌, ℕ, true, false, List, [], ◌++◌, sym, ap, ◌∙◌, subst, append-nil, Placed, RawKind, Texts, Entities, Tokenizer, Span, Event, next, is_script, IsSpan, events_of, has_refused, Stands, Reads}
 use Rattle.names.specs.declared.raw.RawKind.TheVariants as kind
-use Rattle.htoken.specs.declared.state.State.TheVariants as state
 use Rattle.htoken.proofs.Cutting.{stands_more}
 
 -- in data there is no script
@@ -18,22 +17,3 @@ module _ (table : Entities) (start : RawKind) (text : List Placed) (names : Text
   stands_at_end end span held is allowed =
       subst (λ (x : List Placed). Stands table start end x [] (next h.here span) (taken ++ events_of span) []) (ap (λ (x : List Placed). h.front ++ x) (sym held) ∙ sym h.text_is)
       (stands_whole end span [] (held ∙ sym (append-nil span.text)) is allowed)
-
-  -- in a state
-  at_end : (s : State) → t.state ≡ s → IsHeld s table names h.here t h.held []
-  at_end s e = subst (λ (x : State). IsHeld x table names h.here t h.held []) e h.is_held
-
-  stands_in : (s : State) → t.state ≡ s → IsIn s h.here.kind
-  stands_in s e = subst (λ (x : State). IsIn x h.here.kind) e h.is_in
-
-  pub comment_end : t.state ≡ state.Comment → IsHeld state.Comment table names h.here t h.held []
-  comment_end e = at_end state.Comment e
-
-  pub doctype_end : t.state ≡ state.Doctype → IsHeld state.Doctype table names h.here t h.held []
-  doctype_end e = at_end state.Doctype e
-
-  pub comment_end_here : t.state ≡ state.Comment → h.here.kind ≡ kind.None
-  comment_end_here e = stands_in state.Comment e
-
-  pub doctype_end_here : t.state ≡ state.Doctype → h.here.kind ≡ kind.None
-  doctype_end_here e = stands_in state.Doctype e

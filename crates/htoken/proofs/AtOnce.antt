@@ -1,22 +1,18 @@
 -- Tags that stand whole in a run.
-use Rattle.htoken.proofs.Names.{◌≡◌, ◌≤◌, ◌<◌, ℕ, suc, ◌+◌, ◌-◌, true, false, ◌||◌, List, [], ◌∷◌, ◌++◌, length, take, drop, sym, refl, ap, ◌∙◌, subst, Result, Ok, Err, Option, Some, None, append-nil, arith, and_from, nat_tests, length-take-le, take-append-drop, IsUtf8-from_ascii, chars-nil, codes, is_some, slice_get, slice_index, is_ascii, list_all, chars, IsUtf8, ParseError, Placed, RawKind, RefusedName, Refusal, Memory, Texts, Grows, name_bytes, placed, raw_kind, refused_name, tag_named, is_plain_byte, IsCut, plain_chars, hand_one, Entities, TagWalk, IsInTag, IsWholeTag, State, Token, Tokenizer, IsSpan, IsSpanOf, next, EndsTag, TakesFront, TakesPart, IsTag, start_tag, end_tag, tag_mark, Tok, Span, Start, End, Item, ItemToken, Event, TokenMeans, gives_item, has_refused, Reads, HasTaken, holds, Takes, take_took, IsHeld, IsIn, IsLast, less, next_place, slice_range, IsBareName, bare_bytes, bare_front, bare_no_errors, bare_placed, bare_plain, bare_within, tag, and_parts}
+use Rattle.htoken.proofs.Names.{◌≡◌, ◌≤◌, ◌<◌, ℕ, suc, ◌+◌, ◌-◌, true, false, ◌||◌, List, [], ◌∷◌, ◌++◌, length, take, drop, sym, refl, ap, ◌∙◌, subst, Result, Ok, Err, Option, Some, None, append-nil, arith, nat_tests, length-take-le, take-append-drop, IsUtf8-from_ascii, chars-nil, codes, is_some, slice_get, slice_index, is_ascii, list_all, chars, IsUtf8, ParseError, Placed, RawKind, RefusedName, Refusal, Memory, Texts, Grows, name_bytes, placed, raw_kind, refused_name, tag_named, is_plain_byte, IsCut, plain_chars, hand_one, Entities, TagWalk, IsInTag, IsWholeTag, State, Token, Tokenizer, IsSpan, IsSpanOf, next, EndsTag, TakesFront, TakesPart, IsTag, start_tag, end_tag, tag_mark, Tok, Span, Start, End, Item, ItemToken, Event, TokenMeans, gives_item, has_refused, Reads, HasTaken, holds, Takes, take_took, IsHeld, IsLast, less, next_place, slice_range, IsBareName, bare_bytes, bare_front, bare_no_errors, bare_placed, bare_plain, bare_within, tag, all_weaker, MatchResult}
 use Rattle.names.specs.declared.raw.RawKind.TheVariants as kind
 use Rattle.htag.specs.declared.kind.TagKind.TheVariants as which
 use Rattle.htoken.specs.declared.state.State.TheVariants as state
-use Rattle.htoken.proofs.Fronts.{part_taken, takes_nothing}
+use Rattle.htoken.proofs.Fronts.{each_ascii, part_taken, plain_ascii, takes_nothing}
 use Rattle.htoken.proofs.Going.{spans_end}
 use Rattle.htoken.proofs.Handing.{span_given}
 use Rattle.htoken.proofs.InData.{between_data}
 use Rattle.htoken.proofs.InRun.{next_run}
 use Rattle.htoken.proofs.InTag.{tag_handed}
-use Rattle.htoken.proofs.InText.{ascii_chars, each_ascii}
-use Rattle.htoken.proofs.Reading.{ran_out_before, reads_as, reads_held}
+use Rattle.htoken.proofs.InText.{ascii_chars}
+use Rattle.htoken.proofs.Reading.{held_in, kind_in, ran_out_before, reads_as, reads_held}
 
 -- A FRONT OF PLAIN BYTES
-
-plain_ascii : (xs : List ℕ) → list_all is_plain_byte xs ≡ true → list_all is_ascii xs ≡ true
-plain_ascii [] h = refl
-plain_ascii (x ∷ xs) h = let k = and_parts (is_plain_byte x) (list_all is_plain_byte xs) h in let small : is_ascii x ≡ true = grind (arith, k.0, nat_tests) in and_from _ _ small (plain_ascii xs k.1)
 
 module _ (n : ℕ) (run : List ℕ) (within : n ≤ length run) (plain : list_all is_plain_byte (take n run) ≡ true) (u : IsUtf8 run) where
   pub plain_cut : IsCut n run
@@ -48,29 +44,21 @@ pub nothing_taken : {S : Type 0} (gives : S → Item → Result (Unit {0}) Refus
     → Takes gives table start text (placed at (chars [])) taken names s (Ok tt) s t
 nothing_taken gives table start text taken at names s t h = subst (λ (x : List ℕ). Takes gives table start text (placed at x) taken names s (Ok tt) s t) (sym chars-nil) (takes_nothing gives table start text taken names s t h)
 
--- and then a part of it
-pub nothing_then : {S : Type 0} (gives : S → Item → Result (Unit {0}) Refusal → S → Type 0) (table : Entities) (start : RawKind) (text : List Placed) (taken : List Event) (at count : ℕ) (run : List ℕ) (before names : Texts) (old mid new : S) (t next : Tokenizer) (answer : Result ℕ Refusal) → count ≡ 0
-    → Grows before names → Takes gives table start text (placed at (chars (take count run))) taken before old (Ok tt) mid t
-    → ((fed : List Placed) (events : List Event) → HasTaken table start t before fed events → TakesPart gives table start fed at run events names mid answer new next) → TakesPart gives table start text at run taken names old answer new next
-nothing_then gives table start text taken at count run before names old mid new t next answer none grows first then = by answer then where
-  nothing : Takes gives table start text [] taken before old (Ok tt) mid t
-  nothing = subst (λ (x : List ℕ). Takes gives table start text (placed at x) taken before old (Ok tt) mid t) (ap (λ (n : ℕ). chars (take n run)) none ∙ chars-nil) first
+-- and then a part of it; the same of a run of plain bytes
+module _ {S : Type 0} (gives : S → Item → Result (Unit {0}) Refusal → S → Type 0) (table : Entities) (start : RawKind) (text : List Placed) (taken : List Event) (at count : ℕ) (run : List ℕ) (before names : Texts) (old mid new : S) (t next : Tokenizer) (answer : Result ℕ Refusal) (none : count ≡ 0) (grows : Grows before names) where
+  nothing_first : (part : ℕ → List Placed) (whole : List Placed) (answer : Result ℕ Refusal) → Takes gives table start text [] taken before old (Ok tt) mid t
+      → ((fed : List Placed) (events : List Event) → HasTaken table start t before fed events → MatchResult answer (λ n. Takes gives table start fed (part n) events names mid (Ok tt) new next) (λ e. Takes gives table start fed whole events names mid (Err e) new next))
+      → MatchResult answer (λ n. Takes gives table start text (part n) taken names old (Ok tt) new next) (λ e. Takes gives table start text whole taken names old (Err e) new next)
+  nothing_first part whole (Ok n) nothing then = part_taken gives table start text [] taken before names grows old mid t (part n) (part n) refl (Ok tt) new next nothing then
+  nothing_first part whole (Err e) nothing then = part_taken gives table start text [] taken before names grows old mid t whole whole refl (Err e) new next nothing then
 
-  by : (answer : Result ℕ Refusal) → ((fed : List Placed) (events : List Event) → HasTaken table start t before fed events → TakesPart gives table start fed at run events names mid answer new next) → TakesPart gives table start text at run taken names old answer new next
-  by (Ok n) then = part_taken gives table start text [] taken before names grows old mid t (placed at (chars (take n run))) (placed at (chars (take n run))) refl (Ok tt) new next nothing then
-  by (Err e) then = part_taken gives table start text [] taken before names grows old mid t (placed at (chars run)) (placed at (chars run)) refl (Err e) new next nothing then
+  pub nothing_then : Takes gives table start text (placed at (chars (take count run))) taken before old (Ok tt) mid t
+      → ((fed : List Placed) (events : List Event) → HasTaken table start t before fed events → TakesPart gives table start fed at run events names mid answer new next) → TakesPart gives table start text at run taken names old answer new next
+  nothing_then first = nothing_first (λ n. placed at (chars (take n run))) (placed at (chars run)) answer (subst (λ (x : List ℕ). Takes gives table start text (placed at x) taken before old (Ok tt) mid t) (ap (λ (n : ℕ). chars (take n run)) none ∙ chars-nil) first)
 
--- the same of a run of plain bytes
-pub nothing_before : {S : Type 0} (gives : S → Item → Result (Unit {0}) Refusal → S → Type 0) (table : Entities) (start : RawKind) (text : List Placed) (taken : List Event) (at count : ℕ) (run : List ℕ) (before names : Texts) (old mid new : S) (t next : Tokenizer) (answer : Result ℕ Refusal) → count ≡ 0
-    → Grows before names → Takes gives table start text (placed at (take count run)) taken before old (Ok tt) mid t
-    → ((fed : List Placed) (events : List Event) → HasTaken table start t before fed events → TakesFront gives table start fed at run events names mid answer new next) → TakesFront gives table start text at run taken names old answer new next
-nothing_before gives table start text taken at count run before names old mid new t next answer none grows first then = by answer then where
-  nothing : Takes gives table start text [] taken before old (Ok tt) mid t
-  nothing = subst (λ (n : ℕ). Takes gives table start text (placed at (take n run)) taken before old (Ok tt) mid t) none first
-
-  by : (answer : Result ℕ Refusal) → ((fed : List Placed) (events : List Event) → HasTaken table start t before fed events → TakesFront gives table start fed at run events names mid answer new next) → TakesFront gives table start text at run taken names old answer new next
-  by (Ok n) then = part_taken gives table start text [] taken before names grows old mid t (placed at (take n run)) (placed at (take n run)) refl (Ok tt) new next nothing then
-  by (Err e) then = part_taken gives table start text [] taken before names grows old mid t (placed at run) (placed at run) refl (Err e) new next nothing then
+  pub nothing_before : Takes gives table start text (placed at (take count run)) taken before old (Ok tt) mid t
+      → ((fed : List Placed) (events : List Event) → HasTaken table start t before fed events → TakesFront gives table start fed at run events names mid answer new next) → TakesFront gives table start text at run taken names old answer new next
+  nothing_before first = nothing_first (λ n. placed at (take n run)) (placed at run) answer (subst (λ (n : ℕ). Takes gives table start text (placed at (take n run)) taken before old (Ok tt) mid t) none first)
 
 -- A BARE TAG IN A RUN
 
@@ -116,10 +104,10 @@ module _ (table : Entities) (start : RawKind) (t : Tokenizer) (names : Texts) (t
 
   module _ (after_less : t.state ≡ state.Less) where
     held_less : (h.held ≡ less t ∷ []) × (t.raised.errors.items ≡ [])
-    held_less = subst (λ (s : State). IsHeld s table names h.here t h.held []) after_less h.is_held
+    held_less = held_in h state.Less after_less
 
     here_data : h.here.kind ≡ kind.None
-    here_data = subst (λ (s : State). IsIn s h.here.kind) after_less h.is_in
+    here_data = kind_in h state.Less after_less
 
     less_ahead : (fed : List Placed) (place : ℕ) → place ≡ next_place (text ++ fed) → Reads table start (record t { next = place }) names text fed taken
     less_ahead fed place is =

@@ -1,13 +1,13 @@
 -- An `&` that is text, and a whole reference, as a run shows them.
-use Rattle.htoken.proofs.Names.{◌≡◌, ◌≤◌, ◌<◌, ℕ, zero, suc, ◌+◌, ◌-◌, Bool, true, false, eqb, ◌&&◌, ◌||◌, List, [], ◌∷◌, ◌++◌, map, length, take, drop, reverse, sym, refl, ap, ◌∙◌, subst, arith, append_assoc, append-nil, Result, Ok, Err, Option, slice_index, list_all, prefix_len, is_ascii, len_utf8, encode_utf8, chars, IsUtf8, and_from, nat_tests, get_or-drop, length-append, length-drop, length-take-le, take-append-drop, take_all, take_at, drop_at, chars-IsAscii, encode_ascii, len_utf8_ascii, IsUtf8-from_ascii, prefix_len-le-length, prefix_len_stops, drop-length, UnknownNamedCharacterReference, ParseError, Placed, RawKind, Refusal, Texts, all, begins, past, is_alphanumeric, placed, error_if, Reference, IsRead, errors_of, characters_of, Entities, Piece, IsReference, IsTable, alone, ampersand, is_plain_byte, is_text_byte, IsCut, list_all-append, all_placed, cut_more, State, Tokenizer, all_at, bare_errors, first_placed, IsBare, IsFront, IsWhole, known_errors, piece_events, HandsEvents, has_references, Standing, run_events, Item, Event, Gives, Reports, Char, AreFront, after_place, holds, later_errors, next_place, IsBetween, IsHeld, IsLast, Reads, Stands, Takes, take_sink_refused, take_took, backwards, reverse-append, IsAscii-take, IsAscii-drop, get_or-append_seam, counted, take_more, and_parts}
+use Rattle.htoken.proofs.Names.{◌≡◌, ◌≤◌, ◌<◌, ℕ, zero, suc, ◌+◌, ◌-◌, Bool, true, false, eqb, ◌&&◌, ◌||◌, List, [], ◌∷◌, ◌++◌, map, length, take, drop, reverse, sym, refl, ap, ◌∙◌, subst, arith, append_assoc, append-nil, Result, Ok, Err, Option, slice_index, list_all, prefix_len, is_ascii, len_utf8, encode_utf8, chars, IsUtf8, and_from, nat_tests, get_or-drop, length-append, length-drop, length-take-le, take-append-drop, take_all, take_at, drop_at, chars-IsAscii, encode_ascii, len_utf8_ascii, IsUtf8-from_ascii, prefix_len-le-length, prefix_len_stops, drop-length, UnknownNamedCharacterReference, ParseError, Placed, RawKind, Refusal, Texts, all, begins, past, is_alphanumeric, placed, error_if, Reference, IsRead, errors_of, characters_of, Entities, Piece, IsReference, IsTable, alone, ampersand, is_plain_byte, is_text_byte, IsCut, list_all-append, all_placed, cut_more, State, Tokenizer, all_at, bare_errors, first_placed, IsBare, IsFront, IsWhole, known_errors, piece_events, HandsEvents, has_references, Standing, run_events, Item, Event, Gives, Reports, Char, AreFront, after_place, holds, later_errors, next_place, IsBetween, IsHeld, IsLast, Reads, Stands, Takes, take_sink_refused, take_took, backwards, reverse-append, IsAscii-take, IsAscii-drop, get_or-append_seam, counted, take_more, and_parts, all-characters, characters_placed}
 use Rattle.htoken.specs.declared.state.State.TheVariants as state
 use Rattle.htoken.proofs.AfterRun.{later_same}
-use Rattle.htoken.proofs.Fronts.{takes_both}
+use Rattle.htoken.proofs.Fronts.{each_ascii, takes_both}
 use Rattle.htoken.proofs.Going.{next_place-snoc}
 use Rattle.htoken.proofs.InReference.{same_between}
 use Rattle.htoken.proofs.InRun.{next_last}
-use Rattle.htoken.proofs.InText.{text_events, all_ascii, ascii_chars, ascii_placed, each_ascii, length_left, unknown_is}
-use Rattle.htoken.proofs.Reading.{reads_front, reads_text}
+use Rattle.htoken.proofs.InText.{text_events, all_ascii, ascii_chars, ascii_placed, length_left, unknown_is}
+use Rattle.htoken.proofs.Reading.{held_in, reads_front, reads_text}
 use Rattle.htoken.proofs.Pending.{later_told}
 use Rattle.htoken.proofs.Referring.{run_errors, stands_piece}
 
@@ -42,8 +42,7 @@ alone_bare table kind (a ∷ b ∷ rest) may amp long other sign ascii = record 
 
 -- places do not matter to a test
 all_unplaced : (test : ℕ → Bool) (at : ℕ) (xs : List ℕ) → all test (placed at xs) ≡ true → list_all test xs ≡ true
-all_unplaced test at [] h = refl
-all_unplaced test at (x ∷ xs) h = let k = and_parts (test x) (all test (placed (at + len_utf8 x) xs)) h in and_from _ _ k.0 (all_unplaced test (at + len_utf8 x) xs k.1)
+all_unplaced test at xs h = sym (all-characters test (placed at xs) ∙ ap (list_all test) (characters_placed at xs)) ∙ h
 
 length-placed : (at : ℕ) (xs : List ℕ) → length (placed at xs) ≡ length xs
 length-placed at [] = refl
@@ -66,12 +65,6 @@ seam (suc n) (x ∷ xs) h =
     let e : suc n + 1 ≡ suc (n + 1) = omega arith in
     rw e (ap (λ (l : List ℕ). x ∷ l) (seam n xs (omega (arith, h))))
 
-take_both : (k n : ℕ) (xs : List ℕ) → k ≤ n → take k (take n xs) ≡ take k xs
-take_both zero n xs l = refl
-take_both (suc k) zero xs l = absurd (omega (arith, l))
-take_both (suc k) (suc n) [] l = refl
-take_both (suc k) (suc n) (x ∷ xs) l = ap (λ (ys : List ℕ). x ∷ ys) (take_both k n xs (omega (arith, l)))
-
 -- the letters after it show that no key begins it
 module _ (table : Entities) (kind : RawKind) (bytes : List ℕ) (found : Reference) (k : ℕ) (some : 0 < k) (within : k ≤ length bytes) (in_run : found.in_run ≡ true)
     (read : (at : ℕ) (after : List Placed) → IsRead table false (placed at (take k bytes)) after found) where
@@ -88,13 +81,10 @@ module _ (table : Entities) (kind : RawKind) (bytes : List ℕ) (found : Referen
   letters = take count bytes
 
   abbrev later : List ℕ
-  later = drop k letters
+  later = take (count - k) (drop k bytes)
 
   letters_are : letters ≡ take k bytes ++ later
-  letters_are =
-      let sum : k + (count - k) ≡ count = omega (arith, few) in
-      let split = sym (take-append-drop k letters) in
-      split ∙ ap (λ (x : List ℕ). x ++ later) (take_both k count bytes few)
+  letters_are = let sum : k + (count - k) ≡ count = omega (arith, few) in ap (λ (n : ℕ). take n bytes) (sym sum) ∙ take_more k (count - k) bytes
 
   plain : list_all is_alphanumeric letters ≡ true
   plain = counted is_alphanumeric bytes
@@ -271,7 +261,7 @@ module _ {S : Type 0} (gives : S → Item → Result (Unit {0}) Refusal → S �
 
   module _ (h : Reads table start t names text (first_placed at run) taken) (new : Tokenizer) (then : new ≡ record t { next = new.next }) (next : new.next ≡ after_place (at + count)) where
     none : (h.held ≡ []) × (t.raised.errors.items ≡ []) × IsBetween h.here t
-    none = subst (λ (x : State). IsHeld x table names h.here t h.held (first_placed at run)) in_text h.is_held
+    none = held_in h state.Text in_text
 
     text_is : text ≡ h.front
     text_is = h.text_is ∙ ap (λ (x : List Placed). h.front ++ x) none.0 ∙ append-nil h.front

@@ -1,5 +1,5 @@
 -- What the characters after `<!` begin, and what they do not.
-use Rattle.htoken.proofs.Names.{◌≡◌, ℕ, zero, suc, ◌+◌, ◌<◌, get_or, take, Bool, true, false, ◌&&◌, ◌||◌, eqb, List, [], ◌∷◌, ◌++◌, map, length, sym, refl, ap, ◌∙◌, subst, Some, arith, append_assoc, append-nil, eqb-true, eq-eqb, codes, slice_get, is_some, to_ascii_lowercase, list_all, Placed, characters, lowered, all, is_letter, begins, place, spells_in_any_case, nat_tests, is_plain_in_bogus, and_no, and_parts, and_both, Opened, is_declaration, front_at, IsOpened, take-suc, spells, Opens, Spelled, is_cdata, IsFrontOf, OpensAs}
+use Rattle.htoken.proofs.Names.{◌≡◌, ℕ, zero, suc, ◌+◌, ◌<◌, get_or, take, Bool, true, false, ◌&&◌, ◌||◌, eqb, List, [], ◌∷◌, ◌++◌, map, length, sym, refl, ap, ◌∙◌, subst, Some, arith, append_assoc, append-nil, eqb-true, eq-eqb, codes, slice_get, is_some, to_ascii_lowercase, list_all, Placed, characters, lowered, all, is_letter, begins, place, spells_in_any_case, nat_tests, is_plain_in_bogus, and_no, and_parts, and_both, Opened, is_declaration, front_at, IsOpened, take-suc, spells, Opens, Spelled, is_cdata, IsFrontOf, OpensAs, all-one, all-characters, begins-append, list_all-append}
 use Rattle.htoken.specs.declared.declaration.Opened.TheVariants as opened
 use Rattle.htoken.specs.declared.declaration.Opens.TheVariants as opens
 use Rattle.htoken.specs.declared.declaration.Spelled.TheVariants as spelled
@@ -83,14 +83,7 @@ three a b c e f g = rw (e, f, g) refl
 
 -- by the first character
 other_letter : (x : ℕ) (k : ℕ) → eqb (to_ascii_lowercase x) 100 ≡ true → eqb (to_ascii_lowercase k) 100 ≡ false → eqb x k ≡ false
-other_letter x k h e = by (eqb x k) refl where
-  by : (b : Bool) → eqb x k ≡ b → eqb x k ≡ false
-  by false f = f
-  by true f = let never : true ≡ false = sym h ∙ ap (λ (c : ℕ). eqb (to_ascii_lowercase c) 100) (eqb-true x k f) ∙ e in absurd cc
-
-begins_in : (test : ℕ → Bool) (text : List Placed) (more : List Placed) → begins test text ≡ true → begins test (text ++ more) ≡ true
-begins_in test [] more h = absurd cc
-begins_in test (x ∷ xs) more h = h
+other_letter x k h e = grind (arith, nat_tests)
 
 not_doctype : (text : List Placed) → begins (λ c. eqb (to_ascii_lowercase c) 100) text ≡ true → spells_in_any_case (codes "doctype") text ≡ false → is_declaration text ≡ false
 not_doctype [] h e = absurd cc
@@ -134,14 +127,14 @@ by_spelled so whole spelled.Whole = whole
 by_spelled so whole spelled.Other = opens.Bogus
 
 pub doctype_goes : (s : Spelled) (text : List Placed) (p : Placed) → begins (λ c. eqb (to_ascii_lowercase c) 100) text ≡ true → SpelledAs to_ascii_lowercase (codes "doctype") s (text ++ p ∷ []) → OpensAs (by_spelled opened.Doctype opens.Doctype s) (text ++ p ∷ [])
-doctype_goes spelled.Front text p first h = (begins_in _ text (p ∷ []) first, h)
+doctype_goes spelled.Front text p first h = (begins-append _ text (p ∷ []) first, h)
 doctype_goes spelled.Whole text p first h = h
-doctype_goes spelled.Other text p first h = λ more. not_doctype ((text ++ p ∷ []) ++ more) (begins_in _ (text ++ p ∷ []) more (begins_in _ text (p ∷ []) first)) (in_any_case (codes "doctype") ((text ++ p ∷ []) ++ more) ∙ h more)
+doctype_goes spelled.Other text p first h = λ more. not_doctype ((text ++ p ∷ []) ++ more) (begins-append _ (text ++ p ∷ []) more (begins-append _ text (p ∷ []) first)) (in_any_case (codes "doctype") ((text ++ p ∷ []) ++ more) ∙ h more)
 
 pub cdata_goes : (s : Spelled) (text : List Placed) (p : Placed) → begins (λ c. eqb c 91) text ≡ true → SpelledAs (λ c. c) (codes "[CDATA[") s (text ++ p ∷ []) → OpensAs (by_spelled opened.Cdata opens.Cdata s) (text ++ p ∷ [])
-cdata_goes spelled.Front text p first h = (begins_in _ text (p ∷ []) first, h)
+cdata_goes spelled.Front text p first h = (begins-append _ text (p ∷ []) first, h)
 cdata_goes spelled.Whole text p first h = h
-cdata_goes spelled.Other text p first h = λ more. not_cdata ((text ++ p ∷ []) ++ more) (begins_in _ (text ++ p ∷ []) more (begins_in _ text (p ∷ []) first)) (as_it_is (codes "[CDATA[") ((text ++ p ∷ []) ++ more) ∙ h more)
+cdata_goes spelled.Other text p first h = λ more. not_cdata ((text ++ p ∷ []) ++ more) (begins-append _ (text ++ p ∷ []) more (begins-append _ text (p ∷ []) first)) (as_it_is (codes "[CDATA[") ((text ++ p ∷ []) ++ more) ∙ h more)
 
 pub dash_alone : (text : List Placed) (p : Placed) → characters text ≡ codes "-" → eqb p.ch 45 ≡ false → OpensAs opens.Bogus (text ++ p ∷ [])
 dash_alone text p h e = λ more. subst (λ (x : List Placed). is_declaration x ≡ false) (sym (append_assoc text (p ∷ []) more)) (one_dash text p more h e)
@@ -163,17 +156,11 @@ first_doctype text p none is = subst (λ (x : List Placed). IsOpened opened.Doct
 pub first_bracket : (text : List Placed) (p : Placed) → text ≡ [] → p.ch ≡ 91 → IsOpened opened.Cdata (text ++ p ∷ [])
 first_bracket text p none is = subst (λ (x : List Placed). IsOpened opened.Cdata (x ++ p ∷ [])) (sym none) (ap (λ (c : ℕ). eqb c 91) is, (67, codes "DATA[", ap (λ (c : ℕ). c ∷ codes "CDATA[") is))
 
-pub all_more : (test : ℕ → Bool) (xs : List Placed) (p : Placed) → all test xs ≡ true → test p.ch ≡ true → all test (xs ++ p ∷ []) ≡ true
-all_more test [] p h k = rw k refl
-all_more test (x ∷ xs) p h k = let parts = and_parts (test x.ch) (all test xs) h in and_both (test x.ch) (all test (xs ++ p ∷ [])) parts.0 (all_more test xs p parts.1 k)
-
-all_take : (test : ℕ → Bool) (ps : List Placed) (i c : ℕ) (d : Placed) → i < length ps → c ≡ (get_or ps i d).ch → test c ≡ true → all test (take i ps) ≡ true → all test (take (i + 1) ps) ≡ true
-all_take test ps i c d l is one h =
-    let more : i + 1 ≡ suc i = omega arith in
-    rw (more, take-suc ps i d l) (all_more test (take i ps) (get_or ps i d) h (sym (ap test is) ∙ one))
-
 pub plain_take : (ps : List Placed) (i c : ℕ) (d : Placed) → i < length ps → c ≡ (get_or ps i d).ch → (c ≡ 62 → ⊥) → (c ≡ 0 → ⊥) → all is_plain_in_bogus (take i ps) ≡ true → all is_plain_in_bogus (take (i + 1) ps) ≡ true
-plain_take ps i c d l is greater null h = all_take is_plain_in_bogus ps i c d l is (grind (arith, nat_tests)) h
+plain_take ps i c d l is greater null h =
+    let more : i + 1 ≡ suc i = omega arith in
+    let one : is_plain_in_bogus c ≡ true = grind (arith, nat_tests) in
+    rw (more, take-suc ps i d l) (all-one is_plain_in_bogus (take i ps) (get_or ps i d) h (sym (ap is_plain_in_bogus is) ∙ one))
 
 pub plain_at : (ps : List Placed) (i c : ℕ) (d : Placed) → i < length ps → c ≡ (get_or ps i d).ch → all is_plain_in_bogus ps ≡ true → is_plain_in_bogus c ≡ true
 plain_at [] i c d l is h = absurd (omega arith)
@@ -188,18 +175,14 @@ plain_if read test (x ∷ xs) leads h =
     let parts = and_parts (test (read x.ch)) (list_all test (as_read read xs)) h in
     and_both (is_plain_in_bogus x.ch) (all is_plain_in_bogus xs) (leads x.ch parts.0) (plain_if read test xs leads parts.1)
 
-front_all : (test : ℕ → Bool) (xs ys : List ℕ) → list_all test (xs ++ ys) ≡ true → list_all test xs ≡ true
-front_all test [] ys h = refl
-front_all test (x ∷ xs) ys h = let parts = and_parts (test x) (list_all test (xs ++ ys)) h in and_both (test x) (list_all test xs) parts.0 (front_all test xs ys parts.1)
-
 front_of_word : (test : ℕ → Bool) (word read : List ℕ) → list_all test word ≡ true → IsFrontOf word read → list_all test read ≡ true
-front_of_word test word read h (c, left, is) = front_all test read (c ∷ left) (ap (list_all test) is ∙ h)
+front_of_word test word read h (c, left, is) = (and_parts (list_all test read) (list_all test (c ∷ left)) (sym (list_all-append test read (c ∷ left)) ∙ ap (list_all test) is ∙ h)).0
 
 letter_plain : (c : ℕ) → is_letter (to_ascii_lowercase c) ≡ true → is_plain_in_bogus c ≡ true
 letter_plain c h = grind (arith, nat_tests)
 
 pub characters_plain : (text : List Placed) → list_all is_plain_in_bogus (characters text) ≡ true → all is_plain_in_bogus text ≡ true
-characters_plain text h = plain_if (λ c. c) is_plain_in_bogus text (λ c plain. plain) h
+characters_plain text h = all-characters is_plain_in_bogus text ∙ h
 
 pub opened_plain : (so : Opened) (text : List Placed) → IsOpened so text → all is_plain_in_bogus text ≡ true
 opened_plain opened.Nothing text h = ap (all is_plain_in_bogus) h

@@ -1,5 +1,5 @@
 -- The input's end after `<!`: what came after it is read as a comment.
-use Rattle.htoken.proofs.Names.{◌≡◌, ℕ, true, false, List, [], ◌∷◌, ◌++◌, sym, refl, ap, ◌∙◌, subst, Result, Ok, Err, append-nil, IncorrectlyOpenedComment, ParseError, Placed, RawKind, Refusal, Texts, all, place, error, is_plain_in_bogus, Entities, Bogus, IsCommentOf, WalkEnds, Opened, Raised, State, Token, Tokenizer, IsDataSpan, is_declaration, bogus_declaration, Span, Event, Comment, TokenMeans, gives_item, Reads, IsHeld, IsIn, EndsHeld, held_ran_out, held_ended, less, Keeps, BeginsBogus, GivesSpan}
+use Rattle.htoken.proofs.Names.{◌≡◌, ℕ, true, false, List, [], ◌∷◌, ◌++◌, sym, refl, ap, ◌∙◌, subst, Result, Ok, Err, append-nil, IncorrectlyOpenedComment, ParseError, Placed, RawKind, Refusal, Texts, all, place, error, is_plain_in_bogus, Entities, Bogus, IsCommentOf, WalkEnds, Opened, Raised, Token, Tokenizer, IsDataSpan, is_declaration, bogus_declaration, Span, Event, Comment, TokenMeans, gives_item, Reads, IsHeld, EndsHeld, held_ran_out, held_ended, less, Keeps, BeginsBogus, GivesSpan}
 use Rattle.names.specs.declared.raw.RawKind.TheVariants as kind
 use Rattle.htoken.specs.declared.state.State.TheVariants as state
 use Rattle.htoken.proofs.AtEnd.{no_script, stands_at_end}
@@ -7,6 +7,7 @@ use Rattle.htoken.proofs.Declaring.{nothing_at_end, opened_plain}
 use Rattle.htoken.proofs.Handing.{span_given}
 use Rattle.htoken.proofs.InData.{in_data}
 use Rattle.htoken.proofs.InMarkup.{keeps, kept, refused}
+use Rattle.htoken.proofs.Reading.{held_in, kind_in}
 
 module _ {S : Type 0} (gives : S → ParseError → Result (Unit {0}) Refusal → S → Type 0) (gives_token : S → Token → Result (Unit {0}) Refusal → S → Type 0) (table : Entities) (start : RawKind) (end : ℕ) (text : List Placed) (names : Texts)
     (taken : List Event) (t : Tokenizer) (h : Reads table start t names text [] taken) (at : ℕ) (so : Opened) (after_bang : t.state ≡ state.Declaration at so) where
@@ -20,13 +21,13 @@ module _ {S : Type 0} (gives : S → ParseError → Result (Unit {0}) Refusal �
   e = error IncorrectlyOpenedComment (place end body)
 
   abbrev declared : IsHeld (state.Declaration at so) table names h.here t h.held []
-  declared = subst (λ (x : State). IsHeld x table names h.here t h.held []) after_bang h.is_held
+  declared = held_in h (state.Declaration at so) after_bang
 
   pub declared_plain : all is_plain_in_bogus body ≡ true
   declared_plain = opened_plain so body declared.2
 
   here_is : h.here.kind ≡ kind.None
-  here_is = subst (λ (x : State). IsIn x h.here.kind) after_bang h.is_in
+  here_is = kind_in h (state.Declaration at so) after_bang
 
   abbrev pub EndsIn : Tokenizer → Result (Unit {0}) Refusal → Raised → Type 0
   EndsIn begun answer raised = WalkEnds keeps (IsCommentOf Bogus) body [] end begun.comment.data begun.raised answer raised

@@ -1,5 +1,6 @@
 -- A run of characters, a part after another.
-use Rattle.htoken.proofs.Names.{◌≡◌, ◌≤◌, ◌<◌, ℕ, zero, suc, ◌+◌, List, [], ◌∷◌, ◌++◌, length, take, drop, sym, refl, ap, ◌∙◌, subst, Result, Ok, Err, append_assoc, append-nil, arith, true, slice_index, MatchResult, list_all, chars, IsAscii, nat_tests, length-take-le, take_all, IsCharBoundary-from_drop, IsUtf8-from_ascii, Placed, RawKind, Refusal, Texts, Grows, placed, text_kept, is_plain_byte, IsCut, plain_chars, plain_drop, placed_cut, placed_more, Entities, Token, Tokenizer, Tok, Item, ItemToken, ItemError, Event, Gives, Reports, TokenMeans, Mean, tokens_in, IsRefused, AreFront, HandsEvents, TakesFront, TakesPart, HasTaken, Takes, take_ran_out, take_refused, take_sink_refused, take_took, IfOk, IsCharBoundary, placed_part, placed_rest, attrs_kept, and_parts}
+use Rattle.htoken.proofs.Names.{◌≡◌, ◌≤◌, ◌<◌, ℕ, zero, suc, ◌+◌, List, [], ◌∷◌, ◌++◌, length, take, drop, sym, refl, ap, ◌∙◌, subst, Result, Ok, Err, append_assoc, append-nil, arith, true, slice_index, MatchResult, list_all, chars, IsAscii, nat_tests, length-take-le, take_all, IsCharBoundary-from_drop, IsUtf8-from_ascii, Placed, RawKind, Refusal, Texts, Grows, placed, text_kept, is_plain_byte, IsCut, plain_chars, plain_drop, placed_cut, placed_more, Entities, Token, Tokenizer, Tok, Item, ItemToken, ItemError, Event, Gives, Reports, TokenMeans, Mean, tokens_in, IsRefused, AreFront, HandsEvents, TakesFront, TakesPart, HasTaken, Takes, take_ran_out, take_refused, take_sink_refused, take_took, IfOk, IsCharBoundary, placed_part, placed_rest, attrs_kept, and_parts, all_weaker, is_ascii}
+use Rattle.std.proofs.lemmas.Result.{IfOk-weaker}
 use Rattle.htoken.specs.declared.token.Token.TheVariants as code
 use Rattle.htoken.proofs.Handing.{HandsEvents-append}
 
@@ -27,30 +28,30 @@ first_of at [] bytes c some is same = absurd (omega (arith, some))
 first_of at (x ∷ xs) bytes c some is same = ap (λ (n : ℕ). record { ch = n; at = at } ∷ []) (is ∙ ap (λ (bs : List ℕ). slice_index bs 0) same)
 
 -- a run of plain bytes may be cut anywhere
-plain_ascii : (xs : List ℕ) → list_all is_plain_byte xs ≡ true → IsAscii xs
-plain_ascii [] h i = omega arith
-plain_ascii (x ∷ xs) h zero = let k = and_parts (is_plain_byte x) (list_all is_plain_byte xs) h in grind (arith, k.0, nat_tests)
-plain_ascii (x ∷ xs) h (suc i) = plain_ascii xs (and_parts (is_plain_byte x) (list_all is_plain_byte xs) h).1 i
+pub each_ascii : (xs : List ℕ) → list_all is_ascii xs ≡ true → IsAscii xs
+each_ascii [] h i = omega arith
+each_ascii (x ∷ xs) h zero = let k = and_parts (is_ascii x) (list_all is_ascii xs) h in grind (arith, k.0, nat_tests)
+each_ascii (x ∷ xs) h (suc i) = each_ascii xs (and_parts (is_ascii x) (list_all is_ascii xs) h).1 i
+
+pub plain_ascii : (xs : List ℕ) → list_all is_plain_byte xs ≡ true → list_all is_ascii xs ≡ true
+plain_ascii xs h = all_weaker is_plain_byte is_ascii (λ x plain. grind (arith, plain, nat_tests)) xs h
 
 pub plain_boundary : (n : ℕ) (run : List ℕ) → list_all is_plain_byte run ≡ true → n ≤ length run → IsCharBoundary run n
-plain_boundary n run plain within = IsCharBoundary-from_drop run n within (IsUtf8-from_ascii (drop n run) (plain_ascii (drop n run) (plain_drop n run plain)))
+plain_boundary n run plain within = IsCharBoundary-from_drop run n within (IsUtf8-from_ascii (drop n run) (each_ascii (drop n run) (plain_ascii (drop n run) (plain_drop n run plain))))
 
 -- a part of a run, taken whole
 taken_whole : (n k : ℕ) (run part : List ℕ) → n ≤ length run → part ≡ take n run → k ≡ length part → k ≡ n
 taken_whole n k run part within is all = all ∙ ap length is ∙ length-take-le n run within
 
 pub few_of : (n : ℕ) (run : List ℕ) → 0 < n → IsCut n run → (part : List ℕ) → part ≡ take n run → (answer : Result ℕ Refusal) → IfOk answer (λ count. count ≡ length part) → IfOk answer (λ count. (0 < count) × IsCut count run)
-few_of n run some cut part is (Ok k) all = subst (λ (m : ℕ). (0 < m) × IsCut m run) (sym (taken_whole n k run part cut.within is all)) (some, cut)
-few_of n run some cut part is (Err e) all = tt
+few_of n run some cut part is answer = IfOk-weaker answer _ _ (λ k all. subst (λ (m : ℕ). (0 < m) × IsCut m run) (sym (taken_whole n k run part cut.within is all)) (some, cut))
 
 -- one character of a run, or all of it
 pub one_is_few : (run : List ℕ) → 0 < length run → (answer : Result ℕ Refusal) → IfOk answer (λ count. count ≡ 1) → IfOk answer (λ count. (0 < count) × (count ≤ length run))
-one_is_few run some (Ok n) one = (omega (arith, one), omega (arith, one, some))
-one_is_few run some (Err e) one = tt
+one_is_few run some answer = IfOk-weaker answer _ _ (λ n one. (omega (arith, one), omega (arith, one, some)))
 
 pub all_is_few : (run : List ℕ) → 0 < length run → (answer : Result ℕ Refusal) → IfOk answer (λ count. count ≡ length run) → IfOk answer (λ count. (0 < count) × (count ≤ length run))
-all_is_few run some (Ok n) all = (omega (arith, all, some), omega (arith, all))
-all_is_few run some (Err e) all = tt
+all_is_few run some answer = IfOk-weaker answer _ _ (λ n all. (omega (arith, all, some), omega (arith, all)))
 
 module _ {S : Type 0} (gives : S → Item → Result (Unit {0}) Refusal → S → Type 0) (table : Entities) (start : RawKind) (text : List Placed) where
   -- a refusal is one whatever follows
@@ -94,10 +95,7 @@ module _ {S : Type 0} (gives : S → Item → Result (Unit {0}) Refusal → S �
 
   -- after a refusal it does not matter what the tokenizer is
   pub refused_any : (fed : List Placed) (taken : List Event) (names : Texts) (old new : S) (e : Refusal) (next then : Tokenizer) → Takes gives table start text fed taken names old (Err e) new next → Takes gives table start text fed taken names old (Err e) new then
-  refused_any fed taken names old new e next then (take_ran_out es is handed all) = take_ran_out es is handed all
-  refused_any fed taken names old new e next then (take_refused name at es is handed all) = take_refused name at es is handed all
-  refused_any fed taken names old new e next then (take_sink_refused r es is handed all) = take_sink_refused r es is handed all
-  refused_any fed taken names old new e next then (take_took es is handed has) = absurd cc
+  refused_any fed taken names old new e next then h = subst (λ (x : List Placed). Takes gives table start text x taken names old (Err e) new then) (append-nil fed) (refused_longer fed [] taken names old new e next then h)
 
   -- a refusal in a front of a run
   pub front_refused : (at count : ℕ) (run : List ℕ) → list_all is_plain_byte run ≡ true → count ≤ length run → (taken : List Event) (names : Texts) (old new : S) (e : Refusal) (next then : Tokenizer)

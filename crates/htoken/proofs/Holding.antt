@@ -1,5 +1,5 @@
 -- From where on a tokenizer holds its text.
-use Rattle.htoken.proofs.Names.{◌≡◌, ℕ, List, [], sym, ap, ◌∙◌, append-nil, Placed, RawKind, Texts, place, Entities, State, Tokenizer, Event, Standing, HoldsFrom, from_of, HasTaken, holds, in_ambiguous_ampersand, IsHeld, next_place}
+use Rattle.htoken.proofs.Names.{◌≡◌, ℕ, List, [], sym, refl, ap, ◌∙◌, append-nil, Placed, RawKind, Texts, place, Entities, State, Tokenizer, Event, Standing, HoldsFrom, from_of, HasTaken, holds, in_ambiguous_ampersand, IsHeld, next_place}
 use Rattle.htoken.specs.declared.state.State.TheVariants as state
 
 pub held_place : (s : State) (table : Entities) (names : Texts) (here : Standing) (t : Tokenizer) (held : List Placed) → IsHeld s table names here t held [] → from_of s t ≡ place t.next held
@@ -14,6 +14,20 @@ held_place state.Reference table names here t held h = ap (place t.next) (sym h.
 held_place (state.AmbiguousAmpersand amp) table names here t held h = absurd h
 held_place state.RawLess table names here t held h = ap (place t.next) (sym h.held_is)
 held_place (state.RawName at) table names here t held h = ap (place t.next) (sym h.held_is)
+
+-- where something is held, its place is kept
+pub from_held : (s : State) (t : Tokenizer) → (s ≡ state.Text → ⊥) → ((amp : ℕ) → s ≡ state.AmbiguousAmpersand amp → ⊥) → t.at ≡ from_of s t
+from_held state.Text t text run = absurd (text refl)
+from_held state.Less t text run = refl
+from_held (state.LessSolidus at) t text run = refl
+from_held (state.Declaration at so) t text run = refl
+from_held state.Comment t text run = refl
+from_held state.Doctype t text run = refl
+from_held state.Tag t text run = refl
+from_held state.Reference t text run = refl
+from_held (state.AmbiguousAmpersand amp) t text run = absurd (run amp refl)
+from_held state.RawLess t text run = refl
+from_held (state.RawName at) t text run = refl
 
 pub holds_from : (table : Entities) (start : RawKind) (t : Tokenizer) (names : Texts) (text : List Placed) (taken : List Event) → HasTaken table start t names text taken → HoldsFrom table start text taken (from_of t.state t)
 holds_from table start t names text taken (holds h) = record {

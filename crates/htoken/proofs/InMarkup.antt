@@ -1,5 +1,5 @@
 -- A character of a comment or a doctype, and the input's end in it.
-use Rattle.htoken.proofs.Names.{◌≡◌, ℕ, Bool, true, false, List, [], ◌∷◌, ◌++◌, sym, refl, ap, ◌∙◌, subst, Result, Ok, Err, Option, append_assoc, append-nil, ParseError, Placed, RawKind, Refusal, Memory, Texts, Hands, Entities, WalkEnds, Raised, Token, Tokenizer, Tok, Span, Event, TokenMeans, gives_item, Standing, next, has_refused, IsDataSpan, Reads, Takes, IsHeld, IsIn, IsLast, IsInMarkup, EndsHeld, held_ran_out, held_ended, Keeps, GivesSpan, WalkTakes, walk_ran_out, sink_refused, walk_goes_on, walk_ended, raises}
+use Rattle.htoken.proofs.Names.{◌≡◌, ℕ, Bool, true, false, List, [], ◌∷◌, ◌++◌, sym, refl, ap, ◌∙◌, subst, Result, Ok, Err, Option, append_assoc, append-nil, ParseError, Placed, RawKind, Refusal, Memory, Texts, Hands, Entities, WalkEnds, Raised, State, Token, Tokenizer, Tok, Span, Event, TokenMeans, gives_item, Standing, next, has_refused, IsDataSpan, Reads, Takes, IsHeld, IsIn, IsLast, IsInMarkup, EndsHeld, held_ran_out, held_ended, Keeps, GivesSpan, WalkTakes, walk_ran_out, sink_refused, walk_goes_on, walk_ended, raises}
 use Rattle.names.specs.declared.raw.RawKind.TheVariants as kind
 use Rattle.htoken.proofs.Going.{stays_both, ran_out, goes_on, span_ends}
 use Rattle.htoken.proofs.Handing.{span_given}
@@ -20,15 +20,6 @@ refused s t [] x h = let never = h.0 in absurd cc
 refused s t (e ∷ es) x (Ok u, next, given, more) = refused next t es x more
 refused s t (e ∷ es) x (Err y, next, given, more) = let is = more.0 in let why : y ≡ Memory = given in cc
 
-abbrev Same : Bool → Bool → Type 0
-Same n m = let l : Result Bool Refusal = Ok n in let r : Result Bool Refusal = Ok m in l ≡ r
-
-true_not_false : Same true false → ⊥
-true_not_false e = cc
-
-false_not_true : Same false true → ⊥
-false_not_true e = cc
-
 module _ {S W V : Type 0} (gives : S → ParseError → Result (Unit {0}) Refusal → S → Type 0) (gives_token : S → Token → Result (Unit {0}) Refusal → S → Type 0)
     (HasRead : W → List Placed → List ParseError → Type 0) (IsOne : ℕ → List Placed → List Placed → V → List ParseError → Type 0) (token : V → ℕ → Tok)
     (given : (here : Standing) (text : List Placed) (value : V) (at : ℕ) (errors : List ParseError) → ((next here (record { text = text; tokens = token value at ∷ []; errors = errors })).kind ≡ kind.None)
@@ -44,14 +35,14 @@ module _ {S W V : Type 0} (gives : S → ParseError → Result (Unit {0}) Refusa
     markup_stopped r new value raised s last (walk_goes_on reported e hd has) = absurd cc
     markup_stopped r new value raised s last (walk_ended reported e hd is) = absurd cc
 
-    pub markup_goes_on : (new : Tokenizer) (then : W) (value : V) (s : S) → Keeps t new → IsIn new.state h.here.kind
-        → (IsInMarkup HasRead IsOne token then table new (h.held ++ p ∷ []) [] → IsHeld new.state table names h.here new (h.held ++ p ∷ []) [])
+    pub markup_goes_on : (new : Tokenizer) (then : W) (value : V) (s : S) (in_state : State) → new.state ≡ in_state → Keeps t new → IsIn in_state h.here.kind
+        → (IsInMarkup HasRead IsOne token then table new (h.held ++ p ∷ []) [] → IsHeld in_state table names h.here new (h.held ++ p ∷ []) [])
         → Took (Ok false) then value new.raised → Takes (gives_item gives gives_token) table start text (p ∷ []) taken names s (Ok tt) s new
-    markup_goes_on new then value s keep is_in holds (walk_ran_out reported e hd b) = absurd cc
-    markup_goes_on new then value s keep is_in holds (sink_refused x reported e hd b) = absurd cc
-    markup_goes_on new then value s keep is_in holds (walk_ended reported e hd is) = absurd (false_not_true e)
-    markup_goes_on new then value s keep is_in holds (walk_goes_on reported e hd has) =
-        goes_on (gives_item gives gives_token) table start text p names taken t h new s keep.stays keep.kind_is keep.last_is is_in (holds (record {
+    markup_goes_on new then value s in_state same keep is_in holds (walk_ran_out reported e hd b) = absurd cc
+    markup_goes_on new then value s in_state same keep is_in holds (sink_refused x reported e hd b) = absurd cc
+    markup_goes_on new then value s in_state same keep is_in holds (walk_ended reported e hd is) = absurd cc
+    markup_goes_on new then value s in_state same keep is_in holds (walk_goes_on reported e hd has) =
+        goes_on (gives_item gives gives_token) table start text p names taken t h new s in_state same keep.stays keep.kind_is keep.last_is is_in (holds (record {
           opening = i.opening;
           body = i.body ++ p ∷ [];
           first = i.first;
@@ -72,7 +63,7 @@ module _ {S W V : Type 0} (gives : S → ParseError → Result (Unit {0}) Refusa
         → GivesSpan (gives_item gives gives_token) (λ names x. TokenMeans names x (token value mid.at)) mid old answer new s → Takes (gives_item gives gives_token) table start text (p ∷ []) taken names old answer s new
     markup_ends mid new then value old s answer keep (walk_ran_out reported e hd b) g = absurd cc
     markup_ends mid new then value old s answer keep (sink_refused x reported e hd b) g = absurd cc
-    markup_ends mid new then value old s answer keep (walk_goes_on reported e hd has) g = absurd (true_not_false e)
+    markup_ends mid new then value old s answer keep (walk_goes_on reported e hd has) g = absurd cc
     markup_ends mid new then value old s answer keep (walk_ended reported e hd is) g =
         let raised : mid.raised.errors.items ≡ i.first ++ (i.own ++ reported) = kept t.raised mid.raised reported hd ∙ ap (λ (x : List ParseError). x ++ reported) i.raised_is ∙ append_assoc i.first i.own reported in
         let span : Span = record { text = i.opening ++ (i.body ++ p ∷ []); tokens = token value mid.at ∷ []; errors = mid.raised.errors.items } in

@@ -1,24 +1,24 @@
 -- Characters of raw text, and its end tag.
-use Rattle.htoken.proofs.Names.{IsFollowed, ◌≡◌, ℕ, Bool, true, false, cond, ◌&&◌, eqb, List, [], ◌∷◌, ◌++◌, map, length, sym, refl, ap, ◌∙◌, subst, Result, Ok, Err, Option, Some, None, arith, append_assoc, append-nil, eqb-true, slice_get, is_some, nat_lt, MatchResult, Memory, to_ascii_lowercase, string_bytes, UnexpectedNullCharacter, ParseError, Placed, RawKind, Refusal, Texts, lowered, begins, all, is_letter, name_bytes, without_null, error, Entities, backwards, and_parts, and_no, no_null_error, State, TagWalk, Script, HasFront, level_number, Tokenizer, Span, Item, Event, Gives, Reports, Char, piece_span, Standing, is_raw, is_script, may_end, is_raw_end, name_ends, IsSpan, IsSpanOf, IsRawSpan, has_references, raw_character, raw_end, events_of, HandsEvents, run_events, ends_name, Stands, Reads, Takes, take_sink_refused, IsHeld, IsIn, IsLast, IsBetween, less, Stays, Keeps, IsInTag, tag_mark, tag_ahead, plain_piece, ends_by, IsAfterRawLess, IsInRawName, Holds, all-snoc}
+use Rattle.htoken.proofs.Names.{IsFollowed, ◌≡◌, ℕ, Bool, true, false, cond, ◌&&◌, eqb, List, [], ◌∷◌, ◌++◌, map, length, sym, refl, ap, ◌∙◌, subst, Result, Ok, Err, Option, Some, None, arith, append_assoc, append-nil, eqb-true, slice_get, is_some, nat_lt, MatchResult, Memory, to_ascii_lowercase, string_bytes, UnexpectedNullCharacter, ParseError, Placed, RawKind, Refusal, Texts, lowered, begins, all, is_letter, name_bytes, without_null, error, Entities, backwards, and_parts, and_no, no_null_error, State, TagWalk, Script, HasFront, level_number, Tokenizer, Span, Item, Event, Gives, Reports, Char, piece_span, Standing, is_raw, is_script, may_end, is_raw_end, name_ends, IsSpan, IsSpanOf, IsRawSpan, has_references, raw_character, raw_end, events_of, HandsEvents, run_events, ends_name, Stands, Reads, Takes, take_sink_refused, IsHeld, IsIn, IsLast, IsBetween, less, Stays, Keeps, IsInTag, tag_mark, tag_ahead, plain_piece, ends_by, IsAfterRawLess, IsInRawName, Holds, all-one, IsDataSpan, true≢false}
 use Rattle.names.specs.declared.raw.RawKind.TheVariants as kind
 use Rattle.htoken.specs.declared.state.State.TheVariants as state
 use Rattle.htag.specs.declared.kind.TagKind.TheVariants as tag
 use Rattle.htoken.proofs.Cutting.{stands_more}
 use Rattle.htoken.proofs.Going.{ran_out, goes_on, span_ends}
-use Rattle.htoken.proofs.Reading.{are_front, reads_as, reads_text}
+use Rattle.htoken.proofs.Reading.{are_front, held_in, kind_in, reads_as, reads_text}
 use Rattle.htoken.proofs.RawNames.{is_word, raw_word, word_letter, some_held}
 use Rattle.htoken.proofs.RawEnds.{differs, goes_past, is_whole, left_some, left_none, letter_not, name_is_lowered, no_solidus, no_name, a_name, other_goes_on, nameless_goes_on, inner_goes_on}
 
--- a span of raw text is one where raw text is
-raw_of : (k : RawKind) (table : Entities) (end : ℕ) (here : Standing) (rest : List Placed) (span : Span) → is_raw k ≡ true → IsRawSpan table end here rest span → IsSpanOf k table end here rest span
-raw_of kind.None table end here rest span e h = absurd cc
-raw_of kind.Rcdata table end here rest span e h = h
-raw_of kind.Rawtext table end here rest span e h = h
-raw_of kind.Script table end here rest span e h = h
-raw_of kind.Plaintext table end here rest span e h = h
+-- a span, by what is read: data, or raw text
+pub span_of : (k : RawKind) (table : Entities) (end : ℕ) (here : Standing) (rest : List Placed) (span : Span) → (is_raw k ≡ false → IsDataSpan table end rest span) → (is_raw k ≡ true → IsRawSpan table end here rest span) → IsSpanOf k table end here rest span
+span_of kind.None table end here rest span data' raw = data' refl
+span_of kind.Rcdata table end here rest span data' raw = raw refl
+span_of kind.Rawtext table end here rest span data' raw = raw refl
+span_of kind.Script table end here rest span data' raw = raw refl
+span_of kind.Plaintext table end here rest span data' raw = raw refl
 
 pub in_raw : (table : Entities) (end : ℕ) (here : Standing) (rest : List Placed) (span : Span) → is_raw here.kind ≡ true → IsRawSpan table end here rest span → IsSpan table end here rest span
-in_raw table end here rest span e h = raw_of here.kind table end here rest span e h
+in_raw table end here rest span e h = span_of here.kind table end here rest span (λ other. absurd (true≢false (sym e ∙ other))) (λ raw. h)
 
 abbrev pub raw_span : Placed → Span
 raw_span q = piece_span (plain_piece q)
@@ -106,7 +106,7 @@ module _ {S : Type 0} (gives : S → Item → Result (Unit {0}) Refusal → S �
     here_is = ap is_raw (sym h.kind_is) ∙ raw
 
     abbrev nothing : IsHeld state.Text table names h.here t h.held (p ∷ [])
-    nothing = subst (λ (x : State). IsHeld x table names h.here t h.held (p ∷ [])) in_text h.is_held
+    nothing = held_in h state.Text in_text
 
     abbrev Follows : Tokenizer → Type 0
     Follows new = IsFollowed t p.ch new
@@ -159,32 +159,28 @@ module _ {S : Type 0} (gives : S → Item → Result (Unit {0}) Refusal → S �
     pub raw_less_begins : (new : Tokenizer) (s : S) (bytes : List ℕ) → Keeps (record t { at = p.at }) new → new.state ≡ state.RawLess → new.raised.errors.items ≡ t.raised.errors.items → new.tag ≡ t.tag → new.script ≡ t.script → p.ch ≡ 60
         → h.here.name ≡ Some bytes → may_end h.here.kind h.here.front ≡ true → Takes gives table start text (p ∷ []) taken names s (Ok tt) s new
     raw_less_begins new s bytes keeps less_is raised same keeps_script is named may =
-        goes_on gives table start text p names taken t h new s keeps.stays keeps.kind_is keeps.last_is
-        (subst (λ (x : State). IsIn x h.here.kind) (sym less_is) here_is)
-        (subst (λ (x : State). IsHeld x table names h.here new (h.held ++ p ∷ []) []) (sym less_is) (record {
+        goes_on gives table start text p names taken t h new s _ less_is keeps.stays keeps.kind_is keeps.last_is here_is (record {
           held_is = ap (λ (x : List Placed). x ++ p ∷ []) nothing.0 ∙ ap (λ (c : ℕ). record { ch = c; at = p.at } ∷ []) is ∙ ap (λ (a : ℕ). record { ch = 60; at = a } ∷ []) (sym keeps.at_is);
           raises_none = raised ∙ nothing.1;
           may = may;
           named = named ∙ ap (λ (x : List ℕ). Some x) (nothing.2.named here_is bytes named ∙ ap (λ (x : TagWalk). string_bytes x.name) (sym same));
           between = record { named = λ r name e. nothing.2.named r name e ∙ ap (λ (x : TagWalk). string_bytes x.name) (sym same); leveled = λ r. subst (λ (x : Script). HasFront x h.here.front) (sym keeps_script) (nothing.2.leveled r) };
-        }))
+        })
 
   -- AFTER `<`
 
   module _ (after : t.state ≡ state.RawLess) where
     abbrev after_less : IsAfterRawLess h.here t h.held
-    after_less = subst (λ (x : State). IsHeld x table names h.here t h.held (p ∷ [])) after h.is_held
+    after_less = held_in h state.RawLess after
 
     is_raw_here : is_raw h.here.kind ≡ true
-    is_raw_here = subst (λ (x : State). IsIn x h.here.kind) after h.is_in
+    is_raw_here = kind_in h state.RawLess after
 
     pub raw_solidus_follows : (new : Tokenizer) (s : S) → Keeps t new → new.state ≡ state.RawName p.at → new.raised.errors.items ≡ t.raised.errors.items → new.tag ≡ t.tag → new.script ≡ t.script → new.held.items ≡ [] → p.ch ≡ 47
         → Takes gives table start text (p ∷ []) taken names s (Ok tt) s new
     raw_solidus_follows new s keeps then raised same keeps_script none is =
         let i = after_less in
-        goes_on gives table start text p names taken t h new s keeps.stays keeps.kind_is keeps.last_is
-        (subst (λ (x : State). IsIn x h.here.kind) (sym then) is_raw_here)
-        (subst (λ (x : State). IsHeld x table names h.here new (h.held ++ p ∷ []) []) (sym then) (record {
+        goes_on gives table start text p names taken t h new s _ then keeps.stays keeps.kind_is keeps.last_is is_raw_here (record {
           held_is = ap (λ (x : List Placed). x ++ p ∷ []) i.held_is ∙ ap (λ (c : ℕ). less t ∷ record { ch = c; at = p.at } ∷ []) is
               ∙ ap (λ (a : ℕ). record { ch = 60; at = a } ∷ record { ch = 47; at = p.at } ∷ []) (sym keeps.at_is) ∙ ap (λ (x : List Placed). less new ∷ record { ch = 47; at = p.at } ∷ x) (sym none);
           raises_none = raised ∙ i.raises_none;
@@ -194,7 +190,7 @@ module _ {S : Type 0} (gives : S → Item → Result (Unit {0}) Refusal → S �
           left = string_bytes new.tag.name;
           agrees = ap (λ (x : List Placed). lowered x ++ string_bytes new.tag.name) none;
           letters = ap (all is_letter) none;
-        }))
+        })
 
     pub less_go_on : eqb p.ch 47 ≡ false → (more : List Placed) → GoOn h.here (less t ∷ []) (p ∷ more)
     less_go_on other more = less_goes_on h.here t (p ∷ more) (no_solidus h.here (string_bytes t.tag.name) after_less.named (less t) refl p more other)
@@ -211,10 +207,10 @@ module _ {S : Type 0} (gives : S → Item → Result (Unit {0}) Refusal → S �
 
   module _ (at : ℕ) (after : t.state ≡ state.RawName at) where
     abbrev pub in_name : IsInRawName h.here t at h.held
-    in_name = subst (λ (x : State). IsHeld x table names h.here t h.held (p ∷ [])) after h.is_held
+    in_name = held_in h (state.RawName at) after
 
     raw_here : is_raw h.here.kind ≡ true
-    raw_here = subst (λ (x : State). IsIn x h.here.kind) after h.is_in
+    raw_here = kind_in h (state.RawName at) after
 
     abbrev mark : List Placed
     mark = less t ∷ record { ch = 47; at = at } ∷ t.held.items
@@ -229,9 +225,7 @@ module _ {S : Type 0} (gives : S → Item → Result (Unit {0}) Refusal → S �
     raw_letter_follows new s c keeps then raised same keeps_script more expected is letter =
         let i = in_name in
         let l = left_some t.held.items i.left c (ap (λ (x : List ℕ). slice_get x (length t.held.items)) i.agrees ∙ expected) in
-        goes_on gives table start text p names taken t h new s keeps.stays keeps.kind_is keeps.last_is
-        (subst (λ (x : State). IsIn x h.here.kind) (sym then) raw_here)
-        (subst (λ (x : State). IsHeld x table names h.here new (h.held ++ p ∷ []) []) (sym then) (record {
+        goes_on gives table start text p names taken t h new s _ then keeps.stays keeps.kind_is keeps.last_is raw_here (record {
           held_is = ap (λ (x : List Placed). x ++ p ∷ []) i.held_is ∙ ap (λ (x : List Placed). less t ∷ record { ch = 47; at = at } ∷ x) (sym more)
               ∙ ap (λ (a : ℕ). record { ch = 60; at = a } ∷ record { ch = 47; at = at } ∷ new.held.items) (sym keeps.at_is);
           raises_none = raised ∙ i.raises_none;
@@ -241,8 +235,8 @@ module _ {S : Type 0} (gives : S → Item → Result (Unit {0}) Refusal → S �
           left = l.0;
           agrees = ap (λ (x : List Placed). lowered x ++ l.0) more ∙ ap (λ (x : List ℕ). x ++ l.0) (lowered-snoc t.held.items p) ∙ append_assoc (lowered t.held.items) (to_ascii_lowercase p.ch ∷ []) l.0
               ∙ ap (λ (x : ℕ). lowered t.held.items ++ x ∷ l.0) is ∙ ap (λ (x : List ℕ). lowered t.held.items ++ x) (sym l.1) ∙ i.agrees ∙ ap (λ (x : TagWalk). string_bytes x.name) (sym same);
-          letters = ap (all is_letter) more ∙ all-snoc is_letter t.held.items p i.letters letter;
-        }))
+          letters = ap (all is_letter) more ∙ all-one is_letter t.held.items p i.letters letter;
+        })
 
     pub letter_held : (new : Tokenizer) (s : S) (c : ℕ) (answer : Result (Unit {0}) Refusal) → MatchResult answer (λ _. Holds t p new) (λ r. r ≡ Memory)
         → slice_get (string_bytes t.tag.name) (length t.held.items) ≡ Some c → eqb (to_ascii_lowercase p.ch) c ≡ true → Takes gives table start text (p ∷ []) taken names s answer s new

@@ -5,9 +5,10 @@ use Rattle.names.specs.declared.raw.RawKind.TheVariants as kind
 use Rattle.charref.specs.Held.{kept}
 use Rattle.htoken.specs.declared.state.State.TheVariants as state
 use Rattle.htoken.proofs.Going.{goes_on, span_ends}
-use Rattle.htoken.proofs.Pending.{stands_on, stands_told, later_on, later_told}
+use Rattle.htoken.proofs.Pending.{stands_told, later_on, later_told}
+use Rattle.htoken.proofs.Cutting.{stands_on}
 use Rattle.htoken.proofs.Plain.{is_itself, plain_is, plain_span}
-use Rattle.htoken.proofs.Reading.{are_front, reads_text}
+use Rattle.htoken.proofs.Reading.{are_front, held_in, kind_in, reads_text}
 use Rattle.htoken.proofs.Referring.{all-drop, held_kept, run_errors, after_reference, stands_read, alphanumeric_itself, reference_is, no_tag, gives_some, next_is}
 
 -- what a walk that stays as it is has found with a character
@@ -48,10 +49,10 @@ split_at text p left within some =
 
 module _ {S : Type 0} (gives : S → Item → Result (Unit {0}) Refusal → S → Type 0) (table : Entities) (start : RawKind) (text : List Placed) (p : Placed) (names : Texts) (taken : List Event) (t : Tokenizer) (h : Reads table start t names text (p ∷ []) taken) (after_amp : t.state ≡ state.Reference) where
   abbrev inside : IsInReference table h.here t h.held
-  inside = subst (λ (s : State). IsHeld s table names h.here t h.held (p ∷ [])) after_amp h.is_held
+  inside = held_in h state.Reference after_amp
 
   pub may : has_references h.here.kind ≡ true
-  may = subst (λ (s : State). IsIn s h.here.kind) after_amp h.is_in
+  may = kind_in h state.Reference after_amp
 
   pub taken_by_walk : WalkHasTaken t.reference table false inside.read
   taken_by_walk = inside.has_taken
@@ -69,9 +70,8 @@ module _ {S : Type 0} (gives : S → Item → Result (Unit {0}) Refusal → S �
       let i = inside in
       let same : new.state ≡ state.Reference = ap (λ (x : Tokenizer). x.state) holds.then ∙ after_amp in
       let reference : new.reference ≡ walk = ap (λ (x : Tokenizer). x.reference) holds.then in
-      goes_on gives table start text p names taken t h new s (ap (λ (x : Tokenizer). x.refused) holds.then, ap (λ (x : Tokenizer). x.table) holds.then, ap (λ (x : Tokenizer). x.next) holds.then)
-      (ap (λ (x : Tokenizer). x.kind) holds.then) (ap (λ (x : Tokenizer). x.last) holds.then) (subst (λ (x : State). IsIn x h.here.kind) (sym same) may)
-      (subst (λ (x : State). IsHeld x table names h.here new (h.held ++ p ∷ []) []) (sym same) (record {
+      goes_on gives table start text p names taken t h new s _ same (ap (λ (x : Tokenizer). x.refused) holds.then, ap (λ (x : Tokenizer). x.table) holds.then, ap (λ (x : Tokenizer). x.next) holds.then)
+      (ap (λ (x : Tokenizer). x.kind) holds.then) (ap (λ (x : Tokenizer). x.last) holds.then) may (record {
         read = i.read ++ p ∷ [];
         held_is = ap (λ (x : List Placed). x ++ p ∷ []) i.held_is ∙ ap (λ (x : Tokenizer). record { ch = 38; at = x.at } ∷ (i.read ++ p ∷ [])) (sym holds.then);
         raises_none = ap (λ (x : Tokenizer). x.raised.errors.items) holds.then ∙ i.raises_none;
@@ -79,7 +79,7 @@ module _ {S : Type 0} (gives : S → Item → Result (Unit {0}) Refusal → S �
         has_taken = subst (λ (w : CharWalk). WalkHasTaken w table false (i.read ++ p ∷ [])) (sym reference) walked;
         kept_is = holds.held_is ∙ kept_on walk.state leads (is_number walk.state) refl ∙ ap (λ (w : CharWalk). kept w.state (i.read ++ p ∷ [])) (sym reference);
         between = same_between h.here h.here t new may refl refl (ap (λ (x : Tokenizer). x.tag) holds.then) i.between;
-      }))
+      })
 
   module _ (found : Reference) (f : Finds table t.reference p found) where
     abbrev read : List Placed
@@ -203,10 +203,10 @@ module _ {S : Type 0} (gives : S → Item → Result (Unit {0}) Refusal → S �
 
 module _ {S : Type 0} (gives : S → Item → Result (Unit {0}) Refusal → S → Type 0) (table : Entities) (start : RawKind) (end : ℕ) (text : List Placed) (names : Texts) (taken : List Event) (t : Tokenizer) (h : Reads table start t names text [] taken) (after_amp : t.state ≡ state.Reference) where
   abbrev pub at_end : IsInReference table h.here t h.held
-  at_end = subst (λ (s : State). IsHeld s table names h.here t h.held []) after_amp h.is_held
+  at_end = held_in h state.Reference after_amp
 
   end_may : has_references h.here.kind ≡ true
-  end_may = subst (λ (s : State). IsIn s h.here.kind) after_amp h.is_in
+  end_may = kind_in h state.Reference after_amp
 
   pub reference_cut : (found : Reference) (then : Tokenizer) (old s : S) (answer : Result (Unit {0}) Refusal) → IsRead table false at_end.read [] found → (is_number t.reference.state ≡ true → found.left ≡ 0) → then.kind ≡ t.kind → then.script ≡ t.script → HandsEvents gives names old (read_events found t.at t.held.items (length t.held.items - found.left)) answer s
       → EndsHeld gives table start end text taken names old answer then s
@@ -229,11 +229,9 @@ module _ {S : Type 0} (gives : S → Item → Result (Unit {0}) Refusal → S �
 pub reference_begins : {S : Type 0} (gives : S → Item → Result (Unit {0}) Refusal → S → Type 0) (table : Entities) (start : RawKind) (text : List Placed) (p : Placed) (names : Texts) (taken : List Event) (t : Tokenizer) (h : Reads table start t names text (p ∷ []) taken) (new : Tokenizer) (s : S)
     → t.state ≡ state.Text → has_references t.kind ≡ true → p.ch ≡ 38 → BeginsReference t p.at new → Takes gives table start text (p ∷ []) taken names s (Ok tt) s new
 reference_begins gives table start text p names taken t h new s in_text refers is b =
-    let nothing = subst (λ (x : State). IsHeld x table names h.here t h.held (p ∷ [])) in_text h.is_held in
+    let nothing = held_in h state.Text in_text in
     let may : has_references h.here.kind ≡ true = ap has_references (sym h.kind_is) ∙ refers in
-    goes_on gives table start text p names taken t h new s (ap (λ x. x.refused) b.then, ap (λ x. x.table) b.then, ap (λ x. x.next) b.then) (ap (λ x. x.kind) b.then) (ap (λ x. x.last) b.then)
-    (subst (λ (x : State). IsIn x h.here.kind) (sym (ap (λ x. x.state) b.then)) may)
-    (subst (λ (x : State). IsHeld x table names h.here new (h.held ++ p ∷ []) []) (sym (ap (λ x. x.state) b.then)) (record {
+    goes_on gives table start text p names taken t h new s state.Reference (ap (λ x. x.state) b.then) (ap (λ x. x.refused) b.then, ap (λ x. x.table) b.then, ap (λ x. x.next) b.then) (ap (λ x. x.kind) b.then) (ap (λ x. x.last) b.then) may (record {
       read = [];
       held_is = ap (λ (x : List Placed). x ++ p ∷ []) nothing.0 ∙ ap (λ (c : ℕ). record { ch = c; at = p.at } ∷ []) is ∙ ap (λ (a : ℕ). record { ch = 38; at = a } ∷ []) (sym (ap (λ x. x.at) b.then));
       raises_none = ap (λ x. x.raised.errors.items) b.then ∙ nothing.1;
@@ -241,7 +239,7 @@ reference_begins gives table start text p names taken t h new s in_text refers i
       has_taken = subst (λ (x : Entities). WalkHasTaken new.reference x false []) h.table_is b.has_taken;
       kept_is = b.held_is ∙ sym (kept_nothing new.reference.state);
       between = same_between h.here h.here t new may refl refl (ap (λ x. x.tag) b.then) nothing.2;
-    }))
+    })
 
 -- IN A RUN
 

@@ -1,23 +1,20 @@
 -- A run of plain characters, taken as a whole.
-use Rattle.htoken.proofs.Names.{◌≡◌, ◌≤◌, ◌<◌, ℕ, zero, suc, ◌+◌, Bool, true, false, List, [], ◌∷◌, ◌++◌, length, take, sym, refl, ap, ◌∙◌, subst, arith, drop, Result, Ok, Err, Option, append_assoc, append-nil, nat_tests, list_all, not, ◌&&◌, ◌||◌, and_from, length-take-le, len_utf8, encode_utf8, chars, string_bytes, ParseError, Placed, RawKind, Refusal, Memory, Texts, Grows, all, placed, is_clean, is_plain_byte, is_plain, IsCut, all_placed, plain_take, Entities, and_parts, HasReadOf, IsCommentOf, TakesRun, IsInTag, State, Tokenizer, Item, Event, Comment, Standing, is_script, FollowsAll, IsDataSpan, HandsEvents, run_events, replaced, tag_mark, after_place, next_from, next_place, less, Stands, Reads, holds, Takes, take_sink_refused, take_took, IsHeld, IsIn, IsLast, IsBetween, IsInMarkup, IsInMarkedTag, ◌==◌, one_long, bytes_plain, last_char, run_ran_out, run_refused, run_goes_on, is_text}
+use Rattle.htoken.proofs.Names.{◌≡◌, ◌≤◌, ◌<◌, ℕ, zero, suc, ◌+◌, Bool, true, false, List, [], ◌∷◌, ◌++◌, length, take, sym, refl, ap, ◌∙◌, subst, arith, drop, Result, Ok, Err, Option, append_assoc, append-nil, nat_tests, list_all, ◌||◌, length-take-le, len_utf8, encode_utf8, chars, string_bytes, ParseError, Placed, RawKind, Refusal, Memory, Texts, Grows, all, placed, is_clean, is_plain_byte, is_plain, IsCut, all_placed, plain_take, Entities, and_parts, HasReadOf, IsCommentOf, TakesRun, IsInTag, State, Tokenizer, Item, Event, Comment, Standing, is_script, FollowsAll, IsDataSpan, HandsEvents, run_events, replaced, tag_mark, after_place, next_from, next_place, less, Stands, Reads, holds, Takes, take_sink_refused, take_took, IsHeld, IsIn, IsLast, IsBetween, IsInMarkup, IsInMarkedTag, ◌==◌, one_long, last_char, run_ran_out, run_refused, run_goes_on, all_weaker, IsUtf8, run_plain, Hands, Token, gives_item, run_tokens, plain_chars}
 use Rattle.htoken.specs.declared.state.State.TheVariants as state
 use Rattle.htoken.proofs.InMarkup.{keeps, kept, refused}
 use Rattle.htoken.proofs.InRaw.{after_characters}
 use Rattle.htoken.proofs.InTag.{reads_kept}
 use Rattle.htoken.proofs.Plain.{is_itself, plain_stands}
-use Rattle.htoken.proofs.Reading.{are_front, ran_out_before, reads_as, reads_held, reads_text}
+use Rattle.htoken.proofs.Referring.{all_imp}
+use Rattle.htoken.proofs.Running.{run_given}
+use Rattle.htoken.proofs.Reading.{are_front, held_in, kind_in, ran_out_before, reads_as, reads_held, reads_text}
 use Rattle.htoken.proofs.Scripting.{all_followed}
 
 pub plain_is_clean : (cs : List ℕ) → list_all is_plain cs ≡ true → list_all is_clean cs ≡ true
-plain_is_clean [] h = refl
-plain_is_clean (c ∷ cs) h = let k = and_parts (is_plain c) (list_all is_plain cs) h in and_from _ _ (ap (λ (b : Bool). b || c == 60 || c == 38) k.0) (plain_is_clean cs k.1)
-
-plain_itself : (c : ℕ) → is_plain c ≡ true → is_itself c ≡ true
-plain_itself c h = grind (arith, nat_tests)
+plain_is_clean cs h = all_weaker is_plain is_clean (λ c plain. ap (λ (b : Bool). b || c == 60 || c == 38) plain) cs h
 
 pub all_itself : (ps : List Placed) → all is_plain ps ≡ true → all is_itself ps ≡ true
-all_itself [] h = refl
-all_itself (p ∷ ps) h = let k = and_parts (is_plain p.ch) (all is_plain ps) h in and_from _ _ (plain_itself p.ch k.0) (all_itself ps k.1)
+all_itself ps h = all_imp is_plain is_itself ps (λ c plain. grind (arith, plain, nat_tests)) h
 
 pub replaced_itself : (n at : ℕ) → all is_itself (replaced at n) ≡ true
 replaced_itself zero at = refl
@@ -33,21 +30,6 @@ replaced_more (suc m) n at =
     let long : suc m + n ≡ suc (m + n) = omega arith in
     let place : at + 1 + m ≡ at + suc m = omega arith in
     ap (λ (k : ℕ). replaced at k) long ∙ ap (λ (ps : List Placed). record { ch = 0xFFFD; at = at } ∷ ps) (replaced_more m n (at + 1) ∙ ap (λ (k : ℕ). replaced (at + 1) m ++ replaced k n) place)
-
--- where they may be taken as a run, text is that is no script
-pub ready_text : (s : State) (script : Bool) → (is_text s && not script) ≡ true → (s ≡ state.Text) × (script ≡ false)
-ready_text state.Text false h = (refl, refl)
-ready_text state.Text true h = absurd cc
-ready_text state.Less script h = absurd cc
-ready_text (state.LessSolidus x) script h = absurd cc
-ready_text (state.Declaration x y) script h = absurd cc
-ready_text state.Comment script h = absurd cc
-ready_text state.Doctype script h = absurd cc
-ready_text state.Tag script h = absurd cc
-ready_text state.Reference script h = absurd cc
-ready_text (state.AmbiguousAmpersand x) script h = absurd cc
-ready_text state.RawLess script h = absurd cc
-ready_text (state.RawName x) script h = absurd cc
 
 -- WHERE THE NEXT CHARACTER STANDS
 
@@ -100,7 +82,7 @@ module _ {S : Type 0} (gives : S → Item → Result (Unit {0}) Refusal → S �
     here = after_characters h.here run
 
     none : (h.held ≡ []) × (t.raised.errors.items ≡ []) × IsBetween h.here t
-    none = subst (λ (x : State). IsHeld x table names h.here t h.held []) in_text h.is_held
+    none = held_in h state.Text in_text
 
     front_is : text ≡ h.front
     front_is = h.text_is ∙ ap (λ (x : List Placed). h.front ++ x) none.0 ∙ append-nil h.front
@@ -127,14 +109,15 @@ module _ {S : Type 0} (gives : S → Item → Result (Unit {0}) Refusal → S �
   -- MARKUP
 
   -- the span goes on
-  went_on : (new : Tokenizer) → new.refused ≡ t.refused → new.table ≡ t.table → new.next ≡ next_place (text ++ run) → new.kind ≡ t.kind → new.last ≡ t.last → IsIn new.state h.here.kind → IsHeld new.state table names h.here new (h.held ++ run) []
+  went_on : (new : Tokenizer) (then : State) → new.state ≡ then → new.refused ≡ t.refused → new.table ≡ t.table → new.next ≡ next_place (text ++ run) → new.kind ≡ t.kind → new.last ≡ t.last → IsIn then h.here.kind → IsHeld then table names h.here new (h.held ++ run) []
       → (s : S) → Takes gives table start text run taken names s (Ok tt) s new
-  went_on new refused same next kind last is_in held s = take_took [] refl ([], tt, (refl, refl)) (holds (reads_held h new run refused same next (λ end more. h.stands end (run ++ more)) kind last is_in held))
+  went_on new then is refused same next kind last is_in held s = take_took [] refl ([], tt, (refl, refl)) (holds (reads_held h new run refused same next (λ end more. h.stands end (run ++ more)) kind last
+      (subst (λ (x : State). IsIn x h.here.kind) (sym is) is_in) (subst (λ (x : State). IsHeld x table names h.here new (h.held ++ run) []) (sym is) held)))
 
   -- a comment goes on
   module _ (in_comment : t.state ≡ state.Comment) where
     pub comment_here : IsHeld state.Comment table names h.here t h.held []
-    comment_here = subst (λ (x : State). IsHeld x table names h.here t h.held []) in_comment h.is_held
+    comment_here = held_in h state.Comment in_comment
 
     abbrev pub inside : IsInMarkup (HasReadOf comment_here.0) (IsCommentOf comment_here.0) Comment t.comment table t h.held []
     inside = comment_here.1
@@ -155,10 +138,7 @@ module _ {S : Type 0} (gives : S → Item → Result (Unit {0}) Refusal → S �
     comment_goes_on new s then next (run_goes_on reported is handed has) =
         let i = inside in
         let at_is : new.at ≡ t.at = ap (λ (x : Tokenizer). x.at) then in
-        let state_is : new.state ≡ state.Comment = ap (λ (x : Tokenizer). x.state) then ∙ in_comment in
-        went_on new (ap (λ (x : Tokenizer). x.refused) then) (ap (λ (x : Tokenizer). x.table) then) next (ap (λ (x : Tokenizer). x.kind) then) (ap (λ (x : Tokenizer). x.last) then)
-        (subst (λ (x : State). IsIn x h.here.kind) (sym state_is) (subst (λ (x : State). IsIn x h.here.kind) in_comment h.is_in))
-        (subst (λ (x : State). IsHeld x table names h.here new (h.held ++ run) []) (sym state_is) (
+        went_on new _ (ap (λ (x : Tokenizer). x.state) then ∙ in_comment) (ap (λ (x : Tokenizer). x.refused) then) (ap (λ (x : Tokenizer). x.table) then) next (ap (λ (x : Tokenizer). x.kind) then) (ap (λ (x : Tokenizer). x.last) then) (kind_in h state.Comment in_comment) (
           comment_here.0,
           record {
             opening = i.opening;
@@ -176,14 +156,14 @@ module _ {S : Type 0} (gives : S → Item → Result (Unit {0}) Refusal → S �
                 (subst (λ (a : ℕ). IsDataSpan table end rest (record { text = i.opening ++ (i.body ++ (run ++ more)); tokens = Comment contents a ∷ []; errors = i.first ++ errors })) (sym at_is)
                 (i.opens end rest (run ++ more) contents errors (subst (λ (x : List Placed). IsCommentOf comment_here.0 end rest x contents errors) same_text is)));
           },
-        )) s
+        ) s
 
 -- A TAG
 
 module _ {S : Type 0} (gives : S → Item → Result (Unit {0}) Refusal → S → Type 0) (table : Entities) (start : RawKind) (names later : Texts) (grows : Grows names later) (text : List Placed) (taken : List Event) (t : Tokenizer) (h : Reads table start t names text [] taken)
     (in_tag : t.state ≡ state.Tag) (run : List Placed) where
   abbrev pub tag_here : IsInMarkedTag table names h.here t h.held []
-  tag_here = subst (λ (x : State). IsHeld x table names h.here t h.held []) in_tag h.is_held
+  tag_here = held_in h state.Tag in_tag
 
   -- by the tokenizer's own table
   pub tag_read : IsInTag t.table.now names t.tag tag_here.body [] t.raised.errors.items
@@ -203,25 +183,33 @@ module _ {S : Type 0} (gives : S → Item → Result (Unit {0}) Refusal → S �
     tag_goes_on s =
         let i = tag_here in
         let at_is : new.at ≡ t.at = ap (λ (x : Tokenizer). x.at) then in
-        let state_is : new.state ≡ state.Tag = ap (λ (x : Tokenizer). x.state) then ∙ in_tag in
-        went_on gives table start later text taken t now run new (ap (λ (x : Tokenizer). x.refused) then) (ap (λ (x : Tokenizer). x.table) then) next (ap (λ (x : Tokenizer). x.kind) then) (ap (λ (x : Tokenizer). x.last) then)
-        (subst (λ (x : State). IsIn x h.here.kind) (sym state_is) tt)
-        (subst (λ (x : State). IsHeld x table later h.here new (h.held ++ run) []) (sym state_is) (record {
+        went_on gives table start later text taken t now run new _ (ap (λ (x : Tokenizer). x.state) then ∙ in_tag) (ap (λ (x : Tokenizer). x.refused) then) (ap (λ (x : Tokenizer). x.table) then) next (ap (λ (x : Tokenizer). x.kind) then) (ap (λ (x : Tokenizer). x.last) then) tt (record {
           opening = i.opening;
           body = i.body ++ run;
           held_is = ap (λ (x : List Placed). x ++ run) i.held_is ∙ append_assoc (less t ∷ i.opening) i.body run ∙ ap (λ (a : ℕ). record { ch = 60; at = a } ∷ (i.opening ++ (i.body ++ run))) (sym at_is);
           opens = i.opens ∙ ap tag_mark (sym kind);
           in_tag = subst (λ (x : Entities). IsInTag x later new.tag (i.body ++ run) [] new.raised.errors.items) h.table_is more;
           fits = λ end rest others span e is. i.fits end rest (run ++ others) span (e ∙ append_assoc h.held run others) is;
-        })) s
+        }) s
 
 -- A RUN OF BYTES WHERE NOTHING IS HELD, of which the sink has taken what it took
 
-pub bytes_taken : {S : Type 0} (gives : S → Item → Result (Unit {0}) Refusal → S → Type 0) (table : Entities) (start : RawKind) (names : Texts) (text : List Placed) (taken : List Event) (t : Tokenizer) → Reads table start t names text [] taken → t.state ≡ state.Text
-    → (at : ℕ) (run : List ℕ) → list_all is_plain_byte run ≡ true → 0 < length run → at + length run ≤ 0xFFFFFFFFFFFFFFFF
-    → (new : Tokenizer) → new ≡ record t { next = at + length run; script = new.script } → (is_script t.kind ≡ true → FollowsAll t.script (placed at run) new.script)
-    → (old s : S) (answer : Result (Unit {0}) Refusal) → HandsEvents gives names old (run_events (placed at run)) answer s → Takes gives table start text (placed at run) taken names old answer s new
-bytes_taken gives table start names text taken t h in_text at run plain some within new then follows old s answer handed =
+pub bytes_taken : {S : Type 0} (gives : S → ParseError → Result (Unit {0}) Refusal → S → Type 0) (gives_token : S → Token → Result (Unit {0}) Refusal → S → Type 0) (table : Entities) (start : RawKind) (names : Texts) (text : List Placed) (taken : List Event) (t : Tokenizer) → Reads table start t names text [] taken → t.state ≡ state.Text
+    → (at : ℕ) (run : List ℕ) → IsUtf8 run → list_all is_plain_byte run ≡ true → 0 < length run → at + length run ≤ 0xFFFFFFFFFFFFFFFF
+    → (new : Tokenizer) → new ≡ record t { next = at + length run; script = new.script } → (is_script t.kind ≡ true → FollowsAll t.script (placed at (chars run)) new.script)
+    → (old s : S) (answer : Result (Unit {0}) Refusal) → Hands gives_token old (run_tokens (placed at (chars run))) answer s → Takes (gives_item gives gives_token) table start text (placed at run) taken names old answer s new
+bytes_taken gives gives_token table start names text taken t h in_text at run u plain some within new then follows old s answer given =
+    let is = plain_chars run plain u in
     let next = ap (λ (x : Tokenizer). x.next) then in
-    text_taken gives table start names text taken t h (placed at run) in_text (all_itself (placed at run) (all_placed is_plain at run (bytes_plain run plain))) new
-    (then ∙ ap (λ (n : ℕ). record t { next = n; script = new.script }) (sym next)) (next ∙ sym (next_run text at run plain some within)) follows old s answer handed
+    subst (λ (x : List ℕ). Takes (gives_item gives gives_token) table start text (placed at x) taken names old answer s new) is
+    (text_taken (gives_item gives gives_token) table start names text taken t h (placed at (chars run)) in_text (all_itself (placed at (chars run)) (all_placed is_plain at (chars run) (run_plain run plain u))) new
+    (then ∙ ap (λ (n : ℕ). record t { next = n; script = new.script }) (sym next)) (next ∙ sym (next_run text at run plain some within) ∙ ap (λ (x : List ℕ). next_place (text ++ placed at x)) (sym is)) follows old s answer
+    (run_given gives gives_token names old s (placed at (chars run)) answer given))
+
+-- bad parts where nothing is held
+pub bad_taken : {S : Type 0} (gives : S → ParseError → Result (Unit {0}) Refusal → S → Type 0) (gives_token : S → Token → Result (Unit {0}) Refusal → S → Type 0) (table : Entities) (start : RawKind) (names : Texts) (text : List Placed) (taken : List Event) (t : Tokenizer) → Reads table start t names text [] taken
+    → t.state ≡ state.Text → is_script t.kind ≡ false → (at n : ℕ) → 0 < n → at + n ≤ 0xFFFFFFFFFFFFFFFF → (old s : S) (answer : Result (Unit {0}) Refusal) → Hands gives_token old (run_tokens (replaced at n)) answer s
+    → Takes (gives_item gives gives_token) table start text (replaced at n) taken names old answer s (record t { next = at + n })
+bad_taken gives gives_token table start names text taken t h in_text other at n some within old s answer given =
+    text_taken (gives_item gives gives_token) table start names text taken t h (replaced at n) in_text (replaced_itself n at) (record t { next = at + n }) refl (next_replaced text at n some within) (λ script. absurd cc) old s answer
+    (run_given gives gives_token names old s (replaced at n) answer given)

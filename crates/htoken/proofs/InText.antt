@@ -1,16 +1,17 @@
 -- The text at the front of a run, and what ends it.
-use Rattle.htoken.proofs.Names.{◌≡◌, ◌≤◌, ◌<◌, ℕ, zero, suc, ◌+◌, true, false, eqb, ◌||◌, List, [], ◌∷◌, ◌++◌, map, length, take, drop, sym, refl, ap, ◌∙◌, subst, arith, Result, Ok, Err, Option, append_assoc, append-nil, and_from, drop-length, length-append, length-take-le, take_all, take_at, drop_at, nat_tests, chars-IsAscii, chars-nil, encode_ascii, len_utf8_ascii, IsUtf8-from_ascii, IsUtf8-past_char, chars_past_char, list_all, prefix_len, is_ascii, encode_utf8, len_utf8, chars, IsAscii, IsUtf8, string_bytes, UnknownNamedCharacterReference, ParseError, Placed, RawKind, Refusal, Texts, all, begins, past, is_alphanumeric, placed, error_if, is_clean, is_plain, is_text_byte, IsCut, all_placed, cut_more, placed_cut, placed_more, Entities, Piece, IsReference, named, kept, unknown, decimal, hexadecimal, no_digits, alone, ampersand, backwards, Script, Spread, State, Tokenizer, bare_errors, first_placed, IsBare, IsFront, RefusesFront, spread_ran_out, spread_refused, Tok, Span, Item, Event, Gives, Reports, Char, piece_span, HandsEvents, is_script, run_events, FollowsAll, has_references, Standing, next, tokens_in, errors_in, eof_of, AreFront, Stands, Reads, holds, Takes, take_ran_out, take_took, take_sink_refused, IsHeld, IsLast, IsBetween, next_place, drop-nil, text_front, chars_cut, has_characters, spread_events, IsTakenFront, and_parts, length-drop}
+use Rattle.htoken.proofs.Names.{◌≡◌, ◌≤◌, ◌<◌, ℕ, zero, suc, ◌+◌, true, false, eqb, ◌||◌, List, [], ◌∷◌, ◌++◌, map, length, take, drop, sym, refl, ap, ◌∙◌, subst, arith, Result, Ok, Err, Option, append_assoc, append-nil, and_from, drop-length, length-append, length-take-le, take_all, take_at, drop_at, nat_tests, chars-IsAscii, chars-nil, encode_ascii, len_utf8_ascii, IsUtf8-from_ascii, IsUtf8-past_char, chars_past_char, list_all, prefix_len, is_ascii, encode_utf8, len_utf8, chars, IsAscii, IsUtf8, string_bytes, UnknownNamedCharacterReference, ParseError, Placed, RawKind, Refusal, Texts, all, begins, past, is_alphanumeric, placed, error_if, is_clean, is_plain, is_text_byte, IsCut, all_placed, cut_more, placed_cut, placed_more, Entities, Piece, IsReference, named, kept, unknown, decimal, hexadecimal, no_digits, alone, ampersand, backwards, Script, Spread, State, Tokenizer, bare_errors, first_placed, IsBare, IsFront, RefusesFront, spread_ran_out, spread_refused, Tok, Span, Item, Event, Gives, Reports, Char, piece_span, HandsEvents, is_script, run_events, FollowsAll, has_references, Standing, next, tokens_in, errors_in, eof_of, AreFront, Stands, Reads, holds, Takes, take_ran_out, take_took, take_sink_refused, IsHeld, IsLast, IsBetween, next_place, text_front, chars_cut, has_characters, spread_events, IsTakenFront, and_parts, length-drop, all_weaker, map-append, drop-drop, Hands, Token, gives_item, run_tokens}
 use Rattle.htoken.specs.declared.state.State.TheVariants as state
-use Rattle.htoken.proofs.Fronts.{takes_both}
-use Rattle.htoken.proofs.Cutting.{tokens_in-append, errors_in-append}
-use Rattle.htoken.proofs.Handing.{HandsEvents-append}
+use Rattle.htoken.proofs.Fronts.{each_ascii, takes_both}
+use Rattle.htoken.proofs.Cutting.{stands_on, tokens_in-append, errors_in-append}
+use Rattle.htoken.proofs.Handing.{HandsEvents-append, reports_given}
+use Rattle.htoken.proofs.Running.{run_given}
 use Rattle.htoken.proofs.InRaw.{after_characters}
 use Rattle.htoken.proofs.InRun.{all_itself}
 use Rattle.htoken.proofs.InReference.{no_script}
 use Rattle.htoken.proofs.Plain.{is_itself, plain_stands}
-use Rattle.htoken.proofs.Reading.{reads_as, reads_front, reads_text}
+use Rattle.htoken.proofs.Reading.{held_in, reads_as, reads_front, reads_text}
 use Rattle.htoken.proofs.Scripting.{all_followed}
-use Rattle.htoken.proofs.Pending.{stands_on, stands_told, stands_same, no_tokens_told, errors_told}
+use Rattle.htoken.proofs.Pending.{stands_told, stands_same, no_tokens_told, errors_told}
 use Rattle.htoken.proofs.Referring.{all_imp, alphanumeric_itself, reference_is}
 
 -- ASCII CHARACTERS
@@ -25,17 +26,8 @@ ascii_chars (x ∷ xs) ys a u =
     let more = ascii_chars xs ys k.1 (IsUtf8-past_char (x ∷ (xs ++ ys)) (xs ++ ys) x u is) in
     (more.0, chars_past_char (x ∷ (xs ++ ys)) (xs ++ ys) x u is ∙ ap (λ (cs : List ℕ). x ∷ cs) more.1)
 
-pub each_ascii : (xs : List ℕ) → list_all is_ascii xs ≡ true → IsAscii xs
-each_ascii [] h i = omega arith
-each_ascii (x ∷ xs) h zero = let k = and_parts (is_ascii x) (list_all is_ascii xs) h in grind (arith, k.0, nat_tests)
-each_ascii (x ∷ xs) h (suc i) = each_ascii xs (and_parts (is_ascii x) (list_all is_ascii xs) h).1 i
-
-alphanumeric_ascii : (c : ℕ) → is_alphanumeric c ≡ true → is_ascii c ≡ true
-alphanumeric_ascii c h = grind (arith, h, nat_tests)
-
 pub all_ascii : (xs : List ℕ) → list_all is_alphanumeric xs ≡ true → list_all is_ascii xs ≡ true
-all_ascii [] h = refl
-all_ascii (x ∷ xs) h = let k = and_parts (is_alphanumeric x) (list_all is_alphanumeric xs) h in and_from _ _ (alphanumeric_ascii x k.0) (all_ascii xs k.1)
+all_ascii xs h = all_weaker is_alphanumeric is_ascii (λ c letter. grind (arith, letter, nat_tests)) xs h
 
 pub ascii_placed : (at : ℕ) (xs ys : List ℕ) → list_all is_ascii xs ≡ true → placed at (xs ++ ys) ≡ placed at xs ++ placed (at + length xs) ys
 ascii_placed at [] ys h = let same : at ≡ at + 0 = omega arith in ap (λ (n : ℕ). placed n ys) same
@@ -106,20 +98,10 @@ errors_run (p ∷ ps) = errors_run ps
 abbrev pub text_events : List ParseError → List Placed → List Event
 text_events errors ps = map Reports errors ++ run_events ps
 
-text_tokens : (errors : List ParseError) (ps : List Placed) → tokens_in (text_events errors ps) ≡ map (λ p. Char p.ch p.at) ps
-text_tokens errors ps = tokens_in-append (map Reports errors) (run_events ps) ∙ ap (λ (x : List Tok). x ++ tokens_in (run_events ps)) (no_tokens_told errors) ∙ tokens_run ps
-
-text_errors : (errors : List ParseError) (ps : List Placed) → errors_in (text_events errors ps) ≡ errors
-text_errors errors ps = errors_in-append (map Reports errors) (run_events ps) ∙ ap (λ (x : List ParseError). errors_in (map Reports errors) ++ x) (errors_run ps) ∙ append-nil (errors_in (map Reports errors)) ∙ errors_told errors
-
-map-chars : (xs ys : List Placed) → map (λ p. Char p.ch p.at) (xs ++ ys) ≡ map (λ p. Char p.ch p.at) xs ++ map (λ p. Char p.ch p.at) ys
-map-chars [] ys = refl
-map-chars (x ∷ xs) ys = ap (λ (l : List Tok). Char x.ch x.at ∷ l) (map-chars xs ys)
-
 -- two texts, one after the other, are one text with the errors of both
 module _ (taken : List Event) (es fs : List ParseError) (xs ys : List Placed) where
   both_tokens : tokens_in (taken ++ text_events (es ++ fs) (xs ++ ys)) ≡ tokens_in ((taken ++ text_events es xs) ++ text_events fs ys)
-  both_tokens = simp (tokens_in-append, no_tokens_told, tokens_run, map-chars, append_assoc)
+  both_tokens = simp (tokens_in-append, no_tokens_told, tokens_run, map-append (λ (p : Placed). Char p.ch p.at), append_assoc)
 
   both_errors : errors_in (taken ++ text_events (es ++ fs) (xs ++ ys)) ≡ errors_in ((taken ++ text_events es xs) ++ text_events fs ys)
   both_errors = simp (errors_in-append, errors_told, errors_run, append-nil, append_assoc)
@@ -186,11 +168,6 @@ module _ (table : Entities) (start : RawKind) (end : ℕ) (front : List Placed) 
 backwards_on : (seen xs ys : List Placed) → backwards (backwards seen xs) ys ≡ backwards seen (xs ++ ys)
 backwards_on seen [] ys = refl
 backwards_on seen (x ∷ xs) ys = backwards_on (x ∷ seen) xs ys
-
-pub drop_on : (i n : ℕ) (xs : List ℕ) → drop n (drop i xs) ≡ drop (i + n) xs
-drop_on zero n xs = let e : 0 + n ≡ n = omega arith in ap (λ (k : ℕ). drop k xs) (sym e)
-drop_on (suc i) n [] = drop-nil n ∙ sym (drop-nil (suc i + n))
-drop_on (suc i) n (x ∷ xs) = let e : suc i + n ≡ suc (i + n) = omega arith in drop_on i n xs ∙ ap (λ (k : ℕ). drop k (x ∷ xs)) (sym e)
 
 pub length_left : (n : ℕ) (xs : List ℕ) → n ≤ length xs → n + length (drop n xs) ≡ length xs
 length_left n xs h = omega (arith, h, length-drop n xs)
@@ -269,7 +246,7 @@ module _ (table : Entities) (kind : RawKind) (run : List ℕ) (at : ℕ) where
       let ahead : List Placed = first_placed (at + (n + m)) (drop (n + m) run) in
       let both : placed at (chars (take (n + m) run)) ≡ part ++ more_part = placed_more n m run f.cut g.cut at in
       let far : at + n + m ≡ at + (n + m) = omega arith in
-      let ahead_is : first_placed (at + n + m) (drop m (drop n run)) ≡ ahead = ap (λ (k : ℕ). first_placed k (drop m (drop n run))) far ∙ ap (first_placed (at + (n + m))) (drop_on n m run) in
+      let ahead_is : first_placed (at + n + m) (drop m (drop n run)) ≡ ahead = ap (λ (k : ℕ). first_placed k (drop m (drop n run))) far ∙ ap (first_placed (at + (n + m))) (drop-drop m n run) in
       record {
         cut = cut_more n m run f.cut g.cut;
         stands = λ start text here taken is s end more.
@@ -292,7 +269,7 @@ module _ (table : Entities) (kind : RawKind) (run : List ℕ) (at : ℕ) where
 -- where nothing is held, and this comes next
 module _ {S : Type 0} (gives : S → Item → Result (Unit {0}) Refusal → S → Type 0) (table : Entities) (start : RawKind) (names : Texts) (text ahead : List Placed) (taken : List Event) (t : Tokenizer) (h : Reads table start t names text ahead taken) (in_text : t.state ≡ state.Text) where
   none : (h.held ≡ []) × (t.raised.errors.items ≡ []) × IsBetween h.here t
-  none = subst (λ (x : State). IsHeld x table names h.here t h.held ahead) in_text h.is_held
+  none = held_in h state.Text in_text
 
   text_is : text ≡ h.front
   text_is = h.text_is ∙ ap (λ (x : List Placed). h.front ++ x) none.0 ∙ append-nil h.front
@@ -369,9 +346,9 @@ reads_same table start t names text ahead taken others tokens errors h =
     (λ end more. stands_same table start end h.front (h.held ++ (ahead ++ more)) h.here taken others [] [] tokens (ap (λ (x : List ParseError). x ++ []) errors) (h.stands end more)) refl h.name_is h.is_in h.is_held
 
 -- text was handed over, and before it its errors
-module _ {S : Type 0} (gives : S → Item → Result (Unit {0}) Refusal → S → Type 0) (table : Entities) (start : RawKind) (names : Texts) (text : List Placed) (taken : List Event) (t : Tokenizer) (h : Reads table start t names text [] taken) (in_text : t.state ≡ state.Text)
-    (run : List ℕ) (at count : ℕ) (errors : List ParseError) (front : IsFront t.table.now t.kind run at count errors (placed at (chars (take count run)))) (old mid : S) (told : HandsEvents gives names old (map Reports errors) (Ok tt) mid)
-    (new : Tokenizer) (then : new ≡ record t { script = new.script }) (follows : is_script t.kind ≡ true → FollowsAll t.script (placed at (chars (take count run))) new.script) where
+module _ {S : Type 0} (gives : S → ParseError → Result (Unit {0}) Refusal → S → Type 0) (gives_token : S → Token → Result (Unit {0}) Refusal → S → Type 0) (table : Entities) (start : RawKind) (names : Texts) (text : List Placed) (taken : List Event) (t : Tokenizer) (h : Reads table start t names text [] taken) (in_text : t.state ≡ state.Text)
+    (run : List ℕ) (at count : ℕ) (errors : List ParseError) (front : IsFront t.table.now t.kind run at count errors (placed at (chars (take count run)))) (old mid : S) (told : Hands gives old errors (Ok tt) mid)
+    (new : Tokenizer) (then : new ≡ record t { script = new.script }) (part : List ℕ) (part_is : part ≡ take count run) (follows : is_script t.kind ≡ true → FollowsAll t.script (placed at (chars part)) new.script) where
   abbrev text_part : List Placed
   text_part = placed at (chars (take count run))
 
@@ -381,17 +358,18 @@ module _ {S : Type 0} (gives : S → Item → Result (Unit {0}) Refusal → S �
       let is : next ≡ record t { next = next.next; script = new.script } = next_then ∙ ap (λ (x : Tokenizer). record x { next = next.next }) then in
       let script_is : next.script ≡ new.script = ap (λ (x : Tokenizer). x.script) is in
       let spread_is : next.spread ≡ t.spread = ap (λ (x : Tokenizer). x.spread) is in
-      front_reads gives table start names text [] taken t h in_text run at count errors text_part front (first_placed at run) refl next
+      front_reads (gives_item gives gives_token) table start names text [] taken t h in_text run at count errors text_part front (first_placed at run) refl next
       (is ∙ ap (λ (x : Script). record t { next = next.next; script = x }) (sym script_is) ∙ ap (λ (x : Spread). record t { next = next.next; script = next.script; spread = x }) (sym spread_is)) place
-      (λ script. subst (FollowsAll t.script text_part) (sym script_is) (follows script))
+      (λ script. subst (FollowsAll t.script text_part) (sym script_is) (subst (λ (x : List ℕ). FollowsAll t.script (placed at (chars x)) new.script) part_is (follows script)))
 
-  both_told : (s : S) (answer : Result (Unit {0}) Refusal) → HandsEvents gives names mid (run_events (placed at (chars (take count run)))) answer s → HandsEvents gives names old (text_events errors (placed at (chars (take count run)))) answer s
-  both_told s answer given = HandsEvents-append gives names old mid s (map Reports errors) (run_events text_part) answer told given
+  both_told : (s : S) (answer : Result (Unit {0}) Refusal) → Hands gives_token mid (run_tokens (placed at (chars part))) answer s → HandsEvents (gives_item gives gives_token) names old (text_events errors (placed at (chars (take count run)))) answer s
+  both_told s answer given = HandsEvents-append (gives_item gives gives_token) names old mid s (map Reports errors) (run_events text_part) answer (reports_given gives gives_token names errors old mid (Ok tt) told)
+      (run_given gives gives_token names mid s text_part answer (subst (λ (x : List ℕ). Hands gives_token mid (run_tokens (placed at (chars x))) answer s) part_is given))
 
-  pub text_given : (s : S) → HandsEvents gives names mid (run_events (placed at (chars (take count run)))) (Ok tt) s → IsTakenFront gives table start new names text taken run at count old s
+  pub text_given : (s : S) → Hands gives_token mid (run_tokens (placed at (chars part))) (Ok tt) s → IsTakenFront (gives_item gives gives_token) table start new names text taken run at count old s
   text_given s given = record { events = text_events errors text_part; handed = both_told s (Ok tt) given; reads = given_reads }
 
-  pub text_refused : (s : S) (e : Refusal) (last : Tokenizer) → HandsEvents gives names mid (run_events (placed at (chars (take count run)))) (Err e) s → Takes gives table start text (placed at (chars run)) taken names old (Err e) s last
+  pub text_refused : (s : S) (e : Refusal) (last : Tokenizer) → Hands gives_token mid (run_tokens (placed at (chars part))) (Err e) s → Takes (gives_item gives gives_token) table start text (placed at (chars run)) taken names old (Err e) s last
   text_refused s e last given =
       let next : Tokenizer = record new { next = next_place ((text ++ text_part) ++ first_placed (at + count) (drop count run)) } in
       take_sink_refused e (text_events errors text_part) refl (both_told s (Err e) given) (run_front table start next names text run at count (taken ++ text_events errors text_part) front.cut (given_reads next refl refl))
@@ -447,7 +425,7 @@ module _ {S : Type 0} (gives : S → Item → Result (Unit {0}) Refusal → S �
       on_reads new next then next_then place =
           let more_part : List Placed = placed (at + count) (chars (take size (drop count run))) in
           let far : at + count + size ≡ at + (count + size) = omega arith in
-          let ahead_is : first_placed (at + count + size) (drop size (drop count run)) ≡ first_placed (at + (count + size)) (drop (count + size) run) = ap (λ (k : ℕ). first_placed k (drop size (drop count run))) far ∙ ap (first_placed (at + (count + size))) (drop_on count size run) in
+          let ahead_is : first_placed (at + count + size) (drop size (drop count run)) ≡ first_placed (at + (count + size)) (drop (count + size) run) = ap (λ (k : ℕ). first_placed k (drop size (drop count run))) far ∙ ap (first_placed (at + (count + size))) (drop-drop size count run) in
           let text_is : (text ++ front_part) ++ more_part ≡ text ++ placed at (chars (take (count + size) run)) = append_assoc text front_part more_part ∙ ap (λ (x : List Placed). text ++ x) (sym (placed_more count size run cut more.cut at)) in
           let is : next ≡ record t { next = next.next; spread = new.spread } = next_then ∙ ap (λ (x : Tokenizer). record x { next = next.next }) then in
           let before : List Event = taken ++ front.events in

@@ -24,7 +24,7 @@ pub use Rattle.htag.proofs.AtOnce.{bare_bytes, bare_front, bare_no_errors, bare_
 pub use Rattle.htag.proofs.InRun.{characters_placed, prefix_all}
 pub use Rattle.htag.proofs.Keeping.{looks_ahead as tag_ahead, attributes_grow, names_grow}
 pub use Rattle.htag.proofs.Naming.{attrs_kept}
-pub use Rattle.htag.proofs.Parts.{all-snoc, begins_stops}
+pub use Rattle.htag.proofs.Parts.{begins_stops}
 pub use Rattle.htag.specs.AtOnce.{IsBareName}
 pub use Rattle.htag.specs.Attributes.{AttrsMean}
 pub use Rattle.htag.specs.Tag.{ends_name, parts_text, space, solidus, bare, unquoted, quoted, unclosed, IsTagFront, attributes_after, tag_errors, end_tag_errors}
@@ -46,7 +46,7 @@ pub use Rattle.htoken.specs.Giving.{items_of, known_errors, piece_events, read_e
 pub use Rattle.htoken.specs.Handing.{HandsEvents}
 pub use Rattle.htoken.specs.HeldFrom.{HoldsFrom, from_of}
 pub use Rattle.htoken.specs.Raw.{is_script, end_errors, is_raw, may_end, is_raw_end, name_ends, level, ends_by, is_end_tag_of}
-pub use Rattle.htoken.specs.Run.{run_tokens, run_events, replaced, IsSpread, is_text, is_not_null, StartsAt, TakesSpread}
+pub use Rattle.htoken.specs.Run.{run_tokens, run_events, replaced, IsSpread, is_not_null, StartsAt, TakesSpread}
 pub use Rattle.htoken.specs.Script.{FollowsAll, level_number, is_letter_of, HasFront, level_after, mark_after, mark_by_dash, mark_by_bang, IsMark, is_dashes, is_less_bang_dash, is_read, next_word, word_after, read_back, IsWord, idle}
 pub use Rattle.htoken.specs.Spans.{IsSpan, raw_character, raw_reference, raw_end, IsSpanOf, has_references, IsRawSpan}
 pub use Rattle.htoken.specs.Standing.{next, Standing, at_start, standing_after, after_tokens}
@@ -69,7 +69,7 @@ pub use Rattle.htoken.specs.declared.token.Token.{Token}
 pub use Rattle.htoken.specs.declared.tokenizer.Tokenizer.{Tokenizer}
 pub use Rattle.names.proofs.Handing.{Hands-append, text_kept, grows_not, grows_on}
 pub use Rattle.names.proofs.TableLemmas.{bytes_eq-true}
-pub use Rattle.names.proofs.Words.{all_weaker}
+pub use Rattle.names.proofs.Words.{all_weaker, all-append, all-characters, all-one, begins-append, implied, some_same}
 pub use Rattle.names.specs.Names.{Texts, Grows}
 pub use Rattle.names.specs.Placed.{characters, lowered, all, is_letter, begins, place, spells_in_any_case, placed, error, is_greater, null_errors, past, is_alphanumeric, error_if, without_null, name_bytes, spells, stops}
 pub use Rattle.names.specs.Sets.{raw_kind, refused_name, is_refused}
@@ -88,7 +88,7 @@ pub use Rattle.std.proofs.Math.Seq.{drop-cons, drop-length, get_or-append_seam, 
 pub use Rattle.std.proofs.lemmas.Bool.{eqb-true, eq-eqb, and_from, false_from_ne_true}
 pub use Rattle.std.proofs.lemmas.Bool.Decides.{nat_tests}
 pub use Rattle.std.proofs.lemmas.Grind.{common_steps, flat_map-append}
-pub use Rattle.std.proofs.lemmas.List.{get_or-drop, length-append, length-drop, length-take-le, take-append-drop, take_all, take_at, drop_at, reverse-append, drop-append-le, take-append-le, map-append, nil_from_length}
+pub use Rattle.std.proofs.lemmas.List.{get_or-drop, length-append, length-drop, length-take-le, take-append-drop, take_all, take_at, drop_at, drop-drop, reverse-append, drop-append-le, take-append-le, map-append, nil_from_length}
 pub use Rattle.std.proofs.lemmas.List.Folds.{list_all-append}
 pub use Rattle.std.proofs.lemmas.List.Sums.{prefix_len-le-length, prefix_len_stops}
 pub use Rattle.std.proofs.lemmas.Str.{chars-IsAscii, encode_ascii, len_utf8_ascii, IsUtf8-from_ascii, chars-nil, IsUtf8-past_char, chars_past_char, IsCharBoundary-from_drop, IsAscii-take, IsAscii-drop, chars_from_encodes, encodes-chars, IsUtf8-string_bytes, len_utf8_bounds, IsUtf8-nil}

@@ -1,8 +1,7 @@
 -- Characters that stand for themselves, whatever kind of text they are in.
-use Rattle.htoken.proofs.Names.{◌≡◌, ℕ, Bool, true, false, cond, not, ◌==◌, ◌||◌, eqb, List, [], ◌∷◌, ◌++◌, sym, ap, ◌∙◌, subst, arith, nat_tests, append_assoc, append-nil, refl, ParseError, Placed, RawKind, all, null_errors, no_null_error, and_parts, and_no, Entities, Span, Event, Gives, Char, Standing, IsDataSpan, character, character_span, IsSpan, IsSpanOf, IsRawSpan, raw_character, has_references, run_events, Stands}
-use Rattle.names.specs.declared.raw.RawKind.TheVariants as kind
-use Rattle.htoken.proofs.InRaw.{after_characters, raw_span}
-use Rattle.htoken.proofs.Pending.{stands_on}
+use Rattle.htoken.proofs.Names.{◌≡◌, ℕ, Bool, true, false, cond, not, ◌==◌, ◌||◌, eqb, List, [], ◌∷◌, ◌++◌, sym, ap, ◌∙◌, subst, arith, nat_tests, append_assoc, append-nil, refl, ParseError, Placed, RawKind, all, null_errors, no_null_error, and_parts, and_no, Entities, Span, Event, Gives, Char, Standing, IsDataSpan, character, character_span, IsSpan, IsRawSpan, raw_character, has_references, run_events, Stands}
+use Rattle.htoken.proofs.InRaw.{after_characters, raw_span, span_of}
+use Rattle.htoken.proofs.Cutting.{stands_on}
 use Rattle.htoken.proofs.RawEnds.{other_goes_on}
 
 abbrev pub is_itself : ℕ → Bool
@@ -35,15 +34,8 @@ module _ (table : Entities) (end : ℕ) (here : Standing) (rest : List Placed) (
   in_data : IsDataSpan table end rest (plain_span p)
   in_data = let less : eqb p.ch 60 ≡ false = no_less p.ch plain in let sign : eqb p.ch 38 ≡ false = no_sign p.ch plain in character p (rw (less, sign) refl) (as_character p (no_null p.ch plain))
 
-  of_kind : (k : RawKind) → IsSpanOf k table end here rest (plain_span p)
-  of_kind kind.None = in_data
-  of_kind kind.Rcdata = in_raw
-  of_kind kind.Rawtext = in_raw
-  of_kind kind.Script = in_raw
-  of_kind kind.Plaintext = in_raw
-
-pub plain_is : (table : Entities) (end : ℕ) (here : Standing) (rest : List Placed) (p : Placed) → is_itself p.ch ≡ true → IsSpan table end here rest (plain_span p)
-plain_is table end here rest p plain = of_kind table end here rest p plain here.kind
+  pub plain_is : IsSpan table end here rest (plain_span p)
+  plain_is = span_of here.kind table end here rest (plain_span p) (λ other. in_data) (λ raw. in_raw)
 
 pub plain_stands : (table : Entities) (start : RawKind) (end : ℕ) (qs front rest : List Placed) (here : Standing) (taken : List Event) (later : List ParseError) → all is_itself qs ≡ true → Stands table start end front (qs ++ rest) here taken later
     → Stands table start end (front ++ qs) rest (after_characters here qs) (taken ++ run_events qs) later

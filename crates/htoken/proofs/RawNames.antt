@@ -1,5 +1,5 @@
 -- The names of raw texts are lower letters: wherever raw text is after a start tag, its name says the kind.
-use Rattle.htoken.proofs.Names.{◌≡◌, ℕ, zero, suc, Bool, true, false, not, cond, ◌||◌, ◌&&◌, eqb, List, [], ◌∷◌, length, sym, refl, ap, ◌∙◌, subst, Some, arith, nat_tests, slice_get, to_ascii_lowercase, list_all, Placed, RawKind, Tag, lowered, is_letter, raw_kind, and_parts, Tok, Span, Start, End, Char, Comment, Doctype, Eof, Standing, at_start, next, standing_after, is_raw, bytes_eq-true, bytes_eq, tag_text, tags, tag_among, after_tokens}
+use Rattle.htoken.proofs.Names.{◌≡◌, ℕ, zero, suc, Bool, true, false, not, cond, ◌||◌, ◌&&◌, eqb, List, [], ◌∷◌, length, sym, refl, ap, ◌∙◌, subst, Some, arith, nat_tests, slice_get, to_ascii_lowercase, list_all, Placed, RawKind, Tag, lowered, is_letter, raw_kind, and_parts, Tok, Span, Start, End, Char, Comment, Doctype, Eof, Standing, at_start, next, standing_after, is_raw, bytes_eq-true, bytes_eq, tag_text, tags, tag_among, after_tokens, implied}
 
 -- a lower letter
 abbrev pub is_lower : ℕ → Bool
@@ -15,10 +15,6 @@ fits t = not (is_raw (raw_kind t)) || is_word (tag_text t)
 all_fit : list_all fits tags ≡ true
 all_fit = refl
 
-fits_word : (raw word : Bool) → (not raw || word) ≡ true → raw ≡ true → word ≡ true
-fits_word true word h e = h
-fits_word false word h e = absurd cc
-
 word_among : (ts : List Tag) (text : List ℕ) → list_all fits ts ≡ true → is_raw (raw_kind (tag_among ts text)) ≡ true → is_word text ≡ true
 word_among [] text h raw = absurd cc
 word_among (t ∷ ts) text h raw = by (bytes_eq (tag_text t) text) refl raw (word_among ts text parts.1) where
@@ -26,7 +22,7 @@ word_among (t ∷ ts) text h raw = by (bytes_eq (tag_text t) text) refl raw (wor
   parts = and_parts (fits t) (list_all fits ts) h
 
   by : (b : Bool) → bytes_eq (tag_text t) text ≡ b → is_raw (raw_kind (cond b t (tag_among ts text))) ≡ true → (is_raw (raw_kind (tag_among ts text)) ≡ true → is_word text ≡ true) → is_word text ≡ true
-  by true same e others = ap is_word (sym (bytes_eq-true (tag_text t) text same)) ∙ fits_word (is_raw (raw_kind t)) (is_word (tag_text t)) parts.0 e
+  by true same e others = ap is_word (sym (bytes_eq-true (tag_text t) text same)) ∙ implied (is_raw (raw_kind t)) (is_word (tag_text t)) parts.0 e
   by false same e others = others e
 
 -- where raw text is after a start tag, its name is a word

@@ -29,6 +29,13 @@ module _ {S : Type 0} (gives : S → Item → Result (Unit {0}) Refusal → S �
   ran_out_before h new s = take_ran_out [] refl ([], tt, (refl, refl))
       (λ more end. subst (λ (x : List Event). AreFront table start (text ++ (fed ++ more)) end x) (sym (append-nil taken)) (reads_front table start t names text [] taken h end (fed ++ more)))
 
+-- in a state that is known
+pub held_in : {table : Entities} {start : RawKind} {t : Tokenizer} {names : Texts} {text ahead : List Placed} {taken : List Event} (h : Reads table start t names text ahead taken) (s : State) → t.state ≡ s → IsHeld s table names h.here t h.held ahead
+held_in {table = table} {t = t} {names = names} {ahead = ahead} h s e = subst (λ (x : State). IsHeld x table names h.here t h.held ahead) e h.is_held
+
+pub kind_in : {table : Entities} {start : RawKind} {t : Tokenizer} {names : Texts} {text ahead : List Placed} {taken : List Event} (h : Reads table start t names text ahead taken) (s : State) → t.state ≡ s → IsIn s h.here.kind
+kind_in h s e = subst (λ (x : State). IsIn x h.here.kind) e h.is_in
+
 -- nothing is held
 pub reads_text : {table : Entities} {start : RawKind} {new : Tokenizer} {names : Texts} {text ahead : List Placed} {taken : List Event} (here : Standing) → new.refused ≡ None → new.table.now ≡ table → new.next ≡ next_place (text ++ ahead)
     → ((end : ℕ) (more : List Placed) → Stands table start end text (ahead ++ more) here taken []) → new.kind ≡ here.kind → IsLast names new.last here.name → new.state ≡ state.Text → new.raised.errors.items ≡ [] → IsBetween here new

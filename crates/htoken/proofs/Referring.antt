@@ -1,19 +1,14 @@
 -- Where a reference is, and what follows it as text.
-use Rattle.htoken.proofs.Names.{◌≡◌, ℕ, suc, Bool, true, false, not, cond, ◌&&◌, eqb, List, [], ◌∷◌, ◌++◌, map, length, drop, take, reverse, zero, sym, refl, ap, ◌∙◌, subst, Option, Some, None, arith, append_assoc, append-nil, nat_tests, take-append-drop, nat_lt, list_all, UnknownNamedCharacterReference, ParseError, Placed, RawKind, all, begins, past, is_alphanumeric, error_if, Reference, WalkState, characters_of, errors_of, Entities, Piece, IsTable, IsReference, named, kept, unknown, decimal, hexadecimal, no_digits, alone, backwards, and_parts, and_both, Tok, Span, Event, Gives, Char, piece_span, Standing, next, IsSpan, IsSpanOf, has_references, raw_reference, known_errors, piece_events, read_events, run_events, has_refused, tokens_in, errors_in, Stands, nat_eq, starts_with, Base, Decimal, Hexadecimal, IsWalkHeld, IsSign, in_name, after_sign, after_x, in_number, number_sign, small_x, capital_x, is_digit_of, Entry, longest, longer, is_empty_list}
-use Rattle.names.specs.declared.raw.RawKind.TheVariants as kind
+use Rattle.htoken.proofs.Names.{◌≡◌, ℕ, suc, Bool, true, false, not, cond, ◌&&◌, eqb, List, [], ◌∷◌, ◌++◌, map, length, drop, take, reverse, zero, sym, refl, ap, ◌∙◌, subst, Option, Some, None, arith, append_assoc, append-nil, nat_tests, take-append-drop, nat_lt, list_all, UnknownNamedCharacterReference, ParseError, Placed, RawKind, all, begins, past, is_alphanumeric, error_if, Reference, WalkState, characters_of, errors_of, Entities, Piece, IsTable, IsReference, named, kept, unknown, decimal, hexadecimal, no_digits, alone, backwards, and_parts, Tok, Span, Event, Gives, Char, piece_span, Standing, next, IsSpan, has_references, raw_reference, known_errors, piece_events, read_events, run_events, has_refused, tokens_in, errors_in, Stands, nat_eq, starts_with, Base, Decimal, Hexadecimal, IsWalkHeld, IsSign, in_name, after_sign, after_x, in_number, number_sign, small_x, capital_x, is_digit_of, Entry, longest, longer, is_empty_list, all-append, all-characters, all_weaker, characters}
 use Rattle.htoken.specs.Data as d
-use Rattle.htoken.proofs.Cutting.{tokens_in-append, errors_in-append, tokens_in-map, errors_in-map}
-use Rattle.htoken.proofs.Pending.{stands_on, stands_same}
+use Rattle.htoken.proofs.Cutting.{stands_on, tokens_in-append, errors_in-append, tokens_in-map, errors_in-map}
+use Rattle.htoken.proofs.Pending.{stands_same}
+use Rattle.htoken.proofs.InRaw.{span_of}
 use Rattle.htoken.proofs.Plain.{is_itself, plain_stands}
 
 -- what a walk has taken is plain
 pub all_imp : (f g : ℕ → Bool) (xs : List Placed) → ((c : ℕ) → f c ≡ true → g c ≡ true) → all f xs ≡ true → all g xs ≡ true
-all_imp f g [] i h = refl
-all_imp f g (x ∷ xs) i h = let parts = and_parts (f x.ch) (all f xs) h in and_both (g x.ch) (all g xs) (i x.ch parts.0) (all_imp f g xs i parts.1)
-
-all-append : (f : ℕ → Bool) (xs ys : List Placed) → all f xs ≡ true → all f ys ≡ true → all f (xs ++ ys) ≡ true
-all-append f [] ys h k = k
-all-append f (x ∷ xs) ys h k = let parts = and_parts (f x.ch) (all f xs) h in and_both (f x.ch) (all f (xs ++ ys)) parts.0 (all-append f xs ys parts.1 k)
+all_imp f g xs i h = all-characters g xs ∙ all_weaker f g i (characters xs) (sym (all-characters f xs) ∙ h)
 
 pub all-drop : (f : ℕ → Bool) (n : ℕ) (xs : List Placed) → all f xs ≡ true → all f (drop n xs) ≡ true
 all-drop f zero xs h = h
@@ -41,15 +36,8 @@ held_kept table in_value s text (in_number base value sign digits x is signed fi
 
 -- A REFERENCE
 
-reference_of : (k : RawKind) (table : Entities) (end : ℕ) (here : Standing) (rest : List Placed) (piece : Piece) → has_references k ≡ true → has_references here.kind ≡ true → IsReference table false rest piece → IsSpanOf k table end here rest (piece_span piece)
-reference_of kind.None table end here rest piece may here_may is = d.reference piece is refl
-reference_of kind.Rcdata table end here rest piece may here_may is = raw_reference piece here_may is refl
-reference_of kind.Rawtext table end here rest piece may here_may is = absurd cc
-reference_of kind.Script table end here rest piece may here_may is = absurd cc
-reference_of kind.Plaintext table end here rest piece may here_may is = absurd cc
-
 pub reference_is : (table : Entities) (end : ℕ) (here : Standing) (rest : List Placed) (piece : Piece) → has_references here.kind ≡ true → IsReference table false rest piece → IsSpan table end here rest (piece_span piece)
-reference_is table end here rest piece may is = reference_of here.kind table end here rest piece may may is
+reference_is table end here rest piece may is = span_of here.kind table end here rest (piece_span piece) (λ other. d.reference piece is refl) (λ raw. raw_reference piece may is refl)
 
 pub no_tag : (cs : List ℕ) (at : ℕ) → has_refused (map (λ c. Char c at) cs) ≡ false
 no_tag [] at = refl

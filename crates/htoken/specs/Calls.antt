@@ -22,23 +22,23 @@ abbrev pub EndsRead : {S : Type 0} → (S → Item → Result (Unit {0}) Refusal
 EndsRead gives t end old answer next new = (table : Entities) (start : RawKind) (names : Texts) (text : List Placed) (taken : List Event)
     → Reads table start t names text [] taken → EndsHeld gives table start end text taken names old answer next new
 
--- A call does this with what has been taken; the table of names may have grown since.
-abbrev pub Goes : Tokenizer → Texts → (Entities → RawKind → List Placed → List Event → Type 0) → Type 0
-Goes t names Then = (table : Entities) (start : RawKind) (before : Texts) (text : List Placed) (taken : List Event) → Grows before names
+-- What is so of every text that the tokenizer was fed and all events that were taken of it; the table of names may have grown since.
+abbrev pub FromWhatWasTaken : Tokenizer → Texts → (Entities → RawKind → List Placed → List Event → Type 0) → Type 0
+FromWhatWasTaken t names Then = (table : Entities) (start : RawKind) (before : Texts) (text : List Placed) (taken : List Event) → Grows before names
     → HasTaken table start t before text taken → Then table start text taken
 
 -- These characters are taken; the front of a run of plain ones; a part of a run of any.
 abbrev pub FeedsText : {S : Type 0} → (S → Item → Result (Unit {0}) Refusal → S → Type 0) → Tokenizer → Texts → List Placed → Texts
     → S → Result (Unit {0}) Refusal → S → Tokenizer → Type 0
 FeedsText gives t before fed names old answer new next =
-    Goes t before (λ table start text taken. Takes gives table start text fed taken names old answer new next)
+    FromWhatWasTaken t before (λ table start text taken. Takes gives table start text fed taken names old answer new next)
 
 abbrev pub FeedsFront : {S : Type 0} → (S → Item → Result (Unit {0}) Refusal → S → Type 0) → Tokenizer → Texts → ℕ → List ℕ → Texts → S → Result ℕ Refusal
     → S → Tokenizer → Type 0
 FeedsFront gives t before at run names old answer new next =
-    Goes t before (λ table start text taken. TakesFront gives table start text at run taken names old answer new next)
+    FromWhatWasTaken t before (λ table start text taken. TakesFront gives table start text at run taken names old answer new next)
 
 abbrev pub FeedsPart : {S : Type 0} → (S → Item → Result (Unit {0}) Refusal → S → Type 0) → Tokenizer → Texts → ℕ → List ℕ → Texts → S → Result ℕ Refusal
     → S → Tokenizer → Type 0
 FeedsPart gives t before at run names old answer new next =
-    Goes t before (λ table start text taken. TakesPart gives table start text at run taken names old answer new next)
+    FromWhatWasTaken t before (λ table start text taken. TakesPart gives table start text at run taken names old answer new next)

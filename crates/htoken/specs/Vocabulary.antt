@@ -16,7 +16,7 @@ pub use Rattle.htoken.specs.Giving.{items_of, known_errors, piece_events, raises
 pub use Rattle.htoken.specs.Handing.{HandsEvents}
 pub use Rattle.htoken.specs.HeldFrom.{HoldsFrom, from_of}
 pub use Rattle.htoken.specs.Raw.{ends_by, is_raw, is_script, name_ends}
-pub use Rattle.htoken.specs.Run.{IsSpread, TakesSpread, is_not_null, replaced, run_events, run_tokens, takes_bad}
+pub use Rattle.htoken.specs.Run.{IsSpread, TakesSpread, is_not_null, replaced, run_events, run_tokens}
 pub use Rattle.htoken.specs.Script.{FollowsAll, HasFront, idle, is_dashes, is_less_bang_dash, is_read, level_after, level_number, mark_after, word_after}
 pub use Rattle.htoken.specs.Spans.{has_references}
 pub use Rattle.htoken.specs.Standing.{start_kind}

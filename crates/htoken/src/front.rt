@@ -3,7 +3,7 @@
 ghost use Rattle.std.specs.Prelude.{◌≡◌, ◌≤◌, ◌<◌, ◌+◌, List, true, false, IfOk, IfSome, is_some, MatchResult, Err, drop, length, slice_index, take};
 ghost use Rattle.std.specs.List.{list_all};
 ghost use Rattle.std.specs.Str.{chars};
-ghost use Rattle.htoken.specs.Vocabulary.{bare_errors, Character, Entities, Error, Event, first_placed, FollowsAll, gives_item, GivesFront, Hands, HasTaken, is_clean, is_script, is_text_byte, IsBare, IsCut, IsWhole, Kind, MAX_INPUT, placed, Reads, RefusesFront, run_tokens, Shows, Takes, TakesOn, TakesPart, TellsText, Texts};
+ghost use Rattle.htoken.specs.Vocabulary.{bare_errors, Character, Entities, Error, Event, FeedsPart, first_placed, FollowsAll, gives_item, GivesFront, Hands, is_clean, is_script, is_text_byte, IsBare, IsCut, IsWhole, Kind, MAX_INPUT, placed, Reads, RefusesFront, run_tokens, Shows, Takes, TakesOn, TakesPart, TellsText, Texts};
 
 use crate::hand::{give_piece, tell_unknown};
 use crate::run::last_start;
@@ -116,9 +116,7 @@ impl<'t> Tokenizer<'t> {
         requires some { 0 < length run.now }
         requires clean { list_all is_clean (chars run.now) ≡ true }
         requires within { at + length run.now ≤ MAX_INPUT }
-        ensures takes { (table : Entities) (start : Kind) (names : Texts) (text : List Character) (taken : List Event)
-            → HasTaken table start self.old names text taken
-            → TakesPart (gives_item S.gives S.gives_token) table start text at run.now taken names sink.old result sink.new self.new }
+        ensures takes { (names : Texts) → FeedsPart (gives_item S.gives S.gives_token) self.old names at run.now names sink.old result sink.new self.new }
         ensures few { IfOk result (λ count. (0 < count) × IsCut count run.now) }
     {
         let (count, whole) = text_before(self.table, self.kind, run, at, sink)?;

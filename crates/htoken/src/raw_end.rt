@@ -80,10 +80,8 @@ impl<'t> Tokenizer<'t> {
         sink: &mut S,
     ) -> Result<(), Refusal>
         requires { self.old.state ≡ State.RawName solidus }
-        ensures { (table : Entities) (start : Kind) (names : Texts) (text : List Character) (taken : List Event)
-            → ((more : List Character) → name_ends (string_bytes self.old.tag.name) (self.old.held.items ++ record { ch = ch; at = at } ∷ more) ≡ false)
-            → Reads table start self.old names text (record { ch = ch; at = at } ∷ []) taken
-            → Takes (gives_item S.gives S.gives_token) table start text (record { ch = ch; at = at } ∷ []) taken names sink.old result sink.new self.new }
+        ensures { ((more : List Character) → name_ends (string_bytes self.old.tag.name) (self.old.held.items ++ record { ch = ch; at = at } ∷ more) ≡ false)
+            → TakesNext (gives_item S.gives S.gives_token) self.old (record { ch = ch; at = at }) sink.old result sink.new self.new }
     {
         self.give_held(solidus, sink)?;
         self.in_text(ch, at, sink)

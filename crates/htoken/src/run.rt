@@ -1,9 +1,9 @@
 //! Runs of plain characters, taken as wholes where a state allows it.
 
-ghost use Rattle.std.specs.Prelude.{◌≡◌, ◌≤◌, ◌<◌, ◌+◌, ◌∷◌, ◌++◌, ℕ, List, true, Some, Err, IfErr, IfOk, length, take, drop};
+ghost use Rattle.std.specs.Prelude.{◌≡◌, ◌≤◌, ◌<◌, ◌+◌, ◌∷◌, ◌++◌, ℕ, List, true, false, Some, Err, IfErr, IfOk, length, take, drop};
 ghost use Rattle.std.specs.List.{list_all, prefix_len};
 ghost use Rattle.std.specs.Str.{chars};
-ghost use Rattle.htoken.specs.Vocabulary.{Character, Entities, Event, FeedsFront, FeedsPart, FeedsText, FollowsAll, gives_item, Grows, HasTaken, is_clean, is_only_data, is_plain_byte, is_script, IsCut, Kind, MAX_INPUT, placed, Refused, replaced, Takes, takes_bad, TakesFront, Texts};
+ghost use Rattle.htoken.specs.Vocabulary.{Character, Entities, Event, FeedsFront, FeedsPart, FeedsText, FollowsAll, gives_item, Grows, HasTaken, is_clean, is_only_data, is_plain_byte, is_script, IsCut, Kind, MAX_INPUT, placed, Refused, replaced, Takes, Texts};
 ghost use Rattle.std.specs.Char.{encode_utf8};
 
 use crate::sink::TokenSink;
@@ -113,7 +113,8 @@ impl<'t> Tokenizer<'t> {
 
     /// Whether the characters that replace bad bytes may be taken as a run: nothing is held, and no script is followed.
     fn takes_bad(&self) -> bool
-        ensures { result ≡ takes_bad self.now }
+        ensures takes { result ≡ true → (self.now.state ≡ State.Text) × (is_script self.now.kind ≡ false) }
+        ensures not { result ≡ false → self.now.state ≡ State.Text → is_script self.now.kind ≡ true }
     {
         matches!(self.state, State::Text) && !self.is_in_script()
     }
@@ -125,12 +126,12 @@ impl<'t> Tokenizer<'t> {
         place: u64,
         sink: &mut S,
     ) -> Result<(), Refusal>
-        requires takes { takes_bad self.old ≡ true }
+        requires text { self.old.state ≡ State.Text }
+        requires other { is_script self.old.kind ≡ false }
         requires some { 0 < count }
         requires within { place + count ≤ MAX_INPUT }
-        ensures takes { (table : Entities) (start : Kind) (names : Texts) (text : List Character) (taken : List Event)
-            → HasTaken table start self.old names text taken
-            → Takes (gives_item S.gives S.gives_token) table start text (replaced place count) taken names sink.old result sink.new self.new }
+        ensures takes { (names : Texts) → FeedsText (gives_item S.gives S.gives_token) self.old names (replaced place count) names sink.old result sink.new
+            self.new }
         ensures refused { IfErr result (λ refusal. self.new.refused ≡ Some refusal) }
     {
         self.next = place + count as u64;
@@ -322,9 +323,7 @@ impl<'t> Tokenizer<'t> {
         requires some { 0 < length run.now }
         requires plain { list_all is_plain_byte run.now ≡ true }
         requires within { at + length run.now ≤ MAX_INPUT }
-        ensures takes { (table : Entities) (start : Kind) (names : Texts) (text : List Character) (taken : List Event)
-            → HasTaken table start self.old names text taken
-            → TakesFront (gives_item S.gives S.gives_token) table start text at run.now taken names sink.old result sink.new self.new }
+        ensures takes { (names : Texts) → FeedsFront (gives_item S.gives S.gives_token) self.old names at run.now names sink.old result sink.new self.new }
         ensures all { IfOk result (λ count. count ≡ length run.now) }
     {
         self.next = at + run.len() as u64;

@@ -115,15 +115,7 @@ impl<'t> Tokenizer<'t> {
         match self.state {
             State::Text => self.next,
             State::AmbiguousAmpersand(_) => self.next,
-            State::Less => self.at,
-            State::LessSolidus(_) => self.at,
-            State::Declaration(_, _) => self.at,
-            State::Comment => self.at,
-            State::Doctype => self.at,
-            State::Tag => self.at,
-            State::Reference => self.at,
-            State::RawLess => self.at,
-            State::RawName(_) => self.at,
+            _ => self.at,
         }
     }
 

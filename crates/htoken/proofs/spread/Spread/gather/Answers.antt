@@ -1,5 +1,5 @@
-use Rattle.htoken.proofs.Names.{◌≡◌, ◌<◌, ◌+◌, true, false, ℕ, List, IfSome, length, drop, sym, ap, ◌∙◌, subst, arith, slice_index, list_all, chars, get_or-drop, is_clean, is_text_byte, clean_rest, Adds, IsWhole}
-use Rattle.htoken.proofs.InText.{drop_on, length_left}
+use Rattle.htoken.proofs.Names.{◌≡◌, ◌<◌, ◌+◌, true, false, ℕ, List, IfSome, length, drop, sym, ap, ◌∙◌, subst, arith, slice_index, list_all, chars, drop-drop, get_or-drop, is_clean, is_text_byte, clean_rest, Adds, IsWhole}
+use Rattle.htoken.proofs.InText.{length_left}
 use Rattle.htoken.proofs.Spreading.{gathered_more, gathered_none}
 use Rattle.htoken.proofs.spread.Spread.gather.Goals as goal
 
@@ -27,5 +27,5 @@ loop-whole-preserved c =
       ends = λ l.
           let few : m < length (drop n run) = omega (arith, l, length_left n run so.gathered.front.cut.within) in
           sym (ap is_text_byte (get_or-drop n run m 0)) ∙ subst (λ (x : List ℕ). m < length x → is_text_byte (slice_index x m) ≡ false) left c.in_ok-more.ensures.ends few;
-      whole = subst (λ (x : List ℕ). IfSome c.in_ok-more.next (λ it. IsWhole c.args.table.now c.args.kind x it.0 it.1)) (ap (drop m) left ∙ drop_on n m run) c.in_ok-more.ensures.whole;
+      whole = subst (λ (x : List ℕ). IfSome c.in_ok-more.next (λ it. IsWhole c.args.table.now c.args.kind x it.0 it.1)) (ap (drop m) left ∙ drop-drop m n run) c.in_ok-more.ensures.whole;
     }

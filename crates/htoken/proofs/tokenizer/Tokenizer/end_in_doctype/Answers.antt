@@ -1,17 +1,16 @@
 use Rattle.htoken.proofs.Names.{refl, doctype_token, IsDoctype, HasReadDoctype, err_is}
-use Rattle.htoken.proofs.AtEnd.{doctype_end, doctype_end_here}
+use Rattle.htoken.specs.declared.state.State.TheVariants as state
 use Rattle.htoken.proofs.InMarkup.{markup_end_stopped, markup_cut}
+use Rattle.htoken.proofs.Reading.{held_in, kind_in}
 use Rattle.htoken.proofs.tokenizer.Tokenizer.end_in_doctype.Goals as goal
 
 pub returns-in_err-end : goal.returns-in_err-end
 returns-in_err-end g c =
     rw (err_is c.from_residual.result _ c.from_residual.ensures.1) (λ table start names text taken h.
-    let i = doctype_end table start text names taken _ h c.requires in
-    let here = doctype_end_here table start text names taken _ h c.requires in
-    markup_end_stopped g.S.ErrorSink.gives g.S.TokenSink.gives_token HasReadDoctype IsDoctype doctype_token (λ here text value at errors. (refl, refl, refl)) table start text names taken _ c.args.end h here c.args.self.now.doctype i _ _ c.end.new.errors _ _ (c.in_err-end.ensures i.body i.own i.has_read))
+    let i = held_in h state.Doctype c.requires in
+    markup_end_stopped g.S.ErrorSink.gives g.S.TokenSink.gives_token HasReadDoctype IsDoctype doctype_token (λ here text value at errors. (refl, refl, refl)) table start text names taken _ c.args.end h (kind_in h state.Doctype c.requires) c.args.self.now.doctype i _ _ c.end.new.errors _ _ (c.in_err-end.ensures i.body i.own i.has_read))
 
 pub returns : goal.returns
 returns g c = λ table start names text taken h.
-    let i = doctype_end table start text names taken _ h c.requires in
-    let here = doctype_end_here table start text names taken _ h c.requires in
-    markup_cut g.S.ErrorSink.gives g.S.TokenSink.gives_token HasReadDoctype IsDoctype doctype_token (λ here text value at errors. (refl, refl, refl)) table start text names taken _ c.args.end h here c.args.self.now.doctype i (record c.args.self.now { doctype = c.end.new.self; raised = c.end.new.errors }) _ _ _ _ _ (record { kind_is = refl; last_is = refl; at_is = refl; stays = (refl, refl, refl) }) (c.in_ok-end.ensures i.body i.own i.has_read) c.end_doctype.ensures
+    let i = held_in h state.Doctype c.requires in
+    markup_cut g.S.ErrorSink.gives g.S.TokenSink.gives_token HasReadDoctype IsDoctype doctype_token (λ here text value at errors. (refl, refl, refl)) table start text names taken _ c.args.end h (kind_in h state.Doctype c.requires) c.args.self.now.doctype i (record c.args.self.now { doctype = c.end.new.self; raised = c.end.new.errors }) _ _ _ _ _ (record { kind_is = refl; last_is = refl; at_is = refl; stays = (refl, refl, refl) }) (c.in_ok-end.ensures i.body i.own i.has_read) c.end_doctype.ensures

@@ -13,36 +13,30 @@ returns-then-count-run-clause-takes g c = λ table start names text taken old fr
 
 pub returns-in_err-more-clause-takes : goal.returns-in_err-more-clause-takes
 returns-in_err-more-clause-takes g c =
-    let gives = gives_item g.S.ErrorSink.gives g.S.TokenSink.gives_token in
-    let t = c.args.self.now in
     let run = c.args.run.now in
     let count = c.args.count in
-    let left = c.range_from.ensures.value in
     let less : count < length run = omega (arith, c.if-count-run.false, c.requires.cut.within) in
     rw (err_is c.from_residual.result _ c.from_residual.ensures.1) (λ table start names text taken old front.
     let part : List Placed = placed c.args.at (chars (take count run)) in
-    let new = record t { next = c.after-self-2.result } in
+    let new = record c.args.self.now { next = c.after-self-2.result } in
     let reads = front.reads new refl (c.after-self-2.ensures ∙ mark_next (text ++ part) c.args.at count run c.requires.cut less (c.requires.ends less)) in
-    then_refused gives table start names text taken t run c.args.at count old c.args.sink.now front c.requires.cut _ c.take_mark.new.sink c.take_mark.new.self
-    (subst (λ (x : List ℕ). Takes gives table start (text ++ part) (placed (c.args.at + count) (chars x)) (taken ++ front.events) names c.args.sink.now (Err c.in_err-more.field-0.0) c.take_mark.new.sink c.take_mark.new.self) left
-    (c.in_err-more.ensures.takes table start names (text ++ part) (taken ++ front.events) (subst (λ (x : List ℕ). Reads table start new names (text ++ part) (first_placed (c.args.at + count) x) (taken ++ front.events)) (sym left) reads))))
+    then_refused (gives_item g.S.ErrorSink.gives g.S.TokenSink.gives_token) table start names text taken c.args.self.now run c.args.at count old c.args.sink.now front c.requires.cut _ c.take_mark.new.sink c.take_mark.new.self
+    (subst (λ (x : List ℕ). Takes (gives_item g.S.ErrorSink.gives g.S.TokenSink.gives_token) table start (text ++ part) (placed (c.args.at + count) (chars x)) (taken ++ front.events) names c.args.sink.now (Err c.in_err-more.field-0.0) c.take_mark.new.sink c.take_mark.new.self) c.range_from.ensures.value
+    (c.in_err-more.ensures.takes table start names (text ++ part) (taken ++ front.events) (subst (λ (x : List ℕ). Reads table start new names (text ++ part) (first_placed (c.args.at + count) x) (taken ++ front.events)) (sym c.range_from.ensures.value) reads))))
 
 pub returns-clause-takes : goal.returns-clause-takes
 returns-clause-takes g c =
-    let gives = gives_item g.S.ErrorSink.gives g.S.TokenSink.gives_token in
-    let t = c.args.self.now in
     let run = c.args.run.now in
     let count = c.args.count in
-    let left = c.range_from.ensures.value in
     let less : count < length run = omega (arith, c.if-count-run.false, c.requires.cut.within) in
     λ table start names text taken old front.
     let part : List Placed = placed c.args.at (chars (take count run)) in
-    let new = record t { next = c.after-self-2.result } in
+    let new = record c.args.self.now { next = c.after-self-2.result } in
     let reads = front.reads new refl (c.after-self-2.ensures ∙ mark_next (text ++ part) c.args.at count run c.requires.cut less (c.requires.ends less)) in
-    then_taken gives table start names text taken t run c.args.at count old c.args.sink.now front c.requires.cut c.in_ok-more.more c.take_mark.new.sink c.take_mark.new.self
-    (subst (λ (x : List ℕ). IsCut c.in_ok-more.more x) left c.in_ok-more.ensures.few.1)
-    (subst (λ (x : List ℕ). Takes gives table start (text ++ part) (placed (c.args.at + count) (chars (take c.in_ok-more.more x))) (taken ++ front.events) names c.args.sink.now (Ok tt) c.take_mark.new.sink c.take_mark.new.self) left
-    (c.in_ok-more.ensures.takes table start names (text ++ part) (taken ++ front.events) (subst (λ (x : List ℕ). Reads table start new names (text ++ part) (first_placed (c.args.at + count) x) (taken ++ front.events)) (sym left) reads)))
+    then_taken (gives_item g.S.ErrorSink.gives g.S.TokenSink.gives_token) table start names text taken c.args.self.now run c.args.at count old c.args.sink.now front c.requires.cut c.in_ok-more.more c.take_mark.new.sink c.take_mark.new.self
+    (subst (λ (x : List ℕ). IsCut c.in_ok-more.more x) c.range_from.ensures.value c.in_ok-more.ensures.few.1)
+    (subst (λ (x : List ℕ). Takes (gives_item g.S.ErrorSink.gives g.S.TokenSink.gives_token) table start (text ++ part) (placed (c.args.at + count) (chars (take c.in_ok-more.more x))) (taken ++ front.events) names c.args.sink.now (Ok tt) c.take_mark.new.sink c.take_mark.new.self) c.range_from.ensures.value
+    (c.in_ok-more.ensures.takes table start names (text ++ part) (taken ++ front.events) (subst (λ (x : List ℕ). Reads table start new names (text ++ part) (first_placed (c.args.at + count) x) (taken ++ front.events)) (sym c.range_from.ensures.value) reads)))
 
 pub returns-clause-few : goal.returns-clause-few
 returns-clause-few g c =

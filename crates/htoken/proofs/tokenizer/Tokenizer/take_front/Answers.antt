@@ -1,12 +1,10 @@
 use Rattle.htoken.proofs.Names.{arith, grows_not, gives_item, err_is}
 use Rattle.htoken.proofs.AtOnce.{nothing_before}
 use Rattle.htoken.proofs.Fronts.{all_is_few, one_is_few}
-use Rattle.htoken.proofs.Taking.{taken_kept}
 use Rattle.htoken.proofs.tokenizer.Tokenizer.take_front.Goals as goal
 
 pub returns-in-Text-clause-takes : goal.returns-in-Text-clause-takes
-returns-in-Text-clause-takes g c = λ table start before text taken grows h.
-    c.run_of_text.ensures.takes table start c.args.names.now text taken (taken_kept table start c.args.self.now before c.args.names.now text taken grows h)
+returns-in-Text-clause-takes g c = c.run_of_text.ensures.takes c.args.names.now
 
 pub returns-in-Text-clause-few : goal.returns-in-Text-clause-few
 returns-in-Text-clause-few g c = all_is_few c.args.run.now c.requires.some _ c.run_of_text.ensures.all

@@ -1,11 +1,9 @@
 use Rattle.htoken.proofs.Names.{arith, grows_not, gives_item, err_is}
 use Rattle.htoken.proofs.AtOnce.{nothing_then}
-use Rattle.htoken.proofs.Taking.{taken_kept}
 use Rattle.htoken.proofs.tokenizer.Tokenizer.take_part.Goals as goal
 
 pub returns-in-Text-clause-takes : goal.returns-in-Text-clause-takes
-returns-in-Text-clause-takes g c = λ table start before text taken grows h.
-    c.part_of_text.ensures.takes table start c.args.names.now text taken (taken_kept table start c.args.self.now before c.args.names.now text taken grows h)
+returns-in-Text-clause-takes g c = c.part_of_text.ensures.takes c.args.names.now
 
 pub returns-in_err-count-in-Less-clause-takes : goal.returns-in_err-count-in-Less-clause-takes
 returns-in_err-count-in-Less-clause-takes g c =

@@ -12,12 +12,10 @@ spread_on-requires-clause-clean g c =
 
 pub returns-in_err-more-clause-takes : goal.returns-in_err-more-clause-takes
 returns-in_err-more-clause-takes g c =
-    let gives = gives_item g.S.ErrorSink.gives g.S.TokenSink.gives_token in
-    let t = c.args.self.now in
-    let may = may_of t.table.now t.kind (drop c.args.count c.args.run.now) c.args.whole c.requires.some c.requires.whole in
+    let may = may_of c.args.self.now.table.now c.args.self.now.kind (drop c.args.count c.args.run.now) c.args.whole c.requires.some c.requires.whole in
     rw (err_is c.from_residual.result _ c.from_residual.ensures.1) (λ table start names text taken old front.
-    spread_fails gives table start names text taken t c.args.run.now c.args.at c.args.count old c.args.sink.now front c.requires.cut c.requires.text may _ c.spread_on.new.sink _
-    (subst (λ (x : List ℕ). RefusesFront gives names t.table.now t.kind x (c.args.at + c.args.count) c.args.sink.now c.in_err-more.field-0.0 c.spread_on.new.sink) c.range_from.ensures.value (c.in_err-more.ensures.front names)))
+    spread_fails (gives_item g.S.ErrorSink.gives g.S.TokenSink.gives_token) table start names text taken c.args.self.now c.args.run.now c.args.at c.args.count old c.args.sink.now front c.requires.cut c.requires.text may _ c.spread_on.new.sink _
+    (subst (λ (x : List ℕ). RefusesFront (gives_item g.S.ErrorSink.gives g.S.TokenSink.gives_token) names c.args.self.now.table.now c.args.self.now.kind x (c.args.at + c.args.count) c.args.sink.now c.in_err-more.field-0.0 c.spread_on.new.sink) c.range_from.ensures.value (c.in_err-more.ensures.front names)))
 
 pub take_end-requires-clause-cut : goal.take_end-requires-clause-cut
 take_end-requires-clause-cut g c =
@@ -28,10 +26,8 @@ overflow_add-count g c = omega (arith, (c.in_ok-more.ensures.front []).front.cut
 
 pub returns-clause-takes : goal.returns-clause-takes
 returns-clause-takes g c =
-    let gives = gives_item g.S.ErrorSink.gives g.S.TokenSink.gives_token in
-    let t = c.args.self.now in
-    let may = may_of t.table.now t.kind (drop c.args.count c.args.run.now) c.args.whole c.requires.some c.requires.whole in
+    let may = may_of c.args.self.now.table.now c.args.self.now.kind (drop c.args.count c.args.run.now) c.args.whole c.requires.some c.requires.whole in
     λ table start names text taken old front.
-    let more = subst (λ (x : List ℕ). GivesFront gives names t.table.now t.kind x (c.args.at + c.args.count) c.in_ok-more.more c.args.sink.now (Ok tt) c.spread_on.new.sink) c.range_from.ensures.value (c.in_ok-more.ensures.front names) in
+    let more = subst (λ (x : List ℕ). GivesFront (gives_item g.S.ErrorSink.gives g.S.TokenSink.gives_token) names c.args.self.now.table.now c.args.self.now.kind x (c.args.at + c.args.count) c.in_ok-more.more c.args.sink.now (Ok tt) c.spread_on.new.sink) c.range_from.ensures.value (c.in_ok-more.ensures.front names) in
     c.take_end.ensures.takes table start names text taken old
-    (spread_given gives table start names text taken t c.args.run.now c.args.at c.args.count old c.args.sink.now front c.requires.cut c.requires.text may c.in_ok-more.more more.errors more.given more.front c.spread_on.new.self c.in_ok-more.ensures.then c.spread_on.new.sink more.handed)
+    (spread_given (gives_item g.S.ErrorSink.gives g.S.TokenSink.gives_token) table start names text taken c.args.self.now c.args.run.now c.args.at c.args.count old c.args.sink.now front c.requires.cut c.requires.text may c.in_ok-more.more more.errors more.given more.front c.spread_on.new.self c.in_ok-more.ensures.then c.spread_on.new.sink more.handed)
