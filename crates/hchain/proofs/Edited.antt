@@ -1,7 +1,8 @@
 -- A number is taken out of a list that keeps where its groups are, or comes in where nothing is.
-use Rattle.hchain.proofs.Names.{◌≡◌, ◌≢◌, ℕ, suc, ◌<◌, ◌≤◌, ◌%◌, Bool, List, length, get_or, set, refl, sym, ◌∙◌, ap, subst, add-one, arith, get_or-set_same, get_or-set_other, length-set, none, last_up, numbers_of, is_in, IsChained, IsNext, Fit, Link}
+use Rattle.hchain.proofs.Groups.{in-group}
+use Rattle.hchain.proofs.Names.{◌≡◌, ◌≢◌, ℕ, suc, ◌<◌, ◌≤◌, ◌%◌, Bool, List, length, get_or, set, refl, sym, ◌∙◌, ap, subst, add-one, arith, get_or-set_same, get_or-set_other, length-set, none, last_up, numbers_of, is_in, IsChained, IsNext, FitsAt, Link}
 use Rattle.hchain.proofs.LastUp.{up-sought, up-other, up-within, up-alike}
-use Rattle.hchain.proofs.Relinked.{nth, Differ, next-same, differ-set, not-in, group-in, length-numbers, number-at, before-at}
+use Rattle.hchain.proofs.Relinked.{nth, Differ, next-same, differ-set, not-in, length-numbers, number-at, before-at}
 
 -- the places before a number do not change with it
 up-set : (s : ℕ → Bool) (xs : List ℕ) (i n : ℕ) → last_up s (set xs i n) i ≡ last_up s xs i
@@ -45,7 +46,7 @@ module _ (last : List ℕ) (links : List Link) (i next : ℕ) (o : Out last link
   pub out-within : (nth links i).before ≤ length links
   out-within = omega (arith, o.within, out-kept, up-within (is_in (length last) ((nth links i).number % length last)) (numbers_of links) i)
 
-  pub out-fit : Fit (length last) (set (numbers_of links) i none) i (record { number = (nth links i).number; before = (nth links i).before; hint = next })
+  pub out-fit : FitsAt (length last) (set (numbers_of links) i none) i (record { number = (nth links i).number; before = (nth links i).before; hint = next })
   out-fit = record {
     before = out-before ∙ ap (λ k. last_up (is_in (length last) ((nth links i).number % length last)) (set (numbers_of links) i none) k) (sym (add-one i));
     next =
@@ -59,7 +60,7 @@ pub record In (last : List ℕ) (links : List Link) (i : ℕ) (x : Link) : Type 
   pub within : i < length links
   pub free : get_or (numbers_of links) i 0 ≡ none
   pub some : x.number ≢ none
-  pub fits : Fit (length last) (numbers_of links) i x
+  pub fits : FitsAt (length last) (numbers_of links) i x
 
 module _ (last : List ℕ) (links : List Link) (i : ℕ) (x : Link) (o : In last links i x) where
   in-within-numbers : i < length (numbers_of links)
@@ -91,4 +92,4 @@ module _ (last : List ℕ) (links : List Link) (i : ℕ) (x : Link) (o : In last
   in-keeps =
       let s : ℕ → Bool = is_in (length last) (x.number % length last) in
       let here : get_or (set (numbers_of links) i x.number) i 0 ≡ x.number = get_or-set_same (numbers_of links) i x.number 0 in-within-numbers in
-      sym (up-sought s (set (numbers_of links) i x.number) i (ap s here ∙ group-in (length last) (x.number % length last) x.number o.some refl))
+      sym (up-sought s (set (numbers_of links) i x.number) i (ap s here ∙ in-group (length last) (x.number % length last) x.number o.some refl))

@@ -1,5 +1,5 @@
 -- A list and its image, where a test of the image is a test of the list.
-use Rattle.hchain.proofs.Names.{◌≡◌, ℕ, ◌+◌, zero, suc, Bool, true, false, cond, not, ◌&&◌, ◌||◌, List, [], ◌∷◌, map, Option, Some, None, refl, ◌∙◌, list_any, list_all, length-map, before, after, without, changed, put_before, changed_at}
+use Rattle.hchain.proofs.Names.{arith, ◌≡◌, ℕ, ◌+◌, zero, suc, Bool, cond, not, ◌&&◌, ◌||◌, List, [], ◌∷◌, map, Option, Some, None, refl, list_any, list_all, length-map, before, after, without, changed, put_before, changed_at}
 use Rattle.std.specs.Prelude.{if◌then◌else◌, filter, find, nat_lt, position}
 use Rattle.std.specs.List.{prefix_len}
 use Rattle.std.specs.Option.{option_map}
@@ -7,59 +7,31 @@ use Rattle.std.specs.Option.{option_map}
 module _ {X Y : Type 0} (h : X → Y) (p : X → Bool) (q : Y → Bool) (e : (x : X) → q (h x) ≡ p x) where
   pub before-map : (xs : List X) → before q (map h xs) ≡ map h (before p xs)
   before-map [] = refl
-  before-map (x ∷ xs) = (λ i. cond (e x i) [] (h x ∷ before-map xs i)) ∙ go (p x)
-    where
-      go : (v : Bool) → cond v [] (h x ∷ map h (before p xs)) ≡ map h (cond v [] (x ∷ before p xs))
-      go true = refl
-      go false = refl
+  before-map (x ∷ xs) = grind (arith, e x, before-map xs)
 
   pub after-map : (xs : List X) → after q (map h xs) ≡ map h (after p xs)
   after-map [] = refl
-  after-map (x ∷ xs) = (λ i. cond (e x i) (map h xs) (after-map xs i)) ∙ go (p x)
-    where
-      go : (v : Bool) → cond v (map h xs) (map h (after p xs)) ≡ map h (cond v xs (after p xs))
-      go true = refl
-      go false = refl
+  after-map (x ∷ xs) = grind (arith, e x, after-map xs)
 
   pub without-map : (xs : List X) → without q (map h xs) ≡ map h (without p xs)
   without-map [] = refl
-  without-map (x ∷ xs) = (λ i. cond (e x i) (map h xs) (h x ∷ without-map xs i)) ∙ go (p x)
-    where
-      go : (v : Bool) → cond v (map h xs) (h x ∷ map h (without p xs)) ≡ map h (cond v xs (x ∷ without p xs))
-      go true = refl
-      go false = refl
+  without-map (x ∷ xs) = grind (arith, e x, without-map xs)
 
   pub changed-map : (f : X → X) (f' : Y → Y) → ((x : X) → f' (h x) ≡ h (f x)) → (xs : List X) → changed q f' (map h xs) ≡ map h (changed p f xs)
   changed-map f f' c [] = refl
-  changed-map f f' c (x ∷ xs) = (λ i. cond (e x i) (c x i ∷ map h xs) (h x ∷ changed-map f f' c xs i)) ∙ go (p x)
-    where
-      go : (v : Bool) → cond v (h (f x) ∷ map h xs) (h x ∷ map h (changed p f xs)) ≡ map h (cond v (f x ∷ xs) (x ∷ changed p f xs))
-      go true = refl
-      go false = refl
+  changed-map f f' c (x ∷ xs) = grind (arith, e x, c x, changed-map f f' c xs)
 
   pub put_before-map : (new : X) (xs : List X) → put_before q (h new) (map h xs) ≡ map h (put_before p new xs)
   put_before-map new [] = refl
-  put_before-map new (x ∷ xs) = (λ i. cond (e x i) (h new ∷ h x ∷ map h xs) (h x ∷ put_before-map new xs i)) ∙ go (p x)
-    where
-      go : (v : Bool) → cond v (h new ∷ h x ∷ map h xs) (h x ∷ map h (put_before p new xs)) ≡ map h (cond v (new ∷ x ∷ xs) (x ∷ put_before p new xs))
-      go true = refl
-      go false = refl
+  put_before-map new (x ∷ xs) = grind (arith, e x, put_before-map new xs)
 
   pub filter-map : (xs : List X) → filter q (map h xs) ≡ map h (filter p xs)
   filter-map [] = refl
-  filter-map (x ∷ xs) = (λ i. cond (e x i) (h x ∷ filter-map xs i) (filter-map xs i)) ∙ go (p x)
-    where
-      go : (v : Bool) → cond v (h x ∷ map h (filter p xs)) (map h (filter p xs)) ≡ map h (cond v (x ∷ filter p xs) (filter p xs))
-      go true = refl
-      go false = refl
+  filter-map (x ∷ xs) = grind (arith, e x, filter-map xs)
 
   pub find-map : (xs : List X) → find q (map h xs) ≡ option_map h (find p xs)
   find-map [] = refl
-  find-map (x ∷ xs) = (λ i. cond (e x i) (Some (h x)) (find-map xs i)) ∙ go (p x)
-    where
-      go : (v : Bool) → cond v (Some (h x)) (option_map h (find p xs)) ≡ option_map h (cond v (Some x) (find p xs))
-      go true = refl
-      go false = refl
+  find-map (x ∷ xs) = grind (arith, e x, find-map xs)
 
   pub any-map : (xs : List X) → list_any q (map h xs) ≡ list_any p xs
   any-map [] = refl

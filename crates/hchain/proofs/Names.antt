@@ -1,6 +1,6 @@
 -- The names of other crates and of specs/ that several proofs cite, in one place.
 pub use Rattle.hchain.specs.Chains.{none, last_up}
-pub use Rattle.hchain.specs.Linked.{is_in, numbers_of, number_of, before_of, befores_of, Keep, Says, IsChained, AreChains, IsNext, Fit}
+pub use Rattle.hchain.specs.Linked.{is_in, numbers_of, number_of, before_of, befores_of, Keep, Says, IsChained, AreChains, IsNext, FitsAt}
 pub use Rattle.hchain.specs.Nearest.{before, after, without, changed, put_before, changed_at}
 pub use Rattle.hchain.specs.Places.{last_place}
 pub use Rattle.hchain.specs.declared.chains.Link.{Link}

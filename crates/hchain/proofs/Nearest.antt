@@ -1,9 +1,10 @@
 -- A vector whose last member is the nearest, and what an edit of it is in the words on lists.
-use Rattle.hchain.proofs.Names.{◌≡◌, ℕ, zero, suc, ◌+◌, ◌<◌, ◌≤◌, Bool, true, false, cond, not, List, [], ◌∷◌, ◌++◌, Option, Some, None, length, get_or, set, take, drop, map, ◌||◌, ◌⊎◌, inl, inr, refl, sym, ◌∙◌, ap, arith, position, position_or_len, list_any, lt-ltb, le-ltb, cases_lt, map-append, length-map, length-drop, get_or-map, before, after, without, changed, put_before, changed_at}
+use Rattle.std.proofs.lemmas.Bool.Decides.{nat_tests}
+use Rattle.hchain.proofs.Names.{◌≡◌, ℕ, zero, suc, ◌+◌, ◌<◌, ◌≤◌, Bool, true, false, cond, not, List, [], ◌∷◌, ◌++◌, Some, None, length, get_or, set, take, drop, map, refl, sym, ◌∙◌, ap, arith, position, position_or_len, list_any, map-append, length-map, length-drop, get_or-map, before, after, without, changed, put_before, changed_at}
 use Rattle.std.proofs.Common.{ltb, reverse}
 use Rattle.std.specs.List.{find, insert, remove, remove_range, slice_get}
 use Rattle.std.specs.Option.{is_some, IfSome}
-use Rattle.std.proofs.lemmas.Bool.{ltb-true, ltb-false}
+use Rattle.std.proofs.lemmas.Bool.{ltb-true}
 use Rattle.std.proofs.lemmas.List.{reverse-append, append_assoc, length-reverse, take-append-drop, set_split, take_at, drop_at, get_or-reverse}
 use Rattle.std.proofs.lemmas.Option.{slice_get-get_or, cond_some}
 use Rattle.hchain.proofs.Images.{position-map}
@@ -42,20 +43,12 @@ module _ {Y : Type 0} (sought : Y → Bool) where
   found_within ys up e = (position_is ys up e).0
 
   pub position_within : (ys : List Y) → IfSome (position sought ys) (λ up. up < length ys)
-  position_within ys = go (position sought ys) refl
-    where
-      go : (o : Option ℕ) → position sought ys ≡ o → IfSome o (λ up. up < length ys)
-      go None e = tt
-      go (Some up) e = found_within ys up e
+  position_within ys = grind (arith, found_within ys)
 
   -- one that is sought leaves
   pub length-without : (ys : List Y) → list_any sought ys ≡ true → length (without sought ys) + 1 ≡ length ys
   length-without [] e = cc
-  length-without (y ∷ ys) e = go (sought y) (length-without ys) e
-    where
-      go : (v : Bool) → (list_any sought ys ≡ true → length (without sought ys) + 1 ≡ length ys) → (v || list_any sought ys) ≡ true → length (cond v ys (y ∷ without sought ys)) + 1 ≡ suc (length ys)
-      go true i e = omega arith
-      go false i e = omega (arith, i e)
+  length-without (y ∷ ys) e = grind (arith, length-without ys)
 
   -- and where none is sought
   pub record NoWords (ys : List Y) : Type 0 where
@@ -76,32 +69,19 @@ module _ {Y : Type 0} (sought : Y → Bool) where
           let w : NoWords ys = i (omega arith) in
           record { before_is = rw (s, w.before_is) refl; after_is = rw s w.after_is; without_is = rw (s, w.without_is) refl; changed_is = λ g. rw (s, w.changed_is g) refl; put_is = λ z. rw (s, w.put_is z) refl; find_is = rw s w.find_is }
 
+  past : (ys : List Y) → position sought ys ≡ None → length ys ≤ position_or_len sought ys
+  past ys e = grind (arith, nat_tests)
+
   pub no_words : (ys : List Y) → position sought ys ≡ None → NoWords ys
-  no_words ys e = no_words_at ys (go (ltb (position_or_len sought ys) (length ys)) refl e)
-    where
-      go : (v : Bool) → ltb (position_or_len sought ys) (length ys) ≡ v → ◌≡◌ {A = Option ℕ} (cond v (Some (position_or_len sought ys)) None) None → length ys ≤ position_or_len sought ys
-      go true s e = cc
-      go false s e = ltb-false (position_or_len sought ys) (length ys) s
+  no_words ys e = no_words_at ys (past ys e)
 
   any-position_or_len : (ys : List Y) → list_any sought ys ≡ ltb (position_or_len sought ys) (length ys)
   any-position_or_len [] = refl
-  any-position_or_len (y ∷ ys) = go (sought y) (any-position_or_len ys)
-    where
-      go : (v : Bool) → list_any sought ys ≡ ltb (position_or_len sought ys) (length ys) → (v || list_any sought ys) ≡ ltb (cond (not v) (1 + position_or_len sought ys) 0) (suc (length ys))
-      go true i = sym (lt-ltb 0 (suc (length ys)) (omega arith))
-      go false i = i ∙ below (cases_lt (position_or_len sought ys) (length ys))
-        where
-          below : (position_or_len sought ys < length ys) ⊎ (length ys ≤ position_or_len sought ys) → ltb (position_or_len sought ys) (length ys) ≡ ltb (1 + position_or_len sought ys) (suc (length ys))
-          below (inl l) = lt-ltb (position_or_len sought ys) (length ys) l ∙ sym (lt-ltb (1 + position_or_len sought ys) (suc (length ys)) (omega arith))
-          below (inr g) = le-ltb (position_or_len sought ys) (length ys) g ∙ sym (le-ltb (1 + position_or_len sought ys) (suc (length ys)) (omega arith))
+  any-position_or_len (y ∷ ys) = grind (arith, any-position_or_len ys, nat_tests)
 
   -- one that is sought is somewhere
   pub is_some-position : (ys : List Y) → is_some (position sought ys) ≡ list_any sought ys
-  is_some-position ys = go (ltb (position_or_len sought ys) (length ys)) ∙ sym (any-position_or_len ys)
-    where
-      go : (v : Bool) → is_some (cond v (Some (position_or_len sought ys)) None) ≡ v
-      go true = refl
-      go false = refl
+  is_some-position ys = grind (arith, any-position_or_len ys)
 
 -- a member in the words of a list that is split there
 changed_at-split : {Y : Type 0} (g : Y → Y) (ys : List Y) (up : ℕ) (d : Y) → up < length ys → changed_at up g ys ≡ take up ys ++ g (get_or ys up d) ∷ drop (suc up) ys

@@ -1,25 +1,17 @@
 -- The place of the nearest that is sought, and the searches of std.
-use Rattle.hchain.proofs.Names.{◌≡◌, ℕ, suc, ◌+◌, ◌-◌, ◌<◌, ◌≤◌, Bool, true, false, cond, not, ◌&&◌, List, [], ◌∷◌, Some, None, length, refl, arith, list_all, position, position_or_len, lt-ltb, le-ltb, last_place}
+use Rattle.hchain.proofs.Names.{◌≡◌, ℕ, suc, ◌+◌, ◌-◌, ◌<◌, ◌≤◌, Bool, not, List, [], ◌∷◌, Some, None, length, refl, arith, list_all, position, position_or_len, lt-ltb, le-ltb, last_place}
 use Rattle.std.specs.Prelude.{nat_eq}
 use Rattle.std.proofs.Math.Dec.{eqb-suc-zero}
 
 module _ {X : Type 0} (sought : X → Bool) where
   pub last_place-le : (xs : List X) → last_place sought xs ≤ length xs
   last_place-le [] = omega arith
-  last_place-le (x ∷ xs) = go (sought x) (last_place-le xs)
-    where
-      go : (v : Bool) → last_place sought xs ≤ length xs → cond v (suc (length xs)) (last_place sought xs) ≤ suc (length xs)
-      go true i = omega arith
-      go false i = omega arith
+  last_place-le (x ∷ xs) = grind (arith, last_place-le xs)
 
   -- what is nearer, and the place, make up the length
   place-position : (xs : List X) → last_place sought xs + position_or_len sought xs ≡ length xs
   place-position [] = omega arith
-  place-position (x ∷ xs) = go (sought x) (place-position xs)
-    where
-      go : (v : Bool) → last_place sought xs + position_or_len sought xs ≡ length xs → cond v (suc (length xs)) (last_place sought xs) + cond (not v) (1 + position_or_len sought xs) 0 ≡ suc (length xs)
-      go true i = omega arith
-      go false i = omega arith
+  place-position (x ∷ xs) = grind (arith, place-position xs)
 
   pub position-none : (xs : List X) → last_place sought xs ≡ 0 → position sought xs ≡ None
   position-none xs none =
@@ -35,8 +27,4 @@ module _ {X : Type 0} (sought : X → Bool) where
 -- all members pass where there is no place of one that does not
 pub all-places : {X : Type 0} (passes : X → Bool) (xs : List X) → nat_eq (last_place (λ x. not (passes x)) xs) 0 ≡ list_all passes xs
 all-places passes [] = refl
-all-places passes (x ∷ xs) = go (passes x) (all-places passes xs)
-  where
-    go : (v : Bool) → nat_eq (last_place (λ y. not (passes y)) xs) 0 ≡ list_all passes xs → nat_eq (cond (not v) (suc (length xs)) (last_place (λ y. not (passes y)) xs)) 0 ≡ (v && list_all passes xs)
-    go true i = i
-    go false i = eqb-suc-zero (length xs)
+all-places passes (x ∷ xs) = grind (arith, all-places passes xs, eqb-suc-zero)

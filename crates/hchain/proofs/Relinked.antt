@@ -1,5 +1,6 @@
 -- A list of numbers that keeps where its groups are, where one number changes.
-use Rattle.hchain.proofs.Names.{◌≡◌, ◌≢◌, ℕ, zero, suc, ◌+◌, ◌-◌, ◌<◌, ◌≤◌, ◌%◌, eqb, Bool, true, false, cond, not, ◌&&◌, List, length, get_or, set, ◌⊎◌, inl, inr, refl, sym, ◌∙◌, ap, subst, add-one, arith, cases_Bool, cases_lt, false≢true, eqb-true, eqb-false, eq-eqb, false_from_ne_true, get_or-set_same, get_or-set_other, length-map, length-set, map-set, none, last_up, number_of, before_of, numbers_of, befores_of, is_in, Keep, Says, IsChained, IsNext, Link}
+use Rattle.hchain.proofs.Groups.{in-group, group-of}
+use Rattle.hchain.proofs.Names.{ne_eqb, ◌≡◌, ◌≢◌, ℕ, zero, suc, ◌+◌, ◌-◌, ◌<◌, ◌≤◌, ◌%◌, eqb, Bool, true, false, cond, List, length, get_or, set, ◌⊎◌, inl, inr, refl, sym, ◌∙◌, ap, subst, add-one, arith, cases_Bool, cases_lt, eqb-true, eqb-false, eq-eqb, false_from_ne_true, get_or-set_same, get_or-set_other, length-map, length-set, map-set, none, last_up, number_of, before_of, numbers_of, befores_of, is_in, Keep, Says, IsChained, IsNext, Link}
 use Rattle.std.proofs.Math.ListN.{get_or-map}
 use Rattle.hchain.proofs.LastUp.{up-within, up-found, up-least, up-past, up-alike, up-alike-from}
 
@@ -13,39 +14,19 @@ until len zero = len
 until len (suc n) = n
 
 until-some : (len next : ℕ) → 0 < next → until len next ≡ next - 1
-until-some len zero h = absurd (omega arith)
-until-some len (suc n) h = omega arith
+until-some len next h = grind arith
 
 until-ne : (len next j : ℕ) → j < len → suc j ≢ next → j ≢ until len next
-until-ne len zero j h ne e = omega arith
-until-ne len (suc n) j h ne e = ne (omega arith)
+until-ne len next j h ne e = grind arith
 
 until-other : (len next j : ℕ) → next ≤ j → 0 < next → j ≢ until len next
-until-other len zero j h some e = omega arith
-until-other len (suc n) j h some e = omega arith
+until-other len next j h some e = grind arith
 
 module _ (w g : ℕ) where
-  -- what is in a group
-  pub in-group : (n : ℕ) → is_in w g n ≡ true → (n ≢ none) × (n % w ≡ g)
-  in-group n e = go (eqb n 1) (eqb (n % w) g) refl refl e
-    where
-      go : (a b : Bool) → eqb n 1 ≡ a → eqb (n % w) g ≡ b → not a && b ≡ true → (n ≢ none) × (n % w ≡ g)
-      go true b p q r = absurd (false≢true r)
-      go false true p q r = (eqb-false n 1 p, eqb-true (n % w) g q)
-      go false false p q r = absurd (false≢true r)
-
-  pub group-in : (n : ℕ) → n ≢ none → n % w ≡ g → is_in w g n ≡ true
-  group-in n a b = go (eqb n 1) (eqb (n % w) g) refl refl
-    where
-      go : (p q : Bool) → eqb n 1 ≡ p → eqb (n % w) g ≡ q → not p && q ≡ true
-      go true q e f = absurd (a (eqb-true n 1 e))
-      go false true e f = refl
-      go false false e f = absurd (eqb-false (n % w) g f b)
-
   -- what a number of a group keeps
   pub keep-at : (xs bs : List ℕ) → Keep w xs bs → (i : ℕ) → i < length xs → is_in w g (get_or xs i 0) ≡ true → get_or bs i 0 ≡ last_up (is_in w g) xs i
   keep-at xs bs k i h e =
-      let n = in-group (get_or xs i 0) e in
+      let n = group-of w g (get_or xs i 0) e in
       k i h n.0 ∙ ap (λ m. last_up (is_in w m) xs i) n.1
 
 -- a walk down a group: the place that it is at, and the one that it passed last
@@ -56,11 +37,7 @@ pub record Walk (s : ℕ → Bool) (xs : List ℕ) (i at next : ℕ) : Type 0 wh
 
 module _ (s : ℕ → Bool) (xs : List ℕ) (i at next : ℕ) (k : Walk s xs i at next) where
   until-past : (i < until (length xs) next) × (until (length xs) next ≤ length xs)
-  until-past = go next k.found
-    where
-      go : (n : ℕ) → (0 < n → (suc i < n) × (n ≤ length xs) × (s (get_or xs (n - 1) 0) ≡ true)) → (i < until (length xs) n) × (until (length xs) n ≤ length xs)
-      go zero f = (k.within, omega arith)
-      go (suc n) f = let a = f (omega arith) in (omega (arith, a.0), omega (arith, a.1))
+  until-past = grind (arith, k.within, k.found)
 
   pub walk-within : at ≤ length xs
   walk-within = omega (arith, k.is, up-within s xs (until (length xs) next), until-past.1)
@@ -135,11 +112,10 @@ module _ (w g i next : ℕ) (xs ys : List ℕ) where
 
     alike : (h j : ℕ) → (h ≢ g) ⊎ (j ≢ i) → is_in w h (get_or ys j 0) ≡ is_in w h (get_or xs j 0)
     alike h j (inr e) = ap (λ n. is_in w h n) (d.same j e)
-    alike h j (inl e) = go (cases_Bool (eqb j i))
-      where
-        go : (eqb j i ≡ true) ⊎ (eqb j i ≡ false) → is_in w h (get_or ys j 0) ≡ is_in w h (get_or xs j 0)
-        go (inl f) = let f2 : j ≡ i = eqb-true j i f in subst (λ (m : ℕ). is_in w h (get_or ys m 0) ≡ is_in w h (get_or xs m 0)) (sym f2) (d.others h e)
-        go (inr f) = ap (λ n. is_in w h n) (d.same j (eqb-false j i f))
+    alike h j (inl e) = elim (cases_Bool (eqb j i)) [
+      | inl f ↦ (let f2 : j ≡ i = eqb-true j i f in subst (λ (m : ℕ). is_in w h (get_or ys m 0) ≡ is_in w h (get_or xs m 0)) (sym f2) (d.others h e))
+      | inr f ↦ ap (λ n. is_in w h n) (d.same j (eqb-false j i f))
+    ]
 
     -- what keeps a place of the group before the index, or past the next place
     up-group : (k : ℕ) → (k ≤ i) ⊎ ((0 < next) × (next ≤ k)) → last_up (is_in w g) ys k ≡ last_up (is_in w g) xs k
@@ -159,19 +135,15 @@ module _ (w g i next : ℕ) (xs ys : List ℕ) where
         past (suc b) n m (inl f) a = (omega arith, omega (arith, (m.found (omega arith)).1))
         past (suc b) n m (inr f) a = (omega arith, omega (arith, (m.least k a f.0 f.1).1))
 
-        place : (k ≡ length xs) ⊎ ((k < length xs) × (is_in w g (get_or xs k 0) ≡ true)) → (k ≤ i) ⊎ (i < k) → last_up (is_in w g) ys k ≡ last_up (is_in w g) xs k
-        place f (inl a) = up-group k (inl a)
-        place f (inr a) = up-group k (inr (past next e d.next_is f a))
+        place : (k ≡ length xs) ⊎ ((k < length xs) × (is_in w g (get_or xs k 0) ≡ true)) → (i < k) ⊎ (k ≤ i) → last_up (is_in w g) ys k ≡ last_up (is_in w g) xs k
+        place f (inl a) = up-group k (inr (past next e d.next_is f a))
+        place f (inr a) = up-group k (inl a)
 
         group : (eqb h g ≡ true) ⊎ (eqb h g ≡ false) → last_up (is_in w h) ys k ≡ last_up (is_in w h) xs k
         group (inl f) =
             let f2 : h ≡ g = eqb-true h g f in
             let at2 : (k ≡ length xs) ⊎ ((k < length xs) × (is_in w g (get_or xs k 0) ≡ true)) = subst (λ (m : ℕ). (k ≡ length xs) ⊎ ((k < length xs) × (is_in w m (get_or xs k 0) ≡ true))) f2 at in
-            subst (λ (m : ℕ). last_up (is_in w m) ys k ≡ last_up (is_in w m) xs k) (sym f2) (place at2 (order (cases_lt i k)))
-          where
-            order : (i < k) ⊎ (k ≤ i) → (k ≤ i) ⊎ (i < k)
-            order (inl a) = inr a
-            order (inr a) = inl a
+            subst (λ (m : ℕ). last_up (is_in w m) ys k ≡ last_up (is_in w m) xs k) (sym f2) (place at2 (cases_lt i k))
         group (inr f) = up-alike (is_in w h) xs ys k (λ j a. alike h j (inl (eqb-false h g f)))
 
     -- what the next place keeps
@@ -237,13 +209,13 @@ module _ (last new xs ys bs ds : List ℕ) (g i next v : ℕ) where
             let positive : 0 < next = omega arith in
             let place : next - 1 ≡ j = omega arith in
             let in_it : is_in (length last) g (get_or xs j 0) ≡ true = subst (λ (k : ℕ). is_in (length last) g (get_or xs k 0) ≡ true) place (m.differ.next_is.found positive).2 in
-            let group : get_or xs j 0 % length last ≡ g = (in-group (length last) g (get_or xs j 0) in_it).1 in
+            let group : get_or xs j 0 % length last ≡ g = (group-of (length last) g (get_or xs j 0) in_it).1 in
             let at : until (length xs) next ≡ j = sym (ap (λ n. until (length xs) n) same) in
             subst (λ (k : ℕ). get_or ds k 0 ≡ v) place (m.before-next positive) ∙ up-next ∙ (λ t. last_up (is_in (length last) (sym group t)) ys (at t))
         go (inr e) =
             let ne : suc j ≢ next = eqb-false (suc j) next e in
             let at : j ≢ until (length xs) next = until-ne (length xs) next j h ne in
-            m.before-other j other ne ∙ keep j h some ∙ sym (slot (length last) g i next xs ys m.differ (get_or xs j 0 % length last) j (inr (h, group-in (length last) (get_or xs j 0 % length last) (get_or xs j 0) some refl)) (inr at))
+            m.before-other j other ne ∙ keep j h some ∙ sym (slot (length last) g i next xs ys m.differ (get_or xs j 0 % length last) j (inr (h, in-group (length last) (get_or xs j 0 % length last) (get_or xs j 0) some refl)) (inr at))
 
     pub mended-keep : Keep (length last) xs bs → Keep (length new) ys ds
     mended-keep keep j h some = go (cases_Bool (eqb j i)) ∙ ap (λ n. last_up (is_in n (get_or ys j 0 % n)) ys j) (sym m.len)
@@ -278,7 +250,7 @@ module _ (last : List ℕ) (links : List Link) (chained : IsChained last links) 
       let h : ℕ = get_or (numbers_of links) (n - 1) 0 % length last in
       let found : is_in (length last) h (get_or (numbers_of links) (last_up (is_in (length last) h) (numbers_of links) (n - 1) - 1) 0) ≡ true = up-found (is_in (length last) h) (numbers_of links) (n - 1) (omega (arith, hint-up)) in
       let place : last_up (is_in (length last) h) (numbers_of links) (n - 1) - 1 ≡ i = omega (arith, hint-up) in
-      (in-group (length last) h (get_or (numbers_of links) i 0) (subst (λ (m : ℕ). is_in (length last) h (get_or (numbers_of links) m 0) ≡ true) place found)).1
+      (group-of (length last) h (get_or (numbers_of links) i 0) (subst (λ (m : ℕ). is_in (length last) h (get_or (numbers_of links) m 0) ≡ true) place found)).1
 
   hint-least : (j : ℕ) → i < j → is_in (length last) (get_or (numbers_of links) (n - 1) 0 % length last) (get_or (numbers_of links) j 0) ≡ true → n ≤ suc j
   hint-least j a t = elim (cases_lt j (n - 1)) as (λ _. n ≤ suc j) [ inl less ↦ absurd (omega (arith, hint-up, up-least (is_in (length last) (get_or (numbers_of links) (n - 1) 0 % length last)) (numbers_of links) (n - 1) j less t)) | inr more ↦ omega arith ]
@@ -287,14 +259,14 @@ module _ (last : List ℕ) (links : List Link) (chained : IsChained last links) 
   hint-next =
       let h : ℕ = get_or (numbers_of links) (n - 1) 0 % length last in
       let it : IsNext (is_in (length last) h) (numbers_of links) i n = record {
-        found = λ _. (omega (arith, hint-up, up-within (is_in (length last) h) (numbers_of links) (n - 1)), omega (arith, length-numbers links), group-in (length last) h (get_or (numbers_of links) (n - 1) 0) hint-number refl);
+        found = λ _. (omega (arith, hint-up, up-within (is_in (length last) h) (numbers_of links) (n - 1)), omega (arith, length-numbers links), in-group (length last) h (get_or (numbers_of links) (n - 1) 0) hint-number refl);
         least = λ j a b t. (some, hint-least j a t);
       } in
       subst (λ (g : ℕ). IsNext (is_in (length last) g) (numbers_of links) i n) (sym hint-group) it
 
 -- a list where one number is another one
 pub not-in : (w g h n : ℕ) → h ≢ g → n % w ≡ g → is_in w h n ≡ false
-not-in w g h n ne is = false_from_ne_true (is_in w h n) (λ e. ne (sym (in-group w h n e).1 ∙ is))
+not-in w g h n ne is = false_from_ne_true (is_in w h n) (λ e. ne (sym (group-of w h n e).1 ∙ is))
 
 pub differ-set : (w g i next : ℕ) (xs : List ℕ) (n : ℕ) → i < length xs → ((h : ℕ) → h ≢ g → is_in w h n ≡ is_in w h (get_or xs i 0)) → IsNext (is_in w g) xs i next → Differ w g i next xs (set xs i n)
 differ-set w g i next xs n within others next_is = record {
@@ -326,16 +298,6 @@ module _ (last : List ℕ) (links : List Link) (x : Link) (g i next v : ℕ) (la
     befores-at j =
         ap (λ ds. get_or ds j 0) r.befores3 ∙ r.befores2 j ∙ (λ t. cond (eqb (add-one j t) next) v (get_or (map-set before_of links i x t) j 0))
 
-    no-next : 0 < next → eqb next 0 ≡ false
-    no-next h = go (eqb next 0) refl
-      where
-        go : (b : Bool) → eqb next 0 ≡ b → b ≡ false
-        go true e = absurd (omega (arith, eqb-true next 0 e))
-        go false e = refl
-
-    eqb-no : (a b : ℕ) → a ≢ b → eqb a b ≡ false
-    eqb-no a b ne = false_from_ne_true (eqb a b) (λ e. ne (eqb-true a b e))
-
     table-at : (h : ℕ) → h ≢ g → get_or last2 h 0 ≡ get_or last h 0
     table-at h ne = ap (λ t. get_or t h 0) r.table2 ∙ go (eqb next 0)
       where
@@ -349,7 +311,7 @@ module _ (last : List ℕ) (links : List Link) (x : Link) (g i next v : ℕ) (la
       len = ap length r.table2 ∙ same_len (eqb next 0);
       table-other = other;
       table-next = λ e. ap (λ t. get_or t g 0) (r.table2 ∙ ap (λ b. cond b (set last g v) last) (eq-eqb next 0 e)) ∙ get_or-set_same last g v 0 r.group;
-      before-other = λ j ne nn. befores-at j ∙ ap (λ b. cond b v (get_or (set (befores_of links) i x.before) j 0)) (eqb-no (suc j) next nn) ∙ get_or-set_other (befores_of links) i j x.before 0 ne;
+      before-other = λ j ne nn. befores-at j ∙ ap (λ b. cond b v (get_or (set (befores_of links) i x.before) j 0)) (ne_eqb (suc j) next nn) ∙ get_or-set_other (befores_of links) i j x.before 0 ne;
       before-next = λ h. let e : suc (next - 1) ≡ next = omega arith in befores-at (next - 1) ∙ ap (λ b. cond b v (get_or (set (befores_of links) i x.before) (next - 1) 0)) (eq-eqb (suc (next - 1)) next e);
       before-here = λ some. here-at some;
       keeps = r.keeps;
@@ -361,7 +323,7 @@ module _ (last : List ℕ) (links : List Link) (x : Link) (g i next v : ℕ) (la
 
         other : (h : ℕ) → (h ≢ g) ⊎ (0 < next) → get_or last2 h 0 ≡ get_or last h 0
         other h (inl ne) = table-at h ne
-        other h (inr some) = ap (λ t. get_or t h 0) (r.table2 ∙ ap (λ b. cond b (set last g v) last) (no-next some))
+        other h (inr some) = ap (λ t. get_or t h 0) (r.table2 ∙ ap (λ b. cond b (set last g v) last) (ne_eqb next 0 (λ e. omega arith)))
 
         not-next : suc i ≢ next
         not-next e = let some : 0 < next = omega arith in omega (arith, (r.differ.next_is.found some).0)
@@ -371,7 +333,7 @@ module _ (last : List ℕ) (links : List Link) (x : Link) (g i next v : ℕ) (la
 
         here-at : get_or (set (numbers_of links) i x.number) i 0 ≢ none → get_or (befores_of links3) i 0 ≡ last_up (is_in (length last) (get_or (set (numbers_of links) i x.number) i 0 % length last)) (set (numbers_of links) i x.number) i
         here-at some =
-            befores-at i ∙ ap (λ b. cond b v (get_or (set (befores_of links) i x.before) i 0)) (eqb-no (suc i) next not-next)
+            befores-at i ∙ ap (λ b. cond b v (get_or (set (befores_of links) i x.before) i 0)) (ne_eqb (suc i) next not-next)
             ∙ get_or-set_same (befores_of links) i x.before 0 (omega (arith, r.differ.within, length-map links number_of, length-map links before_of))
             ∙ r.here (λ e. some (number_is ∙ e))
             ∙ ap (λ n. last_up (is_in (length last) (n % length last)) (set (numbers_of links) i x.number) i) (sym number_is)

@@ -1,8 +1,9 @@
 -- What numbers keep where they move to a neighbouring place.
-use Rattle.hchain.proofs.Names.{◌≡◌, ◌≢◌, ℕ, suc, ◌+◌, ◌-◌, ◌<◌, ◌≤◌, ◌%◌, Bool, true, false, List, length, get_or, set, ◌⊎◌, inl, inr, refl, sym, ◌∙◌, ap, subst, add-one, arith, cases_lt, false≢true, get_or-set_same, get_or-set_other, length-set, set_comm, none, last_up, is_in, IsNext, Fit, Link}
+use Rattle.hchain.proofs.Groups.{in-group}
+use Rattle.hchain.proofs.Names.{◌≡◌, ◌≢◌, ℕ, suc, ◌+◌, ◌-◌, ◌<◌, ◌≤◌, ◌%◌, Bool, true, false, List, length, get_or, set, ◌⊎◌, inl, inr, refl, sym, ◌∙◌, ap, subst, add-one, arith, cases_lt, false≢true, get_or-set_same, get_or-set_other, length-set, set_comm, none, last_up, is_in, IsNext, FitsAt, Link}
 use Rattle.std.proofs.lemmas.List.{set-set}
 use Rattle.hchain.proofs.LastUp.{up-sought, up-other, up-alike}
-use Rattle.hchain.proofs.Relinked.{next-same, group-in, not-in}
+use Rattle.hchain.proofs.Relinked.{next-same, not-in}
 
 -- for the index before, or for the next one, where nothing of its group is between
 module _ (s : ℕ → Bool) (ys : List ℕ) (i n : ℕ) (other : s (get_or ys (i + 1) 0) ≡ false) where
@@ -31,13 +32,13 @@ module _ (w : ℕ) (ys : List ℕ) (i : ℕ) (x : Link) (free : get_or ys (i + 1
   other-here : is_in w (x.number % w) (get_or ys (i + 1) 0) ≡ false
   other-here = ap (λ n. is_in w (x.number % w) n) free
 
-  pub fit-down : Fit w ys (i + 1) x → Fit w ys i x
+  pub fit-down : FitsAt w ys (i + 1) x → FitsAt w ys i x
   fit-down f = record {
     before = f.before ∙ up-down (is_in w (x.number % w)) ys i x.hint other-here;
     next = next-down (is_in w (x.number % w)) ys i x.hint other-here f.next;
   }
 
-  pub fit-up : Fit w ys i x → Fit w ys (i + 1) x
+  pub fit-up : FitsAt w ys i x → FitsAt w ys (i + 1) x
   fit-up f = record {
     before = f.before ∙ sym (up-down (is_in w (x.number % w)) ys i x.hint other-here);
     next = next-up (is_in w (x.number % w)) ys i x.hint other-here f.next;
@@ -76,10 +77,10 @@ module _ (w i : ℕ) (xs ys1 ys2 ys3 : List ℕ) (first second : Link) (e1 : ys1
   same-past1 j ne nf = same-past2 j ne ∙ ap (λ ys. get_or ys j 0) e2 ∙ get_or-set_other ys1 (i + 1) j none 0 nf
 
   -- both are of one group
-  pub fit-same : second.number ≢ none → Fit w ys2 (i + 1) second → first.number % w ≡ second.number % w → Fit w ys3 (i + 1) (record { number = first.number; before = i + 1; hint = second.hint })
+  pub fit-same : second.number ≢ none → FitsAt w ys2 (i + 1) second → first.number % w ≡ second.number % w → FitsAt w ys3 (i + 1) (record { number = first.number; before = i + 1; hint = second.hint })
   fit-same some f group =
       let s : ℕ → Bool = is_in w (second.number % w) in
-      let sought : s (get_or ys3 i 0) ≡ true = ap s at3 ∙ group-in w (second.number % w) second.number some refl in
+      let sought : s (get_or ys3 i 0) ≡ true = ap s at3 ∙ in-group w (second.number % w) second.number some refl in
       let up : last_up s ys3 (i + 1 + 1) ≡ i + 1 = up-down s ys3 i second.hint (ap s free-upper) ∙ ap (λ k. last_up s ys3 k) (add-one i) ∙ up-sought s ys3 i sought ∙ sym (add-one i) in
       record {
         before = sym up ∙ ap (λ k. last_up (is_in w k) ys3 (i + 1 + 1)) (sym group);
@@ -89,7 +90,7 @@ module _ (w i : ℕ) (xs ys1 ys2 ys3 : List ℕ) (first second : Link) (e1 : ys1
       }
 
   -- they are of two groups
-  pub fit-other : Fit w ys1 i first → first.number % w ≢ second.number % w → Fit w ys3 (i + 1) first
+  pub fit-other : FitsAt w ys1 i first → first.number % w ≢ second.number % w → FitsAt w ys3 (i + 1) first
   fit-other f group = record {
     before = f.before ∙ sym (up-down s ys3 i first.hint (ap s free-upper) ∙ up-alike s ys1 ys3 (i + 1) (λ j a. alike j a (cases_lt j i)));
     next = next-same s ys1 ys3 (i + 1) first.hint (len3 ∙ sym len1) (λ j a. same-past1 j (λ e. omega arith) (λ e. omega arith)) (next-up s ys1 i first.hint (sym (ap s n2) ∙ not-second) f.next);

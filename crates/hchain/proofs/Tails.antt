@@ -1,5 +1,5 @@
 -- Lists whose tail is written anew.
-use Rattle.hchain.proofs.Names.{◌≡◌, ℕ, ◌+◌, ◌≤◌, Bool, true, false, cond, List, [], ◌∷◌, ◌++◌, length, map, take, refl, sym, ◌∙◌, ap, take-append-le, length-take-le, filter}
+use Rattle.hchain.proofs.Names.{arith, ◌≡◌, ℕ, ◌+◌, ◌≤◌, Bool, List, [], ◌∷◌, ◌++◌, length, map, take, refl, sym, ◌∙◌, ap, take-append-le, length-take-le, filter}
 use Rattle.std.proofs.Math.Seq.{take-append-add}
 
 -- what is left of a list whose tail begins anew
@@ -11,8 +11,4 @@ take-anew a k xs ys zs in_xs in_ys =
 module _ {X Y : Type 0} (f : X → Y) (p : Y → Bool) where
   pub map-filter : (xs : List X) → map f (filter (λ x. p (f x)) xs) ≡ filter p (map f xs)
   map-filter [] = refl
-  map-filter (x ∷ xs) = go (p (f x)) (map-filter xs)
-    where
-      go : (b : Bool) → map f (filter (λ y. p (f y)) xs) ≡ filter p (map f xs) → map f (cond b (x ∷ filter (λ y. p (f y)) xs) (filter (λ y. p (f y)) xs)) ≡ cond b (f x ∷ filter p (map f xs)) (filter p (map f xs))
-      go true rest = ap (λ ys. f x ∷ ys) rest
-      go false rest = rest
+  map-filter (x ∷ xs) = grind (arith, map-filter xs)

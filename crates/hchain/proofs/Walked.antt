@@ -1,6 +1,5 @@
 -- The walk down a group to where a number is.
-use Rattle.hchain.proofs.Names.{◌≡◌, ◌≢◌, ℕ, zero, suc, ◌<◌, ◌≤◌, ◌-◌, ◌%◌, Bool, true, false, eqb, List, length, get_or, refl, sym, ◌∙◌, ap, subst, arith, eqb-true, eq-eqb, ne_eqb, false_from_ne_true, get_or-map, get_or_default, length-map, none, last_up, number_of, before_of, numbers_of, befores_of, is_in, Keep, IsChained, Link}
-use Rattle.std.proofs.lemmas.Bool.{cond_both, both_ways}
+use Rattle.hchain.proofs.Names.{◌≡◌, ◌≢◌, ℕ, zero, suc, ◌<◌, ◌≤◌, ◌-◌, ◌%◌, Bool, true, eqb, List, length, get_or, refl, sym, ◌∙◌, ap, subst, arith, eqb-true, eq-eqb, ne_eqb, get_or-map, get_or_default, length-map, none, last_up, number_of, before_of, numbers_of, befores_of, is_in, Keep, IsChained, Link}
 use Rattle.hchain.proofs.Groups.{nearest, in-group, group-of}
 use Rattle.hchain.proofs.LastUp.{up-sought, up-other, up-within, up-found}
 
@@ -11,11 +10,7 @@ sought_up links number k = last_up (λ n. eqb n number) (numbers_of links) k
 -- who seeks fewer numbers may go on from where more are sought
 up-down : (p q : ℕ → Bool) (ns : List ℕ) → ((n : ℕ) → q n ≡ true → p n ≡ true) → (k : ℕ) → last_up q ns k ≡ last_up q ns (last_up p ns k)
 up-down p q ns fewer zero = refl
-up-down p q ns fewer (suc i) =
-    let not_sought : p (get_or ns i 0) ≡ false → q (get_or ns i 0) ≡ false =
-    λ e. false_from_ne_true (q (get_or ns i 0)) (λ t. both_ways (p (get_or ns i 0)) e (fewer (get_or ns i 0) t)) in
-    cond_both (p (get_or ns i 0)) (suc i) (last_up p ns i) (λ m. last_up q ns (suc i) ≡ last_up q ns m)
-    (λ _. refl) (λ e. up-other q ns i (not_sought e) ∙ up-down p q ns fewer i)
+up-down p q ns fewer (suc i) = grind (arith, up-down p q ns fewer i, fewer (get_or ns i 0))
 
 -- the sought number is of its own group
 own-group : (width number : ℕ) → number ≢ none → (n : ℕ) → eqb n number ≡ true → is_in width (number % width) n ≡ true

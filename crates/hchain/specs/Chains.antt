@@ -1,7 +1,7 @@
 -- Lists of numbers, and where a number is last in them.
 use Rattle.std.specs.Prelude.{ℕ, zero, suc, Bool, List, slice_index, if◌then◌else◌}
 
--- the number that is where nothing is
+-- the number that stands where nothing is
 abbrev pub none : ℕ
 none = 1
 

@@ -29,8 +29,8 @@ pub record IsNext (sought : ℕ → Bool) (numbers : List ℕ) (index place : �
   pub found : 0 < place → (suc index < place) × (place ≤ length numbers) × (sought (slice_index numbers (place - 1)) ≡ true)
   pub least : (j : ℕ) → index < j → j < length numbers → sought (slice_index numbers j) ≡ true → (0 < place) × (place ≤ suc j)
 
--- what a link keeps is right for an index of the numbers: the nearest place of its group up to there, and the next one
-pub record Fit (width : ℕ) (numbers : List ℕ) (index : ℕ) (x : Link) : Type 0 where
+-- a link can be put at an index of the numbers: it keeps the nearest place of its group up to there, and the next one
+pub record FitsAt (width : ℕ) (numbers : List ℕ) (index : ℕ) (x : Link) : Type 0 where
   pub before : x.before ≡ last_up (group_of width x.number) numbers (index + 1)
   pub next : IsNext (group_of width x.number) numbers index x.hint
 

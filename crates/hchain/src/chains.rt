@@ -8,7 +8,7 @@ ghost use Rattle.hchain.specs.Linked.{IsChained, Keep, befores_of, is_in, number
 use std::alloc::{AllocError, Global};
 use std::marker::Model;
 
-/// The number that is where nothing is: no question finds it.
+/// The number that stands where nothing is: no question finds it.
 pub const NONE: usize = 1;
 
 /// A number, and the nearest place before it where a number of its group is. Places count from 1; 0 is none.
@@ -81,7 +81,7 @@ fn unwind(last: &mut [u32], links: &[Link], from: usize)
     }
 }
 
-/// Says at a place, if it is one, where the next number of its group is.
+/// Notes where the next number of a group is, in the link at a place, if there is one.
 pub(crate) fn hint_at(links: &mut [Link], place: u32, next: u32)
     requires { place ≤ length links.old }
     ensures numbers { numbers_of links.new ≡ numbers_of links.old }

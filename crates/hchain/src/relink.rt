@@ -2,7 +2,7 @@
 
 ghost use Rattle.std.specs.Prelude.{◌≡◌, ◌≢◌, ℕ, ◌<◌, ◌≤◌, ◌+◌, ◌==◌, if◌then◌else◌, length, slice_index, slice_set};
 ghost use Rattle.hchain.specs.Chains.{none};
-ghost use Rattle.hchain.specs.Linked.{AreChains, Fit, IsNext, befores_of, group_of, numbers_of};
+ghost use Rattle.hchain.specs.Linked.{AreChains, FitsAt, IsNext, befores_of, group_of, numbers_of};
 
 use crate::chains::{Chains, Link, NONE, hint_at};
 
@@ -13,7 +13,7 @@ fn link_at(last: &[u32], links: &[Link], index: usize, number: u64) -> Link
     requires chains { AreChains last.now links.now }
     requires within { index < length links.now }
     ensures number { result.number ≡ number }
-    ensures fit { Fit (length last.now) (numbers_of links.now) index result }
+    ensures fit { FitsAt (length last.now) (numbers_of links.now) index result }
 {
     let mut before = last[number as usize % last.len()];
     let mut hint = 0;
@@ -45,7 +45,7 @@ fn above(last: &[u32], links: &[Link], index: usize) -> u32
     link_at(last, links, index, number).hint
 }
 
-/// Changes the place that the next place of a group keeps, or the table where there is no next place.
+/// Changes the place that the next number of a group keeps, or that the table says, where there is no next one.
 fn keep(last: &mut [u32], links: &mut [Link], group: usize, next: u32, place: u32)
     requires group { group < length last.old }
     requires next { next ≤ length links.old }
@@ -68,7 +68,7 @@ fn take_out(last: &mut [u32], links: &mut [Link], index: usize) -> Link
     ensures chains { AreChains last.new links.new }
     ensures numbers { numbers_of links.new ≡ slice_set (numbers_of links.old) index none }
     ensures number { result.number ≡ slice_index (numbers_of links.old) index }
-    ensures fit { Fit (length last.new) (numbers_of links.new) index result }
+    ensures fit { FitsAt (length last.new) (numbers_of links.new) index result }
 {
     let hint = above(last, links, index);
     let Link { number, before, .. } = links[index];
@@ -92,7 +92,7 @@ fn put_in(last: &mut [u32], links: &mut [Link], index: usize, link: Link)
     requires within { index < length links.old }
     requires free { slice_index (numbers_of links.old) index ≡ none }
     requires number { link.number ≢ none }
-    requires fit { Fit (length last.old) (numbers_of links.old) index link }
+    requires fit { FitsAt (length last.old) (numbers_of links.old) index link }
     ensures chains { AreChains last.new links.new }
     ensures numbers { numbers_of links.new ≡ slice_set (numbers_of links.old) index link.number }
 {

@@ -1,4 +1,5 @@
-use Rattle.hchain.proofs.Names.{◌≡◌, ◌+◌, ◌-◌, ◌<◌, ℕ, List, Bool, true, false, eqb, cond, length, get_or, set, refl, ◌∙◌, ap, arith, map-set_same, eqb-true, eqb-false, get_or-set_same, get_or-set_other, map-set, length-map, number_of, before_of, befores_of}
+use Rattle.hchain.proofs.Names.{cases_Bool, ◌≡◌, ◌+◌, ◌-◌, ◌<◌, ℕ, List, eqb, cond, length, get_or, set, refl, ◌∙◌, ap, arith, map-set_same, get_or-set_same, get_or-set_other, map-set, length-map, number_of, before_of, befores_of}
+use Rattle.std.proofs.lemmas.Bool.Decides.{nat_tests}
 use Rattle.hchain.proofs.relink.keep.Goals as goal
 
 pub returns-then-next-gt0-clause-numbers : goal.returns-then-next-gt0-clause-numbers
@@ -6,13 +7,7 @@ returns-then-next-gt0-clause-numbers c = map-set_same number_of c.args.links.now
 
 -- a list with another number before a place
 set_at : (bs : List ℕ) (next v j : ℕ) → 0 < next → next - 1 < length bs → get_or (set bs (next - 1) v) j 0 ≡ cond (eqb (j + 1) next) v (get_or bs j 0)
-set_at bs next v j some within = go (eqb (j + 1) next) refl
-  where
-    go : (b : Bool) → eqb (j + 1) next ≡ b → get_or (set bs (next - 1) v) j 0 ≡ cond b v (get_or bs j 0)
-    go true e =
-        let same : j ≡ next - 1 = omega (arith, eqb-true (j + 1) next e) in
-        ap (λ m. get_or (set bs (next - 1) v) m 0) same ∙ get_or-set_same bs (next - 1) v 0 within
-    go false e = get_or-set_other bs (next - 1) j v 0 (λ same. eqb-false (j + 1) next e (omega arith))
+set_at bs next v j some within = grind (arith, cases_Bool (eqb (j + 1) next), get_or-set_same, get_or-set_other, nat_tests)
 
 pub returns-then-next-gt0-clause-befores : goal.returns-then-next-gt0-clause-befores
 returns-then-next-gt0-clause-befores c j =

@@ -1,4 +1,4 @@
-use Rattle.hchain.proofs.Names.{◌≡◌, ℕ, ◌%◌, List, length, set, refl, sym, ◌∙◌, subst, arith, length-set, map-set, none, number_of, numbers_of, Fit, Link}
+use Rattle.hchain.proofs.Names.{◌≡◌, ℕ, ◌%◌, List, length, set, refl, sym, ◌∙◌, subst, arith, length-set, map-set, none, number_of, numbers_of, FitsAt, Link}
 use Rattle.hchain.proofs.Relinked.{nth, rewritten, number-at}
 use Rattle.hchain.proofs.Edited.{Out, out-differ, out-group, out-before, out-within, out-fit}
 use Rattle.hchain.proofs.relink.take_out.Goals as goal
@@ -37,8 +37,8 @@ returns-clause-fit c =
     let x : Link = record { number = (nth c.args.links.now c.args.index).number; before = (nth c.args.links.now c.args.index).before; hint = c.above-hint.result } in
     let ys : numbers_of c.hint_at.new.links ≡ set (numbers_of c.args.links.now) c.args.index none =
     c.hint_at.ensures.numbers ∙ c.keep.ensures.numbers ∙ map-set number_of c.args.links.now c.args.index (record { number = 1; before = 0; hint = 0 }) in
-    subst (λ (w : ℕ). Fit w (numbers_of c.hint_at.new.links) c.args.index x) (sym c.keep.auto.last)
-    (subst (λ (ns : List ℕ). Fit (length c.args.last.now) ns c.args.index x) (sym ys)
+    subst (λ (w : ℕ). FitsAt w (numbers_of c.hint_at.new.links) c.args.index x) (sym c.keep.auto.last)
+    (subst (λ (ns : List ℕ). FitsAt (length c.args.last.now) ns c.args.index x) (sym ys)
     (out-fit c.args.last.now c.args.links.now c.args.index c.above-hint.result
     (record { chained = c.requires.chains.chained; within = c.requires.within; some = c.requires.number; next_is = c.above-hint.ensures })))
 
