@@ -1,8 +1,9 @@
 -- To move the first child of a node until none is left is to move them all.
-use Rattle.hnodes.proofs.Names.{◌≡◌, ◌≢◌, ℕ, zero, suc, ◌+◌, ◌<◌, Bool, cond, Some, None, refl, sym, ◌∙◌, ap, subst, arith, eqb-true, eq-eqb, ne_eqb, What, Forest, none, tree, size, times, join, tree_at, cut, children_of, change_children, IsOutside, first_or, first_child_of, Nodes, AreNodes, graft_last, move_all}
-use Rattle.hnodes.proofs.Forests.{some_inj, join-none, join-assoc, times-join, tree_at-absent, children_of-absent, change_children-absent, times-changed, times-cut, children-apart, change-const}
+use Rattle.hnodes.proofs.Names.{inl, inr, ◌≡◌, ◌≢◌, ℕ, ◌+◌, ◌<◌, Bool, cond, Some, None, refl, sym, ◌∙◌, ap, subst, arith, eqb-true, eq-eqb, ne_eqb, What, Forest, none, tree, size, times, join, tree_at, cut, children_of, change_children, IsOutside, first_or, first_child_of, Nodes, AreNodes, graft_last, move_all}
+use Rattle.std.proofs.lemmas.Bool.{cases_lt}
+use Rattle.hnodes.proofs.Forests.{join-none, join-assoc, times-join, tree_at-absent, children_of-absent, change_children-absent, times-changed, times-cut, children-apart, change-const}
 use Rattle.hnodes.proofs.Counted.{at-most, is-there}
-use Rattle.hnodes.proofs.Families.{Sited, at_root, in_kids, in_rest, sited, family, first-cut, first_child-is, children-among}
+use Rattle.hnodes.proofs.Families.{at_root, in_kids, in_rest, sited, family, first-cut, first-is, first_child-is, children-among}
 
 module _ {N : Type 0} where
   tree_at-front : (n : ℕ) (f g : Forest N) → times n g ≡ 0 → tree_at n (join f g) ≡ tree_at n f
@@ -17,13 +18,11 @@ module _ {N : Type 0} where
   -- the tree of m has the new children of m
   tree_at-changed : (m : ℕ) (R f : Forest N) → times m f ≡ 1 → (w : What N) × (tree_at m (change_children m (λ _. R) f) ≡ tree m w R none)
   tree_at-changed m R none h = absurd (omega arith)
-  tree_at-changed m R (tree b w kids rest) h = go (tree_at-changed m R kids) (tree_at-changed m R rest) (sited m b kids rest h)
-    where
-      go : (times m kids ≡ 1 → (v : What N) × (tree_at m (change_children m (λ _. R) kids) ≡ tree m v R none)) → (times m rest ≡ 1 → (v : What N) × (tree_at m (change_children m (λ _. R) rest) ≡ tree m v R none))
-          → Sited m b kids rest → (v : What N) × (tree_at m (change_children m (λ _. R) (tree b w kids rest)) ≡ tree m v R none)
-      go l r (at_root e a z) = (w, rw (e, e, eqb-true b m e) refl)
-      go l r (in_kids e a z) = let i = l a in (i.0, rw (e, e, change_children-absent m (λ _. R) rest z, tree_at-absent m rest z, join-none (tree_at m (change_children m (λ _. R) kids))) i.1)
-      go l r (in_rest e a z) = let i = r z in (i.0, rw (e, e, change_children-absent m (λ _. R) kids a, tree_at-absent m kids a) i.1)
+  tree_at-changed m R (tree b w kids rest) h = elim (sited m b kids rest h) [
+    | at_root e a z ↦ (w, rw (e, e, eqb-true b m e) refl)
+    | in_kids e a z ↦ let i = tree_at-changed m R kids a in (i.0, rw (e, e, change_children-absent m (λ _. R) rest z, tree_at-absent m rest z, join-none (tree_at m (change_children m (λ _. R) kids))) i.1)
+    | in_rest e a z ↦ let i = tree_at-changed m R rest z in (i.0, rw (e, e, change_children-absent m (λ _. R) kids a, tree_at-absent m kids a) i.1)
+  ]
 
   change-change : (p : ℕ) (a b : Forest N → Forest N) (f : Forest N) → change_children p a (change_children p b f) ≡ change_children p (λ k. a (b k)) f
   change-change p a b none = refl
@@ -71,94 +70,34 @@ module _ {N : Type 0} where
     pub fewer : size (children_of m (graft_last c p v.trees)) < size (children_of m v.trees)
 
   pub moves : (v : Nodes N) (m p c : ℕ) → AreNodes v → m < v.made → p < v.made → IsOutside p m v.trees → first_child_of m v.trees ≡ Some c → Moves v m p c
-  moves v m p c a h hp out e = go (children_of m v.trees) refl (sym (first_child-is m v.trees (is-there v.made v.trees a.counted m h)) ∙ e)
+  moves v m p c a h hp out e =
+      let first = first-is (children_of m v.trees) c (sym (first_child-is m v.trees (is-there v.made v.trees a.counted m h)) ∙ e) in
+      step first.0 first.1 first.2 first.3
     where
-      f : Forest N
-      f = v.trees
-
-      step : (w : What N) (k R : Forest N) → children_of m f ≡ tree c w k R → Moves v m p c
-      step w k R is = record { not_document = positive; apart = p_T; outside = out'; same = moved; fewer = less }
-        where
-          T : Forest N
-          T = tree c w k none
-
-          one_m : times m f ≡ 1
-          one_m = is-there v.made v.trees a.counted m h
-
-          in_children : 0 < times c (children_of m f)
-          in_children = rw (is, eq-eqb c c refl) (omega arith)
-
-          one_c : times c f ≡ 1
-          one_c = let i = children-among c m f in let o = at-most v.made v.trees a.counted c in let j = in_children in omega arith
-
-          positive : 0 < c
-          positive = pos c refl
-            where
-              pos : (n : ℕ) → c ≡ n → 0 < n
-              pos zero j = let z : 0 < times 0 (children_of m f) = subst (λ (x : ℕ). 0 < times x (children_of m f)) j in_children in let y = not_zero v m a in absurd (omega arith)
-              pos (suc n) j = omega arith
-
-          cuts : (cut c f ≡ change_children m (λ _. R) f) × (tree_at c f ≡ T)
-          cuts = first-cut m c w k R f one_m one_c is
-
-          g_is : graft_last c p f ≡ change_children p (λ x. join x T) (change_children m (λ _. R) f)
-          g_is = λ i. change_children p (λ x. join x (cuts.1 i)) (cuts.0 i)
-
-          p_tree : times p (tree m (family m f one_m).0 (tree c w k R) none) ≡ 0
-          p_tree = ap (times p) (sym ((family m f one_m).1 ∙ ap (λ x. tree m (family m f one_m).0 x none) is)) ∙ out
-
-          m_p : m ≢ p
-          m_p j = let o : 1 + (times p (tree c w k R) + 0) ≡ 0 = subst (λ (u : Bool). cond u 1 0 + (times p (tree c w k R) + 0) ≡ 0) (eq-eqb m p j) p_tree in omega arith
-
-          p_T : times p (tree_at c f) ≡ 0
-          p_T = ap (times p) cuts.1 ∙ omega (arith, p_tree)
-
-          m_T : times m T ≡ 0
-          m_T = let o : times m (tree c w k R) ≡ 0 = ap (times m) (sym is) ∙ children-apart m f one_m in omega arith
-
+      step : (w : What N) (k R : Forest N) → children_of m v.trees ≡ tree c w k R → Moves v m p c
+      step w k R is =
+          let f : Forest N = v.trees in
+          let T : Forest N = tree c w k none in
+          let one_m : times m f ≡ 1 = is-there v.made v.trees a.counted m h in
+          let in_children : 0 < times c (children_of m f) = rw (is, eq-eqb c c refl) (omega arith) in
+          let one_c : times c f ≡ 1 = let i = children-among c m f in let o = at-most v.made v.trees a.counted c in let j = in_children in omega arith in
+          let positive : 0 < c = elim (cases_lt 0 c) [ inl some ↦ some | inr none_is ↦ absurd (let zero_is : c ≡ 0 = omega arith in let z : 0 < times 0 (children_of m f) = subst (λ (x : ℕ). 0 < times x (children_of m f)) zero_is in_children in let y = not_zero v m a in omega arith) ] in
+          let cuts : (cut c f ≡ change_children m (λ _. R) f) × (tree_at c f ≡ T) = first-cut m c w k R f one_m one_c is in
+          let g_is : graft_last c p f ≡ change_children p (λ x. join x T) (change_children m (λ _. R) f) = λ i. change_children p (λ x. join x (cuts.1 i)) (cuts.0 i) in
+          let p_tree : times p (tree m (family m f one_m).0 (tree c w k R) none) ≡ 0 = ap (times p) (sym ((family m f one_m).1 ∙ ap (λ x. tree m (family m f one_m).0 x none) is)) ∙ out in
+          let m_p : m ≢ p = λ j. let o : 1 + (times p (tree c w k R) + 0) ≡ 0 = subst (λ (u : Bool). cond u 1 0 + (times p (tree c w k R) + 0) ≡ 0) (eq-eqb m p j) p_tree in omega arith in
+          let p_T : times p (tree_at c f) ≡ 0 = ap (times p) cuts.1 ∙ omega (arith, p_tree) in
+          let m_T : times m T ≡ 0 = let o : times m (tree c w k R) ≡ 0 = ap (times m) (sym is) ∙ children-apart m f one_m in omega arith in
           -- the tree of m has the children after c
-          changed : (u : What N) × (tree_at m (change_children m (λ _. R) f) ≡ tree m u R none)
-          changed = tree_at-changed m R f one_m
-
-          p_changed : times p (tree m changed.0 R none) ≡ 0
-          p_changed = rw (ne_eqb m p m_p) (omega (arith, p_tree))
-
-          tree_m : tree_at m (graft_last c p f) ≡ tree m changed.0 R none
-          tree_m = ap (tree_at m) g_is ∙ tree_at-elsewhere m p T (change_children m (λ _. R) f) m_T (ap (times p) changed.1 ∙ p_changed) ∙ changed.1
-
-          out' : times p (tree_at m (graft_last c p f)) ≡ 0
-          out' = ap (times p) tree_m ∙ p_changed
-
-          left_p : times p (cut c f) ≡ 1
-          left_p = omega (arith, times-cut p c f, p_T, is-there v.made v.trees a.counted p hp)
-
-          one_m' : times m (graft_last c p f) ≡ 1
-          one_m' =
-              let K : Forest N = children_of p (cut c f) in
-              ap (times m) (change-const p (λ x. join x (tree_at c f)) (cut c f) left_p)
-              ∙ omega (arith, times-changed m p (join K (tree_at c f)) (cut c f) left_p, times-join m K (tree_at c f), times-cut m c f, one_m)
-
-          children' : children_of m (graft_last c p f) ≡ R
-          children' = kids_inj (sym (family m (graft_last c p f) one_m').1 ∙ tree_m)
-            where
-              kids_inj : {u u' : What N} {x y : Forest N} → tree m u x none ≡ tree m u' y none → x ≡ y
-              kids_inj j = cc
-
-          E : Forest N
-          E = change_children m (λ _. none) f
-
-          emptied : change_children m (λ _. none) (graft_last c p f) ≡ change_children p (λ x. join x T) E
-          emptied = ap (change_children m (λ _. none)) g_is ∙ empty-elsewhere m p T (change_children m (λ _. R) f) m_p m_T ∙ ap (change_children p (λ x. join x T)) (change-change m (λ _. none) (λ _. R) f)
-
-          moved : move_all m p (graft_last c p f) ≡ move_all m p f
-          moved = (λ i. change_children p (λ x. join x (children' i)) (emptied i)) ∙ change-change p (λ x. join x R) (λ x. join x T) E
-              ∙ (λ i. change_children p (λ x. join-assoc x T R i) E) ∙ (λ i. change_children p (λ x. join x (sym is i)) E)
-
-          less : size (children_of m (graft_last c p f)) < size (children_of m f)
-          less = rw (children', is) (omega arith)
-
-      go : (g : Forest N) → children_of m f ≡ g → first_or (children_of m f) None ≡ Some c → Moves v m p c
-      go none is j = let no : first_or {N = N} none None ≡ Some c = subst (λ (g : Forest N). first_or g None ≡ Some c) is j in cc
-      go (tree b w k R) is j =
-          let same : b ≡ c = some_inj (subst (λ (g : Forest N). first_or g None ≡ Some c) is j) in
-          step w k R (is ∙ ap (λ n. tree n w k R) same)
+          let changed : (u : What N) × (tree_at m (change_children m (λ _. R) f) ≡ tree m u R none) = tree_at-changed m R f one_m in
+          let p_changed : times p (tree m changed.0 R none) ≡ 0 = rw (ne_eqb m p m_p) (omega (arith, p_tree)) in
+          let tree_m : tree_at m (graft_last c p f) ≡ tree m changed.0 R none = ap (tree_at m) g_is ∙ tree_at-elsewhere m p T (change_children m (λ _. R) f) m_T (ap (times p) changed.1 ∙ p_changed) ∙ changed.1 in
+          let out' : times p (tree_at m (graft_last c p f)) ≡ 0 = ap (times p) tree_m ∙ p_changed in
+          let left_p : times p (cut c f) ≡ 1 = omega (arith, times-cut p c f, p_T, is-there v.made v.trees a.counted p hp) in
+          let one_m' : times m (graft_last c p f) ≡ 1 = let K : Forest N = children_of p (cut c f) in ap (times m) (change-const p (λ x. join x (tree_at c f)) (cut c f) left_p) ∙ omega (arith, times-changed m p (join K (tree_at c f)) (cut c f) left_p, times-join m K (tree_at c f), times-cut m c f, one_m) in
+          let children' : children_of m (graft_last c p f) ≡ R = cc ((family m (graft_last c p f) one_m').1, tree_m) in
+          let E : Forest N = change_children m (λ _. none) f in
+          let emptied : change_children m (λ _. none) (graft_last c p f) ≡ change_children p (λ x. join x T) E = ap (change_children m (λ _. none)) g_is ∙ empty-elsewhere m p T (change_children m (λ _. R) f) m_p m_T ∙ ap (change_children p (λ x. join x T)) (change-change m (λ _. none) (λ _. R) f) in
+          let moved : move_all m p (graft_last c p f) ≡ move_all m p f = (λ i. change_children p (λ x. join x (children' i)) (emptied i)) ∙ change-change p (λ x. join x R) (λ x. join x T) E ∙ (λ i. change_children p (λ x. join-assoc x T R i) E) ∙ (λ i. change_children p (λ x. join x (sym is i)) E) in
+          let less : size (children_of m (graft_last c p f)) < size (children_of m f) = rw (children', is) (omega arith) in
+          record { not_document = positive; apart = p_T; outside = out'; same = moved; fewer = less }

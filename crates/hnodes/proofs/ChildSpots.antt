@@ -1,9 +1,9 @@
 -- Where a child of a node is.
-use Rattle.hnodes.proofs.Names.{◌≡◌, ℕ, ◌+◌, ◌<◌, ◌≤◌, Bool, true, false, eqb, cond, Option, Some, None, refl, sym, ◌∙◌, ap, subst, arith, eqb-true, eq-eqb, What, Forest, none, tree, times, join, children_of, Spot, spot_below, spot_of, last_or}
+use Rattle.hnodes.proofs.Names.{◌≡◌, ℕ, ◌<◌, ◌≤◌, Bool, true, false, eqb, cond, Option, Some, None, refl, sym, ◌∙◌, ap, subst, arith, eqb-true, eq-eqb, What, Forest, none, tree, times, join, children_of, Spot, spot_below, spot_of, last_or}
 use Rattle.hnodes.proofs.Forests.{times-join, join-none, children_of-absent}
 use Rattle.hnodes.proofs.Spots.{either-none, spot_below-absent, spot_of-absent}
 use Rattle.hnodes.proofs.Fresh.{spot_of-join}
-use Rattle.hnodes.proofs.Families.{Sited, at_root, in_kids, in_rest, sited, children-among}
+use Rattle.hnodes.proofs.Families.{at_root, in_kids, in_rest, sited, children-among}
 
 module _ {N : Type 0} (n q : ℕ) (w : What N) (L k R : Forest N) where
   -- the child n among its siblings
@@ -23,38 +23,26 @@ module _ {N : Type 0} (n q : ℕ) (w : What N) (L k R : Forest N) where
   here e = rw (e, times-join n L (tree n w k R), eq-eqb n n refl) (omega arith)
 
   pub child : (b : ℕ) (v : What N) (kids rest : Forest N) → times q (tree b v kids rest) ≡ 1 → times n (tree b v kids rest) ≡ 1 → children_of q (tree b v kids rest) ≡ row → Child b kids rest
-  child b v kids rest one once is = go (sited q b kids rest one) (sited n b kids rest once)
+  child b v kids rest one once is = elim (sited q b kids rest one) [
+    | at_root i a z ↦ let j = in_left (here (is_cond i)) in of_root i j.0 j.2 j.1 (is_cond i) z
+    | in_kids i a z ↦
+        let left : children_of q kids ≡ row = sym (join-none (children_of q kids)) ∙ ap (join (children_of q kids)) (sym (children_of-absent q rest z)) ∙ is_cond i in
+        let j = in_left (let h = here left in let m = children-among n q kids in omega arith) in
+        of_kids i j.0 j.2 j.1 a left z
+    | in_rest i a z ↦
+        let right : children_of q rest ≡ row = ap (λ g. join g (children_of q rest)) (sym (children_of-absent q kids a)) ∙ is_cond i in
+        let j = in_right (let h = here right in let m = children-among n q rest in omega arith) in
+        of_rest i a j.0 j.1 j.2 z right
+  ]
     where
       is_cond : {u : Bool} → eqb b q ≡ u → cond u kids (join (children_of q kids) (children_of q rest)) ≡ row
       is_cond e = subst (λ (u : Bool). cond u kids (join (children_of q kids) (children_of q rest)) ≡ row) e is
 
-      of : Sited q b kids rest → Sited n b kids rest → 0 < times n kids → times n kids ≡ 1
-      of s (at_root j o z) h = absurd (omega arith)
-      of s (in_kids j o z) h = o
-      of s (in_rest j o z) h = absurd (omega arith)
+      in_left : 0 < times n kids → (eqb b n ≡ false) × (times n rest ≡ 0) × (times n kids ≡ 1)
+      in_left h = grind arith
 
-      go : Sited q b kids rest → Sited n b kids rest → Child b kids rest
-      go (at_root i a z) (in_kids j o y) = of_root i j o y (is_cond i) z
-      go (at_root i a z) (at_root j o y) = let h = here (is_cond i) in absurd (omega arith)
-      go (at_root i a z) (in_rest j o y) = let h = here (is_cond i) in absurd (omega arith)
-      go (in_kids i a z) s = kids_case s
-        where
-          left : children_of q kids ≡ row
-          left = sym (join-none (children_of q kids)) ∙ ap (join (children_of q kids)) (sym (children_of-absent q rest z)) ∙ is_cond i
-
-          kids_case : Sited n b kids rest → Child b kids rest
-          kids_case (in_kids j o y) = of_kids i j o y a left z
-          kids_case (at_root j o y) = let h = here left in let m = children-among n q kids in absurd (omega arith)
-          kids_case (in_rest j o y) = let h = here left in let m = children-among n q kids in absurd (omega arith)
-      go (in_rest i a z) s = rest_case s
-        where
-          right : children_of q rest ≡ row
-          right = ap (λ g. join g (children_of q rest)) (sym (children_of-absent q kids a)) ∙ is_cond i
-
-          rest_case : Sited n b kids rest → Child b kids rest
-          rest_case (in_rest j o y) = of_rest i a j o y z right
-          rest_case (at_root j o y) = let h = here right in let m = children-among n q rest in absurd (omega arith)
-          rest_case (in_kids j o y) = let h = here right in let m = children-among n q rest in absurd (omega arith)
+      in_right : 0 < times n rest → (eqb b n ≡ false) × (times n kids ≡ 0) × (times n rest ≡ 1)
+      in_right h = grind arith
 
 module _ {N : Type 0} (n q : ℕ) (w : What N) where
   spot-row : (p x : Option ℕ) (L k R : Forest N) → times n L ≡ 0 → spot_below n p x (join L (tree n w k R)) ≡ Some (spot_among n q w L k R p x)
@@ -66,35 +54,28 @@ module _ {N : Type 0} (n q : ℕ) (w : What N) where
 
   child-below : (p x : Option ℕ) (L k R f : Forest N) → times q f ≡ 1 → times n f ≡ 1 → children_of q f ≡ join L (tree n w k R) → spot_below n p x f ≡ Some (spot_among n q w L k R (Some q) None)
   child-below p x L k R none one once is = absurd (omega arith)
-  child-below p x L k R (tree b v kids rest) one once is = go (child-below (Some b) None L k R kids) (child-below p (Some b) L k R rest) (child n q w L k R b v kids rest one once is)
-    where
-      go : (times q kids ≡ 1 → times n kids ≡ 1 → children_of q kids ≡ join L (tree n w k R) → spot_below n (Some b) None kids ≡ Some (spot_among n q w L k R (Some q) None))
-          → (times q rest ≡ 1 → times n rest ≡ 1 → children_of q rest ≡ join L (tree n w k R) → spot_below n p (Some b) rest ≡ Some (spot_among n q w L k R (Some q) None))
-          → Child n q w L k R b kids rest → spot_below n p x (tree b v kids rest) ≡ Some (spot_among n q w L k R (Some q) None)
-      go l r (of_root i j o y same z) =
-          let apart : times n L ≡ 0 = left-apart L k R (ap (times n) (sym same) ∙ o) in
-          rw (j, spot_below-absent n p (Some b) rest y, either-none (spot_below n (Some b) None kids), same, eqb-true b q i) (spot-row (Some q) None L k R apart)
-      go l r (of_kids i j o y a same z) = rw (j, spot_below-absent n p (Some b) rest y, either-none (spot_below n (Some b) None kids)) (l a o same)
-      go l r (of_rest i t j o y a same) = rw (j, spot_below-absent n (Some b) None kids o) (r a y same)
+  child-below p x L k R (tree b v kids rest) one once is = elim (child n q w L k R b v kids rest one once is) [
+    | of_root i j o y same z ↦
+        let apart : times n L ≡ 0 = left-apart L k R (ap (times n) (sym same) ∙ o) in
+        rw (j, spot_below-absent n p (Some b) rest y, either-none (spot_below n (Some b) None kids), same, eqb-true b q i) (spot-row (Some q) None L k R apart)
+    | of_kids i j o y a same z ↦ rw (j, spot_below-absent n p (Some b) rest y, either-none (spot_below n (Some b) None kids)) (child-below (Some b) None L k R kids a o same)
+    | of_rest i t j o y a same ↦ rw (j, spot_below-absent n (Some b) None kids o) (child-below p (Some b) L k R rest a y same)
+  ]
+
+  -- a child in the first tree
+  first : (b : ℕ) (v : What N) (kids rest L k R : Forest N) → times q (tree b v kids rest) ≡ 1 → times n (tree b v kids rest) ≡ 1 → times n rest ≡ 0 → times q rest ≡ 0 → children_of q (tree b v kids none) ≡ join L (tree n w k R)
+      → spot_of n (tree b v kids rest) ≡ Some (spot_among n q w L k R (Some q) None)
+  first b v kids rest L k R one once y z same =
+      rw (spot_of-absent n rest y, either-none (spot_below n None None (tree b v kids none))) (child-below None None L k R (tree b v kids none) (omega arith) (omega arith) same)
 
   -- a child of q is below q, between its siblings
   pub child-spot : (L k R f : Forest N) → times q f ≡ 1 → times n f ≡ 1 → children_of q f ≡ join L (tree n w k R) → spot_of n f ≡ Some (spot_among n q w L k R (Some q) None)
   child-spot L k R none one once is = absurd (omega arith)
-  child-spot L k R (tree b v kids rest) one once is = go (child-spot L k R rest) (child n q w L k R b v kids rest one once is)
-    where
-      first : times n rest ≡ 0 → times q rest ≡ 0 → children_of q (tree b v kids none) ≡ join L (tree n w k R) → spot_of n (tree b v kids rest) ≡ Some (spot_among n q w L k R (Some q) None)
-      first y z same =
-          rw (spot_of-absent n rest y, either-none (spot_below n None None (tree b v kids none))) (child-below None None L k R (tree b v kids none) (omega arith) (omega arith) same)
-
-      go : (times q rest ≡ 1 → times n rest ≡ 1 → children_of q rest ≡ join L (tree n w k R) → spot_of n rest ≡ Some (spot_among n q w L k R (Some q) None))
-          → Child n q w L k R b kids rest → spot_of n (tree b v kids rest) ≡ Some (spot_among n q w L k R (Some q) None)
-      go r (of_root i j o y same z) = first y z (rw i same)
-      go r (of_kids i j o y a same z) = first y z (under (eqb b q) refl)
-        where
-          under : (u : Bool) → eqb b q ≡ u → cond u kids (join (children_of q kids) none) ≡ join L (tree n w k R)
-          under true e = absurd (let one' : 1 + (times q kids + times q rest) ≡ 1 = subst (λ (u : Bool). cond u 1 0 + (times q kids + times q rest) ≡ 1) e one in omega arith)
-          under false e = join-none (children_of q kids) ∙ same
-      go r (of_rest i t j o y a same) = rw (spot_below-absent n None None (tree b v kids none) (rw j (omega arith))) (r a y same)
+  child-spot L k R (tree b v kids rest) one once is = elim (child n q w L k R b v kids rest one once is) [
+    | of_root i j o y same z ↦ first b v kids rest L k R one once y z (rw i same)
+    | of_kids i j o y a same z ↦ first b v kids rest L k R one once y z (rw i (join-none (children_of q kids) ∙ same))
+    | of_rest i t j o y a same ↦ rw (spot_below-absent n None None (tree b v kids none) (rw j (omega arith))) (child-spot L k R rest a y same)
+  ]
 
 -- a root has neither parent nor siblings
 pub root-spot : {N : Type 0} (n : ℕ) (w : What N) (L k R f : Forest N) → times n f ≤ 1 → f ≡ join L (tree n w k R) → spot_of n f ≡ Some (record { parent = None; before = None; what = w; children = k; after = none })

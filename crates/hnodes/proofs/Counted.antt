@@ -1,5 +1,6 @@
 -- What the edits keep: each node is in the forest once, and the document's tree comes first.
-use Rattle.hnodes.proofs.Names.{◌≡◌, ◌≢◌, ℕ, zero, suc, ◌+◌, ◌<◌, ◌≤◌, Bool, true, false, eqb, ltb, cond, if◌then◌else◌, refl, ◌∙◌, subst, arith, ne_eqb, le-leb, lt-leb, What, document, Forest, none, tree, times, join, tree_at, cut, children_of, change_children, change_what, put_before, AreCounted, place_node, graft, move_all, Place, LastIn, Before}
+use Rattle.std.proofs.lemmas.Bool.{cases_Bool}
+use Rattle.hnodes.proofs.Names.{inl, inr, ◌≡◌, ◌≢◌, ℕ, suc, ◌+◌, ◌<◌, ◌≤◌, Bool, eqb, cond, refl, ◌∙◌, subst, arith, ne_eqb, le-leb, lt-leb, What, document, Forest, none, tree, times, join, tree_at, cut, children_of, change_children, change_what, put_before, AreCounted, place_node, graft, move_all, Place, LastIn, Before}
 use Rattle.hnodes.proofs.Forests.{times-join, times-cut, times-emptied, children-apart}
 use Rattle.hnodes.proofs.Whats.{times-what}
 use Rattle.hnodes.proofs.Counts.{emptied, times-hung, times-put, times-emptied-apart}
@@ -15,11 +16,7 @@ module _ {N : Type 0} where
   Begins f = (kids : Forest N) × (rest : Forest N) × (f ≡ tree 0 document kids rest)
 
   begins-change : (p : ℕ) (g : Forest N → Forest N) (f : Forest N) → Begins f → Begins (change_children p g f)
-  begins-change p g f (kids, rest, is) = rw is (go (eqb 0 p))
-    where
-      go : (v : Bool) → Begins (cond v (tree 0 document (g kids) rest) (tree 0 document (change_children p g kids) (change_children p g rest)))
-      go true = (g kids, rest, refl)
-      go false = (change_children p g kids, change_children p g rest, refl)
+  begins-change p g f (kids, rest, is) = rw is (elim (cases_Bool (eqb 0 p)) [ inl e ↦ rw e (g kids, rest, refl) | inr e ↦ rw e (change_children p g kids, change_children p g rest, refl) ])
 
   begins-cut : (n : ℕ) (f : Forest N) → 0 < n → Begins f → Begins (cut n f)
   begins-cut n f h (kids, rest, is) = rw (is, ne_eqb 0 n (λ e. omega arith)) (cut n kids, cut n rest, refl)
@@ -31,11 +28,7 @@ module _ {N : Type 0} where
   begins-join t f (kids, rest, is) = rw is (kids, join rest t, refl)
 
   begins-what : (n : ℕ) (g : What N → What N) (f : Forest N) → g document ≡ document → Begins f → Begins (change_what n g f)
-  begins-what n g f same (kids, rest, is) = rw is (go (eqb 0 n))
-    where
-      go : (v : Bool) → Begins (tree 0 (cond v (g document) document) (change_what n g kids) (change_what n g rest))
-      go true = rw same (change_what n g kids, change_what n g rest, refl)
-      go false = (change_what n g kids, change_what n g rest, refl)
+  begins-what n g f same (kids, rest, is) = rw is (change_what n g kids, change_what n g rest, elim (cases_Bool (eqb 0 n)) [ inl e ↦ rw (e, same) refl | inr e ↦ rw e refl ])
 
   module _ (made : ℕ) (f : Forest N) (counted : AreCounted made f) where
     pub at-most : (x : ℕ) → times x f ≤ 1
@@ -82,10 +75,7 @@ module _ {N : Type 0} where
 
   -- a node is made
   pub counted-new : (made : ℕ) (w : What N) (f : Forest N) → AreCounted made f → AreCounted (made + 1) (join f (tree made w none none))
-  counted-new made w f s = record { once = one; begins = begins-join (tree made w none none) f s.begins }
-    where
-      one : (x : ℕ) → times x (join f (tree made w none none)) ≡ (if ltb x (made + 1) then 1 else 0)
-      one x = grind (arith, times-join)
+  counted-new made w f s = record { once = λ x. grind (arith, times-join); begins = begins-join (tree made w none none) f s.begins }
 
   -- a node is put at a place
   pub counted-graft : (made n : ℕ) (place : Place) (f : Forest N) → AreCounted made f → 0 < n → NotBefore 0 place → times (place_node place) f ≡ 1 → times (place_node place) (tree_at n f) ≡ 0 → AreCounted made (graft n place f)
@@ -95,12 +85,8 @@ module _ {N : Type 0} where
   }
   counted-graft made n (Before q) f s h b one out = record {
     once = λ x. times-put x q (tree_at n f) (cut n f) (omega (arith, times-cut q n f)) ∙ times-cut x n f ∙ s.once x;
-    begins = begins-put q (tree_at n f) (cut n f) (go q refl) (begins-cut n f h s.begins);
+    begins = begins-put q (tree_at n f) (cut n f) (let ne : q ≢ 0 = b in omega arith) (begins-cut n f h s.begins);
   }
-    where
-      go : (j : ℕ) → q ≡ j → 0 < q
-      go zero e = absurd (b e)
-      go (suc j) e = omega arith
 
   -- the children of a node go into another
   pub counted-move : (made m p : ℕ) (f : Forest N) → AreCounted made f → times m f ≡ 1 → times p f ≡ 1 → times p (children_of m f) ≡ 0 → AreCounted made (move_all m p f)

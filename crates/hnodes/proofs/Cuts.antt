@@ -33,63 +33,24 @@ module _ {N : Type 0} where
             rw p.cut_is (Loose-agree look new (join p.left p.right) (λ b z. same b) (Loose-join look p.left p.right both.0 both.1.1)),
             rw p.tree_is (Linked-agree look new None None (tree n p.what p.kids none) None (λ b z. same b) both.1.0),
           )
-      go (inr p) = (
-        rw p.cut_is (Loose-children look new p.parent (join p.left p.right) (Linked-join new (Some p.parent) None p.left p.right None runs.0 runs.1) parent_row f p.one elsewhere s),
-        rw p.tree_is (self ∙ ap (option_map (with_place None None None)) two.1.0, Linked-agree look new (Some n) None p.kids None (λ b z. apart b (inr z) (not_n b (omega arith)) (not_q b (omega arith))) two.1.1, tt),
-      )
-        where
-          l : Option ℕ
-          l = last_or None p.left
-
-          r : Option ℕ
-          r = first_or p.right None
-
-          holds : Holds look p.parent (join p.left (tree n p.what p.kids p.right))
-          holds = below-holds look n f p s
-
-          two : Linked look (Some p.parent) None p.left (Some n) × Linked look (Some p.parent) l (tree n p.what p.kids p.right) None
-          two = Linked-split look (Some p.parent) None p.left (tree n p.what p.kids p.right) None holds.kids
-
-          new_is : (b : ℕ) → new b ≡ at_row n (with_place None None None) (spliced p.parent l r l r look) b
-          new_is b = is b ∙ rw (below-row look n f p s) refl
-
-          other : (b : ℕ) → b ≢ n → new b ≡ spliced p.parent l r l r look b
-          other b i = new_is b ∙ at_row-other n (with_place None None None) (spliced p.parent l r l r look) b i
-
-          once' : (b : ℕ) → times b p.left + (cond (eqb n b) 1 0 + (times b p.kids + times b p.right)) ≤ 1
-          once' b = omega (arith, below-among n f p b, times-emptied b p.parent f p.one, once b)
-
-          none_q : times p.parent p.left + (cond (eqb n p.parent) 1 0 + (times p.parent p.kids + times p.parent p.right)) ≡ 0
-          none_q = omega (arith, below-among n f p p.parent, children-apart p.parent f p.one)
-
-          not_n : (b : ℕ) → 0 < times b p.left + (times b p.kids + times b p.right) → b ≢ n
-          not_n b k j = let o : times b p.left + (1 + (times b p.kids + times b p.right)) ≤ 1 = subst (λ (v : Bool). times b p.left + (cond v 1 0 + (times b p.kids + times b p.right)) ≤ 1) (eq-eqb n b (sym j)) (once' b) in omega arith
-
-          not_q : (b : ℕ) → 0 < times b p.left + (times b p.kids + times b p.right) → b ≢ p.parent
-          not_q b k j = let o : 0 < times p.parent p.left + (times p.parent p.kids + times p.parent p.right) = subst (λ (m : ℕ). 0 < times m p.left + (times m p.kids + times m p.right)) j k in omega (arith, none_q)
-
-          n_q : n ≢ p.parent
-          n_q j = let o : times p.parent p.left + (1 + (times p.parent p.kids + times p.parent p.right)) ≡ 0 = subst (λ (v : Bool). times p.parent p.left + (cond v 1 0 + (times p.parent p.kids + times p.parent p.right)) ≡ 0) (eq-eqb n p.parent j) none_q in omega arith
-
+      go (inr p) =
+          let l : Option ℕ = last_or None p.left in
+          let r : Option ℕ = first_or p.right None in
+          let holds : Holds look p.parent (join p.left (tree n p.what p.kids p.right)) = below-holds look n f p s in
+          let two : Linked look (Some p.parent) None p.left (Some n) × Linked look (Some p.parent) l (tree n p.what p.kids p.right) None = Linked-split look (Some p.parent) None p.left (tree n p.what p.kids p.right) None holds.kids in
+          let new_is : (b : ℕ) → new b ≡ at_row n (with_place None None None) (spliced p.parent l r l r look) b = λ b. is b ∙ rw (below-row look n f p s) refl in
+          let other : (b : ℕ) → b ≢ n → new b ≡ spliced p.parent l r l r look b = λ b i. new_is b ∙ at_row-other n (with_place None None None) (spliced p.parent l r l r look) b i in
+          let once' : (b : ℕ) → times b p.left + (cond (eqb n b) 1 0 + (times b p.kids + times b p.right)) ≤ 1 = λ b. omega (arith, below-among n f p b, times-emptied b p.parent f p.one, once b) in
+          let none_q : times p.parent p.left + (cond (eqb n p.parent) 1 0 + (times p.parent p.kids + times p.parent p.right)) ≡ 0 = omega (arith, below-among n f p p.parent, children-apart p.parent f p.one) in
+          let not_n : (b : ℕ) → 0 < times b p.left + (times b p.kids + times b p.right) → b ≢ n = λ b k j. let o : times b p.left + (1 + (times b p.kids + times b p.right)) ≤ 1 = subst (λ (v : Bool). times b p.left + (cond v 1 0 + (times b p.kids + times b p.right)) ≤ 1) (eq-eqb n b (sym j)) (once' b) in omega arith in
+          let not_q : (b : ℕ) → 0 < times b p.left + (times b p.kids + times b p.right) → b ≢ p.parent = λ b k j. let o : 0 < times p.parent p.left + (times p.parent p.kids + times p.parent p.right) = subst (λ (m : ℕ). 0 < times m p.left + (times m p.kids + times m p.right)) j k in omega (arith, none_q) in
+          let n_q : n ≢ p.parent = λ j. let o : times p.parent p.left + (1 + (times p.parent p.kids + times p.parent p.right)) ≡ 0 = subst (λ (v : Bool). times p.parent p.left + (cond v 1 0 + (times p.parent p.kids + times p.parent p.right)) ≡ 0) (eq-eqb n p.parent j) none_q in omega arith in
           -- a node that is in neither run
-          apart : (b : ℕ) → (times b p.left + times b p.right ≡ 0) ⊎ (0 < times b p.kids) → b ≢ n → b ≢ p.parent → new b ≡ look b
-          apart b (inl z) i j = other b i ∙ spliced-other p.parent l r l r look b j (λ k. let m = last-among p.left b k in omega arith) (λ k. let m = first-among p.right b k in omega arith)
-          apart b (inr z) i j = let o = once' b in other b i ∙ spliced-other p.parent l r l r look b j (λ k. let m = last-among p.left b k in omega arith) (λ k. let m = first-among p.right b k in omega arith)
-
-          self : new n ≡ option_map (with_place None None None) (look n)
-          self = new_is n ∙ at_row-there n (with_place None None None) (spliced p.parent l r l r look)
-              ∙ ap (option_map (with_place None None None)) (spliced-other p.parent l r l r look n n_q (λ j. not_n n (let m = last-among p.left n j in omega arith) refl) (λ j. not_n n (let m = first-among p.right n j in omega arith) refl))
-
-          runs : Linked new (Some p.parent) None p.left r × Linked new (Some p.parent) l p.right None
-          runs = spliced-runs look new p.parent p.left p.right l r (Some n) (Some n) (λ b. let o = once' b in omega arith) (omega (arith, none_q)) (λ b k. other b (not_n b (omega arith))) two.0 two.1.2
-
-          parent_row : new p.parent ≡ option_map (with_ends (first_or (join p.left p.right) None) (last_or None (join p.left p.right))) (look p.parent)
-          parent_row = other p.parent (λ j. n_q (sym j))
-              ∙ spliced-row look p.parent holds.row p.left p.right l r (Some n) (Some n) (omega (arith, none_q)) (omega (arith, none_q)) holds.is
-              (holds.first ∙ first_or-join p.left (tree n p.what p.kids p.right) None) (holds.last ∙ last_or-join None p.left (tree n p.what p.kids p.right))
-              ∙ rw (holds.is, first_or-join p.left p.right None, last_or-join None p.left p.right) refl
-
-          elsewhere : (b : ℕ) → b ≢ p.parent → 0 < times b (change_children p.parent (λ _. none) f) → new b ≡ look b
-          elsewhere b k z =
-              let no : times b p.left + (cond (eqb n b) 1 0 + (times b p.kids + times b p.right)) ≡ 0 = omega (arith, below-among n f p b, times-emptied b p.parent f p.one, once b) in
-              apart b (inl (omega arith)) (λ j. let o : times b p.left + (1 + (times b p.kids + times b p.right)) ≡ 0 = subst (λ (v : Bool). times b p.left + (cond v 1 0 + (times b p.kids + times b p.right)) ≡ 0) (eq-eqb n b (sym j)) no in omega arith) k
+          let apart : (b : ℕ) → times b p.left + times b p.right ≡ 0 → b ≢ n → b ≢ p.parent → new b ≡ look b = λ b z i j. other b i ∙ spliced-other p.parent l r l r look b j (λ k. let m = last-among p.left b k in omega arith) (λ k. let m = first-among p.right b k in omega arith) in
+          let self : new n ≡ option_map (with_place None None None) (look n) = new_is n ∙ at_row-there n (with_place None None None) (spliced p.parent l r l r look) ∙ ap (option_map (with_place None None None)) (spliced-other p.parent l r l r look n n_q (λ j. not_n n (let m = last-among p.left n j in omega arith) refl) (λ j. not_n n (let m = first-among p.right n j in omega arith) refl)) in
+          let runs : Linked new (Some p.parent) None p.left r × Linked new (Some p.parent) l p.right None = spliced-runs look new p.parent p.left p.right l r (Some n) (Some n) (λ b. let o = once' b in omega arith) (omega (arith, none_q)) (λ b k. other b (not_n b (omega arith))) two.0 two.1.2 in
+          let parent_row : new p.parent ≡ option_map (with_ends (first_or (join p.left p.right) None) (last_or None (join p.left p.right))) (look p.parent) = other p.parent (λ j. n_q (sym j)) ∙ spliced-row look p.parent holds.row p.left p.right l r (Some n) (Some n) (omega (arith, none_q)) (omega (arith, none_q)) holds.is (holds.first ∙ first_or-join p.left (tree n p.what p.kids p.right) None) (holds.last ∙ last_or-join None p.left (tree n p.what p.kids p.right)) ∙ rw (holds.is, first_or-join p.left p.right None, last_or-join None p.left p.right) refl in
+          let elsewhere : (b : ℕ) → b ≢ p.parent → 0 < times b (change_children p.parent (λ _. none) f) → new b ≡ look b = λ b k z. let no : times b p.left + (cond (eqb n b) 1 0 + (times b p.kids + times b p.right)) ≡ 0 = omega (arith, below-among n f p b, times-emptied b p.parent f p.one, once b) in apart b (omega arith) (λ j. let o : times b p.left + (1 + (times b p.kids + times b p.right)) ≡ 0 = subst (λ (v : Bool). times b p.left + (cond v 1 0 + (times b p.kids + times b p.right)) ≡ 0) (eq-eqb n b (sym j)) no in omega arith) k in (
+            rw p.cut_is (Loose-children look new p.parent (join p.left p.right) (Linked-join new (Some p.parent) None p.left p.right None runs.0 runs.1) parent_row f p.one elsewhere s),
+            rw p.tree_is (self ∙ ap (option_map (with_place None None None)) two.1.0, Linked-agree look new (Some n) None p.kids None (λ b z. apart b (omega (arith, once' b)) (not_n b (omega arith)) (not_q b (omega arith))) two.1.1, tt),
+          )

@@ -1,5 +1,5 @@
 -- How often a node is another one or inside it. Where each node is once, 0 says that it is outside.
-use Rattle.hnodes.proofs.Names.{◌≡◌, ℕ, zero, suc, ◌+◌, ◌<◌, ◌≤◌, Bool, true, false, eqb, cond, if◌then◌else◌, refl, arith, Forest, none, tree, times, join, tree_at, children_of}
+use Rattle.hnodes.proofs.Names.{◌≡◌, ℕ, ◌+◌, ◌<◌, ◌≤◌, eqb, if◌then◌else◌, refl, arith, Forest, none, tree, times, join, tree_at, children_of}
 use Rattle.hnodes.proofs.Forests.{times-join, times-cut}
 
 module _ {N : Type 0} where
@@ -39,19 +39,4 @@ module _ {N : Type 0} where
   -- what is inside m is inside all that m is inside of
   pub deep-trans : (x m y : ℕ) (f : Forest N) → times m f ≤ 1 → 0 < deep m y f → deep x m f ≤ deep x y f
   deep-trans x m y none h in_y = omega arith
-  deep-trans x m y (tree b w kids rest) h in_y = top (deep-trans x m y kids) (deep-trans x m y rest) (eqb b m) refl (eqb b y) refl h in_y
-    where
-      some : ℕ
-      some = if eqb b x then 1 else 0
-
-      top : (times m kids ≤ 1 → 0 < deep m y kids → deep x m kids ≤ deep x y kids) → (times m rest ≤ 1 → 0 < deep m y rest → deep x m rest ≤ deep x y rest)
-          → (u : Bool) → eqb b m ≡ u → (v : Bool) → eqb b y ≡ v → cond u 1 0 + (times m kids + times m rest) ≤ 1 → 0 < cond v (cond u 1 0 + times m kids) 0 + (deep m y kids + deep m y rest)
-          → cond u (some + times x kids) 0 + (deep x m kids + deep x m rest) ≤ cond v (some + times x kids) 0 + (deep x y kids + deep x y rest)
-      top l r true e true i h' o = omega (arith, deep-upper x m kids (omega arith), deep-upper x m rest (omega arith))
-      top l r true e false i h' o = absurd (omega (arith, deep-lower m y kids (omega arith), deep-lower m y rest (omega arith)))
-      top l r false e true i h' o = under (times m kids) refl
-        where
-          under : (j : ℕ) → times m kids ≡ j → 0 + (deep x m kids + deep x m rest) ≤ (some + times x kids) + (deep x y kids + deep x y rest)
-          under zero a = omega (arith, r (omega arith) (omega (arith, deep-lower m y kids a)), deep-upper x m kids a)
-          under (suc j) a = omega (arith, deep-is x m kids (omega arith), times-cut x m kids, deep-upper x m rest (omega arith))
-      top l r false e false i h' o = grind (arith, deep-lower, deep-upper)
+  deep-trans x m y (tree b w kids rest) h in_y = grind (arith, deep-trans x m y kids, deep-trans x m y rest, deep-lower, deep-upper, deep-is x m kids, times-cut x m kids)

@@ -1,7 +1,7 @@
 -- Attributes whose names differ, and their names in ascending order.
+use Rattle.std.proofs.lemmas.Bool.{and_parts, not-true, false_from_ne_true, false≢true, ltb-true}
 use Rattle.hnodes.proofs.Names.{◌≡◌, ℕ, ◌+◌, ◌-◌, ◌<◌, ◌≤◌, Bool, true, false, not, eqb, nat_eq, List, [], ◌∷◌, ◌++◌, length, length-drop, map, get_or, refl, sym, ◌∙◌, ap, subst, arith, drop, take, Vec, Global, lt-ltb, take_all, map-append, list_any-append, list_any, IsTrue, Attr, names_differ, Attribute, names_of, numbers_of, attribute_of}
 use Rattle.std.proofs.Common.{◌↔◌, drop-cons, add-one}
-use Rattle.std.proofs.lemmas.Bool.{ltb-true}
 use Rattle.std.proofs.lemmas.List.{drop_all, take-append-le}
 use Rattle.std.proofs.lemmas.List.Sorted.{IsPermutation-sym}
 use Rattle.std.proofs.lemmas.Map.Keys.{IsDistinct-IsPermutation, IsDistinct-cons, IsDistinct-head, IsDistinct-tail, IsDistinct-from_sorted, IsStrictlyIncreasing-from_distinct, sorted_from_strictly_increasing}
@@ -25,11 +25,7 @@ differ-last (x ∷ xs) a =
     ∙ go (list_any (λ b. nat_eq b.0 x.0) xs) (names_differ nat_eq xs) (nat_eq x.0 a.0) (list_any (λ b. nat_eq b.0 a.0) xs)
   where
     go : (u d v w : Bool) → (not (u || (v || false)) && (d && not w)) ≡ ((not u && d) && not (v || w))
-    go true d v w = refl
-    go false true true w = refl
-    go false true false w = refl
-    go false false true w = refl
-    go false false false w = refl
+    go u d v w = grind arith
 
 -- numbers that rise differ
 risen : (names : List ℕ) → IsStrictlyIncreasing names → IsDistinct eqb names
@@ -49,12 +45,9 @@ no-other n (a ∷ attrs) h = (λ i. (flips a.name n ∙ h.0) i || among n attrs)
 
 distinct : (attrs : List Attr) → names_differ nat_eq (map attribute_of attrs) ≡ true → IsDistinct eqb (names_of attrs)
 distinct [] h = risen [] (λ k p. absurd (omega (arith, p)))
-distinct (a ∷ attrs) h = go (among a.name attrs) refl (distinct attrs) h
-  where
-    go : (u : Bool) → among a.name attrs ≡ u → (names_differ nat_eq (map attribute_of attrs) ≡ true → IsDistinct eqb (names_of attrs)) → (not u && names_differ nat_eq (map attribute_of attrs)) ≡ true
-        → IsDistinct eqb (names_of (a ∷ attrs))
-    go true e more h' = absurd (let no : false ≡ true = h' in cc)
-    go false e more h' = IsDistinct-cons eqb a.name (names_of attrs) (others a.name attrs e) (more h')
+distinct (a ∷ attrs) h =
+    let parts = and_parts (not (among a.name attrs)) (names_differ nat_eq (map attribute_of attrs)) h in
+    IsDistinct-cons eqb a.name (names_of attrs) (others a.name attrs (not-true (among a.name attrs) parts.0)) (distinct attrs parts.1)
 
 differing : (attrs : List Attr) → IsDistinct eqb (names_of attrs) → names_differ nat_eq (map attribute_of attrs) ≡ true
 differing [] h = refl
@@ -71,11 +64,7 @@ rising xs false h = (
 -- names differ if they rise where they are in ascending order
 pub differ-is : (attrs : List Attr) (names : List ℕ) (r : Bool) → IsPermutation (names_of attrs) names → IsNonDecreasing names → IsTrue r ↔ IsStrictlyIncreasing names → r ≡ names_differ nat_eq (map attribute_of attrs)
 differ-is attrs names true p up h = sym (differing attrs (IsDistinct-IsPermutation eqb flips names (names_of attrs) (IsPermutation-sym _ _ p) (risen names (h.0 refl))))
-differ-is attrs names false p up h = go (names_differ nat_eq (map attribute_of attrs)) refl
-  where
-    go : (u : Bool) → names_differ nat_eq (map attribute_of attrs) ≡ u → false ≡ u
-    go false e = refl
-    go true e = h.1 (IsStrictlyIncreasing-from_distinct names up (IsDistinct-IsPermutation eqb flips (names_of attrs) names p (distinct attrs e)))
+differ-is attrs names false p up h = sym (false_from_ne_true _ (λ e. false≢true (h.1 (IsStrictlyIncreasing-from_distinct names up (IsDistinct-IsPermutation eqb flips (names_of attrs) names p (distinct attrs e))))))
 
 -- those from one on
 abbrev pub differ_from : ℕ → List Attr → Bool

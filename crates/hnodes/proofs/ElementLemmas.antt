@@ -22,16 +22,11 @@ stands-Decides names text id = grind (arith, bytes_eq-Decides)
 module _ (names : Texts) (text : List ℕ) where
   -- the number that a table has for a text stands for it, and no other does
   pub stands-found : (i : ℕ) → AreNames names → position (bytes_eq text) names ≡ Some i → (id : ℕ) → nat_eq i id ≡ stands_for names text id
-  stands-found i are is id = same_from_decides (nat_eq i id) (stands_for names text id) (Decides-eqb i id) (Decides-like (stands_for names text id) only itself (stands-Decides names text id))
-    where
-      at : (i < length names) × (text ≡ get_or names i [])
-      at = let found = position-Some (bytes_eq text) names i [] is in (found.0, (bytes_eq-Decides text (get_or names i [])).0 found.1)
-
-      only : slice_get names id ≡ Some text → i ≡ id
-      only s = are.distinct i id at.0 (slice_get_within names id text s) (sym at.1 ∙ sym (get_or_from_slice_get names id text [] s))
-
-      itself : i ≡ id → slice_get names id ≡ Some text
-      itself e = subst (λ (k : ℕ). slice_get names k ≡ Some text) e (slice_get-get_or names i [] at.0 ∙ ap Some (sym at.1))
+  stands-found i are is id =
+      let at : (i < length names) × (text ≡ get_or names i []) = let found = position-Some (bytes_eq text) names i [] is in (found.0, (bytes_eq-Decides text (get_or names i [])).0 found.1) in
+      let only : slice_get names id ≡ Some text → i ≡ id = λ s. are.distinct i id at.0 (slice_get_within names id text s) (sym at.1 ∙ sym (get_or_from_slice_get names id text [] s)) in
+      let itself : i ≡ id → slice_get names id ≡ Some text = λ e. subst (λ (k : ℕ). slice_get names k ≡ Some text) e (slice_get-get_or names i [] at.0 ∙ ap Some (sym at.1)) in
+      same_from_decides (nat_eq i id) (stands_for names text id) (Decides-eqb i id) (Decides-like (stands_for names text id) only itself (stands-Decides names text id))
 
   -- where a table has none for it, none stands for it
   pub stands-missing : position (bytes_eq text) names ≡ None → (id : ℕ) → stands_for names text id ≡ false

@@ -16,11 +16,10 @@ module _ {N : Type 0} where
     pub is : t ≡ tree n what kids none
 
   root : (n : ℕ) (f : Forest N) → times n f ≡ 1 → ((b : ℕ) → times b f ≤ 1) → Root n (tree_at n f)
-  root n f h once = go (level n f h once)
-    where
-      go : Here n f ⊎ Below n f → Root n (tree_at n f)
-      go (inl p) = record { what = p.what; kids = p.kids; is = p.tree_is }
-      go (inr p) = record { what = p.what; kids = p.kids; is = p.tree_is }
+  root n f h once = elim (level n f h once) [
+    | inl p ↦ record { what = p.what; kids = p.kids; is = p.tree_is }
+    | inr p ↦ record { what = p.what; kids = p.kids; is = p.tree_is }
+  ]
 
   -- node n was detached from a forest in which it is, and q is outside of it
   pub record Cut (count : ℕ) (look mid : Look N) (f : Forest N) (n q : ℕ) : Type 0 where
@@ -102,10 +101,7 @@ module _ {N : Type 0} where
           omega (arith, times-cut s n f, once-of count look f c.stands s, c.other)
 
       go : (o u : Option (Row N)) → standing o ≡ standing u → parent_in o ≡ parent_in u
-      go None None e = refl
-      go None (Some r) e = cc
-      go (Some r) None e = cc
-      go (Some r) (Some v) e = ap (λ (m : What N × Option ℕ). m.1) (some_inj e)
+      go o u e = grind arith
 
   pub StandsIn-before : (count : ℕ) (look mid new : Look N) (f : Forest N) (n s q : ℕ) → Cut count look mid f n s → parent_in (mid s) ≡ Some q → ((b : ℕ) → new b ≡ hooked n q (previous_in (mid s)) (Some s) mid b)
       → StandsIn count new (graft_before n s f)
@@ -115,10 +111,7 @@ module _ {N : Type 0} where
       rows = (cut-stands count look mid f n s c).0
 
       go : Here s (cut n f) ⊎ Below s (cut n f) → StandsIn count new (graft_before n s f)
-      go (inl p) = absurd (no (sym (ap parent_in (here-row mid s (cut n f) p rows)) ∙ up_is))
-        where
-          no : None ≡ Some q → ⊥
-          no e = cc
+      go (inl p) = absurd (let no : None ≡ Some q = sym (ap parent_in (here-row mid s (cut n f) p rows)) ∙ up_is in cc)
       go (inr p) =
           let row = below-row mid s (cut n f) p rows in
           let q_is : p.parent ≡ q = some_inj (sym (ap parent_in row) ∙ up_is) in

@@ -9,66 +9,24 @@ module _ {N : Type 0} where
   pub Loose-hook : (look new : Look N) (n q : ℕ) (w : What N) (k L R f : Forest N) → times q f ≡ 1 → children_of q f ≡ join L R → ((b : ℕ) → times b f + (cond (eqb n b) 1 0 + (times b k + 0)) ≤ 1)
       → ((b : ℕ) → new b ≡ hooked n q (last_or None L) (first_or R None) look b)
       → Loose look f → Linked look None None (tree n w k none) None → Loose new (change_children q (λ _. join L (tree n w k R)) f)
-  Loose-hook look new n q w k L R f h kids_are once is s t = Loose-children look new q (join L (tree n w k R)) below parent_row f h elsewhere s
-    where
-      l : Option ℕ
-      l = last_or None L
-
-      r : Option ℕ
-      r = first_or R None
-
-      holds : Holds look q (join L R)
-      holds = subst (λ (g : Forest N). Holds look q g) kids_are (Loose-holds look q f h s)
-
-      among : (b : ℕ) → times b (children_of q f) ≡ times b L + times b R
-      among b = rw kids_are (times-join b L R)
-
-      in_f : (b : ℕ) → times b L + times b R ≤ times b f
-      in_f b = omega (arith, times-emptied b q f h, among b)
-
-      none_q : times q L + times q R ≡ 0
-      none_q = omega (arith, among q, children-apart q f h)
-
-      not_n : (b : ℕ) → 0 < times b f + times b k → b ≢ n
-      not_n b z j = let o : times b f + (1 + (times b k + 0)) ≤ 1 = subst (λ (v : Bool). times b f + (cond v 1 0 + (times b k + 0)) ≤ 1) (eq-eqb n b (sym j)) (once b) in omega arith
-
-      other : (b : ℕ) → b ≢ n → new b ≡ spliced q l r (Some n) (Some n) look b
-      other b i = is b ∙ at_row-other n (with_place (Some q) l r) (spliced q l r (Some n) (Some n) look) b i
-
+  Loose-hook look new n q w k L R f h kids_are once is s t =
+      let l : Option ℕ = last_or None L in
+      let r : Option ℕ = first_or R None in
+      let holds : Holds look q (join L R) = subst (λ (g : Forest N). Holds look q g) kids_are (Loose-holds look q f h s) in
+      let among : (b : ℕ) → times b (children_of q f) ≡ times b L + times b R = λ b. rw kids_are (times-join b L R) in
+      let in_f : (b : ℕ) → times b L + times b R ≤ times b f = λ b. omega (arith, times-emptied b q f h, among b) in
+      let none_q : times q L + times q R ≡ 0 = omega (arith, among q, children-apart q f h) in
+      let not_n : (b : ℕ) → 0 < times b f + times b k → b ≢ n = λ b z j. let o : times b f + (1 + (times b k + 0)) ≤ 1 = subst (λ (v : Bool). times b f + (cond v 1 0 + (times b k + 0)) ≤ 1) (eq-eqb n b (sym j)) (once b) in omega arith in
+      let other : (b : ℕ) → b ≢ n → new b ≡ spliced q l r (Some n) (Some n) look b = λ b i. is b ∙ at_row-other n (with_place (Some q) l r) (spliced q l r (Some n) (Some n) look) b i in
       -- a node that is in neither run
-      apart : (b : ℕ) → times b L + times b R ≡ 0 → b ≢ q → spliced q l r (Some n) (Some n) look b ≡ look b
-      apart b z j = spliced-other q l r (Some n) (Some n) look b j (λ i. let m = last-among L b i in omega arith) (λ i. let m = first-among R b i in omega arith)
-
-      not_q : (b : ℕ) → 0 < times b k → b ≢ q
-      not_q b z j = let o : 0 < times q k = subst (λ m. 0 < times m k) j z in omega (arith, once q, h)
-
-      n_q : n ≢ q
-      n_q j = not_n q (omega (arith, h)) (sym j)
-
-      n_out : times n L + times n R ≡ 0
-      n_out = let o : times n f + (1 + (times n k + 0)) ≤ 1 = subst (λ (v : Bool). times n f + (cond v 1 0 + (times n k + 0)) ≤ 1) (eq-eqb n n refl) (once n) in omega (arith, in_f n)
-
-      self : new n ≡ option_map (with_place (Some q) l r) (look n)
-      self = is n ∙ at_row-there n (with_place (Some q) l r) (spliced q l r (Some n) (Some n) look) ∙ ap (option_map (with_place (Some q) l r)) (apart n n_out n_q)
-
-      two : Linked look (Some q) None L (first_or R None) × Linked look (Some q) (last_or None L) R None
-      two = Linked-split look (Some q) None L R None holds.kids
-
-      runs : Linked new (Some q) None L (Some n) × Linked new (Some q) (Some n) R None
-      runs = spliced-runs look new q L R (Some n) (Some n) r l (λ b. omega (arith, in_f b, once b)) none_q (λ b z. other b (not_n b (omega (arith, in_f b)))) two.0 two.1
-
-      below : Linked new (Some q) None (join L (tree n w k R)) None
-      below = Linked-join new (Some q) None L (tree n w k R) None runs.0 (
-        self ∙ ap (option_map (with_place (Some q) l r)) t.0,
-        Linked-agree look new (Some n) None k None (λ b z. other b (not_n b (omega arith)) ∙ apart b (omega (arith, in_f b, once b)) (not_q b z)) t.1,
-        runs.1,
-      )
-
-      parent_row : new q ≡ option_map (with_ends (first_or (join L (tree n w k R)) None) (last_or None (join L (tree n w k R)))) (look q)
-      parent_row = other q (λ j. n_q (sym j))
-          ∙ spliced-row look q holds.row L R (Some n) (Some n) r l (omega (arith, none_q)) (omega (arith, none_q)) holds.is
-          (holds.first ∙ first_or-join L R None) (holds.last ∙ last_or-join None L R)
-          ∙ rw (holds.is, first_or-join L (tree n w k R) None, last_or-join None L (tree n w k R)) refl
-
-      elsewhere : (b : ℕ) → b ≢ q → 0 < times b (change_children q (λ _. none) f) → new b ≡ look b
-      elsewhere b i z = other b (not_n b (omega (arith, times-emptied b q f h))) ∙ apart b (omega (arith, times-emptied b q f h, among b, once b)) i
+      let apart : (b : ℕ) → times b L + times b R ≡ 0 → b ≢ q → spliced q l r (Some n) (Some n) look b ≡ look b = λ b z j. spliced-other q l r (Some n) (Some n) look b j (λ i. let m = last-among L b i in omega arith) (λ i. let m = first-among R b i in omega arith) in
+      let not_q : (b : ℕ) → 0 < times b k → b ≢ q = λ b z j. let o : 0 < times q k = subst (λ m. 0 < times m k) j z in omega (arith, once q, h) in
+      let n_q : n ≢ q = λ j. not_n q (omega (arith, h)) (sym j) in
+      let n_out : times n L + times n R ≡ 0 = let o : times n f + (1 + (times n k + 0)) ≤ 1 = subst (λ (v : Bool). times n f + (cond v 1 0 + (times n k + 0)) ≤ 1) (eq-eqb n n refl) (once n) in omega (arith, in_f n) in
+      let self : new n ≡ option_map (with_place (Some q) l r) (look n) = is n ∙ at_row-there n (with_place (Some q) l r) (spliced q l r (Some n) (Some n) look) ∙ ap (option_map (with_place (Some q) l r)) (apart n n_out n_q) in
+      let two : Linked look (Some q) None L (first_or R None) × Linked look (Some q) (last_or None L) R None = Linked-split look (Some q) None L R None holds.kids in
+      let runs : Linked new (Some q) None L (Some n) × Linked new (Some q) (Some n) R None = spliced-runs look new q L R (Some n) (Some n) r l (λ b. omega (arith, in_f b, once b)) none_q (λ b z. other b (not_n b (omega (arith, in_f b)))) two.0 two.1 in
+      let below : Linked new (Some q) None (join L (tree n w k R)) None = Linked-join new (Some q) None L (tree n w k R) None runs.0 (self ∙ ap (option_map (with_place (Some q) l r)) t.0, Linked-agree look new (Some n) None k None (λ b z. other b (not_n b (omega arith)) ∙ apart b (omega (arith, in_f b, once b)) (not_q b z)) t.1, runs.1) in
+      let parent_row : new q ≡ option_map (with_ends (first_or (join L (tree n w k R)) None) (last_or None (join L (tree n w k R)))) (look q) = other q (λ j. n_q (sym j)) ∙ spliced-row look q holds.row L R (Some n) (Some n) r l (omega (arith, none_q)) (omega (arith, none_q)) holds.is (holds.first ∙ first_or-join L R None) (holds.last ∙ last_or-join None L R) ∙ rw (holds.is, first_or-join L (tree n w k R) None, last_or-join None L (tree n w k R)) refl in
+      let elsewhere : (b : ℕ) → b ≢ q → 0 < times b (change_children q (λ _. none) f) → new b ≡ look b = λ b i z. other b (not_n b (omega (arith, times-emptied b q f h))) ∙ apart b (omega (arith, times-emptied b q f h, among b, once b)) i in
+      Loose-children look new q (join L (tree n w k R)) below parent_row f h elsewhere s

@@ -1,5 +1,6 @@
 -- Where a number is last in a list of numbers, and whether an attribute of a name is there.
-use Rattle.hnodes.proofs.Names.{◌≡◌, ℕ, zero, suc, ◌-◌, ◌<◌, ◌≤◌, Bool, true, false, cond, ltb, nat_eq, List, [], ◌∷◌, length, length-drop, map, take, drop, refl, sym, ◌∙◌, ap, arith, lt-ltb, map-append, take_all, list_any-append, list_any, Attr, Attribute, numbers_of, attribute_of}
+use Rattle.std.proofs.lemmas.Bool.Decides.{nat_tests}
+use Rattle.hnodes.proofs.Names.{◌≡◌, ℕ, zero, suc, ◌-◌, ◌<◌, ◌≤◌, Bool, true, cond, ltb, nat_eq, List, [], ◌∷◌, length, length-drop, map, take, drop, refl, sym, ◌∙◌, ap, arith, lt-ltb, map-append, take_all, list_any-append, list_any, Attr, Attribute, numbers_of, attribute_of}
 use Rattle.std.proofs.Common.{◌==◌, ◌||◌}
 use Rattle.std.proofs.Math.Dec.{eqb-suc-suc}
 use Rattle.std.proofs.lemmas.Bool.{le-ltb}
@@ -21,10 +22,7 @@ module _ (s : ℕ → Bool) where
   last-any (x ∷ xs) = ap (ltb 0) (up-front x xs (length xs)) ∙ go (s x) (last_up s xs (length xs)) (last-any xs)
     where
       go : (v : Bool) (n : ℕ) → ltb 0 n ≡ list_any s xs → ltb 0 (up v n) ≡ (v || list_any s xs)
-      go true zero e = refl
-      go true (suc n) e = lt-ltb 0 (suc (suc n)) (omega arith)
-      go false zero e = e
-      go false (suc n) e = lt-ltb 0 (suc (suc n)) (omega arith) ∙ sym (lt-ltb 0 (suc n) (omega arith)) ∙ e
+      go v n e = grind (arith, nat_tests)
 
 any-named : (name : ℕ) (attrs : List Attr) → list_any (λ k. k == suc (suc name)) (numbers_of attrs) ≡ list_any (λ a. nat_eq a.0 name) (map attribute_of attrs)
 any-named name [] = refl

@@ -26,8 +26,7 @@ pub parent_is : (t : Inside) (v : Nodes ℕ) (n : ℕ) → Opened t v → n < v.
 parent_is t v n o h = ap parent_in (place_seen t v n o h) ∙ go (spot_of n v.trees)
   where
     go : (o : Option (Spot ℕ)) → parent_in (option_map row_at o) ≡ option_and_then (λ s. s.parent) o
-    go None = refl
-    go (Some s) = refl
+    go o = grind arith
 
 -- the row of a node that was read
 pub lent : (t : Inside) (v : Nodes ℕ) (n k : ℕ) (x : Node) → nodes_of t ≡ v → IsTree t → n < v.made → k ≡ n → x ≡ get_or t.nodes.items k x → Some (row_of x) ≡ option_map row_at (spot_of n v.trees)
@@ -50,82 +49,46 @@ if_some None made h = tt
 if_some (Some k) made h = h k refl
 
 pub near : (t : Inside) (v : Nodes ℕ) (n k : ℕ) (x : Node) → nodes_of t ≡ v → IsTree t → n < v.made → k ≡ n → x ≡ get_or t.nodes.items k x → Near x v.made
-near t v n k x e s h same g = record {
-  parent = if_some x.parent v.made (λ j p. there j (around.0 j (ap parent_in seen ∙ p)));
-  first = if_some x.first v.made (λ j p. there j (ends.0 j (ap first_in seen ∙ p)));
-  last = if_some x.last v.made (λ j p. there j (ends.1 j (ap last_in seen ∙ p)));
-  previous = if_some x.previous v.made (λ j p. there j (around.1 j (ap previous_in seen ∙ p)));
-  next = if_some x.next v.made (λ j p. there j (around.2 j (ap next_in seen ∙ p)));
-}
-  where
-    o : Opened t v
-    o = opened t v e s
-
-    look : Look ℕ
-    look = look_in t.nodes.items
-
-    one : times n v.trees ≡ 1
-    one = one-of (length t.nodes.items) look v.trees n o.stands (omega (arith, o.made))
-
-    seen : look n ≡ Some (row_of x)
-    seen = row_seen t.nodes.items n k x same (omega (arith, o.made)) g
-
-    there : (j : ℕ) → 0 < times j v.trees → j < v.made
-    there j p = let q = is_there (length t.nodes.items) look v.trees j o.stands p in omega (arith, o.made)
-
-    ends : ((j : ℕ) → first_in (look n) ≡ Some j → 0 < times j v.trees) × ((j : ℕ) → last_in (look n) ≡ Some j → 0 < times j v.trees)
-    ends = ends-among look v.trees n one o.stands.rows
-
-    around : ((j : ℕ) → parent_in (look n) ≡ Some j → 0 < times j v.trees) × ((j : ℕ) → previous_in (look n) ≡ Some j → 0 < times j v.trees) × ((j : ℕ) → next_in (look n) ≡ Some j → 0 < times j v.trees)
-    around = links-among look v.trees n one (once-of (length t.nodes.items) look v.trees o.stands) o.stands.rows
+near t v n k x e s h same g =
+    let o : Opened t v = opened t v e s in
+    let look : Look ℕ = look_in t.nodes.items in
+    let one : times n v.trees ≡ 1 = one-of (length t.nodes.items) look v.trees n o.stands (omega (arith, o.made)) in
+    let seen : look n ≡ Some (row_of x) = row_seen t.nodes.items n k x same (omega (arith, o.made)) g in
+    let there : (j : ℕ) → 0 < times j v.trees → j < v.made = λ j p. let q = is_there (length t.nodes.items) look v.trees j o.stands p in omega (arith, o.made) in
+    let ends : ((j : ℕ) → first_in (look n) ≡ Some j → 0 < times j v.trees) × ((j : ℕ) → last_in (look n) ≡ Some j → 0 < times j v.trees) = ends-among look v.trees n one o.stands.rows in
+    let around : ((j : ℕ) → parent_in (look n) ≡ Some j → 0 < times j v.trees) × ((j : ℕ) → previous_in (look n) ≡ Some j → 0 < times j v.trees) × ((j : ℕ) → next_in (look n) ≡ Some j → 0 < times j v.trees) = links-among look v.trees n one (once-of (length t.nodes.items) look v.trees o.stands) o.stands.rows in
+    record {
+      parent = if_some x.parent v.made (λ j p. there j (around.0 j (ap parent_in seen ∙ p)));
+      first = if_some x.first v.made (λ j p. there j (ends.0 j (ap first_in seen ∙ p)));
+      last = if_some x.last v.made (λ j p. there j (ends.1 j (ap last_in seen ∙ p)));
+      previous = if_some x.previous v.made (λ j p. there j (around.1 j (ap previous_in seen ∙ p)));
+      next = if_some x.next v.made (λ j p. there j (around.2 j (ap next_in seen ∙ p)));
+    }
 
 -- what is not of a kind answers nothing
 pub no_name : (w : NodeData) → ((a : ℕ) (b : Vec Attr Global) → w ≡ content.Element a b → ⊥) → ((a : ℕ) (b : Box (List (Attribute ℕ)) Global) → w ≡ content.Wide a b → ⊥) → ((a : ℕ) (b : List (Attribute ℕ)) → w ≡ content.Shared a b → ⊥) → None ≡ name_in (content_is w)
-no_name content.Document h i j = refl
-no_name (content.Doctype d) h i j = refl
 no_name (content.Element a b) h i j = absurd (h a b refl)
 no_name (content.Wide a b) h i j = absurd (i a b refl)
 no_name (content.Shared a b) h i j = absurd (j a b refl)
-no_name (content.Comment t) h i j = refl
-no_name (content.Text t) h i j = refl
-no_name (content.Short t) h i j = refl
+no_name _ h i j = refl
 
 pub no_attributes : (w : NodeData) → ((a : ℕ) (b : Vec Attr Global) → w ≡ content.Element a b → ⊥) → ((a : ℕ) (b : Box (List (Attribute ℕ)) Global) → w ≡ content.Wide a b → ⊥) → ((a : ℕ) (b : List (Attribute ℕ)) → w ≡ content.Shared a b → ⊥) → None ≡ attributes_in (content_is w)
-no_attributes content.Document h i j = refl
-no_attributes (content.Doctype d) h i j = refl
 no_attributes (content.Element a b) h i j = absurd (h a b refl)
 no_attributes (content.Wide a b) h i j = absurd (i a b refl)
 no_attributes (content.Shared a b) h i j = absurd (j a b refl)
-no_attributes (content.Comment t) h i j = refl
-no_attributes (content.Text t) h i j = refl
-no_attributes (content.Short t) h i j = refl
+no_attributes _ h i j = refl
 
 pub no_text : (w : NodeData) → ((a : String Global) → w ≡ content.Comment a → ⊥) → ((a : String Global) → w ≡ content.Text a → ⊥) → ((a : ArrayString) → w ≡ content.Short a → ⊥) → None ≡ text_in (content_is w)
-no_text content.Document h i j = refl
-no_text (content.Doctype d) h i j = refl
-no_text (content.Element a b) h i j = refl
-no_text (content.Wide a b) h i j = refl
-no_text (content.Shared a b) h i j = refl
 no_text (content.Comment a) h i j = absurd (h a refl)
 no_text (content.Text a) h i j = absurd (i a refl)
 no_text (content.Short a) h i j = absurd (j a refl)
+no_text _ h i j = refl
 
 pub no_characters : (w : NodeData) → ((a : String Global) → w ≡ content.Text a → ⊥) → ((a : ArrayString) → w ≡ content.Short a → ⊥) → [] ≡ own_text (content_is w)
-no_characters content.Document i j = refl
-no_characters (content.Doctype d) i j = refl
-no_characters (content.Element a b) i j = refl
-no_characters (content.Wide a b) i j = refl
-no_characters (content.Shared a b) i j = refl
-no_characters (content.Comment a) i j = refl
 no_characters (content.Text a) i j = absurd (i a refl)
 no_characters (content.Short a) i j = absurd (j a refl)
+no_characters _ i j = refl
 
 pub no_doctype : (w : NodeData) → ((a : Box DoctypeOf Global) → w ≡ content.Doctype a → ⊥) → None ≡ doctype_in (content_is w)
-no_doctype content.Document h = refl
 no_doctype (content.Doctype d) h = absurd (h d refl)
-no_doctype (content.Element a b) h = refl
-no_doctype (content.Wide a b) h = refl
-no_doctype (content.Shared a b) h = refl
-no_doctype (content.Comment a) h = refl
-no_doctype (content.Text a) h = refl
-no_doctype (content.Short a) h = refl
+no_doctype _ h = refl

@@ -1,5 +1,6 @@
 -- Where a node is: among the roots, or among the children of a node.
-use Rattle.hnodes.proofs.Names.{◌≡◌, ℕ, zero, suc, ◌+◌, ◌≤◌, Bool, true, false, eqb, cond, refl, subst, arith, ◌⊎◌, inl, inr, eqb-true, eq-eqb, What, Forest, none, tree, times, join, tree_at, cut, change_children, children_of, put_before}
+use Rattle.hnodes.proofs.Families.{sited, at_root, in_kids, in_rest}
+use Rattle.hnodes.proofs.Names.{◌≡◌, ℕ, ◌+◌, ◌≤◌, Bool, false, eqb, cond, refl, subst, arith, ◌⊎◌, inl, inr, eqb-true, eq-eqb, What, Forest, none, tree, times, join, tree_at, cut, change_children, children_of, put_before}
 use Rattle.hnodes.proofs.Forests.{join-none, cut-absent, tree_at-absent, children_of-absent, change_children-absent}
 
 module _ {N : Type 0} where
@@ -34,7 +35,20 @@ module _ {N : Type 0} where
   -- a node is here or below
   pub level : (n : ℕ) (f : Forest N) → times n f ≡ 1 → ((b : ℕ) → times b f ≤ 1) → Here n f ⊎ Below n f
   level n none h once = absurd (omega arith)
-  level n (tree b w kids rest) h once = go (level n kids) (level n rest) (eqb b n) refl h
+  level n (tree b w kids rest) h once = elim (sited n b kids rest h) [
+    | at_root e a z ↦ inl (record {
+      left = none;
+      what = w;
+      kids = kids;
+      right = rest;
+      is = rw (eqb-true b n e) refl;
+      cut_is = rw e refl;
+      tree_is = rw (e, eqb-true b n e) refl;
+      put_is = λ t. rw (e, eqb-true b n e) refl;
+    })
+    | in_kids e a z ↦ in_kids-level a (level n kids a (λ c. let o = once c in omega arith))
+    | in_rest e a z ↦ in_rest-level z (level n rest z (λ c. let o = once c in omega arith))
+  ]
     where
       kids-alone : (q : ℕ) → times q kids ≡ 1 → (eqb b q ≡ false) × (times q rest ≡ 0)
       kids-alone q k = grind arith
@@ -42,8 +56,8 @@ module _ {N : Type 0} where
       rest-alone : (q : ℕ) → times q rest ≡ 1 → (eqb b q ≡ false) × (times q kids ≡ 0)
       rest-alone q k = grind arith
 
-      in_kids : times n kids ≡ 1 → Here n kids ⊎ Below n kids → Here n (tree b w kids rest) ⊎ Below n (tree b w kids rest)
-      in_kids k (inl p) =
+      in_kids-level : times n kids ≡ 1 → Here n kids ⊎ Below n kids → Here n (tree b w kids rest) ⊎ Below n (tree b w kids rest)
+      in_kids-level k (inl p) =
           let a = kids-alone n k in
           inr (record {
             parent = b;
@@ -57,7 +71,7 @@ module _ {N : Type 0} where
             tree_is = rw (a.0, p.tree_is, tree_at-absent n rest a.1) refl;
             put_is = λ t. rw (a.0, eq-eqb b b refl, p.put_is t, put_before-absent n t rest a.1) refl;
           })
-      in_kids k (inr p) =
+      in_kids-level k (inr p) =
           let a = kids-alone n k in
           let q = kids-alone p.parent p.one in
           inr (record {
@@ -73,8 +87,8 @@ module _ {N : Type 0} where
             put_is = λ t. rw (a.0, q.0, p.put_is t, put_before-absent n t rest a.1, change_children-absent p.parent (λ _. join p.left (join t (tree n p.what p.kids p.right))) rest q.1) refl;
           })
 
-      in_rest : times n rest ≡ 1 → Here n rest ⊎ Below n rest → Here n (tree b w kids rest) ⊎ Below n (tree b w kids rest)
-      in_rest k (inl p) =
+      in_rest-level : times n rest ≡ 1 → Here n rest ⊎ Below n rest → Here n (tree b w kids rest) ⊎ Below n (tree b w kids rest)
+      in_rest-level k (inl p) =
           let a = rest-alone n k in
           inl (record {
             left = tree b w kids p.left;
@@ -86,7 +100,7 @@ module _ {N : Type 0} where
             tree_is = rw (a.0, p.tree_is, tree_at-absent n kids a.1) refl;
             put_is = λ t. rw (a.0, p.put_is t, put_before-absent n t kids a.1) refl;
           })
-      in_rest k (inr p) =
+      in_rest-level k (inr p) =
           let a = rest-alone n k in
           let q = rest-alone p.parent p.one in
           inr (record {
@@ -101,21 +115,3 @@ module _ {N : Type 0} where
             tree_is = rw (a.0, p.tree_is, tree_at-absent n kids a.1) refl;
             put_is = λ t. rw (a.0, q.0, p.put_is t, put_before-absent n t kids a.1, change_children-absent p.parent (λ _. join p.left (join t (tree n p.what p.kids p.right))) kids q.1) refl;
           })
-
-      go : (times n kids ≡ 1 → ((c : ℕ) → times c kids ≤ 1) → Here n kids ⊎ Below n kids) → (times n rest ≡ 1 → ((c : ℕ) → times c rest ≤ 1) → Here n rest ⊎ Below n rest)
-          → (v : Bool) → eqb b n ≡ v → cond v 1 0 + (times n kids + times n rest) ≡ 1 → Here n (tree b w kids rest) ⊎ Below n (tree b w kids rest)
-      go l r true e h' = inl (record {
-        left = none;
-        what = w;
-        kids = kids;
-        right = rest;
-        is = rw (eqb-true b n e) refl;
-        cut_is = rw e refl;
-        tree_is = rw (e, eqb-true b n e) refl;
-        put_is = λ t. rw (e, eqb-true b n e) refl;
-      })
-      go l r false e h' = under (times n kids) refl (omega arith)
-        where
-          under : (j : ℕ) → times n kids ≡ j → j + times n rest ≡ 1 → Here n (tree b w kids rest) ⊎ Below n (tree b w kids rest)
-          under zero a z = in_rest (omega arith) (r (omega arith) (λ c. let o = once c in omega arith))
-          under (suc j) a z = in_kids (omega arith) (l (omega arith) (λ c. let o = once c in omega arith))

@@ -1,4 +1,5 @@
 -- Laws of linked nodes.
+use Rattle.hnodes.proofs.Families.{sited, at_root, in_kids, in_rest}
 use Rattle.hnodes.proofs.Names.{◌≡◌, ◌≢◌, ℕ, zero, suc, ◌+◌, ◌<◌, ◌≤◌, Bool, true, false, eqb, cond, Option, Some, None, refl, sym, ◌∙◌, ap, subst, arith, eqb-true, eq-eqb, eqb-false, option_map, Forest, none, tree, roots, size, times, join, change_children, first_or, last_or, Look, Linked, Loose, with_next, with_previous, with_ends}
 use Rattle.hnodes.specs.Links.{seen, seen_each}
 use Rattle.hnodes.proofs.Forests.{some_inj, first_or-join, change_children-absent}
@@ -62,40 +63,26 @@ module _ {N : Type 0} where
   pub Linked-children : (look new : Look N) (q : ℕ) (Y : Forest N) → Linked new (Some q) None Y None → new q ≡ option_map (with_ends (first_or Y None) (last_or None Y)) (look q)
       → (p x : Option ℕ) (f : Forest N) (y : Option ℕ) → times q f ≡ 1 → ((b : ℕ) → b ≢ q → 0 < times b (change_children q (λ _. none) f) → new b ≡ look b) → Linked look p x f y → Linked new p x (change_children q (λ _. Y) f) y
   Linked-children look new q Y t r p x none y h same s = absurd (omega arith)
-  Linked-children look new q Y t r p x (tree b w kids rest) y h same s =
-      go (Linked-children look new q Y t r (Some b) None kids None) (Linked-children look new q Y t r p (Some b) rest y) (eqb b q) refl h same s
+  Linked-children look new q Y t r p x (tree b w kids rest) y h same s = elim (sited q b kids rest h) [
+    | at_root e a z ↦
+        let b_q : b ≡ q = eqb-true b q e in
+        rw e (rw (b_q, r, ← b_q, s.0) refl, rw b_q t, Linked-agree look new p (Some b) rest y (λ c k. same c (not-among q c rest z k) (rw e (omega arith))) s.2)
+    | in_kids e a z ↦
+        rw e (
+          row e,
+          Linked-children look new q Y t r (Some b) None kids None a (λ c k z'. same c k (rw e (omega arith))) s.1,
+          rw (change_children-absent q (λ _. Y) rest z) (Linked-agree look new p (Some b) rest y (λ c k. same c (not-among q c rest z k) (rw (e, change_children-absent q (λ _. none) rest z) (omega arith))) s.2),
+        )
+    | in_rest e a z ↦
+        rw e (
+          row e,
+          rw (change_children-absent q (λ _. Y) kids a) (Linked-agree look new (Some b) None kids None (λ c k. same c (not-among q c kids a k) (rw (e, change_children-absent q (λ _. none) kids a) (omega arith))) s.1),
+          Linked-children look new q Y t r p (Some b) rest y z (λ c k z'. same c k (rw e (omega arith))) s.2,
+        )
+  ]
     where
-      go : (times q kids ≡ 1 → ((c : ℕ) → c ≢ q → 0 < times c (change_children q (λ _. none) kids) → new c ≡ look c) → Linked look (Some b) None kids None → Linked new (Some b) None (change_children q (λ _. Y) kids) None)
-          → (times q rest ≡ 1 → ((c : ℕ) → c ≢ q → 0 < times c (change_children q (λ _. none) rest) → new c ≡ look c) → Linked look p (Some b) rest y → Linked new p (Some b) (change_children q (λ _. Y) rest) y)
-          → (v : Bool) → eqb b q ≡ v → cond v 1 0 + (times q kids + times q rest) ≡ 1
-          → ((c : ℕ) → c ≢ q → 0 < times c (cond v (tree b w none rest) (tree b w (change_children q (λ _. none) kids) (change_children q (λ _. none) rest))) → new c ≡ look c)
-          → Linked look p x (tree b w kids rest) y → Linked new p x (cond v (tree b w Y rest) (tree b w (change_children q (λ _. Y) kids) (change_children q (λ _. Y) rest))) y
-      go l m true e h' same' s' =
-          let b_q : b ≡ q = eqb-true b q e in (
-            rw (b_q, r, ← b_q, s'.0) refl,
-            rw b_q t,
-            Linked-agree look new p (Some b) rest y (λ c k. same' c (not-among q c rest (omega arith) k) (omega arith)) s'.2,
-          )
-      go l m false e h' same' s' = under (times q kids) refl (omega arith)
-        where
-          here : new b ≡ look b
-          here = same' b (eqb-false b q e) (rw (eq-eqb b b refl) (omega arith))
-
-          row : new b ≡ Some (record { what = w; parent = p; first = first_or (change_children q (λ _. Y) kids) None; last = last_or None (change_children q (λ _. Y) kids); previous = x; next = first_or (change_children q (λ _. Y) rest) y })
-          row = rw (first_or-change q (λ _. Y) kids None, last_or-change q (λ _. Y) None kids, first_or-change q (λ _. Y) rest y) (here ∙ s'.0)
-
-          under : (j : ℕ) → times q kids ≡ j → j + times q rest ≡ 1 → Linked new p x (tree b w (change_children q (λ _. Y) kids) (change_children q (λ _. Y) rest)) y
-          under zero a z = (
-            row,
-            rw (change_children-absent q (λ _. Y) kids a) (Linked-agree look new (Some b) None kids None (λ c k. same' c (not-among q c kids a k) (rw (change_children-absent q (λ _. none) kids a) (omega arith))) s'.1),
-            m (omega arith) (λ c k z'. same' c k (omega arith)) s'.2,
-          )
-          under (suc j) a z =
-              let no : times q rest ≡ 0 = omega arith in (
-                row,
-                l (omega arith) (λ c k z'. same' c k (omega arith)) s'.1,
-                rw (change_children-absent q (λ _. Y) rest no) (Linked-agree look new p (Some b) rest y (λ c k. same' c (not-among q c rest no k) (rw (change_children-absent q (λ _. none) rest no) (omega arith))) s'.2),
-              )
+      row : eqb b q ≡ false → new b ≡ Some (record { what = w; parent = p; first = first_or (change_children q (λ _. Y) kids) None; last = last_or None (change_children q (λ _. Y) kids); previous = x; next = first_or (change_children q (λ _. Y) rest) y })
+      row e = rw (first_or-change q (λ _. Y) kids None, last_or-change q (λ _. Y) None kids, first_or-change q (λ _. Y) rest y) (same b (eqb-false b q e) (rw (e, eq-eqb b b refl) (omega arith)) ∙ s.0)
 
   -- the last of a run has another sibling after it
   pub last-among : (f : Forest N) (c : ℕ) → last_or None f ≡ Some c → 0 < times c f

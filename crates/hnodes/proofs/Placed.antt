@@ -47,22 +47,13 @@ module _ {N : Type 0} where
     other-new x h = rw (ne_eqb made x (λ e. h (sym e))) refl
 
     last-text : (p : ℕ) → p < made → IsTextBefore (LastIn p) (hung p new f) made
-    last-text p h = record { before = before; bytes = bytes; what = ap (option_map (λ (s : Spot N). s.what)) (child-spot made p (text bytes) (children_of p f) none none (hung p new f) still once kids) }
-      where
-        one : times p f ≡ 1
-        one = is-there made f counted p h
-
-        kids : children_of p (hung p new f) ≡ join (children_of p f) new
-        kids = children_of-changed p (λ k. join k new) f one
-
-        still : times p (hung p new f) ≡ 1
-        still = omega (arith, one, times-hung p p new f one, other-new p (λ e. omega arith))
-
-        once : times made (hung p new f) ≡ 1
-        once = omega (arith, times-hung made p new f one, absent, one-new)
-
-        before : last_child_of p (hung p new f) ≡ Some made
-        before = last_child-is p (hung p new f) still ∙ ap (last_or None) kids ∙ last_or-join None (children_of p f) new
+    last-text p h =
+        let one : times p f ≡ 1 = is-there made f counted p h in
+        let kids : children_of p (hung p new f) ≡ join (children_of p f) new = children_of-changed p (λ k. join k new) f one in
+        let still : times p (hung p new f) ≡ 1 = omega (arith, one, times-hung p p new f one, other-new p (λ e. omega arith)) in
+        let once : times made (hung p new f) ≡ 1 = omega (arith, times-hung made p new f one, absent, one-new) in
+        let before : last_child_of p (hung p new f) ≡ Some made = last_child-is p (hung p new f) still ∙ ap (last_or None) kids ∙ last_or-join None (children_of p f) new in
+        record { before = before; bytes = bytes; what = ap (option_map (λ (s : Spot N). s.what)) (child-spot made p (text bytes) (children_of p f) none none (hung p new f) still once kids) }
 
     root-alone : (s : ℕ) → Here s f → parent_of s f ≡ None
     root-alone s p = ap (option_and_then (λ (t : Spot N). t.parent)) (root-spot s p.what p.left p.kids p.right f (at-most made f counted s) p.is)
@@ -74,23 +65,16 @@ module _ {N : Type 0} where
         one = is-there made f counted s h
 
         below : Below s f → IsTextBefore (Before s) (put_before s new f) made
-        below p = record {
-          before = ap (option_and_then (λ (t : Spot N). t.before)) (child-spot s p.parent p.what (join p.left new) p.kids p.right (put_before s new f) still once (kids ∙ sym (join-assoc p.left new (tree s p.what p.kids p.right)))) ∙ last_or-join None p.left new;
-          bytes = bytes;
-          what = ap (option_map (λ (t : Spot N). t.what)) (child-spot made p.parent (text bytes) p.left none (tree s p.what p.kids p.right) (put_before s new f) still once-new kids);
-        }
-          where
-            kids : children_of p.parent (put_before s new f) ≡ join p.left (join new (tree s p.what p.kids p.right))
-            kids = ap (children_of p.parent) (p.put_is new) ∙ children_of-changed p.parent (λ _. join p.left (join new (tree s p.what p.kids p.right))) f p.one
-
-            still : times p.parent (put_before s new f) ≡ 1
-            still = omega (arith, times-put p.parent s new f one, p.one, other-new p.parent (λ e. let z : times p.parent f ≡ 0 = rw e absent in omega (arith, p.one)))
-
-            once : times s (put_before s new f) ≡ 1
-            once = omega (arith, one, times-put s s new f one, other-new s (λ e. omega arith))
-
-            once-new : times made (put_before s new f) ≡ 1
-            once-new = omega (arith, times-put made s new f one, absent, one-new)
+        below p =
+            let kids : children_of p.parent (put_before s new f) ≡ join p.left (join new (tree s p.what p.kids p.right)) = ap (children_of p.parent) (p.put_is new) ∙ children_of-changed p.parent (λ _. join p.left (join new (tree s p.what p.kids p.right))) f p.one in
+            let still : times p.parent (put_before s new f) ≡ 1 = omega (arith, times-put p.parent s new f one, p.one, other-new p.parent (λ e. let z : times p.parent f ≡ 0 = rw e absent in omega (arith, p.one))) in
+            let once : times s (put_before s new f) ≡ 1 = omega (arith, one, times-put s s new f one, other-new s (λ e. omega arith)) in
+            let once-new : times made (put_before s new f) ≡ 1 = omega (arith, times-put made s new f one, absent, one-new) in
+            record {
+              before = ap (option_and_then (λ (t : Spot N). t.before)) (child-spot s p.parent p.what (join p.left new) p.kids p.right (put_before s new f) still once (kids ∙ sym (join-assoc p.left new (tree s p.what p.kids p.right)))) ∙ last_or-join None p.left new;
+              bytes = bytes;
+              what = ap (option_map (λ (t : Spot N). t.what)) (child-spot made p.parent (text bytes) p.left none (tree s p.what p.kids p.right) (put_before s new f) still once-new kids);
+            }
 
         go : Here s f ⊎ Below s f → IsTextBefore (Before s) (put_before s new f) made
         go (inl p) = absurd (let no : false ≡ true = subst (λ (o : Option ℕ). IsSome o) (root-alone s p) up in cc)

@@ -12,12 +12,12 @@ without-end : (n c : ℕ) (xs : List ℕ) → c ≢ n → without n (xs ++ c ∷
 without-end n c [] h = rw (ne_eqb c n h) refl
 without-end n c (x ∷ xs) h = grind (arith, without-end n c xs h)
 
+past-one : (n c : ℕ) (ys : List ℕ) (v : Bool) → suc c ≤ n → without n (cond v (c ∷ []) [] ++ ys) ≡ cond v (c ∷ []) [] ++ without n ys
+past-one n c ys v h = grind arith
+
 module _ {N : Type 0} where
   standing-loose : (o u : Option (Row N)) → standing o ≡ standing u → is_loose o ≡ is_loose u
-  standing-loose None None e = refl
-  standing-loose None (Some r) e = cc
-  standing-loose (Some r) None e = cc
-  standing-loose (Some r) (Some s) e = grind arith
+  standing-loose o u e = grind arith
 
   pub keeps : (f : Row N → Row N) → ((r : Row N) → standing (Some (f r)) ≡ standing (Some r)) → (k : ℕ) (look : Look N) (b : ℕ) → standing (at_row k f look b) ≡ standing (look b)
   keeps f h k look b = grind arith
@@ -49,11 +49,7 @@ module _ {N : Type 0} where
   past n look zero ys h = refl
   past n look (suc c) ys h =
       ap (without n) (assoc (loose c look) (cond (is_loose (look c)) (c ∷ []) []) ys) ∙ past n look c (cond (is_loose (look c)) (c ∷ []) [] ++ ys) (omega arith)
-      ∙ ap (λ zs. loose c look ++ zs) (go (is_loose (look c))) ∙ sym (assoc (loose c look) (cond (is_loose (look c)) (c ∷ []) []) (without n ys))
-    where
-      go : (v : Bool) → without n (cond v (c ∷ []) [] ++ ys) ≡ cond v (c ∷ []) [] ++ without n ys
-      go true = rw (ne_eqb c n (λ j. absurd (omega arith))) refl
-      go false = refl
+      ∙ ap (λ zs. loose c look ++ zs) (past-one n c ys (is_loose (look c)) h) ∙ sym (assoc (loose c look) (cond (is_loose (look c)) (c ∷ []) []) (without n ys))
 
   pub loose-same : (look new : Look N) (c : ℕ) → ((b : ℕ) → b < c → is_loose (new b) ≡ is_loose (look b)) → loose c new ≡ loose c look
   loose-same look new zero same = refl

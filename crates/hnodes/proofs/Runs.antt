@@ -1,5 +1,5 @@
 -- Characters that are put one by one make one text.
-use Rattle.hnodes.proofs.Names.{◌≡◌, ℕ, ◌+◌, ◌<◌, length, List, [], ◌∷◌, ◌++◌, Some, None, refl, sym, ◌∙◌, ap, arith, encode_utf8, What, document, doctype, element, comment, text, Forest, none, tree, join, change_what, Nodes, AreNodes, with_text, with_char, graft, IsPlace, text_before, char_into, Place}
+use Rattle.hnodes.proofs.Names.{◌≡◌, ℕ, ◌+◌, ◌<◌, length, List, [], ◌∷◌, ◌++◌, Some, None, refl, sym, ◌∙◌, ap, arith, encode_utf8, What, text, Forest, none, tree, join, change_what, Nodes, AreNodes, with_text, with_char, graft, IsPlace, text_before, char_into, Place}
 use Rattle.std.proofs.Common.{append_assoc, append-nil}
 use Rattle.std.proofs.lemmas.List.{nil_from_length}
 use Rattle.std.proofs.lemmas.Str.{chars-nil, encodes-chars}
@@ -11,18 +11,12 @@ use Rattle.hnodes.proofs.Placed.{placed, graft-made, placed-text, what-placed}
 
 module _ {N : Type 0} where
   with_text-nil : (w : What N) → with_text [] w ≡ w
-  with_text-nil document = refl
-  with_text-nil (doctype n p s) = refl
-  with_text-nil (element x attrs) = refl
-  with_text-nil (comment t) = refl
   with_text-nil (text t) = ap (λ u. text u) (append-nil t)
+  with_text-nil _ = refl
 
   with_text-twice : (a b : List ℕ) (w : What N) → with_text b (with_text a w) ≡ with_text (a ++ b) w
-  with_text-twice a b document = refl
-  with_text-twice a b (doctype n p s) = refl
-  with_text-twice a b (element x attrs) = refl
-  with_text-twice a b (comment t) = refl
   with_text-twice a b (text t) = ap (λ u. text u) (append_assoc t a b)
+  with_text-twice a b _ = refl
 
   longer-nil : (n : ℕ) (f : Forest N) → change_what n (with_text []) f ≡ f
   longer-nil n none = refl

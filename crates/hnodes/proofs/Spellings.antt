@@ -1,5 +1,5 @@
 -- A forest under other names.
-use Rattle.hnodes.proofs.Names.{arith, ◌≡◌, ℕ, ◌+◌, Bool, true, false, eqb, cond, [], ◌∷◌, map, Option, Some, None, refl, sym, ◌∙◌, ap, option_and_then, map-append, option_map, Attribute, What, document, doctype, element, comment, text, Forest, none, tree, join, tree_at, cut, children_of, change_children, change_what, put_before, Spot, first_or, last_or, spot_below, spot_of, either_of, parent_of, last_child_of, previous_of, what_of, kind_in, name_in, attributes_in, text_in, doctype_in, Nodes, graft, graft_last, graft_before, move_all, with_attribute, with_char, text_before, char_into, Place, LastIn, Before}
+use Rattle.hnodes.proofs.Names.{arith, ◌≡◌, ℕ, ◌+◌, [], ◌∷◌, map, Option, Some, None, refl, sym, ◌∙◌, ap, option_and_then, map-append, option_map, Attribute, What, document, doctype, element, comment, text, Forest, none, tree, join, tree_at, cut, children_of, change_children, change_what, put_before, Spot, first_or, last_or, spot_below, spot_of, either_of, parent_of, last_child_of, previous_of, what_of, kind_in, name_in, attributes_in, text_in, doctype_in, Nodes, graft, graft_last, graft_before, move_all, with_attribute, with_char, text_before, char_into, Place, LastIn, Before}
 use Rattle.std.proofs.lemmas.Iterator.Adapters.{option_map_id}
 use Rattle.hnodes.specs.Spelled.{spelled_attribute, spelled_what, spelled, spelled_nodes, spelled_spot, EditsKnowNoNames, QuestionsKnowNoNames}
 
@@ -30,14 +30,7 @@ module _ {N M : Type 0} (g : N → M) where
 
   spelled-change_what : (n : ℕ) (h : What N → What N) (h' : What M → What M) → ((w : What N) → spelled_what g (h w) ≡ h' (spelled_what g w)) → (f : Forest N) → spelled g (change_what n h f) ≡ change_what n h' (spelled g f)
   spelled-change_what n h h' same none = refl
-  spelled-change_what n h h' same (tree b w kids rest) =
-      let l = spelled-change_what n h h' same kids in
-      let r = spelled-change_what n h h' same rest in
-      λ i. tree b (go (eqb b n) i) (l i) (r i)
-    where
-      go : (v : Bool) → spelled_what g (cond v (h w) w) ≡ cond v (h' (spelled_what g w)) (spelled_what g w)
-      go true = same w
-      go false = refl
+  spelled-change_what n h h' same (tree b w kids rest) = grind (arith, spelled-change_what n h h' same kids, spelled-change_what n h h' same rest, same w)
 
   -- places
   spelled-first_or : (f : Forest N) (y : Option ℕ) → first_or (spelled g f) y ≡ first_or f y
@@ -58,10 +51,7 @@ module _ {N M : Type 0} (g : N → M) where
 
   spelled-spot : (n : ℕ) (f : Forest N) → spot_of n (spelled g f) ≡ option_map (spelled_spot g) (spot_of n f)
   spelled-spot n none = refl
-  spelled-spot n (tree b w kids rest) =
-      let l = spelled-below n None None (tree b w kids none) in
-      let r = spelled-spot n rest in
-      (λ i. either_of (l i) (r i)) ∙ either-spelled (spot_below n None None (tree b w kids none)) (spot_of n rest)
+  spelled-spot n (tree b w kids rest) = grind (arith, spelled-below, spelled-spot n rest, either-spelled)
 
   -- what is asked of a place
   asked : {A : Type 0} (q : Spot M → Option A) (q' : Spot N → Option A) → ((s : Spot N) → q (spelled_spot g s) ≡ q' s) → (n : ℕ) (f : Forest N) → option_and_then q (spot_of n (spelled g f)) ≡ option_and_then q' (spot_of n f)
@@ -77,38 +67,23 @@ module _ {N M : Type 0} (g : N → M) where
 
   spelled-kind : (w : What N) → kind_in (spelled_what g w) ≡ kind_in w
   spelled-kind document = refl
-  spelled-kind (doctype n p s) = refl
-  spelled-kind (element x attrs) = refl
-  spelled-kind (comment t) = refl
-  spelled-kind (text t) = refl
+  spelled-kind _ = refl
 
   spelled-name : (w : What N) → name_in (spelled_what g w) ≡ option_map g (name_in w)
   spelled-name document = refl
-  spelled-name (doctype n p s) = refl
-  spelled-name (element x attrs) = refl
-  spelled-name (comment t) = refl
-  spelled-name (text t) = refl
+  spelled-name _ = refl
 
   spelled-attributes : (w : What N) → attributes_in (spelled_what g w) ≡ option_map (map (spelled_attribute g)) (attributes_in w)
   spelled-attributes document = refl
-  spelled-attributes (doctype n p s) = refl
-  spelled-attributes (element x attrs) = refl
-  spelled-attributes (comment t) = refl
-  spelled-attributes (text t) = refl
+  spelled-attributes _ = refl
 
   spelled-text : (w : What N) → text_in (spelled_what g w) ≡ option_map (λ a. a) (text_in w)
   spelled-text document = refl
-  spelled-text (doctype n p s) = refl
-  spelled-text (element x attrs) = refl
-  spelled-text (comment t) = refl
-  spelled-text (text t) = refl
+  spelled-text _ = refl
 
   spelled-doctype : (w : What N) → doctype_in (spelled_what g w) ≡ option_map (λ a. a) (doctype_in w)
   spelled-doctype document = refl
-  spelled-doctype (doctype n p s) = refl
-  spelled-doctype (element x attrs) = refl
-  spelled-doctype (comment t) = refl
-  spelled-doctype (text t) = refl
+  spelled-doctype _ = refl
 
   spelled-parent_of : (n : ℕ) (f : Forest N) → parent_of n (spelled g f) ≡ parent_of n f
   spelled-parent_of n f = asked (λ s. s.parent) (λ s. s.parent) (λ s. refl) n f

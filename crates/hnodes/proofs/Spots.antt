@@ -1,6 +1,6 @@
 -- The row of a node is that of its place.
 use Rattle.std.proofs.lemmas.Bool.Decides.{nat_tests}
-use Rattle.hnodes.proofs.Names.{◌≡◌, ℕ, zero, suc, ◌+◌, Option, Some, None, refl, arith, option_map, Forest, none, tree, times, spot_below, spot_of, either_of, Look, Linked, Loose, row_at}
+use Rattle.hnodes.proofs.Names.{◌≡◌, ℕ, Option, Some, None, refl, arith, option_map, Forest, none, tree, times, spot_below, spot_of, either_of, Look, Linked, Loose, row_at}
 
 pub either-none : {A : Type 0} → (o : Option A) → either_of o None ≡ o
 either-none None = refl
@@ -21,8 +21,4 @@ module _ {N : Type 0} where
 
   pub Loose-spot : (look : Look N) (n : ℕ) (f : Forest N) → times n f ≡ 1 → Loose look f → look n ≡ option_map row_at (spot_of n f)
   Loose-spot look n none h s = absurd (omega arith)
-  Loose-spot look n (tree b w kids rest) h s = under (times n rest) refl (omega arith) (Loose-spot look n rest)
-    where
-      under : (j : ℕ) → times n rest ≡ j → times n (tree b w kids none) + j ≡ 1 → (times n rest ≡ 1 → Loose look rest → look n ≡ option_map row_at (spot_of n rest)) → look n ≡ option_map row_at (either_of (spot_below n None None (tree b w kids none)) (spot_of n rest))
-      under zero a z r = rw (spot_of-absent n rest a, either-none (spot_below n None None (tree b w kids none))) (Linked-spot look n None None (tree b w kids none) (omega arith) s.0)
-      under (suc j) a z r = rw (spot_below-absent n None None (tree b w kids none) (omega arith)) (r (omega arith) s.1)
+  Loose-spot look n (tree b w kids rest) h s = grind (arith, Loose-spot look n rest, Linked-spot look n None None (tree b w kids none), spot_of-absent, spot_below-absent, either-none)

@@ -1,9 +1,9 @@
 -- A walk in tree order.
-use Rattle.hnodes.proofs.Names.{◌≡◌, ℕ, ◌<◌, Bool, true, false, eqb, cond, not, List, [], ◌∷◌, ◌++◌, length, Option, Some, None, refl, sym, ◌∙◌, ap, subst, arith, drop, option_and_then, unwrap_or, ◌⊎◌, inl, inr, eq-eqb, append_assoc, append-nil, IfSome, IsTrue, option_map, What, Forest, none, tree, times, join, children_of, Spot, spot_of, first_or, first_child_of, next_of, parent_of, what_of, AreCounted, above, ancestors_of, way_up, order, after_each, is_among}
+use Rattle.hnodes.proofs.Families.{first-is, first_child-is, spot-children, children-among}
+use Rattle.hnodes.proofs.Names.{◌≡◌, ℕ, ◌<◌, Bool, true, false, eqb, cond, not, List, [], ◌∷◌, ◌++◌, length, Some, None, refl, sym, ◌∙◌, ap, subst, arith, drop, option_and_then, ◌⊎◌, inl, inr, eq-eqb, append_assoc, append-nil, IfSome, IsTrue, option_map, What, Forest, none, tree, times, join, children_of, Spot, spot_of, first_or, first_child_of, next_of, parent_of, what_of, AreCounted, above, ancestors_of, way_up, order, after_each, is_among}
 use Rattle.hnodes.specs.Passed.{trees_after, inside_from}
 use Rattle.hnodes.proofs.Forests.{some_inj, times-join, join-assoc}
 use Rattle.hnodes.proofs.Levels.{level, Here, Below}
-use Rattle.hnodes.proofs.Families.{first_child-is, spot-children, children-among}
 use Rattle.hnodes.proofs.Counted.{at-most, is-there, one-there, was-made}
 use Rattle.hnodes.proofs.ChildSpots.{spot_among, child-spot, root-spot}
 use Rattle.hnodes.proofs.WaysUp.{way-step}
@@ -18,11 +18,7 @@ module _ {N : Type 0} where
 
   -- no node is inside itself
   not-own : (n : ℕ) (f : Forest N) → is_among n (ancestors_of n f) ≡ false
-  not-own n f = go (above n [] f) refl
-    where
-      go : (o : Option (List ℕ)) → above n [] f ≡ o → is_among n (unwrap_or o []) ≡ false
-      go None e = refl
-      go (Some ups) e = above-other n [] ups f refl e
+  not-own n f = grind (arith, above-other n [])
 
   pub apart : (n top : ℕ) (f : Forest N) → is_among top (ancestors_of n f) ≡ true → eqb n top ≡ false
   apart n top f h = grind (arith, not-own)
@@ -44,31 +40,16 @@ module _ {N : Type 0} where
     parents n h = ap (λ (xs : List ℕ). drop 1 xs) (way-step made f counted n h)
 
     pub entered : (q m : ℕ) (w : What N) (L k R : Forest N) → q < made → children_of q f ≡ join L (tree m w k R) → Entered made top q m w k R f
-    entered q m w L k R h is = record { made_is = low; what = ap (option_map (λ (s : Spot N). s.what)) spot; kids = kids; up = up; is = whole }
-      where
-        some : 0 < times m (join L (tree m w k R))
-        some = rw (times-join m L (tree m w k R), eq-eqb m m refl) (omega arith)
-
-        there : 0 < times m f
-        there = let a : 0 < times m (children_of q f) = rw is some in omega (arith, children-among m q f)
-
-        once : times m f ≡ 1
-        once = one-there made f counted m there
-
-        low : m < made
-        low = was-made made f counted m there
-
-        spot : spot_of m f ≡ Some (spot_among m q w L k R (Some q) None)
-        spot = child-spot m q w L k R f (is-there made f counted q h) once is
-
-        kids : children_of m f ≡ k
-        kids = sym (some_inj (ap (option_map (λ (s : Spot N). s.children)) (sym spot) ∙ spot-children m f once))
-
-        up : ancestors_of m f ≡ q ∷ ancestors_of q f
-        up = parents m low ∙ ap (λ o. way_up (option_and_then (λ (s : Spot N). s.parent) o) f) spot
-
-        whole : inside_from top (Some m) f ≡ order (tree m w k R) ++ after_each top (q ∷ ancestors_of q f) f
-        whole = (λ i. (m ∷ order (kids i)) ++ (order (trees_after (spot i)) ++ after_each top (up i) f)) ∙ sym (append_assoc (m ∷ order k) (order R) (after_each top (q ∷ ancestors_of q f) f))
+    entered q m w L k R h is =
+        let some : 0 < times m (join L (tree m w k R)) = rw (times-join m L (tree m w k R), eq-eqb m m refl) (omega arith) in
+        let there : 0 < times m f = let a : 0 < times m (children_of q f) = rw is some in omega (arith, children-among m q f) in
+        let once : times m f ≡ 1 = one-there made f counted m there in
+        let low : m < made = was-made made f counted m there in
+        let spot : spot_of m f ≡ Some (spot_among m q w L k R (Some q) None) = child-spot m q w L k R f (is-there made f counted q h) once is in
+        let kids : children_of m f ≡ k = sym (some_inj (ap (option_map (λ (s : Spot N). s.children)) (sym spot) ∙ spot-children m f once)) in
+        let up : ancestors_of m f ≡ q ∷ ancestors_of q f = parents m low ∙ ap (λ o. way_up (option_and_then (λ (s : Spot N). s.parent) o) f) spot in
+        let whole : inside_from top (Some m) f ≡ order (tree m w k R) ++ after_each top (q ∷ ancestors_of q f) f = (λ i. (m ∷ order (kids i)) ++ (order (trees_after (spot i)) ++ after_each top (up i) f)) ∙ sym (append_assoc (m ∷ order k) (order R) (after_each top (q ∷ ancestors_of q f) f)) in
+        record { made_is = low; what = ap (option_map (λ (s : Spot N). s.what)) spot; kids = kids; up = up; is = whole }
 
     -- the first child
     pub begins : top < made → inside_from top (first_child_of top f) f ≡ order (children_of top f)
@@ -80,25 +61,21 @@ module _ {N : Type 0} where
 
     -- a child of a node is inside it
     pub child-inside : (n c : ℕ) → n < made → first_child_of n f ≡ Some c → IsTrue (is_among top (way_up (Some n) f)) → IsInside made top f c
-    child-inside n c h is inside = go (children_of n f) refl (sym (first_child-is n f (is-there made f counted n h)) ∙ is)
-      where
-        go : (g : Forest N) → children_of n f ≡ g → first_or g None ≡ Some c → IsInside made top f c
-        go none e j = cc
-        go (tree b w k R) e j = subst (λ (m : ℕ). IsInside made top f m) (some_inj j) (let a = entered n b w none k R h e in (a.made_is, rw a.up inside))
+    child-inside n c h is inside =
+        let g = first-is (children_of n f) c (sym (first_child-is n f (is-there made f counted n h)) ∙ is) in
+        let a = entered n c g.0 none g.1 g.2 h g.3 in
+        (a.made_is, rw a.up inside)
 
     pub first-inside : top < made → IfSome (first_child_of top f) (λ c. IsInside made top f c)
     first-inside h = grind (arith, child-inside)
 
     pub descends : (n c : ℕ) → n < made → first_child_of n f ≡ Some c → IsTrue (is_among top (ancestors_of n f)) → inside_from top (Some n) f ≡ n ∷ inside_from top (Some c) f
-    descends n c h is inside = go (children_of n f) refl (sym (first_child-is n f (is-there made f counted n h)) ∙ is)
-      where
-        go : (g : Forest N) → children_of n f ≡ g → first_or g None ≡ Some c → inside_from top (Some n) f ≡ n ∷ inside_from top (Some c) f
-        go none e j = cc
-        go (tree b w k R) e j =
-            let below : inside_from top (Some c) f ≡ order (tree b w k R) ++ (order (trees_after (spot_of n f)) ++ after_each top (ancestors_of n f) f) =
-            subst (λ (m : ℕ). inside_from top (Some m) f ≡ order (tree b w k R) ++ (order (trees_after (spot_of n f)) ++ after_each top (ancestors_of n f) f)) (some_inj j)
-            ((entered n b w none k R h e).is ∙ ap (λ u. order (tree b w k R) ++ cond u [] (order (trees_after (spot_of n f)) ++ after_each top (ancestors_of n f) f)) (apart n top f inside)) in
-            ap (λ g. n ∷ (order g ++ (order (trees_after (spot_of n f)) ++ after_each top (ancestors_of n f) f))) e ∙ ap (λ xs. n ∷ xs) (sym below)
+    descends n c h is inside =
+        let g = first-is (children_of n f) c (sym (first_child-is n f (is-there made f counted n h)) ∙ is) in
+        let after : List ℕ = order (trees_after (spot_of n f)) ++ after_each top (ancestors_of n f) f in
+        let below : inside_from top (Some c) f ≡ order (tree c g.0 g.1 g.2) ++ after =
+        (entered n c g.0 none g.1 g.2 h g.3).is ∙ ap (λ u. order (tree c g.0 g.1 g.2) ++ cond u [] after) (apart n top f inside) in
+        ap (λ g. n ∷ (order g ++ after)) g.3 ∙ ap (λ xs. n ∷ xs) (sym below)
 
     pub leaf : (n : ℕ) → n < made → first_child_of n f ≡ None → IsTrue (is_among top (ancestors_of n f)) → inside_from top (Some n) f ≡ n ∷ after_each top (way_up (Some n) f) f
     leaf n h is inside = grind (arith, first_child-is, apart)

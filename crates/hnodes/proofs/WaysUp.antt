@@ -2,7 +2,7 @@
 use Rattle.hnodes.proofs.Names.{◌≡◌, ℕ, ◌<◌, List, [], ◌∷◌, Some, None, refl, sym, ◌∙◌, ap, arith, option_and_then, unwrap_or, ◌⊎◌, inl, inr, eqb-true, eq-eqb, What, Forest, none, tree, times, join, children_of, Spot, parent_of, AreCounted, above, ancestors_of, way_up}
 use Rattle.hnodes.proofs.Levels.{level, Here, Below}
 use Rattle.hnodes.proofs.Counted.{at-most, is-there}
-use Rattle.hnodes.proofs.ChildSpots.{Child, of_root, of_kids, of_rest, child, left-apart, child-spot, root-spot}
+use Rattle.hnodes.proofs.ChildSpots.{of_root, of_kids, of_rest, child, left-apart, child-spot, root-spot}
 
 module _ {N : Type 0} where
   above-absent : (n : ℕ) (up : List ℕ) (f : Forest N) → times n f ≡ 0 → above n up f ≡ None
@@ -20,15 +20,13 @@ module _ {N : Type 0} where
 
     stacked : (up : List ℕ) (L k R f : Forest N) → times q f ≡ 1 → times n f ≡ 1 → children_of q f ≡ join L (tree n w k R) → Stacked up f
     stacked up L k R none one once is = absurd (omega arith)
-    stacked up L k R (tree b v kids rest) one once is = go (stacked (b ∷ up) L k R kids) (stacked up L k R rest) (child n q w L k R b v kids rest one once is)
-      where
-        go : (times q kids ≡ 1 → times n kids ≡ 1 → children_of q kids ≡ join L (tree n w k R) → Stacked (b ∷ up) kids) → (times q rest ≡ 1 → times n rest ≡ 1 → children_of q rest ≡ join L (tree n w k R) → Stacked up rest)
-            → Child n q w L k R b kids rest → Stacked up (tree b v kids rest)
-        go l r (of_root i j o y same z) =
-            let inside : above n (b ∷ up) kids ≡ Some (b ∷ up) = ap (above n (b ∷ up)) same ∙ above-row n w (b ∷ up) L k R (left-apart n q w L k R (ap (times n) (sym same) ∙ o)) in
-            (up, rw i refl, rw (j, inside) (ap (λ m. Some (m ∷ up)) (eqb-true b q i)))
-        go l r (of_kids i j o y a same z) = let s = l a o same in (s.0, rw (i, s.1) refl, rw (j, s.2) refl)
-        go l r (of_rest i t j o y a same) = let s = r a y same in (s.0, rw (i, above-absent q (b ∷ up) kids t) s.1, rw (j, above-absent n (b ∷ up) kids o) s.2)
+    stacked up L k R (tree b v kids rest) one once is = elim (child n q w L k R b v kids rest one once is) [
+      | of_root i j o y same z ↦
+          let inside : above n (b ∷ up) kids ≡ Some (b ∷ up) = ap (above n (b ∷ up)) same ∙ above-row n w (b ∷ up) L k R (left-apart n q w L k R (ap (times n) (sym same) ∙ o)) in
+          (up, rw i refl, rw (j, inside) (ap (λ m. Some (m ∷ up)) (eqb-true b q i)))
+      | of_kids i j o y a same z ↦ let s = stacked (b ∷ up) L k R kids a o same in (s.0, rw (i, s.1) refl, rw (j, s.2) refl)
+      | of_rest i t j o y a same ↦ let s = stacked up L k R rest a y same in (s.0, rw (i, above-absent q (b ∷ up) kids t) s.1, rw (j, above-absent n (b ∷ up) kids o) s.2)
+    ]
 
   -- one step
   pub way-step : (made : ℕ) (f : Forest N) → AreCounted made f → (n : ℕ) → n < made → way_up (Some n) f ≡ n ∷ way_up (parent_of n f) f

@@ -85,13 +85,10 @@ pub(crate) fn few_differ(attrs: &[Attr]) -> bool
     true
 }
 
-/// Whether the names of attributes differ. Sorts those of more than a few.
-pub(crate) fn do_differ(attrs: &[Attr], alloc: Global) -> Result<bool, AllocError>
+/// Whether the names of many attributes differ. Sorts them.
+pub(crate) fn many_differ(attrs: &[Attr], alloc: Global) -> Result<bool, AllocError>
     ensures { IfOk result (λ differ. differ ≡ names_differ nat_eq (map attribute_of attrs.now)) }
 {
-    if attrs.len() <= FEW_ATTRIBUTES {
-        return Ok(few_differ(attrs));
-    }
     let mut names = Vec::new(alloc);
     for attr in attrs {
         names.push(attr.name.index())?;
@@ -117,7 +114,7 @@ impl Indexed {
         ensures ok { OnOk result (self.new ≡ map attribute_of attrs.old.items) }
         ensures err { OnErr result (attrs.new.items ≡ attrs.old.items) }
     {
-        self.differ = do_differ(attrs, alloc)?;
+        self.differ = many_differ(attrs, alloc)?;
         self.names = Chains::new(alloc);
         self.attrs = mem::replace(attrs, Vec::new(alloc));
         Ok(())

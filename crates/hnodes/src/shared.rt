@@ -3,7 +3,7 @@
 ghost use Rattle.std.specs.Prelude.{◌≡◌, ◌++◌, ◌∷◌, [], IfOk, map, nat_eq};
 ghost use Rattle.hnodes.specs.Vocabulary.{attribute_of, names_differ};
 
-use crate::attributes::do_differ;
+use crate::attributes::{FEW_ATTRIBUTES, few_differ, many_differ};
 use names::Attr;
 use std::alloc::{AllocError, Global};
 use std::marker::Model;
@@ -44,7 +44,11 @@ impl Attributes {
                 differ: true,
             });
         }
-        let differ = do_differ(&attrs, alloc)?;
+        let differ = if attrs.len() <= FEW_ATTRIBUTES {
+            few_differ(&attrs)
+        } else {
+            many_differ(&attrs, alloc)?
+        };
         let list = Some(Rc::new(alloc, attrs)?);
         Ok(Attributes { list, differ })
     }
