@@ -32,9 +32,6 @@ module _ {X Y : Type 0} (f : X → Y) where
   pub map-remove_range : (xs : List X) (i j : ℕ) → map f (remove_range xs i j) ≡ remove_range (map f xs) i j
   map-remove_range xs i j = map-append f (take i xs) (drop j xs) ∙ (λ k. sym (take-map f i xs) k ++ sym (drop-map f j xs) k)
 
-  pub map-remove : (xs : List X) (i : ℕ) → map f (remove xs i) ≡ remove (map f xs) i
-  map-remove xs i = map-append f (take i xs) (drop (suc i) xs) ∙ (λ k. sym (take-map f i xs) k ++ sym (drop-map f (suc i) xs) k)
-
   pub exchanged-nearest : (xs : List X) (leaves sought : Y → Bool) (x : X) (from to : ℕ) → from < to → to < length xs → position leaves (reverse (map f xs)) ≡ Some (length (reverse (map f xs)) - 1 - from)
       → position sought (reverse (map f xs)) ≡ Some (length (reverse (map f xs)) - 1 - to) → reverse (insert (remove (map f xs) from) to (f x)) ≡ put_before sought (f x) (without leaves (reverse (map f xs)))
   exchanged-nearest xs leaves sought x from to order within p q =
@@ -46,7 +43,7 @@ module _ {X Y : Type 0} (f : X → Y) where
       let many : length (reverse (map f (remove xs from))) ≡ length (remove xs from) = length-reverse (map f (remove xs from)) ∙ length-map (remove xs from) f in
       let place : position sought (reverse (map f (remove xs from))) ≡ Some near = position-without leaves sought (reverse (map f xs)) near far q p (omega arith) (reverse (map f (remove xs from))) (sym left) (omega arith) in
       let next : to - 1 + 1 ≡ to = omega arith in
-      ap reverse (ap (λ l. insert l to (f x)) (sym (map-remove xs from)) ∙ sym (map-insert (remove xs from) to x) ∙ ap (λ n. map f (insert (remove xs from) n x)) (sym next))
+      ap reverse (ap (λ l. insert l to (f x)) (sym (map-remove_range xs from (suc from))) ∙ sym (map-insert (remove xs from) to x) ∙ ap (λ n. map f (insert (remove xs from) n x)) (sym next))
       ∙ insert_nearest f sought (remove xs from) (to - 1) near x place (omega arith) ∙ ap (put_before sought (f x)) left
 
 pub length-put-le : {Y : Type 0} (sought : Y → Bool) (y : Y) (ys : List Y) → length (put_before sought y ys) ≤ suc (length ys)

@@ -1,5 +1,5 @@
 -- What each open node keeps of those above it, as nodes come, go, change places and give way.
-use Rattle.hopen.proofs.Names.{◌≡◌, ℕ, zero, suc, ◌<◌, ◌≤◌, Bool, true, false, cond, not, List, [], ◌∷◌, ◌++◌, length, map, take, get_or, set, refl, sym, ◌∙◌, ap, arith, nat_eq, eqb-suc-zero, get_or-map, map-append, map-set, take-map, last_up, KeepSets, closing, must_close_in, name_of, names_in, nearest_in, node_of, nodes_in, swap_with_next, holds, set_node, OpenNode, NameSet, SetNodes, is_special, may_stay_open, tag_of, kept_by}
+use Rattle.hopen.proofs.Names.{true, ◌≡◌, ℕ, zero, suc, ◌<◌, ◌≤◌, Bool, false, cond, not, List, [], ◌∷◌, ◌++◌, length, map, take, get_or, set, refl, sym, ◌∙◌, ap, arith, nat_eq, eqb-suc-zero, get_or-map, map-append, map-set, take-map, last_up, KeepSets, closing, must_close_in, name_of, names_in, nearest_in, node_of, nodes_in, swap_with_next, holds, set_node, OpenNode, NameSet, SetNodes, is_special, may_stay_open, tag_of, kept_by}
 use Rattle.hopen.proofs.AllSpecial.{special}
 
 -- what is above an index is in the front up to it
@@ -8,17 +8,17 @@ above-front xs zero d = refl
 above-front [] (suc i) d = refl
 above-front (x ∷ xs) (suc i) d = above-front xs i x
 
+kept-take : (step : OpenNode ℕ → ℕ → ℕ) (n : ℕ) (ys : List (OpenNode ℕ)) (a : ℕ) → take n (kept_by step a ys) ≡ kept_by step a (take n ys)
+kept-take step zero ys a = refl
+kept-take step (suc n) [] a = refl
+kept-take step (suc n) (y ∷ ys) a = ap (λ l. step y a ∷ l) (kept-take step n ys (step y a))
+
 module _ (step : OpenNode ℕ → ℕ → ℕ) (d : OpenNode ℕ) where
   -- each by the one above it
   pub kept-at : (ys : List (OpenNode ℕ)) (a n : ℕ) → n < length ys → get_or (kept_by step a ys) n 0 ≡ step (get_or ys n d) (get_or (a ∷ kept_by step a ys) n 0)
   kept-at [] a n h = absurd (omega arith)
   kept-at (y ∷ ys) a zero h = refl
   kept-at (y ∷ ys) a (suc n) h = kept-at ys (step y a) n (omega arith)
-
-  kept-take : (n : ℕ) (ys : List (OpenNode ℕ)) (a : ℕ) → take n (kept_by step a ys) ≡ kept_by step a (take n ys)
-  kept-take zero ys a = refl
-  kept-take (suc n) [] a = refl
-  kept-take (suc n) (y ∷ ys) a = ap (λ l. step y a ∷ l) (kept-take n ys (step y a))
 
   kept-push : (ys : List (OpenNode ℕ)) (y : OpenNode ℕ) (a : ℕ) → kept_by step a (ys ++ y ∷ []) ≡ kept_by step a ys ++ step y (get_or (a ∷ kept_by step a ys) (length ys) 0) ∷ []
   kept-push [] y a = refl
@@ -72,12 +72,9 @@ not-in set n plain = grind (arith, special)
 module _ (ys : List (OpenNode ℕ)) (sets : List SetNodes) (k : KeepSets ys sets) where
   pub sets-take : (n : ℕ) → KeepSets (take n ys) (take n sets)
   sets-take n = record {
-    nodes = λ set. sym (take-map (set_node set) n sets) ∙ ap (take n) (k.nodes set) ∙ kept-take (nearest_in set) (d ys) n ys 0;
-    must_close = sym (take-map must_close_in n sets) ∙ ap (take n) k.must_close ∙ kept-take closing (d ys) n ys 0;
+    nodes = λ set. sym (take-map (set_node set) n sets) ∙ ap (take n) (k.nodes set) ∙ kept-take (nearest_in set) n ys 0;
+    must_close = sym (take-map must_close_in n sets) ∙ ap (take n) k.must_close ∙ kept-take closing n ys 0;
   }
-    where
-      d : List (OpenNode ℕ) → OpenNode ℕ
-      d _ = record { node = 0; name = 0 }
 
   -- one comes below them
   pub sets-more : (y : OpenNode ℕ) (p : SetNodes) → ((set : NameSet) → set_node set p ≡ nearest_in set y (get_or (0 ∷ map (set_node set) sets) (length ys) 0)) → must_close_in p ≡ closing y (get_or (0 ∷ map must_close_in sets) (length ys) 0)
@@ -120,6 +117,4 @@ module _ (ys : List (OpenNode ℕ)) (sets : List SetNodes) (k : KeepSets ys sets
               map-set f sets i p ∙ ap (λ (l : List ℕ). set l i (f p)) all ∙ sym (kept-swapped step d i ys 0 (f p) within same (new ∙ ap (λ l. step lower (get_or (0 ∷ l) i 0)) all))
 
           both : (v w : Bool) (b : ℕ) → cond v (cond w b 1) 1 ≡ cond w (cond v b 1) 1
-          both true w b = refl
-          both false true b = refl
-          both false false b = refl
+          both v w b = grind arith

@@ -1,7 +1,7 @@
 -- What is kept of the open nodes where one passes the one right below it.
-use Rattle.hopen.proofs.Names.{◌≡◌, ◌≢◌, ℕ, suc, ◌+◌, ◌<◌, ◌≤◌, eqb, cond, List, length, map, get_or, set, ◌⊎◌, inl, inr, refl, sym, ◌∙◌, ap, subst, arith, transport, cases_Bool, cases_lt, get_or-set_same, get_or-set_other, length-map, length-set, IsHeld, IsLinked, KeepSets, Stands, name_of, names_in, node_of, nodes_in, opened_by, same_name_of, same_node_of, sets_at, swap_with_next, place_after_swap, OpenNode, KeptNode, LastPlaces, nat_tests, CanPass}
+use Rattle.hopen.proofs.Names.{◌≡◌, ◌≢◌, ℕ, suc, ◌+◌, ◌<◌, eqb, cond, List, length, map, get_or, set, refl, sym, ◌∙◌, ap, subst, arith, transport, cases_Bool, get_or-set_same, get_or-set_other, length-map, length-set, IsHeld, IsLinked, KeepSets, Stands, name_of, names_in, node_of, nodes_in, opened_by, same_name_of, same_node_of, sets_at, swap_with_next, place_after_swap, OpenNode, KeptNode, LastPlaces, nat_tests, CanPass}
 use Rattle.hopen.proofs.Projected.{length-nodes}
-use Rattle.hopen.proofs.Swapped.{held-none, linked-swapped, swapped-after, swapped-before, swapped-lower, swapped-map, swapped-upper, moved-other, moved-table, walk-in}
+use Rattle.hopen.proofs.Swapped.{held-none, linked-swapped, swapped-apart, swapped-lower, swapped-map, swapped-upper, moved-other, moved-table, walk-in}
 
 -- one entry is written
 get-set : (t : List ℕ) (a v k : ℕ) → a < length t → get_or (set t a v) k 0 ≡ cond (eqb k a) v (get_or t k 0)
@@ -10,38 +10,18 @@ get-set t a v k h = grind (arith, cases_Bool, get_or-set_same, get_or-set_other,
 -- two neighbours change places that are nowhere below
 module _ (t ns bs : List ℕ) (l : IsLinked t ns bs) (long : length bs ≡ length ns) (i : ℕ) (within : suc i < length ns) (upper : get_or t (get_or ns i 0) 0 ≡ suc i) (lower : get_or t (get_or ns (suc i) 0) 0 ≡ suc (suc i)) where
   pub linked-alone : IsLinked (set (set t (get_or ns i 0) (suc (suc i))) (get_or ns (suc i) 0) (suc i)) (swap_with_next i ns) (swap_with_next i bs)
-  linked-alone = linked-swapped t ns bs l i within differ (set (set t a (suc (suc i))) b (suc i)) (swap_with_next i bs) table (swapped-upper i bs 0 (omega arith)) (swapped-lower i bs 0 (omega arith)) rest
-    where
-      a : ℕ
-      a = get_or ns i 0
-
-      b : ℕ
-      b = get_or ns (suc i) 0
-
-      held-upper : IsHeld t bs a (suc i) 0
-      held-upper = held-none t ns bs l i long upper
-
-      held-lower : IsHeld t bs b (suc (suc i)) 0
-      held-lower = held-none t ns bs l (suc i) long lower
-
-      differ : get_or ns i 0 ≢ get_or ns (suc i) 0
-      differ e = absurd (omega (arith, upper, lower, ap (λ n. get_or t n 0) e))
-
-      table : (k : ℕ) → get_or (set (set t a (suc (suc i))) b (suc i)) k 0 ≡ place_after_swap i (get_or t k 0)
-      table k =
-          get-set (set t a (suc (suc i))) b (suc i) k (omega (arith, length-set t a (suc (suc i)), walk-in t ns bs l (suc i) within)) ∙ ap (cond (eqb k b) (suc i)) (get-set t a (suc (suc i)) k (walk-in t ns bs l i (omega arith)))
-          ∙ moved-table t bs i a b 0 0 (suc i) (suc (suc i)) refl refl held-upper held-lower k
-
-      list : (j : ℕ) → get_or bs j 0 ≡ place_after_swap i (get_or bs j 0)
-      list j = sym (moved-other i (get_or bs j 0) (λ e. absurd (let z = held-upper.in_list j e in omega arith)) (λ e. absurd (let z = held-lower.in_list j e in omega arith)))
-
-      rest : (j : ℕ) → j ≢ i → j ≢ suc i → get_or (swap_with_next i bs) j 0 ≡ place_after_swap i (get_or bs j 0)
-      rest j ne nf = go (cases_lt j i) (cases_lt (suc i) j) ∙ list j
-        where
-          go : (j < i) ⊎ (i ≤ j) → (suc i < j) ⊎ (j ≤ suc i) → get_or (swap_with_next i bs) j 0 ≡ get_or bs j 0
-          go (inl less) b = swapped-before i j bs 0 less
-          go (inr a) (inl more) = swapped-after i j bs 0 more
-          go (inr a) (inr b) = absurd (omega arith)
+  linked-alone =
+      let a : ℕ = get_or ns i 0 in
+      let b : ℕ = get_or ns (suc i) 0 in
+      let held-upper : IsHeld t bs a (suc i) 0 = held-none t ns bs l i long upper in
+      let held-lower : IsHeld t bs b (suc (suc i)) 0 = held-none t ns bs l (suc i) long lower in
+      let differ : get_or ns i 0 ≢ get_or ns (suc i) 0 = λ e. absurd (omega (arith, upper, lower, ap (λ n. get_or t n 0) e)) in
+      let table : (k : ℕ) → get_or (set (set t a (suc (suc i))) b (suc i)) k 0 ≡ place_after_swap i (get_or t k 0) = λ k.
+      get-set (set t a (suc (suc i))) b (suc i) k (omega (arith, length-set t a (suc (suc i)), walk-in t ns bs l (suc i) within)) ∙ ap (cond (eqb k b) (suc i)) (get-set t a (suc (suc i)) k (walk-in t ns bs l i (omega arith)))
+      ∙ moved-table t bs i a b 0 0 (suc i) (suc (suc i)) refl refl held-upper held-lower k in
+      let list : (j : ℕ) → get_or bs j 0 ≡ place_after_swap i (get_or bs j 0) =
+      λ j. sym (moved-other i (get_or bs j 0) (λ e. absurd (let z = held-upper.in_list j e in omega arith)) (λ e. absurd (let z = held-lower.in_list j e in omega arith))) in
+      linked-swapped t ns bs l i within differ (set (set t a (suc (suc i))) b (suc i)) (swap_with_next i bs) table (swapped-upper i bs 0 (omega arith)) (swapped-lower i bs 0 (omega arith)) (λ j ne nf. swapped-apart i j bs 0 ne nf ∙ list j)
 
 module _ (last : LastPlaces) (items : List KeptNode) (i : ℕ) (s : Stands last items) (p : CanPass last items i) where
   next : i + 1 ≡ suc i

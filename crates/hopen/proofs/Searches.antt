@@ -1,11 +1,5 @@
 -- Searches that go up the open nodes, in the words of the code.
-use Rattle.hopen.proofs.Names.{◌≡◌, ℕ, zero, suc, ◌<◌, ◌-◌, Bool, true, false, cond, List, [], ◌∷◌, ◌++◌, Option, Some, None, length, drop, map, reverse, subst, refl, sym, ◌∙◌, ap, arith, position, find, slice_get, option_or, unwrap_or, IfSome, words, no_words, reverse-append, length-reverse, length-map, OpenNode, current, topmost_special, furthest_block, is_node, Tag, is_special, before, take_nearest, position_within}
-
-option_or-none : {A : Type 0} (o : Option A) → o ≡ option_or o None
-option_or-none o = grind arith
-
-option_or_assoc : {A : Type 0} (a b c : Option A) → option_or (option_or a b) c ≡ option_or a (option_or b c)
-option_or_assoc a b c = grind arith
+use Rattle.hopen.proofs.Names.{◌≡◌, ℕ, zero, suc, ◌<◌, ◌-◌, List, [], ◌∷◌, ◌++◌, Option, Some, None, length, drop, map, reverse, subst, refl, sym, ◌∙◌, ap, arith, position, find, slice_get, option_or, unwrap_or, IfSome, words, no_words, reverse-append, length-reverse, length-map, OpenNode, current, topmost_special, furthest_block, is_node, Tag, is_special, before, take_nearest, position_within}
 
 module _ {N : Type 0} where
   pub current-drop : (n : ℕ) (ys : List (OpenNode N)) → current (drop n ys) ≡ slice_get ys n
@@ -16,18 +10,13 @@ module _ {N : Type 0} where
 
   -- the topmost of many is in the upper part where there is one
   topmost-append : (tag : N → Tag) (xs ys : List (OpenNode N)) → topmost_special tag (xs ++ ys) ≡ option_or (topmost_special tag ys) (topmost_special tag xs)
-  topmost-append tag [] ys = option_or-none (topmost_special tag ys)
-  topmost-append tag (x ∷ xs) ys =
-      rw (topmost-append tag xs ys) (option_or_assoc (topmost_special tag ys) (topmost_special tag xs) (cond (is_special (tag x.name)) (Some x) None))
+  topmost-append tag [] ys = grind arith
+  topmost-append tag (x ∷ xs) ys = grind (arith, topmost-append tag xs ys)
 
   pub topmost-reverse : (tag : N → Tag) (xs : List (OpenNode N)) → topmost_special tag (reverse xs) ≡ find (λ x. is_special (tag x.name)) xs
   topmost-reverse tag [] = refl
   topmost-reverse tag (x ∷ xs) =
-      ap (topmost_special tag) (reverse-append (x ∷ []) xs) ∙ topmost-append tag (reverse xs) (x ∷ []) ∙ rw (topmost-reverse tag xs) (go (is_special (tag x.name)))
-    where
-      go : (v : Bool) → option_or (cond v (Some x) None) (find (λ y. is_special (tag y.name)) xs) ≡ cond v (Some x) (find (λ y. is_special (tag y.name)) xs)
-      go true = refl
-      go false = refl
+      ap (topmost_special tag) (reverse-append (x ∷ []) xs) ∙ topmost-append tag (reverse xs) (x ∷ []) ∙ rw (topmost-reverse tag xs) (grind arith)
 
 -- the same over a vector, whose last member is the nearest
 module _ {X N : Type 0} (f : X → OpenNode N) where

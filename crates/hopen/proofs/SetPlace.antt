@@ -1,5 +1,6 @@
 -- The place of the nearest node of a set, by the node that is kept.
-use Rattle.hopen.proofs.Names.{◌≡◌, ℕ, zero, suc, ◌-◌, ◌<◌, ◌≤◌, true, false, cond, eqb, not, List, ◌∷◌, length, map, get_or, ◌⊎◌, inl, inr, refl, sym, ◌∙◌, ap, arith, nat_eq, list_all, cases_Bool, cases_lt, eqb-true, get_or_default, get_or_past, length-map, last_up, last_place, up-within, up-found, up-least, up-past, Stands, kept_above, must_close_in, name_of, names_in, nodes_in, opened_by, stack_of, holds, is_in, set_node, KeptNode, LastPlaces, NameSet, SetNodes, may_stay_open, tag_of, eqb-suc-zero, all-places}
+use Rattle.hopen.proofs.Names.{nat_tests, ◌≡◌, ℕ, suc, ◌-◌, ◌<◌, ◌≤◌, cond, eqb, not, List, ◌∷◌, length, map, get_or, inl, inr, sym, ◌∙◌, ap, arith, nat_eq, list_all, cases_lt, eqb-true, get_or_default, get_or_past, length-map, last_up, last_place, up-within, up-found, up-least, up-past, Stands, kept_above, must_close_in, name_of, names_in, nodes_in, opened_by, stack_of, holds, is_in, set_node, KeptNode, LastPlaces, NameSet, SetNodes, may_stay_open, tag_of, all-places}
+use Rattle.std.proofs.lemmas.Bool.{false_from_ne_true}
 use Rattle.hopen.proofs.KeptBy.{kept-closing, kept-nearest, node_at}
 use Rattle.hopen.proofs.Linked.{eqb-same, place-up}
 use Rattle.hopen.proofs.Projected.{length-names, length-nodes, same_node-at}
@@ -59,11 +60,7 @@ module _ (last : LastPlaces) (items : List KeptNode) (s : Stands last items) whe
 
         -- the nearest of the set is there or above
         pub nearest-from : last_up (holds set) (names_in (map opened_by items)) place ≡ last_place (is_in set) (stack_of items)
-        nearest-from = sym (up-past (holds set) (names_in (map opened_by items)) place (length items) place-within.1 (λ j more less. none j more less (cases_Bool (holds set (get_or (names_in (map opened_by items)) j 0))))) ∙ last-in-stack set
-          where
-            none : (j : ℕ) → place ≤ j → j < length items → (holds set (get_or (names_in (map opened_by items)) j 0) ≡ true) ⊎ (holds set (get_or (names_in (map opened_by items)) j 0) ≡ false) → holds set (get_or (names_in (map opened_by items)) j 0) ≡ false
-            none j more less (inl e) = absurd (omega (arith, place-within.2, up-least (holds set) (names_in (map opened_by items)) (length items) j less e))
-            none j more less (inr e) = e
+        nearest-from = sym (up-past (holds set) (names_in (map opened_by items)) place (length items) place-within.1 (λ j more less. false_from_ne_true _ (λ e. absurd (omega (arith, place-within.2, up-least (holds set) (names_in (map opened_by items)) (length items) j less e))))) ∙ last-in-stack set
 
         -- and it is there where the node is open once
         pub nearest-at : (d : KeptNode) → KeptNode.same_node (get_or items (place - 1) d) ≡ 0 → place ≡ last_place (is_in set) (stack_of items)
@@ -91,5 +88,4 @@ module _ (last : LastPlaces) (items : List KeptNode) (s : Stands last items) whe
       ∙ all-places (λ y. may_stay_open (tag_of y.name)) (stack_of items)
     where
       zeros : (n : ℕ) → nat_eq n 0 ≡ nat_eq (cond (eqb n 0) 0 1) 0
-      zeros zero = refl
-      zeros (suc n) = rw (eqb-suc-zero n) refl
+      zeros n = grind (arith, nat_tests)

@@ -91,17 +91,8 @@ module _ (last : LastPlaces) (xs ys : List KeptNode) (a : AreAlike xs ys) where
 
 numbers-alike : (xs ys : List KeptNode) (names nodes : ℕ) → map opened_by xs ≡ map opened_by ys → AreIn names nodes ys → AreIn names nodes xs
 numbers-alike [] ys names nodes e all = tt
-numbers-alike (x ∷ xs) [] names nodes e all = absurd (let l = ap length e in omega arith)
-numbers-alike (x ∷ xs) (y ∷ ys) names nodes e all =
-    (subst (λ n. n < names) (sym (ap (λ l. number name_of l) e)) all.0, subst (λ n. n < nodes) (sym (ap (λ l. number node_of l) e)) all.1, numbers-alike xs ys names nodes (ap rest e) all.2)
-  where
-    number : (OpenNode ℕ → ℕ) → List (OpenNode ℕ) → ℕ
-    number f [] = 0
-    number f (z ∷ zs) = f z
-
-    rest : List (OpenNode ℕ) → List (OpenNode ℕ)
-    rest [] = []
-    rest (z ∷ zs) = zs
+numbers-alike (x ∷ xs) [] names nodes e all = cc
+numbers-alike (x ∷ xs) (y ∷ ys) names nodes e all = grind (arith, numbers-alike xs ys names nodes)
 
 pub numbers-drop_alike : (n : ℕ) (xs ys : List KeptNode) (names nodes : ℕ) → map opened_by xs ≡ map opened_by ys → AreIn names nodes (drop n ys) → AreIn names nodes (drop n xs)
 numbers-drop_alike n xs ys names nodes e all = numbers-alike (drop n xs) (drop n ys) names nodes (sym (drop-map opened_by n xs) ∙ ap (drop n) e ∙ drop-map opened_by n ys) all

@@ -54,6 +54,9 @@ module _ {X : Type 0} where
   swapped-after (suc i) zero (x ∷ xs) d h = absurd (omega arith)
   swapped-after (suc i) (suc j) (x ∷ xs) d h = swapped-after i j xs d (omega arith)
 
+  pub swapped-apart : (i j : ℕ) (xs : List X) (d : X) → j ≢ i → j ≢ suc i → get_or (swap_with_next i xs) j d ≡ get_or xs j d
+  swapped-apart i j xs d ne nf = elim (cases_lt j i) [ inl less ↦ swapped-before i j xs d less | inr past ↦ swapped-after i j xs d (omega arith) ]
+
   -- all but the upper one are as they were
   pub swapped-rest : (i : ℕ) (xs : List X) → suc i < length xs → remove (swap_with_next i xs) (suc i) ≡ remove xs i
   swapped-rest zero xs h = grind arith
@@ -87,23 +90,7 @@ module _ (s : ℕ → Bool) (i : ℕ) (ns : List ℕ) (within : suc i < length n
     low = up-within s ns i
 
     at-pair : last_up s (swap_with_next i ns) (suc (suc i)) ≡ place_after_swap i (last_up s ns (suc (suc i)))
-    at-pair = go (cases_Bool (s (get_or ns i 0))) (cases_Bool (s (get_or ns (suc i) 0)))
-      where
-        ms : List ℕ
-        ms = swap_with_next i ns
-
-        go : (s (get_or ns i 0) ≡ true) ⊎ (s (get_or ns i 0) ≡ false) → (s (get_or ns (suc i) 0) ≡ true) ⊎ (s (get_or ns (suc i) 0) ≡ false) → last_up s ms (suc (suc i)) ≡ place_after_swap i (last_up s ns (suc (suc i)))
-        go (inl a) b =
-            let old : last_up s ns (suc (suc i)) ≡ suc i = up-other s ns (suc i) (one a) ∙ up-sought s ns i a in
-            up-sought s ms (suc i) (ap s (swapped-lower i ns 0 within) ∙ a) ∙ sym (moved-upper i _ old)
-        go (inr a) (inl b) =
-            let old : last_up s ns (suc (suc i)) ≡ suc (suc i) = up-sought s ns (suc i) b in
-            up-other s ms (suc i) (ap s (swapped-lower i ns 0 within) ∙ a) ∙ up-sought s ms i (ap s (swapped-upper i ns 0 within) ∙ b) ∙ sym (moved-lower i _ old)
-        go (inr a) (inr b) =
-            let old : last_up s ns (suc (suc i)) ≡ last_up s ns i = up-other s ns (suc i) b ∙ up-other s ns i a in
-            let ne : last_up s ns (suc (suc i)) ≢ suc i = omega (arith, low) in
-            let nf : last_up s ns (suc (suc i)) ≢ suc (suc i) = omega (arith, low) in
-            up-other s ms (suc i) (ap s (swapped-lower i ns 0 within) ∙ a) ∙ up-other s ms i (ap s (swapped-upper i ns 0 within) ∙ b) ∙ up-before i (omega arith) ∙ sym old ∙ sym (moved-other i _ ne nf)
+    at-pair = grind (arith, cases_Bool, one, low, swapped-lower, swapped-upper, up-before, moved-upper, moved-lower, moved-other, nat_tests)
 
     pub up-swapped : (n : ℕ) → suc i < n → last_up s (swap_with_next i ns) n ≡ place_after_swap i (last_up s ns n)
     up-swapped zero h = absurd (omega arith)
@@ -163,6 +150,11 @@ module _ (t ns bs : List ℕ) (l : IsLinked t ns bs) (i : ℕ) where
         one k e (inl less) b = absurd (later j k here e less)
         one k e (inr a) (inl less) = absurd (later k j e here less)
         one k e (inr a) (inr b) = omega arith
+
+    -- the member that keeps it is given, or there is none
+    pub held-at : (n : ℕ) → (n ≡ 0 → get_or t (get_or ns i 0) 0 ≡ suc i) → ((j : ℕ) → n ≡ suc j → get_or bs j 0 ≡ suc i) → IsHeld t bs (get_or ns i 0) (suc i) n
+    held-at zero here there = held-none (here refl)
+    held-at (suc j) here there = held-next (suc j) j refl (there j refl)
 
   pub walk-start : i < length ns → Walks ns i (get_or t (get_or ns i 0) 0)
   walk-start h =
@@ -260,14 +252,7 @@ module _ (t ns bs : List ℕ) (l : IsLinked t ns bs) (i : ℕ) where
 
     -- each of the others is sought as before
     other : (k j : ℕ) → eqb new k ≡ false → eqb old k ≡ false → eqb (get_or ms j 0) k ≡ eqb (get_or ns j 0) k
-    other k j a b = go (cases_lt j i) (cases_lt i j)
-      where
-        go : (j < i) ⊎ (i ≤ j) → (i < j) ⊎ (j ≤ i) → eqb (get_or ms j 0) k ≡ eqb (get_or ns j 0) k
-        go (inl less) m = let ne : j ≢ i = omega arith in ap (λ n. eqb n k) (elsewhere j ne)
-        go (inr more) (inl less) = let ne : j ≢ i = omega arith in ap (λ n. eqb n k) (elsewhere j ne)
-        go (inr more) (inr most) =
-            let at : i ≡ j = omega arith in
-            subst (λ m. eqb (get_or ms m 0) k ≡ eqb (get_or ns m 0) k) at (ap (λ n. eqb n k) there ∙ a ∙ sym b)
+    other k j a b = grind (arith, cases_Bool (eqb j i), elsewhere, there, nat_tests)
 
     many : length ms ≡ length ns
     many = length-set ns i new

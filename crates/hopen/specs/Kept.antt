@@ -117,12 +117,12 @@ pub record AreAlikeButNames (xs ys : List KeptNode) : Type 0 where
   pub same_nodes : map same_node_of xs ≡ map same_node_of ys
   pub sets : map sets_at xs ≡ map sets_at ys
 
--- tables of the same lengths
+-- tables as long as others: a node and a name that are in the others are in these
 pub record AreAsLong (last other : LastPlaces) : Type 0 where
   pub names : length last.names.items ≡ length other.names.items
   pub nodes : length last.nodes.items ≡ length other.nodes.items
 
--- a node and its name are in the tables
+-- the tables have an entry for a node and one for its name, so their places can be written there
 abbrev pub HasRoom : LastPlaces → Open → Type 0
 HasRoom last x = (x.name < length last.names.items) × (x.node < length last.nodes.items)
 

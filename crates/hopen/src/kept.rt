@@ -46,7 +46,7 @@ fn place_at(places: &[u32], number: usize) -> u32
 /// How many numbers a table grows by at least: numbers mostly come in order, so the next ones have room then.
 const GROWTH: usize = 64;
 
-/// Grows a table so that a number is in it. What follows a number of a table fits into 32 bits too.
+/// Grows a table so that a number is in it. It stays shorter than 2³² entries.
 #[inline(always)]
 fn make_room(places: &mut Vec<u32>, number: usize) -> Result<(), AllocError>
     ensures same { (k : ℕ) → slice_index places.new.items k ≡ slice_index places.old.items k }
@@ -151,7 +151,7 @@ pub(crate) fn sets_from(items: &[KeptNode], index: usize, opened: Open) -> SetNo
     sets_above(items, index).with(name.tag(), node.index() as u32 + 1)
 }
 
-/// Notes at the item at a place, if it is one, where the next node of its name is.
+/// Notes where the next node of a name is, in the item at a place, if there is one.
 #[inline(always)]
 pub(crate) fn hint(items: &mut [KeptNode], place: u32, next: u32)
     ensures { AreAlike items.new items.old }
@@ -176,7 +176,7 @@ fn unwind(last: &mut LastPlaces, items: &[KeptNode], from: usize)
     }
 }
 
-/// Opens the node of the item at an index right below those above it: the item gets its places, and the tables get them.
+/// Opens the node of the item at an index right below those above it: writes what the item keeps, and its place into the tables.
 #[inline(always)]
 fn open_at(last: &mut LastPlaces, items: &mut [KeptNode], index: usize)
     requires stands { Stands last.old (take index items.old) }
@@ -194,7 +194,7 @@ fn open_at(last: &mut LastPlaces, items: &mut [KeptNode], index: usize)
     let sets = sets_from(items, index, Open { node, name });
     let same_name = last.names[name.index()];
     let same_node = last.nodes[node.index()];
-    items[index] = KeptNode {
+    let item = KeptNode {
         opened: Open { node, name },
         same_name,
         next_name: 0,
@@ -202,6 +202,7 @@ fn open_at(last: &mut LastPlaces, items: &mut [KeptNode], index: usize)
         sets,
     };
     last.set(opened, place, place);
+    items[index] = item;
     hint(items, same_name, place);
 }
 

@@ -24,8 +24,8 @@ pub(crate) enum NameSet {
     Group(Group),
 }
 
-/// Of an open node and those above it: for each set of names, which is the nearest that has one of them, by the number after the
-/// node's own; 0 is none.
+/// For each set of names: which of an open node and those above it is the nearest whose name is in the set, as its number plus 1;
+/// 0 is none.
 #[derive(Clone, Copy, Default)]
 pub(crate) struct SetNodes {
     scope: u32,

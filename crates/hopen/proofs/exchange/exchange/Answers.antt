@@ -1,5 +1,6 @@
-use Rattle.hopen.proofs.Names.{◌≡◌, ℕ, suc, ◌-◌, ◌<◌, ◌≤◌, true, List, Some, None, length, map, reverse, get_or, insert, remove, set, inl, inr, sym, ◌∙◌, ap, arith, true≢false, cases_lt, with_items_is, length-map, position, is_some, with_items, put_before, without, insert_nearest, no_words, remove_range, ◌+◌, last_place, is_some-position, remove_nearest, last_place-le, position-none, position-some, Stands, node_of, opened_by, same_node_of, stack_of, open_of, is_node, is_open, KeptNode, LastPlaces, OpenNode}
-use Rattle.hopen.proofs.ExchangedStack.{exchanged-nearest, item_of, length-left, map-insert, map-remove, map-remove_range, set-insert}
+use Rattle.hopen.proofs.Names.{◌≡◌, ℕ, suc, ◌-◌, ◌<◌, ◌≤◌, true, List, Some, length, map, reverse, get_or, insert, remove, set, inl, inr, sym, ◌∙◌, ap, arith, true≢false, cases_lt, with_items_is, length-map, position, is_some, with_items, put_before, without, insert_nearest, no_words, remove_range, ◌+◌, last_place, is_some-position, remove_nearest, last_place-le, position-none, position-some, Stands, node_of, opened_by, same_node_of, stack_of, open_of, is_node, is_open, KeptNode, LastPlaces, OpenNode}
+use Rattle.std.proofs.Common.{Vec, Global, Bool}
+use Rattle.hopen.proofs.ExchangedStack.{exchanged-nearest, item_of, length-left, map-insert, map-remove_range, set-insert}
 use Rattle.hopen.proofs.Linked.{says-places}
 use Rattle.hopen.proofs.Standing.{length-stack_of}
 use Rattle.hopen.proofs.exchange.exchange.Goals as goal
@@ -13,10 +14,10 @@ module _ (last : LastPlaces) (items : List KeptNode) (s : Stands last items) (n 
 
   -- an open node has a place
   open-place : is_open n (stack_of items) ≡ true → 0 < p
-  open-place e = elim (cases_lt 0 p) [ inl some ↦ some | inr none ↦ absurd (closed (position-none (is_node n) (stack_of items) (omega (arith, place-of)))) ]
-    where
-      closed : position (is_node n) (stack_of items) ≡ None → ⊥
-      closed none = true≢false (sym e ∙ sym (is_some-position (is_node n) (stack_of items)) ∙ ap is_some none)
+  open-place e = elim (cases_lt 0 p) [
+    | inl some ↦ some
+    | inr none ↦ absurd (true≢false (sym e ∙ sym (is_some-position (is_node n) (stack_of items)) ∙ ap is_some (position-none (is_node n) (stack_of items) (omega (arith, place-of)))))
+  ]
 
   found-at : (i : ℕ) → p ≡ suc i → position (is_node n) (stack_of items) ≡ Some (length (stack_of items) - 1 - i)
   found-at i e = position-some (is_node n) (stack_of items) i (sym place-of ∙ e)
@@ -25,7 +26,7 @@ module _ (last : LastPlaces) (items : List KeptNode) (s : Stands last items) (n 
   left-without : is_open n (stack_of items) ≡ true → (l : List (OpenNode ℕ)) → l ≡ remove (map opened_by items) (p - 1) → reverse l ≡ without (is_node n) (stack_of items)
   left-without here l e =
       let some = open-place here in
-      ap reverse (e ∙ sym (map-remove opened_by items (p - 1)))
+      ap reverse (e ∙ sym (map-remove_range opened_by items (p - 1) (suc (p - 1))))
       ∙ remove_nearest opened_by (is_node n) items (p - 1) (length (stack_of items) - 1 - (p - 1)) (found-at (p - 1) (omega arith)) (omega (arith, some, place-le, length-stack_of items))
 
 -- a member leaves, where the vector was written anew before
@@ -84,30 +85,19 @@ insert-requires-clause-within c =
     let place = c.of_node-place.ensures ∙ says-places node_of _ _ (map opened_by left) c.remove_run.ensures.stands.nodes c.args.above in
     omega (arith, place, last_place-le (is_node c.args.above) (stack_of left), length-stack_of left)
 
+-- the vector, written anew, has one item more than what is left
+left-long : (v : Vec KeptNode Global) (sunk left : List KeptNode) (i : ℕ) → length sunk ≡ v.len → i < length sunk → map opened_by left ≡ map opened_by (remove_range (with_items v sunk).items i (i + 1)) → length left + 1 ≡ v.len
+left-long v sunk left i len h e = omega (arith, length-left (with_items v sunk).items left i (omega (arith, ap length (with_items_is v sunk len))) e, ap length (with_items_is v sunk len))
+
 pub insert-requires-clause-room : goal.insert-requires-clause-room
 insert-requires-clause-room c =
-    let sunk = c.sink-index.new.items in
-    omega (
-      arith,
-      c.requires.room,
-      c.remove_run.ensures.capacity,
-      c.sink-index.auto.items,
-      c.deref_mut.ensures.len,
-      length-left (with_items c.args.items.now sunk).items c.remove_run.new.items.items c.sink-index.result (omega (arith, c.sink-index.ensures.within, ap length (with_items_is c.args.items.now sunk (c.sink-index.auto.items ∙ c.deref_mut.ensures.len)))) c.remove_run.ensures.items,
-      ap length (with_items_is c.args.items.now sunk (c.sink-index.auto.items ∙ c.deref_mut.ensures.len)),
-    )
+    let long = left-long c.args.items.now _ _ c.sink-index.result (c.sink-index.auto.items ∙ c.deref_mut.ensures.len) c.sink-index.ensures.within c.remove_run.ensures.items in
+    omega (arith, c.requires.room, c.remove_run.ensures.capacity)
 
 pub insert-requires-clause-places : goal.insert-requires-clause-places
 insert-requires-clause-places c =
-    let sunk = c.sink-index.new.items in
-    omega (
-      arith,
-      c.requires.places,
-      c.sink-index.auto.items,
-      c.deref_mut.ensures.len,
-      length-left (with_items c.args.items.now sunk).items c.remove_run.new.items.items c.sink-index.result (omega (arith, c.sink-index.ensures.within, ap length (with_items_is c.args.items.now sunk (c.sink-index.auto.items ∙ c.deref_mut.ensures.len)))) c.remove_run.ensures.items,
-      ap length (with_items_is c.args.items.now sunk (c.sink-index.auto.items ∙ c.deref_mut.ensures.len)),
-    )
+    let long = left-long c.args.items.now _ _ c.sink-index.result (c.sink-index.auto.items ∙ c.deref_mut.ensures.len) c.sink-index.ensures.within c.remove_run.ensures.items in
+    omega (arith, c.requires.places)
 
 pub returns-then-place-gt0-clause-items : goal.returns-then-place-gt0-clause-items
 returns-then-place-gt0-clause-items c =
@@ -116,7 +106,7 @@ returns-then-place-gt0-clause-items c =
     let base = with_items_is c.args.items.now sunk (c.sink-index.auto.items ∙ c.deref_mut.ensures.len) in
     let left = c.remove_run.new.items.items in
     let place = c.of_node-place.result in
-    let sought = is_node c.args.above in
+    let sought : OpenNode ℕ → Bool = is_node c.args.above in
     let new : KeptNode = item_of c.args.new in
     let gone = left-without c.args.last.now items c.requires.stands c.args.leaving c.of_node.result c.of_node.ensures c.requires.open (map opened_by left)
     (left-is (with_items c.args.items.now sunk).items left c.sink-index.result c.remove_run.ensures.items ∙ ap (λ (xs : List KeptNode). remove (map opened_by xs) c.sink-index.result) base

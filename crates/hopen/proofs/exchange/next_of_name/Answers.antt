@@ -1,6 +1,6 @@
-use Rattle.hopen.proofs.Names.{◌≡◌, ℕ, zero, suc, ◌-◌, ◌+◌, ◌<◌, ◌≤◌, List, length, map, get_or, inl, inr, refl, sym, ◌∙◌, ap, subst, arith, cases_lt, length-map, get_or_past, IsHeld, names_in, opened_by, same_name_of, KeptNode}
+use Rattle.hopen.proofs.Names.{◌≡◌, ℕ, suc, ◌-◌, ◌+◌, ◌<◌, ◌≤◌, List, length, map, get_or, inl, inr, sym, ◌∙◌, ap, subst, arith, cases_lt, length-map, get_or_past, IsHeld, names_in, opened_by, same_name_of, KeptNode}
 use Rattle.hopen.proofs.Projected.{length-names, name-at, same_name-at}
-use Rattle.hopen.proofs.Swapped.{Walks, held-none, held-next, walk-start, walk-up}
+use Rattle.hopen.proofs.Swapped.{Walks, held-at, held-next, walk-start, walk-up}
 use Rattle.hopen.proofs.exchange.next_of_name.Goals as goal
 
 -- a place in a table that is one
@@ -63,26 +63,10 @@ returns-then-items-item c =
     (held-next c.args.names.now (names_in (map opened_by items)) (map same_name_of items) c.requires.linked c.args.index (omega (arith, length-names items, length-map items same_name_of)) n (n - 1) (omega arith) (omega (arith, at)))
 
 pub returns : goal.returns
-returns c = subst (λ p. IsHeld t bs (get_or ns i 0) p c.loop-before.next) (let next : suc i ≡ i + 1 = omega arith in next) (go c.loop-before.next c.loop-before.invariant.top c.loop-before.invariant.kept)
-  where
-    t : List ℕ
-    t = c.args.names.now
-
-    i : ℕ
-    i = c.args.index
-
-    ns : List ℕ
-    ns = names_in (map opened_by c.args.items.now)
-
-    bs : List ℕ
-    bs = map same_name_of c.args.items.now
-
-    long : length bs ≡ length ns
-    long = omega (arith, length-names c.args.items.now, length-map c.args.items.now same_name_of)
-
-    here : c.loop-before.before ≡ suc i
-    here = omega (arith, c.loop-before.invariant.walks.below)
-
-    go : (n : ℕ) → (n ≡ 0 → c.loop-before.before ≡ get_or t (get_or ns i 0) 0) → ((j : ℕ) → n ≡ suc j → c.loop-before.before ≡ get_or bs j 0) → IsHeld t bs (get_or ns i 0) (suc i) n
-    go zero top kept = held-none t ns bs c.requires.linked i long (sym (top refl) ∙ here)
-    go (suc j) top kept = held-next t ns bs c.requires.linked i long (suc j) j refl (sym (kept j refl) ∙ here)
+returns c =
+    let items = c.args.items.now in
+    let i = c.args.index in
+    let w = c.loop-before.invariant in
+    let here : c.loop-before.before ≡ suc i = omega (arith, w.walks.below) in
+    subst (λ p. IsHeld c.args.names.now (map same_name_of items) (get_or (names_in (map opened_by items)) i 0) p c.loop-before.next) (let next : suc i ≡ i + 1 = omega arith in next)
+    (held-at c.args.names.now (names_in (map opened_by items)) (map same_name_of items) c.requires.linked i (omega (arith, length-names items, length-map items same_name_of)) c.loop-before.next (λ e. sym (w.top e) ∙ here) (λ j e. sym (w.kept j e) ∙ here))

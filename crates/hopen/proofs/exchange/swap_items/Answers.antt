@@ -3,29 +3,21 @@ use Rattle.hopen.proofs.KeptBy.{sets-swapped}
 use Rattle.hopen.proofs.Projected.{name-at, node-at, two-same, two-swapped, two-upper}
 use Rattle.hopen.proofs.exchange.swap_items.Goals as goal
 
+-- what is read of the lower item
+lower-is : (items : List KeptNode) (i : ℕ) (x y : KeptNode) → i + 1 < length items → y ≡ get_or items (i + 1) y → y ≡ get_or items (i + 1) x
+lower-is items i x y within is = is ∙ get_or_default items (i + 1) y x within
+
 pub returns-clause-opened : goal.returns-clause-opened
 returns-clause-opened c =
-    let items = c.args.items.now in
-    let i = c.args.index in
-    let x = c.index-items-index.result in
-    let y = c.index-items-index-2.result in
-    two-swapped opened_by items i _ _ x c.requires.within (ap opened_by (c.index-items-index-2.is ∙ get_or_default items (i + 1) y x c.requires.within)) (ap opened_by c.index-items-index.is)
+    two-swapped opened_by c.args.items.now c.args.index _ _ _ c.requires.within (ap opened_by (lower-is _ _ c.index-items-index.result _ c.requires.within c.index-items-index-2.is)) (ap opened_by c.index-items-index.is)
 
 pub returns-clause-same_names : goal.returns-clause-same_names
 returns-clause-same_names c =
-    let items = c.args.items.now in
-    let i = c.args.index in
-    let x = c.index-items-index.result in
-    let y = c.index-items-index-2.result in
-    two-same same_name_of items i _ _ x c.requires.within (ap same_name_of c.index-items-index.is) (ap same_name_of (c.index-items-index-2.is ∙ get_or_default items (i + 1) y x c.requires.within))
+    two-same same_name_of c.args.items.now c.args.index _ _ _ c.requires.within (ap same_name_of c.index-items-index.is) (ap same_name_of (lower-is _ _ c.index-items-index.result _ c.requires.within c.index-items-index-2.is))
 
 pub returns-clause-same_nodes : goal.returns-clause-same_nodes
 returns-clause-same_nodes c =
-    let items = c.args.items.now in
-    let i = c.args.index in
-    let x = c.index-items-index.result in
-    let y = c.index-items-index-2.result in
-    two-swapped same_node_of items i _ _ x c.requires.within (ap same_node_of (c.index-items-index-2.is ∙ get_or_default items (i + 1) y x c.requires.within)) (ap same_node_of c.index-items-index.is)
+    two-swapped same_node_of c.args.items.now c.args.index _ _ _ c.requires.within (ap same_node_of (lower-is _ _ c.index-items-index.result _ c.requires.within c.index-items-index-2.is)) (ap same_node_of c.index-items-index.is)
 
 module _ (items : List KeptNode) (i : ℕ) (x y : KeptNode) (within : i + 1 < length items) (is1 : x ≡ get_or items i x) (is2 : y ≡ get_or items (i + 1) y) (plain : is_special (tag_of (get_or (names_in (map opened_by items)) i 0)) ≡ false) (k : KeepSets (map opened_by items) (map sets_at items)) where
   next : i + 1 ≡ suc i
@@ -40,7 +32,7 @@ module _ (items : List KeptNode) (i : ℕ) (x y : KeptNode) (within : i + 1 < le
   swapped-sets : (a b : KeptNode) → opened_by a ≡ opened_by y → opened_by b ≡ opened_by x → b.sets ≡ y.sets → KeepsFrom items i (opened_by y) a.sets
       → KeepSets (map opened_by (set (set items i a) (i + 1) b)) (map sets_at (set (set items i a) (i + 1) b))
   swapped-sets a b oa ob sb keeps =
-      let second : y ≡ get_or items (i + 1) x = is2 ∙ get_or_default items (i + 1) y x within in
+      let second : y ≡ get_or items (i + 1) x = lower-is items i x y within is2 in
       let lower : opened_by y ≡ get_or (map opened_by items) (suc i) (opened_by x) = ap opened_by second ∙ sym (get_or-map opened_by items (i + 1) x (opened_by x) within) ∙ ap (λ n. get_or (map opened_by items) n (opened_by x)) next in
       transport (λ t. KeepSets (sym (two-swapped opened_by items i a b x within (oa ∙ ap opened_by second) (ob ∙ ap opened_by is1)) t) (sym (two-upper sets_at items i a b x within (sb ∙ ap sets_at second)) t))
       (sets-swapped (map opened_by items) (map sets_at items) k i (opened_by x) (omega (arith, length-map items opened_by)) not-special a.sets

@@ -41,84 +41,27 @@ returns-then-eq-clause-linked c =
 
 pub returns-clause-linked : goal.returns-clause-linked
 returns-clause-linked c =
+    let items : List KeptNode = c.args.items.now in
+    let i : ℕ = c.args.index in
+    let t : List ℕ = c.args.names.now in
+    let ns : List ℕ = names_in (map opened_by items) in
+    let bs : List ℕ = map same_name_of items in
+    let x : KeptNode = c.index-items-index.result in
+    let y : KeptNode = c.index-items-index-2.result in
+    let ks : List ℕ = map same_name_of c.keep-2.new.items in
+    let cs : List ℕ = map same_name_of c.hint-2.new.items in
+    let next : i + 1 ≡ suc i = omega arith in
+    let long : length ks ≡ length items = omega (arith, length-map c.keep-2.new.items same_name_of, c.keep-2.auto.items, c.keep.auto.items) in
+    let within : suc i < length ns = omega (arith, c.requires.within, length-names items) in
+    let nx : get_or ns i 0 ≡ x.opened.name = name-of items i x (omega (arith, c.requires.within)) c.index-items-index.is in
+    let ny : get_or ns (i + 1) 0 ≡ y.opened.name = name-of items (i + 1) y c.requires.within c.index-items-index-2.is in
+    let differ : get_or ns i 0 ≢ get_or ns (suc i) 0 = λ e. eqb-false _ _ (sym c.eq.ensures ∙ c.if-eq.false) (sym nx ∙ e ∙ ap (λ k. get_or ns k 0) (sym next) ∙ ny) in
+    let held-upper : IsHeld t bs x.opened.name (i + 1) c.next_of_name-upper_next.result = subst (λ a. IsHeld t bs a (i + 1) c.next_of_name-upper_next.result) nx c.next_of_name-upper_next.ensures in
+    let held-lower : IsHeld t bs y.opened.name (i + 1 + 1) c.next_of_name-lower_next.result = subst (λ a. IsHeld t bs a (i + 1 + 1) c.next_of_name-lower_next.result) ny c.next_of_name-lower_next.ensures in
+    let table : (k : ℕ) → get_or c.keep-2.new.names k 0 ≡ place_after_swap i (get_or t k 0) = λ k. c.keep-2.ensures.table k ∙ ap (λ v. cond (eqb c.next_of_name-lower_next.result 0 && eqb k y.opened.name) (i + 1) v) (c.keep.ensures.table k) ∙ moved-table t bs i x.opened.name y.opened.name c.next_of_name-upper_next.result c.next_of_name-lower_next.result (i + 1) (i + 1 + 1) next (omega arith) held-upper held-lower k in
+    let list : (j : ℕ) → get_or ks j 0 ≡ place_after_swap i (get_or bs j 0) = λ j. c.keep-2.ensures.befores j ∙ ap (λ v. cond (eqb c.next_of_name-lower_next.result (suc j)) (i + 1) v) (c.keep.ensures.befores j) ∙ moved-list t bs i x.opened.name y.opened.name c.next_of_name-upper_next.result c.next_of_name-lower_next.result (i + 1) (i + 1 + 1) next (omega arith) held-upper held-lower j in
+    let written : cs ≡ set (set ks i y.same_name) (i + 1) x.same_name = c.hint-2.ensures.same_names ∙ c.hint.ensures.same_names ∙ c.link-2.ensures.same_names ∙ ap (λ (l : List ℕ). set l (i + 1) x.same_name) c.link.ensures.same_names in
+    let upper : get_or cs i 0 ≡ get_or bs (suc i) 0 = let ne : i ≢ i + 1 = omega arith in ap (λ (l : List ℕ). get_or l i 0) written ∙ get_or-set_other (set ks i y.same_name) (i + 1) i x.same_name 0 ne ∙ get_or-set_same ks i y.same_name 0 (omega (arith, c.requires.within, long)) ∙ ap same_name_of c.index-items-index-2.is ∙ sym (same_name-at items (i + 1) y c.requires.within) ∙ ap (λ k. get_or bs k 0) next in
+    let lower : get_or cs (suc i) 0 ≡ get_or bs i 0 = ap (λ k. get_or cs k 0) (sym next) ∙ ap (λ (l : List ℕ). get_or l (i + 1) 0) written ∙ get_or-set_same (set ks i y.same_name) (i + 1) x.same_name 0 (omega (arith, c.requires.within, long, length-set ks i y.same_name)) ∙ ap same_name_of c.index-items-index.is ∙ sym (same_name-at items i x (omega (arith, c.requires.within))) in
+    let rest : (j : ℕ) → j ≢ i → j ≢ suc i → get_or cs j 0 ≡ place_after_swap i (get_or bs j 0) = λ j ne nf. let ng : j ≢ i + 1 = omega arith in ap (λ (l : List ℕ). get_or l j 0) written ∙ get_or-set_other (set ks i y.same_name) (i + 1) j x.same_name 0 ng ∙ get_or-set_other ks i j y.same_name 0 ne ∙ list j in
     linked-swapped t ns bs c.requires.linked i within differ c.keep-2.new.names cs table upper lower rest
-  where
-    items : List KeptNode
-    items = c.args.items.now
-
-    i : ℕ
-    i = c.args.index
-
-    t : List ℕ
-    t = c.args.names.now
-
-    ns : List ℕ
-    ns = names_in (map opened_by items)
-
-    bs : List ℕ
-    bs = map same_name_of items
-
-    x : KeptNode
-    x = c.index-items-index.result
-
-    y : KeptNode
-    y = c.index-items-index-2.result
-
-    ks : List ℕ
-    ks = map same_name_of c.keep-2.new.items
-
-    cs : List ℕ
-    cs = map same_name_of c.hint-2.new.items
-
-    next : i + 1 ≡ suc i
-    next = omega arith
-
-    long : length ks ≡ length items
-    long = omega (arith, length-map c.keep-2.new.items same_name_of, c.keep-2.auto.items, c.keep.auto.items)
-
-    within : suc i < length ns
-    within = omega (arith, c.requires.within, length-names items)
-
-    nx : get_or ns i 0 ≡ x.opened.name
-    nx = name-of items i x (omega (arith, c.requires.within)) c.index-items-index.is
-
-    ny : get_or ns (i + 1) 0 ≡ y.opened.name
-    ny = name-of items (i + 1) y c.requires.within c.index-items-index-2.is
-
-    differ : get_or ns i 0 ≢ get_or ns (suc i) 0
-    differ e = eqb-false _ _ (sym c.eq.ensures ∙ c.if-eq.false) (sym nx ∙ e ∙ ap (λ k. get_or ns k 0) (sym next) ∙ ny)
-
-    held-upper : IsHeld t bs x.opened.name (i + 1) c.next_of_name-upper_next.result
-    held-upper = subst (λ a. IsHeld t bs a (i + 1) c.next_of_name-upper_next.result) nx c.next_of_name-upper_next.ensures
-
-    held-lower : IsHeld t bs y.opened.name (i + 1 + 1) c.next_of_name-lower_next.result
-    held-lower = subst (λ a. IsHeld t bs a (i + 1 + 1) c.next_of_name-lower_next.result) ny c.next_of_name-lower_next.ensures
-
-    table : (k : ℕ) → get_or c.keep-2.new.names k 0 ≡ place_after_swap i (get_or t k 0)
-    table k =
-        c.keep-2.ensures.table k ∙ ap (λ v. cond (eqb c.next_of_name-lower_next.result 0 && eqb k y.opened.name) (i + 1) v) (c.keep.ensures.table k)
-        ∙ moved-table t bs i x.opened.name y.opened.name c.next_of_name-upper_next.result c.next_of_name-lower_next.result (i + 1) (i + 1 + 1) next (omega arith) held-upper held-lower k
-
-    list : (j : ℕ) → get_or ks j 0 ≡ place_after_swap i (get_or bs j 0)
-    list j =
-        c.keep-2.ensures.befores j ∙ ap (λ v. cond (eqb c.next_of_name-lower_next.result (suc j)) (i + 1) v) (c.keep.ensures.befores j)
-        ∙ moved-list t bs i x.opened.name y.opened.name c.next_of_name-upper_next.result c.next_of_name-lower_next.result (i + 1) (i + 1 + 1) next (omega arith) held-upper held-lower j
-
-    written : cs ≡ set (set ks i y.same_name) (i + 1) x.same_name
-    written = c.hint-2.ensures.same_names ∙ c.hint.ensures.same_names ∙ c.link-2.ensures.same_names ∙ ap (λ (l : List ℕ). set l (i + 1) x.same_name) c.link.ensures.same_names
-
-    upper : get_or cs i 0 ≡ get_or bs (suc i) 0
-    upper =
-        let ne : i ≢ i + 1 = omega arith in
-        ap (λ (l : List ℕ). get_or l i 0) written ∙ get_or-set_other (set ks i y.same_name) (i + 1) i x.same_name 0 ne ∙ get_or-set_same ks i y.same_name 0 (omega (arith, c.requires.within, long))
-        ∙ ap same_name_of c.index-items-index-2.is ∙ sym (same_name-at items (i + 1) y c.requires.within) ∙ ap (λ k. get_or bs k 0) next
-
-    lower : get_or cs (suc i) 0 ≡ get_or bs i 0
-    lower =
-        ap (λ k. get_or cs k 0) (sym next) ∙ ap (λ (l : List ℕ). get_or l (i + 1) 0) written ∙ get_or-set_same (set ks i y.same_name) (i + 1) x.same_name 0 (omega (arith, c.requires.within, long, length-set ks i y.same_name))
-        ∙ ap same_name_of c.index-items-index.is ∙ sym (same_name-at items i x (omega (arith, c.requires.within)))
-
-    rest : (j : ℕ) → j ≢ i → j ≢ suc i → get_or cs j 0 ≡ place_after_swap i (get_or bs j 0)
-    rest j ne nf =
-        let ng : j ≢ i + 1 = omega arith in
-        ap (λ (l : List ℕ). get_or l j 0) written ∙ get_or-set_other (set ks i y.same_name) (i + 1) j x.same_name 0 ng ∙ get_or-set_other ks i j y.same_name 0 ne ∙ list j
