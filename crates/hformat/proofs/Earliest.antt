@@ -17,11 +17,7 @@ module _ {N : Type 0} (sought : EntryOf N → Bool) where
 
   farthest-up : (up : ℕ) (found : Option ℕ) (es : List (EntryOf N)) → farthest (suc up) (option_map suc found) es ≡ option_map suc (farthest up found es)
   farthest-up up found [] = refl
-  farthest-up up found (e ∷ es) = ap (λ o. farthest (suc (suc up)) o es) (go (sought e)) ∙ farthest-up (suc up) (if sought e then Some up else found) es
-    where
-      go : (v : Bool) → (if v then Some (suc up) else option_map suc found) ≡ option_map suc (if v then Some up else found)
-      go true = refl
-      go false = refl
+  farthest-up up found (e ∷ es) = grind (arith, farthest-up (suc up) (if sought e then Some up else found) es)
 
   farthest-none : (up : ℕ) (found : Option ℕ) (es : List (EntryOf N)) → list_any sought es ≡ false → farthest up found es ≡ found
   farthest-none up found [] none = refl

@@ -69,12 +69,7 @@ live-dropped items k j x next within is gone = ap live (taken items k j x next w
 -- how many are live
 pub length-live : (items : List Stored) → All IsStored items → length (live (items_of items)) ≡ length (filter (λ x. not (is_gone x)) items)
 length-live [] all = refl
-length-live (x ∷ items) all = ap length (live-parts (x ∷ []) items) ∙ length-append (live (items_of items)) (live (item_of x ∷ [])) ∙ go (is_gone x) refl (length-live items (λ k y h. all (suc k) y (omega arith)))
-  where
-    go : (v : Bool) → is_gone x ≡ v → length (live (items_of items)) ≡ length (filter (λ y. not (is_gone y)) items)
-        → length (live (items_of items)) + length (live (item_of x ∷ [])) ≡ length (cond (not v) (x ∷ filter (λ y. not (is_gone y)) items) (filter (λ y. not (is_gone y)) items))
-    go true is rest = rw (gone-is x (all 0 x (omega arith)), is) (omega (arith, rest))
-    go false is rest = rw (gone-is x (all 0 x (omega arith)), is) (omega (arith, rest))
+length-live (x ∷ items) all = grind (arith, live-parts (x ∷ []) items, length-append, gone-is x (all 0 x (omega arith)), length-live items (λ k y h. all (suc k) y (omega arith)))
 
 -- what is at the last place of a number is no hole
 module _ (of : EntryOf ℕ → ℕ) (items : List Stored) (n p : ℕ) (x : Stored) (some : 0 < p) (at : place (unless_hole of) (suc (suc n)) (items_of items) ≡ p) (is : x ≡ get_or items (p - 1) x) where
@@ -99,8 +94,12 @@ abbrev pub node_place : ℕ → List (Listed ℕ) → ℕ
 node_place node items = place by_node (suc (suc node)) items
 
 -- as the numbers of the nodes tell it
-pub placed : (node number p : ℕ) (s : Slots) → IsListed s → number ≡ suc (suc node) → p ≡ last_up (λ k. k == number) s.nodes (length s.nodes) → p ≡ node_place node (items_of s.items.items)
-placed node number p s l e is = is ∙ last-is number s.nodes ∙ (λ i. last_of (e i) ((ap reverse l.nodes ∙ numbers-back by_node s.items.items) i))
+module _ (node number p : ℕ) (s : Slots) (l : IsListed s) (e : number ≡ suc (suc node)) (is : p ≡ last_up (λ k. k == number) s.nodes (length s.nodes)) where
+  pub placed : p ≡ node_place node (items_of s.items.items)
+  placed = is ∙ last-is number s.nodes ∙ (λ i. last_of (e i) ((ap reverse l.nodes ∙ numbers-back by_node s.items.items) i))
+
+  pub placed-within : p ≤ length s.items.items
+  placed-within = omega (arith, placed, place-le by_node (suc (suc node)) (items_of s.items.items), length-items_of s.items.items)
 
 pub entry_of-is : (node : ℕ) (items : List (Listed ℕ)) → entry_of node items ≡ option_and_then as_entry (find (is_entry node) items)
 entry_of-is node [] = refl
@@ -140,13 +139,7 @@ module _ (node : ℕ) (low : node < nowhere) where
       rw (lt-ltb (position_or_len (is_entry node) items) (length items) (omega (arith, place-le by_node (suc (suc node)) items))) (ap (λ k. Some k) first)
 
 pub no-position : {X : Type 0} (sought : X → Bool) (xs : List X) → list_any sought xs ≡ false → position sought xs ≡ None
-no-position sought xs none = go (position sought xs) refl
-  where
-    go : (o : Option ℕ) → position sought xs ≡ o → o ≡ None
-    go None is = refl
-    go (Some k) is =
-        let never : true ≡ false = ap is_some (sym is) ∙ is_some-position sought xs ∙ none in
-        cc
+no-position sought xs none = grind (arith, is_some-position sought xs)
 
 -- the last ones of a vector, where there is no hole from an index on
 solid-from : (k : ℕ) (xs : List (Listed ℕ)) → ((j : ℕ) → j < k → j < length xs → is_hole (get_or xs j hole) ≡ false) → AllSolid k xs

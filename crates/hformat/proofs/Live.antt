@@ -13,26 +13,17 @@ module _ (sought : EntryOf ℕ → Bool) (spares : (e : EntryOf ℕ) → is_hole
   pub find_after-live : (xs : List (Listed ℕ)) → find sought (after_marker (live xs)) ≡ find sought (after_marker xs)
   find_after-live [] = refl
   find_after-live (marker ∷ xs) = refl
-  find_after-live (entry e ∷ xs) = elim (cases_Bool (is_hole (entry e))) [
-    | inl h ↦ rw (h, spares e h) (find_after-live xs)
-    | inr h ↦ rw h (ap (λ o. cond (sought e) (Some e) o) (find_after-live xs))
-  ]
+  find_after-live (entry e ∷ xs) = grind (arith, find_after-live xs, spares)
 
   pub any_after-live : (xs : List (Listed ℕ)) → list_any sought (after_marker (live xs)) ≡ list_any sought (after_marker xs)
   any_after-live [] = refl
   any_after-live (marker ∷ xs) = refl
-  any_after-live (entry e ∷ xs) = elim (cases_Bool (is_hole (entry e))) [
-    | inl h ↦ rw (h, spares e h) (any_after-live xs)
-    | inr h ↦ rw h (ap (λ b. sought e || b) (any_after-live xs))
-  ]
+  any_after-live (entry e ∷ xs) = grind (arith, any_after-live xs, spares)
 
   pub filter_after-live : (xs : List (Listed ℕ)) → filter sought (after_marker (live xs)) ≡ filter sought (after_marker xs)
   filter_after-live [] = refl
   filter_after-live (marker ∷ xs) = refl
-  filter_after-live (entry e ∷ xs) = elim (cases_Bool (is_hole (entry e))) [
-    | inl h ↦ rw (h, spares e h) (filter_after-live xs)
-    | inr h ↦ rw h (ap (λ es. cond (sought e) (e ∷ es) es) (filter_after-live xs))
-  ]
+  filter_after-live (entry e ∷ xs) = grind (arith, filter_after-live xs, spares)
 
 -- the last entry of a name
 pub find-live : (name : ℕ) (xs : List (Listed ℕ)) → name < nowhere → find_entry nat_eq name (live xs) ≡ find_entry nat_eq name xs
@@ -54,17 +45,11 @@ spares-node node (x ∷ xs) s low = (spares-slot node x s.0 low, spares-node nod
 module _ (sought : Listed ℕ → Bool) where
   pub find_spared : (xs : List (Listed ℕ)) → Spares sought xs → find sought (live xs) ≡ find sought xs
   find_spared [] s = refl
-  find_spared (x ∷ xs) s = elim (cases_Bool (is_hole x)) [
-    | inl h ↦ rw (h, s.0 h) (find_spared xs s.1)
-    | inr h ↦ rw h (ap (λ o. cond (sought x) (Some x) o) (find_spared xs s.1))
-  ]
+  find_spared (x ∷ xs) s = grind (arith, find_spared xs s.1)
 
   pub any_spared : (xs : List (Listed ℕ)) → Spares sought xs → list_any sought (live xs) ≡ list_any sought xs
   any_spared [] s = refl
-  any_spared (x ∷ xs) s = elim (cases_Bool (is_hole x)) [
-    | inl h ↦ rw (h, s.0 h) (any_spared xs s.1)
-    | inr h ↦ rw h (ap (λ b. sought x || b) (any_spared xs s.1))
-  ]
+  any_spared (x ∷ xs) s = grind (arith, any_spared xs s.1)
 
 -- questions of the entry of a node
 module _ (node : ℕ) (xs : List (Listed ℕ)) (slots : AreSlots xs) (low : node < nowhere) where
@@ -77,10 +62,7 @@ module _ (node : ℕ) (xs : List (Listed ℕ)) (slots : AreSlots xs) (low : node
 entry_of-spared : (node : ℕ) (xs : List (Listed ℕ)) → Spares (is_entry node) xs → entry_of node (live xs) ≡ entry_of node xs
 entry_of-spared node [] s = refl
 entry_of-spared node (marker ∷ xs) s = entry_of-spared node xs s.1
-entry_of-spared node (entry e ∷ xs) s = elim (cases_Bool (is_hole (entry e))) [
-  | inl h ↦ rw (h, s.0 h) (entry_of-spared node xs s.1)
-  | inr h ↦ rw h (ap (λ o. cond (is_of_node node e) (Some e) o) (entry_of-spared node xs s.1))
-]
+entry_of-spared node (entry e ∷ xs) s = grind (arith, entry_of-spared node xs s.1)
 
 pub entry_of-live : (node : ℕ) (xs : List (Listed ℕ)) → AreSlots xs → node < nowhere → entry_of node (live xs) ≡ entry_of node xs
 entry_of-live node xs s low = entry_of-spared node xs (spares-node node xs s low)

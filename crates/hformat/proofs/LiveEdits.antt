@@ -9,22 +9,14 @@ live-cons x xs ys same = ap (λ l. cond (not (is_hole x)) (x ∷ l) l) same
 pub cleared-live : (xs : List (Listed ℕ)) → cleared (live xs) ≡ live (cleared xs)
 cleared-live [] = refl
 cleared-live (marker ∷ xs) = refl
-cleared-live (entry e ∷ xs) = elim (cases_Bool (is_hole (entry e))) [ inl h ↦ rw h (cleared-live xs) | inr h ↦ rw h (cleared-live xs) ]
+cleared-live (entry e ∷ xs) = grind (arith, cleared-live xs)
 
 -- room for a new entry
 module _ (sought : EntryOf ℕ → Bool) (spares : (e : EntryOf ℕ) → is_hole (entry e) ≡ true → sought e ≡ false) where
   pub earliest-live : (xs : List (Listed ℕ)) → without_earliest sought (live xs) ≡ live (without_earliest sought xs)
   earliest-live [] = refl
   earliest-live (marker ∷ xs) = refl
-  earliest-live (entry e ∷ xs) = elim (cases_Bool (is_hole (entry e))) [
-    | inl h ↦ rw (h, spares e h) (rw h (earliest-live xs))
-    | inr h ↦ rw (h, any_after-live sought spares xs) (go (sought e && not (list_any sought (after_marker xs))) h (earliest-live xs))
-  ]
-    where
-      go : (v : Bool) → is_hole (entry e) ≡ false → without_earliest sought (live xs) ≡ live (without_earliest sought xs)
-          → cond v (live xs) (entry e ∷ without_earliest sought (live xs)) ≡ live (cond v xs (entry e ∷ without_earliest sought xs))
-      go true h i = refl
-      go false h i = rw h (ap (λ l. entry e ∷ l) i)
+  earliest-live (entry e ∷ xs) = grind (arith, earliest-live xs, spares, any_after-live)
 
 pub room-live : (new : EntryOf ℕ) (xs : List (Listed ℕ)) → new.name < nowhere → with_room nat_eq new (live xs) ≡ live (with_room nat_eq new xs)
 room-live new xs low = grind (arith, filter_after-live, apart, earliest-live)

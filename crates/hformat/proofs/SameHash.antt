@@ -67,11 +67,7 @@ module _ (keys : DefaultHasher) where
   module _ (p : ℕ → Bool) where
     any-same : (a : Attribute ℕ) (ys : List (Attribute ℕ)) → list_any (same_attribute nat_eq a) ys ≡ true → p ((hash_of keys) a) ≡ true → list_any p (map (hash_of keys) ys) ≡ true
     any-same a [] found h = cc
-    any-same a (y ∷ ys) found h = go (same_attribute nat_eq a y) refl found (λ later. any-same a ys later h)
-      where
-        go : (v : Bool) → same_attribute nat_eq a y ≡ v → (v || list_any (same_attribute nat_eq a) ys) ≡ true → (list_any (same_attribute nat_eq a) ys ≡ true → list_any p (map (hash_of keys) ys) ≡ true) → (p ((hash_of keys) y) || list_any p (map (hash_of keys) ys)) ≡ true
-        go true same found later = rw (sym (ap p (same-hash a y same)) ∙ h) refl
-        go false same found later = grind arith
+    any-same a (y ∷ ys) found h = grind (arith, any-same a ys, same-hash a y)
 
     any-among : (xs ys : List (Attribute ℕ)) → are_among nat_eq xs ys ≡ true → list_any p (map (hash_of keys) xs) ≡ true → list_any p (map (hash_of keys) ys) ≡ true
     any-among [] ys all found = cc

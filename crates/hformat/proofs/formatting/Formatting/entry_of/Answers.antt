@@ -1,5 +1,5 @@
 use Rattle.hformat.proofs.Names.{◌≡◌, suc, ◌+◌, ◌-◌, ◌<◌, length, sym, ◌∙◌, ap, arith, option_and_then, as_entry, entry_of, is_entry, item_of, items_of, by_node, no_words, slice_get_nearest, words}
-use Rattle.hformat.proofs.Holes.{entry_of-is, no-position, node-at, node-none, node_place, place-there, placed, slots-are, told-is}
+use Rattle.hformat.proofs.Holes.{entry_of-is, no-position, node-at, node-none, node_place, place-there, placed, placed-within, slots-are, told-is}
 use Rattle.hformat.proofs.ItemLists.{length-items_of}
 use Rattle.hformat.proofs.Listed.{place-le}
 use Rattle.hformat.proofs.Live.{entry_of-live}
@@ -15,10 +15,7 @@ returns-then-place-eq0 c =
     ∙ ap (option_and_then as_entry) ((no_words (is_entry c.args.node) (items_of items) (no-position (is_entry c.args.node) (items_of items) none)).find_is))
 
 pub index-requires : goal.index-requires
-index-requires c =
-    let items = c.self.inside.slots.items.items in
-    let place = placed c.args.node c.node_number.result c.last-place.result c.self.inside.slots c.self.invariant c.node_number.ensures c.last-place.ensures in
-    omega (arith, c.if-place-eq0.false, place-le by_node (suc (suc c.args.node)) (items_of items), length-items_of items)
+index-requires c = omega (arith, c.if-place-eq0.false, placed-within c.args.node c.node_number.result c.last-place.result c.self.inside.slots c.self.invariant c.node_number.ensures c.last-place.ensures)
 
 pub returns : goal.returns
 returns c =

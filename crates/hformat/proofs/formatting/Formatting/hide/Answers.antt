@@ -1,6 +1,6 @@
 use Rattle.hformat.proofs.Names.{◌≡◌, suc, ◌+◌, ◌-◌, ◌<◌, length, refl, sym, ◌∙◌, ap, arith, list_any, remove, is_entry, hole, item_of, items_of, live, by_node, without, drop_nearest, is_some-position, no_words, set_nearest, words, is_some}
 use Rattle.hformat.specs.declared.entry.Slot.TheVariants as stored
-use Rattle.hformat.proofs.Holes.{no-position, node-at, node-none, node_place, placed, slots-are}
+use Rattle.hformat.proofs.Holes.{no-position, node-at, node-none, node_place, placed, placed-within, slots-are}
 use Rattle.hformat.proofs.ItemLists.{length-items_of}
 use Rattle.hformat.proofs.Listed.{place-le}
 use Rattle.hformat.proofs.Live.{any-live}
@@ -25,18 +25,10 @@ returns-then-place-eq0-clause-entry c =
     ∙ sym (without1-live c.args.node (items_of items) slots (omega arith)) ∙ ap (without (is_entry c.args.node)) c.self.view_is
 
 pub hide-requires-clause-within : goal.hide-requires-clause-within
-hide-requires-clause-within c =
-    let items = c.self.inside.slots.items.items in
-    let place = placed c.args.node c.node_number.result c.last-place.result c.self.inside.slots c.self.invariant c.node_number.ensures c.last-place.ensures in
-    let slots = slots-are items c.self.invariant.stored in
-    omega (arith, c.if-place-eq0.false, place-le by_node (suc (suc c.args.node)) (items_of items), length-items_of items)
+hide-requires-clause-within c = omega (arith, c.if-place-eq0.false, placed-within c.args.node c.node_number.result c.last-place.result c.self.inside.slots c.self.invariant c.node_number.ensures c.last-place.ensures)
 
 pub truncate-requires-clause-within : goal.truncate-requires-clause-within
-truncate-requires-clause-within c =
-    let items = c.self.inside.slots.items.items in
-    let place = placed c.args.node c.node_number.result c.last-place.result c.self.inside.slots c.self.invariant c.node_number.ensures c.last-place.ensures in
-    let slots = slots-are items c.self.invariant.stored in
-    omega (arith, c.if-place-eq0.false, place-le by_node (suc (suc c.args.node)) (items_of items), length-items_of items)
+truncate-requires-clause-within c = omega (arith, c.if-place-eq0.false, placed-within c.args.node c.node_number.result c.last-place.result c.self.inside.slots c.self.invariant c.node_number.ensures c.last-place.ensures)
 
 pub returns-clause-there : goal.returns-clause-there
 returns-clause-there c =

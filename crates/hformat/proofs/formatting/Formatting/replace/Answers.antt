@@ -1,17 +1,13 @@
 use Rattle.hformat.proofs.Names.{◌≡◌, suc, ◌-◌, ◌<◌, length, get_or, sym, ◌∙◌, ap, arith, get_or_default, for_node, is_entry, with_node, items_of, live, by_node, changed_at, no_words, words}
 use Rattle.hformat.specs.declared.entry.Slot.TheVariants as stored
-use Rattle.hformat.proofs.Holes.{no-position, node-at, node-none, node_place, place-told, placed, slots-are}
+use Rattle.hformat.proofs.Holes.{no-position, node-at, node-none, node_place, place-told, placed, placed-within, slots-are}
 use Rattle.hformat.proofs.ItemLists.{length-items_of}
 use Rattle.hformat.proofs.Listed.{place-le}
 use Rattle.hformat.proofs.LiveEdits.{with_node-live}
 use Rattle.hformat.proofs.formatting.Formatting.replace.Goals as goal
 
 pub renew-requires-clause-within : goal.renew-requires-clause-within
-renew-requires-clause-within c =
-    let items = c.self.inside.slots.items.items in
-    let place = placed c.args.from c.node_number.result c.last-place.result c.self.inside.slots c.self.invariant c.node_number.ensures c.last-place.ensures in
-    let slots = slots-are items c.self.invariant.stored in
-    omega (arith, place-le by_node (suc (suc c.args.from)) (items_of items), length-items_of items)
+renew-requires-clause-within c = omega (arith, placed-within c.args.from c.node_number.result c.last-place.result c.self.inside.slots c.self.invariant c.node_number.ensures c.last-place.ensures)
 
 pub renew-requires-clause-entry : goal.renew-requires-clause-entry
 renew-requires-clause-entry c =
