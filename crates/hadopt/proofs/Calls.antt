@@ -1,12 +1,34 @@
 -- What the operations keep, and what the calls that do them keep so.
-use Rattle.hadopt.proofs.Names.{◌≡◌, ℕ, false, List, [], ◌∷◌, subst, Ok, Err, encode_utf8, Result, IfOk, Attribute, What, element, text, Place, Listed, marker, entry, entries, without_entry, OpenNode, current, Table, Placed, Refusal, Gives, added, inserted, listed, put, put_each, with_missing, PlaceStands, Kept, Naming, reconstructed, Outcome, Goes, Refused, and_then, SiteOf, stack, trees, with_trees, with_stack, with_items, node_of}
-use Rattle.hformat.specs.Formatting.{cleared}
-use Rattle.hadopt.proofs.Climbing.{OnGoes, goes-then, goes-map, Plain, PlainEntries, plain-without}
-use Rattle.hadopt.proofs.Inserting.{standing-fits, put-stands, added-well, inserted-well, put-well, missing-well, reconstructed-well}
+use Rattle.hadopt.proofs.Names.{◌≡◌, ℕ, false, List, [], ◌∷◌, subst, Ok, Err, encode_utf8, Result, IfOk, Attribute, What, element, text, Place, Listed, marker, entry, entries, without_entry, OpenNode, current, Table, Placed, Refusal, Gives, added, inserted, listed, put, put_each, with_missing, PlaceStands, Kept, Naming, reconstructed, Outcome, Goes, Refused, and_then, SiteOf, stack, trees, with_trees, with_stack, with_items, node_of, comment, LastIn, place, from_top, Bool, not, length, leb, cond_both, refl, sym, ◌∙◌, ap, list_any, ◌&&◌, EntryOf, after_marker, zero, suc, if◌then◌else◌, arith, ne_eqb, lt-leb, Forest, document, tree, none, times, Nodes, OpenNodes, numbers}
+use Rattle.hformat.specs.Formatting.{cleared, is_equal, most_equal, without_earliest, with_room, pushed as entry_pushed}
+use Rattle.hadopt.proofs.Climbing.{OnGoes, goes-then, goes-map, Plain, PlainEntries, plain-without, inserted-goes}
+use Rattle.hadopt.proofs.Inserting.{standing-fits, put-stands, added-well, inserted-well, put-well, missing-well, reconstructed-well, first-fits, here-fits, root-fits, place-fits, fits-standing}
 use Rattle.hadopt.proofs.Keeping.{to-well, from-well}
-use Rattle.hadopt.proofs.Entering.{among-room}
-use Rattle.hadopt.proofs.Lists.{Among, each-among, pairs-among}
+use Rattle.hadopt.proofs.Lists.{Among, each-among, pairs-among, skip, keep, among-all, empty}
 use Rattle.hadopt.proofs.Settling.{Well}
+use Rattle.std.proofs.Common.{filter, ltb}
+use Rattle.names.specs.declared.error.ParseError.{ParseError}
+
+module _ {N : Type 0} where
+  among-earliest : (sought : EntryOf N → Bool) (items : List (Listed N)) → Among (entries (without_earliest sought items)) (entries items)
+  among-earliest sought [] = empty
+  among-earliest sought (marker ∷ items) = among-all (entries items)
+  among-earliest sought (entry e ∷ items) = cond_both (sought e && not (list_any sought (after_marker items))) _ _ (λ l. Among (entries l) (e ∷ entries items)) (λ _. skip (among-all (entries items))) (λ _. keep (among-earliest sought items))
+
+  pub among-room : (same : N → N → Bool) (new : EntryOf N) (items : List (Listed N)) → Among (entries (with_room same new items)) (entries items)
+  among-room same new items = cond_both (leb most_equal (length (filter (is_equal same new) (after_marker items)))) _ _ (λ l. Among (entries l) (entries items)) (λ _. among-earliest (is_equal same new) items) (λ _. among-all (entries items))
+
+module _ {N : Type 0} (at : ℕ) (name : N) (attrs : List (Attribute N)) (p : Place) (s t : SiteOf N) where
+  -- a new element is the current node
+  current-inserted : inserted at name attrs p s ≡ Goes t → node_of (current (stack t)) ≡ s.nodes.made
+  current-inserted is = subst (OnGoes (λ (u : SiteOf N). node_of (current (stack u)) ≡ s.nodes.made)) is (inserted-goes (λ u. node_of (current (stack u)) ≡ s.nodes.made) at name attrs p s refl)
+
+  -- and its entry is listed
+  pub listed-after : (n : Naming N) (u : SiteOf N) (k : ℕ) → inserted at name attrs p s ≡ Goes t → k ≡ s.nodes.made → u ≡ with_items (entry_pushed n.same (record { node = k; name = name; attrs = attrs }) t.items) t
+      → and_then (inserted at name attrs p s) (λ v. Goes (listed n name attrs v)) ≡ Goes u
+  listed-after n u k is number entered =
+      ap (λ o. and_then o (λ v. Goes (listed n name attrs v))) is
+      ∙ ap (λ j. Goes (with_items (entry_pushed n.same (record { node = j; name = name; attrs = attrs }) t.items) t)) (current-inserted is ∙ sym number) ∙ ap (λ v. Goes v) (sym entered)
 
 module _ {N : Type 0} (n : Naming N) where
   -- Where an operation keeps it, so does the call that does it.
@@ -78,3 +100,30 @@ module _ {N : Type 0} (n : Naming N) where
 
   pub reconstructed-kept : (at : ℕ) (s : SiteOf N) → Kept n s → OnGoes (Kept n) (reconstructed n at s)
   reconstructed-kept at s k = goes-map (Well n) (Kept n) (from-well n) (reconstructed n at s) (reconstructed-well n at s (to-well n s k))
+
+-- the places that the rules name are in the document's tree
+module _ {N : Type 0} (n : Naming N) (s : SiteOf N) (k : Kept n s) where
+  pub place-stands : PlaceStands (place n s) (trees s)
+  place-stands = let h = to-well n s k in fits-standing n (comment []) s h (place n s) (place-fits n (comment []) s h)
+
+  pub here-stands : PlaceStands (LastIn (node_of (current (stack s)))) (trees s)
+  here-stands = let h = to-well n s k in fits-standing n (comment []) s h (LastIn (node_of (current (stack s)))) (here-fits n (comment []) s h)
+
+  pub first-stands : PlaceStands (LastIn (node_of (from_top 0 s))) (trees s)
+  first-stands = let h = to-well n s k in fits-standing n (comment []) s h (LastIn (node_of (from_top 0 s))) (first-fits n (comment []) s h)
+
+  pub root-stands : PlaceStands (LastIn 0) (trees s)
+  root-stands = let h = to-well n s k in fits-standing n (comment []) s h (LastIn 0) (root-fits n (comment []) s h)
+
+-- the document alone
+abbrev alone : Forest ℕ
+alone = tree 0 document none none
+
+once : (x : ℕ) → times x alone ≡ (if ltb x 1 then 1 else 0)
+once zero = refl
+once (suc k) = rw (lt-leb (suc (suc k)) 1 (omega arith), ne_eqb 0 (suc k) (λ e. omega arith)) refl
+
+pub begun-kept : (l m : ℕ) (t : Nodes ℕ) (o : OpenNodes ℕ) (items : List (Listed ℕ)) (errors : List ParseError) → t ≡ record { limit = l; made = 1; trees = alone } → o ≡ record { limit = m; stack = [] } → items ≡ []
+    → Kept numbers (record { nodes = t; open_nodes = o; items = items; foster = false; errors = errors })
+begun-kept l m t o items errors a b c =
+    rw (a, b, c) (record { counted = record { once = once; begins = (none, none, refl) }; open_stands = record { stand = tt; order = tt }; plain = tt })

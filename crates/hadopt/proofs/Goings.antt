@@ -1,5 +1,5 @@
--- Going up the stack, and going back over the list.
-use Rattle.hadopt.proofs.Names.{◌≡◌, ℕ, zero, suc, ◌+◌, Bool, true, false, List, [], ◌∷◌, refl, arith, drop, length, sym, if◌then◌else◌, option_map_or, before, is_open, Listed, marker, entry, entry_at, SiteOf, stack, stops_going_back}
+-- Going back over the list.
+use Rattle.hadopt.proofs.Names.{◌≡◌, ℕ, zero, suc, ◌+◌, Bool, true, false, List, [], ◌∷◌, refl, arith, drop, length, sym, if◌then◌else◌, option_map_or, before, is_open, Listed, marker, entry, entry_at, SiteOf, stack, stops_going_back, ◌≤◌, numbers, renewed_each, Goes}
 use Rattle.std.proofs.Common.{◌==◌}
 use Rattle.std.proofs.Math.Dec.{eqb-suc-zero}
 use Rattle.hadopt.proofs.Choices.{by_test}
@@ -27,3 +27,8 @@ stopped-at-once s [] = refl
 stopped-at-once s (marker ∷ items) = refl
 stopped-at-once s (entry e ∷ items) = by_test (is_open e.node (stack s)) (λ v. v ≡ (length (if v then [] else entry e ∷ before (stops_going_back s) items) == 0)) (λ _. refl)
     (λ _. sym (eqb-suc-zero (length (before (stops_going_back s) items))))
+
+-- no entries are left to be renewed
+pub renewed-none : (at back : ℕ) (s : SiteOf ℕ) → back ≤ 0 → renewed_each numbers at back s ≡ Goes s
+renewed-none at zero s none = refl
+renewed-none at (suc k) s none = absurd (omega arith)

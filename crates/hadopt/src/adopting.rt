@@ -72,7 +72,7 @@ impl Site {
                 name: entry.name,
             },
         )?;
-        self.replace_entry(node, new);
+        self.list.replace(node, new);
         // Step 4.13.7
         let bookmark = if inner.last_node == furthest_block {
             Bookmark::After(new)

@@ -3,7 +3,7 @@
 ghost use Rattle.std.specs.Prelude.{◌≡◌, IfOk, ◌∷◌, IsTrue};
 ghost use Rattle.std.specs.List.{list_any};
 ghost use Rattle.std.specs.Option.{option_map};
-ghost use Rattle.hadopt.specs.Vocabulary.{Gives, Kept, numbers, Goes, entry_is, with_items, changed_at, marker, cleared, is_entry, without_entry, with_node, for_node, booked, has_bookmark};
+ghost use Rattle.hadopt.specs.Vocabulary.{Gives, Kept, numbers, Goes, entry_is, with_items, marker, cleared, is_entry, without_entry, booked, has_bookmark};
 
 use crate::site::Site;
 use hformat::{Bookmark, Entry};
@@ -47,20 +47,6 @@ impl Site {
         ensures kept { Kept numbers self.old → Kept numbers self.new }
     {
         self.list.remove(node);
-    }
-
-    /// Makes a node's entry that of another node.
-    pub(crate) fn replace_entry(&mut self, from: NodeId, to: NodeId)
-        ensures { self.new ≡ with_items (with_node from to self.old.items) self.old }
-    {
-        self.list.replace(from, to);
-    }
-
-    /// Makes the entry with `back` items after it that of another node.
-    pub(crate) fn renew_entry(&mut self, back: usize, node: NodeId)
-        ensures { self.new ≡ with_items (changed_at back (for_node node) self.old.items) self.old }
-    {
-        self.list.renew(back, node);
     }
 
     /// Makes a node's entry that of another node, and moves it to the bookmark.

@@ -1,9 +1,20 @@
-use Rattle.hadopt.proofs.Names.{◌≡◌, ◌-◌, ◌∙◌, sym, ap, arith, subst, ℕ, Some, None, reverse, slice_get, length, option_map, open_of, InPlace, before, above, is_node, InnerLoop, inner_loop, AreDifferent, numbers, SiteOf, Outcome, inner_loop_of}
+use Rattle.hadopt.proofs.Names.{◌≡◌, ◌-◌, ◌∙◌, sym, ap, arith, subst, ℕ, Some, None, reverse, slice_get, length, option_map, open_of, InPlace, before, above, is_node, InnerLoop, inner_loop, AreDifferent, numbers, SiteOf, Outcome, inner_loop_of, ◌⊎◌, inl, inr, Ok, Err, Result, Refusal, Memory, Refused}
 use Rattle.hadopt.proofs.Climbing.{OnGoes}
 use Rattle.hadopt.proofs.Halves.{one-different, half-stops}
-use Rattle.hadopt.proofs.Refusals.{either-refused, err-half}
 use Rattle.hadopt.proofs.Ways.{way-begins, way-next, way-at, way-stops, way-step, way-refused}
+use Rattle.std.specs.Result.{IsErrAnd}
+use Rattle.hadopt.specs.InnerLoops.{HalfGives}
+use Rattle.hadopt.specs.declared.adopting.Halfway.{Halfway}
 use Rattle.hadopt.proofs.site.Site.first_inner_turns.Goals as goal
+
+-- a refusal, of memory or of an operation that is part of another
+either-refused : {S T : Type 0} (r : Refusal) (o : Outcome S) (whole : Outcome T) → (o ≡ Refused r → whole ≡ Refused r) → (r ≡ Memory) ⊎ (o ≡ Refused r) → (r ≡ Memory) ⊎ (whole ≡ Refused r)
+either-refused r o whole f (inl m) = inl m
+either-refused r o whole f (inr e) = inr (f e)
+
+err-half : (formatting block at : ℕ) (r : Result Halfway Refusal) (d : Refusal) (new : SiteOf ℕ) (o : Outcome (InnerLoop ℕ)) → IsErrAnd r (λ e. e ≡ d) → (d ≡ Memory) ⊎ (o ≡ Refused d) → HalfGives formatting block at r new o
+err-half formatting block at (Ok c) d new o h k = absurd h
+err-half formatting block at (Err e) d new o h k = subst (λ (x : Refusal). (x ≡ Memory) ⊎ (o ≡ Refused x)) (sym h) k
 
 pub loop-left-init : goal.loop-left-init
 loop-left-init c =

@@ -1,7 +1,6 @@
 use Rattle.hadopt.proofs.Names.{ℕ, map, nat_eq, ◌∙◌, ap, Ok, Result, attribute_of, Refusal, numbers, SiteOf, with_items}
 use Rattle.hformat.specs.Formatting.{pushed}
-use Rattle.hadopt.proofs.Calls.{gives-kept, formatting-kept}
-use Rattle.hadopt.proofs.Entering.{listed-after}
+use Rattle.hadopt.proofs.Calls.{gives-kept, formatting-kept, listed-after}
 use Rattle.hadopt.proofs.site.Site.insert_formatting.Goals as goal
 
 pub returns-clause-done : goal.returns-clause-done

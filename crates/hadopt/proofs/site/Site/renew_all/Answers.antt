@@ -1,6 +1,6 @@
 use Rattle.hadopt.proofs.Names.{◌∙◌, Ok, ap, sym, Result, Refusal, numbers, reconstructed}
 use Rattle.hadopt.proofs.Calls.{gives-kept, reconstructed-kept}
-use Rattle.hadopt.proofs.Going.{renewed-none}
+use Rattle.hadopt.proofs.Goings.{renewed-none}
 use Rattle.hadopt.proofs.site.Site.renew_all.Goals as goal
 
 pub returns-clause-kept : goal.returns-clause-kept
