@@ -1,13 +1,14 @@
 -- What holds of the state between two rules.
-use Rattle.hmodes.proofs.Vocabulary.{cond_both, ◌≡◌, ℕ, ◌<◌, false, not, List, Some, refl, subst, ◌&&◌, IfSome, QuirkLine, NonVoidHtmlElementStartTagWithTrailingSolidus, deep-there, Naming, numbers, texts, Outcome, Goes, stack, trees, with_error, TellsTables, Kept, OnGoes, from-well, numbers-tell, texts-tell, Well, Mode, AfterHead, Limits, document_begins, fragment_begins, Reached, fragment, after, Token, State, Flow, Done, Again, Refused, is_self_closing, kind_of, TokenKind, Rule, Chain, Step, ends, refuses, goes_again, drops, goes, begun, finished}
+use Rattle.hmodes.proofs.Vocabulary.{cond_both, ◌≡◌, ℕ, zero, suc, ◌+◌, ◌<◌, eqb, ltb, if◌then◌else◌, false, not, List, [], ◌∷◌, Some, refl, subst, arith, ◌&&◌, lt-leb, ne_eqb, element, tree, PlacedToken, Steps, IfSome, QuirkLine, NonVoidHtmlElementStartTagWithTrailingSolidus, deep-there, Naming, numbers, texts, Outcome, Goes, stack, trees, with_error, TellsTables, Kept, OnGoes, from-well, numbers-tell, texts-tell, Well, Mode, AfterHead, Limits, document_begins, fragment_begins, Reached, fragment, after, Token, State, Flow, Done, Again, Refused, is_self_closing, kind_of, TokenKind, Rule, Chain, Step, ends, refuses, goes_again, drops, goes, begun, finished}
 use Rattle.hmodes.proofs.Every.{by_option}
 use Rattle.names.specs.declared.tag.Tag.TheVariants as tag
 use Rattle.hmodes.specs.Reached.{document}
 use Rattle.hmodes.proofs.Down.{Sound, FlowHolds, Any, cap, rule-down}
 use Rattle.hmodes.proofs.Facts.{reset-found}
 use Rattle.hmodes.proofs.HeadFacts.{HeadFacts, FlowFacts, Facts, OutOf, late-facts}
-use Rattle.hmodes.proofs.Open.{rule-facts}
-use Rattle.hmodes.proofs.Run.{document-well, fragment-well}
+use Rattle.hmodes.proofs.HeadRules.{rule-facts}
+use Rattle.hmodes.specs.Step as step
+use Rattle.hnodes.specs.Forest as forest
 use Rattle.hmodes.proofs.Stands.{FlowWell, HeadOut, rule-well}
 
 -- what is asked of names
@@ -20,6 +21,33 @@ numbers-all = record { tables = numbers-tell; img = refl }
 
 pub texts-all : Tells texts
 texts-all = record { tables = texts-tell; img = refl }
+
+module _ {N : Type 0} (n : Naming N) where
+  -- the site in which a document or a fragment begins
+  document-well : (quirks : List QuirkLine) (limits : Limits) → Well n (document_begins quirks limits).site
+  document-well quirks limits = record {
+    counted = record { once = one; begins = (forest.none, forest.none, refl) };
+    each = tt;
+    order = tt;
+    plain = tt;
+  }
+    where
+      one : (x : ℕ) → (if eqb 0 x then 1 else 0) + 0 ≡ (if ltb x 1 then 1 else 0)
+      one zero = refl
+      one (suc x) = rw (ne_eqb 0 (suc x) (λ e. omega arith), lt-leb (suc (suc x)) 1 (omega arith)) refl
+
+  fragment-well : (context : N) (limits : Limits) → Well n (fragment_begins n context limits).site
+  fragment-well context limits = record {
+    counted = record { once = one; begins = (tree 1 (element (n.known tag.Html) []) forest.none forest.none, forest.none, refl) };
+    each = ((omega arith, omega arith), tt);
+    order = (tt, tt);
+    plain = tt;
+  }
+    where
+      one : (x : ℕ) → (if eqb 0 x then 1 else 0) + (((if eqb 1 x then 1 else 0) + 0) + 0) ≡ (if ltb x 2 then 1 else 0)
+      one zero = refl
+      one (suc zero) = refl
+      one (suc (suc x)) = rw (ne_eqb 0 (suc (suc x)) (λ e. omega arith), ne_eqb 1 (suc (suc x)) (λ e. omega arith), lt-leb (suc (suc (suc x))) 2 (omega arith)) refl
 
 module _ {N : Type 0} (n : Naming N) where
   -- the open nodes are in the document's tree, the head pointer is as the mode says, and text is not left for text
@@ -97,3 +125,11 @@ module _ {N : Type 0} (n : Naming N) where
     reached-orderly s (document quirks limits) = orderly-document quirks limits
     reached-orderly s (fragment context limits) = orderly-fragment context limits
     reached-orderly s (after {at = at} {t = t} {s = before} r one) = step-orderly at t before (Goes s) (reached-orderly before r) one
+
+  -- tokens in order lead from a state that tokens lead to to another one
+  pub steps-reach : (ts : List (PlacedToken N)) (s s' : State N) → Reached n s → Steps n ts s (Goes s') → Reached n s'
+  steps-reach [] s s' r step.none = r
+  steps-reach (t ∷ ts) s s' r (step.and {s' = u} one rest) = steps-reach ts u s' (after r one) rest
+
+  pub steps-kept : Tells n → (ts : List (PlacedToken N)) (s s' : State N) → Reached n s → Steps n ts s (Goes s') → Kept n s'.site
+  steps-kept tells ts s s' r run = orderly-kept s' (reached-orderly tells s' (steps-reach ts s s' r run))

@@ -1,5 +1,5 @@
 -- What each mode knows of the head.
-use Rattle.hmodes.proofs.Vocabulary.{cond_both, ◌≡◌, ℕ, Bool, true, false, not, cond, List, [], ◌∷◌, Option, Some, None, refl, sym, ◌∙◌, ◌&&◌, ◌||◌, unwrap_or, OpenNode, Placed, Tag, Naming, Outcome, Goes, SiteOf, stack, Mode, BeforeHead, InHead, InHeadNoscript, AfterHead, InBody, Text, InTableText, TokenKind, Do, ◌▸◌, when, unless, choose, fostered, each_pending, again, again_as, to, save_mode, to_saved, reset, insert, insert_named, insert_root, insert_root_named, insert_comment, comment_in_document, comment_in_first, insert_doctype, put, push_head, reconstruct, adopt, adopt_listed, Token, character, Control, State, Flow, Done, Again, Refused, flow_then, flow_map, open_mode, context_mode, root_mode, reset_mode, answer_of, perform, with_foster, with_control, each_of, flow_of, rule_of}
+use Rattle.hmodes.proofs.Vocabulary.{cond_both, ◌≡◌, ℕ, Bool, true, false, not, List, [], ◌∷◌, Option, Some, None, refl, sym, ◌∙◌, ◌&&◌, ◌||◌, unwrap_or, OpenNode, Placed, Tag, Naming, Outcome, Goes, SiteOf, stack, Mode, BeforeHead, InHead, InHeadNoscript, AfterHead, InBody, Text, InTableText, TokenKind, Do, ◌▸◌, when, unless, choose, fostered, each_pending, again, again_as, to, save_mode, to_saved, reset, insert, insert_named, insert_root, insert_root_named, insert_comment, comment_in_document, comment_in_first, insert_doctype, put, push_head, reconstruct, adopt, adopt_listed, Token, character, Control, State, Flow, Done, Again, Refused, flow_then, flow_map, open_mode, context_mode, root_mode, reset_mode, answer_of, perform, with_foster, with_control, each_of, flow_of, rule_of}
 use Rattle.names.specs.declared.tag.Tag.TheVariants as tag
 use Rattle.hadopt.specs.Site as site
 use Rattle.hmodes.proofs.Every.{both, in-each}
@@ -130,11 +130,8 @@ module _ {N : Type 0} (n : Naming N) where
   perform-late b (unless question p) calm at t s h = cond_both (answer_of n t question s) (Done s) (perform n at t p s) (FlowLate b) (λ _. h) (λ _. flow-less b (leaves b p) (perform n at t p s) (wider b p) (perform-late b p calm at t s h))
   perform-late b (choose question p q) calm at t s h =
       let parts = both (lates b p) (lates b q) calm in
-      go (answer_of n t question s) (flow-less b (leaves b p) (perform n at t p s) (wider b p) (perform-late b p parts.0 at t s h)) (flow-less b (leaves b q) (perform n at t q s) (wider b q) (perform-late b q parts.1 at t s h))
-    where
-      go : (x : Bool) → FlowLate b (perform n at t p s) → FlowLate b (perform n at t q s) → FlowLate b (cond x (perform n at t p s) (perform n at t q s))
-      go true m k = m
-      go false m k = k
+      cond_both (answer_of n t question s) (perform n at t p s) (perform n at t q s) (FlowLate b) (λ _. flow-less b (leaves b p) (perform n at t p s) (wider b p) (perform-late b p parts.0 at t s h))
+      (λ _. flow-less b (leaves b q) (perform n at t q s) (wider b q) (perform-late b q parts.1 at t s h))
   perform-late b (fostered p) calm at t s h = late-map b false (perform n at t p (with_foster true s)) (flow-less b (leaves b p) (perform n at t p (with_foster true s)) (wider b p) (perform-late b p calm at t (with_foster true s) h))
   perform-late b (each_pending p) calm at t s h =
       late-each b (λ c. perform n c.at (character c.ch) p) (λ c u m. flow-less b (leaves b p) (perform n c.at (character c.ch) p u) (wider b p) (perform-late b p calm c.at (character c.ch) u m)) s.control.pending (with_control (record s.control { pending = [] }) s) (record { mode = h.mode; saved = h.saved; texty = h.texty })

@@ -1,6 +1,11 @@
 -- Nodes are made and never taken away: no token leads to fewer.
-use Rattle.hmodes.proofs.Vocabulary.{cond_both, ℕ, zero, suc, ◌≤◌, Bool, true, false, not, cond, leb, List, [], ◌∷◌, Option, Some, None, subst, length, drop, arith, ◌&&◌, is_none, option_map_or, TreeInBody, NonVoidHtmlElementStartTagWithTrailingSolidus, Placed, TooManyNodes, TooDeep, make, char_into, text_before, What, Attribute, element, Place, LastIn, before, stops, is_named, OpenNode, is_node, is_open, current, above, in_scope, furthest_block, Default, EntryOf, entry_of, entry_at, find_entry, without_entry, Turn, Next, Ended, next_turn, InnerLoop, most_turns, inner_turn, inner_loop, node_replaced, left, after_inner_loop, entries_for, with_furthest_block, popped_with, with_formatting_element, outer_turn, outer_loop, is_unlisted, adopted, is, closed, without_implied, made, added, pushed, inserted, Naming, place, renewed, renewed_each, stops_going_back, Outcome, Goes, SiteOf, and_then, stack, trees, with_stack, with_items, with_error, error_unless, current_is, from_top, node_of, OnGoes, goes-then, doctype_node, perform, with_foster, with_control, each_of, flow_of, forgotten, current_node, adopted_listed, head_pushed, answer_of, rule_of, Token, character, State, Flow, Done, Again, Refused, kind_of, flow_then, flow_map, token_name, token_attrs, token_text, token_char, is_self_closing, Chain, ends, refuses, goes_again, Step, drops, goes, begun, finished, Do, ◌▸◌, when, unless, choose, fostered, each_pending, insert, insert_named, insert_root, insert_root_named, insert_comment, comment_in_document, comment_in_first, insert_doctype, push_head, reconstruct, close_p, adopt, adopt_listed}
+use Rattle.hmodes.proofs.Vocabulary.{cond_both, ℕ, zero, suc, ◌≤◌, Bool, true, false, not, cond, leb, List, [], ◌∷◌, Option, Some, None, subst, length, drop, arith, ◌&&◌, is_none, option_map_or, TreeInBody, NonVoidHtmlElementStartTagWithTrailingSolidus, Placed, TooManyNodes, TooDeep, char_into, text_before, What, Attribute, element, Place, LastIn, before, stops, is_named, OpenNode, is_node, is_open, current, above, in_scope, furthest_block, Default, EntryOf, entry_at, find_entry, without_entry, Turn, Next, Ended, next_turn, InnerLoop, most_turns, inner_turn, inner_loop, after_inner_loop, with_furthest_block, popped_with, with_formatting_element, outer_turn, outer_loop, is_unlisted, adopted, is, closed, without_implied, made, added, pushed, inserted, Naming, place, renewed, renewed_each, stops_going_back, Outcome, Goes, SiteOf, and_then, stack, trees, with_stack, with_items, with_error, error_unless, current_is, from_top, node_of, OnGoes, goes-then, doctype_node, perform, with_foster, with_control, each_of, flow_of, forgotten, current_node, adopted_listed, head_pushed, answer_of, rule_of, Token, character, State, Flow, Done, Again, Refused, kind_of, flow_then, flow_map, token_name, token_attrs, token_text, token_char, is_self_closing, Chain, ends, refuses, goes_again, Step, drops, goes, begun, finished, Do, ◌▸◌, when, unless, choose, fostered, each_pending, insert, insert_named, insert_root, insert_root_named, insert_comment, comment_in_document, comment_in_first, insert_doctype, push_head, reconstruct, close_p, adopt, adopt_listed}
 use Rattle.hmodes.proofs.Every.{by_option}
+use Rattle.hadopt.proofs.Climbing.{made-goes, inserted-goes, turn-goes}
+use Rattle.hadopt.specs.Adopts.{formatting_replaced}
+use Rattle.hadopt.specs.Places.{place_in}
+use Rattle.hadopt.specs.Site.{with_trees}
+use Rattle.hnodes.specs.Edits.{graft}
 use Rattle.names.specs.declared.error.ErrorCode.{ErrorCode}
 use Rattle.names.specs.declared.tag.Tag.TheVariants as tag
 use Rattle.names.specs.Sets.{is_special}
@@ -23,17 +28,14 @@ module _ {N : Type 0} (k : ℕ) where
   then : (o : Outcome (SiteOf N)) (f : SiteOf N → Outcome (SiteOf N)) → Keeps o → ((s : SiteOf N) → Holds s → Keeps (f s)) → Keeps (and_then o f)
   then = goes-then Holds Holds
 
-  made-holds : (at : ℕ) (w : What N) (s : SiteOf N) → Holds s → Keeps (made at w s)
-  made-holds at w s h = cond_both (leb s.nodes.limit s.nodes.made) (site.Refused (TooManyNodes at)) (Goes (record s { nodes = make w s.nodes })) Keeps (λ _. tt) (λ _. omega (arith, h))
-
-  added-holds : (at : ℕ) (w : What N) (p : Place) (s : SiteOf N) → Holds s → Keeps (added at w p s)
-  added-holds at w p s h = then (made at w s) _ (made-holds at w s h) (λ t g. g)
-
   pushed-holds : (at : ℕ) (x : OpenNode N) (s : SiteOf N) → Holds s → Keeps (pushed at x s)
   pushed-holds at x s h = cond_both (leb s.open_nodes.limit (length (stack s))) (site.Refused (TooDeep at)) (Goes (with_stack (x ∷ stack s) s)) Keeps (λ _. tt) (λ _. h)
 
+  added-holds : (at : ℕ) (w : What N) (p : Place) (s : SiteOf N) → Holds s → Keeps (added at w p s)
+  added-holds at w p s h = made-goes Holds at w s _ (omega (arith, h))
+
   inserted-holds : (at : ℕ) (name : N) (attrs : List (Attribute N)) (p : Place) (s : SiteOf N) → Holds s → Keeps (inserted at name attrs p s)
-  inserted-holds at name attrs p s h = then (added at (element name attrs) p s) _ (added-holds at (element name attrs) p s h) (λ t g. pushed-holds at _ t g)
+  inserted-holds at name attrs p s h = inserted-goes Holds at name attrs p s (omega (arith, h))
 
   put-holds : (at c : ℕ) (p : Place) (s : SiteOf N) → Holds s → Keeps (put at c p s)
   put-holds at c p s h = go (text_before p (trees s)) (is_none (text_before p (trees s)) && leb s.nodes.limit s.nodes.made)
@@ -64,14 +66,7 @@ module _ {N : Type 0} (k : ℕ) where
 
     -- the adoption agency
     inner-turn-holds : (block passed : ℕ) (x : OpenNode N) (c : InnerLoop N) → Holds c.site → OnGoes (λ d. Holds d.site) (inner_turn n at block passed x c)
-    inner-turn-holds block passed x c h = go (entry_of x.node (entries_for passed x.node c.site.items))
-      where
-        s : SiteOf N
-        s = with_items (entries_for passed x.node c.site.items) c.site
-
-        go : (o : Option (EntryOf N)) → OnGoes (λ d. Holds d.site) (option_map_or (λ e. and_then (made at (element e.name e.attrs) s) (λ t. Goes (node_replaced block s.nodes.made x e (record c { site = t })))) o (Goes (left x (record c { site = s }))))
-        go None = h
-        go (Some e) = goes-then Holds (λ d. Holds d.site) (made at (element e.name e.attrs) s) _ (made-holds at (element e.name e.attrs) s h) (λ t g. g)
+    inner-turn-holds block passed x c h = turn-goes n (λ d. Holds d.site) at block passed x c h (λ e _. omega (arith, h))
 
     inner-loop-holds : (block passed : ℕ) (way : List (OpenNode N)) (c : InnerLoop N) → Holds c.site → OnGoes (λ d. Holds d.site) (inner_loop n at block passed way c)
     inner-loop-holds block passed [] c h = h
@@ -79,7 +74,8 @@ module _ {N : Type 0} (k : ℕ) where
         goes-then (λ d. Holds d.site) (λ d. Holds d.site) (inner_turn n at block passed x c) (inner_loop n at block (suc passed) way) (inner-turn-holds block passed x c h) (λ d g. inner-loop-holds block (suc passed) way d g)
 
     ended-holds : (f : EntryOf N) (block : ℕ) (common_ancestor : Option (OpenNode N)) (c : InnerLoop N) → Holds c.site → Keeps (after_inner_loop n at f block common_ancestor c)
-    ended-holds f block common_ancestor c h = then (made at (element f.name f.attrs) _) _ (made-holds at (element f.name f.attrs) _ h) (λ t g. g)
+    ended-holds f block common_ancestor c h =
+        made-goes Holds at (element f.name f.attrs) (with_trees (graft c.last_node (place_in n common_ancestor c.site) (trees c.site)) c.site) (λ t. Goes (formatting_replaced block c.site.nodes.made f c.bookmark t)) (omega (arith, h))
 
     abbrev HoldsAfter : Turn (SiteOf N) → Type 0
     HoldsAfter (Next s) = Holds s

@@ -1,5 +1,5 @@
 -- Every rule keeps what its mode knows of the head.
-use Rattle.hmodes.proofs.Vocabulary.{◌≡◌, ◌≢◌, ℕ, ◌<◌, Bool, true, false, cond, leb, List, [], ◌∷◌, Option, Some, None, refl, sym, ◌∙◌, ap, subst, arith, drop, length, ◌&&◌, eq-eqb, ne_eqb, Attribute, element, LastIn, OpenNode, Refusal, TooDeep, Naming, Goes, SiteOf, stack, trees, with_stack, with_error, from_top, node_of, place, inserted, Each, Pairs, TellsTables, deep, deep-there, OnGoes, Well, erred, inserted-well, place-fits, BeforeHead, InHead, InHeadNoscript, AfterHead, InBody, Text, TokenKind, Nul, Ws, Char, Comment, Doctype, Start, End, Eof, Do, ◌▸◌, nothing, again, error, to, save_mode, to_saved, head_pointer, insert, insert_named, insert_comment, put, pop, push_head, remove_head, add_missing_to_first, Token, State, Flow, Done, Again, Refused, flow_then, token_name, token_attrs, token_text, token_char, void, raw, html_again, code_of, before_head, head_unwritten, in_head, head_ends, in_head_noscript, noscript_ends, after_head, body_unwritten, late, text, perform, with_site, flow_of, current_node, head_pushed, removed}
+use Rattle.hmodes.proofs.Vocabulary.{Forest, by_test, Mode, InTableText, kind_of, rule_of, Rule, in_table_text, ◌≡◌, ◌≢◌, ℕ, ◌<◌, Bool, true, false, cond, leb, List, [], ◌∷◌, Option, Some, None, refl, sym, ◌∙◌, ap, subst, arith, drop, length, ◌&&◌, eq-eqb, ne_eqb, Attribute, element, LastIn, OpenNode, Refusal, TooDeep, Naming, Goes, SiteOf, stack, trees, with_stack, with_error, from_top, node_of, place, inserted, Each, Pairs, TellsTables, deep, deep-there, OnGoes, Well, erred, inserted-well, place-fits, BeforeHead, InHead, InHeadNoscript, AfterHead, InBody, Text, TokenKind, Nul, Ws, Char, Comment, Doctype, Start, End, Eof, Do, ◌▸◌, nothing, again, error, to, save_mode, to_saved, head_pointer, insert, insert_named, insert_comment, put, pop, push_head, remove_head, add_missing_to_first, Token, State, Flow, Done, Again, Refused, flow_then, token_name, token_attrs, token_text, token_char, void, raw, html_again, code_of, before_head, head_unwritten, in_head, head_ends, in_head_noscript, noscript_ends, after_head, body_unwritten, late, text, perform, with_site, flow_of, current_node, head_pushed, removed}
 use Rattle.hnodes.specs.Forest as forest
 use Rattle.names.specs.declared.tag.Tag.TheVariants as tag
 use Rattle.hadopt.specs.Site as site
@@ -7,7 +7,8 @@ use Rattle.hmodes.specs.declared.family.Family.TheVariants as family
 use Rattle.hmodes.proofs.Every.{never, both, by_outcome}
 use Rattle.hmodes.proofs.Stands.{tame, perform-well}
 use Rattle.hmodes.proofs.Heads.{Steady, steady-same, steady-then, added-steady, Deeper, inserted-steady, put-steady, missing-steady}
-use Rattle.hmodes.proofs.HeadFacts.{IsAt, OutOf, Knows, Facts, HeadFacts, FlowFacts, knows-steady, out-steady, FlowQuiet, quiet-flow, on-quiet, quiet-then}
+use Rattle.hmodes.proofs.Facts.{is_early, is_texty, Late, less-late, lates, leaves, FlowLate, perform-late, lates-rule}
+use Rattle.hmodes.proofs.HeadFacts.{late-facts, IsAt, OutOf, Knows, Facts, HeadFacts, FlowFacts, knows-steady, out-steady, FlowQuiet, quiet-flow, on-quiet, quiet-then}
 
 -- what leaves modes, head pointer and open nodes as they are
 abbrev quiet : Do → Bool
@@ -240,3 +241,41 @@ module _ {N : Type 0} (n : Naming N) (tells : TellsTables n) (at : ℕ) (t : Tok
 
   pub before-head-rule : (k : TokenKind) (s : State N) → Well n s.site → HeadFacts s → FlowFacts (perform n at t (before_head k) s)
   before-head-rule k s w f = before-head-cases (λ p. FlowFacts (perform n at t p s)) (λ p e. by-quiet p e s w f) (head-facts s w) (head-unwritten-facts s w) k
+
+-- by the rules of any mode
+module _ {N : Type 0} where
+  early-facts : (m : Mode) (hp : Option ℕ) (open_now : List (OpenNode N)) (f : Forest N) → is_early m ≡ true → Knows m hp open_now f → Facts m m hp open_now f
+  early-facts InHead hp open_now f e k = k
+  early-facts InHeadNoscript hp open_now f e k = k
+  early-facts AfterHead hp open_now f e k = k
+  early-facts _ hp open_now f e k = never e
+
+module _ {N : Type 0} (n : Naming N) (tells : TellsTables n) where
+  flow-late : (b : Bool) (f : Flow N) → FlowLate n b f → FlowFacts f
+  flow-late b (Done s) l = late-facts s (less-late false b s.control (λ e. cc) l)
+  flow-late b (Again t s) l = late-facts s l
+  flow-late b (Refused r) l = tt
+
+  module _ (at : ℕ) (t : Token N) (s : State N) (w : Well n s.site) (f : HeadFacts s) where
+    by-late : (b : Bool) (p : Do) → lates b p ≡ true → Late b s.control → FlowFacts (perform n at t p s)
+    by-late b p e l = flow-late (leaves b p) (perform n at t p s) (perform-late n b p e at t s l)
+
+    not-texty : (m : Mode) → s.control.mode ≡ m → is_texty m ≡ false → is_texty s.control.mode ≡ true → is_early s.control.saved ≡ false
+    not-texty m is e i = let clash = sym e ∙ subst (λ (k : Mode). is_texty k ≡ true) is i in cc
+
+    by-plain : (m : Mode) → s.control.mode ≡ m → is_early m ≡ false → is_texty m ≡ false → lates false (rule_of m (kind_of n t)) ≡ true
+        → FlowFacts (perform n at t (rule_of m (kind_of n t)) s)
+    by-plain m is early texty e =
+        by-late false (rule_of m (kind_of n t)) e (record { mode = subst (λ (k : Mode). is_early k ≡ false) (sym is) early; saved = λ i. never i; texty = not-texty m is texty })
+
+    pub rule-facts : FlowFacts (Rule n at t s)
+    rule-facts = by-mode s.control.mode refl f
+      where
+        by-mode : (m : Mode) → s.control.mode ≡ m → Facts m s.control.saved s.control.head (stack s.site) (trees s.site) → FlowFacts (perform n at t (rule_of m (kind_of n t)) s)
+        by-mode BeforeHead is g = before-head-rule n tells at t (kind_of n t) s w f
+        by-mode InHead is g = in-head-rule n tells at t (kind_of n t) s is w g f
+        by-mode InHeadNoscript is g = noscript-rule n tells at t (kind_of n t) s is w g f
+        by-mode AfterHead is g = after-head-rule n tells at t s is w g (kind_of n t) f
+        by-mode Text is g = by_test (is_early s.control.saved) (λ v. FlowFacts (perform n at t (text (kind_of n t)) s)) (λ e. text-rule n tells at t (kind_of n t) s is w (early-facts s.control.saved s.control.head (drop 1 (stack s.site)) (trees s.site) e g) f) (λ e. by-late true (text (kind_of n t)) (lates-rule Text (kind_of n t)) (record { mode = rw is refl; saved = λ i. e; texty = λ i. e }))
+        by-mode InTableText is g = by-late true (in_table_text (kind_of n t)) (lates-rule InTableText (kind_of n t)) (record { mode = rw is refl; saved = λ i. g; texty = λ i. g })
+        by-mode m is g = by-plain m is refl refl (lates-rule m (kind_of n t))

@@ -1,5 +1,5 @@
 -- The rules under other names.
-use Rattle.hmodes.proofs.Vocabulary.{◌≡◌, ℕ, Bool, true, false, not, ◌&&◌, ◌||◌, cond, List, [], ◌∷◌, ◌++◌, map, reverse, Option, Some, None, refl, sym, ◌∙◌, ap, subst, is_some, slice_get, unwrap_or, codes, list_any, option_map, option_map_or, str_eq_ignore_ascii_case, is_present, Attribute, Forest, attributes_of, add_attribute, spelled_attribute, spelled_what, spelled, LastIn, OpenNode, is_node, current, stops, stops_item, is_of, is_of_group, stops_in, Default, EntryOf, find_entry, Tag, Placed, Naming, Outcome, Goes, SiteOf, and_then, stack, trees, with_trees, with_stack, with_items, from_top, node_of, place, is_fostering, added, inserted, listed, with_missing, is, is_table_context, is_body_context, is_row_context, popped_while_not, adopted, InBody, Start, End, Test, Do, ◌▸◌, when, unless, choose, fostered, each_pending, again, again_as, reset, head_pointer, form_pointer, judge_quirks, pend, insert, insert_named, insert_root, insert_root_named, insert_comment, comment_in_document, comment_in_first, insert_doctype, put, add_missing_to_first, add_missing_to_second, pop, pop_to, pop_to_name, pop_to_group, implied, implied_except, implied_except_name, clear_to_table, clear_to_body, clear_to_row, push_head, remove_head, remove_form, reconstruct, push_to_list, clear_to_marker, close_p, adopt, adopt_listed, other_end, has_in, has_name_in, has_group_in, has_form_in_scope, current_is_name, current_is_group, current_is_form, current_is_fostering, item_is_near, second_is_body, all_may_stay_open, name_is_listed, form_is_set, is_in_quirks, is_fragment, doctype_conforms, input_is_hidden, pending_is_ws, Token, doctype, start, end, character, PlacedToken, State, Flow, Done, Again, Refused, flow_then, flow_map, token_name, token_attrs, token_text, token_char, is_self_closing, renamed, kind_of, family_of, rule_of, open_mode, context_mode, reset_mode, conforms, forces_quirks, doctype_node, has, is_token_name, is_hidden, answer_of, with_site, with_control, with_foster, flow_of, each_of, removed, forgotten, current_node, inserted_here, completed, adopted_listed, head_pushed, perform, Rule, Chain, Step, Steps, is_dropped, begun, finished, ends, refuses, goes_again, drops, goes, none, and, refused, spelled_token, spelled_placed, spelled_state, spelled_flow, StepsKnowNoNames, in_scope}
+use Rattle.hmodes.proofs.Vocabulary.{◌≡◌, ℕ, Bool, true, false, not, ◌&&◌, cond, List, [], ◌∷◌, ◌++◌, map, reverse, Option, Some, None, refl, sym, ◌∙◌, ap, subst, is_some, slice_get, unwrap_or, codes, list_any, option_map, option_map_or, str_eq_ignore_ascii_case, is_present, Attribute, Forest, attributes_of, add_attribute, spelled_attribute, spelled_what, spelled, LastIn, OpenNode, is_node, current, stops, stops_item, is_of, is_of_group, stops_in, Default, EntryOf, find_entry, Tag, Placed, Naming, Outcome, Goes, SiteOf, and_then, stack, trees, with_trees, with_stack, with_items, from_top, node_of, place, is_fostering, added, inserted, listed, with_missing, is, is_table_context, is_body_context, is_row_context, popped_while_not, adopted, InBody, Start, End, Test, Do, ◌▸◌, when, unless, choose, fostered, each_pending, again, again_as, reset, head_pointer, form_pointer, judge_quirks, pend, insert, insert_named, insert_root, insert_root_named, insert_comment, comment_in_document, comment_in_first, insert_doctype, put, add_missing_to_first, add_missing_to_second, pop, pop_to, pop_to_name, pop_to_group, implied, implied_except, implied_except_name, clear_to_table, clear_to_body, clear_to_row, push_head, remove_head, remove_form, reconstruct, push_to_list, clear_to_marker, close_p, adopt, adopt_listed, other_end, has_in, has_name_in, has_group_in, has_form_in_scope, current_is_name, current_is_group, current_is_form, current_is_fostering, item_is_near, second_is_body, all_may_stay_open, name_is_listed, form_is_set, is_in_quirks, is_fragment, doctype_conforms, input_is_hidden, pending_is_ws, Token, doctype, start, end, character, PlacedToken, State, Flow, Done, Again, Refused, flow_then, flow_map, token_name, token_attrs, token_text, token_char, is_self_closing, renamed, kind_of, family_of, rule_of, open_mode, context_mode, reset_mode, conforms, forces_quirks, doctype_node, has, is_token_name, is_hidden, answer_of, with_site, with_control, with_foster, flow_of, each_of, removed, forgotten, current_node, inserted_here, completed, adopted_listed, head_pushed, perform, Rule, Chain, Step, Steps, is_dropped, begun, finished, ends, refuses, goes_again, drops, goes, none, and, refused, spelled_token, spelled_placed, spelled_state, spelled_flow, StepsKnowNoNames}
 use Rattle.hopen.proofs.Spellings.{scope-map}
 use Rattle.hmodes.proofs.Every.{by_option}
 use Rattle.std.proofs.lemmas.Option.{slice_get-map}
@@ -10,6 +10,7 @@ use Rattle.hformat.specs.Formatting.{pushed}
 use Rattle.hopen.specs.Spelled.{spelled_open, spelled_stack, StackKnowsNoNames}
 use Rattle.hformat.specs.Spelled.{spelled_entry, spelled_items, FormattingKnowsNoNames}
 use Rattle.hopen.proofs.Spellings.{stack_spelled}
+use Rattle.hformat.proofs.Bookmarks.{is_some-option_map}
 use Rattle.hformat.proofs.Spellings.{formatting_spelled}
 use Rattle.names.specs.declared.tag.Tag.TheVariants as tag
 use Rattle.names.specs.Sets.{may_stay_open}
@@ -71,10 +72,6 @@ module _ {N M : Type 0} (g : N → M) where
   quirks-spelled s (doctype a b c d) = refl
   quirks-spelled s t = refl
 
-some-map : {X Y : Type 0} (h : X → Y) (o : Option X) → is_some (option_map h o) ≡ is_some o
-some-map h None = refl
-some-map h (Some x) = refl
-
 module _ {N M : Type 0} (m : Naming N) (n : Naming M) (g : N → M) (a : Agree m n g) where
   stack-words : StackKnowsNoNames m.tag n.tag m.same n.same g
   stack-words = stack_spelled m.tag n.tag m.same n.same g a.spelling
@@ -123,10 +120,10 @@ module _ {N M : Type 0} (m : Naming N) (n : Naming M) (g : N → M) (a : Agree m
   answer-spelled t (item_is_near x) s = scope-map g (is m x) (is n x) (site_names.is-map m n g a x) (λ y. stops_item (m.tag y.name)) (λ y. stops_item (n.tag y.name)) (λ y. ap stops_item (a.spelling.tags y.name)) (stack s.site)
   answer-spelled t second_is_body s = ap (λ o. option_map_or (is n tag.Body) o false) (top-spelled 1 s.site) ∙ or-map (spelled_open g) (λ v. v) (is m tag.Body) (is n tag.Body) (site_names.is-map m n g a tag.Body) false (from_top 1 s.site)
   answer-spelled t all_may_stay_open s = all-map (spelled_open g) (λ x. may_stay_open (m.tag x.name)) (λ x. may_stay_open (n.tag x.name)) (λ x. ap may_stay_open (a.spelling.tags x.name)) (stack s.site)
-  answer-spelled t name_is_listed s = ap (λ y. is_some (find_entry n.same y (spelled_items g s.site.items))) (name-spelled t) ∙ ap (λ (o : Option (EntryOf M)). is_some o) (list-words.find (token_name m t) s.site.items) ∙ some-map (spelled_entry g) (find_entry m.same (token_name m t) s.site.items)
+  answer-spelled t name_is_listed s = ap (λ y. is_some (find_entry n.same y (spelled_items g s.site.items))) (name-spelled t) ∙ ap (λ (o : Option (EntryOf M)). is_some o) (list-words.find (token_name m t) s.site.items) ∙ is_some-option_map (spelled_entry g) (find_entry m.same (token_name m t) s.site.items)
   answer-spelled t form_is_set s = refl
   answer-spelled t is_in_quirks s = refl
-  answer-spelled t is_fragment s = some-map g s.context
+  answer-spelled t is_fragment s = is_some-option_map g s.context
   answer-spelled t doctype_conforms s = conforms-spelled g t
   answer-spelled t input_is_hidden s = ap (list_any (is_hidden n)) (attrs-spelled g t) ∙ any-map (spelled_attribute g) (is_hidden m) (is_hidden n) (λ x i. hidden x i && str_eq_ignore_ascii_case x.1 (codes "hidden")) (token_attrs t)
     where

@@ -1,7 +1,8 @@
 -- Where the formatting elements are reconstructed, none is left to be.
-use Rattle.hmodes.proofs.Vocabulary.{cond_both, ◌≡◌, ℕ, zero, suc, Bool, true, leb, List, [], ◌∷◌, Option, Some, None, length, refl, ap, ◌∙◌, ◌==◌, ◌||◌, if◌then◌else◌, option_map_or, eq-eqb, make, Attribute, element, Place, before, changed_at, is_open, EntryOf, Listed, marker, entry, entry_at, for_node, TooManyNodes, TooDeep, made, added, pushed, inserted, numbers, place, stops_going_back, renewed, renewed_each, reconstructed, Outcome, Goes, SiteOf, stack, with_stack, OnGoes, goes-then, before_text, puts_in, Mode}
+use Rattle.hmodes.proofs.Vocabulary.{◌≡◌, ℕ, zero, suc, Bool, true, List, [], ◌∷◌, Option, Some, None, length, refl, ap, ◌∙◌, ◌==◌, ◌||◌, if◌then◌else◌, option_map_or, eq-eqb, Attribute, element, Place, before, changed_at, is_open, EntryOf, Listed, marker, entry, entry_at, for_node, made, inserted, numbers, place, stops_going_back, renewed, renewed_each, reconstructed, Outcome, Goes, SiteOf, stack, OnGoes, goes-then, before_text, puts_in, Mode}
 use Rattle.hadopt.specs.Site as site
 use Rattle.hmodes.specs.declared.mode.Mode.TheVariants as mode
+use Rattle.hadopt.proofs.Climbing.{inserted-goes}
 use Rattle.hmodes.proofs.OnePut.{is_reconstructed, puts_now}
 
 -- a new element leaves foster parenting as it is, and is open then
@@ -13,17 +14,8 @@ module _ (s : SiteOf ℕ) where
   Opened t = Same t × (is_open s.nodes.made (stack t) ≡ true)
 
 module _ (at : ℕ) (name : ℕ) (attrs : List (Attribute ℕ)) (p : Place) (s : SiteOf ℕ) where
-  made-same : OnGoes (Same s) (made at (element name attrs) s)
-  made-same = cond_both (leb s.nodes.limit s.nodes.made) (site.Refused (TooManyNodes at)) (Goes (record s { nodes = make (element name attrs) s.nodes })) (OnGoes (Same s)) (λ _. tt) (λ _. refl)
-
-  added-same : OnGoes (Same s) (added at (element name attrs) p s)
-  added-same = goes-then (Same s) (Same s) (made at (element name attrs) s) _ made-same (λ t g. g)
-
-  pushed-opened : (t : SiteOf ℕ) → Same s t → OnGoes (Opened s) (pushed at (record { node = s.nodes.made; name = name }) t)
-  pushed-opened t g = cond_both (leb t.open_nodes.limit (length (stack t))) (site.Refused (TooDeep at)) (Goes (with_stack (record { node = s.nodes.made; name = name } ∷ stack t) t)) (OnGoes (Opened s)) (λ _. tt) (λ _. (g, ap (λ (b : Bool). b || is_open s.nodes.made (stack t)) (eq-eqb s.nodes.made s.nodes.made refl)))
-
   inserted-opened : OnGoes (Opened s) (inserted at name attrs p s)
-  inserted-opened = goes-then (Same s) (Opened s) (added at (element name attrs) p s) _ added-same pushed-opened
+  inserted-opened = inserted-goes (Opened s) at name attrs p s (refl, ap (λ (b : Bool). b || is_open s.nodes.made (stack s)) (eq-eqb s.nodes.made s.nodes.made refl))
 
 -- a list whose last item is a marker, or an entry whose node is open, has nothing to be renewed
 abbrev stops_first : SiteOf ℕ → List (Listed ℕ) → Type 0

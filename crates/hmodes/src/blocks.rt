@@ -62,9 +62,10 @@ impl<'q> TreeConstruction<'q> {
         ensures { Performs at (in_body (Start family.Li)) token.old self.old result token.new self.new }
     {
         let li = Tag::Li.number();
-        if self.site.item_is_near(li) {
-            self.close_item(li, at)?;
+        if !self.site.item_is_near(li) {
+            return self.block(token, at);
         }
+        self.close_item(li, at)?;
         self.block(token, at)
     }
 
@@ -103,11 +104,12 @@ impl<'q> TreeConstruction<'q> {
         ensures { Does at (when (has_in scope.Default tag.Button) (error InBody ▸ implied ▸ pop_to tag.Button)) self.old result self.new }
     {
         let button = Tag::Button.number();
-        if self.site.in_scope(Scope::Default, button) {
-            self.error(Mode::InBody, at)?;
-            self.site.pop_past(Passing::Implied(None));
-            self.site.pop_to(button);
+        if !self.site.in_scope(Scope::Default, button) {
+            return Ok(());
         }
+        self.error(Mode::InBody, at)?;
+        self.site.pop_past(Passing::Implied(None));
+        self.site.pop_to(button);
         Ok(())
     }
 

@@ -1,6 +1,7 @@
 //! The "in table body" insertion mode (HTML Standard, 13.2.6.4.13).
 
-ghost use Rattle.hmodes.specs.Vocabulary.{in_table_body, section_ends, Kept, numbers, Performs, AlwaysPerforms};
+ghost use Rattle.hmodes.specs.Vocabulary.{in_table_body, section_ends, Kept, numbers, Performs, AlwaysPerforms, Start, End};
+ghost use Rattle.hmodes.specs.declared.family.Family.TheVariants as family;
 
 use crate::family::Family;
 use crate::mode::Mode;
@@ -23,22 +24,8 @@ impl<'q> TreeConstruction<'q> {
                 self.site.pop_past(Passing::Body);
                 self.insert_and_go(Mode::InRow, token, at)
             }
-            TokenKind::Start(Family::Cell) => {
-                self.error(Mode::InTableBody, at)?;
-                self.site.pop_past(Passing::Body);
-                self.insert_named(Tag::Tr.number(), at)?;
-                self.control.mode = Mode::InRow;
-                Ok(Flow::Again)
-            }
-            TokenKind::End(Family::TableSection) => {
-                if !self.site.in_scope(Scope::Table, token_name(token)) {
-                    return self.ignore(Mode::InTableBody, at);
-                }
-                self.site.pop_past(Passing::Body);
-                self.site.pop();
-                self.control.mode = Mode::InTable;
-                Ok(Flow::Done)
-            }
+            TokenKind::Start(Family::Cell) => self.row_unwritten(at),
+            TokenKind::End(Family::TableSection) => self.end_section(token, at),
             TokenKind::Start(
                 Family::Caption | Family::Col | Family::Colgroup | Family::TableSection,
             ) => self.section_ends(at),
@@ -54,6 +41,28 @@ impl<'q> TreeConstruction<'q> {
             ) => self.ignore(Mode::InTableBody, at),
             _ => self.in_table(kind, token, at),
         }
+    }
+
+    /// A tr that no tag began.
+    fn row_unwritten(&mut self, at: u64) -> Ruling
+        ensures { AlwaysPerforms at (in_table_body (Start family.Cell)) self.old result self.new }
+    {
+        self.error(Mode::InTableBody, at)?;
+        self.site.pop_past(Passing::Body);
+        self.insert_named(Tag::Tr.number(), at)?;
+        self.control.mode = Mode::InRow;
+        Ok(Flow::Again)
+    }
+
+    /// The end tag of a table body.
+    fn end_section(&mut self, token: &Token, at: u64) -> Ruling
+        ensures { Performs at (in_table_body (End family.TableSection)) token.now self.old result token.now self.new }
+    {
+        if !self.site.in_scope(Scope::Table, token_name(token)) {
+            return self.ignore(Mode::InTableBody, at);
+        }
+        self.site.pop_past(Passing::Body);
+        self.pop_and_go(Mode::InTable, Flow::Done)
     }
 
     /// A table body that no end tag closed.
