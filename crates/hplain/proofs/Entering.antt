@@ -63,11 +63,7 @@ in_flow _ = record { own = refl; fit = refl; back = refl }
 
 in_phrasing : (c : Content) → is_inline c ≡ true → IsInner content.Phrasing c true
 in_phrasing content.Around h = record { own = refl; fit = refl; back = refl }
-in_phrasing content.Text h = record { own = refl; fit = refl; back = refl }
-in_phrasing content.RawText h = record { own = refl; fit = refl; back = refl }
-in_phrasing content.ScriptText h = record { own = refl; fit = refl; back = refl }
-in_phrasing content.Empty h = record { own = refl; fit = refl; back = refl }
-in_phrasing _ h = never h
+in_phrasing _ h = record { own = cc; fit = cc; back = cc }
 
 in_other : (C c : Content) → has_own c ≡ true → IsInner C c false
 in_other C content.Around h = absurd cc
@@ -141,11 +137,7 @@ enter_element t c allowed a no_marker takes fit =
 -- an element that inserts a marker begins a region of flow
 pub enters_region : (t : Tag) (inside : Inside) → inserts_marker t ≡ true → without_form (inside_element t inside) ≡ in_region content.Flow
 enters_region tag.Caption inside h = refl
-enters_region tag.Td inside h = refl
-enters_region tag.Th inside h = refl
-enters_region tag.Object inside h = refl
-enters_region tag.Marquee inside h = refl
-enters_region _ inside h = never h
+enters_region _ inside h = cc
 
 -- a node that is no element
 pub enter_other : (a : Around) → IsEntered tag.Other (place_in content.Empty texts.None a) a

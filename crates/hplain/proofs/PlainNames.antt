@@ -1,19 +1,17 @@
 -- Names and attributes that are plain.
-use Rattle.hplain.proofs.Names.{◌≡◌, ℕ, ◌<◌, Bool, true, false, not, List, [], ◌∷◌, length, drop, map, refl, sym, ◌∙◌, ap, and_parts, Decides-eqb, ◌&&◌, ◌||◌, nat_eq, Texts, AreNames, text_of, names_differ, attribute_of, are_plain_attributes}
-use Rattle.std.proofs.Common.{◌+◌, ◌-◌, ◌≤◌, inl, inr, get_or, take, arith}
+use Rattle.hplain.proofs.Names.{◌≡◌, ℕ, ◌<◌, Bool, true, false, not, List, [], ◌∷◌, length, drop, map, refl, sym, ◌∙◌, ap, and_parts, Decides-eqb, ◌&&◌, ◌||◌, nat_eq, Texts, AreNames, text_of, names_differ, are_plain_attributes}
+use Rattle.std.proofs.Common.{◌-◌, ◌≤◌, inl, inr, get_or, take, arith}
 use Rattle.std.proofs.lemmas.Bool.{cases_lt}
-use Rattle.std.proofs.lemmas.List.{take_all, drop_all, get_or_past}
+use Rattle.std.proofs.lemmas.List.{take_all, get_or_past}
 use Rattle.std.proofs.lemmas.Slice.Eq.{bytes_eq-Decides}
 use Rattle.std.specs.Prelude.{bytes_eq}
 use Rattle.std.specs.List.{list_all, list_any}
 use Rattle.std.specs.Char.{is_ascii_lowercase}
-use Rattle.names.specs.declared.attr.Attr.{Attr}
 use Rattle.names.proofs.KnownTags.{different}
 use Rattle.hnodes.specs.Forest.{Attribute}
 use Rattle.hnodes.specs.Spelled.{spelled_attribute}
 use Rattle.hplain.specs.Plain.{is_clean, is_name_byte, is_plain_name}
 use Rattle.hplain.specs.Testing.{is_plain_attribute}
-use Rattle.hserialize.proofs.Attributes.{dropped}
 
 -- a name whose first byte is a lower letter
 pub lower_first : (name bytes : List ℕ) (all : Bool) → bytes ≡ name → 1 ≤ length bytes → true ≡ is_ascii_lowercase (get_or bytes 0 0) → all ≡ list_all is_name_byte (take (length bytes - 1) (drop 1 bytes)) → all ≡ is_plain_name name
@@ -78,21 +76,3 @@ plain-are names (a ∷ attrs) table =
     compared false v e e' law = refl
     compared true false e e' law = none (is_clean a.1) same same_text
     compared true true e e' law = ap (λ w. is_clean a.1 && not w && true) (has-name names a.0 attrs table (plain-within names a.0 e) (and_parts _ _ (law ∙ e')).0)
-
--- the attributes from one on
-abbrev pub plain_from : Texts → ℕ → List Attr → Bool
-plain_from names i attrs = list_all (is_plain_attribute (text_of names)) (map attribute_of (drop i attrs))
-
--- are plain if this one is, and they are
-pub one-more : (names : Texts) (attrs : List Attr) (i : ℕ) (x : Attr) → i < length attrs → x ≡ get_or attrs i x
-    → plain_from names i attrs ≡ (is_plain_attribute (text_of names) (attribute_of x) && plain_from names (i + 1) attrs)
-one-more names attrs i x h is = ap (λ (l : List Attr). list_all (is_plain_attribute (text_of names)) (map attribute_of l)) (dropped attrs i x h is)
-
--- one attribute is tested
-pub tested-one : (names : Texts) (attrs : List Attr) (i : ℕ) (x : Attr) (u : Bool) → i < length attrs → x ≡ get_or attrs i x → plain_from names i attrs ≡ plain_from names 0 attrs
-    → u ≡ is_plain_attribute (text_of names) (attribute_of x) → (u && plain_from names (i + 1) attrs) ≡ plain_from names 0 attrs
-tested-one names attrs i x u h is before test = ap (λ v. v && plain_from names (i + 1) attrs) test ∙ sym (one-more names attrs i x h is) ∙ before
-
--- none are left
-pub no-more : (names : Texts) (attrs : List Attr) (i : ℕ) → length attrs ≤ i → plain_from names i attrs ≡ plain_from names 0 attrs → true ≡ plain_from names 0 attrs
-no-more names attrs i h before = ap (λ (l : List Attr). list_all (is_plain_attribute (text_of names)) (map attribute_of l)) (sym (drop_all i attrs h)) ∙ before

@@ -134,7 +134,7 @@ takes_role content.TableRows TableRow = true
 takes_role content.Cells Cell = true
 takes_role _ _ = false
 
--- which texts do
+-- which texts are in this content
 abbrev pub texts_in : Content → Texts
 texts_in content.Flow = texts.Any
 texts_in content.Phrasing = texts.Any
@@ -149,7 +149,7 @@ texts_in content.RawText = texts.Raw
 texts_in content.ScriptText = texts.Script
 texts_in _ = texts.None
 
--- whether comments do
+-- whether comments are in this content
 abbrev pub takes_comments : Content → Bool
 takes_comments content.Text = false
 takes_comments content.RawText = false

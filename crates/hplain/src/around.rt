@@ -30,7 +30,7 @@ fn is_button(tag: Tag) -> bool
     matches!(tag, Tag::Button)
 }
 
-/// What holds now, where it may have changed.
+/// `now` where an element changes it, and else what was before.
 fn now_if(changes: bool, now: bool, before: bool) -> bool
     ensures { result ≡ (if changes then now else before) }
 {
@@ -49,7 +49,8 @@ impl Around {
         }
     }
 
-    /// The same once an element of this name is entered, or left. None of these is in its own kind, and none inserts a marker.
+    /// The same once an element of this name is entered, or left. An a, a button or an element of phrasing content is in none of
+    /// its kind unless a marker is between, so leaving it undoes entering it.
     pub(crate) fn marked(self, tag: Tag, inside: bool) -> Around
         ensures { result ≡ marked tag inside self }
     {

@@ -85,7 +85,7 @@ impl Content {
         }
     }
 
-    /// Whether comments do.
+    /// Whether comments are in this content.
     pub(crate) fn takes_comments(self) -> bool
         ensures { result ≡ takes_comments self }
     {
@@ -95,7 +95,7 @@ impl Content {
         )
     }
 
-    /// Which texts do.
+    /// Which texts are in this content.
     pub(crate) fn texts(self) -> Texts
         ensures { result ≡ texts_in self }
     {

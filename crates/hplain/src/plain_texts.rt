@@ -28,7 +28,7 @@ fn is_clean(text: &str) -> bool
     text.bytes().all(|byte| byte != 0 && byte != b'\r')
 }
 
-/// Whether it is white space.
+/// Whether a text is white space alone.
 fn is_white_space(text: &str) -> bool
     ensures { result ≡ is_among_texts Texts.WhiteSpace text.now }
 {
@@ -55,7 +55,7 @@ pub(crate) fn is_plain_text(allowed: Texts, text: &str) -> bool
     !text.is_empty() && is_clean(text) && is_among_texts(allowed, text)
 }
 
-/// Whether the data of a comment is.
+/// Whether the data of a comment is plain.
 pub(crate) fn is_plain_comment(text: &str) -> bool
     ensures { result ≡ is_plain_comment text.now }
 {
@@ -73,7 +73,7 @@ fn is_name_byte(byte: u8) -> bool
     matches!(byte, b'a'..=b'z' | b'0'..=b'9' | b'-' | b'_' | b':')
 }
 
-/// Whether all bytes may.
+/// Whether all of these bytes may be.
 fn are_name_bytes(bytes: &[u8]) -> bool
     ensures { result ≡ list_all is_name_byte bytes.now }
 {
@@ -101,10 +101,5 @@ fn is_plain_attribute(names: &Names, attr: &Attr) -> bool
 pub(crate) fn all_plain_attributes(names: &Names, attrs: &[Attr]) -> bool
     ensures { result ≡ list_all (is_plain_attribute (text_of names.now)) (map attribute_of attrs.now) }
 {
-    for attr in attrs {
-        if !is_plain_attribute(names, attr) {
-            return false;
-        }
-    }
-    true
+    attrs.iter().all(|attr| is_plain_attribute(names, attr))
 }

@@ -1,16 +1,12 @@
-use Rattle.hplain.proofs.Names.{◌∙◌, false, sym, true}
-use Rattle.hplain.proofs.PlainNames.{no-more, tested-one}
+use Rattle.hplain.proofs.Names.{◌∙◌, sym, text_of, attribute_of}
+use Rattle.std.proofs.Common.{rules, tests}
+use Rattle.std.proofs.lemmas.Iterator.{YieldsList-from_slice}
+use Rattle.std.proofs.lemmas.Iterator.Search.{all_from_yields_List}
+use Rattle.std.proofs.lemmas.List.Folds.{list_all-map}
+use Rattle.hplain.specs.Testing.{is_plain_attribute}
 use Rattle.hplain.proofs.plain_texts.all_plain_attributes.Goals as goal
 
-pub returns-then-not-is_plain_attribute : goal.returns-then-not-is_plain_attribute
-returns-then-not-is_plain_attribute c =
-    tested-one c.args.names.now c.args.attrs.now c.loop-attr.attr-index c.attr-item.result false c.loop-attr-test.true c.attr-item.is c.loop-attr.invariant
-    (sym c.if-not-is_plain_attribute.true ∙ c.is_plain_attribute.ensures)
-
-pub loop-attr-preserved : goal.loop-attr-preserved
-loop-attr-preserved c =
-    tested-one c.args.names.now c.args.attrs.now c.loop-attr.attr-index c.attr-item.result true c.loop-attr-test.true c.attr-item.is c.loop-attr.invariant
-    (sym c.if-not-is_plain_attribute.false ∙ c.is_plain_attribute.ensures)
-
 pub returns : goal.returns
-returns c = no-more c.args.names.now c.args.attrs.now c.loop-attr.attr-index c.loop-attr-test.false c.loop-attr.invariant
+returns c =
+    all_from_yields_List (λ y. is_plain_attribute (text_of c.args.names.now) (attribute_of y)) _ _ _ c.all.ensures.ran (YieldsList-from_slice c.args.attrs.now cc) (λ x b q k. search (rules, tests))
+    ∙ sym (list_all-map (is_plain_attribute (text_of c.args.names.now)) attribute_of c.args.attrs.now)
