@@ -1,5 +1,6 @@
 -- One part of a tag at most is at the front of the text after its name.
-use Rattle.hcuts.proofs.Names.{arith, nat_tests, ◌≡◌, ℕ, Bool, true, false, not, ◌&&◌, ◌||◌, ◌==◌, eqb, if◌then◌else◌, List, [], ◌∷◌, ◌++◌, drop, None, sym, refl, ap, ◌∙◌, subst, codes, append_assoc, append-nil, false≢true, eqb-true, ParseError, MissingAttributeValue, Placed, characters, place, begins, stops, all, RunsTo, past, is_empty, is_space, is_equals, is_greater, is_quote, and_parts, and_both, eqb_self, first_is, Entities, Piece, AreValue, pieces_text, value_bytes, Part, IsPart, IsAttributeName, ends_name, ends_attribute_name, ends_unquoted, is_sign, value_errors, unquoted_errors, attribute_part, space, solidus, bare, no_value, unquoted, quoted, unclosed}
+use Rattle.hcuts.proofs.Names.{arith, inl, inr, nat_tests, ◌≡◌, ℕ, Bool, true, false, not, ◌&&◌, ◌||◌, ◌==◌, eqb, if◌then◌else◌, List, [], ◌∷◌, ◌++◌, drop, None, sym, refl, ap, ◌∙◌, subst, codes, append_assoc, append-nil, false≢true, eqb-true, ParseError, MissingAttributeValue, Placed, characters, place, begins, stops, all, RunsTo, past, is_empty, is_space, is_equals, is_greater, is_quote, and_parts, and_both, eqb_self, first_is, Entities, Piece, AreValue, pieces_text, value_bytes, Part, IsPart, IsAttributeName, ends_name, ends_attribute_name, ends_unquoted, is_sign, value_errors, unquoted_errors, attribute_part, space, solidus, bare, no_value, unquoted, quoted, unclosed}
+use Rattle.std.proofs.Common.{◌⊎◌}
 use Rattle.names.specs.declared.error.ErrorCode.TheVariants.{MissingWhitespaceBetweenAttributes, UnexpectedSolidusInTag}
 use Rattle.names.specs.Placed.{error_if}
 use Rattle.hmarkup.proofs.Characters.{quote_is, quote_not_space}
@@ -8,14 +9,25 @@ use Rattle.hcuts.proofs.OneValue.{one_value}
 
 -- THE END OF AN ATTRIBUTE: what is after `=` and the white space round it
 
+-- the quote again, or the end of the text
+abbrev IsClose : ℕ → List Placed → List Placed → Type 0
+IsClose mark close rest = (characters close ≡ mark ∷ []) ⊎ ((close ≡ []) × (rest ≡ []))
+
+abbrev close_errors : ℕ → List Placed → List ParseError
+close_errors end rest = error_if (not (stops ends_name rest)) MissingWhitespaceBetweenAttributes (place end rest)
+
+one_close : (mark : ℕ) (close close' rest rest' : List Placed) → IsClose mark close rest → IsClose mark close' rest' → close ++ rest ≡ close' ++ rest' → (close ≡ close') × (rest ≡ rest')
+one_close mark close close' rest rest' (inl c) (inl c') e = same_mark (mark ∷ []) close rest close' rest' c c' e
+one_close mark close close' rest rest' (inl c) (inr n) e = absurd (no_mark mark close rest c (sym (e ∙ rw (n.0, n.1) refl)))
+one_close mark close close' rest rest' (inr n) (inl c') e = absurd (no_mark mark close' rest' c' (sym (rw (n.0, n.1) refl) ∙ e))
+one_close mark close close' rest rest' (inr n) (inr n') e = (n.0 ∙ sym n'.0, n.1 ∙ sym n'.1)
+
 data IsTail (table : Entities) (end : ℕ) (rest tail : List Placed) (value : List ℕ) (errors : List ParseError) : Type 0 where
   nothing : tail ≡ [] → stops is_greater rest ≡ true → value ≡ [] → errors ≡ error_if (not (is_empty rest)) MissingAttributeValue (place end rest) → IsTail table end rest tail value errors
   plain : (pieces : List Piece) → tail ≡ pieces_text pieces → begins (λ c. not (ends_unquoted c || is_quote c)) (pieces_text pieces) ≡ true → RunsTo ends_unquoted (pieces_text pieces) rest → AreValue table pieces
       → value ≡ value_bytes pieces → errors ≡ unquoted_errors pieces → IsTail table end rest tail value errors
-  closed : (q : Placed) (close : List Placed) (pieces : List Piece) → tail ≡ q ∷ (pieces_text pieces ++ close) → is_quote q.ch ≡ true → all (λ c. not (c == q.ch)) (pieces_text pieces) ≡ true → AreValue table pieces
-      → characters close ≡ q.ch ∷ [] → value ≡ value_bytes pieces → errors ≡ value_errors pieces ++ error_if (not (stops ends_name rest)) MissingWhitespaceBetweenAttributes (place end rest) → IsTail table end rest tail value errors
-  unended : (q : Placed) (pieces : List Piece) → tail ≡ q ∷ pieces_text pieces → is_quote q.ch ≡ true → all (λ c. not (c == q.ch)) (pieces_text pieces) ≡ true → AreValue table pieces
-      → rest ≡ [] → value ≡ value_bytes pieces → errors ≡ value_errors pieces → IsTail table end rest tail value errors
+  enclosed : (q : Placed) (close : List Placed) (pieces : List Piece) → tail ≡ q ∷ (pieces_text pieces ++ close) → is_quote q.ch ≡ true → all (λ c. not (c == q.ch)) (pieces_text pieces) ≡ true → AreValue table pieces
+      → IsClose q.ch close rest → value ≡ value_bytes pieces → errors ≡ value_errors pieces ++ close_errors end rest → IsTail table end rest tail value errors
 
 data PartKind : Type 0 where
   Nothing : PartKind
@@ -52,18 +64,17 @@ module _ (table : Entities) (end : ℕ) where
   abbrev kind : (rest tail : List Placed) (value : List ℕ) (errors : List ParseError) → IsTail table end rest tail value errors → PartKind
   kind rest tail value errors (nothing t s v es) = Nothing
   kind rest tail value errors (plain pieces t b runs are v es) = Plain
-  kind rest tail value errors (closed q close pieces t is a are c v es) = Quoted
-  kind rest tail value errors (unended q pieces t is a are r v es) = Quoted
+  kind rest tail value errors (enclosed q close pieces t is a are c v es) = Quoted
 
   tail_kind : (rest tail : List Placed) (value : List ℕ) (errors : List ParseError) (h : IsTail table end rest tail value errors) → (kind_of (tail ++ rest) ≡ kind rest tail value errors h) × (begins is_space (tail ++ rest) ≡ false)
   tail_kind rest tail value errors (nothing t s v es) = rw t (nothing_kind rest s)
   tail_kind rest tail value errors (plain pieces t b runs are v es) = rw t (plain_kind (pieces_text pieces ++ rest) (begins_more _ (pieces_text pieces) rest b))
-  tail_kind rest tail value errors (closed q close pieces t is a are c v es) = rw t (quoted_kind q ((pieces_text pieces ++ close) ++ rest) is)
-  tail_kind rest tail value errors (unended q pieces t is a are r v es) = rw t (quoted_kind q (pieces_text pieces ++ rest) is)
+  tail_kind rest tail value errors (enclosed q close pieces t is a are c v es) = rw t (quoted_kind q ((pieces_text pieces ++ close) ++ rest) is)
 
-  not_mark : (q : Placed) (close rest : List Placed) → characters close ≡ q.ch ∷ [] → begins (λ c. not (c == q.ch)) (close ++ rest) ≡ false
-  not_mark q [] rest h = absurd cc
-  not_mark q (p ∷ ps) rest h = ap (λ (c : ℕ). not (eqb c q.ch)) (first_is p ps q.ch [] h) ∙ ap not (eqb_self q.ch)
+  not_mark : (q : Placed) (close rest : List Placed) → IsClose q.ch close rest → begins (λ c. not (c == q.ch)) (close ++ rest) ≡ false
+  not_mark q [] rest (inl h) = absurd cc
+  not_mark q (p ∷ ps) rest (inl h) = ap (λ (c : ℕ). not (eqb c q.ch)) (first_is p ps q.ch [] h) ∙ ap not (eqb_self q.ch)
+  not_mark q close rest (inr h) = rw (h.0, h.1) refl
 
   -- inside quotes
   inside : (q q' : Placed) (pieces pieces' : List Piece) (after after' : List Placed) → all (λ c. not (c == q.ch)) (pieces_text pieces) ≡ true → all (λ c. not (c == q'.ch)) (pieces_text pieces') ≡ true
@@ -87,38 +98,17 @@ module _ (table : Entities) (end : ℕ) where
         let same = one_run (λ c. not (ends_unquoted c)) (pieces_text pieces) rest (pieces_text pieces') rest' runs.passes_none (goes_no_further ends_unquoted rest runs.stops_after) runs'.passes_none (goes_no_further ends_unquoted rest' runs'.stops_after) whole in
         let value_is : pieces ≡ pieces' = one_value table pieces pieces' are are' same.0 in
         record { tails_are = t ∙ same.0 ∙ sym t'; rests = same.1; values = v ∙ ap value_bytes value_is ∙ sym v'; errors_are = es ∙ ap unquoted_errors value_is ∙ sym es' }
-    one_by (closed q close pieces t is a are c v es) (closed q' close' pieces' t' is' a' are' c' v' es') same_kind =
+    one_by (enclosed q close pieces t is a are c v es) (enclosed q' close' pieces' t' is' a' are' c' v' es') same_kind =
         let whole : q ∷ (pieces_text pieces ++ (close ++ rest)) ≡ q' ∷ (pieces_text pieces' ++ (close' ++ rest')) =
         ap (λ (x : List Placed). q ∷ x) (sym (append_assoc (pieces_text pieces) close rest)) ∙ ap (λ (x : List Placed). x ++ rest) (sym t) ∙ e ∙ ap (λ (x : List Placed). x ++ rest') t' ∙ ap (λ (x : List Placed). q' ∷ x) (append_assoc (pieces_text pieces') close' rest') in
         let same = inside q q' pieces pieces' (close ++ rest) (close' ++ rest') a a' are are' (not_mark q close rest c) (not_mark q' close' rest' c') whole in
-        let closes = same_mark (q.ch ∷ []) close rest close' rest' c (c' ∙ ap (λ (p : Placed). p.ch ∷ []) (sym same.0)) same.2 in
+        let closes = one_close q.ch close close' rest rest' c (subst (λ (p : Placed). IsClose p.ch close' rest') (sym same.0) c') same.2 in
         record {
-          tails_are = t ∙ ap (λ (p : Placed). p ∷ (pieces_text pieces ++ close)) same.0 ∙ ap (λ (ps : List Piece). q' ∷ (pieces_text ps ++ close)) same.1 ∙ ap (λ (x : List Placed). q' ∷ (pieces_text pieces' ++ x)) closes.0 ∙ sym t';
+          tails_are = t ∙ (λ i. same.0 i ∷ (pieces_text (same.1 i) ++ closes.0 i)) ∙ sym t';
           rests = closes.1;
           values = v ∙ ap value_bytes same.1 ∙ sym v';
-          errors_are = es ∙ ap (λ (ps : List Piece). value_errors ps ++ error_if (not (stops ends_name rest)) MissingWhitespaceBetweenAttributes (place end rest)) same.1
-              ∙ ap (λ (x : List Placed). value_errors pieces' ++ error_if (not (stops ends_name x)) MissingWhitespaceBetweenAttributes (place end x)) closes.1 ∙ sym es';
+          errors_are = es ∙ (λ i. value_errors (same.1 i) ++ close_errors end (closes.1 i)) ∙ sym es';
         }
-    one_by (unended q pieces t is a are r v es) (unended q' pieces' t' is' a' are' r' v' es') same_kind =
-        let whole : q ∷ (pieces_text pieces ++ []) ≡ q' ∷ (pieces_text pieces' ++ []) =
-        ap (λ (x : List Placed). q ∷ (pieces_text pieces ++ x)) (sym r) ∙ ap (λ (x : List Placed). x ++ rest) (sym t) ∙ e ∙ ap (λ (x : List Placed). x ++ rest') t' ∙ ap (λ (x : List Placed). q' ∷ (pieces_text pieces' ++ x)) r' in
-        let same = inside q q' pieces pieces' [] [] a a' are are' refl refl whole in
-        record {
-          tails_are = t ∙ ap (λ (p : Placed). p ∷ pieces_text pieces) same.0 ∙ ap (λ (ps : List Piece). q' ∷ pieces_text ps) same.1 ∙ sym t';
-          rests = r ∙ sym r';
-          values = v ∙ ap value_bytes same.1 ∙ sym v';
-          errors_are = es ∙ ap value_errors same.1 ∙ sym es';
-        }
-    one_by (closed q close pieces t is a are c v es) (unended q' pieces' t' is' a' are' r' v' es') same_kind =
-        let whole : q ∷ (pieces_text pieces ++ (close ++ rest)) ≡ q' ∷ (pieces_text pieces' ++ []) =
-        ap (λ (x : List Placed). q ∷ x) (sym (append_assoc (pieces_text pieces) close rest)) ∙ ap (λ (x : List Placed). x ++ rest) (sym t) ∙ e ∙ ap (λ (x : List Placed). x ++ rest') t' ∙ ap (λ (x : List Placed). q' ∷ (pieces_text pieces' ++ x)) r' in
-        let same = inside q q' pieces pieces' (close ++ rest) [] a a' are are' (not_mark q close rest c) refl whole in
-        absurd (no_mark q.ch close rest c (sym same.2))
-    one_by (unended q pieces t is a are r v es) (closed q' close' pieces' t' is' a' are' c' v' es') same_kind =
-        let whole : q ∷ (pieces_text pieces ++ []) ≡ q' ∷ (pieces_text pieces' ++ (close' ++ rest')) =
-        ap (λ (x : List Placed). q ∷ (pieces_text pieces ++ x)) (sym r) ∙ ap (λ (x : List Placed). x ++ rest) (sym t) ∙ e ∙ ap (λ (x : List Placed). x ++ rest') t' ∙ ap (λ (x : List Placed). q' ∷ x) (append_assoc (pieces_text pieces') close' rest') in
-        let same = inside q q' pieces pieces' [] (close' ++ rest') a a' are are' refl (not_mark q' close' rest' c') whole in
-        absurd (no_mark q'.ch close' rest' c' same.2)
     one_by _ _ same_kind = absurd cc
 
     one_tail : IsTail table end rest tail value errors → IsTail table end rest' tail' value' errors' → IsSame rest rest' tail tail' value value' errors errors'
@@ -219,6 +209,17 @@ valued_name : (name sign tail rest : List Placed) → IsAttributeName name sign 
 valued_name name sign tail rest h s = subst (λ (x : List Placed). IsAttributeName name x) (sym (append_assoc sign tail rest)) (name_before name sign (tail ++ rest) h s)
 
 module _ (table : Entities) (end : ℕ) (rest : List Placed) (part : Part) where
+  in_quotes : (name sign quote close : List Placed) (value : List Piece) (mark : ℕ) → IsAttributeName name sign → is_sign sign ≡ true → characters quote ≡ mark ∷ [] → is_quote mark ≡ true → all (λ c. not (c == mark)) (pieces_text value) ≡ true → AreValue table value
+      → IsClose mark close rest → part ≡ attribute_part name ((sign ++ quote) ++ (pieces_text value ++ close)) (value_bytes value) (value_errors value ++ close_errors end rest) → IsNormal table end rest part
+  in_quotes name sign quote close value mark n s o m a are c is =
+      let k = single quote mark o in
+      let tail : List Placed = k.p ∷ (pieces_text value ++ close) in
+      let all_is : (sign ++ quote) ++ (pieces_text value ++ close) ≡ sign ++ tail = append_assoc sign quote (pieces_text value ++ close) ∙ ap (λ (x : List Placed). sign ++ (x ++ (pieces_text value ++ close))) k.text_is in
+      let back = sym k.ch_is in
+      an_attribute name (sign ++ tail) (value_bytes value) _ (valued_name name sign tail rest n s)
+      (valued sign tail refl s (enclosed k.p close value refl (subst (λ (x : ℕ). is_quote x ≡ true) back m) (subst (λ (x : ℕ). all (λ c. not (c == x)) (pieces_text value) ≡ true) back a) are (subst (λ (x : ℕ). IsClose x close rest) back c) refl refl))
+      (is ∙ ap (λ (x : List Placed). attribute_part name x (value_bytes value) (value_errors value ++ close_errors end rest)) all_is)
+
   normal : IsPart table end rest part → IsNormal table end rest part
   normal (space p s is) = a_space p s is
   normal (solidus p s n is) = a_solidus p s n is
@@ -229,21 +230,11 @@ module _ (table : Entities) (end : ℕ) (rest : List Placed) (part : Part) where
       an_attribute name (sign ++ pieces_text value) (value_bytes value) (unquoted_errors value) (valued_name name sign (pieces_text value) rest n s)
       (valued sign (pieces_text value) refl s (plain value refl b runs are refl refl)) is
   normal (quoted name sign quote close value mark n s o m a are c is) =
-      let k = single quote mark o in
-      let tail : List Placed = k.p ∷ (pieces_text value ++ close) in
-      let all_is : sign ++ quote ++ pieces_text value ++ close ≡ sign ++ tail =
-      append_assoc (sign ++ quote) (pieces_text value) close ∙ append_assoc sign quote (pieces_text value ++ close) ∙ ap (λ (x : List Placed). sign ++ (x ++ (pieces_text value ++ close))) k.text_is in
-      an_attribute name (sign ++ tail) (value_bytes value) _ (valued_name name sign tail rest n s)
-      (valued sign tail refl s (closed k.p close value refl (subst (λ (x : ℕ). is_quote x ≡ true) (sym k.ch_is) m) (subst (λ (x : ℕ). all (λ c. not (c == x)) (pieces_text value) ≡ true) (sym k.ch_is) a) are (c ∙ ap (λ (x : ℕ). x ∷ []) (sym k.ch_is)) refl refl))
-      (is ∙ ap (λ (x : List Placed). attribute_part name x (value_bytes value) (value_errors value ++ error_if (not (stops ends_name rest)) MissingWhitespaceBetweenAttributes (place end rest))) all_is)
+      in_quotes name sign quote close value mark n s o m a are (inl c)
+      (is ∙ ap (λ (x : List Placed). attribute_part name x (value_bytes value) (value_errors value ++ close_errors end rest)) (append_assoc (sign ++ quote) (pieces_text value) close))
   normal (unclosed name sign quote value mark n s o m a are r is) =
-      let k = single quote mark o in
-      let tail : List Placed = k.p ∷ pieces_text value in
-      let all_is : sign ++ quote ++ pieces_text value ≡ sign ++ tail =
-      append_assoc sign quote (pieces_text value) ∙ ap (λ (x : List Placed). sign ++ (x ++ pieces_text value)) k.text_is in
-      an_attribute name (sign ++ tail) (value_bytes value) _ (valued_name name sign tail rest n s)
-      (valued sign tail refl s (unended k.p value refl (subst (λ (x : ℕ). is_quote x ≡ true) (sym k.ch_is) m) (subst (λ (x : ℕ). all (λ c. not (c == x)) (pieces_text value) ≡ true) (sym k.ch_is) a) are r refl refl))
-      (is ∙ ap (λ (x : List Placed). attribute_part name x (value_bytes value) (value_errors value)) all_is)
+      let errors : value_errors value ≡ value_errors value ++ close_errors end rest = sym (append-nil (value_errors value)) ∙ ap (λ (x : List Placed). value_errors value ++ close_errors end x) (sym r) in
+      in_quotes name sign quote [] value mark n s o m a are (inr (refl, r)) (is ∙ (λ i. attribute_part name ((sign ++ quote) ++ sym (append-nil (pieces_text value)) i) (value_bytes value) (errors i)))
 
 -- by their first character
 pub data Class : Type 0 where
@@ -267,72 +258,73 @@ name_class : (name more : List Placed) → begins (λ c. not (ends_name c)) name
 name_class [] more h = absurd (false≢true h)
 name_class (p ∷ ps) more h = grind (arith, nat_tests)
 
-space_class : (p : Placed) (more : List Placed) → is_space p.ch ≡ true → class_of (p ∷ more) ≡ Space
-space_class p more h = ap (λ (b : Bool). class_by b (eqb p.ch 47) (is_greater p.ch)) h
-
-solidus_class : (p : Placed) (more : List Placed) → p.ch ≡ 47 → class_of (p ∷ more) ≡ Solidus
-solidus_class p more h = ap (λ (c : ℕ). class_by (is_space c) (eqb c 47) (is_greater c)) h
-
 attribute_whole : (name others rest : List Placed) (value : List ℕ) (errors : List ParseError) (part : Part) → part ≡ attribute_part name others value errors → part.text ++ rest ≡ name ++ (others ++ rest)
 attribute_whole name others rest value errors part is = ap (λ (x : Part). x.text ++ rest) is ∙ append_assoc name others rest
 
 module _ (table : Entities) (end : ℕ) where
-  module _ (rest rest' : List Placed) (part part' : Part) (e : part.text ++ rest ≡ part'.text ++ rest') where
-    differ : (a b : Class) (x x' : List Placed) → part.text ++ rest ≡ x → part'.text ++ rest' ≡ x' → class_of x ≡ a → class_of x' ≡ b → a ≡ b
-    differ a b x x' h h' k k' = sym k ∙ ap class_of (sym h ∙ e ∙ h') ∙ k'
+  abbrev class : (rest : List Placed) (part : Part) → IsNormal table end rest part → Class
+  class rest part (a_space p s is) = Space
+  class rest part (a_solidus p s n is) = Solidus
+  class rest part (an_attribute name others value errors n a is) = Name
 
-    one_normal : IsNormal table end rest part → IsNormal table end rest' part' → (part ≡ part') × (rest ≡ rest')
-    one_normal (a_space p s is) (a_space p' s' is') =
+  class_is : (rest more : List Placed) (part : Part) (h : IsNormal table end rest part) → class_of (part.text ++ more) ≡ class rest part h
+  class_is rest more part (a_space p s is) = ap (λ (x : Part). class_of (x.text ++ more)) is ∙ ap (λ (b : Bool). class_by b (eqb p.ch 47) (is_greater p.ch)) s
+  class_is rest more part (a_solidus p s n is) = ap (λ (x : Part). class_of (x.text ++ more)) is ∙ ap (λ (c : ℕ). class_by (is_space c) (eqb c 47) (is_greater c)) s
+  class_is rest more part (an_attribute name others value errors n a is) = ap class_of (attribute_whole name others more value errors part is) ∙ name_class name (others ++ more) n.first
+
+  module _ (rest rest' : List Placed) (part part' : Part) (e : part.text ++ rest ≡ part'.text ++ rest') where
+    one_normal : (h : IsNormal table end rest part) (h' : IsNormal table end rest' part') → class rest part h ≡ class rest' part' h' → (part ≡ part') × (rest ≡ rest')
+    one_normal (a_space p s is) (a_space p' s' is') same_class =
         let whole : p ∷ rest ≡ p' ∷ rest' = ap (λ (x : Part). x.text ++ rest) (sym is) ∙ e ∙ ap (λ (x : Part). x.text ++ rest') is' in
         (is ∙ ap space_part (heads p p' rest rest' whole) ∙ sym is', tails p p' rest rest' whole)
-    one_normal (a_solidus p s n is) (a_solidus p' s' n' is') =
+    one_normal (a_solidus p s n is) (a_solidus p' s' n' is') same_class =
         let whole : p ∷ rest ≡ p' ∷ rest' = ap (λ (x : Part). x.text ++ rest) (sym is) ∙ e ∙ ap (λ (x : Part). x.text ++ rest') is' in
         (is ∙ ap (solidus_part end rest) (heads p p' rest rest' whole) ∙ ap (λ (x : List Placed). solidus_part end x p') (tails p p' rest rest' whole) ∙ sym is', tails p p' rest rest' whole)
-    one_normal (an_attribute name others value errors n a is) (an_attribute name' others' value' errors' n' a' is') =
+    one_normal (an_attribute name others value errors n a is) (an_attribute name' others' value' errors' n' a' is') same_class =
         let whole : name ++ (others ++ rest) ≡ name' ++ (others' ++ rest') = sym (attribute_whole name others rest value errors part is) ∙ e ∙ attribute_whole name' others' rest' value' errors' part' is' in
         let names = one_name name name' (others ++ rest) (others' ++ rest') n n' whole in
         let same = one_attribute table end rest rest' others others' value value' errors errors' names.1 a a' in
         (is ∙ (λ i. attribute_part (names.0 i) (same.tails_are i) (same.values i) (same.errors_are i)) ∙ sym is', same.rests)
-    one_normal (a_space p s is) (a_solidus p' s' n' is') =
-        let no_way = differ Space Solidus (p ∷ rest) (p' ∷ rest') (ap (λ (x : Part). x.text ++ rest) is) (ap (λ (x : Part). x.text ++ rest') is') (space_class p rest s) (solidus_class p' rest' s') in absurd cc
-    one_normal (a_space p s is) (an_attribute name' others' value' errors' n' a' is') =
-        let no_way = differ Space Name (p ∷ rest) (name' ++ (others' ++ rest')) (ap (λ (x : Part). x.text ++ rest) is) (attribute_whole name' others' rest' value' errors' part' is') (space_class p rest s) (name_class name' (others' ++ rest') n'.first) in absurd cc
-    one_normal (a_solidus p s n is) (a_space p' s' is') =
-        let no_way = differ Solidus Space (p ∷ rest) (p' ∷ rest') (ap (λ (x : Part). x.text ++ rest) is) (ap (λ (x : Part). x.text ++ rest') is') (solidus_class p rest s) (space_class p' rest' s') in absurd cc
-    one_normal (a_solidus p s n is) (an_attribute name' others' value' errors' n' a' is') =
-        let no_way = differ Solidus Name (p ∷ rest) (name' ++ (others' ++ rest')) (ap (λ (x : Part). x.text ++ rest) is) (attribute_whole name' others' rest' value' errors' part' is') (solidus_class p rest s) (name_class name' (others' ++ rest') n'.first) in absurd cc
-    one_normal (an_attribute name others value errors n a is) (a_space p' s' is') =
-        let no_way = differ Name Space (name ++ (others ++ rest)) (p' ∷ rest') (attribute_whole name others rest value errors part is) (ap (λ (x : Part). x.text ++ rest') is') (name_class name (others ++ rest) n.first) (space_class p' rest' s') in absurd cc
-    one_normal (an_attribute name others value errors n a is) (a_solidus p' s' n' is') =
-        let no_way = differ Name Solidus (name ++ (others ++ rest)) (p' ∷ rest') (attribute_whole name others rest value errors part is) (ap (λ (x : Part). x.text ++ rest') is') (name_class name (others ++ rest) n.first) (solidus_class p' rest' s') in absurd cc
+    one_normal _ _ same_class = absurd cc
 
 pub one_part : (table : Entities) (end : ℕ) (rest rest' : List Placed) (part part' : Part) → IsPart table end rest part → IsPart table end rest' part' → part.text ++ rest ≡ part'.text ++ rest' → (part ≡ part') × (rest ≡ rest')
-one_part table end rest rest' part part' h h' e = one_normal table end rest rest' part part' e (normal table end rest part h) (normal table end rest' part' h')
+one_part table end rest rest' part part' h h' e =
+    let k = normal table end rest part h in
+    let k' = normal table end rest' part' h' in
+    one_normal table end rest rest' part part' e k k' (sym (class_is table end rest rest part k) ∙ ap class_of e ∙ class_is table end rest' rest' part' k')
 
--- no part begins where a tag ends
+-- NO PART BEGINS WHERE A TAG ENDS
+
+abbrev begins_part : Class → Bool
+begins_part Greater = false
+begins_part End = false
+begins_part _ = true
+
+begun : (table : Entities) (end : ℕ) (rest more : List Placed) (part : Part) → IsPart table end rest part → begins_part (class_of (part.text ++ more)) ≡ true
+begun table end rest more part h = by (normal table end rest part h)
+  where
+    by : IsNormal table end rest part → begins_part (class_of (part.text ++ more)) ≡ true
+    by (a_space p s is) = ap begins_part (class_is table end rest more part (a_space p s is))
+    by (a_solidus p s n is) = ap begins_part (class_is table end rest more part (a_solidus p s n is))
+    by (an_attribute name others value errors n a is) = ap begins_part (class_is table end rest more part (an_attribute name others value errors n a is))
+
+-- at the end of the text
 pub none_at_end : (table : Entities) (end : ℕ) (rest more : List Placed) (part : Part) → IsPart table end rest part → [] ≡ part.text ++ more → ⊥
-none_at_end table end rest more part h e = by (normal table end rest part h) where
-  by : IsNormal table end rest part → ⊥
-  by (a_space p s is) = let no_way : [] ≡ p ∷ more = e ∙ ap (λ (x : Part). x.text ++ more) is in absurd cc
-  by (a_solidus p s n is) = let no_way : [] ≡ p ∷ more = e ∙ ap (λ (x : Part). x.text ++ more) is in absurd cc
-  by (an_attribute name others value errors n a is) =
-      let no_way : End ≡ Name = ap class_of (e ∙ attribute_whole name others more value errors part is) ∙ name_class name (others ++ more) n.first in absurd cc
+none_at_end table end rest more part h e = false≢true (ap (λ (x : List Placed). begins_part (class_of x)) e ∙ begun table end rest more part h)
 
+-- at `>`
 pub none_at_greater : (table : Entities) (end : ℕ) (close after rest : List Placed) (part : Part) → characters close ≡ codes ">" → IsPart table end rest part → close ++ after ≡ part.text ++ rest → ⊥
-none_at_greater table end close after rest part c h e = by (single close 62 c).p (single close 62 c).text_is (single close 62 c).ch_is (normal table end rest part h) where
-  by : (q : Placed) → close ≡ q ∷ [] → q.ch ≡ 62 → IsNormal table end rest part → ⊥
-  by q t g (a_space p s is) = let no_way : Greater ≡ Space = ap (λ (c : ℕ). class_by (is_space c) (eqb c 47) (is_greater c)) (sym g) ∙ ap (λ (x : List Placed). class_of (x ++ after)) (sym t) ∙ ap class_of (e ∙ ap (λ (x : Part). x.text ++ rest) is) ∙ space_class p rest s in absurd cc
-  by q t g (a_solidus p s n is) = let no_way : Greater ≡ Solidus = ap (λ (c : ℕ). class_by (is_space c) (eqb c 47) (is_greater c)) (sym g) ∙ ap (λ (x : List Placed). class_of (x ++ after)) (sym t) ∙ ap class_of (e ∙ ap (λ (x : Part). x.text ++ rest) is) ∙ solidus_class p rest s in absurd cc
-  by q t g (an_attribute name others value errors n a is) =
-      let no_way : Greater ≡ Name = ap (λ (c : ℕ). class_by (is_space c) (eqb c 47) (is_greater c)) (sym g) ∙ ap (λ (x : List Placed). class_of (x ++ after)) (sym t) ∙ ap class_of (e ∙ attribute_whole name others rest value errors part is) ∙ name_class name (others ++ rest) n.first in absurd cc
+none_at_greater table end close after rest part c h e =
+    let k = single close 62 c in
+    let greater : class_of (close ++ after) ≡ Greater = ap (λ (x : List Placed). class_of (x ++ after)) k.text_is ∙ ap (λ (c : ℕ). class_by (is_space c) (eqb c 47) (is_greater c)) k.ch_is in
+    false≢true (sym (ap begins_part greater) ∙ ap (λ (x : List Placed). begins_part (class_of x)) e ∙ begun table end rest rest part h)
 
--- nor at `/>`
+-- at `/>`
 pub none_at_close : (table : Entities) (end : ℕ) (q r : Placed) (after rest : List Placed) (part : Part) → q.ch ≡ 47 → r.ch ≡ 62 → IsPart table end rest part → q ∷ r ∷ after ≡ part.text ++ rest → ⊥
-none_at_close table end q r after rest part s g h e = by (normal table end rest part h) where
-  by : IsNormal table end rest part → ⊥
-  by (a_space p k is) = let no_way : Solidus ≡ Space = sym (solidus_class q (r ∷ after) s) ∙ ap class_of (e ∙ ap (λ (x : Part). x.text ++ rest) is) ∙ space_class p rest k in absurd cc
-  by (a_solidus p k n is) =
-      let whole : q ∷ (r ∷ after) ≡ p ∷ rest = e ∙ ap (λ (x : Part). x.text ++ rest) is in
-      absurd (false≢true (sym n ∙ ap (begins is_greater) (sym (tails q p (r ∷ after) rest whole)) ∙ ap is_greater g))
-  by (an_attribute name others value errors n a is) =
-      let no_way : Solidus ≡ Name = sym (solidus_class q (r ∷ after) s) ∙ ap class_of (e ∙ attribute_whole name others rest value errors part is) ∙ name_class name (others ++ rest) n.first in absurd cc
+none_at_close table end q r after rest part s g h e = by (normal table end rest part h)
+  where
+    by : IsNormal table end rest part → ⊥
+    by (a_solidus p k n is) =
+        let whole : q ∷ (r ∷ after) ≡ p ∷ rest = e ∙ ap (λ (x : Part). x.text ++ rest) is in
+        false≢true (sym n ∙ ap (begins is_greater) (sym (tails q p (r ∷ after) rest whole)) ∙ ap is_greater g)
+    by n = let no_way : Solidus ≡ class table end rest part n = ap (λ (c : ℕ). class_by (is_space c) (eqb c 47) (is_greater c)) (sym s) ∙ ap class_of e ∙ class_is table end rest rest part n in absurd cc
