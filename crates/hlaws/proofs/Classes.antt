@@ -1,5 +1,5 @@
 -- What the rules ask of the names of plain elements, a class at a time.
-use Rattle.hlaws.proofs.Names.{◌≡◌, Bool, true, false, false≢true, Option, Some, None, refl, Tag, is_void, is_heading, has_implied_end, stops_button_scope, is_fostering, Family, Mode, InTable, InCaption, InColumnGroup, InTableBody, InRow, InCell, family_of, is_table_context, is_body_context, is_row_context, open_mode, Content, Role, is_list, is_dl, row, is_a, is_button, is_form, drops_line_feed, inserts_marker}
+use Rattle.hlaws.proofs.Names.{◌≡◌, Bool, true, false, false≢true, Option, Some, refl, Tag, is_void, is_heading, has_implied_end, stops_button_scope, is_fostering, Family, Mode, InTable, InCaption, InColumnGroup, InTableBody, InRow, InCell, family_of, is_table_context, is_body_context, is_row_context, open_mode, Content, Role, is_list, is_dl, row, is_a, is_button, is_form, drops_line_feed, inserts_marker}
 use Rattle.names.specs.declared.tag.Tag.TheVariants as tag
 use Rattle.hmodes.specs.declared.family.Family.TheVariants as family
 use Rattle.hplain.specs.declared.content.Content.TheVariants as content
@@ -58,30 +58,9 @@ profile t = record {
   marks = inserts_marker t;
 }
 
+-- a profile that is of a span but for this
 abbrev pub plain_profile : Family → Role → Content → Profile
-plain_profile f r c = record {
-  family = f;
-  role = r;
-  content = c;
-  is_void = false;
-  is_p = false;
-  is_a = false;
-  is_button = false;
-  is_form = false;
-  is_heading = false;
-  drops = false;
-  has_implied_end = false;
-  mode = None;
-  stops_button = false;
-  is_list = false;
-  is_dl = false;
-  is_colgroup = false;
-  table_context = false;
-  body_context = false;
-  row_context = false;
-  fosters = false;
-  marks = false;
-}
+plain_profile f r c = record (profile tag.Span) { family = f; role = r; content = c }
 
 -- what may be around such an element may be in it
 abbrev pub around : Family → Bool → Bool → Profile

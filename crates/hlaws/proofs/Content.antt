@@ -1,5 +1,5 @@
 -- Facts of content, of the modes in which it is and of the names that it holds.
-use Rattle.hlaws.proofs.Names.{◌≡◌, Bool, true, false, not, refl, ap, false≢true, stops_item, Tag, is_heading, Mode, InBody, InTable, InTableBody, InRow, InColumnGroup, Comment, rule_of, Content, Role, takes_role, texts_in, Inside, is_nested, is_a, is_button, is_form, inserts_marker, is_flow_mode, fits_mode, fits_current, is_list, is_dl}
+use Rattle.hlaws.proofs.Names.{arith, ◌≡◌, ℕ, ◌&&◌, List, and_parts, What, Forest, tree, are_content, inside_node, is_plain_node, Bool, true, false, not, refl, ap, false≢true, stops_item, Tag, is_heading, Mode, InBody, InTable, InTableBody, InRow, InColumnGroup, Comment, rule_of, Content, Role, takes_role, texts_in, Inside, is_nested, is_a, is_button, is_form, inserts_marker, is_flow_mode, fits_mode, fits_current, is_list, is_dl}
 use Rattle.names.specs.declared.tag.Tag.TheVariants as tag
 use Rattle.names.specs.Sets.{stops_scope}
 use Rattle.hmodes.specs.Words.{insert_comment}
@@ -94,3 +94,21 @@ list_stops _ h = cc
 pub dl_stops : (t : Tag) → is_dl t ≡ true → stops_item t ≡ true
 dl_stops tag.Dl h = refl
 dl_stops _ h = absurd (false≢true h)
+
+-- LISTS
+
+-- a test of four parts
+pub four : (a b c d : Bool) → (a && b && c && d) ≡ true → (a ≡ true) × (b ≡ true) × (c ≡ true) × (d ≡ true)
+four a b c d h = (grind arith, grind arith, grind arith, grind arith)
+
+-- a node, its children and what comes after it
+pub record Three (i : Inside) (w : What (List ℕ)) (kids rest : Forest (List ℕ)) : Type 0 where
+  pub node : is_plain_node i w kids rest ≡ true
+  pub children : are_content (inside_node w i) kids ≡ true
+  pub others : are_content i rest ≡ true
+
+pub three : (i : Inside) (b : ℕ) (w : What (List ℕ)) (kids rest : Forest (List ℕ)) → are_content i (tree b w kids rest) ≡ true → Three i w kids rest
+three i b w kids rest h =
+    let outer = and_parts (is_plain_node i w kids rest && are_content (inside_node w i) kids) (are_content i rest) h in
+    let inner = and_parts (is_plain_node i w kids rest) (are_content (inside_node w i) kids) outer.0 in
+    record { node = inner.0; children = inner.1; others = outer.1 }

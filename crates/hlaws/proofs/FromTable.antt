@@ -1,20 +1,18 @@
 -- A list that the table calls content is good.
-use Rattle.hlaws.proofs.Names.{nat_tests, false_from_ne_true, ◌≡◌, ℕ, zero, suc, ◌<◌, Bool, true, false, not, ◌&&◌, List, [], ◌∷◌, ◌++◌, refl, sym, ◌∙◌, ap, subst, arith, ◌⊎◌, inl, inr, and_parts, false≢true, eqb-true, not-true, encodes-chars, encode_ascii, IsUtf8, chars, encode_utf8, encode_utf8_all, codes, ◌==◌, list_all, Forest, none, tree, element, text, tag_named, texts, Content, row, takes_role, takes_comments, texts_in, takes_space, AreTexts, Inside, inside_element, inside_node, is_nested, are_content, is_plain_node, are_plain_attributes, is_plain_text, is_plain_comment, is_clean, is_among_texts, begins_with, begins_with_text, begins_with_line_feed, drops_line_feed, is_empty}
+use Rattle.hlaws.proofs.Names.{nat_tests, false_from_ne_true, ◌≡◌, ℕ, zero, suc, ◌<◌, Bool, true, false, not, ◌&&◌, List, [], ◌∷◌, ◌++◌, refl, sym, ◌∙◌, ap, subst, arith, ◌⊎◌, inl, inr, and_parts, false≢true, eqb-true, not-true, encodes-chars, encode_ascii, IsUtf8, chars, encode_utf8, encode_utf8_all, codes, ◌==◌, list_all, Forest, none, tree, element, text, tag_named, texts, Content, takes_comments, texts_in, takes_space, AreTexts, Inside, inside_element, inside_node, is_nested, are_content, is_plain_node, is_plain_text, is_plain_comment, is_clean, is_among_texts, begins_with, begins_with_text, begins_with_line_feed, drops_line_feed, is_empty}
 use Rattle.std.proofs.lemmas.Str.{encodes-IsAscii, chars_from_encodes}
 use Rattle.std.specs.Prelude.{IsAscii}
 use Rattle.std.specs.Char.{is_ascii_whitespace}
 use Rattle.hnodes.specs.Forest as forest
 use Rattle.hplain.specs.declared.content.Content.TheVariants as content
+use Rattle.hplain.specs.declared.content.Texts.{Texts}
 use Rattle.hplain.specs.declared.content.Texts.TheVariants as allowed
-use Rattle.hlaws.proofs.TokensText.{clean_not_null, clean_text, is_clean_char}
-use Rattle.hlaws.proofs.TokenLists.{AllOk, IsText, NoNul}
-use Rattle.hlaws.proofs.Whole.{Good, LfSafe, TextFits}
+use Rattle.hlaws.proofs.TokensText.{clean_text, is_clean_char}
+use Rattle.hlaws.proofs.Content.{three, four}
+use Rattle.hlaws.proofs.TokenLists.{IsText}
+use Rattle.hlaws.proofs.Whole.{Good, LfSafe, TextFits, TextIn}
 
 -- TEXTS
-
-no_nul : (cs : List ℕ) → list_all is_clean_char cs ≡ true → NoNul cs
-no_nul [] h = tt
-no_nul (c ∷ cs) h = let both = and_parts _ _ h in (clean_not_null c both.0, no_nul cs both.1)
 
 is_text : (t : List ℕ) → IsUtf8 t → is_empty t ≡ false → is_clean t ≡ true → IsText t
 is_text t u some clean = go (chars t) refl
@@ -26,7 +24,7 @@ is_text t u some clean = go (chars t) refl
     go [] e = absurd (let z : [] ≡ t = sym (ap encode_utf8_all e) ∙ bytes_are in let y = ap is_empty z in cc)
     go (c ∷ cs) e =
         let b : encode_utf8_all (c ∷ cs) ≡ t = sym (ap encode_utf8_all e) ∙ bytes_are in
-        record { one = c; more = cs; spelled = e; bytes = b; no_nul = no_nul (c ∷ cs) (ap (list_all is_clean_char) (sym e) ∙ clean_text t u clean) }
+        record { one = c; more = cs; spelled = e; bytes = b; clean = ap (list_all is_clean_char) (sym e) ∙ clean_text t u clean }
 
 space_small : (b : ℕ) → is_ascii_whitespace b ≡ true → b < 128
 space_small b h = grind (arith, nat_tests)
@@ -36,14 +34,10 @@ spaces_ascii [] h i = omega arith
 spaces_ascii (b ∷ bs) h zero = space_small b (and_parts _ _ h).0
 spaces_ascii (b ∷ bs) h (suc i) = spaces_ascii bs (and_parts (is_ascii_whitespace b) _ h).1 i
 
-all_spaces : (cs : List ℕ) → list_all is_ascii_whitespace cs ≡ true → AllOk (λ ch. is_ascii_whitespace ch ≡ true) cs
-all_spaces [] h = tt
-all_spaces (c ∷ cs) h = ((and_parts _ _ h).0, all_spaces cs (and_parts (is_ascii_whitespace c) _ h).1)
-
-spaced : (t : List ℕ) (is : IsText t) → IsUtf8 t → list_all is_ascii_whitespace t ≡ true → AllOk (λ ch. is_ascii_whitespace ch ≡ true) (is.one ∷ is.more)
+spaced : (t : List ℕ) (is : IsText t) → IsUtf8 t → list_all is_ascii_whitespace t ≡ true → list_all is_ascii_whitespace (is.one ∷ is.more) ≡ true
 spaced t is u h =
     let same : t ≡ chars t = chars_from_encodes t t u (encodes-IsAscii t (spaces_ascii t h)) in
-    all_spaces (is.one ∷ is.more) (sym (ap (list_all is_ascii_whitespace) (same ∙ is.spelled)) ∙ h)
+    sym (ap (list_all is_ascii_whitespace) (same ∙ is.spelled)) ∙ h
 
 first_line_feed : (t : List ℕ) (is : IsText t) → begins_with (codes "\n") t ≡ false → (is.one == 10) ≡ false
 first_line_feed t is h = false_from_ne_true _ (λ e.
@@ -57,27 +51,18 @@ first_line_feed t is h = false_from_ne_true _ (λ e.
 abbrev pub TextsFit : Inside → Type 0
 TextsFit i = (i.texts ≡ texts_in i.content) ⊎ (i.texts ≡ allowed.None)
 
+text_in : (k : Content) (t : List ℕ) (is : IsText t) → IsUtf8 t → is_among_texts (texts_in k) t ≡ true → TextIn k (takes_space (texts_in k)) (is.one ∷ is.more)
+text_in content.TableParts t is u h = (spaced t is u h, refl)
+text_in content.TableRows t is u h = (spaced t is u h, refl)
+text_in content.Cells t is u h = (spaced t is u h, refl)
+text_in content.Columns t is u h = spaced t is u h
+text_in content.Empty t is u h = absurd (false≢true h)
+text_in content.Around t is u h = absurd (false≢true h)
+text_in k t is u h = tt
+
 text_fits : (i : Inside) (t : List ℕ) (is : IsText t) → IsUtf8 t → TextsFit i → is_among_texts i.texts t ≡ true → TextFits i (is.one ∷ is.more)
 text_fits i t is u (inr e) h = absurd (let z = ap (λ v. is_among_texts v t) e in cc)
-text_fits i t is u (inl e) h = go i.content refl
-  where
-    among : (k : Content) → i.content ≡ k → is_among_texts (texts_in k) t ≡ true
-    among k c = ap (λ v. is_among_texts (texts_in v) t) (sym c) ∙ ap (λ v. is_among_texts v t) (sym e) ∙ h
-
-    space_in : (k : Content) → i.content ≡ k → takes_space i.texts ≡ takes_space (texts_in k)
-    space_in k c = ap takes_space e ∙ ap (λ v. takes_space (texts_in v)) c
-
-    back : (k : Content) → i.content ≡ k → TextFits (record i { content = k }) (is.one ∷ is.more) → TextFits i (is.one ∷ is.more)
-    back k c = subst (λ (v : Content). TextFits (record i { content = v }) (is.one ∷ is.more)) (sym c)
-
-    go : (k : Content) → i.content ≡ k → TextFits i (is.one ∷ is.more)
-    go content.TableParts c = back content.TableParts c (spaced t is u (among content.TableParts c), space_in content.TableParts c)
-    go content.TableRows c = back content.TableRows c (spaced t is u (among content.TableRows c), space_in content.TableRows c)
-    go content.Cells c = back content.Cells c (spaced t is u (among content.Cells c), space_in content.Cells c)
-    go content.Columns c = back content.Columns c (spaced t is u (among content.Columns c))
-    go content.Empty c = absurd (let z = among content.Empty c in cc)
-    go content.Around c = absurd (let z = among content.Around c in cc)
-    go k c = back k c tt
+text_fits i t is u (inl e) h = subst (λ (v : Texts). TextIn i.content (takes_space v) (is.one ∷ is.more)) (sym e) (text_in i.content t is u (ap (λ v. is_among_texts v t) (sym e) ∙ h))
 
 -- LISTS OF TREES
 
@@ -91,31 +76,14 @@ lf_safe false (tree b (text t) kids rest) h = λ is. refl
 lf_safe true (tree b (text t) kids rest) h = λ is. first_line_feed t is (not-true _ h)
 lf_safe v _ h = tt
 
--- a node, its children and what comes after it
-record Three (i : Inside) (w : forest.What (List ℕ)) (kids rest : Forest (List ℕ)) : Type 0 where
-  pub node : is_plain_node i w kids rest ≡ true
-  pub children : are_content (inside_node w i) kids ≡ true
-  pub others : are_content i rest ≡ true
-
-three : (i : Inside) (b : ℕ) (w : forest.What (List ℕ)) (kids rest : Forest (List ℕ)) → are_content i (tree b w kids rest) ≡ true → Three i w kids rest
-three i b w kids rest h = record {
-  node = (and_parts (is_plain_node i w kids rest) (are_content (inside_node w i) kids) (and_parts (is_plain_node i w kids rest && are_content (inside_node w i) kids) (are_content i rest) h).0).0;
-  children = (and_parts (is_plain_node i w kids rest) (are_content (inside_node w i) kids) (and_parts (is_plain_node i w kids rest && are_content (inside_node w i) kids) (are_content i rest) h).0).1;
-  others = (and_parts (is_plain_node i w kids rest && are_content (inside_node w i) kids) (are_content i rest) h).1;
-}
-
 pub good : (i : Inside) (l : Forest (List ℕ)) → TextsFit i → AreTexts l → are_content i l ≡ true → Good texts i l
 good i none fit u h = tt
 good i (tree b (element x attrs) kids rest) fit u h =
     let h3 = three i b (element x attrs) kids rest h in
-    let takes : Bool = takes_role i.content (row (tag_named x)).0 in
-    let nests : Bool = not (is_nested i (tag_named x)) in
-    let named : Bool = are_plain_attributes attrs in
-    let feeds : Bool = not (drops_line_feed (tag_named x) && begins_with_line_feed kids) in
-    let two : (takes && nests) ≡ true = (and_parts (takes && nests) named (and_parts (takes && nests && named) feeds h3.node).0).0 in (
-      (and_parts takes nests two).0,
-      not-true (is_nested i (tag_named x)) (and_parts takes nests two).1,
-      lf_safe (drops_line_feed (tag_named x)) kids (and_parts (takes && nests && named) feeds h3.node).1,
+    let f = four _ _ _ _ h3.node in (
+      f.0,
+      not-true (is_nested i (tag_named x)) f.1,
+      lf_safe (drops_line_feed (tag_named x)) kids f.3,
       good (inside_element (tag_named x) i) kids (inl refl) u.2 h3.children,
       good i rest fit u.3 h3.others,
     )
@@ -127,11 +95,9 @@ good i (tree b (text t) none rest) fit u h =
       grind arith,
       good i rest fit u.2 h3.others,
     )
-good i (tree b (text t) (tree b' w' kids' rest') rest) fit u h =
-    absurd (not_empty i b' w' kids' rest' (three (inside_node (text t) i) b' w' kids' rest' (three i b (text t) (tree b' w' kids' rest') rest h).children).node)
 good i (tree b (forest.comment t) none rest) fit u h =
     let h3 = three i b (forest.comment t) none rest h in
     ((and_parts (takes_comments i.content) (is_plain_comment t) h3.node).0, good i rest fit u.2 h3.others)
-good i (tree b (forest.comment t) (tree b' w' kids' rest') rest) fit u h =
-    absurd (not_empty i b' w' kids' rest' (three (inside_node (forest.comment t) i) b' w' kids' rest' (three i b (forest.comment t) (tree b' w' kids' rest') rest h).children).node)
+good i (tree b w (tree b' w' kids' rest') rest) fit u h =
+    absurd (not_empty i b' w' kids' rest' (three (inside_node w i) b' w' kids' rest' (three i b w (tree b' w' kids' rest') rest h).children).node)
 good i _ fit u h = absurd (false≢true h)

@@ -54,7 +54,8 @@ not_named t test x away h = different x (tag_text t) (λ e. let y = ap (λ z. te
 
 pub text_laws : NameLaws texts
 text_laws = record {
-  basic = record { same_self = λ x. (bytes_eq-Decides x x).1 refl; knows_p = knows tag.P is_p (λ e. cc) refl only_p };
+  same_self = λ x. (bytes_eq-Decides x x).1 refl;
+  knows_p = knows tag.P is_p (λ e. cc) refl only_p;
   button = knows tag.Button is_button (λ e. cc) refl only_button;
   anchor = λ x y a b. different y x (λ e. let z = ap (λ t. is_a (tag_named t)) e in cc);
   table = λ x e. is_named tag.Table (λ e. cc) x (only_table (tag_named x) e);

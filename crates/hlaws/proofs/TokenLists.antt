@@ -1,6 +1,7 @@
 -- Tokens with their places, and what the law of building asks of texts.
-use Rattle.hlaws.proofs.Names.{◌≡◌, ℕ, Bool, true, false, List, [], ◌∷◌, ◌++◌, map, refl, ◌∙◌, ap, encode_utf8_all, chars, ◌==◌, text, Forest, tree, Naming, Goes, Token, PlacedToken, State, Steps, and}
+use Rattle.hlaws.proofs.Names.{list_all, ◌≡◌, ℕ, Bool, true, false, List, [], ◌∷◌, ◌++◌, map, refl, ◌∙◌, ap, encode_utf8_all, chars, text, Forest, tree, Naming, Goes, Token, PlacedToken, State, Steps, and}
 use Rattle.names.proofs.Words.{heads, tails}
+use Rattle.hlaws.proofs.TokensText.{is_clean_char}
 use Rattle.hmodes.specs.Step as step
 
 -- the tokens, without their places
@@ -43,20 +44,13 @@ module _ {N : Type 0} where
   after step.none b = b
   after (and x a) b = and x (after a b)
 
-abbrev pub AllOk : (ℕ → Type 0) → List ℕ → Type 0
-AllOk ok [] = Unit {0}
-AllOk ok (ch ∷ chs) = ok ch × AllOk ok chs
-
--- a text of characters other than NUL
-abbrev pub NoNul : List ℕ → Type 0
-NoNul chs = AllOk (λ ch. (ch == 0) ≡ false) chs
-
+-- a text of characters other than NUL and CR, one at least
 pub record IsText (t : List ℕ) : Type 0 where
   pub one : ℕ
   pub more : List ℕ
   pub spelled : chars t ≡ one ∷ more
   pub bytes : encode_utf8_all (one ∷ more) ≡ t
-  pub no_nul : NoNul (one ∷ more)
+  pub clean : list_all is_clean_char (one ∷ more) ≡ true
 
 abbrev pub begins_text : {N : Type 0} → Forest N → Bool
 begins_text (tree b (text t) kids rest) = true

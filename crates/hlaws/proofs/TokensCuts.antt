@@ -1,10 +1,10 @@
 -- Texts that are cut into spans, one after another, and the characters among them.
-use Rattle.hlaws.proofs.Names.{arith, ◌≡◌, ℕ, ◌⊎◌, inl, inr, Bool, true, false, not, cond, ◌&&◌, ◌||◌, Some, List, [], ◌∷◌, ◌++◌, map, refl, sym, ◌∙◌, ap, subst, append-nil, append_assoc, and_right, or_from, flat_map-append, map-append, ◌==◌, first_is, Placed, RawKind, characters, begins, is_alphanumeric, Entities, Piece, IsTable, longest, named_piece, ends_in_semicolon, Span, piece_span, Standing, next, standing_after, IsSpan, IsSpanOf, raw_character, is_raw_end, is_end_tag_of, plain_piece, Cut, spans_text, has_refused, Token, character, taken}
+use Rattle.hlaws.proofs.Names.{false≢true, has_references, arith, ◌≡◌, ℕ, Bool, true, false, not, cond, ◌&&◌, ◌||◌, Some, List, [], ◌∷◌, ◌++◌, map, refl, sym, ◌∙◌, ap, subst, append-nil, append_assoc, and_right, or_from, flat_map-append, map-append, ◌==◌, first_is, Placed, RawKind, characters, begins, is_alphanumeric, Entities, Piece, IsTable, longest, named_piece, ends_in_semicolon, Span, piece_span, Standing, next, standing_after, IsSpan, IsSpanOf, raw_character, is_raw_end, is_end_tag_of, plain_piece, Cut, spans_text, has_refused, Token, character, taken}
 use Rattle.std.specs.Prelude.{Option, None}
 use Rattle.names.specs.declared.raw.RawKind.TheVariants as kind
 use Rattle.charref.specs.Reference.{IsReference, named}
 use Rattle.htoken.specs.Spans.{raw_reference}
-use Rattle.htoken.specs.Data.{IsDataSpan, character_span}
+use Rattle.htoken.specs.Data.{character_span}
 use Rattle.htoken.specs.Data as production
 use Rattle.htoken.specs.Tokens.{tokens_of}
 use Rattle.htoken.proofs.Cutting.{refused-append}
@@ -161,22 +161,19 @@ module _ (table : Entities) (is_table : IsTable table) where
   same_then here there last a b = record { kind_is = b.kind_is ∙ a.kind_is; name_is = b.name_is ∙ a.name_is }
 
   -- a text
-  pub text_cuts : (cs es : List ℕ) (text rest : List Placed) (end : ℕ) (here : Standing) → (here.kind ≡ kind.None) ⊎ (here.kind ≡ kind.Rcdata) → AreWritten table setting.Text cs es → characters text ≡ es
+  pub text_cuts : (cs es : List ℕ) (text rest : List Placed) (end : ℕ) (here : Standing) → has_references here.kind ≡ true → AreWritten table setting.Text cs es → characters text ≡ es
       → Cuts table end here text rest (map (λ c. character c) cs) (Same here)
   text_cuts [] es text rest end here k w e = cuts_as table end here [] text rest [] (Same here) (sym (no_characters text (e ∙ w))) (cuts_none table end here rest (Same here) (record { kind_is = refl; name_is = refl }))
   text_cuts (c ∷ cs) es text rest end here k (ds, more, is, way, no_null, others) e =
       let s = split text ds more (e ∙ is) in
-      let first : Cuts table end here s.front (s.back ++ rest) (character c ∷ []) (Same here) = span_of k s.front (s.back ++ rest) s.fronts in
+      let first : Cuts table end here s.front (s.back ++ rest) (character c ∷ []) (Same here) = span_of here.kind refl k s.front (s.back ++ rest) s.fronts in
       let there : Standing = standing_after here first.spans in
-      let then : Cuts table end there s.back rest (map (λ c. character c) cs) (Same there) = text_cuts cs more s.back rest end there (kind_then k there first.leads) others s.backs in
+      let then : Cuts table end there s.back rest (map (λ c. character c) cs) (Same there) = text_cuts cs more s.back rest end there (ap has_references first.leads.kind_is ∙ k) others s.backs in
       let both : Cuts table end here (s.front ++ s.back) rest (character c ∷ map (λ c. character c) cs) (Same there) = join table end here s.front s.back rest (character c ∷ []) (map (λ c. character c) cs) (Same here) (Same there) first then in
       cuts_as table end here (s.front ++ s.back) text rest (character c ∷ map (λ c. character c) cs) (Same here) (sym s.is)
       (record { spans = both.spans; text_is = both.text_is; cut = both.cut; tokens_are = both.tokens_are; in_profile = both.in_profile; leads = same_then here there _ first.leads both.leads })
     where
-      span_of : (here.kind ≡ kind.None) ⊎ (here.kind ≡ kind.Rcdata) → (text rest : List Placed) → characters text ≡ ds → Cuts table end here text rest (character c ∷ []) (Same here)
-      span_of (inl k) text rest e = data_span c ds text rest end here k way e
-      span_of (inr k) text rest e = rcdata_span c ds text rest end here k no_null way e
-
-      kind_then : (here.kind ≡ kind.None) ⊎ (here.kind ≡ kind.Rcdata) → (there : Standing) → Same here there → (there.kind ≡ kind.None) ⊎ (there.kind ≡ kind.Rcdata)
-      kind_then (inl k) there same = inl (same.kind_is ∙ k)
-      kind_then (inr k) there same = inr (same.kind_is ∙ k)
+      span_of : (kind_here : RawKind) → here.kind ≡ kind_here → has_references kind_here ≡ true → (text rest : List Placed) → characters text ≡ ds → Cuts table end here text rest (character c ∷ []) (Same here)
+      span_of kind.None is h text rest e = data_span c ds text rest end here is way e
+      span_of kind.Rcdata is h text rest e = rcdata_span c ds text rest end here is no_null way e
+      span_of _ is h text rest e = absurd (false≢true h)

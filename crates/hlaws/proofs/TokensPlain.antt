@@ -1,5 +1,5 @@
 -- Plain lists are read as their own tokens.
-use Rattle.hlaws.proofs.Names.{arith, ◌≡◌, ℕ, inl, Bool, true, false, not, ◌&&◌, ◌||◌, List, [], ◌∷◌, ◌++◌, map, refl, sym, ◌∙◌, ap, subst, true≢false, and_parts, and_from, or_from, or_parts, false_from_ne_true, not-true, bytes_eq-Decides, encodes-chars, scalars-chars, codes, chars, IsUtf8, flat_map, list_all, list_any, Placed, RawKind, Tag, characters, raw_kind, is_refused, is_void, tag_named, tag_text, tags, Entities, IsTable, HasCore, Attribute, Standing, standing_after, is_known, Token, start, end, comment, character, Content, Role, Escaping, escaped, row, takes_role, are_plain_attributes, is_plain_comment, is_clean, is_name_byte, begins_with, has_part, start_tag_text, end_tag_text}
+use Rattle.hlaws.proofs.Names.{has_references, all_weaker, arith, ◌≡◌, ℕ, Bool, true, false, not, ◌&&◌, ◌||◌, List, [], ◌∷◌, ◌++◌, map, refl, sym, ◌∙◌, ap, subst, true≢false, and_parts, and_from, or_from, or_parts, false_from_ne_true, not-true, bytes_eq-Decides, encodes-chars, scalars-chars, codes, chars, IsUtf8, flat_map, list_all, list_any, Placed, RawKind, Tag, characters, raw_kind, is_refused, is_void, tag_named, tag_text, tags, Entities, IsTable, HasCore, Attribute, Standing, standing_after, is_known, Token, start, end, comment, character, Content, Role, Escaping, escaped, row, takes_role, are_plain_attributes, is_plain_comment, is_clean, is_name_byte, start_tag_text, end_tag_text}
 use Rattle.std.proofs.Common.{bytes_eq}
 use Rattle.std.specs.Char.{is_ascii_lowercase}
 use Rattle.names.proofs.Words.{or_second}
@@ -12,10 +12,11 @@ use Rattle.hplain.specs.Plain.{is_plain_name}
 use Rattle.hserialize.specs.Written.{attribute_text}
 use Rattle.hlaws.specs.ComesBack.{AreUtf8}
 use Rattle.hlaws.proofs.NamesAsTexts.{named_back}
+use Rattle.hlaws.proofs.Content.{four}
 use Rattle.hlaws.proofs.TokensText.{Spells, spells-nil, spells-append, spells_ascii, spells_text, clean_text, no_part, no_front}
 use Rattle.hlaws.proofs.TokensCore.{escaped_as}
 use Rattle.hlaws.proofs.TokensCuts.{split, no_characters, Cuts, Same, join, cuts_none, cuts_as, text_cuts}
-use Rattle.hlaws.proofs.TokensTags.{is_good, names_good, goods_ascii, begins_letter, is_some_name, AreAttributes, AreNew, attribute_codes}
+use Rattle.hlaws.proofs.TokensTags.{is_good, name_byte_good, goods_ascii, begins_letter, is_some_name, AreAttributes, AreNew, attribute_codes}
 use Rattle.hlaws.proofs.TokensMarks.{IsElementName, after_start, start_tag_cuts, end_tag_cuts, comment_cuts}
 
 -- THE TABLE
@@ -119,7 +120,7 @@ good_attribute : (name : List ℕ) → is_plain_name name ≡ true → (list_all
 good_attribute [] h = absurd cc
 good_attribute (b ∷ bs) h =
     let both = and_parts (is_ascii_lowercase b) (list_all is_name_byte bs) h in
-    (names_good (b ∷ bs) (and_from _ _ (rw both.0 refl) both.1), refl)
+    (all_weaker is_name_byte is_good name_byte_good (b ∷ bs) (and_from _ _ (rw both.0 refl) both.1), refl)
 
 eq_other : (a b : List ℕ) → bytes_eq a b ≡ false → bytes_eq b a ≡ false
 eq_other a b h = false_from_ne_true _ (λ e. let x : a ≡ b = sym ((bytes_eq-Decides b a).0 e) in true≢false (sym ((bytes_eq-Decides a b).1 x) ∙ h))
@@ -149,12 +150,10 @@ module _ (table : Entities) (is_table : IsTable table) (core : HasCore table) (h
   attributes_read : (attrs : List (Attribute (List ℕ))) → AreUtf8 attrs → are_plain_attributes attrs ≡ true → AttributesRead table attrs (flat_map (attribute_text how) attrs)
   attributes_read [] u h = record { codes_are = []; spells = spells-nil; are = refl }
   attributes_read (a ∷ others) u h =
-      let x = and_parts ((is_plain_name a.0 && is_clean a.1) && not (list_any (λ b. bytes_eq a.0 b.0) others)) _ h in
-      let y = and_parts (is_plain_name a.0 && is_clean a.1) _ x.0 in
-      let z = and_parts (is_plain_name a.0) (is_clean a.1) y.0 in
-      let good = good_attribute a.0 z.0 in
-      let value = escaped_as table core how setting.Value (chars a.1) (scalars-chars a.1 u.1) (clean_text a.1 u.1 z.1) in
-      let more = attributes_read others u.2 x.1 in
+      let clean : is_clean a.1 ≡ true = grind arith in
+      let good = good_attribute a.0 (grind arith) in
+      let value = escaped_as table core how setting.Value (chars a.1) (scalars-chars a.1 u.1) (clean_text a.1 u.1 clean) in
+      let more = attributes_read others u.2 (grind arith) in
       let name_spelled : Spells a.0 a.0 = spells_ascii a.0 (goods_ascii a.0 good.0) in
       let one : Spells (attribute_text how a) (attribute_codes a.0 value.codes_are) =
       spells-append (((codes " " ++ a.0) ++ codes "=\"") ++ escaped how setting.Value a.1) (((codes " " ++ a.0) ++ codes "=\"") ++ value.codes_are) (codes "\"") (codes "\"")
@@ -214,15 +213,13 @@ module _ (table : Entities) (is_table : IsTable table) (core : HasCore table) (h
       record {
         codes_are = w.codes_are;
         spells = w.spells;
-        cuts = λ end_at here text rest k e. led table end_at here text rest (map (λ c. character c) (chars t)) (Same here) InData (λ there same. same.kind_is ∙ k) (text_cuts table is_table (chars t) w.codes_are text rest end_at here (inl k) w.are e);
+        cuts = λ end_at here text rest k e. led table end_at here text rest (map (λ c. character c) (chars t)) (Same here) InData (λ there same. same.kind_is ∙ k) (text_cuts table is_table (chars t) w.codes_are text rest end_at here (ap has_references k) w.are e);
       }
 
   pub comment_reads : (t : List ℕ) → IsUtf8 t → is_plain_comment t ≡ true → Reads table ((codes "<!--" ++ t) ++ codes "-->") (comment t ∷ [])
   comment_reads t u h =
-      let a = and_parts (((is_clean t && not (has_part (codes "-->") t)) && not (has_part (codes "--!>") t)) && not (begins_with (codes ">") t)) _ h in
-      let b = and_parts ((is_clean t && not (has_part (codes "-->") t)) && not (has_part (codes "--!>") t)) _ a.0 in
-      let c = and_parts (is_clean t && not (has_part (codes "-->") t)) _ b.0 in
-      let d = and_parts (is_clean t) _ c.0 in
+      let f = four _ _ _ _ h in
+      let d = and_parts (is_clean t) _ f.0 in
       record {
         codes_are = (codes "<!--" ++ chars t) ++ codes "-->";
         spells = spells-append (codes "<!--" ++ t) (codes "<!--" ++ chars t) (codes "-->") (codes "-->") (spells-append (codes "<!--") (codes "<!--") t (chars t) (spells_ascii (codes "<!--") refl) (spells_text t u d.0)) (spells_ascii (codes "-->") refl);
@@ -230,8 +227,8 @@ module _ (table : Entities) (is_table : IsTable table) (core : HasCore table) (h
           bytes_are = encodes-chars t u;
           clean = clean_text t u d.0;
           closes_not = no_part (codes "-->") t refl u d.1;
-          bang_not = no_part (codes "--!>") t refl u c.1;
-          arrow_not = no_front (codes ">") t refl u b.1;
-          dash_not = no_front (codes "->") t refl u a.1;
+          bang_not = no_part (codes "--!>") t refl u f.1;
+          arrow_not = no_front (codes ">") t refl u f.2;
+          dash_not = no_front (codes "->") t refl u f.3;
         }) e;
       }

@@ -2,7 +2,7 @@
 use Rattle.hlaws.proofs.Names.{list_all-append, ◌≡◌, ℕ, zero, suc, ◌<◌, Bool, true, false, not, cond, ◌&&◌, ◌||◌, nat_eq, Some, None, List, [], ◌∷◌, ◌++◌, drop, refl, sym, ◌∙◌, ap, subst, arith, append_assoc, and_parts, and_from, eqb-true, nat_tests, encode_ascii, ◌==◌, codes, encode_utf8_all, to_ascii_lowercase, list_all, all-characters, all_weaker, first_is, Placed, characters, place, begins, all, is_letter, is_space, without_null, name_bytes, Entities, Piece, IsTable, named_piece, Attribute, plain_piece, parts_text, ends_name, ends_attribute_name, is_known, attributes_after, is_name_byte}
 use Rattle.std.specs.List.{flat_map}
 use Rattle.names.specs.Placed.{error_if, stops}
-use Rattle.htag.specs.Value.{IsPiece, plain, pieces_text, AreValue, value_bytes}
+use Rattle.htag.specs.Value.{plain, pieces_text, AreValue, value_bytes}
 use Rattle.htag.specs.Value as piece
 use Rattle.names.specs.declared.error.ErrorCode.TheVariants.{MissingWhitespaceBetweenAttributes}
 use Rattle.htag.specs.Tag.{Part, attribute_part, value_errors, is_sign, space, quoted, AreParts, kept}
@@ -31,13 +31,8 @@ good_below (suc n) c all less h =
 pub name_byte_good : (c : ℕ) → is_name_byte c ≡ true → is_good c ≡ true
 name_byte_good c h = good_below 128 c refl (let small : c < 128 = grind (arith, nat_tests) in small) h
 
-pub names_good : (cs : List ℕ) → list_all is_name_byte cs ≡ true → list_all is_good cs ≡ true
-names_good [] h = refl
-names_good (c ∷ cs) h = let both = and_parts _ _ h in and_from _ _ (name_byte_good c both.0) (names_good cs both.1)
-
 pub goods_ascii : (cs : List ℕ) → list_all is_good cs ≡ true → list_all is_written_ascii cs ≡ true
-goods_ascii [] h = refl
-goods_ascii (c ∷ cs) h = let both = and_parts _ _ h in and_from _ _ (and_parts (not (ends_attribute_name c) && to_ascii_lowercase (without_null c) == c) _ both.0).1 (goods_ascii cs both.1)
+goods_ascii = all_weaker is_good is_written_ascii (λ c h. (and_parts _ _ h).1)
 
 pub good_ends_none : (c : ℕ) → is_good c ≡ true → not (ends_attribute_name c) ≡ true
 good_ends_none c h = (and_parts _ _ (and_parts _ (is_written_ascii c) h).0).0

@@ -1,5 +1,5 @@
 -- Plain lists are read as their own tokens, in every context.
-use Rattle.hlaws.proofs.Names.{arith, ◌≡◌, ℕ, ◌⊎◌, inl, inr, Bool, true, false, not, cond, ◌&&◌, nat_lt, Option, Some, None, List, [], ◌∷◌, ◌++◌, map, length, refl, sym, ◌∙◌, ap, subst, append-nil, append_assoc, and_parts, false≢true, not-true, map-append, scalars-chars, codes, chars, IsUtf8, flat_map, Placed, RawKind, characters, raw_kind, is_void, tag_named, Entities, IsTable, HasCore, Attribute, What, Forest, none, tree, Eof, Standing, at_start, standing_after, has_references, may_end, texts, Token, start, end, comment, character, eof, Content, Role, Escaping, escaped, written_char, row, takes_role, takes_comments, Inside, inside_element, inside_node, in_context_of, is_form, are_content, are_content_if, is_plain_node, is_plain_text, is_plain_comment, are_plain_attributes, is_among_texts, is_clean, begins_with_text, begins_with_line_feed, has_part, is_nested, drops_line_feed, is_empty, tokens_of, start_tag_text, end_tag_text, AreTexts, AreRead, PlainTokens, text_of, taken}
+use Rattle.hlaws.proofs.Names.{arith, ◌≡◌, ℕ, Bool, true, false, not, cond, nat_lt, Option, Some, None, List, [], ◌∷◌, ◌++◌, map, length, refl, sym, ◌∙◌, ap, subst, append-nil, append_assoc, and_parts, false≢true, map-append, scalars-chars, codes, chars, IsUtf8, flat_map, Placed, RawKind, characters, raw_kind, is_void, tag_named, Entities, IsTable, HasCore, Attribute, What, Forest, none, tree, Eof, Standing, at_start, standing_after, has_references, may_end, texts, Token, start, end, comment, character, eof, Content, Role, Escaping, escaped, written_char, row, takes_role, takes_comments, Inside, inside_element, in_context_of, is_form, are_content, are_content_if, is_plain_comment, is_among_texts, is_clean, begins_with_text, has_part, tokens_of, start_tag_text, end_tag_text, AreTexts, AreRead, PlainTokens, text_of, taken}
 use Rattle.std.proofs.lemmas.Str.{chars-nil, IsUtf8-nil}
 use Rattle.names.specs.declared.raw.RawKind.TheVariants as kind
 use Rattle.hnodes.specs.Forest as forest
@@ -10,6 +10,7 @@ use Rattle.hplain.specs.declared.content.Texts.{Texts}
 use Rattle.hplain.specs.declared.content.Texts.TheVariants as allowed
 use Rattle.hserialize.specs.declared.escaping.Setting.TheVariants as setting
 use Rattle.hserialize.specs.Written.{has_no_references, element_text, written_among}
+use Rattle.hlaws.proofs.Content.{three, four}
 use Rattle.hlaws.proofs.TokensText.{Spells, spells-append, spells_text, spells_utf8, clean_text, text_characters, no_part}
 use Rattle.hlaws.proofs.TokensCore.{escaped_as}
 use Rattle.hlaws.proofs.TokensCuts.{split, Cuts, Same, join, cuts_as, text_cuts}
@@ -66,56 +67,45 @@ pub record OneText (how : Escaping) (which : Texts) (l : Forest (List ℕ)) : Ty
   pub text_is : written_among how false l ≡ escaped how setting.Text t
   pub tokens_are : tokens_of texts l ≡ map (λ c. character c) (chars t)
 
-no_text_among : (which : Texts) → (which ≡ allowed.Any) ⊎ ((which ≡ allowed.Raw) ⊎ (which ≡ allowed.Script)) → is_among_texts which [] ≡ true
-no_text_among which (inl e) = ap (λ (x : Texts). is_among_texts x []) e
-no_text_among which (inr (inl e)) = ap (λ (x : Texts). is_among_texts x []) e
-no_text_among which (inr (inr e)) = ap (λ (x : Texts). is_among_texts x []) e
-
 -- only texts are there
-only_text : (m : ℕ) (inside : Inside) (w : What (List ℕ)) (kids rest : Forest (List ℕ)) → holds_text inside.content ≡ true → is_plain_node inside w kids rest ≡ true → begins_with_text (tree m w kids rest) ≡ true
-only_text m inside (forest.element name attrs) kids rest h p =
-    absurd (let x = no_role inside.content (row (tag_named name)).0 h in grind arith)
-only_text m inside (forest.text t) kids rest h p = refl
-only_text m inside (forest.comment t) kids rest h p = absurd (let x = no_comment inside.content h in let y = (and_parts (takes_comments inside.content) (is_plain_comment t) p).0 in cc)
-only_text m inside _ kids rest h p = absurd (false≢true p)
-
 begins_so : (m : ℕ) (inside : Inside) (w : What (List ℕ)) (kids rest : Forest (List ℕ)) → holds_text inside.content ≡ true → are_content inside (tree m w kids rest) ≡ true → begins_with_text (tree m w kids rest) ≡ true
-begins_so m inside w kids rest h p =
-    let a = and_parts (is_plain_node inside w kids rest && are_content (inside_node w inside) kids) (are_content inside rest) p in
-    only_text m inside w kids rest h (and_parts (is_plain_node inside w kids rest) _ a.0).0
+begins_so m inside (forest.element name attrs) kids rest h p =
+    let taken : takes_role inside.content (row (tag_named name)).0 ≡ true = (four _ _ _ _ (three inside m (forest.element name attrs) kids rest p).node).0 in
+    absurd (false≢true (sym (no_role inside.content (row (tag_named name)).0 h) ∙ taken))
+begins_so m inside (forest.text t) kids rest h p = refl
+begins_so m inside (forest.comment t) kids rest h p =
+    absurd (false≢true (sym (no_comment inside.content h) ∙ (and_parts (takes_comments inside.content) (is_plain_comment t) (three inside m (forest.comment t) kids rest p).node).0))
+begins_so m inside _ kids rest h p = absurd (false≢true p)
 
-one_text : (how : Escaping) (inside : Inside) (l : Forest (List ℕ)) → holds_text inside.content ≡ true → (inside.texts ≡ allowed.Any) ⊎ ((inside.texts ≡ allowed.Raw) ⊎ (inside.texts ≡ allowed.Script)) → AreTexts l → are_content inside l ≡ true → OneText how inside.texts l
-one_text how inside none h which u p = record {
+one_text : (how : Escaping) (inside : Inside) (l : Forest (List ℕ)) → holds_text inside.content ≡ true → is_among_texts inside.texts [] ≡ true → AreTexts l → are_content inside l ≡ true → OneText how inside.texts l
+one_text how inside none h empty u p = record {
   t = [];
   utf8 = IsUtf8-nil;
   clean = refl;
-  among = no_text_among inside.texts which;
+  among = empty;
   raw_is = refl;
   text_is = ap (flat_map (written_char how setting.Text)) (sym chars-nil);
   tokens_are = ap (map (λ c. character c)) (sym chars-nil);
 }
-one_text how inside (tree n (forest.text t) kids none) h which u p =
-    let a = and_parts ((is_plain_text inside.texts t && true) && are_content (inside_node (forest.text t) inside) kids) true p in
-    let b = and_parts (is_plain_text inside.texts t && true) _ a.0 in
-    let c = and_parts (is_plain_text inside.texts t) true b.0 in
-    let d = and_parts (not (is_empty t) && is_clean t) (is_among_texts inside.texts t) c.0 in
+one_text how inside (tree n (forest.text t) kids none) h empty u p =
+    let node = (three inside n (forest.text t) kids none p).node in
     record {
       t = t;
       utf8 = u.0;
-      clean = (and_parts (not (is_empty t)) (is_clean t) d.0).1;
-      among = d.1;
+      clean = grind arith;
+      among = grind arith;
       raw_is = append-nil t;
       text_is = append-nil (escaped how setting.Text t);
       tokens_are = append-nil (map (λ c. character c) (chars t));
     }
-one_text how inside (tree n (forest.text t) kids (tree m w ks rest)) h which u p =
-    let a = and_parts (is_plain_node inside (forest.text t) kids (tree m w ks rest) && are_content (inside_node (forest.text t) inside) kids) (are_content inside (tree m w ks rest)) p in
-    let b = and_parts (is_plain_text inside.texts t && not (begins_with_text (tree m w ks rest))) _ a.0 in
-    let c = not-true _ (and_parts (is_plain_text inside.texts t) _ b.0).1 in
-    absurd (false≢true (sym c ∙ begins_so m inside w ks rest h a.1))
-one_text how inside (tree n (forest.element name attrs) kids rest) h which u p = absurd (false≢true (begins_so n inside (forest.element name attrs) kids rest h p))
-one_text how inside (tree n (forest.comment t) kids rest) h which u p = absurd (false≢true (begins_so n inside (forest.comment t) kids rest h p))
-one_text how inside _ h which u p = absurd (false≢true p)
+one_text how inside (tree n (forest.text t) kids (tree m w ks rest)) h empty u p =
+    let k = three inside n (forest.text t) kids (tree m w ks rest) p in
+    let node = k.node in
+    let other : begins_with_text (tree m w ks rest) ≡ false = grind arith in
+    absurd (false≢true (sym other ∙ begins_so m inside w ks rest h k.others))
+one_text how inside (tree n (forest.element name attrs) kids rest) h empty u p = absurd (false≢true (begins_so n inside (forest.element name attrs) kids rest h p))
+one_text how inside (tree n (forest.comment t) kids rest) h empty u p = absurd (false≢true (begins_so n inside (forest.comment t) kids rest h p))
+one_text how inside _ h empty u p = absurd (false≢true p)
 
 -- RAW ELEMENTS
 
@@ -160,7 +150,7 @@ module _ (table : Entities) (is_table : IsTable table) (core : HasCore table) (h
         raw = ap is_raw (same.kind_is ∙ is);
         may = ap (λ (k : RawKind). may_end k there.front) (same.kind_is ∙ is);
         named = same.name_is;
-      }) (text_cuts table is_table (chars o.t) w.codes_are text rest end_at (after_start name) (inr is) w.are e)))
+      }) (text_cuts table is_table (chars o.t) w.codes_are text rest end_at (after_start name) (ap has_references is) w.are e)))
 
   -- and without
   raw_inner : (name : List ℕ) (l : Forest (List ℕ)) (attrs : List (Attribute (List ℕ))) (which : Texts) → is_raw (raw_kind (tag_named name)) ≡ true → has_references (raw_kind (tag_named name)) ≡ false → IsElementName name → StartTag table is_table core how name attrs
@@ -193,12 +183,12 @@ module _ (table : Entities) (is_table : IsTable table) (core : HasCore table) (h
   an_element name attrs kids inside kind.Rcdata v is_kind fit is_name s u h kids_read =
       let e = raw_fits kind.Rcdata (row (tag_named name)).1 v refl fit in
       let within : Inside = inside_element (tag_named name) inside in
-      subst (λ (w : Bool). Element name attrs kids kind.Rcdata w) (sym e.1) (rcdata_inner name kids attrs within.texts is_kind is_name s (one_text how within kids (rw e.0 refl) (inl (rw e.0 refl)) u h))
+      subst (λ (w : Bool). Element name attrs kids kind.Rcdata w) (sym e.1) (rcdata_inner name kids attrs within.texts is_kind is_name s (one_text how within kids (rw e.0 refl) (rw e.0 refl) u h))
   an_element name attrs kids inside kind.Rawtext v is_kind fit is_name s u h kids_read =
       let e = raw_fits kind.Rawtext (row (tag_named name)).1 v refl fit in
       let within : Inside = inside_element (tag_named name) inside in
       let texts_are : within.texts ≡ allowed.Raw = rw e.0 refl in
-      let o = one_text how within kids (rw e.0 refl) (inr (inl texts_are)) u h in
+      let o = one_text how within kids (rw e.0 refl) (ap (λ (x : Texts). is_among_texts x []) texts_are) u h in
       let among : is_among_texts allowed.Raw o.t ≡ true = ap (λ (x : Texts). is_among_texts x o.t) (sym texts_are) ∙ o.among in
       subst (λ (w : Bool). Element name attrs kids kind.Rawtext w) (sym e.1)
       (raw_inner name kids attrs within.texts (ap is_raw is_kind) (ap has_references is_kind) is_name s o among (λ text e. ap (λ (k : RawKind). may_end k (pushed text [])) is_kind))
@@ -206,7 +196,7 @@ module _ (table : Entities) (is_table : IsTable table) (core : HasCore table) (h
       let e = raw_fits kind.Script (row (tag_named name)).1 v refl fit in
       let within : Inside = inside_element (tag_named name) inside in
       let texts_are : within.texts ≡ allowed.Script = rw e.0 refl in
-      let o = one_text how within kids (rw e.0 refl) (inr (inr texts_are)) u h in
+      let o = one_text how within kids (rw e.0 refl) (ap (λ (x : Texts). is_among_texts x []) texts_are) u h in
       let among : is_among_texts allowed.Script o.t ≡ true = ap (λ (x : Texts). is_among_texts x o.t) (sym texts_are) ∙ o.among in
       let both = and_parts (not (has_part (codes "</") o.t)) (not (has_part (codes "<!--") o.t)) among in
       subst (λ (w : Bool). Element name attrs kids kind.Script w) (sym e.1)
@@ -222,28 +212,22 @@ module _ (table : Entities) (is_table : IsTable table) (core : HasCore table) (h
   pub list_reads : (inside : Inside) (l : Forest (List ℕ)) → AreTexts l → are_content inside l ≡ true → Reads table (written_among how false l) (tokens_of texts l)
   list_reads inside none u h = reads-nil table
   list_reads inside (tree n (forest.element name attrs) kids rest) u h =
-      let a = and_parts (is_plain_node inside (forest.element name attrs) kids rest && are_content (inside_element (tag_named name) inside) kids) (are_content inside rest) h in
-      let b = and_parts (is_plain_node inside (forest.element name attrs) kids rest) (are_content (inside_element (tag_named name) inside) kids) a.0 in
-      let c = and_parts ((takes_role inside.content (row (tag_named name)).0 && not (is_nested inside (tag_named name))) && are_plain_attributes attrs) (not (drops_line_feed (tag_named name) && begins_with_line_feed kids)) b.0 in
-      let d = and_parts (takes_role inside.content (row (tag_named name)).0 && not (is_nested inside (tag_named name))) (are_plain_attributes attrs) c.0 in
-      let known : IsKnownName name = known_name name inside.content (and_parts (takes_role inside.content (row (tag_named name)).0) _ d.0).0 in
-      let s = a_start_tag table is_table core how name attrs known.is_name u.1 d.1 in
-      let element = an_element name attrs kids inside (raw_kind (tag_named name)) (is_void (tag_named name)) refl known.fit known.is_name s u.2 b.1 (list_reads (inside_element (tag_named name) inside) kids u.2 b.1) in
+      let k = three inside n (forest.element name attrs) kids rest h in
+      let f = four _ _ _ _ k.node in
+      let known : IsKnownName name = known_name name inside.content f.0 in
+      let s = a_start_tag table is_table core how name attrs known.is_name u.1 f.2 in
+      let element = an_element name attrs kids inside (raw_kind (tag_named name)) (is_void (tag_named name)) refl known.fit known.is_name s u.2 k.children (list_reads (inside_element (tag_named name) inside) kids u.2 k.children) in
       told table _ _ _ (again (is_void (tag_named name)) name attrs (tokens_of texts kids) (tokens_of texts rest))
       (reads-append table (element_text how name attrs (written_among how (has_no_references (raw_kind (tag_named name))) kids)) (written_among how false rest)
-      (start name attrs false ∷ cond (is_void (tag_named name)) [] (tokens_of texts kids ++ end name ∷ [])) (tokens_of texts rest) element (list_reads inside rest u.3 a.1))
+      (start name attrs false ∷ cond (is_void (tag_named name)) [] (tokens_of texts kids ++ end name ∷ [])) (tokens_of texts rest) element (list_reads inside rest u.3 k.others))
   list_reads inside (tree n (forest.text t) kids rest) u h =
-      let a = and_parts ((is_plain_text inside.texts t && not (begins_with_text rest)) && are_content (inside_node (forest.text t) inside) kids) (are_content inside rest) h in
-      let b = and_parts (is_plain_text inside.texts t && not (begins_with_text rest)) _ a.0 in
-      let c = and_parts (is_plain_text inside.texts t) (not (begins_with_text rest)) b.0 in
-      let d = and_parts (not (is_empty t) && is_clean t) (is_among_texts inside.texts t) c.0 in
-      reads-append table (escaped how setting.Text t) (written_among how false rest) (map (λ c. character c) (chars t)) (tokens_of texts rest)
-      (text_reads table is_table core how t u.0 (and_parts (not (is_empty t)) (is_clean t) d.0).1) (list_reads inside rest u.2 a.1)
+      let k = three inside n (forest.text t) kids rest h in
+      let node = k.node in
+      reads-append table (escaped how setting.Text t) (written_among how false rest) (map (λ c. character c) (chars t)) (tokens_of texts rest) (text_reads table is_table core how t u.0 (grind arith)) (list_reads inside rest u.2 k.others)
   list_reads inside (tree n (forest.comment t) kids rest) u h =
-      let a = and_parts ((takes_comments inside.content && is_plain_comment t) && are_content (inside_node (forest.comment t) inside) kids) (are_content inside rest) h in
-      let b = and_parts (takes_comments inside.content && is_plain_comment t) _ a.0 in
-      let c = and_parts (takes_comments inside.content) (is_plain_comment t) b.0 in
-      reads-append table ((codes "<!--" ++ t) ++ codes "-->") (written_among how false rest) (comment t ∷ []) (tokens_of texts rest) (comment_reads table is_table core how t u.0 c.1) (list_reads inside rest u.2 a.1)
+      let k = three inside n (forest.comment t) kids rest h in
+      let node = k.node in
+      reads-append table ((codes "<!--" ++ t) ++ codes "-->") (written_among how false rest) (comment t ∷ []) (tokens_of texts rest) (comment_reads table is_table core how t u.0 (grind arith)) (list_reads inside rest u.2 k.others)
   list_reads inside _ u h = absurd (false≢true h)
 
   -- CONTEXTS
@@ -272,7 +256,7 @@ module _ (table : Entities) (is_table : IsTable table) (core : HasCore table) (h
 
   -- a context whose text is read raw holds one text
   context_text : (k : RawKind) (c : Content) (form : Bool) (l : Forest (List ℕ)) → is_raw k ≡ true → fits_context k c ≡ true → AreTexts l → are_content_if (in_context_of c form) l ≡ true → OneText how allowed.Any l
-  context_text k c form l raw fit u h = one_text how (text_inside form) l refl (inl refl) u (text_context k c form l raw fit h)
+  context_text k c form l raw fit u h = one_text how (text_inside form) l refl refl u (text_context k c form l raw fit h)
 
   pub in_kind : (k : RawKind) (c : Content) (form : Bool) (l : Forest (List ℕ)) → fits_context k c ≡ true → AreTexts l → are_content_if (in_context_of c form) l ≡ true
       → AreRead table k (written_among how (has_no_references k) l) (tokens_of texts l ++ eof ∷ [])
@@ -288,7 +272,7 @@ module _ (table : Entities) (is_table : IsTable table) (core : HasCore table) (h
       let s : Spells bytes w.codes_are = subst (λ (x : List ℕ). Spells x w.codes_are) (sym o.text_is) w.spells in
       whole_read kind.Rcdata bytes w.codes_are (tokens_of texts l) (Same (at_start kind.Rcdata)) s
       (subst (λ (x : List (Token (List ℕ))). Cuts table (length bytes) (at_start kind.Rcdata) (text_of bytes) [] x (Same (at_start kind.Rcdata))) (sym o.tokens_are)
-      (text_cuts table is_table (chars o.t) w.codes_are (text_of bytes) [] (length bytes) (at_start kind.Rcdata) (inr refl) w.are (text_characters bytes w.codes_are s)))
+      (text_cuts table is_table (chars o.t) w.codes_are (text_of bytes) [] (length bytes) (at_start kind.Rcdata) refl w.are (text_characters bytes w.codes_are s)))
   in_kind kind.Rawtext c form l fit u h = raw_context kind.Rawtext l allowed.Any refl refl (context_text kind.Rawtext c form l refl fit u h)
   in_kind kind.Script c form l fit u h = raw_context kind.Script l allowed.Any refl refl (context_text kind.Script c form l refl fit u h)
   in_kind kind.Plaintext c form l fit u h = raw_context kind.Plaintext l allowed.Any refl refl (context_text kind.Plaintext c form l refl fit u h)

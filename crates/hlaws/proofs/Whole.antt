@@ -1,5 +1,5 @@
 -- The tokens of a plain list of trees build it under the current node.
-use Rattle.hlaws.proofs.Names.{◌≡◌, ℕ, suc, ◌+◌, ◌<◌, ◌≤◌, Bool, true, false, not, ◌&&◌, ◌||◌, eqb, List, [], ◌∷◌, ◌++◌, length, map, Option, Some, None, refl, sym, ◌∙◌, ap, subst, arith, inl, inr, and_parts, or_parts, and_right, eq-eqb, ne_eqb, lt-leb, false≢true, not-true, nat_le, encode_utf8, encode_utf8_all, chars, ◌==◌, list_all, Attribute, What, element, text, Forest, none, tree, size, times, if_text, text_before, LastIn, OpenNode, in_scope, stops, EntryOf, Listed, marker, entry, with_room, without_entry, entry_of, find_entry, cleared, Placed, is_space, is_void, is_heading, stops_button_scope, Naming, Goes, is, is_table_context, is_body_context, is_row_context, is_fostering, Family, Start, End, Mode, InCaption, InCell, Text, InTable, InTableText, InTableBody, InRow, InColumnGroup, family_of, perform, void, raw, void_in_text, Token, start, end, comment, character, PlacedToken, Control, State, Done, kind_of, reset_mode, open_mode, Rule, begun, ends, goes_again, Step, goes, Steps, and, Content, Role, row, takes_role, takes_comments, texts_in, Inside, inside_element, is_nested, is_a, is_button, is_form, drops_line_feed, inserts_marker, is_flow_mode, fits_mode, fits_current, is_list, is_dl, takes_space, numbered, under, Thinned, same, kept, lost, EntriesOpen, EntriesLower, tokens_of}
+use Rattle.hlaws.proofs.Names.{◌≡◌, ℕ, suc, ◌+◌, ◌<◌, ◌≤◌, Bool, true, false, not, ◌&&◌, ◌||◌, eqb, List, [], ◌∷◌, ◌++◌, length, map, Option, Some, None, refl, sym, ◌∙◌, ap, subst, arith, inl, inr, and_parts, or_parts, and_right, eq-eqb, ne_eqb, lt-leb, false≢true, not-true, nat_le, encode_utf8, encode_utf8_all, chars, ◌==◌, list_all, Attribute, What, element, text, Forest, none, tree, size, times, graft_last, join, if_text, text_before, LastIn, OpenNode, in_scope, stops, stops_item, EntryOf, Listed, marker, entry, with_room, without_entry, entry_of, find_entry, cleared, Placed, is_space, is_void, is_heading, has_implied_end, stops_button_scope, Naming, Goes, is, is_table_context, is_body_context, is_row_context, is_fostering, Family, Start, End, Mode, InCaption, InCell, Text, InTable, InTableText, InTableBody, InRow, InColumnGroup, family_of, rule_of, perform, void, raw, void_in_text, Token, start, end, comment, character, PlacedToken, Control, State, Done, kind_of, reset_mode, Rule, begun, ends, goes_again, Step, goes, Steps, and, Content, Role, row, takes_role, takes_comments, texts_in, Inside, inside_element, is_nested, is_a, is_button, is_form, drops_line_feed, inserts_marker, is_flow_mode, fits_mode, fits_current, is_list, is_dl, takes_space, numbered, under, Thinned, same, kept, lost, EntriesOpen, EntriesLower, tokens_of}
 use Rattle.std.proofs.lemmas.List.{append-nil, append_assoc}
 use Rattle.std.specs.Prelude.{unwrap_or}
 use Rattle.hnodes.proofs.Counts.{times-hung}
@@ -11,19 +11,25 @@ use Rattle.hmodes.specs.Step as step
 use Rattle.hplain.specs.declared.content.Content.TheVariants as content
 use Rattle.hplain.specs.declared.content.Role.TheVariants as role
 use Rattle.hplain.specs.Plain.{content_within}
+use Rattle.hadopt.specs.Reconstructs.{reconstructed}
+use Rattle.hmodes.specs.Body.{block, close_block, end_item}
+use Rattle.hmodes.specs.Words.{Do}
 use Rattle.hlaws.specs.Building.{closes_p, is_character, ActsAs, depth, AllLower}
 use Rattle.hlaws.proofs.Growing.{graft-new, times-numbered, under-none, under-under, under-new, text_before-new, text_before-leaf}
 use Rattle.hlaws.proofs.Thinned.{then, thinned-room, open-thinned, open-pushed, lower-thinned, entries-more, no-entry}
 use Rattle.hlaws.proofs.Classes.{Profile, profile, plain_profile, around, class_profile, classed, void_empty, is_p}
 use Rattle.hlaws.proofs.Content.{home, has_home, stands_in, no_nowhere, phrasing_mode, parts_mode_is, rows_mode_is, cells_mode_is, columns_mode_is, comment_rule, around_fits, nested_a, nested_button, nested_form, marker_stops, list_stops, dl_stops}
 use Rattle.hlaws.proofs.Rules as rules
-use Rattle.hlaws.proofs.Rules.{Laws, IsFlowRule, by_end, state, node}
-use Rattle.hlaws.proofs.TokenLists.{AreTokens, first, parted, after, ended, AllOk, IsText, NoNul, begins_text}
+use Rattle.hlaws.proofs.Rules.{IsFlowRule, by_start, by_end, state, node}
+use Rattle.hlaws.proofs.TokenLists.{AreTokens, first, parted, after, ended, IsText, begins_text}
+use Rattle.hlaws.proofs.TokensText.{is_clean_char}
+use Rattle.std.proofs.lemmas.List.Folds.{list_all-map}
 
 -- WHAT IS USED OF A KIND OF NAMES
 
 pub record NameLaws {N : Type 0} (n : Naming N) : Type 0 where
-  pub basic : Laws n
+  pub same_self : (x : N) → n.same x x ≡ true
+  pub knows_p : (x : N) → n.same x (n.known tag.P) ≡ is_p (n.tag x)
   pub button : (x : N) → n.same x (n.known tag.Button) ≡ is_button (n.tag x)
   pub anchor : (x y : N) → is_a (n.tag y) ≡ true → is_a (n.tag x) ≡ false → n.same y x ≡ false
   pub table : (x : N) → family_of (n.tag x) ≡ family.Table → n.same x (n.known tag.Table) ≡ true
@@ -63,17 +69,17 @@ keeps-all c = record { mode = refl; head = refl; form = refl; quirks = refl }
 abbrev begun_control : Control → Control
 begun_control c = record c { drop_lf = false; acknowledged = false }
 
--- which texts are in content: white space in the parts of a table
+-- which texts are in content: white space in the parts of a table, where it may be
+abbrev pub TextIn : Content → (space : Bool) → List ℕ → Type 0
+TextIn content.TableParts space chs = (list_all is_space chs ≡ true) × (space ≡ true)
+TextIn content.TableRows space chs = (list_all is_space chs ≡ true) × (space ≡ true)
+TextIn content.Cells space chs = (list_all is_space chs ≡ true) × (space ≡ true)
+TextIn content.Columns space chs = list_all is_space chs ≡ true
+TextIn content.Empty space chs = ⊥
+TextIn _ space chs = Unit {0}
+
 abbrev pub TextFits : Inside → List ℕ → Type 0
-TextFits i chs = go i.content
-  where
-    go : Content → Type 0
-    go content.TableParts = AllOk (λ ch. is_space ch ≡ true) chs × (takes_space i.texts ≡ true)
-    go content.TableRows = AllOk (λ ch. is_space ch ≡ true) chs × (takes_space i.texts ≡ true)
-    go content.Cells = AllOk (λ ch. is_space ch ≡ true) chs × (takes_space i.texts ≡ true)
-    go content.Columns = AllOk (λ ch. is_space ch ≡ true) chs
-    go content.Empty = ⊥
-    go _ = Unit {0}
+TextFits i chs = TextIn i.content (takes_space i.texts) chs
 
 -- what a text node is: its characters, none of them NUL
 pub record GoodText (i : Inside) (t : List ℕ) : Type 0 where
@@ -204,7 +210,7 @@ module _ {N : Type 0} (n : Naming N) (laws : NameLaws n) (z : State N) where
     pub saved : control'.saved ≡ c.saved
     pub no_drop : control'.drop_lf ≡ false
 
-  module _ (d : OpenNode N) (up : List (OpenNode N)) (items : List (Listed N)) (m : Mode) (ok : ℕ → Type 0) (puts : rules.Puts n laws.basic z d up items m ok) where
+  module _ (d : OpenNode N) (up : List (OpenNode N)) (items : List (Listed N)) (m : Mode) (ok : ℕ → Bool) (puts : rules.Puts n z d up items m ok) where
     -- one character goes in, and then the others
     then_chars : (made : ℕ) (f : Forest N) (c : Control) (at ch : ℕ) (s s1 : State N) (ts others : List (PlacedToken N)) → ts ≡ record { token = character ch; at = at } ∷ others → (s.control.drop_lf && ch == 10) ≡ false
         → Rule n at (character ch) (begun s) ≡ Done s1 → CharsBuilt made f d up items (begun_control c) s1 others → CharsBuilt made f d up items c s ts
@@ -216,7 +222,7 @@ module _ {N : Type 0} (n : Naming N) (laws : NameLaws n) (z : State N) where
       no_drop = k.no_drop;
     }
 
-    chars_built : (made k : ℕ) (g : Forest N) (once : times d.node g ≡ 1) (absent : times k g ≡ 0) (chs t : List ℕ) (c : Control) (ts : List (PlacedToken N)) → c.mode ≡ m → c.drop_lf ≡ false → AllOk ok chs
+    chars_built : (made k : ℕ) (g : Forest N) (once : times d.node g ≡ 1) (absent : times k g ≡ 0) (chs t : List ℕ) (c : Control) (ts : List (PlacedToken N)) → c.mode ≡ m → c.drop_lf ≡ false → list_all ok chs ≡ true
         → AreTokens ts (map (λ ch. character ch) chs)
         → CharsBuilt made (under d.node (tree k (text (t ++ encode_utf8_all chs)) none none) g) d up items c (state z made (under d.node (tree k (text t) none none) g) (d ∷ up) items c) ts
     chars_built made k g once absent [] t c [] is drop oks h = record {
@@ -229,29 +235,27 @@ module _ {N : Type 0} (n : Naming N) (laws : NameLaws n) (z : State N) where
     chars_built made k g once absent [] t c (u ∷ us) is drop oks h = absurd cc
     chars_built made k g once absent (ch ∷ chs) t c ts is drop oks h =
         let p = first ts (character ch) (map (λ ch. character ch) chs) h in
+        let both = and_parts (ok ch) (list_all ok chs) oks in
         let s : State N = state z made (under d.node (tree k (text t) none none) g) (d ∷ up) items c in
         let s1 : State N = state z made (under d.node (tree k (text (t ++ encode_utf8 ch)) none none) g) (d ∷ up) items (begun_control c) in
-        let others = chars_built made k g once absent chs (t ++ encode_utf8 ch) (begun_control c) p.others is refl oks.1 p.rest in
+        let others = chars_built made k g once absent chs (t ++ encode_utf8 ch) (begun_control c) p.others is refl both.1 p.rest in
         then_chars made (under d.node (tree k (text (t ++ encode_utf8_all (ch ∷ chs))) none none) g) c p.at ch s s1 ts p.others p.is (rw drop refl)
-        (puts p.at ch made (under d.node (tree k (text t) none none) g) (begun_control c) s1 is oks.0 (rules.put_next n laws.basic z d up items p.at ch made k t g (begun_control c) once absent))
+        (puts p.at ch made (under d.node (tree k (text t) none none) g) (begun_control c) s1 is both.0 (rules.put_next n z d up items p.at ch made k t g (begun_control c) once absent))
         (subst (λ (u : List ℕ). CharsBuilt made (under d.node (tree k (text u) none none) g) d up items (begun_control c) s1 p.others) (append_assoc t (encode_utf8 ch) (encode_utf8_all chs)) others)
 
-    text_built : (made : ℕ) (f : Forest N) (once : times d.node f ≡ 1) (absent : times made f ≡ 0) (t : List ℕ) (is : IsText t) (c : Control) (ts : List (PlacedToken N)) → c.mode ≡ m → (c.drop_lf && is.one == 10) ≡ false → AllOk ok (is.one ∷ is.more)
+    text_built : (made : ℕ) (f : Forest N) (once : times d.node f ≡ 1) (absent : times made f ≡ 0) (t : List ℕ) (is : IsText t) (c : Control) (ts : List (PlacedToken N)) → c.mode ≡ m → (c.drop_lf && is.one == 10) ≡ false → list_all ok (is.one ∷ is.more) ≡ true
         → text_before (LastIn d.node) f ≡ None → made < z.site.nodes.limit
         → AreTokens ts (map (λ ch. character ch) (chars t))
         → CharsBuilt (made + 1) (under d.node (tree made (text t) none none) f) d up items c (state z made f (d ∷ up) items c) ts
     text_built made f once absent t is c ts mode safe oks none_before room h =
         let p = first ts (character is.one) (map (λ ch. character ch) is.more) (h ∙ ap (map (λ ch. character ch)) is.spelled) in
+        let both = and_parts (ok is.one) (list_all ok is.more) oks in
         let s : State N = state z made f (d ∷ up) items c in
         let s1 : State N = state z (made + 1) (under d.node (tree made (text (encode_utf8 is.one)) none none) f) (d ∷ up) items (begun_control c) in
-        let others = chars_built (made + 1) made f once absent is.more (encode_utf8 is.one) (begun_control c) p.others mode refl oks.1 p.rest in
+        let others = chars_built (made + 1) made f once absent is.more (encode_utf8 is.one) (begun_control c) p.others mode refl both.1 p.rest in
         then_chars (made + 1) (under d.node (tree made (text t) none none) f) c p.at is.one s s1 ts p.others p.is safe
-        (puts p.at is.one made f (begun_control c) s1 mode oks.0 (rules.put_first n laws.basic z d up items p.at is.one made f (begun_control c) none_before absent room))
+        (puts p.at is.one made f (begun_control c) s1 mode both.0 (rules.put_first n z d up items p.at is.one made f (begun_control c) none_before absent room))
         (subst (λ (u : List ℕ). CharsBuilt (made + 1) (under d.node (tree made (text u) none none) f) d up items (begun_control c) s1 p.others) is.bytes others)
-
-  all_any : (chs : List ℕ) → AllOk (λ ch. Unit {0}) chs
-  all_any [] = tt
-  all_any (ch ∷ chs) = (tt, all_any chs)
 
   module _ (b : ℕ) (t : List ℕ) (is : IsText t) (made : ℕ) (f : Forest N) (d : OpenNode N) (up : List (OpenNode N)) (items : List (Listed N)) (c : Control) (once : times d.node f ≡ 1) (absent : times made f ≡ 0) (listed : EntriesOpen (d ∷ up) items)
       (none_before : text_before (LastIn d.node) f ≡ None) (safe : (c.drop_lf && is.one == 10) ≡ false) (room : made < z.site.nodes.limit) where
@@ -260,16 +264,11 @@ module _ {N : Type 0} (n : Naming N) (laws : NameLaws n) (z : State N) where
 
     -- in flow
     flow_text : (ts : List (PlacedToken N)) → is_flow_mode c.mode ≡ true → AreTokens ts (map (λ ch. character ch) (chars t)) → NodeBuilt b (text t) none made f d up items c (state z made f (d ∷ up) items c) ts
-    flow_text ts flows h = as_node ts (text_built d up items c.mode (λ ch. (ch == 0) ≡ false) (rules.flow_puts n laws.basic z d up items c.mode flows listed) made f once absent t is c ts refl safe is.no_nul none_before room h)
+    flow_text ts flows h = as_node ts (text_built d up items c.mode is_clean_char (rules.flow_puts n z d up items c.mode flows listed) made f once absent t is c ts refl safe is.clean none_before room h)
 
     -- in a colgroup
-    both : (chs : List ℕ) → NoNul chs → AllOk (λ ch. is_space ch ≡ true) chs → AllOk (λ ch. ((ch == 0) ≡ false) × (is_space ch ≡ true)) chs
-    both [] h k = tt
-    both (ch ∷ chs) h k = ((h.0, k.0), both chs h.1 k.1)
-
-    column_text : (ts : List (PlacedToken N)) → c.mode ≡ InColumnGroup → AllOk (λ ch. is_space ch ≡ true) (is.one ∷ is.more) → AreTokens ts (map (λ ch. character ch) (chars t)) → NodeBuilt b (text t) none made f d up items c (state z made f (d ∷ up) items c) ts
-    column_text ts columns spaces h = as_node ts
-        (text_built d up items InColumnGroup (λ ch. ((ch == 0) ≡ false) × (is_space ch ≡ true)) (rules.column_puts n laws.basic z d up items) made f once absent t is c ts columns safe (both (is.one ∷ is.more) is.no_nul spaces) none_before room h)
+    column_text : (ts : List (PlacedToken N)) → c.mode ≡ InColumnGroup → list_all is_space (is.one ∷ is.more) ≡ true → AreTokens ts (map (λ ch. character ch) (chars t)) → NodeBuilt b (text t) none made f d up items c (state z made f (d ∷ up) items c) ts
+    column_text ts columns spaces h = as_node ts (text_built d up items InColumnGroup is_space (rules.column_puts n z d up items) made f once absent t is c ts columns safe spaces none_before room h)
 
   -- WHITE SPACE OF TABLES
 
@@ -280,24 +279,25 @@ module _ {N : Type 0} (n : Naming N) (laws : NameLaws n) (z : State N) where
     pub characters : map (λ p. p.ch) added ≡ chs
 
   module _ (made : ℕ) (f : Forest N) (d : OpenNode N) (up : List (OpenNode N)) (items : List (Listed N)) where
-    held_chars : (chs : List ℕ) (c : Control) (ts : List (PlacedToken N)) → c.mode ≡ InTableText → c.drop_lf ≡ false → NoNul chs → AllOk (λ ch. is_space ch ≡ true) chs → AreTokens ts (map (λ ch. character ch) chs)
+    held_chars : (chs : List ℕ) (c : Control) (ts : List (PlacedToken N)) → c.mode ≡ InTableText → c.drop_lf ≡ false → list_all is_space chs ≡ true → AreTokens ts (map (λ ch. character ch) chs)
         → HeldChars made f d up items c chs (state z made f (d ∷ up) items c) ts
-    held_chars [] c [] m drop ok spaces h = record {
+    held_chars [] c [] m drop spaces h = record {
       acknowledged = c.acknowledged;
       added = [];
       steps = subst (λ (v : Control). Steps n [] (state z made f (d ∷ up) items c) (Goes (state z made f (d ∷ up) items v))) (λ i. record c { drop_lf = drop i; pending = sym (append-nil c.pending) i }) step.none;
       characters = refl;
     }
-    held_chars [] c (u ∷ us) m drop ok spaces h = absurd cc
-    held_chars (ch ∷ chs) c ts m drop ok spaces h =
+    held_chars [] c (u ∷ us) m drop spaces h = absurd cc
+    held_chars (ch ∷ chs) c ts m drop spaces h =
+        let both = and_parts (is_space ch) (list_all is_space chs) spaces in
         let p = first ts (character ch) (map (λ ch. character ch) chs) h in
         let new : Placed = record { ch = ch; at = p.at } in
         let c1 : Control = record (begun_control c) { pending = c.pending ++ new ∷ [] } in
         let s : State N = state z made f (d ∷ up) items c in
         let s1 : State N = state z made f (d ∷ up) items c1 in
-        let rule : Rule n p.at (character ch) (begun s) ≡ Done s1 = rules.held n laws.basic z p.at made f d up items (begun_control c) ch m ok.0 spaces.0 in
+        let rule : Rule n p.at (character ch) (begun s) ≡ Done s1 = rules.held n z p.at made f d up items (begun_control c) ch m both.0 in
         let one : Step n p.at (character ch) s (Goes s1) = char_step p.at ch s s1 (rw drop refl) rule in
-        let others = held_chars chs c1 p.others m refl ok.1 spaces.1 p.rest in
+        let others = held_chars chs c1 p.others m refl both.1 p.rest in
         record {
           acknowledged = others.acknowledged;
           added = new ∷ others.added;
@@ -310,36 +310,29 @@ module _ {N : Type 0} (n : Naming N) (laws : NameLaws n) (z : State N) where
   other_kind (character ch) h = cc
   other_kind _ h = refl
 
-  all_spaces : (ps : List Placed) (chs : List ℕ) → map (λ p. p.ch) ps ≡ chs → AllOk (λ ch. is_space ch ≡ true) chs → list_all (λ p. is_space p.ch) ps ≡ true
-  all_spaces [] chs e h = refl
-  all_spaces (p ∷ ps) [] e h = absurd cc
-  all_spaces (p ∷ ps) (ch ∷ chs) e h =
-      let same_ch : p.ch ≡ ch = cc in
-      let others : map (λ p. p.ch) ps ≡ chs = cc in
-      rw (ap is_space same_ch ∙ h.0) (all_spaces ps chs others h.1)
-
   parts_text : (b : ℕ) (t : List ℕ) (is : IsText t) (made : ℕ) (f : Forest N) (d : OpenNode N) (up : List (OpenNode N)) (items : List (Listed N)) (c : Control) → times d.node f ≡ 1 → times made f ≡ 0
-      → text_before (LastIn d.node) f ≡ None → (c.drop_lf && is.one == 10) ≡ false → made < z.site.nodes.limit → rules.is_parts_mode c.mode ≡ true → is_fostering (n.tag d.name) ≡ true → AllOk (λ ch. is_space ch ≡ true) (is.one ∷ is.more)
+      → text_before (LastIn d.node) f ≡ None → (c.drop_lf && is.one == 10) ≡ false → made < z.site.nodes.limit → rules.is_parts_mode c.mode ≡ true → is_fostering (n.tag d.name) ≡ true → list_all is_space (is.one ∷ is.more) ≡ true
       → (ts : List (PlacedToken N)) → AreTokens ts (map (λ ch. character ch) (chars t)) → NodeBuilt b (text t) none made f d up items c (state z made f (d ∷ up) items c) ts
   parts_text b t is made f d up items c once absent none_before safe room parts fosters spaces ts h =
       let p = first ts (character is.one) (map (λ ch. character ch) is.more) (h ∙ ap (map (λ ch. character ch)) is.spelled) in
+      let both = and_parts (is_space is.one) (list_all is_space is.more) spaces in
       let new : Placed = record { ch = is.one; at = p.at } in
       let c0 : Control = record (begun_control c) { pending = []; saved = c.mode; mode = InTableText } in
       let c1 : Control = record c0 { pending = new ∷ [] } in
       let s : State N = state z made f (d ∷ up) items c in
       let s0 : State N = state z made f (d ∷ up) items c0 in
       let s1 : State N = state z made f (d ∷ up) items c1 in
-      let waits = rules.first_held n laws.basic z p.at made f d up items (begun_control c) is.one parts is.no_nul.0 spaces.0 fosters in
-      let holds : Rule n p.at (character is.one) s0 ≡ Done s1 = rules.held n laws.basic z p.at made f d up items c0 is.one refl is.no_nul.0 spaces.0 in
+      let waits = rules.first_held n z p.at made f d up items (begun_control c) is.one parts both.0 fosters in
+      let holds : Rule n p.at (character is.one) s0 ≡ Done s1 = rules.held n z p.at made f d up items c0 is.one refl both.0 in
       let one : Step n p.at (character is.one) s (Goes s1) = goes safe (goes_again waits (ends holds)) in
-      let others = held_chars made f d up items is.more c1 p.others refl refl is.no_nul.1 spaces.1 p.rest in
+      let others = held_chars made f d up items is.more c1 p.others refl refl both.1 p.rest in
       let c2 : Control = record c1 { acknowledged = others.acknowledged; pending = new ∷ others.added } in
       let s2 : State N = state z made f (d ∷ up) items c2 in
       let bytes : encode_utf8_all (map (λ p. p.ch) (new ∷ others.added)) ≡ t = ap (λ l. encode_utf8_all (is.one ∷ l)) others.characters ∙ is.bytes in
       let c3 : Control = record c2 { pending = []; mode = c2.saved } in
       let q : List ℕ → State N = λ u. state z (made + 1) (under d.node (tree made (text u) none none) f) (d ∷ up) items c3 in
       let acts : ActsAs n s2 (q (encode_utf8_all (map (λ p. p.ch) (new ∷ others.added)))) =
-      λ at t o other chain. rules.acts n laws.basic z d up items at t new others.added made f c2 o (other_kind t other) refl refl (all_spaces (new ∷ others.added) (is.one ∷ is.more) (ap (λ l. is.one ∷ l) others.characters) spaces) once absent room none_before chain in
+      λ at t o other chain. rules.acts n z d up items at t new others.added made f c2 o (other_kind t other) refl refl (sym (list_all-map is_space (λ (p : Placed). p.ch) (new ∷ others.added)) ∙ ap (λ l. list_all is_space (is.one ∷ l)) others.characters ∙ spaces) once absent room none_before chain in
       record {
         built = record {
           items' = items;
@@ -384,6 +377,12 @@ module _ {N : Type 0} (n : Naming N) (laws : NameLaws n) (z : State N) where
     pub keeps : Keeps c control3
     pub no_drop : control3.drop_lf ≡ false
     pub rule : (at m : ℕ) (f : Forest N) → Rule n at (end x) (state z m f (node made x ∷ d ∷ up) items2 (begun_control c2)) ≡ Done (state z m f (d ∷ up) items3 control3)
+
+  -- the same, where the tag's rule leaves this list, this mode and this form pointer
+  closes : {x : N} {made : ℕ} {d : OpenNode N} {up : List (OpenNode N)} {items items2 : List (Listed N)} {c c2 : Control} (items3 : List (Listed N)) (mode : Mode) (form : Option ℕ) → Thinned items items3 → mode ≡ c.mode → c2.head ≡ c.head → form ≡ c.form → c2.quirks ≡ c.quirks
+      → ((at m : ℕ) (f : Forest N) → Rule n at (end x) (state z m f (node made x ∷ d ∷ up) items2 (begun_control c2)) ≡ Done (state z m f (d ∷ up) items3 (record (begun_control c2) { mode = mode; form = form }))) → Closing x made d up items c items2 c2
+  closes {c2 = c2} items3 mode form t m h fo qu rule =
+      record { items3 = items3; control3 = record (begun_control c2) { mode = mode; form = form }; thins = t; keeps = record { mode = m; head = h; form = fo; quirks = qu }; no_drop = refl; rule = rule }
 
   module _ (b : ℕ) (x : N) (attrs : List (Attribute N)) (kids : Forest N) (made : ℕ) (f : Forest N) (d : OpenNode N) (up : List (OpenNode N)) (items items1 : List (Listed N)) (c c1 : Control) (s : State N) (absent : times made f ≡ 0)
       (from : ActsAs n s (state z made f (d ∷ up) items c))
@@ -431,14 +430,8 @@ module _ {N : Type 0} (n : Naming N) (laws : NameLaws n) (z : State N) where
     absent = fresh made (omega arith)
 
     raw_closing : (c2 : Control) → Keeps c1 c2 → c2.saved ≡ c1.saved → Closing x made d up items c items c2
-    raw_closing c2 k saved = record {
-      items3 = items;
-      control3 = record (begun_control c2) { mode = c2.saved };
-      thins = same;
-      keeps = record { mode = saved ∙ is_saved; head = k.head ∙ heads; form = k.form ∙ forms; quirks = k.quirks ∙ quirky };
-      no_drop = refl;
-      rule = λ at m g. rules.end_text n laws.basic z at m g d up items (begun_control c2) made x (k.mode ∙ is_text_mode);
-    }
+    raw_closing c2 k saved =
+        closes items c2.saved c2.form same (saved ∙ is_saved) (k.head ∙ heads) (k.form ∙ forms) (k.quirks ∙ quirky) (λ at m g. rules.by_mode n z at (end x) Text (End (family_of (n.tag x))) _ _ (k.mode ∙ is_text_mode) refl refl)
 
     raw_empty : (ts : List (PlacedToken N)) → AreTokens ts (start x attrs false ∷ end x ∷ []) → NodeBuilt b (element x attrs) none made f d up items c s ts
     raw_empty ts h =
@@ -457,7 +450,7 @@ module _ {N : Type 0} (n : Naming N) (laws : NameLaws n) (z : State N) where
         let self : eqb made made ≡ true = eq-eqb made made refl in
         let once1 : times made f1 ≡ 1 = times-hung made d.node leaf f once ∙ rw self (omega (arith, absent)) in
         let absent1 : times (made + 1) f1 ≡ 0 = times-hung (made + 1) d.node leaf f once ∙ rw (ne_eqb made (made + 1) (λ e. omega arith)) (omega (arith, fresh (made + 1) (omega arith))) in
-        let inner = text_built (node made x) (d ∷ up) items Text (λ ch. Unit {0}) (rules.raw_puts n laws.basic z (node made x) (d ∷ up) items) (made + 1) f1 once1 absent1 u is c1 t.inner is_text_mode safe (all_any (is.one ∷ is.more))
+        let inner = text_built (node made x) (d ∷ up) items Text is_clean_char (rules.raw_puts n z (node made x) (d ∷ up) items) (made + 1) f1 once1 absent1 u is c1 t.inner is_text_mode safe is.clean
         (text_before-leaf d.node made (element x attrs) f once absent) room
         (t.inners ∙ append-nil (map (λ ch. character ch) (chars u))) in
         let s2 : State N = state z (made + 1 + 1) (under made (tree (made + 1) (text u) none none) f1) (node made x ∷ d ∷ up) items inner.control' in
@@ -494,25 +487,31 @@ module _ {N : Type 0} (n : Naming N) (laws : NameLaws n) (z : State N) where
   raw_kids i none c r g = nothing_there refl
   raw_kids i (tree b (element x attrs) kids rest) c r g = absurd (let h = r (row (n.tag x)).0 in let k = g.0 in cc)
   raw_kids i (tree b (forest.comment t) none rest) c r g = absurd (let k = g.0 in cc)
-  raw_kids i (tree b (text t) none rest) c r g = go rest g.1 g.2
+  raw_kids i (tree b (text t) none rest) c r g = go (raw_kids i rest c r g.2) g.1
     where
-      go : (l : Forest N) → begins_text l ≡ false → Good n i l → OneText (tree b (text t) none l)
-      go none h k = one_text b t g.0.is refl
-      go (tree b' (text t') kids' rest') h k = absurd cc
-      go (tree b' (element x attrs) kids' rest') h k = absurd (let z = r (row (n.tag x)).0 in let y = k.0 in cc)
-      go (tree b' (forest.comment t') none rest') h k = absurd (let y = k.0 in cc)
-      go _ h k = absurd k
+      go : OneText rest → begins_text rest ≡ false → OneText (tree b (text t) none rest)
+      go (nothing_there e) h = one_text b t g.0.is (ap (tree b (text t) none) e)
+      go (one_text b' u is e) h = absurd (let z = ap begins_text e in cc)
   raw_kids i _ c r g = absurd g
 
   lf_none : (l : Forest N) → LfSafe false l
   lf_none (tree b (text t) kids rest) = λ is. refl
   lf_none _ = tt
 
-  module _ (b : ℕ) (x : N) (attrs : List (Attribute N)) (kids : Forest N) (law : LawOf kids) (i : Inside) (made : ℕ) (f : Forest N) (d : OpenNode N) (up : List (OpenNode N)) (items : List (Listed N)) (c : Control) (s : State N)
-      (q : Quiet n z.context i made f d up items c) (from : ActsAs n s (state z made f (d ∷ up) items c)) (taken : takes_role i.content (row (n.tag x)).0 ≡ true) (alone : is_nested i (n.tag x) ≡ false) (lf : LfSafe (drops_line_feed (n.tag x)) kids)
-      (g : Good n (inside_element (n.tag x) i) kids) (room : made + (1 + size kids) ≤ z.site.nodes.limit) (deep : suc (length up) + suc (depth kids) ≤ z.site.open_nodes.limit) where
-    abbrev j : Inside
-    j = inside_element (n.tag x) i
+  -- a list where nothing may be
+  good-empty : (i : Inside) (l : Forest N) → i.content ≡ content.Empty → Good n i l → l ≡ none
+  good-empty i none e g = refl
+  good-empty i (tree b (element x attrs) kids rest) e g = absurd (let h = ap (λ k. takes_role k (row (n.tag x)).0) e in let k = g.0 in cc)
+  good-empty i (tree b (text t) none rest) e g = absurd (subst (λ (k : Content). TextIn k (takes_space i.texts) (g.0.is.one ∷ g.0.is.more)) e g.0.fits)
+  good-empty i (tree b (forest.comment t) none rest) e g = absurd (let h = ap takes_comments e in let k = g.0 in cc)
+  good-empty i _ e g = absurd g
+
+  -- START TAGS
+
+  module _ (x : N) (attrs : List (Attribute N)) (i : Inside) (made : ℕ) (f : Forest N) (d : OpenNode N) (up : List (OpenNode N)) (items : List (Listed N)) (c : Control) (s : State N)
+      (q : Quiet n z.context i made f d up items c) (from : ActsAs n s (state z made f (d ∷ up) items c)) (taken : takes_role i.content (row (n.tag x)).0 ≡ true) (room : made < z.site.nodes.limit) (deep : suc (length up) < z.site.open_nodes.limit) where
+    abbrev now : State N
+    now = state z made f (d ∷ up) items (begun_control c)
 
     abbrev f1 : Forest N
     f1 = under d.node (tree made (element x attrs) none none) f
@@ -520,94 +519,23 @@ module _ {N : Type 0} (n : Naming N) (laws : NameLaws n) (z : State N) where
     absent1 : times made f ≡ 0
     absent1 = q.fresh made (omega arith)
 
-    abbrev Opens : List (Listed N) → Control → Type 0
-    Opens items1 c1 = (at : ℕ) → Rule n at (start x attrs false) (state z made f (d ∷ up) items (begun_control c)) ≡ Done (state z (made + 1) f1 (node made x ∷ d ∷ up) items1 c1)
+    -- the node is made, grafted and pushed, and no element is reconstructed
+    full : nat_le z.site.nodes.limit made ≡ false
+    full = lt-leb z.site.nodes.limit made room
 
-    abbrev Node : List (PlacedToken N) → Type 0
-    Node ts = NodeBuilt b (element x attrs) kids made f d up items c s ts
+    high : nat_le z.site.open_nodes.limit (suc (length up)) ≡ false
+    high = lt-leb z.site.open_nodes.limit (suc (length up)) deep
 
-    abbrev Spells : List (PlacedToken N) → Type 0
-    Spells ts = AreTokens ts (start x attrs false ∷ tokens_of n kids ++ end x ∷ [])
+    grown : graft_last made d.node (join f (tree made (element x attrs) none none)) ≡ f1
+    grown = graft-new d.node made (element x attrs) f absent1
 
-    p_below : is_p (n.tag x) ≡ false → in_scope (stops n.tag scope.Button) (is n tag.P) (d ∷ up) ≡ false → in_scope (stops n.tag scope.Button) (is n tag.P) (node made x ∷ d ∷ up) ≡ false
-    p_below p h = grind (arith, laws.basic.knows_p x)
+    none_lost : (at : ℕ) → reconstructed n at now.site ≡ Goes now.site
+    none_lost at = rules.none_lost n z at made f (d ∷ up) items (begun_control c) q.listed
 
-    p_stopped : is_p (n.tag x) ≡ false → stops_button_scope (n.tag x) ≡ true → in_scope (stops n.tag scope.Button) (is n tag.P) (node made x ∷ d ∷ up) ≡ false
-    p_stopped p h = rw (laws.basic.knows_p x, p, h) refl
+    abbrev Comes : State N → Type 0
+    Comes s' = (at : ℕ) → Rule n at (start x attrs false) now ≡ Done s'
 
-    -- a marker hides a button, as it stops the search for one
-    no_button_in : j.in_button ≡ false → in_scope (stops n.tag scope.Default) (is n tag.Button) (node made x ∷ d ∷ up) ≡ false
-    no_button_in h = go (inserts_marker (n.tag x)) refl h
-      where
-        go : (m : Bool) → inserts_marker (n.tag x) ≡ m → ((not m && i.in_button) || is_button (n.tag x)) ≡ false → in_scope (stops n.tag scope.Default) (is n tag.Button) (node made x ∷ d ∷ up) ≡ false
-        go true e k = rw (laws.button x, (or_parts false (is_button (n.tag x)) k).1, marker_stops (n.tag x) e) refl
-        go false e k = let m = or_parts i.in_button (is_button (n.tag x)) k in rw (laws.button x, m.1, q.no_button m.0) (and_right (not (stops n.tag scope.Default (node made x))) false refl)
-
-    -- what is asked of the list inside the element
-    abbrev EntriesFit : List (Listed N) → Type 0
-    EntriesFit items1 = EntriesOpen (node made x ∷ d ∷ up) items1 × EntriesLower (made + 1) items1
-
-    as_before : EntriesFit items
-    as_before = (open-pushed (node made x) (d ∷ up) items q.listed, entries-more made (made + 1) items (omega arith) q.entries_lower)
-
-    pushed : (items1 : List (Listed N)) (c1 : Control) → unwrap_or (open_mode (n.tag x)) (reset_mode n z.context (d ∷ up)) ≡ c1.mode → fits_mode j.content c1.mode ≡ true → fits_current j.content j.texts (n.tag x) ≡ true
-        → EntriesFit items1 → (closes_p j.content ≡ true → in_scope (stops n.tag scope.Button) (is n tag.P) (node made x ∷ d ∷ up) ≡ false)
-        → (j.in_a ≡ false → (y : N) → is_a (n.tag y) ≡ true → find_entry n.same y items1 ≡ None) → (j.in_form ≡ false → c1.form ≡ None)
-        → Quiet n z.context j (made + 1) f1 (node made x) (d ∷ up) items1 c1
-    pushed items1 c1 mode fits cur fit pp anchors forms =
-        let self : eqb made made ≡ true = eq-eqb made made refl in
-        record {
-          mode_is = mode;
-          mode_fits = fits;
-          current_fits = cur;
-          once = times-hung made d.node (tree made (element x attrs) none none) f q.once ∙ rw self (omega (arith, absent1));
-          fresh = λ m h. times-hung m d.node (tree made (element x attrs) none none) f q.once ∙ rw (ne_eqb made m (λ e. omega arith)) (omega (arith, q.fresh m (omega arith)));
-          lower = (omega arith, lower-more made (made + 1) (d ∷ up) (omega arith) q.lower);
-          entries_lower = fit.1;
-          listed = fit.0;
-          no_p = pp;
-          no_button = no_button_in;
-          no_a = anchors;
-          no_form = forms;
-        }
-
-    anchors_same : inserts_marker (n.tag x) ≡ false → j.in_a ≡ false → (y : N) → is_a (n.tag y) ≡ true → find_entry n.same y items ≡ None
-    anchors_same m h y e = q.no_a (or_parts i.in_a (is_a (n.tag x)) (ap (λ u. (not u && i.in_a) || is_a (n.tag x)) (sym m) ∙ h)).0 y e
-
-    forms_same : j.in_form ≡ false → c.form ≡ None
-    forms_same h = q.no_form (or_parts i.in_form (is_form (n.tag x)) h).0
-
-    by_law : (items1 : List (Listed N)) (c1 : Control) → Quiet n z.context j (made + 1) f1 (node made x) (d ∷ up) items1 c1 → LfSafe c1.drop_lf kids → Opens items1 c1
-        → ((items2 : List (Listed N)) (c2 : Control) → Thinned items1 items2 → Keeps c1 c2 → Closing x made d up items c items2 c2) → (ts : List (PlacedToken N)) → Spells ts → Node ts
-    unfolding inner_built
-    by_law items1 c1 q1 safe opening closing ts h =
-        let t = tags x attrs kids ts h in
-        let s1 : State N = state z (made + 1) f1 (node made x ∷ d ∷ up) items1 c1 in
-        let k = law j (made + 1) f1 (node made x) (d ∷ up) items1 c1 s1 t.inner q1 g (itself s1) (λ e. refl) (λ e. text_before-leaf d.node made (element x attrs) f q.once absent1) safe (omega arith) (omega arith) t.inners in
-        finish b x attrs kids made f d up items items1 c c1 s absent1 from opening ts t (inner_built b x attrs kids made f d up items items1 c c1 s absent1 from opening t.inner k) (closing k.items' k.control' k.thinned k.keeps)
-
-    -- an element in flow that changes neither list nor control
-    abbrev Ends : Type 0
-    Ends = (at m : ℕ) (g : Forest N) (items2 : List (Listed N)) (c2 : Control) → is_flow_mode c2.mode ≡ true → Rule n at (end x) (state z m g (node made x ∷ d ∷ up) items2 c2) ≡ Done (state z m g (d ∷ up) items2 c2)
-
-    plain_closing : is_flow_mode c.mode ≡ true → Ends → (items2 : List (Listed N)) (c2 : Control) → Thinned items items2 → c2.mode ≡ c.mode → c2.head ≡ c.head → c2.form ≡ c.form → c2.quirks ≡ c.quirks → Closing x made d up items c items2 c2
-    plain_closing flows ends_so items2 c2 t m h fo qu = record {
-      items3 = items2;
-      control3 = begun_control c2;
-      thins = t;
-      keeps = record { mode = m; head = h; form = fo; quirks = qu };
-      no_drop = refl;
-      rule = λ at k u. ends_so at k u items2 (begun_control c2) (ap is_flow_mode m ∙ flows);
-    }
-
-    -- ELEMENTS A CLASS AT A TIME
-
-    room_here : made < z.site.nodes.limit
-    room_here = omega (arith, room)
-
-    deep_here : suc (length up) < z.site.open_nodes.limit
-    deep_here = omega (arith, deep)
-
+    -- by the class of the name
     module _ (r : Profile) (p : profile (n.tag x) ≡ r) where
       role_is : takes_role i.content r.role ≡ true
       role_is = ap (λ o. takes_role i.content o.role) (sym p) ∙ taken
@@ -615,369 +543,390 @@ module _ {N : Type 0} (n : Naming N) (laws : NameLaws n) (z : State N) where
       stands : has_home r.role ≡ true → i.content ≡ home r.role
       stands h = stands_in i.content r.role h role_is
 
-      content_is : j.content ≡ content_within i.content r.content
-      content_is = ap (λ o. content_within i.content o.content) p
-
       phrasing_flows : r.role ≡ role.Phrasing → is_flow_mode c.mode ≡ true
       phrasing_flows e = phrasing_mode i.content c.mode (ap (takes_role i.content) (sym e) ∙ role_is) q.mode_fits
 
-      same_mode : r.mode ≡ None → unwrap_or (open_mode (n.tag x)) (reset_mode n z.context (d ∷ up)) ≡ c.mode
-      same_mode e = ap (λ o. unwrap_or o (reset_mode n z.context (d ∷ up))) (ap (λ o. o.mode) p ∙ e) ∙ q.mode_is
+      -- a flow element is in flow, no p is open in button scope, and the current node is no heading
+      in_flow : r.role ≡ role.Flow → (is_flow_mode c.mode ≡ true) × (in_scope (stops n.tag scope.Button) (is n tag.P) (d ∷ up) ≡ false) × (is_heading (n.tag d.name) ≡ false)
+      in_flow e =
+          let k : i.content ≡ content.Flow = stands_in i.content role.Flow refl (ap (takes_role i.content) (sym e) ∙ role_is) in
+          (mode_in n q content.Flow k, q.no_p (ap closes_p k), not-true (is_heading (n.tag d.name)) (current_in n q content.Flow k))
 
-      -- its content is of its own
-      module _ (k : Content) (o : j.content ≡ k) where
-        fits_at : (mode : Mode) → fits_mode k mode ≡ true → fits_mode j.content mode ≡ true
-        fits_at mode h = ap (λ u. fits_mode u mode) o ∙ h
+      flow_start : (rule : Do) (s' : State N) → is_flow_mode c.mode ≡ true → IsFlowRule (Start r.family) rule → ((at : ℕ) → perform n at (start x attrs false) rule now ≡ Done s') → Comes s'
+      flow_start rule s' flows h done at = rules.in_flow n z at (start x attrs false) (Start r.family) rule now s' flows h (ap (λ u. Start u.family) p) (done at)
 
-        current_at : fits_current k (texts_in k) (n.tag x) ≡ true → fits_current j.content j.texts (n.tag x) ≡ true
-        current_at h = ap (λ u. fits_current u (texts_in u) (n.tag x)) o ∙ h
+      mode_start : (m : Mode) (s' : State N) → c.mode ≡ m → ((at : ℕ) → perform n at (start x attrs false) (rule_of m (Start r.family)) now ≡ Done s') → Comes s'
+      mode_start m s' is done at = rules.by_mode n z at (start x attrs false) m (Start r.family) now s' is (ap (λ u. Start u.family) p) (done at)
 
-        not_closed : closes_p k ≡ false → {A : Type 0} → closes_p j.content ≡ true → A
-        not_closed h e = absurd (false≢true (sym h ∙ ap closes_p (sym o) ∙ e))
+    -- ELEMENTS A CLASS AT A TIME
 
-    -- an element in flow whose content is of its own
-    own : (r : Profile) (p : profile (n.tag x) ≡ r) (k : Content) → content_within i.content r.content ≡ k → is_flow_mode c.mode ≡ true → ((m : Mode) → fits_mode k m ≡ is_flow_mode m) → fits_current k (texts_in k) (n.tag x) ≡ true → r.mode ≡ None → r.marks ≡ false
-        → (closes_p k ≡ true → in_scope (stops n.tag scope.Button) (is n tag.P) (node made x ∷ d ∷ up) ≡ false) → Opens items (begun_control c) → Ends → (ts : List (PlacedToken N)) → Spells ts → Node ts
-    own r p k within flows fit cur mode marks pp opening ends_so ts h =
-        let o : j.content ≡ k = content_is r p ∙ within in
-        by_law items (begun_control c)
-        (pushed items (begun_control c) (same_mode r p mode) (fits_at r p k o c.mode (fit c.mode ∙ flows)) (current_at r p k o cur) as_before (λ e. pp (ap closes_p (sym o) ∙ e)) (anchors_same (ap (λ u. u.marks) p ∙ marks)) forms_same)
-        (lf_none kids) opening (λ items2 c2 t k. plain_closing flows ends_so items2 c2 t k.mode k.head k.form k.quirks) ts h
+    module _ (b : ℕ) (kids : Forest N) (law : LawOf kids) (alone : is_nested i (n.tag x) ≡ false) (lf : LfSafe (drops_line_feed (n.tag x)) kids) (g : Good n (inside_element (n.tag x) i) kids) (room_in : made + (1 + size kids) ≤ z.site.nodes.limit)
+        (deep_in : suc (length up) + suc (depth kids) ≤ z.site.open_nodes.limit) where
+      abbrev j : Inside
+      j = inside_element (n.tag x) i
 
-    -- blocks, and lists
-    a_block : (k : Content) (lists dls : Bool) → profile (n.tag x) ≡ record (plain_profile family.Block role.Flow k) { is_list = lists; is_dl = dls } → content_within i.content k ≡ k → ((m : Mode) → fits_mode k m ≡ is_flow_mode m)
-        → fits_current k (texts_in k) (n.tag x) ≡ true → (ts : List (PlacedToken N)) → Spells ts → Node ts
-    a_block k lists dls p within fit cur =
-        let e : i.content ≡ content.Flow = stands _ p refl in
-        let flows : is_flow_mode c.mode ≡ true = mode_in n q content.Flow e in
-        let no_p = q.no_p (ap closes_p e) in
-        own _ p k within flows fit cur refl refl (λ h. p_below (ap (λ r. r.is_p) p) no_p)
-        (λ at. rules.start_block n laws.basic z at made f d up items (begun_control c) x attrs absent1 room_here deep_here flows family.Block (ap (λ r. r.family) p) (refl, refl, refl) no_p)
-        (λ at m g items2 c2 mode. rules.end_block n laws.basic z at m g d up items2 c2 made x mode family.Block (ap (λ r. r.family) p) (refl, refl, refl) (ap (λ r. r.has_implied_end) p))
+      abbrev Opens : List (Listed N) → Control → Type 0
+      Opens items1 c1 = Comes (state z (made + 1) f1 (node made x ∷ d ∷ up) items1 c1)
 
-    -- PHRASING ELEMENTS: WHAT STANDS AROUND MAY STAND INSIDE
+      abbrev Node : List (PlacedToken N) → Type 0
+      Node ts = NodeBuilt b (element x attrs) kids made f d up items c s ts
 
-    -- formatting elements have an entry
-    abbrev new : EntryOf N
-    new = record { node = made; name = x; attrs = attrs }
+      abbrev Spells : List (PlacedToken N) → Type 0
+      Spells ts = AreTokens ts (start x attrs false ∷ tokens_of n kids ++ end x ∷ [])
 
-    roomy : Thinned items (with_room n.same new items)
-    roomy = thinned-room n.same new items
+      -- no p is open inside it
+      abbrev NoP : Type 0
+      NoP = in_scope (stops n.tag scope.Button) (is n tag.P) (node made x ∷ d ∷ up) ≡ false
 
-    unlisted : (l : List (Listed N)) → Thinned (with_room n.same new items) l → (entry_of made l ≡ None) × (without_entry made l ≡ l)
-    unlisted l t = no-entry made l (lower-thinned made (then roomy t) q.entries_lower)
+      p_below : is_p (n.tag x) ≡ false → in_scope (stops n.tag scope.Button) (is n tag.P) (d ∷ up) ≡ false → NoP
+      p_below p h = grind (arith, laws.knows_p x)
 
-    module _ (w : Family) (fam : family_of (n.tag x) ≡ w) (adopts : IsFlowRule (End w) (by_end family.A)) (flows : is_flow_mode c.mode ≡ true) where
-      formatting_closing : (items2 : List (Listed N)) (c2 : Control) → Thinned (entry new ∷ with_room n.same new items) items2 → Keeps (begun_control c) c2 → Closing x made d up items c items2 c2
-      formatting_closing items2 c2 t k = go t
+      p_stopped : is_p (n.tag x) ≡ false → stops_button_scope (n.tag x) ≡ true → NoP
+      p_stopped p h = rw (laws.knows_p x, p, h) refl
+
+      -- a marker hides a button, as it stops the search for one
+      no_button_in : j.in_button ≡ false → in_scope (stops n.tag scope.Default) (is n tag.Button) (node made x ∷ d ∷ up) ≡ false
+      no_button_in h = go (inserts_marker (n.tag x)) refl h
         where
-          keeping : Keeps c (begun_control c2)
-          keeping = record { mode = k.mode; head = k.head; form = k.form; quirks = k.quirks }
+          go : (m : Bool) → inserts_marker (n.tag x) ≡ m → ((not m && i.in_button) || is_button (n.tag x)) ≡ false → in_scope (stops n.tag scope.Default) (is n tag.Button) (node made x ∷ d ∷ up) ≡ false
+          go true e k = rw (laws.button x, (or_parts false (is_button (n.tag x)) k).1, marker_stops (n.tag x) e) refl
+          go false e k = let m = or_parts i.in_button (is_button (n.tag x)) k in rw (laws.button x, m.1, q.no_button m.0) (and_right (not (stops n.tag scope.Default (node made x))) false refl)
 
-          still_flows : is_flow_mode c2.mode ≡ true
-          still_flows = ap is_flow_mode k.mode ∙ flows
+      -- what is asked of the list inside the element
+      abbrev EntriesFit : List (Listed N) → Type 0
+      EntriesFit items1 = EntriesOpen (node made x ∷ d ∷ up) items1 × EntriesLower (made + 1) items1
 
-          listed_case : (l : List (Listed N)) → Thinned (with_room n.same new items) l → Closing x made d up items c (entry new ∷ l) c2
-          listed_case l u = record {
-            items3 = l;
-            control3 = begun_control c2;
-            thins = then roomy u;
-            keeps = keeping;
-            no_drop = refl;
-            rule = λ at m g. rules.end_listed n laws.basic z at m g d up l (begun_control c2) made x still_flows w fam attrs adopts (unlisted l u).1;
-          }
+      as_before : EntriesFit items
+      as_before = (open-pushed (node made x) (d ∷ up) items q.listed, entries-more made (made + 1) items (omega arith) q.entries_lower)
 
-          go : {l : List (Listed N)} → Thinned (entry new ∷ with_room n.same new items) l → Closing x made d up items c l c2
-          go same = listed_case (with_room n.same new items) same
-          go (kept u) = listed_case _ u
-          go (lost {ys = l} u) = record {
-            items3 = l;
-            control3 = begun_control c2;
-            thins = then roomy u;
-            keeps = keeping;
-            no_drop = refl;
-            rule = λ at m g. rules.end_unlisted n laws.basic z at m g d up l (begun_control c2) made x still_flows w fam adopts (unlisted l u).0;
-          }
+      abbrev NoA : List (Listed N) → Type 0
+      NoA items1 = j.in_a ≡ false → (y : N) → is_a (n.tag y) ≡ true → find_entry n.same y items1 ≡ None
 
-    module _ (w : Family) (a button : Bool) (p : profile (n.tag x) ≡ around w a button) where
-      flows_around : is_flow_mode c.mode ≡ true
-      flows_around = phrasing_flows _ p refl
+      anchors_same : inserts_marker (n.tag x) ≡ false → NoA items
+      anchors_same m h y e = q.no_a (or_parts i.in_a (is_a (n.tag x)) (ap (λ u. (not u && i.in_a) || is_a (n.tag x)) (sym m) ∙ h)).0 y e
 
-      fits_around : fits_mode j.content c.mode ≡ true
-      fits_around = mode_in n q _ (sym (content_is _ p))
+      forms_same : j.in_form ≡ false → c.form ≡ None
+      forms_same h = q.no_form (or_parts i.in_form (is_form (n.tag x)) h).0
 
-      current_around : fits_current j.content j.texts (n.tag x) ≡ true
-      current_around = ap (λ u. fits_current u (texts_in u) (n.tag x)) (content_is _ p) ∙ around_fits i.content (n.tag x) (role_is _ p) (ap (λ r. r.is_heading) p)
+      self : n.same x x ≡ true
+      self = laws.same_self x
 
-      p_around : closes_p j.content ≡ true → in_scope (stops n.tag scope.Button) (is n tag.P) (node made x ∷ d ∷ up) ≡ false
-      p_around h = p_below (ap (λ r. r.is_p) p) (q.no_p (ap closes_p (sym (content_is _ p)) ∙ h))
+      -- what the end tag does, in flow and in another mode
+      abbrev Ends : Type 0
+      Ends = (at m : ℕ) (g : Forest N) (items2 : List (Listed N)) (c2 : Control) → is_flow_mode c2.mode ≡ true → Rule n at (end x) (state z m g (node made x ∷ d ∷ up) items2 c2) ≡ Done (state z m g (d ∷ up) items2 c2)
 
-      plain_around : Opens items (begun_control c) → Ends → (ts : List (PlacedToken N)) → Spells ts → Node ts
-      plain_around opening ends_so ts h =
-          by_law items (begun_control c)
-          (pushed items (begun_control c) (same_mode _ p refl) fits_around current_around as_before p_around (anchors_same (ap (λ r. r.marks) p)) forms_same)
-          (lf_none kids) opening (λ items2 c2 t k. plain_closing flows_around ends_so items2 c2 t k.mode k.head k.form k.quirks) ts h
+      abbrev EndsIn : Mode → (List (Listed N) → List (Listed N)) → Mode → Type 0
+      EndsIn mode after back = (at m : ℕ) (g : Forest N) (items2 : List (Listed N)) (c2 : Control) → c2.mode ≡ mode → Rule n at (end x) (state z m g (node made x ∷ d ∷ up) items2 c2) ≡ Done (state z m g (d ∷ up) (after items2) (record c2 { mode = back }))
 
-      listed_around : IsFlowRule (End w) (by_end family.A) → (j.in_a ≡ false → (y : N) → is_a (n.tag y) ≡ true → find_entry n.same y (entry new ∷ with_room n.same new items) ≡ None)
-          → Opens (entry new ∷ with_room n.same new items) (begun_control c) → (ts : List (PlacedToken N)) → Spells ts → Node ts
-      listed_around adopts anchors opening =
-          let still_open = open-pushed (node made x) (d ∷ up) (with_room n.same new items) (open-thinned (d ∷ up) roomy q.listed) in
-          let around_new : EntriesFit (entry new ∷ with_room n.same new items) = ((rw (eq-eqb made made refl) refl, still_open), (omega arith, lower-thinned (made + 1) roomy as_before.1)) in
-          by_law (entry new ∷ with_room n.same new items) (begun_control c)
-          (pushed (entry new ∷ with_room n.same new items) (begun_control c) (same_mode _ p refl) fits_around current_around around_new p_around anchors forms_same)
-          (lf_none kids) opening (formatting_closing w (ap (λ r. r.family) p) adopts flows_around)
+      module _ (r : Profile) (p : profile (n.tag x) ≡ r) where
+        stays : has_implied_end (n.tag x) ≡ r.has_implied_end
+        stays = ap (λ u. u.has_implied_end) p
 
-    -- RAW TEXTS
+        flow_end : (rule : Do) (s s' : State N) (at : ℕ) → IsFlowRule (End r.family) rule → is_flow_mode s.control.mode ≡ true → perform n at (end x) rule s ≡ Done s' → Rule n at (end x) s ≡ Done s'
+        flow_end rule s s' at h flows done = rules.in_flow n z at (end x) (End r.family) rule s s' flows h (ap (λ u. End u.family) p) done
 
-    -- title, textarea, style, script and iframe
-    a_raw : (w : Family) (k : Content) (drops : Bool) → profile (n.tag x) ≡ record (plain_profile w role.Phrasing k) { drops = drops } → content_within i.content k ≡ k → takes_comments k ≡ false → ((r : Role) → takes_role k r ≡ false)
-        → (is_flow_mode c.mode ≡ true → Opens items (record (begun_control c) { saved = c.mode; mode = Text; drop_lf = drops })) → (ts : List (PlacedToken N)) → Spells ts → Node ts
-    a_raw w k drops p within no_comments no_elements opens ts h = go (raw_kids j kids (ap takes_comments o ∙ no_comments) (λ r. ap (λ u. takes_role u r) o ∙ no_elements r) g)
-      where
-        o : j.content ≡ k
-        o = content_is _ p ∙ within
+        flow_ends : (rule : Do) → IsFlowRule (End r.family) rule → ((at m : ℕ) (g : Forest N) (items2 : List (Listed N)) (c2 : Control) → perform n at (end x) rule (state z m g (node made x ∷ d ∷ up) items2 c2) ≡ Done (state z m g (d ∷ up) items2 c2)) → Ends
+        flow_ends rule h done at m g items2 c2 flows = flow_end rule _ _ at h flows (done at m g items2 c2)
 
-        safe : LfSafe drops kids
-        safe = subst (λ (v : Bool). LfSafe v kids) (ap (λ r. r.drops) p) lf
+        mode_ends : (mode : Mode) (after : List (Listed N) → List (Listed N)) (back : Mode)
+            → ((at m : ℕ) (g : Forest N) (items2 : List (Listed N)) (c2 : Control) → perform n at (end x) (rule_of mode (End r.family)) (state z m g (node made x ∷ d ∷ up) items2 c2) ≡ Done (state z m g (d ∷ up) (after items2) (record c2 { mode = back })))
+            → EndsIn mode after back
+        mode_ends mode after back done at m g items2 c2 is = rules.by_mode n z at (end x) mode (End r.family) _ _ is (ap (λ u. End u.family) p) (done at m g items2 c2)
 
-        go : OneText kids → Node ts
-        go (nothing_there e) =
-            subst (λ (v : Forest N). NodeBuilt b (element x attrs) v made f d up items c s ts) (sym e)
-            (raw_empty b x attrs made f d up items c (record (begun_control c) { saved = c.mode; mode = Text; drop_lf = drops }) s q.once q.fresh from (opens (phrasing_flows _ p refl)) refl refl refl refl refl ts (subst (λ (v : Forest N). AreTokens ts (start x attrs false ∷ tokens_of n v ++ end x ∷ [])) e h))
-        go (one_text b' u is e) =
-            let sized : size kids ≡ 1 = ap size e in
-            subst (λ (v : Forest N). NodeBuilt b (element x attrs) v made f d up items c s ts) (sym e)
-            (raw_text b x attrs made f d up items c (record (begun_control c) { saved = c.mode; mode = Text; drop_lf = drops }) s q.once q.fresh from (opens (phrasing_flows _ p refl)) refl refl refl refl refl b' u is (subst (λ (v : Forest N). LfSafe drops v) e safe is) (omega (arith, room, sized)) ts
-            (subst (λ (v : Forest N). AreTokens ts (start x attrs false ∷ tokens_of n v ++ end x ∷ [])) e h))
+        -- an element whose children are built by the law, from this list and this control on
+        by_law : (k : Content) → content_within i.content r.content ≡ k → (items1 : List (Listed N)) (c1 : Control) → unwrap_or r.mode (reset_mode n z.context (d ∷ up)) ≡ c1.mode → fits_mode k c1.mode ≡ true → fits_current k (texts_in k) (n.tag x) ≡ true → r.drops ≡ c1.drop_lf
+            → EntriesFit items1 → (closes_p k ≡ true → NoP) → NoA items1 → (j.in_form ≡ false → c1.form ≡ None) → Opens items1 c1 → ((items2 : List (Listed N)) (c2 : Control) → Thinned items1 items2 → Keeps c1 c2 → Closing x made d up items c items2 c2)
+            → (ts : List (PlacedToken N)) → Spells ts → Node ts
+        unfolding inner_built
+        by_law k within items1 c1 mode fits cur drop fit pp anchors forms opening closing ts h =
+            let o : j.content ≡ k = ap (λ u. content_within i.content u.content) p ∙ within in
+            let one : eqb made made ≡ true = eq-eqb made made refl in
+            let q1 : Quiet n z.context j (made + 1) f1 (node made x) (d ∷ up) items1 c1 = record {
+              mode_is = ap (λ u. unwrap_or u.mode (reset_mode n z.context (d ∷ up))) p ∙ mode;
+              mode_fits = ap (λ u. fits_mode u c1.mode) o ∙ fits;
+              current_fits = ap (λ u. fits_current u (texts_in u) (n.tag x)) o ∙ cur;
+              once = times-hung made d.node (tree made (element x attrs) none none) f q.once ∙ rw one (omega (arith, absent1));
+              fresh = λ m h. times-hung m d.node (tree made (element x attrs) none none) f q.once ∙ rw (ne_eqb made m (λ e. omega arith)) (omega (arith, q.fresh m (omega arith)));
+              lower = (omega arith, lower-more made (made + 1) (d ∷ up) (omega arith) q.lower);
+              entries_lower = fit.1;
+              listed = fit.0;
+              no_p = λ e. pp (ap closes_p (sym o) ∙ e);
+              no_button = no_button_in;
+              no_a = anchors;
+              no_form = forms;
+            } in
+            let t = tags x attrs kids ts h in
+            let s1 : State N = state z (made + 1) f1 (node made x ∷ d ∷ up) items1 c1 in
+            let safe : LfSafe c1.drop_lf kids = subst (λ (v : Bool). LfSafe v kids) (ap (λ u. u.drops) p ∙ drop) lf in
+            let k = law j (made + 1) f1 (node made x) (d ∷ up) items1 c1 s1 t.inner q1 g (itself s1) (λ e. refl) (λ e. text_before-leaf d.node made (element x attrs) f q.once absent1) safe (omega arith) (omega arith) t.inners in
+            finish b x attrs kids made f d up items items1 c c1 s absent1 from opening ts t (inner_built b x attrs kids made f d up items items1 c c1 s absent1 from opening t.inner k) (closing k.items' k.control' k.thinned k.keeps)
 
-    a_raw_element : (w : Family) (k : Content) → IsFlowRule (Start w) raw → profile (n.tag x) ≡ plain_profile w role.Phrasing k → content_within i.content k ≡ k → takes_comments k ≡ false → ((r : Role) → takes_role k r ≡ false) → (ts : List (PlacedToken N)) → Spells ts → Node ts
-    a_raw_element w k rule p within no_comments no_elements =
-        a_raw w k false p within no_comments no_elements (λ flows at. rules.start_raw n laws.basic z at made f d up items (begun_control c) x attrs absent1 room_here deep_here flows w (ap (λ r. r.family) p) rule)
+        -- an element in flow that changes neither the list nor the control, but for a LF that is dropped after its start tag
+        own : (k : Content) → content_within i.content r.content ≡ k → is_flow_mode c.mode ≡ true → fits_mode k c.mode ≡ true → fits_current k (texts_in k) (n.tag x) ≡ true → r.mode ≡ None → r.marks ≡ false → (closes_p k ≡ true → NoP)
+            → Opens items (record (begun_control c) { drop_lf = r.drops }) → Ends → (ts : List (PlacedToken N)) → Spells ts → Node ts
+        own k within flows fits cur mode marks pp opening ends_so =
+            by_law k within items (record (begun_control c) { drop_lf = r.drops }) (ap (λ o. unwrap_or o (reset_mode n z.context (d ∷ up))) mode ∙ q.mode_is) fits cur refl as_before pp (anchors_same (ap (λ u. u.marks) p ∙ marks)) forms_same opening
+            (λ items2 c2 t k. closes items2 c2.mode c2.form t k.mode k.head k.form k.quirks (λ at m g. ends_so at m g items2 (begun_control c2) (ap is_flow_mode k.mode ∙ flows)))
 
-    -- TABLES
+        -- a table and its parts: a mode of their own inside, and the mode that was after them
+        in_parts : (k : Content) (m back : Mode) → content_within i.content r.content ≡ k → r.mode ≡ Some m → r.marks ≡ false → r.drops ≡ false → fits_mode k m ≡ true → fits_current k (texts_in k) (n.tag x) ≡ true → closes_p k ≡ false → back ≡ c.mode
+            → Opens items (record (begun_control c) { mode = m }) → EndsIn m (λ l. l) back → (ts : List (PlacedToken N)) → Spells ts → Node ts
+        in_parts k m back within mode marks drop fits cur open_p was opening ends_so =
+            by_law k within items (record (begun_control c) { mode = m }) (ap (λ o. unwrap_or o (reset_mode n z.context (d ∷ up))) mode) fits cur drop as_before (λ e. absurd (false≢true (sym open_p ∙ e))) (anchors_same (ap (λ u. u.marks) p ∙ marks)) forms_same opening
+            (λ items2 c2 t k. closes items2 back c2.form t was k.head k.form k.quirks (λ at m g. ends_so at m g items2 (begun_control c2) k.mode))
 
-    -- a table and its parts: a mode of their own inside, and the mode that was after them
-    in_parts : (k : Content) (m back : Mode) (r : Profile) (p : profile (n.tag x) ≡ r) → content_within i.content r.content ≡ k → r.mode ≡ Some m → r.marks ≡ false → fits_mode k m ≡ true → fits_current k (texts_in k) (n.tag x) ≡ true → closes_p k ≡ false → back ≡ c.mode
-        → Opens items (record (begun_control c) { mode = m })
-        → ((at made' : ℕ) (g : Forest N) (items2 : List (Listed N)) (c2 : Control) → c2.mode ≡ m → Rule n at (end x) (state z made' g (node made x ∷ d ∷ up) items2 c2) ≡ Done (state z made' g (d ∷ up) items2 (record c2 { mode = back })))
-        → (ts : List (PlacedToken N)) → Spells ts → Node ts
-    in_parts k m back r p within mode marks fits cur closes same_as opening ending =
-        let o : j.content ≡ k = content_is r p ∙ within in
-        by_law items (record (begun_control c) { mode = m })
-        (pushed items (record (begun_control c) { mode = m }) (ap (λ u. unwrap_or u (reset_mode n z.context (d ∷ up))) (ap (λ u. u.mode) p ∙ mode)) (fits_at r p k o m fits) (current_at r p k o cur) as_before (not_closed r p k o closes)
-        (anchors_same (ap (λ u. u.marks) p ∙ marks)) forms_same)
-        (lf_none kids) opening
-        (λ items2 c2 t k. record {
-          items3 = items2;
-          control3 = record (begun_control c2) { mode = back };
-          thins = t;
-          keeps = record { mode = same_as; head = k.head; form = k.form; quirks = k.quirks };
-          no_drop = refl;
-          rule = λ at made' g'. ending at made' g' items2 (begun_control c2) k.mode;
-        })
+        -- a caption, a cell and an object: flow content after a marker, after which the list is as it was
+        marking : (m back : Mode) → content_within i.content r.content ≡ content.Flow → unwrap_or r.mode (reset_mode n z.context (d ∷ up)) ≡ m → is_flow_mode m ≡ true → r.is_heading ≡ false → r.is_p ≡ false → r.stops_button ≡ true → r.drops ≡ false → back ≡ c.mode
+            → Opens (marker ∷ items) (record (begun_control c) { mode = m }) → EndsIn m cleared back → (ts : List (PlacedToken N)) → Spells ts → Node ts
+        marking m back within mode flows no_heading no_p stops_it drop was opening ends_so =
+            by_law content.Flow within (marker ∷ items) (record (begun_control c) { mode = m }) mode flows (ap (λ u. not u.is_heading) p ∙ ap not no_heading) drop (tt, as_before.1) (λ h. p_stopped (ap (λ u. u.is_p) p ∙ no_p) (ap (λ u. u.stops_button) p ∙ stops_it))
+            (λ h y e. refl) forms_same opening
+            (λ items2 c2 t k. closes (cleared items2) back c2.form (subst (λ (l : List (Listed N)). Thinned items l) (sym (ap cleared (marked t))) same) was k.head k.form k.quirks (λ at m g. ends_so at m g items2 (begun_control c2) k.mode))
 
-    -- a caption, a cell and an object: flow content after a marker, after which the list is as it was
-    marking : (m back : Mode) (r : Profile) (p : profile (n.tag x) ≡ r) → content_within i.content r.content ≡ content.Flow → unwrap_or (open_mode (n.tag x)) (reset_mode n z.context (d ∷ up)) ≡ m → is_flow_mode m ≡ true → r.is_heading ≡ false → r.is_p ≡ false → r.stops_button ≡ true → back ≡ c.mode
-        → Opens (marker ∷ items) (record (begun_control c) { mode = m })
-        → ((at made' : ℕ) (g : Forest N) (items2 : List (Listed N)) (c2 : Control) → c2.mode ≡ m → Rule n at (end x) (state z made' g (node made x ∷ d ∷ up) items2 c2) ≡ Done (state z made' g (d ∷ up) (cleared items2) (record c2 { mode = back })))
-        → (ts : List (PlacedToken N)) → Spells ts → Node ts
-    marking m back r p within mode flows no_heading no_p stops_it same_as opening ending =
-        let o : j.content ≡ content.Flow = content_is r p ∙ within in
-        by_law (marker ∷ items) (record (begun_control c) { mode = m })
-        (pushed (marker ∷ items) (record (begun_control c) { mode = m }) mode (fits_at r p content.Flow o m flows) (current_at r p content.Flow o (ap (λ u. not u.is_heading) p ∙ ap not no_heading)) (tt, as_before.1)
-        (λ h. p_stopped (ap (λ u. u.is_p) p ∙ no_p) (ap (λ u. u.stops_button) p ∙ stops_it)) (λ h y e. refl) forms_same)
-        (lf_none kids) opening
-        (λ items2 c2 t k. record {
-          items3 = cleared items2;
-          control3 = record (begun_control c2) { mode = back };
-          thins = subst (λ (l : List (Listed N)). Thinned items l) (sym (ap cleared (marked t))) same;
-          keeps = record { mode = same_as; head = k.head; form = k.form; quirks = k.quirks };
-          no_drop = refl;
-          rule = λ at made' g'. ending at made' g' items2 (begun_control c2) k.mode;
-        })
+      -- blocks, and lists
+      a_block : (k : Content) (lists dls : Bool) → profile (n.tag x) ≡ record (plain_profile family.Block role.Flow k) { is_list = lists; is_dl = dls } → content_within i.content k ≡ k → ((m : Mode) → fits_mode k m ≡ is_flow_mode m)
+          → fits_current k (texts_in k) (n.tag x) ≡ true → (ts : List (PlacedToken N)) → Spells ts → Node ts
+      a_block k lists dls p within fit cur =
+          let flow = in_flow _ p refl in
+          own _ p k within flow.0 (fit c.mode ∙ flow.0) cur refl refl (λ h. p_below (ap (λ r. r.is_p) p) flow.1)
+          (flow_start _ p block _ flow.0 (refl, refl, refl) (λ at. simp (flow.1, full, high, grown) refl))
+          (flow_ends _ p close_block (refl, refl, refl) (λ at m g items2 c2. simp (self, stays _ p) refl))
 
-    of_class : (w : Family) (k : Content) → profile (n.tag x) ≡ class_profile w k → is_void (n.tag x) ≡ false → (ts : List (PlacedToken N)) → Spells ts → Node ts
-    of_class family.Block content.ListItems p plain = a_block content.ListItems true false p refl (λ m. refl) (ap (λ r. r.is_list) p)
-    of_class family.Block content.Definitions p plain = a_block content.Definitions false true p refl (λ m. refl) (ap (λ r. r.is_dl) p)
-    of_class family.Block _ p plain = a_block content.Flow false false p refl (λ m. refl) (ap (λ r. not r.is_heading) p)
-    of_class family.Title k p plain = a_raw_element family.Title content.Text (refl, refl, refl) p refl refl (λ r. refl)
-    of_class family.Style k p plain = a_raw_element family.Style content.RawText (refl, refl, refl) p refl refl (λ r. refl)
-    of_class family.Script k p plain = a_raw_element family.Script content.ScriptText (refl, refl, refl) p refl refl (λ r. refl)
-    of_class family.Iframe k p plain = a_raw_element family.Iframe content.RawText (refl, refl, refl) p refl refl (λ r. refl)
-    of_class family.P k p plain =
-        let e : i.content ≡ content.Flow = stands _ p refl in
-        let flows : is_flow_mode c.mode ≡ true = mode_in n q content.Flow e in
-        own _ p content.Phrasing refl flows (λ m. refl) refl refl refl (λ h. absurd (false≢true h))
-        (λ at. rules.start_block n laws.basic z at made f d up items (begun_control c) x attrs absent1 room_here deep_here flows family.P (ap (λ r. r.family) p) (refl, refl, refl) (q.no_p (ap closes_p e)))
-        (λ at m g items2 c2 mode. rules.end_p n laws.basic z at m g d up items2 c2 made x mode (ap (λ r. r.family) p) (ap (λ r. r.is_p) p) (ap (λ r. r.has_implied_end) p))
-    of_class family.Heading k p plain =
-        let e : i.content ≡ content.Flow = stands _ p refl in
-        let flows : is_flow_mode c.mode ≡ true = mode_in n q content.Flow e in
-        own _ p content.Phrasing refl flows (λ m. refl) refl refl refl (λ h. absurd (false≢true h))
-        (λ at. rules.start_heading n laws.basic z at made f d up items (begun_control c) x attrs absent1 room_here deep_here flows (ap (λ r. r.family) p) (q.no_p (ap closes_p e)) (not-true (is_heading (n.tag d.name)) (current_in n q content.Flow e)))
-        (λ at m g items2 c2 mode. rules.end_heading n laws.basic z at m g d up items2 c2 made x mode (ap (λ r. r.has_implied_end) p) (ap (λ r. r.family) p) (ap (λ r. r.is_heading) p))
-    of_class family.Li k p plain =
-        let e : i.content ≡ content.ListItems = stands _ p refl in
-        let flows : is_flow_mode c.mode ≡ true = mode_in n q content.ListItems e in
-        let within : is_list (n.tag d.name) ≡ true = current_in n q content.ListItems e in
-        let no_p = q.no_p (ap closes_p e) in
-        own _ p content.Flow refl flows (λ m. refl) (ap (λ r. not r.is_heading) p) refl refl (λ h. p_below (ap (λ r. r.is_p) p) no_p)
-        (λ at. rules.start_li n laws.basic z at made f d up items (begun_control c) x attrs absent1 room_here deep_here flows (ap (λ r. r.family) p) no_p (rw (laws.li d.name within, list_stops (n.tag d.name) within) refl))
-        (λ at m g items2 c2 mode. rules.end_item_of n laws.basic z at m g d up items2 c2 made x mode family.Li (ap (λ r. r.family) p) scope.ListItem (refl, refl, refl))
-    of_class family.Dd k p plain =
-        let e : i.content ≡ content.Definitions = stands _ p refl in
-        let flows : is_flow_mode c.mode ≡ true = mode_in n q content.Definitions e in
-        let within : is_dl (n.tag d.name) ≡ true = current_in n q content.Definitions e in
-        let no_p = q.no_p (ap closes_p e) in
-        own _ p content.Flow refl flows (λ m. refl) (ap (λ r. not r.is_heading) p) refl refl (λ h. p_below (ap (λ r. r.is_p) p) no_p)
-        (λ at. rules.start_dd n laws.basic z at made f d up items (begun_control c) x attrs absent1 room_here deep_here flows (ap (λ r. r.family) p) no_p
-        (rw (laws.dd d.name within, dl_stops (n.tag d.name) within) refl) (rw (laws.dt d.name within, dl_stops (n.tag d.name) within) refl))
-        (λ at m g items2 c2 mode. rules.end_item_of n laws.basic z at m g d up items2 c2 made x mode family.Dd (ap (λ r. r.family) p) scope.Default (refl, refl, refl))
-    of_class family.Pre k p plain =
-        let e : i.content ≡ content.Flow = stands _ p refl in
-        let o : j.content ≡ content.Phrasing = content_is _ p in
-        let flows : is_flow_mode c.mode ≡ true = mode_in n q content.Flow e in
-        by_law items (record (begun_control c) { drop_lf = true })
-        (pushed items (record (begun_control c) { drop_lf = true }) (same_mode _ p refl) (fits_at _ p content.Phrasing o c.mode flows) (current_at _ p content.Phrasing o refl) as_before (not_closed _ p content.Phrasing o refl)
-        (anchors_same (ap (λ r. r.marks) p)) forms_same)
-        (subst (λ (v : Bool). LfSafe v kids) (ap (λ r. r.drops) p) lf)
-        (λ at. rules.start_pre n laws.basic z at made f d up items (begun_control c) x attrs absent1 room_here deep_here flows (ap (λ r. r.family) p) (q.no_p (ap closes_p e)))
-        (λ items2 c2 t k. plain_closing flows
-        (λ at m g items2 c2 mode. rules.end_block n laws.basic z at m g d up items2 c2 made x mode family.Pre (ap (λ r. r.family) p) (refl, refl, refl) (ap (λ r. r.has_implied_end) p)) items2 c2 t k.mode k.head k.form k.quirks)
-    of_class family.Form k p plain =
-        let e : i.content ≡ content.Flow = stands _ p refl in
-        let o : j.content ≡ content.Flow = content_is _ p in
-        let flows : is_flow_mode c.mode ≡ true = mode_in n q content.Flow e in
-        let no_p = q.no_p (ap closes_p e) in
-        let formed : is_form (n.tag x) ≡ true = ap (λ r. r.is_form) p in
-        let pointer : c.form ≡ None = q.no_form (sym (nested_form i (n.tag x) formed) ∙ alone) in
-        by_law items (record (begun_control c) { form = Some made })
-        (pushed items (record (begun_control c) { form = Some made }) (same_mode _ p refl) (fits_at _ p content.Flow o c.mode flows) (current_at _ p content.Flow o (ap (λ r. not r.is_heading) p)) as_before
-        (λ h. p_below (ap (λ r. r.is_p) p) no_p) (anchors_same (ap (λ r. r.marks) p)) (λ h. absurd (let y = (or_parts i.in_form (is_form (n.tag x)) h).1 in cc)))
-        (lf_none kids)
-        (λ at. rules.start_form n laws.basic z at made f d up items (begun_control c) x attrs absent1 room_here deep_here flows (ap (λ r. r.family) p) no_p pointer)
-        (λ items2 c2 t k. record {
-          items3 = items2;
-          control3 = record (begun_control c2) { form = None };
-          thins = t;
-          keeps = record { mode = k.mode; head = k.head; form = sym pointer; quirks = k.quirks };
-          no_drop = refl;
-          rule = λ at m g. rules.end_form n laws.basic z at m g d up items2 (begun_control c2) made x (ap is_flow_mode k.mode ∙ flows) (ap (λ r. r.has_implied_end) p) (ap (λ r. r.family) p) k.form;
-        })
-    of_class family.Other k p plain =
-        plain_around family.Other false false p
-        (λ at. rules.start_span n laws.basic z at made f d up items (begun_control c) x attrs absent1 room_here deep_here (flows_around family.Other false false p) family.Other (ap (λ r. r.family) p) (refl, refl, refl) q.listed)
-        (λ at m g items2 c2 mode. rules.end_span n laws.basic z at m g d up items2 c2 made x mode (ap (λ r. r.has_implied_end) p) (ap (λ r. r.family) p))
-    of_class family.Button k p plain =
-        plain_around family.Button false true p
-        (λ at. rules.start_button n laws.basic z at made f d up items (begun_control c) x attrs absent1 room_here deep_here (flows_around family.Button false true p) (ap (λ r. r.family) p) q.listed (q.no_button (sym (nested_button i (n.tag x) (ap (λ r. r.is_button) p)) ∙ alone)))
-        (λ at m g items2 c2 mode. rules.end_block n laws.basic z at m g d up items2 c2 made x mode family.Button (ap (λ r. r.family) p) (refl, refl, refl) (ap (λ r. r.has_implied_end) p))
-    of_class family.Formatting k p plain =
-        listed_around family.Formatting false false p (refl, refl, refl)
-        (λ h y e. rw (laws.anchor x y e (ap (λ r. r.is_a) p)) (find-thinned n.same y roomy (anchors_same (ap (λ r. r.marks) p) h y e)))
-        (λ at. rules.start_formatting n laws.basic z at made f d up items (begun_control c) x attrs absent1 room_here deep_here (flows_around family.Formatting false false p) (ap (λ r. r.family) p) q.listed)
-    of_class family.A k p plain =
-        let named : is_a (n.tag x) ≡ true = ap (λ r. r.is_a) p in
-        listed_around family.A true false p (refl, refl, refl)
-        (λ h y e. absurd (let v = (or_parts (not (inserts_marker (n.tag x)) && i.in_a) (is_a (n.tag x)) h).1 in cc))
-        (λ at. rules.start_a n laws.basic z at made f d up items (begun_control c) x attrs absent1 room_here deep_here (flows_around family.A true false p) (ap (λ r. r.family) p) q.listed (q.no_a (sym (nested_a i (n.tag x) named) ∙ alone) x named))
-    of_class family.Textarea k p plain =
-        a_raw family.Textarea content.Text true p refl refl (λ r. refl) (λ flows at. rules.start_textarea n laws.basic z at made f d up items (begun_control c) x attrs absent1 room_here deep_here flows (ap (λ r. r.family) p))
-    of_class family.Table k p plain =
-        let e : i.content ≡ content.Flow = stands _ p refl in
-        in_parts content.TableParts InTable (reset_mode n z.context (d ∷ up)) _ p refl refl refl refl (ap (λ r. r.table_context && (r.fosters || false)) p) refl q.mode_is
-        (λ at. rules.start_table n laws.basic z at made f d up items (begun_control c) x attrs absent1 room_here deep_here (mode_in n q content.Flow e) (ap (λ r. r.family) p) (q.no_p (ap closes_p e)))
-        (λ at m g items2 c2 mode. rules.end_table n laws.basic z at m g d up items2 c2 made x mode (ap (λ r. r.family) p) (laws.table x (ap (λ r. r.family) p)))
-    of_class family.Colgroup k p plain =
-        let e : i.content ≡ content.TableParts = stands _ p refl in
-        let mode_at : c.mode ≡ InTable = parts_mode_is c.mode (mode_in n q content.TableParts e) in
-        in_parts content.Columns InColumnGroup InTable _ p refl refl refl refl (ap (λ r. r.is_colgroup) p) refl (sym mode_at)
-        (λ at. rules.start_colgroup n laws.basic z at made f d up items (begun_control c) x attrs absent1 room_here deep_here mode_at (ap (λ r. r.family) p) (and_parts (is_table_context (n.tag d.name)) _ (current_in n q content.TableParts e)).0)
-        (λ at m g items2 c2 mode. rules.end_colgroup n laws.basic z at m g d up items2 c2 made x mode (ap (λ r. r.family) p))
-    of_class family.TableSection k p plain =
-        let e : i.content ≡ content.TableParts = stands _ p refl in
-        let mode_at : c.mode ≡ InTable = parts_mode_is c.mode (mode_in n q content.TableParts e) in
-        in_parts content.TableRows InTableBody InTable _ p refl refl refl refl (ap (λ r. r.body_context && (r.fosters || false)) p) refl (sym mode_at)
-        (λ at. rules.start_section n laws.basic z at made f d up items (begun_control c) x attrs absent1 room_here deep_here mode_at (ap (λ r. r.family) p) (and_parts (is_table_context (n.tag d.name)) _ (current_in n q content.TableParts e)).0)
-        (λ at m g items2 c2 mode. rules.end_section n laws.basic z at m g d up items2 c2 made x mode (ap (λ r. r.family) p) (ap (λ r. r.body_context) p))
-    of_class family.Row k p plain =
-        let e : i.content ≡ content.TableRows = stands _ p refl in
-        let mode_at : c.mode ≡ InTableBody = rows_mode_is c.mode (mode_in n q content.TableRows e) in
-        in_parts content.Cells InRow InTableBody _ p refl refl refl refl (ap (λ r. r.row_context && (r.fosters || false)) p) refl (sym mode_at)
-        (λ at. rules.start_row n laws.basic z at made f d up items (begun_control c) x attrs absent1 room_here deep_here mode_at (ap (λ r. r.family) p) (and_parts (is_body_context (n.tag d.name)) _ (current_in n q content.TableRows e)).0)
-        (λ at m g items2 c2 mode. rules.end_row n laws.basic z at m g d up items2 c2 made x mode (ap (λ r. r.family) p) (laws.table_row x (ap (λ r. r.family) p)) (ap (λ r. r.row_context) p))
-    of_class family.Caption k p plain =
-        let e : i.content ≡ content.TableParts = stands _ p refl in
-        let mode_at : c.mode ≡ InTable = parts_mode_is c.mode (mode_in n q content.TableParts e) in
-        marking InCaption InTable _ p refl (ap (λ r. unwrap_or r.mode (reset_mode n z.context (d ∷ up))) p) refl refl refl refl (sym mode_at)
-        (λ at. rules.start_caption n laws.basic z at made f d up items (begun_control c) x attrs absent1 room_here deep_here mode_at (ap (λ r. r.family) p) (and_parts (is_table_context (n.tag d.name)) _ (current_in n q content.TableParts e)).0)
-        (λ at m g items2 c2 mode. rules.end_caption n laws.basic z at m g d up items2 c2 made x mode (ap (λ r. r.family) p) (laws.caption x (ap (λ r. r.family) p)) (ap (λ r. r.has_implied_end) p))
-    of_class family.Cell k p plain =
-        let e : i.content ≡ content.Cells = stands _ p refl in
-        let mode_at : c.mode ≡ InRow = cells_mode_is c.mode (mode_in n q content.Cells e) in
-        marking InCell InRow _ p refl (ap (λ r. unwrap_or r.mode (reset_mode n z.context (d ∷ up))) p) refl refl refl refl (sym mode_at)
-        (λ at. rules.start_cell n laws.basic z at made f d up items (begun_control c) x attrs absent1 room_here deep_here mode_at (ap (λ r. r.family) p) (and_parts (is_row_context (n.tag d.name)) _ (current_in n q content.Cells e)).0)
-        (λ at m g items2 c2 mode. rules.end_cell n laws.basic z at m g d up items2 c2 made x mode (ap (λ r. r.family) p) (ap (λ r. r.has_implied_end) p))
-    of_class family.Object k p plain =
-        let flows : is_flow_mode c.mode ≡ true = phrasing_flows _ p refl in
-        marking c.mode c.mode _ p refl (same_mode _ p refl) flows refl refl refl refl
-        (λ at. rules.start_object n laws.basic z at made f d up items (begun_control c) x attrs absent1 room_here deep_here flows (ap (λ r. r.family) p) q.listed)
-        (λ at m g items2 c2 mode. rules.end_object n laws.basic z at m g d up items2 c2 made x (ap is_flow_mode mode ∙ flows) (ap (λ r. r.has_implied_end) p) (ap (λ r. r.family) p) ∙ (λ v. Done (state z m g (d ∷ up) (cleared items2) (record c2 { mode = mode v }))))
-    of_class _ k p plain = absurd (false≢true (sym plain ∙ ap (λ r. r.is_void) p))
+      -- PHRASING ELEMENTS: WHAT IS AROUND ONE MAY BE IN IT
 
-  -- VOID ELEMENTS
+      around_current : (w : Family) (a button : Bool) → profile (n.tag x) ≡ around w a button → fits_current i.content (texts_in i.content) (n.tag x) ≡ true
+      around_current w a button p = around_fits i.content (n.tag x) (role_is _ p) (ap (λ r. r.is_heading) p)
 
-  good-empty : (i : Inside) (l : Forest N) → i.content ≡ content.Empty → Good n i l → l ≡ none
-  good-empty i none e g = refl
-  good-empty i (tree b (element x attrs) kids rest) e g = absurd (let h = ap (λ k. takes_role k (row (n.tag x)).0) e in let k = g.0 in cc)
-  good-empty i (tree b (text t) none rest) e g = absurd (subst (λ (k : Content). TextFits (record i { content = k }) (g.0.is.one ∷ g.0.is.more)) e g.0.fits)
-  good-empty i (tree b (forest.comment t) none rest) e g = absurd (let h = ap takes_comments e in let k = g.0 in cc)
-  good-empty i _ e g = absurd g
+      p_around : (w : Family) (a button : Bool) → profile (n.tag x) ≡ around w a button → closes_p i.content ≡ true → NoP
+      p_around w a button p h = p_below (ap (λ r. r.is_p) p) (q.no_p h)
 
-  module _ (b : ℕ) (x : N) (attrs : List (Attribute N)) (i : Inside) (made : ℕ) (f : Forest N) (d : OpenNode N) (up : List (OpenNode N)) (items : List (Listed N)) (c : Control) (s : State N)
-      (q : Quiet n z.context i made f d up items c) (from : ActsAs n s (state z made f (d ∷ up) items c)) (taken : takes_role i.content (row (n.tag x)).0 ≡ true) (room : made + 1 ≤ z.site.nodes.limit) (deep : suc (length up) + 1 ≤ z.site.open_nodes.limit) where
-    abbrev Void : List (PlacedToken N) → Type 0
-    Void ts = AreTokens ts (start x attrs false ∷ []) → NodeBuilt b (element x attrs) none made f d up items c s ts
+      -- formatting elements have an entry
+      abbrev new : EntryOf N
+      new = record { node = made; name = x; attrs = attrs }
 
-    void_built : ((at : ℕ) → Rule n at (start x attrs false) (state z made f (d ∷ up) items (begun_control c)) ≡ Done (state z (made + 1) (under d.node (tree made (element x attrs) none none) f) (d ∷ up) items (record (begun_control c) { acknowledged = true }))) → (ts : List (PlacedToken N)) → Void ts
-    void_built opening ts h =
-        let t = first ts (start x attrs false) [] h in
-        let c1 : Control = record (begun_control c) { acknowledged = true } in
-        let s1 : State N = state z (made + 1) (under d.node (tree made (element x attrs) none none) f) (d ∷ up) items c1 in
-        let one : Step n t.at (start x attrs false) s (Goes s1) = start_step t.at x attrs s (state z made f (d ∷ up) items c) s1 from (opening t.at) in
-        as_it_stands b (element x attrs) none made f d up items items c c1 s ts _ (t.is ∙ ap (λ us. record { token = start x attrs false; at = t.at } ∷ us) (ended t.others t.rest)) (and one step.none) same
-        (record { mode = refl; head = refl; form = refl; quirks = refl }) refl
+      roomy : Thinned items (with_room n.same new items)
+      roomy = thinned-room n.same new items
 
-    room_for : made < z.site.nodes.limit
-    room_for = omega (arith, room)
+      unlisted : (l : List (Listed N)) → Thinned (with_room n.same new items) l → (entry_of made l ≡ None) × (without_entry made l ≡ l)
+      unlisted l t = no-entry made l (lower-thinned made (then roomy t) q.entries_lower)
 
-    deep_for : suc (length up) < z.site.open_nodes.limit
-    deep_for = omega (arith, deep)
+      module _ (w : Family) (a : Bool) (p : profile (n.tag x) ≡ around w a false) (adopts : IsFlowRule (End w) (by_end family.A)) where
+        formatting_closing : (items2 : List (Listed N)) (c2 : Control) → Thinned (entry new ∷ with_room n.same new items) items2 → Keeps (begun_control c) c2 → Closing x made d up items c items2 c2
+        formatting_closing items2 c2 t k = go t
+          where
+            flows : is_flow_mode c2.mode ≡ true
+            flows = ap is_flow_mode k.mode ∙ phrasing_flows _ p refl
 
-    void_role : (r : Profile) → profile (n.tag x) ≡ r → takes_role i.content r.role ≡ true
-    void_role r p = ap (λ o. takes_role i.content o.role) (sym p) ∙ taken
+            listed_case : (l : List (Listed N)) → Thinned (with_room n.same new items) l → Closing x made d up items c (entry new ∷ l) c2
+            listed_case l u =
+                let gone : without_entry made l ≡ l = (unlisted l u).1 in
+                closes l c2.mode c2.form (then roomy u) k.mode k.head k.form k.quirks (λ at m g. flow_end _ p (by_end family.A) _ _ at adopts flows (simp (self, eq-eqb made made refl, gone) refl))
 
-    in_text : (w : Family) (r : Profile) → IsFlowRule (Start w) void_in_text → profile (n.tag x) ≡ r → r.family ≡ w → r.role ≡ role.Phrasing → (ts : List (PlacedToken N)) → Void ts
-    in_text w r rule p fam phrasing = void_built (λ at. rules.start_void_in_text n laws.basic z at made f d up items (begun_control c) x attrs (q.fresh made (omega arith)) room_for deep_for
-        (phrasing_mode i.content c.mode (ap (takes_role i.content) (sym phrasing) ∙ void_role r p) q.mode_fits) w (ap (λ o. o.family) p ∙ fam) rule q.listed)
+            go : {l : List (Listed N)} → Thinned (entry new ∷ with_room n.same new items) l → Closing x made d up items c l c2
+            go same = listed_case (with_room n.same new items) same
+            go (kept u) = listed_case _ u
+            go (lost {ys = l} u) =
+                let gone : entry_of made l ≡ None = (unlisted l u).0 in
+                closes l c2.mode c2.form (then roomy u) k.mode k.head k.form k.quirks (λ at m g. flow_end _ p (by_end family.A) _ _ at adopts flows (simp (self, gone) refl))
 
-    plain_void : (w : Family) (r : Profile) → IsFlowRule (Start w) void → profile (n.tag x) ≡ r → r.family ≡ w → r.role ≡ role.Phrasing → (ts : List (PlacedToken N)) → Void ts
-    plain_void w r rule p fam phrasing = void_built (λ at. rules.start_void n laws.basic z at made f d up items (begun_control c) x attrs (q.fresh made (omega arith)) room_for deep_for
-        (phrasing_mode i.content c.mode (ap (takes_role i.content) (sym phrasing) ∙ void_role r p) q.mode_fits) w (ap (λ o. o.family) p ∙ fam) rule)
+        formatting : NoA (entry new ∷ with_room n.same new items) → Opens (entry new ∷ with_room n.same new items) (begun_control c) → (ts : List (PlacedToken N)) → Spells ts → Node ts
+        formatting anchors opening =
+            let still_open = open-pushed (node made x) (d ∷ up) (with_room n.same new items) (open-thinned (d ∷ up) roomy q.listed) in
+            by_law _ p i.content refl (entry new ∷ with_room n.same new items) (begun_control c) q.mode_is q.mode_fits (around_current w a false p) refl ((rw (eq-eqb made made refl) refl, still_open), (omega arith, lower-thinned (made + 1) roomy as_before.1))
+            (p_around w a false p) anchors forms_same opening formatting_closing
 
-    of_void : (w : Family) (k : Content) → profile (n.tag x) ≡ class_profile w k → is_void (n.tag x) ≡ true → (ts : List (PlacedToken N)) → Void ts
-    of_void family.Br k p void_is = in_text family.Br _ (refl, refl, refl) p refl refl
-    of_void family.Input k p void_is = in_text family.Input _ (refl, refl, refl) p refl refl
-    of_void family.Area k p void_is = in_text family.Area _ (refl, refl, refl) p refl refl
-    of_void family.Param k p void_is = plain_void family.Param _ (refl, refl, refl) p refl refl
-    of_void family.Link k p void_is = plain_void family.Link _ (refl, refl, refl) p refl refl
-    of_void family.Col k p void_is = void_built (λ at. rules.start_col n laws.basic z at made f d up items (begun_control c) x attrs (q.fresh made (omega arith)) room_for deep_for
-        (columns_mode_is c.mode (mode_in n q _ (stands_in i.content role.Column refl (void_role _ p)))) (ap (λ r. r.family) p))
-    of_void family.Hr k p void_is =
-        let e : i.content ≡ content.Flow = stands_in i.content role.Flow refl (void_role _ p) in
-        void_built (λ at. rules.start_hr n laws.basic z at made f d up items (begun_control c) x attrs (q.fresh made (omega arith)) room_for deep_for (mode_in n q content.Flow e) (ap (λ r. r.family) p) (q.no_p (ap closes_p e)))
-    of_void family.Block content.ListItems p void_is = absurd (false≢true (sym (ap (λ r. r.is_void) p) ∙ void_is))
-    of_void _ _ p void_is = absurd (let v = ap (λ r. r.is_void) p in let o = ap (λ r. r.role) p in let none = no_nowhere i.content in cc)
+      -- RAW TEXTS: title, textarea, style, script and iframe
+
+      abbrev raw_control : Bool → Control
+      raw_control drops = record (begun_control c) { saved = c.mode; mode = Text; drop_lf = drops }
+
+      a_raw : (w : Family) (k : Content) (drops : Bool) → profile (n.tag x) ≡ record (plain_profile w role.Phrasing k) { drops = drops } → content_within i.content k ≡ k → takes_comments k ≡ false → ((r : Role) → takes_role k r ≡ false)
+          → Opens items (raw_control drops) → (ts : List (PlacedToken N)) → Spells ts → Node ts
+      a_raw w k drops p within no_comments no_elements opens ts h = go (raw_kids j kids (ap takes_comments o ∙ no_comments) (λ r. ap (λ u. takes_role u r) o ∙ no_elements r) g)
+        where
+          o : j.content ≡ k
+          o = ap (λ u. content_within i.content u.content) p ∙ within
+
+          safe : LfSafe drops kids
+          safe = subst (λ (v : Bool). LfSafe v kids) (ap (λ r. r.drops) p) lf
+
+          go : OneText kids → Node ts
+          go (nothing_there e) =
+              subst (λ (v : Forest N). NodeBuilt b (element x attrs) v made f d up items c s ts) (sym e)
+              (raw_empty b x attrs made f d up items c (raw_control drops) s q.once q.fresh from opens refl refl refl refl refl ts (subst (λ (v : Forest N). AreTokens ts (start x attrs false ∷ tokens_of n v ++ end x ∷ [])) e h))
+          go (one_text b' u is e) =
+              let sized : size kids ≡ 1 = ap size e in
+              subst (λ (v : Forest N). NodeBuilt b (element x attrs) v made f d up items c s ts) (sym e)
+              (raw_text b x attrs made f d up items c (raw_control drops) s q.once q.fresh from opens refl refl refl refl refl b' u is (subst (λ (v : Forest N). LfSafe drops v) e safe is) (omega (arith, room_in, sized)) ts
+              (subst (λ (v : Forest N). AreTokens ts (start x attrs false ∷ tokens_of n v ++ end x ∷ [])) e h))
+
+      a_raw_element : (w : Family) (k : Content) → IsFlowRule (Start w) raw → profile (n.tag x) ≡ plain_profile w role.Phrasing k → content_within i.content k ≡ k → takes_comments k ≡ false → ((r : Role) → takes_role k r ≡ false) → (ts : List (PlacedToken N)) → Spells ts → Node ts
+      a_raw_element w k rule p within no_comments no_elements = a_raw w k false p within no_comments no_elements (flow_start _ p raw _ (phrasing_flows _ p refl) rule (λ at. simp (full, high, grown) refl))
+
+      of_class : (w : Family) (k : Content) → profile (n.tag x) ≡ class_profile w k → is_void (n.tag x) ≡ false → (ts : List (PlacedToken N)) → Spells ts → Node ts
+      of_class family.Block content.ListItems p plain = a_block content.ListItems true false p refl (λ m. refl) (ap (λ r. r.is_list) p)
+      of_class family.Block content.Definitions p plain = a_block content.Definitions false true p refl (λ m. refl) (ap (λ r. r.is_dl) p)
+      of_class family.Block _ p plain = a_block content.Flow false false p refl (λ m. refl) (ap (λ r. not r.is_heading) p)
+      of_class family.Title k p plain = a_raw_element family.Title content.Text (refl, refl, refl) p refl refl (λ r. refl)
+      of_class family.Style k p plain = a_raw_element family.Style content.RawText (refl, refl, refl) p refl refl (λ r. refl)
+      of_class family.Script k p plain = a_raw_element family.Script content.ScriptText (refl, refl, refl) p refl refl (λ r. refl)
+      of_class family.Iframe k p plain = a_raw_element family.Iframe content.RawText (refl, refl, refl) p refl refl (λ r. refl)
+      of_class family.Textarea k p plain = a_raw family.Textarea content.Text true p refl refl (λ r. refl) (flow_start _ p (by_start family.Textarea) _ (phrasing_flows _ p refl) (refl, refl, refl) (λ at. simp (full, high, grown) refl))
+      of_class family.P k p plain =
+          let flow = in_flow _ p refl in
+          let known : n.same x (n.known tag.P) ≡ true = laws.knows_p x ∙ ap (λ r. r.is_p) p in
+          own _ p content.Phrasing refl flow.0 flow.0 refl refl refl (λ h. absurd (false≢true h))
+          (flow_start _ p block _ flow.0 (refl, refl, refl) (λ at. simp (flow.1, full, high, grown) refl))
+          (flow_ends _ p (by_end family.P) (refl, refl, refl) (λ at m g items2 c2. simp (known, stays _ p) refl))
+      of_class family.Heading k p plain =
+          let flow = in_flow _ p refl in
+          let heading : is_heading (n.tag x) ≡ true = ap (λ r. r.is_heading) p in
+          own _ p content.Phrasing refl flow.0 flow.0 refl refl refl (λ h. absurd (false≢true h))
+          (flow_start _ p (by_start family.Heading) _ flow.0 (refl, refl, refl) (λ at. simp (flow.1, flow.2, full, high, grown) refl))
+          (flow_ends _ p (by_end family.Heading) (refl, refl, refl) (λ at m g items2 c2. simp (heading, self, stays _ p) refl))
+      of_class family.Li k p plain =
+          let e : i.content ≡ content.ListItems = stands _ p refl in
+          let flows : is_flow_mode c.mode ≡ true = mode_in n q content.ListItems e in
+          let within : is_list (n.tag d.name) ≡ true = current_in n q content.ListItems e in
+          let no_p = q.no_p (ap closes_p e) in
+          let no_li : in_scope (λ y. stops_item (n.tag y.name)) (is n tag.Li) (d ∷ up) ≡ false = rw (laws.li d.name within, list_stops (n.tag d.name) within) refl in
+          own _ p content.Flow refl flows flows (ap (λ r. not r.is_heading) p) refl refl (λ h. p_below (ap (λ r. r.is_p) p) no_p)
+          (flow_start _ p (by_start family.Li) _ flows (refl, refl, refl) (λ at. simp (no_li, no_p, full, high, grown) refl))
+          (flow_ends _ p (end_item scope.ListItem) (refl, refl, refl) (λ at m g items2 c2. grind (arith, self)))
+      of_class family.Dd k p plain =
+          let e : i.content ≡ content.Definitions = stands _ p refl in
+          let flows : is_flow_mode c.mode ≡ true = mode_in n q content.Definitions e in
+          let within : is_dl (n.tag d.name) ≡ true = current_in n q content.Definitions e in
+          let no_p = q.no_p (ap closes_p e) in
+          let no_dd : in_scope (λ y. stops_item (n.tag y.name)) (is n tag.Dd) (d ∷ up) ≡ false = rw (laws.dd d.name within, dl_stops (n.tag d.name) within) refl in
+          let no_dt : in_scope (λ y. stops_item (n.tag y.name)) (is n tag.Dt) (d ∷ up) ≡ false = rw (laws.dt d.name within, dl_stops (n.tag d.name) within) refl in
+          own _ p content.Flow refl flows flows (ap (λ r. not r.is_heading) p) refl refl (λ h. p_below (ap (λ r. r.is_p) p) no_p)
+          (flow_start _ p (by_start family.Dd) _ flows (refl, refl, refl) (λ at. simp (no_dd, no_dt, no_p, full, high, grown) refl))
+          (flow_ends _ p (end_item scope.Default) (refl, refl, refl) (λ at m g items2 c2. grind (arith, self)))
+      of_class family.Pre k p plain =
+          let flow = in_flow _ p refl in
+          own _ p content.Phrasing refl flow.0 flow.0 refl refl refl (λ h. absurd (false≢true h))
+          (flow_start _ p (by_start family.Pre) _ flow.0 (refl, refl, refl) (λ at. simp (flow.1, full, high, grown) refl))
+          (flow_ends _ p close_block (refl, refl, refl) (λ at m g items2 c2. simp (self, stays _ p) refl))
+      of_class family.Form k p plain =
+          let flow = in_flow _ p refl in
+          let formed : is_form (n.tag x) ≡ true = ap (λ r. r.is_form) p in
+          let no_form : c.form ≡ None = q.no_form (sym (nested_form i (n.tag x) formed) ∙ alone) in
+          by_law _ p content.Flow refl items (record (begun_control c) { form = Some made }) q.mode_is flow.0 (ap (λ r. not r.is_heading) p) refl as_before (λ h. p_below (ap (λ r. r.is_p) p) flow.1) (anchors_same (ap (λ r. r.marks) p))
+          (λ h. absurd (let y = (or_parts i.in_form (is_form (n.tag x)) h).1 in cc)) (flow_start _ p (by_start family.Form) _ flow.0 (refl, refl, refl) (λ at. simp (no_form, flow.1, full, high, grown) refl))
+          (λ items2 c2 t k.
+          let pointer : c2.form ≡ Some made = k.form in
+          closes items2 c2.mode None t k.mode k.head (sym no_form) k.quirks (λ at m g. flow_end _ p (by_end family.Form) _ _ at (refl, refl, refl) (ap is_flow_mode k.mode ∙ flow.0) (simp (pointer, eq-eqb made made refl, stays _ p) refl)))
+      of_class family.Other k p plain =
+          let flows : is_flow_mode c.mode ≡ true = phrasing_flows _ p refl in
+          own _ p i.content refl flows q.mode_fits (around_current family.Other false false p) refl refl (p_around family.Other false false p)
+          (flow_start _ p (by_start family.Other) _ flows (refl, refl, refl) (λ at. simp (none_lost at, full, high, grown) refl))
+          (flow_ends _ p (by_end family.Other) (refl, refl, refl) (λ at m g items2 c2. simp (self, stays _ p) refl))
+      of_class family.Button k p plain =
+          let flows : is_flow_mode c.mode ≡ true = phrasing_flows _ p refl in
+          let no_button = q.no_button (sym (nested_button i (n.tag x) (ap (λ r. r.is_button) p)) ∙ alone) in
+          own _ p i.content refl flows q.mode_fits (around_current family.Button false true p) refl refl (p_around family.Button false true p)
+          (flow_start _ p (by_start family.Button) _ flows (refl, refl, refl) (λ at. simp (no_button, none_lost at, full, high, grown) refl))
+          (flow_ends _ p close_block (refl, refl, refl) (λ at m g items2 c2. simp (self, stays _ p) refl))
+      of_class family.Formatting k p plain =
+          formatting family.Formatting false p (refl, refl, refl)
+          (λ h y e. rw (laws.anchor x y e (ap (λ r. r.is_a) p)) (find-thinned n.same y roomy (anchors_same (ap (λ r. r.marks) p) h y e)))
+          (flow_start _ p (by_start family.Formatting) _ (phrasing_flows _ p refl) (refl, refl, refl) (λ at. simp (none_lost at, full, high, grown) refl))
+      of_class family.A k p plain =
+          let named : is_a (n.tag x) ≡ true = ap (λ r. r.is_a) p in
+          let no_a : find_entry n.same x items ≡ None = q.no_a (sym (nested_a i (n.tag x) named) ∙ alone) x named in
+          formatting family.A true p (refl, refl, refl)
+          (λ h y e. absurd (let v = (or_parts (not (inserts_marker (n.tag x)) && i.in_a) (is_a (n.tag x)) h).1 in cc))
+          (flow_start _ p (by_start family.A) _ (phrasing_flows _ p refl) (refl, refl, refl) (λ at. simp (no_a, none_lost at, full, high, grown) refl))
+      of_class family.Table k p plain =
+          let flow = in_flow _ p refl in
+          let known : n.same x (n.known tag.Table) ≡ true = laws.table x (ap (λ r. r.family) p) in
+          in_parts _ p content.TableParts InTable (reset_mode n z.context (d ∷ up)) refl refl refl refl refl (ap (λ r. r.table_context && (r.fosters || false)) p) refl q.mode_is
+          (flow_start _ p (by_start family.Table) _ flow.0 (refl, refl, refl) (λ at. grind (arith, flow.1, full, high, grown)))
+          (mode_ends _ p InTable (λ l. l) _ (λ at m g items2 c2. simp known refl))
+      of_class family.Colgroup k p plain =
+          let e : i.content ≡ content.TableParts = stands _ p refl in
+          let mode_at : c.mode ≡ InTable = parts_mode_is c.mode (mode_in n q content.TableParts e) in
+          let clear : is_table_context (n.tag d.name) ≡ true = (and_parts (is_table_context (n.tag d.name)) _ (current_in n q content.TableParts e)).0 in
+          in_parts _ p content.Columns InColumnGroup InTable refl refl refl refl refl (ap (λ r. r.is_colgroup) p) refl (sym mode_at)
+          (mode_start _ p InTable _ mode_at (λ at. simp (clear, full, high, grown) refl))
+          (mode_ends _ p InColumnGroup (λ l. l) InTable (λ at m g items2 c2. refl))
+      of_class family.TableSection k p plain =
+          let e : i.content ≡ content.TableParts = stands _ p refl in
+          let mode_at : c.mode ≡ InTable = parts_mode_is c.mode (mode_in n q content.TableParts e) in
+          let clear : is_table_context (n.tag d.name) ≡ true = (and_parts (is_table_context (n.tag d.name)) _ (current_in n q content.TableParts e)).0 in
+          let section : is_body_context (n.tag x) ≡ true = ap (λ r. r.body_context) p in
+          in_parts _ p content.TableRows InTableBody InTable refl refl refl refl refl (ap (λ r. r.body_context && (r.fosters || false)) p) refl (sym mode_at)
+          (mode_start _ p InTable _ mode_at (λ at. simp (clear, full, high, grown) refl))
+          (mode_ends _ p InTableBody (λ l. l) InTable (λ at m g items2 c2. simp (self, section) refl))
+      of_class family.Row k p plain =
+          let e : i.content ≡ content.TableRows = stands _ p refl in
+          let mode_at : c.mode ≡ InTableBody = rows_mode_is c.mode (mode_in n q content.TableRows e) in
+          let clear : is_body_context (n.tag d.name) ≡ true = (and_parts (is_body_context (n.tag d.name)) _ (current_in n q content.TableRows e)).0 in
+          let known : n.same x (n.known tag.Tr) ≡ true = laws.table_row x (ap (λ r. r.family) p) in
+          let row_is : is_row_context (n.tag x) ≡ true = ap (λ r. r.row_context) p in
+          in_parts _ p content.Cells InRow InTableBody refl refl refl refl refl (ap (λ r. r.row_context && (r.fosters || false)) p) refl (sym mode_at)
+          (mode_start _ p InTableBody _ mode_at (λ at. simp (clear, full, high, grown) refl))
+          (mode_ends _ p InRow (λ l. l) InTableBody (λ at m g items2 c2. simp (known, row_is) refl))
+      of_class family.Caption k p plain =
+          let e : i.content ≡ content.TableParts = stands _ p refl in
+          let mode_at : c.mode ≡ InTable = parts_mode_is c.mode (mode_in n q content.TableParts e) in
+          let clear : is_table_context (n.tag d.name) ≡ true = (and_parts (is_table_context (n.tag d.name)) _ (current_in n q content.TableParts e)).0 in
+          let known : n.same x (n.known tag.Caption) ≡ true = laws.caption x (ap (λ r. r.family) p) in
+          marking _ p InCaption InTable refl refl refl refl refl refl refl (sym mode_at)
+          (mode_start _ p InTable _ mode_at (λ at. simp (clear, full, high, grown) refl))
+          (mode_ends _ p InCaption cleared InTable (λ at m g items2 c2. simp (known, stays _ p) refl))
+      of_class family.Cell k p plain =
+          let e : i.content ≡ content.Cells = stands _ p refl in
+          let mode_at : c.mode ≡ InRow = cells_mode_is c.mode (mode_in n q content.Cells e) in
+          let clear : is_row_context (n.tag d.name) ≡ true = (and_parts (is_row_context (n.tag d.name)) _ (current_in n q content.Cells e)).0 in
+          marking _ p InCell InRow refl refl refl refl refl refl refl (sym mode_at)
+          (mode_start _ p InRow _ mode_at (λ at. simp (clear, full, high, grown) refl))
+          (mode_ends _ p InCell cleared InRow (λ at m g items2 c2. simp (self, stays _ p) refl))
+      of_class family.Object k p plain =
+          let flows : is_flow_mode c.mode ≡ true = phrasing_flows _ p refl in
+          marking _ p c.mode c.mode refl q.mode_is flows refl refl refl refl refl
+          (flow_start _ p (by_start family.Object) _ flows (refl, refl, refl) (λ at. simp (none_lost at, full, high, grown) refl))
+          (λ at m g items2 c2 mode. flow_end _ p (by_end family.Object) _ (state z m g (d ∷ up) (cleared items2) c2) at (refl, refl, refl) (ap is_flow_mode mode ∙ flows) (simp (self, stays _ p) refl) ∙ (λ v. Done (state z m g (d ∷ up) (cleared items2) (record c2 { mode = mode v }))))
+      of_class _ k p plain = absurd (false≢true (sym plain ∙ ap (λ r. r.is_void) p))
+
+    -- VOID ELEMENTS
+
+    module _ (b : ℕ) where
+      abbrev Void : List (PlacedToken N) → Type 0
+      Void ts = AreTokens ts (start x attrs false ∷ []) → NodeBuilt b (element x attrs) none made f d up items c s ts
+
+      abbrev passed : State N
+      passed = state z (made + 1) f1 (d ∷ up) items (record (begun_control c) { acknowledged = true })
+
+      void_built : Comes passed → (ts : List (PlacedToken N)) → Void ts
+      void_built opening ts h =
+          let t = first ts (start x attrs false) [] h in
+          let one : Step n t.at (start x attrs false) s (Goes passed) = start_step t.at x attrs s (state z made f (d ∷ up) items c) passed from (opening t.at) in
+          as_it_stands b (element x attrs) none made f d up items items c (record (begun_control c) { acknowledged = true }) s ts _ (t.is ∙ ap (λ us. record { token = start x attrs false; at = t.at } ∷ us) (ended t.others t.rest)) (and one step.none) same
+          (record { mode = refl; head = refl; form = refl; quirks = refl }) refl
+
+      in_phrasing : (r : Profile) (p : profile (n.tag x) ≡ r) (rule : Do) → IsFlowRule (Start r.family) rule → r.role ≡ role.Phrasing → ((at : ℕ) → perform n at (start x attrs false) rule now ≡ Done passed) → (ts : List (PlacedToken N)) → Void ts
+      in_phrasing r p rule h e done = void_built (flow_start r p rule _ (phrasing_flows r p e) h done)
+
+      in_text : (at : ℕ) → perform n at (start x attrs false) void_in_text now ≡ Done passed
+      in_text at = simp (none_lost at, full, high, grown) refl
+
+      plain_void : (at : ℕ) → perform n at (start x attrs false) void now ≡ Done passed
+      plain_void at = simp (full, high, grown) refl
+
+      of_void : (w : Family) (k : Content) → profile (n.tag x) ≡ class_profile w k → is_void (n.tag x) ≡ true → (ts : List (PlacedToken N)) → Void ts
+      of_void family.Br k p void_is = in_phrasing _ p void_in_text (refl, refl, refl) refl in_text
+      of_void family.Input k p void_is = in_phrasing _ p void_in_text (refl, refl, refl) refl in_text
+      of_void family.Area k p void_is = in_phrasing _ p void_in_text (refl, refl, refl) refl in_text
+      of_void family.Param k p void_is = in_phrasing _ p void (refl, refl, refl) refl plain_void
+      of_void family.Link k p void_is = in_phrasing _ p void (refl, refl, refl) refl plain_void
+      of_void family.Col k p void_is = void_built (mode_start _ p InColumnGroup _ (columns_mode_is c.mode (mode_in n q _ (stands _ p refl))) (λ at. simp (full, high, grown) refl))
+      of_void family.Hr k p void_is =
+          let flow = in_flow _ p refl in
+          void_built (flow_start _ p (by_start family.Hr) _ flow.0 (refl, refl, refl) (λ at. simp (flow.1, full, high, grown) refl))
+      of_void family.Block content.ListItems p void_is = absurd (false≢true (sym (ap (λ r. r.is_void) p) ∙ void_is))
+      of_void _ _ p void_is = absurd (let v = ap (λ r. r.is_void) p in let o = ap (λ r. r.role) p in let none = no_nowhere i.content in cc)
 
   -- THE INDUCTION
 
@@ -991,14 +940,11 @@ module _ {N : Type 0} (n : Naming N) (laws : NameLaws n) (z : State N) where
       absent_now : times made f ≡ 0
       absent_now = q.fresh made (omega arith)
 
-      in_parts : (m : rules.is_parts_mode c.mode ≡ true) → is_fostering (n.tag d.name) ≡ true → AllOk (λ ch. is_space ch ≡ true) (good.is.one ∷ good.is.more) → NodeBuilt b (text t) none made f d up items c (state z made f (d ∷ up) items c) ts
+      in_parts : (m : rules.is_parts_mode c.mode ≡ true) → is_fostering (n.tag d.name) ≡ true → list_all is_space (good.is.one ∷ good.is.more) ≡ true → NodeBuilt b (text t) none made f d up items c (state z made f (d ∷ up) items c) ts
       in_parts m fosters spaces = parts_text b t good.is made f d up items c q.once absent_now none_before safe room m fosters spaces ts h
 
-      in_flow : is_flow_mode c.mode ≡ true → NodeBuilt b (text t) none made f d up items c (state z made f (d ∷ up) items c) ts
-      in_flow flows = flow_text b t good.is made f d up items c q.once absent_now q.listed none_before safe room ts flows h
-
-      text_now : (k : Content) → i.content ≡ k → TextFits (record i { content = k }) (good.is.one ∷ good.is.more)
-      text_now k e = subst (λ (u : Content). TextFits (record i { content = u }) (good.is.one ∷ good.is.more)) e good.fits
+      text_now : (k : Content) → i.content ≡ k → TextIn k (takes_space i.texts) (good.is.one ∷ good.is.more)
+      text_now k e = subst (λ (u : Content). TextIn u (takes_space i.texts) (good.is.one ∷ good.is.more)) e good.fits
 
       go : (k : Content) → i.content ≡ k → NodeBuilt b (text t) none made f d up items c (state z made f (d ∷ up) items c) ts
       go content.TableParts e = let z = text_now content.TableParts e in in_parts (ap rules.is_parts_mode (parts_mode_is c.mode (mode_in n q content.TableParts e))) (fosters_at _ _ (and_parts (is_table_context (n.tag d.name)) _ (current_in n q content.TableParts e)).1 z.1) z.0
@@ -1006,7 +952,7 @@ module _ {N : Type 0} (n : Naming N) (laws : NameLaws n) (z : State N) where
       go content.Cells e = let z = text_now content.Cells e in in_parts (ap rules.is_parts_mode (cells_mode_is c.mode (mode_in n q content.Cells e))) (fosters_at _ _ (and_parts (is_row_context (n.tag d.name)) _ (current_in n q content.Cells e)).1 z.1) z.0
       go content.Columns e = column_text b t good.is made f d up items c q.once absent_now q.listed none_before safe room ts (columns_mode_is c.mode (mode_in n q content.Columns e)) (text_now content.Columns e) h
       go content.Empty e = absurd (text_now content.Empty e)
-      go k e = in_flow (mode_in n q k e)
+      go k e = flow_text b t good.is made f d up items c q.once absent_now q.listed none_before safe room ts (mode_in n q k e) h
 
   node_and_rest : (b : ℕ) (w : What N) (kids rest : Forest N) → LawOf rest → (i : Inside) (made : ℕ) (f : Forest N) (d : OpenNode N) (up : List (OpenNode N)) (items : List (Listed N)) (c : Control) (s : State N) (ts : List (PlacedToken N)) (us : List (Token N))
       → Quiet n z.context i made f d up items c → Good n i rest → (begins_text rest ≡ true → is_text w ≡ false) → (is_text w ≡ false → if_text made (Some w) ≡ None) → made + (1 + (size kids + size rest)) ≤ z.site.nodes.limit → suc (length up) + depth rest ≤ z.site.open_nodes.limit
@@ -1037,9 +983,6 @@ module _ {N : Type 0} (n : Naming N) (laws : NameLaws n) (z : State N) where
         keeps = keeps-then head.keeps back.keeps;
       }
 
-  seam : (k r : List (Token N)) (e : Token N) → k ++ e ∷ r ≡ (k ++ e ∷ []) ++ r
-  seam k r e = sym (append_assoc k (e ∷ []) r)
-
   pub builds : (l : Forest N) → LawOf l
   builds none i made f d up items c s [] q g from no_text before safe room deep h =
       let count : made ≡ made + 0 = omega arith in
@@ -1068,16 +1011,16 @@ module _ {N : Type 0} (n : Naming N) (laws : NameLaws n) (z : State N) where
       go : (v : Bool) → is_void (n.tag x) ≡ v → LawOf kids → LawOf rest → Built (tree b (element x attrs) kids rest) made f d up items c s ts
       go false plain law_kids law_rest =
           let h1 : AreTokens ts (start x attrs false ∷ (tokens_of n kids ++ end x ∷ tokens_of n rest)) = h ∙ (rw plain refl) in
-          let h2 : AreTokens ts ((start x attrs false ∷ tokens_of n kids ++ end x ∷ []) ++ tokens_of n rest) = h1 ∙ ap (λ us. start x attrs false ∷ us) (seam (tokens_of n kids) (tokens_of n rest) (end x)) in
+          let h2 : AreTokens ts ((start x attrs false ∷ tokens_of n kids ++ end x ∷ []) ++ tokens_of n rest) = h1 ∙ ap (λ us. start x attrs false ∷ us) (sym (append_assoc (tokens_of n kids) (end x ∷ []) (tokens_of n rest))) in
           node_and_rest b (element x attrs) kids rest law_rest i made f d up items c s ts (start x attrs false ∷ tokens_of n kids ++ end x ∷ []) q g.4 (λ e. refl) (λ e. refl) room (omega arith) h2
-          (λ front e. of_class b x attrs kids law_kids i made f d up items c s q from g.0 g.1 g.2 g.3 (omega arith) (omega arith) w k p plain front e)
+          (λ front e. of_class x attrs i made f d up items c s q from g.0 (omega arith) (omega arith) b kids law_kids g.1 g.2 g.3 (omega arith) (omega arith) w k p plain front e)
       go true void_is law_kids law_rest =
           let empty : kids ≡ none = good-empty (inside_element (n.tag x) i) kids (ap (λ o. content_within i.content o.content) p ∙ ap (content_within i.content) (void_empty w k (sym (ap (λ r. r.is_void) p) ∙ void_is))) g.3 in
           let h1 : AreTokens ts (start x attrs false ∷ tokens_of n rest) = h ∙ (rw void_is refl) in
           let sized : size kids ≡ 0 = ap size empty in
           subst (λ (k : Forest N). Built (tree b (element x attrs) k rest) made f d up items c s ts) (sym empty)
           (node_and_rest b (element x attrs) none rest law_rest i made f d up items c s ts (start x attrs false ∷ []) q g.4 (λ e. refl) (λ e. refl) (omega arith) (omega arith) h1
-          (λ front e. of_void b x attrs i made f d up items c s q from g.0 (omega arith) (omega arith) w k p void_is front e))
+          (λ front e. of_void x attrs i made f d up items c s q from g.0 (omega arith) (omega arith) b w k p void_is front e))
   builds (tree b (text t) none rest) i made f d up items c s ts q g from no_text before safe room deep h =
       subst (λ (u : State N). Built (tree b (text t) none rest) made f d up items c u ts) (sym (no_text refl))
       (node_and_rest b (text t) none rest (builds rest) i made f d up items c (state z made f (d ∷ up) items c) ts (map (λ ch. character ch) (chars t)) q g.2 (λ e. absurd (let z = g.1 in cc)) (λ e. absurd cc) room deep h
