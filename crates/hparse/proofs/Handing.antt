@@ -1,5 +1,5 @@
 -- What a sink has been handed, and what it is handed after that.
-use Rattle.hparse.proofs.Names.{◌≡◌, List, [], ◌∷◌, ◌++◌, sym, refl, ap, ◌∙◌, subst, Result, Ok, IsPermutation, IsPermutation-append_left, IsPermutation-refl, IsPermutation-trans, ParseError, Refusal, Texts, Grows, grows_not, grows_on, Token, Tok, Item, ItemToken, ItemError, Event, Reports, tokens_in, errors_in, HandsEvents, Began, Handed, tokens_handed, errors_handed, TokensMean}
+use Rattle.hparse.proofs.Names.{◌≡◌, List, [], ◌∷◌, ◌++◌, sym, refl, ap, subst, Result, Ok, IsPermutation, IsPermutation-append_left, IsPermutation-refl, IsPermutation-trans, ParseError, Refusal, Texts, Grows, grows_not, grows_on, Token, Tok, Item, ItemToken, ItemError, Event, Reports, tokens_in, errors_in, HandsEvents, Began, Handed, tokens_handed, errors_handed, TokensMean}
 use Rattle.names.proofs.Handing.{Hands-append}
 use Rattle.htoken.specs.Token.{Gives, Mean}
 use Rattle.htoken.proofs.Fronts.{token_kept}
@@ -29,25 +29,18 @@ errors_handed-append (ItemToken t ∷ xs) ys = errors_handed-append xs ys
 errors_handed-append (ItemError e ∷ xs) ys = ap (λ (x : List ParseError). e ∷ x) (errors_handed-append xs ys)
 
 -- the tokens and the errors of items that stand for events
-tokens_of_mean : (names : Texts) (items : List Item) (events : List Event) → Mean names items events → TokensMean names (tokens_handed items) (tokens_in events)
-tokens_of_mean names [] [] m = tt
-tokens_of_mean names (ItemToken t ∷ items) (Gives tok ∷ events) m = (m.0, tokens_of_mean names items events m.1)
-tokens_of_mean names (ItemError e ∷ items) (Reports f ∷ events) m = tokens_of_mean names items events m.1
-tokens_of_mean names (ItemToken t ∷ items) (Reports f ∷ events) m = absurd m.0
-tokens_of_mean names (ItemError e ∷ items) (Gives tok ∷ events) m = absurd m.0
-tokens_of_mean names [] (y ∷ events) m = absurd m
-tokens_of_mean names (x ∷ items) [] m = absurd m
-
-errors_of_mean : (names : Texts) (items : List Item) (events : List Event) → Mean names items events → errors_handed items ≡ errors_in events
-errors_of_mean names [] [] m = refl
-errors_of_mean names (ItemToken t ∷ items) (Gives tok ∷ events) m = errors_of_mean names items events m.1
-errors_of_mean names (ItemError e ∷ items) (Reports f ∷ events) m =
+parts_of_mean : (names : Texts) (items : List Item) (events : List Event) → Mean names items events
+    → TokensMean names (tokens_handed items) (tokens_in events) × (errors_handed items ≡ errors_in events)
+parts_of_mean names [] [] m = (tt, refl)
+parts_of_mean names (ItemToken t ∷ items) (Gives tok ∷ events) m = let rest = parts_of_mean names items events m.1 in ((m.0, rest.0), rest.1)
+parts_of_mean names (ItemError e ∷ items) (Reports f ∷ events) m =
+    let rest = parts_of_mean names items events m.1 in
     let same : e ≡ f = m.0 in
-    ap (λ (x : ParseError). x ∷ errors_handed items) same ∙ ap (λ (x : List ParseError). f ∷ x) (errors_of_mean names items events m.1)
-errors_of_mean names (ItemToken t ∷ items) (Reports f ∷ events) m = absurd m.0
-errors_of_mean names (ItemError e ∷ items) (Gives tok ∷ events) m = absurd m.0
-errors_of_mean names [] (y ∷ events) m = absurd m
-errors_of_mean names (x ∷ items) [] m = absurd m
+    (rest.0, (λ i. same i ∷ rest.1 i))
+parts_of_mean names (ItemToken t ∷ items) (Reports f ∷ events) m = absurd m.0
+parts_of_mean names (ItemError e ∷ items) (Gives tok ∷ events) m = absurd m.0
+parts_of_mean names [] (y ∷ events) m = absurd m
+parts_of_mean names (x ∷ items) [] m = absurd m
 
 module _ {S : Type 0} (gives : S → Item → Result (Unit {0}) Refusal → S → Type 0) where
   -- nothing was handed over
@@ -62,9 +55,9 @@ module _ {S : Type 0} (gives : S → Item → Result (Unit {0}) Refusal → S �
     items = h.items ++ items;
     hands = Hands-append gives began.sink mid now h.items items answer h.hands given;
     tokens_mean = subst (λ (ts : List Token). TokensMean new ts (tokens ++ tokens_in events)) (sym (tokens_handed-append h.items items))
-        (TokensMean-append new (tokens_handed h.items) (tokens_handed items) tokens (tokens_in events) (tokens_kept old new grows (tokens_handed h.items) tokens h.tokens_mean) (tokens_of_mean new items events mean));
+        (TokensMean-append new (tokens_handed h.items) (tokens_handed items) tokens (tokens_in events) (tokens_kept old new grows (tokens_handed h.items) tokens h.tokens_mean) (parts_of_mean new items events mean).0);
     errors_are = subst (IsPermutation (errors ++ errors_in events)) (sym (errors_handed-append h.items items))
-        (subst (λ (x : List ParseError). IsPermutation (errors ++ errors_in events) (errors_handed h.items ++ x)) (sym (errors_of_mean new items events mean))
+        (subst (λ (x : List ParseError). IsPermutation (errors ++ errors_in events) (errors_handed h.items ++ x)) (sym (parts_of_mean new items events mean).1)
         (IsPermutation-append_left (errors_in events) errors (errors_handed h.items) h.errors_are));
   }
 

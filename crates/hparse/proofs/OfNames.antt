@@ -1,5 +1,6 @@
 -- The names of what was parsed are of its table.
-use Rattle.hparse.proofs.Names.{◌≡◌, ℕ, Bool, true, false, cond, eqb, zero, suc, ◌<◌, List, [], ◌∷◌, map, length, Some, arith, slice_get, Attr, Texts, AttrsMean, Given, Tok, TokenMeans, none, tree, attribute_of, AreOf, token_of, TokensAreOf, TokensMean}
+use Rattle.hparse.proofs.Names.{◌≡◌, ℕ, eqb, zero, suc, ◌<◌, List, [], ◌∷◌, map, length, Some, arith, slice_get, Attr, Texts, AttrsMean, Given, Tok, TokenMeans, none, tree, attribute_of, AreOf, token_of, TokensAreOf, TokensMean}
+use Rattle.std.proofs.lemmas.Bool.{cond_both}
 use Rattle.names.specs.Names.{IsOf}
 use Rattle.htoken.specs.declared.token.Token.TheVariants as code
 use Rattle.hnodes.specs.Forest.{Forest, join, children_of}
@@ -39,7 +40,6 @@ joined_are_of names (tree b w kids rest) g h k = (h.0, h.1, joined_are_of names 
 
 pub children_are_of : (names : Texts) (n : ℕ) (f : Forest ℕ) → AreOf names f → AreOf names (children_of n f)
 children_are_of names n none h = tt
-children_are_of names n (tree b w kids rest) h = go (eqb b n) (joined_are_of names (children_of n kids) (children_of n rest) (children_are_of names n kids h.1) (children_are_of names n rest h.2)) where
-  go : (v : Bool) → AreOf names (join (children_of n kids) (children_of n rest)) → AreOf names (cond v kids (join (children_of n kids) (children_of n rest)))
-  go true inside = h.1
-  go false inside = inside
+children_are_of names n (tree b w kids rest) h =
+    cond_both (eqb b n) kids (join (children_of n kids) (children_of n rest)) (AreOf names) (λ _. h.1)
+    (λ _. joined_are_of names (children_of n kids) (children_of n rest) (children_are_of names n kids h.1) (children_are_of names n rest h.2))

@@ -2,7 +2,7 @@
 use Rattle.hparse.proofs.Names.{◌≡◌, ℕ, List, ◌++◌, refl, sym, ap, subst, Option, None, Result, Ok, Err, inl, inr, ◌⊎◌, MatchResult, Refusal, Memory, Texts, Grows, AreNames, Origin, Parsed, Parser, Placing, Reading, FeedsPiece, piece_ran_out, piece_refused, piece_read, EndsInput, input_ran_out, input_comes, IsRefusedFor, IsTaken, ParseCase, ParseOptions, Parses, manner, places_item, HasParsed, AnswersParse, TellsPlaces}
 use Rattle.hparse.specs.Parsing.{FeedsParser, feed_ran_out, feed_refused, feed_read, IsBuilt, ShowsParse, parse_ran_out, parse_answered}
 use Rattle.hparse.proofs.Built.{became}
-use Rattle.hparse.proofs.Pieces.{is_memory}
+use Rattle.hparse.proofs.Pieces.{but_for_memory}
 use Rattle.hparse.proofs.Placed.{handed_on, inner, refused_inner, taken_inner}
 use Rattle.hparse.proofs.Told.{lists, told}
 use Rattle.hparse.proofs.Trees.{parses_refused, parses_taken}
@@ -26,22 +26,16 @@ module _ (opts : ParseOptions) (parse_case : ParseCase) (bytes : List ℕ) (old 
       | inr by ↦ parses_refused opts parse_case (inner h.began) all reading.feeding.names reading.feeding.sink.builder h.unrefused h.begins later grows are e by
     ]
 
-    refused_but : (e ≡ Memory → ⊥) → (all : List ℕ) → IsRefusedFor places_item (manner opts parse_case) h.began all reading.feeding.names reading.feeding.sink e → Parses opts parse_case all (Err e)
-    refused_but differs all r = elim (refused all r) [
-      | inl why ↦ absurd (differs why)
-      | inr p ↦ p
-    ]
-
     -- a piece that was refused
     pub feeds_refused : (piece : List ℕ) (new : Parser) → FeedsPiece places_item (manner opts parse_case) h.began (bytes ++ piece) (Err e) reading → FeedsParser opts parse_case (bytes ++ piece) (Err e) new
     feeds_refused piece new (piece_ran_out is) = feed_ran_out is
-    feeds_refused piece new (piece_refused refusal is from) = elim (is_memory e) [
-      | inl why ↦ feed_ran_out (ap (λ (x : Refusal). Err x) why)
-      | inr differs ↦
-          let same : refusal ≡ e = cc in
-          feed_refused e refl (λ more. refused_but differs ((bytes ++ piece) ++ more)
-          (subst (IsRefusedFor places_item (manner opts parse_case) h.began ((bytes ++ piece) ++ more) reading.feeding.names reading.feeding.sink) same (from more)))
-    ]
+    feeds_refused piece new (piece_refused refusal is from) =
+        let same : refusal ≡ e = cc in
+        elim (but_for_memory e (λ (more : List ℕ). Parses opts parse_case ((bytes ++ piece) ++ more) (Err e))
+        (λ more. refused ((bytes ++ piece) ++ more) (subst (IsRefusedFor places_item (manner opts parse_case) h.began ((bytes ++ piece) ++ more) reading.feeding.names reading.feeding.sink) same (from more)))) [
+          | inl why ↦ feed_ran_out (ap (λ (x : Refusal). Err x) why)
+          | inr all ↦ feed_refused e refl all
+        ]
     feeds_refused piece new (piece_read is k) = absurd cc
 
     -- an input that is refused at its end

@@ -38,9 +38,19 @@ some_at_end None r e = absurd cc
 some_at_end (Some x) r e = cc
 
 -- whether it is want of memory
-pub is_memory : (e : Refusal) → (e ≡ Memory) ⊎ ((e ≡ Memory) → ⊥)
+is_memory : (e : Refusal) → (e ≡ Memory) ⊎ ((e ≡ Memory) → ⊥)
 is_memory Memory = inl refl
 is_memory other = inr (λ e. cc)
+
+-- what holds but for want of memory, whatever comes after, holds of all or none
+pub but_for_memory : {X : Type 0} (e : Refusal) (P : X → Type 0) → ((x : X) → (e ≡ Memory) ⊎ P x) → (e ≡ Memory) ⊎ ((x : X) → P x)
+but_for_memory e P h = elim (is_memory e) [
+  | inl why ↦ inl why
+  | inr differs ↦ inr (λ x. elim (h x) [
+    | inl why ↦ absurd (differs why)
+    | inr p ↦ p
+  ])
+]
 
 -- nothing follows what is read where nothing is refused
 whole_from : (a b : ℕ) (r : Refusal) (t : Bool) → eqb a b ≡ t → cond t None (Some r) ≡ None → a ≡ b
@@ -171,17 +181,10 @@ module _ {S : Type 0} (gives : S → Item → Result (Unit {0}) Refusal → S �
           subst (λ (f : Intake S). IsRefusedFor gives m began ((bytes ++ piece) ++ more) f.names f.sink answer) (sym (stopped noted).1)
           (subst (IsRefusedFor gives m began ((bytes ++ piece) ++ more) feeding.names feeding.sink) (sym (stopped noted).0) r)
 
-      -- it is so whatever comes after
-      never_memory : ((more : List ℕ) → StopsAt more) → (e ≡ Memory → ⊥) → (more : List ℕ) → (feeding.stopped ≡ true) × IsRefusedFor gives m began ((bytes ++ piece) ++ more) feeding.names feeding.sink e
-      never_memory all differs more = elim (all more) [
-        | inl why ↦ absurd (differs why)
-        | inr r ↦ r
-      ]
-
       refused_in : ((more : List ℕ) → StopsAt more) → FeedsPiece gives m began (bytes ++ piece) (Err answer) new
-      refused_in all = elim (is_memory e) [
+      refused_in all = elim (but_for_memory e _ all) [
         | inl why ↦ out_of_memory why
-        | inr differs ↦ piece_refused answer refl (λ more. let s = never_memory all differs more in as_answered s.0 more s.1)
+        | inr r ↦ piece_refused answer refl (λ more. as_answered (r more).0 more (r more).1)
       ]
 
       refused_by : Feeds (Proceeds gives) (how_of m) bytes piece old.feeding (Err e) feeding → FeedsPiece gives m began (bytes ++ piece) (Err answer) new

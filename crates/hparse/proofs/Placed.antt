@@ -1,12 +1,12 @@
 -- What a builder that keeps places has been handed: what the builder in it was, and where the nodes came from.
-use Rattle.hparse.proofs.Names.{◌≡◌, ℕ, Bool, true, false, List, [], ◌∷◌, ◌++◌, map, sym, refl, ap, ◌∙◌, subst, Option, Some, None, Result, Ok, Err, inl, inr, ◌⊎◌, option_map, ParseError, Refusal, Memory, Texts, Hands, input_errors, Given, run_tokens, Tok, Item, ItemToken, ItemError, numbers, Goes, Building, TakesToken, spelled_placed, spelled_state, PlacedToken, State, end, start, token_of, place_of, Placing, Manner, Began, Handed, reads_in, tokens_handed, IsRefusedFor, by_sink, by_tag, by_bytes, IsTaken, Made, Makes, places_item, PlacesToken}
+use Rattle.hparse.proofs.Names.{◌≡◌, ℕ, Bool, true, false, List, [], ◌∷◌, ◌++◌, map, sym, refl, ap, ◌∙◌, subst, Option, Some, None, Result, Ok, Err, inl, inr, ◌⊎◌, option_map, ParseError, Refusal, Memory, Texts, Hands, input_errors, Given, run_tokens, Tok, Item, ItemToken, ItemError, numbers, Goes, Building, TakesToken, spelled_placed, spelled_state, PlacedToken, State, end, start, token_of, place_of, Placing, Manner, Began, Handed, reads_in, tokens_handed, IsRefusedFor, by_sink, by_tag, by_bytes, IsTaken, OriginState, Makes, places_item, PlacesToken}
 use Rattle.std.proofs.Common.{not}
 use Rattle.std.specs.Prelude.{is_some}
 use Rattle.htoken.specs.Run.{TakesSpread}
 use Rattle.hadopt.specs.Naming.{Naming}
 use Rattle.hmodes.specs.Spelled.{StepsKnowNoNames, spelled_token}
 use Rattle.hmodes.specs.State.{Token, character, comment, doctype, eof}
-use Rattle.hparse.specs.Origins.{none, and, is_character, with_token}
+use Rattle.hparse.specs.Origins.{none, and, is_character, after_token}
 use Rattle.hparse.proofs.Built.{builds, takes_on, tells}
 use Rattle.hparse.proofs.Numbered.{placed_number}
 
@@ -60,17 +60,17 @@ module _ (names : Texts) (began : Began Placing) (now : Placing) where
 -- where no places are kept, none are
 pub none_on : (old new : Placing) (items : List Item) → old.origins ≡ None → Hands places_item old items (Ok tt) new → new.origins ≡ None
 none_on old new [] is h = ap (λ (p : Placing). p.origins) (sym h.1) ∙ is
-none_on old new (ItemToken t ∷ items) is (Ok u, next, given, rest) = none_on next new items (given.1 ∙ ap (option_map (with_token (place_of t) (is_character (token_of t)) next.builder.state.site.nodes.made)) is) rest
+none_on old new (ItemToken t ∷ items) is (Ok u, next, given, rest) = none_on next new items (given.1 ∙ ap (option_map (after_token (place_of t) (is_character (token_of t)) next.builder.state.site.nodes.made)) is) rest
 none_on old new (ItemError e ∷ items) is (Ok u, next, given, rest) = none_on next new items (given.1 ∙ is) rest
 none_on old new (x ∷ items) is (Err e, next, given, rest) = let never = rest.0 in absurd cc
 
 -- where they are, they are those of the tokens
-pub makes_on : (old new : Placing) (items : List Item) (o : Made) → old.builder.refused ≡ None → old.origins ≡ Some o → Hands places_item old items (Ok tt) new
-    → (o' : Made) × (new.origins ≡ Some o') × Makes numbers (map placed_number (tokens_handed items)) old.builder.state o new.builder.state o'
+pub makes_on : (old new : Placing) (items : List Item) (o : OriginState) → old.builder.refused ≡ None → old.origins ≡ Some o → Hands places_item old items (Ok tt) new
+    → (o' : OriginState) × (new.origins ≡ Some o') × Makes numbers (map placed_number (tokens_handed items)) old.builder.state o new.builder.state o'
 makes_on old new [] o is asks h = (o, ap (λ (p : Placing). p.origins) (sym h.1) ∙ asks, subst (λ (p : Placing). Makes numbers [] old.builder.state o p.builder.state o) h.1 none)
 makes_on old new (ItemToken t ∷ items) o is asks (Ok u, next, given, rest) =
     let took = takes_on t old.builder next.builder (Ok u) is given.0 in
-    let more : Made → Made = with_token (place_of t) (is_character (token_of t)) next.builder.state.site.nodes.made in
+    let more : OriginState → OriginState = after_token (place_of t) (is_character (token_of t)) next.builder.state.site.nodes.made in
     let later = makes_on next new items (more o) took.refused (given.1 ∙ ap (option_map more) asks) rest in
     (later.0, later.1, and took.step later.2)
 makes_on old new (ItemError e ∷ items) o is asks (Ok u, next, given, rest) =
@@ -89,12 +89,12 @@ module _ {N M : Type 0} (m : Naming N) (n : Naming M) (g : N → M) (know : Step
   same_character (character c) = refl
   same_character eof = refl
 
-  pub makes_spelled : (ts : List (PlacedToken N)) (s s' : State N) (o o' : Made) → Makes m ts s o s' o' → Makes n (map (spelled_placed g) ts) (spelled_state g s) o (spelled_state g s') o'
+  pub makes_spelled : (ts : List (PlacedToken N)) (s s' : State N) (o o' : OriginState) → Makes m ts s o s' o' → Makes n (map (spelled_placed g) ts) (spelled_state g s) o (spelled_state g s') o'
   makes_spelled [] s s' o o' none = none
   makes_spelled (t ∷ ts) s s' o o' (and {s' = mid} step rest) =
       and (know.step t.at t.token s (Goes mid) step)
-      (subst (λ (b : Bool). Makes n (map (spelled_placed g) ts) (spelled_state g mid) (with_token t.at b mid.site.nodes.made o) (spelled_state g s') o') (sym (same_character t.token))
-      (makes_spelled ts mid s' (with_token t.at (is_character t.token) mid.site.nodes.made o) o' rest))
+      (subst (λ (b : Bool). Makes n (map (spelled_placed g) ts) (spelled_state g mid) (after_token t.at b mid.site.nodes.made o) (spelled_state g s') o') (sym (same_character t.token))
+      (makes_spelled ts mid s' (after_token t.at (is_character t.token) mid.site.nodes.made o) o' rest))
 
 -- what a call of the builder does, where no places are kept
 abbrev plain : Building → Placing
@@ -108,7 +108,7 @@ plain_hands old new (t ∷ ts) answer (Err e, next, given, rest) = (Err e, plain
 pub hands_without : (old : Placing) (new : Building) (ts : List Given) (answer : Result (Unit {0}) Refusal) → old.origins ≡ None → Hands TakesToken old.builder ts answer new
     → Hands PlacesToken old ts answer (record old { builder = new })
 hands_without old new ts answer is h =
-    subst (λ (o : Option Made). Hands PlacesToken (record { builder = old.builder; origins = o }) ts answer (record { builder = new; origins = o })) (sym is) (plain_hands old.builder new ts answer h)
+    subst (λ (o : Option OriginState). Hands PlacesToken (record { builder = old.builder; origins = o }) ts answer (record { builder = new; origins = o })) (sym is) (plain_hands old.builder new ts answer h)
 
 pub spread_without : (old : Placing) (new : Building) (run : List ℕ) (at : ℕ) (answer : Result Bool Refusal) → old.origins ≡ None → TakesSpread TakesToken old.builder run at answer new
     → TakesSpread PlacesToken old run at answer (record old { builder = new })
@@ -116,6 +116,6 @@ spread_without old new run at (Ok false) is h = ap (λ (b : Building). record ol
 spread_without old new run at (Ok true) is h = λ text spread. hands_without old new (run_tokens text) (Ok tt) is (h text spread)
 spread_without old new run at (Err e) is h = λ text spread. hands_without old new (run_tokens text) (Err e) is (h text spread)
 
-pub is_without : (o : Option Made) (b : Bool) → is_some o ≡ not b → b ≡ true → o ≡ None
+pub is_without : (o : Option OriginState) (b : Bool) → is_some o ≡ not b → b ≡ true → o ≡ None
 is_without None b is so = refl
 is_without (Some made) b is so = let never : true ≡ false = is ∙ ap not so in absurd cc

@@ -1,5 +1,5 @@
 -- Where the nodes of a parse came from, as it is told.
-use Rattle.hparse.proofs.Names.{◌≡◌, ℕ, Bool, true, false, List, map, sym, refl, ap, ◌∙◌, subst, Option, Some, None, Ok, option_map, Texts, Grows, AreNames, spelling, grows_on, numbers, texts, numbers-agree, spelled_placed, spelled_state, PlacedToken, State, steps_spelled, Origin, Placing, Began, IsTaken, tokens_handed, Made, Makes, ParseCase, ParseOptions, begins, manner, BeginsIn, TellsPlaces, places_item, origins_if, placed}
+use Rattle.hparse.proofs.Names.{◌≡◌, ℕ, Bool, true, false, List, map, sym, refl, ap, ◌∙◌, subst, Option, Some, None, Ok, option_map, Texts, Grows, AreNames, spelling, grows_on, numbers, texts, numbers-agree, spelled_placed, spelled_state, PlacedToken, State, steps_spelled, Origin, Placing, Began, IsTaken, tokens_handed, OriginState, Makes, ParseCase, ParseOptions, begins, manner, BeginsIn, TellsPlaces, places_item, origins_if, placed}
 use Rattle.hparse.specs.Origins.{AreOrigins, first_origins}
 use Rattle.hparse.proofs.Handing.{tokens_kept}
 use Rattle.hparse.proofs.Numbered.{placed_number, tokens_spelled}
@@ -7,7 +7,7 @@ use Rattle.hparse.proofs.Placed.{makes_on, makes_spelled, none_on}
 use Rattle.hparse.proofs.Trees.{begins_spelled}
 
 -- the origins of the nodes, by their numbers, where they are kept
-abbrev pub lists : Option Made → Option (List Origin)
+abbrev pub lists : Option OriginState → Option (List Origin)
 lists o = option_map (λ made. made.list) o
 
 module _ (opts : ParseOptions) (parse_case : ParseCase) (began : Began Placing) (bytes : List ℕ) (names : Texts) (now : Placing)
@@ -20,7 +20,7 @@ module _ (opts : ParseOptions) (parse_case : ParseCase) (began : Began Placing) 
   given = map placed_number (tokens_handed t.handed.items)
 
   -- those of the tokens of the program are those of the tokens of the text
-  in_texts : (made : Made) → Makes numbers given began.sink.builder.state (first_origins began.sink.builder.state) now.builder.state made
+  in_texts : (made : OriginState) → Makes numbers given began.sink.builder.state (first_origins began.sink.builder.state) now.builder.state made
       → Makes texts (map placed t.tokens) (begins opts parse_case) (first_origins (begins opts parse_case)) (spelled_state spell now.builder.state) made
   in_texts made makes =
       subst (λ (s : State (List ℕ)). Makes texts (map placed t.tokens) s (first_origins s) (spelled_state spell now.builder.state) made)
@@ -32,12 +32,12 @@ module _ (opts : ParseOptions) (parse_case : ParseCase) (began : Began Placing) 
   told_if : (b : Bool) → opts.places ≡ b → began.sink.origins ≡ origins_if b began.sink.builder.state → TellsPlaces opts parse_case bytes (lists now.origins)
   told_if true asks are_first =
       let k = makes_on began.sink now t.handed.items (first_origins began.sink.builder.state) unrefused are_first t.handed.hands in
-      subst (λ (o : Option Made). TellsPlaces opts parse_case bytes (lists o)) (sym k.1) (
+      subst (λ (o : Option OriginState). TellsPlaces opts parse_case bytes (lists o)) (sym k.1) (
         asks,
         record { tokens = t.tokens; errors = t.errors; state = spelled_state spell now.builder.state; origins = k.0; read = t.read; makes = in_texts k.0 k.2; list_is = refl },
       )
   told_if false asks are_first =
-      subst (λ (o : Option Made). TellsPlaces opts parse_case bytes (lists o)) (sym (none_on began.sink now t.handed.items are_first t.handed.hands)) asks
+      subst (λ (o : Option OriginState). TellsPlaces opts parse_case bytes (lists o)) (sym (none_on began.sink now t.handed.items are_first t.handed.hands)) asks
 
   pub told : began.sink.origins ≡ origins_if opts.places began.sink.builder.state → TellsPlaces opts parse_case bytes (lists now.origins)
   told are_first = told_if opts.places refl are_first

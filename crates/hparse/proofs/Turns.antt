@@ -11,7 +11,7 @@ use Rattle.htext.specs.Decoding.{Progress}
 use Rattle.htext.proofs.Fronts.{front_le}
 use Rattle.hparse.specs.Calls.{counted}
 use Rattle.hparse.specs.Reader.{IsRefusedFrom, ReadsInput, reading_ran_out, reading_failed, reading_stopped, read_to_end}
-use Rattle.hparse.proofs.Pieces.{has_read, is_memory}
+use Rattle.hparse.proofs.Pieces.{but_for_memory, has_read}
 
 -- The bytes that the reader gave have been read after those before, at least one a turn, and no read has failed.
 pub record HasTurned {S R : Type 0} (left : R → Option (List ℕ)) (failed : R → ℕ) (gives : S → Item → Result (Unit {0}) Refusal → S → Type 0) (m : Manner) (began : Began S) (before : List ℕ) (turn : ℕ) (old now : R) (reading : Reading S) : Type 0 where
@@ -25,11 +25,8 @@ pub record HasTurned {S R : Type 0} (left : R → Option (List ℕ)) (failed : R
 pub front_of_buffer : (count n : ℕ) (xs ys zs : List ℕ) → zs ≡ take n (xs ++ ys) → length xs ≡ n → take count zs ≡ take count xs
 front_of_buffer count n xs ys zs is same = ap (take count) (is ∙ ap (λ (m : ℕ). take m (xs ++ ys)) (sym same) ∙ take-append_seam xs ys)
 
-some_bytes : (count : ℕ) (xs : List ℕ) → (count ≡ 0 → ⊥) → count ≤ length xs → 0 < length (take count xs)
-some_bytes count xs some fits = omega (arith, length-take-le count xs fits)
-
 pub some_of_buffer : (count : ℕ) (xs zs : List ℕ) → take count zs ≡ take count xs → (count ≡ 0 → ⊥) → count ≤ length xs → 0 < length (take count zs)
-some_of_buffer count xs zs same some fits = subst (λ (bytes : List ℕ). 0 < length bytes) (sym same) (some_bytes count xs some fits)
+some_of_buffer count xs zs same some fits = omega (arith, length-take-le count xs fits, ap length same)
 
 -- no more is read than the buffer holds
 pub few_of_buffer : (count most : ℕ) (xs : List ℕ) → length xs ≡ most → count ≤ length xs → length (take count xs) ≤ most
@@ -123,31 +120,19 @@ module _ {R A B : Type 0} (left : R → Option (List ℕ)) (failed : R → ℕ) 
     (piece : ℕ) (before : List ℕ) (old new : R) where
   -- a refusal
   module _ (e : Refusal) (shows : (bytes : List ℕ) → come bytes (Err e) → (e ≡ Memory) ⊎ answers bytes (Err e)) where
-    shown : (e ≡ Memory → ⊥) → (bytes : List ℕ) → come bytes (Err e) → answers bytes (Err e)
-    shown differs bytes c = elim (shows bytes c) [
-      | inl why ↦ absurd (differs why)
-      | inr a ↦ a
-    ]
-
-    -- whether any call of the reader failed, where memory ran out
-    count_kept : ReadsInput left failed come held piece before old new (Err e) → e ≡ Memory → failed new ≡ failed old
-    count_kept (reading_ran_out is count) why = count
-    count_kept (reading_failed bytes is un given count) why = absurd cc
-    count_kept (reading_stopped refusal front last is un gave from few) why = gave.unfailed
-    count_kept (read_to_end bytes un gave end c) why = gave.unfailed
-
-    with_no_want : (e ≡ Memory → ⊥) → ReadsInput left failed come held piece before old new (Err e) → ReadsInput left failed answers stands piece before old new (Err e)
-    with_no_want differs (reading_ran_out is count) = absurd (differs cc)
-    with_no_want differs (reading_failed bytes is un given count) = reading_failed bytes (let same : e ≡ Read = cc in ap (λ (x : Refusal). Err x) same) (kept (before ++ bytes) un) given count
-    with_no_want differs (reading_stopped refusal front last is un gave from few) =
-        let same : refusal ≡ e = cc in
-        reading_stopped e front last refl (kept (before ++ front) un) gave (λ more. shown differs ((before ++ (front ++ last)) ++ more) (subst (λ (x : Refusal). come ((before ++ (front ++ last)) ++ more) (Err x)) same (from more))) few
-    with_no_want differs (read_to_end bytes un gave end c) = read_to_end bytes (kept (before ++ bytes) un) gave end (shown differs (before ++ bytes) c)
-
     pub not_read : ReadsInput left failed come held piece before old new (Err e) → ReadsInput left failed answers stands piece before old new (Err e)
-    not_read r = elim (is_memory e) [
-      | inl why ↦ reading_ran_out (ap (λ (x : Refusal). Err x) why) (count_kept r why)
-      | inr differs ↦ with_no_want differs r
+    not_read (reading_ran_out is count) = reading_ran_out (let why : e ≡ Memory = cc in ap (λ (x : Refusal). Err x) why) count
+    not_read (reading_failed bytes is un given count) = reading_failed bytes (let same : e ≡ Read = cc in ap (λ (x : Refusal). Err x) same) (kept (before ++ bytes) un) given count
+    not_read (reading_stopped refusal front last is un gave from few) =
+        let same : refusal ≡ e = cc in
+        elim (but_for_memory e (λ (more : List ℕ). answers ((before ++ (front ++ last)) ++ more) (Err e))
+        (λ more. shows ((before ++ (front ++ last)) ++ more) (subst (λ (x : Refusal). come ((before ++ (front ++ last)) ++ more) (Err x)) same (from more)))) [
+          | inl why ↦ reading_ran_out (ap (λ (x : Refusal). Err x) why) gave.unfailed
+          | inr all ↦ reading_stopped e front last refl (kept (before ++ front) un) gave all few
+        ]
+    not_read (read_to_end bytes un gave end c) = elim (shows (before ++ bytes) c) [
+      | inl why ↦ reading_ran_out (ap (λ (x : Refusal). Err x) why) gave.unfailed
+      | inr a ↦ read_to_end bytes (kept (before ++ bytes) un) gave end a
     ]
 
   -- an input that was read, and what was made of it

@@ -19,8 +19,9 @@ use Rattle.hparse.specs.Input.{text_in}
 use Rattle.hparse.specs.Parse.{ParseCase, ParseOptions, begins, manner, start_of}
 use Rattle.hparse.specs.Taken.{placed}
 
--- the origins of the nodes that were made, by their numbers; and the place of the first character after the last token that is none
-pub record Made : Type 0 where
+-- What is known after some tokens: the origins of the nodes, by their numbers, and the place of the first character after the last token
+-- that is no character.
+pub record OriginState : Type 0 where
   pub list : List Origin
   pub first : Option ℕ
 
@@ -30,13 +31,13 @@ abbrev pub origin_of : Option ℕ → ℕ → Bool → Origin
 origin_of first at is_character = record { token = at; text = if is_character then at else unwrap_or first at }
 
 -- the list when so many nodes were made: those that are new came from here
-abbrev pub filled : Origin → ℕ → List Origin → List Origin
-filled origin made list = take made list ++ replicate (made - length list) origin
+abbrev pub resized : Origin → ℕ → List Origin → List Origin
+resized origin made list = take made list ++ replicate (made - length list) origin
 
 -- after the step of a token at this place
-abbrev pub with_token : ℕ → Bool → ℕ → Made → Made
-with_token at is_character made o = record {
-  list = filled (origin_of o.first at is_character) made o.list;
+abbrev pub after_token : ℕ → Bool → ℕ → OriginState → OriginState
+after_token at is_character made o = record {
+  list = resized (origin_of o.first at is_character) made o.list;
   first = if is_character then Some (unwrap_or o.first at) else None;
 }
 
@@ -46,21 +47,21 @@ module _ {N : Type 0} where
   is_character t = false
 
   -- what was made before any token came from the beginning
-  abbrev pub first_origins : State N → Made
+  abbrev pub first_origins : State N → OriginState
   first_origins s = record { list = replicate s.site.nodes.made (record { token = 0; text = 0 }); first = None }
 
 -- The tokens lead from one state to another, and these are the origins of the nodes before and after.
-pub data Makes {N : Type 0} (n : Naming N) : List (PlacedToken N) → State N → Made → State N → Made → Type 0 where
-  none : {s : State N} {o : Made} → Makes n [] s o s o
-  and : {t : PlacedToken N} {ts : List (PlacedToken N)} {s s' s'' : State N} {o o' : Made} → Step n t.at t.token s (Goes s')
-      → Makes n ts s' (with_token t.at (is_character t.token) s'.site.nodes.made o) s'' o' → Makes n (t ∷ ts) s o s'' o'
+pub data Makes {N : Type 0} (n : Naming N) : List (PlacedToken N) → State N → OriginState → State N → OriginState → Type 0 where
+  none : {s : State N} {o : OriginState} → Makes n [] s o s o
+  and : {t : PlacedToken N} {ts : List (PlacedToken N)} {s s' s'' : State N} {o o' : OriginState} → Step n t.at t.token s (Goes s')
+      → Makes n ts s' (after_token t.at (is_character t.token) s'.site.nodes.made o) s'' o' → Makes n (t ∷ ts) s o s'' o'
 
 -- These are the origins of the nodes, by their numbers, that the tokens of these bytes make.
 pub record AreOrigins (opts : ParseOptions) (parse_case : ParseCase) (bytes : List ℕ) (list : List Origin) : Type 0 where
   pub tokens : List Tok
   pub errors : List ParseError
   pub state : State (List ℕ)
-  pub origins : Made
+  pub origins : OriginState
   pub read : Tokens opts.table (start_kind (start_of parse_case)) (text_in (manner opts parse_case) bytes) (length bytes) tokens errors
   pub makes : Makes texts (map placed tokens) (begins opts parse_case) (first_origins (begins opts parse_case)) state origins
   pub list_is : list ≡ origins.list

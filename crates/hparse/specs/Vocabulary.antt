@@ -7,7 +7,7 @@ pub use Rattle.hparse.specs.Fed.{EndsInput, FeedsPiece, HasRead, WasRead}
 pub use Rattle.hparse.specs.Holding.{EndsText, HoldsItems, Refuses}
 pub use Rattle.hparse.specs.Input.{Began, Comes, Manner, bom_of}
 pub use Rattle.hparse.specs.Into.{ComesInto, as_document}
-pub use Rattle.hparse.specs.Origins.{is_character, with_token}
+pub use Rattle.hparse.specs.Origins.{is_character, after_token}
 pub use Rattle.hparse.specs.Parse.{ParseCase, ParseOptions, document, fragment, is_context}
 pub use Rattle.hparse.specs.Parsing.{AnswersParse, FeedsParser, HasParsed, IsBuilt, IsMadeOf, ShowsParse, options_of}
 pub use Rattle.hparse.specs.Placing.{PlacesToken, origins_if}

@@ -16,14 +16,14 @@ fn is_lower(byte: u8) -> bool
     byte >= b'a' && byte <= b'z'
 }
 
-/// Whether it may be in a context's name after the first one.
+/// Whether a byte may stand in a context's name after the first byte.
 fn is_name_byte(byte: u8) -> bool
     ensures { result ≡ is_name_byte byte }
 {
     is_lower(byte) || (byte >= b'0' && byte <= b'9') || byte == b'-' || byte == b'_' || byte == b':'
 }
 
-/// Whether all of these may.
+/// Whether all of these bytes may.
 fn are_name_bytes(bytes: &[u8]) -> bool
     ensures { result ≡ list_all is_name_byte bytes.now }
 {

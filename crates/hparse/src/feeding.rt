@@ -71,7 +71,7 @@ impl<'t, S: TokenSink> Feeding<'t, S> {
         }
     }
 
-    /// Nothing waits to be fed: characters of a run do within a call alone.
+    /// Nothing waits to be fed: only within a call do characters of a run wait.
     pub fn all_fed(&self)
         ensures { self.now.unfed ≡ [] }
     {

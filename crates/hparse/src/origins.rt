@@ -1,15 +1,15 @@
 //! Where the nodes of a tree came from.
 
 ghost use Rattle.std.specs.Prelude.{◌≡◌, Some, None, replicate, IfOk};
-ghost use Rattle.hparse.specs.Origins.{place_as, with_token};
+ghost use Rattle.hparse.specs.Origins.{place_as, after_token};
 
 use hnodes::NodeKind;
 use std::alloc::{AllocError, Global};
 use std::marker::Model;
 
-/// Where a node came from: the place of its token's first byte, where it is no text, and where it is one. A node came from the token in
-/// whose step it was made (`#tree-construction`). But characters in a table wait for the token after them (`#parsing-main-intabletext`):
-/// a text that another token made came from the first of the characters right before it.
+/// Where a node came from, as a byte of the input: `text` where the node is a text, and `token` where it is none. A node came from the
+/// first byte of the token in whose step it was made (`#tree-construction`). But characters in a table wait for the token after them
+/// (`#parsing-main-intabletext`): a text that another token made came from the first of the characters right before it.
 #[derive(Clone, Copy)]
 pub struct Origin {
     pub token: u64,
@@ -33,20 +33,20 @@ impl Origin {
 pub(crate) struct Origins {
     pub(crate) list: Vec<Origin>,
 
-    /// The place of the first character after the last token that is none.
+    /// The place of the first character after the last token that is no character.
     first: Option<u64>,
 }
 
 impl Model for Origins {
-    ghost use Rattle.hparse.specs.Origins.{Made};
+    ghost use Rattle.hparse.specs.Origins.{OriginState};
 
-    ghost Value = { Made };
+    ghost Value = { OriginState };
 
     ghost view = { λ o. record { list = o.list.items; first = o.first } };
 }
 
 impl Origins {
-    /// So many nodes were made before any token.
+    /// The origins of the nodes that were made before any token, which are this many.
     pub(crate) fn new(alloc: Global, made: u32) -> Result<Origins, AllocError>
         ensures { IfOk result (λ o. o ≡ record { list = replicate made (record { token = 0; text = 0 }); first = None }) }
     {
@@ -54,9 +54,9 @@ impl Origins {
         Ok(Origins { list, first: None })
     }
 
-    /// So many were made after the step of a token at this place.
+    /// Adds the nodes that the step of a token at this place made, after which there are this many.
     pub(crate) fn add(&mut self, at: u64, is_character: bool, made: u32) -> Result<(), AllocError>
-        ensures { IfOk result (λ u. self.new ≡ with_token at is_character made self.old) }
+        ensures { IfOk result (λ u. self.new ≡ after_token at is_character made self.old) }
     {
         let first = self.first.unwrap_or(at);
         let text = if is_character { at } else { first };

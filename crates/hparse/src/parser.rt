@@ -85,7 +85,7 @@ impl<'t> Parser<'t> {
         }
     }
 
-    /// The answer, where the input has ended.
+    /// Ends the input, and gives what it was parsed as.
     pub fn finish(self) -> Result<Parsed, Refusal>
         ensures shows { (opts : ParseOptions) (parse_case : ParseCase) (bytes : List ℕ) → HasParsed opts parse_case self.entry bytes
             → ShowsParse opts parse_case bytes result }
@@ -103,7 +103,7 @@ impl<'t> Parser<'t> {
         }
     }
 
-    /// What it reads, or what it has refused.
+    /// Its reading, or the refusal that ended it.
     fn into_reading(self) -> Result<Reading<'t, Placing<'t>>, Refusal>
         ensures { MatchResult result (λ reading. (self.entry.refused ≡ None) × (reading ≡ self.entry.reading))
             (λ refusal. self.entry.refused ≡ Some refusal) }

@@ -1,7 +1,7 @@
 //! A builder of a tree that keeps where the nodes came from.
 
 ghost use Rattle.std.specs.Prelude.{◌≡◌, option_map, IfOk, IfErr};
-ghost use Rattle.hparse.specs.Vocabulary.{Memory, Given, token_of, is_character, with_token, PlacesToken, origins_if};
+ghost use Rattle.hparse.specs.Vocabulary.{Memory, Given, token_of, is_character, after_token, PlacesToken, origins_if};
 
 use crate::origins::{Origin, Origins};
 use hmarkup::ErrorSink;
@@ -48,7 +48,7 @@ impl<'q> Placing<'q> {
     fn keep(&mut self, at: u64, is_character: bool) -> Result<(), Refusal>
         ensures builder { self.new.builder ≡ self.old.builder }
         ensures origins { IfOk result (λ u. self.new.origins
-            ≡ option_map (with_token at is_character self.old.builder.state.site.nodes.made) self.old.origins) }
+            ≡ option_map (after_token at is_character self.old.builder.state.site.nodes.made) self.old.origins) }
         ensures memory { IfErr result (λ e. e ≡ Memory) }
     {
         if let Some(origins) = &mut self.origins {
