@@ -5,8 +5,7 @@ use Rattle.htoken.specs.Token.{End}
 use Rattle.hwrite.specs.Draft.{AddsText, AddsCharacters, Drafts, beginning_of_characters, end_of_characters}
 use Rattle.hwrite.proofs.Fills.{extends_none, extends_whole, extends_then, extends_as, fills_more}
 use Rattle.hwrite.proofs.Holes.{IsWhole, begun-whole, characters-whole, escaped-whole}
-use Rattle.hwrite.proofs.OpenLines.{IsWords, IsWords-line_of, first_character, next_character, first_words, next_words}
-use Rattle.hwrite.proofs.StartTag as start
+use Rattle.hwrite.proofs.OpenLines.{IsWords-line_of, characters_come, words_come}
 
 module _ (names : Texts) where
   pub adds_none : (d : Drafted) → Adds names d d []
@@ -54,7 +53,8 @@ module _ (names : Texts) where
       let written = extends_then names t h t' h t'' h'' opened (quoted name) (begun t h t' at (codes "start ") o refl) n in
       let tagged = extends_then names t h t'' h'' t''' h''' words (flat_map attribute_words attrs) written a in
       let ended = extends_then names t h t''' h''' all h''' more end tagged (extends_whole names t''' h''' all h''' end e refl whole) in
-      extends_as names t h all h''' (more ++ end) (line_text (line_of (Start name attrs closing at))) (start.before_end [] opened words more name attrs closing at end refl refl refl is) ended
+      let same : more ++ end ≡ line_text (line_of (Start name attrs closing at)) = rw is (simp append_assoc) in
+      extends_as names t h all h''' (more ++ end) (line_text (line_of (Start name attrs closing at))) same ended
 
   -- the line of an end tag
   end_words : (at : ℕ) (name : List ℕ) → decimal at ++ codes " " ++ codes "end " ++ quoted name ++ codes "\n" ≡ line_text (line_of (End name at))
@@ -77,15 +77,6 @@ ending-whole : (v : Bool) → IsWhole (end_of_characters v)
 ending-whole true = refl
 ending-whole false = refl
 
--- what a draft becomes once characters were added
-characters_come : (v : Bool) (at : ℕ) (text : List ℕ) (lines : List Line) (written all : List ℕ) → written ++ to_write v (joined (Characters at text) lines) ≡ all
-    → written ++ (beginning_of_characters v at ++ escaped text) ++ to_write true lines ≡ all
-characters_come true at text lines written all h = next_character true true (Characters at text) lines written (written ++ escaped text) all text at refl refl refl refl h
-characters_come false at text lines written all h =
-    let opened = written ++ decimal at ++ codes " " ++ codes "chars \"" in
-    let regrouped : written ++ (decimal at ++ codes " " ++ codes "chars \"" ++ escaped text) ≡ opened ++ escaped text = simp append_assoc in
-    first_character false true (Characters at text) lines written (written ++ (decimal at ++ codes " " ++ codes "chars \"" ++ escaped text)) all opened text at refl refl refl refl regrouped h
-
 pub drafts_character : (old new : Drafted) (token : Token) (ch at : ℕ) → token ≡ code.Char ch at → AddsCharacters old new at (encode_utf8 ch) → Drafts old token new
 drafts_character old new token ch at is a = λ names tok lines text means c.
     let line : line_of tok ≡ Characters at (encode_utf8 ch) = ap line_of (subst (λ (t : Token). TokenMeans names t tok) is means) in
@@ -97,12 +88,6 @@ drafts_character old new token ch at is a = λ names tok lines text means c.
           (extends_whole names old.text old.holes new.text new.holes added a.text_is a.holes_are (beginning-whole old.in_characters at (encode_utf8 ch)));
       whole = ap (λ (v : Bool). c.written ++ added ++ to_write v lines) a.open_is ∙ characters_come old.in_characters at (encode_utf8 ch) lines c.written text before;
     }
-
-words_come : (v : Bool) (line : Line) (lines : List Line) (written all : List ℕ) → IsWords line → written ++ to_write v (joined line lines) ≡ all
-    → written ++ end_of_characters v ++ line_text line ++ to_write false lines ≡ all
-words_come true line lines written all is h = first_words true false line lines written (written ++ codes "\"\n" ++ line_text line) all (written ++ codes "\"\n") refl refl is refl refl h
-words_come false line lines written all is h =
-    next_words false false line lines written (written ++ [] ++ line_text line) all refl refl is (ap (λ (l : List ℕ). l ++ line_text line) (append-nil written)) h
 
 pub drafts_line : (old mid new : Drafted) (token : Token) → ((ch at : ℕ) → token ≡ code.Char ch at → ⊥) → AddsText old mid (end_of_characters old.in_characters) false
     → ((names : Texts) (meant : Tok) → TokenMeans names token meant → Adds names mid new (line_text (line_of meant))) → Drafts old token new

@@ -6,12 +6,10 @@ pub mod Drafting
 pub mod Escapes
 pub mod InHoles
 pub mod Fills
-pub mod Grouping
 pub mod Holes
 pub mod Meanings
 pub mod OpenLines
 pub mod Printed
-pub mod StartTag
 pub mod Tasks
 pub mod Vocabulary
 pub mod Written

@@ -17,10 +17,10 @@ use Rattle.hwrite.proofs.Alike.{spelled-alike}
 use Rattle.hwrite.specs.Prints.{nodes_text, errors_text, is_plain_in, plain_text, written_text}
 
 -- what is in the root of a parse: each number of a name is read as its text
-abbrev children_spelled : Parsed → Forest (List ℕ)
+abbrev pub children_spelled : Parsed → Forest (List ℕ)
 children_spelled parsed = spelled (text_of parsed.names) (children_of parsed.root parsed.tree.trees)
 
-children_are : (parse_case : ParseCase) (parsed : Parsed) (parse : Parse) → IsParse parse_case parsed parse → children_spelled parsed ≡ children_of (root_of parse_case) parse.trees
+pub children_are : (parse_case : ParseCase) (parsed : Parsed) (parse : Parse) → IsParse parse_case parsed parse → children_spelled parsed ≡ children_of (root_of parse_case) parse.trees
 children_are parse_case parsed parse is =
     spelled-alike parsed.names (children_of parsed.root parsed.tree.trees) is.names_are ∙ spelled-children_of (spelling parsed.names) parsed.root parsed.tree.trees
     ∙ ap₂ (λ (n : ℕ) (f : Forest (List ℕ)). children_of n f) is.root is.trees

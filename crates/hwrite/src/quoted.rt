@@ -1,21 +1,11 @@
 //! Texts between quotes, as they are printed.
 
-ghost use Rattle.std.specs.Prelude.{◌≡◌, ◌≢◌, ◌⊎◌, ◌++◌, ◌<◌, OnOk, encode_utf8};
+ghost use Rattle.std.specs.Prelude.{◌≡◌, ◌⊎◌, ◌++◌, ◌<◌, OnOk, encode_utf8};
 ghost use Rattle.std.specs.List.{list_all};
 ghost use Rattle.std.specs.String.{string_bytes};
 ghost use Rattle.hwrite.specs.Quoted.{escaped, escaped_byte, is_unescaped, quoted};
 
 use std::alloc::AllocError;
-
-/// Writes a control character in two hex digits.
-#[inline(never)]
-fn push_hex(text: &mut String, ch: char) -> Result<(), AllocError>
-    requires control { ch < 32 }
-    requires not_line_feed { ch ≢ 10 }
-    ensures { OnOk result (string_bytes text.new ≡ string_bytes text.old ++ escaped_byte ch) }
-{
-    write!(text, "\\x{:02x}", ch as u32)
-}
 
 /// Writes a character that is escaped between quotes.
 #[inline(never)]
@@ -30,7 +20,7 @@ fn push_escape(text: &mut String, ch: char) -> Result<(), AllocError>
     } else if ch == '\n' {
         text.push_str("\\n")
     } else {
-        push_hex(text, ch)
+        write!(text, "\\x{:02x}", ch as u32)
     }
 }
 
