@@ -20,10 +20,7 @@ use Rattle.html_c.proofs.Trees.{some_rows}
 -- a command's task is of an input in a context that is allowed
 pub allowed : (t : Task) (context told : Option (List ℕ)) → context ≡ told → AllowsContext told → AllowsContext (context_of t context)
 allowed task.Tokens context told is allows = tt
-allowed task.Tree context told is allows = subst AllowsContext (sym is) allows
-allowed task.Errors context told is allows = subst AllowsContext (sym is) allows
-allowed task.Write context told is allows = subst AllowsContext (sym is) allows
-allowed task.Plain context told is allows = subst AllowsContext (sym is) allows
+allowed other context told is allows = subst AllowsContext (sym is) allows
 
 module _ (input : List ℕ) (given : Given) (opts : ParseOptions) (tells : Tells given opts) where
   module _ (number : ℕ) (command : Command) (is : IsCommand number given command) where

@@ -46,18 +46,8 @@ the_err e = Err e
 
 module _ (prints : List ℕ → Result (List ℕ) Refusal → Type 0) (bytes : List ℕ) (room room' : ℕ) (text : List ℕ) where
   kept_none : (why : Refusal) → ComesToNone prints bytes why → ComesToNone prints bytes (kept why)
-  kept_none (refusal.NotUtf8 at) h = h
-  kept_none (refusal.OutOfProfile name at) h = h
-  kept_none (refusal.TooLarge at) h = h
-  kept_none (refusal.TooManyNodes at) h = h
-  kept_none (refusal.TooDeep at) h = h
-  kept_none refusal.Memory h = h
-  kept_none refusal.Read h = h
-  kept_none refusal.BadContext h = h
-  kept_none (refusal.BadTable cause) h = h
-  kept_none (refusal.BadQuirks line) h = h
-  kept_none refusal.BadLimits h = h
   kept_none refusal.Write h = none_for_memory refl
+  kept_none other h = h
 
   of_err : (e r : Refusal) → the_err e ≡ Err r → e ≡ r
   of_err e r is = cc

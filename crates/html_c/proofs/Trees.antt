@@ -2,15 +2,13 @@
 use Rattle.html_c.proofs.Names.{◌≡◌, ℕ, List, [], ◌∷◌, ◌++◌, Option, Some, None, Result, Ok, Err, inl, inr, sym, subst, ap, ap₂, ◌∙◌, refl, append-nil, IsErrAnd, Refusal, Memory, text_of, Forest, none, tree, children_of, spelled, kind_in, Parsed, ParseOptions, AllowsContext, case_in, ComesToNone, none_for_memory, none_of_bytes, kind_number, link_to, rows_of, words_of, ComesToParse, GivesParse, Given}
 use Rattle.std.specs.Prelude.{◌⊎◌}
 use Rattle.names.specs.declared.refusal.Refusal.TheVariants.{BadContext}
-use Rattle.names.specs.Spelling.{spelling}
 use Rattle.hnodes.specs.Forest.{What, document, doctype, element, comment, text}
 use Rattle.hnodes.specs.Spelled.{spelled_what}
 use Rattle.hnodes.specs.Spots.{first_or}
-use Rattle.hnodes.proofs.Spellings.{spelled-children_of}
-use Rattle.hparse.specs.Parse.{Parse, Parses, ParseCase, root_of}
-use Rattle.hparse.specs.Parsing.{AnswersParse, IsParse}
+use Rattle.hparse.specs.Parse.{Parses}
+use Rattle.hparse.specs.Parsing.{AnswersParse}
 use Rattle.hparse.specs.Reader.{ReadsInput, reading_ran_out, reading_failed, reading_stopped, read_to_end}
-use Rattle.hwrite.proofs.Alike.{spelled-alike}
+use Rattle.hwrite.proofs.Printed.{children_are}
 use Rattle.html_c.specs.Exports.{GivesRows, case_given}
 use Rattle.html_c.specs.Trees.{HasRows}
 use Rattle.html_c.specs.declared.rows.Rows.{Rows}
@@ -55,12 +53,6 @@ module _ {N M : Type 0} (g : N → M) where
         first_child = link_to (same_first kids i);
         next = link_to (same_first rest i);
       } ∷ (same_rows n kids i ++ same_rows p rest i))
-
-children_are : (parse_case : ParseCase) (parsed : Parsed) (parse : Parse) → IsParse parse_case parsed parse
-    → spelled (text_of parsed.names) (children_of parsed.root parsed.tree.trees) ≡ children_of (root_of parse_case) parse.trees
-children_are parse_case parsed parse is =
-    spelled-alike parsed.names (children_of parsed.root parsed.tree.trees) is.names_are ∙ spelled-children_of (spelling parsed.names) parsed.root parsed.tree.trees
-    ∙ ap₂ (λ (n : ℕ) (f : Forest (List ℕ)). children_of n f) is.root is.trees
 
 pub some_rows : (input : List ℕ) (given : Given) (parsed : Parsed) (rows : Rows) → GivesParse input given parsed → HasRows parsed rows → GivesRows input given rows.nodes.items rows.words.items
 some_rows input given parsed rows h has =

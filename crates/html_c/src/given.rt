@@ -36,7 +36,7 @@ pub(crate) fn task_of(number: u32) -> Option<Task>
     }
 }
 
-/// Whether the task may be one of an input in this element, or of a document.
+/// Whether the task is one for a fragment in this element, or for a document where there is none.
 fn may_be_in(task: Task, context: Option<&str>) -> bool
     ensures { result ≡ may_be_in task (name_of context.entry) }
 {
@@ -55,7 +55,7 @@ pub(crate) struct Lists {
 }
 
 impl<'a> Given<'a> {
-    /// Sees that the options are of a size that is known. Before that nothing else of them is read.
+    /// Checks that the options have the size that the library knows. Nothing else of them is read before.
     pub(crate) fn check_size(&self) -> Result<(), CallFault>
         ensures { MatchResult result (λ _. IsSize self.now.size) (Unmet self.now) }
     {
@@ -98,7 +98,7 @@ impl<'a> Given<'a> {
         Ok(name)
     }
 
-    /// The same, whether a fragment may be there or not.
+    /// The name that is given for it, which may be one that no fragment can have.
     fn context_name(&self) -> Result<Option<&'a str>, CallFault>
         ensures { MatchResult result (λ name. name_of name ≡ context_told self.now.context.now) (Unmet self.now) }
     {

@@ -59,7 +59,7 @@ fn room_answer(fits: bool, length: usize, nodes: usize) -> Answer
     }
 }
 
-/// Writes items to the beginning of a room, if they are to be written.
+/// Writes items to the beginning of a room, where all that an answer writes fits.
 pub(crate) fn put<T: Copy>(fits: bool, items: &[T], room: &mut [T])
     requires { fits ≡ true → length items.now ≤ length room.old }
     ensures { room.new ≡ put_over fits items.now room.old }

@@ -24,15 +24,10 @@ pub(crate) enum Form {
 fn form_of(bytes: &[u8]) -> Form
     ensures { result ≡ form_of bytes.now }
 {
-    match bytes.split_first() {
+    match bytes.first() {
         None => Form::Core,
-        Some((first, _)) => {
-            if *first == FLAT {
-                Form::Flat
-            } else {
-                Form::Json
-            }
-        }
+        Some(&FLAT) => Form::Flat,
+        Some(_) => Form::Json,
     }
 }
 
