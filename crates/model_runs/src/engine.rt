@@ -48,27 +48,28 @@ pub fn call(hand: &mut Hand, table: &Table, quirks: &Quirks, line: &str) -> Resu
     }
     let context = text(hand.alloc, word(line, 8))?;
     let input = bytes(hand.alloc, word(line, 9))?;
-    let mut command = Command {
-        task,
-        context: None,
-        escaping: Escaping::One,
-        piece: PIECE,
-        is_last: false,
-    };
-    if context.as_str() != "-" {
-        command.context = Some(&context);
-    }
-    if word(line, 5) == "2" {
-        command.escaping = Escaping::Two;
-    }
     let trial = Trial {
         alloc: hand.alloc,
-        command,
+        command: command_of(task, &context, line),
         options,
         input: &input,
     };
     say(&trial, word(line, 7) == "yes", &mut hand.out);
     Ok(())
+}
+
+/// The command of a task that a line tells, where `-` is no context.
+fn command_of<'a>(task: Task, context: &'a str, line: &str) -> Command<'a> {
+    Command {
+        task,
+        context: (context != "-").then_some(context),
+        escaping: match word(line, 5) {
+            "2" => Escaping::Two,
+            _ => Escaping::One,
+        },
+        piece: PIECE,
+        is_last: false,
+    }
 }
 
 /// Says what comes of the whole input; the first size of a piece with another outcome; whether the same comes in memory; and, if that

@@ -48,8 +48,6 @@ fn say_entries(chain: &Chains, out: &mut Answers) {
 
 /// Makes a call of a list of formatting elements. The node of the entry comes first, then the one in its place.
 pub fn call(list: &mut Formatting, hand: &mut Hand, line: &str) -> Result<(), Refusal> {
-    let (from, to) = (hand.node(line, 2), hand.node(line, 3));
-    let back = number(line, 2);
     match word(line, 1) {
         "new" => *list = Formatting::new(hand.alloc, Keys::for_tests()),
         "push" => {
@@ -58,6 +56,20 @@ pub fn call(list: &mut Formatting, hand: &mut Hand, line: &str) -> Result<(), Re
             list.push(open.node, open.name, Attributes::new(attrs, hand.alloc)?)?;
         }
         "marker" => list.marker()?,
+        "find" => {
+            let name = hand.name(line, 2)?;
+            hand.out.entry(list.find(name));
+        }
+        call => call_of_node(list, hand, call, line),
+    }
+    Ok(())
+}
+
+/// Makes a call that is never refused.
+fn call_of_node(list: &mut Formatting, hand: &mut Hand, call: &str, line: &str) {
+    let (from, to) = (hand.node(line, 2), hand.node(line, 3));
+    let back = number(line, 2);
+    match call {
         "clear" => list.clear(),
         "remove" => list.remove(from),
         "replace" => list.replace(from, to),
@@ -65,17 +77,12 @@ pub fn call(list: &mut Formatting, hand: &mut Hand, line: &str) -> Result<(), Re
         "reach" => list.reach(back),
         "keep" if is_moved(list, from, to, Bookmark::InPlace) => {}
         "move" if is_moved(list, from, to, Bookmark::After(hand.node(line, 4))) => {}
-        "find" => {
-            let name = hand.name(line, 2)?;
-            hand.out.entry(list.find(name));
-        }
         "len" => hand.out.say(list.len()),
         "get" => hand.out.entry(list.get(back)),
         "all" => say_all(list, &mut hand.out),
         "entry" => hand.out.entry(list.entry_of(from)),
         _ => hand.out.say("-"),
     }
-    Ok(())
 }
 
 /// Each `get`, with the first past the end.

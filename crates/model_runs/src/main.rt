@@ -24,7 +24,7 @@ mod words;
 use crate::engine::print_count;
 use crate::hand::Hand;
 use crate::site::Run;
-use crate::words::{after, text, word};
+use crate::words::{after, word};
 use charref::Table;
 use hchain::Chains;
 use hformat::Formatting;
@@ -107,13 +107,15 @@ struct Structures {
 impl Structures {
     /// Empty lists, and the document alone.
     fn new(alloc: Global) -> Result<Self, Refusal> {
+        let table = Table::core(alloc)?;
+        let quirks = Quirks::read(alloc, "")?;
         Ok(Structures {
             hand: Hand::new(alloc)?,
             chain: Chains::new(alloc),
             stack: OpenStack::new(alloc, 0),
             list: Formatting::new(alloc, Keys::for_tests()),
-            table: Table::core(alloc)?,
-            quirks: Quirks::read(alloc, "")?,
+            table,
+            quirks,
         })
     }
 
@@ -128,18 +130,26 @@ impl Structures {
     fn call(&mut self, line: &str) -> Result<(), Refusal> {
         let hand = &mut self.hand;
         match word(line, 0) {
-            "chain" => lists::call_chain(&mut self.chain, hand, line)?,
-            "tree" => tree::call(hand, line)?,
-            "stack" => stack::call(&mut self.stack, hand, line)?,
-            "list" => lists::call(&mut self.list, hand, line)?,
-            "name" => hand
-                .out
-                .say(hand.names.intern(hand.alloc, after(line, 1))?.index()),
-            "core" => self.table = Table::core(hand.alloc)?,
-            "table" => self.table = Table::read(hand.alloc, after(line, 1))?,
-            "longest" => lists::say_longest(&self.table, after(line, 1), &mut hand.out),
-            "quirks" => self.quirks = Quirks::read(hand.alloc, &text(hand.alloc, word(line, 1))?)?,
-            "run" => engine::call(hand, &self.table, &self.quirks, line)?,
+            "chain" => lists::call_chain(&mut self.chain, hand, line),
+            "tree" => tree::call(hand, line),
+            "stack" => stack::call(&mut self.stack, hand, line),
+            "list" => lists::call(&mut self.list, hand, line),
+            "run" => engine::call(hand, &self.table, &self.quirks, line),
+            _ => self.call_text(line),
+        }
+    }
+
+    /// Makes a call with a text that is read: a name, a table or a quirks list.
+    fn call_text(&mut self, line: &str) -> Result<(), Refusal> {
+        let hand = &mut self.hand;
+        let alloc = hand.alloc;
+        let text = after(line, 1);
+        match word(line, 0) {
+            "name" => hand.out.say(hand.names.intern(alloc, text)?.index()),
+            "core" => self.table = Table::core(alloc)?,
+            "table" => self.table = Table::read(alloc, text)?,
+            "longest" => lists::say_longest(&self.table, text, &mut hand.out),
+            "quirks" => self.quirks = Quirks::read(alloc, &words::text(alloc, word(line, 1))?)?,
             _ => hand.out.say("-"),
         }
         Ok(())

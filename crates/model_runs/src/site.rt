@@ -71,9 +71,6 @@ impl Run {
                 };
             }
             "adopt" if sound => self.site.adopt(name, self.at)?,
-            "element" | "formatting" | "comment" | "doctype" | "text" | "char" => {
-                insert(&mut self.site, hand, name, line, self.at)?;
-            }
             _ => change(&mut self.site, hand, name, line, self.at)?,
         }
         self.sound = sound;
@@ -81,7 +78,7 @@ impl Run {
     }
 }
 
-/// Puts a node at its place, or a text.
+/// Puts an element with the attributes of a line at its place, or adds them to an open one; or puts what has none.
 fn insert(
     site: &mut Site,
     hand: &mut Hand,
@@ -92,15 +89,26 @@ fn insert(
     ensures { Kept numbers site.old → IfOk result (λ _. Kept numbers site.new) }
 {
     let attrs = attrs(&mut hand.names, hand.alloc, after(line, 3))?;
+    match (word(line, 1), site.from_top(number(line, 2))) {
+        ("element", _) => {
+            site.insert_element(name, attrs, site.place(), at)?;
+        }
+        ("formatting", _) if name != Tag::Table.number() => {
+            site.insert_formatting(name, attrs, site.place(), at)?;
+        }
+        ("missing", Some(open)) => site.add_missing(open.node, attrs)?,
+        _ => put(site, hand, line, at)?,
+    }
+    Ok(())
+}
+
+/// Puts a text, a comment or a doctype.
+fn put(site: &mut Site, hand: &mut Hand, line: &str, at: u64) -> Result<(), Refusal>
+    ensures { Kept numbers site.old → IfOk result (λ _. Kept numbers site.new) }
+{
     let text = after(line, 2);
     let place = site.place();
     match word(line, 1) {
-        "element" => {
-            site.insert_element(name, attrs, place, at)?;
-        }
-        "formatting" if name != Tag::Table.number() => {
-            site.insert_formatting(name, attrs, place, at)?;
-        }
         "comment" => insert_comment(site, hand, line, at)?,
         "doctype" => {
             site.insert_doctype(doctype(hand.alloc, [text, "", ""])?, at)?;
@@ -125,7 +133,7 @@ fn insert_comment(site: &mut Site, hand: &Hand, line: &str, at: u64) -> Result<(
     Ok(())
 }
 
-/// Edits the open nodes or the list.
+/// Makes an edit that may be refused, of the open nodes and the list.
 fn change(
     site: &mut Site,
     hand: &mut Hand,
@@ -135,29 +143,37 @@ fn change(
 ) -> Result<(), Refusal>
     ensures { Kept numbers site.old → IfOk result (λ _. Kept numbers site.new) }
 {
-    let attrs = attrs(&mut hand.names, hand.alloc, after(line, 3))?;
+    match word(line, 1) {
+        "close" => site.close(name, at),
+        "other-end" => site.other_end(name, at),
+        "close-p" => site.close_p(at),
+        "marker" => site.marker(),
+        "reconstruct" => site.reconstruct(at),
+        "error" => site.error(ErrorCode::TreeInBody, at),
+        call if pop(site, call, name, line) => Ok(()),
+        _ => insert(site, hand, name, line, at),
+    }
+}
+
+/// Makes an edit that is never refused, if this is the call of one.
+fn pop(site: &mut Site, call: &str, name: NameId, line: &str) -> bool
+    ensures { Kept numbers site.old → Kept numbers site.new }
+{
     let index = number(line, 2);
     let open = site.from_top(index).map(|open| open.node);
     let listed = site.formatting().get(index).map(|entry| entry.node);
-    match (word(line, 1), open, listed) {
-        ("missing", Some(node), _) => site.add_missing(node, attrs)?,
+    match (call, open, listed) {
         ("leave", Some(node), _) => site.leave(node),
         ("unlist", _, Some(node)) => site.remove_entry(node),
-        ("close", ..) => site.close(name, at)?,
-        ("other-end", ..) => site.other_end(name, at)?,
-        ("close-p", ..) => site.close_p(at)?,
-        ("marker", ..) => site.marker()?,
-        ("reconstruct", ..) => site.reconstruct(at)?,
-        ("error", ..) => site.error(ErrorCode::TreeInBody, at)?,
         ("pop", ..) => site.pop(),
         ("pop-to", ..) => site.pop_to(name),
         ("pop-past", ..) => site.pop_past(passing(name, word(line, 2))),
         ("pop-to-group", ..) => site.pop_to_group(group(word(line, 2))),
         ("clear", ..) => site.clear_to_marker(),
         ("foster", ..) => site.set_foster(word(line, 2) == "on"),
-        _ => hand.out.say("-"),
+        _ => return false,
     }
-    Ok(())
+    true
 }
 
 fn passing(name: NameId, word: &str) -> Passing {

@@ -54,21 +54,8 @@ fn edit(hand: &mut Hand, call: &str, node: NodeId, line: &str) -> Result<(), Ref
             Some(to) if is_moved(&mut hand.tree, call, node, to) => {}
             _ => hand.out.say("-"),
         },
-        "char" | "text" => match place(&hand.tree, word(line, 3), node) {
-            Some(place) => {
-                let text = text(hand.alloc, after(line, 4))?;
-                put(&mut hand.tree, call, &text, place)?;
-            }
-            None => hand.out.say("-"),
-        },
-        "attr" => {
-            let attr = attr(&mut hand.names, hand.alloc, after(line, 3))?;
-            hand.tree.add_attr(node, attr)?;
-        }
-        "missing" => {
-            let attr = attr(&mut hand.names, hand.alloc, after(line, 3))?;
-            hand.tree.add_missing_attr(node, attr)?;
-        }
+        "char" | "text" => put(hand, call, node, line)?,
+        "attr" | "missing" => add_attr(hand, call, node, line)?,
         "nest" | "fill" => {
             let (tree, count) = (&mut hand.tree, number(line, 3));
             let last = grow(tree, hand.alloc, node, count, call == "nest")?;
@@ -112,12 +99,28 @@ fn place(tree: &Tree, side: &str, node: NodeId) -> Option<Place>
 }
 
 /// Puts a text, or its first character, at a place.
-fn put(tree: &mut Tree, call: &str, text: &str, place: Place) -> Result<(), Refusal>
-    requires { IsPlace place tree.old }
+fn put(hand: &mut Hand, call: &str, node: NodeId, line: &str) -> Result<(), Refusal>
+    requires { node < hand.old.tree.made }
 {
+    let Some(place) = place(&hand.tree, word(line, 3), node) else {
+        hand.out.say("-");
+        return Ok(());
+    };
+    let text = text(hand.alloc, after(line, 4))?;
     match text.chars().next() {
-        Some(c) if call == "char" => tree.put_char(c, place, PLACE),
-        _ => tree.put_text(text, place, PLACE),
+        Some(c) if call == "char" => hand.tree.put_char(c, place, PLACE),
+        _ => hand.tree.put_text(&text, place, PLACE),
+    }
+}
+
+/// Adds an attribute to a node, or one that it lacks.
+fn add_attr(hand: &mut Hand, call: &str, node: NodeId, line: &str) -> Result<(), Refusal>
+    requires { node < hand.old.tree.made }
+{
+    let attr = attr(&mut hand.names, hand.alloc, after(line, 3))?;
+    match call {
+        "attr" => hand.tree.add_attr(node, attr),
+        _ => hand.tree.add_missing_attr(node, attr),
     }
 }
 
