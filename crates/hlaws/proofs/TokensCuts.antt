@@ -6,8 +6,8 @@ use Rattle.charref.specs.Reference.{IsReference, named}
 use Rattle.htoken.specs.Spans.{raw_reference}
 use Rattle.htoken.specs.Data.{character_span}
 use Rattle.htoken.specs.Data as production
-use Rattle.htoken.specs.Tokens.{tokens_of}
-use Rattle.htoken.proofs.Cutting.{refused-append}
+use Rattle.htoken.specs.Tokens.{tokens_of, is_refused_tag}
+use Rattle.std.proofs.lemmas.List.Folds.{list_any-append}
 use Rattle.hserialize.specs.declared.escaping.Setting.TheVariants as setting
 use Rattle.hlaws.proofs.TokensCore.{IsCoreName, Way, by_name, by_itself, AreWritten, entry_of, longest-core, begins_alphanumeric}
 use Rattle.hlaws.proofs.TokensText.{tail_of}
@@ -64,7 +64,8 @@ module _ (table : Entities) (end : ℕ) where
     text_is = flat_map-append (λ (s : Span). s.text) a.spans b.spans ∙ (λ i. a.text_is i ++ b.text_is i);
     cut = cut-append here a.spans b.spans rest (subst (λ (z : List Placed). Cut table end here a.spans (z ++ rest)) (sym b.text_is) a.cut) b.cut;
     tokens_are = ap (map taken) (flat_map-append (λ (s : Span). s.tokens) a.spans b.spans) ∙ map-append taken (tokens_of a.spans) (tokens_of b.spans) ∙ (λ i. a.tokens_are i ++ b.tokens_are i);
-    in_profile = ap has_refused (flat_map-append (λ (s : Span). s.tokens) a.spans b.spans) ∙ refused-append (tokens_of a.spans) (tokens_of b.spans) a.in_profile b.in_profile;
+    in_profile = ap has_refused (flat_map-append (λ (s : Span). s.tokens) a.spans b.spans) ∙ list_any-append is_refused_tag (tokens_of a.spans) (tokens_of b.spans)
+        ∙ ap (λ (x : Bool). x || has_refused (tokens_of b.spans)) a.in_profile ∙ b.in_profile;
     leads = subst Then (sym (standing-append here a.spans b.spans)) b.leads;
   }
 

@@ -2,7 +2,6 @@
 use Rattle.hlaws.proofs.Names.{◌≡◌, ℕ, true, false, List, [], ◌∷◌, ◌++◌, map, sym, refl, ap, ◌∙◌, subst, append_assoc, append-nil, map-append, flat_map-append, ParseError, Placed, RawKind, character_of, read_len, Entities, Tok, Span, Eof, Standing, at_start, next, standing_after, start_kind, IsSpan, spans_text, Cut, has_refused, Tokens, eof_of, text_in, manner, policy, start_of, accepted, refused_tag}
 use Rattle.htext.proofs.Texts.{goes_on}
 use Rattle.htoken.specs.Tokens.{tokens_of}
-use Rattle.htoken.proofs.Cutting.{spans_text-snoc}
 use Rattle.hcuts.specs.Settled.{AreSettled}
 use Rattle.hcuts.proofs.OneCut.{refused_parts, one_is_front, first, goes_on as further}
 use Rattle.hcuts.proofs.OneSpan.{some_span}
@@ -72,6 +71,11 @@ rules_refuse opts parse_case bytes spans refusal s (in_profile, steps) more =
     let end : ℕ = read_len (policy opts parse_case) (bytes ++ more) in
     refused-front opts parse_case (bytes ++ more) (tokens_of spans) (eof_of end rest) spans rest refusal
     (l.1 ∙ ap (λ (x : List Placed). x ++ l.0) s.text_is ∙ append_assoc (spans_text spans) s.rest l.0) (s.cut end l.0) in_profile refl steps
+
+spans_text-snoc : (spans : List Span) (span : Span) (rest : List Placed) → spans_text (spans ++ span ∷ []) ++ rest ≡ spans_text spans ++ (span.text ++ rest)
+spans_text-snoc spans span rest =
+    ap (λ (x : List Placed). x ++ rest) (flat_map-append (λ (s : Span). s.text) spans (span ∷ []) ∙ ap (λ (x : List Placed). spans_text spans ++ x) (append-nil span.text))
+    ∙ append_assoc (spans_text spans) span.text rest
 
 -- the last span of a cut
 last_span : (table : Entities) (end : ℕ) (here : Standing) (spans : List Span) (span : Span) (rest : List Placed) → Cut table end here (spans ++ span ∷ []) rest
