@@ -57,15 +57,23 @@ impl<'q> TreeConstruction<'q> {
         Ok(Flow::Done)
     }
 
-    /// The start tag li. An open li is closed.
+    /// An open li is closed.
+    #[inline(always)]
+    fn close_li(&mut self, at: u64) -> Result<(), Refusal>
+        ensures { Does at (when (item_is_near tag.Li) (close_item tag.Li)) self.old result self.new }
+    {
+        let li = Tag::Li.number();
+        if self.site.item_is_near(li) {
+            return self.close_item(li, at);
+        }
+        Ok(())
+    }
+
+    /// The start tag li.
     pub(crate) fn li(&mut self, token: &mut Token, at: u64) -> Ruling
         ensures { Performs at (in_body (Start family.Li)) token.old self.old result token.new self.new }
     {
-        let li = Tag::Li.number();
-        if !self.site.item_is_near(li) {
-            return self.block(token, at);
-        }
-        self.close_item(li, at)?;
+        self.close_li(at)?;
         self.block(token, at)
     }
 
