@@ -181,6 +181,9 @@ whole_is table kind run bytes found count may is_table is within ascii known lef
   reads = reads;
 }
 
+pub whole_within : (table : Entities) (kind : RawKind) (run : List ℕ) (found : Reference) (count : ℕ) → IsWhole table kind run found count → count < length run
+whole_within table kind run found count is = omega (arith, is.count_is, ap length is.run_is, length-append (38 ∷ is.shown) is.others)
+
 -- the last of an ASCII text
 last_is : (x : ℕ) (xs : List ℕ) → list_all is_ascii (x ∷ xs) ≡ true → (c : ℕ) × (drop (length xs) (x ∷ xs) ≡ encode_utf8 c)
 last_is x [] h = let small : x < 128 = grind (arith, (and_parts (is_ascii x) true h).0, nat_tests) in (x, sym (encode_ascii x small))

@@ -1,4 +1,4 @@
-use Rattle.htoken.proofs.Names.{◌<◌, ◌+◌, ◌++◌, List, ℕ, length, take, refl, sym, ◌∙◌, subst, arith, Ok, Err, chars, Placed, placed, IsCut, cut_more, first_placed, gives_item, Reads, Takes, err_is}
+use Rattle.htoken.proofs.Names.{◌<◌, ◌+◌, ◌++◌, List, ℕ, length, take, refl, sym, ◌∙◌, subst, arith, Ok, Err, chars, Placed, placed, IsCut, cut_more, first_placed, gives_item, Reads, Takes, err_is, IfSome, IsWhole}
 use Rattle.htoken.proofs.Bare.{mark_next}
 use Rattle.htoken.proofs.InRun.{next_last}
 use Rattle.htoken.proofs.InText.{all_taken, then_refused, then_taken}
@@ -42,3 +42,7 @@ pub returns-clause-few : goal.returns-clause-few
 returns-clause-few g c =
     let few = c.in_ok-more.ensures.few in
     (omega (arith, few.0), cut_more c.args.count c.in_ok-more.more c.args.run.now c.requires.cut (subst (λ (x : List ℕ). IsCut c.in_ok-more.more x) c.range_from.ensures.value few.1))
+
+pub take_mark-requires-clause-whole : goal.take_mark-requires-clause-whole
+take_mark-requires-clause-whole g c =
+    subst (λ (x : List ℕ). IfSome c.args.whole (λ it. IsWhole c.args.self.now.table.now c.args.self.now.kind x it.0 it.1)) (sym c.range_from.ensures.value) c.requires.whole

@@ -1,5 +1,5 @@
 use Rattle.htoken.proofs.Names.{◌≡◌, [], ◌+◌, List, ℕ, Option, Some, IfSome, sym, ap, ◌∙◌, subst, arith, Ok, Err, slice_index, Placed, RawKind, Entities, Reference, IsWhole, gives_item, Reads, Takes, err_is}
-use Rattle.htoken.proofs.Bare.{mark_first, whole_cut}
+use Rattle.htoken.proofs.Bare.{mark_first, whole_cut, whole_within}
 use Rattle.htoken.proofs.Fronts.{cut_refused}
 use Rattle.htoken.proofs.tokenizer.Tokenizer.take_mark.Goals as goal
 
@@ -37,3 +37,9 @@ returns-clause-takes g c = λ table start names text taken h.
 pub returns-clause-few : goal.returns-clause-few
 returns-clause-few g c =
     (omega arith, (mark_first c.args.run.now c.args.at c.from.result c.utf8.run c.requires.some (c.from.ensures ∙ ap (λ (bs : List ℕ). slice_index bs 0) c.as_bytes.ensures.value) c.requires.ends).2)
+
+pub take_whole-requires-clause-whole : goal.take_whole-requires-clause-whole
+take_whole-requires-clause-whole g c = whole_of _ _ _ _ _ _ c.in-Some.is c.requires.whole
+
+pub overflow_add-result : goal.overflow_add-result
+overflow_add-result g c = omega (arith, whole_within _ _ _ _ _ (whole_of _ _ _ _ _ _ c.in-Some.is c.requires.whole), c.requires.within)
