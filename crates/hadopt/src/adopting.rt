@@ -330,8 +330,10 @@ impl Site {
     fn is_unlisted(&self, subject: NameId) -> bool
         ensures { (at : ℕ) → result ≡ is_unlisted numbers at subject self.now }
     {
-        self.stack.current().is_some_and(|top| top.name == subject
-            && self.list.entry_of(top.node).is_none())
+        match self.stack.current() {
+            Some(top) => top.name == subject && self.list.entry_of(top.node).is_none(),
+            None => false,
+        }
     }
 
     /// Steps 3, 4.1 and 4.2: up to `most` turns.

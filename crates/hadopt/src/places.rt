@@ -75,7 +75,7 @@ impl Site {
     fn is_fostered(&self, target: &Option<Open>) -> bool
         ensures { result ≡ (self.now.foster && option_map_or (λ x. is_fostering (tag_of x.name)) (option_map open_of target.now) false) }
     {
-        target.is_some_and(|top| self.foster && fosters(top.name.tag()))
+        matches!(target, Some(top) if self.foster && fosters(top.name.tag()))
     }
 
     /// The place of a node that is foster parented (`#foster-parent`).

@@ -55,32 +55,28 @@ impl Site {
     pub fn is_current(&self, node: NodeId) -> bool
         ensures { result ≡ current_is (is_node node) self.now }
     {
-        self.stack.current().is_some_and(|top| top.node == node)
+        matches!(self.stack.current(), Some(top) if top.node == node)
     }
 
     /// Whether the current node has a name.
     pub fn current_is(&self, name: NameId) -> bool
         ensures { result ≡ current_is (is_named nat_eq name) self.now }
     {
-        self.stack.current().is_some_and(|top| top.name == name)
+        matches!(self.stack.current(), Some(top) if top.name == name)
     }
 
     /// Whether the name of the current node is of a group.
     pub fn current_is_of(&self, group: Group) -> bool
         ensures { result ≡ current_is (is_of tag_of group) self.now }
     {
-        self.stack
-            .current()
-            .is_some_and(|top| group.has(top.name.tag()))
+        matches!(self.stack.current(), Some(top) if group.has(top.name.tag()))
     }
 
     /// Whether the current node is a table, tbody, tfoot, thead or tr.
     pub fn current_fosters(&self) -> bool
         ensures { result ≡ current_is (λ x. is_fostering (tag_of x.name)) self.now }
     {
-        self.stack
-            .current()
-            .is_some_and(|top| fosters(top.name.tag()))
+        matches!(self.stack.current(), Some(top) if fosters(top.name.tag()))
     }
 
     /// Whether an element of a name is in a scope.
@@ -138,6 +134,6 @@ impl Site {
     pub fn find(&self, name: NameId) -> Option<NodeId>
         ensures { result ≡ option_map (λ e. e.node) (find_entry nat_eq name self.now.items) }
     {
-        self.list.find(name).map(|entry| entry.node)
+        Some(self.list.find(name)?.node)
     }
 }
