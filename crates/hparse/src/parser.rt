@@ -29,9 +29,9 @@ impl<'t> Parser<'t> {
     pub fn document(alloc: Global, options: &Options<'t>) -> Result<Parser<'t>, Refusal>
         ensures { MatchResult result (λ parser. HasParsed (options_of options.now) document parser []) (λ refusal. refusal ≡ Memory) }
     {
-        let names = Names::new(alloc, options.keys);
         let builder = Builder::document(alloc, options.keys, options.quirks, options.limits)?;
         let sink = Placing::new(alloc, builder, options.places)?;
+        let names = Names::new(alloc, options.keys);
         Ok(Parser {
             reading: Reading::new(alloc, options, Start::Document, names, sink),
             refused: None,

@@ -1,4 +1,4 @@
-use Rattle.hparse.proofs.Names.{rules, ◌≡◌, [], true, refl, ap, sym, ◌∙◌, subst, tag_named, RawKind, Building, Placing, HasRead, Began, fragment, BeginsIn, a_fragment, places_item, options_of, origins_if}
+use Rattle.hparse.proofs.Names.{◌≡◌, [], true, inl, inr, err_from_is_err_and, refl, ap, sym, ◌∙◌, subst, tag_named, RawKind, Building, Placing, HasRead, Began, fragment, BeginsIn, a_fragment, places_item, options_of, origins_if}
 use Rattle.names.specs.Sets.{raw_kind}
 use Rattle.htoken.specs.declared.token.Start.TheVariants as start
 use Rattle.hparse.specs.Parse.{is_context}
@@ -7,7 +7,7 @@ use Rattle.hparse.proofs.parser.Parser.fragment.Goals as goal
 pub returns : goal.returns
 returns c =
     let e = c.in_ok-sink.ensures.builder ∙ c.in_ok-builder.ensures in
-    let allowed : is_context c.args.context.now ≡ true = search rules in
+    let allowed : is_context c.args.context.now ≡ true = sym c.if-not-is_context.ensures in
     let kind : c.raw_kind.result ≡ raw_kind (tag_named c.args.context.now) = c.raw_kind.ensures ∙ ap raw_kind (c.tag.ensures ∙ c.in_ok-name.ensures.tag) in
     let began : Began Placing = record { names = c.intern.new.self; sink = c.in_ok-sink.sink } in (
       allowed,
@@ -24,4 +24,16 @@ returns c =
     )
 
 pub returns-then-not-is_context : goal.returns-then-not-is_context
-returns-then-not-is_context c = search rules
+returns-then-not-is_context c = inr (sym c.if-not-is_context.ensures, refl)
+
+pub returns-in_err-name : goal.returns-in_err-name
+returns-in_err-name c = let e = err_from_is_err_and c.from_residual.result c.from_residual.ensures.1 in rw (e.1, e.2) (inl (sym c.if-not-is_context.ensures, refl))
+
+pub returns-in_err-builder : goal.returns-in_err-builder
+returns-in_err-builder c =
+    let e = err_from_is_err_and c.from_residual-in_err-builder.result c.from_residual-in_err-builder.ensures.1 in
+    rw (e.1, e.2, c.in_err-builder.ensures) (inl (sym c.if-not-is_context.ensures, refl))
+
+pub returns-in_err-sink : goal.returns-in_err-sink
+returns-in_err-sink c =
+    let e = err_from_is_err_and c.from_residual-in_err-sink.result c.from_residual-in_err-sink.ensures.1 in rw (e.1, e.2) (inl (sym c.if-not-is_context.ensures, refl))
