@@ -10,24 +10,8 @@ fn is_known(names: &mut Names, tag: Tag, alloc: Global) -> Result<bool, AllocErr
     Ok(!matches!(tag, Tag::Other) && id == tag.number() && id.tag() == tag)
 }
 
-#[test]
-fn known_names_have_their_numbers(rt: HostRuntime) -> Result<(), Fail> {
-    let mut names = Names::new(rt.alloc(), Keys::for_tests());
-    for tag in [Tag::A, Tag::Body, Tag::Html, Tag::Marquee, Tag::P, Tag::Xmp] {
-        assert!(rt; is_known(&mut names, tag, rt.alloc())?);
-    }
-    Ok(())
-}
-
-#[test]
-fn a_name_may_be_a_formatting_one(rt: HostRuntime) -> Result<(), Fail> {
-    assert!(rt; Tag::A.is_formatting() && !Tag::P.is_formatting());
-    Ok(())
-}
-
 /// Whether the name of a hidden input's attribute is the last of the known names.
-fn type_is_known(alloc: Global) -> Result<bool, AllocError> {
-    let mut names = Names::new(alloc, Keys::for_tests());
+fn type_is_known(names: &mut Names, alloc: Global) -> Result<bool, AllocError> {
     let id = names.intern(alloc, "type")?;
     Ok(
         id == NameId::type_attribute()
@@ -38,19 +22,35 @@ fn type_is_known(alloc: Global) -> Result<bool, AllocError> {
 }
 
 /// Whether two names have two numbers, each the same when it is asked again.
-fn are_numbered(alloc: Global) -> Result<bool, AllocError> {
-    let mut names = Names::new(alloc, Keys::for_tests());
+fn are_numbered(names: &mut Names, alloc: Global) -> Result<bool, AllocError> {
     let first = names.intern(alloc, "x-card")?;
     let second = names.intern(alloc, "x-list")?;
     let again = names.intern(alloc, "x-card")?;
     Ok(first != second && first == again && names.text(again) == "x-card")
 }
 
+/// Whether known names and others have their numbers.
+fn have_numbers(names: &mut Names, alloc: Global) -> Result<bool, AllocError> {
+    for tag in [Tag::A, Tag::Body, Tag::Html, Tag::Marquee, Tag::P, Tag::Xmp] {
+        if !is_known(names, tag, alloc)? {
+            return Ok(false);
+        }
+    }
+    Ok(type_is_known(names, alloc)? && are_numbered(names, alloc)?)
+}
+
 #[test]
-fn other_names_have_numbers(rt: HostRuntime) -> Result<(), Fail> {
-    assert!(rt; type_is_known(rt.alloc())?);
-    assert!(rt; are_numbered(rt.alloc())?);
+fn names_have_their_numbers(rt: HostRuntime) -> Result<(), Fail> {
+    let mut names = Names::new(rt.alloc(), Keys::for_tests());
+    let answer = have_numbers(&mut names, rt.alloc());
+    drop(names);
+    assert!(rt; answer?);
     Ok(())
+}
+
+#[test]
+fn a_name_may_be_a_formatting_one(rt: HostRuntime) {
+    assert!(rt; Tag::A.is_formatting() && !Tag::P.is_formatting());
 }
 
 /// Whether the copy of an attribute is equal to it.

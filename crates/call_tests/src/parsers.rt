@@ -5,7 +5,7 @@ use hmarkup::{ErrorSink, Quirks};
 use hmodes::{Builder, Limits};
 use hparse::{Options, Parsed, Parser, is_context};
 use htoken::{Token, TokenSink};
-use names::{ErrorCode, Keys, Names, ParseError, Refusal, RefusedName};
+use names::{ErrorCode, Keys, ParseError, Refusal, RefusedName, Tag};
 use std::alloc::Global;
 use std::test::Fail;
 
@@ -23,19 +23,10 @@ fn feeds_refused(parser: &mut Parser<'_>) -> bool {
 }
 
 /// Whether it is refused at the end, too.
-fn parser_stays(alloc: Global) -> Result<bool, Refusal> {
-    let table = Table::core(alloc)?;
-    let quirks = Quirks::read(alloc, "")?;
-    let mut parser = Parser::document(alloc, &Options::new(&table, &quirks, Keys::for_tests()))?;
+fn parser_stays(alloc: Global, options: &Options<'_>) -> Result<bool, Refusal> {
+    let mut parser = Parser::document(alloc, options)?;
     let stays = feeds_refused(&mut parser);
-    let is_end_refused = parser.finish().map(|_| ()) == SVG;
-    Ok(stays && is_end_refused)
-}
-
-#[test]
-fn of_a_parser(rt: HostRuntime) -> Result<(), Fail> {
-    assert!(rt; parser_stays(rt.alloc())?);
-    Ok(())
+    Ok(parser.finish().err() == SVG.err() && stays)
 }
 
 /// A page in whose table characters wait, and where each of its nodes came from, by their numbers.
@@ -56,21 +47,36 @@ fn tells_places(page: &Parsed) -> bool {
     page.tree.made() as usize == PLACES.len()
 }
 
-/// A page, with places or without.
-fn page(alloc: Global, places: bool) -> Result<Parsed, Refusal> {
-    let table = Table::core(alloc)?;
-    let quirks = Quirks::read(alloc, "")?;
-    let mut options = Options::new(&table, &quirks, Keys::for_tests());
-    options.places = places;
-    let mut parser = Parser::document(alloc, &options)?;
-    parser.feed(PLACED)?;
-    parser.finish()
+/// Whether a page has these places, or none where they are not wanted.
+fn has_places(page: &Parsed, wanted: bool) -> bool {
+    if wanted {
+        tells_places(page)
+    } else {
+        page.places.is_none()
+    }
+}
+
+/// Whether it does when it is parsed. (A refusal of its bytes comes again at the end.)
+fn places_come(alloc: Global, options: &Options<'_>) -> Result<bool, Refusal> {
+    let mut parser = Parser::document(alloc, options)?;
+    parser.feed(PLACED).ok();
+    let page = parser.finish()?;
+    Ok(has_places(&page, options.places))
+}
+
+/// Whether all is so of parsers with these lists.
+fn parsers_are_right(alloc: Global, table: &Table, quirks: &Quirks) -> Result<bool, Refusal> {
+    let mut options = Options::new(table, quirks, Keys::for_tests());
+    let are_right = parser_stays(alloc, &options)? && places_come(alloc, &options)?;
+    options.places = true;
+    Ok(are_right && places_come(alloc, &options)?)
 }
 
 #[test]
-fn of_places(rt: HostRuntime) -> Result<(), Fail> {
-    assert!(rt; tells_places(&page(rt.alloc(), true)?));
-    assert!(rt; page(rt.alloc(), false)?.places.is_none());
+fn of_parsers(rt: HostRuntime) -> Result<(), Fail> {
+    let table = Table::core(rt.alloc())?;
+    let quirks = Quirks::read(rt.alloc(), "")?;
+    assert!(rt; parsers_are_right(rt.alloc(), &table, &quirks)?);
     Ok(())
 }
 
@@ -80,10 +86,9 @@ fn full(alloc: Global, quirks: &Quirks) -> Result<Builder<'_>, Refusal> {
 }
 
 /// Hands over a start tag.
-fn take_div(builder: &mut Builder<'_>, names: &mut Names, alloc: Global) -> Result<(), Refusal> {
-    let name = names.intern(alloc, "div")?;
+fn take_div(builder: &mut Builder<'_>, alloc: Global) -> Result<(), Refusal> {
     builder.take_token(Token::Start {
-        name,
+        name: Tag::Div.number(),
         attrs: Vec::new(alloc),
         closing: false,
         at: 7,
@@ -104,28 +109,20 @@ fn stays_full(builder: &mut Builder<'_>) -> bool {
         && builder.take_error(ERROR) == FULL
 }
 
-/// Puts in twelve elements: the document, html, head and body are four nodes.
-fn fill(builder: &mut Builder<'_>, names: &mut Names, alloc: Global) -> Result<(), Refusal> {
+/// Whether it takes twelve elements (the document, html, head and body are four nodes), refuses the next one, and then all.
+fn is_filled(builder: &mut Builder<'_>, alloc: Global) -> bool {
     for _ in 4..16 {
-        take_div(builder, names, alloc)?;
+        if take_div(builder, alloc).is_err() {
+            return false;
+        }
     }
-    Ok(())
+    take_div(builder, alloc) == FULL && stays_full(builder)
 }
 
-/// Whether a full builder refuses the next element, and then all.
-fn builder_stays(alloc: Global) -> Result<bool, Refusal> {
-    let quirks = Quirks::read(alloc, "")?;
-    let mut names = Names::new(alloc, Keys::for_tests());
-    let mut builder = full(alloc, &quirks)?;
-    let is_filled = fill(&mut builder, &mut names, alloc).is_ok();
-    let is_refused = take_div(&mut builder, &mut names, alloc) == FULL;
-    Ok(is_filled && is_refused && stays_full(&mut builder))
-}
-
-#[test]
-fn of_a_builder(rt: HostRuntime) -> Result<(), Fail> {
-    assert!(rt; builder_stays(rt.alloc())?);
-    Ok(())
+/// Whether this is so of a new builder.
+fn builder_stays(alloc: Global, quirks: &Quirks) -> Result<bool, Refusal> {
+    let mut builder = full(alloc, quirks)?;
+    Ok(is_filled(&mut builder, alloc))
 }
 
 /// Hands over an error and the end.
@@ -142,17 +139,20 @@ fn are_both(errors: &[ParseError]) -> bool {
 }
 
 /// Whether errors that were handed over come after those of the rules.
-fn errors_come(alloc: Global) -> Result<bool, Refusal> {
-    let quirks = Quirks::read(alloc, "")?;
-    let mut builder = full(alloc, &quirks)?;
+fn errors_come(alloc: Global, quirks: &Quirks) -> Result<bool, Refusal> {
+    let mut builder = full(alloc, quirks)?;
     let answer = take_end(&mut builder);
     let built = builder.finish()?;
     Ok(answer.is_ok() && are_both(&built.errors))
 }
 
 #[test]
-fn errors_are_handed_out(rt: HostRuntime) -> Result<(), Fail> {
-    assert!(rt; errors_come(rt.alloc())?);
+fn of_builders(rt: HostRuntime) -> Result<(), Fail> {
+    let quirks = Quirks::read(rt.alloc(), "")?;
+    let stays = builder_stays(rt.alloc(), &quirks);
+    let come = errors_come(rt.alloc(), &quirks);
+    drop(quirks);
+    assert!(rt; stays? && come?);
     Ok(())
 }
 

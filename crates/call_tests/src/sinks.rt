@@ -59,25 +59,39 @@ fn tokenize(
     tokenizer.finish(names, text.len() as u64, sink)
 }
 
-/// Whether a sink with so much room takes this of a text, and is refused the rest, if there is any, again and again.
-fn takes(alloc: Global, text: &str, left: u32, given: &str, is_all: bool) -> Result<bool, Refusal> {
-    let table = Table::core(alloc)?;
+/// Whether this of a text is taken, and the rest, if there is any, refused again and again.
+fn takes(
+    tokenizer: &mut Tokenizer<'_>,
+    names: &mut Names,
+    text: &str,
+    sink: &mut Taken,
+    given: &str,
+) -> bool {
+    let answer = tokenize(tokenizer, names, text, sink);
+    let is_all = given.ends_with('.');
+    let stays = is_all || tokenizer.feed_char(names, 'x', 0, sink) == answer;
+    stays && answer.is_ok() == is_all && sink.text.as_str() == given
+}
+
+/// Whether a sink with so much room takes this of a text.
+fn takes_of(alloc: Global, table: &Table, text: &str, left: u32, given: &str) -> bool {
     let mut names = Names::new(alloc, Keys::for_tests());
     let mut sink = Taken::new(alloc, left);
-    let mut tokenizer = Tokenizer::new(alloc, &table, Start::Document);
-    let answer = tokenize(&mut tokenizer, &mut names, text, &mut sink);
-    let stays = is_all || tokenizer.feed_char(&mut names, 'x', 0, &mut sink) == answer;
-    Ok(stays && answer.is_ok() == is_all && sink.text.as_str() == given)
+    let mut tokenizer = Tokenizer::new(alloc, table, Start::Document);
+    takes(&mut tokenizer, &mut names, text, &mut sink, given)
 }
 
 #[test]
 fn of_a_tokenizer(rt: HostRuntime) -> Result<(), Fail> {
-    let alloc = rt.alloc();
-    let all = takes(alloc, "<p></p>", 3, "SE.", true)?
-        && takes(alloc, "<p></p>", 1, "S", false)?
-        && takes(alloc, "<p>x<svg>", 99, "Sx", false)?
-        && takes(alloc, "<p>x<svg", 99, "Sx!.", true)?;
-    assert!(rt; all);
+    let table = Table::core(rt.alloc())?;
+    for (text, left, given) in [
+        ("<p></p>", 3, "SE."),
+        ("<p></p>", 1, "S"),
+        ("<p>x<svg>", 99, "Sx"),
+        ("<p>x<svg", 99, "Sx!."),
+    ] {
+        assert!(rt; takes_of(rt.alloc(), &table, text, left, given));
+    }
     Ok(())
 }
 

@@ -20,7 +20,8 @@ fn rest(walk: &mut CommentWalk, text: &str, at: u64, sink: &mut Taken) -> Result
 
 /// Whether a comment that has ended has this data, and one error was raised.
 fn is_comment(walk: CommentWalk, ended: Result<bool, Refusal>, sink: &Taken, data: &str) -> bool {
-    ended == Ok(true) && sink.text.as_str() == "!" && walk.into_data().as_str() == data
+    let taken = walk.into_data();
+    ended == Ok(true) && sink.text.as_str() == "!" && taken.as_str() == data
 }
 
 /// Takes a run and characters after those that were read before the walk.
@@ -29,13 +30,18 @@ fn take_after(walk: &mut CommentWalk, sink: &mut Taken) -> Result<bool, Refusal>
     rest(walk, "\0->", 7, sink)
 }
 
+/// Whether a comment goes on after characters that were read.
+fn goes_on(alloc: Global) -> Result<bool, Refusal> {
+    let held = [Placed { ch: 'd', at: 2 }, Placed { ch: 'O', at: 3 }];
+    let mut walk = CommentWalk::bogus_after(alloc, &held)?;
+    let mut sink = Taken::new(alloc, 9);
+    let ended = take_after(&mut walk, &mut sink);
+    Ok(is_comment(walk, ended, &sink, "dOxé\u{FFFD}-"))
+}
+
 #[test]
 fn a_comment_goes_on_after_read_characters(rt: HostRuntime) -> Result<(), Fail> {
-    let held = [Placed { ch: 'd', at: 2 }, Placed { ch: 'O', at: 3 }];
-    let mut walk = CommentWalk::bogus_after(rt.alloc(), &held)?;
-    let mut sink = Taken::new(rt.alloc(), 9);
-    let ended = take_after(&mut walk, &mut sink);
-    assert!(rt; is_comment(walk, ended, &sink, "dOxé\u{FFFD}-"));
+    assert!(rt; goes_on(rt.alloc())?);
     Ok(())
 }
 
@@ -63,11 +69,11 @@ struct TagOutput {
 }
 
 impl TagOutput {
-    fn new(alloc: Global) -> Result<TagOutput, Refusal> {
-        Ok(TagOutput {
+    fn new(alloc: Global) -> TagOutput {
+        TagOutput {
             names: Names::new(alloc, Keys::for_tests()),
             errors: Vec::new(alloc),
-        })
+        }
     }
 
     /// Whether the tag ends with one of these characters.
@@ -108,22 +114,12 @@ fn keeps_name<'t>(
     walk: &mut TagWalk<'t>,
     table: &'t Table,
 ) -> Result<bool, Refusal> {
+    let is_new = is_tag(walk, "", false);
     walk.begin(TagKind::Start, 'P')?;
     let is_read = output.take(walk, table, " x>")? && is_tag(walk, "p", true);
     walk.begin_end();
     let is_end = matches!(walk.kind(), TagKind::End) && output.take(walk, table, ">")?;
-    Ok(is_read && is_end && is_tag(walk, "p", false))
-}
-
-#[test]
-fn a_raw_end_tag_keeps_the_name(rt: HostRuntime) -> Result<(), Fail> {
-    let table = Table::core(rt.alloc())?;
-    let mut output = TagOutput::new(rt.alloc())?;
-    let mut walk = TagWalk::new(rt.alloc());
-    assert!(rt; is_tag(&walk, "", false));
-    let answer = keeps_name(&mut output, &mut walk, &table);
-    assert!(rt; answer == Ok(true));
-    Ok(())
+    Ok(is_new && is_read && is_end && is_tag(walk, "p", false))
 }
 
 /// Whether a run is read up to the end of its tag.
@@ -135,15 +131,25 @@ fn takes_run<'t>(
     walk.begin(TagKind::Start, 'T')?;
     let left = output.take_run(walk, table)?;
     let is_read = left == Some(">z") && output.take(walk, table, ">")?;
-    Ok(is_read && is_tag(walk, "td-1", true) && walk.take_attributes()?.len() == 3)
+    let is_right = is_read && is_tag(walk, "td-1", true) && output.errors.len() == 1;
+    Ok(is_right && walk.take_attributes()?.len() == 3)
+}
+
+/// Whether both are so, each of a new walk.
+fn tags_are_right(alloc: Global, table: &Table) -> Result<bool, Refusal> {
+    let mut output = TagOutput::new(alloc);
+    let mut walk = TagWalk::new(alloc);
+    let keeps = keeps_name(&mut output, &mut walk, table);
+    let mut walk = TagWalk::new(alloc);
+    let takes = takes_run(&mut output, &mut walk, table);
+    Ok(keeps? && takes?)
 }
 
 #[test]
-fn a_run_is_taken_as_far_as_its_tag_goes(rt: HostRuntime) -> Result<(), Fail> {
+fn a_raw_end_tag_keeps_the_name_and_a_run_goes_as_far_as_its_tag(
+    rt: HostRuntime,
+) -> Result<(), Fail> {
     let table = Table::core(rt.alloc())?;
-    let mut output = TagOutput::new(rt.alloc())?;
-    let mut walk = TagWalk::new(rt.alloc());
-    let answer = takes_run(&mut output, &mut walk, &table);
-    assert!(rt; answer == Ok(true) && output.errors.len() == 1);
+    assert!(rt; tags_are_right(rt.alloc(), &table)?);
     Ok(())
 }
