@@ -12,16 +12,8 @@ use std::{env, fs};
 
 fn main(rt: HostRuntime) -> anyhow::Result<()> {
     let bytes = fs::read(&rt, word(&rt, 1)?.as_str())?;
-    let entities = fs::read_to_string(&rt, word(&rt, 2)?.as_str())?;
-    let quirks = fs::read_to_string(&rt, word(&rt, 3)?.as_str())?;
-    let keys = Keys::random(&rt)?;
-    let page = parse(rt.alloc(), &entities, &quirks, keys, &bytes)?;
-    print_attributes(&rt, &page)?;
-    print_title(&rt, &page)?;
-    print_headings(&rt, &page)?;
-    print_images(&rt, &page, &bytes)?;
-    print_length(&rt, &page)?;
-    print_errors(&rt, &page, &bytes)
+    let page = read(&rt, &bytes)?;
+    print_outline(&rt, &page, &bytes)
 }
 
 /// A word of the command line.
@@ -31,21 +23,36 @@ fn word(rt: &HostRuntime, at: usize) -> anyhow::Result<String> {
     )
 }
 
-/// Parses a page with these lists, and keeps where its nodes came from.
-fn parse(
-    alloc: Global,
-    entities: &str,
-    quirks: &str,
-    keys: Keys,
-    bytes: &[u8],
-) -> Result<Parsed, Refusal> {
-    let table = Table::read(alloc, entities)?;
-    let quirks = Quirks::read(alloc, quirks)?;
+/// The text of a file that the command line names.
+fn text(rt: &HostRuntime, at: usize) -> anyhow::Result<String> {
+    Ok(fs::read_to_string(rt, word(rt, at)?.as_str())?)
+}
+
+/// Reads a page with the lists that the command line names, and keeps where its nodes came from.
+fn read(rt: &HostRuntime, bytes: &[u8]) -> anyhow::Result<Parsed> {
+    let keys = Keys::random(rt)?;
+    let table = Table::read(rt.alloc(), &text(rt, 2)?)?;
+    let quirks = Quirks::read(rt.alloc(), &text(rt, 3)?)?;
     let mut options = Options::new(&table, &quirks, keys);
     options.places = true;
-    let mut parser = Parser::document(alloc, &options)?;
+    Ok(parse(rt.alloc(), &options, bytes)?)
+}
+
+/// Parses a page with these options.
+fn parse(alloc: Global, options: &Options<'_>, bytes: &[u8]) -> Result<Parsed, Refusal> {
+    let mut parser = Parser::document(alloc, options)?;
     parser.feed(bytes)?;
     parser.finish()
+}
+
+/// Prints all of an outline.
+fn print_outline(rt: &HostRuntime, page: &Parsed, bytes: &[u8]) -> anyhow::Result<()> {
+    print_attributes(rt, page)?;
+    print_title(rt, page)?;
+    print_headings(rt, page)?;
+    print_images(rt, page, bytes)?;
+    print_length(rt, page)?;
+    print_errors(rt, page, bytes)
 }
 
 /// Prints the attributes of the element that the page is in, such as its language.
