@@ -42,6 +42,14 @@ def words(crate):
     return [*found, "--antt-project", f"{place}/rattle/logic/antt-project.json", "--logic-built", f"{place}/logic_built"]
 
 
+def unproved(words):
+    """These words without those that a build over a checked crate does not take."""
+    for flag in ("--logic-built", "--jobs"):
+        at = words.index(flag)
+        words = [*words[:at], *words[at + 2 :]]
+    return words
+
+
 def loaded(path):
     """A script as a module, which has the script's name."""
     name = os.path.splitext(os.path.basename(path))[0].replace("-", "_")
