@@ -439,7 +439,8 @@ static double seconds(const char *page, size_t length, const jz_options *given) 
     return best;
 }
 
-/* That reading the Standard's lists costs little beside a small page, one of some 5 KB. */
+/* That reading the Standard's lists costs little beside a small page, one of some 5 KB: two or three times that page where nothing else runs
+ * on the machine (their JSON takes seventy). */
 static void check_lists(void) {
     enum { SMALL = 50 };
     static char page[ROOM];
@@ -449,7 +450,7 @@ static void check_lists(void) {
     double small = seconds("<p>&copy;", 9, &core), small_with = seconds("<p>&copy;", 9, &standard);
     printf("a page of %zu bytes: %.0f us, with the Standard's lists %.0f; one of 9 bytes: %.0f and %.0f. ", length, without * 1e6, with * 1e6,
            small * 1e6, small_with * 1e6);
-    check(with <= 3 * without, "the time of a page with the Standard's lists");
+    check(with <= 5 * without, "the time of a page with the Standard's lists");
 }
 
 /* That a text is measured, and not made, where it has no room, in 200 MB of memory: 100,000 nested elements, and of half of them the
