@@ -56,7 +56,7 @@ fn has_places(page: &Parsed, wanted: bool) -> bool {
     }
 }
 
-/// Whether it does when it is parsed. (A refusal of its bytes comes again at the end.)
+/// Whether that page has them when it is parsed. (What `feed` is refused for, `finish` answers again.)
 fn places_come(alloc: Global, options: &Options<'_>) -> Result<bool, Refusal> {
     let mut parser = Parser::document(alloc, options)?;
     parser.feed(PLACED).ok();
@@ -64,7 +64,7 @@ fn places_come(alloc: Global, options: &Options<'_>) -> Result<bool, Refusal> {
     Ok(has_places(&page, options.places))
 }
 
-/// Whether all is so of parsers with these lists.
+/// Whether a refused parser stays refused, and places come where they are wanted and nowhere else.
 fn parsers_are_right(alloc: Global, table: &Table, quirks: &Quirks) -> Result<bool, Refusal> {
     let mut options = Options::new(table, quirks, Keys::for_tests());
     let are_right = parser_stays(alloc, &options)? && places_come(alloc, &options)?;
@@ -119,7 +119,7 @@ fn is_filled(builder: &mut Builder<'_>, alloc: Global) -> bool {
     take_div(builder, alloc) == FULL && stays_full(builder)
 }
 
-/// Whether this is so of a new builder.
+/// Whether a new builder takes twelve elements and then refuses all.
 fn builder_stays(alloc: Global, quirks: &Quirks) -> Result<bool, Refusal> {
     let mut builder = full(alloc, quirks)?;
     Ok(is_filled(&mut builder, alloc))
