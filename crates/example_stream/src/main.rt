@@ -15,18 +15,19 @@ use std::{env, fs};
 const PIECE: usize = 65_536;
 
 fn main(rt: HostRuntime) -> anyhow::Result<()> {
-    let left = Cell::new(most(&rt)?);
-    let mut page = Counted::new(File::open(&rt, word(&rt, 1)?.as_str())?);
     let entities = fs::read_to_string(&rt, word(&rt, 2)?.as_str())?;
     let table = Table::read(rt.alloc(), &entities)?;
     // The quirks list has no say in tokens.
     let quirks = Quirks::read(rt.alloc(), "")?;
-    let options = Options::new(&table, &quirks, Keys::random(&rt)?);
-    let links = Links {
-        rt: &rt,
-        left: &left,
-    };
-    let answer = read_into(rt.alloc(), PIECE, &options, links, &mut page);
+    print_links(&rt, &Options::new(&table, &quirks, Keys::random(&rt)?))
+}
+
+/// Prints the links of the page that the command line names.
+fn print_links(rt: &HostRuntime, options: &Options<'_>) -> anyhow::Result<()> {
+    let left = Cell::new(most(rt)?);
+    let mut page = Counted::new(File::open(rt, word(rt, 1)?.as_str())?);
+    let links = Links { rt, left: &left };
+    let answer = read_into(rt.alloc(), PIECE, options, links, &mut page);
     // Where no more are wanted, the refusal is that of the sink.
     if left.get() > 0 {
         answer?;

@@ -18,12 +18,25 @@ use std::marker::Model;
 
 /// Builds the tree of a document or a fragment from its tokens. After a refusal each further call returns the same refusal and
 /// changes nothing.
-#[derive(Drop)]
 pub struct Builder<'q> {
     state: TreeConstruction<'q>,
     root: NodeId,
     told: Vec<ParseError>,
     refused: Option<Refusal>,
+}
+
+// Written out: a derived drop is read anew in the proof of each function that may drop a builder.
+impl<'q> Drop for Builder<'q> {
+    fn drop(self) {
+        let Builder {
+            state,
+            root: _,
+            told,
+            refused: _,
+        } = self;
+        drop(state);
+        drop(told);
+    }
 }
 
 impl<'q> Model for Builder<'q> {

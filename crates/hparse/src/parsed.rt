@@ -10,7 +10,6 @@ use names::{Names, ParseError};
 
 /// The tree of a document or a fragment and the parse errors, with the table of the tree's names. The root is the document, or
 /// a fragment's root element: the fragment is what is in it. The root is a node of the tree, so a walk can begin there.
-#[derive(Drop)]
 pub struct Parsed {
     pub tree: Tree,
     pub root: NodeId,
@@ -20,6 +19,23 @@ pub struct Parsed {
     /// Where each node came from, by its number, where the options ask for places.
     pub places: Option<Vec<Origin>>,
     pub ghost made: { root < tree.made },
+}
+
+// Written out, as that of a parser.
+impl Drop for Parsed {
+    fn drop(self) {
+        let Parsed {
+            tree,
+            root: _,
+            names,
+            errors,
+            places,
+        } = self;
+        drop(tree);
+        drop(names);
+        drop(errors);
+        drop(places);
+    }
 }
 
 impl Parsed {

@@ -18,10 +18,20 @@ use names::{Names, Refusal};
 use std::alloc::Global;
 
 /// Parses a document or a fragment that comes in pieces. After a refusal each further call returns the same refusal.
-#[derive(Drop)]
 pub struct Parser<'t> {
     pub(crate) reading: Reading<'t, Placing<'t>>,
     pub(crate) refused: Option<Refusal>,
+}
+
+// Written out: a derived drop is read anew in the proof of each function that may drop a parser.
+impl<'t> Drop for Parser<'t> {
+    fn drop(self) {
+        let Parser {
+            reading,
+            refused: _,
+        } = self;
+        drop(reading);
+    }
 }
 
 impl<'t> Parser<'t> {

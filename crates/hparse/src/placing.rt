@@ -11,10 +11,18 @@ use names::{Names, ParseError, Refusal};
 use std::alloc::{AllocError, Global};
 
 /// A builder, and where the nodes that it made came from, if that is asked for.
-#[derive(Drop)]
 pub struct Placing<'q> {
     pub(crate) builder: Builder<'q>,
     pub(crate) origins: Option<Origins>,
+}
+
+// Written out, as that of a parser.
+impl<'q> Drop for Placing<'q> {
+    fn drop(self) {
+        let Placing { builder, origins } = self;
+        drop(builder);
+        drop(origins);
+    }
 }
 
 impl<'q> Placing<'q> {

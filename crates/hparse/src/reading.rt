@@ -11,10 +11,18 @@ use names::{Names, Refusal};
 use std::alloc::Global;
 
 /// The decoder of an input, and what its text is fed to.
-#[derive(Drop)]
 pub struct Reading<'t, S> {
     pub decoder: Decoder,
     pub feeding: Feeding<'t, S>,
+}
+
+// Written out, as that of a parser.
+impl<'t, S: Drop> Drop for Reading<'t, S> {
+    fn drop(self) {
+        let Reading { decoder, feeding } = self;
+        drop(decoder);
+        drop(feeding);
+    }
 }
 
 /// A document loses a leading byte order mark.
