@@ -21,13 +21,28 @@ use std::marker::Model;
 /// range. A look-up narrows this range byte by byte until no key goes on with what was read: all keys begin with the `&`, an
 /// index has the ranges of the bytes after it, and each further byte takes two binary searches. A key that stands whole, with
 /// its `;`, is found by its hash, and one without a `;` by its first two letters. A look-up allocates nothing.
-#[derive(Drop)]
 pub struct Table {
     pub(crate) flat: Flat,
     /// By the code of a byte after the `&`, the first entry whose key has at least this code there.
     pub(crate) starts: Vec<usize>,
     pub(crate) slots: Slots,
     pub(crate) open_keys: OpenKeys,
+}
+
+// Written out: a derived drop is read anew in the proof of each function that may drop a table.
+impl Drop for Table {
+    fn drop(self) {
+        let Table {
+            flat,
+            starts,
+            slots,
+            open_keys,
+        } = self;
+        drop(flat);
+        drop(starts);
+        drop(slots);
+        drop(open_keys);
+    }
 }
 
 impl Model for Table {

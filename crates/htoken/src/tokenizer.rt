@@ -16,7 +16,6 @@ use names::{NameId, Names, Placed, RawKind, Refusal};
 use std::alloc::Global;
 
 /// Cuts a text that comes character by character into tokens (HTML Standard, 13.2.5). It keeps the unfinished span alone.
-#[derive(Drop)]
 pub struct Tokenizer<'t> {
     pub(crate) alloc: Global,
     pub(crate) table: &'t Table,
@@ -35,6 +34,36 @@ pub struct Tokenizer<'t> {
     pub(crate) raised: Raised,
     pub(crate) spread: Spread,
     pub(crate) refused: Option<Refusal>,
+}
+
+// Written out: a derived drop is read anew in the proof of each function that may drop a tokenizer.
+impl<'t> Drop for Tokenizer<'t> {
+    fn drop(self) {
+        let Tokenizer {
+            alloc: _,
+            table: _,
+            kind: _,
+            last: _,
+            state: _,
+            at: _,
+            next: _,
+            held,
+            comment,
+            doctype,
+            reference: _,
+            tag,
+            script: _,
+            raised,
+            spread,
+            refused: _,
+        } = self;
+        drop(held);
+        drop(comment);
+        drop(doctype);
+        drop(tag);
+        drop(raised);
+        drop(spread);
+    }
 }
 
 /// One more than the place of a character.

@@ -102,12 +102,19 @@ fn slot_of(text: &str) -> usize
 }
 
 /// A table of names: texts in the order in which they were added, the known names first.
-#[derive(Drop)]
 pub struct Names {
     /// The names that are not known ones.
     others: IndexSet<String, Keys>,
     /// In each slot the number that was found last for a text of it; such a text is found again without a hash.
     recent: [u32; SLOTS],
+}
+
+// Written out: a derived drop is read anew in the proof of each function that may drop a table.
+impl Drop for Names {
+    fn drop(self) {
+        let Names { others, recent: _ } = self;
+        drop(others);
+    }
 }
 
 impl Model for Names {
