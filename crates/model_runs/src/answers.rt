@@ -3,9 +3,9 @@
 use hformat::Entry;
 use hnodes::{NodeId, NodeKind};
 use hopen::Open;
+use itoa::Buffer;
 use names::{Attr, NameId, Refusal, Tag};
 use std::alloc::{AllocError, Global};
-use std::fmt::Display;
 
 /// How many bytes of answers need no more memory.
 const ROOM: usize = 1 << 20;
@@ -47,14 +47,18 @@ impl Answers {
         self.has_word = false;
     }
 
-    fn add<T: Display + Drop>(&mut self, text: T) {
-        if write!(self.text, "{text}").is_err() {
+    fn add(&mut self, text: &str) {
+        if self.text.push_str(text).is_err() {
             self.is_lost = true;
         }
     }
 
+    fn add_number(&mut self, number: usize) {
+        self.add(Buffer::new().format(number));
+    }
+
     /// A word, after a space if it is not the first of a line.
-    pub fn say<T: Display + Drop>(&mut self, word: T) {
+    pub fn say(&mut self, word: &str) {
         if self.has_word {
             self.add(" ");
         }
@@ -62,9 +66,16 @@ impl Answers {
         self.add(word);
     }
 
+    pub fn number(&mut self, number: usize) {
+        self.say("");
+        self.add_number(number);
+    }
+
     pub fn refusal(&mut self, refusal: Refusal) {
-        self.say("refused");
-        self.say(refusal);
+        self.say("refused ");
+        if write!(self.text, "{refusal}").is_err() {
+            self.is_lost = true;
+        }
     }
 
     pub fn flag(&mut self, holds: bool) {
@@ -74,7 +85,7 @@ impl Answers {
     /// A number, or `-`.
     pub fn place(&mut self, place: Option<usize>) {
         match place {
-            Some(place) => self.say(place),
+            Some(place) => self.number(place),
             None => self.say("-"),
         }
     }
@@ -86,7 +97,7 @@ impl Answers {
 
     pub fn nodes(&mut self, nodes: Vec<NodeId>) {
         for node in nodes {
-            self.say(node.index());
+            self.number(node.index());
         }
     }
 
@@ -112,7 +123,7 @@ impl Answers {
         match name.tag() {
             Tag::Other => {
                 self.add("#");
-                self.add(name.index());
+                self.add_number(name.index());
             }
             tag => self.add(tag.text()),
         }
@@ -128,7 +139,7 @@ impl Answers {
         for attr in attrs {
             self.name(attr.name);
             self.add("=");
-            self.add(attr.value.as_str());
+            self.add(&attr.value);
         }
     }
 
@@ -137,7 +148,7 @@ impl Answers {
         let Some(Open { node, name }) = open else {
             return self.say("-");
         };
-        self.say(node.index());
+        self.number(node.index());
         self.add(":");
         self.add_name(name);
     }

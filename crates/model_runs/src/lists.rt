@@ -23,7 +23,7 @@ pub fn call_chain(chain: &mut Chains, hand: &mut Hand, line: &str) -> Result<(),
         "clear" if number < len => chain.clear(number),
         "truncate" if number <= len => chain.truncate(number),
         "compact" if number <= len => chain.compact(number),
-        "last" if number != NONE => hand.out.say(chain.last(number)),
+        "last" if number != NONE => hand.out.number(chain.last(number)),
         "entries" => say_entries(chain, &mut hand.out),
         _ => hand.out.say("-"),
     }
@@ -33,13 +33,13 @@ pub fn call_chain(chain: &mut Chains, hand: &mut Hand, line: &str) -> Result<(),
 /// Says the numbers, each with the place before it where it is too, and the last one.
 fn say_entries(chain: &Chains, out: &mut Answers) {
     let len = chain.len();
-    out.say(len);
+    out.number(len);
     for index in 0..len {
         match chain.get(index) {
             Some(number) if number != NONE && index < chain.len() => {
-                out.say(number);
-                out.say(chain.before(index + 1));
-                out.say(chain.last(number));
+                out.number(number);
+                out.number(chain.before(index + 1));
+                out.number(chain.last(number));
             }
             _ => out.say("-"),
         }
@@ -77,7 +77,7 @@ fn call_of_node(list: &mut Formatting, hand: &mut Hand, call: &str, line: &str) 
         "reach" => list.reach(back),
         "keep" if is_moved(list, from, to, Bookmark::InPlace) => {}
         "move" if is_moved(list, from, to, Bookmark::After(hand.node(line, 4))) => {}
-        "len" => hand.out.say(list.len()),
+        "len" => hand.out.number(list.len()),
         "get" => hand.out.entry(list.get(back)),
         "all" => say_all(list, &mut hand.out),
         "entry" => hand.out.entry(list.entry_of(from)),
@@ -123,12 +123,12 @@ pub fn say_longest(table: &Table, text: &str, out: &mut Answers) {
     let Some(found) = table.longest(text.as_bytes()) else {
         return out.say("-");
     };
-    out.say(found.length);
+    out.number(found.length);
     match found.characters {
-        Characters::One(only) => out.say(only as u32),
+        Characters::One(only) => out.number(only as usize),
         Characters::Two(first, second) => {
-            out.say(first as u32);
-            out.say(second as u32);
+            out.number(first as usize);
+            out.number(second as usize);
         }
     }
 }

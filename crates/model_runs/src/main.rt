@@ -145,7 +145,7 @@ impl Structures {
         let alloc = hand.alloc;
         let text = after(line, 1);
         match word(line, 0) {
-            "name" => hand.out.say(hand.names.intern(alloc, text)?.index()),
+            "name" => hand.out.number(hand.names.intern(alloc, text)?.index()),
             "core" => self.table = Table::core(alloc)?,
             "table" => self.table = Table::read(alloc, text)?,
             "longest" => lists::say_longest(&self.table, text, &mut hand.out),

@@ -44,7 +44,7 @@ pub fn say_all(tree: &Tree, out: &mut Answers) {
 fn say_node(tree: &Tree, node: NodeId, out: &mut Answers)
     requires { node < tree.now.made }
 {
-    out.say(node.index());
+    out.number(node.index());
     out.kind(tree.kind(node));
     if let Some(name) = tree.name(node) {
         out.name(name);

@@ -209,9 +209,9 @@ fn say_state(site: &Site, out: &mut Answers) {
     out.say("list");
     lists::say_all(site.formatting(), out);
     out.say("errors");
-    out.say(site.errors().len());
+    out.number(site.errors().len());
     if let Some(error) = site.errors().last() {
-        out.say(error.at);
+        out.number(error.at as usize);
         out.say(error.code.text());
     }
     let (word, node) = match site.place() {

@@ -55,7 +55,7 @@ fn call_of_node(stack: &mut OpenStack, hand: &mut Hand, call: &str, line: &str) 
 
 /// `len`, `current` and `all_may_stay_open`.
 fn say_ends(stack: &OpenStack, out: &mut Answers) {
-    out.say(stack.len());
+    out.number(stack.len());
     out.open(stack.current());
     out.flag(stack.all_may_stay_open());
 }
@@ -75,7 +75,7 @@ fn say_all(stack: &OpenStack, out: &mut Answers) {
 fn say_node(stack: &OpenStack, node: NodeId, out: &mut Answers) {
     out.place(stack.place(node));
     out.flag(stack.contains(node));
-    out.say(stack.depth(node));
+    out.number(stack.depth(node));
     out.open(stack.above(node));
     out.flag(stack.node_in_scope(node));
 }

@@ -16,7 +16,7 @@ pub fn call(hand: &mut Hand, line: &str) -> Result<(), Refusal> {
     match word(line, 1) {
         "new" if limit > 0 => hand.tree = Tree::new(hand.alloc, limit)?,
         "element" | "comment" | "doctype" => make(hand, line)?,
-        "made" => hand.out.say(hand.tree.made()),
+        "made" => hand.out.number(hand.tree.made() as usize),
         "all" => say_all(&hand.tree, &mut hand.out),
         word => match hand.tree.node(number(line, 2)) {
             Some(node) => edit(hand, word, node, line)?,
@@ -41,7 +41,7 @@ fn make(hand: &mut Hand, line: &str) -> Result<(), Refusal> {
             tree.create_element(name, attrs, PLACE)?
         }
     };
-    hand.out.say(made.index());
+    hand.out.number(made.index());
     Ok(())
 }
 
@@ -59,7 +59,7 @@ fn edit(hand: &mut Hand, call: &str, node: NodeId, line: &str) -> Result<(), Ref
         "nest" | "fill" => {
             let (tree, count) = (&mut hand.tree, number(line, 3));
             let last = grow(tree, hand.alloc, node, count, call == "nest")?;
-            hand.out.say(last.index());
+            hand.out.number(last.index());
         }
         "written" => say_written(hand, node, word(line, 3))?,
         _ => ask(hand, call, node, line)?,
