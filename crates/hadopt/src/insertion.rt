@@ -124,7 +124,7 @@ impl Site {
         ensures done { Gives result self.new (put_each (placed at (chars text.now)) place self.old) }
         ensures kept { Kept numbers self.old → PlaceStands place (trees self.old) → IfOk result (λ _. Kept numbers self.new) }
     {
-        self.tree.are_nodes();
+        prove!(self.tree.are_nodes());
         self.tree.put_text(text, place, at)
     }
 

@@ -42,7 +42,7 @@ impl<'q> TreeConstruction<'q> {
         ensures rest { state_of self.new ≡ with_site self.new.site (state_of self.old) }
     {
         self.begin_text(at)?;
-        self.site.tree().are_nodes();
+        prove!(self.site.tree().are_nodes());
         let place = self.site.place_in_current();
         self.site.put_text(run, place, at)
     }

@@ -74,11 +74,12 @@ impl Tree {
         NodeId { number: 0 }
     }
 
-    /// Its nodes are numbered in the order in which they were made, and each is in it once.
-    pub fn are_nodes(&self)
-        ensures { AreNodes self.now }
+    /// Its nodes are numbered in the order in which they were made, and each is in it once: always so, to be said in a `prove!`.
+    pub fn are_nodes(&self) -> bool
+        ensures holds { result ≡ true }
+        ensures nodes { AreNodes self.now }
     {
-        prove!(!self.nodes.is_empty());
+        !self.nodes.is_empty()
     }
 
     /// Whether a node was made in this tree, which each call requires of the nodes that it is given.

@@ -104,8 +104,9 @@ fn swap_items(items: &mut [KeptNode], index: usize)
 {
     let upper = items[index];
     let lower = items[index + 1];
+    // Taken apart for the prover alone (CONTRIBUTING.md, "Traps").
     let Open { node, name } = lower.opened;
-    let sets = sets_from(items, index, Open { node, name });
+    let sets = sets_from(items, index, name, node);
     items[index] = KeptNode {
         opened: Open { node, name },
         same_name: upper.same_name,
@@ -192,17 +193,16 @@ pub(crate) fn exchange(
     ensures stands { Stands last.new items.new.items }
     ensures items { stack_of items.new.items ≡ put_before (is_node above) (open_of new) (without (is_node leaving) (stack_of items.old.items)) }
 {
-    let Open { node, name } = new;
     let from = last.of_node(leaving) as usize - 1;
     let to = (last.of_node(above) as usize).saturating_sub(1);
     let index = sink(last, items, from, to);
     if from < to && index == to {
-        replace(last, items, index, Open { node, name });
+        replace(last, items, index, new);
         return;
     }
     remove_run(last, items, index, index + 1);
     let place = last.of_node(above) as usize;
     if place > 0 {
-        insert(last, items, place, Open { node, name });
+        insert(last, items, place, new);
     }
 }

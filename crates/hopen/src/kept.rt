@@ -94,14 +94,14 @@ impl LastPlaces {
 
     /// Makes room for a node and its name.
     #[inline(always)]
-    pub(crate) fn make_room(&mut self, opened: Open) -> Result<(), AllocError>
+    pub(crate) fn make_room(&mut self, name: NameId, node: NodeId) -> Result<(), AllocError>
         ensures same_names { (k : ℕ) → slice_index self.new.names.items k ≡ slice_index self.old.names.items k }
         ensures same_nodes { (k : ℕ) → slice_index self.new.nodes.items k ≡ slice_index self.old.nodes.items k }
         ensures fits { length self.old.nodes.items < 2 ^ 32 → length self.new.nodes.items < 2 ^ 32 }
-        ensures room { OnOk result (HasRoom self.new opened) }
+        ensures room { OnOk result (HasRoom self.new (record { node = node; name = name })) }
     {
-        make_room(&mut self.names, opened.name.index())?;
-        make_room(&mut self.nodes, opened.node.index())
+        make_room(&mut self.names, name.index())?;
+        make_room(&mut self.nodes, node.index())
     }
 
     /// Writes the places of a node and of its name.
@@ -142,12 +142,11 @@ pub(crate) fn sets_above(items: &[KeptNode], index: usize) -> SetNodes
 
 /// The same from a node on upwards, where it is open at an index.
 #[inline(always)]
-pub(crate) fn sets_from(items: &[KeptNode], index: usize, opened: Open) -> SetNodes
+pub(crate) fn sets_from(items: &[KeptNode], index: usize, name: NameId, node: NodeId) -> SetNodes
     requires within { index ≤ length items.now }
-    requires fits { opened.node + 1 < 2 ^ 32 }
-    ensures { KeepsFrom items.now index (open_of opened) result }
+    requires fits { node + 1 < 2 ^ 32 }
+    ensures { KeepsFrom items.now index (open_of (record { node = node; name = name })) result }
 {
-    let Open { node, name } = opened;
     sets_above(items, index).with(name.tag(), node.index() as u32 + 1)
 }
 
@@ -190,8 +189,9 @@ fn open_at(last: &mut LastPlaces, items: &mut [KeptNode], index: usize)
 {
     let place = index as u32 + 1;
     let opened = items[index].opened;
+    // Taken apart for the prover alone (CONTRIBUTING.md, "Traps").
     let Open { node, name } = opened;
-    let sets = sets_from(items, index, Open { node, name });
+    let sets = sets_from(items, index, name, node);
     let same_name = last.names[name.index()];
     let same_node = last.nodes[node.index()];
     let item = KeptNode {
@@ -236,10 +236,9 @@ pub(crate) fn push(
     ensures ok { OnOk result (stack_of items.new.items ≡ open_of opened ∷ stack_of items.old.items) }
     ensures err { OnErr result (items.new.items ≡ items.old.items) }
 {
-    let Open { node, name } = opened;
-    last.make_room(Open { node, name })?;
+    last.make_room(opened.name, opened.node)?;
     let index = items.len();
-    items.push(KeptNode::new(Open { node, name }))?;
+    items.push(KeptNode::new(opened))?;
     open_at(last, items, index);
     Ok(())
 }
@@ -277,10 +276,9 @@ pub(crate) fn remove_run(last: &mut LastPlaces, items: &mut Vec<KeptNode>, from:
 
 /// Whether a new node can take the place of one with nothing below looked at: the name is the same and not special, the node is open
 /// nowhere else, and the new one nowhere.
-fn can_give_way(last: &LastPlaces, item: &KeptNode, place: u32, new: Open) -> bool
-    ensures { (result ≡ true) → CanGiveWay last.now item.now place new }
+fn can_give_way(last: &LastPlaces, item: &KeptNode, place: u32, name: NameId, node: NodeId) -> bool
+    ensures { (result ≡ true) → CanGiveWay last.now item.now place (record { node = node; name = name }) }
 {
-    let Open { node, name } = new;
     item.opened.name == name
         && !name.tag().is_special()
         && item.same_node == 0
@@ -298,19 +296,18 @@ pub(crate) fn replace(last: &mut LastPlaces, items: &mut [KeptNode], index: usiz
     ensures stands { Stands last.new items.new }
     ensures items { map opened_by items.new ≡ slice_set (map opened_by items.old) index (open_of new) }
 {
-    let Open { node, name } = new;
     let item = items[index];
     let place = index as u32 + 1;
-    if can_give_way(last, &item, place, Open { node, name }) {
+    if can_give_way(last, &item, place, new.name, new.node) {
         last.nodes[item.opened.node.index()] = 0;
-        last.nodes[node.index()] = place;
+        last.nodes[new.node.index()] = place;
         items[index] = KeptNode {
-            opened: Open { node, name },
+            opened: new,
             ..item
         };
     } else {
         unwind(last, items, index);
-        items[index] = KeptNode::new(Open { node, name });
+        items[index] = KeptNode::new(new);
         rewind(last, items, index);
     }
 }

@@ -148,8 +148,7 @@ impl OpenStack {
         ensures err { OnErr result (self.new ≡ self.old) }
     {
         if let Some(index) = self.index(Sought::Node(node)) {
-            let wanted = by;
-            self.last.make_room(wanted)?;
+            self.last.make_room(by.name, by.node)?;
             replace(&mut self.last, &mut self.items, index, by);
         }
         Ok(())
@@ -164,8 +163,7 @@ impl OpenStack {
     {
         self.room(at)?;
         if let Some(index) = self.index(Sought::Node(node)) {
-            let wanted = opened;
-            self.last.make_room(wanted)?;
+            self.last.make_room(opened.name, opened.node)?;
             self.items.reserve(1)?;
             insert(&mut self.last, &mut self.items, index + 1, opened);
         }
@@ -180,8 +178,7 @@ impl OpenStack {
         ensures ok { OnOk result (self.new ≡ record self.old { stack = put_before (is_node above) (open_of new) (without (is_node leaving) self.old.stack) }) }
         ensures err { OnErr result (self.new ≡ self.old) }
     {
-        let wanted = new;
-        self.last.make_room(wanted)?;
+        self.last.make_room(new.name, new.node)?;
         exchange(&mut self.last, &mut self.items, leaving, above, new);
         Ok(())
     }

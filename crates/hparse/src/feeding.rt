@@ -62,7 +62,7 @@ impl<'t, S: TokenSink> Feeding<'t, S> {
         ensures holds { (m : Manner) → m.table ≡ table.now → m.start ≡ start
             → HoldsItems (gives_item S.gives S.gives_token) m (record { names = names; sink = sink }) result [] }
     {
-        names.are_names();
+        prove!(names.are_names());
         Feeding {
             names,
             tokenizer: Tokenizer::new(alloc, table, start),
@@ -71,18 +71,21 @@ impl<'t, S: TokenSink> Feeding<'t, S> {
         }
     }
 
-    /// Nothing waits to be fed: only within a call do characters of a run wait.
-    pub fn all_fed(&self)
-        ensures { self.now.unfed ≡ [] }
+    /// Nothing waits to be fed, as is always so between calls: to be said in a `prove!`.
+    pub fn all_fed(&self) -> bool
+        ensures holds { result ≡ true }
+        ensures fed { self.now.unfed ≡ [] }
     {
         let _names = &self.names;
+        true
     }
 
     /// The texts of its table of names are distinct, the known ones first.
-    pub fn are_names(&self)
-        ensures { AreNames self.now.names }
+    pub fn are_names(&self) -> bool
+        ensures holds { result ≡ true }
+        ensures names { AreNames self.now.names }
     {
-        self.names.are_names();
+        self.names.are_names()
     }
 
     /// Ends the text, at the input's byte `end`.

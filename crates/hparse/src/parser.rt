@@ -88,7 +88,7 @@ impl<'t> Parser<'t> {
         match self.reading.feed(piece) {
             Ok(()) => Ok(()),
             Err(refusal) => {
-                self.reading.feeding.are_names();
+                prove!(self.reading.feeding.are_names());
                 self.refused = Some(refusal);
                 Err(refusal)
             }
@@ -103,7 +103,7 @@ impl<'t> Parser<'t> {
     {
         let mut reading = self.into_reading()?;
         let answer = reading.end();
-        reading.feeding.are_names();
+        prove!(reading.feeding.are_names());
         match answer {
             Ok(()) => built_of(reading),
             Err(refusal) => {
@@ -144,7 +144,7 @@ pub fn parse_reader<R: Source>(
 {
     let mut reading = parser.into_reading()?;
     let answer = read_to_end(alloc, piece, &mut reading, source);
-    reading.feeding.are_names();
+    prove!(reading.feeding.are_names());
     match answer {
         Ok(()) => built_of(reading),
         Err(refusal) => {

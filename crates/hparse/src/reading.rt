@@ -61,8 +61,8 @@ impl<'t, S: TokenSink> Reading<'t, S> {
     {
         match self.decoder.feed(piece, &mut self.feeding) {
             Ok(()) => {
-                self.feeding.all_fed();
-                self.feeding.are_names();
+                prove!(self.feeding.all_fed());
+                prove!(self.feeding.are_names());
                 Ok(())
             }
             Err(refusal) => Err(self.feeding.refuse(refusal)),

@@ -71,7 +71,7 @@ fn are_plain_attributes(tree: &Tree, names: &Names, node: NodeId, attrs: &[Attr]
     requires own { attributes_of node tree.now.trees ≡ Some (map attribute_of attrs.now) }
     ensures { result ≡ are_plain_attributes (map (spelled_attribute (text_of names.now)) (map attribute_of attrs.now)) }
 {
-    names.are_names();
+    prove!(names.are_names());
     all_plain_attributes(names, attrs) && tree.attrs_differ(node)
 }
 
@@ -142,7 +142,7 @@ fn is_plain_region(tree: &Tree, names: &Names, root: NodeId, top: Content) -> bo
     requires not_phrasing { is_phrasing top ≡ false }
     ensures { result ≡ are_region_content (in_region top) (spelled (text_of names.now) (children_of root tree.now.trees)) }
 {
-    names.are_names();
+    prove!(names.are_names());
     let mut around = Around::alone();
     for visit in TreeWalk::new(tree, root, Reach::Region) {
         match after_visit(tree, names, root, top, around, visit) {
@@ -194,7 +194,7 @@ pub fn is_plain(tree: &Tree, names: &Names, root: NodeId, context: &str) -> bool
     if !is_plain_region(tree, names, root, top) {
         return false;
     }
-    names.are_names();
+    prove!(names.are_names());
     let mut in_form = is_form(tag);
     for visit in TreeWalk::new(tree, root, Reach::Whole) {
         match form_after(tree, names, in_form, visit) {

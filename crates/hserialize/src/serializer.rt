@@ -123,7 +123,7 @@ fn put_children<W: Target>(
         (written escaping (option_map (text_of names.now) (name_of node tree.now.trees))
         (spelled (text_of names.now) (children_of node tree.now.trees))) result }
 {
-    names.are_names();
+    prove!(names.are_names());
     for visit in TreeWalk::new(tree, node, Reach::Written) {
         match visit {
             Visit::Enter(node) => put_opening(out, escaping, tree, names, node)?,
@@ -146,8 +146,8 @@ fn put_outer<W: Target>(
         (written escaping (option_map (text_of names.now) (name_around node tree.now.trees))
         (spelled (text_of names.now) (tree_at node tree.now.trees))) result }
 {
-    names.are_names();
-    tree.are_nodes();
+    prove!(names.are_names());
+    prove!(tree.are_nodes());
     put_opening(out, escaping, tree, names, node)?;
     if goes_in(tree, Reach::Written, node) {
         put_children(out, escaping, tree, names, node)?;

@@ -8,8 +8,8 @@ any false m above n k e f = ap (λ x. cond (eqb x 0) 0 1) e ∙ ap (λ (v : Bool
 
 pub returns : goal.returns
 returns c =
-    let next : c.index.result + 1 ≡ suc c.args.opened.node = omega (arith, c.index.ensures) in
+    let next : c.index.result + 1 ≡ suc c.args.node = omega (arith, c.index.ensures) in
     record {
       nodes = λ set. c.with.ensures.nodes set ∙ (λ t. cond (is_in_set set (c.tag.ensures t)) (next t) (c.sets_above.ensures.nodes set t));
-      must_close = any _ _ _ c.args.opened.node _ (c.with.ensures.must_close ∙ (λ t. cond (may_stay_open (c.tag.ensures t)) c.sets_above.result.must_close (next t))) c.sets_above.ensures.must_close;
+      must_close = any _ _ _ c.args.node _ (c.with.ensures.must_close ∙ (λ t. cond (may_stay_open (c.tag.ensures t)) c.sets_above.result.must_close (next t))) c.sets_above.ensures.must_close;
     }

@@ -8,14 +8,14 @@ pub returns-in-Err-clause-reads : goal.returns-in-Err-clause-reads
 returns-in-Err-clause-reads g c = λ opts parse_case fed h.
     let feeding = c.read_to_end-answer.new.reading.feeding in
     not_read g.R.Source.left g.R.Source.failed (λ bytes. Comes places_item (manner opts parse_case) h.began bytes feeding.names feeding.sink) (AnswersParse opts parse_case) (WasRead places_item (manner opts parse_case) h.began) (IsUnrefused opts parse_case) (λ bytes u. unrefused opts parse_case fed c.args.parser h bytes u) c.args.piece fed c.args.source.now c.read_to_end-answer.new.source
-    c.in-Err.refusal (λ bytes r. refused_answers opts parse_case fed c.args.parser h c.read_to_end-answer.new.reading c.read_to_end-answer.new.reading.feeding.names (grows_not _) c.are_names.ensures c.in-Err.refusal bytes r)
+    c.in-Err.refusal (λ bytes r. refused_answers opts parse_case fed c.args.parser h c.read_to_end-answer.new.reading c.read_to_end-answer.new.reading.feeding.names (grows_not _) c.are_names.ensures.names c.in-Err.refusal bytes r)
     (c.in-Err.ensures (manner opts parse_case) h.began fed (subst (λ (r : Reading Placing). HasRead places_item (manner opts parse_case) h.began r fed) (sym c.in_ok-reading.ensures.1) h.has_read))
 
 pub returns-in-Ok-clause-reads : goal.returns-in-Ok-clause-reads
 returns-in-Ok-clause-reads g c = λ opts parse_case fed h.
     let feeding = c.read_to_end-answer.new.reading.feeding in
     made g.R.Source.left g.R.Source.failed (λ bytes. Comes places_item (manner opts parse_case) h.began bytes feeding.names feeding.sink) (AnswersParse opts parse_case) (WasRead places_item (manner opts parse_case) h.began) (IsUnrefused opts parse_case) (λ bytes u. unrefused opts parse_case fed c.args.parser h bytes u) c.args.piece fed c.args.source.now c.read_to_end-answer.new.source
-    tt c.built_of.result (λ bytes t. built_answers opts parse_case fed c.args.parser h c.read_to_end-answer.new.reading c.read_to_end-answer.new.reading.feeding.names (grows_not _) c.are_names.ensures c.built_of.result c.built_of.ensures.built bytes t)
+    tt c.built_of.result (λ bytes t. built_answers opts parse_case fed c.args.parser h c.read_to_end-answer.new.reading c.read_to_end-answer.new.reading.feeding.names (grows_not _) c.are_names.ensures.names c.built_of.result c.built_of.ensures.built bytes t)
     (c.in-Ok.ensures (manner opts parse_case) h.began fed (subst (λ (r : Reading Placing). HasRead places_item (manner opts parse_case) h.began r fed) (sym c.in_ok-reading.ensures.1) h.has_read))
 
 pub returns-in-Ok-clause-again : goal.returns-in-Ok-clause-again

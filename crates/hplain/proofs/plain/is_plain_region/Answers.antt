@@ -4,7 +4,7 @@ use Rattle.hplain.proofs.plain.is_plain_region.Goals as goal
 
 pub loop-visit-init : goal.loop-visit-init
 loop-visit-init c =
-    begun c.args.names.now c.args.tree.now.made c.args.tree.now.trees c.args.root c.args.top c.alone-around.result _ _ c.are_names.ensures c.new-visit-items.ensures.nodes.counted c.requires.made
+    begun c.args.names.now c.args.tree.now.made c.args.tree.now.trees c.args.root c.args.top c.alone-around.result _ _ c.are_names.ensures.names c.new-visit-items.ensures.nodes.counted c.requires.made
     c.requires.not_phrasing c.alone-around.ensures c.into_iter-visit-iterator.ensures.into_iter_gives c.new-visit-items.ensures.visits
 
 pub loop-visit-preserved : goal.loop-visit-preserved

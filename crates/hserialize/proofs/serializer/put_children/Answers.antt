@@ -5,7 +5,7 @@ use Rattle.hserialize.proofs.serializer.put_children.Goals as goal
 
 pub loop-visit-init : goal.loop-visit-init
 loop-visit-init g c =
-    begun c.args.escaping c.args.names.now c.args.tree.now.made c.args.tree.now.trees c.args.node _ _ _ c.are_names.ensures c.new-visit-items.ensures.nodes.counted c.requires
+    begun c.args.escaping c.args.names.now c.args.tree.now.made c.args.tree.now.trees c.args.node _ _ _ c.are_names.ensures.names c.new-visit-items.ensures.nodes.counted c.requires
     c.into_iter-visit-iterator.ensures.into_iter_gives c.new-visit-items.ensures.visits
 
 pub loop-visit-preserved-in-Continue-1 : goal.loop-visit-preserved-in-Continue-1

@@ -1,5 +1,5 @@
 use Rattle.hnodes.proofs.Opened.{opened, are_nodes}
 use Rattle.hnodes.proofs.tree.Tree.are_nodes.Goals as goal
 
-pub returns : goal.returns
-returns c = are_nodes c.self.inside c.args.self.now (opened c.self.inside c.args.self.now c.self.view_is c.self.invariant)
+pub returns-clause-nodes : goal.returns-clause-nodes
+returns-clause-nodes c = are_nodes c.self.inside c.args.self.now (opened c.self.inside c.args.self.now c.self.view_is c.self.invariant)

@@ -8,7 +8,7 @@ returns-in-Ok-clause-feeds c = λ opts parse_case bytes h.
 
 pub returns-in-Err-clause-feeds : goal.returns-in-Err-clause-feeds
 returns-in-Err-clause-feeds c = λ opts parse_case bytes h.
-    feeds_refused opts parse_case bytes c.args.self.now h c.feed.new.self c.feed.new.self.feeding.names (grows_not _) c.are_names.ensures c.in-Err.refusal c.args.piece.now _ (c.in-Err.ensures (manner opts parse_case) h.began bytes h.has_read)
+    feeds_refused opts parse_case bytes c.args.self.now h c.feed.new.self c.feed.new.self.feeding.names (grows_not _) c.are_names.ensures.names c.in-Err.refusal c.args.piece.now _ (c.in-Err.ensures (manner opts parse_case) h.began bytes h.has_read)
 
 pub returns-in-Ok-clause-again : goal.returns-in-Ok-clause-again
 returns-in-Ok-clause-again c = search rules

@@ -4,7 +4,7 @@ use Rattle.hparse.proofs.reading.Reading.feed.Goals as goal
 
 pub returns-in-Ok : goal.returns-in-Ok
 returns-in-Ok g c = λ m began bytes h.
-    reads_piece (gives_item g.S.ErrorSink.gives g.S.TokenSink.gives_token) m began bytes c.args.piece.now c.args.self.now h _ (c.in-Ok.ensures.feeds bytes h.fed) (c.in-Ok.ensures.fed bytes h.fed) c.in-Ok.ensures.how c.all_fed.ensures c.are_names.ensures
+    reads_piece (gives_item g.S.ErrorSink.gives g.S.TokenSink.gives_token) m began bytes c.args.piece.now c.args.self.now h _ (c.in-Ok.ensures.feeds bytes h.fed) (c.in-Ok.ensures.fed bytes h.fed) c.in-Ok.ensures.how c.all_fed.ensures.fed c.are_names.ensures.names
 
 pub returns-in-Err : goal.returns-in-Err
 returns-in-Err g c = λ m began bytes h.
