@@ -25,7 +25,7 @@ pub fn one_cut()
 {}
 
 /// A text that is refused has no tokens, and it is refused for one name at one place, after one list of tokens.
-pub fn one_answer()
+pub fn one_refusal()
     ensures either { NoTokensOfRefused }
     ensures refusal { OneRefusal }
 {}

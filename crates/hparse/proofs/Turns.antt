@@ -7,7 +7,7 @@ use Rattle.std.proofs.lemmas.List.{length-take-le}
 use Rattle.std.proofs.KnownBytes.{Consumes-nil, Consumes-trans, Consumes-kept}
 use Rattle.names.specs.declared.refusal.Refusal.TheVariants.{Read}
 use Rattle.htext.specs.Text.{settled_len}
-use Rattle.htext.specs.Decoding.{Progress}
+use Rattle.htext.specs.Decoding.{DecoderState}
 use Rattle.htext.proofs.Fronts.{front_le}
 use Rattle.hparse.specs.Calls.{counted}
 use Rattle.hparse.specs.Reader.{IsRefusedFrom, ReadsInput, reading_ran_out, reading_failed, reading_stopped, read_to_end}
@@ -33,7 +33,7 @@ pub few_of_buffer : (count most : ℕ) (xs : List ℕ) → length xs ≡ most �
 few_of_buffer count most xs is fits = omega (arith, length-take-le count xs fits)
 
 -- an input of which no more than three bytes are held back is at most this long
-long : (decoder : Progress) (fed : List ℕ) → HasFed decoder fed → length fed ≤ decoder.how.limit + 3
+long : (decoder : DecoderState) (fed : List ℕ) → HasFed decoder fed → length fed ≤ decoder.how.limit + 3
 long decoder fed h =
     let held : length decoder.undecoded ≡ length fed - decoder.read = ap length h.undecoded ∙ length-drop decoder.read fed in
     let front : decoder.read ≡ settled_len decoder.how fed = h.front.length_is in

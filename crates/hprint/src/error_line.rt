@@ -3,7 +3,7 @@
 ghost use Rattle.std.specs.Prelude.{◌≡◌};
 ghost use Rattle.hprint.specs.Vocabulary.{error_line, IsLine, Puts, taken};
 
-use hserialize::{Sink, Target, put};
+use hserialize::{Target, Writer, put};
 use itoa::write_digits;
 use names::{ErrorCode, ParseError, Refusal};
 
@@ -57,7 +57,7 @@ impl ErrorLine {
 /// Writes the line of an error, by way of the line that is kept.
 #[inline(always)]
 pub(crate) fn put_error<W: Target>(
-    out: &mut Sink<'_, W>,
+    out: &mut Writer<'_, W>,
     line: &mut ErrorLine,
     error: &ParseError,
 ) -> Result<(), Refusal>

@@ -8,12 +8,14 @@ ghost use Rattle.hprint.specs.Vocabulary.{text_of, children_of, element, attribu
 use crate::error_line::{ErrorLine, put_error};
 use crate::sorted::{NamedAttr, in_order};
 use hnodes::{DocumentType, NodeId, Tree};
-use hserialize::{Gathered, NodeView, Reach, Sink, Target, TreeWalk, Visit, put, put_parts, room};
+use hserialize::{
+    Gathered, NodeView, Reach, Target, TreeWalk, Visit, Writer, put, put_parts, room,
+};
 use names::{Attr, NameId, Names, ParseError, Refusal};
 use std::alloc::Global;
 
 /// Begins a line at a depth.
-fn begin_line<W: Target>(out: &mut Sink<'_, W>, depth: usize) -> Result<(), Refusal>
+fn begin_line<W: Target>(out: &mut Writer<'_, W>, depth: usize) -> Result<(), Refusal>
     ensures { Puts (taken W.written W.failed out.old) (taken W.written W.failed out.new) (codes "| " ++ repeat depth (codes "  ")) result }
 {
     put(out, b"| ")?;
@@ -24,7 +26,11 @@ fn begin_line<W: Target>(out: &mut Sink<'_, W>, depth: usize) -> Result<(), Refu
 }
 
 /// Writes a line of these parts.
-fn put_line<W: Target>(out: &mut Sink<'_, W>, depth: usize, parts: &[&[u8]]) -> Result<(), Refusal>
+fn put_line<W: Target>(
+    out: &mut Writer<'_, W>,
+    depth: usize,
+    parts: &[&[u8]],
+) -> Result<(), Refusal>
     ensures { Puts (taken W.written W.failed out.old) (taken W.written W.failed out.new) (indented depth (flat_map (λ p. p.now) parts.now)) result }
 {
     begin_line(out, depth)?;
@@ -34,7 +40,7 @@ fn put_line<W: Target>(out: &mut Sink<'_, W>, depth: usize, parts: &[&[u8]]) -> 
 
 /// Writes the lines of attributes.
 fn put_attributes<W: Target>(
-    out: &mut Sink<'_, W>,
+    out: &mut Writer<'_, W>,
     depth: usize,
     entries: &[NamedAttr<'_>],
 ) -> Result<(), Refusal>
@@ -49,7 +55,7 @@ fn put_attributes<W: Target>(
 
 /// Writes the lines of an element and its attributes.
 fn put_element<'a, W: Target>(
-    out: &mut Sink<'_, W>,
+    out: &mut Writer<'_, W>,
     entries: &mut Vec<NamedAttr<'a>>,
     names: &'a Names,
     depth: usize,
@@ -76,7 +82,7 @@ fn has_none(public_id: &str, system_id: &str) -> bool
 
 /// Writes the line of a doctype.
 fn put_doctype<W: Target>(
-    out: &mut Sink<'_, W>,
+    out: &mut Writer<'_, W>,
     depth: usize,
     texts: &DocumentType,
 ) -> Result<(), Refusal>
@@ -106,7 +112,7 @@ fn put_doctype<W: Target>(
 
 /// Writes the lines of a node.
 fn put_node<'a, W: Target>(
-    out: &mut Sink<'_, W>,
+    out: &mut Writer<'_, W>,
     entries: &mut Vec<NamedAttr<'a>>,
     tree: &'a Tree,
     names: &'a Names,
@@ -155,7 +161,7 @@ fn most_attributes(tree: &Tree) -> usize
 
 /// Writes the nodes inside a node. Nothing is handed on.
 fn put_nodes<'a, W: Target>(
-    out: &mut Sink<'_, W>,
+    out: &mut Writer<'_, W>,
     entries: &mut Vec<NamedAttr<'a>>,
     tree: &'a Tree,
     names: &'a Names,
@@ -195,7 +201,7 @@ pub fn print_tree<W: Target>(
 {
     let mut entries = Vec::with_capacity(alloc, most_attributes(tree))?;
     let mut held = room(alloc)?;
-    let mut out = Sink::new(target, &mut held);
+    let mut out = Writer::new(target, &mut held);
     put_nodes(&mut out, &mut entries, tree, names, root)?;
     out.finish()
 }
@@ -216,7 +222,7 @@ pub fn tree_text(
 }
 
 /// Writes the lines of errors. Nothing is handed on.
-fn put_errors<W: Target>(out: &mut Sink<'_, W>, errors: &[ParseError]) -> Result<(), Refusal>
+fn put_errors<W: Target>(out: &mut Writer<'_, W>, errors: &[ParseError]) -> Result<(), Refusal>
     ensures { Puts (taken W.written W.failed out.old) (taken W.written W.failed out.new) (error_lines errors.now) result }
 {
     let Some(first) = errors.first() else {
@@ -240,7 +246,7 @@ pub fn print_errors<W: Target>(
     ensures flushed { OnOk result (IsFlushed W.flushes target.new) }
 {
     let mut held = room(alloc)?;
-    let mut out = Sink::new(target, &mut held);
+    let mut out = Writer::new(target, &mut held);
     put_errors(&mut out, errors)?;
     out.finish()
 }

@@ -4,7 +4,7 @@ use Rattle.std.specs.Io.KnownBytes.{Appends, Keeps}
 use Rattle.names.specs.declared.refusal.Refusal.{Refusal}
 use Rattle.names.specs.declared.refusal.Refusal.TheVariants.{Memory, Write}
 use Rattle.hserialize.specs.Calls.{counted}
-use Rattle.hserialize.specs.declared.sink.Sink.{Sink}
+use Rattle.hserialize.specs.declared.writer.Writer.{Writer}
 
 -- They grow by a beginning of the bytes, and some bytes are left.
 abbrev pub AppendsBeginning : Option (List ℕ) → Option (List ℕ) → List ℕ → Type 0
@@ -33,7 +33,7 @@ pub record Taken : Type 0 where
   pub failures : ℕ
   pub held : List ℕ
 
-abbrev pub taken : {W : Type 0} → (W → Option (List ℕ)) → (W → ℕ) → Sink W → Taken
+abbrev pub taken : {W : Type 0} → (W → Option (List ℕ)) → (W → ℕ) → Writer W → Taken
 taken written failed out = record { name = out.target.ghost_name; bytes = written out.target.now; failures = failed out.target.now; held = out.held.now.items }
 
 -- All of the bytes were taken: what was held and then these were handed over, or are held. No call failed.

@@ -5,8 +5,8 @@ ghost use Rattle.std.specs.Char.{encode_utf8};
 ghost use Rattle.hserialize.specs.Vocabulary.{escaped, written_char, Puts, taken};
 
 use crate::escaping::{Escaping, Setting};
-use crate::sink::{Sink, put, put_before};
 use crate::target::Target;
+use crate::writer::{Writer, put, put_before};
 use names::Refusal;
 
 /// What is written for a character that is not written as it is.
@@ -26,7 +26,7 @@ fn reference(ch: char, escaping: Escaping, setting: Setting) -> Option<&'static 
 
 /// Writes a text: escaping a string (`#escapingString`).
 pub(crate) fn put_escaped<W: Target>(
-    out: &mut Sink<'_, W>,
+    out: &mut Writer<'_, W>,
     source: &str,
     escaping: Escaping,
     setting: Setting,

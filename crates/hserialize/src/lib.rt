@@ -6,14 +6,14 @@ pub mod escaping;
 pub mod gathered;
 pub mod node_view;
 mod serializer;
-pub mod sink;
 pub mod target;
 pub mod walk;
+pub mod writer;
 
 pub use escaping::Escaping;
 pub use gathered::Gathered;
 pub use node_view::NodeView;
 pub use serializer::{serialize, serialize_outer, serialize_outer_to_vec, serialize_to_vec};
-pub use sink::{Sink, put, put_parts, room};
 pub use target::{Target, write_all};
 pub use walk::{Reach, TreeWalk, Visit, inserts_marker};
+pub use writer::{Writer, put, put_parts, room};

@@ -8,16 +8,16 @@ use crate::escaped::put_escaped;
 use crate::escaping::{Escaping, Setting};
 use crate::gathered::Gathered;
 use crate::node_view::NodeView;
-use crate::sink::{Sink, put, put_before, put_between, room};
 use crate::target::Target;
 use crate::walk::{Reach, TreeWalk, Visit, goes_in};
+use crate::writer::{Writer, put, put_before, put_between, room};
 use hnodes::{NodeId, Tree};
 use names::{Attr, NameId, Names, RawKind, Refusal};
 use std::alloc::Global;
 
 /// Writes an attribute.
 fn put_attribute<W: Target>(
-    out: &mut Sink<'_, W>,
+    out: &mut Writer<'_, W>,
     escaping: Escaping,
     name: &str,
     value: &str,
@@ -31,7 +31,7 @@ fn put_attribute<W: Target>(
 
 /// Writes a start tag.
 fn put_start_tag<W: Target>(
-    out: &mut Sink<'_, W>,
+    out: &mut Writer<'_, W>,
     escaping: Escaping,
     names: &Names,
     name: NameId,
@@ -66,7 +66,7 @@ fn stands_raw(tree: &Tree, node: NodeId) -> bool
 
 /// Writes where a node begins.
 fn put_opening<W: Target>(
-    out: &mut Sink<'_, W>,
+    out: &mut Writer<'_, W>,
     escaping: Escaping,
     tree: &Tree,
     names: &Names,
@@ -94,7 +94,7 @@ fn put_opening<W: Target>(
 
 /// Writes where a node ends.
 fn put_closing<W: Target>(
-    out: &mut Sink<'_, W>,
+    out: &mut Writer<'_, W>,
     tree: &Tree,
     names: &Names,
     node: NodeId,
@@ -112,7 +112,7 @@ fn put_closing<W: Target>(
 
 /// Writes the children of a node. Nothing is handed on.
 fn put_children<W: Target>(
-    out: &mut Sink<'_, W>,
+    out: &mut Writer<'_, W>,
     escaping: Escaping,
     tree: &Tree,
     names: &Names,
@@ -135,7 +135,7 @@ fn put_children<W: Target>(
 
 /// Writes a node and what is in it. Nothing is handed on.
 fn put_outer<W: Target>(
-    out: &mut Sink<'_, W>,
+    out: &mut Writer<'_, W>,
     escaping: Escaping,
     tree: &Tree,
     names: &Names,
@@ -174,7 +174,7 @@ pub fn serialize<W: Target>(
     ensures flushed { OnOk result (IsFlushed W.flushes target.new) }
 {
     let mut held = room(alloc)?;
-    let mut out = Sink::new(target, &mut held);
+    let mut out = Writer::new(target, &mut held);
     put_children(&mut out, escaping, tree, names, node)?;
     out.finish()
 }
@@ -212,7 +212,7 @@ pub fn serialize_outer<W: Target>(
     ensures flushed { OnOk result (IsFlushed W.flushes target.new) }
 {
     let mut held = room(alloc)?;
-    let mut out = Sink::new(target, &mut held);
+    let mut out = Writer::new(target, &mut held);
     put_outer(&mut out, escaping, tree, names, node)?;
     out.finish()
 }

@@ -7,7 +7,7 @@ use Rattle.htext.specs.Text.{Policy, Read, reads, front_len, settled_len, ends_i
 use Rattle.htext.specs.Items.{CharItem, items}
 
 -- what contracts see of a decoder
-pub record Progress : Type 0 where
+pub record DecoderState : Type 0 where
   pub how : Policy
   pub read : ℕ
   pub after_return : Bool
@@ -31,7 +31,7 @@ pub record IsReading (how : Policy) (read : ℕ) (after_return : Bool) (bytes : 
 
 -- The decoder was fed these bytes, in any pieces, and has refused nothing: it has read what is read of them whatever follows, and holds
 -- the at most three bytes after that. What follows decides whether and why the bytes are refused.
-pub record HasFed (decoder : Progress) (bytes : List ℕ) : Type 0 where
+pub record HasFed (decoder : DecoderState) (bytes : List ℕ) : Type 0 where
   pub front : HasRead decoder.how decoder.read decoder.after_return bytes
   pub undecoded : decoder.undecoded ≡ drop decoder.read bytes
   pub few : length decoder.undecoded ≤ 3

@@ -23,9 +23,9 @@ pub struct Decoder {
 }
 
 impl Model for Decoder {
-    ghost use Rattle.htext.specs.Decoding.{Progress};
+    ghost use Rattle.htext.specs.Decoding.{DecoderState};
 
-    ghost Value = { Progress };
+    ghost Value = { DecoderState };
 
     ghost view = { λ d. record {
       how = record { bom = d.reading.bom; bad = d.reading.bad_bytes; limit = d.reading.limit };

@@ -7,7 +7,7 @@ ghost use Rattle.hwrite.specs.Vocabulary.{ComesTo, Fills, drafted, is_hole, esca
 
 use crate::draft::{Draft, HOLE};
 use crate::words::END_OF_CHARACTERS;
-use hserialize::{Sink, Target, put, room};
+use hserialize::{Target, Writer, put, room};
 use names::{NameId, Names, Refusal};
 use std::alloc::Global;
 
@@ -24,7 +24,7 @@ fn hex_digit(digit: u8) -> u8
 }
 
 /// Writes a byte as it is between quotes.
-fn put_escaped_byte<W: Target>(out: &mut Sink<'_, W>, byte: u8) -> Result<(), Refusal>
+fn put_escaped_byte<W: Target>(out: &mut Writer<'_, W>, byte: u8) -> Result<(), Refusal>
     ensures { Puts (taken W.written W.failed out.old) (taken W.written W.failed out.new) (escaped_byte byte) result }
 {
     match byte {
@@ -40,7 +40,7 @@ fn put_escaped_byte<W: Target>(out: &mut Sink<'_, W>, byte: u8) -> Result<(), Re
 }
 
 /// Writes bytes as they are between quotes.
-fn put_escaped<W: Target>(out: &mut Sink<'_, W>, bytes: &[u8]) -> Result<(), Refusal>
+fn put_escaped<W: Target>(out: &mut Writer<'_, W>, bytes: &[u8]) -> Result<(), Refusal>
     ensures { Puts (taken W.written W.failed out.old) (taken W.written W.failed out.new) (escaped bytes.now) result }
 {
     for byte in bytes {
@@ -50,7 +50,7 @@ fn put_escaped<W: Target>(out: &mut Sink<'_, W>, bytes: &[u8]) -> Result<(), Ref
 }
 
 /// Writes a text between quotes.
-fn put_quoted<W: Target>(out: &mut Sink<'_, W>, text: &str) -> Result<(), Refusal>
+fn put_quoted<W: Target>(out: &mut Writer<'_, W>, text: &str) -> Result<(), Refusal>
     ensures { Puts (taken W.written W.failed out.old) (taken W.written W.failed out.new) (quoted text.now) result }
 {
     put(out, b"\"")?;
@@ -78,7 +78,7 @@ fn around_hole(text: &[u8]) -> (&[u8], &[u8])
 
 /// Writes a text with these names in its holes.
 fn put_filled<W: Target>(
-    out: &mut Sink<'_, W>,
+    out: &mut Writer<'_, W>,
     text: &[u8],
     holes: &[NameId],
     names: &Names,
@@ -97,7 +97,11 @@ fn put_filled<W: Target>(
 }
 
 /// Writes the lines of a draft.
-fn put_draft<W: Target>(out: &mut Sink<'_, W>, draft: &Draft, names: &Names) -> Result<(), Refusal>
+fn put_draft<W: Target>(
+    out: &mut Writer<'_, W>,
+    draft: &Draft,
+    names: &Names,
+) -> Result<(), Refusal>
     ensures { (text : List ℕ) → ComesTo names.now (drafted draft.now) [] text
         → Puts (taken W.written W.failed out.old) (taken W.written W.failed out.new) text result }
 {
@@ -121,7 +125,7 @@ pub fn print_draft<W: Target>(
     ensures flushed { OnOk result (IsFlushed W.flushes target.new) }
 {
     let mut held = room(alloc)?;
-    let mut out = Sink::new(target, &mut held);
+    let mut out = Writer::new(target, &mut held);
     put_draft(&mut out, draft, names)?;
     out.finish()
 }

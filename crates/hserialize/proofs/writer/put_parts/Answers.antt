@@ -1,6 +1,6 @@
 use Rattle.hserialize.proofs.Names.{ap, drop_all}
 use Rattle.hserialize.proofs.Output.{all_parts, all_put, part_put, part_failed, passed_on, next_part}
-use Rattle.hserialize.proofs.sink.put_parts.Goals as goal
+use Rattle.hserialize.proofs.writer.put_parts.Goals as goal
 
 pub returns-in_err-put : goal.returns-in_err-put
 returns-in_err-put g c =

@@ -1,6 +1,6 @@
 use Rattle.hserialize.proofs.Names.{refl}
 use Rattle.hserialize.proofs.Output.{not_handed, passed_on}
-use Rattle.hserialize.proofs.sink.Sink.hand_over.Goals as goal
+use Rattle.hserialize.proofs.writer.Writer.hand_over.Goals as goal
 
 pub returns-in_err-write_all-clause-put : goal.returns-in_err-write_all-clause-put
 returns-in_err-write_all-clause-put g c =

@@ -1,6 +1,6 @@
 use Rattle.hserialize.proofs.Names.{[], refl}
 use Rattle.hserialize.proofs.Output.{none_put, both_added, part_put, part_failed, passed_on, last_put, passed_over}
-use Rattle.hserialize.proofs.sink.put_past.Goals as goal
+use Rattle.hserialize.proofs.writer.put_past.Goals as goal
 
 pub returns-in_err-hand_over : goal.returns-in_err-hand_over
 returns-in_err-hand_over g c = passed_on _ _ _ _ c.from_residual.ensures.1 (part_failed _ _ _ _ _ [] _ (none_put _ _) refl c.in_err-hand_over.ensures.put)

@@ -1,6 +1,6 @@
 use Rattle.hserialize.proofs.Names.{◌∙◌, ◌++◌, ap, subst, Puts, taken}
 use Rattle.std.proofs.Common.{append-nil}
-use Rattle.hserialize.proofs.sink.put_before.Goals as goal
+use Rattle.hserialize.proofs.writer.put_before.Goals as goal
 
 pub returns : goal.returns
 returns g c =

@@ -1,6 +1,6 @@
 use Rattle.hserialize.proofs.Names.{subst, Puts, taken}
 use Rattle.hserialize.proofs.Output.{between}
-use Rattle.hserialize.proofs.sink.put_between.Goals as goal
+use Rattle.hserialize.proofs.writer.put_between.Goals as goal
 
 pub returns : goal.returns
 returns g c =

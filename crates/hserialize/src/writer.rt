@@ -12,7 +12,7 @@ const ROOM: usize = 65536;
 
 /// A target, and bytes that it is yet to be handed. Their memory is taken once: no write takes any.
 #[derive(Drop)]
-pub struct Sink<'t, W> {
+pub struct Writer<'t, W> {
     target: &'t mut W,
     held: &'t mut Vec<u8>,
 }
@@ -24,14 +24,14 @@ pub fn room(alloc: Global) -> Result<Vec<u8>, AllocError>
     Vec::with_capacity(alloc, ROOM)
 }
 
-impl<'t, W: Target> Sink<'t, W> {
+impl<'t, W: Target> Writer<'t, W> {
     /// Nothing is held yet.
-    pub fn new(target: &'t mut W, held: &'t mut Vec<u8>) -> Sink<'t, W>
+    pub fn new(target: &'t mut W, held: &'t mut Vec<u8>) -> Writer<'t, W>
         ensures name { result.target.ghost_name ≡ target.entry.ghost_name }
         ensures same { result.target.now ≡ target.old }
         ensures held { result.held.now ≡ held.old }
     {
-        Sink { target, held }
+        Writer { target, held }
     }
 
     /// Hands over what is held.
@@ -61,7 +61,7 @@ impl<'t, W: Target> Sink<'t, W> {
 
 /// Holds bytes that there is room for.
 #[inline]
-fn hold<W: Target>(out: &mut Sink<'_, W>, bytes: &[u8])
+fn hold<W: Target>(out: &mut Writer<'_, W>, bytes: &[u8])
     requires { length out.old.held.now.items + length bytes.now ≤ vec_capacity out.old.held.now }
     ensures { Adds (taken W.written W.failed out.old) (taken W.written W.failed out.new) bytes.now }
 {
@@ -72,7 +72,7 @@ fn hold<W: Target>(out: &mut Sink<'_, W>, bytes: &[u8])
 /// Writes all of the bytes, for which there is no room with those that are held.
 #[cold]
 #[inline(never)]
-fn put_past<W: Target>(out: &mut Sink<'_, W>, bytes: &[u8]) -> Result<(), Refusal>
+fn put_past<W: Target>(out: &mut Writer<'_, W>, bytes: &[u8]) -> Result<(), Refusal>
     ensures { Puts (taken W.written W.failed out.old) (taken W.written W.failed out.new) bytes.now result }
 {
     out.hand_over()?;
@@ -85,7 +85,7 @@ fn put_past<W: Target>(out: &mut Sink<'_, W>, bytes: &[u8]) -> Result<(), Refusa
 
 /// Writes all of the bytes.
 #[inline]
-pub fn put<W: Target>(out: &mut Sink<'_, W>, bytes: &[u8]) -> Result<(), Refusal>
+pub fn put<W: Target>(out: &mut Writer<'_, W>, bytes: &[u8]) -> Result<(), Refusal>
     ensures { Puts (taken W.written W.failed out.old) (taken W.written W.failed out.new) bytes.now result }
 {
     if bytes.len() > out.held.capacity() - out.held.len() {
@@ -96,7 +96,7 @@ pub fn put<W: Target>(out: &mut Sink<'_, W>, bytes: &[u8]) -> Result<(), Refusal
 }
 
 /// Writes these parts, one after another.
-pub fn put_parts<W: Target>(out: &mut Sink<'_, W>, parts: &[&[u8]]) -> Result<(), Refusal>
+pub fn put_parts<W: Target>(out: &mut Writer<'_, W>, parts: &[&[u8]]) -> Result<(), Refusal>
     ensures { Puts (taken W.written W.failed out.old) (taken W.written W.failed out.new) (flat_map (λ p. p.now) parts.now) result }
 {
     for part in parts {
@@ -108,7 +108,7 @@ pub fn put_parts<W: Target>(out: &mut Sink<'_, W>, parts: &[&[u8]]) -> Result<()
 /// Writes bytes, and then a text.
 #[inline(always)]
 pub(crate) fn put_before<W: Target>(
-    out: &mut Sink<'_, W>,
+    out: &mut Writer<'_, W>,
     before: &[u8],
     text: &str,
 ) -> Result<(), Refusal>
@@ -120,7 +120,7 @@ pub(crate) fn put_before<W: Target>(
 /// Writes a text between bytes.
 #[inline(always)]
 pub(crate) fn put_between<W: Target>(
-    out: &mut Sink<'_, W>,
+    out: &mut Writer<'_, W>,
     before: &[u8],
     text: &str,
     after: &[u8],

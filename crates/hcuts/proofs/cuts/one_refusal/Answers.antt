@@ -1,5 +1,5 @@
 use Rattle.hcuts.proofs.OneCut.{no_tokens_of_refused, one_refusal}
-use Rattle.hcuts.proofs.cuts.one_answer.Goals as goal
+use Rattle.hcuts.proofs.cuts.one_refusal.Goals as goal
 
 pub returns-clause-either : goal.returns-clause-either
 returns-clause-either c = no_tokens_of_refused
