@@ -196,14 +196,14 @@ class Grower:
 
 
 def escaped(text, more):
-    """A text with references for what must have them (HTML Standard, 13.3), and for more."""
+    """A text with references for what must have them (HTML Standard, #serialising-html-fragments), and for more."""
     for character, reference in {"&": "&amp;", "\xa0": "&nbsp;", **more}.items():
         text = text.replace(character, reference)
     return text
 
 
 def html(parent, in_values):
-    """What is written of a node's children (13.3). `in_values` are the references in values of attributes."""
+    """What is written of a node's children (#serialising-html-fragments). `in_values` are the references in values of attributes."""
     written = ""
     for node in parent.children:
         if node.text is not None:

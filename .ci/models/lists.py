@@ -1,5 +1,6 @@
 #!/usr/bin/env python3
-"""Scripts of calls on the list of active formatting elements (HTML Standard, 13.2.4.3) for model_runs, and what it must print for them.
+"""Scripts of calls on the list of active formatting elements (HTML Standard, #the-list-of-active-formatting-elements) for model_runs, and what it
+must print for them.
 
 The list is a list of rows in the Standard's order, in which a marker is None; each question searches it as the Standard says. The
 answers about lists that are too long for a search are written beside the calls.

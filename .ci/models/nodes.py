@@ -2,8 +2,8 @@
 
 A list of numbers is a list, searched from one end to the other. A tree is a table of nodes, each with the list of its children:
 a node is moved by taking it out of one list and putting it into another (the appending and inserting of the DOM), a character
-goes where "insert a character" of the HTML Standard, 13.2.6.1, puts it, at the end of the text right before its place or in a
-new text there, and an attribute is added where an element has none of its name, as 13.2.6.4.7 adds those of a second <body>.
+goes where "insert a character" of the HTML Standard, #creating-and-inserting-nodes, puts it, at the end of the text right before its place or in a
+new text there, and an attribute is added where an element has none of its name, as #parsing-main-inbody adds those of a second <body>.
 
 `python3 nodes.py FOLDER [BEGINNING]` writes each script to FOLDER/NAME.in, and what it must print to FOLDER/NAME.out, for each name with
 this beginning.

@@ -1,7 +1,8 @@
-"""A plain model of the state that the tree rules edit: nodes, the stack of open elements and the list of active formatting elements in plain
-lists, which are searched. It goes by the steps of the HTML Standard: the element scopes (13.2.4.2), the list of active formatting elements
-(13.2.4.3), the appropriate place for inserting a node and what is inserted there (13.2.6.1), closing elements (13.2.6.3), any other end tag
-and the adoption agency (13.2.6.4.7)."""
+"""A plain model of the state that the tree rules edit: nodes, the stack of open elements and the list of active formatting elements in plain lists,
+which are searched. It goes by the steps of the HTML Standard: the element scopes (#the-stack-of-open-elements), the list of active formatting
+elements (#the-list-of-active-formatting-elements), the appropriate place for inserting a node and what is inserted there
+(#creating-and-inserting-nodes), closing elements (#closing-elements-that-have-implied-end-tags), any other end tag and the adoption agency
+(#adoption-agency-algorithm)."""
 
 SPECIAL = set("""address applet area article aside base basefont bgsound blockquote body br button caption center col colgroup dd details
 dir div dl dt embed fieldset figcaption figure footer form h1 h2 h3 h4 h5 h6 head header hgroup hr html iframe img input li link listing

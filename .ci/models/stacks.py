@@ -1,5 +1,5 @@
 #!/usr/bin/env python3
-"""Scripts of calls on the stack of open elements (HTML Standard, 13.2.4.2) for model_runs, and what it must print for them.
+"""Scripts of calls on the stack of open elements (HTML Standard, #the-stack-of-open-elements) for model_runs, and what it must print for them.
 
 The stack is a list of nodes with their names, the current node first, which each question searches as the Standard says. The answers
 about stacks that are too deep for a search are written beside the calls.
@@ -16,7 +16,7 @@ SPECIAL = set(
     input keygen li link listing main marquee menu meta nav noembed noframes noscript object ol p param plaintext pre script search
     section select source style summary table tbody td template textarea tfoot th thead title tr track ul wbr xmp""".split()
 )
-# what the start tags li, dd and dt do not pass (13.2.6.4.7)
+# what the start tags li, dd and dt do not pass (#parsing-main-inbody)
 STOPS_ITEM = SPECIAL - {"address", "div", "p"}
 MAY_STAY_OPEN = set("dd dt li optgroup option p rb rp rt rtc tbody td tfoot th thead tr body html".split())
 STOPS = set("applet caption html table td th marquee object template".split())
@@ -30,7 +30,7 @@ GROUPS = {
     "heading": set("h1 h2 h3 h4 h5 h6".split()),
     "table_section": set("tbody tfoot thead".split()),
     "cell": set("td th".split()),
-    # by which the insertion mode is found (13.2.4.1)
+    # by which the insertion mode is found (#the-insertion-mode)
     "tells_mode": set("body caption colgroup table tbody td tfoot th thead tr".split()),
 }
 # The number of the first name that no rule knows. Such a name is printed by its number, in the order in which they come.
@@ -133,7 +133,7 @@ class Stack:
         del self.nodes[: len(self.nodes) if place is None else place + 1]
 
     def is_in_scope(self, is_wanted, stops):
-        """Whether, going up from the current node, one that is wanted is met before one that stops the search (13.2.4.2)."""
+        """Whether, going up from the current node, one that is wanted is met before one that stops the search (#the-stack-of-open-elements)."""
         for opened in self.nodes:
             if is_wanted(opened):
                 return True
@@ -205,7 +205,7 @@ class Stack:
         return f"{place} yes {len(self.nodes) - 1 - place} {element(self.at(place + 1))} {yes(in_scope)}"
 
     def block(self, formatting):
-        """The furthest block: the topmost special node below the formatting element (13.2.6.4.7)."""
+        """The furthest block: the topmost special node below the formatting element (#parsing-main-inbody)."""
         place = self.find(is_node(formatting))
         blocks = [opened for opened in self.nodes[:place] if opened[1] in SPECIAL]
         return element(blocks[-1] if blocks else None)

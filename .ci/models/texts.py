@@ -2,7 +2,7 @@
 """Scripts of calls on the table of names and on tables of character references, and what model_runs must print for them.
 
 A table of names is a dict of texts, numbered as they come. A table of references is a dict; the key that stands at a text is the longest
-one that the text begins with (HTML Standard, 13.2.5.73), found by trying each.
+one that the text begins with (HTML Standard, #named-character-reference-state), found by trying each.
 
     python3 texts.py FOLDER [BEGINNING]
 

@@ -1,4 +1,4 @@
--- Character references (HTML Standard, 13.2.5, from #character-reference-state on): `&` and what it stands for.
+-- Character references (HTML Standard, #tokenization, from #character-reference-state on): `&` and what it stands for.
 use Rattle.std.specs.Prelude.{◌≡◌, ℕ, ◌+◌, ◌-◌, ◌*◌, Bool, true, false, not, ◌&&◌, ◌||◌, ◌==◌, nat_eq, nat_lt, nat_le, if◌then◌else◌, List, [], ◌∷◌, ◌++◌}
 use Rattle.std.specs.Prelude.{map, length, drop, codes, Option, Some, None, option_to_list, bytes_eq, Contains}
 use Rattle.std.specs.List.{starts_with, list_all, IsDistinct, AllByRecursion}

@@ -1,4 +1,4 @@
-//! Character references (HTML Standard, 13.2.5, from `#character-reference-state` on): the table of named ones, and reading what
+//! Character references (HTML Standard, `#tokenization`, from `#character-reference-state` on): the table of named ones, and reading what
 //! follows an `&`.
 #![tactic(auto)]
 

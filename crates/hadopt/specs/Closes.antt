@@ -1,4 +1,5 @@
--- What is closed: implied end tags, a p element, any other end tag, and the contexts of tables (13.2.6.3, 13.2.6.4.7).
+-- What is closed: implied end tags, a p element, any other end tag, and the contexts of tables
+-- (#closing-elements-that-have-implied-end-tags, #parsing-main-inbody).
 use Rattle.std.specs.Prelude.{ℕ, Bool, true, false, not, ◌&&◌, List, [], ◌∷◌, if◌then◌else◌}
 use Rattle.hchain.specs.Nearest.{after}
 use Rattle.hopen.specs.Stack.{OpenNode, in_scope}
@@ -46,7 +47,7 @@ module _ {N : Type 0} (n : Naming N) where
   abbrev pub is : Tag → OpenNode N → Bool
   is t = is_named n.same (n.known t)
 
-  -- Generate implied end tags, except for what is kept (13.2.6.3, #generate-implied-end-tags).
+  -- Generate implied end tags, except for what is kept (#generate-implied-end-tags).
   abbrev pub without_implied : (OpenNode N → Bool) → SiteOf N → SiteOf N
   without_implied kept s = with_stack (past (λ x. has_implied_end (n.tag x.name) && not (kept x)) (stack s)) s
 
@@ -60,11 +61,11 @@ module _ {N : Type 0} (n : Naming N) where
       let t = without_implied sought s in
       popped_to sought (error_unless (current_is sought t) TreeInBody at t)
 
-  -- Close a p element (13.2.6.4.7, #close-a-p-element).
+  -- Close a p element (#close-a-p-element).
   abbrev pub closed_p : (at : ℕ) → SiteOf N → SiteOf N
   closed_p at s = closed at (is tag.P) s
 
-  -- Any other end tag (13.2.6.4.7): going up from the current node, one of this name comes before a special one, or it is ignored.
+  -- Any other end tag (#parsing-main-inbody): going up from the current node, one of this name comes before a special one, or it is ignored.
   abbrev pub other_end : (at : ℕ) → N → SiteOf N → SiteOf N
   other_end at name s =
       if in_scope (λ x. is_special (n.tag x.name)) (is_named n.same name) (stack s) then closed at (is_named n.same name) s

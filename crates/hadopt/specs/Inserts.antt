@@ -1,5 +1,5 @@
--- What is inserted: elements, comments, doctypes, characters, missing attributes (13.2.6.1). `at` is the place of the token. Nodes are counted
--- before the open ones.
+-- What is inserted: elements, comments, doctypes, characters, missing attributes (#creating-and-inserting-nodes). `at` is the place of the
+-- token. Nodes are counted before the open ones.
 use Rattle.std.specs.Prelude.{ℕ, ◌&&◌, nat_le, is_none, length, List, [], ◌∷◌, if◌then◌else◌}
 use Rattle.hnodes.specs.Forest.{Attribute, What, element, Forest}
 use Rattle.hnodes.specs.Attributes.{add_missing}

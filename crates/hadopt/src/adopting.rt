@@ -1,4 +1,4 @@
-//! The adoption agency algorithm (HTML Standard, 13.2.6.4.7, `#adoption-agency-algorithm`), with the numbers of its steps.
+//! The adoption agency algorithm (HTML Standard, `#adoption-agency-algorithm`), with the numbers of its steps.
 
 ghost use Rattle.std.specs.Prelude.{◌≡◌, ℕ, ◌<◌, ◌≤◌, ◌+◌, IfOk, Some, length, nat_eq, ◌*◌, map, OnOk, true};
 ghost use Rattle.std.specs.Option.{option_map};

@@ -1,4 +1,4 @@
-//! What is inserted (HTML Standard, 13.2.6.1).
+//! What is inserted (HTML Standard, `#creating-and-inserting-nodes`).
 
 ghost use Rattle.std.specs.Prelude.{◌≡◌, ◌<◌, ◌∷◌, false, map, nat_eq, IfOk, string_bytes};
 ghost use Rattle.std.specs.Str.{chars};

@@ -1,5 +1,5 @@
-//! Where nodes go, what is inserted and closed, and the formatting elements (HTML Standard, 13.2.4.3, 13.2.6.1, 13.2.6.3 and
-//! 13.2.6.4.7).
+//! Where nodes go, what is inserted and closed, and the formatting elements (HTML Standard, `#the-list-of-active-formatting-elements`,
+//! `#creating-and-inserting-nodes`, `#closing-elements-that-have-implied-end-tags` and `#parsing-main-inbody`).
 #![tactic(auto)]
 
 pub mod adopting;

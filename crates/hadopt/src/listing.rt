@@ -1,4 +1,4 @@
-//! The list of active formatting elements (HTML Standard, 13.2.4.3), as the rules edit it.
+//! The list of active formatting elements (HTML Standard, `#the-list-of-active-formatting-elements`), as the rules edit it.
 
 ghost use Rattle.std.specs.Prelude.{◌≡◌, IfOk, ◌∷◌, IsTrue};
 ghost use Rattle.std.specs.List.{list_any};

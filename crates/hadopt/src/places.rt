@@ -1,4 +1,4 @@
-//! The appropriate place for inserting a node, with foster parenting (HTML Standard, 13.2.6.1, `#appropriate-place-for-inserting-a-node`).
+//! The appropriate place for inserting a node, with foster parenting (HTML Standard, `#appropriate-place-for-inserting-a-node`).
 
 ghost use Rattle.std.specs.Prelude.{◌≡◌, ◌<◌, IfSome, false, ◌&&◌};
 ghost use Rattle.std.specs.Option.{option_map, option_map_or};

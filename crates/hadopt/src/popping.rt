@@ -1,4 +1,5 @@
-//! What is popped and closed (HTML Standard, 13.2.6.3 and 13.2.6.4.7, and the contexts of 13.2.6.4.9, 13.2.6.4.13 and 13.2.6.4.14).
+//! What is popped and closed (HTML Standard, `#closing-elements-that-have-implied-end-tags` and `#parsing-main-inbody`, and the contexts of
+//! `#parsing-main-intable`, `#parsing-main-intbody` and `#parsing-main-intr`).
 
 ghost use Rattle.std.specs.Prelude.{◌≡◌, IfOk, nat_eq, drop};
 ghost use Rattle.hadopt.specs.Vocabulary.{closed, closed_p, other_end, past, popped_to, passes, is_named, Gives, Kept, numbers, Goes, without, open_of, is_of, is_node, tag_of, stack, with_stack};

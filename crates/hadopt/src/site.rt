@@ -13,6 +13,7 @@ use std::marker::Model;
 /// The nodes, the stack of open elements, the list of active formatting elements, whether foster parenting is on, and the parse
 /// errors so far, in the order in which they were raised. No call recurses over the depth of the document. After a refusal the
 /// nodes are a tree and the open nodes are among them; of the state then only a few clauses say more.
+#[derive(Drop)]
 pub struct Site {
     pub(crate) tree: Tree,
     pub(crate) stack: OpenStack,
@@ -20,24 +21,6 @@ pub struct Site {
     pub(crate) foster: bool,
     errors: Vec<ParseError>,
     pub(crate) alloc: Global,
-}
-
-// Written out: a derived drop is read anew in the proof of each function that may drop a site.
-impl Drop for Site {
-    fn drop(self) {
-        let Site {
-            tree,
-            stack,
-            list,
-            foster: _,
-            errors,
-            alloc: _,
-        } = self;
-        drop(tree);
-        drop(stack);
-        drop(list);
-        drop(errors);
-    }
 }
 
 impl Model for Site {
@@ -153,14 +136,6 @@ impl Site {
         ensures tree { result.0 ≡ self.nodes }
         ensures errors { result.1.items ≡ self.errors }
     {
-        let Site {
-            tree,
-            stack: _,
-            list: _,
-            foster: _,
-            errors,
-            alloc: _,
-        } = self;
-        (tree, errors)
+        (self.tree, self.errors)
     }
 }

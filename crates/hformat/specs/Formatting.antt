@@ -1,5 +1,6 @@
--- The list of active formatting elements (13.2.4.3) as a list of markers and entries, the last one first: what comes after an entry
--- in the Standard's order is before it. Names are of any kind: texts in the rules of HTML, and numbers in the code.
+-- The list of active formatting elements (#the-list-of-active-formatting-elements) as a list of markers and entries, the last one first:
+-- what comes after an entry in the Standard's order is before it. Names are of any kind: texts in the rules of HTML, and numbers in the
+-- code.
 use Rattle.std.specs.Prelude.{ℕ, Bool, true, false, not, ◌&&◌, ◌==◌, nat_le, List, [], ◌∷◌, Option, Some, None, option_and_then, slice_get, length, filter}
 use Rattle.std.specs.Prelude.{find, if◌then◌else◌, bytes_eq}
 use Rattle.std.specs.List.{list_any, list_all}

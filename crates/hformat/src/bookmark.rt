@@ -1,4 +1,4 @@
-//! The bookmark of the adoption agency (HTML Standard, 13.2.6.4.7).
+//! The bookmark of the adoption agency (HTML Standard, `#parsing-main-inbody`).
 
 use hnodes::NodeId;
 

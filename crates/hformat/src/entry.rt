@@ -1,4 +1,4 @@
-//! Entries of the list of active formatting elements, and markers (HTML Standard, 13.2.4.3).
+//! Entries of the list of active formatting elements, and markers (HTML Standard, `#the-list-of-active-formatting-elements`).
 
 ghost use Rattle.std.specs.Prelude.{◌≡◌, IfOk, map, nat_eq, false};
 ghost use Rattle.std.specs.Option.{option_map, option_map_or};

@@ -1,4 +1,4 @@
-//! The list of active formatting elements (HTML Standard, 13.2.4.3).
+//! The list of active formatting elements (HTML Standard, `#the-list-of-active-formatting-elements`).
 
 ghost use Rattle.std.specs.Prelude.{◌≡◌, ℕ, List, suc, ◌-◌, ◌≤◌, ◌∷◌, [], IsTrue, OnOk, OnErr, length, nat_eq};
 ghost use Rattle.std.specs.List.{All, list_any};

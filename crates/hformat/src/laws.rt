@@ -1,5 +1,5 @@
-//! The law of the list of active formatting elements (HTML Standard, 13.2.4.3): its edits and questions are the same over numbers of
-//! names as over their texts.
+//! The law of the list of active formatting elements (HTML Standard, `#the-list-of-active-formatting-elements`): its edits and questions
+//! are the same over numbers of names as over their texts.
 
 ghost use Rattle.std.specs.Prelude.{ℕ, List, nat_eq, bytes_eq};
 ghost use Rattle.hformat.specs.Spelled.{FormattingKnowsNoNames};

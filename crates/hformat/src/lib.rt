@@ -1,4 +1,4 @@
-//! The list of active formatting elements (HTML Standard, 13.2.4.3).
+//! The list of active formatting elements (HTML Standard, `#the-list-of-active-formatting-elements`).
 #![tactic(auto)]
 
 mod attributes;

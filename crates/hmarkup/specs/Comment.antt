@@ -1,5 +1,5 @@
--- Comments (HTML Standard, 13.2.5.43 to 13.2.5.52) and bogus comments (13.2.5.41): the text after the opening mark, the
--- comment's data in UTF-8, and its errors in the order of the text.
+-- Comments (HTML Standard, #comment-start-state to #comment-end-bang-state) and bogus comments (#bogus-comment-state): the text after the
+-- opening mark, the comment's data in UTF-8, and its errors in the order of the text.
 use Rattle.std.specs.Prelude.{◌≡◌, ℕ, Bool, true, false, not, ◌==◌, ◌&&◌, ◌||◌, List, [], ◌∷◌, ◌++◌, codes}
 use Rattle.names.specs.declared.error.ParseError.{ParseError}
 use Rattle.names.specs.declared.error.ErrorCode.TheVariants.{AbruptClosingOfEmptyComment, EofInComment, IncorrectlyClosedComment, NestedComment}

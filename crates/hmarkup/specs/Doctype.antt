@@ -1,4 +1,4 @@
--- Doctypes (HTML Standard, 13.2.5.53 to 13.2.5.68): the text after `<!DOCTYPE`, its contents, and its errors in the order of the
+-- Doctypes (HTML Standard, #doctype-state to #bogus-doctype-state): the text after `<!DOCTYPE`, its contents, and its errors in the order of the
 -- text. Each relation describes the text from some point on; `known` is what was found before that point.
 use Rattle.std.specs.Prelude.{◌≡◌, ℕ, Bool, true, false, not, ◌||◌, ◌==◌, List, [], ◌∷◌, ◌++◌, codes, Option, Some, None}
 use Rattle.names.specs.declared.error.ParseError.{ParseError}

@@ -1,4 +1,4 @@
--- The quirks list (HTML Standard, 13.2.6.4.1): its text, and what it matches.
+-- The quirks list (HTML Standard, #the-initial-insertion-mode): its text, and what it matches.
 use Rattle.std.specs.Prelude.{◌≡◌, ℕ, ◌+◌, Bool, true, false, ◌&&◌, ◌==◌, if◌then◌else◌, List, [], ◌∷◌, ◌++◌, codes, length, take, Option, Some, None, Result}
 use Rattle.std.specs.Prelude.{Ok, Err}
 use Rattle.std.specs.Int.{is_in_range}

@@ -1,4 +1,5 @@
-//! Reads a comment or a bogus comment (HTML Standard, 13.2.5.41 and 13.2.5.43 to 13.2.5.52), one character at a time.
+//! Reads a comment or a bogus comment (HTML Standard, `#bogus-comment-state` and `#comment-start-state` to `#comment-end-bang-state`), one
+//! character at a time.
 
 ghost use Rattle.std.specs.Prelude.{◌≡◌, ◌++◌, ℕ, List, [], true, IfOk, OnOk, string_bytes};
 ghost use Rattle.std.specs.Char.{encode_utf8};

@@ -1,4 +1,4 @@
-//! Reads a doctype (HTML Standard, 13.2.5.53 to 13.2.5.68), one character at a time.
+//! Reads a doctype (HTML Standard, `#doctype-state` to `#bogus-doctype-state`), one character at a time.
 
 ghost use Rattle.std.specs.Prelude.{◌≡◌, ◌++◌, ◌∷◌, ℕ, [], List, Option, Some, OnOk, codes};
 ghost use Rattle.std.specs.Char.{encode_utf8};

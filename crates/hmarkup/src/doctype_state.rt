@@ -1,4 +1,4 @@
-//! The states of reading a doctype (HTML Standard, 13.2.5.53 to 13.2.5.68), and what a character does in each.
+//! The states of reading a doctype (HTML Standard, `#doctype-state` to `#bogus-doctype-state`), and what a character does in each.
 
 ghost use Rattle.std.specs.Prelude.{◌≡◌, ◌==◌};
 ghost use Rattle.std.specs.Char.{to_ascii_lowercase};

@@ -1,5 +1,5 @@
-//! Comments, bogus comments and doctypes, read one character at a time (HTML Standard, 13.2.5.41 and 13.2.5.43 to 13.2.5.68),
-//! and the quirks list.
+//! Comments, bogus comments and doctypes, read one character at a time (HTML Standard, `#bogus-comment-state` and `#comment-start-state` to
+//! `#bogus-doctype-state`), and the quirks list.
 #![tactic(auto)]
 
 pub mod comment;

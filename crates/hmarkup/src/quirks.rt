@@ -1,4 +1,4 @@
-//! The quirks list (HTML Standard, 13.2.6.4.1): the doctype identifiers that put a document into quirks mode.
+//! The quirks list (HTML Standard, `#the-initial-insertion-mode`): the doctype identifiers that put a document into quirks mode.
 
 ghost use Rattle.std.specs.Prelude.{◌≡◌, ◌∷◌, ◌<◌, ℕ, List, [], length, option_map, IfOk, MatchOption};
 ghost use Rattle.std.specs.Int.{is_in_range};

@@ -1,5 +1,5 @@
 //! How much of a closing mark, and of an inner `<!--`, a comment ends with so far: the tokenizer states of comments (HTML Standard,
-//! 13.2.5.43 to 13.2.5.52).
+//! `#comment-start-state` to `#comment-end-bang-state`).
 
 ghost use Rattle.std.specs.Prelude.{◌≡◌};
 ghost use Rattle.hmarkup.specs.Vocabulary.{next_opening, next_ending, decided_text, ending_text, is_whole};

@@ -1,4 +1,4 @@
-//! The insertion modes after the body (HTML Standard, 13.2.6.4).
+//! The insertion modes after the body (HTML Standard, `#parsing-main-inhtml`).
 
 ghost use Rattle.hmodes.specs.Vocabulary.{after_body, after_after_body, ◌▸◌, error, to, InBody, again, Performs, AlwaysPerforms};
 

@@ -1,4 +1,4 @@
-//! The insertion modes before the head (HTML Standard, 13.2.6.4.2 and 13.2.6.4.3).
+//! The insertion modes before the head (HTML Standard, `#the-before-html-insertion-mode` and `#the-before-head-insertion-mode`).
 
 ghost use Rattle.hmodes.specs.Vocabulary.{before_html, html_unwritten, before_head, head_unwritten, Performs, AlwaysPerforms};
 

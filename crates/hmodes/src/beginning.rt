@@ -1,4 +1,4 @@
-//! Where a document and a fragment begin (HTML Standard, 13.4).
+//! Where a document and a fragment begin (HTML Standard, `#parsing-html-fragments`).
 
 ghost use Rattle.std.specs.Prelude.{◌≡◌, IfOk, MatchResult};
 ghost use Rattle.hmodes.specs.Vocabulary.{tag_of, numbers, state_of, Memory, control_in, form_of, document_begins, fragment_begins, fragment_site};

@@ -1,4 +1,4 @@
-//! Blocks, items, headings and forms in the body (HTML Standard, 13.2.6.4.7).
+//! Blocks, items, headings and forms in the body (HTML Standard, `#parsing-main-inbody`).
 
 ghost use Rattle.hmodes.specs.Vocabulary.{block, close_block, close_item, end_item, Performs, AlwaysPerforms, Does, in_body, Start, End, ◌▸◌, when, choose, error, implied, pop_to, has_in, item_is_near, InBody};
 ghost use Rattle.hmodes.specs.declared.family.Family.TheVariants as family;

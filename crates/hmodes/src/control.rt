@@ -1,4 +1,4 @@
-//! The state of the tree construction other than the tree (HTML Standard, 13.2.4).
+//! The state of the tree construction other than the tree (HTML Standard, `#parse-state`).
 
 use crate::mode::Mode;
 use hnodes::NodeId;

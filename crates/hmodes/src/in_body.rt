@@ -1,4 +1,4 @@
-//! The "in body" insertion mode (HTML Standard, 13.2.6.4.7).
+//! The "in body" insertion mode (HTML Standard, `#parsing-main-inbody`).
 
 ghost use Rattle.hmodes.specs.Vocabulary.{in_body, body_ends, character_in_body, End, ◌▸◌, choose, error, to, insert, reconstruct, has_in, InBody, AfterBody, Kept, numbers, ended, StateGives, perform, character, state_of, Start, other_end, Performs, AlwaysPerforms, Does};
 ghost use Rattle.hmodes.specs.declared.family.Family.TheVariants as family;

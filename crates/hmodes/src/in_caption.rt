@@ -1,4 +1,4 @@
-//! The insertion modes of captions and column groups (HTML Standard, 13.2.6.4.11 and 13.2.6.4.12).
+//! The insertion modes of captions and column groups (HTML Standard, `#parsing-main-incaption` and `#parsing-main-incolgroup`).
 
 ghost use Rattle.hmodes.specs.Vocabulary.{in_caption, close_caption, in_column_group, Kept, numbers, ended, Performs, AlwaysPerforms};
 

@@ -1,4 +1,4 @@
-//! The "in cell" insertion mode (HTML Standard, 13.2.6.4.15).
+//! The "in cell" insertion mode (HTML Standard, `#parsing-main-intd`).
 
 ghost use Rattle.hmodes.specs.Vocabulary.{in_cell, close_cell, Kept, numbers, ◌▸◌, unless, error, again, current_is_group, InCell, Performs, AlwaysPerforms, Does};
 ghost use Rattle.hopen.specs.declared.scope.Group.TheVariants as group;

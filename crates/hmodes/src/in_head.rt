@@ -1,4 +1,4 @@
-//! The insertion modes of the head (HTML Standard, 13.2.6.4.4 to 13.2.6.4.6).
+//! The insertion modes of the head (HTML Standard, `#parsing-main-inhead` to `#the-after-head-insertion-mode`).
 
 ghost use Rattle.std.specs.Prelude.{◌≡◌, ◌<◌, IfSome};
 ghost use Rattle.hmodes.specs.Vocabulary.{in_head, in_head_noscript, noscript_ends, after_head, body_unwritten, late, removed, state_of, error, ended, with_site, void, raw, ◌▸◌, to, insert, pop, AfterHead, push_head, Performs, AlwaysPerforms, Does};

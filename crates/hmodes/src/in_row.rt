@@ -1,4 +1,4 @@
-//! The "in row" insertion mode (HTML Standard, 13.2.6.4.14).
+//! The "in row" insertion mode (HTML Standard, `#parsing-main-intr`).
 
 ghost use Rattle.hmodes.specs.Vocabulary.{in_row, close_row, Kept, numbers, ended, Performs, AlwaysPerforms};
 

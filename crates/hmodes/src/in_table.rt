@@ -1,4 +1,4 @@
-//! The "in table" insertion mode (HTML Standard, 13.2.6.4.9).
+//! The "in table" insertion mode (HTML Standard, `#parsing-main-intable`).
 
 ghost use Rattle.std.specs.Prelude.{◌≡◌};
 ghost use Rattle.hmodes.specs.Vocabulary.{DoneOf, in_table, character_in_table, Kept, numbers, performed, state_of, ◌▸◌, unless, error, other_in_table, Start, End, to, insert, pop, pop_to, form_pointer, form_is_set, InTable, reset, clear_to_table, Performs};

@@ -1,4 +1,4 @@
-//! The "initial" insertion mode (HTML Standard, 13.2.6.4.1).
+//! The "initial" insertion mode (HTML Standard, `#the-initial-insertion-mode`).
 
 ghost use Rattle.std.specs.Prelude.{◌≡◌, [], string_bytes, option_map, unwrap_or};
 ghost use Rattle.std.specs.Option.{option_map_or};

@@ -1,4 +1,5 @@
-//! The tree construction: the insertion modes, and the builder that takes tokens (HTML Standard, 13.2.4.1, 13.2.6 and 13.4).
+//! The tree construction: the insertion modes, and the builder that takes tokens (HTML Standard, `#the-insertion-mode`,
+//! `#tree-construction` and `#parsing-html-fragments`).
 #![tactic(auto)]
 
 mod after_body;

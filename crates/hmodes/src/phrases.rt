@@ -1,4 +1,4 @@
-//! Formatting and other elements among text in the body (HTML Standard, 13.2.6.4.7).
+//! Formatting and other elements among text in the body (HTML Standard, `#parsing-main-inbody`).
 
 ghost use Rattle.std.specs.Prelude.{◌≡◌};
 ghost use Rattle.std.specs.Option.{option_map_or};

@@ -1,4 +1,4 @@
-//! Resetting the insertion mode (HTML Standard, 13.2.4.1, `#reset-the-insertion-mode-appropriately`).
+//! Resetting the insertion mode (HTML Standard, `#reset-the-insertion-mode-appropriately`).
 
 ghost use Rattle.std.specs.Prelude.{◌≡◌, option_and_then, slice_get};
 ghost use Rattle.std.specs.Option.{option_map_or};

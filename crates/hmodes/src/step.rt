@@ -1,4 +1,4 @@
-//! A token: how it begins, the rules that it goes by, and how it ends (HTML Standard, 13.2.6).
+//! A token: how it begins, the rules that it goes by, and how it ends (HTML Standard, `#tree-construction`).
 
 ghost use Rattle.std.specs.Prelude.{◌≡◌, ℕ, ◌<◌, IfSome};
 ghost use Rattle.hmodes.specs.Vocabulary.{Goes, HasBegun, ChainGives, StepGives, Reached, rule_of, is_self_closing, Rule, is_dropped, begun, finished, Gives, numbers, TokenOf, state_of, token_of, Kept, FlowGives, AfterHead};

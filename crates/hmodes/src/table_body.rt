@@ -1,4 +1,4 @@
-//! The "in table body" insertion mode (HTML Standard, 13.2.6.4.13).
+//! The "in table body" insertion mode (HTML Standard, `#parsing-main-intbody`).
 
 ghost use Rattle.hmodes.specs.Vocabulary.{in_table_body, section_ends, Kept, numbers, Performs, AlwaysPerforms, Start, End};
 ghost use Rattle.hmodes.specs.declared.family.Family.TheVariants as family;

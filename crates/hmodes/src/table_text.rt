@@ -1,4 +1,4 @@
-//! The "in table text" insertion mode (HTML Standard, 13.2.6.4.10).
+//! The "in table text" insertion mode (HTML Standard, `#parsing-main-intabletext`).
 
 ghost use Rattle.std.specs.Prelude.{◌≡◌, [], if◌then◌else◌};
 ghost use Rattle.std.specs.List.{list_all};

@@ -1,4 +1,4 @@
-//! The "text" insertion mode (HTML Standard, 13.2.6.4.8): the content of an element of raw text.
+//! The "text" insertion mode (HTML Standard, `#parsing-main-incdata`): the content of an element of raw text.
 
 ghost use Rattle.hmodes.specs.Vocabulary.{text, Performs};
 

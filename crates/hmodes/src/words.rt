@@ -1,4 +1,5 @@
-//! The steps that the rules of the insertion modes are made of, and what they ask (HTML Standard, 13.2.6.1 to 13.2.6.4).
+//! The steps that the rules of the insertion modes are made of, and what they ask (HTML Standard, `#creating-and-inserting-nodes` to
+//! `#parsing-main-inhtml`).
 
 ghost use Rattle.std.specs.Prelude.{IfOk, [], ◌≡◌};
 ghost use Rattle.hmodes.specs.Vocabulary.{current_node, on_site, site_becomes, inserted_here, completed, html_again, answer_of, eof, Kept, numbers, from_top, StateGives, perform, void, raw, close_p_in_scope, character};

@@ -1,4 +1,4 @@
--- What a start tag "html" does to the attributes of an element (13.2.6.4.7): "for each attribute on the token, check to see if the
+-- What a start tag "html" does to the attributes of an element (#parsing-main-inbody): "for each attribute on the token, check to see if the
 -- attribute is already present on the element. If it is not, add the attribute and its corresponding value to that element."
 use Rattle.std.specs.Prelude.{ℕ, Bool, false, List, Option, if◌then◌else◌}
 use Rattle.std.specs.List.{list_any}

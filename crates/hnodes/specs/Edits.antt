@@ -87,7 +87,7 @@ module _ {N : Type 0} where
   abbrev pub make : What N → Nodes N → Nodes N
   make w t = record t { made = t.made + 1; trees = join t.trees (tree t.made w none none) }
 
-  -- Insert a character (13.2.6.1): where a text is right before the place, it gets the character; else a new text is made
+  -- Insert a character (#creating-and-inserting-nodes): where a text is right before the place, it gets the character; else a new text is made
   -- of it and is put at the place.
   abbrev pub char_into : ℕ → Place → Option ℕ → Nodes N → Nodes N
   char_into c place (Some n) t = record t { trees = change_what n (with_char c) t.trees }

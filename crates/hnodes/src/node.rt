@@ -45,7 +45,7 @@ pub enum NodeKind {
     Text,
 }
 
-/// Where a node goes among the children of another (13.2.6.1).
+/// Where a node goes among the children of another (`#creating-and-inserting-nodes`).
 #[derive(Clone, Copy, Debug, PartialEq, Eq)]
 pub enum Place {
     /// After the last child of a node.

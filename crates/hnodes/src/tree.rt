@@ -267,7 +267,7 @@ impl Tree {
         }
     }
 
-    /// Inserts a character at a place (13.2.6.1): at the end of the text right before the place, or in a new text there.
+    /// Inserts a character at a place (`#creating-and-inserting-nodes`): at the end of the text right before the place, or in a new text there.
     pub fn put_char(&mut self, c: char, place: Place, at: u64) -> Result<(), Refusal>
         requires { IsPlace place self.old }
         ensures ok { OnOk result (self.new ≡ add_char c place self.old) }

@@ -9,7 +9,7 @@ use Rattle.names.specs.declared.tag.Tag.{Tag}
 use Rattle.names.specs.Sets.{stops_scope, stops_list_item_scope, stops_button_scope, stops_table_scope, is_heading, is_table_section, is_cell}
 pub use Rattle.names.specs.Sets.{stops_item, tells_mode}
 
--- whether a name stops the search in a scope (13.2.4.2)
+-- whether a name stops the search in a scope (#the-stack-of-open-elements)
 abbrev pub stops_in : Scope → Tag → Bool
 stops_in scope.Default t = stops_scope t
 stops_in scope.ListItem t = stops_list_item_scope t

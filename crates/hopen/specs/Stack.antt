@@ -1,4 +1,4 @@
--- The stack of open elements (13.2.4.2) as a list, the current node first: a node that the Standard calls above another is after
+-- The stack of open elements (#the-stack-of-open-elements) as a list, the current node first: a node that the Standard calls above another is after
 -- it. Names are of any kind: texts in the rules of HTML, and numbers in the code.
 use Rattle.std.specs.Prelude.{ℕ, Bool, false, not, ◌&&◌, ◌||◌, ◌==◌, List, [], ◌∷◌, Option, Some, None, if◌then◌else◌}
 use Rattle.std.specs.List.{list_any}
@@ -50,6 +50,6 @@ module _ {N : Type 0} where
   topmost_special tag [] = None
   topmost_special tag (x ∷ up) = option_or (topmost_special tag up) (if is_special (tag x.name) then Some x else None)
 
-  -- the furthest block of a formatting element: the topmost special node below it (13.2.6.4.7)
+  -- the furthest block of a formatting element: the topmost special node below it (#parsing-main-inbody)
   abbrev pub furthest_block : (N → Tag) → ℕ → List (OpenNode N) → Option (OpenNode N)
   furthest_block tag n stack = topmost_special tag (below n stack)

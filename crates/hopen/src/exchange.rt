@@ -1,5 +1,5 @@
-//! A node leaves the stack, and a new one comes right below another: the end of the adoption agency (13.2.6.4.7). The node that leaves
-//! passes those from it down to that other one, one at a time, and then the new one takes its place: so nothing below is looked at.
+//! A node leaves the stack, and a new one comes right below another: the end of the adoption agency (`#adoption-agency-algorithm`). The node that
+//! leaves passes those from it down to that other one, one at a time, and then the new one takes its place: so nothing below is looked at.
 
 ghost use Rattle.std.specs.Prelude.{◌≡◌, ℕ, List, ◌∷◌, ◌++◌, ◌+◌, ◌<◌, ◌≤◌, ◌^◌, ◌==◌, ◌&&◌, false, true, suc, length, map, remove, slice_index, slice_set};
 ghost use Rattle.std.specs.Prelude.{vec_capacity, vec_len, if◌then◌else◌};

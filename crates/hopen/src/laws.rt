@@ -1,5 +1,5 @@
-//! The law of the stack of open elements (HTML Standard, 13.2.4.2): its edits and questions are the same over numbers of names as over
-//! their texts.
+//! The law of the stack of open elements (HTML Standard, `#the-stack-of-open-elements`): its edits and questions are the same over numbers
+//! of names as over their texts.
 
 ghost use Rattle.std.specs.Prelude.{ℕ, List, nat_eq, bytes_eq};
 ghost use Rattle.hopen.specs.Spelled.{StackKnowsNoNames};

@@ -1,4 +1,4 @@
-//! The stack of open elements (HTML Standard, 13.2.4.2).
+//! The stack of open elements (HTML Standard, `#the-stack-of-open-elements`).
 #![tactic(auto)]
 
 mod exchange;

@@ -1,4 +1,4 @@
-//! What stops a search among the open elements, and the groups of names that are sought there (HTML Standard, 13.2.4.2).
+//! What stops a search among the open elements, and the groups of names that are sought there (HTML Standard, `#the-stack-of-open-elements`).
 
 ghost use Rattle.std.specs.Prelude.{◌≡◌};
 ghost use Rattle.hopen.specs.Scopes.{is_of_group};
@@ -28,8 +28,8 @@ pub enum Group {
     TableSection,
     /// td and th.
     Cell,
-    /// The elements that determine the insertion mode when it is reset (13.2.4.1): body, caption, colgroup, table, tbody, td, tfoot, th,
-    /// thead and tr.
+    /// The elements that determine the insertion mode when it is reset (`#the-insertion-mode`): body, caption, colgroup, table, tbody, td,
+    /// tfoot, th, thead and tr.
     TellsMode,
 }
 

@@ -1,4 +1,4 @@
-//! The stack of open elements (HTML Standard, 13.2.4.2).
+//! The stack of open elements (HTML Standard, `#the-stack-of-open-elements`).
 
 ghost use Rattle.std.specs.Prelude.{◌≡◌, ◌≤◌, ◌↔◌, ◌⊎◌, [], ◌∷◌, OnOk, OnErr, IfErr, IfSome, MatchOption, ◌<◌, ◌+◌, ◌-◌, length, drop, reverse, nat_eq, true};
 ghost use Rattle.std.specs.Prelude.{leb, if◌then◌else◌};
@@ -170,9 +170,9 @@ impl OpenStack {
         Ok(())
     }
 
-    /// Takes a node out and puts a new one right below another, in place of it (13.2.6.4.7, the end of the adoption agency). Where the
-    /// new node has the name of the one that leaves, which is not special, this takes a step for each node from the one that leaves
-    /// down to the other.
+    /// Takes a node out and puts a new one right below another, in place of it (the end of the adoption agency,
+    /// `#adoption-agency-algorithm`). Where the new node has the name of the one that leaves, which is not special, this takes a step for
+    /// each node from the one that leaves down to the other.
     pub fn exchange(&mut self, leaving: NodeId, above: NodeId, new: Open) -> Result<(), AllocError>
         requires { is_open leaving self.old.stack ≡ true }
         ensures ok { OnOk result (self.new ≡ record self.old { stack = put_before (is_node above) (open_of new) (without (is_node leaving) self.old.stack) }) }
@@ -199,7 +199,7 @@ impl OpenStack {
     }
 
     /// Whether, going up from the current node, an element of a name is met before any other special element: the search of "any other
-    /// end tag" (13.2.6.4.7).
+    /// end tag" (`#parsing-main-inbody`).
     pub fn before_special(&self, name: NameId) -> bool
         ensures { result ≡ is_in_scope (λ x. is_special (tag_of x.name)) (is_named nat_eq name) self.now.stack }
     {
@@ -207,14 +207,14 @@ impl OpenStack {
     }
 
     /// Whether, going up from the current node, an element of a name is met before a special one other than address, div and p: the
-    /// search of the start tags li, dd and dt (13.2.6.4.7).
+    /// search of the start tags li, dd and dt (`#parsing-main-inbody`).
     pub fn item_is_near(&self, name: NameId) -> bool
         ensures { result ≡ is_in_scope (λ x. stops_item (tag_of x.name)) (is_named nat_eq name) self.now.stack }
     {
         self.is_nearer(Sought::Name(name), NameSet::StopsItem)
     }
 
-    /// Whether each open node may be open at the end of the body (13.2.6.4.7).
+    /// Whether each open node may be open at the end of the body (`#parsing-main-inbody`).
     pub fn all_may_stay_open(&self) -> bool
         ensures { result ≡ list_all (λ x. may_stay_open (tag_of x.name)) self.now.stack }
     {
@@ -303,7 +303,7 @@ impl OpenStack {
         Some(self.items[index - 1].opened)
     }
 
-    /// The furthest block of a formatting element: the topmost special node below it (13.2.6.4.7), or of all open nodes if it is not
+    /// The furthest block of a formatting element: the topmost special node below it (`#parsing-main-inbody`), or of all open nodes if it is not
     /// open.
     pub fn furthest_block(&self, formatting: NodeId) -> Option<Open>
         ensures { option_map open_of result ≡ furthest_block_of tag_of formatting self.now.stack }

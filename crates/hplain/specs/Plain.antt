@@ -109,7 +109,7 @@ abbrev pub inside_node : What (List ℕ) → Inside → Inside
 inside_node (element name attrs) inside = inside_element (tag_named name) inside
 inside_node _ inside = record inside { content = content.Empty; texts = texts.None }
 
--- the elements in which a LF right after the start tag is dropped (13.2.6.4.7)
+-- the elements in which a LF right after the start tag is dropped (#parsing-main-inbody)
 abbrev pub drops_line_feed : Tag → Bool
 drops_line_feed tag.Pre = true
 drops_line_feed tag.Listing = true

@@ -58,7 +58,7 @@ fn begins_with_line_feed(tree: &Tree, node: Option<NodeId>) -> bool
     }
 }
 
-/// Whether LF right after the start tag is dropped (HTML Standard, 13.2.6.4.7).
+/// Whether LF right after the start tag is dropped (HTML Standard, `#parsing-main-inbody`).
 fn drops_line_feed(tag: Tag) -> bool
     ensures { result ≡ drops_line_feed tag }
 {

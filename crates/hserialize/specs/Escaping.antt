@@ -1,4 +1,4 @@
--- How characters are written (HTML Standard, 13.3, "Escaping a string").
+-- How characters are written (HTML Standard, #serialising-html-fragments, "Escaping a string").
 use Rattle.std.specs.Prelude.{ℕ, Bool, true, false, ◌&&◌, ◌==◌, List, if◌then◌else◌, codes, chars, flat_map, encode_utf8}
 use Rattle.hserialize.specs.declared.escaping.Escaping.{Escaping}
 use Rattle.hserialize.specs.declared.escaping.Escaping.TheVariants as escaping

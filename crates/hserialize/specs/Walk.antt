@@ -17,8 +17,8 @@ abbrev pub node_of : Visit → ℕ
 node_of (Enter n) = n
 node_of (Leave n) = n
 
--- elements that insert a marker into the list of active formatting elements (13.2.6.4.7, 13.2.6.4.9, 13.2.6.4.14): an a and a button
--- are not around what is in them
+-- elements that insert a marker into the list of active formatting elements (#parsing-main-inbody, #parsing-main-intable,
+-- #parsing-main-intr): an a and a button are not around what is in them
 abbrev pub inserts_marker : Tag → Bool
 inserts_marker tag.Caption = true
 inserts_marker tag.Td = true

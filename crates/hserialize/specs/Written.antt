@@ -1,4 +1,4 @@
--- A list of trees as text (HTML Standard, 13.3, "Serializing HTML fragments"). Names and texts are in UTF-8.
+-- A list of trees as text (HTML Standard, #serialising-html-fragments, "Serializing HTML fragments"). Names and texts are in UTF-8.
 use Rattle.std.specs.Prelude.{ℕ, Bool, true, false, List, [], ◌++◌, Option, Some, None, codes, flat_map, if◌then◌else◌}
 use Rattle.names.specs.declared.raw.RawKind.{RawKind}
 use Rattle.names.specs.declared.raw.RawKind.TheVariants as kind

@@ -1,4 +1,4 @@
-//! Texts as they are written (HTML Standard, 13.3, "Escaping a string").
+//! Texts as they are written (HTML Standard, `#serialising-html-fragments`, "Escaping a string").
 
 ghost use Rattle.std.specs.Prelude.{◌≡◌, IfSome, None};
 ghost use Rattle.std.specs.Char.{encode_utf8};

@@ -1,4 +1,4 @@
-//! Trees as text (HTML Standard, 13.3), to any target of bytes or in memory, and the walk over a tree that this takes.
+//! Trees as text (HTML Standard, `#serialising-html-fragments`), to any target of bytes or in memory, and the walk over a tree that this takes.
 #![tactic(auto)]
 
 mod escaped;

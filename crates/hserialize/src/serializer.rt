@@ -1,4 +1,4 @@
-//! Trees as text (HTML Standard, 13.3, "Serializing HTML fragments").
+//! Trees as text (HTML Standard, `#serialising-html-fragments`, "Serializing HTML fragments").
 
 ghost use Rattle.std.specs.Prelude.{◌≡◌, ◌++◌, ◌<◌, codes, map, OnOk, if◌then◌else◌};
 ghost use Rattle.std.specs.Option.{option_map};

@@ -1,4 +1,5 @@
-//! Tags after their mark, a character at a time (HTML Standard, 13.2.5.8 and 13.2.5.32 to 13.2.5.40).
+//! Tags after their mark, a character at a time (HTML Standard, `#tag-name-state` and `#before-attribute-name-state` to
+//! `#self-closing-start-tag-state`).
 #![tactic(auto)]
 
 mod at_once;

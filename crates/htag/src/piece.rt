@@ -1,4 +1,5 @@
-//! The pieces of a value: characters and references (HTML Standard, 13.2.5.36 to 13.2.5.38 and 13.2.5.72 to 13.2.5.80).
+//! The pieces of a value: characters and references (HTML Standard, `#attribute-value-(double-quoted)-state` to
+//! `#attribute-value-(unquoted)-state` and `#character-reference-state` to `#numeric-character-reference-end-state`).
 
 ghost use Rattle.std.specs.Prelude.{◌≡◌, ◌∷◌, ◌++◌, ◌-◌, ℕ, [], true, false, OnOk, string_bytes, length, drop, encode_utf8_all, Bool, ◌==◌, MatchBool};
 ghost use Rattle.htag.specs.Vocabulary.{Entities, Handed, plain_piece, NoValue, TakesInValue, EndsValue, TellsReference, pieces_errors, AddsPlain, GivesBack};

@@ -1,4 +1,4 @@
-//! The states of a tag (HTML Standard, 13.2.5).
+//! The states of a tag (HTML Standard, `#tokenization`).
 
 /// Where in a tag a walk is.
 #[derive(Clone, Copy)]

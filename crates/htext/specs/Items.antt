@@ -1,4 +1,4 @@
--- What a sink is handed: the characters of a text, and the errors of the input stream (HTML Standard, 13.2.3.5).
+-- What a sink is handed: the characters of a text, and the errors of the input stream (HTML Standard, #preprocessing-the-input-stream).
 use Rattle.std.specs.Prelude.{ℕ, zero, suc, ◌+◌, Bool, not, ◌&&◌, ◌||◌, ◌==◌, List, [], ◌∷◌, ◌++◌, map}
 use Rattle.std.specs.List.{flat_map}
 use Rattle.std.specs.Char.{is_control}

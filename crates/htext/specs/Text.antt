@@ -1,4 +1,4 @@
--- The text of an input: what is read of its bytes, each with the place of its first byte (HTML Standard, 13.2.3.5).
+-- The text of an input: what is read of its bytes, each with the place of its first byte (HTML Standard, #preprocessing-the-input-stream).
 use Rattle.std.specs.Prelude.{◌≡◌, ℕ, zero, suc, ◌+◌, ◌-◌, ◌<◌, ◌≤◌, Bool, true, false, ◌&&◌, ◌||◌, ◌==◌, nat_lt, nat_le, if◌then◌else◌, List, [], ◌∷◌, ◌++◌}
 use Rattle.std.specs.Prelude.{◌⊎◌, length, map, take, drop, Option, Some, None}
 use Rattle.std.specs.Char.{IsScalar, encode_utf8}

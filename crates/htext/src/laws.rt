@@ -1,5 +1,5 @@
-//! Laws of the text of an input (HTML Standard, 13.2.3.5): its characters and errors, their places, bad parts, what more bytes change,
-//! and what is refused.
+//! Laws of the text of an input (HTML Standard, `#preprocessing-the-input-stream`): its characters and errors, their places, bad parts,
+//! what more bytes change, and what is refused.
 
 ghost use Rattle.std.specs.Prelude.{◌≡◌, ◌+◌, ◌<◌, ◌≤◌, ◌++◌, ◌∷◌, ◌↔◌, ℕ, List, length, map, true, false, None, Some};
 ghost use Rattle.std.specs.Char.{IsScalar, encode_utf8, len_utf8};

@@ -1,5 +1,5 @@
 //! The text of an input: bytes in any pieces, read as UTF-8 up to a limit, with newlines normalized and with the errors of
-//! the input stream (HTML Standard, 13.2.3.5).
+//! the input stream (HTML Standard, `#preprocessing-the-input-stream`).
 #![tactic(auto)]
 
 mod character;

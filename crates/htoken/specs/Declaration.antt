@@ -1,4 +1,4 @@
--- What the characters after `<!` begin (HTML Standard, 13.2.5.42).
+-- What the characters after `<!` begin (HTML Standard, #markup-declaration-open-state).
 use Rattle.std.specs.Prelude.{◌≡◌, ℕ, ◌+◌, Bool, true, false, ◌==◌, if◌then◌else◌, List, [], ◌∷◌, ◌++◌, codes, Option, Some, None, is_some, slice_get}
 use Rattle.std.specs.Char.{to_ascii_lowercase}
 use Rattle.names.specs.declared.placed.Placed.{Placed}

@@ -1,4 +1,4 @@
-//! Tags that stand whole in one run of the input (HTML Standard, 13.2.5.6 to 13.2.5.8).
+//! Tags that stand whole in one run of the input (HTML Standard, `#tag-open-state` to `#tag-name-state`).
 
 ghost use Rattle.std.specs.Prelude.{◌≡◌, ◌≤◌, ◌<◌, ◌+◌, List, true, IfOk, length, drop, slice_index, None};
 ghost use Rattle.std.specs.List.{list_all};

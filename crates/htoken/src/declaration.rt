@@ -1,4 +1,4 @@
-//! What `<!` begins: a comment, a doctype, or what is read as a comment (HTML Standard, 13.2.5.42).
+//! What `<!` begins: a comment, a doctype, or what is read as a comment (HTML Standard, `#markup-declaration-open-state`).
 
 ghost use Rattle.std.specs.Prelude.{◌≡◌, ◌∷◌, ◌++◌, [], List, length, true};
 ghost use Rattle.htoken.specs.Vocabulary.{all, Character, front_of, is_plain_in_bogus, IsOpened, OpensAs};

@@ -1,4 +1,4 @@
-//! The end of the input, in each state (HTML Standard, 13.2.5).
+//! The end of the input, in each state (HTML Standard, `#tokenization`).
 
 ghost use Rattle.std.specs.Prelude.{◌≡◌, ◌∷◌, ◌++◌, ℕ, List, [], true, ◌&&◌, map, nat_lt};
 ghost use Rattle.htoken.specs.Vocabulary.{is_script, level_number, Character, CutsOff, EndsHeld, EndsRead, Entities, Eof, EofBeforeTagName, error, Event, Finishes, Gives, gives_item, Grows, HandsEvents, HasTaken, IsInTag, Kind, less, Reports, script_errors, Texts};

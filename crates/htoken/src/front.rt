@@ -1,4 +1,5 @@
-//! The text at the front of a run, and the `<` or `&` that ends it (HTML Standard, 13.2.5.1 to 13.2.5.5 and 13.2.5.72 to 13.2.5.74).
+//! The text at the front of a run, and the `<` or `&` that ends it (HTML Standard, `#data-state` to `#plaintext-state` and
+//! `#character-reference-state` to `#ambiguous-ampersand-state`).
 
 ghost use Rattle.std.specs.Prelude.{◌≡◌, ◌≤◌, ◌<◌, ◌+◌, List, true, false, IfOk, IfSome, is_some, MatchResult, Err, drop, length, slice_index, take};
 ghost use Rattle.std.specs.List.{list_all};
@@ -127,8 +128,8 @@ impl<'t> Tokenizer<'t> {
         self.take_end(count, whole, run, at, sink)
     }
 
-    /// Takes the whole reference after this many bytes of a run, which have been taken, and what comes after it: as one text as far as the sink takes
-    /// that. Returns the length of all.
+    /// Takes the whole reference after this many bytes of a run, which have been taken, and what comes after it: as one text as far as the
+    /// sink takes that. Returns the length of all.
     #[inline(never)]
     fn take_references<S: TokenSink>(
         &mut self,

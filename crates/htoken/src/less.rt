@@ -1,4 +1,4 @@
-//! After `<` and `</` in data (HTML Standard, 13.2.5.6 and 13.2.5.7).
+//! After `<` and `</` in data (HTML Standard, `#tag-open-state` and `#end-tag-open-state`).
 
 ghost use Rattle.std.specs.Prelude.{◌≡◌, ◌∷◌, ℕ, List, [], true};
 ghost use Rattle.htoken.specs.Vocabulary.{gives_item, is_no_markup, TakesNext};

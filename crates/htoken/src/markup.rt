@@ -1,4 +1,4 @@
-//! What follows `<!`, comments and doctypes (HTML Standard, 13.2.5.41 to 13.2.5.68).
+//! What follows `<!`, comments and doctypes (HTML Standard, `#bogus-comment-state` to `#bogus-doctype-state`).
 
 ghost use Rattle.std.specs.Prelude.{◌≡◌, ◌∷◌, List, [], true, OnOk, length, MatchResult};
 ghost use Rattle.htoken.specs.Vocabulary.{all, BeginsBogus, Character, Comment, doctype_token, Entities, error, Event, gives_item, GivesSpan, is_plain_in_bogus, Kind, place, Reader, Reads, Takes, TakesNext, Texts, TokenMeans};

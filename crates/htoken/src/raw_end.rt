@@ -1,4 +1,4 @@
-//! The end tag of raw text (HTML Standard, 13.2.5.9 to 13.2.5.17).
+//! The end tag of raw text (HTML Standard, `#rcdata-less-than-sign-state` to `#script-data-end-tag-name-state`).
 
 ghost use Rattle.std.specs.Prelude.{◌≡◌, ◌∷◌, ◌++◌, List, [], slice_get, true, false, length, string_bytes, MatchResult};
 ghost use Rattle.htoken.specs.Vocabulary.{backwards, Character, Entities, Event, gives_item, Grows, HandsEvents, HasFront, held_in_raw, Holds, is_script, Kind, name_ends, Reads, run_events, Takes, TakesNext, Texts};

@@ -1,4 +1,5 @@
-//! References in text, and the runs of alphanumerics after an `&` (HTML Standard, 13.2.5.72 to 13.2.5.80).
+//! References in text, and the runs of alphanumerics after an `&` (HTML Standard, `#character-reference-state` to
+//! `#numeric-character-reference-end-state`).
 
 ghost use Rattle.std.specs.Prelude.{◌≡◌, ◌==◌, ◌∷◌, ◌+◌, ◌-◌, List, [], true, false, length, map, OnOk};
 ghost use Rattle.htoken.specs.Vocabulary.{BeginsReference, Character, Entities, Event, Finds, gives_item, HandsEvents, HoldsInReference, IsInAmbiguousAmpersand, Kind, read_events, Reads, Takes, TakesNext, Texts};

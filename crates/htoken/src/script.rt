@@ -1,4 +1,4 @@
-//! The level of script data (HTML Standard, 13.2.5.15 to 13.2.5.31).
+//! The level of script data (HTML Standard, `#script-data-less-than-sign-state` to `#script-data-double-escape-end-state`).
 
 ghost use Rattle.std.specs.Prelude.{◌≡◌, [], ◌∷◌, ◌==◌, ◌&&◌, ℕ, List, nat_lt, IsTrue};
 ghost use Rattle.std.specs.Str.{chars};

@@ -1,4 +1,5 @@
-//! Text with whole references in it, which a sink may take as one run (HTML Standard, 13.2.5.72 to 13.2.5.80).
+//! Text with whole references in it, which a sink may take as one run (HTML Standard, `#character-reference-state` to
+//! `#numeric-character-reference-end-state`).
 
 ghost use Rattle.std.specs.Prelude.{◌≡◌, ◌≤◌, ◌<◌, ◌+◌, ◌-◌, ◌++◌, List, true, false, IfOk, IfSome, MatchResult, OnOk, drop, length, slice_index, string_bytes, encode_utf8_all};
 ghost use Rattle.std.specs.List.{list_all};

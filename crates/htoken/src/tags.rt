@@ -1,4 +1,4 @@
-//! Tags (HTML Standard, 13.2.5.8 and 13.2.5.32 to 13.2.5.40).
+//! Tags (HTML Standard, `#tag-name-state` and `#before-attribute-name-state` to `#self-closing-start-tag-state`).
 
 ghost use Rattle.std.specs.Prelude.{◌≡◌, ◌∷◌, ℕ, List, [], slice_get, Some, OnOk};
 ghost use Rattle.htoken.specs.Vocabulary.{BeginsTag, Character, End, EndsStartTag, EndsTag, Entities, Event, gives_item, Grows, KeepsFaults, KeepsIf, Kind, Reads, Takes, Texts};

@@ -1,4 +1,4 @@
-//! Text: data, RCDATA, RAWTEXT, script data and PLAINTEXT (HTML Standard, 13.2.5.1 to 13.2.5.5).
+//! Text: data, RCDATA, RAWTEXT, script data and PLAINTEXT (HTML Standard, `#data-state` to `#plaintext-state`).
 
 ghost use Rattle.std.specs.Prelude.{◌≡◌, ◌∷◌, ℕ, List, [], true, ◌&&◌, is_some};
 ghost use Rattle.htoken.specs.Vocabulary.{Char, ends_by, Gives, gives_item, HandsEvents, has_references, is_raw, is_script, IsFollowed, level_number, Takes, TakesNext, Texts};

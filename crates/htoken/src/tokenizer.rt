@@ -1,4 +1,4 @@
-//! Characters in, tokens out: a tokenizer, and which state takes a character (HTML Standard, 13.2.5).
+//! Characters in, tokens out: a tokenizer, and which state takes a character (HTML Standard, `#tokenization`).
 
 ghost use Rattle.std.specs.Prelude.{◌≡◌, ◌∷◌, List, [], Some, Err, IfErr, MatchBool};
 ghost use Rattle.htoken.specs.Vocabulary.{after_place, Character, EndsSpan, Entities, Event, FeedsText, Finishes, from_of, gives_item, Grows, Hands, HasTaken, HoldsFrom, IsTable, items_of, Kind, Refused, start_kind, Takes, Texts};
@@ -15,7 +15,7 @@ use htag::TagWalk;
 use names::{NameId, Names, Placed, RawKind, Refusal};
 use std::alloc::Global;
 
-/// Cuts a text that comes character by character into tokens (HTML Standard, 13.2.5). It keeps the unfinished span alone.
+/// Cuts a text that comes character by character into tokens (HTML Standard, `#tokenization`). It keeps the unfinished span alone.
 pub struct Tokenizer<'t> {
     pub(crate) alloc: Global,
     pub(crate) table: &'t Table,

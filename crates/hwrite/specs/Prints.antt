@@ -35,7 +35,7 @@ nodes_text parse_case parse = tree_text (children_of (root_of parse_case) parse.
 abbrev pub errors_text : Parse → List ℕ
 errors_text parse = error_lines parse.errors
 
--- what is in the root as HTML (13.3); the root's own name says how its texts are written
+-- what is in the root as HTML (#serialising-html-fragments); the root's own name says how its texts are written
 abbrev pub written_text : Escaping → ParseCase → Parse → List ℕ
 written_text escaping parse_case parse = written escaping (name_of (root_of parse_case) parse.trees) (children_of (root_of parse_case) parse.trees)
 

@@ -1,5 +1,6 @@
--- The codes of parse errors (13.2.2): the text of each, and their order among the errors at one byte: those of the input stream (13.2.3.5) before
--- those of tokens (13.2.5) before those of tree construction (13.2.6), and each of these by its text.
+-- The codes of parse errors (#parse-errors): the text of each, and their order among the errors at one byte: those of the input stream
+-- (#preprocessing-the-input-stream) before those of tokens (#tokenization) before those of tree construction (#tree-construction), and each
+-- of these by its text.
 use Rattle.std.specs.Prelude.{ℕ, List, codes}
 use Rattle.names.specs.declared.error.ErrorCode.{ErrorCode}
 use Rattle.names.specs.declared.error.ErrorCode.TheVariants as code

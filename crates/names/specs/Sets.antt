@@ -1,5 +1,6 @@
--- The sets of names that the rules speak of: special and formatting elements, what stops a search in scope (13.2.4.2), implied end tags (13.2.6.3),
--- void elements (13.3), start tags left out of the profile, and the kinds of raw text (13.2.5.2 to 13.2.5.5).
+-- The sets of names that the rules speak of: special and formatting elements, what stops a search in scope (#the-stack-of-open-elements),
+-- implied end tags (#closing-elements-that-have-implied-end-tags), void elements (#serialising-html-fragments), start tags left out of the
+-- profile, and the kinds of raw text (#rcdata-state to #plaintext-state).
 use Rattle.std.specs.Prelude.{Bool, true, false, ◌||◌, Option, Some, None, is_some}
 use Rattle.names.specs.declared.tag.Tag.{Tag}
 use Rattle.names.specs.declared.tag.Tag.TheVariants as tag
@@ -8,7 +9,7 @@ use Rattle.names.specs.declared.raw.RawKind.TheVariants as kind
 use Rattle.names.specs.declared.raw.RefusedName.{RefusedName}
 use Rattle.names.specs.declared.raw.RefusedName.TheVariants as refused
 
--- whether a name is special (13.2.4.2)
+-- whether a name is special (#the-stack-of-open-elements)
 abbrev pub is_special : Tag → Bool
 is_special tag.Address = true
 is_special tag.Applet = true
@@ -90,7 +91,7 @@ is_special tag.Wbr = true
 is_special tag.Xmp = true
 is_special _ = false
 
--- whether it is a formatting name (13.2.4.2)
+-- whether it is a formatting name (#the-stack-of-open-elements)
 abbrev pub is_formatting : Tag → Bool
 is_formatting tag.A = true
 is_formatting tag.B = true
@@ -108,7 +109,7 @@ is_formatting tag.Tt = true
 is_formatting tag.U = true
 is_formatting _ = false
 
--- whether its end tag is implied (13.2.6.3)
+-- whether its end tag is implied (#closing-elements-that-have-implied-end-tags)
 abbrev pub has_implied_end : Tag → Bool
 has_implied_end tag.Dd = true
 has_implied_end tag.Dt = true
@@ -120,7 +121,7 @@ has_implied_end tag.Rt = true
 has_implied_end tag.Rtc = true
 has_implied_end _ = false
 
--- whether it stops the search in scope (13.2.4.2)
+-- whether it stops the search in scope (#the-stack-of-open-elements)
 abbrev pub stops_scope : Tag → Bool
 stops_scope tag.Applet = true
 stops_scope tag.Caption = true
@@ -155,14 +156,14 @@ stops_table_scope tag.Html = true
 stops_table_scope tag.Table = true
 stops_table_scope _ = false
 
--- What stops the search for an open li, dd or dt (13.2.6.4.7): a special name other than address, div and p.
+-- What stops the search for an open li, dd or dt (#parsing-main-inbody): a special name other than address, div and p.
 abbrev pub stops_item : Tag → Bool
 stops_item tag.Address = false
 stops_item tag.Div = false
 stops_item tag.P = false
 stops_item t = is_special t
 
--- whether an element of it may be open at the end of the body (13.2.6.4.7)
+-- whether an element of it may be open at the end of the body (#parsing-main-inbody)
 abbrev pub may_stay_open : Tag → Bool
 may_stay_open tag.Body = true
 may_stay_open tag.Dd = true
@@ -205,7 +206,7 @@ is_cell tag.Td = true
 is_cell tag.Th = true
 is_cell _ = false
 
--- whether an element of it determines the insertion mode when it is reset (13.2.4.1)
+-- whether an element of it determines the insertion mode when it is reset (#the-insertion-mode)
 abbrev pub tells_mode : Tag → Bool
 tells_mode tag.Body = true
 tells_mode tag.Caption = true
@@ -219,7 +220,7 @@ tells_mode tag.Thead = true
 tells_mode tag.Tr = true
 tells_mode _ = false
 
--- whether its element has no end tag when it is written (13.3)
+-- whether its element has no end tag when it is written (#serialising-html-fragments)
 abbrev pub is_void : Tag → Bool
 is_void tag.Area = true
 is_void tag.Base = true
@@ -255,7 +256,7 @@ refused_name _ = None
 abbrev pub is_refused : Tag → Bool
 is_refused t = is_some (refused_name t)
 
--- how the text after a start tag is read (13.2.6.2, 13.2.6.4.4, 13.2.6.4.7)
+-- how the text after a start tag is read (#parsing-elements-that-contain-only-text, #parsing-main-inhead, #parsing-main-inbody)
 abbrev pub raw_kind : Tag → RawKind
 raw_kind tag.Title = kind.Rcdata
 raw_kind tag.Textarea = kind.Rcdata

@@ -5,7 +5,7 @@ ghost use Rattle.names.specs.Codes.{code_rank, code_text};
 
 use std::fmt;
 
-/// The code of a parse error: those of the input stream, then those of the tokenizer (HTML Standard, 13.2.2), then those of
+/// The code of a parse error: those of the input stream, then those of the tokenizer (HTML Standard, `#parse-errors`), then those of
 /// the tree rules, each in the order of their texts.
 #[derive(Clone, Copy, PartialEq, Eq)]
 pub enum ErrorCode {

@@ -6,7 +6,7 @@ ghost use Rattle.names.specs.Sets.{is_refused, raw_kind, refused_name};
 
 use crate::tag::Tag;
 
-/// How the text after a start tag is read (HTML Standard, 13.2.5.2 to 13.2.5.5): as markup, or in one of four raw ways.
+/// How the text after a start tag is read (HTML Standard, `#rcdata-state` to `#plaintext-state`): as markup, or in one of four raw ways.
 #[derive(Clone, Copy, Debug, PartialEq, Eq)]
 pub enum RawKind {
     None,

@@ -1,4 +1,5 @@
-//! The sets of names that the rules speak of (HTML Standard, 13.2.4.1, 13.2.4.2, 13.2.6.3, 13.2.6.4.7 and 13.3): a table of bits by the name.
+//! The sets of names that the rules speak of (HTML Standard, `#the-insertion-mode`, `#the-stack-of-open-elements`,
+//! `#closing-elements-that-have-implied-end-tags`, `#parsing-main-inbody` and `#serialising-html-fragments`): a table of bits by the name.
 
 ghost use Rattle.std.specs.Prelude.{◌≡◌};
 ghost use Rattle.names.specs.Sets.{has_implied_end, is_cell, is_formatting, is_heading, is_special, is_table_section, is_void, may_stay_open, stops_button_scope, stops_item, stops_list_item_scope, stops_scope, stops_table_scope, tells_mode};
@@ -7,13 +8,13 @@ ghost use Rattle.names.specs.declared.sets.TheConstants as bit;
 
 use crate::tag::Tag;
 
-/// The bit of the special names (13.2.4.2).
+/// The bit of the special names (`#the-stack-of-open-elements`).
 pub const SPECIAL: u16 = 1 << 0;
-/// The bit of the formatting names (13.2.4.2).
+/// The bit of the formatting names (`#the-stack-of-open-elements`).
 pub const FORMATTING: u16 = 1 << 1;
-/// The bit of the names whose end tags are implied (13.2.6.3).
+/// The bit of the names whose end tags are implied (`#closing-elements-that-have-implied-end-tags`).
 pub const IMPLIED_END: u16 = 1 << 2;
-/// The bit of the names that stop a search in scope (13.2.4.2).
+/// The bit of the names that stop a search in scope (`#the-stack-of-open-elements`).
 pub const SCOPE: u16 = 1 << 3;
 /// The bit of the names that stop a search in list item scope.
 pub const LIST_ITEM_SCOPE: u16 = 1 << 4;
@@ -21,9 +22,9 @@ pub const LIST_ITEM_SCOPE: u16 = 1 << 4;
 pub const BUTTON_SCOPE: u16 = 1 << 5;
 /// The bit of the names that stop a search in table scope.
 pub const TABLE_SCOPE: u16 = 1 << 6;
-/// The bit of the names that stop the search for an open li, dd or dt (13.2.6.4.7).
+/// The bit of the names that stop the search for an open li, dd or dt (`#parsing-main-inbody`).
 pub const ITEM_STOP: u16 = 1 << 7;
-/// The bit of the names of elements that may be open at the end of the body (13.2.6.4.7).
+/// The bit of the names of elements that may be open at the end of the body (`#parsing-main-inbody`).
 pub const MAY_STAY_OPEN: u16 = 1 << 8;
 /// The bit of h1 to h6.
 pub const HEADING: u16 = 1 << 9;
@@ -31,9 +32,9 @@ pub const HEADING: u16 = 1 << 9;
 pub const TABLE_SECTION: u16 = 1 << 10;
 /// The bit of td and th.
 pub const CELL: u16 = 1 << 11;
-/// The bit of the names that determine the insertion mode when it is reset (13.2.4.1).
+/// The bit of the names that determine the insertion mode when it is reset (`#the-insertion-mode`).
 pub const TELLS_MODE: u16 = 1 << 12;
-/// The bit of the names that are written without an end tag (13.3).
+/// The bit of the names that are written without an end tag (`#serialising-html-fragments`).
 pub const VOID: u16 = 1 << 13;
 
 /// What stops a search in scope also stops one in list item scope and one in button scope.
@@ -106,7 +107,7 @@ impl Tag {
         SETS[self as usize]
     }
 
-    /// Whether the name is special (HTML Standard, 13.2.4.2).
+    /// Whether the name is special (HTML Standard, `#the-stack-of-open-elements`).
     #[inline(always)]
     pub fn is_special(self) -> bool
         ensures { result ≡ is_special self }
@@ -114,7 +115,7 @@ impl Tag {
         self.sets() & SPECIAL != 0
     }
 
-    /// Whether the name is a formatting one (13.2.4.2).
+    /// Whether the name is a formatting one (`#the-stack-of-open-elements`).
     #[inline(always)]
     pub fn is_formatting(self) -> bool
         ensures { result ≡ is_formatting self }
@@ -122,7 +123,7 @@ impl Tag {
         self.sets() & FORMATTING != 0
     }
 
-    /// Whether an end tag of the name is generated where end tags are implied (13.2.6.3).
+    /// Whether an end tag of the name is generated where end tags are implied (`#closing-elements-that-have-implied-end-tags`).
     #[inline(always)]
     pub fn has_implied_end(self) -> bool
         ensures { result ≡ has_implied_end self }
@@ -146,7 +147,7 @@ impl Tag {
         self.sets() & TABLE_SECTION != 0
     }
 
-    /// Whether an element of the name is written without an end tag (13.3).
+    /// Whether an element of the name is written without an end tag (`#serialising-html-fragments`).
     #[inline(always)]
     pub fn is_void(self) -> bool
         ensures { result ≡ is_void self }
