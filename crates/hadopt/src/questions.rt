@@ -94,11 +94,11 @@ impl Site {
     }
 
     /// How many open nodes are below the nearest one of a group; `None` if there is none.
-    pub fn group_place(&self, group: Group) -> Option<usize>
-        ensures place { result ≡ position (is_of tag_of group) (stack self.now) }
+    pub fn group_position(&self, group: Group) -> Option<usize>
+        ensures found { result ≡ position (is_of tag_of group) (stack self.now) }
         ensures within { IfSome result (λ up. up < length (stack self.now)) }
     {
-        self.stack.group_place(group)
+        self.stack.group_position(group)
     }
 
     /// Whether a node is in scope.

@@ -47,7 +47,7 @@ impl<'q> TreeConstruction<'q> {
         ensures { result ≡ reset_mode numbers self.now.context (stack self.now.site) }
     {
         let below_first = self.site.open_count().saturating_sub(1);
-        match self.site.group_place(Group::TellsMode) {
+        match self.site.group_position(Group::TellsMode) {
             // the first open node is read as the context
             Some(up) if up < below_first => self.mode_at(up).unwrap_or(Mode::InBody),
             _ => self.root_mode(),

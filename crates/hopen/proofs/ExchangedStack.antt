@@ -41,10 +41,10 @@ module _ {X Y : Type 0} (f : X → Y) where
       let less = length-remove xs from (omega arith) in
       let left : reverse (map f (remove xs from)) ≡ without leaves (reverse (map f xs)) = remove_nearest f leaves xs from far p (omega arith) in
       let many : length (reverse (map f (remove xs from))) ≡ length (remove xs from) = length-reverse (map f (remove xs from)) ∙ length-map (remove xs from) f in
-      let place : position sought (reverse (map f (remove xs from))) ≡ Some near = position-without leaves sought (reverse (map f xs)) near far q p (omega arith) (reverse (map f (remove xs from))) (sym left) (omega arith) in
+      let level : position sought (reverse (map f (remove xs from))) ≡ Some near = position-without leaves sought (reverse (map f xs)) near far q p (omega arith) (reverse (map f (remove xs from))) (sym left) (omega arith) in
       let next : to - 1 + 1 ≡ to = omega arith in
       ap reverse (ap (λ l. insert l to (f x)) (sym (map-remove_range xs from (suc from))) ∙ sym (map-insert (remove xs from) to x) ∙ ap (λ n. map f (insert (remove xs from) n x)) (sym next))
-      ∙ insert_nearest f sought (remove xs from) (to - 1) near x place (omega arith) ∙ ap (put_before sought (f x)) left
+      ∙ insert_nearest f sought (remove xs from) (to - 1) near x level (omega arith) ∙ ap (put_before sought (f x)) left
 
 pub length-put-le : {Y : Type 0} (sought : Y → Bool) (y : Y) (ys : List Y) → length (put_before sought y ys) ≤ suc (length ys)
 length-put-le sought y [] = omega arith

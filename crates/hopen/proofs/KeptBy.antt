@@ -39,7 +39,7 @@ module _ (step : OpenNode ℕ → ℕ → ℕ) (d : OpenNode ℕ) where
   kept-swapped (suc i) [] a k h c e = absurd (omega arith)
   kept-swapped (suc i) (z ∷ ys) a k h c e = ap (λ l. step z a ∷ l) (kept-swapped i ys (step z a) k (omega arith) c e)
 
--- the number after that of the node at a place
+-- the number after that of the node at a level
 abbrev pub node_at : List ℕ → ℕ → ℕ
 node_at nodes zero = 0
 node_at nodes (suc i) = suc (get_or nodes i 0)
@@ -103,7 +103,7 @@ module _ (ys : List (OpenNode ℕ)) (sets : List SetNodes) (k : KeepSets ys sets
       abbrev pub lower : OpenNode ℕ
       lower = get_or ys (suc i) d
 
-      -- it changes places with the one below it
+      -- it changes levels with the one below it
       pub sets-swapped : (p : SetNodes) → ((set : NameSet) → set_node set p ≡ nearest_in set lower (get_or (0 ∷ map (set_node set) sets) i 0)) → must_close_in p ≡ closing lower (get_or (0 ∷ map must_close_in sets) i 0)
           → KeepSets (swap_with_next i ys) (set sets i p)
       sets-swapped p nodes must_close = record {

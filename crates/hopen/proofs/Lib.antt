@@ -2,14 +2,14 @@ pub mod Names
 pub mod Opened
 pub mod Searches
 pub mod Spellings
-pub mod Places
+pub mod Levels
 pub mod KeptBy
 pub mod Linked
 pub mod Projected
 pub mod Passed
 pub mod Swapped
 pub mod Standing
-pub mod SetPlace
+pub mod SetLevel
 pub mod ExchangedStack
 pub mod WrittenBack
 pub mod AllSpecial

@@ -1,4 +1,4 @@
--- A table of the places where numbers are last, and what the members of their list keep, as members come, go and change places.
+-- A table of the levels where numbers are last, and what the members of their list keep, as members come, go and change places.
 use Rattle.hopen.proofs.Names.{◌≡◌, ◌≢◌, ℕ, suc, ◌<◌, ◌≤◌, eqb, Bool, true, false, cond, List, [], ◌∷◌, ◌++◌, length, map, reverse, get_or, set, ◌⊎◌, inl, inr, refl, sym, ◌∙◌, ap, arith, cases_Bool, cases_lt, eqb-true, eqb-false, get_or-set_same, get_or-set_other, get_or_past, length-map, length-reverse, map-append, reverse-append, reverse-reverse, last_up, last_place, up-sought, up-other, up-alike, IsLinked, length-append, get_or_append_left, get_or_push, SaysPlaces}
 
 pub eqb-same : (n : ℕ) → eqb n n ≡ true
@@ -35,11 +35,11 @@ module _ (t ns bs : List ℕ) (n : ℕ) where
 
   -- a member comes
   pub linked-more : (b p : ℕ) → p ≡ suc (length ns) → b ≡ get_or t n 0 → length bs ≡ length ns → n < length t → IsLinked t ns bs → IsLinked (set t n p) all (bs ++ b ∷ [])
-  linked-more b p place is long within l = record { says = λ k. says k (cases_Bool (eqb n k)); kept = λ j h. kept j h (cases_lt j (length ns)) }
+  linked-more b p level is long within l = record { says = λ k. says k (cases_Bool (eqb n k)); kept = λ j h. kept j h (cases_lt j (length ns)) }
     where
       says : (k : ℕ) → (eqb n k ≡ true) ⊎ (eqb n k ≡ false) → get_or (set t n p) k 0 ≡ last_up (λ m. eqb m k) all (length all)
       says k (inl e) =
-          ap (λ m. get_or (set t n p) m 0) (sym (eqb-true n k e)) ∙ get_or-set_same t n p 0 within ∙ place ∙ sym (push-sought (λ m. eqb m k) ns n e)
+          ap (λ m. get_or (set t n p) m 0) (sym (eqb-true n k e)) ∙ get_or-set_same t n p 0 within ∙ level ∙ sym (push-sought (λ m. eqb m k) ns n e)
       says k (inr e) = get_or-set_other t n k p 0 (λ same. eqb-false n k e (sym same)) ∙ l.says k ∙ sym (push-other (λ m. eqb m k) ns n e)
 
       kept : (j : ℕ) → j < length all → (j < length ns) ⊎ (length ns ≤ j) → get_or (bs ++ b ∷ []) j 0 ≡ last_up (λ m. eqb m (get_or all j 0)) all j
@@ -76,9 +76,9 @@ module _ (t ns bs : List ℕ) (n : ℕ) where
 
 -- the same in the words of the nearest first
 module _ {X : Type 0} (f : X → ℕ) (s : ℕ → Bool) where
-  up-place : (xs : List X) → last_up s (map f (reverse xs)) (length (map f (reverse xs))) ≡ last_place (λ x. s (f x)) xs
-  up-place [] = refl
-  up-place (x ∷ xs) = ap (λ l. last_up s l (length l)) (ap (map f) (reverse-append (x ∷ []) xs) ∙ map-append f (reverse xs) (x ∷ [])) ∙ go (cases_Bool (s (f x))) (up-place xs)
+  up-level : (xs : List X) → last_up s (map f (reverse xs)) (length (map f (reverse xs))) ≡ last_place (λ x. s (f x)) xs
+  up-level [] = refl
+  up-level (x ∷ xs) = ap (λ l. last_up s l (length l)) (ap (map f) (reverse-append (x ∷ []) xs) ∙ map-append f (reverse xs) (x ∷ [])) ∙ go (cases_Bool (s (f x))) (up-level xs)
     where
       many : length (map f (reverse xs)) ≡ length xs
       many = length-map (reverse xs) f ∙ length-reverse xs
@@ -88,8 +88,8 @@ module _ {X : Type 0} (f : X → ℕ) (s : ℕ → Bool) where
       go (inl e) i = push-sought s (map f (reverse xs)) (f x) e ∙ ap suc many ∙ sym (ap (λ v. cond v (suc (length xs)) (last_place (λ x. s (f x)) xs)) e)
       go (inr e) i = push-other s (map f (reverse xs)) (f x) e ∙ i ∙ sym (ap (λ v. cond v (suc (length xs)) (last_place (λ x. s (f x)) xs)) e)
 
-  pub place-up : (ys : List X) → last_up s (map f ys) (length (map f ys)) ≡ last_place (λ x. s (f x)) (reverse ys)
-  place-up ys = ap (λ l. last_up s (map f l) (length (map f l))) (sym (reverse-reverse ys)) ∙ up-place (reverse ys)
+  pub level-up : (ys : List X) → last_up s (map f ys) (length (map f ys)) ≡ last_place (λ x. s (f x)) (reverse ys)
+  level-up ys = ap (λ l. last_up s (map f l) (length (map f l))) (sym (reverse-reverse ys)) ∙ up-level (reverse ys)
 
-pub says-places : {X : Type 0} (f : X → ℕ) (t bs : List ℕ) (ys : List X) → IsLinked t (map f ys) bs → SaysPlaces f t (reverse ys)
-says-places f t bs ys l k = l.says k ∙ place-up f (λ n. eqb n k) ys
+pub says-levels : {X : Type 0} (f : X → ℕ) (t bs : List ℕ) (ys : List X) → IsLinked t (map f ys) bs → SaysPlaces f t (reverse ys)
+says-levels f t bs ys l k = l.says k ∙ level-up f (λ n. eqb n k) ys

@@ -6,14 +6,14 @@ pub use Rattle.hchain.proofs.Places.{last_place-le, position-some, position-none
 pub use Rattle.hchain.specs.Chains.{last_up}
 pub use Rattle.hchain.specs.Nearest.{put_before, without, after, before, changed}
 pub use Rattle.hchain.specs.Places.{last_place, SaysPlaces}
-pub use Rattle.hopen.specs.Kept.{opened_by, Stands, names_in, same_name_of, stack_of, same_node_of, node_of, AreIn, name_of, sets_at, must_close_in, nodes_in, IsLinked, swap_with_next, kept_above, IsHeld, KeepSets, nearest_in, place_after_swap, KeepsFrom, closing, CanGiveWay, AreAlike, AreAsLong, CanPass, StandsAs, kept_by}
+pub use Rattle.hopen.specs.Kept.{opened_by, Stands, names_in, same_name_of, stack_of, same_node_of, node_of, AreIn, name_of, sets_at, must_close_in, nodes_in, IsLinked, swap_with_next, kept_above, IsHeld, KeepSets, nearest_in, level_after_swap, KeepsFrom, closing, CanGiveWay, AreAlike, AreAsLong, CanPass, StandsAs, kept_by}
 pub use Rattle.hopen.specs.NameSets.{set_node, holds, is_in_set, is_in}
 pub use Rattle.hopen.specs.Opens.{open_of, is_sought}
 pub use Rattle.hopen.specs.Scopes.{is_named, is_of, is_of_group, stops, stops_in}
 pub use Rattle.hopen.specs.Stack.{is_node, OpenNodes, OpenNode, furthest_block, current, in_scope, is_open, topmost_special, above, below}
 pub use Rattle.hopen.specs.StackView.{open_nodes_of}
 pub use Rattle.hopen.specs.declared.kept.KeptNode.{KeptNode}
-pub use Rattle.hopen.specs.declared.kept.LastPlaces.{LastPlaces}
+pub use Rattle.hopen.specs.declared.kept.LastLevels.{LastLevels}
 pub use Rattle.hopen.specs.declared.name_sets.NameSet.{NameSet}
 pub use Rattle.hopen.specs.declared.name_sets.SetNodes.{SetNodes}
 pub use Rattle.hopen.specs.declared.stack.Open.{Open}

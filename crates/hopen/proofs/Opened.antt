@@ -10,7 +10,7 @@ seen s n word items e h =
 -- an index of the vector that is found, and how many nodes are nearer
 pub record Found (items : List KeptNode) (sought : OpenNode ℕ → Bool) (i : ℕ) : Type 0 where
   pub up : ℕ
-  pub place : position sought (reverse (map opened_by items)) ≡ Some up
+  pub position_is : position sought (reverse (map opened_by items)) ≡ Some up
   pub sum : i + suc up ≡ length items
 
 pub found : (s : Inside) (n : OpenNodes ℕ) (sought : OpenNode ℕ → Bool) (i : ℕ) → open_nodes_of s ≡ n → position sought n.stack ≡ Some (length n.stack - 1 - i) → i < length n.stack → Found s.items.items sought i
@@ -18,7 +18,7 @@ found s n sought i e =
     let P : OpenNodes ℕ → Type 0 = λ m. position sought m.stack ≡ Some (length m.stack - 1 - i) → i < length m.stack → Found s.items.items sought i in
     subst P e (λ p h. record {
       up = length (reverse (map opened_by s.items.items)) - 1 - i;
-      place = p;
+      position_is = p;
       sum = omega (arith, length-reverse (map opened_by s.items.items), length-map s.items.items opened_by);
     })
 

@@ -1,5 +1,5 @@
 -- What is kept of the open nodes where one passes the one right below it.
-use Rattle.hopen.proofs.Names.{◌≡◌, ◌≢◌, ℕ, suc, ◌+◌, ◌<◌, eqb, cond, List, length, map, get_or, set, refl, sym, ◌∙◌, ap, subst, arith, transport, cases_Bool, get_or-set_same, get_or-set_other, length-map, length-set, IsHeld, IsLinked, KeepSets, Stands, name_of, names_in, node_of, nodes_in, opened_by, same_name_of, same_node_of, sets_at, swap_with_next, place_after_swap, OpenNode, KeptNode, LastPlaces, nat_tests, CanPass}
+use Rattle.hopen.proofs.Names.{◌≡◌, ◌≢◌, ℕ, suc, ◌+◌, ◌<◌, eqb, cond, List, length, map, get_or, set, refl, sym, ◌∙◌, ap, subst, arith, transport, cases_Bool, get_or-set_same, get_or-set_other, length-map, length-set, IsHeld, IsLinked, KeepSets, Stands, name_of, names_in, node_of, nodes_in, opened_by, same_name_of, same_node_of, sets_at, swap_with_next, level_after_swap, OpenNode, KeptNode, LastLevels, nat_tests, CanPass}
 use Rattle.hopen.proofs.Projected.{length-nodes}
 use Rattle.hopen.proofs.Swapped.{held-none, linked-swapped, swapped-apart, swapped-lower, swapped-map, swapped-upper, moved-other, moved-table, walk-in}
 
@@ -16,19 +16,19 @@ module _ (t ns bs : List ℕ) (l : IsLinked t ns bs) (long : length bs ≡ lengt
       let held-upper : IsHeld t bs a (suc i) 0 = held-none t ns bs l i long upper in
       let held-lower : IsHeld t bs b (suc (suc i)) 0 = held-none t ns bs l (suc i) long lower in
       let differ : get_or ns i 0 ≢ get_or ns (suc i) 0 = λ e. absurd (omega (arith, upper, lower, ap (λ n. get_or t n 0) e)) in
-      let table : (k : ℕ) → get_or (set (set t a (suc (suc i))) b (suc i)) k 0 ≡ place_after_swap i (get_or t k 0) = λ k.
+      let table : (k : ℕ) → get_or (set (set t a (suc (suc i))) b (suc i)) k 0 ≡ level_after_swap i (get_or t k 0) = λ k.
       get-set (set t a (suc (suc i))) b (suc i) k (omega (arith, length-set t a (suc (suc i)), walk-in t ns bs l (suc i) within)) ∙ ap (cond (eqb k b) (suc i)) (get-set t a (suc (suc i)) k (walk-in t ns bs l i (omega arith)))
       ∙ moved-table t bs i a b 0 0 (suc i) (suc (suc i)) refl refl held-upper held-lower k in
-      let list : (j : ℕ) → get_or bs j 0 ≡ place_after_swap i (get_or bs j 0) =
+      let list : (j : ℕ) → get_or bs j 0 ≡ level_after_swap i (get_or bs j 0) =
       λ j. sym (moved-other i (get_or bs j 0) (λ e. absurd (let z = held-upper.in_list j e in omega arith)) (λ e. absurd (let z = held-lower.in_list j e in omega arith))) in
       linked-swapped t ns bs l i within differ (set (set t a (suc (suc i))) b (suc i)) (swap_with_next i bs) table (swapped-upper i bs 0 (omega arith)) (swapped-lower i bs 0 (omega arith)) (λ j ne nf. swapped-apart i j bs 0 ne nf ∙ list j)
 
-module _ (last : LastPlaces) (items : List KeptNode) (i : ℕ) (s : Stands last items) (p : CanPass last items i) where
+module _ (last : LastLevels) (items : List KeptNode) (i : ℕ) (s : Stands last items) (p : CanPass last items i) where
   next : i + 1 ≡ suc i
   next = omega arith
 
   -- the node has passed
-  pub stands-passed : (after : LastPlaces) (new : List KeptNode) → map opened_by new ≡ swap_with_next i (map opened_by items) → map same_node_of new ≡ swap_with_next i (map same_node_of items)
+  pub stands-passed : (after : LastLevels) (new : List KeptNode) → map opened_by new ≡ swap_with_next i (map opened_by items) → map same_node_of new ≡ swap_with_next i (map same_node_of items)
       → IsLinked after.names.items (swap_with_next i (names_in (map opened_by items))) (map same_name_of new)
       → after.nodes.items ≡ set (set last.nodes.items (get_or (nodes_in (map opened_by items)) i 0) (i + 1 + 1)) (get_or (nodes_in (map opened_by items)) (i + 1) 0) (i + 1)
       → KeepSets (map opened_by new) (map sets_at new) → Stands after new

@@ -33,7 +33,7 @@ module _ {N M : Type 0} (tag : N → Tag) (tag' : M → Tag) (same : N → N →
   pub stack_spelled : StackKnowsNoNames tag tag' same same' g
   stack_spelled = record {
     contains = λ n. any-map (spelled_open g) (is_node n) (is_node n) (λ _. refl);
-    place = λ n. position-map (spelled_open g) (is_node n) (is_node n) (λ _. refl);
+    position_is = λ n. position-map (spelled_open g) (is_node n) (is_node n) (λ _. refl);
     get = λ up xs. slice_get-map (spelled_open g) xs up;
     from_top = from_top-map;
     nearest = λ a. find-map (spelled_open g) (is_named same a) (is_named same' (g a)) (λ x. s.names x.name a);

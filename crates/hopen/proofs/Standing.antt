@@ -1,5 +1,5 @@
--- The kept places under each change of the items.
-use Rattle.hopen.proofs.Names.{◌≡◌, ℕ, zero, suc, ◌+◌, ◌-◌, ◌<◌, ◌≤◌, List, [], ◌∷◌, ◌++◌, length, map, take, drop, get_or, set, refl, sym, ◌∙◌, ap, subst, arith, transport, get_or_default, drop-drop, drop_at, length-take-le, length-reverse, length-map, length-set, map-append, take-map, drop-map, map-set, get_or-map, map-set_same, take-append_seam, remove_range, AreIn, CanGiveWay, IsLinked, KeepSets, KeepsFrom, Stands, closing, kept_above, must_close_in, name_of, names_in, nearest_in, node_of, nodes_in, opened_by, same_name_of, same_node_of, sets_at, stack_of, OpenNode, OpenNodes, open_nodes_of, Inside, KeptNode, LastPlaces, set_node, SetNodes, open_of, Open, add-one, drop-set, AreAlike, StandsAs, reverse_push, take-more, drop-more}
+-- The kept levels under each change of the items.
+use Rattle.hopen.proofs.Names.{◌≡◌, ℕ, zero, suc, ◌+◌, ◌-◌, ◌<◌, ◌≤◌, List, [], ◌∷◌, ◌++◌, length, map, take, drop, get_or, set, refl, sym, ◌∙◌, ap, subst, arith, transport, get_or_default, drop-drop, drop_at, length-take-le, length-reverse, length-map, length-set, map-append, take-map, drop-map, map-set, get_or-map, map-set_same, take-append_seam, remove_range, AreIn, CanGiveWay, IsLinked, KeepSets, KeepsFrom, Stands, closing, kept_above, must_close_in, name_of, names_in, nearest_in, node_of, nodes_in, opened_by, same_name_of, same_node_of, sets_at, stack_of, OpenNode, OpenNodes, open_nodes_of, Inside, KeptNode, LastLevels, set_node, SetNodes, open_of, Open, add-one, drop-set, AreAlike, StandsAs, reverse_push, take-more, drop-more}
 use Rattle.hopen.proofs.KeptBy.{above-front, sets-more, sets-renamed, sets-take}
 use Rattle.hopen.proofs.Linked.{linked-in, linked-less, linked-more}
 use Rattle.hopen.proofs.Projected.{length-names, length-nodes, node-at, same_node-at}
@@ -35,7 +35,7 @@ module _ (items : List KeptNode) (x : KeptNode) where
   long : {X Y : Type 0} (f : KeptNode → X) (g : OpenNode ℕ → Y) → length (map f items) ≡ length (map g (map opened_by items))
   long f g = length-map items f ∙ sym (length-map (map opened_by items) g ∙ length-map items opened_by)
 
-  module _ (last : LastPlaces) where
+  module _ (last : LastLevels) where
     linked-names : Stands last (items ++ x ∷ []) → IsLinked last.names.items (names_in (map opened_by items) ++ x.opened.name ∷ []) (map same_name_of items ++ x.same_name ∷ [])
     linked-names s = transport (λ t. IsLinked last.names.items (names-more t) (map-append same_name_of items (x ∷ []) t)) s.names
 
@@ -50,7 +50,7 @@ module _ (items : List KeptNode) (x : KeptNode) where
     )
 
     -- the last item goes
-    pub stands-less : Stands last (items ++ x ∷ []) → (next : LastPlaces) → next.names.items ≡ set last.names.items x.opened.name x.same_name → next.nodes.items ≡ set last.nodes.items x.opened.node x.same_node → Stands next items
+    pub stands-less : Stands last (items ++ x ∷ []) → (next : LastLevels) → next.names.items ≡ set last.names.items x.opened.name x.same_name → next.nodes.items ≡ set last.nodes.items x.opened.node x.same_node → Stands next items
     stands-less s next names nodes = record {
       names = rw names (linked-less last.names.items (names_in (map opened_by items)) (map same_name_of items) x.opened.name x.same_name (long same_name_of name_of) (linked-names s));
       nodes = rw nodes (linked-less last.nodes.items (nodes_in (map opened_by items)) (map same_node_of items) x.opened.node x.same_node (long same_node_of node_of) (linked-nodes s));
@@ -62,24 +62,24 @@ module _ (items : List KeptNode) (x : KeptNode) where
         front f = take-map f (length items) (items ++ x ∷ []) ∙ ap (map f) (take-append_seam items (x ∷ []))
 
     -- an item comes, with what the tables say
-    pub stands-more : (place : ℕ) → place ≡ suc (length items) → Stands last items → x.opened.name < length last.names.items → x.opened.node < length last.nodes.items
+    pub stands-more : (level : ℕ) → level ≡ suc (length items) → Stands last items → x.opened.name < length last.names.items → x.opened.node < length last.nodes.items
         → x.same_name ≡ get_or last.names.items x.opened.name 0 → x.same_node ≡ get_or last.nodes.items x.opened.node 0
         → KeepsFrom items (length items) (opened_by x) x.sets
-        → (next : LastPlaces) → next.names.items ≡ set last.names.items x.opened.name place → next.nodes.items ≡ set last.nodes.items x.opened.node place → Stands next (items ++ x ∷ [])
-    stands-more place is s name_in node_in same_name same_node keeps next names nodes = record {
-      names = rw names (transport (λ t. IsLinked (set last.names.items x.opened.name place) (sym names-more t) (sym (map-append same_name_of items (x ∷ [])) t))
-          (linked-more last.names.items (names_in (map opened_by items)) (map same_name_of items) x.opened.name x.same_name place (omega (arith, is, length-names items)) same_name (long same_name_of name_of) name_in s.names));
-      nodes = rw nodes (transport (λ t. IsLinked (set last.nodes.items x.opened.node place) (sym nodes-more t) (sym (map-append same_node_of items (x ∷ [])) t))
-          (linked-more last.nodes.items (nodes_in (map opened_by items)) (map same_node_of items) x.opened.node x.same_node place (omega (arith, is, length-nodes items)) same_node (long same_node_of node_of) node_in s.nodes));
+        → (next : LastLevels) → next.names.items ≡ set last.names.items x.opened.name level → next.nodes.items ≡ set last.nodes.items x.opened.node level → Stands next (items ++ x ∷ [])
+    stands-more level is s name_in node_in same_name same_node keeps next names nodes = record {
+      names = rw names (transport (λ t. IsLinked (set last.names.items x.opened.name level) (sym names-more t) (sym (map-append same_name_of items (x ∷ [])) t))
+          (linked-more last.names.items (names_in (map opened_by items)) (map same_name_of items) x.opened.name x.same_name level (omega (arith, is, length-names items)) same_name (long same_name_of name_of) name_in s.names));
+      nodes = rw nodes (transport (λ t. IsLinked (set last.nodes.items x.opened.node level) (sym nodes-more t) (sym (map-append same_node_of items (x ∷ [])) t))
+          (linked-more last.nodes.items (nodes_in (map opened_by items)) (map same_node_of items) x.opened.node x.same_node level (omega (arith, is, length-nodes items)) same_node (long same_node_of node_of) node_in s.nodes));
       sets = transport (λ t. KeepSets (sym (map-append opened_by items (x ∷ [])) t) (sym (map-append sets_at items (x ∷ [])) t))
           (sets-more (map opened_by items) (map sets_at items) s.sets (opened_by x) x.sets
           (λ set. keeps.nodes set ∙ ap (λ n. nearest_in set (opened_by x) (kept_above (set_node set) items n)) (sym (length-map items opened_by)))
           (keeps.must_close ∙ ap (λ n. closing (opened_by x) (kept_above must_close_in items n)) (sym (length-map items opened_by))));
-      fits = omega (arith, s.fits, ap length nodes, length-set last.nodes.items x.opened.node place);
+      fits = omega (arith, s.fits, ap length nodes, length-set last.nodes.items x.opened.node level);
     }
 
 -- items that keep the same stand alike
-module _ (last : LastPlaces) (xs ys : List KeptNode) (a : AreAlike xs ys) where
+module _ (last : LastLevels) (xs ys : List KeptNode) (a : AreAlike xs ys) where
   pub stands-alike : Stands last ys → Stands last xs
   stands-alike s = transport (λ t. StandsAs last (sym a.opened t) (sym a.same_names t) (sym a.same_nodes t) (sym a.sets t)) s
 
@@ -98,7 +98,7 @@ pub numbers-drop_alike : (n : ℕ) (xs ys : List KeptNode) (names nodes : ℕ) �
 numbers-drop_alike n xs ys names nodes e all = numbers-alike (drop n xs) (drop n ys) names nodes (sym (drop-map opened_by n xs) ∙ ap (drop n) e ∙ drop-map opened_by n ys) all
 
 -- a new node in the place of one of its name
-module _ (last next : LastPlaces) (items : List KeptNode) (i : ℕ) (x y : KeptNode) (new : Open) (s : Stands last items) (within : i < length items) (is : x ≡ get_or items i x) (fresh : CanGiveWay last x (suc i) new) where
+module _ (last next : LastLevels) (items : List KeptNode) (i : ℕ) (x y : KeptNode) (new : Open) (s : Stands last items) (within : i < length items) (is : x ≡ get_or items i x) (fresh : CanGiveWay last x (suc i) new) where
   renamed-opened : y.opened ≡ new → map opened_by (set items i y) ≡ set (map opened_by items) i (open_of new)
   renamed-opened e = map-set opened_by items i y ∙ ap (λ (z : Open). set (map opened_by items) i (open_of z)) e
 
@@ -131,10 +131,10 @@ module _ (last next : LastPlaces) (items : List KeptNode) (i : ℕ) (x y : KeptN
 
 -- one item of a vector, and those above it
 module _ (items : List KeptNode) (n j : ℕ) (x : KeptNode) (next : n ≡ suc j) (within : j < length items) (is : x ≡ get_or items j x) where
-  pub taken-in : (last : LastPlaces) → Stands last (take n items) → (x.opened.name < length last.names.items) × (x.opened.node < length last.nodes.items)
+  pub taken-in : (last : LastLevels) → Stands last (take n items) → (x.opened.name < length last.names.items) × (x.opened.node < length last.nodes.items)
   taken-in last s = stands-in (take j items) x last (subst (λ (xs : List KeptNode). Stands last xs) (take-more items n j x next within is) s)
 
-  pub taken-less : (last next : LastPlaces) → Stands last (take n items) → next.names.items ≡ set last.names.items x.opened.name x.same_name → next.nodes.items ≡ set last.nodes.items x.opened.node x.same_node → Stands next (take j items)
+  pub taken-less : (last next : LastLevels) → Stands last (take n items) → next.names.items ≡ set last.names.items x.opened.name x.same_name → next.nodes.items ≡ set last.nodes.items x.opened.node x.same_node → Stands next (take j items)
   taken-less last left s names nodes = stands-less (take j items) x last (subst (λ (xs : List KeptNode). Stands last xs) (take-more items n j x next within is) s) left names nodes
 
   pub numbers-more : (names nodes : ℕ) → AreIn names nodes (drop n items) → x.opened.name < names → x.opened.node < nodes → AreIn names nodes (drop j items)

@@ -1,29 +1,29 @@
--- Two neighbours of a list that change places, and the places that are kept of them.
-use Rattle.hopen.proofs.Names.{◌≡◌, ◌≢◌, ℕ, zero, suc, ◌-◌, ◌<◌, ◌≤◌, eqb, Bool, true, false, cond, ◌&&◌, List, [], ◌∷◌, length, map, get_or, set, ◌⊎◌, inl, inr, refl, sym, ◌∙◌, ap, subst, arith, remove, true≢false, cases_Bool, cases_lt, eqb-true, eqb-false, get_or-set_same, get_or-set_other, get_or_past, length-set, last_up, up-sought, up-other, up-within, up-found, up-least, up-past, up-alike, IsHeld, IsLinked, swap_with_next, place_after_swap, nat_tests}
+-- Two neighbours of a list that change places, and the levels that are kept of them.
+use Rattle.hopen.proofs.Names.{◌≡◌, ◌≢◌, ℕ, zero, suc, ◌-◌, ◌<◌, ◌≤◌, eqb, Bool, true, false, cond, ◌&&◌, List, [], ◌∷◌, length, map, get_or, set, ◌⊎◌, inl, inr, refl, sym, ◌∙◌, ap, subst, arith, remove, true≢false, cases_Bool, cases_lt, eqb-true, eqb-false, get_or-set_same, get_or-set_other, get_or_past, length-set, last_up, up-sought, up-other, up-within, up-found, up-least, up-past, up-alike, IsHeld, IsLinked, swap_with_next, level_after_swap, nat_tests}
 use Rattle.hopen.proofs.Linked.{eqb-same, eqb-not}
 
--- where a place goes
-pub moved-upper : (i p : ℕ) → p ≡ suc i → place_after_swap i p ≡ suc (suc i)
+-- where a level goes
+pub moved-upper : (i p : ℕ) → p ≡ suc i → level_after_swap i p ≡ suc (suc i)
 moved-upper i p e = ap (λ v. cond v (suc (suc i)) (cond (eqb p (suc (suc i))) (suc i) p)) (ap (λ q. eqb q (suc i)) e ∙ eqb-same (suc i))
 
-pub moved-lower : (i p : ℕ) → p ≡ suc (suc i) → place_after_swap i p ≡ suc i
+pub moved-lower : (i p : ℕ) → p ≡ suc (suc i) → level_after_swap i p ≡ suc i
 moved-lower i p e =
     let ne : p ≢ suc i = omega arith in
     ap (λ v. cond v (suc (suc i)) (cond (eqb p (suc (suc i))) (suc i) p)) (eqb-not p (suc i) ne)
     ∙ ap (λ v. cond v (suc i) p) (ap (λ q. eqb q (suc (suc i))) e ∙ eqb-same (suc (suc i)))
 
-pub moved-other : (i p : ℕ) → p ≢ suc i → p ≢ suc (suc i) → place_after_swap i p ≡ p
+pub moved-other : (i p : ℕ) → p ≢ suc i → p ≢ suc (suc i) → level_after_swap i p ≡ p
 moved-other i p ne nf = ap (λ v. cond v (suc (suc i)) (cond (eqb p (suc (suc i))) (suc i) p)) (eqb-not p (suc i) ne) ∙ ap (λ v. cond v (suc i) p) (eqb-not p (suc (suc i)) nf)
 
 and-true : (v w : Bool) → (v && w) ≡ true → (v ≡ true) × (w ≡ true)
 and-true v w e = grind arith
 
--- two places that change, each at the one that keeps it
+-- two levels that change, each at the one that keeps it
 module _ (t bs : List ℕ) (i a b m n p q : ℕ) (first : p ≡ suc i) (second : q ≡ suc (suc i)) (upper : IsHeld t bs a p m) (lower : IsHeld t bs b q n) where
-  pub moved-table : (k : ℕ) → cond (eqb n 0 && eqb k b) p (cond (eqb m 0 && eqb k a) q (get_or t k 0)) ≡ place_after_swap i (get_or t k 0)
+  pub moved-table : (k : ℕ) → cond (eqb n 0 && eqb k b) p (cond (eqb m 0 && eqb k a) q (get_or t k 0)) ≡ level_after_swap i (get_or t k 0)
   moved-table k = grind (arith, cases_Bool, eqb-same, and-true, moved-lower, moved-upper, moved-other, nat_tests)
 
-  pub moved-list : (j : ℕ) → cond (eqb n (suc j)) p (cond (eqb m (suc j)) q (get_or bs j 0)) ≡ place_after_swap i (get_or bs j 0)
+  pub moved-list : (j : ℕ) → cond (eqb n (suc j)) p (cond (eqb m (suc j)) q (get_or bs j 0)) ≡ level_after_swap i (get_or bs j 0)
   moved-list j = grind (arith, cases_Bool, moved-lower, moved-upper, moved-other, nat_tests)
 
 module _ {X : Type 0} where
@@ -89,21 +89,21 @@ module _ (s : ℕ → Bool) (i : ℕ) (ns : List ℕ) (within : suc i < length n
     low : last_up s ns i ≤ i
     low = up-within s ns i
 
-    at-pair : last_up s (swap_with_next i ns) (suc (suc i)) ≡ place_after_swap i (last_up s ns (suc (suc i)))
+    at-pair : last_up s (swap_with_next i ns) (suc (suc i)) ≡ level_after_swap i (last_up s ns (suc (suc i)))
     at-pair = grind (arith, cases_Bool, one, low, swapped-lower, swapped-upper, up-before, moved-upper, moved-lower, moved-other, nat_tests)
 
-    pub up-swapped : (n : ℕ) → suc i < n → last_up s (swap_with_next i ns) n ≡ place_after_swap i (last_up s ns n)
+    pub up-swapped : (n : ℕ) → suc i < n → last_up s (swap_with_next i ns) n ≡ level_after_swap i (last_up s ns n)
     up-swapped zero h = absurd (omega arith)
     up-swapped (suc n) h = grind (arith, up-swapped n, up-sought, swapped-after, moved-other, up-other, cases_Bool, at-pair, nat_tests)
 
--- a place of a number below an index where it is too
+-- a level of a number below an index where it is too
 pub record Walks (ns : List ℕ) (i p : ℕ) : Type 0 where
   pub below : i < p
   pub most : p ≤ length ns
   pub number : get_or ns (p - 1) 0 ≡ get_or ns i 0
 
 module _ (t ns bs : List ℕ) (l : IsLinked t ns bs) (i : ℕ) where
-  -- whose place a number of the table is, or one of the list
+  -- whose level a number of the table is, or one of the list
   table-at : (k : ℕ) → get_or t k 0 ≡ suc i → get_or ns i 0 ≡ k
   table-at k e =
       let up : last_up (λ n. eqb n k) ns (length ns) ≡ suc i = sym (l.says k) ∙ e in
@@ -121,7 +121,7 @@ module _ (t ns bs : List ℕ) (l : IsLinked t ns bs) (i : ℕ) where
         let at : last_up s ns j - 1 ≡ i = omega arith in
         (omega (arith, up-within s ns j), ap (λ k. get_or ns k 0) (sym at) ∙ eqb-true _ _ (up-found s ns j (omega arith)))
 
-    -- the table keeps the place of one that has none of its number below it
+    -- the table keeps the level of one that has none of its number below it
     pub held-none : get_or t (get_or ns i 0) 0 ≡ suc i → IsHeld t bs (get_or ns i 0) (suc i) 0
     held-none here = record {
       in_table = λ k e. (refl, sym (table-at k e));
@@ -190,14 +190,14 @@ module _ (t ns bs : List ℕ) (l : IsLinked t ns bs) (i : ℕ) where
       )
 
   -- two neighbours that are not of one number change places
-  module _ (within : suc i < length ns) (differ : get_or ns i 0 ≢ get_or ns (suc i) 0) (u cs : List ℕ) (table : (k : ℕ) → get_or u k 0 ≡ place_after_swap i (get_or t k 0))
-      (upper : get_or cs i 0 ≡ get_or bs (suc i) 0) (lower : get_or cs (suc i) 0 ≡ get_or bs i 0) (rest : (j : ℕ) → j ≢ i → j ≢ suc i → get_or cs j 0 ≡ place_after_swap i (get_or bs j 0)) where
+  module _ (within : suc i < length ns) (differ : get_or ns i 0 ≢ get_or ns (suc i) 0) (u cs : List ℕ) (table : (k : ℕ) → get_or u k 0 ≡ level_after_swap i (get_or t k 0))
+      (upper : get_or cs i 0 ≡ get_or bs (suc i) 0) (lower : get_or cs (suc i) 0 ≡ get_or bs i 0) (rest : (j : ℕ) → j ≢ i → j ≢ suc i → get_or cs j 0 ≡ level_after_swap i (get_or bs j 0)) where
     one-of : (k : ℕ) → eqb (get_or ns i 0) k ≡ true → eqb (get_or ns (suc i) 0) k ≡ false
     one-of k e = eqb-not (get_or ns (suc i) 0) k (λ f. differ (eqb-true _ k e ∙ sym f))
 
     pub linked-swapped : IsLinked u (swap_with_next i ns) cs
     linked-swapped = record {
-      says = λ k. table k ∙ ap (place_after_swap i) (l.says k) ∙ sym (up-swapped (λ n. eqb n k) i ns within (one-of k) (length ns) within) ∙ ap (last_up (λ n. eqb n k) (swap_with_next i ns)) (sym (swapped-length i ns));
+      says = λ k. table k ∙ ap (level_after_swap i) (l.says k) ∙ sym (up-swapped (λ n. eqb n k) i ns within (one-of k) (length ns) within) ∙ ap (last_up (λ n. eqb n k) (swap_with_next i ns)) (sym (swapped-length i ns));
       kept = λ j h. kept j (let less : j < length ns = omega (arith, swapped-length i ns) in less) (cases_lt j i) (cases_lt (suc i) j) (cases_lt i j);
     }
       where
@@ -217,7 +217,7 @@ module _ (t ns bs : List ℕ) (l : IsLinked t ns bs) (i : ℕ) where
         kept j h (inr a) (inl more) m =
             let ne : j ≢ i = omega arith in
             let nf : j ≢ suc i = omega arith in
-            rest j ne nf ∙ ap (place_after_swap i) (l.kept j h) ∙ sym (up-swapped (λ n. eqb n (get_or ns j 0)) i ns within (one-of (get_or ns j 0)) j more) ∙ ap (λ n. last_up (λ m. eqb m n) ms j) (sym (swapped-after i j ns 0 more))
+            rest j ne nf ∙ ap (level_after_swap i) (l.kept j h) ∙ sym (up-swapped (λ n. eqb n (get_or ns j 0)) i ns within (one-of (get_or ns j 0)) j more) ∙ ap (λ n. last_up (λ m. eqb m n) ms j) (sym (swapped-after i j ns 0 more))
         kept j h (inr a) (inr b) (inl m) =
             let at : suc i ≡ j = omega arith in
             let x = get_or ns i 0 in

@@ -7,7 +7,7 @@ use Rattle.hchain.specs.Chains.{last_up}
 use Rattle.names.specs.Sets.{is_special, may_stay_open}
 use Rattle.names.specs.Tags.{tag_of}
 use Rattle.hopen.specs.declared.kept.KeptNode.{KeptNode}
-use Rattle.hopen.specs.declared.kept.LastPlaces.{LastPlaces}
+use Rattle.hopen.specs.declared.kept.LastLevels.{LastLevels}
 use Rattle.hopen.specs.declared.name_sets.NameSet.{NameSet}
 use Rattle.hopen.specs.declared.name_sets.SetNodes.{SetNodes}
 use Rattle.hopen.specs.declared.stack.Open.{Open}
@@ -44,7 +44,7 @@ names_in ys = map name_of ys
 abbrev pub nodes_in : List (OpenNode ℕ) → List ℕ
 nodes_in ys = map node_of ys
 
--- A table says where each number is last in a list, and each member of the list keeps where its number is last before it. Places
+-- A table says where each number is last in a list, and each member of the list keeps where its number is last before it. Levels
 -- count from 1; 0 is none.
 pub record IsLinked (table numbers befores : List ℕ) : Type 0 where
   pub says : (k : ℕ) → slice_index table k ≡ last_up (λ n. n == k) numbers (length numbers)
@@ -78,21 +78,21 @@ pub record KeepsFrom (items : List KeptNode) (index : ℕ) (y : OpenNode ℕ) (p
   pub must_close : must_close_in p ≡ closing y (kept_above must_close_in items index)
 
 -- what is kept of these nodes is right, and so is what each of them keeps
-pub record StandsAs (last : LastPlaces) (ys : List (OpenNode ℕ)) (same_names same_nodes : List ℕ) (kept : List SetNodes) : Type 0 where
+pub record StandsAs (last : LastLevels) (ys : List (OpenNode ℕ)) (same_names same_nodes : List ℕ) (kept : List SetNodes) : Type 0 where
   pub names : IsLinked last.names.items (names_in ys) same_names
   pub nodes : IsLinked last.nodes.items (nodes_in ys) same_nodes
   pub sets : KeepSets ys kept
   pub fits : length last.nodes.items < 2 ^ 32
 
-abbrev pub Stands : LastPlaces → List KeptNode → Type 0
+abbrev pub Stands : LastLevels → List KeptNode → Type 0
 Stands last items = StandsAs last (map opened_by items) (map same_name_of items) (map same_node_of items) (map sets_at items)
 
--- a place is kept just by the member at an index, from 1, or where that is 0, just by the table at a number
-pub record IsHeld (table befores : List ℕ) (number place next : ℕ) : Type 0 where
-  pub in_table : (k : ℕ) → slice_index table k ≡ place → (next ≡ 0) × (k ≡ number)
-  pub in_list : (j : ℕ) → slice_index befores j ≡ place → next ≡ suc j
-  pub here : next ≡ 0 → slice_index table number ≡ place
-  pub there : (j : ℕ) → next ≡ suc j → slice_index befores j ≡ place
+-- a level is kept just by the member at an index, from 1, or where that is 0, just by the table at a number
+pub record IsHeld (table befores : List ℕ) (number level next : ℕ) : Type 0 where
+  pub in_table : (k : ℕ) → slice_index table k ≡ level → (next ≡ 0) × (k ≡ number)
+  pub in_list : (j : ℕ) → slice_index befores j ≡ level → next ≡ suc j
+  pub here : next ≡ 0 → slice_index table number ≡ level
+  pub there : (j : ℕ) → next ≡ suc j → slice_index befores j ≡ level
 
 -- the members at an index and at the next one change places
 abbrev pub swap_with_next : {X : Type 0} → ℕ → List X → List X
@@ -100,9 +100,9 @@ swap_with_next zero (x ∷ y ∷ xs) = y ∷ x ∷ xs
 swap_with_next (suc i) (x ∷ xs) = x ∷ swap_with_next i xs
 swap_with_next i xs = xs
 
--- a kept place after that
-abbrev pub place_after_swap : ℕ → ℕ → ℕ
-place_after_swap i p = if p == suc i then suc (suc i) else (if p == suc (suc i) then suc i else p)
+-- a kept level after that
+abbrev pub level_after_swap : ℕ → ℕ → ℕ
+level_after_swap i p = if p == suc i then suc (suc i) else (if p == suc (suc i) then suc i else p)
 
 -- two vectors keep the same, but for where the next node of a name may be
 pub record AreAlike (xs ys : List KeptNode) : Type 0 where
@@ -111,31 +111,31 @@ pub record AreAlike (xs ys : List KeptNode) : Type 0 where
   pub same_nodes : map same_node_of xs ≡ map same_node_of ys
   pub sets : map sets_at xs ≡ map sets_at ys
 
--- the same, but for the places of the nodes of their names too
+-- the same, but for the levels of the nodes of their names too
 pub record AreAlikeButNames (xs ys : List KeptNode) : Type 0 where
   pub opened : map opened_by xs ≡ map opened_by ys
   pub same_nodes : map same_node_of xs ≡ map same_node_of ys
   pub sets : map sets_at xs ≡ map sets_at ys
 
 -- tables as long as others: a node and a name that are in the others are in these
-pub record AreAsLong (last other : LastPlaces) : Type 0 where
+pub record AreAsLong (last other : LastLevels) : Type 0 where
   pub names : length last.names.items ≡ length other.names.items
   pub nodes : length last.nodes.items ≡ length other.nodes.items
 
--- the tables have an entry for a node and one for its name, so their places can be written there
-abbrev pub HasRoom : LastPlaces → Open → Type 0
+-- the tables have an entry for a node and one for its name, so their levels can be written there
+abbrev pub HasRoom : LastLevels → Open → Type 0
 HasRoom last x = (x.name < length last.names.items) × (x.node < length last.nodes.items)
 
--- a node that is open at a place and nowhere else, and a new one of its name that is open nowhere; the name is not special
-pub record CanGiveWay (last : LastPlaces) (x : KeptNode) (place : ℕ) (new : Open) : Type 0 where
+-- a node that is open at a level and nowhere else, and a new one of its name that is open nowhere; the name is not special
+pub record CanGiveWay (last : LastLevels) (x : KeptNode) (level : ℕ) (new : Open) : Type 0 where
   pub name : x.opened.name ≡ new.name
   pub plain : is_special (tag_of new.name) ≡ false
   pub none_above : x.same_node ≡ 0
-  pub none_below : slice_index last.nodes.items x.opened.node ≡ place
+  pub none_below : slice_index last.nodes.items x.opened.node ≡ level
   pub fresh : slice_index last.nodes.items new.node ≡ 0
 
 -- A node is not special, and neither it nor the next one below it is open again below.
-pub record CanPass (last : LastPlaces) (items : List KeptNode) (index : ℕ) : Type 0 where
+pub record CanPass (last : LastLevels) (items : List KeptNode) (index : ℕ) : Type 0 where
   pub within : index + 1 < length items
   pub plain : is_special (tag_of (slice_index (names_in (map opened_by items)) index)) ≡ false
   pub upper : slice_index last.nodes.items (slice_index (nodes_in (map opened_by items)) index) ≡ index + 1

@@ -22,7 +22,7 @@ module _ {N M : Type 0} (tag : N → Tag) (tag' : M → Tag) (same : N → N →
   -- the same answer.
   pub record StackKnowsNoNames (g : N → M) : Type 0 where
     pub contains : (n : ℕ) (s : List (OpenNode N)) → is_open n (spelled_stack g s) ≡ is_open n s
-    pub place : (n : ℕ) (s : List (OpenNode N)) → position (is_node n) (spelled_stack g s) ≡ position (is_node n) s
+    pub position_is : (n : ℕ) (s : List (OpenNode N)) → position (is_node n) (spelled_stack g s) ≡ position (is_node n) s
     pub get : (up : ℕ) (s : List (OpenNode N)) → slice_get (spelled_stack g s) up ≡ option_map (spelled_open g) (slice_get s up)
     pub from_top : (down : ℕ) (s : List (OpenNode N)) → slice_get (reverse (spelled_stack g s)) down ≡ option_map (spelled_open g) (slice_get (reverse s) down)
     pub nearest : (a : N) (s : List (OpenNode N)) → find (is_named same' (g a)) (spelled_stack g s) ≡ option_map (spelled_open g) (find (is_named same a) s)

@@ -7,7 +7,7 @@ use Rattle.hopen.specs.declared.stack.OpenStack.TheInside.{Inside}
 abbrev pub open_nodes_of : Inside → OpenNodes ℕ
 open_nodes_of s = record { limit = s.limit; stack = stack_of s.items.items }
 
--- no more nodes are open than may be, and the kept places are theirs
+-- no more nodes are open than may be, and the kept levels are theirs
 pub record IsStanding (s : Inside) : Type 0 where
   pub within : length s.items.items ≤ s.limit
   pub stands : Stands s.last s.items.items

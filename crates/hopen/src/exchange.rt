@@ -7,29 +7,29 @@ ghost use Rattle.hchain.specs.Nearest.{put_before, without};
 ghost use Rattle.hopen.specs.Vocabulary.{is_node, is_open, is_special, names_in, nodes_in, open_of, opened_by, same_name_of, same_node_of, sets_at, stack_of};
 ghost use Rattle.hopen.specs.Vocabulary.{swap_with_next, tag_of, AreAlikeButNames, AreAsLong, CanPass, HasRoom, IsHeld, IsLinked, KeepSets, Stands};
 
-use crate::kept::{KeptNode, LastPlaces, hint, insert, remove_run, replace, sets_from};
+use crate::kept::{KeptNode, LastLevels, hint, insert, remove_run, replace, sets_from};
 use crate::stack::Open;
 use hnodes::NodeId;
 use names::NameId;
 
-/// The place of the next node below an index that has the same name; 0 if there is none. It takes constant time where the item knows it.
+/// The level of the next node below an index that has the same name; 0 if there is none. It takes constant time where the item knows it.
 fn next_of_name(names: &[u32], items: &[KeptNode], index: usize) -> u32
     requires linked { IsLinked names.now (names_in (map opened_by items.now)) (map same_name_of items.now) }
-    requires places { length items.now < 2 ^ 32 }
+    requires levels { length items.now < 2 ^ 32 }
     requires within { index < length items.now }
     ensures { IsHeld names.now (map same_name_of items.now) (slice_index (names_in (map opened_by items.now)) index) (index + 1) result }
 {
     let item = items[index];
-    let place = index as u32 + 1;
+    let level = index as u32 + 1;
     if item.next_name > 0
         && item.next_name as usize <= items.len()
-        && items[item.next_name as usize - 1].same_name == place
+        && items[item.next_name as usize - 1].same_name == level
     {
         return item.next_name;
     }
     let mut next = 0;
     let mut before = names[item.opened.name.index()];
-    while before > place {
+    while before > level {
         next = before;
         before = items[before as usize - 1].same_name;
     }
@@ -50,26 +50,26 @@ fn link(items: &mut [KeptNode], index: usize, same_name: u32, next_name: u32)
     };
 }
 
-/// Changes the place that the item at a place keeps for its name, or where that is 0, the table.
-fn keep(names: &mut [u32], items: &mut [KeptNode], name: NameId, next: u32, place: u32)
+/// Changes the level that the item at a level keeps for its name, or where that is 0, the table.
+fn keep(names: &mut [u32], items: &mut [KeptNode], name: NameId, next: u32, level: u32)
     requires name_in { name < length names.old }
     requires within { next ≤ length items.old }
-    ensures table { (k : ℕ) → slice_index names.new k ≡ (if next == 0 && k == name then place else slice_index names.old k) }
-    ensures befores { (j : ℕ) → slice_index (map same_name_of items.new) j ≡ (if next == suc j then place else slice_index (map same_name_of items.old) j) }
+    ensures table { (k : ℕ) → slice_index names.new k ≡ (if next == 0 && k == name then level else slice_index names.old k) }
+    ensures befores { (j : ℕ) → slice_index (map same_name_of items.new) j ≡ (if next == suc j then level else slice_index (map same_name_of items.old) j) }
     ensures rest { AreAlikeButNames items.new items.old }
 {
     if next > 0 {
         let item = items[next as usize - 1];
-        link(items, next as usize - 1, place, item.next_name);
+        link(items, next as usize - 1, level, item.next_name);
     } else {
-        names[name.index()] = place;
+        names[name.index()] = level;
     }
 }
 
 /// Makes what is kept of the names of a node and the one right below it right for when the two have changed places.
 fn swap_names(names: &mut [u32], items: &mut [KeptNode], index: usize)
     requires linked { IsLinked names.old (names_in (map opened_by items.old)) (map same_name_of items.old) }
-    requires places { length items.old < 2 ^ 32 }
+    requires levels { length items.old < 2 ^ 32 }
     requires within { index + 1 < length items.old }
     ensures linked { IsLinked names.new (swap_with_next index (names_in (map opened_by items.old))) (map same_name_of items.new) }
     ensures rest { AreAlikeButNames items.new items.old }
@@ -81,19 +81,19 @@ fn swap_names(names: &mut [u32], items: &mut [KeptNode], index: usize)
     }
     let upper_next = next_of_name(names, items, index);
     let lower_next = next_of_name(names, items, index + 1);
-    let place = index as u32 + 1;
-    keep(names, items, upper.opened.name, upper_next, place + 1);
-    keep(names, items, lower.opened.name, lower_next, place);
+    let level = index as u32 + 1;
+    keep(names, items, upper.opened.name, upper_next, level + 1);
+    keep(names, items, lower.opened.name, lower_next, level);
     link(items, index, lower.same_name, lower_next);
     link(items, index + 1, upper.same_name, upper_next);
-    hint(items, lower.same_name, place);
-    hint(items, upper.same_name, place + 1);
+    hint(items, lower.same_name, level);
+    hint(items, upper.same_name, level + 1);
 }
 
 /// Exchanges the nodes of an item and the one right below it, and all but what they keep of their names.
 fn swap_items(items: &mut [KeptNode], index: usize)
     requires within { index + 1 < length items.old }
-    requires places { length items.old < 2 ^ 32 }
+    requires levels { length items.old < 2 ^ 32 }
     requires sets { KeepSets (map opened_by items.old) (map sets_at items.old) }
     requires plain { is_special (tag_of (slice_index (names_in (map opened_by items.old)) index)) ≡ false }
     requires fits { slice_index (nodes_in (map opened_by items.old)) (index + 1) + 1 < 2 ^ 32 }
@@ -124,9 +124,9 @@ fn swap_items(items: &mut [KeptNode], index: usize)
 }
 
 /// Exchanges a node that is not special and the one right below it. Neither is open further below.
-fn swap(last: &mut LastPlaces, items: &mut [KeptNode], index: usize)
+fn swap(last: &mut LastLevels, items: &mut [KeptNode], index: usize)
     requires stands { Stands last.old items.old }
-    requires places { length items.old < 2 ^ 32 }
+    requires levels { length items.old < 2 ^ 32 }
     requires can_pass { CanPass last.old items.old index }
     ensures stands { Stands last.new items.new }
     ensures opened { map opened_by items.new ≡ swap_with_next index (map opened_by items.old) }
@@ -134,15 +134,15 @@ fn swap(last: &mut LastPlaces, items: &mut [KeptNode], index: usize)
 {
     let upper = items[index];
     let lower = items[index + 1];
-    let place = index as u32 + 1;
+    let level = index as u32 + 1;
     swap_names(&mut last.names, items, index);
-    last.nodes[upper.opened.node.index()] = place + 1;
-    last.nodes[lower.opened.node.index()] = place;
+    last.nodes[upper.opened.node.index()] = level + 1;
+    last.nodes[lower.opened.node.index()] = level;
     swap_items(items, index);
 }
 
 /// Whether a node can pass the one right below it.
-fn can_pass(last: &LastPlaces, items: &[KeptNode], index: usize) -> bool
+fn can_pass(last: &LastLevels, items: &[KeptNode], index: usize) -> bool
     requires { index + 1 < length items.now }
     ensures { (result ≡ true) → CanPass last.now items.now index }
 {
@@ -158,9 +158,9 @@ fn can_pass(last: &LastPlaces, items: &[KeptNode], index: usize) -> bool
 }
 
 /// Moves a node down to another index, or up to the first node that it cannot pass, and returns where it then is.
-fn sink(last: &mut LastPlaces, items: &mut [KeptNode], from: usize, to: usize) -> usize
+fn sink(last: &mut LastLevels, items: &mut [KeptNode], from: usize, to: usize) -> usize
     requires stands { Stands last.old items.old }
-    requires places { length items.old < 2 ^ 32 }
+    requires levels { length items.old < 2 ^ 32 }
     requires from { from < length items.old }
     requires to { to < length items.old }
     ensures stands { Stands last.new items.new }
@@ -179,7 +179,7 @@ fn sink(last: &mut LastPlaces, items: &mut [KeptNode], from: usize, to: usize) -
 /// Takes a node out and puts a new one right below another, by a pass over those from the one down to the other, where the one can
 /// pass them.
 pub(crate) fn exchange(
-    last: &mut LastPlaces,
+    last: &mut LastLevels,
     items: &mut Vec<KeptNode>,
     leaving: NodeId,
     above: NodeId,
@@ -188,7 +188,7 @@ pub(crate) fn exchange(
     requires stands { Stands last.old items.old.items }
     requires open { is_open leaving (stack_of items.old.items) ≡ true }
     requires room { vec_len items.old ≤ vec_capacity items.old }
-    requires places { length items.old.items < 2 ^ 32 }
+    requires levels { length items.old.items < 2 ^ 32 }
     requires new_in { HasRoom last.old new }
     ensures stands { Stands last.new items.new.items }
     ensures items { stack_of items.new.items ≡ put_before (is_node above) (open_of new) (without (is_node leaving) (stack_of items.old.items)) }
@@ -201,8 +201,8 @@ pub(crate) fn exchange(
         return;
     }
     remove_run(last, items, index, index + 1);
-    let place = last.of_node(above) as usize;
-    if place > 0 {
-        insert(last, items, place, new);
+    let level = last.of_node(above) as usize;
+    if level > 0 {
+        insert(last, items, level, new);
     }
 }

@@ -1,4 +1,4 @@
-//! The places that open nodes keep, so that no question has to search the stack.
+//! The levels that open nodes keep, so that no question has to search the stack.
 
 ghost use Rattle.std.specs.Prelude.{◌≡◌, true, suc, ℕ, ◌+◌, ◌<◌, ◌≤◌, ◌^◌, OnOk, OnErr, ◌∷◌, drop, insert, length, map, slice_index, slice_set, take};
 ghost use Rattle.std.specs.Prelude.{vec_capacity, vec_len, if◌then◌else◌};
@@ -13,7 +13,7 @@ use hnodes::NodeId;
 use names::NameId;
 use std::alloc::AllocError;
 
-/// An open node, and the places that are known of it. Places count from 1, the topmost; 0 is none.
+/// An open node, and the levels that are known of it. Levels count from 1, the topmost; 0 is none.
 #[derive(Clone, Copy)]
 pub(crate) struct KeptNode {
     pub(crate) opened: Open,
@@ -21,7 +21,7 @@ pub(crate) struct KeptNode {
     pub(crate) same_name: u32,
     /// Where the next node of the same name below it was last seen: it is there if the node there keeps this one as `same_name`.
     pub(crate) next_name: u32,
-    /// The nearest place above it where the same node is open.
+    /// The nearest level above it where the same node is open.
     pub(crate) same_node: u32,
     /// The nearest nodes of sets of names, from it on upwards.
     pub(crate) sets: SetNodes,
@@ -29,18 +29,18 @@ pub(crate) struct KeptNode {
 
 const _: () = prove!(std::mem::size_of::<KeptNode>() == 64);
 
-/// For each name, and each node, by its number: the nearest place where it is open, 0 if it is not.
+/// For each name, and each node, by its number: the nearest level where it is open, 0 if it is not.
 #[derive(Drop)]
-pub(crate) struct LastPlaces {
+pub(crate) struct LastLevels {
     pub(crate) names: Vec<u32>,
     pub(crate) nodes: Vec<u32>,
 }
 
-/// The place of a number; 0 if the table does not reach it.
-fn place_at(places: &[u32], number: usize) -> u32
-    ensures { result ≡ slice_index places.now number }
+/// The level of a number; 0 if the table does not reach it.
+fn level_at(levels: &[u32], number: usize) -> u32
+    ensures { result ≡ slice_index levels.now number }
 {
-    places.get(number).copied().unwrap_or(0)
+    levels.get(number).copied().unwrap_or(0)
 }
 
 /// How many numbers a table grows by at least: numbers mostly come in order, so the next ones have room then.
@@ -48,22 +48,22 @@ const GROWTH: usize = 64;
 
 /// Grows a table so that a number is in it. It stays shorter than 2³² entries.
 #[inline(always)]
-fn make_room(places: &mut Vec<u32>, number: usize) -> Result<(), AllocError>
-    ensures same { (k : ℕ) → slice_index places.new.items k ≡ slice_index places.old.items k }
-    ensures room { OnOk result (number < length places.new.items) }
-    ensures fits { length places.old.items < 2 ^ 32 → length places.new.items < 2 ^ 32 }
+fn make_room(levels: &mut Vec<u32>, number: usize) -> Result<(), AllocError>
+    ensures same { (k : ℕ) → slice_index levels.new.items k ≡ slice_index levels.old.items k }
+    ensures room { OnOk result (number < length levels.new.items) }
+    ensures fits { length levels.old.items < 2 ^ 32 → length levels.new.items < 2 ^ 32 }
 {
-    if number < places.len() {
+    if number < levels.len() {
         return Ok(());
     }
     if number > u32::MAX as usize - GROWTH {
         return Err(AllocError);
     }
-    places.resize(number + GROWTH, 0)
+    levels.resize(number + GROWTH, 0)
 }
 
 impl KeptNode {
-    /// An item whose places are not known yet.
+    /// An item whose levels are not known yet.
     pub(crate) fn new(opened: Open) -> Self
         ensures { result.opened ≡ opened }
     {
@@ -77,19 +77,19 @@ impl KeptNode {
     }
 }
 
-impl LastPlaces {
-    /// The nearest place of a name.
+impl LastLevels {
+    /// The nearest level of a name.
     pub(crate) fn of_name(&self, name: NameId) -> u32
         ensures { result ≡ slice_index self.now.names.items name }
     {
-        place_at(&self.names, name.index())
+        level_at(&self.names, name.index())
     }
 
-    /// The nearest place of a node.
+    /// The nearest level of a node.
     pub(crate) fn of_node(&self, node: NodeId) -> u32
         ensures { result ≡ slice_index self.now.nodes.items node }
     {
-        place_at(&self.nodes, node.index())
+        level_at(&self.nodes, node.index())
     }
 
     /// Makes room for a node and its name.
@@ -104,7 +104,7 @@ impl LastPlaces {
         make_room(&mut self.nodes, node.index())
     }
 
-    /// Writes the places of a node and of its name.
+    /// Writes the levels of a node and of its name.
     #[inline(always)]
     fn set(&mut self, opened: Open, of_name: u32, of_node: u32)
         requires { HasRoom self.old opened }
@@ -150,18 +150,18 @@ pub(crate) fn sets_from(items: &[KeptNode], index: usize, name: NameId, node: No
     sets_above(items, index).with(name.tag(), node.index() as u32 + 1)
 }
 
-/// Notes where the next node of a name is, in the item at a place, if there is one.
+/// Notes where the next node of a name is, in the item at a level, if there is one.
 #[inline(always)]
-pub(crate) fn hint(items: &mut [KeptNode], place: u32, next: u32)
+pub(crate) fn hint(items: &mut [KeptNode], level: u32, next: u32)
     ensures { AreAlike items.new items.old }
 {
-    if place > 0 && place as usize <= items.len() {
-        items[place as usize - 1].next_name = next;
+    if level > 0 && level as usize <= items.len() {
+        items[level as usize - 1].next_name = next;
     }
 }
 
 /// Takes the items from an index on out of the tables, the last one first.
-fn unwind(last: &mut LastPlaces, items: &[KeptNode], from: usize)
+fn unwind(last: &mut LastLevels, items: &[KeptNode], from: usize)
     requires stands { Stands last.old items.now }
     requires within { from ≤ length items.now }
     ensures stands { Stands last.new (take from items.now) }
@@ -175,19 +175,19 @@ fn unwind(last: &mut LastPlaces, items: &[KeptNode], from: usize)
     }
 }
 
-/// Opens the node of the item at an index right below those above it: writes what the item keeps, and its place into the tables.
+/// Opens the node of the item at an index right below those above it: writes what the item keeps, and its level into the tables.
 #[inline(always)]
-fn open_at(last: &mut LastPlaces, items: &mut [KeptNode], index: usize)
+fn open_at(last: &mut LastLevels, items: &mut [KeptNode], index: usize)
     requires stands { Stands last.old (take index items.old) }
     requires within { index < length items.old }
     requires numbers { AreIn (length last.old.names.items) (length last.old.nodes.items) (drop index items.old) }
-    requires places { length items.old < 2 ^ 32 }
+    requires levels { length items.old < 2 ^ 32 }
     ensures stands { Stands last.new (take (index + 1) items.new) }
     ensures numbers { AreIn (length last.new.names.items) (length last.new.nodes.items) (drop (index + 1) items.new) }
     ensures same { map opened_by items.new ≡ map opened_by items.old }
     ensures tables { AreAsLong last.new last.old }
 {
-    let place = index as u32 + 1;
+    let level = index as u32 + 1;
     let opened = items[index].opened;
     // Taken apart for the prover alone (CONTRIBUTING.md, "Traps").
     let Open { node, name } = opened;
@@ -201,17 +201,17 @@ fn open_at(last: &mut LastPlaces, items: &mut [KeptNode], index: usize)
         same_node,
         sets,
     };
-    last.set(opened, place, place);
+    last.set(opened, level, level);
     items[index] = item;
-    hint(items, same_name, place);
+    hint(items, same_name, level);
 }
 
-/// Puts the items from an index on into the tables again, with the places that they have now.
-fn rewind(last: &mut LastPlaces, items: &mut [KeptNode], from: usize)
+/// Puts the items from an index on into the tables again, with the levels that they have now.
+fn rewind(last: &mut LastLevels, items: &mut [KeptNode], from: usize)
     requires stands { Stands last.old (take from items.old) }
     requires within { from ≤ length items.old }
     requires numbers { AreIn (length last.old.names.items) (length last.old.nodes.items) (drop from items.old) }
-    requires places { length items.old < 2 ^ 32 }
+    requires levels { length items.old < 2 ^ 32 }
     ensures stands { Stands last.new items.new }
     ensures same { map opened_by items.new ≡ map opened_by items.old }
     ensures tables { AreAsLong last.new last.old }
@@ -226,12 +226,12 @@ fn rewind(last: &mut LastPlaces, items: &mut [KeptNode], from: usize)
 /// Pushes an item for a node. On an error the items stay; the tables may have grown.
 #[inline(always)]
 pub(crate) fn push(
-    last: &mut LastPlaces,
+    last: &mut LastLevels,
     items: &mut Vec<KeptNode>,
     opened: Open,
 ) -> Result<(), AllocError>
     requires stands { Stands last.old items.old.items }
-    requires places { length items.old.items + 1 < 2 ^ 32 }
+    requires levels { length items.old.items + 1 < 2 ^ 32 }
     ensures stands { Stands last.new items.new.items }
     ensures ok { OnOk result (stack_of items.new.items ≡ open_of opened ∷ stack_of items.old.items) }
     ensures err { OnErr result (items.new.items ≡ items.old.items) }
@@ -244,7 +244,7 @@ pub(crate) fn push(
 }
 
 /// Removes the last item and returns its node.
-pub(crate) fn pop(last: &mut LastPlaces, items: &mut Vec<KeptNode>) -> Option<Open>
+pub(crate) fn pop(last: &mut LastLevels, items: &mut Vec<KeptNode>) -> Option<Open>
     requires { Stands last.old items.old.items }
     ensures stands { Stands last.new items.new.items }
     ensures popped { option_map open_of result ≡ current (stack_of items.old.items) }
@@ -255,12 +255,12 @@ pub(crate) fn pop(last: &mut LastPlaces, items: &mut Vec<KeptNode>) -> Option<Op
     Some(item.opened)
 }
 
-/// Removes the items from an index up to another one, which stays, and updates the places below them.
-pub(crate) fn remove_run(last: &mut LastPlaces, items: &mut Vec<KeptNode>, from: usize, to: usize)
+/// Removes the items from an index up to another one, which stays, and updates the levels below them.
+pub(crate) fn remove_run(last: &mut LastLevels, items: &mut Vec<KeptNode>, from: usize, to: usize)
     requires stands { Stands last.old items.old.items }
     requires order { from ≤ to }
     requires within { to ≤ length items.old.items }
-    requires places { length items.old.items < 2 ^ 32 }
+    requires levels { length items.old.items < 2 ^ 32 }
     ensures stands { Stands last.new items.new.items }
     ensures items { map opened_by items.new.items ≡ map opened_by (remove_range items.old.items from to) }
     ensures tables { AreAsLong last.new last.old }
@@ -276,31 +276,31 @@ pub(crate) fn remove_run(last: &mut LastPlaces, items: &mut Vec<KeptNode>, from:
 
 /// Whether a new node can take the place of one with nothing below looked at: the name is the same and not special, the node is open
 /// nowhere else, and the new one nowhere.
-fn can_give_way(last: &LastPlaces, item: &KeptNode, place: u32, name: NameId, node: NodeId) -> bool
-    ensures { (result ≡ true) → CanGiveWay last.now item.now place (record { node = node; name = name }) }
+fn can_give_way(last: &LastLevels, item: &KeptNode, level: u32, name: NameId, node: NodeId) -> bool
+    ensures { (result ≡ true) → CanGiveWay last.now item.now level (record { node = node; name = name }) }
 {
     item.opened.name == name
         && !name.tag().is_special()
         && item.same_node == 0
-        && last.of_node(item.opened.node) == place
+        && last.of_node(item.opened.node) == level
         && last.of_node(node) == 0
 }
 
 /// Puts a new node in the place of one. It takes constant time where the new node has the name of the old one, which is not special and
 /// open nowhere else; otherwise it updates what is kept below it.
-pub(crate) fn replace(last: &mut LastPlaces, items: &mut [KeptNode], index: usize, new: Open)
+pub(crate) fn replace(last: &mut LastLevels, items: &mut [KeptNode], index: usize, new: Open)
     requires stands { Stands last.old items.old }
     requires within { index < length items.old }
-    requires places { length items.old < 2 ^ 32 }
+    requires levels { length items.old < 2 ^ 32 }
     requires new_in { HasRoom last.old new }
     ensures stands { Stands last.new items.new }
     ensures items { map opened_by items.new ≡ slice_set (map opened_by items.old) index (open_of new) }
 {
     let item = items[index];
-    let place = index as u32 + 1;
-    if can_give_way(last, &item, place, new.name, new.node) {
+    let level = index as u32 + 1;
+    if can_give_way(last, &item, level, new.name, new.node) {
         last.nodes[item.opened.node.index()] = 0;
-        last.nodes[new.node.index()] = place;
+        last.nodes[new.node.index()] = level;
         items[index] = KeptNode {
             opened: new,
             ..item
@@ -312,12 +312,12 @@ pub(crate) fn replace(last: &mut LastPlaces, items: &mut [KeptNode], index: usiz
     }
 }
 
-/// Inserts a node at an index, and updates the places below it.
-pub(crate) fn insert(last: &mut LastPlaces, items: &mut Vec<KeptNode>, index: usize, new: Open)
+/// Inserts a node at an index, and updates the levels below it.
+pub(crate) fn insert(last: &mut LastLevels, items: &mut Vec<KeptNode>, index: usize, new: Open)
     requires stands { Stands last.old items.old.items }
     requires within { index ≤ length items.old.items }
     requires room { vec_len items.old < vec_capacity items.old }
-    requires places { length items.old.items + 1 < 2 ^ 32 }
+    requires levels { length items.old.items + 1 < 2 ^ 32 }
     requires new_in { HasRoom last.old new }
     ensures stands { Stands last.new items.new.items }
     ensures items { map opened_by items.new.items ≡ insert (map opened_by items.old.items) index (open_of new) }

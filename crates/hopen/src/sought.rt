@@ -5,7 +5,7 @@ ghost use Rattle.std.specs.List.{find};
 ghost use Rattle.hchain.specs.Chains.{last_up};
 ghost use Rattle.hopen.specs.Vocabulary.{holds, is_in, is_special, last_place, names_in, opened_by, stack_of, tag_of, Stands};
 
-use crate::kept::{KeptNode, LastPlaces, sets_above};
+use crate::kept::{KeptNode, LastLevels, sets_above};
 use crate::name_sets::{NameSet, SetNodes};
 use crate::scope::Group;
 use crate::stack::Open;
@@ -30,26 +30,26 @@ pub(crate) fn first_special(items: &[KeptNode]) -> Option<Open>
         .find(|open| open.name.tag().is_special())
 }
 
-/// The place of the nearest node whose name is in a set, of those down to a place, by a look at each.
+/// The level of the nearest node whose name is in a set, of those down to a level, by a look at each.
 #[inline(never)]
 fn search(items: &[KeptNode], set: NameSet, from: u32) -> u32
     requires { from ≤ length items.now }
     ensures { result ≡ last_up (holds set) (names_in (map opened_by items.now)) from }
 {
-    let mut place = from;
-    while place > 0 {
-        let tag = items[place as usize - 1].opened.name.tag();
+    let mut level = from;
+    while level > 0 {
+        let tag = items[level as usize - 1].opened.name.tag();
         if SetNodes::none().with(tag, 1).of(set) > 0 {
             break;
         }
-        place -= 1;
+        level -= 1;
     }
-    place
+    level
 }
 
-/// The place of the nearest node whose name is in a set; 0 if none is open. It searches only where that node is open twice.
+/// The level of the nearest node whose name is in a set; 0 if none is open. It searches only where that node is open twice.
 #[inline(always)]
-pub(crate) fn set_place(last: &LastPlaces, items: &[KeptNode], set: NameSet) -> u32
+pub(crate) fn set_level(last: &LastLevels, items: &[KeptNode], set: NameSet) -> u32
     requires { Stands last.now items.now }
     ensures { result ≡ last_place (is_in set) (stack_of items.now) }
 {
@@ -57,9 +57,9 @@ pub(crate) fn set_place(last: &LastPlaces, items: &[KeptNode], set: NameSet) -> 
     if node == 0 {
         return 0;
     }
-    let place = last.nodes[node - 1];
-    if items[place as usize - 1].same_node > 0 {
-        return search(items, set, place);
+    let level = last.nodes[node - 1];
+    if items[level as usize - 1].same_node > 0 {
+        return search(items, set, level);
     }
-    place
+    level
 }

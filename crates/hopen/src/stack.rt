@@ -10,10 +10,10 @@ ghost use Rattle.hopen.specs.Vocabulary.{is_node, is_of, is_open, is_sought, is_
 ghost use Rattle.hopen.specs.Vocabulary.{tag_of, Default, Memory, TooDeep};
 
 use crate::exchange::exchange;
-use crate::kept::{KeptNode, LastPlaces, insert, pop, push, remove_run, replace, sets_above};
+use crate::kept::{KeptNode, LastLevels, insert, pop, push, remove_run, replace, sets_above};
 use crate::name_sets::NameSet;
 use crate::scope::{Group, Scope};
-use crate::sought::{Sought, first_special, set_place};
+use crate::sought::{Sought, first_special, set_level};
 use hnodes::NodeId;
 use names::{NameId, Refusal};
 use std::alloc::{AllocError, Global};
@@ -32,13 +32,13 @@ pub struct Open {
 /// for questions of scope or groups that come to a node that is open twice. A push and a pop take the same time at any depth,
 /// amortized. Where the names are the same and not special, `exchange` takes a step for each node from the one that leaves down to the
 /// other, and nothing below, and `replace` takes the same time at any depth. Else these two, and `remove`, `remove_run` and
-/// `insert_below` always, take a step for each node below. An open node takes 64 bytes; each of the two tables of places takes 4 bytes
+/// `insert_below` always, take a step for each node below. An open node takes 64 bytes; each of the two tables of levels takes 4 bytes
 /// for each number up to the greatest one. `push`, `replace`, `insert_below` and `exchange` alone allocate, and on an error they change
 /// nothing.
 #[derive(Drop)]
 pub struct OpenStack {
     items: Vec<KeptNode>,
-    last: LastPlaces,
+    last: LastLevels,
     limit: u32,
 }
 
@@ -65,7 +65,7 @@ impl OpenStack {
     {
         OpenStack {
             items: Vec::new(alloc),
-            last: LastPlaces {
+            last: LastLevels {
                 names: Vec::new(alloc),
                 nodes: Vec::new(alloc),
             },
@@ -187,7 +187,7 @@ impl OpenStack {
     pub fn contains(&self, node: NodeId) -> bool
         ensures { result ≡ is_open node self.now.stack }
     {
-        self.place(node).is_some()
+        self.position(node).is_some()
     }
 
     /// Whether an element of a name is in a scope (`#has-an-element-in-the-specific-scope`): going up from the current node, it is met
@@ -263,19 +263,19 @@ impl OpenStack {
     }
 
     /// How many open nodes are below a node; `None` if it is not open.
-    pub fn place(&self, node: NodeId) -> Option<usize>
-        ensures place { result ≡ position (is_node node) self.now.stack }
+    pub fn position(&self, node: NodeId) -> Option<usize>
+        ensures found { result ≡ position (is_node node) self.now.stack }
         ensures within { IfSome result (λ up. up < length self.now.stack) }
     {
-        self.place_of(Sought::Node(node))
+        self.position_of(Sought::Node(node))
     }
 
     /// How many open nodes are below the nearest one of a group; `None` if there is none.
-    pub fn group_place(&self, group: Group) -> Option<usize>
-        ensures place { result ≡ position (is_of tag_of group) self.now.stack }
+    pub fn group_position(&self, group: Group) -> Option<usize>
+        ensures found { result ≡ position (is_of tag_of group) self.now.stack }
         ensures within { IfSome result (λ up. up < length self.now.stack) }
     {
-        self.place_of(Sought::Group(group))
+        self.position_of(Sought::Group(group))
     }
 
     /// How many open nodes are above a node; 0 if it is not open.
@@ -289,7 +289,7 @@ impl OpenStack {
     pub fn nearest(&self, name: NameId) -> Option<Open>
         ensures { option_map open_of result ≡ find (is_named nat_eq name) self.now.stack }
     {
-        self.get(self.place_of(Sought::Name(name))?)
+        self.get(self.position_of(Sought::Name(name))?)
     }
 
     /// The open node right above a node; `None` if the node is the topmost or not open.
@@ -308,7 +308,7 @@ impl OpenStack {
     pub fn furthest_block(&self, formatting: NodeId) -> Option<Open>
         ensures { option_map open_of result ≡ furthest_block_of tag_of formatting self.now.stack }
     {
-        let below = self.place(formatting).unwrap_or(self.items.len());
+        let below = self.position(formatting).unwrap_or(self.items.len());
         first_special(&self.items[self.items.len() - below..])
     }
 
@@ -322,22 +322,22 @@ impl OpenStack {
         Ok(())
     }
 
-    /// The place of the nearest node that is sought, from 1, the topmost; 0 if none is open.
+    /// The level of the nearest node that is sought, from 1, the topmost; 0 if none is open.
     #[inline(always)]
-    fn last_place(&self, sought: Sought) -> u32
+    fn last_level(&self, sought: Sought) -> u32
         ensures { result ≡ last_place (is_sought sought) self.now.stack }
     {
         match sought {
             Sought::Node(node) => self.last.of_node(node),
             Sought::Name(name) => self.last.of_name(name),
-            Sought::Group(group) => set_place(&self.last, &self.items, NameSet::Group(group)),
+            Sought::Group(group) => set_level(&self.last, &self.items, NameSet::Group(group)),
         }
     }
 
     /// How many open nodes are below the nearest that is sought; None if there is none.
     #[inline(always)]
-    fn place_of(&self, sought: Sought) -> Option<usize>
-        ensures place { result ≡ position (is_sought sought) self.now.stack }
+    fn position_of(&self, sought: Sought) -> Option<usize>
+        ensures found { result ≡ position (is_sought sought) self.now.stack }
         ensures within { IfSome result (λ up. up < length self.now.stack) }
     {
         let index = self.index(sought)?;
@@ -351,11 +351,11 @@ impl OpenStack {
             (λ i. position (is_sought sought) self.now.stack ≡ Some (length self.now.stack - 1 - i)) }
         ensures within { IfSome result (λ i. i < length self.now.stack) }
     {
-        let place = self.last_place(sought) as usize;
-        if place == 0 {
+        let level = self.last_level(sought) as usize;
+        if level == 0 {
             return None;
         }
-        Some(place - 1)
+        Some(level - 1)
     }
 
     /// Pops nodes up to and including the nearest that is sought; all of them if there is none.
@@ -374,7 +374,7 @@ impl OpenStack {
     fn is_nearer(&self, sought: Sought, stops: NameSet) -> bool
         ensures { result ≡ is_in_scope (is_in stops) (is_sought sought) self.now.stack }
     {
-        let place = self.last_place(sought);
-        place > 0 && place >= set_place(&self.last, &self.items, stops)
+        let level = self.last_level(sought);
+        level > 0 && level >= set_level(&self.last, &self.items, stops)
     }
 }

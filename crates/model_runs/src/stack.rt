@@ -47,7 +47,7 @@ fn call_of_node(stack: &mut OpenStack, hand: &mut Hand, call: &str, line: &str) 
         "block" => out.open(stack.furthest_block(node)),
         "group" => {
             out.flag(stack.group_in_scope(scope(word(line, 3)), group));
-            out.place(stack.group_place(group));
+            out.place(stack.group_position(group));
         }
         _ => out.say("-"),
     }
@@ -73,7 +73,7 @@ fn say_all(stack: &OpenStack, out: &mut Answers) {
 
 /// `place`, `contains`, `depth`, `above` and `node_in_scope`.
 fn say_node(stack: &OpenStack, node: NodeId, out: &mut Answers) {
-    out.place(stack.place(node));
+    out.place(stack.position(node));
     out.flag(stack.contains(node));
     out.number(stack.depth(node));
     out.open(stack.above(node));

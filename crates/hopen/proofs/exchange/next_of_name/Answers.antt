@@ -3,7 +3,7 @@ use Rattle.hopen.proofs.Projected.{length-names, name-at, same_name-at}
 use Rattle.hopen.proofs.Swapped.{Walks, held-at, held-next, walk-start, walk-up}
 use Rattle.hopen.proofs.exchange.next_of_name.Goals as goal
 
--- a place in a table that is one
+-- a level in a table that is one
 in-table : (t : List ℕ) (k : ℕ) → 0 < get_or t k 0 → k < length t
 in-table t k h = elim (cases_lt k (length t)) [ inl less ↦ less | inr past ↦ absurd (omega (arith, get_or_past t k 0 past)) ]
 

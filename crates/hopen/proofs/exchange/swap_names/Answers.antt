@@ -1,9 +1,9 @@
-use Rattle.hopen.proofs.Names.{◌≡◌, ◌≢◌, ℕ, zero, suc, ◌+◌, ◌<◌, ◌≤◌, ◌&&◌, eqb, cond, List, length, map, get_or, set, inl, inr, refl, sym, ◌∙◌, ap, subst, arith, cases_lt, eqb-true, eqb-false, get_or-set_same, get_or-set_other, get_or_past, length-map, length-set, IsHeld, IsLinked, names_in, opened_by, same_name_of, place_after_swap, KeptNode}
+use Rattle.hopen.proofs.Names.{◌≡◌, ◌≢◌, ℕ, zero, suc, ◌+◌, ◌<◌, ◌≤◌, ◌&&◌, eqb, cond, List, length, map, get_or, set, inl, inr, refl, sym, ◌∙◌, ap, subst, arith, cases_lt, eqb-true, eqb-false, get_or-set_same, get_or-set_other, get_or_past, length-map, length-set, IsHeld, IsLinked, names_in, opened_by, same_name_of, level_after_swap, KeptNode}
 use Rattle.hopen.proofs.Projected.{length-names, name-at, same_name-at}
 use Rattle.hopen.proofs.Swapped.{linked-swapped, swapped-same, moved-table, moved-list, walk-in}
 use Rattle.hopen.proofs.exchange.swap_names.Goals as goal
 
--- one that keeps a place is in the list
+-- one that keeps a level is in the list
 held-within : (t bs : List ℕ) (a p n : ℕ) → 0 < p → IsHeld t bs a p n → n ≤ length bs
 held-within t bs a p zero h held = omega arith
 held-within t bs a p (suc j) h held = elim (cases_lt j (length bs)) [ inl less ↦ omega arith | inr past ↦ absurd (omega (arith, held.there j refl, get_or_past bs j 0 past)) ]
@@ -58,10 +58,10 @@ returns-clause-linked c =
     let differ : get_or ns i 0 ≢ get_or ns (suc i) 0 = λ e. eqb-false _ _ (sym c.eq.ensures ∙ c.if-eq.false) (sym nx ∙ e ∙ ap (λ k. get_or ns k 0) (sym next) ∙ ny) in
     let held-upper : IsHeld t bs x.opened.name (i + 1) c.next_of_name-upper_next.result = subst (λ a. IsHeld t bs a (i + 1) c.next_of_name-upper_next.result) nx c.next_of_name-upper_next.ensures in
     let held-lower : IsHeld t bs y.opened.name (i + 1 + 1) c.next_of_name-lower_next.result = subst (λ a. IsHeld t bs a (i + 1 + 1) c.next_of_name-lower_next.result) ny c.next_of_name-lower_next.ensures in
-    let table : (k : ℕ) → get_or c.keep-2.new.names k 0 ≡ place_after_swap i (get_or t k 0) = λ k. c.keep-2.ensures.table k ∙ ap (λ v. cond (eqb c.next_of_name-lower_next.result 0 && eqb k y.opened.name) (i + 1) v) (c.keep.ensures.table k) ∙ moved-table t bs i x.opened.name y.opened.name c.next_of_name-upper_next.result c.next_of_name-lower_next.result (i + 1) (i + 1 + 1) next (omega arith) held-upper held-lower k in
-    let list : (j : ℕ) → get_or ks j 0 ≡ place_after_swap i (get_or bs j 0) = λ j. c.keep-2.ensures.befores j ∙ ap (λ v. cond (eqb c.next_of_name-lower_next.result (suc j)) (i + 1) v) (c.keep.ensures.befores j) ∙ moved-list t bs i x.opened.name y.opened.name c.next_of_name-upper_next.result c.next_of_name-lower_next.result (i + 1) (i + 1 + 1) next (omega arith) held-upper held-lower j in
+    let table : (k : ℕ) → get_or c.keep-2.new.names k 0 ≡ level_after_swap i (get_or t k 0) = λ k. c.keep-2.ensures.table k ∙ ap (λ v. cond (eqb c.next_of_name-lower_next.result 0 && eqb k y.opened.name) (i + 1) v) (c.keep.ensures.table k) ∙ moved-table t bs i x.opened.name y.opened.name c.next_of_name-upper_next.result c.next_of_name-lower_next.result (i + 1) (i + 1 + 1) next (omega arith) held-upper held-lower k in
+    let list : (j : ℕ) → get_or ks j 0 ≡ level_after_swap i (get_or bs j 0) = λ j. c.keep-2.ensures.befores j ∙ ap (λ v. cond (eqb c.next_of_name-lower_next.result (suc j)) (i + 1) v) (c.keep.ensures.befores j) ∙ moved-list t bs i x.opened.name y.opened.name c.next_of_name-upper_next.result c.next_of_name-lower_next.result (i + 1) (i + 1 + 1) next (omega arith) held-upper held-lower j in
     let written : cs ≡ set (set ks i y.same_name) (i + 1) x.same_name = c.hint-2.ensures.same_names ∙ c.hint.ensures.same_names ∙ c.link-2.ensures.same_names ∙ ap (λ (l : List ℕ). set l (i + 1) x.same_name) c.link.ensures.same_names in
     let upper : get_or cs i 0 ≡ get_or bs (suc i) 0 = let ne : i ≢ i + 1 = omega arith in ap (λ (l : List ℕ). get_or l i 0) written ∙ get_or-set_other (set ks i y.same_name) (i + 1) i x.same_name 0 ne ∙ get_or-set_same ks i y.same_name 0 (omega (arith, c.requires.within, long)) ∙ ap same_name_of c.index-items-index-2.is ∙ sym (same_name-at items (i + 1) y c.requires.within) ∙ ap (λ k. get_or bs k 0) next in
     let lower : get_or cs (suc i) 0 ≡ get_or bs i 0 = ap (λ k. get_or cs k 0) (sym next) ∙ ap (λ (l : List ℕ). get_or l (i + 1) 0) written ∙ get_or-set_same (set ks i y.same_name) (i + 1) x.same_name 0 (omega (arith, c.requires.within, long, length-set ks i y.same_name)) ∙ ap same_name_of c.index-items-index.is ∙ sym (same_name-at items i x (omega (arith, c.requires.within))) in
-    let rest : (j : ℕ) → j ≢ i → j ≢ suc i → get_or cs j 0 ≡ place_after_swap i (get_or bs j 0) = λ j ne nf. let ng : j ≢ i + 1 = omega arith in ap (λ (l : List ℕ). get_or l j 0) written ∙ get_or-set_other (set ks i y.same_name) (i + 1) j x.same_name 0 ng ∙ get_or-set_other ks i j y.same_name 0 ne ∙ list j in
+    let rest : (j : ℕ) → j ≢ i → j ≢ suc i → get_or cs j 0 ≡ level_after_swap i (get_or bs j 0) = λ j ne nf. let ng : j ≢ i + 1 = omega arith in ap (λ (l : List ℕ). get_or l j 0) written ∙ get_or-set_other (set ks i y.same_name) (i + 1) j x.same_name 0 ng ∙ get_or-set_other ks i j y.same_name 0 ne ∙ list j in
     linked-swapped t ns bs c.requires.linked i within differ c.keep-2.new.names cs table upper lower rest

@@ -1,11 +1,11 @@
 use Rattle.hopen.proofs.Names.{◌-◌, refl, map-set_same, opened_by, same_name_of, same_node_of, sets_at}
 use Rattle.hopen.proofs.kept.hint.Goals as goal
 
-pub returns-then-place-items : goal.returns-then-place-items
-returns-then-place-items c =
+pub returns-then-level-items : goal.returns-then-level-items
+returns-then-level-items c =
     let items = c.args.items.now in
-    let i = c.args.place - 1 in
-    let x = c.index-items-place.result in
+    let i = c.args.level - 1 in
+    let x = c.index-items-level.result in
     record {
       opened = map-set_same opened_by items i _ x refl;
       same_names = map-set_same same_name_of items i _ x refl;

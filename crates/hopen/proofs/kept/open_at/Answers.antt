@@ -28,7 +28,7 @@ returns c =
     let last = c.args.last.now in
     let next = c.set.new.self in
     let within : i < length items = omega arith in
-    let place : i + 1 ≡ suc (length (take i items)) = omega (arith, length-take-le i items) in
+    let level : i + 1 ≡ suc (length (take i items)) = omega (arith, length-take-le i items) in
     let taken : take (i + 1) (set items i x) ≡ take i items ++ x ∷ [] = take_more_set items i x within in
     let rest = numbers-less items (i + 1) i y (omega arith) within c.index-items-index.is (length last.names.items) (length last.nodes.items) c.requires.numbers in
     let room = opened-in items i y (length last.names.items) (length last.nodes.items) within c.requires.numbers in
@@ -42,7 +42,7 @@ returns c =
     let keeps = keeps-taken items i _ c.sets_from-sets.result (omega arith) c.sets_from-sets.ensures in
     record {
       stands = stands-alike next (take (i + 1) c.hint.new.items) (take (i + 1) (set items i x)) (alike-take next c.hint.new.items (set items i x) c.hint.ensures (i + 1))
-          (subst (λ (xs : List KeptNode). Stands next xs) (sym taken) (stands-more (take i items) x last (i + 1) place c.requires.stands room.0 room.1 same_name same_node keeps next c.set.ensures.names c.set.ensures.nodes));
+          (subst (λ (xs : List KeptNode). Stands next xs) (sym taken) (stands-more (take i items) x last (i + 1) level c.requires.stands room.0 room.1 same_name same_node keeps next c.set.ensures.names c.set.ensures.nodes));
       numbers = numbers-drop_alike (i + 1) c.hint.new.items items _ _ (c.hint.ensures.opened ∙ written) (rw (names, nodes) rest.2);
       same = c.hint.ensures.opened ∙ written;
       tables = record { names = names; nodes = nodes };

@@ -29,5 +29,5 @@ returns-then-from-to-clause-items c = grind (arith, common_steps)
 pub rewind-requires-clause-within : goal.rewind-requires-clause-within
 rewind-requires-clause-within c = grind (arith, common_steps)
 
-pub rewind-requires-clause-places : goal.rewind-requires-clause-places
-rewind-requires-clause-places c = grind (arith, common_steps)
+pub rewind-requires-clause-levels : goal.rewind-requires-clause-levels
+rewind-requires-clause-levels c = grind (arith, common_steps)

@@ -19,5 +19,5 @@ returns c =
     let f = found c.self.inside c.args.self.now (is_node c.args.node) c.in_ok-index.index c.self.view_is c.in_ok-index.ensures.found c.in_ok-index.ensures.within in
     let sum : c.in_ok-index.index - 1 + suc (suc f.up) ≡ length items = omega (arith, f.sum) in
     ap (λ (x : KeptNode). Some (opened_by x)) c.index-2.ensures
-    ∙ sym (ap current (words (is_node c.args.node) (stack_of items) f.up f.place).after_is ∙ current-drop (suc f.up) (stack_of items) ∙ slice_get_nearest opened_by items (c.in_ok-index.index - 1) (suc f.up) c.index-2.result.now sum)
+    ∙ sym (ap current (words (is_node c.args.node) (stack_of items) f.up f.position_is).after_is ∙ current-drop (suc f.up) (stack_of items) ∙ slice_get_nearest opened_by items (c.in_ok-index.index - 1) (suc f.up) c.index-2.result.now sum)
     ∙ ap (λ (n : OpenNodes ℕ). current (above c.args.node n.stack)) c.self.view_is

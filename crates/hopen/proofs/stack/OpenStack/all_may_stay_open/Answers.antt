@@ -1,5 +1,5 @@
 use Rattle.hopen.proofs.Names.{◌≡◌, ℕ, length, ap, ◌∙◌, arith, transport, list_all, may_stay_open, tag_of, kept_above, must_close_in, OpenNodes}
-use Rattle.hopen.proofs.SetPlace.{all-stay}
+use Rattle.hopen.proofs.SetLevel.{all-stay}
 use Rattle.hopen.proofs.stack.OpenStack.all_may_stay_open.Goals as goal
 
 pub returns : goal.returns

@@ -12,7 +12,7 @@ returns-in_ok-reserve-clause-ok c =
     let x : KeptNode = item_of c.args.opened in
     seen c.self.inside c.args.self.now word c.insert.new.items.items c.self.view_is
     (ap reverse (c.insert.ensures.items ∙ ap (λ (xs : List KeptNode). insert (map opened_by xs) (c.in-Some.index + 1) (open_of c.args.opened)) c.in_ok-reserve.ensures.items ∙ sym (map-insert opened_by c.self.inside.items.items (c.in-Some.index + 1) x))
-    ∙ insert_nearest opened_by (is_node c.args.node) c.self.inside.items.items c.in-Some.index f.up x f.place f.sum)
+    ∙ insert_nearest opened_by (is_node c.args.node) c.self.inside.items.items c.in-Some.index f.up x f.position_is f.sum)
 
 pub returns-in_default-clause-ok : goal.returns-in_default-clause-ok
 returns-in_default-clause-ok c =
@@ -33,8 +33,8 @@ insert-requires-clause-within c =
     let f = found c.self.inside c.args.self.now (is_node c.args.node) c.in-Some.index c.self.view_is c.in-Some.ensures.found c.in-Some.ensures.within in
     omega (arith, f.sum, ap length c.in_ok-reserve.ensures.items)
 
-pub insert-requires-clause-places : goal.insert-requires-clause-places
-insert-requires-clause-places c =
+pub insert-requires-clause-levels : goal.insert-requires-clause-levels
+insert-requires-clause-levels c =
     omega (
       arith,
       room-left _ c.args.self.now.limit (length c.args.self.now.stack) c.in_ok-room.ensures,

@@ -3,8 +3,8 @@ use Rattle.hopen.proofs.Opened.{room-left}
 use Rattle.hopen.proofs.Standing.{length-stack_of, many}
 use Rattle.hopen.proofs.stack.OpenStack.push.Goals as goal
 
-pub push-requires-clause-places : goal.push-requires-clause-places
-push-requires-clause-places c =
+pub push-requires-clause-levels : goal.push-requires-clause-levels
+push-requires-clause-levels c =
     omega (
       arith,
       room-left _ c.args.self.now.limit (length c.args.self.now.stack) c.in_ok-room.ensures,

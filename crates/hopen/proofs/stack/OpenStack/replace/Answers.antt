@@ -11,7 +11,7 @@ returns-in_ok-make_room-clause-ok c =
     seen c.self.inside c.args.self.now (changed (is_node c.args.node) (λ _. open_of c.args.by)) (with_items c.self.inside.items c.replace.new.items).items c.self.view_is
     (ap stack_of (with_items_is c.self.inside.items c.replace.new.items (omega arith))
     ∙ ap reverse (rw c.deref_mut.ensures.value at c.replace.ensures.items ∙ sym (map-set opened_by items c.in-Some.index x))
-    ∙ change_nearest opened_by (is_node c.args.node) (λ _. open_of c.args.by) items c.in-Some.index f.up x x f.place f.sum refl)
+    ∙ change_nearest opened_by (is_node c.args.node) (λ _. open_of c.args.by) items c.in-Some.index f.up x x f.position_is f.sum refl)
 
 pub returns-in_default-clause-ok : goal.returns-in_default-clause-ok
 returns-in_default-clause-ok c =

@@ -1,11 +1,11 @@
--- The place of the nearest node of a set, by the node that is kept.
-use Rattle.hopen.proofs.Names.{nat_tests, ◌≡◌, ℕ, suc, ◌-◌, ◌<◌, ◌≤◌, cond, eqb, not, List, ◌∷◌, length, map, get_or, inl, inr, sym, ◌∙◌, ap, arith, nat_eq, list_all, cases_lt, eqb-true, get_or_default, get_or_past, length-map, last_up, last_place, up-within, up-found, up-least, up-past, Stands, kept_above, must_close_in, name_of, names_in, nodes_in, opened_by, stack_of, holds, is_in, set_node, KeptNode, LastPlaces, NameSet, SetNodes, may_stay_open, tag_of, all-places}
+-- The level of the nearest node of a set, by the node that is kept.
+use Rattle.hopen.proofs.Names.{nat_tests, ◌≡◌, ℕ, suc, ◌-◌, ◌<◌, ◌≤◌, cond, eqb, not, List, ◌∷◌, length, map, get_or, inl, inr, sym, ◌∙◌, ap, arith, nat_eq, list_all, cases_lt, eqb-true, get_or_default, get_or_past, length-map, last_up, last_place, up-within, up-found, up-least, up-past, Stands, kept_above, must_close_in, name_of, names_in, nodes_in, opened_by, stack_of, holds, is_in, set_node, KeptNode, LastLevels, NameSet, SetNodes, may_stay_open, tag_of, all-places}
 use Rattle.std.proofs.lemmas.Bool.{false_from_ne_true}
 use Rattle.hopen.proofs.KeptBy.{kept-closing, kept-nearest, node_at}
-use Rattle.hopen.proofs.Linked.{eqb-same, place-up}
+use Rattle.hopen.proofs.Linked.{eqb-same, level-up}
 use Rattle.hopen.proofs.Projected.{length-names, length-nodes, same_node-at}
 
-module _ (last : LastPlaces) (items : List KeptNode) (s : Stands last items) where
+module _ (last : LastLevels) (items : List KeptNode) (s : Stands last items) where
   abbrev pub ns : List ℕ
   ns = nodes_in (map opened_by items)
 
@@ -14,7 +14,7 @@ module _ (last : LastPlaces) (items : List KeptNode) (s : Stands last items) whe
 
   -- the same in the words of the stack
   pub last-in-stack : (set : NameSet) → last_up (holds set) (names_in (map opened_by items)) (length items) ≡ last_place (is_in set) (stack_of items)
-  last-in-stack set = ap (last_up (holds set) (names_in (map opened_by items))) (sym long) ∙ place-up name_of (holds set) (map opened_by items)
+  last-in-stack set = ap (last_up (holds set) (names_in (map opened_by items))) (sym long) ∙ level-up name_of (holds set) (map opened_by items)
 
   module _ (set : NameSet) (n : ℕ) (kept : n ≡ kept_above (set_node set) items (length items)) where
     abbrev pub up : ℕ
@@ -34,7 +34,7 @@ module _ (last : LastPlaces) (items : List KeptNode) (s : Stands last items) whe
       some-up : 0 < up
       some-up = elim (cases_lt 0 up) [ inl less ↦ less | inr none ↦ absurd (let z : up ≡ 0 = omega arith in omega (arith, kept-is, some, ap (node_at ns) z)) ]
 
-      -- it is the node at that place
+      -- it is the node at that level
       node-is : get_or ns (up - 1) 0 ≡ n - 1
       node-is =
           let next : up ≡ suc (up - 1) = omega (arith, some-up) in
@@ -50,33 +50,33 @@ module _ (last : LastPlaces) (items : List KeptNode) (s : Stands last items) whe
       pub node-in : n - 1 < length last.nodes.items
       node-in = elim (cases_lt (n - 1) (length last.nodes.items)) [ inl less ↦ less | inr past ↦ absurd (omega (arith, some-up, down, get_or_past last.nodes.items (n - 1) 0 past)) ]
 
-      -- the place of that node
-      module _ (place : ℕ) (at : place ≡ get_or last.nodes.items (n - 1) place) where
-        place-is : place ≡ last_up (λ k. eqb k (n - 1)) ns (length items)
-        place-is = at ∙ get_or_default last.nodes.items (n - 1) place 0 node-in ∙ says
+      -- the level of that node
+      module _ (level : ℕ) (at : level ≡ get_or last.nodes.items (n - 1) level) where
+        level-is : level ≡ last_up (λ k. eqb k (n - 1)) ns (length items)
+        level-is = at ∙ get_or_default last.nodes.items (n - 1) level 0 node-in ∙ says
 
-        pub place-within : (0 < place) × (place ≤ length items) × (up ≤ place)
-        place-within = (omega (arith, some-up, down, says, place-is), omega (arith, place-is, up-within (λ k. eqb k (n - 1)) ns (length items)), omega (arith, down, says, place-is))
+        pub level-within : (0 < level) × (level ≤ length items) × (up ≤ level)
+        level-within = (omega (arith, some-up, down, says, level-is), omega (arith, level-is, up-within (λ k. eqb k (n - 1)) ns (length items)), omega (arith, down, says, level-is))
 
         -- the nearest of the set is there or above
-        pub nearest-from : last_up (holds set) (names_in (map opened_by items)) place ≡ last_place (is_in set) (stack_of items)
-        nearest-from = sym (up-past (holds set) (names_in (map opened_by items)) place (length items) place-within.1 (λ j more less. false_from_ne_true _ (λ e. absurd (omega (arith, place-within.2, up-least (holds set) (names_in (map opened_by items)) (length items) j less e))))) ∙ last-in-stack set
+        pub nearest-from : last_up (holds set) (names_in (map opened_by items)) level ≡ last_place (is_in set) (stack_of items)
+        nearest-from = sym (up-past (holds set) (names_in (map opened_by items)) level (length items) level-within.1 (λ j more less. false_from_ne_true _ (λ e. absurd (omega (arith, level-within.2, up-least (holds set) (names_in (map opened_by items)) (length items) j less e))))) ∙ last-in-stack set
 
         -- and it is there where the node is open once
-        pub nearest-at : (d : KeptNode) → KeptNode.same_node (get_or items (place - 1) d) ≡ 0 → place ≡ last_place (is_in set) (stack_of items)
-        nearest-at d once = let e : place ≡ up = elim (cases_lt up place) [ inl more ↦ absurd (twice more) | inr less ↦ omega (arith, place-within.2) ] in e ∙ last-in-stack set
+        pub nearest-at : (d : KeptNode) → KeptNode.same_node (get_or items (level - 1) d) ≡ 0 → level ≡ last_place (is_in set) (stack_of items)
+        nearest-at d once = let e : level ≡ up = elim (cases_lt up level) [ inl more ↦ absurd (twice more) | inr less ↦ omega (arith, level-within.2) ] in e ∙ last-in-stack set
           where
-            here : get_or ns (place - 1) 0 ≡ n - 1
-            here = ap (λ k. get_or ns (k - 1) 0) place-is ∙ eqb-true _ _ (up-found (λ k. eqb k (n - 1)) ns (length items) (omega (arith, place-is, place-within.0)))
+            here : get_or ns (level - 1) 0 ≡ n - 1
+            here = ap (λ k. get_or ns (k - 1) 0) level-is ∙ eqb-true _ _ (up-found (λ k. eqb k (n - 1)) ns (length items) (omega (arith, level-is, level-within.0)))
 
-            twice : up < place → ⊥
+            twice : up < level → ⊥
             twice more = omega (
               arith,
               some-up,
-              s.nodes.kept (place - 1) (omega (arith, place-within.0, place-within.1, length-nodes items)),
-              same_node-at items (place - 1) d (omega (arith, place-within.0, place-within.1)),
+              s.nodes.kept (level - 1) (omega (arith, level-within.0, level-within.1, length-nodes items)),
+              same_node-at items (level - 1) d (omega (arith, level-within.0, level-within.1)),
               once,
-              up-least (λ k. eqb k (get_or ns (place - 1) 0)) ns (place - 1) (up - 1) (omega (arith, some-up, more)) (ap (λ k. eqb k (get_or ns (place - 1) 0)) (node-is ∙ sym here) ∙ eqb-same (get_or ns (place - 1) 0)),
+              up-least (λ k. eqb k (get_or ns (level - 1) 0)) ns (level - 1) (up - 1) (omega (arith, some-up, more)) (ap (λ k. eqb k (get_or ns (level - 1) 0)) (node-is ∙ sym here) ∙ eqb-same (get_or ns (level - 1) 0)),
             )
 
   -- all may stay open where none must be closed
@@ -84,7 +84,7 @@ module _ (last : LastPlaces) (items : List KeptNode) (s : Stands last items) whe
   all-stay p a =
       zeros p.must_close ∙ ap (λ k. nat_eq k 0) (a ∙ ap (λ l. get_or (0 ∷ l) (length items) 0) s.sets.must_close)
       ∙ kept-closing (map opened_by items) (record { node = 0; name = 0 }) (length items) (let e : length items ≤ length (map opened_by items) = omega (arith, length-map items opened_by) in e)
-      ∙ ap (λ k. nat_eq k 0) (ap (last_up (λ m. not (may_stay_open (tag_of m))) (names_in (map opened_by items))) (sym long) ∙ place-up name_of (λ m. not (may_stay_open (tag_of m))) (map opened_by items))
+      ∙ ap (λ k. nat_eq k 0) (ap (last_up (λ m. not (may_stay_open (tag_of m))) (names_in (map opened_by items))) (sym long) ∙ level-up name_of (λ m. not (may_stay_open (tag_of m))) (map opened_by items))
       ∙ all-places (λ y. may_stay_open (tag_of y.name)) (stack_of items)
     where
       zeros : (n : ℕ) → nat_eq n 0 ≡ nat_eq (cond (eqb n 0) 0 1) 0
