@@ -205,7 +205,7 @@ class Stack:
         return f"{place} yes {len(self.nodes) - 1 - place} {element(self.at(place + 1))} {yes(in_scope)}"
 
     def block(self, formatting):
-        """The furthest block: the topmost special node below the formatting element (#parsing-main-inbody)."""
+        """The furthest block: the topmost special node below the formatting element (#adoption-agency-algorithm)."""
         place = self.find(is_node(formatting))
         blocks = [opened for opened in self.nodes[:place] if opened[1] in SPECIAL]
         return element(blocks[-1] if blocks else None)
