@@ -66,6 +66,10 @@ module _ (s : ℕ → Bool) (xs : List ℕ) (i at next : ℕ) (k : Walk s xs i a
 pub length-numbers : (links : List Link) → length (numbers_of links) ≡ length links
 length-numbers links = length-map links number_of
 
+-- where a number was taken out, nothing is
+pub freed : (links : List Link) (ys : List ℕ) (i : ℕ) → ys ≡ set (numbers_of links) i none → i < length links → get_or ys i 0 ≡ none
+freed links ys i is within = ap (λ ns. get_or ns i 0) is ∙ get_or-set_same (numbers_of links) i none 0 (omega (arith, length-numbers links))
+
 pub before-at : (links : List Link) (i : ℕ) → get_or (befores_of links) i 0 ≡ (nth links i).before
 before-at links i = get_or-map before_of links i (record { number = 0; before = 0; hint = 0 })
 

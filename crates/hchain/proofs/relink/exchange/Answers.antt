@@ -1,15 +1,28 @@
-use Rattle.hchain.proofs.Names.{◌≡◌, ℕ, ◌+◌, ◌<◌, ◌≢◌, set, List, length, get_or, sym, ◌∙◌, ap, subst, arith, get_or-set_same, get_or-set_other, none, numbers_of, FitsAt, Link}
-use Rattle.hchain.proofs.Relinked.{length-numbers}
+use Rattle.hchain.proofs.Names.{◌≡◌, ℕ, ◌+◌, ◌<◌, ◌≢◌, set, List, length, get_or, sym, ◌∙◌, ap, subst, arith, get_or-set_other, none, numbers_of, FitsAt, Link}
+use Rattle.hchain.proofs.Relinked.{length-numbers, freed}
 use Rattle.hchain.proofs.Swapped.{fit-down, fit-same, fit-other, exchanged}
 use Rattle.hchain.proofs.relink.exchange.Goals as goal
 use Rattle.hchain.proofs.relink.exchange.Goals.{then-same, else-same}
 
 pub put_in-requires-clause-fit : goal.put_in-requires-clause-fit
 put_in-requires-clause-fit c =
-    let links = c.take_out-first.new.links in
     fit-down _ (numbers_of c.take_out-second.new.links) c.args.index c.take_out-second.result
-    (ap (λ ys. get_or ys (c.args.index + 1) 0) c.take_out-second.ensures.numbers ∙ get_or-set_same (numbers_of links) (c.args.index + 1) none 0 (omega (arith, c.take_out-first.auto.links, length-numbers links)))
+    (freed c.take_out-first.new.links (numbers_of c.take_out-second.new.links) (c.args.index + 1) c.take_out-second.ensures.numbers (omega (arith, c.take_out-first.auto.links, c.requires.within)))
     c.take_out-second.ensures.fit
+
+pub put_in-requires-clause-free : goal.put_in-requires-clause-free
+put_in-requires-clause-free c =
+    let i = c.args.index in
+    let ne : i ≢ i + 1 = omega arith in
+    ap (λ ys. get_or ys i 0) c.take_out-second.ensures.numbers ∙ get_or-set_other (numbers_of c.take_out-first.new.links) (i + 1) i none 0 ne
+    ∙ freed c.args.links.now (numbers_of c.take_out-first.new.links) i c.take_out-first.ensures.numbers (omega (arith, c.requires.within))
+
+pub put_in-requires-2-clause-free : goal.put_in-requires-2-clause-free
+put_in-requires-2-clause-free c =
+    let i = c.args.index in
+    let ne : i + 1 ≢ i = omega arith in
+    ap (λ ys. get_or ys (i + 1) 0) c.put_in.ensures.numbers ∙ get_or-set_other (numbers_of c.take_out-second.new.links) i (i + 1) c.take_out-second.result.number 0 ne
+    ∙ freed c.take_out-first.new.links (numbers_of c.take_out-second.new.links) (i + 1) c.take_out-second.ensures.numbers (omega (arith, c.take_out-first.auto.links, c.requires.within))
 
 pub put_in-requires-2-clause-fit : goal.put_in-requires-2-clause-fit
 put_in-requires-2-clause-fit c =

@@ -1,5 +1,6 @@
-use Rattle.hchain.proofs.Names.{◌≡◌, ◌≢◌, ℕ, ◌+◌, List, get_or, set, sym, ◌∙◌, ap, arith, set-get_or, set_comm, none, numbers_of, Link}
-use Rattle.hchain.proofs.Relinked.{nth, number-at}
+use Rattle.hchain.proofs.Names.{◌≡◌, ◌≢◌, ℕ, ◌+◌, ◌<◌, List, length, get_or, set, sym, ◌∙◌, ap, arith, get_or-set_other, set-get_or, set_comm, none, numbers_of, Link}
+use Rattle.hchain.proofs.Relinked.{nth, number-at, freed}
+use Rattle.hchain.proofs.Swapped.{fit-down, fit-up}
 use Rattle.hchain.proofs.relink.swap_at.Goals as goal
 
 -- whether a number that was read is none
@@ -31,3 +32,23 @@ returns-then-first-clause-numbers c =
     let ne : i + 1 ≢ i = omega arith in
     c.put_in.ensures.numbers ∙ ap (λ ys. set ys i c.take_out-link.result.number) c.take_out-link.ensures.numbers ∙ set_comm old (i + 1) i none c.take_out-link.result.number ne
     ∙ (λ t. set (set old i (c.take_out-link.ensures.number t)) (i + 1) (sym (number-at c.args.links.now i ∙ c.if-first.true) t))
+
+pub put_in-requires-clause-fit : goal.put_in-requires-clause-fit
+put_in-requires-clause-fit c =
+    fit-down _ (numbers_of c.take_out-link.new.links) c.args.index c.take_out-link.result
+    (freed c.args.links.now (numbers_of c.take_out-link.new.links) (c.args.index + 1) c.take_out-link.ensures.numbers c.requires.within) c.take_out-link.ensures.fit
+
+-- where nothing is at the next index, nothing is there after the number at the index is out
+still-none : (links : List Link) (ys : List ℕ) (i : ℕ) → ys ≡ set (numbers_of links) i none → (nth links (i + 1)).number ≡ none → get_or ys (i + 1) 0 ≡ none
+still-none links ys i is e =
+    let ne : i + 1 ≢ i = omega arith in
+    ap (λ ns. get_or ns (i + 1) 0) is ∙ get_or-set_other (numbers_of links) i (i + 1) none 0 ne ∙ is-none links (i + 1) e
+
+pub put_in-requires-then-second-clause-free : goal.put_in-requires-then-second-clause-free
+put_in-requires-then-second-clause-free c =
+    still-none c.args.links.now (numbers_of c.take_out-link-then-second.new.links) c.args.index c.take_out-link-then-second.ensures.numbers c.if-second.true
+
+pub put_in-requires-then-second-clause-fit : goal.put_in-requires-then-second-clause-fit
+put_in-requires-then-second-clause-fit c =
+    fit-up _ (numbers_of c.take_out-link-then-second.new.links) c.args.index c.take_out-link-then-second.result
+    (still-none c.args.links.now (numbers_of c.take_out-link-then-second.new.links) c.args.index c.take_out-link-then-second.ensures.numbers c.if-second.true) c.take_out-link-then-second.ensures.fit
