@@ -52,3 +52,16 @@ pub put_in-requires-then-second-clause-fit : goal.put_in-requires-then-second-cl
 put_in-requires-then-second-clause-fit c =
     fit-up _ (numbers_of c.take_out-link-then-second.new.links) c.args.index c.take_out-link-then-second.result
     (still-none c.args.links.now (numbers_of c.take_out-link-then-second.new.links) c.args.index c.take_out-link-then-second.ensures.numbers c.if-second.true) c.take_out-link-then-second.ensures.fit
+
+pub put_in-requires-clause-free : goal.put_in-requires-clause-free
+put_in-requires-clause-free c =
+    let ne : c.args.index ≢ c.args.index + 1 = omega arith in
+    ap (λ ns. get_or ns c.args.index 0) c.take_out-link.ensures.numbers ∙ get_or-set_other (numbers_of c.args.links.now) (c.args.index + 1) c.args.index none 0 ne
+    ∙ is-none c.args.links.now c.args.index c.if-first.true
+
+pub returns-then-second-clause-numbers : goal.returns-then-second-clause-numbers
+returns-then-second-clause-numbers c =
+    let old : List ℕ = numbers_of c.args.links.now in
+    let i : ℕ = c.args.index in
+    c.put_in-then-second.ensures.numbers ∙ ap (λ ys. set ys (i + 1) c.take_out-link-then-second.result.number) c.take_out-link-then-second.ensures.numbers
+    ∙ (λ t. set (set old i (sym (is-none c.args.links.now (i + 1) c.if-second.true) t)) (i + 1) (c.take_out-link-then-second.ensures.number t))
