@@ -1,9 +1,9 @@
-use Rattle.hchain.proofs.Names.{◌≡◌, ◌+◌, ◌-◌, ◌≤◌, ◌==◌, not, List, length, take, drop, ◌++◌, ap, sym, ◌∙◌, arith, with_items_is, map-append, take-map, length-take-le, length-drop, length-map, filter, none, number_of, numbers_of, Link}
+use Rattle.hchain.proofs.Names.{◌≡◌, ℕ, ◌+◌, ◌-◌, ◌≤◌, ◌==◌, not, List, length, take, drop, ◌++◌, ap, sym, ◌∙◌, subst, arith, with_items_is, map-append, take-map, length-take-le, length-drop, length-map, filter, none, number_of, numbers_of, IsChained, Link}
 use Rattle.std.proofs.lemmas.List.{take_rest, drop-map, length-append}
 use Rattle.std.specs.Vec.{with_items}
 use borrow.Rule.Slice.PartMut.{post_of}
 use Rattle.hchain.proofs.Lent.{lent}
-use Rattle.hchain.proofs.Tails.{take-anew, map-filter}
+use Rattle.hchain.proofs.Tails.{take-anew, front-of, map-filter}
 use Rattle.hchain.proofs.chains.Chains.compact.Goals as goal
 
 pub unwind-requires : goal.unwind-requires
@@ -57,3 +57,23 @@ slice_bounds-squeeze-start c =
 pub offset_bounds-deref_mut-from : goal.offset_bounds-deref_mut-from
 offset_bounds-deref_mut-from c =
     omega (arith, c.requires, c.self.invariant.fits, ap length c.self.view_is, length-map c.self.inside.links.items number_of)
+
+pub rewind-requires-clause-chained : goal.rewind-requires-clause-chained
+rewind-requires-clause-chained c =
+    let links : List Link = c.self.inside.links.items in
+    let from = c.args.from in
+    let kept = c.squeeze-kept.result in
+    let all : List Link = c.deref_mut-2.result.now in
+    let tail : List Link = c.squeeze-kept.new.links in
+    let same : all ≡ links = c.deref_mut-2.ensures.value in
+    let within : from ≤ length all = omega (arith, ap length same, ap length c.self.view_is, length-map links number_of) in
+    let end : List Link = post_of from (length all - from) all in
+    let end_len : length end ≡ 0 = omega (arith, length-drop (length all - from) (drop from all), length-drop from all) in
+    let tail_len : length tail ≡ length all - from = omega (arith, c.squeeze-kept.auto.links, ap length (take_rest all from), length-drop from all) in
+    let whole : length (take from all ++ (tail ++ end)) ≡ c.self.inside.links.len = omega (arith, length-append (take from all) (tail ++ end), length-append tail end, length-take-le from all within, ap length same) in
+    let left : c.deref_mut-4.result.now ≡ take (from + kept) (take from all ++ (tail ++ end)) =
+    c.deref_mut-4.ensures.value ∙ c.truncate.ensures.items ∙ ap (take (from + kept)) (with_items_is c.self.inside.links (take from all ++ (tail ++ end)) whole) in
+    let last = c.deref_mut-3.ensures.value ∙ with_items_is c.self.inside.last c.unwind.new.last (c.unwind.auto.last ∙ c.deref_mut.ensures.len) in
+    let front : take from c.deref_mut-4.result.now ≡ take from c.deref.result.now =
+    ap (take from) left ∙ front-of from kept all (tail ++ end) within ∙ ap (take from) (same ∙ sym c.deref.ensures.value) in
+    subst (λ (xs : List ℕ). IsChained xs (take from c.deref_mut-4.result.now)) (sym last) (subst (λ (ys : List Link). IsChained c.unwind.new.last ys) (sym front) c.unwind.ensures)
