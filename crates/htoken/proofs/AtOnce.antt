@@ -1,5 +1,6 @@
 -- Tags that stand whole in a run.
-use Rattle.htoken.proofs.Names.{◌≡◌, ◌≤◌, ◌<◌, ℕ, suc, ◌+◌, ◌-◌, true, false, ◌||◌, List, [], ◌∷◌, ◌++◌, length, take, drop, sym, refl, ap, ◌∙◌, subst, Result, Ok, Err, Option, Some, None, append-nil, arith, nat_tests, length-take-le, take-append-drop, IsUtf8-from_ascii, chars-nil, codes, is_some, slice_get, slice_index, is_ascii, list_all, chars, IsUtf8, ParseError, Placed, RawKind, RefusedName, Refusal, Memory, Texts, Grows, name_bytes, placed, raw_kind, refused_name, tag_named, is_plain_byte, IsCut, plain_chars, hand_one, Entities, TagWalk, IsInTag, IsWholeTag, State, Token, Tokenizer, IsSpan, IsSpanOf, next, EndsTag, TakesFront, TakesPart, IsTag, start_tag, end_tag, tag_mark, Tok, Span, Start, End, Item, ItemToken, Event, TokenMeans, gives_item, has_refused, Reads, HasTaken, holds, Takes, take_took, IsHeld, IsLast, less, next_place, slice_range, IsBareName, bare_bytes, bare_front, bare_no_errors, bare_placed, bare_plain, bare_within, tag, all_weaker, MatchResult}
+use Rattle.htoken.proofs.Names.{◌≡◌, ◌≤◌, ◌<◌, ℕ, suc, ◌+◌, ◌-◌, true, false, ◌||◌, List, [], ◌∷◌, ◌++◌, length, take, drop, sym, refl, ap, ◌∙◌, subst, Result, Ok, Err, Option, Some, None, append-nil, arith, nat_tests, length-take-le, take-append-drop, IsUtf8-from_ascii, chars-nil, codes, is_some, slice_get, slice_index, is_ascii, list_all, chars, IsUtf8, ParseError, Placed, RawKind, RefusedName, Refusal, Memory, Texts, Grows, name_bytes, placed, raw_kind, refused_name, tag_named, is_plain_byte, IsCut, plain_chars, hand_one, Entities, TagWalk, IsInTag, IsWholeTag, State, Token, Tokenizer, IsSpan, IsSpanOf, next, EndsTag, TakesFront, TakesPart, IsTag, start_tag, end_tag, tag_mark, Tok, Span, Start, End, Item, ItemToken, Event, TokenMeans, gives_item, has_refused, Reads, HasTaken, holds, Takes, take_took, IsHeld, IsLast, less, next_place, slice_range, IsBareName, bare_bytes, bare_front, bare_no_errors, bare_placed, bare_plain, bare_within, tag, all_weaker, MatchResult, get_or, get_or-append_seam, IsCharBoundary}
+use Rattle.std.proofs.lemmas.Str.{IsCharBoundary-before_ascii}
 use Rattle.names.specs.declared.raw.RawKind.TheVariants as kind
 use Rattle.htag.specs.declared.kind.TagKind.TheVariants as which
 use Rattle.htoken.specs.declared.state.State.TheVariants as state
@@ -61,6 +62,14 @@ module _ {S : Type 0} (gives : S → Item → Result (Unit {0}) Refusal → S �
   nothing_before first = nothing_first (λ n. placed at (take n run)) (placed at run) answer (subst (λ (n : ℕ). Takes gives table start text (placed at (take n run)) taken before old (Ok tt) mid t) none first)
 
 -- A BARE TAG IN A RUN
+
+-- a bare name ends between characters
+pub bare_boundary : (run : List ℕ) (size : ℕ) → IsBareName run size → IsCharBoundary run size
+bare_boundary run size bare =
+    let name = bare.letter ∷ bare.letters in
+    let long : size ≡ length name = omega (arith, bare.count_is) in
+    let greater : get_or run size 0 ≡ 62 = ap (λ (x : List ℕ). get_or x size 0) bare.run_is ∙ ap (λ (n : ℕ). get_or (name ++ 62 ∷ bare.others) n 0) long ∙ get_or-append_seam name 62 bare.others 0 in
+    IsCharBoundary-before_ascii run size (omega (arith, bare_within run size bare)) (omega (arith, greater))
 
 module _ (run : List ℕ) (size : ℕ) (u : IsUtf8 run) (bare : IsBareName run size) where
   pub start_cut : IsCut (size + 1) run

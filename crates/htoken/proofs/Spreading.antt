@@ -1,9 +1,9 @@
 -- What is gathered of a run, to be handed over as one text.
-use Rattle.htoken.proofs.Names.{◌≡◌, ◌+◌, ◌-◌, ℕ, true, List, [], ◌∷◌, ◌++◌, take, drop, sym, refl, ap, ◌∙◌, subst, arith, append_assoc, Ok, Option, None, Some, IfSome, is_some, and_from, nat_tests, list_all-append, chars-nil, encode_utf8_all, list_all, chars, IsUtf8, ParseError, Placed, RawKind, all, characters, placed, characters_of, Entities, Reference, is_clean, clean_rest, Hands, Spread, Raised, all_at, Adds, IsFront, IsGathered, IsWhole, TellsText, known_errors, IsSpread, has_references, map-append, chars_from_encodes, encodes-chars, IsUtf8-string_bytes, encode_utf8_all-append, characters_placed, nothing_front, all_weaker, is_not_null, StartsAt, string_bytes}
+use Rattle.htoken.proofs.Names.{◌≡◌, ◌+◌, ◌-◌, ℕ, true, List, [], ◌∷◌, ◌++◌, take, drop, sym, refl, ap, ◌∙◌, subst, arith, append_assoc, Ok, Option, None, Some, IfSome, is_some, and_from, nat_tests, list_all-append, chars-nil, encode_utf8_all, list_all, chars, IsUtf8, ParseError, Placed, RawKind, all, characters, placed, characters_of, Entities, Reference, is_clean, clean_rest, Hands, Spread, Raised, all_at, Adds, IsFront, IsGathered, IsWhole, TellsText, known_errors, IsSpread, has_references, map-append, chars_from_encodes, encodes-chars, IsUtf8-string_bytes, encode_utf8_all-append, characters_placed, nothing_front, all_weaker, is_not_null, StartsAt, string_bytes, false, ◌≤◌, ◌<◌, length, drop-drop, get_or-drop, slice_index, is_text_byte}
 use Rattle.htoken.proofs.Bare.{few_left, front_whole}
 use Rattle.htoken.proofs.InMarkup.{keeps, kept}
 use Rattle.htoken.proofs.Plain.{is_itself}
-use Rattle.htoken.proofs.InText.{front_both, front_plain}
+use Rattle.htoken.proofs.InText.{front_both, front_plain, length_left}
 use Rattle.htoken.proofs.Referring.{gives_some, IsSomeText}
 
 clean_not_null : (c : ℕ) → is_clean c ≡ true → is_not_null c ≡ true
@@ -53,6 +53,16 @@ module _ (table : Entities) (kind : RawKind) (run : List ℕ) (at : ℕ) where
   gathered_spread n s g =
       let are : characters g.given ≡ chars (string_bytes s.text) = chars_from_encodes (characters g.given) (string_bytes s.text) (IsUtf8-string_bytes s.text) (sym g.text_is) in
       (ap (list_all is_not_null) (sym are) ∙ g.not_null, record { characters_are = are; starts = g.starts })
+
+-- what is known of the rest of a run, of its byte at an index and of the reference that comes there, is known of the run
+pub ends_later : (run rest : List ℕ) (n m : ℕ) → rest ≡ drop n run → n ≤ length run → (m < length rest → is_text_byte (slice_index rest m) ≡ false) → n + m < length run → is_text_byte (slice_index run (n + m)) ≡ false
+ends_later run rest n m is within ends l =
+    let few : m < length rest = omega (arith, l, ap length is, length_left n run within) in
+    sym (ap is_text_byte (get_or-drop n run m 0)) ∙ ap (λ (x : List ℕ). is_text_byte (slice_index x m)) (sym is) ∙ ends few
+
+pub whole_later : (table : Entities) (kind : RawKind) (run rest : List ℕ) (n m : ℕ) (next : Option (Reference × ℕ)) → rest ≡ drop n run → IfSome next (λ it. IsWhole table kind (drop m rest) it.0 it.1)
+    → IfSome next (λ it. IsWhole table kind (drop (n + m) run) it.0 it.1)
+whole_later table kind run rest n m next is = subst (λ (x : List ℕ). IfSome next (λ it. IsWhole table kind x it.0 it.1)) (ap (drop m) is ∙ drop-drop m n run)
 
 -- a whole reference is where references may be
 pub may_of : (table : Entities) (kind : RawKind) (run : List ℕ) (whole : Option (Reference × ℕ)) → is_some whole ≡ true → IfSome whole (λ it. IsWhole table kind run it.0 it.1) → has_references kind ≡ true

@@ -1,7 +1,15 @@
-use Rattle.names.proofs.Vocabulary.{ap, sym, ◌∙◌, arith, subst, ℕ, List, Some, bytes_eq, A}
+use Rattle.names.proofs.Vocabulary.{ap, sym, ◌∙◌, arith, subst, ◌≡◌, ℕ, List, Some, None, bytes_eq, type_name, A}
 use Rattle.names.proofs.KnownTexts.{IsNoneOf, tag_within, known_tag, none_known, passed_more, passed_none}
+use Rattle.names.proofs.KnownTags.{different}
 use Rattle.names.proofs.TableLemmas.{bytes_eq-true}
+use Rattle.names.specs.Table.{letter_of}
 use Rattle.names.proofs.known.known_number.Goals as goal
+
+pub returns-in_err-letter : goal.returns-in_err-letter
+returns-in_err-letter c =
+    let none : None ≡ letter_of c.args.text.now = c.in_err-letter.ensures.letter in
+    rw c.from_residual.ensures (none_known c.args.text.now (subst (λ o. IsNoneOf o c.args.text.now) none tt)
+    (different c.args.text.now type_name (λ e. let is : None ≡ Some 19 = none ∙ ap letter_of e in absurd cc)))
 
 pub loop-index-init : goal.loop-index-init
 loop-index-init c = passed_none c.in_ok-letter.letter c.args.text.now

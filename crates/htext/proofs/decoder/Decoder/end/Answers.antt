@@ -1,4 +1,5 @@
 use Rattle.htext.proofs.Names.{◌≡◌, ◌<◌, length, sym, ap, ◌∙◌, arith, Ok, Err, nat_tests, err_from_is_err_and}
+use Rattle.std.proofs.lemmas.Grind.{common_steps}
 use Rattle.htext.proofs.Ending.{ends_at_once, ends_held, read_all}
 use Rattle.htext.proofs.decoder.Decoder.end.Goals as goal
 
@@ -28,3 +29,9 @@ returns-clause-ends g c = rw (← c.self.view_is) (λ fed h.
     let some : 0 < length c.self.inside.undecoded.items = grind (arith, nat_tests) in
     ends_held g.S.CharSink.gives _ _ (Ok tt) _ _ _ _ _ fed c.deref.result.now h.front h.undecided (c.deref.ensures.value ∙ h.undecoded) (omega (arith, some, ap length c.deref.ensures.value))
     c.in_ok-end.ensures.refused c.in_ok-end.ensures.replaced)
+
+pub returns-clause-whole : goal.returns-clause-whole
+returns-clause-whole g c = grind (arith, common_steps)
+
+pub returns-then-is_empty-clause-nothing_held : goal.returns-then-is_empty-clause-nothing_held
+returns-then-is_empty-clause-nothing_held g c = grind (arith, common_steps)

@@ -1,4 +1,5 @@
 use Rattle.htext.proofs.Names.{◌≡◌, ℕ, ◌+◌, ◌-◌, ◌++◌, ◌∷◌, [], List, length, take, drop, get_or, Ok, Err, sym, ap, ◌∙◌, subst, arith, append_assoc, take_all, take-append-drop, length-drop, err_from_is_err_and, settled, HasFed, Feeds, HandsOn}
+use Rattle.std.proofs.lemmas.Grind.{common_steps}
 use Rattle.std.proofs.lemmas.List.{take_more}
 use Rattle.std.proofs.lemmas.Result.{on_ok_weaker}
 use Rattle.htext.proofs.Handing.{HandsOn-append, Feeds-append, Feeds-more, handed_all}
@@ -51,3 +52,12 @@ loop-index-preserved g c =
 
 pub returns-clause-fed : goal.returns-clause-fed
 returns-clause-fed g c = λ fed h. subst (λ (x : List ℕ). HasFed c.loop-index.self (fed ++ x)) (take_all c.loop-index.index c.args.bytes.now (omega arith)) (c.loop-index.invariant.fed fed h)
+
+pub returns-clause-feeds : goal.returns-clause-feeds
+returns-clause-feeds g c = grind (arith, common_steps)
+
+pub loop-index-init : goal.loop-index-init
+loop-index-init g c = grind (arith, common_steps)
+
+pub read_piece-requires : goal.read_piece-requires
+read_piece-requires g c = grind (arith, common_steps)

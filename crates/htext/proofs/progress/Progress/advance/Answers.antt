@@ -1,4 +1,5 @@
 use Rattle.htext.proofs.Names.{◌≡◌, ◌≤◌, ◌+◌, ℕ, List, length, sym, ap, ◌∙◌, arith, Ok, err_from_is_err_and, length-drop}
+use Rattle.std.proofs.lemmas.Grind.{common_steps}
 use Rattle.htext.proofs.Beginnings.{open_short}
 use Rattle.htext.proofs.Errors.{error_bounds}
 use Rattle.htext.proofs.Stopping.{what_waits, what_is_bad}
@@ -126,3 +127,21 @@ loop-count-preserved-then-alone-gt0 g c =
             rw read (later count (c.loop-count.self.read + n) alone bytes all left),
           );
     }
+
+pub slice_bounds-next-count : goal.slice_bounds-next-count
+slice_bounds-next-count g c = grind (arith, common_steps)
+
+pub slice_bounds-next-start : goal.slice_bounds-next-start
+slice_bounds-next-start g c = grind (arith, common_steps)
+
+pub slice_bounds-bad_alone-count : goal.slice_bounds-bad_alone-count
+slice_bounds-bad_alone-count g c = grind (arith, common_steps)
+
+pub slice_bounds-bad_alone-start : goal.slice_bounds-bad_alone-start
+slice_bounds-bad_alone-start g c = grind (arith, common_steps)
+
+pub hand_text-requires : goal.hand_text-requires
+hand_text-requires g c = grind (arith, common_steps)
+
+pub loop-count-init : goal.loop-count-init
+loop-count-init g c = grind (arith, common_steps)

@@ -1,5 +1,6 @@
-use Rattle.htoken.proofs.Names.{◌+◌, ◌∙◌, List, ℕ, Some, take, drop, sym, refl, ap, subst, arith, grows_on, gives_item, err_is}
-use Rattle.htoken.proofs.AtOnce.{end_cut, end_given, first_is, memory_out, range_after_first}
+use Rattle.htoken.proofs.Names.{◌+◌, ◌∙◌, List, ℕ, Some, take, drop, sym, refl, ap, subst, arith, grows_on, gives_item, err_is, ◌≡◌, IsCharBoundary}
+use Rattle.std.proofs.lemmas.Str.{IsCharBoundary-from_rest}
+use Rattle.htoken.proofs.AtOnce.{end_cut, end_given, first_is, memory_out, range_after_first, bare_boundary}
 use Rattle.htoken.proofs.Fronts.{cut_refused}
 use Rattle.htoken.proofs.Taking.{IsCalm, taken_now}
 use Rattle.htoken.proofs.tokenizer.Tokenizer.bare_end_tag.Goals as goal
@@ -30,3 +31,11 @@ returns-clause-takes g c = λ table start before text taken grows h.
 
 pub returns-clause-cut : goal.returns-clause-cut
 returns-clause-cut g c = end_cut c.args.run.now (drop 1 c.args.run.now) c.args.size c.utf8.run (first_is c.args.run.now c.requires.some c.requires.solidus) c.requires.bare
+
+pub range-requires-clause-end_boundary : goal.range-requires-clause-end_boundary
+range-requires-clause-end_boundary g c =
+    let same : 1 + c.args.size ≡ c.args.size + 1 = omega arith in
+    subst (IsCharBoundary c.args.run.now) same (IsCharBoundary-from_rest c.args.run.now 1 c.args.size (omega (arith, c.requires.some)) (bare_boundary (drop 1 c.args.run.now) c.args.size c.requires.bare))
+
+pub overflow_add-size : goal.overflow_add-size
+overflow_add-size g c = omega (arith, (end_cut c.args.run.now (drop 1 c.args.run.now) c.args.size c.utf8.run (first_is c.args.run.now c.requires.some c.requires.solidus) c.requires.bare).within, c.requires.within)

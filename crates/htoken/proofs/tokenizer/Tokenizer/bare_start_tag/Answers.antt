@@ -1,5 +1,5 @@
 use Rattle.htoken.proofs.Names.{◌+◌, ◌∙◌, List, ℕ, Some, [], take, sym, refl, ap, subst, arith, raw_kind, refused_name, tag_named, grows_on, front_of, AttrsMean, gives_item, err_is}
-use Rattle.htoken.proofs.AtOnce.{memory_out, nothing_taken, start_cut, start_given}
+use Rattle.htoken.proofs.AtOnce.{memory_out, nothing_taken, start_cut, start_given, bare_boundary}
 use Rattle.htoken.proofs.Fronts.{cut_refused}
 use Rattle.htoken.proofs.Taking.{IsCalm, taken_kept, taken_now}
 use Rattle.htoken.proofs.tokenizer.Tokenizer.bare_start_tag.Goals as goal
@@ -44,3 +44,6 @@ returns-clause-takes g c = λ table start before text taken grows h.
 
 pub returns-clause-cut : goal.returns-clause-cut
 returns-clause-cut g c = start_cut c.args.run.now c.args.size c.utf8.run c.requires.bare
+
+pub range-requires-clause-end_boundary : goal.range-requires-clause-end_boundary
+range-requires-clause-end_boundary g c = bare_boundary c.args.run.now c.args.size c.requires.bare

@@ -51,3 +51,15 @@ returns-clause-takes g c = λ table start before text taken grows h.
     let it = (rw c.if-ended.false at (c.in_ok-count.ensures.takes some table c.args.at)) in
     plain_goes_on table start c.args.self.now c.take_plain.new.names text taken k c.requires.less g.S.ErrorSink.gives g.S.TokenSink.gives_token _ (c.args.at + count)
     (next_front text c.args.at count run c.requires.plain some few (omega (arith, c.requires.within))) c.take_plain.new.self it.0 it.1 c.args.sink.now
+
+pub returns-then-ended-clause-few : goal.returns-then-ended-clause-few
+returns-then-ended-clause-few g c = c.in_ok-count.ensures.few
+
+pub returns-clause-few : goal.returns-clause-few
+returns-clause-few g c = c.in_ok-count.ensures.few
+
+pub returns-in_err-end_tag-clause-grows : goal.returns-in_err-end_tag-clause-grows
+returns-in_err-end_tag-clause-grows g c = grows_on _ _ _ c.take_plain.ensures.grows c.end_tag.ensures.grows
+
+pub returns-then-ended-clause-grows : goal.returns-then-ended-clause-grows
+returns-then-ended-clause-grows g c = grows_on _ _ _ c.take_plain.ensures.grows c.end_tag.ensures.grows

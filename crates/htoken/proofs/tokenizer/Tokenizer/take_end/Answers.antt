@@ -1,4 +1,4 @@
-use Rattle.htoken.proofs.Names.{◌<◌, ◌+◌, ◌++◌, List, ℕ, length, take, refl, sym, ◌∙◌, subst, arith, Ok, Err, chars, Placed, placed, IsCut, cut_more, first_placed, gives_item, Reads, Takes, err_is, IfSome, IsWhole}
+use Rattle.htoken.proofs.Names.{◌<◌, ◌+◌, ◌++◌, List, ℕ, length, take, refl, sym, ◌∙◌, subst, arith, Ok, Err, chars, Placed, placed, IsCut, cut_more, first_placed, gives_item, Reads, Takes, err_is, IfSome, IsWhole, is_text_byte, slice_index, get_or-drop, ap, ◌≡◌}
 use Rattle.htoken.proofs.Bare.{mark_next}
 use Rattle.htoken.proofs.InRun.{next_last}
 use Rattle.htoken.proofs.InText.{all_taken, then_refused, then_taken}
@@ -46,3 +46,10 @@ returns-clause-few g c =
 pub take_mark-requires-clause-whole : goal.take_mark-requires-clause-whole
 take_mark-requires-clause-whole g c =
     subst (λ (x : List ℕ). IfSome c.args.whole (λ it. IsWhole c.args.self.now.table.now c.args.self.now.kind x it.0 it.1)) (sym c.range_from.ensures.value) c.requires.whole
+
+pub take_mark-requires-clause-ends : goal.take_mark-requires-clause-ends
+take_mark-requires-clause-ends g c =
+    let run = c.args.run.now in
+    let less : c.args.count < length run = omega (arith, c.if-count-run.false, c.requires.cut.within) in
+    let same : c.args.count + 0 ≡ c.args.count = omega arith in
+    ap is_text_byte (ap (λ (x : List ℕ). slice_index x 0) c.range_from.ensures.value ∙ get_or-drop c.args.count run 0 0 ∙ ap (slice_index run) same) ∙ c.requires.ends less

@@ -1,4 +1,4 @@
-use Rattle.htoken.proofs.Names.{arith, grows_not, gives_item, err_is}
+use Rattle.htoken.proofs.Names.{arith, grows_not, gives_item, err_is, grows_on}
 use Rattle.htoken.proofs.AtOnce.{nothing_before}
 use Rattle.htoken.proofs.Fronts.{all_is_few, one_is_few}
 use Rattle.htoken.proofs.tokenizer.Tokenizer.take_front.Goals as goal
@@ -27,3 +27,9 @@ returns-else-count-gt0-clause-takes g c = λ table start before text taken grows
 
 pub returns-else-count-gt0-clause-few : goal.returns-else-count-gt0-clause-few
 returns-else-count-gt0-clause-few g c = one_is_few c.args.run.now c.requires.some _ c.take_first.ensures.one
+
+pub returns-then-count-gt0-clause-takes : goal.returns-then-count-gt0-clause-takes
+returns-then-count-gt0-clause-takes g c = c.in_ok-count-in-Less.ensures.takes
+
+pub returns-else-count-gt0-clause-grows : goal.returns-else-count-gt0-clause-grows
+returns-else-count-gt0-clause-grows g c = grows_on _ _ _ c.in_ok-count-in-Less.ensures.grows c.take_first.ensures.grows

@@ -20,3 +20,9 @@ returns-in-Text-clause-grows g c = grows_not _
 
 pub returns-else-count-gt0-clause-grows : goal.returns-else-count-gt0-clause-grows
 returns-else-count-gt0-clause-grows g c = grows_on _ _ _ c.tag_open.ensures.grows c.part_of_markup.ensures.grows
+
+pub returns-then-count-gt0-clause-takes : goal.returns-then-count-gt0-clause-takes
+returns-then-count-gt0-clause-takes g c = c.in_ok-count-in-Less.ensures.takes
+
+pub returns-then-count-gt0-clause-few : goal.returns-then-count-gt0-clause-few
+returns-then-count-gt0-clause-few g c = (omega (arith, c.if-count-gt0.true), c.in_ok-count-in-Less.ensures.cut)

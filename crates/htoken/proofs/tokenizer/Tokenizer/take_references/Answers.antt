@@ -1,6 +1,6 @@
-use Rattle.htoken.proofs.Names.{◌≡◌, ◌+◌, true, ℕ, List, [], drop, sym, subst, arith, Ok, IsCharBoundary-from_drop, list_all, chars, is_clean, IsCut, clean_rest, cut_more, RefusesFront, gives_item, err_is, GivesFront}
+use Rattle.htoken.proofs.Names.{◌≡◌, ◌+◌, true, ℕ, List, [], drop, sym, subst, arith, Ok, IsCharBoundary-from_drop, list_all, chars, is_clean, IsCut, clean_rest, cut_more, RefusesFront, gives_item, err_is, GivesFront, IfSome, IsWhole, Tokenizer}
 use Rattle.htoken.proofs.InText.{spread_fails, spread_given}
-use Rattle.htoken.proofs.Spreading.{may_of}
+use Rattle.htoken.proofs.Spreading.{may_of, ends_later, whole_later}
 use Rattle.htoken.proofs.tokenizer.Tokenizer.take_references.Goals as goal
 
 pub range_from-requires : goal.range_from-requires
@@ -31,3 +31,11 @@ returns-clause-takes g c =
     let more = subst (λ (x : List ℕ). GivesFront (gives_item g.S.ErrorSink.gives g.S.TokenSink.gives_token) names c.args.self.now.table.now c.args.self.now.kind x (c.args.at + c.args.count) c.in_ok-more.more c.args.sink.now (Ok tt) c.spread_on.new.sink) c.range_from.ensures.value (c.in_ok-more.ensures.front names) in
     c.take_end.ensures.takes table start names text taken old
     (spread_given (gives_item g.S.ErrorSink.gives g.S.TokenSink.gives_token) table start names text taken c.args.self.now c.args.run.now c.args.at c.args.count old c.args.sink.now front c.requires.cut c.requires.text may c.in_ok-more.more more.errors more.given more.front c.spread_on.new.self c.in_ok-more.ensures.then c.spread_on.new.sink more.handed)
+
+pub take_end-requires-clause-ends : goal.take_end-requires-clause-ends
+take_end-requires-clause-ends g c = ends_later c.args.run.now c.range_from.result.now c.args.count c.in_ok-more.more c.range_from.ensures.value c.requires.cut.within c.in_ok-more.ensures.ends
+
+pub take_end-requires-clause-whole : goal.take_end-requires-clause-whole
+take_end-requires-clause-whole g c =
+    subst (λ (t : Tokenizer). IfSome c.in_ok-more.next (λ it. IsWhole t.table.now t.kind (drop (c.args.count + c.in_ok-more.more) c.args.run.now) it.0 it.1)) (sym c.in_ok-more.ensures.then)
+    (whole_later c.args.self.now.table.now c.args.self.now.kind c.args.run.now c.range_from.result.now c.args.count c.in_ok-more.more c.in_ok-more.next c.range_from.ensures.value c.in_ok-more.ensures.whole)

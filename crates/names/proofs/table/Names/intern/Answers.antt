@@ -1,4 +1,4 @@
-use Rattle.names.proofs.Vocabulary.{slice_get_within}
+use Rattle.names.proofs.Vocabulary.{slice_get_within, ◌∙◌}
 use Rattle.names.proofs.KnownTags.{tag_of-named}
 use Rattle.names.proofs.TableLemmas.{are_names, interned-there}
 use Rattle.names.proofs.table.Names.intern.Goals as goal
@@ -11,3 +11,6 @@ returns-in-Some-clause-added c = interned-there c.args.self.now c.in-Some.id c.a
 
 pub returns-clause-names : goal.returns-clause-names
 returns-clause-names c = are_names _ c.self.invariant
+
+pub returns-clause-grows : goal.returns-clause-grows
+returns-clause-grows c = (c.in_ok-id.ensures.grows.0, c.self.view_is ∙ c.in_ok-id.ensures.grows.1)

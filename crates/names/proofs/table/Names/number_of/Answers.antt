@@ -1,3 +1,4 @@
+use Rattle.std.proofs.lemmas.Grind.{common_steps}
 use Rattle.names.proofs.Vocabulary.{◌≡◌, ℕ, ◌+◌, ◌++◌, ◌∷◌, [], map, sym, ◌∙◌, ap, string_bytes, refl, subst, arith, length, slice_get_within, List, String, Some, slice_get, bytes_eq, list_any, AreNames, AreOthers, known}
 use Rattle.std.proofs.Common.{Global}
 use Rattle.names.proofs.TableLemmas.{interned-there, interned-last, number_after, number_after_all, table_length, table_grown, others_grown, grown, absent, are_names}
@@ -83,3 +84,6 @@ returns-in_ok-insert-in-None-clause-names c = are_names _ (grown_others c)
 
 pub returns-in_ok-insert-in-None-clause-tag : goal.returns-in_ok-insert-in-None-clause-tag
 returns-in_ok-insert-in-None-clause-tag c = tag_of-named _ c.in-Ok.index _ (are_names _ (grown_others c)) (stored c)
+
+pub returns-in-Some-get_index_of-clause-added : goal.returns-in-Some-get_index_of-clause-added
+returns-in-Some-get_index_of-clause-added c = grind (arith, common_steps)
