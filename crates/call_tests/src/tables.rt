@@ -8,10 +8,7 @@ const KEYS: &str =
 
 /// Whether the longest key that a text begins with has this many bytes.
 fn has_longest(table: &Table, text: &[u8], length: usize) -> bool {
-    match table.longest(text) {
-        Some(found) => found.length == length,
-        None => length == 0,
-    }
+    table.longest(text).map_or(0, |found| found.length) == length
 }
 
 #[test]

@@ -1,5 +1,5 @@
 -- The index of the bytes after the `&`.
-use Rattle.charref.proofs.Names.{arith, ◌≡◌, inl, inr, ℕ, ◌+◌, ◌≤◌, ◌<◌, Bool, true, false, nat_lt, List, [], ◌∷◌, ◌++◌, length, slice_get, get_or, Option, Some, None, nat_le, refl, sym, ap, ◌∙◌, subst, length-append, and_from, nat_tests, slice_get_within, slice_get-get_or, get_or_from_slice_get, Search, Entry, Entities, code_at, IsSortedTable, IsRange, IsRising, IsStart, IsIndex, HasRead}
+use Rattle.charref.proofs.Names.{arith, ◌≡◌, inl, inr, ℕ, ◌+◌, ◌≤◌, ◌<◌, Bool, true, false, nat_lt, ◌&&◌, List, [], ◌∷◌, ◌++◌, length, slice_get, get_or, Option, Some, None, nat_le, refl, sym, ap, ◌∙◌, subst, length-append, and_from, and_parts, nat_tests, slice_get_within, slice_get-get_or, get_or_from_slice_get, Search, Entry, Entities, code_at, IsSortedTable, IsRange, IsRising, IsStart, IsIndex, HasRead}
 use Rattle.std.proofs.Common.{IfSome}
 use Rattle.std.proofs.lemmas.List.{get_or_append_left, get_or-append-add}
 use Rattle.std.proofs.lemmas.Bool.{cases_lt}
@@ -91,3 +91,23 @@ search_within table search bytes read =
     let within : search.high ≤ length table = read.range.within in
     and_from _ _ (let a : nat_le search.low search.high ≡ true = grind (arith, nat_tests) in let b : nat_le search.high (length table) ≡ true = grind (arith, nat_tests) in rw (a, b) refl)
     (place_within search.best (length table) read.within)
+
+-- what it says that a search stays within a table
+place_there : (best : Option ℕ) (count : ℕ) → is_place best count ≡ true → IfSome best (λ k. k < count)
+place_there None count h = tt
+place_there (Some k) count h = grind (arith, h, nat_tests)
+
+pub is_within : (search : Search) (count : ℕ) → is_search_within search count ≡ true → (search.low ≤ search.high) × (search.high ≤ count) × IfSome search.best (λ k. k < count)
+is_within search count h =
+    let parts = and_parts (nat_le search.low search.high && nat_le search.high count) (is_place search.best count) h in
+    let ends = and_parts (nat_le search.low search.high) (nat_le search.high count) parts.0 in
+    (grind (arith, ends.0, nat_tests), grind (arith, ends.1, nat_tests), place_there search.best count parts.1)
+
+-- what the first character after the `&` narrows a search to
+pub read_first : (table flat : Entities) (search : Search) (ch : ℕ) (r : Option Search) → flat ≡ table → search.depth ≡ 1 → IfSome r (λ next. HasRead next flat (38 ∷ ch ∷ []))
+    → IfSome r (λ next. (bytes : List ℕ) → HasRead search table (38 ∷ bytes) → HasRead next table (38 ∷ bytes ++ ch ∷ []))
+read_first table flat search ch None same one h = tt
+read_first table flat search ch (Some next) same one h = λ bytes read. by bytes (sym one ∙ read.depth) where
+  by : (bytes : List ℕ) → 1 ≡ length (38 ∷ bytes) → HasRead next table (38 ∷ bytes ++ ch ∷ [])
+  by [] e = subst (λ (t : Entities). HasRead next t (38 ∷ ch ∷ [])) same h
+  by (b ∷ bs) e = absurd (omega (arith, e))

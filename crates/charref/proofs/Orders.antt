@@ -1,5 +1,5 @@
 -- Keys in order, one after another.
-use Rattle.charref.proofs.Names.{arith, ◌≡◌, ℕ, ◌≤◌, ◌<◌, true, false, List, [], ◌∷◌, ◌++◌, length, drop, is_lt, Less, refl, ap, ◌∙◌, slice_cmp, AllByRecursion}
+use Rattle.charref.proofs.Names.{arith, nat_tests, get_or, zero, suc, ◌≡◌, ℕ, ◌≤◌, ◌<◌, true, false, List, [], ◌∷◌, ◌++◌, length, drop, is_lt, Less, refl, ap, ◌∙◌, slice_cmp, AllByRecursion}
 use Rattle.std.specs.List.Sorted.{IsStrictlySortedBy}
 use Rattle.std.proofs.Common.{nat_cmp}
 use Rattle.std.proofs.Math.Seq.{drop-cons}
@@ -23,6 +23,13 @@ abbrev pub last_key : List (List ℕ) → List ℕ
 last_key [] = []
 last_key (k ∷ []) = k
 last_key (k ∷ m ∷ ks) = last_key (m ∷ ks)
+
+-- past two equal bytes the order is that of what follows
+pub same_past : (a b : List ℕ) (n : ℕ) → n < length a → n < length b → get_or a n 0 ≡ get_or b n 0 → slice_cmp nat_cmp (drop n a) (drop n b) ≡ slice_cmp nat_cmp (drop (suc n) a) (drop (suc n) b)
+same_past [] b n l m e = absurd (omega (arith, l))
+same_past (x ∷ xs) [] n l m e = absurd (omega (arith, m))
+same_past (x ∷ xs) (y ∷ ys) zero l m e = grind (arith, e, nat_tests)
+same_past (x ∷ xs) (y ∷ ys) (suc n) l m e = same_past xs ys n (omega (arith, l)) (omega (arith, m)) e
 
 pub last_key-more : (ks : List (List ℕ)) (key : List ℕ) → last_key (ks ++ key ∷ []) ≡ key
 last_key-more [] key = refl

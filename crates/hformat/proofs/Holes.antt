@@ -1,5 +1,5 @@
 -- Vectors of items with holes, and where the entry of a node is in them.
-use Rattle.hformat.proofs.Names.{◌≡◌, ℕ, zero, suc, ◌+◌, ◌-◌, ◌<◌, ◌≤◌, eqb, Bool, true, false, cond, not, List, [], ◌∷◌, ◌++◌, Option, Some, None, is_some, length, map, filter, take, take-suc, drop, get_or, refl, sym, ◌∙◌, ap, subst, arith, All, position, position_or_len, list_any, slice_get, find, option_and_then, option_map, eqb-zero-suc, append-nil, get_or-map, length-append, length-map, All-drop, All-take, filter-append, EntryOf, Listed, marker, entry, as_entry, entry_of, for_node, is_entry, nth_live, AreSlots, IsSlot, IsStored, hole, is_gone, is_hole, item_of, items_of, live, nowhere, told, by_node, number_by, unless_hole, changed_at, Stored, is_some-position, slice_get_nearest, common_steps, nat_tests, lt-ltb, drop_at, take-append-drop, take_at, IsListed, Slots, ◌==◌, reverse, last_up, get_nearest, reverse_split}
+use Rattle.hformat.proofs.Names.{◌≡◌, if◌then◌else◌, ℕ, zero, suc, ◌+◌, ◌-◌, ◌<◌, ◌≤◌, eqb, Bool, true, false, cond, not, List, [], ◌∷◌, ◌++◌, Option, Some, None, is_some, length, map, filter, take, take-suc, drop, get_or, refl, sym, ◌∙◌, ap, subst, arith, All, position, position_or_len, list_any, slice_get, find, option_and_then, option_map, eqb-zero-suc, append-nil, get_or-map, length-append, length-map, All-drop, All-take, filter-append, EntryOf, Listed, marker, entry, as_entry, entry_of, for_node, is_entry, nth_live, AreSlots, IsSlot, IsStored, hole, is_gone, is_hole, item_of, items_of, live, nowhere, told, by_node, number_by, unless_hole, changed_at, Stored, is_some-position, slice_get_nearest, common_steps, nat_tests, lt-ltb, drop_at, take-append-drop, take_at, IsListed, Slots, ◌==◌, reverse, last_up, get_nearest, reverse_split}
 use Rattle.hformat.specs.declared.entry.Slot.TheVariants as stored
 use Rattle.hformat.proofs.ByHash.{last-at, number-at}
 use Rattle.hformat.proofs.ItemLists.{along_last, items_of_more, length-items_of}
@@ -10,6 +10,10 @@ use Rattle.hformat.proofs.Listed.{number-same, numbers-back, place, place-le}
 -- a smaller number is another
 pub apart : (a b : ℕ) → a < b → eqb a b ≡ false
 apart a b h = grind (arith, nat_tests)
+
+-- a number that counts no hole is this one
+pub unless : (name n : ℕ) → name < nowhere → suc (suc n) ≡ suc (if name == nowhere then zero else suc n)
+unless name n low = ap (λ (v : Bool). suc (cond v zero (suc n))) (sym (apart name nowhere low))
 
 pub gone-is : (x : Stored) → IsStored x → is_hole (item_of x) ≡ is_gone x
 gone-is x s = grind (arith, apart)

@@ -16,3 +16,4 @@ pub mod Closed
 pub mod Pushed
 pub mod ByName
 pub mod Spellings
+pub mod Ends

@@ -1,10 +1,25 @@
 -- The items of a list and their numbers, where the last ones leave, and where one becomes a hole.
-use Rattle.hformat.proofs.Names.{◌≡◌, ◌≢◌, ℕ, zero, suc, ◌+◌, ◌<◌, ◌≤◌, true, false, List, [], ◌∷◌, ◌++◌, length, take, set, get_or, min, subst, sym, ◌∙◌, ap, arith, All, length-append, map-append, take-map, map-set, length-set, length-take-le, get_or-set_other, All-append, All-take, All-set, entry_hash, none, EntryOf, IsStored, is_gone, item_of, IsListed, by_hash, by_name, by_node, number_by, numbers_by, unless_hole, Stored, Slots, max, is_some, get_or-take}
+use Rattle.hformat.proofs.Names.{get_or-set_same, refl, length-map, ◌≡◌, ◌≢◌, ℕ, zero, suc, ◌+◌, ◌<◌, ◌≤◌, true, false, List, [], ◌∷◌, ◌++◌, length, take, set, get_or, min, subst, sym, ◌∙◌, ap, arith, All, length-append, map-append, take-map, map-set, length-set, length-take-le, get_or-set_other, All-append, All-take, All-set, entry_hash, none, EntryOf, IsStored, is_gone, item_of, IsListed, by_hash, by_name, by_node, number_by, numbers_by, unless_hole, Stored, Slots, max, is_some, get_or-take}
 use Rattle.hformat.specs.declared.entry.Slot.TheVariants as stored
 
 -- Where only the hashes have changed, all else is as it was.
 pub all-but-hashes : (s t : Slots) (hashes : List ℕ) → t ≡ record s { hashes = hashes } → t ≡ record s { hashes = t.hashes }
 all-but-hashes s t hashes is = is ∙ ap (λ h. record s { hashes = h }) (sym (ap (λ x. x.hashes) is))
+
+-- there is a number for each item
+pub sized : (items : List Stored) (ns : List ℕ) (of : EntryOf ℕ → ℕ) (n : ℕ) → ns ≡ numbers_by of items → n ≡ length items → length ns ≡ n
+sized items ns of n is size = ap length is ∙ length-map items (λ i. number_by of (item_of i)) ∙ sym size
+
+module _ (items : List Stored) (ns : List ℕ) (of : EntryOf ℕ → ℕ) (i : ℕ) (is : ns ≡ numbers_by of items) (within : i < length items) where
+  pub numbered : i < length ns
+  numbered = omega (arith, sized items ns of (length items) is refl, within)
+
+  -- where the number of an item was taken out, another can come
+  pub freed-within : (ms : List ℕ) → ms ≡ set ns i none → i < length ms
+  freed-within ms now = omega (arith, numbered, ap length now, length-set ns i none)
+
+  pub freed : (ms : List ℕ) → ms ≡ set ns i none → get_or ms i 0 ≡ none
+  freed ms now = ap (λ l. get_or l i 0) now ∙ get_or-set_same ns i none 0 numbered
 
 module _ (old new : Slots) (listed : IsListed old) (n : ℕ) where
   -- this many items are left

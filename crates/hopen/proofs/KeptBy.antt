@@ -1,5 +1,5 @@
 -- What each open node keeps of those above it, as nodes come, go, change places and give way.
-use Rattle.hopen.proofs.Names.{true, ◌≡◌, ℕ, zero, suc, ◌<◌, ◌≤◌, Bool, false, cond, not, List, [], ◌∷◌, ◌++◌, length, map, take, get_or, set, refl, sym, ◌∙◌, ap, arith, nat_eq, eqb-suc-zero, get_or-map, map-append, map-set, take-map, last_up, KeepSets, closing, must_close_in, name_of, names_in, nearest_in, node_of, nodes_in, swap_with_next, holds, set_node, OpenNode, NameSet, SetNodes, is_special, may_stay_open, tag_of, kept_by}
+use Rattle.hopen.proofs.Names.{true, ◌≡◌, ℕ, zero, suc, ◌<◌, ◌≤◌, Bool, false, cond, not, List, [], ◌∷◌, ◌++◌, length, map, take, get_or, set, refl, sym, ◌∙◌, ap, arith, nat_eq, true≢false, eqb-suc-zero, get_or-map, map-append, map-set, take-map, last_up, KeepSets, closing, must_close_in, name_of, names_in, nearest_in, node_of, nodes_in, swap_with_next, holds, set_node, OpenNode, NameSet, SetNodes, is_special, may_stay_open, tag_of, kept_by}
 use Rattle.hopen.proofs.AllSpecial.{special}
 
 -- what is above an index is in the front up to it
@@ -63,11 +63,23 @@ module _ (ys : List (OpenNode ℕ)) (d : OpenNode ℕ) where
   -- none must be closed where none is the last one of these
   pub kept-closing : (n : ℕ) → n ≤ length ys → nat_eq (get_or (0 ∷ kept_by closing 0 ys) n 0) 0 ≡ nat_eq (last_up (λ m. not (may_stay_open (tag_of m))) (names_in ys) n) 0
   kept-closing zero h = refl
-  kept-closing (suc n) h = grind (arith, kept-closing n (omega arith), kept-at, names-at, eqb-suc-zero)
+  kept-closing (suc n) h =
+      ap (λ m. nat_eq m 0) (kept-at closing d ys 0 n h)
+      ∙ ap (λ m. nat_eq (cond (may_stay_open (tag_of m)) (get_or (0 ∷ kept_by closing 0 ys) n 0) 1) 0) (sym (names-at n h))
+      ∙ go (may_stay_open (tag_of (get_or (names_in ys) n 0))) (kept-closing n (omega arith))
+    where
+      go : (v : Bool) → nat_eq (get_or (0 ∷ kept_by closing 0 ys) n 0) 0 ≡ nat_eq (last_up (λ m. not (may_stay_open (tag_of m))) (names_in ys) n) 0
+          → nat_eq (cond v (get_or (0 ∷ kept_by closing 0 ys) n 0) 1) 0 ≡ nat_eq (cond (not v) (suc n) (last_up (λ m. not (may_stay_open (tag_of m))) (names_in ys) n)) 0
+      go true i = i
+      go false i = sym (eqb-suc-zero n)
 
 -- a name that is not special is in no set
 not-in : (set : NameSet) (n : ℕ) → is_special (tag_of n) ≡ false → holds set n ≡ false
-not-in set n plain = grind (arith, special)
+not-in set n plain = go (holds set n) (special set (tag_of n))
+  where
+    go : (v : Bool) → (v ≡ true → is_special (tag_of n) ≡ true) → v ≡ false
+    go true h = absurd (true≢false (sym (h refl) ∙ plain))
+    go false h = refl
 
 module _ (ys : List (OpenNode ℕ)) (sets : List SetNodes) (k : KeepSets ys sets) where
   pub sets-take : (n : ℕ) → KeepSets (take n ys) (take n sets)
@@ -117,4 +129,6 @@ module _ (ys : List (OpenNode ℕ)) (sets : List SetNodes) (k : KeepSets ys sets
               map-set f sets i p ∙ ap (λ (l : List ℕ). set l i (f p)) all ∙ sym (kept-swapped step d i ys 0 (f p) within same (new ∙ ap (λ l. step lower (get_or (0 ∷ l) i 0)) all))
 
           both : (v w : Bool) (b : ℕ) → cond v (cond w b 1) 1 ≡ cond w (cond v b 1) 1
-          both v w b = grind arith
+          both true w b = refl
+          both false true b = refl
+          both false false b = refl

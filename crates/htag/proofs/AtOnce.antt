@@ -9,6 +9,8 @@ use Rattle.std.proofs.lemmas.List.Sums.{prefix_len_stops}
 use Rattle.std.specs.Prelude.{◌⊎◌}
 use Rattle.std.specs.List.{slice_range}
 use Rattle.std.specs.Char.{is_ascii_lowercase}
+use Rattle.std.specs.Str.{IsAscii, IsCharBoundary}
+use Rattle.std.proofs.lemmas.Str.{IsCharBoundary-from_ascii}
 use Rattle.htext.proofs.Runs.{placed-append}
 use Rattle.htag.specs.AtOnce.{HasReadPart, IsAfterName, IsBareName, IsName, IsPlainAttribute, IsPlainPart, IsPlainValue, IsWritten, ReadsPart}
 use Rattle.htag.specs.declared.at_once.PlainAttribute.{PlainAttribute}
@@ -414,6 +416,15 @@ module _ (run : List ℕ) (count at : ℕ) (plain : list_all is_plain_byte run �
         ends = ap (begins ends_name) (sym text_is) ∙ begun at run (count + close) (omega (arith, some)) (omega (arith, within)) ends;
       }
 
+-- plain bytes may be cut anywhere
+plain_ascii : (run : List ℕ) → list_all is_plain_byte run ≡ true → IsAscii run
+plain_ascii [] h i = omega arith
+plain_ascii (x ∷ xs) h zero = let k = and_parts (is_plain_byte x) (list_all is_plain_byte xs) h in grind (arith, k.0, nat_tests)
+plain_ascii (x ∷ xs) h (suc i) = plain_ascii xs (and_parts (is_plain_byte x) (list_all is_plain_byte xs) h).1 i
+
+pub plain_boundary : (n : ℕ) (run : List ℕ) → list_all is_plain_byte run ≡ true → n ≤ length run → IsCharBoundary run n
+plain_boundary n run plain within = IsCharBoundary-from_ascii run n (plain_ascii run plain) within
+
 pub range_after : (from long : ℕ) (run : List ℕ) → slice_range run from (from + long) ≡ take long (drop from run)
 range_after from long run = let size : from + long - from ≡ long = omega arith in ap (λ (n : ℕ). take n (drop from run)) size
 
@@ -436,6 +447,9 @@ pub seen_again : (seen : Seen) (id : ℕ) (numbers : List ℕ) → has_number id
 seen_again seen id numbers known h = record { exact = λ n. grind (arith, nat_tests, h.exact n, known) }
 
 -- THE NAME, AND WHAT FOLLOWS IT
+
+pub name_within : (run : List ℕ) (size : ℕ) → IsName run size → size ≤ length run
+name_within run size is = omega (arith, is.count_is, ap length is.run_is, length-append (is.letter ∷ is.letters) is.others)
 
 module _ (run : List ℕ) (size more at : ℕ) (is : IsName run size) (plain : list_all is_plain_byte run ≡ true) (names : Texts) (walk : TagWalk) (named : string_bytes walk.name ≡ take size run) where
   abbrev word : List ℕ

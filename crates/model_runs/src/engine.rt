@@ -41,11 +41,7 @@ pub fn call(hand: &mut Hand, table: &Table, quirks: &Quirks, line: &str) -> Resu
         return Ok(());
     };
     let mut options = Options::new(table, quirks, Keys::for_tests());
-    let limit = |index| number(line, index) as u64;
-    options.limits = Limits::new(limit(4), limit(2), limit(3))?;
-    if word(line, 6) == "replace" {
-        options.bad_bytes = BadBytes::Replace;
-    }
+    set(&mut options, line)?;
     let context = text(hand.alloc, word(line, 8))?;
     let input = bytes(hand.alloc, word(line, 9))?;
     let trial = Trial {
@@ -55,6 +51,16 @@ pub fn call(hand: &mut Hand, table: &Table, quirks: &Quirks, line: &str) -> Resu
         input: &input,
     };
     say(&trial, word(line, 7) == "yes", &mut hand.out);
+    Ok(())
+}
+
+/// Sets the limits, and whether bad bytes are replaced.
+fn set(options: &mut Options<'_>, line: &str) -> Result<(), Refusal> {
+    let limit = |index| number(line, index) as u64;
+    options.limits = Limits::new(limit(4), limit(2), limit(3))?;
+    if word(line, 6) == "replace" {
+        options.bad_bytes = BadBytes::Replace;
+    }
     Ok(())
 }
 

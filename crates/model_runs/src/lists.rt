@@ -50,11 +50,7 @@ fn say_entries(chain: &Chains, out: &mut Answers) {
 pub fn call(list: &mut Formatting, hand: &mut Hand, line: &str) -> Result<(), Refusal> {
     match word(line, 1) {
         "new" => *list = Formatting::new(hand.alloc, Keys::for_tests()),
-        "push" => {
-            let open = hand.open(line)?;
-            let attrs = attrs(&mut hand.names, hand.alloc, after(line, 4))?;
-            list.push(open.node, open.name, Attributes::new(attrs, hand.alloc)?)?;
-        }
+        "push" => push(list, hand, line)?,
         "marker" => list.marker()?,
         "find" => {
             let name = hand.name(line, 2)?;
@@ -62,6 +58,14 @@ pub fn call(list: &mut Formatting, hand: &mut Hand, line: &str) -> Result<(), Re
         }
         call => call_of_node(list, hand, call, line),
     }
+    Ok(())
+}
+
+/// Adds the entry that a line says.
+fn push(list: &mut Formatting, hand: &mut Hand, line: &str) -> Result<(), Refusal> {
+    let open = hand.open(line)?;
+    let attrs = attrs(&mut hand.names, hand.alloc, after(line, 4))?;
+    list.push(open.node, open.name, Attributes::new(attrs, hand.alloc)?)?;
     Ok(())
 }
 

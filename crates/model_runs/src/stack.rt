@@ -4,7 +4,7 @@ use crate::answers::Answers;
 use crate::hand::{Hand, PLACE};
 use crate::words::{count, group, number, scope, word};
 use hnodes::NodeId;
-use hopen::{Group, OpenStack, Scope};
+use hopen::OpenStack;
 use names::{NameId, Refusal};
 
 /// Makes a call. Where it opens a node, that and its name come first.
@@ -19,12 +19,7 @@ pub fn call(stack: &mut OpenStack, hand: &mut Hand, line: &str) -> Result<(), Re
             stack.exchange(near, hand.node(line, 5), hand.open(line)?)?;
         }
         "pop_to" => stack.pop_to(hand.name(line, 2)?),
-        "name" => say_name(
-            stack,
-            hand.name(line, 2)?,
-            scope(word(line, 3)),
-            &mut hand.out,
-        ),
+        "name" => say_name(stack, hand.name(line, 2)?, line, &mut hand.out),
         call => call_of_node(stack, hand, call, line),
     }
     Ok(())
@@ -81,8 +76,8 @@ fn say_node(stack: &OpenStack, node: NodeId, out: &mut Answers) {
 }
 
 /// `in_scope`, `before_special`, `item_is_near` and `nearest`.
-fn say_name(stack: &OpenStack, name: NameId, scope: Scope, out: &mut Answers) {
-    out.flag(stack.in_scope(scope, name));
+fn say_name(stack: &OpenStack, name: NameId, line: &str, out: &mut Answers) {
+    out.flag(stack.in_scope(scope(word(line, 3)), name));
     out.flag(stack.before_special(name));
     out.flag(stack.item_is_near(name));
     out.open(stack.nearest(name));

@@ -28,21 +28,24 @@ pub fn call(hand: &mut Hand, line: &str) -> Result<(), Refusal> {
 
 /// Makes a node, and says its number.
 fn make(hand: &mut Hand, line: &str) -> Result<(), Refusal> {
-    let (alloc, tree, names) = (hand.alloc, &mut hand.tree, &mut hand.names);
+    let (alloc, tree) = (hand.alloc, &mut hand.tree);
     let made = match word(line, 1) {
         "comment" => tree.create_comment(text(alloc, after(line, 2))?, PLACE)?,
         "doctype" => {
             let texts = [word(line, 2), word(line, 3), after(line, 4)];
             tree.create_doctype(doctype(alloc, texts)?, PLACE)?
         }
-        _ => {
-            let name = names.intern(alloc, &text(alloc, word(line, 2))?)?;
-            let attrs = attrs(names, alloc, after(line, 3))?;
-            tree.create_element(name, attrs, PLACE)?
-        }
+        _ => make_element(hand, line)?,
     };
     hand.out.number(made.index());
     Ok(())
+}
+
+fn make_element(hand: &mut Hand, line: &str) -> Result<NodeId, Refusal> {
+    let (alloc, names) = (hand.alloc, &mut hand.names);
+    let name = names.intern(alloc, &text(alloc, word(line, 2))?)?;
+    let attrs = attrs(names, alloc, after(line, 3))?;
+    hand.tree.create_element(name, attrs, PLACE)
 }
 
 /// Makes an edit, or asks a question.

@@ -1,4 +1,4 @@
-use Rattle.charref.proofs.Names.{◌≡◌, [], ◌∷◌, true, sym, ◌∙◌, subst, slice_get_within, is_alphanumeric, HasRead, IsSortedTable, Settles}
+use Rattle.charref.proofs.Names.{◌≡◌, [], ◌∷◌, true, sym, ◌∙◌, subst, slice_get_within, is_alphanumeric, HasRead, IsTable, IsSortedTable, Settles}
 use Rattle.charref.proofs.AtOnce.{no_first}
 use Rattle.charref.proofs.at_once.settled.Goals as goal
 
@@ -14,3 +14,9 @@ returns-then-is_over-clause-settles c =
 
 pub whole_key-requires : goal.whole_key-requires
 whole_key-requires c = slice_get_within c.args.table.now c.in-Some-whole_place.place c.in-Some-whole_place.ensures.entry c.in-Some-whole_place.ensures.stands
+
+pub returns-in-Some-whole_place-clause-settles : goal.returns-in-Some-whole_place-clause-settles
+returns-in-Some-whole_place-clause-settles c = c.whole_key.ensures c.args.bytes.now c.in-Some-whole_place.ensures
+
+pub returns-then-is_over-clause-table : goal.returns-then-is_over-clause-table
+returns-then-is_over-clause-table c = subst IsTable c.table.view_is c.table.invariant.0.sorted.is_table

@@ -1,4 +1,4 @@
-use Rattle.charref.proofs.Names.{◌+◌, sym, subst, IsIndex, IsStart}
+use Rattle.charref.proofs.Names.{◌≡◌, arith, ◌+◌, sym, subst, IsIndex, IsStart}
 use Rattle.charref.proofs.Indexing.{start_more, below_next}
 use Rattle.charref.proofs.starts.starts_of.Goals as goal
 
@@ -10,3 +10,6 @@ loop-code-preserved c =
       start.within,
       below_next c.args.flat.now c.start_from-place.result l.code start,
     )
+
+pub returns : goal.returns
+returns c = let end : c.loop-code.code ≡ 130 = omega arith in subst (IsIndex c.args.flat.now c.loop-code.starts.items) end c.loop-code.invariant.0

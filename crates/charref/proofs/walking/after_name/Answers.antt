@@ -1,5 +1,6 @@
-use Rattle.charref.proofs.Names.{arith, nat_tests, nat_eq, NumberSign, IsRead, ◌≡◌, [], ◌∷◌, ◌++◌, true, false, true≢false, ◌&&◌, refl, sym, ap, ◌∙◌, subst, and_parts, all-one, characters, is_empty, is_alphanumeric, Entities, IsTable, is_whole, HasRead, HasNone, IsOver, GoesOn, key_bytes, in_name, last_of, is_letter_or_digit, NextIs}
+use Rattle.charref.proofs.Names.{arith, nat_tests, nat_eq, NumberSign, IsRead, ◌≡◌, [], ◌∷◌, ◌++◌, true, false, true≢false, ◌&&◌, refl, sym, ap, ◌∙◌, subst, ◌≤◌, length, and_parts, all-one, characters, is_empty, is_alphanumeric, Entities, IsTable, is_whole, HasRead, HasNone, IsOver, GoesOn, key_bytes, in_name, last_of, is_letter_or_digit, NextIs}
 use Rattle.charref.proofs.Extending.{key_bytes-more, front_of, best_before, settled_before, best_after, settled_after, letter_of, nothing_read, something_read, count_read}
+use Rattle.charref.proofs.Indexing.{is_within}
 use Rattle.charref.specs.declared.walking.Next.TheVariants.{Goes}
 use Rattle.charref.proofs.Numbers.{one_number_sign, alone_before}
 use Rattle.charref.proofs.walking.after_name.Goals as goal
@@ -69,3 +70,14 @@ returns-clause-next c = λ text p read run is after.
     ]) in
     c.decided-2.ensures text p after run first (count_read text p c.args.search.depth read.depth) (c.of-last.ensures ∙ ap last_of (sym is))
     (best_after table c.args.in_value text after p is_table c.in-Some.next next' over' waits) (settled_after table c.args.in_value text after p is_table c.in-Some.next next' over' waits)
+
+pub decided-requires : goal.decided-requires
+decided-requires c = (is_within c.args.search _ c.requires).2
+
+pub goes_on-requires-clause-within : goal.goes_on-requires-clause-within
+goes_on-requires-clause-within c =
+    let w = is_within c.in-Some.next _ c.in-Some.ensures.within in
+    (w.0, subst (λ (t : Entities). c.in-Some.next.high ≤ length t) (sym c.table.view_is) w.1)
+
+pub decided-requires-2 : goal.decided-requires-2
+decided-requires-2 c = (is_within c.in-Some.next _ c.in-Some.ensures.within).2

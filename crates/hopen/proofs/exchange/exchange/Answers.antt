@@ -1,4 +1,4 @@
-use Rattle.hopen.proofs.Names.{◌≡◌, ℕ, suc, ◌-◌, ◌<◌, ◌≤◌, true, List, Some, length, map, reverse, get_or, insert, remove, set, inl, inr, sym, ◌∙◌, ap, arith, true≢false, cases_lt, with_items_is, length-map, position, is_some, with_items, put_before, without, insert_nearest, no_words, remove_range, ◌+◌, last_place, is_some-position, remove_nearest, last_place-le, position-none, position-some, Stands, node_of, opened_by, same_node_of, stack_of, open_of, is_node, is_open, KeptNode, LastLevels, OpenNode}
+use Rattle.hopen.proofs.Names.{◌≡◌, ℕ, suc, ◌-◌, ◌<◌, ◌≤◌, true, List, Some, length, map, reverse, get_or, insert, remove, set, inl, inr, sym, subst, ◌∙◌, ap, arith, true≢false, cases_lt, with_items_is, length-map, position, is_some, with_items, put_before, without, insert_nearest, no_words, remove_range, ◌+◌, last_place, is_some-position, remove_nearest, last_place-le, position-none, position-some, Stands, node_of, opened_by, same_node_of, stack_of, open_of, is_node, is_open, KeptNode, LastLevels, OpenNode}
 use Rattle.std.proofs.Common.{Vec, Global, Bool}
 use Rattle.hopen.proofs.ExchangedStack.{exchanged-nearest, item_of, length-left, map-insert, map-remove_range, set-insert}
 use Rattle.hopen.proofs.Linked.{says-levels}
@@ -131,3 +131,25 @@ returns-else-level-gt0-clause-items c =
     ∙ c.sink-index.ensures.rest ∙ ap (λ (xs : List KeptNode). remove (map opened_by xs) (c.of_node.result - 1)) c.deref_mut.ensures.value) in
     let none = sym (says-levels node_of _ _ (map opened_by left) c.remove_run.ensures.stands.nodes c.args.above) ∙ sym c.of_node-level.ensures in
     sym ((no_words sought (stack_of left) (position-none sought (stack_of left) (omega arith))).put_is (open_of c.args.new)) ∙ ap (put_before sought (open_of c.args.new)) gone
+
+pub returns-then-index-to-clause-stands : goal.returns-then-index-to-clause-stands
+returns-then-index-to-clause-stands c =
+    let is = with_items_is (with_items c.args.items.now c.sink-index.new.items) c.replace.new.items (c.replace.auto.items ∙ c.deref_mut-then-index-to.ensures.len) in
+    subst (Stands c.replace.new.last) (sym is) c.replace.ensures.stands
+
+pub replace-requires-clause-stands : goal.replace-requires-clause-stands
+replace-requires-clause-stands c =
+    let is = c.deref_mut-then-index-to.ensures.value ∙ with_items_is c.args.items.now c.sink-index.new.items (c.sink-index.auto.items ∙ c.deref_mut.ensures.len) in
+    subst (Stands c.sink-index.new.last) (sym is) c.sink-index.ensures.stands
+
+pub remove_run-requires-clause-stands : goal.remove_run-requires-clause-stands
+remove_run-requires-clause-stands c =
+    subst (Stands c.sink-index.new.last) (sym (with_items_is c.args.items.now c.sink-index.new.items (c.sink-index.auto.items ∙ c.deref_mut.ensures.len))) c.sink-index.ensures.stands
+
+pub remove_run-requires-clause-within : goal.remove_run-requires-clause-within
+remove_run-requires-clause-within c =
+    omega (arith, c.sink-index.ensures.within, ap length (with_items_is c.args.items.now c.sink-index.new.items (c.sink-index.auto.items ∙ c.deref_mut.ensures.len)))
+
+pub remove_run-requires-clause-levels : goal.remove_run-requires-clause-levels
+remove_run-requires-clause-levels c =
+    omega (arith, c.requires.levels, ap length (with_items_is c.args.items.now c.sink-index.new.items (c.sink-index.auto.items ∙ c.deref_mut.ensures.len)), ap length c.deref_mut.ensures.value, c.sink-index.auto.items)

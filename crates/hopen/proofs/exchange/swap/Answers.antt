@@ -41,3 +41,9 @@ returns-clause-stands c =
     (transport (λ t. IsLinked (sym (with_items_is last.names c.swap_names.new.names (c.swap_names.auto.names ∙ c.deref_mut.ensures.len)) t) (swap_with_next i (names_in (map opened_by items))) (sym c.swap_items.ensures.same_names t)) c.swap_names.ensures.linked)
     (λ t. set (set last.nodes.items ((c.index.ensures ∙ sym (node-of items i x (omega (arith, within)) first)) t) (i + 1 + 1)) ((c.index-2.ensures ∙ sym (node-of items (i + 1) y within second)) t) (i + 1))
     c.swap_items.ensures.sets
+
+pub returns-clause-tables : goal.returns-clause-tables
+returns-clause-tables c = record {
+  names = ap length (with_items_is c.args.last.now.names c.swap_names.new.names (c.swap_names.auto.names ∙ c.deref_mut.ensures.len)) ∙ c.swap_names.auto.names ∙ ap length c.deref_mut.ensures.value;
+  nodes = length-set (set c.args.last.now.nodes.items c.index.result (c.args.index + 1 + 1)) c.index-2.result (c.args.index + 1) ∙ length-set c.args.last.now.nodes.items c.index.result (c.args.index + 1 + 1);
+}

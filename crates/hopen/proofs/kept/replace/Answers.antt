@@ -1,5 +1,6 @@
-use Rattle.hopen.proofs.Names.{◌≡◌, suc, ◌+◌, ◌<◌, length, map, set, refl, sym, ◌∙◌, ap, subst, arith, map-set, CanGiveWay, opened_by, open_of, Open}
+use Rattle.hopen.proofs.Names.{Stands, ◌≡◌, suc, ◌+◌, ◌<◌, length, map, set, refl, sym, ◌∙◌, ap, subst, arith, map-set, CanGiveWay, opened_by, open_of, Open}
 use Rattle.hopen.proofs.Standing.{numbers-replaced, stands-renamed}
+use Rattle.std.proofs.lemmas.List.{take-set}
 use Rattle.hopen.proofs.kept.replace.Goals as goal
 
 pub returns-then-can_give_way-clause-stands : goal.returns-then-can_give_way-clause-stands
@@ -18,3 +19,9 @@ rewind-requires-clause-numbers c =
 
 pub returns-else-can_give_way-clause-items : goal.returns-else-can_give_way-clause-items
 returns-else-can_give_way-clause-items c = c.rewind.ensures.same ∙ map-set opened_by c.args.items.now c.args.index c.new.result ∙ ap (λ (z : Open). set (map opened_by c.args.items.now) c.args.index (open_of z)) c.new.ensures
+
+pub unwind-requires-clause-stands : goal.unwind-requires-clause-stands
+unwind-requires-clause-stands c = c.requires.stands
+
+pub rewind-requires-clause-stands : goal.rewind-requires-clause-stands
+rewind-requires-clause-stands c = subst (Stands c.unwind.new.last) (sym (take-set c.args.items.now c.args.index c.new.result)) c.unwind.ensures.stands

@@ -1,4 +1,5 @@
-use Rattle.hadopt.proofs.Names.{◌≡◌, ◌+◌, ◌∙◌, ap, sym, arith, ℕ, true, false, eqb, List, [], ◌∷◌, Some, slice_get, drop, length, refl, option_map, without_entry, before, open_of, OpenNode, is_node, without_entries, SiteOf, stack, with_items}
+use Rattle.hadopt.proofs.Names.{zero, suc, ◌<◌, None, ◌≡◌, ◌+◌, ◌∙◌, ap, sym, arith, ℕ, true, false, eqb, List, [], ◌∷◌, Some, slice_get, drop, length, refl, option_map, without_entry, before, open_of, OpenNode, is_node, without_entries, SiteOf, stack, with_items}
+use Rattle.std.proofs.Common.{drop_of_length-le}
 use Rattle.hadopt.proofs.Halves.{before-further}
 use Rattle.hadopt.proofs.site.Site.remove_entries.Goals as goal
 
@@ -39,3 +40,21 @@ loop-up-preserved c =
       items = l.invariant.items ∙ ap (λ w. without_entries w l.self.items) step ∙ (λ i. without_entries (before (is_node c.args.formatting_element) (drop (l.up + 1) (open_is i))) (items_are i));
       count = omega (arith, l.invariant.count, fewer, same_way);
     }
+
+-- there is an open node at each place below their number
+never-past : (xs : List (OpenNode ℕ)) (n : ℕ) → None ≡ slice_get xs n → n < length xs → ⊥
+never-past [] n e h = omega (arith, h)
+never-past (x ∷ xs) zero e h = cc
+never-past (x ∷ xs) (suc n) e h = never-past xs n e (omega (arith, h))
+
+pub returns-in_default-clause-site : goal.returns-in_default-clause-site
+returns-in_default-clause-site c =
+    let none = sym (ap (option_map open_of) c.in_default.is) ∙ c.get.ensures.node in
+    absurd (never-past (stack c.loop-up.self) c.loop-up.up none (omega (arith, c.loop-up-test.true, c.loop-up.invariant.end)))
+
+pub returns-clause-site : goal.returns-clause-site
+returns-clause-site c =
+    let l = c.loop-up in
+    let past : drop l.up (stack l.self) ≡ [] = drop_of_length-le (stack l.self) (omega (arith, c.loop-up-test.false, l.invariant.end)) in
+    let none = ap (before (is_node c.args.formatting_element)) past in
+    l.invariant.same ∙ ap (λ items. with_items items c.args.self.now) (sym (l.invariant.items ∙ ap (λ w. without_entries w l.self.items) none))

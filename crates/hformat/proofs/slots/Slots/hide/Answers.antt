@@ -1,6 +1,6 @@
-use Rattle.hformat.proofs.Names.{◌≡◌, ◌+◌, true, is_some, set, ap, sym, ◌∙◌, false≢true, none, max}
+use Rattle.hformat.proofs.Names.{◌<◌, length, subst, Slots, ◌≡◌, ◌+◌, true, is_some, set, ap, sym, ◌∙◌, false≢true, none, max}
 use Rattle.hformat.specs.declared.entry.Slot.TheVariants as stored
-use Rattle.hformat.proofs.Slotted.{all-but-hashes, listed-hide}
+use Rattle.hformat.proofs.Slotted.{all-but-hashes, listed-hide, numbered}
 use Rattle.hformat.proofs.slots.Slots.hide.Goals as goal
 use Rattle.hformat.proofs.slots.Slots.hide.Goals.{then-is_some, else-is_some}
 
@@ -17,3 +17,16 @@ returns-clause-listed c =
     ] in
     listed-hide s _ c.requires.listed i (ap (λ t. t.keys) is) c.requires.within (ap (λ t. set t.items.items i stored.Hole) is)
     (c.clear-2.ensures ∙ ap (λ t. set t.names i none) is) hashes (c.clear-3.ensures ∙ ap (λ t. set t.nodes i none) is) (c.max-self.ensures ∙ ap (λ t. max t.solid (i + 1)) is)
+
+pub clear-requires : goal.clear-requires
+clear-requires c = numbered c.args.self.now.items.items c.args.self.now.hashes _ c.args.index (c.requires.listed.hashes (sym c.if-is_some.ensures)) c.requires.within
+
+pub clear-requires-2 : goal.clear-requires-2
+clear-requires-2 c =
+    let there = numbered c.args.self.now.items.items c.args.self.now.names _ c.args.index c.requires.listed.names c.requires.within in
+    elim c.if-is_some.branch [ then-is_some w ↦ subst (λ (s : Slots). c.args.index < length s.names) (sym w.self-is) there | else-is_some w ↦ subst (λ (s : Slots). c.args.index < length s.names) (sym w.self-is) there ]
+
+pub clear-requires-3 : goal.clear-requires-3
+clear-requires-3 c =
+    let there = numbered c.args.self.now.items.items c.args.self.now.nodes _ c.args.index c.requires.listed.nodes c.requires.within in
+    elim c.if-is_some.branch [ then-is_some w ↦ subst (λ (s : Slots). c.args.index < length s.nodes) (sym w.self-is) there | else-is_some w ↦ subst (λ (s : Slots). c.args.index < length s.nodes) (sym w.self-is) there ]

@@ -1,6 +1,7 @@
 use Rattle.hformat.proofs.Names.{◌<◌, ◌==◌, suc, length, set, reverse, refl, ◌∙◌, ap, arith, remove, get_or_read, length-reverse, length-set, length-remove, last_up, ◌-◌, is_entry, item_of, items_of, nowhere, renamed, last_place-le}
 use Rattle.hformat.specs.declared.entry.Slot.TheVariants as stored
 use Rattle.hformat.proofs.Moved.{listed-renewed, mark-place, moved-after}
+use Rattle.hformat.proofs.Slotted.{freed, freed-within}
 use Rattle.hformat.proofs.slots.Slots.move_after.Goals as goal
 
 pub lower-requires-clause-listed : goal.lower-requires-clause-listed
@@ -47,3 +48,9 @@ returns-else-place-index-clause-items c =
     let read = get_or_read items c.args.index c.index_mut.result.now c.requires.within c.index_mut.ensures.value stored.Hole in
     ap items_of c.raise.ensures.items
     ∙ moved-after c.args.node c.args.mark items c.args.index (c.last-place.result - 1) c.set_node.new.self c.requires.within c.requires.entry (c.set_node.ensures ∙ ap (renamed c.args.node) read) (placed.above c.if-place-index.false) c.requires.mark
+
+pub set-requires-clause-within : goal.set-requires-clause-within
+set-requires-clause-within c = freed-within c.args.self.now.items.items c.args.self.now.nodes _ c.args.index c.requires.listed.nodes c.requires.within _ c.clear.ensures
+
+pub set-requires-clause-free : goal.set-requires-clause-free
+set-requires-clause-free c = freed c.args.self.now.items.items c.args.self.now.nodes _ c.args.index c.requires.listed.nodes c.requires.within _ c.clear.ensures

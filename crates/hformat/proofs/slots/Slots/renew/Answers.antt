@@ -1,6 +1,7 @@
 use Rattle.hformat.proofs.Names.{◌≡◌, suc, get_or, set, refl, ◌∙◌, ap, arith, get_or_read, items_of, renamed}
 use Rattle.hformat.specs.declared.entry.Slot.TheVariants as stored
 use Rattle.hformat.proofs.Moved.{listed-renewed, renewed-items}
+use Rattle.hformat.proofs.Slotted.{freed, freed-within}
 use Rattle.hformat.proofs.slots.Slots.renew.Goals as goal
 
 pub returns-clause-listed : goal.returns-clause-listed
@@ -17,3 +18,9 @@ returns-clause-items c =
     let read : c.index_mut.result.now ≡ get_or items c.args.index stored.Hole = get_or_read items c.args.index c.index_mut.result.now c.requires.within c.index_mut.ensures.value stored.Hole in
     ap (λ x. items_of (set items c.args.index x)) (c.set_node.ensures ∙ ap (renamed c.args.node) read)
     ∙ renewed-items c.args.node items c.args.index c.requires.within c.requires.entry
+
+pub set-requires-clause-within : goal.set-requires-clause-within
+set-requires-clause-within c = freed-within c.args.self.now.items.items c.args.self.now.nodes _ c.args.index c.requires.listed.nodes c.requires.within _ c.clear.ensures
+
+pub set-requires-clause-free : goal.set-requires-clause-free
+set-requires-clause-free c = freed c.args.self.now.items.items c.args.self.now.nodes _ c.args.index c.requires.listed.nodes c.requires.within _ c.clear.ensures

@@ -1,7 +1,7 @@
-use Rattle.hformat.proofs.Names.{◌≡◌, ◌+◌, ◌<◌, true, is_some, length, sym, ◌∙◌, ap, arith, subst, false≢true, All, swap, max, swap_is, IsStored, by_hash, by_name, by_node, numbers_by}
+use Rattle.hformat.proofs.Names.{Slots, ◌≡◌, ◌+◌, ◌<◌, true, is_some, length, sym, ◌∙◌, ap, arith, subst, false≢true, All, swap, max, swap_is, IsStored, by_hash, by_name, by_node, numbers_by}
 use Rattle.hformat.specs.declared.entry.Slot.TheVariants as stored
 use Rattle.hformat.proofs.Moved.{NoHoleFrom, All-exchanged, exchanged, length-exchanged, numbers-exchanged, solid-exchanged}
-use Rattle.hformat.proofs.Slotted.{all-but-hashes}
+use Rattle.hformat.proofs.Slotted.{all-but-hashes, numbered}
 use Rattle.hformat.proofs.slots.Slots.swap.Goals as goal
 use Rattle.hformat.proofs.slots.Slots.swap.Goals.{then-is_some, else-is_some}
 
@@ -31,3 +31,16 @@ returns-clause-listed c =
       within = omega (arith, most, ap length now, length-exchanged old i stored.Hole, listed.within);
       solid = subst (λ n. NoHoleFrom n c.swap-4.new.self.items) (sym most) (subst (NoHoleFrom (max s.solid (i + 2))) (sym now) (solid-exchanged old s.solid i stored.Hole listed.solid));
     }
+
+pub swap-requires : goal.swap-requires
+swap-requires c = numbered c.args.self.now.items.items c.args.self.now.hashes _ (c.args.index + 1) (c.requires.listed.hashes (sym c.if-is_some.ensures)) c.requires.within
+
+pub swap-requires-2 : goal.swap-requires-2
+swap-requires-2 c =
+    let there = numbered c.args.self.now.items.items c.args.self.now.names _ (c.args.index + 1) c.requires.listed.names c.requires.within in
+    elim c.if-is_some.branch [ then-is_some w ↦ subst (λ (s : Slots). c.args.index + 1 < length s.names) (sym w.self-is) there | else-is_some w ↦ subst (λ (s : Slots). c.args.index + 1 < length s.names) (sym w.self-is) there ]
+
+pub swap-requires-3 : goal.swap-requires-3
+swap-requires-3 c =
+    let there = numbered c.args.self.now.items.items c.args.self.now.nodes _ (c.args.index + 1) c.requires.listed.nodes c.requires.within in
+    elim c.if-is_some.branch [ then-is_some w ↦ subst (λ (s : Slots). c.args.index + 1 < length s.nodes) (sym w.self-is) there | else-is_some w ↦ subst (λ (s : Slots). c.args.index + 1 < length s.nodes) (sym w.self-is) there ]

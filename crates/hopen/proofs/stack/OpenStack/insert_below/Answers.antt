@@ -1,8 +1,9 @@
-use Rattle.hopen.proofs.Names.{◌≤◌, ◌+◌, List, length, ◌∙◌, sym, ap, map, reverse, subst, arith, ℕ, ◌≡◌, insert_nearest, no_words, put_before, is_node, OpenNodes, open_of, opened_by, KeptNode, length-map, insert, length-insert}
+use Rattle.hopen.proofs.Names.{refl, stack_of, ◌≤◌, ◌+◌, List, length, ◌∙◌, sym, ap, map, reverse, subst, arith, ℕ, ◌≡◌, insert_nearest, no_words, put_before, is_node, OpenNodes, open_of, opened_by, KeptNode, length-map, insert, length-insert}
 use Rattle.hopen.proofs.ExchangedStack.{item_of, map-insert}
-use Rattle.hopen.proofs.Opened.{seen, found, none_found, kept, room-left}
+use Rattle.hopen.proofs.Opened.{seen, found, none_found, kept, room-left, no-ok}
 use Rattle.hopen.proofs.WrittenBack.{stands_same}
 use Rattle.hopen.proofs.Standing.{many}
+use Rattle.hchain.proofs.Lent.{on_err}
 use Rattle.hopen.proofs.stack.OpenStack.insert_below.Goals as goal
 
 pub returns-in_ok-reserve-clause-ok : goal.returns-in_ok-reserve-clause-ok
@@ -62,3 +63,25 @@ invariant_of-self-in-Some c =
       );
       stands = c.insert.ensures.stands;
     }
+
+pub returns-in_err-room-clause-ok : goal.returns-in_err-room-clause-ok
+returns-in_err-room-clause-ok c = no-ok _ c.from_residual.result c.from_residual.ensures.0
+
+pub invariant_of-self : goal.invariant_of-self
+invariant_of-self c = record {
+  within = c.self.invariant.within;
+  stands = stands_same c.self.inside.last _ c.self.inside.items.items _ c.in_err-make_room.ensures.same_names c.in_err-make_room.ensures.same_nodes c.in_err-make_room.ensures.fits refl c.self.invariant.stands;
+}
+
+pub returns-in_err-reserve-clause-ok : goal.returns-in_err-reserve-clause-ok
+returns-in_err-reserve-clause-ok c = no-ok _ c.from_residual-in_err-reserve.result c.from_residual-in_err-reserve.ensures.0
+
+pub returns-in_err-reserve-clause-err : goal.returns-in_err-reserve-clause-err
+returns-in_err-reserve-clause-err c =
+    on_err c.from_residual-in_err-reserve.result (ap (λ (xs : List KeptNode). record { limit = c.self.inside.limit; stack = stack_of xs }) c.in_err-reserve.ensures.items ∙ c.self.view_is)
+
+pub insert-requires-clause-room : goal.insert-requires-clause-room
+insert-requires-clause-room c = omega (arith, c.in_ok-reserve.ensures.ok)
+
+pub insert-requires-clause-new_in : goal.insert-requires-clause-new_in
+insert-requires-clause-new_in c = c.in_ok-make_room.ensures.room

@@ -1,6 +1,7 @@
-use Rattle.hopen.proofs.Names.{ℕ, length, ap, arith, OpenNodes}
-use Rattle.hopen.proofs.Opened.{room-left}
+use Rattle.hopen.proofs.Names.{List, KeptNode, stack_of, ◌∙◌, ℕ, length, ap, arith, OpenNodes}
+use Rattle.hopen.proofs.Opened.{room-left, no-ok}
 use Rattle.hopen.proofs.Standing.{length-stack_of, many}
+use Rattle.hchain.proofs.Lent.{on_err}
 use Rattle.hopen.proofs.stack.OpenStack.push.Goals as goal
 
 pub push-requires-clause-levels : goal.push-requires-clause-levels
@@ -25,3 +26,13 @@ invariant_of-self-2 c = record {
   );
   stands = c.push.ensures.stands;
 }
+
+pub returns-in_err-room-clause-ok : goal.returns-in_err-room-clause-ok
+returns-in_err-room-clause-ok c = no-ok _ c.from_residual.result c.from_residual.ensures.0
+
+pub returns-in_err-push-clause-ok : goal.returns-in_err-push-clause-ok
+returns-in_err-push-clause-ok c = no-ok _ c.from_residual-in_err-push.result c.from_residual-in_err-push.ensures.0
+
+pub returns-in_err-push-clause-err : goal.returns-in_err-push-clause-err
+returns-in_err-push-clause-err c =
+    on_err c.from_residual-in_err-push.result (ap (λ (xs : List KeptNode). record { limit = c.self.inside.limit; stack = stack_of xs }) c.in_err-push.ensures.err ∙ c.self.view_is)

@@ -1,6 +1,6 @@
-use Rattle.htag.proofs.Vocabulary.{refl, ap, ◌∙◌, ◌+◌, List, ℕ, Some}
+use Rattle.htag.proofs.Vocabulary.{arith, refl, ap, ◌∙◌, ◌+◌, List, ℕ, Some, length}
 use Rattle.htext.proofs.Runs.{front_of}
-use Rattle.htag.proofs.AtOnce.{attribute, attribute_plain, plain_part, range_after, seen_stays}
+use Rattle.htag.proofs.AtOnce.{attribute, attribute_plain, plain_boundary, plain_part, range_after, seen_stays}
 use Rattle.htag.proofs.Ending.{first_ends}
 use Rattle.htag.proofs.walk.TagWalk.plain_attribute.Goals as goal
 
@@ -24,3 +24,21 @@ pub returns-then-not-branch-clause-stays : goal.returns-then-not-branch-clause-s
 returns-then-not-branch-clause-stays c = λ none parts h.
     let seen = (rw c.index-2.ensures at c.in_ok-add.ensures) in
     seen_stays c.args.names.now c.intern.new.self c.in_ok-name.ensures.grows c.args.self.now _ parts c.in_ok-name.name c.in_ok-add.field-0 seen refl refl c.if-not-branch.true h
+
+pub range-requires-clause-end_boundary : goal.range-requires-clause-end_boundary
+range-requires-clause-end_boundary c = plain_boundary c.in-Some.found.name c.args.run.now c.requires.plain (omega (arith, ap length c.as_bytes.ensures.value, c.in-Some.ensures.few))
+
+pub range-requires-2-clause-start_boundary : goal.range-requires-2-clause-start_boundary
+range-requires-2-clause-start_boundary c = λ some. plain_boundary _ c.args.run.now c.requires.plain (omega (arith, ap length c.as_bytes.ensures.value, c.in-Some.ensures.few))
+
+pub range-requires-2-clause-end_boundary : goal.range-requires-2-clause-end_boundary
+range-requires-2-clause-end_boundary c = plain_boundary _ c.args.run.now c.requires.plain (omega (arith, ap length c.as_bytes.ensures.value, c.in-Some.ensures.few))
+
+pub returns-clause-stays : goal.returns-clause-stays
+returns-clause-stays c = λ none. absurd (omega (arith, none, c.in-Some.ensures.front.some))
+
+pub returns-in_err-push-clause-grows : goal.returns-in_err-push-clause-grows
+returns-in_err-push-clause-grows c = c.in_ok-name.ensures.grows
+
+pub returns-in_err-value-clause-grows : goal.returns-in_err-value-clause-grows
+returns-in_err-value-clause-grows c = c.in_ok-name.ensures.grows

@@ -53,3 +53,12 @@ pub returns-clause-reads : goal.returns-clause-reads
 returns-clause-reads c = λ some at.
     open_rest c.args.run.now c.loop-count.count c.unless_in_part-2.result at c.loop-count.names c.loop-count.self c.loop-count.before_attribute (omega (arith, c.loop-count.invariant.within, some, (c.unless_in_part-2.ensures.before some).1))
     (ap (λ (x : List ℕ). ends_name (slice_index x 0)) (sym c.as_bytes.ensures.value) ∙ sym c.ends.ensures ∙ c.if-not-ends.false) some (c.unless_in_part-2.ensures.before some) (c.loop-count.invariant.parts at)
+
+pub returns-in_err-more-clause-grows : goal.returns-in_err-more-clause-grows
+returns-in_err-more-clause-grows c = grows_on _ _ _ c.loop-count.invariant.grows c.plain_part.ensures.grows
+
+pub returns-then-more-eq0-clause-grows : goal.returns-then-more-eq0-clause-grows
+returns-then-more-eq0-clause-grows c = grows_on _ _ _ c.loop-count.invariant.grows c.plain_part.ensures.grows
+
+pub plain_part-requires-clause-some : goal.plain_part-requires-clause-some
+plain_part-requires-clause-some c = omega (arith, ap length c.rest_of-rest.ensures.value, length-drop c.loop-count.count c.args.run.now, c.loop-count-test.true)

@@ -1,0 +1,19 @@
+use Rattle.std.proofs.Common.{rules}
+use Rattle.hmodes.proofs.Vocabulary.{error, again, InCaption}
+use Rattle.hmodes.specs.Body.{in_body}
+use Rattle.hmodes.specs.Table.{close_caption, in_caption}
+use Rattle.hmodes.proofs.Ways.{as-rule}
+use Rattle.hmodes.proofs.tree_construction.TreeConstruction.in_caption.Goals as goal
+
+pub returns-in-Start-Caption : goal.returns-in-Start-Caption
+returns-in-Start-Caption c =
+    as-rule (in_caption c.args.kind) (close_caption again) c.args.at c.args.token.now c.args.self.now
+    c.close_caption-in-Start-Caption.result c.args.token.now c.close_caption-in-Start-Caption.new.self (search rules) (c.close_caption-in-Start-Caption.ensures _)
+
+pub returns-in-End-Body : goal.returns-in-End-Body
+returns-in-End-Body c =
+    as-rule (in_caption c.args.kind) (error InCaption) c.args.at c.args.token.now c.args.self.now c.ignore.result c.args.token.now c.ignore.new.self (search rules) (c.ignore.ensures _)
+
+pub returns-in_default : goal.returns-in_default
+returns-in_default c =
+    as-rule (in_caption c.args.kind) (in_body c.args.kind) c.args.at c.args.token.now c.args.self.now c.in_body.result c.in_body.new.token c.in_body.new.self (search rules) c.in_body.ensures
