@@ -26,8 +26,8 @@ pub returns-in-Replace-Some : goal.returns-in-Replace-Some
 returns-in-Replace-Some c = elim c.match-from_utf8.branch [
   | in-Ok-empty w ↦ let e = sym w.bad_len-is ∙ c.in-Replace-Some.is-1 in absurd cc
   | in-Err w ↦
-    let none = sym w.valid_up_to.ensures ∙ w.if-valid_up_to-eq0.true in
-    let is_bad = ap (λ n. utf8_error_len (drop n c.args.rest.now)) (sym none) ∙ sym w.in-Err.ensures.fault ∙ sym w.error_len-bad_len.ensures ∙ sym w.bad_len-is ∙ c.in-Replace-Some.is-1 in
-    bad_next _ c.args.rest.now _ _ _ c.in-Replace-Some.is-0 (sym w.in-Err.ensures.valid_len ∙ none) is_bad
-    (omega (arith, c.unwrap_or.ensures, ap (λ x. unwrap_or x (length c.args.rest.now)) c.in-Replace-Some.is-1, c.if-unwrap_or-room.false))
+      let none = sym w.valid_up_to.ensures ∙ w.if-valid_up_to-eq0.true in
+      let is_bad = ap (λ n. utf8_error_len (drop n c.args.rest.now)) (sym none) ∙ sym w.in-Err.ensures.fault ∙ sym w.error_len-bad_len.ensures ∙ sym w.bad_len-is ∙ c.in-Replace-Some.is-1 in
+      bad_next _ c.args.rest.now _ _ _ c.in-Replace-Some.is-0 (sym w.in-Err.ensures.valid_len ∙ none) is_bad
+      (omega (arith, c.unwrap_or.ensures, ap (λ x. unwrap_or x (length c.args.rest.now)) c.in-Replace-Some.is-1, c.if-unwrap_or-room.false))
 ]
