@@ -1,12 +1,5 @@
--- Calls that end with an error, and lists that have one more.
-use Rattle.hformat.proofs.Names.{◌≡◌, ℕ, suc, List, [], ◌∷◌, ◌++◌, length, take, ◌∙◌, ap, arith, length-append, take_at, sym, false≢true}
-use Rattle.std.proofs.Common.{Result, Ok, Err}
-use Rattle.std.specs.Result.{IsErr, OnOk}
-
--- on an error nothing is said of a success
-pub no-ok : {T E : Type 0} (P : Type 0) (r : Result T E) → IsErr r → OnOk r P
-no-ok P (Ok _) e = absurd (false≢true e)
-no-ok P (Err _) e = tt
+-- Lists that have one more.
+use Rattle.hformat.proofs.Names.{◌≡◌, ℕ, suc, List, [], ◌∷◌, ◌++◌, length, take, ◌∙◌, ap, arith, length-append, take_at, sym}
 
 pub one-more : {A : Type 0} (xs ys : List A) (x : A) → ys ≡ xs ++ x ∷ [] → length ys ≡ suc (length xs)
 one-more xs ys x is = omega (arith, ap length is, length-append xs (x ∷ []))

@@ -1,6 +1,5 @@
 -- What is seen of the open nodes after an edit of their vector.
-use Rattle.hopen.proofs.Names.{◌≡◌, ℕ, suc, ◌+◌, ◌-◌, ◌<◌, true≢false, Bool, List, Option, Some, None, length, drop, map, reverse, sym, ◌∙◌, ap, subst, arith, cond, leb, position, length-drop, length-map, length-reverse, drop-length, unwrap_or, IfSome, after, words, no_words, OpenNode, OpenNodes, opened_by, open_nodes_of, KeptNode, Inside, nat_tests, MatchOption, Result, Ok, Err}
-use Rattle.std.specs.Result.{IsErr, OnOk}
+use Rattle.hopen.proofs.Names.{◌≡◌, ℕ, suc, ◌+◌, ◌-◌, ◌<◌, Bool, List, Option, Some, None, length, drop, map, reverse, sym, ◌∙◌, ap, subst, arith, cond, leb, position, length-drop, length-map, length-reverse, drop-length, unwrap_or, IfSome, after, words, no_words, OpenNode, OpenNodes, opened_by, open_nodes_of, KeptNode, Inside, nat_tests, MatchOption, Result, Ok, Err}
 
 pub seen : (s : Inside) (n : OpenNodes ℕ) (word : List (OpenNode ℕ) → List (OpenNode ℕ)) (items : List KeptNode) → open_nodes_of s ≡ n → reverse (map opened_by items) ≡ word (reverse (map opened_by s.items.items))
     → ◌≡◌ {A = OpenNodes ℕ} (record { limit = s.limit; stack = reverse (map opened_by items) }) (record { limit = n.limit; stack = word n.stack })
@@ -45,8 +44,3 @@ depth_is sought ys o p h = grind (arith, left_is, length-drop)
 -- what a check of the room says where it passes
 pub room-left : {E : Type 0} (e : E) (limit many : ℕ) → ◌≡◌ {A = Result (Unit {0}) E} (Ok tt) (cond (leb limit many) (Err e) (Ok tt)) → many < limit
 room-left {E} e limit many = grind (arith, nat_tests)
-
--- on an error nothing is said of a success
-pub no-ok : {T E : Type 0} (P : Type 0) (r : Result T E) → IsErr r → OnOk r P
-no-ok P (Ok _) e = absurd (true≢false (sym e))
-no-ok P (Err _) e = tt

@@ -3,8 +3,9 @@ use Rattle.hformat.specs.declared.entry.Slot.TheVariants as stored
 use Rattle.hchain.proofs.Lent.{on_err}
 use Rattle.hformat.proofs.ItemLists.{items_of_last, length-items_of}
 use Rattle.hformat.proofs.Pushed.{pushed-live}
-use Rattle.hformat.proofs.Ends.{one-more, no-ok}
+use Rattle.hformat.proofs.Ends.{one-more}
 use Rattle.hformat.proofs.Holes.{unless}
+use Rattle.std.proofs.lemmas.Result.{IfOk-from_err}
 use Rattle.hformat.proofs.formatting.Formatting.push.Goals as goal
 
 pub returns-in-Some-clause-ok : goal.returns-in-Some-clause-ok
@@ -82,16 +83,16 @@ overflow_sub-index-in-Some c =
     omega (arith, one-more _ _ _ c.in_ok-put.ensures.ok, within)
 
 pub returns-in_err-make_room-clause-ok : goal.returns-in_err-make_room-clause-ok
-returns-in_err-make_room-clause-ok c = no-ok _ c.from_residual.result c.from_residual.ensures.0
+returns-in_err-make_room-clause-ok c = IfOk-from_err c.from_residual.result _ c.from_residual.ensures.0
 
 pub returns-in_err-hash_if_crowded-clause-ok : goal.returns-in_err-hash_if_crowded-clause-ok
-returns-in_err-hash_if_crowded-clause-ok c = no-ok _ c.from_residual-in_err-hash_if_crowded.result c.from_residual-in_err-hash_if_crowded.ensures.0
+returns-in_err-hash_if_crowded-clause-ok c = IfOk-from_err c.from_residual-in_err-hash_if_crowded.result _ c.from_residual-in_err-hash_if_crowded.ensures.0
 
 pub returns-in_err-hash-clause-ok : goal.returns-in_err-hash-clause-ok
-returns-in_err-hash-clause-ok c = no-ok _ c.from_residual-in_err-hash.result c.from_residual-in_err-hash.ensures.0
+returns-in_err-hash-clause-ok c = IfOk-from_err c.from_residual-in_err-hash.result _ c.from_residual-in_err-hash.ensures.0
 
 pub returns-in_err-earliest-clause-ok : goal.returns-in_err-earliest-clause-ok
-returns-in_err-earliest-clause-ok c = no-ok _ c.from_residual-in_err-earliest.result c.from_residual-in_err-earliest.ensures.0
+returns-in_err-earliest-clause-ok c = IfOk-from_err c.from_residual-in_err-earliest.result _ c.from_residual-in_err-earliest.ensures.0
 
 pub returns-in_err-put-clause-ok : goal.returns-in_err-put-clause-ok
-returns-in_err-put-clause-ok c = no-ok _ c.from_residual-in_err-put.result c.from_residual-in_err-put.ensures.0
+returns-in_err-put-clause-ok c = IfOk-from_err c.from_residual-in_err-put.result _ c.from_residual-in_err-put.ensures.0

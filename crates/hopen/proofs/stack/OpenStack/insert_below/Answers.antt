@@ -1,9 +1,10 @@
 use Rattle.hopen.proofs.Names.{refl, stack_of, ◌≤◌, ◌+◌, List, length, ◌∙◌, sym, ap, map, reverse, subst, arith, ℕ, ◌≡◌, insert_nearest, no_words, put_before, is_node, OpenNodes, open_of, opened_by, KeptNode, length-map, insert, length-insert}
 use Rattle.hopen.proofs.ExchangedStack.{item_of, map-insert}
-use Rattle.hopen.proofs.Opened.{seen, found, none_found, kept, room-left, no-ok}
+use Rattle.hopen.proofs.Opened.{seen, found, none_found, kept, room-left}
 use Rattle.hopen.proofs.WrittenBack.{stands_same}
 use Rattle.hopen.proofs.Standing.{many}
 use Rattle.hchain.proofs.Lent.{on_err}
+use Rattle.std.proofs.lemmas.Result.{IfOk-from_err}
 use Rattle.hopen.proofs.stack.OpenStack.insert_below.Goals as goal
 
 pub returns-in_ok-reserve-clause-ok : goal.returns-in_ok-reserve-clause-ok
@@ -65,7 +66,7 @@ invariant_of-self-in-Some c =
     }
 
 pub returns-in_err-room-clause-ok : goal.returns-in_err-room-clause-ok
-returns-in_err-room-clause-ok c = no-ok _ c.from_residual.result c.from_residual.ensures.0
+returns-in_err-room-clause-ok c = IfOk-from_err c.from_residual.result _ c.from_residual.ensures.0
 
 pub invariant_of-self : goal.invariant_of-self
 invariant_of-self c = record {
@@ -74,7 +75,7 @@ invariant_of-self c = record {
 }
 
 pub returns-in_err-reserve-clause-ok : goal.returns-in_err-reserve-clause-ok
-returns-in_err-reserve-clause-ok c = no-ok _ c.from_residual-in_err-reserve.result c.from_residual-in_err-reserve.ensures.0
+returns-in_err-reserve-clause-ok c = IfOk-from_err c.from_residual-in_err-reserve.result _ c.from_residual-in_err-reserve.ensures.0
 
 pub returns-in_err-reserve-clause-err : goal.returns-in_err-reserve-clause-err
 returns-in_err-reserve-clause-err c =

@@ -1,7 +1,8 @@
 use Rattle.hopen.proofs.Names.{List, KeptNode, stack_of, ◌∙◌, ℕ, length, ap, arith, OpenNodes}
-use Rattle.hopen.proofs.Opened.{room-left, no-ok}
+use Rattle.hopen.proofs.Opened.{room-left}
 use Rattle.hopen.proofs.Standing.{length-stack_of, many}
 use Rattle.hchain.proofs.Lent.{on_err}
+use Rattle.std.proofs.lemmas.Result.{IfOk-from_err}
 use Rattle.hopen.proofs.stack.OpenStack.push.Goals as goal
 
 pub push-requires-clause-levels : goal.push-requires-clause-levels
@@ -28,10 +29,10 @@ invariant_of-self-2 c = record {
 }
 
 pub returns-in_err-room-clause-ok : goal.returns-in_err-room-clause-ok
-returns-in_err-room-clause-ok c = no-ok _ c.from_residual.result c.from_residual.ensures.0
+returns-in_err-room-clause-ok c = IfOk-from_err c.from_residual.result _ c.from_residual.ensures.0
 
 pub returns-in_err-push-clause-ok : goal.returns-in_err-push-clause-ok
-returns-in_err-push-clause-ok c = no-ok _ c.from_residual-in_err-push.result c.from_residual-in_err-push.ensures.0
+returns-in_err-push-clause-ok c = IfOk-from_err c.from_residual-in_err-push.result _ c.from_residual-in_err-push.ensures.0
 
 pub returns-in_err-push-clause-err : goal.returns-in_err-push-clause-err
 returns-in_err-push-clause-err c =

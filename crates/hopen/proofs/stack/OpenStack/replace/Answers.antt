@@ -1,8 +1,9 @@
 use Rattle.hopen.proofs.Names.{length, Stands, subst, ◌∙◌, ap, sym, refl, reverse, arith, with_items_is, map-set, with_items, no_words, is_node, open_of, opened_by, stack_of, KeptNode, change_nearest, changed}
 use Rattle.hopen.proofs.ExchangedStack.{item_of}
-use Rattle.hopen.proofs.Opened.{seen, found, none_found, kept, no-ok}
+use Rattle.hopen.proofs.Opened.{seen, found, none_found, kept}
 use Rattle.hchain.proofs.Lent.{on_err}
 use Rattle.hopen.proofs.WrittenBack.{stands_same}
+use Rattle.std.proofs.lemmas.Result.{IfOk-from_err}
 use Rattle.hopen.proofs.stack.OpenStack.replace.Goals as goal
 
 pub returns-in_ok-make_room-clause-ok : goal.returns-in_ok-make_room-clause-ok
@@ -26,7 +27,7 @@ invariant_of-self c = record {
 }
 
 pub returns-in_err-make_room-clause-ok : goal.returns-in_err-make_room-clause-ok
-returns-in_err-make_room-clause-ok c = no-ok _ c.from_residual.result c.from_residual.ensures.0
+returns-in_err-make_room-clause-ok c = IfOk-from_err c.from_residual.result _ c.from_residual.ensures.0
 
 pub returns-in_err-make_room-clause-err : goal.returns-in_err-make_room-clause-err
 returns-in_err-make_room-clause-err c = on_err c.from_residual.result c.self.view_is
