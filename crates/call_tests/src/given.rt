@@ -1,9 +1,9 @@
-//! The sink of the tests.
+//! The sink of the tests, and what feeds a tokenizer.
 
 use hmarkup::ErrorSink;
 use htext::CharSink;
-use htoken::{Token, TokenSink};
-use names::{ParseError, Refusal};
+use htoken::{Token, TokenSink, Tokenizer};
+use names::{Names, ParseError, Refusal};
 use std::alloc::Global;
 
 /// What it took: the characters as they are, a letter for each other token, and `!` for an error. It refuses what is more than `left`.
@@ -69,4 +69,17 @@ impl TokenSink for Taken {
     fn take_text(&mut self, ch: char, _at: u64) -> Result<(), Refusal> {
         self.add(ch)
     }
+}
+
+/// Feeds a text that goes on.
+pub fn feed(
+    tokenizer: &mut Tokenizer<'_>,
+    names: &mut Names,
+    text: &str,
+    sink: &mut Taken,
+) -> Result<(), Refusal> {
+    for (place, ch) in text.char_indices() {
+        tokenizer.feed_char(names, ch, place as u64, sink)?;
+    }
+    Ok(())
 }

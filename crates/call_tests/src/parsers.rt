@@ -1,9 +1,9 @@
-//! The builder and the parser: refusals that stay, errors that are handed out, contexts.
+//! The builder and the parser: refusals that stay, errors that are handed out.
 
 use charref::Table;
 use hmarkup::{ErrorSink, Quirks};
 use hmodes::{Builder, Limits};
-use hparse::{Options, Parsed, Parser, is_context};
+use hparse::{Options, Parsed, Parser};
 use htoken::{Token, TokenSink};
 use names::{ErrorCode, Keys, ParseError, Refusal, RefusedName, Tag};
 use std::alloc::Global;
@@ -154,14 +154,4 @@ fn of_builders(rt: HostRuntime) -> Result<(), Fail> {
     drop(quirks);
     assert!(rt; stays? && come?);
     Ok(())
-}
-
-#[test]
-fn of_contexts(rt: HostRuntime) {
-    for name in ["td", "x-1_:", "html"] {
-        assert!(rt; is_context(name));
-    }
-    for name in ["", "Td", "1a", "a b", "colgroup", "svg", "select"] {
-        assert!(rt; !is_context(name));
-    }
 }

@@ -1,6 +1,6 @@
 //! Sinks that refuse: what they took before, and that the refusal stays.
 
-use crate::given::Taken;
+use crate::given::{Taken, feed};
 use charref::Table;
 use hmarkup::{CommentWalk, DoctypeWalk};
 use htext::{BadBytes, Bom, Decoder, MAX_INPUT};
@@ -53,9 +53,7 @@ fn tokenize(
     text: &str,
     sink: &mut Taken,
 ) -> Result<(), Refusal> {
-    for (place, ch) in text.char_indices() {
-        tokenizer.feed_char(names, ch, place as u64, sink)?;
-    }
+    feed(tokenizer, names, text, sink)?;
     tokenizer.finish(names, text.len() as u64, sink)
 }
 

@@ -1,29 +1,22 @@
-//! The longest key of a table that a text begins with.
+//! Which entries a table has, and which set a name is in.
 
 use charref::Table;
+use names::{Refusal, Tag};
+use std::alloc::Global;
 use std::test::Fail;
 
-const KEYS: &str =
-    "{\"&a\":{\"codepoints\":[49],\"characters\":\"1\"},\"&aaa\":{\"codepoints\":[51],\"characters\":\"3\"}}";
-
-/// Whether the longest key that a text begins with has this many bytes.
-fn has_longest(table: &Table, text: &[u8], length: usize) -> bool {
-    table.longest(text).map_or(0, |found| found.length) == length
+/// Whether the core table has the five entries, and an empty one does not.
+fn is_core_alone(alloc: Global) -> Result<bool, Refusal> {
+    Ok(Table::core(alloc)?.has_core() && !Table::read(alloc, "{}")?.has_core())
 }
 
 #[test]
-fn the_longest_key_is_found(rt: HostRuntime) -> Result<(), Fail> {
-    let table = Table::read(rt.alloc(), KEYS)?;
-    let all = has_longest(&table, b"&aaaab", 4)
-        && has_longest(&table, b"&b", 0)
-        && has_longest(&table, b"", 0);
-    assert!(rt; all);
+fn of_tables(rt: HostRuntime) -> Result<(), Fail> {
+    assert!(rt; is_core_alone(rt.alloc())?);
     Ok(())
 }
 
 #[test]
-fn the_core_table_has_the_core(rt: HostRuntime) -> Result<(), Fail> {
-    assert!(rt; Table::core(rt.alloc())?.has_core());
-    assert!(rt; !Table::read(rt.alloc(), KEYS)?.has_core());
-    Ok(())
+fn of_sets(rt: HostRuntime) {
+    assert!(rt; Tag::A.is_formatting() && !Tag::P.is_formatting());
 }

@@ -1,9 +1,9 @@
 //! What a tokenizer holds of a text that goes on.
 
-use crate::given::Taken;
+use crate::given::{Taken, feed};
 use charref::Table;
 use htoken::{Start, Tokenizer};
-use names::{Keys, Names, Refusal};
+use names::{Keys, Names};
 use std::alloc::Global;
 use std::test::Fail;
 
@@ -26,19 +26,6 @@ const HELD: [(&str, u64, &str); 12] = [
     ("&#6", 0, ""),
 ];
 
-/// Feeds a text that goes on.
-fn feed(
-    tokenizer: &mut Tokenizer<'_>,
-    names: &mut Names,
-    text: &str,
-    sink: &mut Taken,
-) -> Result<(), Refusal> {
-    for (place, ch) in text.char_indices() {
-        tokenizer.feed_char(names, ch, place as u64, sink)?;
-    }
-    Ok(())
-}
-
 /// Whether a text is held from there on, and that was given.
 fn is_held(alloc: Global, table: &Table, text: &str, from: u64, given: &str) -> bool {
     let mut names = Names::new(alloc, Keys::for_tests());
@@ -48,11 +35,14 @@ fn is_held(alloc: Global, table: &Table, text: &str, from: u64, given: &str) -> 
     answer.is_ok() && tokenizer.held_from() == from && sink.text.as_str() == given
 }
 
+/// Whether each text is.
+fn all_are_held(alloc: Global, table: &Table) -> bool {
+    HELD.iter().all(|(text, from, given)| is_held(alloc, table, text, *from, given))
+}
+
 #[test]
 fn the_unfinished_span_alone_is_held(rt: HostRuntime) -> Result<(), Fail> {
     let table = Table::read(rt.alloc(), NOT)?;
-    for (text, from, given) in HELD {
-        assert!(rt; is_held(rt.alloc(), &table, text, from, given), "{text}");
-    }
+    assert!(rt; all_are_held(rt.alloc(), &table));
     Ok(())
 }

@@ -10,10 +10,15 @@ use hwrite::{
 use std::alloc::Global;
 use std::{env, fs};
 
-fn main(rt: HostRuntime) -> anyhow::Result<()> {
-    let bytes = fs::read(&rt, word(&rt, 1)?.as_str())?;
-    let page = read(&rt, &bytes)?;
-    print_outline(&rt, &page, &bytes)
+pub fn main(rt: HostRuntime) -> anyhow::Result<()> {
+    print_outline(&rt)
+}
+
+/// Prints the outline of the page that the command line names.
+pub fn print_outline(rt: &HostRuntime) -> anyhow::Result<()> {
+    let bytes = fs::read(rt, word(rt, 1)?.as_str())?;
+    let page = read(rt, &bytes)?;
+    print_all(rt, &page, &bytes)
 }
 
 /// A word of the command line.
@@ -46,7 +51,7 @@ fn parse(alloc: Global, options: &Options<'_>, bytes: &[u8]) -> Result<Parsed, R
 }
 
 /// Prints all of an outline.
-fn print_outline(rt: &HostRuntime, page: &Parsed, bytes: &[u8]) -> anyhow::Result<()> {
+fn print_all(rt: &HostRuntime, page: &Parsed, bytes: &[u8]) -> anyhow::Result<()> {
     print_attributes(rt, page)?;
     print_title(rt, page)?;
     print_headings(rt, page)?;

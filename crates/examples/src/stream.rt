@@ -1,5 +1,5 @@
 //! An example of the library: prints the links of a page that is read in pieces and kept nowhere, as they come, and stops after the
-//! first few where a number says how many.
+//! first few where a fourth word says how many.
 #![tactic(auto)]
 
 use anyhow::Context;
@@ -14,15 +14,20 @@ use std::{env, fs};
 /// How many bytes are read at a time.
 const PIECE: usize = 65_536;
 
-fn main(rt: HostRuntime) -> anyhow::Result<()> {
-    let entities = fs::read_to_string(&rt, word(&rt, 2)?.as_str())?;
+pub fn main(rt: HostRuntime) -> anyhow::Result<()> {
+    print_first_links(&rt)
+}
+
+/// Prints the first links of the page that the command line names.
+pub fn print_first_links(rt: &HostRuntime) -> anyhow::Result<()> {
+    let entities = fs::read_to_string(rt, word(rt, 2)?.as_str())?;
     let table = Table::read(rt.alloc(), &entities)?;
     // The quirks list has no say in tokens.
     let quirks = Quirks::read(rt.alloc(), "")?;
-    print_links(&rt, &Options::new(&table, &quirks, Keys::random(&rt)?))
+    print_links(rt, &Options::new(&table, &quirks, Keys::random(rt)?))
 }
 
-/// Prints the links of the page that the command line names.
+/// Prints the links of the page, read with these options.
 fn print_links(rt: &HostRuntime, options: &Options<'_>) -> anyhow::Result<()> {
     let left = Cell::new(most(rt)?);
     let mut page = Counted::new(File::open(rt, word(rt, 1)?.as_str())?);
@@ -37,14 +42,14 @@ fn print_links(rt: &HostRuntime, options: &Options<'_>) -> anyhow::Result<()> {
 
 /// A word of the command line.
 fn word(rt: &HostRuntime, at: usize) -> anyhow::Result<String> {
-    env::args(rt)?
-        .nth(at)
-        .context("name a page and the table of character references")
+    env::args(rt)?.nth(at).context(
+        "name a page, the table of character references and the quirks list",
+    )
 }
 
 /// How many links are wanted: all, if no number says so.
 fn most(rt: &HostRuntime) -> anyhow::Result<u64> {
-    match env::args(rt)?.nth(3) {
+    match env::args(rt)?.nth(4) {
         Some(number) => number.parse().context("say how many links by a number"),
         None => Ok(u64::MAX),
     }

@@ -6,13 +6,18 @@ use hwrite::{Keys, Options, Parsed, Parser, Quirks, Refusal, Table, Tag};
 use std::alloc::Global;
 use std::{env, fs};
 
-fn main(rt: HostRuntime) -> anyhow::Result<()> {
-    let bytes = fs::read(&rt, word(&rt, 1)?.as_str())?;
-    let entities = fs::read_to_string(&rt, word(&rt, 2)?.as_str())?;
-    let quirks = fs::read_to_string(&rt, word(&rt, 3)?.as_str())?;
-    let keys = Keys::random(&rt)?;
+pub fn main(rt: HostRuntime) -> anyhow::Result<()> {
+    print_links(&rt)
+}
+
+/// Prints the links of the page that the command line names, or why it is refused.
+pub fn print_links(rt: &HostRuntime) -> anyhow::Result<()> {
+    let bytes = fs::read(rt, word(rt, 1)?.as_str())?;
+    let entities = text(rt, 2)?;
+    let quirks = text(rt, 3)?;
+    let keys = Keys::random(rt)?;
     match parse(rt.alloc(), &entities, &quirks, keys, &bytes) {
-        Ok(page) => print_links(&rt, &page),
+        Ok(page) => print_each(rt, &page),
         Err(refusal) => Ok(println!(rt; "refused: {refusal}")?),
     }
 }
@@ -22,6 +27,11 @@ fn word(rt: &HostRuntime, at: usize) -> anyhow::Result<String> {
     env::args(rt)?.nth(at).context(
         "name a page, the table of character references and the quirks list",
     )
+}
+
+/// The text of a file that the command line names.
+fn text(rt: &HostRuntime, at: usize) -> anyhow::Result<String> {
+    Ok(fs::read_to_string(rt, word(rt, at)?.as_str())?)
 }
 
 /// Parses a page in pieces, as they might come from the network.
@@ -41,7 +51,8 @@ fn parse(
     parser.finish()
 }
 
-fn print_links(rt: &HostRuntime, page: &Parsed) -> anyhow::Result<()> {
+/// Prints each link of a page, and its text.
+fn print_each(rt: &HostRuntime, page: &Parsed) -> anyhow::Result<()> {
     for node in page.tree.descendants(page.tree.document()) {
         if page.tree.is(node, Tag::A) {
             if let Some(link) = page.tree.attribute(&page.names, node, "href") {
