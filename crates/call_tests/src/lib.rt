@@ -1,14 +1,12 @@
-//! Tests by what only calls can show: sinks that refuse, what is held, refusals that stay, calls that are counted. What comes of an input
-//! is in the stored cases of `data/cases`, what comes of a command line in the stored runs of `htmlp`, what comes of each read and each
-//! write that fails in `.ci/refused-calls`, and what names, tables, lists and trees answer in `.ci/models`.
+//! Tests by what only calls can show: sinks that refuse, what is held, calls that are counted. What comes of an input, and of a call after
+//! a refusal, is in the stored cases of `data/cases`, what comes of a command line in the stored runs of `htmlp`, what comes of each read
+//! and each write that fails in `.ci/refused-calls`, and what names, tables, lists and trees answer in `.ci/models`.
 #![tactic(auto)]
 
 #[cfg(test)]
 mod counted;
 #[cfg(test)]
 mod given;
-#[cfg(test)]
-mod parsers;
 #[cfg(test)]
 mod refusals;
 #[cfg(test)]

@@ -48,9 +48,7 @@ impl Answers {
     }
 
     fn add(&mut self, text: &str) {
-        if self.text.push_str(text).is_err() {
-            self.is_lost = true;
-        }
+        self.is_lost |= self.text.push_str(text).is_err();
     }
 
     fn add_number(&mut self, number: usize) {
@@ -73,9 +71,7 @@ impl Answers {
 
     pub fn refusal(&mut self, refusal: Refusal) {
         self.say("refused ");
-        if write!(self.text, "{refusal}").is_err() {
-            self.is_lost = true;
-        }
+        self.is_lost |= write!(self.text, "{refusal}").is_err();
     }
 
     pub fn flag(&mut self, holds: bool) {
@@ -145,9 +141,13 @@ impl Answers {
 
     /// An open node, as `3:p`, or `-`.
     pub fn open(&mut self, open: Option<Open>) {
-        let Some(Open { node, name }) = open else {
-            return self.say("-");
-        };
+        match open {
+            Some(Open { node, name }) => self.named(node, name),
+            None => self.say("-"),
+        }
+    }
+
+    fn named(&mut self, node: NodeId, name: NameId) {
         self.number(node.index());
         self.add(":");
         self.add_name(name);
@@ -156,12 +156,9 @@ impl Answers {
     /// An entry, as `3:b dir=1`, or `-`.
     pub fn entry(&mut self, entry: Option<&Entry>) {
         match entry {
-            Some(Entry { node, name, attrs }) => {
-                self.open(Some(Open {
-                    node: *node,
-                    name: *name,
-                }));
-                self.attrs(attrs.as_slice());
+            Some(entry) => {
+                self.named(entry.node, entry.name);
+                self.attrs(entry.attrs.as_slice());
             }
             None => self.say("-"),
         }
@@ -169,8 +166,6 @@ impl Answers {
 
     pub fn kind(&mut self, kind: NodeKind) {
         self.say("");
-        if write!(self.text, "{kind:?}").is_err() {
-            self.is_lost = true;
-        }
+        self.is_lost |= write!(self.text, "{kind:?}").is_err();
     }
 }

@@ -107,19 +107,11 @@ fn other_piece(trial: &Trial, whole: &Outcome) -> Option<usize> {
 fn outcome_of<R: Read + Drop>(trial: &Trial, piece: usize, reader: R) -> Outcome
     requires { 0 < piece }
 {
-    let command = Command {
-        piece,
-        ..trial.command
-    };
+    let (alloc, mut command) = (trial.alloc, trial.command);
+    command.piece = piece;
     let mut source = Counted::new(reader);
-    let mut target = Counted::new(Vec::new(trial.alloc));
-    let answer = run(
-        trial.alloc,
-        command,
-        &trial.options,
-        &mut source,
-        &mut target,
-    );
+    let mut target = Counted::new(Vec::new(alloc));
+    let answer = run(alloc, command, &trial.options, &mut source, &mut target);
     Outcome {
         text: target.into_inner(),
         refusal: answer.err(),
@@ -145,11 +137,17 @@ fn token_text(trial: &Trial) -> Result<Vec<u8>, Refusal> {
     token_lines(trial.alloc, &run)
 }
 
-/// The lines of the errors of a document or a fragment.
+/// The lines of the errors of a document or a fragment. Where its parser is refused, it has to be refused again, for the same.
 fn error_text(trial: &Trial) -> Result<Vec<u8>, Refusal> {
-    let parser = parser(trial.alloc, trial.command.context, &trial.options)?;
-    let parsed = parse_reader(trial.alloc, parser, PIECE, &mut Counted::new(trial.input))?;
-    error_lines(trial.alloc, &parsed.errors)
+    let mut parser = parser(trial.alloc, trial.command.context, &trial.options)?;
+    let answer = parser.feed(trial.input);
+    if answer.is_err() && parser.feed(b"<p>x") != answer {
+        return Err(Refusal::Write);
+    }
+    let parsed = parser.finish()?;
+    let lines = error_lines(trial.alloc, &parsed.errors);
+    drop(parsed);
+    lines
 }
 
 /// An input, after which a reader fails.

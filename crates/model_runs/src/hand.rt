@@ -10,13 +10,14 @@ use std::alloc::{AllocError, Global};
 /// The place of the token that each call is made for, if a refusal names it.
 pub const PLACE: u64 = 7;
 
-/// A tree, whose nodes words name by their numbers, the names, and the answers.
+/// A tree, whose nodes words name by their numbers, the names, the answers, and how many calls were made on the site.
 #[derive(Drop)]
 pub struct Hand {
     pub alloc: Global,
     pub tree: Tree,
     pub names: Names,
     pub out: Answers,
+    pub at: u64,
 }
 
 impl Hand {
@@ -27,15 +28,14 @@ impl Hand {
             tree: Tree::new(alloc, 1)?,
             names: Names::new(alloc, Keys::for_tests()),
             out: Answers::new(alloc)?,
+            at: 0,
         })
     }
 
     /// The node with the number that a word is; the document if there is none.
     pub fn node(&self, line: &str, index: usize) -> NodeId {
-        match self.tree.node(number(line, index)) {
-            Some(node) => node,
-            None => self.tree.document(),
-        }
+        let node = self.tree.node(number(line, index));
+        node.unwrap_or(self.tree.document())
     }
 
     /// The name that a word is.

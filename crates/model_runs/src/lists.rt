@@ -12,13 +12,13 @@ use hchain::{Chains, NONE};
 use hformat::{Bookmark, Formatting};
 use hnodes::{Attributes, NodeId};
 use names::{Keys, Refusal};
+use std::mem::replace;
 
 /// Makes a call of a list of numbers.
 pub fn call_chain(chain: &mut Chains, hand: &mut Hand, line: &str) -> Result<(), Refusal> {
-    let number = number(line, 2);
-    let len = chain.len();
+    let (number, len) = (number(line, 2), chain.len());
     match word(line, 1) {
-        "new" => *chain = Chains::new(hand.alloc),
+        "new" => drop(replace(chain, Chains::new(hand.alloc))),
         "push" if number != NONE => chain.push(number)?,
         "clear" if number < len => chain.clear(number),
         "truncate" if number <= len => chain.truncate(number),
@@ -46,17 +46,17 @@ fn say_entries(chain: &Chains, out: &mut Answers) {
     }
 }
 
-/// Makes a call of a list of formatting elements. The node of the entry comes first, then the one in its place.
+/// Makes a call of a list of formatting elements.
 pub fn call(list: &mut Formatting, hand: &mut Hand, line: &str) -> Result<(), Refusal> {
     match word(line, 1) {
-        "new" => *list = Formatting::new(hand.alloc, Keys::for_tests()),
-        "push" => push(list, hand, line)?,
-        "marker" => list.marker()?,
+        "new" => drop(replace(list, Formatting::new(hand.alloc, Keys::for_tests()))),
+        "push" => return push(list, hand, line),
         "find" => {
             let name = hand.name(line, 2)?;
             hand.out.entry(list.find(name));
         }
-        call => call_of_node(list, hand, call, line),
+        "marker" => list.marker()?,
+        _ => edit(list, hand, line),
     }
     Ok(())
 }
@@ -65,15 +65,13 @@ pub fn call(list: &mut Formatting, hand: &mut Hand, line: &str) -> Result<(), Re
 fn push(list: &mut Formatting, hand: &mut Hand, line: &str) -> Result<(), Refusal> {
     let open = hand.open(line)?;
     let attrs = attrs(&mut hand.names, hand.alloc, after(line, 4))?;
-    list.push(open.node, open.name, Attributes::new(attrs, hand.alloc)?)?;
-    Ok(())
+    Ok(list.push(open.node, open.name, Attributes::new(attrs, hand.alloc)?)?)
 }
 
-/// Makes a call that is never refused.
-fn call_of_node(list: &mut Formatting, hand: &mut Hand, call: &str, line: &str) {
-    let (from, to) = (hand.node(line, 2), hand.node(line, 3));
-    let back = number(line, 2);
-    match call {
+/// Makes an edit that is never refused. The node of the entry comes first, then the one in its place.
+fn edit(list: &mut Formatting, hand: &mut Hand, line: &str) {
+    let (from, to, back) = (hand.node(line, 2), hand.node(line, 3), number(line, 2));
+    match word(line, 1) {
         "clear" => list.clear(),
         "remove" => list.remove(from),
         "replace" => list.replace(from, to),
@@ -81,11 +79,20 @@ fn call_of_node(list: &mut Formatting, hand: &mut Hand, call: &str, line: &str) 
         "reach" => list.reach(back),
         "keep" if is_moved(list, from, to, Bookmark::InPlace) => {}
         "move" if is_moved(list, from, to, Bookmark::After(hand.node(line, 4))) => {}
-        "len" => hand.out.number(list.len()),
-        "get" => hand.out.entry(list.get(back)),
-        "all" => say_all(list, &mut hand.out),
-        "entry" => hand.out.entry(list.entry_of(from)),
-        _ => hand.out.say("-"),
+        _ => ask(list, hand, line),
+    }
+}
+
+/// Answers a question that has no name.
+fn ask(list: &Formatting, hand: &mut Hand, line: &str) {
+    let node = hand.node(line, 2);
+    let out = &mut hand.out;
+    match word(line, 1) {
+        "len" => out.number(list.len()),
+        "get" => out.entry(list.get(number(line, 2))),
+        "all" => say_all(list, out),
+        "entry" => out.entry(list.entry_of(node)),
+        _ => out.say("-"),
     }
 }
 

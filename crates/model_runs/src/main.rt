@@ -84,10 +84,9 @@ fn answer(structures: &mut Structures, run: &mut Run, line: &str)
     requires { IsTrue run.old.sound → Kept numbers run.old.site }
     ensures { IsTrue run.new.sound → Kept numbers run.new.site }
 {
-    let answer = if word(line, 0) == "site" {
-        run.call(&mut structures.hand, line)
-    } else {
-        structures.call_again(line)
+    let answer = match word(line, 0) {
+        "site" => run.call(&mut structures.hand, line),
+        _ => structures.call_again(line),
     };
     structures.hand.out.end(answer);
 }
@@ -108,14 +107,13 @@ impl Structures {
     /// Empty lists, and the document alone.
     fn new(alloc: Global) -> Result<Self, Refusal> {
         let table = Table::core(alloc)?;
-        let quirks = Quirks::read(alloc, "")?;
         Ok(Structures {
+            quirks: Quirks::read(alloc, "")?,
             hand: Hand::new(alloc)?,
             chain: Chains::new(alloc),
             stack: OpenStack::new(alloc, 0),
             list: Formatting::new(alloc, Keys::for_tests()),
             table,
-            quirks,
         })
     }
 

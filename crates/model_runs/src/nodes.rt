@@ -6,27 +6,40 @@ use crate::answers::Answers;
 use crate::hand::Hand;
 use crate::words::word;
 use hnodes::{NodeId, Tree};
-use hwrite::{Counted, Escaping, Names, Refusal, is_plain, serialize, serialize_to_vec, tree_text};
-use std::alloc::Global;
+use hwrite::{Counted, Escaping, Refusal, is_plain, serialize, serialize_to_vec, tree_text};
+use std::alloc::AllocError;
 
 /// Answers a question about a node.
-pub fn ask(hand: &mut Hand, question: &str, node: NodeId, line: &str) -> Result<(), Refusal>
+pub fn ask(hand: &mut Hand, call: &str, node: NodeId, line: &str) -> Result<(), Refusal>
     requires { node < hand.old.tree.made }
 {
-    let (alloc, tree, names, out) = (hand.alloc, &hand.tree, &hand.names, &mut hand.out);
-    match question {
+    let (tree, names, out) = (&hand.tree, &hand.names, &mut hand.out);
+    match call {
         "named" => {
             out.flag(tree.is_element(names, node, word(line, 3)));
             out.quoted(tree.attribute(names, node, word(line, 3)));
         }
         "node" => say_node(tree, node, out),
-        "children" => out.nodes(tree.children(node).collect(alloc)?),
-        "elements" => out.nodes(tree.child_elements(node).collect(alloc)?),
-        "ancestors" => out.nodes(tree.ancestors(node).collect(alloc)?),
-        "descendants" => out.nodes(tree.descendants(node).collect(alloc)?),
-        "content" => out.quoted(Some(&tree.text_content(alloc, node)?)),
+        "content" => out.quoted(Some(&tree.text_content(hand.alloc, node)?)),
+        "written" => return say_written(hand, node, word(line, 3)),
+        "children" | "elements" | "ancestors" | "descendants" => return say_nodes(hand, call, node),
         _ => out.say("-"),
     }
+    Ok(())
+}
+
+/// Says the nodes in a node, or those that it is in.
+fn say_nodes(hand: &mut Hand, call: &str, node: NodeId) -> Result<(), Refusal>
+    requires { node < hand.old.tree.made }
+{
+    let (alloc, tree) = (hand.alloc, &hand.tree);
+    let nodes: Result<Vec<NodeId>, AllocError> = match call {
+        "children" => tree.children(node).collect(alloc),
+        "elements" => tree.child_elements(node).collect(alloc),
+        "ancestors" => tree.ancestors(node).collect(alloc),
+        _ => tree.descendants(node).collect(alloc),
+    };
+    hand.out.nodes(nodes?);
     Ok(())
 }
 
@@ -67,29 +80,25 @@ fn say_node(tree: &Tree, node: NodeId, out: &mut Answers)
 
 /// Says whether what is in a node is plain in a context, its text, its HTML in both ways of escaping, and the least room of which a
 /// writer of that size does not take just what fits.
-pub fn say_written(hand: &mut Hand, node: NodeId, context: &str) -> Result<(), Refusal>
+fn say_written(hand: &mut Hand, node: NodeId, context: &str) -> Result<(), Refusal>
     requires { node < hand.old.tree.made }
 {
     let (alloc, tree, names, out) = (hand.alloc, &hand.tree, &hand.names, &mut hand.out);
     out.flag(is_plain(tree, names, node, context));
     out.bytes(&tree_text(alloc, tree, names, node)?);
-    let html = serialize_to_vec(alloc, tree, names, node, Escaping::One)?;
-    out.bytes(&html);
+    out.bytes(&serialize_to_vec(alloc, tree, names, node, Escaping::One)?);
     out.bytes(&serialize_to_vec(alloc, tree, names, node, Escaping::Two)?);
-    out.place(wrong_room(alloc, tree, names, node, &html)?);
+    let room = wrong_room(hand, node)?;
+    hand.out.place(room);
     Ok(())
 }
 
 /// The least room of which a writer takes anything but the front of the HTML that fits, or does not fail though not all fits.
-fn wrong_room(
-    alloc: Global,
-    tree: &Tree,
-    names: &Names,
-    node: NodeId,
-    html: &[u8],
-) -> Result<Option<usize>, Refusal>
-    requires { node < tree.now.made }
+fn wrong_room(hand: &Hand, node: NodeId) -> Result<Option<usize>, Refusal>
+    requires { node < hand.now.tree.made }
 {
+    let (alloc, tree, names) = (hand.alloc, &hand.tree, &hand.names);
+    let html = serialize_to_vec(alloc, tree, names, node, Escaping::One)?;
     for room in 0..=html.len() {
         let (front, _) = html.split_at(room);
         let mut taken = Vec::from_slice(alloc, front)?;

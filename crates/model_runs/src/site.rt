@@ -12,14 +12,13 @@ use hadopt::{Passing, Site};
 use hnodes::Place;
 use names::{ErrorCode, Keys, NameId, Refusal, Tag};
 use std::alloc::{AllocError, Global};
+use std::mem::replace;
 
 /// A site, and whether it is sound: the adoption agency may be called. It is not after a refusal, and once a node was pushed.
 #[derive(Drop)]
 pub struct Run {
     site: Site,
     sound: bool,
-    /// How many calls were made on the site.
-    at: u64,
 }
 
 impl Run {
@@ -27,11 +26,8 @@ impl Run {
     pub fn new(alloc: Global, most_nodes: u32, most_open: u32) -> Result<Self, AllocError>
         ensures { IfOk result (λ run. Kept numbers run.site) }
     {
-        Ok(Run {
-            site: Site::new(alloc, Keys::for_tests(), most_nodes.max(1), most_open)?,
-            sound: true,
-            at: 0,
-        })
+        let site = Site::new(alloc, Keys::for_tests(), most_nodes.max(1), most_open)?;
+        Ok(Run { site, sound: true })
     }
 
     /// Makes a call. It is not made again where memory is refused: a call of a site is many.
@@ -39,10 +35,10 @@ impl Run {
         requires { IsTrue self.old.sound → Kept numbers self.old.site }
         ensures { IsTrue self.new.sound → Kept numbers self.new.site }
     {
-        self.at = self.at.wrapping_add(1);
+        hand.at = hand.at.wrapping_add(1);
         match word(line, 1) {
             "nodes" => nodes::say_all(self.site.tree(), &mut hand.out),
-            "about" => say_about(&self.site, hand, line)?,
+            "about" => return say_about(&self.site, hand, line),
             _ => {
                 self.edit(hand, line)?;
                 say_state(&self.site, &mut hand.out);
@@ -58,69 +54,70 @@ impl Run {
     {
         let sound = self.sound;
         self.sound = false;
-        let name = hand.name(line, 2)?;
         match word(line, 1) {
             "new" => {
-                *self = Run::new(hand.alloc, count(line, 2), count(line, 3))?;
+                drop(replace(self, Run::new(hand.alloc, count(line, 2), count(line, 3))?));
+                hand.at = 0;
                 return Ok(());
             }
-            "push" => {
-                return match self.site.current() {
-                    Some(open) => self.site.push(open, self.at),
-                    None => Ok(()),
-                };
-            }
-            "adopt" if sound => self.site.adopt(name, self.at)?,
-            _ => change(&mut self.site, hand, name, line, self.at)?,
+            "push" => return push(&mut self.site, hand.at),
+            "adopt" if sound => self.site.adopt(hand.name(line, 2)?, hand.at)?,
+            _ => change(&mut self.site, hand, line)?,
         }
         self.sound = sound;
         Ok(())
     }
 }
 
+/// Pushes the current node again.
+fn push(site: &mut Site, at: u64) -> Result<(), Refusal> {
+    match site.current() {
+        Some(open) => site.push(open, at),
+        None => Ok(()),
+    }
+}
+
 /// Puts an element with the attributes of a line at its place, or adds them to an open one; or puts what has none.
-fn insert(
-    site: &mut Site,
-    hand: &mut Hand,
-    name: NameId,
-    line: &str,
-    at: u64,
-) -> Result<(), Refusal>
+fn insert(site: &mut Site, hand: &mut Hand, name: NameId, line: &str) -> Result<(), Refusal>
     ensures { Kept numbers site.old → IfOk result (λ _. Kept numbers site.new) }
 {
     let attrs = attrs(&mut hand.names, hand.alloc, after(line, 3))?;
     match (word(line, 1), site.from_top(number(line, 2))) {
         ("element", _) => {
-            site.insert_element(name, attrs, site.place(), at)?;
+            site.insert_element(name, attrs, site.place(), hand.at)?;
         }
         ("formatting", _) if name != Tag::Table.number() => {
-            site.insert_formatting(name, attrs, site.place(), at)?;
+            site.insert_formatting(name, attrs, site.place(), hand.at)?;
         }
-        ("missing", Some(open)) => site.add_missing(open.node, attrs)?,
-        _ => put(site, hand, line, at)?,
+        ("missing", Some(open)) => return site.add_missing(open.node, attrs),
+        _ => return put(site, hand, line),
     }
     Ok(())
 }
 
 /// Puts a text, a comment or a doctype.
-fn put(site: &mut Site, hand: &mut Hand, line: &str, at: u64) -> Result<(), Refusal>
+fn put(site: &mut Site, hand: &mut Hand, line: &str) -> Result<(), Refusal>
     ensures { Kept numbers site.old → IfOk result (λ _. Kept numbers site.new) }
 {
-    let text = after(line, 2);
-    let place = site.place();
+    let (text, place) = (after(line, 2), site.place());
     match word(line, 1) {
-        "comment" => insert_comment(site, hand, line, at)?,
-        "doctype" => {
-            site.insert_doctype(doctype(hand.alloc, [text, "", ""])?, at)?;
-        }
-        "text" => site.put_text(text, place, at)?,
-        "char" => site.put(text.chars().next().unwrap_or(' '), place, at)?,
+        "comment" => return insert_comment(site, hand, line),
+        "doctype" => return insert_doctype(site, hand, text),
+        "text" => return site.put_text(text, place, hand.at),
+        "char" => return site.put(text.chars().next().unwrap_or(' '), place, hand.at),
         _ => hand.out.say("-"),
     }
     Ok(())
 }
 
-fn insert_comment(site: &mut Site, hand: &Hand, line: &str, at: u64) -> Result<(), Refusal>
+fn insert_doctype(site: &mut Site, hand: &Hand, name: &str) -> Result<(), Refusal>
+    ensures { Kept numbers site.old → IfOk result (λ _. Kept numbers site.new) }
+{
+    site.insert_doctype(doctype(hand.alloc, [name, "", ""])?, hand.at)?;
+    Ok(())
+}
+
+fn insert_comment(site: &mut Site, hand: &Hand, line: &str) -> Result<(), Refusal>
     ensures { Kept numbers site.old → IfOk result (λ _. Kept numbers site.new) }
 {
     let text = String::from_str(hand.alloc, after(line, 3))?;
@@ -129,29 +126,24 @@ fn insert_comment(site: &mut Site, hand: &Hand, line: &str, at: u64) -> Result<(
         "document" => site.place_in_document(),
         _ => site.place_in_current(),
     };
-    site.insert_comment(text, place, at)?;
+    site.insert_comment(text, place, hand.at)?;
     Ok(())
 }
 
 /// Makes an edit that may be refused, of the open nodes and the list.
-fn change(
-    site: &mut Site,
-    hand: &mut Hand,
-    name: NameId,
-    line: &str,
-    at: u64,
-) -> Result<(), Refusal>
+fn change(site: &mut Site, hand: &mut Hand, line: &str) -> Result<(), Refusal>
     ensures { Kept numbers site.old → IfOk result (λ _. Kept numbers site.new) }
 {
+    let name = hand.name(line, 2)?;
     match word(line, 1) {
-        "close" => site.close(name, at),
-        "other-end" => site.other_end(name, at),
-        "close-p" => site.close_p(at),
+        "close" => site.close(name, hand.at),
+        "other-end" => site.other_end(name, hand.at),
+        "close-p" => site.close_p(hand.at),
         "marker" => site.marker(),
-        "reconstruct" => site.reconstruct(at),
-        "error" => site.error(ErrorCode::TreeInBody, at),
+        "reconstruct" => site.reconstruct(hand.at),
+        "error" => site.error(ErrorCode::TreeInBody, hand.at),
         call if pop(site, call, name, line) => Ok(()),
-        _ => insert(site, hand, name, line, at),
+        _ => insert(site, hand, name, line),
     }
 }
 

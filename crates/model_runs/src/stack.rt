@@ -5,37 +5,53 @@ use crate::hand::{Hand, PLACE};
 use crate::words::{count, group, number, scope, word};
 use hnodes::NodeId;
 use hopen::OpenStack;
-use names::{NameId, Refusal};
+use names::Refusal;
+use std::mem::replace;
 
-/// Makes a call. Where it opens a node, that and its name come first.
+/// Makes a call.
 pub fn call(stack: &mut OpenStack, hand: &mut Hand, line: &str) -> Result<(), Refusal> {
-    let near = hand.node(line, 4);
     match word(line, 1) {
-        "new" => *stack = OpenStack::new(hand.alloc, count(line, 2)),
-        "push" => stack.push(hand.open(line)?, PLACE)?,
-        "insert_below" => stack.insert_below(near, hand.open(line)?, PLACE)?,
-        "replace" => stack.replace(near, hand.open(line)?)?,
-        "exchange" if stack.contains(near) => {
-            stack.exchange(near, hand.node(line, 5), hand.open(line)?)?;
-        }
+        "new" => drop(replace(stack, OpenStack::new(hand.alloc, count(line, 2)))),
         "pop_to" => stack.pop_to(hand.name(line, 2)?),
-        "name" => say_name(stack, hand.name(line, 2)?, line, &mut hand.out),
-        call => call_of_node(stack, hand, call, line),
+        "name" => return say_name(stack, hand, line),
+        "push" | "insert_below" | "replace" | "exchange" => return open(stack, hand, line),
+        _ => edit(stack, hand, line),
     }
     Ok(())
 }
 
-/// Makes a call that neither opens a node nor has a name.
-fn call_of_node(stack: &mut OpenStack, hand: &mut Hand, call: &str, line: &str) {
-    let (node, group) = (hand.node(line, 2), group(word(line, 2)));
+/// Makes a call that opens a node, which comes first with its name.
+fn open(stack: &mut OpenStack, hand: &mut Hand, line: &str) -> Result<(), Refusal> {
+    let (near, above) = (hand.node(line, 4), hand.node(line, 5));
+    let open = hand.open(line)?;
+    match word(line, 1) {
+        "push" => stack.push(open, PLACE)?,
+        "insert_below" => stack.insert_below(near, open, PLACE)?,
+        "replace" => stack.replace(near, open)?,
+        _ if stack.contains(near) => stack.exchange(near, above, open)?,
+        _ => hand.out.say("-"),
+    }
+    Ok(())
+}
+
+/// Makes a call that takes nodes from the stack.
+fn edit(stack: &mut OpenStack, hand: &mut Hand, line: &str) {
     let (up, count) = (count(line, 2) as usize, count(line, 3) as usize);
-    let out = &mut hand.out;
-    match call {
-        "pop" => out.open(stack.pop()),
-        "pop_to_node" => stack.pop_to_node(node),
-        "pop_to_group" => stack.pop_to_group(group),
-        "remove" => stack.remove(node),
+    match word(line, 1) {
+        "pop" => hand.out.open(stack.pop()),
+        "pop_to_node" => stack.pop_to_node(hand.node(line, 2)),
+        "pop_to_group" => stack.pop_to_group(group(word(line, 2))),
+        "remove" => stack.remove(hand.node(line, 2)),
         "remove_run" if up + count <= stack.len() => stack.remove_run(up, count),
+        _ => ask(stack, hand, line),
+    }
+}
+
+/// Answers a question that has no name.
+fn ask(stack: &OpenStack, hand: &mut Hand, line: &str) {
+    let (node, group) = (hand.node(line, 2), group(word(line, 2)));
+    let out = &mut hand.out;
+    match word(line, 1) {
         "ends" => say_ends(stack, out),
         "all" => say_all(stack, out),
         "node" => say_node(stack, node, out),
@@ -76,9 +92,12 @@ fn say_node(stack: &OpenStack, node: NodeId, out: &mut Answers) {
 }
 
 /// `in_scope`, `before_special`, `item_is_near` and `nearest`.
-fn say_name(stack: &OpenStack, name: NameId, line: &str, out: &mut Answers) {
+fn say_name(stack: &OpenStack, hand: &mut Hand, line: &str) -> Result<(), Refusal> {
+    let name = hand.name(line, 2)?;
+    let out = &mut hand.out;
     out.flag(stack.in_scope(scope(word(line, 3)), name));
     out.flag(stack.before_special(name));
     out.flag(stack.item_is_near(name));
     out.open(stack.nearest(name));
+    Ok(())
 }

@@ -1,27 +1,23 @@
 //! Calls of a tree.
 
-ghost use Rattle.std.specs.Prelude.{◌<◌, IfSome};
-ghost use Rattle.hnodes.specs.Edits.{IsPlace};
+ghost use Rattle.std.specs.Prelude.{◌<◌};
 
 use crate::hand::{Hand, PLACE, attr, attrs, doctype};
-use crate::nodes::{ask, say_all, say_written};
+use crate::nodes::{ask, say_all};
 use crate::words::{after, count, number, text, word};
 use hnodes::{NodeId, Place, Tree};
 use names::Refusal;
-use std::alloc::Global;
 
 /// Makes a call. Where it is one of a node, that comes first.
 pub fn call(hand: &mut Hand, line: &str) -> Result<(), Refusal> {
     let limit = count(line, 2);
     match word(line, 1) {
         "new" if limit > 0 => hand.tree = Tree::new(hand.alloc, limit)?,
-        "element" | "comment" | "doctype" => make(hand, line)?,
+        "element" | "comment" | "doctype" => return make(hand, line),
+        "append" | "before" | "move" => move_nodes(hand, line),
         "made" => hand.out.number(hand.tree.made() as usize),
         "all" => say_all(&hand.tree, &mut hand.out),
-        word => match hand.tree.node(number(line, 2)) {
-            Some(node) => edit(hand, word, node, line)?,
-            None => hand.out.say("-"),
-        },
+        call => return call_of_node(hand, call, line),
     }
     Ok(())
 }
@@ -48,26 +44,27 @@ fn make_element(hand: &mut Hand, line: &str) -> Result<NodeId, Refusal> {
     hand.tree.create_element(name, attrs, PLACE)
 }
 
-/// Makes an edit, or asks a question.
-fn edit(hand: &mut Hand, call: &str, node: NodeId, line: &str) -> Result<(), Refusal>
-    requires { node < hand.old.tree.made }
-{
+/// Makes a call of a node, if there is one of this number.
+fn call_of_node(hand: &mut Hand, call: &str, line: &str) -> Result<(), Refusal> {
+    let Some(node) = hand.tree.node(number(line, 2)) else {
+        hand.out.say("-");
+        return Ok(());
+    };
     match call {
-        "append" | "before" | "move" => match hand.tree.node(number(line, 3)) {
-            Some(to) if is_moved(&mut hand.tree, call, node, to) => {}
-            _ => hand.out.say("-"),
-        },
-        "char" | "text" => put(hand, call, node, line)?,
-        "attr" | "missing" => add_attr(hand, call, node, line)?,
-        "nest" | "fill" => {
-            let (tree, count) = (&mut hand.tree, number(line, 3));
-            let last = grow(tree, hand.alloc, node, count, call == "nest")?;
-            hand.out.number(last.index());
-        }
-        "written" => say_written(hand, node, word(line, 3))?,
-        _ => ask(hand, call, node, line)?,
+        "char" | "text" => put(hand, call, node, line),
+        "attr" | "missing" => add_attr(hand, call, node, line),
+        "nest" | "fill" => grow(hand, call, node, line),
+        _ => ask(hand, call, node, line),
     }
-    Ok(())
+}
+
+/// Moves a node, or the children of one, if it may be.
+fn move_nodes(hand: &mut Hand, line: &str) {
+    let (node, to) = (number(line, 2), number(line, 3));
+    match (hand.tree.node(node), hand.tree.node(to)) {
+        (Some(node), Some(to)) if is_moved(&mut hand.tree, word(line, 1), node, to) => {}
+        _ => hand.out.say("-"),
+    }
 }
 
 /// Moves a node, or the children of one, where that is allowed.
@@ -89,25 +86,17 @@ fn is_moved(tree: &mut Tree, call: &str, node: NodeId, to: NodeId) -> bool
     true
 }
 
-/// A place: `in` a node, after its last child, or `before` one that has a parent.
-fn place(tree: &Tree, side: &str, node: NodeId) -> Option<Place>
-    requires { node < tree.now.made }
-    ensures { IfSome result (λ p. IsPlace p tree.now) }
-{
-    match side {
-        "in" => Some(Place::LastIn(node)),
-        "before" if tree.parent(node).is_some() => Some(Place::Before(node)),
-        _ => None,
-    }
-}
-
-/// Puts a text, or its first character, at a place.
+/// Puts a text, or its first character, at a place: `in` a node, after its last child, or `before` one that has a parent.
 fn put(hand: &mut Hand, call: &str, node: NodeId, line: &str) -> Result<(), Refusal>
     requires { node < hand.old.tree.made }
 {
-    let Some(place) = place(&hand.tree, word(line, 3), node) else {
-        hand.out.say("-");
-        return Ok(());
+    let place = match word(line, 3) {
+        "in" => Place::LastIn(node),
+        "before" if hand.tree.parent(node).is_some() => Place::Before(node),
+        _ => {
+            hand.out.say("-");
+            return Ok(());
+        }
     };
     let text = text(hand.alloc, after(line, 4))?;
     match text.chars().next() {
@@ -128,21 +117,17 @@ fn add_attr(hand: &mut Hand, call: &str, node: NodeId, line: &str) -> Result<(),
 }
 
 /// Makes this many comments: below a node, or the first below it and each other below the one before. Each is a call of its own, so
-/// where memory is refused a few are there. Returns the last.
-fn grow(
-    tree: &mut Tree,
-    alloc: Global,
-    top: NodeId,
-    count: usize,
-    is_nested: bool,
-) -> Result<NodeId, Refusal> {
+/// where memory is refused a few are there. Says the last.
+fn grow(hand: &mut Hand, call: &str, top: NodeId, line: &str) -> Result<(), Refusal> {
+    let (alloc, tree) = (hand.alloc, &mut hand.tree);
     let mut last = top;
-    for _ in 0..count {
-        let parent = if is_nested { last } else { top };
+    for _ in 0..number(line, 3) {
+        let parent = if call == "nest" { last } else { top };
         if tree.has(parent) {
             last = tree.create_comment(String::new(alloc), PLACE)?;
             tree.append(last, parent);
         }
     }
-    Ok(last)
+    hand.out.number(last.index());
+    Ok(())
 }
