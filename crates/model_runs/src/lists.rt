@@ -18,6 +18,7 @@ use std::mem::replace;
 pub fn call_chain(chain: &mut Chains, hand: &mut Hand, line: &str) -> Result<(), Refusal> {
     let (number, len) = (number(line, 2), chain.len());
     match word(line, 1) {
+        // (An assignment would drop the old one field by field, each a step of the proof.)
         "new" => drop(replace(chain, Chains::new(hand.alloc))),
         "push" if number != NONE => chain.push(number)?,
         "clear" if number < len => chain.clear(number),

@@ -56,6 +56,7 @@ impl Run {
         self.sound = false;
         match word(line, 1) {
             "new" => {
+                // (An assignment would drop the old one field by field, each a step of the proof.)
                 drop(replace(self, Run::new(hand.alloc, count(line, 2), count(line, 3))?));
                 hand.at = 0;
                 return Ok(());

@@ -11,6 +11,7 @@ use std::mem::replace;
 /// Makes a call.
 pub fn call(stack: &mut OpenStack, hand: &mut Hand, line: &str) -> Result<(), Refusal> {
     match word(line, 1) {
+        // (An assignment would drop the old one field by field, each a step of the proof.)
         "new" => drop(replace(stack, OpenStack::new(hand.alloc, count(line, 2)))),
         "pop_to" => stack.pop_to(hand.name(line, 2)?),
         "name" => return say_name(stack, hand, line),
