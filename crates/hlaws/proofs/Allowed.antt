@@ -2,7 +2,7 @@
 use Rattle.hlaws.proofs.Names.{◌≡◌, ℕ, Bool, true, not, ◌&&◌, ◌||◌, List, refl, sym, ◌∙◌, ap, nat_le, bytes_eq, codes, Tag, is_refused, tags, tag_named, tag_text, Forest, row, are_content_if, in_context_of, is_form, is_context}
 use Rattle.std.specs.Prelude.{length}
 use Rattle.names.specs.declared.tag.Tag.TheVariants as tag
-use Rattle.hplain.specs.Plain.{is_plain}
+use Rattle.hserialize.specs.Plain.{is_plain}
 use Rattle.hparse.specs.Parse.{is_name}
 use Rattle.hlaws.proofs.NamesAsTexts.{named_back}
 

@@ -7,8 +7,8 @@ use Rattle.hmodes.specs.Erased.{erased, node}
 use Rattle.hmodes.specs.Reset.{context_mode}
 use Rattle.hmodes.specs.declared.token_kind.TokenKind.TheVariants.{Eof}
 use Rattle.hmodes.specs.Step as step
-use Rattle.hplain.specs.declared.content.Content.TheVariants as content
-use Rattle.hplain.specs.declared.content.Texts.TheVariants as allowed
+use Rattle.hserialize.specs.declared.content.Content.TheVariants as content
+use Rattle.hserialize.specs.declared.content.Texts.TheVariants as allowed
 use Rattle.hlaws.specs.ComesBack.{Fits, Gives, PlainComesBack}
 use Rattle.hserialize.specs.Written.{written}
 use Rattle.hlaws.proofs.TokenLists.{AreTokens, parted, first, after, ended}

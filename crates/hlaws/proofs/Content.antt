@@ -3,8 +3,8 @@ use Rattle.hlaws.proofs.Names.{arith, ◌≡◌, ℕ, ◌&&◌, List, and_parts,
 use Rattle.names.specs.declared.tag.Tag.TheVariants as tag
 use Rattle.names.specs.Sets.{stops_scope}
 use Rattle.hmodes.specs.Words.{insert_comment}
-use Rattle.hplain.specs.declared.content.Content.TheVariants as content
-use Rattle.hplain.specs.declared.content.Role.TheVariants as role
+use Rattle.hserialize.specs.declared.content.Content.TheVariants as content
+use Rattle.hserialize.specs.declared.content.Role.TheVariants as role
 
 -- the content in which a role is, but that of phrasing elements, which are in two
 abbrev pub home : Role → Content

@@ -4,9 +4,9 @@ use Rattle.std.proofs.lemmas.Str.{encodes-IsAscii, chars_from_encodes}
 use Rattle.std.specs.Prelude.{IsAscii}
 use Rattle.std.specs.Char.{is_ascii_whitespace}
 use Rattle.hnodes.specs.Forest as forest
-use Rattle.hplain.specs.declared.content.Content.TheVariants as content
-use Rattle.hplain.specs.declared.content.Texts.{Texts}
-use Rattle.hplain.specs.declared.content.Texts.TheVariants as allowed
+use Rattle.hserialize.specs.declared.content.Content.TheVariants as content
+use Rattle.hserialize.specs.declared.content.Texts.{Texts}
+use Rattle.hserialize.specs.declared.content.Texts.TheVariants as allowed
 use Rattle.hlaws.proofs.TokensText.{clean_text, is_clean_char}
 use Rattle.hlaws.proofs.Content.{three, four}
 use Rattle.hlaws.proofs.TokenLists.{IsText}

@@ -4,9 +4,9 @@ pub use Rattle.hadopt.specs.Closes.{is_table_context, is_body_context, is_row_co
 pub use Rattle.hadopt.specs.Naming.{texts, Naming}
 pub use Rattle.hadopt.specs.Places.{is_fostering}
 pub use Rattle.hadopt.specs.Site.{Goes, Outcome, Refused}
-pub use Rattle.hcuts.proofs.OneCut.{one_list_of_tokens, no_tokens_of_refused, one_refusal}
-pub use Rattle.hcuts.proofs.SomeCut.{some_answer}
-pub use Rattle.hcuts.specs.SomeCut.{HasAnswer, gives, refuses}
+pub use Rattle.htoken.proofs.OneCut.{one_list_of_tokens, no_tokens_of_refused, one_refusal}
+pub use Rattle.htoken.proofs.SomeCut.{some_answer}
+pub use Rattle.htoken.specs.SomeCut.{HasAnswer, gives, refuses}
 pub use Rattle.hformat.specs.Formatting.{Listed, marker, entry, entry_of, find_entry, without_entry, cleared, EntryOf, with_room}
 pub use Rattle.hlaws.specs.Building.{Builds, fits_mode, fits_current, is_flow_mode, numbered, is_list, is_dl, takes_space, under, EntriesOpen, Thinned, same, kept, lost, EntriesLower}
 pub use Rattle.hlaws.specs.ComesBack.{text_of, AreTexts, AreRead, PlainTokens}
@@ -36,10 +36,10 @@ pub use Rattle.hparse.specs.Answer.{error_cmp}
 pub use Rattle.hparse.specs.Input.{reads_in, text_in}
 pub use Rattle.hparse.specs.Parse.{ParseOptions, fragment, manner, policy, Parse, Parses, accepted, is_context, start_of, refused_token, refused_tag}
 pub use Rattle.hparse.specs.Taken.{placed, taken}
-pub use Rattle.hplain.specs.ContentTable.{row, texts_in, takes_role, takes_comments}
-pub use Rattle.hplain.specs.Plain.{are_content_if, in_context_of, is_form, Inside, are_content, is_a, is_button, drops_line_feed, is_nested, inside_element, inside_node, is_plain_node, are_plain_attributes, is_plain_text, is_plain_comment, is_clean, is_among_texts, begins_with, begins_with_text, begins_with_line_feed, has_part, is_name_byte}
-pub use Rattle.hplain.specs.declared.content.Content.{Content}
-pub use Rattle.hplain.specs.declared.content.Role.{Role}
+pub use Rattle.hserialize.specs.ContentTable.{row, texts_in, takes_role, takes_comments}
+pub use Rattle.hserialize.specs.Plain.{are_content_if, in_context_of, is_form, Inside, are_content, is_a, is_button, drops_line_feed, is_nested, inside_element, inside_node, is_plain_node, are_plain_attributes, is_plain_text, is_plain_comment, is_clean, is_among_texts, begins_with, begins_with_text, begins_with_line_feed, has_part, is_name_byte}
+pub use Rattle.hserialize.specs.declared.content.Content.{Content}
+pub use Rattle.hserialize.specs.declared.content.Role.{Role}
 pub use Rattle.hserialize.specs.Escaping.{written_char, escaped}
 pub use Rattle.hserialize.specs.Walk.{inserts_marker}
 pub use Rattle.hserialize.specs.Words.{is_empty}

@@ -7,7 +7,7 @@ use Rattle.hmodes.specs.Step.{none, refused}
 use Rattle.hmodes.proofs.Between.{texts-all, reached-orderly}
 use Rattle.hmodes.proofs.Ends.{some-step}
 use Rattle.hmodes.proofs.Single.{step-one}
-use Rattle.hcuts.proofs.Fronts.{one_front, one_front_of_refused}
+use Rattle.htoken.proofs.OneFront.{one_front, one_front_of_refused}
 use Rattle.hparse.specs.Parse.{ParseCase, document, begins, refused_bytes}
 use Rattle.hlaws.specs.OneAnswer.{OneParse}
 use Rattle.hlaws.proofs.OneInput.{all-read, one-list}

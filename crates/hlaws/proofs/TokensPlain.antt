@@ -5,10 +5,10 @@ use Rattle.std.specs.Char.{is_ascii_lowercase}
 use Rattle.names.proofs.Words.{or_second}
 use Rattle.names.specs.declared.raw.RawKind.TheVariants as kind
 use Rattle.names.specs.declared.tag.Tag.TheVariants as tag
-use Rattle.hplain.specs.declared.content.Content.TheVariants as content
-use Rattle.hplain.specs.declared.content.Role.TheVariants as role
+use Rattle.hserialize.specs.declared.content.Content.TheVariants as content
+use Rattle.hserialize.specs.declared.content.Role.TheVariants as role
 use Rattle.hserialize.specs.declared.escaping.Setting.TheVariants as setting
-use Rattle.hplain.specs.Plain.{is_plain_name}
+use Rattle.hserialize.specs.Plain.{is_plain_name}
 use Rattle.hserialize.specs.Written.{attribute_text}
 use Rattle.hlaws.specs.ComesBack.{AreUtf8}
 use Rattle.hlaws.proofs.NamesAsTexts.{named_back}

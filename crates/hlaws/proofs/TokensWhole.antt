@@ -5,9 +5,9 @@ use Rattle.names.specs.declared.raw.RawKind.TheVariants as kind
 use Rattle.hnodes.specs.Forest as forest
 use Rattle.htoken.specs.Raw.{end_errors}
 use Rattle.htoken.specs.Tokens as cut
-use Rattle.hplain.specs.declared.content.Content.TheVariants as content
-use Rattle.hplain.specs.declared.content.Texts.{Texts}
-use Rattle.hplain.specs.declared.content.Texts.TheVariants as allowed
+use Rattle.hserialize.specs.declared.content.Content.TheVariants as content
+use Rattle.hserialize.specs.declared.content.Texts.{Texts}
+use Rattle.hserialize.specs.declared.content.Texts.TheVariants as allowed
 use Rattle.hserialize.specs.declared.escaping.Setting.TheVariants as setting
 use Rattle.hserialize.specs.Written.{has_no_references, element_text, written_among}
 use Rattle.hlaws.proofs.Content.{three, four}

@@ -8,9 +8,9 @@ use Rattle.hopen.specs.declared.scope.Scope.TheVariants as scope
 use Rattle.names.specs.declared.tag.Tag.TheVariants as tag
 use Rattle.hmodes.specs.declared.family.Family.TheVariants as family
 use Rattle.hmodes.specs.Step as step
-use Rattle.hplain.specs.declared.content.Content.TheVariants as content
-use Rattle.hplain.specs.declared.content.Role.TheVariants as role
-use Rattle.hplain.specs.Plain.{content_within}
+use Rattle.hserialize.specs.declared.content.Content.TheVariants as content
+use Rattle.hserialize.specs.declared.content.Role.TheVariants as role
+use Rattle.hserialize.specs.Plain.{content_within}
 use Rattle.hadopt.specs.Reconstructs.{reconstructed}
 use Rattle.hmodes.specs.Body.{block, close_block, end_item}
 use Rattle.hmodes.specs.Words.{Do}

@@ -18,7 +18,7 @@ use Rattle.hparse.specs.Taken.{taken}
 use Rattle.hmodes.specs.Erased.{erased}
 use Rattle.hmodes.specs.State.{Token, PlacedToken, State, eof}
 use Rattle.hlaws.specs.Building.{IsQuiet, Builds, BeginsWell, HasRoom, depth}
-use Rattle.hplain.specs.Plain.{Inside, are_content, is_plain}
+use Rattle.hserialize.specs.Plain.{Inside, are_content, is_plain}
 use Rattle.hlaws.specs.PlainTokens.{tokens_of}
 use Rattle.hserialize.specs.Written.{written}
 use Rattle.hserialize.specs.declared.escaping.Escaping.{Escaping}

@@ -4,8 +4,8 @@ use Rattle.std.proofs.lemmas.List.{map-append}
 use Rattle.htext.specs.Decoding.{IsUndecided}
 use Rattle.htoken.specs.Token.{Span}
 use Rattle.htoken.specs.Tokens.{tokens_of}
-use Rattle.hcuts.specs.Settled.{AreTaken}
-use Rattle.hcuts.proofs.Settled.{settled_are_taken}
+use Rattle.htoken.specs.Settled.{AreTaken}
+use Rattle.htoken.proofs.Settled.{settled_are_taken}
 use Rattle.hmodes.specs.Step.{none}
 use Rattle.hparse.specs.Unrefused.{AreSettledIn, settled_text}
 use Rattle.hparse.proofs.Placed.{handed_inner, inner}

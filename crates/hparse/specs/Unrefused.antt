@@ -7,7 +7,7 @@ use Rattle.htext.specs.Text.{character_of}
 use Rattle.htoken.specs.Standing.{start_kind}
 use Rattle.htoken.specs.Token.{Span}
 use Rattle.htoken.specs.Tokens.{tokens_of, has_refused}
-use Rattle.hcuts.specs.Settled.{AreSettled}
+use Rattle.htoken.specs.Settled.{AreSettled}
 use Rattle.hadopt.specs.Naming.{texts}
 use Rattle.hadopt.specs.Site.{Goes}
 use Rattle.hmodes.specs.State.{State}

@@ -11,3 +11,14 @@ pub mod Escapes
 pub mod Wrote
 pub mod Outer
 pub mod Kept
+pub mod Entering
+pub mod Walks
+pub mod Tested
+pub mod Regions
+pub mod Parts
+pub mod PlainNames
+pub mod Sorting
+pub mod Ordered
+pub mod LineTexts
+pub mod ErrorTexts
+pub mod Printed

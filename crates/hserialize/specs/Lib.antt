@@ -9,3 +9,14 @@ pub mod Writing
 pub mod Walk
 pub mod Lent
 pub mod Vocabulary
+pub mod ContentTable
+pub mod ContentRows
+pub mod Plain
+pub mod PlainRows
+pub mod Testing
+pub mod Regions
+pub mod Lines
+pub mod ErrorLines
+pub mod LineRows
+pub mod Printing
+pub mod Entries

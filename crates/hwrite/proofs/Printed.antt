@@ -7,7 +7,7 @@ use Rattle.names.specs.Sets.{raw_kind}
 use Rattle.names.proofs.AllTexts.{spelled as table_spelled}
 use Rattle.hnodes.specs.Forest.{children_of}
 use Rattle.hnodes.specs.Spots.{name_of}
-use Rattle.hprint.specs.Lines.{tree_text}
+use Rattle.hserialize.specs.Lines.{tree_text}
 use Rattle.hserialize.specs.Written.{has_no_references, is_raw_in, written, written_among}
 use Rattle.hserialize.proofs.KnownNames.{tags-agree}
 use Rattle.hparse.specs.Parse.{Parse, ParseCase, root_of}

@@ -3,7 +3,7 @@ pub use Rattle.hnodes.specs.Forest.{Forest}
 pub use Rattle.hwrite.specs.Vocabulary.{spelled, Answers, of_document, counted, as_document, Parses, AnswersParse, options_of, ReadsInput, TokensMean, IsUnrefusedText, WritesText, taken, AttrsMean, Doctype, Comment, Char, Tok, TokenMeans, Start, name_of, case_in, is_hole, Fills, drafted, ComesTo, AnswersDraft, Adds, Prints, tokens_text, plain_line, escaped_byte, escaped, quoted, Runs, RunsIn, BeginsIn, quoted_or_none, line_of, line_text, token_lines, attribute_words, Texts}
 pub use Rattle.hparse.specs.Parse.{ParseOptions}
 pub use Rattle.hparse.specs.declared.parsed.Parsed.{Parsed}
-pub use Rattle.hprint.specs.Lines.{error_lines}
+pub use Rattle.hserialize.specs.Lines.{error_lines}
 pub use Rattle.hserialize.proofs.Output.{none_put, part_put, part_failed, last_put, passed_on, HasLeft}
 pub use Rattle.hserialize.specs.Output.{AppendsBeginning}
 pub use Rattle.hserialize.specs.declared.escaping.Escaping.{Escaping}

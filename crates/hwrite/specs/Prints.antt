@@ -7,8 +7,8 @@ use Rattle.htoken.specs.Token.{Tok}
 use Rattle.hnodes.specs.Forest.{Forest, children_of}
 use Rattle.hnodes.specs.Spelled.{spelled}
 use Rattle.hnodes.specs.Spots.{name_of}
-use Rattle.hprint.specs.Lines.{tree_text, error_lines}
-use Rattle.hplain.specs.Plain.{is_plain}
+use Rattle.hserialize.specs.Lines.{tree_text, error_lines}
+use Rattle.hserialize.specs.Plain.{is_plain}
 use Rattle.hserialize.specs.Written.{written}
 use Rattle.hserialize.specs.declared.escaping.Escaping.{Escaping}
 use Rattle.hparse.specs.Answer.{Answers}

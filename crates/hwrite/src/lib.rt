@@ -30,11 +30,9 @@ pub use hparse::{
     Limits, Options, Origin, Parsed, Parser, Quirks, Source, Table, TokenRun, is_context,
     parse_reader, read_into, tokens,
 };
-pub use hplain::is_plain;
-pub use hprint::{error_lines, print_errors, print_tree, tree_text};
 pub use hserialize::{
-    Escaping, Target, serialize, serialize_outer, serialize_outer_to_vec, serialize_to_vec,
-    write_all,
+    Escaping, Target, error_lines, is_plain, print_errors, print_tree, serialize, serialize_outer,
+    serialize_outer_to_vec, serialize_to_vec, tree_text, write_all,
 };
 pub use htext::{BadBytes, MAX_INPUT};
 pub use htoken::{Token, TokenSink};

@@ -1,5 +1,0 @@
-use Rattle.hplain.proofs.Regions.{IsFinding}
-use Rattle.hplain.proofs.plain.is_plain.Given as goal
-
-abbrev pub invariant-loop-visit : goal.invariant-loop-visit
-invariant-loop-visit l = IsFinding l.names l.tree.trees l.fn.root l.context l.in_form l.visit-iterator

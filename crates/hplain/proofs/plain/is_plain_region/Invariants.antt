@@ -1,5 +1,0 @@
-use Rattle.hplain.proofs.Tested.{IsTesting}
-use Rattle.hplain.proofs.plain.is_plain_region.Given as goal
-
-abbrev pub invariant-loop-visit : goal.invariant-loop-visit
-invariant-loop-visit l = IsTesting l.names l.tree.trees l.fn.root l.top l.around l.visit-iterator

@@ -1,7 +1,0 @@
-use Rattle.hprint.proofs.Names.{◌-◌, ◌++◌, repeat, codes, taken, HasLeft}
-use Rattle.hprint.proofs.lines.begin_line.Given as goal
-
--- the spaces that are left
-abbrev pub invariant-loop-level : goal.invariant-loop-level
-invariant-loop-level g l =
-    HasLeft (taken g.W.Target.written g.W.Target.failed l.fn.out) (taken g.W.Target.written g.W.Target.failed l.out) (codes "| " ++ repeat l.depth (codes "  ")) (repeat (l.depth - l.level) (codes "  "))

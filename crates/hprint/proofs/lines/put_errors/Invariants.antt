@@ -1,7 +1,0 @@
-use Rattle.hprint.proofs.Names.{drop, IsLine, error_lines, taken, HasLeft}
-use Rattle.hprint.proofs.lines.put_errors.Given as goal
-
--- the lines that are left
-abbrev pub invariant-loop-error : goal.invariant-loop-error
-invariant-loop-error g l =
-    HasLeft (taken g.W.Target.written g.W.Target.failed l.initial.out) (taken g.W.Target.written g.W.Target.failed l.out) (error_lines l.errors) (error_lines (drop l.error-index l.errors)) × IsLine l.line

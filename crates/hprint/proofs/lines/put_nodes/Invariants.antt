@@ -1,9 +1,0 @@
-use Rattle.hprint.proofs.Names.{◌≤◌, vec_capacity, taken}
-use Rattle.hprint.proofs.Printed.{IsPutting}
-use Rattle.hprint.proofs.lines.put_nodes.Given as goal
-
-abbrev pub invariant-loop-visit : goal.invariant-loop-visit
-invariant-loop-visit g l = record {
-  putting : IsPutting l.names l.tree.trees l.fn.root l.depth (taken g.W.Target.written g.W.Target.failed l.fn.out) (taken g.W.Target.written g.W.Target.failed l.out) l.visit-iterator;
-  room : vec_capacity l.fn.entries ≤ vec_capacity l.entries;
-}

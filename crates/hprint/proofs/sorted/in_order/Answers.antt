@@ -1,6 +1,0 @@
-use Rattle.hprint.proofs.Names.{◌∙◌, ap, in_order}
-use Rattle.hprint.proofs.Ordered.{ordered}
-use Rattle.hprint.proofs.sorted.in_order.Goals as goal
-
-pub returns-clause-pairs : goal.returns-clause-pairs
-returns-clause-pairs c = ordered _ _ c.enter.ensures.places c.sort_unstable.ensures.permutation c.sort_unstable.ensures.sorted ∙ ap in_order c.enter.ensures.pairs

@@ -1,0 +1,49 @@
+-- Lines that are put together of parts.
+use Rattle.hserialize.proofs.Names.{◌≡◌, ℕ, suc, ◌+◌, ◌-◌, ◌<◌, ◌≤◌, ◌&&◌, false, cond, List, [], ◌∷◌, ◌++◌, length, drop, get_or, map, sym, ap, ◌∙◌, arith, append_assoc, flat_map, repeat, codes, Attribute, attribute_line, indented, pair_of}
+use Rattle.std.proofs.Common.{drop-cons, add-one}
+use Rattle.std.specs.Borrow.{Bor}
+use Rattle.hserialize.specs.Lines.{between_quotes, identifiers}
+use Rattle.hserialize.specs.Words.{is_empty}
+
+-- the lines from an index on, by the first of them
+pub next_lines : {A : Type 0} (f : A → List ℕ) (xs : List A) (i : ℕ) (d : A) → i < length xs → flat_map f (drop i xs) ≡ f (get_or xs i d) ++ flat_map f (drop (i + 1) xs)
+next_lines f xs i d h = ap (flat_map f) (drop-cons xs i d h ∙ (λ k. get_or xs i d ∷ drop (sym (add-one i) k) xs))
+
+-- the spaces of a line: at first, after two more, and at the end
+pub first_level : (depth : ℕ) → codes "| " ++ repeat depth (codes "  ") ≡ codes "| " ++ repeat (depth - 0) (codes "  ")
+first_level depth = let all : depth ≡ depth - 0 = omega arith in ap (λ n. codes "| " ++ repeat n (codes "  ")) all
+
+pub no_level : (depth level : ℕ) → depth ≤ level → repeat (depth - level) (codes "  ") ≡ []
+no_level depth level h = let none : depth - level ≡ 0 = omega arith in ap (λ n. repeat n (codes "  ")) none
+
+pub one_level : (depth level : ℕ) → level < depth → repeat (depth - level) (codes "  ") ≡ codes "  " ++ repeat (depth - (level + 1)) (codes "  ")
+one_level depth level h = let one : depth - level ≡ suc (depth - (level + 1)) = omega arith in ap (λ n. repeat n (codes "  ")) one
+
+-- the words of a line, and what is around them
+pub line_parts : (depth : ℕ) (words : List ℕ) → indented depth words ≡ (codes "| " ++ repeat depth (codes "  ")) ++ (words ++ codes "\n")
+line_parts depth words = append_assoc (codes "| " ++ repeat depth (codes "  ")) words (codes "\n")
+
+pub attribute_parts : (depth : ℕ) (name value : List ℕ) → indented depth (name ++ (codes "=\"" ++ (value ++ codes "\""))) ≡ attribute_line depth (name, value)
+attribute_parts depth name value = ap (indented depth) (sym (append_assoc name (codes "=") (between_quotes value)))
+
+-- the line of an attribute, of its parts as they are lent, and the lines of the attributes after it
+pub next_attribute : (depth : ℕ) (xs : List (Bor (List ℕ) × ℕ × Bor (List ℕ))) (i : ℕ) (d : Bor (List ℕ) × ℕ × Bor (List ℕ)) (name value : List ℕ) → i < length xs → name ≡ (get_or xs i d).0.now → value ≡ (get_or xs i d).2.now
+    → flat_map (attribute_line depth) (map pair_of (drop i xs)) ≡ indented depth (name ++ (codes "=\"" ++ (value ++ codes "\""))) ++ flat_map (attribute_line depth) (map pair_of (drop (i + 1) xs))
+next_attribute depth xs i d name value h n v =
+    ap (λ l. flat_map (attribute_line depth) (map pair_of l)) (drop-cons xs i d h ∙ (λ k. get_or xs i d ∷ drop (sym (add-one i) k) xs))
+    ∙ ap (λ t. t ++ flat_map (attribute_line depth) (map pair_of (drop (i + 1) xs))) (sym ((λ k. indented depth (n k ++ (codes "=\"" ++ (v k ++ codes "\"")))) ∙ attribute_parts depth (get_or xs i d).0.now (get_or xs i d).2.now))
+
+pub doctype_parts : (depth : ℕ) (name public_id system_id : List ℕ) → is_empty public_id && is_empty system_id ≡ false
+    → indented depth (codes "<!DOCTYPE " ++ (name ++ (codes " \"" ++ (public_id ++ (codes "\" \"" ++ (system_id ++ codes "\">"))))))
+    ≡ indented depth (codes "<!DOCTYPE " ++ name ++ identifiers public_id system_id ++ codes ">")
+doctype_parts depth name public_id system_id some =
+    ap (indented depth)
+    (ap (λ t. codes "<!DOCTYPE " ++ (name ++ (codes " \"" ++ t))) (sym (append_assoc public_id (codes "\" \"" ++ (system_id ++ codes "\"")) (codes ">") ∙ ap (λ t. public_id ++ (codes "\" \"" ++ t)) (append_assoc system_id (codes "\"") (codes ">"))))
+    ∙ ap (λ t. codes "<!DOCTYPE " ++ (name ++ (codes " \"" ++ (t ++ codes ">")))) (sym (append_assoc (public_id ++ codes "\"") (codes " ") (between_quotes system_id) ∙ append_assoc public_id (codes "\"") (codes " " ++ between_quotes system_id)))
+    ∙ sym (append_assoc (codes "<!DOCTYPE " ++ name) (codes " " ++ between_quotes public_id ++ codes " " ++ between_quotes system_id) (codes ">"))
+    ∙ ap (λ u. codes "<!DOCTYPE " ++ name ++ cond u [] (codes " " ++ between_quotes public_id ++ codes " " ++ between_quotes system_id) ++ codes ">") (sym some))
+
+-- the line of an element, and those of its attributes
+pub element_parts : (depth : ℕ) (name lent : List ℕ) (attrs sorted : List (Attribute (List ℕ))) → lent ≡ name → sorted ≡ attrs
+    → indented depth (codes "<" ++ name ++ codes ">") ++ flat_map (attribute_line (suc depth)) attrs ≡ indented depth (codes "<" ++ (lent ++ codes ">")) ++ flat_map (attribute_line (depth + 1)) sorted
+element_parts depth name lent attrs sorted same order = λ i. indented depth (codes "<" ++ (sym same i ++ codes ">")) ++ flat_map (attribute_line (sym (add-one depth) i)) (sym order i)

@@ -1,0 +1,78 @@
+-- Names and attributes that are plain.
+use Rattle.hserialize.proofs.Names.{◌≡◌, ℕ, ◌<◌, Bool, true, false, not, List, [], ◌∷◌, length, drop, map, refl, sym, ◌∙◌, ap, and_parts, Decides-eqb, ◌&&◌, ◌||◌, nat_eq, Texts, AreNames, text_of, names_differ, are_plain_attributes}
+use Rattle.std.proofs.Common.{◌-◌, ◌≤◌, inl, inr, get_or, take, arith}
+use Rattle.std.proofs.lemmas.Bool.{cases_lt}
+use Rattle.std.proofs.lemmas.List.{take_all, get_or_past}
+use Rattle.std.proofs.lemmas.Slice.Eq.{bytes_eq-Decides}
+use Rattle.std.specs.Prelude.{bytes_eq}
+use Rattle.std.specs.List.{list_all, list_any}
+use Rattle.std.specs.Char.{is_ascii_lowercase}
+use Rattle.names.proofs.KnownTags.{different}
+use Rattle.hnodes.specs.Forest.{Attribute}
+use Rattle.hnodes.specs.Spelled.{spelled_attribute}
+use Rattle.hserialize.specs.Plain.{is_clean, is_name_byte, is_plain_name}
+use Rattle.hserialize.specs.Testing.{is_plain_attribute}
+
+-- a name whose first byte is a lower letter
+pub lower_first : (name bytes : List ℕ) (all : Bool) → bytes ≡ name → 1 ≤ length bytes → true ≡ is_ascii_lowercase (get_or bytes 0 0) → all ≡ list_all is_name_byte (take (length bytes - 1) (drop 1 bytes)) → all ≡ is_plain_name name
+lower_first [] bytes all same some lower is = absurd (let none : length bytes ≡ 0 = ap length same in omega (arith, some, none))
+lower_first (b ∷ name) bytes all same some lower is =
+    let low : true ≡ is_ascii_lowercase b = lower ∙ ap (λ t. is_ascii_lowercase (get_or t 0 0)) same in
+    is ∙ ap (λ t. list_all is_name_byte (take (length t - 1) (drop 1 t))) same ∙ ap (list_all is_name_byte) (take_all (length (b ∷ name) - 1) name (omega arith)) ∙ ap (λ u. u && list_all is_name_byte name) low
+
+-- names of a table are compared by their numbers
+same-name : (names : Texts) (i j : ℕ) → AreNames names → i < length names → j < length names → bytes_eq (text_of names i) (text_of names j) ≡ nat_eq j i
+same-name names i j table h h' = go (nat_eq j i) refl
+  where
+    go : (u : Bool) → nat_eq j i ≡ u → bytes_eq (text_of names i) (text_of names j) ≡ u
+    go true e = (bytes_eq-Decides (text_of names i) (text_of names j)).1 (ap (text_of names) (sym ((Decides-eqb j i).0 e)))
+    go false e =
+        different (text_of names i) (text_of names j)
+        (λ same. let one : nat_eq j i ≡ true = (Decides-eqb j i).1 (sym (table.distinct i j h h' same)) in let no : false ≡ true = sym e ∙ one in cc)
+
+-- a plain name is in the table, since what is beyond it has no text
+plain-within : (names : Texts) (i : ℕ) → is_plain_name (text_of names i) ≡ true → i < length names
+plain-within names i h = elim (cases_lt i (length names)) [
+  | inl less ↦ less
+  | inr past ↦ (let none : false ≡ true = ap is_plain_name (sym (get_or_past names i [] past)) ∙ h in absurd cc)
+]
+
+has-name : (names : Texts) (i : ℕ) (attrs : List (Attribute ℕ)) → AreNames names → i < length names → list_all (is_plain_attribute (text_of names)) attrs ≡ true
+    → list_any (λ b. nat_eq b.0 i) attrs ≡ list_any (λ b. bytes_eq (text_of names i) b.0) (map (spelled_attribute (text_of names)) attrs)
+has-name names i [] table h plain = refl
+has-name names i (a ∷ attrs) table h plain =
+    let (one, others) = and_parts _ _ plain in
+    λ k. sym (same-name names i a.0 table h (plain-within names a.0 (and_parts _ _ one).0)) k || has-name names i attrs table h others k
+
+apart : (name clean all same differ : Bool) → (((name && clean) && all) && (not same && differ)) ≡ (name && clean && not same && (all && differ))
+apart name clean all same differ = grind (arith)
+
+none : (u v w : Bool) → (u && not v && false) ≡ (u && not w && false)
+none u v w = grind (arith)
+
+-- attributes are plain if each is by itself, and their names differ
+pub plain-are : (names : Texts) (attrs : List (Attribute ℕ)) → AreNames names
+    → (list_all (is_plain_attribute (text_of names)) attrs && names_differ nat_eq attrs) ≡ are_plain_attributes (map (spelled_attribute (text_of names)) attrs)
+plain-are names [] table = refl
+plain-are names (a ∷ attrs) table =
+    apart name (is_clean a.1) (list_all (is_plain_attribute (text_of names)) attrs) same (names_differ nat_eq attrs)
+    ∙ ap (λ u. name && is_clean a.1 && not same && u) (plain-are names attrs table)
+    ∙ compared name others refl refl (plain-are names attrs table)
+  where
+    name : Bool
+    name = is_plain_name (text_of names a.0)
+
+    same : Bool
+    same = list_any (λ b. nat_eq b.0 a.0) attrs
+
+    same_text : Bool
+    same_text = list_any (λ b. bytes_eq (text_of names a.0) b.0) (map (spelled_attribute (text_of names)) attrs)
+
+    others : Bool
+    others = are_plain_attributes (map (spelled_attribute (text_of names)) attrs)
+
+    compared : (u v : Bool) → name ≡ u → others ≡ v → (list_all (is_plain_attribute (text_of names)) attrs && names_differ nat_eq attrs) ≡ others
+        → (u && is_clean a.1 && not same && v) ≡ (u && is_clean a.1 && not same_text && v)
+    compared false v e e' law = refl
+    compared true false e e' law = none (is_clean a.1) same same_text
+    compared true true e e' law = ap (λ w. is_clean a.1 && not w && true) (has-name names a.0 attrs table (plain-within names a.0 e) (and_parts _ _ (law ∙ e')).0)

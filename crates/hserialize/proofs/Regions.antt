@@ -1,0 +1,210 @@
+-- A list is content of what it is in exactly if each of its regions is, and no form is in a form.
+use Rattle.hserialize.proofs.Names.{◌≡◌, ℕ, ◌<◌, Bool, true, false, not, cond, List, Some, None, refl, sym, ◌∙◌, ap, arith, option_and_then, ◌&&◌, ◌||◌, Option, Texts, AreNames, text_of, tag_of, tag_named, Tag, AreCounted, What, element, Forest, none, tree, children_of, spelled, spelled_what, name_in, row, takes_role, Inside, are_plain_attributes, in_context, in_context_of, inside_node, is_form, is_nested, is_plain_node, inserts_marker, are_region_content, begins_region, in_region, without_form, is_phrasing, tag_at, tag_or_other, texts_at_top, top_content, visits, Content, Visit}
+use Rattle.hserialize.proofs.KnownNames.{tags-agree}
+use Rattle.hserialize.proofs.Runs.{run, walked, run-visits}
+use Rattle.hserialize.proofs.Seen.{Seen, seen}
+use Rattle.std.specs.Option.{option_map}
+use Rattle.names.specs.declared.tag.Tag.TheVariants as tag
+use Rattle.hserialize.specs.Plain.{are_content, are_content_if, begins_with_line_feed, drops_line_feed, is_plain}
+use Rattle.hserialize.specs.Regions.{form_after, have_plain_regions, makes_form}
+use Rattle.hserialize.specs.declared.content.Content.TheVariants as content
+use Rattle.hserialize.specs.declared.walk.Reach.TheVariants.{Whole}
+use Rattle.hserialize.proofs.Entering.{enters_region}
+use Rattle.hserialize.proofs.Walks.{is_left, tells, entering, leaving, lost, Finds}
+
+-- BY REGIONS
+
+-- where the node is no form, and where it is one
+no_form : (u v : Bool) → v ≡ (v && not (u && false))
+no_form u v = grind (arith)
+
+one_form : (u : Bool) → not u ≡ not (u && true)
+one_form u = grind (arith)
+
+-- an element that is in none of its name, whether forms are asked for or not
+nested_apart : (i : Inside) (t : Tag) → not (is_nested i t) ≡ (not (is_nested (without_form i) t) && not (i.in_form && is_form t))
+nested_apart i tag.A = no_form i.in_form (not i.in_a)
+nested_apart i tag.Button = no_form i.in_form (not i.in_button)
+nested_apart i tag.Form = one_form i.in_form
+nested_apart i _ = no_form i.in_form true
+
+moved : (a b c d e : Bool) → (a && (b && e) && c && d) ≡ ((a && b && c && d) && e)
+moved a b c d e = grind (arith)
+
+-- a node by itself
+node_apart : (i : Inside) (w : What (List ℕ)) (kids rest : Forest (List ℕ)) → is_plain_node i w kids rest ≡ (is_plain_node (without_form i) w kids rest && not (i.in_form && makes_form w))
+node_apart i (element name attrs) kids rest =
+    ap (λ u. takes_role i.content (row (tag_named name)).0 && u && are_plain_attributes attrs && line_feed) (nested_apart i (tag_named name))
+    ∙ moved (takes_role i.content (row (tag_named name)).0) (not (is_nested (without_form i) (tag_named name))) (are_plain_attributes attrs) line_feed (not (i.in_form && is_form (tag_named name)))
+  where
+    line_feed : Bool
+    line_feed = not (drops_line_feed (tag_named name) && begins_with_line_feed kids)
+node_apart i w kids rest = no_form i.in_form (is_plain_node i w kids rest)
+
+-- the children of a node that begins a region, and of another
+region_below : (i : Inside) (w : What (List ℕ)) → begins_region w ≡ true → without_form (inside_node w i) ≡ in_region content.Flow
+region_below i (element name attrs) h = enters_region (tag_named name) i h
+region_below i _ h = absurd cc
+
+below_again : (i : Inside) (w : What (List ℕ)) → without_form (inside_node w i) ≡ without_form (inside_node w (without_form i))
+below_again i (element name attrs) = refl
+below_again i _ = refl
+
+or_false : (u : Bool) → u ≡ (u || false)
+or_false u = grind (arith)
+
+form_below : (i : Inside) (w : What (List ℕ)) → (inside_node w i).in_form ≡ (i.in_form || makes_form w)
+form_below i (element name attrs) = refl
+form_below i _ = or_false i.in_form
+
+sorted : (p d k a r b : Bool) → ((p && d) && (k && a) && (r && b)) ≡ ((p && k && r) && (d && true && a && b))
+sorted p d k a r b = grind (arith)
+
+sorted_region : (p d k a r b : Bool) → ((p && d) && (k && a) && (r && b)) ≡ ((p && true && r) && (d && k && a && b))
+sorted_region p d k a r b = grind (arith)
+
+pub by_regions : (i : Inside) (f : Forest (List ℕ)) → are_content i f ≡ (are_region_content (without_form i) f && have_plain_regions i.in_form f)
+by_regions i none = refl
+by_regions i (tree n w kids rest) =
+    (λ k. node_apart i w kids rest k && by_regions (inside_node w i) kids k && by_regions i rest k)
+    ∙ ap (λ u. (node && apart) && (are_region_content (without_form (inside_node w i)) kids && have_plain_regions u kids) && (are_region_content (without_form i) rest && have_plain_regions i.in_form rest)) (form_below i w)
+    ∙ go (begins_region w) refl
+  where
+    node : Bool
+    node = is_plain_node (without_form i) w kids rest
+
+    apart : Bool
+    apart = not (i.in_form && makes_form w)
+
+    forms : Bool
+    forms = have_plain_regions (i.in_form || makes_form w) kids
+
+    go : (m : Bool) → begins_region w ≡ m
+        → ((node && apart) && (are_region_content (without_form (inside_node w i)) kids && forms) && (are_region_content (without_form i) rest && have_plain_regions i.in_form rest))
+        ≡ ((node && cond m true (are_region_content (without_form (inside_node w (without_form i))) kids) && are_region_content (without_form i) rest)
+        && (apart && cond m (are_region_content (in_region content.Flow) kids) true && forms && have_plain_regions i.in_form rest))
+    go true e =
+        ap (λ j. (node && apart) && (are_region_content j kids && forms) && (are_region_content (without_form i) rest && have_plain_regions i.in_form rest)) (region_below i w e)
+        ∙ sorted_region node apart (are_region_content (in_region content.Flow) kids) forms (are_region_content (without_form i) rest) (have_plain_regions i.in_form rest)
+    go false e =
+        ap (λ j. (node && apart) && (are_region_content j kids && forms) && (are_region_content (without_form i) rest && have_plain_regions i.in_form rest)) (below_again i w)
+        ∙ sorted node apart (are_region_content (without_form (inside_node w (without_form i))) kids) forms (are_region_content (without_form i) rest) (have_plain_regions i.in_form rest)
+
+-- THE WALK THAT FINDS REGIONS
+
+step : (x m r : Bool) (o : Option Bool) → cond x None (cond (m && not r) None o) ≡ cond (not x && cond m r true) o None
+step x m r o = grind (arith)
+
+back_again : (x v : Bool) → not (x && v) ≡ true → ((x || v) && not v) ≡ x
+back_again x v h = grind (arith)
+
+module _ (spelling : ℕ → List ℕ) (tags : (id : ℕ) → tag_of id ≡ tag_named (spelling id)) (f : Forest ℕ) where
+  -- whether a form is around, as long as none is in a form and the regions are content
+  abbrev enters : ℕ → Option Bool → Option Bool
+  enters = entering (form_after spelling f)
+
+  abbrev leaves : ℕ → Option Bool → Option Bool
+  leaves = leaving (form_after spelling f)
+
+  gone : (g : Forest ℕ) → walked enters leaves Whole g None ≡ None
+  gone = lost (form_after spelling f) Whole
+
+  abbrev region : Forest ℕ → Bool
+  region kids = are_region_content (in_region content.Flow) (spelled spelling kids)
+
+  marked_as : (w : What ℕ) → inserts_marker (tag_or_other (name_in w)) ≡ begins_region (spelled_what spelling w)
+  marked_as (element name attrs) = ap inserts_marker (tags name)
+  marked_as _ = refl
+
+  formed_as : (w : What ℕ) → is_form (tag_or_other (name_in w)) ≡ makes_form (spelled_what spelling w)
+  formed_as (element name attrs) = ap is_form (tags name)
+  formed_as _ = refl
+
+  finds : (made root p : ℕ) (g : Forest ℕ) → Seen made f root p g → (u : Bool) → walked enters leaves Whole g (Some u) ≡ cond (have_plain_regions u (spelled spelling g)) (Some u) None
+  finds made root p none s u = refl
+  finds made root p (tree b w kids rest) s u =
+      ap (λ o. walked enters leaves Whole rest (leaves b (walked enters leaves Whole kids o))) first
+      ∙ go (not (u && makes_form (spelled_what spelling w))) (cond (begins_region (spelled_what spelling w)) (region kids) true) (back_again u (makes_form (spelled_what spelling w))) (finds made root b kids s.1) (finds made root p rest s.2 u)
+    where
+      within : Bool
+      within = u || makes_form (spelled_what spelling w)
+
+      named : tag_at b f ≡ tag_or_other (name_in w)
+      named = ap (λ o. tag_or_other (option_and_then name_in o)) s.0.what
+
+      forms : is_form (tag_at b f) ≡ makes_form (spelled_what spelling w)
+      forms = ap is_form named ∙ formed_as w
+
+      first : enters b (Some u) ≡ cond (not (u && makes_form (spelled_what spelling w)) && cond (begins_region (spelled_what spelling w)) (region kids) true) (Some within) None
+      first =
+          (λ k. cond (u && forms k) None (cond ((ap inserts_marker named ∙ marked_as w) k && not (region (s.0.kids_are k))) None (Some (u || forms k))))
+          ∙ step (u && makes_form (spelled_what spelling w)) (begins_region (spelled_what spelling w)) (region kids) (Some within)
+
+      after : (k r : Bool) → (within && not (makes_form (spelled_what spelling w))) ≡ u → walked enters leaves Whole rest (Some u) ≡ cond r (Some u) None
+          → walked enters leaves Whole rest (leaves b (cond k (Some within) None)) ≡ cond (k && r) (Some u) None
+      after true r back law = ap (λ v. walked enters leaves Whole rest (Some (within && not v))) forms ∙ ap (λ v. walked enters leaves Whole rest (Some v)) back ∙ law
+      after false r back law = gone rest
+
+      go : (x y : Bool) → (x ≡ true → (within && not (makes_form (spelled_what spelling w))) ≡ u) → ((v : Bool) → walked enters leaves Whole kids (Some v) ≡ cond (have_plain_regions v (spelled spelling kids)) (Some v) None)
+          → walked enters leaves Whole rest (Some u) ≡ cond (have_plain_regions u (spelled spelling rest)) (Some u) None
+          → walked enters leaves Whole rest (leaves b (walked enters leaves Whole kids (cond (x && y) (Some within) None)))
+          ≡ cond (x && y && have_plain_regions within (spelled spelling kids) && have_plain_regions u (spelled spelling rest)) (Some u) None
+      go false y back inner law = ap (λ o. walked enters leaves Whole rest (leaves b o)) (gone kids) ∙ gone rest
+      go true false back inner law = ap (λ o. walked enters leaves Whole rest (leaves b o)) (gone kids) ∙ gone rest
+      go true true back inner law =
+          ap (λ o. walked enters leaves Whole rest (leaves b o)) (inner within) ∙ after (have_plain_regions within (spelled spelling kids)) (have_plain_regions u (spelled spelling rest)) (back refl) law
+
+-- where a list is at the top
+top_is : (c : Content) (form : Bool) → in_context_of c form ≡ option_map (λ own. record { content = own; texts = texts_at_top own; in_a = false; in_button = false; in_form = form }) (top_content c)
+top_is content.Flow form = refl
+top_is _ form = refl
+
+-- no list at the top is of phrasing elements alone
+abbrev is_other : Option Content → Bool
+is_other None = false
+is_other (Some c) = is_phrasing c
+
+pub top_other : (c top : Content) → Some top ≡ top_content c → is_phrasing top ≡ false
+top_other c top h = ap is_other h ∙ go c
+  where
+    go : (c : Content) → is_other (top_content c) ≡ false
+    go content.Flow = refl
+    go _ = refl
+
+-- a list is plain if its top region is content, and so are the others, and no form is in a form
+pub plain_is : (context : List ℕ) (t : Tag) (top : Content) (f : Forest (List ℕ)) → in_context_of (row t).1 (is_form t) ≡ in_context context → Some top ≡ top_content (row t).1
+    → (are_region_content (in_region top) f && have_plain_regions (is_form t) f) ≡ is_plain context f
+plain_is context t top f named topmost =
+    sym (by_regions (record { content = top; texts = texts_at_top top; in_a = false; in_button = false; in_form = is_form t }) f)
+    ∙ ap (λ o. are_content_if (option_map (λ own. record { content = own; texts = texts_at_top own; in_a = false; in_button = false; in_form = is_form t }) o) f) topmost
+    ∙ ap (λ o. are_content_if o f) (sym (top_is (row t).1 (is_form t)) ∙ named)
+
+-- what is left of the walk finds whether the list is plain
+abbrev pub IsFinding : (names : Texts) (f : Forest ℕ) (root : ℕ) (context : List ℕ) → Bool → List Visit → Type 0
+IsFinding names f root context = Finds (form_after (text_of names) f) (is_plain context (spelled (text_of names) (children_of root f)))
+
+pub begun : (names : Texts) (made : ℕ) (f : Forest ℕ) (root : ℕ) (top : Content) (context : List ℕ) (t : Tag) (in_form : Bool) (left items : List Visit) → AreNames names → AreCounted made f → root < made
+    → in_context_of (row t).1 (is_form t) ≡ in_context context → Some top ≡ top_content (row t).1 → true ≡ are_region_content (in_region top) (spelled (text_of names) (children_of root f)) → in_form ≡ is_form t
+    → left ≡ items → items ≡ visits Whole (children_of root f) → IsFinding names f root context in_form left
+begun names made f root top context t in_form left items table counted h named topmost region begins same visited =
+    let step = form_after (text_of names) f in
+    record {
+      same =
+          (λ i. is_left (run (entering step) (leaving step) ((same ∙ visited) i) (Some (begins i))))
+          ∙ ap is_left (run-visits (entering step) (leaving step) Whole (children_of root f) (Some (is_form t)))
+          ∙ ap is_left (finds (text_of names) (tags-agree names table) f made root root (children_of root f) (seen made f counted root h) (is_form t))
+          ∙ tells (have_plain_regions (is_form t) (spelled (text_of names) (children_of root f))) (is_form t)
+          ∙ ap (λ u. u && have_plain_regions (is_form t) (spelled (text_of names) (children_of root f))) region
+          ∙ plain_is context t top (spelled (text_of names) (children_of root f)) named topmost;
+    }
+
+-- no list is plain where none is at the top
+pub none_plain : (context : List ℕ) (t : Tag) (f : Forest (List ℕ)) → in_context_of (row t).1 (is_form t) ≡ in_context context → top_content (row t).1 ≡ None → false ≡ is_plain context f
+none_plain context t f named missing =
+    ap (λ o. are_content_if (option_map (λ own. record { content = own; texts = texts_at_top own; in_a = false; in_button = false; in_form = is_form t }) o) f) (sym missing)
+    ∙ ap (λ o. are_content_if o f) (sym (top_is (row t).1 (is_form t)) ∙ named)
+
+-- a top region that is not content
+pub not_plain : (context : List ℕ) (t : Tag) (top : Content) (f : Forest (List ℕ)) → in_context_of (row t).1 (is_form t) ≡ in_context context → Some top ≡ top_content (row t).1
+    → false ≡ are_region_content (in_region top) f → false ≡ is_plain context f
+not_plain context t top f named topmost region = ap (λ u. u && have_plain_regions (is_form t) f) region ∙ plain_is context t top f named topmost

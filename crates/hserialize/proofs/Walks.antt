@@ -1,0 +1,55 @@
+-- A walk with a state, which is lost at a visit that finds what is not to be.
+use Rattle.hserialize.proofs.Names.{◌≡◌, ℕ, Bool, true, false, cond, cond_both, List, [], ◌∷◌, Some, None, refl, sym, ◌∙◌, ap, option_and_then, Option, Forest, none, tree, goes_in, Visit, Enter, Leave}
+use Rattle.hserialize.proofs.Runs.{run, walked}
+use Rattle.hserialize.specs.declared.walk.Reach.{Reach}
+
+-- whether the state was not lost
+abbrev pub is_left : {S : Type 0} → Option S → Bool
+is_left None = false
+is_left (Some a) = true
+
+pub tells : {S : Type 0} (u : Bool) (a : S) → is_left (cond u (Some a) None) ≡ u
+tells true a = refl
+tells false a = refl
+
+module _ {S : Type 0} (step : Visit → S → Option S) where
+  abbrev pub entering : ℕ → Option S → Option S
+  entering n s = option_and_then (step (Enter n)) s
+
+  abbrev pub leaving : ℕ → Option S → Option S
+  leaving n s = option_and_then (step (Leave n)) s
+
+  pub lost : (reach : Reach) (g : Forest ℕ) → walked entering leaving reach g None ≡ None
+  lost reach none = refl
+  lost reach (tree b w kids rest) =
+      ap (λ s. walked entering leaving reach rest (leaving b s)) (cond_both (goes_in reach w) (walked entering leaving reach kids None) None (λ o. o ≡ None) (λ _. lost reach kids) (λ _. refl))
+      ∙ lost reach rest
+
+  one : (v : Visit) (left : List Visit) (s : S) → run entering leaving (v ∷ left) (Some s) ≡ run entering leaving left (step v s)
+  one (Enter n) left s = refl
+  one (Leave n) left s = refl
+
+  none_left : (left : List Visit) → run entering leaving left None ≡ None
+  none_left [] = refl
+  none_left (Enter n ∷ left) = none_left left
+  none_left (Leave n ∷ left) = none_left left
+
+  -- the visits that are left find whether all is as it is to be
+  pub record Finds (all : Bool) (s : S) (left : List Visit) : Type 0 where
+    pub same : is_left (run entering leaving left (Some s)) ≡ all
+
+  module _ (all : Bool) (s : S) (v : Visit) (old left : List Visit) (is : old ≡ v ∷ left) (f : Finds all s old) where
+    after : is_left (run entering leaving left (step v s)) ≡ all
+    after = ap is_left (sym (one v left s)) ∙ ap (λ l. is_left (run entering leaving l (Some s))) (sym is) ∙ f.same
+
+    -- one visit more
+    pub goes_on : (s' : S) → Some s' ≡ step v s → Finds all s' left
+    goes_on s' o = record { same = ap (λ r. is_left (run entering leaving left r)) o ∙ after }
+
+    -- the state is lost
+    pub fails : None ≡ step v s → false ≡ all
+    fails o = ap is_left (sym (none_left left)) ∙ ap (λ r. is_left (run entering leaving left r)) o ∙ after
+
+  -- the end
+  pub found : (all : Bool) (s : S) (left : List Visit) → left ≡ [] → Finds all s left → true ≡ all
+  found all s left is f = ap (λ l. is_left (run entering leaving l (Some s))) (sym is) ∙ f.same

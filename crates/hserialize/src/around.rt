@@ -1,0 +1,111 @@
+//! Where a list of trees is.
+
+ghost use Rattle.std.specs.Prelude.{◌≡◌, if◌then◌else◌};
+ghost use Rattle.hserialize.specs.Vocabulary.{is_a, is_button, is_nested, alone, marked, inside_is, standing_in, standing_at_top};
+
+use crate::content::{Content, Texts};
+use crate::content_rows::row;
+use names::Tag;
+
+/// What is around a list of trees, with no marker between.
+#[derive(Clone, Copy)]
+pub(crate) struct Around {
+    in_a: bool,
+    in_button: bool,
+    /// Whether it is in an element that takes phrasing elements alone.
+    in_phrasing: bool,
+}
+
+/// Whether an element of this name is an a.
+fn is_a(tag: Tag) -> bool
+    ensures { result ≡ is_a tag }
+{
+    matches!(tag, Tag::A)
+}
+
+/// Whether it is a button.
+fn is_button(tag: Tag) -> bool
+    ensures { result ≡ is_button tag }
+{
+    matches!(tag, Tag::Button)
+}
+
+/// `now` where an element changes it, and else what was before.
+fn now_if(changes: bool, now: bool, before: bool) -> bool
+    ensures { result ≡ (if changes then now else before) }
+{
+    if changes { now } else { before }
+}
+
+impl Around {
+    /// Nothing is around it.
+    pub(crate) fn alone() -> Around
+        ensures { result ≡ alone }
+    {
+        Around {
+            in_a: false,
+            in_button: false,
+            in_phrasing: false,
+        }
+    }
+
+    /// The same once an element of this name is entered, or left. An a, a button or an element of phrasing content is in none of
+    /// its kind unless a marker is between, so leaving it undoes entering it.
+    pub(crate) fn marked(self, tag: Tag, inside: bool) -> Around
+        ensures { result ≡ marked tag inside self }
+    {
+        Around {
+            in_a: now_if(is_a(tag), inside, self.in_a),
+            in_button: now_if(is_button(tag), inside, self.in_button),
+            in_phrasing: now_if(
+                matches!(row(tag).1, Content::Phrasing),
+                inside,
+                self.in_phrasing,
+            ),
+        }
+    }
+}
+
+/// Where a list of trees is: its content and its texts, and what is around it.
+#[derive(Clone, Copy)]
+pub(crate) struct Standing {
+    pub(crate) content: Content,
+    pub(crate) texts: Texts,
+    around: Around,
+}
+
+impl Standing {
+    /// At the top.
+    pub(crate) fn at_top(content: Content, around: Around) -> Standing
+        ensures { result ≡ standing_at_top content around }
+    {
+        Standing {
+            content,
+            texts: content.texts_at_top(),
+            around,
+        }
+    }
+
+    /// In an element of this name.
+    pub(crate) fn inside(tag: Tag, around: Around) -> Standing
+        ensures { result ≡ standing_in tag around }
+    {
+        let content = row(tag).1.within(around.in_phrasing);
+        Standing {
+            content,
+            texts: content.texts(),
+            around,
+        }
+    }
+
+    /// Whether an a would be in an a, or a button in a button.
+    pub(crate) fn is_nested(self, tag: Tag) -> bool
+        ensures { result ≡ is_nested (inside_is self) tag }
+    {
+        match tag {
+            Tag::A => self.around.in_a,
+            Tag::Button => self.around.in_button,
+            _ => false,
+        }
+    }
+}

@@ -1,0 +1,71 @@
+//! The line of an error, put together before it is written: one write is cheaper than four.
+
+ghost use Rattle.std.specs.Prelude.{◌≡◌};
+ghost use Rattle.hserialize.specs.Vocabulary.{error_line, IsLine, Puts, taken};
+
+use crate::{Target, Writer, put};
+use itoa::write_digits;
+use names::{ErrorCode, ParseError, Refusal};
+
+/// The most digits of an error's place.
+const DIGITS: usize = 20;
+
+/// The most bytes of an error's line: the digits, a space, the longest text and the end.
+const LINE: usize = DIGITS + 1 + 64 + 1;
+
+/// The line of an error, kept for the next one: most are of the kind of the one before, and need new digits alone.
+#[derive(Drop)]
+pub(crate) struct ErrorLine {
+    /// From [`DIGITS`] on a space, the text of the kind and the end of the line.
+    bytes: [u8; LINE],
+    /// Where the line ends.
+    end: usize,
+    code: ErrorCode,
+}
+
+impl ErrorLine {
+    /// The line of an error of this kind, but for its place.
+    pub(crate) fn of(code: ErrorCode) -> Self
+        ensures line { IsLine result }
+        ensures code { result.code ≡ code }
+    {
+        let text = code.text().as_bytes();
+        let after = DIGITS + 1 + text.len();
+        let mut bytes = [b'\n'; LINE];
+        bytes[DIGITS] = b' ';
+        bytes[DIGITS + 1..after].copy_from_slice(text);
+        ErrorLine {
+            bytes,
+            end: after + 1,
+            code,
+        }
+    }
+
+    /// Makes it the line of this kind.
+    #[inline(always)]
+    fn turn_to(&mut self, code: ErrorCode)
+        requires { IsLine self.old }
+        ensures line { IsLine self.new }
+        ensures code { self.new.code ≡ code }
+    {
+        if self.code != code {
+            *self = ErrorLine::of(code);
+        }
+    }
+}
+
+/// Writes the line of an error, by way of the line that is kept.
+#[inline(always)]
+pub(crate) fn put_error<W: Target>(
+    out: &mut Writer<'_, W>,
+    line: &mut ErrorLine,
+    error: &ParseError,
+) -> Result<(), Refusal>
+    requires { IsLine line.old }
+    ensures text { Puts (taken W.written W.failed out.old) (taken W.written W.failed out.new) (error_line error.now) result }
+    ensures line { IsLine line.new }
+{
+    line.turn_to(error.code);
+    let start = write_digits(error.at, &mut line.bytes, DIGITS);
+    put(out, &line.bytes[start..line.end])
+}

@@ -1,0 +1,259 @@
+//! Trees and errors as they are printed.
+
+ghost use Rattle.std.specs.Prelude.{◌≡◌, ◌++◌, ◌<◌, ◌≤◌, ◌^◌, ◌&&◌, ℕ, codes, flat_map, length, map, vec_capacity, OnOk};
+ghost use Rattle.std.specs.List.{repeat};
+ghost use Rattle.std.specs.String.{string_bytes};
+ghost use Rattle.hserialize.specs.Vocabulary.{text_of, children_of, element, attribute_of, what_of, spelled, spelled_what, pair_of, indented, attribute_line, identifiers, node_lines, error_lines, tree_text, Holds, IsFlushed, Puts, WritesText, taken, attribute_count, lines_of, is_empty};
+
+use crate::error_line::{ErrorLine, put_error};
+use crate::sorted::{NamedAttr, in_order};
+use crate::{Gathered, NodeView, Reach, Target, TreeWalk, Visit, Writer, put, put_parts, room};
+use hnodes::{DocumentType, NodeId, Tree};
+use names::{Attr, NameId, Names, ParseError, Refusal};
+use std::alloc::Global;
+
+/// Begins a line at a depth.
+fn begin_line<W: Target>(out: &mut Writer<'_, W>, depth: usize) -> Result<(), Refusal>
+    ensures { Puts (taken W.written W.failed out.old) (taken W.written W.failed out.new) (codes "| " ++ repeat depth (codes "  ")) result }
+{
+    put(out, b"| ")?;
+    for level in 0..depth {
+        put(out, b"  ")?;
+    }
+    Ok(())
+}
+
+/// Writes a line of these parts.
+fn put_line<W: Target>(
+    out: &mut Writer<'_, W>,
+    depth: usize,
+    parts: &[&[u8]],
+) -> Result<(), Refusal>
+    ensures { Puts (taken W.written W.failed out.old) (taken W.written W.failed out.new) (indented depth (flat_map (λ p. p.now) parts.now)) result }
+{
+    begin_line(out, depth)?;
+    put_parts(out, parts)?;
+    put(out, b"\n")
+}
+
+/// Writes the lines of attributes.
+fn put_attributes<W: Target>(
+    out: &mut Writer<'_, W>,
+    depth: usize,
+    entries: &[NamedAttr<'_>],
+) -> Result<(), Refusal>
+    ensures { Puts (taken W.written W.failed out.old) (taken W.written W.failed out.new) (flat_map (attribute_line depth) (map pair_of entries.now)) result }
+{
+    for entry in entries {
+        let (name, value) = (entry.0.as_bytes(), entry.2.as_bytes());
+        put_line(out, depth, &[name, b"=\"", value, b"\""])?;
+    }
+    Ok(())
+}
+
+/// Writes the lines of an element and its attributes.
+fn put_element<'a, W: Target>(
+    out: &mut Writer<'_, W>,
+    entries: &mut Vec<NamedAttr<'a>>,
+    names: &'a Names,
+    depth: usize,
+    name: NameId,
+    attrs: &'a [Attr],
+) -> Result<(), Refusal>
+    requires deep { depth < 2 ^ 33 }
+    requires room { length attrs.now ≤ vec_capacity entries.old }
+    ensures text { Puts (taken W.written W.failed out.old) (taken W.written W.failed out.new)
+        (node_lines depth (spelled_what (text_of names.now) (element name (map attribute_of attrs.now)))) result }
+    ensures room { vec_capacity entries.old ≤ vec_capacity entries.new }
+{
+    put_line(out, depth, &[b"<", names.text(name).as_bytes(), b">"])?;
+    in_order(entries, names, attrs);
+    put_attributes(out, depth + 1, entries)
+}
+
+/// Whether a doctype has no identifier.
+fn has_none(public_id: &str, system_id: &str) -> bool
+    ensures { result ≡ (is_empty public_id.now && is_empty system_id.now) }
+{
+    public_id.is_empty() && system_id.is_empty()
+}
+
+/// Writes the line of a doctype.
+fn put_doctype<W: Target>(
+    out: &mut Writer<'_, W>,
+    depth: usize,
+    texts: &DocumentType,
+) -> Result<(), Refusal>
+    ensures { Puts (taken W.written W.failed out.old) (taken W.written W.failed out.new)
+        (indented depth (codes "<!DOCTYPE " ++ string_bytes texts.now.name
+        ++ identifiers (string_bytes texts.now.public_id) (string_bytes texts.now.system_id) ++ codes ">")) result }
+{
+    let name = texts.name.as_bytes();
+    if has_none(&texts.public_id, &texts.system_id) {
+        return put_line(out, depth, &[b"<!DOCTYPE ", name, b">"]);
+    }
+    let (public_id, system_id) = (texts.public_id.as_bytes(), texts.system_id.as_bytes());
+    put_line(
+        out,
+        depth,
+        &[
+            b"<!DOCTYPE ",
+            name,
+            b" \"",
+            public_id,
+            b"\" \"",
+            system_id,
+            b"\">",
+        ],
+    )
+}
+
+/// Writes the lines of a node.
+fn put_node<'a, W: Target>(
+    out: &mut Writer<'_, W>,
+    entries: &mut Vec<NamedAttr<'a>>,
+    tree: &'a Tree,
+    names: &'a Names,
+    depth: usize,
+    node: NodeId,
+) -> Result<(), Refusal>
+    requires deep { depth < 2 ^ 33 }
+    requires room { attribute_count (what_of node tree.now.trees) ≤ vec_capacity entries.old }
+    requires made { node < tree.now.made }
+    ensures text { Puts (taken W.written W.failed out.old) (taken W.written W.failed out.new)
+        (lines_of (text_of names.now) depth (what_of node tree.now.trees)) result }
+    ensures room { vec_capacity entries.old ≤ vec_capacity entries.new }
+{
+    match NodeView::of(tree, node) {
+        NodeView::Document => Ok(()),
+        NodeView::Doctype(texts) => put_doctype(out, depth, texts),
+        NodeView::Element(name, attrs) => put_element(out, entries, names, depth, name, attrs),
+        NodeView::Comment(data) => put_line(out, depth, &[b"<!-- ", data.as_bytes(), b" -->"]),
+        NodeView::Text(data) => put_line(out, depth, &[b"\"", data.as_bytes(), b"\""]),
+    }
+}
+
+/// How many attributes a node has.
+fn attribute_count(tree: &Tree, node: NodeId) -> usize
+    requires { node < tree.now.made }
+    ensures { result ≡ attribute_count (what_of node tree.now.trees) }
+{
+    match NodeView::of(tree, node) {
+        NodeView::Element(_, attrs) => attrs.len(),
+        _ => 0,
+    }
+}
+
+/// The most attributes that a node has.
+fn most_attributes(tree: &Tree) -> usize
+    ensures { (n : ℕ) → n < tree.now.made → attribute_count (what_of n tree.now.trees) ≤ result }
+{
+    let mut most = 0;
+    for index in 0..tree.made() as usize {
+        if let Some(node) = tree.node(index) {
+            most = most.max(attribute_count(tree, node));
+        }
+    }
+    most
+}
+
+/// Writes the nodes inside a node. Nothing is handed on.
+fn put_nodes<'a, W: Target>(
+    out: &mut Writer<'_, W>,
+    entries: &mut Vec<NamedAttr<'a>>,
+    tree: &'a Tree,
+    names: &'a Names,
+    root: NodeId,
+) -> Result<(), Refusal>
+    requires made { root < tree.now.made }
+    requires room { (n : ℕ) → n < tree.now.made → attribute_count (what_of n tree.now.trees) ≤ vec_capacity entries.old }
+    ensures { Puts (taken W.written W.failed out.old) (taken W.written W.failed out.new)
+        (tree_text (spelled (text_of names.now) (children_of root tree.now.trees))) result }
+{
+    let mut depth = 0;
+    for visit in TreeWalk::new(tree, root, Reach::Whole) {
+        match visit {
+            Visit::Enter(node) => {
+                put_node(out, entries, tree, names, depth, node)?;
+                depth += 1;
+            }
+            Visit::Leave(_) => depth -= 1,
+        }
+    }
+    Ok(())
+}
+
+/// Prints the nodes inside a node, and flushes: a line each, two spaces deeper than the line of its parent, and a line each for
+/// the attributes of an element. All memory is taken before the first write: `Memory` comes before it, and nothing is written
+/// then. Where a write fails, what was taken before is a beginning of the text, and `Write` is returned; no write follows.
+pub fn print_tree<W: Target>(
+    alloc: Global,
+    tree: &Tree,
+    names: &Names,
+    root: NodeId,
+    target: &mut W,
+) -> Result<(), Refusal>
+    requires { root < tree.now.made }
+    ensures text { WritesText W.written W.failed (tree_text (spelled (text_of names.now) (children_of root tree.now.trees))) target.old target.new result }
+    ensures flushed { OnOk result (IsFlushed W.flushes target.new) }
+{
+    let mut entries = Vec::with_capacity(alloc, most_attributes(tree))?;
+    let mut held = room(alloc)?;
+    let mut out = Writer::new(target, &mut held);
+    put_nodes(&mut out, &mut entries, tree, names, root)?;
+    out.finish()
+}
+
+/// The text that [`print_tree`] writes. An error is `Memory`.
+pub fn tree_text(
+    alloc: Global,
+    tree: &Tree,
+    names: &Names,
+    root: NodeId,
+) -> Result<Vec<u8>, Refusal>
+    requires { root < tree.now.made }
+    ensures { Holds result (tree_text (spelled (text_of names.now) (children_of root tree.now.trees))) }
+{
+    let mut text = Gathered::new(alloc);
+    let answer = print_tree(alloc, tree, names, root, &mut text);
+    text.into_text(answer)
+}
+
+/// Writes the lines of errors. Nothing is handed on.
+fn put_errors<W: Target>(out: &mut Writer<'_, W>, errors: &[ParseError]) -> Result<(), Refusal>
+    ensures { Puts (taken W.written W.failed out.old) (taken W.written W.failed out.new) (error_lines errors.now) result }
+{
+    let Some(first) = errors.first() else {
+        return Ok(());
+    };
+    let mut line = ErrorLine::of(first.code);
+    for error in errors {
+        put_error(out, &mut line, error)?;
+    }
+    Ok(())
+}
+
+/// Prints errors, a line each, and flushes. `Memory` comes before the first write, and nothing is written then. Where a write
+/// fails, what was taken before is a beginning of the text, and `Write` is returned; no write follows.
+pub fn print_errors<W: Target>(
+    alloc: Global,
+    errors: &[ParseError],
+    target: &mut W,
+) -> Result<(), Refusal>
+    ensures text { WritesText W.written W.failed (error_lines errors.now) target.old target.new result }
+    ensures flushed { OnOk result (IsFlushed W.flushes target.new) }
+{
+    let mut held = room(alloc)?;
+    let mut out = Writer::new(target, &mut held);
+    put_errors(&mut out, errors)?;
+    out.finish()
+}
+
+/// The text that [`print_errors`] writes. An error is `Memory`.
+pub fn error_lines(alloc: Global, errors: &[ParseError]) -> Result<Vec<u8>, Refusal>
+    ensures { Holds result (error_lines errors.now) }
+{
+    let mut text = Gathered::new(alloc);
+    let answer = print_errors(alloc, errors, &mut text);
+    text.into_text(answer)
+}

@@ -1,0 +1,206 @@
+//! Whether a list of trees is plain.
+
+ghost use Rattle.std.specs.Prelude.{◌≡◌, ◌<◌, ◌&&◌, ◌||◌, IfSome, Some, false, map};
+ghost use Rattle.hserialize.specs.Vocabulary.{text_of, tag_of, children_of, attribute_of, spelled, spelled_attribute, attributes_of, first_child_of, next_of, parent_of, what_of, are_plain_attributes, is_form, is_plain, drops_line_feed, are_region_content, form_after, in_region, tag_at, standing_of, inside_is, is_phrasing, is_text_at, begins_at, is_plain_element, is_plain_at, after_visit, node_of};
+
+use crate::around::{Around, Standing};
+use crate::content::Content;
+use crate::content_rows::row;
+use crate::plain_texts::{all_plain_attributes, begins_with, is_plain_comment, is_plain_text};
+use crate::{NodeView, Reach, TreeWalk, Visit, inserts_marker};
+use hnodes::{NodeId, NodeKind, Tree};
+use names::{Attr, NameId, Names, Tag};
+
+/// The known name of an element; `Tag::Other` for another node.
+fn tag_at(tree: &Tree, node: NodeId) -> Tag
+    requires { node < tree.now.made }
+    ensures { result ≡ tag_at node tree.now.trees }
+{
+    match tree.name(node) {
+        Some(name) => name.tag(),
+        None => Tag::Other,
+    }
+}
+
+/// Where a node is, inside a root whose children are this content.
+fn standing_of(tree: &Tree, root: NodeId, top: Content, around: Around, node: NodeId) -> Standing
+    requires { node < tree.now.made }
+    ensures { result ≡ standing_of root top around (parent_of node tree.now.trees) tree.now.trees }
+{
+    match tree.parent(node) {
+        Some(parent) if parent != root => Standing::inside(tag_at(tree, parent), around),
+        _ => Standing::at_top(top, around),
+    }
+}
+
+/// Whether there is a node, and it is a text.
+fn is_text(tree: &Tree, node: Option<NodeId>) -> bool
+    requires { IfSome node (λ n. n < tree.now.made) }
+    ensures { result ≡ is_text_at node tree.now.trees }
+{
+    match node {
+        Some(node) => matches!(tree.kind(node), NodeKind::Text),
+        None => false,
+    }
+}
+
+/// Whether there is a node, and it is a text that begins with LF.
+fn begins_with_line_feed(tree: &Tree, node: Option<NodeId>) -> bool
+    requires { IfSome node (λ n. n < tree.now.made) }
+    ensures { result ≡ begins_at node tree.now.trees }
+{
+    let Some(node) = node else {
+        return false;
+    };
+    match NodeView::of(tree, node) {
+        NodeView::Text(text) => begins_with(text, "\n"),
+        _ => false,
+    }
+}
+
+/// Whether LF right after the start tag is dropped (HTML Standard, `#parsing-main-inbody`).
+fn drops_line_feed(tag: Tag) -> bool
+    ensures { result ≡ drops_line_feed tag }
+{
+    matches!(tag, Tag::Pre | Tag::Listing | Tag::Textarea)
+}
+
+/// Whether the attributes of an element are plain.
+fn are_plain_attributes(tree: &Tree, names: &Names, node: NodeId, attrs: &[Attr]) -> bool
+    requires made { node < tree.now.made }
+    requires own { attributes_of node tree.now.trees ≡ Some (map attribute_of attrs.now) }
+    ensures { result ≡ are_plain_attributes (map (spelled_attribute (text_of names.now)) (map attribute_of attrs.now)) }
+{
+    prove!(names.are_names());
+    all_plain_attributes(names, attrs) && tree.attrs_differ(node)
+}
+
+/// Whether an element is plain by itself.
+fn is_plain_element(
+    tree: &Tree,
+    names: &Names,
+    standing: Standing,
+    node: NodeId,
+    name: NameId,
+    attrs: &[Attr],
+) -> bool
+    requires made { node < tree.now.made }
+    requires own { attributes_of node tree.now.trees ≡ Some (map attribute_of attrs.now) }
+    ensures { result ≡ is_plain_element (text_of names.now) (inside_is standing) (tag_of name) (map attribute_of attrs.now)
+        (begins_at (first_child_of node tree.now.trees) tree.now.trees) }
+{
+    let tag = name.tag();
+    standing.content.takes_role(row(tag).0)
+        && !standing.is_nested(tag)
+        && are_plain_attributes(tree, names, node, attrs)
+        && !(drops_line_feed(tag) && begins_with_line_feed(tree, tree.first_child(node)))
+}
+
+/// Whether a node is plain by itself, before its siblings.
+fn is_plain_node(tree: &Tree, names: &Names, standing: Standing, node: NodeId) -> bool
+    requires { node < tree.now.made }
+    ensures { result ≡ is_plain_at (text_of names.now) (inside_is standing) node tree.now.trees }
+{
+    match NodeView::of(tree, node) {
+        NodeView::Element(name, attrs) => is_plain_element(
+            tree, names, standing, node, name, attrs,
+        ),
+        NodeView::Text(text) => {
+            is_plain_text(standing.texts, text) && !is_text(tree, tree.next(node))
+        }
+        NodeView::Comment(data) => standing.content.takes_comments() && is_plain_comment(data),
+        NodeView::Document | NodeView::Doctype(_) => false,
+    }
+}
+
+/// What is around the nodes of a region that come after a visit; None if what is visited is not plain.
+fn after_visit(
+    tree: &Tree,
+    names: &Names,
+    root: NodeId,
+    top: Content,
+    around: Around,
+    visit: Visit,
+) -> Option<Around>
+    requires { node_of visit < tree.now.made }
+    ensures { result ≡ after_visit (text_of names.now) tree.now.trees root top visit around }
+{
+    match visit {
+        Visit::Enter(node) => {
+            let standing = standing_of(tree, root, top, around, node);
+            let marked = around.marked(tag_at(tree, node), true);
+            is_plain_node(tree, names, standing, node).then_some(marked)
+        }
+        Visit::Leave(node) => Some(around.marked(tag_at(tree, node), false)),
+    }
+}
+
+/// Whether what is in a node is content of it, wherever forms are, down to the elements that insert a marker: what is in
+/// those is a region by itself.
+fn is_plain_region(tree: &Tree, names: &Names, root: NodeId, top: Content) -> bool
+    requires made { root < tree.now.made }
+    requires not_phrasing { is_phrasing top ≡ false }
+    ensures { result ≡ are_region_content (in_region top) (spelled (text_of names.now) (children_of root tree.now.trees)) }
+{
+    prove!(names.are_names());
+    let mut around = Around::alone();
+    for visit in TreeWalk::new(tree, root, Reach::Region) {
+        match after_visit(tree, names, root, top, around, visit) {
+            Some(after) => around = after,
+            None => return false,
+        }
+    }
+    true
+}
+
+/// Whether an element of this name is a form.
+fn is_form(tag: Tag) -> bool
+    ensures { result ≡ is_form tag }
+{
+    matches!(tag, Tag::Form)
+}
+
+/// Whether a form is around the nodes that come after a visit. None if a form is in a form, or if what is in an element
+/// that inserts a marker is not its content.
+fn form_after(tree: &Tree, names: &Names, in_form: bool, visit: Visit) -> Option<bool>
+    requires { node_of visit < tree.now.made }
+    ensures { result ≡ form_after (text_of names.now) tree.now.trees visit in_form }
+{
+    match visit {
+        Visit::Enter(node) => {
+            let tag = tag_at(tree, node);
+            if in_form && is_form(tag) {
+                return None;
+            }
+            if inserts_marker(tag) && !is_plain_region(tree, names, node, Content::Flow) {
+                return None;
+            }
+            Some(in_form || is_form(tag))
+        }
+        Visit::Leave(node) => Some(in_form && !is_form(tag_at(tree, node))),
+    }
+}
+
+/// Whether the children of a node are a plain list in an element of this name: they come back from the parser as they are. Takes
+/// no memory, and as many steps as there are nodes, attributes, and bytes in names, values and texts.
+pub fn is_plain(tree: &Tree, names: &Names, root: NodeId, context: &str) -> bool
+    requires { root < tree.now.made }
+    ensures { result ≡ is_plain context.now (spelled (text_of names.now) (children_of root tree.now.trees)) }
+{
+    let tag = Tag::named(context);
+    let Some(top) = row(tag).1.at_top() else {
+        return false;
+    };
+    if !is_plain_region(tree, names, root, top) {
+        return false;
+    }
+    prove!(names.are_names());
+    let mut in_form = is_form(tag);
+    for visit in TreeWalk::new(tree, root, Reach::Whole) {
+        match form_after(tree, names, in_form, visit) {
+            Some(after) => in_form = after,
+            None => return false,
+        }
+    }
+    true
+}
