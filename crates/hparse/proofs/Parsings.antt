@@ -1,5 +1,5 @@
 -- What one piece more does to a parser, and what the input's end does.
-use Rattle.hparse.proofs.Names.{◌≡◌, ℕ, List, ◌++◌, refl, sym, ap, subst, Option, None, Result, Ok, Err, inl, inr, ◌⊎◌, MatchResult, Refusal, Memory, Texts, Grows, AreNames, Origin, Parsed, Parser, Placing, Reading, FeedsPiece, piece_ran_out, piece_refused, piece_read, EndsInput, input_ran_out, input_comes, IsRefusedFor, IsTaken, ParseCase, ParseOptions, Parses, manner, places_item, HasParsed, AnswersParse, TellsPlaces}
+use Rattle.hparse.proofs.Names.{◌≡◌, ℕ, List, ◌++◌, refl, sym, ap, subst, Option, None, Result, Ok, Err, inl, inr, ◌⊎◌, MatchResult, Refusal, Memory, Texts, Grows, AreNames, Origin, Parsed, Parser, Placing, Reading, HasRead, FeedsPiece, piece_ran_out, piece_refused, piece_read, EndsInput, input_ran_out, input_comes, IsRefusedFor, IsTaken, ParseCase, ParseOptions, Parses, manner, places_item, HasParsed, AnswersParse, TellsPlaces}
 use Rattle.hparse.specs.Parsing.{FeedsParser, feed_ran_out, feed_refused, feed_read, IsBuilt, ShowsParse, parse_ran_out, parse_answered}
 use Rattle.hparse.proofs.Built.{became}
 use Rattle.hparse.proofs.Pieces.{but_for_memory}
@@ -12,8 +12,12 @@ abbrev pub BuiltBy : Texts → Placing → Result Parsed Refusal → Type 0
 BuiltBy names built result = built.builder.refused ≡ None → MatchResult result (IsBuilt names built) (λ refusal. refusal ≡ Memory)
 
 module _ (opts : ParseOptions) (parse_case : ParseCase) (bytes : List ℕ) (old : Parser) (h : HasParsed opts parse_case old bytes) where
+  -- its reading, wherever that is borrowed
+  pub has_read : (r : Reading Placing) → r ≡ old.reading.value → HasRead places_item (manner opts parse_case) h.began r bytes
+  has_read r is = subst (λ (r : Reading Placing). HasRead places_item (manner opts parse_case) h.began r bytes) (sym is) h.has_read
+
   -- a piece that was read
-  pub feeds_on : (piece : List ℕ) (new : Parser) → new.refused ≡ None → FeedsPiece places_item (manner opts parse_case) h.began (bytes ++ piece) (Ok tt) new.reading → FeedsParser opts parse_case (bytes ++ piece) (Ok tt) new
+  pub feeds_on : (piece : List ℕ) (new : Parser) → new.refused ≡ None → FeedsPiece places_item (manner opts parse_case) h.began (bytes ++ piece) (Ok tt) new.reading.value → FeedsParser opts parse_case (bytes ++ piece) (Ok tt) new
   feeds_on piece new accepts (piece_ran_out is) = absurd cc
   feeds_on piece new accepts (piece_refused refusal is refused) = absurd cc
   feeds_on piece new accepts (piece_read is k) =
@@ -81,3 +85,7 @@ module _ (opts : ParseOptions) (parse_case : ParseCase) (bytes : List ℕ) (old 
   pub refused_answers : (reading : Reading Placing) (later : Texts) → Grows reading.feeding.names later → AreNames later → (e : Refusal) (all : List ℕ) → IsRefusedFor places_item (manner opts parse_case) h.began all reading.feeding.names reading.feeding.sink e
       → (e ≡ Memory) ⊎ Parses opts parse_case all (Err e)
   refused_answers reading later grows are e all r = refused reading later grows are e all r
+
+-- names that are known of a reading, wherever that is borrowed
+pub names_of : (reading borrowed : Reading Placing) → borrowed ≡ reading → AreNames borrowed.feeding.names → AreNames reading.feeding.names
+names_of reading borrowed is are = subst (λ (r : Reading Placing). AreNames r.feeding.names) is are

@@ -13,6 +13,8 @@ use Rattle.hnodes.specs.Spelled.{spelled}
 use Rattle.hadopt.specs.Naming.{numbers}
 use Rattle.hmodes.specs.Beginning.{document_begins, fragment_begins}
 use Rattle.hmodes.specs.State.{State}
+use Rattle.htoken.specs.declared.token.Start.{Start}
+use Rattle.hmodes.specs.Building.{Building}
 use Rattle.hparse.specs.declared.options.Options.{Options}
 use Rattle.hparse.specs.declared.origins.Origin.{Origin}
 use Rattle.hparse.specs.declared.parsed.Parsed.{Parsed}
@@ -55,7 +57,16 @@ pub record HasParsed (opts : ParseOptions) (parse_case : ParseCase) (parser : Pa
   pub root_is : began.sink.builder.root ≡ root_of parse_case
   pub begins : BeginsIn opts began.names parse_case began.sink.builder.state
   pub places : began.sink.origins ≡ origins_if opts.places began.sink.builder.state
-  pub has_read : HasRead places_item (manner opts parse_case) began parser.reading bytes
+  pub has_read : HasRead places_item (manner opts parse_case) began parser.reading.value bytes
+
+-- A parser with this builder and this table of names that was fed nothing.
+pub record HasBegun (options : Options) (start : Start) (names : Texts) (builder : Building) (parser : Parser) : Type 0 where
+  pub accepts : parser.refused ≡ None
+  pub sink : Placing
+  pub builder_is : sink.builder ≡ builder
+  pub places : sink.origins ≡ origins_if options.places builder.state
+  pub has_read : HasRead places_item (record { table = options.table.now; start = start; bad = options.bad_bytes; limit = options.limits.input })
+      (record { names = names; sink = sink }) parser.reading.value []
 
 -- What feeding the last piece of these bytes does: memory ran out, or they are refused, whatever comes after, or they have been read.
 pub data FeedsParser (opts : ParseOptions) (parse_case : ParseCase) (bytes : List ℕ) (answer : Result (Unit {0}) Refusal) (new : Parser) : Type 0 where

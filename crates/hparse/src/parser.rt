@@ -1,7 +1,7 @@
 //! A parser that is fed bytes.
 
-ghost use Rattle.std.specs.Prelude.{◌≡◌, ◌<◌, ◌⊎◌, ℕ, List, [], ◌++◌, None, Some, true, false, Err, option_map, IfErr, MatchResult};
-ghost use Rattle.hparse.specs.Vocabulary.{Refused, BadContext, Memory, ParseCase, ParseOptions, document, fragment, is_context, ReadsInput, AnswersParse, FeedsParser, HasParsed, IsBuilt, IsMadeOf, ShowsParse, options_of, IsUnrefused};
+ghost use Rattle.std.specs.Prelude.{◌≡◌, ◌<◌, ◌⊎◌, ℕ, List, [], ◌++◌, None, Some, true, false, Err, option_map, IfErr, IfOk, MatchResult};
+ghost use Rattle.hparse.specs.Vocabulary.{Refused, BadContext, Memory, ParseCase, ParseOptions, document, fragment, is_context, ReadsInput, AnswersParse, FeedsParser, HasBegun, HasParsed, IsBuilt, IsMadeOf, ShowsParse, options_of, IsUnrefused};
 
 use crate::context::is_context;
 use crate::errors::sort_errors;
@@ -15,11 +15,12 @@ use crate::source::Source;
 use hmodes::{Builder, Built};
 use htoken::Start;
 use names::{Names, Refusal};
-use std::alloc::Global;
+use std::alloc::{AllocError, Global};
 
 /// Parses a document or a fragment that comes in pieces. After a refusal each further call returns the same refusal.
 pub struct Parser<'t> {
-    pub(crate) reading: Reading<'t, Placing<'t>>,
+    // On the heap, so that whoever hands on a parser moves a pointer.
+    pub(crate) reading: Box<Reading<'t, Placing<'t>>>,
     pub(crate) refused: Option<Refusal>,
 }
 
@@ -40,12 +41,8 @@ impl<'t> Parser<'t> {
         ensures { MatchResult result (λ parser. HasParsed (options_of options.now) document parser []) (λ refusal. refusal ≡ Memory) }
     {
         let builder = Builder::document(alloc, options.keys, options.quirks, options.limits)?;
-        let sink = Placing::new(alloc, builder, options.places)?;
         let names = Names::new(alloc, options.keys);
-        Ok(Parser {
-            reading: Reading::new(alloc, options, Start::Document, names, sink),
-            refused: None,
-        })
+        Ok(begun(alloc, options, Start::Document, names, builder)?)
     }
 
     /// The parser of a fragment in the context of an element of this name (`#html-fragment-parsing-algorithm`): 1 to 64 bytes, a lower
@@ -65,12 +62,8 @@ impl<'t> Parser<'t> {
         let mut names = Names::new(alloc, options.keys);
         let name = names.intern(alloc, context)?;
         let builder = Builder::fragment(alloc, options.keys, name, options.limits)?;
-        let sink = Placing::new(alloc, builder, options.places)?;
         let start = Start::Context(name.tag().raw_kind());
-        Ok(Parser {
-            reading: Reading::new(alloc, options, start, names, sink),
-            refused: None,
-        })
+        Ok(begun(alloc, options, start, names, builder)?)
     }
 
     /// Parses the next piece. What the bytes so far are refused for, whatever comes after them, may be returned here.
@@ -96,42 +89,66 @@ impl<'t> Parser<'t> {
     }
 
     /// Ends the input, and gives what it was parsed as.
-    pub fn finish(self) -> Result<Parsed, Refusal>
+    pub fn finish(mut self) -> Result<Parsed, Refusal>
         ensures shows { (opts : ParseOptions) (parse_case : ParseCase) (bytes : List ℕ) → HasParsed opts parse_case self.entry bytes
             → ShowsParse opts parse_case bytes result }
         ensures again { (refusal : Refused) → self.entry.refused ≡ Some refusal → result ≡ Err refusal }
     {
-        let mut reading = self.into_reading()?;
-        let answer = reading.end();
-        prove!(reading.feeding.are_names());
-        match answer {
-            Ok(()) => built_of(reading),
+        if let Some(refused) = self.refused {
+            return Err(refused);
+        }
+        let answer = self.reading.end();
+        prove!(self.reading.feeding.are_names());
+        answer?;
+        self.built()
+    }
+
+    /// What it has built, with the errors in their order, or what its builder has refused.
+    fn built(self) -> Result<Parsed, Refusal>
+        ensures built { self.entry.reading.value.feeding.sink.builder.refused ≡ None
+            → MatchResult result (IsBuilt self.entry.reading.value.feeding.names self.entry.reading.value.feeding.sink) (λ refusal. refusal ≡ Memory) }
+        ensures again { (refusal : Refused) → self.entry.reading.value.feeding.sink.builder.refused ≡ Some refusal → result ≡ Err refusal }
+    {
+        let Parser {
+            reading,
+            refused: _,
+        } = self;
+        let (names, sink) = Box::into_inner(reading).into_parts();
+        let (builder, places) = sink.into_parts();
+        match builder.finish() {
+            Ok(built) => in_order(names, built, places),
             Err(refusal) => {
-                drop(reading);
+                drop(names);
+                drop(places);
                 Err(refusal)
             }
         }
     }
+}
 
-    /// Its reading, or the refusal that ended it.
-    fn into_reading(self) -> Result<Reading<'t, Placing<'t>>, Refusal>
-        ensures { MatchResult result (λ reading. (self.entry.refused ≡ None) × (reading ≡ self.entry.reading))
-            (λ refusal. self.entry.refused ≡ Some refusal) }
-    {
-        let Parser { reading, refused } = self;
-        if let Some(refusal) = refused {
-            drop(reading);
-            return Err(refusal);
-        }
-        Ok(reading)
-    }
+/// A parser that was fed nothing.
+fn begun<'t>(
+    alloc: Global,
+    options: &Options<'t>,
+    start: Start,
+    names: Names,
+    builder: Builder<'t>,
+) -> Result<Parser<'t>, AllocError>
+    ensures { IfOk result (HasBegun options.now start names builder.entry) }
+{
+    let sink = Placing::new(alloc, builder, options.places)?;
+    let reading = Reading::new(alloc, options, start, names, sink);
+    Ok(Parser {
+        reading: Box::new(alloc, reading)?,
+        refused: None,
+    })
 }
 
 /// Parses what a reader gives, in pieces of at most this many bytes, after what the parser was fed. Reading goes on to the end,
 /// unless a read fails or a piece brings a refusal. A parser that has refused gives the same refusal, and nothing is read.
 pub fn parse_reader<R: Source>(
     alloc: Global,
-    parser: Parser,
+    mut parser: Parser,
     piece: usize,
     source: &mut R,
 ) -> Result<Parsed, Refusal>
@@ -142,34 +159,13 @@ pub fn parse_reader<R: Source>(
     // After a refusal of the parser nothing is read.
     ensures again { (refusal : Refused) → parser.entry.refused ≡ Some refusal → (result ≡ Err refusal) × (source.new ≡ source.old) }
 {
-    let mut reading = parser.into_reading()?;
-    let answer = read_to_end(alloc, piece, &mut reading, source);
-    prove!(reading.feeding.are_names());
-    match answer {
-        Ok(()) => built_of(reading),
-        Err(refusal) => {
-            drop(reading);
-            Err(refusal)
-        }
+    if let Some(refusal) = parser.refused {
+        return Err(refusal);
     }
-}
-
-/// What a reading has built, with the errors in their order, or what its builder has refused.
-fn built_of(reading: Reading<Placing>) -> Result<Parsed, Refusal>
-    ensures built { reading.entry.feeding.sink.builder.refused ≡ None
-        → MatchResult result (IsBuilt reading.entry.feeding.names reading.entry.feeding.sink) (λ refusal. refusal ≡ Memory) }
-    ensures again { (refusal : Refused) → reading.entry.feeding.sink.builder.refused ≡ Some refusal → result ≡ Err refusal }
-{
-    let (names, sink) = reading.into_parts();
-    let (builder, places) = sink.into_parts();
-    match builder.finish() {
-        Ok(built) => in_order(names, built, places),
-        Err(refusal) => {
-            drop(names);
-            drop(places);
-            Err(refusal)
-        }
-    }
+    let answer = read_to_end(alloc, piece, &mut parser.reading, source);
+    prove!(parser.reading.feeding.are_names());
+    answer?;
+    parser.built()
 }
 
 /// What was built, with the errors in their order.

@@ -1,11 +1,12 @@
-use Rattle.hparse.proofs.Names.{grows_not, subst, sym, Placing, Reading, HasRead, manner, places_item}
-use Rattle.hparse.proofs.Parsings.{ends_refused, ends_built}
+use Rattle.hparse.proofs.Names.{grows_not, err_from_is_err_and, manner}
+use Rattle.hparse.proofs.Parsings.{has_read, names_of, ends_refused, ends_built}
 use Rattle.hparse.proofs.parser.Parser.finish.Goals as goal
 
-pub returns-in-Err-clause-shows : goal.returns-in-Err-clause-shows
-returns-in-Err-clause-shows c = λ opts parse_case bytes h.
-    ends_refused opts parse_case bytes c.args.self h c.end-answer.new.self c.end-answer.new.self.feeding.names (grows_not _) c.are_names.ensures.names c.in-Err.refusal (c.in-Err.ensures (manner opts parse_case) h.began bytes (subst (λ (r : Reading Placing). HasRead places_item (manner opts parse_case) h.began r bytes) (sym c.in_ok-reading.ensures.1) h.has_read))
+pub returns-in_err-answer-clause-shows : goal.returns-in_err-answer-clause-shows
+returns-in_err-answer-clause-shows c = λ opts parse_case bytes h.
+    let e = err_from_is_err_and c.from_residual.result c.from_residual.ensures.1 in
+    rw (e.1, e.2) (ends_refused opts parse_case bytes c.args.self h c.end-answer.new.self c.end-answer.new.self.feeding.names (grows_not _) (names_of _ _ c.deref.ensures c.are_names.ensures.names) c.in_err-answer.field-0.0 (c.in_err-answer.ensures (manner opts parse_case) h.began bytes (has_read opts parse_case bytes c.args.self h _ c.deref_mut.ensures.value)))
 
-pub returns-in-Ok-clause-shows : goal.returns-in-Ok-clause-shows
-returns-in-Ok-clause-shows c = λ opts parse_case bytes h.
-    ends_built opts parse_case bytes c.args.self h c.end-answer.new.self c.end-answer.new.self.feeding.names (grows_not _) c.are_names.ensures.names c.built_of.result (c.in-Ok.ensures (manner opts parse_case) h.began bytes (subst (λ (r : Reading Placing). HasRead places_item (manner opts parse_case) h.began r bytes) (sym c.in_ok-reading.ensures.1) h.has_read)) c.built_of.ensures.built
+pub returns-clause-shows : goal.returns-clause-shows
+returns-clause-shows c = λ opts parse_case bytes h.
+    ends_built opts parse_case bytes c.args.self h c.end-answer.new.self c.end-answer.new.self.feeding.names (grows_not _) (names_of _ _ c.deref.ensures c.are_names.ensures.names) c.built.result (c.in_ok-answer.ensures (manner opts parse_case) h.began bytes (has_read opts parse_case bytes c.args.self h _ c.deref_mut.ensures.value)) c.built.ensures.built

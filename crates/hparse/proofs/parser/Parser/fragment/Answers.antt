@@ -6,20 +6,21 @@ use Rattle.hparse.proofs.parser.Parser.fragment.Goals as goal
 
 pub returns : goal.returns
 returns c =
-    let e = c.in_ok-sink.ensures.builder ∙ c.in_ok-builder.ensures in
+    let begun = c.in_ok-begun.ensures in
+    let e = begun.builder_is ∙ c.in_ok-builder.ensures in
     let allowed : is_context c.args.context.now ≡ true = sym c.if-not-is_context.ensures in
     let kind : c.raw_kind.result ≡ raw_kind (tag_named c.args.context.now) = c.raw_kind.ensures ∙ ap raw_kind (c.tag.ensures ∙ c.in_ok-name.ensures.tag) in
-    let began : Began Placing = record { names = c.intern.new.self; sink = c.in_ok-sink.sink } in (
+    let began : Began Placing = record { names = c.intern.new.self; sink = begun.sink } in (
       allowed,
       record {
-        accepts = refl;
+        accepts = begun.accepts;
         began = began;
         unrefused = ap (λ (b : Building). b.refused) e;
         none_told = ap (λ (b : Building). b.told) e;
         root_is = ap (λ (b : Building). b.root) e;
         begins = subst (λ (b : Building). BeginsIn (options_of c.args.options.now) began.names (fragment c.args.context.now) b.state) (sym e) (a_fragment c.args.context.now c.in_ok-name.name c.in_ok-name.ensures.number);
-        places = c.in_ok-sink.ensures.origins ∙ ap (λ (b : Building). origins_if c.args.options.now.places b.state) (sym c.in_ok-sink.ensures.builder);
-        has_read = subst (λ (k : RawKind). HasRead places_item (record { table = c.args.options.now.table.now; start = start.Context k; bad = c.args.options.now.bad_bytes; limit = c.args.options.now.limits.input }) began c.new-2.result []) kind c.new-2.ensures;
+        places = begun.places ∙ ap (λ (b : Building). origins_if c.args.options.now.places b.state) (sym begun.builder_is);
+        has_read = subst (λ (k : RawKind). HasRead places_item (record { table = c.args.options.now.table.now; start = start.Context k; bad = c.args.options.now.bad_bytes; limit = c.args.options.now.limits.input }) began c.in_ok-begun.field-0.reading.value []) kind begun.has_read;
       },
     )
 
@@ -34,6 +35,6 @@ returns-in_err-builder c =
     let e = err_from_is_err_and c.from_residual-in_err-builder.result c.from_residual-in_err-builder.ensures.1 in
     rw (e.1, e.2, c.in_err-builder.ensures) (inl (sym c.if-not-is_context.ensures, refl))
 
-pub returns-in_err-sink : goal.returns-in_err-sink
-returns-in_err-sink c =
-    let e = err_from_is_err_and c.from_residual-in_err-sink.result c.from_residual-in_err-sink.ensures.1 in rw (e.1, e.2) (inl (sym c.if-not-is_context.ensures, refl))
+pub returns-in_err-begun : goal.returns-in_err-begun
+returns-in_err-begun c =
+    let e = err_from_is_err_and c.from_residual-in_err-begun.result c.from_residual-in_err-begun.ensures.1 in rw (e.1, e.2) (inl (sym c.if-not-is_context.ensures, refl))
