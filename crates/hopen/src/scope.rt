@@ -7,7 +7,7 @@ use names::Tag;
 use names::sets::{CELL, TELLS_MODE};
 
 /// A scope: the names that stop the search for an element.
-#[derive(Clone, Copy, Debug, PartialEq, Eq)]
+#[derive(Clone, Copy)]
 pub enum Scope {
     /// "In scope", without further words (`#has-an-element-in-scope`).
     Default,
@@ -20,7 +20,7 @@ pub enum Scope {
 }
 
 /// A group of names that a rule looks for together.
-#[derive(Clone, Copy, Debug, PartialEq, Eq)]
+#[derive(Clone, Copy)]
 pub enum Group {
     /// h1 to h6.
     Heading,

@@ -6,7 +6,7 @@ ghost use Rattle.hwrite.specs.Command.{task_named};
 use hserialize::Escaping;
 
 /// What is made of an input.
-#[derive(Clone, Copy, Debug, PartialEq, Eq)]
+#[derive(Clone, Copy)]
 pub enum Task {
     /// A line for each token of a document.
     Tokens,
@@ -38,7 +38,7 @@ impl Task {
 
 /// A task, the name of the element in which the input is, how `Write` escapes, and how many bytes of the input are fed at a
 /// time: 1 to 65,536. An input without such an element is a document. That of `Tokens` always is.
-#[derive(Clone, Copy, Debug, PartialEq, Eq)]
+#[derive(Clone, Copy)]
 pub struct Command<'a> {
     pub task: Task,
     pub context: Option<&'a str>,
