@@ -1,6 +1,6 @@
 -- Where the nodes of a parse came from, as it is told.
-use Rattle.hparse.proofs.Names.{◌≡◌, ℕ, Bool, true, false, List, map, sym, refl, ap, ◌∙◌, subst, Option, Some, None, Ok, option_map, Texts, Grows, AreNames, spelling, grows_on, numbers, texts, numbers-agree, spelled_placed, spelled_state, PlacedToken, State, steps_spelled, Origin, Placing, Began, IsTaken, tokens_handed, OriginState, Makes, ParseCase, ParseOptions, begins, manner, BeginsIn, TellsPlaces, places_item, origins_if, placed}
-use Rattle.hparse.specs.Origins.{AreOrigins, first_origins}
+use Rattle.hparse.proofs.Names.{◌≡◌, ℕ, Bool, true, false, List, map, sym, refl, subst, Option, None, option_map, Texts, Grows, AreNames, spelling, grows_on, numbers, texts, numbers-agree, spelled_state, PlacedToken, State, steps_spelled, Origin, Placing, Began, IsTaken, tokens_handed, OriginState, Makes, ParseCase, ParseOptions, begins, manner, BeginsIn, TellsPlaces, places_item, origins_if, placed}
+use Rattle.hparse.specs.Origins.{first_origins}
 use Rattle.hparse.proofs.Handing.{tokens_kept}
 use Rattle.hparse.proofs.Numbered.{placed_number, tokens_spelled}
 use Rattle.hparse.proofs.Placed.{makes_on, makes_spelled, none_on}

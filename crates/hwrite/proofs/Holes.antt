@@ -1,5 +1,5 @@
 -- Texts without holes: all that is printed.
-use Rattle.hwrite.proofs.Vocabulary.{◌≡◌, ℕ, zero, suc, Bool, true, false, List, [], ◌∷◌, ◌++◌, refl, arith, codes, encode_utf8, decimal, Option, None, Some, if◌then◌else◌, digits, list_all, nat_tests, hole, escaped_byte, escaped, quoted, Doctype, Comment, Char, Eof, quoted_or_none, line_of, line_text}
+use Rattle.hwrite.proofs.Vocabulary.{◌≡◌, ℕ, zero, suc, Bool, true, false, List, [], ◌∷◌, ◌++◌, refl, arith, codes, decimal, Option, None, Some, if◌then◌else◌, digits, list_all, nat_tests, hole, escaped_byte, escaped, quoted, Doctype, Comment, Char, Eof, quoted_or_none, line_of, line_text}
 use Rattle.std.proofs.Common.{◌/◌, ◌%◌, eqb}
 use Rattle.std.specs.Prelude.{not}
 use Rattle.std.specs.Fmt.{digits_onto, digit_glyph}
