@@ -8,6 +8,8 @@ mod counted;
 #[cfg(test)]
 mod given;
 #[cfg(test)]
+mod pages;
+#[cfg(test)]
 mod refusals;
 #[cfg(test)]
 mod sinks;

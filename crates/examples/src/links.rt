@@ -55,7 +55,7 @@ fn parse(
 fn print_each(rt: &HostRuntime, page: &Parsed) -> anyhow::Result<()> {
     for node in page.tree.descendants(page.tree.document()) {
         if page.tree.is(node, Tag::A) {
-            if let Some(link) = page.tree.attribute(&page.names, node, "href") {
+            if let Some(link) = page.attribute(node, "href") {
                 println!(rt; "{link} {}", page.tree.text_content(rt.alloc(), node)?)?;
             }
         }

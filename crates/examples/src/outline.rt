@@ -63,7 +63,7 @@ fn print_all(rt: &HostRuntime, page: &Parsed, bytes: &[u8]) -> anyhow::Result<()
 /// Prints the attributes of the element that the page is in, such as its language.
 fn print_attributes(rt: &HostRuntime, page: &Parsed) -> anyhow::Result<()> {
     if let Some(html) = page.tree.first_element_child(page.root) {
-        for (name, value) in page.tree.attributes(&page.names, html) {
+        for (name, value) in page.attributes(html) {
             println!(rt; "{name}: {value}")?;
         }
     }
@@ -109,7 +109,7 @@ fn print_headings(rt: &HostRuntime, page: &Parsed) -> anyhow::Result<()> {
 /// Prints the images that have no `alt`, each with its line and its column, as HTML.
 fn print_images(rt: &HostRuntime, page: &Parsed, bytes: &[u8]) -> anyhow::Result<()> {
     for node in page.tree.descendants(page.root) {
-        if page.tree.is(node, Tag::Img) && page.tree.attribute(&page.names, node, "alt").is_none() {
+        if page.tree.is(node, Tag::Img) && page.attribute(node, "alt").is_none() {
             let html = serialize_outer_to_vec(
                 rt.alloc(),
                 &page.tree,

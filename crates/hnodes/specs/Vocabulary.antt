@@ -4,7 +4,7 @@ pub use Rattle.hnodes.specs.Coding.{coded_nodes}
 pub use Rattle.hnodes.specs.Differing.{names_differ}
 pub use Rattle.hnodes.specs.Edits.{add_attribute, add_char, add_chars, graft, graft_before, graft_last, make, move_all, place_node, text_before}
 pub use Rattle.hnodes.specs.Edits.{with_attribute, with_char, with_text, AreNodes, IsPlace, Nodes}
-pub use Rattle.hnodes.specs.Elements.{elements_among, is_element, stands_for}
+pub use Rattle.hnodes.specs.Elements.{elements_among, is_element}
 pub use Rattle.hnodes.specs.Forest.{change_what, children_of, comment, doctype, document, element, none, roots, text, tree, Attribute, IsOutside}
 pub use Rattle.hnodes.specs.Links.{after_link, alone, before_link, detached, hooked, next_in, parent_in, previous_in, with_place}
 pub use Rattle.hnodes.specs.Makes.{Makes}

@@ -1,17 +1,15 @@
-//! Questions on elements by names and their texts, and walks that pass over all other nodes.
+//! Questions on elements by the numbers of names and by known names, and walks that pass over all other nodes.
 
-ghost use Rattle.std.specs.Prelude.{◌≡◌, ◌<◌, ◌↔◌, ℕ, List, [], Some, false, length, map, nat_eq, slice_get, unwrap_or, IfSome, IsTrue, OnOk, OnErr};
-ghost use Rattle.std.specs.Iterator.{YieldsFirst, YieldsFirstBy, at_most, item_count};
+ghost use Rattle.std.specs.Prelude.{◌≡◌, ◌<◌, ◌↔◌, ℕ, List, Some, length, nat_eq, slice_get, IfSome, IsTrue};
+ghost use Rattle.std.specs.Iterator.{YieldsFirst, at_most};
 ghost use Rattle.std.specs.List.{All};
-ghost use Rattle.std.specs.Option.{option_map, option_map_or};
-ghost use Rattle.hnodes.specs.Vocabulary.{attribute_of, attributes_of, children_of, elements_among, is_element, kind_of, name_of, roots, siblings_from};
-ghost use Rattle.hnodes.specs.Vocabulary.{spelled_attribute, stands_for, value_of, AreNodes, Attribute};
-ghost use Rattle.names.specs.Names.{text_of};
+ghost use Rattle.std.specs.Option.{option_map};
+ghost use Rattle.hnodes.specs.Vocabulary.{children_of, elements_among, is_element, kind_of, name_of, roots, siblings_from, value_of, AreNodes};
 ghost use Rattle.names.specs.Tags.{tag_of};
 
 use crate::node::{NodeId, NodeKind};
 use crate::tree::Tree;
-use names::{Attr, NameId, Names, Tag};
+use names::{NameId, Tag};
 use std::marker::Model;
 
 impl Tree {
@@ -39,42 +37,12 @@ impl Tree {
         }
     }
 
-    /// The value of an element's attribute by the text of its name: of the first, where there are more. The table is that of the
-    /// tree's names. Where many nodes are asked, look the name up once and call [`Tree::attr`].
-    pub fn attribute(&self, names: &Names, at: NodeId, name: &str) -> Option<&str>
-        requires { at < self.now.made }
-        ensures { option_map (λ value. value.now) result ≡ value_of (stands_for names.now name.now) at self.now.trees }
-    {
-        self.attr(at, names.find(name)?)
-    }
-
-    /// The attributes of an element, each as the texts of its name and its value, in their order; none for another node. The table
-    /// is that of the tree's names.
-    pub fn attributes<'a>(&'a self, names: &'a Names, at: NodeId) -> AttributeTexts<'a>
-        requires { at < self.now.made }
-        ensures { result ≡ map (spelled_attribute (text_of names.now)) (unwrap_or (attributes_of at self.now.trees) []) }
-    {
-        let attrs = self.attrs(at).unwrap_or(&[]);
-        AttributeTexts { names, attrs }
-    }
-
     /// Whether a node is a text.
     pub fn is_text(&self, at: NodeId) -> bool
         requires { at < self.now.made }
         ensures { IsTrue result ↔ (kind_of at self.now.trees ≡ Some NodeKind.Text) }
     {
         self.kind(at) == NodeKind::Text
-    }
-
-    /// Whether a node is an element whose name has this text. [`Tree::is`] asks for a known name, in less time.
-    pub fn is_element(&self, names: &Names, at: NodeId, name: &str) -> bool
-        requires { at < self.now.made }
-        ensures { result ≡ option_map_or (stands_for names.now name.now) (name_of at self.now.trees) false }
-    {
-        match self.name(at) {
-            Some(own) => names.find(name) == Some(own),
-            None => false,
-        }
     }
 
     /// The children of a node that are elements, in their order.
@@ -143,32 +111,5 @@ impl<'a> Iterator for ChildElements<'a> {
         let node = self.next?;
         self.next = self.tree.element_from(self.tree.next(node));
         Some(node)
-    }
-}
-
-/// The attributes of an element as texts of names and values, in their order. From [`Tree::attributes`].
-#[derive(Drop)]
-pub struct AttributeTexts<'a> {
-    names: &'a Names,
-    attrs: &'a [Attr],
-}
-
-impl<'a> Model for AttributeTexts<'a> {
-    ghost Value = { List (Attribute (List ℕ)) };
-
-    ghost view = { λ s. map (spelled_attribute (text_of s.names.now)) (map attribute_of s.attrs.now) };
-}
-
-impl<'a> Iterator for AttributeTexts<'a> {
-    type Item = (&'a str, &'a str);
-
-    ghost next_gives = { YieldsFirstBy (λ texts. (texts.0.now, texts.1.now)) (λ s. s) };
-
-    ghost remaining = { item_count (λ s. s) };
-
-    fn next(&mut self) -> Option<(&'a str, &'a str)> {
-        let (attr, rest) = self.attrs.split_first()?;
-        self.attrs = rest;
-        Some((self.names.text(attr.name), &attr.value))
     }
 }

@@ -11,7 +11,7 @@ mod tree;
 mod walks;
 
 pub use attributes::{FEW_ATTRIBUTES, index_attrs, name_number};
-pub use elements::{AttributeTexts, ChildElements};
+pub use elements::ChildElements;
 pub use laws::{edits_know_no_names, questions_know_no_names};
 pub use node::{DocumentType, NodeId, NodeKind, Place};
 pub use shared::Attributes;

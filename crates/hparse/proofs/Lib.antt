@@ -1,4 +1,5 @@
 pub mod Built
+pub mod ByText
 pub mod Gathered
 pub mod Handing
 pub mod Held

@@ -1,4 +1,5 @@
 pub mod Answer
+pub mod ByText
 pub mod Calls
 pub mod Collecting
 pub mod Fed

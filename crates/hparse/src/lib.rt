@@ -2,6 +2,7 @@
 //! are made of is passed on: the table of character references, the quirks list, the limits.
 #![tactic(auto)]
 
+mod by_text;
 mod collect;
 pub mod context;
 pub mod document;
@@ -17,6 +18,7 @@ mod reading;
 pub mod source;
 pub mod token_run;
 
+pub use by_text::AttributeTexts;
 pub use charref::Table;
 pub use context::is_context;
 pub use document::tokens;

@@ -23,12 +23,11 @@ pub use engine::{parser, run, write_text};
 pub use given_context::check_context;
 pub use hmarkup::ErrorSink;
 pub use hnodes::{
-    Ancestors, AttributeTexts, ChildElements, Children, Descendants, DocumentType, NodeId,
-    NodeKind, Place, Tree,
+    Ancestors, ChildElements, Children, Descendants, DocumentType, NodeId, NodeKind, Place, Tree,
 };
 pub use hparse::{
-    Limits, Options, Origin, Parsed, Parser, Quirks, Source, Table, TokenRun, is_context,
-    parse_reader, read_into, tokens,
+    AttributeTexts, Limits, Options, Origin, Parsed, Parser, Quirks, Source, Table, TokenRun,
+    is_context, parse_reader, read_into, tokens,
 };
 pub use hserialize::{
     Escaping, Target, error_lines, is_plain, print_errors, print_tree, serialize, serialize_outer,

@@ -16,8 +16,12 @@ pub fn ask(hand: &mut Hand, call: &str, node: NodeId, line: &str) -> Result<(), 
     let (tree, names, out) = (&hand.tree, &hand.names, &mut hand.out);
     match call {
         "named" => {
-            out.flag(tree.is_element(names, node, word(line, 3)));
-            out.quoted(tree.attribute(names, node, word(line, 3)));
+            let name = names.find(word(line, 3));
+            out.flag(name.is_some() && tree.name(node) == name);
+            out.quoted(match name {
+                Some(name) => tree.attr(node, name),
+                None => None,
+            });
         }
         "node" => say_node(tree, node, out),
         "content" => out.quoted(Some(&tree.text_content(hand.alloc, node)?)),

@@ -1,12 +1,14 @@
 -- Laws of a table's texts.
-use Rattle.names.proofs.Vocabulary.{◌≡◌, ℕ, zero, suc, ◌+◌, ◌<◌, ◌≤◌, true, false, List, [], ◌∷◌, ◌++◌, length, map, get_or, Option, Some, None, sym, refl, ap, ◌∙◌, arith, length-append, bytes_eq-Decides, String, option_map, slice_get, position, list_all, list_any, append-nil, zero-add, cond, nat_lt, not, ◌&&◌, cases_lt, and_parts, slice_get-get_or, slice_get-map, inl, inr, Texts, text_of, AreDistinct, AreNames, known, AreOthers}
+use Rattle.names.proofs.Vocabulary.{◌≡◌, ℕ, zero, suc, ◌+◌, ◌<◌, ◌≤◌, true, false, List, [], ◌∷◌, ◌++◌, length, map, get_or, Option, Some, None, sym, refl, ap, ◌∙◌, arith, length-append, bytes_eq-Decides, String, option_map, slice_get, position, list_all, list_any, append-nil, zero-add, nat_lt, not, ◌&&◌, cases_lt, and_parts, slice_get-get_or, slice_get-map, inl, inr, Texts, text_of, AreDistinct, AreNames, known, AreOthers}
 use Rattle.std.proofs.Common.{◌-◌, ◌^◌, rules}
 use Rattle.std.proofs.lemmas.List.{append_assoc, map-append, get_or_append_left, get_or-append-add}
 use Rattle.std.proofs.lemmas.Map.Keys.{apart_from_distinct}
 use Rattle.std.proofs.lemmas.List.Quantifiers.{position-Some}
 use Rattle.std.proofs.lemmas.Grind.{common_steps}
 use Rattle.std.specs.List.{IsDistinct}
-use Rattle.indexmap.specs.IndexSet.{insert_key}
+use Rattle.indexmap.specs.IndexMap.{IndexMap, get, get_by, insert_entry, keys}
+use Rattle.indexmap.proofs.CallerLemmas.{insert_entry-new}
+use Rattle.std.specs.Map.{keys_of}
 use Rattle.std.proofs.Common.{is_some, true≢false}
 use Rattle.std.proofs.lemmas.Bool.Decides.{nat_tests}
 use Rattle.std.specs.Str.{bytes_eq}
@@ -59,9 +61,21 @@ distinct_from (k ∷ ks) h i j p q same =
       ]
     ]
 
--- a new key goes last
-pub grown : {A : Type 0} (old new : List (String A)) (key : String A) → list_any (string_eq key) old ≡ false → new ≡ insert_key string_eq old key → new ≡ old ++ key ∷ []
-grown old new key absent e = e ∙ ap (λ b. cond b old (old ++ key ∷ [])) absent
+-- nothing is stored at a key that was looked for in vain
+none_from : {X : Type 0} (o : Option X) → false ≡ is_some o → o ≡ None
+none_from None h = refl
+none_from (Some x) h = absurd cc
+
+pub absent : {A S : Type 0} (m : IndexMap (String A) (Unit {0}) S) (key : String A) (text : List ℕ) → string_bytes key ≡ text → false ≡ is_some (get_by (λ k. bytes_eq text (string_bytes k)) m) → get string_eq m key ≡ None
+absent m key text same found = ap (λ t. get_by (λ k. bytes_eq t (string_bytes k)) m) same ∙ none_from _ found
+
+-- and it then goes last
+pub grown : {A S : Type 0} (old new : IndexMap (String A) (Unit {0}) S) (key : String A) → get string_eq old key ≡ None → new.entries ≡ insert_entry string_eq old.entries key tt → keys new ≡ keys old ++ key ∷ []
+grown old new key none e = ap keys_of (e ∙ insert_entry-new string_eq old key tt none) ∙ map-append (λ (x : String _ × Unit {0}). x.0) old.entries ((key, tt) ∷ [])
+
+-- the key of the entry at a place
+pub key_at : {A S : Type 0} (m : IndexMap (String A) (Unit {0}) S) (i : ℕ) (o : Option (String A × Unit {0})) → o ≡ slice_get m.entries i → option_map (λ e. e.0) o ≡ slice_get (keys m) i
+key_at m i o e = ap (option_map (λ x. x.0)) e ∙ sym (slice_get-map (λ (x : String _ × Unit {0}). x.0) m.entries i)
 
 -- the texts besides the known ones, with a new one last
 pub others_grown : {A : Type 0} (old new : List (String A)) (key : String A) → AreOthers old → length known + length old < 2 ^ 32 → list_any (bytes_eq (string_bytes key)) known ≡ false
@@ -71,11 +85,6 @@ others_grown old new key h room other distinct e = record {
   distinct = distinct;
   fits = omega (arith, room, ap length e, length-append old (key ∷ []));
 }
-
--- no key has the text that was looked for in vain
-pub absent : {A : Type 0} (keys : List (String A)) (key : String A) (text : List ℕ) (r : Option ℕ) → string_bytes key ≡ text → is_some r ≡ list_any (λ k. bytes_eq text (string_bytes k)) keys → r ≡ None → list_any (string_eq key) keys ≡ false
-absent keys key text r same found none =
-    ap (λ t. list_any (λ k. bytes_eq t (string_bytes k)) keys) same ∙ sym found ∙ ap is_some none
 
 -- the number of a text that was found
 pub number_from_position : {A : Type 0} (keys : List (String A)) (i : ℕ) (text : List ℕ) → position (λ k. bytes_eq text (string_bytes k)) keys ≡ Some i → slice_get (map string_bytes keys) i ≡ Some text

@@ -11,7 +11,7 @@ use crate::keys::Keys;
 use crate::known::{KNOWN, known_number, known_text};
 use crate::tag::Tag;
 use crate::tags::TAGS;
-use indexmap::IndexSet;
+use indexmap::IndexMap;
 use std::alloc::{AllocError, Global};
 use std::marker::Model;
 
@@ -103,8 +103,8 @@ fn slot_of(text: &str) -> usize
 
 /// A table of names: texts in the order in which they were added, the known names first.
 pub struct Names {
-    /// The names that are not known ones.
-    others: IndexSet<String, Keys>,
+    /// The names that are not known ones: the keys. Each library that mentions a table states all that a set has on top of a map.
+    others: IndexMap<String, (), Keys>,
     /// In each slot the number that was found last for a text of it; such a text is found again without a hash.
     recent: [u32; SLOTS],
 }
@@ -120,14 +120,15 @@ impl Drop for Names {
 impl Model for Names {
     ghost use Rattle.std.specs.Prelude.{ℕ, List, ◌++◌, map};
     ghost use Rattle.std.specs.String.{string_bytes};
+    ghost use Rattle.indexmap.specs.IndexMap.{keys};
     ghost use Rattle.names.specs.Table.{AreOthers};
     ghost use Rattle.names.specs.Tags.{known};
 
     ghost Value = { List (List ℕ) };
 
-    ghost view = { λ n. known ++ map string_bytes n.others.keys };
+    ghost view = { λ n. known ++ map string_bytes (keys n.others) };
 
-    ghost invariant = { λ n. AreOthers n.others.keys };
+    ghost invariant = { λ n. AreOthers (keys n.others) };
 }
 
 impl Names {
@@ -137,7 +138,7 @@ impl Names {
         ensures names { AreNames result }
     {
         Names {
-            others: IndexSet::with_hasher(alloc, keys),
+            others: IndexMap::with_hasher(alloc, keys),
             recent: [0; SLOTS],
         }
     }
@@ -220,7 +221,7 @@ impl Names {
                 let Ok(index) = u32::try_from(KNOWN + self.others.len()) else {
                     return Err(AllocError);
                 };
-                self.others.insert(String::from_str(alloc, text)?)?;
+                self.others.insert(String::from_str(alloc, text)?, ())?;
                 Ok(NameId { index })
             }
         }
@@ -235,7 +236,7 @@ impl Names {
         if index < KNOWN {
             return known_text(index);
         }
-        let text = others.get_index(index - KNOWN)?;
+        let (text, _) = others.get_index(index - KNOWN)?;
         Some(text.as_str())
     }
 
