@@ -53,7 +53,7 @@ static uint64_t name_number(Hasher keys, uint64_t name) {
     return (uint32_t)(hash ^ hash >> 32);
 }
 
-/* Where the list has an element b with one attribute b of a value of seven bytes (crates/hformat/src/hashes.rt). */
+/* Where the list has an element b with one attribute b of a value of seven bytes (crates/hopen/src/hashes.rt). */
 static uint64_t entry_number(Hasher keys, uint64_t value) {
     feed(&keys, B);
     feed(&keys, finish(keys, 3, value, 7));

@@ -1,6 +1,6 @@
 -- What the operations keep, and what the calls that do them keep so.
 use Rattle.hadopt.proofs.Names.{◌≡◌, ℕ, false, List, [], ◌∷◌, subst, Ok, Err, encode_utf8, Result, IfOk, Attribute, What, element, text, Place, Listed, marker, entry, entries, without_entry, OpenNode, current, Table, Placed, Refusal, Gives, added, inserted, listed, put, put_each, with_missing, PlaceStands, Kept, Naming, reconstructed, Outcome, Goes, Refused, and_then, SiteOf, stack, trees, with_trees, with_stack, with_items, node_of, comment, LastIn, place, from_top, Bool, not, length, leb, cond_both, refl, sym, ◌∙◌, ap, list_any, ◌&&◌, EntryOf, after_marker, zero, suc, if◌then◌else◌, arith, ne_eqb, lt-leb, Forest, document, tree, none, times, Nodes, OpenNodes, numbers}
-use Rattle.hformat.specs.Formatting.{cleared, is_equal, most_equal, without_earliest, with_room, pushed as entry_pushed}
+use Rattle.hopen.specs.Formatting.{cleared, is_equal, most_equal, without_earliest, with_room, pushed as entry_pushed}
 use Rattle.hadopt.proofs.Climbing.{OnGoes, goes-then, goes-map, Plain, PlainEntries, plain-without, inserted-goes}
 use Rattle.hadopt.proofs.Inserting.{standing-fits, put-stands, added-well, inserted-well, put-well, missing-well, reconstructed-well, first-fits, here-fits, root-fits, place-fits, fits-standing}
 use Rattle.hadopt.proofs.Keeping.{to-well, from-well}

@@ -14,11 +14,11 @@ pub use Rattle.hadopt.specs.Places.{place_in, is_fostering, foster_place, place,
 pub use Rattle.hadopt.specs.Reconstructs.{stops_going_back, reconstructed, renewed_each, renewed}
 pub use Rattle.hadopt.specs.Site.{SiteOf, stack, Goes, Refused, trees, with_items, and_then, Outcome, with_stack, with_trees, node_of, error_unless, with_error, from_top, current_is}
 pub use Rattle.hadopt.specs.Spelled.{Agree}
-pub use Rattle.hchain.specs.Nearest.{before, without, put_before, after, changed, changed_at}
-pub use Rattle.hformat.specs.Formatting.{Listed, EntryOf, marker, entry, without_entry, entry_of, find_entry, for_node, entries, is_entry, entry_at, with_node, is_of_node, after_marker}
-pub use Rattle.hformat.specs.Items.{entry_is}
-pub use Rattle.hformat.specs.declared.bookmark.Bookmark.{Bookmark}
-pub use Rattle.hformat.specs.declared.bookmark.Bookmark.TheVariants.{InPlace, After}
+pub use Rattle.hnodes.specs.Nearest.{before, without, put_before, after, changed, changed_at}
+pub use Rattle.hopen.specs.Formatting.{Listed, EntryOf, marker, entry, without_entry, entry_of, find_entry, for_node, entries, is_entry, entry_at, with_node, is_of_node, after_marker}
+pub use Rattle.hopen.specs.Items.{entry_is}
+pub use Rattle.hopen.specs.declared.bookmark.Bookmark.{Bookmark}
+pub use Rattle.hopen.specs.declared.bookmark.Bookmark.TheVariants.{InPlace, After}
 pub use Rattle.hnodes.proofs.Counted.{at-most, deep-there, not-there, is-there, counted-new, counted-graft, times-new, NotBefore, below-document, in-document}
 pub use Rattle.hnodes.proofs.Deep.{deep, deep-is, deep-self, deep-lower}
 pub use Rattle.hnodes.proofs.Outside.{graft-apart, deep-newest, deep-new, graft-below, graft-deep}

@@ -3,7 +3,7 @@ use Rattle.hadopt.proofs.Names.{◌≡◌, ◌≢◌, ℕ, zero, suc, ◌<◌, B
 use Rattle.std.specs.Prelude.{◌||◌}
 use Rattle.std.proofs.lemmas.Bool.{not-false}
 use Rattle.hadopt.proofs.Choices.{by_test, or-both}
-use Rattle.hformat.specs.Formatting.{booked}
+use Rattle.hopen.specs.Formatting.{booked}
 use Rattle.names.specs.Sets.{stops_scope}
 use Rattle.hadopt.proofs.Lists.{each-map, each-both, pairs-map, Among, empty, skip, among-all, among-after, each-among, pairs-among, among-without, Front, front-among, front-pairs, front-each, pairs-put}
 use Rattle.hadopt.proofs.Climbing.{OnGoes, goes-then, made-goes, find-each, Plain, PlainEntries, plain-without, plain-with_node, Climbing, inner-loop-climbs}

@@ -4,16 +4,16 @@ use Rattle.std.specs.List.{list_any}
 use Rattle.hnodes.specs.Forest.{IsOutside}
 use Rattle.hnodes.specs.Edits.{place_node}
 use Rattle.hopen.specs.Stack.{OpenNode, is_open}
-use Rattle.hformat.specs.Formatting.{is_entry, has_bookmark}
+use Rattle.hopen.specs.Formatting.{is_entry, has_bookmark}
 use Rattle.hadopt.specs.Naming.{numbers}
 use Rattle.hadopt.specs.Site.{stack, trees}
 use Rattle.hadopt.specs.Places.{place_in}
 use Rattle.hadopt.specs.Adopts.{InnerLoop, inner_loop}
 use Rattle.hadopt.specs.Site.{SiteOf, Goes}
 use Rattle.hadopt.specs.InnerLoops.{AreDifferent}
-use Rattle.hchain.specs.Nearest.{before}
+use Rattle.hnodes.specs.Nearest.{before}
 use Rattle.hopen.specs.Stack.{is_node, above, current}
-use Rattle.hformat.specs.declared.bookmark.Bookmark.TheVariants.{InPlace}
+use Rattle.hopen.specs.declared.bookmark.Bookmark.TheVariants.{InPlace}
 
 -- The place of the last node is outside of it. The formatting element is open and has an entry, and the bookmark is in the list.
 pub record AfterInnerLoop (formatting_element furthest_block : ℕ) (common_ancestor : Option (OpenNode ℕ)) (c : InnerLoop ℕ) : Type 0 where

@@ -1,7 +1,7 @@
 -- What is closed: implied end tags, a p element, any other end tag, and the contexts of tables
 -- (#closing-elements-that-have-implied-end-tags, #parsing-main-inbody).
 use Rattle.std.specs.Prelude.{ℕ, Bool, true, false, not, ◌&&◌, List, [], ◌∷◌, if◌then◌else◌}
-use Rattle.hchain.specs.Nearest.{after}
+use Rattle.hnodes.specs.Nearest.{after}
 use Rattle.hopen.specs.Stack.{OpenNode, in_scope}
 use Rattle.hopen.specs.Scopes.{is_named}
 use Rattle.names.specs.Sets.{has_implied_end, is_special}

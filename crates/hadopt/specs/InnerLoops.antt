@@ -1,8 +1,8 @@
 -- The inner loop of the adoption agency in two parts: its first turns, whose nodes keep their entry, and the others, whose nodes leave.
 use Rattle.std.specs.Prelude.{◌≡◌, ◌⊎◌, ℕ, ◌<◌, ◌≤◌, ◌+◌, ◌==◌, false, List, [], ◌∷◌, ◌++◌, Result, Ok, Err, length, drop}
 use Rattle.std.specs.List.{remove_range}
-use Rattle.hformat.specs.Formatting.{Listed, without_entry}
-use Rattle.hchain.specs.Nearest.{before}
+use Rattle.hopen.specs.Formatting.{Listed, without_entry}
+use Rattle.hnodes.specs.Nearest.{before}
 use Rattle.hopen.specs.Stack.{OpenNode, is_node}
 use Rattle.names.specs.declared.refusal.Refusal.{Refusal}
 use Rattle.names.specs.declared.refusal.Refusal.TheVariants.{Memory}

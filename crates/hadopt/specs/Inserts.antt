@@ -6,7 +6,7 @@ use Rattle.hnodes.specs.Attributes.{add_missing}
 use Rattle.hnodes.specs.Edits.{graft, make, add_char, text_before}
 use Rattle.hnodes.specs.declared.node.Place.{Place}
 use Rattle.hopen.specs.Stack.{OpenNode, current}
-use Rattle.hformat.specs.Formatting.{pushed as entry_pushed}
+use Rattle.hopen.specs.Formatting.{pushed as entry_pushed}
 use Rattle.names.specs.declared.placed.Placed.{Placed}
 use Rattle.names.specs.declared.refusal.Refusal.TheVariants.{TooManyNodes, TooDeep}
 use Rattle.hadopt.specs.Naming.{Naming}

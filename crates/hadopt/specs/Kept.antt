@@ -5,7 +5,7 @@ use Rattle.hnodes.specs.Forest.{Forest, times, tree_at, children_of, IsOutside}
 use Rattle.hnodes.specs.declared.node.Place.{Place}
 use Rattle.hnodes.specs.declared.node.Place.TheVariants.{LastIn, Before}
 use Rattle.hopen.specs.Stack.{OpenNode}
-use Rattle.hformat.specs.Formatting.{entries}
+use Rattle.hopen.specs.Formatting.{entries}
 use Rattle.names.specs.declared.tag.Tag.TheVariants.{Table}
 use Rattle.hadopt.specs.Naming.{Naming}
 use Rattle.hadopt.specs.Site.{SiteOf, stack, trees}

@@ -15,10 +15,10 @@ pub use Rattle.hadopt.specs.Reconstructs.{stops_going_back, renewed, reconstruct
 pub use Rattle.hadopt.specs.Site.{Goes, stack, trees, with_stack, with_trees, and_then, with_items, SiteOf, from_top, node_of, current_is, with_error}
 pub use Rattle.hadopt.specs.Site.{error_unless}
 pub use Rattle.hadopt.specs.Spelled.{Agree, OperationsKnowNoNames}
-pub use Rattle.hchain.specs.Nearest.{without, before, changed, put_before, changed_at}
-pub use Rattle.hformat.specs.Formatting.{find_entry, EntryOf, entry_at, marker, cleared, is_entry, without_entry, with_node, for_node, booked, has_bookmark}
-pub use Rattle.hformat.specs.Items.{entry_is}
-pub use Rattle.hformat.specs.declared.bookmark.Bookmark.TheVariants.{InPlace}
+pub use Rattle.hnodes.specs.Nearest.{without, before, changed, put_before, changed_at}
+pub use Rattle.hopen.specs.Formatting.{find_entry, EntryOf, entry_at, marker, cleared, is_entry, without_entry, with_node, for_node, booked, has_bookmark}
+pub use Rattle.hopen.specs.Items.{entry_is}
+pub use Rattle.hopen.specs.declared.bookmark.Bookmark.TheVariants.{InPlace}
 pub use Rattle.hnodes.specs.Edits.{IsPlace, graft, place_node, move_all}
 pub use Rattle.hnodes.specs.Forest.{document, none, element, IsOutside, comment, doctype, tree}
 pub use Rattle.hnodes.specs.Rows.{attribute_of}

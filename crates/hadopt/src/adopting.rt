@@ -9,9 +9,8 @@ ghost use Rattle.hadopt.specs.Vocabulary.{with_items, adopted, Kept, changed, pu
 
 use crate::listing::copy;
 use crate::site::Site;
-use hformat::{Bookmark, Entry};
 use hnodes::{Attributes, NodeId, Place};
-use hopen::Open;
+use hopen::{Bookmark, Entry, Open};
 use names::{Attr, ErrorCode, NameId, Refusal};
 use std::alloc::AllocError;
 

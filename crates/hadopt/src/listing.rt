@@ -6,8 +6,8 @@ ghost use Rattle.std.specs.Option.{option_map};
 ghost use Rattle.hadopt.specs.Vocabulary.{Gives, Kept, numbers, Goes, entry_is, with_items, marker, cleared, is_entry, without_entry, booked, has_bookmark};
 
 use crate::site::Site;
-use hformat::{Bookmark, Entry};
 use hnodes::NodeId;
+use hopen::{Bookmark, Entry};
 use names::Refusal;
 use std::alloc::AllocError;
 

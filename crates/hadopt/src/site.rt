@@ -3,9 +3,8 @@
 ghost use Rattle.std.specs.Prelude.{◌≡◌, ◌<◌, IfOk, false, []};
 ghost use Rattle.hadopt.specs.Vocabulary.{document, none, tree, Gives, Kept, numbers, Goes, with_error, error_unless};
 
-use hformat::Formatting;
 use hnodes::Tree;
-use hopen::OpenStack;
+use hopen::{Formatting, OpenStack};
 use names::{ErrorCode, Keys, ParseError, Refusal};
 use std::alloc::{AllocError, Global};
 use std::marker::Model;

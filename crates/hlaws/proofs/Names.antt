@@ -7,7 +7,7 @@ pub use Rattle.hadopt.specs.Site.{Goes, Outcome, Refused}
 pub use Rattle.htoken.proofs.OneCut.{one_list_of_tokens, no_tokens_of_refused, one_refusal}
 pub use Rattle.htoken.proofs.SomeCut.{some_answer}
 pub use Rattle.htoken.specs.SomeCut.{HasAnswer, gives, refuses}
-pub use Rattle.hformat.specs.Formatting.{Listed, marker, entry, entry_of, find_entry, without_entry, cleared, EntryOf, with_room}
+pub use Rattle.hopen.specs.Formatting.{Listed, marker, entry, entry_of, find_entry, without_entry, cleared, EntryOf, with_room}
 pub use Rattle.hlaws.specs.Building.{Builds, fits_mode, fits_current, is_flow_mode, numbered, is_list, is_dl, takes_space, under, EntriesOpen, Thinned, same, kept, lost, EntriesLower}
 pub use Rattle.hlaws.specs.ComesBack.{text_of, AreTexts, AreRead, PlainTokens}
 pub use Rattle.hlaws.specs.OneAnswer.{ExactlyOne}

@@ -1,6 +1,6 @@
 -- The rules that process a token end: a number that falls with each.
 use Rattle.hmodes.proofs.Vocabulary.{by_test, cond_both, ◌≡◌, ℕ, zero, suc, ◌+◌, ◌<◌, ◌≤◌, Bool, true, false, cond, if◌then◌else◌, List, [], ◌∷◌, Option, Some, leb, length, drop, refl, sym, ◌∙◌, ap, subst, arith, eqb-true, leb-true, not, ◌&&◌, ◌||◌, ◌==◌, stops, OpenNode, in_scope, is, Naming, Outcome, Goes, stack, with_error, Mode, Text, InTable, InTableText, InColumnGroup, InTableBody, InRow, TokenKind, Nul, Ws, Char, Start, ◌▸◌, pop_to, reset, again, Token, State, Flow, Done, Again, Refused, kind_of, perform, with_site, rule_of, code_of, Rule, Chain, Step, ends, refuses, goes_again, drops, goes, is_dropped, begun, finished, in_table, in_table_text}
-use Rattle.hchain.specs.Nearest.{after}
+use Rattle.hnodes.specs.Nearest.{after}
 use Rattle.hopen.specs.declared.scope.Scope.TheVariants as scope
 use Rattle.names.specs.declared.tag.Tag.TheVariants as tag
 use Rattle.hadopt.specs.Site as site

@@ -10,7 +10,7 @@ use Rattle.names.specs.declared.error.ErrorCode.{ErrorCode}
 use Rattle.names.specs.declared.tag.Tag.TheVariants as tag
 use Rattle.names.specs.Sets.{is_special}
 use Rattle.hnodes.specs.Forest as forest
-use Rattle.hformat.specs.declared.bookmark.Bookmark.TheVariants.{InPlace}
+use Rattle.hopen.specs.declared.bookmark.Bookmark.TheVariants.{InPlace}
 use Rattle.hadopt.specs.Closes.{other_end}
 use Rattle.hadopt.specs.Inserts.{put}
 use Rattle.hadopt.specs.Site as site

@@ -6,20 +6,20 @@ use Rattle.std.proofs.lemmas.Option.{slice_get-map}
 use Rattle.hnodes.specs.Forest as forest
 use Rattle.hnodes.proofs.Spellings.{edits, questions}
 use Rattle.hopen.specs.declared.scope.Scope.{Scope}
-use Rattle.hformat.specs.Formatting.{pushed}
+use Rattle.hopen.specs.Formatting.{pushed}
 use Rattle.hopen.specs.Spelled.{spelled_open, spelled_stack, StackKnowsNoNames}
-use Rattle.hformat.specs.Spelled.{spelled_entry, spelled_items, FormattingKnowsNoNames}
+use Rattle.hopen.specs.FormattingSpelled.{spelled_entry, spelled_items, FormattingKnowsNoNames}
 use Rattle.hopen.proofs.Spellings.{stack_spelled}
-use Rattle.hformat.proofs.Bookmarks.{is_some-option_map}
-use Rattle.hformat.proofs.Spellings.{formatting_spelled}
+use Rattle.hopen.proofs.Bookmarks.{is_some-option_map}
+use Rattle.hopen.proofs.FormattingSpellings.{formatting_spelled}
 use Rattle.names.specs.declared.tag.Tag.TheVariants as tag
 use Rattle.names.specs.Sets.{may_stay_open}
 use Rattle.hadopt.specs.Site as site
 use Rattle.hadopt.specs.Inserts as inserts
 use Rattle.hadopt.specs.Spelled.{Agree, spelled_site, outcome_map}
 use Rattle.hadopt.proofs.Spellings as site_names
-use Rattle.hchain.proofs.Images.{any-map, all-map}
-use Rattle.hchain.proofs.Nearest.{reverse-map}
+use Rattle.hnodes.proofs.Images.{any-map, all-map}
+use Rattle.hnodes.proofs.Nearest.{reverse-map}
 use Rattle.hadopt.proofs.Choices.{cond-map, or-map}
 use Rattle.names.specs.declared.error.ErrorCode.TheVariants as code
 use Rattle.hadopt.specs.Closes as closes

@@ -15,8 +15,8 @@ pub use Rattle.hadopt.specs.Naming.{Naming, numbers, texts}
 pub use Rattle.hadopt.specs.Places.{is_fostering, place}
 pub use Rattle.hadopt.specs.Reconstructs.{reconstructed, renewed, renewed_each, stops_going_back}
 pub use Rattle.hadopt.specs.Site.{Goes, Outcome, SiteOf, and_then, current_is, error_unless, from_top, node_of, stack, trees, with_error, with_items, with_stack, with_trees}
-pub use Rattle.hchain.specs.Nearest.{before, changed_at}
-pub use Rattle.hformat.specs.Formatting.{EntryOf, Listed, after_marker, cleared, entry, entry_at, entry_of, find_entry, for_node, is_equal, marker, most_equal, with_room, without_earliest, without_entry}
+pub use Rattle.hnodes.specs.Nearest.{before, changed_at}
+pub use Rattle.hopen.specs.Formatting.{EntryOf, Listed, after_marker, cleared, entry, entry_at, entry_of, find_entry, for_node, is_equal, marker, most_equal, with_room, without_earliest, without_entry}
 pub use Rattle.hmarkup.specs.Quirks.{QuirkLine}
 pub use Rattle.hmodes.specs.Beginning.{Limits, document_begins, fragment_begins}
 pub use Rattle.hmodes.specs.Body.{character_in_body, formatting, text}

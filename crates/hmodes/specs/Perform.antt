@@ -4,11 +4,11 @@ use Rattle.std.specs.Option.{option_map_or}
 use Rattle.hnodes.specs.Forest.{Attribute}
 use Rattle.hnodes.specs.Forest as forest
 use Rattle.hnodes.specs.declared.node.Place.TheVariants.{LastIn}
-use Rattle.hchain.specs.Nearest.{without}
+use Rattle.hnodes.specs.Nearest.{without}
 use Rattle.hopen.specs.Stack.{OpenNode, is_node, current}
 use Rattle.hopen.specs.Scopes.{is_of}
-use Rattle.hformat.specs.Formatting.{find_entry, without_entry, pushed, cleared}
-use Rattle.hformat.specs.Formatting as list
+use Rattle.hopen.specs.Formatting.{find_entry, without_entry, pushed, cleared}
+use Rattle.hopen.specs.Formatting as list
 use Rattle.names.specs.declared.tag.Tag.TheVariants as tag
 use Rattle.names.specs.declared.placed.Placed.{Placed}
 use Rattle.hadopt.specs.Naming.{Naming}

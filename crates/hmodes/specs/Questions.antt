@@ -8,7 +8,7 @@ use Rattle.hopen.specs.Stack.{OpenNode, is_node, in_scope}
 use Rattle.hopen.specs.Scopes.{stops, stops_item, is_named, is_of}
 use Rattle.hopen.specs.declared.scope.Scope.{Scope}
 use Rattle.hopen.specs.declared.scope.Scope.TheVariants.{Default}
-use Rattle.hformat.specs.Formatting.{find_entry}
+use Rattle.hopen.specs.Formatting.{find_entry}
 use Rattle.names.specs.declared.tag.Tag.TheVariants as tag
 use Rattle.names.specs.Placed.{is_space}
 use Rattle.names.specs.Sets.{may_stay_open}

@@ -5,7 +5,7 @@ use Rattle.std.proofs.Common.{◌==◌, ◌||◌}
 use Rattle.std.proofs.Math.Dec.{eqb-suc-suc}
 use Rattle.std.proofs.lemmas.Bool.{le-ltb}
 use Rattle.std.proofs.lemmas.List.{length-map, length-take, take-append-drop}
-use Rattle.hchain.specs.Chains.{last_up}
+use Rattle.hnodes.specs.Chains.{last_up}
 
 module _ (s : ℕ → Bool) where
   -- where it is with a number more at the front, which is sought or not

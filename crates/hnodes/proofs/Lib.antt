@@ -22,7 +22,7 @@ pub mod Lends
 pub mod Moves
 pub mod Families
 pub mod Fresh
-pub mod Chains
+pub mod FirstMoves
 pub mod Spellings
 pub mod Inside
 pub mod Climbs
@@ -40,3 +40,17 @@ pub mod WaysUp
 pub mod TreeOrder
 pub mod TextOrder
 pub mod ElementLemmas
+pub mod ChainNames
+pub mod LastUp
+pub mod Groups
+pub mod Walked
+pub mod Chained
+pub mod Tails
+pub mod Relinked
+pub mod Edited
+pub mod Swapped
+pub mod Lent
+pub mod Images
+pub mod Nearest
+pub mod Places
+pub mod Tables

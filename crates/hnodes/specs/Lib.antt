@@ -17,3 +17,7 @@ pub mod Worked
 pub mod Named
 pub mod Elements
 pub mod Vocabulary
+pub mod Chains
+pub mod ChainLinks
+pub mod Nearest
+pub mod Places

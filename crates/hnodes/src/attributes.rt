@@ -4,7 +4,7 @@ ghost use Rattle.std.specs.Prelude.{◌≡◌, ◌&&◌, ◌++◌, ◌∷◌, []
 ghost use Rattle.std.specs.List.{list_any};
 ghost use Rattle.hnodes.specs.Vocabulary.{attribute_of, names_differ, numbers_of};
 
-use hchain::Chains;
+use crate::chains::Chains;
 use names::{Attr, NameId};
 use std::alloc::{AllocError, Global};
 use std::marker::Model;

@@ -2,15 +2,18 @@
 #![tactic(auto)]
 
 pub mod attributes;
+pub mod chains;
 mod elements;
 mod laws;
 mod links;
 mod node;
+mod relink;
 mod shared;
 mod tree;
 mod walks;
 
 pub use attributes::{FEW_ATTRIBUTES, index_attrs, name_number};
+pub use chains::{Chains, NONE};
 pub use elements::ChildElements;
 pub use laws::{edits_know_no_names, questions_know_no_names};
 pub use node::{DocumentType, NodeId, NodeKind, Place};

@@ -27,11 +27,22 @@ use std::marker::Model;
 ///
 /// A [`Place`] is where a node goes in the tree. `at`, in a call that returns a [`Refusal`], is the byte offset from 0 of the
 /// token that the call is made for, which the refusal reports. A [`NodeId`] is a node, wherever it is.
-#[derive(Drop)]
 pub struct Tree {
     nodes: Vec<Node>,
     limit: u32,
     alloc: Global,
+}
+
+// Written out: a derived drop is read anew in the proof of each function that may drop a tree.
+impl Drop for Tree {
+    fn drop(self) {
+        let Tree {
+            nodes,
+            limit: _,
+            alloc: _,
+        } = self;
+        drop(nodes);
+    }
 }
 
 impl Model for Tree {

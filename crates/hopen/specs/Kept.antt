@@ -3,7 +3,7 @@ use Rattle.std.specs.Prelude.{◌≡◌, ℕ, zero, suc, false, ◌+◌, ◌<◌
 use Rattle.hopen.specs.Stack.{OpenNode}
 use Rattle.hopen.specs.Opens.{open_of}
 use Rattle.hopen.specs.NameSets.{is_in, set_node}
-use Rattle.hchain.specs.Chains.{last_up}
+use Rattle.hnodes.specs.Chains.{last_up}
 use Rattle.names.specs.Sets.{is_special, may_stay_open}
 use Rattle.names.specs.Tags.{tag_of}
 use Rattle.hopen.specs.declared.kept.KeptNode.{KeptNode}

@@ -8,3 +8,12 @@ pub mod Spelled
 pub mod NameSets
 pub mod Kept
 pub mod Vocabulary
+pub mod Formatting
+pub mod Items
+pub mod ItemCoding
+pub mod ItemRows
+pub mod Listed
+pub mod Hashes
+pub mod Holes
+pub mod FormattingRows
+pub mod FormattingSpelled

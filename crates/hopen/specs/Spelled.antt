@@ -1,7 +1,7 @@
 -- The same open nodes under other names, as a number of a name and its text.
 use Rattle.std.specs.Prelude.{◌≡◌, ℕ, Bool, List, map, drop, find, reverse, slice_get, position}
 use Rattle.std.specs.Option.{option_map}
-use Rattle.hchain.specs.Nearest.{after, without, changed, put_before}
+use Rattle.hnodes.specs.Nearest.{after, without, changed, put_before}
 use Rattle.hopen.specs.Stack.{OpenNode, is_node, is_open, current, above, below, in_scope, furthest_block}
 use Rattle.hopen.specs.Scopes.{stops, is_named, is_of}
 use Rattle.hopen.specs.declared.scope.Group.{Group}

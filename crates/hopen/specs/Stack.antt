@@ -3,7 +3,7 @@
 use Rattle.std.specs.Prelude.{ℕ, Bool, false, not, ◌&&◌, ◌||◌, ◌==◌, List, [], ◌∷◌, Option, Some, None, if◌then◌else◌}
 use Rattle.std.specs.List.{list_any}
 use Rattle.std.specs.Option.{option_or}
-use Rattle.hchain.specs.Nearest.{before, after}
+use Rattle.hnodes.specs.Nearest.{before, after}
 use Rattle.names.specs.declared.tag.Tag.{Tag}
 use Rattle.names.specs.Sets.{is_special}
 

@@ -1,7 +1,16 @@
 -- The words of the contracts that several files cite, in one place.
-pub use Rattle.hchain.specs.Places.{last_place}
-pub use Rattle.hopen.specs.Kept.{kept_above, must_close_in, names_in, nodes_in, opened_by, same_name_of, same_node_of, sets_at, stack_of, swap_with_next}
+pub use Rattle.hnodes.specs.Numbered.{numbers_of}
+pub use Rattle.hnodes.specs.Places.{last_place}
+pub use Rattle.hnodes.specs.Rows.{attribute_of}
+pub use Rattle.hopen.specs.Formatting.{are_among, booked, cleared, entry_at, entry_of, find_entry, for_node, has_bookmark, is_entry, is_equal, marker, pushed}
+pub use Rattle.hopen.specs.Formatting.{same_attribute, same_attributes, with_node, with_room, without_entry, Listed}
+pub use Rattle.hopen.specs.Hashes.{distinct, entry_hash, fed_name, hash_of}
+pub use Rattle.hopen.specs.Holes.{nth_live}
+pub use Rattle.hopen.specs.ItemCoding.{coded_items}
+pub use Rattle.hopen.specs.Items.{entry_is, is_gone, item_of, items_of, live, renamed, told, IsStored}
 pub use Rattle.hopen.specs.Kept.{AreAlike, AreAlikeButNames, AreAsLong, AreIn, CanGiveWay, CanPass, HasRoom, IsHeld, IsLinked, KeepSets, KeepsFrom, Stands}
+pub use Rattle.hopen.specs.Kept.{kept_above, must_close_in, names_in, nodes_in, opened_by, same_name_of, same_node_of, sets_at, stack_of, swap_with_next}
+pub use Rattle.hopen.specs.Listed.{by_hash, by_name, by_node, number_by, numbers_by, IsListed}
 pub use Rattle.hopen.specs.NameSets.{holds, is_in, set_node}
 pub use Rattle.hopen.specs.Opens.{is_sought, open_of}
 pub use Rattle.hopen.specs.Scopes.{is_named, is_of, stops, stops_item}

@@ -3,7 +3,7 @@
 
 ghost use Rattle.std.specs.Prelude.{◌≡◌, ℕ, List, ◌∷◌, ◌++◌, ◌+◌, ◌<◌, ◌≤◌, ◌^◌, ◌==◌, ◌&&◌, false, true, suc, length, map, remove, slice_index, slice_set};
 ghost use Rattle.std.specs.Prelude.{vec_capacity, vec_len, if◌then◌else◌};
-ghost use Rattle.hchain.specs.Nearest.{put_before, without};
+ghost use Rattle.hnodes.specs.Nearest.{put_before, without};
 ghost use Rattle.hopen.specs.Vocabulary.{is_node, is_open, is_special, names_in, nodes_in, open_of, opened_by, same_name_of, same_node_of, sets_at, stack_of};
 ghost use Rattle.hopen.specs.Vocabulary.{swap_with_next, tag_of, AreAlikeButNames, AreAsLong, CanPass, HasRoom, IsHeld, IsLinked, KeepSets, Stands};
 

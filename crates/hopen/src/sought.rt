@@ -2,7 +2,7 @@
 
 ghost use Rattle.std.specs.Prelude.{◌≡◌, ◌≤◌, length, map};
 ghost use Rattle.std.specs.List.{find};
-ghost use Rattle.hchain.specs.Chains.{last_up};
+ghost use Rattle.hnodes.specs.Chains.{last_up};
 ghost use Rattle.hopen.specs.Vocabulary.{holds, is_in, is_special, last_place, names_in, opened_by, stack_of, tag_of, Stands};
 
 use crate::kept::{KeptNode, LastLevels, sets_above};

@@ -4,7 +4,7 @@ ghost use Rattle.std.specs.Prelude.{◌≡◌, ◌≤◌, ◌↔◌, ◌⊎◌, 
 ghost use Rattle.std.specs.Prelude.{leb, if◌then◌else◌};
 ghost use Rattle.std.specs.List.{find, list_all, position, remove_range, slice_get};
 ghost use Rattle.std.specs.Option.{option_map};
-ghost use Rattle.hchain.specs.Nearest.{after, without, changed, put_before};
+ghost use Rattle.hnodes.specs.Nearest.{after, without, changed, put_before};
 ghost use Rattle.hopen.specs.Vocabulary.{above as above_of, current as current_of, furthest_block as furthest_block_of, in_scope as is_in_scope, is_in, is_named};
 ghost use Rattle.hopen.specs.Vocabulary.{is_node, is_of, is_open, is_sought, is_special, last_place, may_stay_open, open_of, stops as stops_node, stops_item};
 ghost use Rattle.hopen.specs.Vocabulary.{tag_of, Default, Memory, TooDeep};

@@ -60,7 +60,7 @@ pub record HasParsed (opts : ParseOptions) (parse_case : ParseCase) (parser : Pa
   pub has_read : HasRead places_item (manner opts parse_case) began parser.reading.value bytes
 
 -- A parser with this builder and this table of names that was fed nothing.
-pub record HasBegun (options : Options) (start : Start) (names : Texts) (builder : Building) (parser : Parser) : Type 0 where
+pub record IsUnfed (options : Options) (start : Start) (names : Texts) (builder : Building) (parser : Parser) : Type 0 where
   pub accepts : parser.refused ≡ None
   pub sink : Placing
   pub builder_is : sink.builder ≡ builder

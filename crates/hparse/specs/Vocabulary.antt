@@ -9,7 +9,7 @@ pub use Rattle.hparse.specs.Input.{Began, Comes, Manner, bom_of}
 pub use Rattle.hparse.specs.Into.{ComesInto, as_document}
 pub use Rattle.hparse.specs.Origins.{is_character, after_token}
 pub use Rattle.hparse.specs.Parse.{ParseCase, ParseOptions, document, fragment, is_context}
-pub use Rattle.hparse.specs.Parsing.{AnswersParse, FeedsParser, HasBegun, HasParsed, IsBuilt, IsMadeOf, ShowsParse, options_of}
+pub use Rattle.hparse.specs.Parsing.{AnswersParse, FeedsParser, IsUnfed, HasParsed, IsBuilt, IsMadeOf, ShowsParse, options_of}
 pub use Rattle.hparse.specs.Placing.{PlacesToken, origins_if}
 pub use Rattle.hparse.specs.Reader.{ReadsInput}
 pub use Rattle.hparse.specs.Shown.{HasReadTokens, Shows}

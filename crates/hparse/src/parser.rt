@@ -1,7 +1,7 @@
 //! A parser that is fed bytes.
 
 ghost use Rattle.std.specs.Prelude.{◌≡◌, ◌<◌, ◌⊎◌, ℕ, List, [], ◌++◌, None, Some, true, false, Err, option_map, IfErr, IfOk, MatchResult};
-ghost use Rattle.hparse.specs.Vocabulary.{Refused, BadContext, Memory, ParseCase, ParseOptions, document, fragment, is_context, ReadsInput, AnswersParse, FeedsParser, HasBegun, HasParsed, IsBuilt, IsMadeOf, ShowsParse, options_of, IsUnrefused};
+ghost use Rattle.hparse.specs.Vocabulary.{Refused, BadContext, Memory, ParseCase, ParseOptions, document, fragment, is_context, ReadsInput, AnswersParse, FeedsParser, IsUnfed, HasParsed, IsBuilt, IsMadeOf, ShowsParse, options_of, IsUnrefused};
 
 use crate::context::is_context;
 use crate::errors::sort_errors;
@@ -134,7 +134,7 @@ fn begun<'t>(
     names: Names,
     builder: Builder<'t>,
 ) -> Result<Parser<'t>, AllocError>
-    ensures { IfOk result (HasBegun options.now start names builder.entry) }
+    ensures { IfOk result (IsUnfed options.now start names builder.entry) }
 {
     let sink = Placing::new(alloc, builder, options.places)?;
     let reading = Reading::new(alloc, options, start, names, sink);

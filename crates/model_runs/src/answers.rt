@@ -1,8 +1,7 @@
 //! What is answered: a line for each call, of words.
 
-use hformat::Entry;
 use hnodes::{NodeId, NodeKind};
-use hopen::Open;
+use hopen::{Entry, Open};
 use itoa::Buffer;
 use names::{Attr, NameId, Refusal, Tag};
 use std::alloc::{AllocError, Global};

@@ -2,15 +2,14 @@
 
 ghost use Rattle.std.specs.Prelude.{◌≡◌, IsTrue};
 ghost use Rattle.std.specs.List.{list_any};
-ghost use Rattle.hformat.specs.Formatting.{is_entry, has_bookmark};
+ghost use Rattle.hopen.specs.Formatting.{is_entry, has_bookmark};
 
 use crate::answers::Answers;
 use crate::hand::{Hand, attrs};
 use crate::words::{after, number, word};
 use charref::{Characters, Table};
-use hchain::{Chains, NONE};
-use hformat::{Bookmark, Formatting};
-use hnodes::{Attributes, NodeId};
+use hnodes::{Attributes, Chains, NONE, NodeId};
+use hopen::{Bookmark, Formatting};
 use names::{Keys, Refusal};
 use std::mem::replace;
 

@@ -103,7 +103,7 @@ fn slot_of(text: &str) -> usize
 
 /// A table of names: texts in the order in which they were added, the known names first.
 pub struct Names {
-    /// The names that are not known ones: the keys. Each library that mentions a table states all that a set has on top of a map.
+    /// The names that are not known ones: a set, but the type says less than `IndexSet`, and a library that mentions a table carries all of it.
     others: IndexMap<String, (), Keys>,
     /// In each slot the number that was found last for a text of it; such a text is found again without a hash.
     recent: [u32; SLOTS],

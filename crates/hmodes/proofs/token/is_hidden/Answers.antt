@@ -1,6 +1,6 @@
 use Rattle.hmodes.proofs.Vocabulary.{sym, refl, ap, ◌∙◌, list_any, numbers, Given, is_hidden, token_attrs, token_of}
 use Rattle.hnodes.specs.Rows.{attribute_of}
-use Rattle.hchain.proofs.Images.{any-map}
+use Rattle.hnodes.proofs.Images.{any-map}
 use Rattle.names.specs.declared.attr.Attr.{Attr}
 use Rattle.hmodes.proofs.token.is_hidden.Goals as goal
 

@@ -1,6 +1,6 @@
 use Rattle.std.proofs.Common.{is_some, sym, ◌∙◌, ap}
-use Rattle.hformat.specs.Items.{entry_is}
-use Rattle.hformat.proofs.Bookmarks.{any-is_entry, is_some-option_map}
+use Rattle.hopen.specs.Items.{entry_is}
+use Rattle.hopen.proofs.Bookmarks.{any-is_entry, is_some-option_map}
 use Rattle.model_runs.proofs.lists.has_entry.Goals as goal
 
 pub returns : goal.returns

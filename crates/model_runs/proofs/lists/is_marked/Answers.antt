@@ -1,5 +1,5 @@
 use Rattle.std.proofs.Common.{sym, ◌∙◌}
-use Rattle.hformat.proofs.Bookmarks.{has_bookmark-after}
+use Rattle.hopen.proofs.Bookmarks.{has_bookmark-after}
 use Rattle.model_runs.proofs.lists.is_marked.Goals as goal
 
 pub returns-then-ne : goal.returns-then-ne

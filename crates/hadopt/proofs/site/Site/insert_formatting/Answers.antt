@@ -1,5 +1,5 @@
 use Rattle.hadopt.proofs.Names.{ℕ, map, nat_eq, ◌∙◌, ap, Ok, Result, attribute_of, Refusal, numbers, SiteOf, with_items}
-use Rattle.hformat.specs.Formatting.{pushed}
+use Rattle.hopen.specs.Formatting.{pushed}
 use Rattle.hadopt.proofs.Calls.{gives-kept, formatting-kept, listed-after}
 use Rattle.std.proofs.lemmas.Result.{IfOk-from_err}
 use Rattle.hadopt.proofs.site.Site.insert_formatting.Goals as goal

@@ -1,5 +1,5 @@
 use Rattle.hnodes.proofs.Names.{refl, sym, ◌∙◌}
-use Rattle.hnodes.proofs.Chains.{moves, none-left}
+use Rattle.hnodes.proofs.FirstMoves.{moves, none-left}
 use Rattle.hnodes.proofs.Outside.{moved-outside}
 use Rattle.hnodes.proofs.Opened.{opened, are_nodes}
 use Rattle.hnodes.proofs.tree.Tree.move_children.Goals as goal

@@ -3,7 +3,7 @@ use Rattle.hopen.proofs.ExchangedStack.{item_of, map-insert}
 use Rattle.hopen.proofs.Opened.{seen, found, none_found, kept, room-left}
 use Rattle.hopen.proofs.WrittenBack.{stands_same}
 use Rattle.hopen.proofs.Standing.{many}
-use Rattle.hchain.proofs.Lent.{on_err}
+use Rattle.hnodes.proofs.Lent.{on_err}
 use Rattle.std.proofs.lemmas.Result.{IfOk-from_err}
 use Rattle.hopen.proofs.stack.OpenStack.insert_below.Goals as goal
 

@@ -1,7 +1,7 @@
 use Rattle.hopen.proofs.Names.{List, KeptNode, stack_of, ◌∙◌, ℕ, length, ap, arith, OpenNodes}
 use Rattle.hopen.proofs.Opened.{room-left}
 use Rattle.hopen.proofs.Standing.{length-stack_of, many}
-use Rattle.hchain.proofs.Lent.{on_err}
+use Rattle.hnodes.proofs.Lent.{on_err}
 use Rattle.std.proofs.lemmas.Result.{IfOk-from_err}
 use Rattle.hopen.proofs.stack.OpenStack.push.Goals as goal
 

@@ -1,7 +1,7 @@
 use Rattle.hopen.proofs.Names.{length, Stands, subst, ◌∙◌, ap, sym, refl, reverse, arith, with_items_is, map-set, with_items, no_words, is_node, open_of, opened_by, stack_of, KeptNode, change_nearest, changed}
 use Rattle.hopen.proofs.ExchangedStack.{item_of}
 use Rattle.hopen.proofs.Opened.{seen, found, none_found, kept}
-use Rattle.hchain.proofs.Lent.{on_err}
+use Rattle.hnodes.proofs.Lent.{on_err}
 use Rattle.hopen.proofs.WrittenBack.{stands_same}
 use Rattle.std.proofs.lemmas.Result.{IfOk-from_err}
 use Rattle.hopen.proofs.stack.OpenStack.replace.Goals as goal

@@ -1,4 +1,0 @@
-pub mod Chains
-pub mod Linked
-pub mod Nearest
-pub mod Places

@@ -1,7 +1,0 @@
-use Rattle.hformat.proofs.Names.{length, ap, arith, items_of}
-use Rattle.hformat.proofs.Holes.{length-live-le}
-use Rattle.hformat.proofs.ItemLists.{length-items_of}
-use Rattle.hformat.proofs.formatting.Formatting.max_len.Goals as goal
-
-pub returns : goal.returns
-returns c = omega (arith, ap length c.self.view_is, length-live-le (items_of c.self.inside.slots.items.items), length-items_of c.self.inside.slots.items.items)

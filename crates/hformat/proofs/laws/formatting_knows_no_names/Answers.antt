@@ -1,6 +1,0 @@
-use Rattle.hformat.proofs.Names.{bytes_eq, nat_eq}
-use Rattle.hformat.proofs.Spellings.{formatting_spelled}
-use Rattle.hformat.proofs.laws.formatting_knows_no_names.Goals as goal
-
-pub returns : goal.returns
-returns c = λ texts s. formatting_spelled nat_eq bytes_eq texts s.names

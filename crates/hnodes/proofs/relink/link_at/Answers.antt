@@ -1,0 +1,30 @@
+use Rattle.hnodes.proofs.ChainNames.{◌<◌, ◌%◌, length, sym, ◌∙◌, ap, add-one, arith, last_up, is_in, numbers_of}
+use Rattle.hnodes.proofs.Relinked.{walk-before, walk-next, length-numbers, down-within, down-less, down-walk}
+use Rattle.hnodes.proofs.relink.link_at.Goals as goal
+
+pub loop-before-init : goal.loop-before-init
+loop-before-init c =
+    let wide : 0 < length c.args.last.now = c.requires.chains.chained.wide (omega arith) in
+    record {
+      within = omega (arith, length-numbers c.args.links.now);
+      is = c.requires.chains.chained.says (c.args.number % length c.args.last.now) (omega arith);
+      found = λ some. absurd (omega arith);
+    }
+
+pub bounds-links-before : goal.bounds-links-before
+bounds-links-before c = omega (arith, down-within c.args.last.now c.args.links.now c.requires.chains.chained _ c.args.index c.loop-before.before c.loop-before.hint c.loop-before.invariant)
+
+pub loop-before-smaller : goal.loop-before-smaller
+loop-before-smaller c = down-less c.args.last.now c.args.links.now c.requires.chains.chained _ c.args.index c.loop-before.before c.loop-before.hint c.loop-before.invariant (omega arith)
+
+pub loop-before-preserved : goal.loop-before-preserved
+loop-before-preserved c = down-walk c.args.last.now c.args.links.now c.requires.chains.chained _ c.args.index c.loop-before.before c.loop-before.hint c.loop-before.invariant (omega arith)
+
+pub returns-clause-fit : goal.returns-clause-fit
+returns-clause-fit c =
+    let s = is_in (length c.args.last.now) (c.args.number % length c.args.last.now) in
+    let xs = numbers_of c.args.links.now in
+    record {
+      before = walk-before s xs c.args.index c.loop-before.before c.loop-before.hint c.loop-before.invariant (omega arith) ∙ ap (λ n. last_up s xs n) (sym (add-one c.args.index));
+      next = walk-next s xs c.args.index c.loop-before.before c.loop-before.hint c.loop-before.invariant (omega arith);
+    }

@@ -1,0 +1,190 @@
+//! Edits of one place of a list of numbers, or of two neighbours.
+
+ghost use Rattle.std.specs.Prelude.{◌≡◌, ◌≢◌, ℕ, ◌<◌, ◌≤◌, ◌+◌, ◌==◌, if◌then◌else◌, length, slice_index, slice_set};
+ghost use Rattle.hnodes.specs.Chains.{none};
+ghost use Rattle.hnodes.specs.ChainLinks.{AreChains, FitsAt, IsNext, befores_of, group_of, numbers_of};
+
+use crate::chains::{Chains, Link, NONE, hint_at};
+
+/// What a number at an index keeps: the nearest place before it where its group is, and the next one as a hint; 0 is none.
+///
+/// It walks down the group from its last place.
+fn link_at(last: &[u32], links: &[Link], index: usize, number: u64) -> Link
+    requires chains { AreChains last.now links.now }
+    requires within { index < length links.now }
+    ensures number { result.number ≡ number }
+    ensures fit { FitsAt (length last.now) (numbers_of links.now) index result }
+{
+    let mut before = last[number as usize % last.len()];
+    let mut hint = 0;
+    while before as usize > index + 1 {
+        hint = before;
+        before = links[before as usize - 1].before;
+    }
+    Link {
+        number,
+        before,
+        hint,
+    }
+}
+
+/// The next place of the group of a number after its index; 0 is none. It takes constant time where the hint is right.
+fn above(last: &[u32], links: &[Link], index: usize) -> u32
+    requires chains { AreChains last.now links.now }
+    requires within { index < length links.now }
+    requires number { slice_index (numbers_of links.now) index ≢ none }
+    ensures { IsNext (group_of (length last.now) (slice_index (numbers_of links.now) index)) (numbers_of links.now) index result }
+{
+    let Link { number, hint, .. } = links[index];
+    if hint > 0 && hint as usize <= links.len() {
+        let next = links[hint as usize - 1];
+        if next.number != NONE as u64 && next.before as usize == index + 1 {
+            return hint;
+        }
+    }
+    link_at(last, links, index, number).hint
+}
+
+/// Changes the place that the next number of a group keeps, or that the table says, where there is no next one.
+fn keep(last: &mut [u32], links: &mut [Link], group: usize, next: u32, place: u32)
+    requires group { group < length last.old }
+    requires next { next ≤ length links.old }
+    ensures numbers { numbers_of links.new ≡ numbers_of links.old }
+    ensures table { last.new ≡ (if next == 0 then slice_set last.old group place else last.old) }
+    ensures befores { (j : ℕ) → slice_index (befores_of links.new) j ≡ (if j + 1 == next then place else slice_index (befores_of links.old) j) }
+{
+    if next > 0 {
+        links[next as usize - 1].before = place;
+    } else {
+        last[group] = place;
+    }
+}
+
+/// Takes out the number at an index. The hint of the link that it gives is right.
+fn take_out(last: &mut [u32], links: &mut [Link], index: usize) -> Link
+    requires chains { AreChains last.old links.old }
+    requires within { index < length links.old }
+    requires number { slice_index (numbers_of links.old) index ≢ none }
+    ensures chains { AreChains last.new links.new }
+    ensures numbers { numbers_of links.new ≡ slice_set (numbers_of links.old) index none }
+    ensures number { result.number ≡ slice_index (numbers_of links.old) index }
+    ensures fit { FitsAt (length last.new) (numbers_of links.new) index result }
+{
+    let hint = above(last, links, index);
+    let Link { number, before, .. } = links[index];
+    links[index] = Link {
+        number: NONE as u64,
+        before: 0,
+        hint: 0,
+    };
+    keep(last, links, number as usize % last.len(), hint, before);
+    hint_at(links, before, hint);
+    Link {
+        number,
+        before,
+        hint,
+    }
+}
+
+/// Puts a link at an index where nothing is, where it keeps the place before it, and its hint is right.
+fn put_in(last: &mut [u32], links: &mut [Link], index: usize, link: Link)
+    requires chains { AreChains last.old links.old }
+    requires within { index < length links.old }
+    requires free { slice_index (numbers_of links.old) index ≡ none }
+    requires number { link.number ≢ none }
+    requires fit { FitsAt (length last.old) (numbers_of links.old) index link }
+    ensures chains { AreChains last.new links.new }
+    ensures numbers { numbers_of links.new ≡ slice_set (numbers_of links.old) index link.number }
+{
+    let place = index as u32 + 1;
+    links[index] = link;
+    keep(
+        last,
+        links,
+        link.number as usize % last.len(),
+        link.hint,
+        place,
+    );
+    hint_at(links, link.before, place);
+}
+
+/// Exchanges two numbers. If they are of one group, the one that moves up keeps the place of the other one.
+fn exchange(last: &mut [u32], links: &mut [Link], index: usize)
+    requires chains { AreChains last.old links.old }
+    requires within { index + 1 < length links.old }
+    requires first { slice_index (numbers_of links.old) index ≢ none }
+    requires second { slice_index (numbers_of links.old) (index + 1) ≢ none }
+    ensures chains { AreChains last.new links.new }
+    ensures numbers { let old = numbers_of links.old in
+        numbers_of links.new ≡ slice_set (slice_set old index (slice_index old (index + 1))) (index + 1) (slice_index old index) }
+{
+    let first = take_out(last, links, index);
+    let second = take_out(last, links, index + 1);
+    put_in(last, links, index, second);
+    let same = first.number as usize % last.len() == second.number as usize % last.len();
+    let link = if same {
+        Link {
+            number: first.number,
+            before: index as u32 + 1,
+            hint: second.hint,
+        }
+    } else {
+        first
+    };
+    put_in(last, links, index + 1, link);
+}
+
+/// Exchanges what is at an index and at the next one.
+fn swap_at(last: &mut [u32], links: &mut [Link], index: usize)
+    requires chains { AreChains last.old links.old }
+    requires within { index + 1 < length links.old }
+    ensures chains { AreChains last.new links.new }
+    ensures numbers { let old = numbers_of links.old in
+        numbers_of links.new ≡ slice_set (slice_set old index (slice_index old (index + 1))) (index + 1) (slice_index old index) }
+{
+    let first = links[index].number;
+    let second = links[index + 1].number;
+    if first == second {
+        return;
+    }
+    if first == NONE as u64 {
+        let link = take_out(last, links, index + 1);
+        put_in(last, links, index, link);
+    } else if second == NONE as u64 {
+        let link = take_out(last, links, index);
+        put_in(last, links, index + 1, link);
+    } else {
+        exchange(last, links, index);
+    }
+}
+
+impl Chains {
+    /// Puts `NONE` at an index.
+    pub fn clear(&mut self, index: usize)
+        requires { index < length self.old }
+        ensures { self.new ≡ slice_set self.old index none }
+    {
+        if self.links[index].number != NONE as u64 {
+            take_out(&mut self.last, &mut self.links, index);
+        }
+    }
+
+    /// Puts a number at an index where nothing is. Allocates nothing.
+    pub fn set(&mut self, index: usize, number: usize)
+        requires within { index < length self.old }
+        requires free { slice_index self.old index ≡ none }
+        requires number { number ≢ none }
+        ensures { self.new ≡ slice_set self.old index number }
+    {
+        let link = link_at(&self.last, &self.links, index, number as u64);
+        put_in(&mut self.last, &mut self.links, index, link);
+    }
+
+    /// Exchanges the numbers at an index and at the next one.
+    pub fn swap(&mut self, index: usize)
+        requires { index + 1 < length self.old }
+        ensures { self.new ≡ slice_set (slice_set self.old index (slice_index self.old (index + 1))) (index + 1) (slice_index self.old index) }
+    {
+        swap_at(&mut self.last, &mut self.links, index);
+    }
+}

@@ -1,0 +1,107 @@
+-- The holes of a list taken out, and the numbers of what is left.
+use Rattle.hopen.proofs.Names.{◌≡◌, ℕ, ◌+◌, ◌<◌, ◌≤◌, ◌==◌, Bool, true, false, not, cond, eqb, is_some, List, [], ◌∷◌, ◌++◌, length, get_or, take, drop, set, map, filter, refl, sym, ◌∙◌, ap, arith, subst, All, swap, not-true, append-nil, append_assoc, drop-map, drop-set-lt, length-append, length-take-le, map-append, take-map, swap_is, All-append, All-drop, All-get_or, All-head, All-tail, All-take, filter-append, entry_hash, none, EntryOf, IsStored, is_gone, item_of, IsListed, by_hash, by_name, by_node, number_by, numbers_by, unless_hole, Stored, Slots, nat_tests, between, drop_more, get_or-append_right, take-set-le, take_more, between_more, length-swap, swapped_from_swap, All-filter, filter_passes}
+use Rattle.hopen.specs.declared.entry.Slot.TheVariants as stored
+use Rattle.hopen.proofs.Moved.{NoHoleFrom}
+
+-- what stays from an index on, and what is left
+abbrev pub stays : Stored → Bool
+stays x = not (is_gone x)
+
+abbrev pub closed : List Stored → ℕ → List Stored
+closed items from = take from items ++ filter stays (drop from items)
+
+-- a number is that of a hole just where the item is gone
+module _ (of : EntryOf ℕ → ℕ) where
+  abbrev number : Stored → ℕ
+  number x = number_by (unless_hole of) (item_of x)
+
+  number-stays : (x : Stored) → IsStored x → not (eqb (number x) none) ≡ stays x
+  number-stays x is = grind (arith, nat_tests)
+
+  numbers-stay : (xs : List Stored) → All IsStored xs → filter (λ n. not (n == none)) (map number xs) ≡ map number (filter stays xs)
+  numbers-stay [] all = refl
+  numbers-stay (x ∷ xs) all = grind (arith, numbers-stay xs (All-tail IsStored x xs all), number-stays, All-head, All-tail)
+
+  pub numbers-closed : (items : List Stored) (from : ℕ) (ns : List ℕ) → All IsStored items → ns ≡ map number items
+      → take from ns ++ filter (λ n. not (n == none)) (drop from ns) ≡ map number (closed items from)
+  numbers-closed items from ns all are =
+      ap (λ l. take from l ++ filter (λ n. not (n == none)) (drop from l)) are
+      ∙ (λ k. take-map number from items k ++ filter (λ n. not (n == none)) (drop-map number from items k))
+      ∙ ap (λ l. map number (take from items) ++ l) (numbers-stay (drop from items) (All-drop IsStored from items all))
+      ∙ sym (map-append number (take from items) (filter stays (drop from items)))
+
+solid-closed : (items : List Stored) (from : ℕ) → from ≤ length items → NoHoleFrom from (closed items from)
+solid-closed items from h k above l x = grind (arith, length-take-le, length-append, not-true, get_or-append_right, All-get_or, filter_passes)
+
+-- what is kept of the list
+pub listed-closed : (from : ℕ) (old new : Slots) → IsListed old → new.keys ≡ old.keys → from ≤ length old.items.items
+    → new.names ≡ take from old.names ++ filter (λ n. not (n == none)) (drop from old.names)
+    → (is_some old.keys ≡ true → new.hashes ≡ take from old.hashes ++ filter (λ n. not (n == none)) (drop from old.hashes))
+    → new.nodes ≡ take from old.nodes ++ filter (λ n. not (n == none)) (drop from old.nodes)
+    → new.solid ≡ from → new.items.items ≡ closed old.items.items from → IsListed new
+listed-closed from old new listed keys h names hashes nodes solid items =
+    let xs = old.items.items in
+    let kept = filter stays (drop from xs) in
+    record {
+      names = names ∙ numbers-closed (λ e. e.name) xs from old.names listed.stored listed.names ∙ ap (numbers_by by_name) (sym items);
+      hashes = λ some. let there = ap is_some (sym keys) ∙ some in
+          hashes there ∙ numbers-closed (entry_hash old.keys) xs from old.hashes listed.stored (listed.hashes there)
+          ∙ (λ i. numbers_by (by_hash (sym keys i)) (sym items i));
+      nodes = nodes ∙ numbers-closed (λ e. e.node) xs from old.nodes listed.stored listed.nodes ∙ ap (numbers_by by_node) (sym items);
+      stored = subst (All IsStored) (sym items) (All-append IsStored (take from xs) kept (All-take IsStored from xs listed.stored) (All-filter stays IsStored (drop from xs) (All-drop IsStored from xs listed.stored)));
+      within = omega (arith, solid, ap length items, length-append (take from xs) kept, length-take-le from xs h);
+      solid = subst (λ n. NoHoleFrom n new.items.items) (sym solid) (subst (NoHoleFrom from) (sym items) (solid-closed xs from h));
+    }
+
+-- How far the holes are taken out: what is left of the items before an index comes first, and those from it on are as they were.
+pub record IsTaken (from end index : ℕ) (old items : List Stored) : Type 0 where
+  pub above : from ≤ end
+  pub below : end ≤ index
+  pub size : length items ≡ length old
+  pub taken : take end items ≡ take from old ++ filter stays (between from index old)
+  pub rest : drop index items ≡ drop index old
+
+module _ (from end index : ℕ) (old items : List Stored) (is : IsTaken from end index old items) (h : index < length old) where
+  abbrev next : Stored
+  next = get_or items index stored.Hole
+
+  next-same : (next ≡ get_or old index stored.Hole) × (drop (index + 1) items ≡ drop (index + 1) old)
+  next-same =
+      let here : drop index items ≡ next ∷ drop (index + 1) items = drop_more items index stored.Hole (omega (arith, is.size)) in
+      let was : drop index old ≡ get_or old index stored.Hole ∷ drop (index + 1) old = drop_more old index stored.Hole h in
+      let both : next ∷ drop (index + 1) items ≡ get_or old index stored.Hole ∷ drop (index + 1) old = sym here ∙ is.rest ∙ was in
+      (cc, cc)
+
+  kept-more : filter stays (between from (index + 1) old) ≡ filter stays (between from index old) ++ filter stays (next ∷ [])
+  kept-more =
+      ap (filter stays) (between_more old from index stored.Hole (omega (arith, is.above, is.below)) h) ∙ filter-append stays (between from index old) (get_or old index stored.Hole ∷ [])
+      ∙ ap (λ x. filter stays (between from index old) ++ filter stays (x ∷ [])) (sym next-same.0)
+
+  -- a hole is passed over
+  pub taken-hole : is_gone next ≡ true → IsTaken from end (index + 1) old items
+  taken-hole gone = grind (arith, kept-more, append-nil, next-same)
+
+  -- and what is none goes to the end of what is left
+  pub taken-item : is_gone next ≡ false → IsTaken from (end + 1) (index + 1) old (swap items end index)
+  taken-item there =
+      let one : filter stays (next ∷ []) ≡ next ∷ [] = ap (λ v. cond (not v) (next ∷ []) []) there in
+      let last = get_or items end stored.Hole in
+      let low : end < length items = omega (arith, is.size, is.below) in
+      let high : index < length items = omega (arith, is.size) in
+      let new : set (set items end next) index last ≡ swap items end index = swap_is items end index stored.Hole low high in
+      let within : end < length (swap items end index) = omega (arith, length-swap items end index) in
+      let before : take end (swap items end index) ≡ take end items =
+      ap (take end) (sym new) ∙ take-set-le end (set items end next) index last is.below ∙ take-set-le end items end next (omega arith) in
+      let moved : get_or (swap items end index) end stored.Hole ≡ next = (swapped_from_swap items (swap items end index) end index stored.Hole low high refl).0 in
+      record {
+        above = omega (arith, is.above);
+        below = omega (arith, is.below);
+        size = length-swap items end index ∙ is.size;
+        taken =
+            take_more (swap items end index) end stored.Hole within ∙ (λ k. before k ++ moved k ∷ []) ∙ ap (λ l. l ++ next ∷ []) is.taken
+            ∙ append_assoc (take from old) (filter stays (between from index old)) (next ∷ [])
+            ∙ ap (λ l. take from old ++ l) (sym (kept-more ∙ ap (λ l. filter stays (between from index old) ++ l) one));
+        rest =
+            ap (drop (index + 1)) (sym new) ∙ drop-set-lt (index + 1) (set items end next) index last (omega arith) ∙ drop-set-lt (index + 1) items end next (omega (arith, is.below))
+            ∙ next-same.1;
+      }

@@ -1,0 +1,199 @@
+-- Vectors of items with holes, and where the entry of a node is in them.
+use Rattle.hopen.proofs.Names.{◌≡◌, if◌then◌else◌, ℕ, zero, suc, ◌+◌, ◌-◌, ◌<◌, ◌≤◌, eqb, Bool, true, false, cond, not, List, [], ◌∷◌, ◌++◌, Option, Some, None, is_some, length, map, filter, take, take-suc, drop, get_or, refl, sym, ◌∙◌, ap, subst, arith, All, position, position_or_len, list_any, slice_get, find, option_and_then, option_map, eqb-zero-suc, append-nil, get_or-map, length-append, length-map, All-drop, All-take, filter-append, EntryOf, Listed, marker, entry, as_entry, entry_of, for_node, is_entry, nth_live, AreSlots, IsSlot, IsStored, hole, is_gone, is_hole, item_of, items_of, live, nowhere, told, by_node, number_by, unless_hole, changed_at, Stored, is_some-position, slice_get_nearest, common_steps, nat_tests, lt-ltb, drop_at, take-append-drop, take_at, IsListed, Slots, ◌==◌, reverse, last_up, get_nearest, reverse_split}
+use Rattle.hopen.specs.declared.entry.Slot.TheVariants as stored
+use Rattle.hopen.proofs.ByHash.{last-at, number-at}
+use Rattle.hopen.proofs.ItemLists.{along_last, items_of_more, length-items_of}
+use Rattle.hopen.proofs.Live.{AllSolid, nth-none, nth-real, nth-within}
+use Rattle.hopen.proofs.Chained.{last-is, last_of}
+use Rattle.hopen.proofs.Listed.{number-same, numbers-back, place, place-le}
+
+-- a smaller number is another
+pub apart : (a b : ℕ) → a < b → eqb a b ≡ false
+apart a b h = grind (arith, nat_tests)
+
+-- a number that counts no hole is this one
+pub unless : (name n : ℕ) → name < nowhere → suc (suc n) ≡ suc (if name == nowhere then zero else suc n)
+unless name n low = ap (λ (v : Bool). suc (cond v zero (suc n))) (sym (apart name nowhere low))
+
+pub gone-is : (x : Stored) → IsStored x → is_hole (item_of x) ≡ is_gone x
+gone-is x s = grind (arith, apart)
+
+-- what is known of an item that is no hole
+pub told-is : (x : Stored) → is_gone x ≡ false → told x ≡ as_entry (item_of x)
+told-is x there = grind arith
+
+pub slot-is : (x : Stored) → IsStored x → IsSlot (item_of x)
+slot-is x s = grind arith
+
+pub slots-are : (items : List Stored) → All IsStored items → AreSlots (items_of items)
+slots-are items = along_last (λ xs. All IsStored xs → AreSlots (items_of xs)) (λ all. tt) more items
+  where
+    more : (front : List Stored) (x : Stored) → (All IsStored front → AreSlots (items_of front)) → All IsStored (front ++ x ∷ []) → AreSlots (items_of (front ++ x ∷ []))
+    more front x before all =
+        let first : All IsStored front = subst (λ (xs : List Stored). All IsStored xs) (take_at front (x ∷ []) (length front) refl) (All-take IsStored (length front) (front ++ x ∷ []) all) in
+        let last : All IsStored (x ∷ []) = subst (λ (xs : List Stored). All IsStored xs) (drop_at front (x ∷ []) (length front) refl) (All-drop IsStored (length front) (front ++ x ∷ []) all) in
+        subst AreSlots (sym (items_of_more front x)) (slot-is x (last 0 x (omega arith)), before first)
+
+-- without the holes, part by part
+pub live-parts : (xs ys : List Stored) → live (items_of (xs ++ ys)) ≡ live (items_of ys) ++ live (items_of xs)
+live-parts xs ys = ap live (reverse_split item_of xs ys) ∙ filter-append (λ i. not (is_hole i)) (items_of ys) (items_of xs)
+
+-- nothing is lost with the holes
+live-first : (x : Stored) (items left : List Stored) → IsStored x → live (items_of left) ≡ live (items_of items)
+    → live (items_of (cond (not (is_gone x)) (x ∷ left) left)) ≡ live (items_of (x ∷ items))
+live-first x items left s rest = grind (arith, live-parts, append-nil, gone-is, nat_tests, common_steps)
+
+pub live-closed : (items : List Stored) → All IsStored items → live (items_of (filter (λ x. not (is_gone x)) items)) ≡ live (items_of items)
+live-closed [] all = refl
+live-closed (x ∷ items) all = live-first x items (filter (λ y. not (is_gone y)) items) (all 0 x (omega arith)) (live-closed items (λ k y h. all (suc k) y (omega arith)))
+
+pub live-tail : (items : List Stored) (from : ℕ) → All IsStored items → live (items_of (take from items ++ filter (λ x. not (is_gone x)) (drop from items))) ≡ live (items_of items)
+live-tail items from all =
+    live-parts (take from items) (filter (λ x. not (is_gone x)) (drop from items)) ∙ ap (λ l. l ++ live (items_of (take from items))) (live-closed (drop from items) (All-drop IsStored from items all))
+    ∙ sym (live-parts (take from items) (drop from items)) ∙ ap (λ xs. live (items_of xs)) (take-append-drop from items)
+
+-- one item more on the way from the last one on
+pub taken : (items : List Stored) (k j : ℕ) (x : Stored) → k ≡ suc j → j < length items → x ≡ get_or items j x → items_of (take k items) ≡ item_of x ∷ items_of (take j items)
+taken items k j x next within is = ap (λ n. items_of (take n items)) next ∙ ap items_of (take-suc items j x within) ∙ items_of_more (take j items) (get_or items j x) ∙ ap (λ y. item_of y ∷ items_of (take j items)) (sym is)
+
+pub further : (c : ℕ) (o : Option ℕ) → option_map (λ k. c + k) (option_map suc o) ≡ option_map (λ k. suc c + k) o
+further c o = grind arith
+
+pub none-further : (o : Option ℕ) → option_map (λ k. 0 + k) o ≡ o
+none-further o = grind arith
+
+-- a hole is passed, and so is an item where more are to be
+pub nth-hole : (n : ℕ) (x : Listed ℕ) (xs : List (Listed ℕ)) → is_hole x ≡ true → nth_live n (x ∷ xs) ≡ option_map suc (nth_live n xs)
+nth-hole n x xs is = grind arith
+
+-- a hole at the end leaves
+pub live-dropped : (items : List Stored) (k j : ℕ) (x : Stored) → k ≡ suc j → j < length items → x ≡ get_or items j x → is_hole (item_of x) ≡ true → live (items_of (take k items)) ≡ live (items_of (take j items))
+live-dropped items k j x next within is gone = ap live (taken items k j x next within is) ∙ ap (λ v. cond (not v) (item_of x ∷ live (items_of (take j items))) (live (items_of (take j items)))) gone
+
+-- how many are live
+pub length-live : (items : List Stored) → All IsStored items → length (live (items_of items)) ≡ length (filter (λ x. not (is_gone x)) items)
+length-live [] all = refl
+length-live (x ∷ items) all = grind (arith, live-parts (x ∷ []) items, length-append, gone-is x (all 0 x (omega arith)), length-live items (λ k y h. all (suc k) y (omega arith)))
+
+-- what is at the last place of a number is no hole
+module _ (of : EntryOf ℕ → ℕ) (items : List Stored) (n p : ℕ) (x : Stored) (some : 0 < p) (at : place (unless_hole of) (suc (suc n)) (items_of items) ≡ p) (is : x ≡ get_or items (p - 1) x) where
+  place-within : p ≤ length items
+  place-within = omega (arith, place-le (unless_hole of) (suc (suc n)) (items_of items), length-items_of items)
+
+  place-number : number_by (unless_hole of) (item_of x) ≡ suc (suc n)
+  place-number =
+      let size : length (map (number_by (unless_hole of)) (items_of items)) ≡ length items = length-map (items_of items) (number_by (unless_hole of)) ∙ length-items_of items in
+      ap (λ y. number_by (unless_hole of) (item_of y)) is ∙ sym (get_or-map (λ y. number_by (unless_hole of) (item_of y)) items (p - 1) x 0 (omega (arith, place-within)))
+      ∙ number-at (unless_hole of) items p some place-within ∙ ap (λ k. get_or (map (number_by (unless_hole of)) (items_of items)) (k - p) 0) (sym size)
+      ∙ last-at (suc (suc n)) p (map (number_by (unless_hole of)) (items_of items)) at some
+
+  pub place-there : is_gone x ≡ false
+  place-there = grind (arith, place-number)
+
+  pub place-told : is_some (told x) ≡ true
+  place-told = grind (arith, place-number)
+
+-- where the last entry of a node is
+abbrev pub node_place : ℕ → List (Listed ℕ) → ℕ
+node_place node items = place by_node (suc (suc node)) items
+
+-- as the numbers of the nodes tell it
+module _ (node number p : ℕ) (s : Slots) (l : IsListed s) (e : number ≡ suc (suc node)) (is : p ≡ last_up (λ k. k == number) s.nodes (length s.nodes)) where
+  pub placed : p ≡ node_place node (items_of s.items.items)
+  placed = is ∙ last-is number s.nodes ∙ (λ i. last_of (e i) ((ap reverse l.nodes ∙ numbers-back by_node s.items.items) i))
+
+  pub placed-within : p ≤ length s.items.items
+  placed-within = omega (arith, placed, place-le by_node (suc (suc node)) (items_of s.items.items), length-items_of s.items.items)
+
+pub entry_of-is : (node : ℕ) (items : List (Listed ℕ)) → entry_of node items ≡ option_and_then as_entry (find (is_entry node) items)
+entry_of-is node [] = refl
+entry_of-is node (marker ∷ items) = entry_of-is node items
+entry_of-is node (entry e ∷ items) = grind (arith, entry_of-is node items)
+
+module _ (node : ℕ) (low : node < nowhere) where
+  node-same : (e : EntryOf ℕ) (v : Bool) → IsSlot (entry e) → eqb e.node node ≡ v → eqb (suc (by_node e)) (suc (suc node)) ≡ v
+  node-same e v slot same = grind (arith, number-same, nat_tests)
+
+  pub node-none : (items : List (Listed ℕ)) → AreSlots items → node_place node items ≡ 0 → list_any (is_entry node) items ≡ false
+  node-none [] slots is = refl
+  node-none (marker ∷ items) slots is = node-none items slots.1 (rw (eqb-zero-suc (suc node)) at is)
+  node-none (entry e ∷ items) slots is = grind (arith, node-none items slots.1, node-same)
+
+  pub node-some : (items : List (Listed ℕ)) → AreSlots items → list_any (is_entry node) items ≡ true → 0 < node_place node items
+  node-some items slots there = grind (arith, node-none)
+
+  node-first : (items : List (Listed ℕ)) → AreSlots items → 0 < node_place node items → position_or_len (is_entry node) items ≡ length items - node_place node items
+  node-first [] slots some = absurd (omega arith)
+  node-first (marker ∷ items) slots some =
+      let there : 0 < node_place node items = rw (eqb-zero-suc (suc node)) at some in
+      rw (eqb-zero-suc (suc node)) (omega (arith, node-first items slots.1 there, place-le by_node (suc (suc node)) items))
+  node-first (entry e ∷ items) slots some = go (eqb e.node node) refl some (node-first items slots.1)
+    where
+      go : (v : Bool) → eqb e.node node ≡ v → 0 < cond (eqb (suc (by_node e)) (suc (suc node))) (suc (length (map (number_by by_node) items))) (node_place node items)
+          → (0 < node_place node items → position_or_len (is_entry node) items ≡ length items - node_place node items)
+          → cond (not v) (1 + position_or_len (is_entry node) items) 0 ≡ suc (length items) - cond (eqb (suc (by_node e)) (suc (suc node))) (suc (length (map (number_by by_node) items))) (node_place node items)
+      go true same some rest = rw (node-same e true slots.0 same) (omega (arith, length-map items (number_by by_node)))
+      go false same some rest =
+          let there : 0 < node_place node items = rw (node-same e false slots.0 same) at some in
+          rw (node-same e false slots.0 same) (omega (arith, rest there, place-le by_node (suc (suc node)) items))
+
+  pub node-at : (items : List (Listed ℕ)) → AreSlots items → 0 < node_place node items → position (is_entry node) items ≡ Some (length items - node_place node items)
+  node-at items slots some =
+      let first = node-first items slots some in
+      rw (lt-ltb (position_or_len (is_entry node) items) (length items) (omega (arith, place-le by_node (suc (suc node)) items))) (ap (λ k. Some k) first)
+
+pub no-position : {X : Type 0} (sought : X → Bool) (xs : List X) → list_any sought xs ≡ false → position sought xs ≡ None
+no-position sought xs none = grind (arith, is_some-position sought xs)
+
+-- the last ones of a vector, where there is no hole from an index on
+solid-from : (k : ℕ) (xs : List (Listed ℕ)) → ((j : ℕ) → j < k → j < length xs → is_hole (get_or xs j hole) ≡ false) → AllSolid k xs
+solid-from zero xs there = tt
+solid-from (suc k) [] there = tt
+solid-from (suc k) (x ∷ xs) there = (there 0 (omega arith) (omega arith), solid-from k xs (λ j h w. there (suc j) (omega arith) (omega arith)))
+
+pub solid-end : (items : List Stored) (solid k : ℕ) → All IsStored items → ((i : ℕ) → solid ≤ i → i < length items → (x : Stored) → is_gone (get_or items i x) ≡ false)
+    → k ≤ length items - solid → AllSolid k (items_of items)
+solid-end items solid k all there h = solid-from k (items_of items) at
+  where
+    at : (j : ℕ) → j < k → j < length (items_of items) → is_hole (get_or (items_of items) j hole) ≡ false
+    at j below within =
+        let i = length items - suc j in
+        let low : i < length items = omega (arith, length-items_of items) in
+        let is : i + suc j ≡ length items = omega (arith, length-items_of items) in
+        ap is_hole (get_nearest item_of items i j stored.Hole hole is) ∙ gone-is (get_or items i stored.Hole) (all i stored.Hole low) ∙ there i (omega arith) low stored.Hole
+
+-- an index that was found for an item with this many after it
+none-map : {X Y : Type 0} (f : X → Y) (o : Option X) → option_map f o ≡ None → o ≡ None
+none-map f o is = grind arith
+
+nth-up : (len index : ℕ) (o : Option ℕ) → ((up : ℕ) → o ≡ Some up → up < len) → Some index ≡ option_map (λ up. len - 1 - up) o → (up : ℕ) × ((o ≡ Some up) × (index + suc up ≡ len))
+nth-up len index o within is = grind arith
+
+module _ (items : List Stored) (stored : All IsStored items) (back : ℕ) where
+  pub nth-missing : option_map (λ up. length items - 1 - up) (nth_live back (items_of items)) ≡ None → length (live (items_of items)) ≤ back
+  nth-missing is = nth-none back (items_of items) (none-map (λ up. length items - 1 - up) (nth_live back (items_of items)) is)
+
+  module _ (index : ℕ) (found : Some index ≡ option_map (λ up. length items - 1 - up) (nth_live back (items_of items))) where
+    pub nth-index : (up : ℕ) × ((nth_live back (items_of items) ≡ Some up) × (index + suc up ≡ length items))
+    nth-index = grind (arith, length-items_of, nth-up, nth-within)
+
+    pub nth-item : (x : Stored) → x ≡ get_or items index x → slice_get (items_of items) nth-index.0 ≡ Some (item_of x)
+    nth-item x is = slice_get_nearest item_of items index nth-index.0 x nth-index.1.1 ∙ ap (λ y. Some (item_of y)) (sym is)
+
+    pub nth-there : (x : Stored) → x ≡ get_or items index x → is_gone x ≡ false
+    nth-there x is =
+        let within : index < length items = omega (arith, nth-index.1.1) in
+        sym (gone-is x (subst IsStored (sym is) (stored index x within))) ∙ nth-real back nth-index.0 (items_of items) nth-index.1.0 (item_of x) (nth-item x is)
+
+pub changed-marker : (up node : ℕ) (items : List (Listed ℕ)) → slice_get items up ≡ Some marker → changed_at up (for_node node) items ≡ items
+changed-marker up node [] is = refl
+changed-marker zero node (i ∷ items) is = ap (λ (j : Listed ℕ). for_node node j ∷ items) (let same : i ≡ marker = cc in same) ∙ ap (λ (j : Listed ℕ). j ∷ items) (let same : marker ≡ i = cc in same)
+changed-marker (suc up) node (i ∷ items) is = ap (λ xs. i ∷ xs) (changed-marker up node items is)
+
+-- what belongs to no entry, and is no hole, is a marker
+pub marker-is : (x : Stored) → is_gone x ≡ false → is_some (told x) ≡ false → item_of x ≡ marker
+marker-is x there h = grind arith
+
+pub length-live-le : (xs : List (Listed ℕ)) → length (live xs) ≤ length xs
+length-live-le [] = omega arith
+length-live-le (x ∷ xs) = grind (arith, length-live-le xs)

@@ -1,0 +1,206 @@
+-- Exchanges of neighbours in a list and what a run of them does; an entry that becomes that of another node, and where an entry
+-- is among the others.
+use Rattle.hopen.proofs.Names.{◌≡◌, ℕ, zero, suc, ◌+◌, ◌-◌, ◌<◌, ◌≤◌, ◌==◌, ◌⊎◌, inl, Bool, true, false, IsTrue, cond, eqb, List, [], ◌∷◌, ◌++◌, Option, Some, is_some, length, get_or, set, take, drop, map, reverse, refl, sym, ◌∙◌, ap, arith, subst, max, All, insert, list_any, position, remove, eqb-zero-suc, append_assoc, drop-set-lt, get_or-map, get_or-reverse, get_or-set_other, length-append, length-map, length-reverse, length-set, length-take-le, map-set, reverse-append, All-get_or, All-head, All-set, All-tail, last_up, none, EntryOf, for_node, is_entry, IsStored, entry_is, is_gone, item_of, items_of, nowhere, renamed, told, DefaultHasher, IsListed, by_hash, by_name, by_node, number_by, numbers_by, changed_at, put_before, last_place, Stored, Slots, reverse-map, set_nearest, last_place-le, nat_tests, get_or-set_same, set-get_or, set-set, set_split, take-set, insert_nearest, position_nearest, position-none, position-some}
+use Rattle.hopen.specs.declared.entry.Slot.TheVariants as stored
+use Rattle.hopen.proofs.Chained.{last-is}
+use Rattle.hopen.proofs.ItemLists.{not_missing}
+use Rattle.hopen.proofs.Listed.{number-same}
+
+-- the members at an index and at the next one in each other's place
+abbrev pub exchanged : {X : Type 0} → List X → ℕ → X → List X
+exchanged xs i d = set (set xs i (get_or xs (i + 1) d)) (i + 1) (get_or xs i d)
+
+abbrev exchanged_suc : {X : Type 0} → List X → ℕ → X → List X
+exchanged_suc xs i d = set (set xs i (get_or xs (suc i) d)) (suc i) (get_or xs i d)
+
+module _ {X : Type 0} where
+  suc-is : (xs : List X) (i : ℕ) (d : X) → exchanged xs i d ≡ exchanged_suc xs i d
+  suc-is xs i d = let one : i + 1 ≡ suc i = omega arith in ap (λ n. set (set xs i (get_or xs n d)) n (get_or xs i d)) one
+
+  up_suc : (ys : List X) (i : ℕ) (x d : X) → i < length ys → exchanged_suc (insert ys i x) i d ≡ insert ys (suc i) x
+  up_suc [] i x d h = absurd (omega arith)
+  up_suc (y ∷ ys) zero x d h = refl
+  up_suc (y ∷ ys) (suc i) x d h = ap (λ l. y ∷ l) (up_suc ys i x d (omega arith))
+
+  down_suc : (ys : List X) (i : ℕ) (x d : X) → i < length ys → exchanged_suc (insert ys (suc i) x) i d ≡ insert ys i x
+  down_suc [] i x d h = absurd (omega arith)
+  down_suc (y ∷ ys) zero x d h = refl
+  down_suc (y ∷ ys) (suc i) x d h = ap (λ l. y ∷ l) (down_suc ys i x d (omega arith))
+
+  -- a member that was put in goes one up, or one down
+  pub exchanged-up : (ys : List X) (i : ℕ) (x d : X) → i < length ys → exchanged (insert ys i x) i d ≡ insert ys (i + 1) x
+  exchanged-up ys i x d h = let one : suc i ≡ i + 1 = omega arith in suc-is (insert ys i x) i d ∙ up_suc ys i x d h ∙ ap (λ n. insert ys n x) one
+
+  pub exchanged-down : (ys : List X) (i : ℕ) (x d : X) → i < length ys → exchanged (insert ys (i + 1) x) i d ≡ insert ys i x
+  exchanged-down ys i x d h = let one : i + 1 ≡ suc i = omega arith in ap (λ n. exchanged (insert ys n x) i d) one ∙ suc-is (insert ys (suc i) x) i d ∙ down_suc ys i x d h
+
+  -- a member that is taken out and put back
+  pub insert-remove : (xs : List X) (i : ℕ) (d : X) → i < length xs → insert (remove xs i) i (get_or xs i d) ≡ xs
+  insert-remove [] i d h = absurd (omega arith)
+  insert-remove (x ∷ xs) zero d h = refl
+  insert-remove (x ∷ xs) (suc i) d h = ap (λ l. x ∷ l) (insert-remove xs i d (omega arith))
+
+  pub length-exchanged : (xs : List X) (i : ℕ) (d : X) → length (exchanged xs i d) ≡ length xs
+  length-exchanged xs i d = length-set (set xs i (get_or xs (i + 1) d)) (i + 1) (get_or xs i d) ∙ length-set xs i (get_or xs (i + 1) d)
+
+  pub map-exchanged : {Y : Type 0} (f : X → Y) (xs : List X) (i : ℕ) (d : X) (e : Y) → i + 1 < length xs → map f (exchanged xs i d) ≡ exchanged (map f xs) i e
+  map-exchanged f xs i d e h = grind (arith, map-set, get_or-map)
+
+  pub All-exchanged : (P : X → Type 0) (xs : List X) (i : ℕ) (d : X) → i + 1 < length xs → All P xs → All P (exchanged xs i d)
+  All-exchanged P xs i d h all =
+      All-set P (set xs i (get_or xs (i + 1) d)) (i + 1) (get_or xs i d) (All-get_or P xs i d (omega arith) all) (All-set P xs i (get_or xs (i + 1) d) (All-get_or P xs (i + 1) d h all) all)
+
+  pub exchanged-above : (xs : List X) (i k : ℕ) (d x : X) → i + 2 ≤ k → get_or (exchanged xs i d) k x ≡ get_or xs k x
+  exchanged-above xs i k d x h = grind (arith, get_or-set_other)
+
+-- the numbers of the items, where all is exchanged alike
+pub numbers-exchanged : (of : EntryOf ℕ → ℕ) (items : List Stored) (numbers : List ℕ) (i : ℕ) (d : Stored) → i + 1 < length items → numbers ≡ numbers_by of items
+    → exchanged numbers i 0 ≡ numbers_by of (exchanged items i d)
+numbers-exchanged of items numbers i d h are = ap (λ ns. exchanged ns i 0) are ∙ sym (map-exchanged (λ x. number_by of (item_of x)) items i d 0 h)
+
+-- no hole from an index on
+abbrev pub NoHoleFrom : ℕ → List Stored → Type 0
+NoHoleFrom from items = (i : ℕ) → from ≤ i → i < length items → (x : Stored) → is_gone (get_or items i x) ≡ false
+
+pub solid-exchanged : (items : List Stored) (solid i : ℕ) (d : Stored) → NoHoleFrom solid items → NoHoleFrom (max solid (i + 2)) (exchanged items i d)
+solid-exchanged items solid i d all k h l x = ap is_gone (exchanged-above items i k d x (omega arith)) ∙ all k (omega arith) (omega (arith, length-exchanged items i d)) x
+
+-- an entry that becomes that of another node
+module _ (node : ℕ) where
+  renamed-name : (x : Stored) → number_by by_name (item_of (renamed node x)) ≡ number_by by_name (item_of x)
+  renamed-name x = grind arith
+
+  renamed-hash : (keys : Option DefaultHasher) (x : Stored) → number_by (by_hash keys) (item_of (renamed node x)) ≡ number_by (by_hash keys) (item_of x)
+  renamed-hash keys x = grind arith
+
+  renamed-node : (x : Stored) → is_some (told x) ≡ true → IsStored x → number_by by_node (item_of (renamed node x)) ≡ suc (suc node)
+  renamed-node x some is = grind (arith, nat_tests)
+
+  renamed-gone : (x : Stored) → is_gone (renamed node x) ≡ is_gone x
+  renamed-gone x = grind arith
+
+  renamed-stored : (x : Stored) → node < nowhere → IsStored x → IsStored (renamed node x)
+  renamed-stored x low is = grind arith
+
+  pub renamed-item : (x : Stored) → is_some (told x) ≡ true → item_of (renamed node x) ≡ for_node node (item_of x)
+  renamed-item x some = grind arith
+
+  -- a write that leaves what a member is seen as
+  map-set_same : {X Y : Type 0} (f : X → Y) (xs : List X) (i : ℕ) (d y : X) → i < length xs → f y ≡ f (get_or xs i d) → map f (set xs i y) ≡ map f xs
+  map-set_same f xs i d y h same = map-set f xs i y ∙ ap (set (map f xs) i) (same ∙ sym (get_or-map f xs i d (f d) h)) ∙ set-get_or (map f xs) i (f d)
+
+  module _ (items : List Stored) (i : ℕ) (h : i < length items) (some : is_some (told (get_or items i stored.Hole)) ≡ true) where
+    abbrev there : Stored
+    there = get_or items i stored.Hole
+
+    abbrev now : List Stored
+    now = set items i (renamed node there)
+
+    same-by : {Y : Type 0} (f : Stored → Y) → f (renamed node there) ≡ f there → map f now ≡ map f items
+    same-by f same = map-set_same f items i stored.Hole (renamed node there) h same
+
+    renewed-solid : (solid : ℕ) → NoHoleFrom solid items → NoHoleFrom solid now
+    renewed-solid solid all k from l x =
+        let within : k < length items = omega (arith, length-set items i (renamed node there)) in
+        sym (get_or-map is_gone now k x true l) ∙ ap (λ bs. get_or bs k true) (same-by is_gone (renamed-gone there)) ∙ get_or-map is_gone items k x true within ∙ all k from within x
+
+    -- its place in the list, as that is seen from the last item on
+    pub renewed-items : items_of now ≡ changed_at (length items - 1 - i) (for_node node) (items_of items)
+    renewed-items = set_nearest item_of (for_node node) items i (length items - 1 - i) stored.Hole (renamed node there) (omega arith) (renamed-item there some)
+
+-- what is kept of the list stays so
+pub listed-renewed : (node i : ℕ) (old new : Slots) → IsListed old → new.keys ≡ old.keys → i < length old.items.items → is_some (told (get_or old.items.items i stored.Hole)) ≡ true → node < nowhere
+    → new.names ≡ old.names → new.hashes ≡ old.hashes → new.nodes ≡ set (set old.nodes i none) i (suc (suc node)) → new.solid ≡ old.solid
+    → new.items.items ≡ set old.items.items i (renamed node (get_or old.items.items i stored.Hole)) → IsListed new
+listed-renewed node i old new listed keys h some low names hashes nodes solid items =
+    let xs = old.items.items in
+    let x = get_or xs i stored.Hole in
+    let stored : IsStored x = All-get_or IsStored xs i stored.Hole h listed.stored in
+    let ns : set (set old.nodes i none) i (suc (suc node)) ≡ numbers_by by_node (set xs i (renamed node x)) =
+    set-set old.nodes i none (suc (suc node)) ∙ ap (λ l. set l i (suc (suc node))) listed.nodes ∙ ap (set (numbers_by by_node xs) i) (sym (renamed-node node x some stored))
+    ∙ sym (map-set (λ y. number_by by_node (item_of y)) xs i (renamed node x)) in
+    record {
+      names = names ∙ listed.names ∙ sym (same-by node xs i h some (λ y. number_by by_name (item_of y)) (renamed-name node x)) ∙ ap (numbers_by by_name) (sym items);
+      hashes = λ there. hashes ∙ listed.hashes (ap is_some (sym keys) ∙ there) ∙ sym (same-by node xs i h some (λ y. number_by (by_hash old.keys) (item_of y)) (renamed-hash node old.keys x))
+          ∙ (λ j. numbers_by (by_hash (sym keys j)) (sym items j));
+      nodes = nodes ∙ ns ∙ ap (numbers_by by_node) (sym items);
+      stored = subst (All IsStored) (sym items) (All-set IsStored xs i (renamed node x) (renamed-stored node x low stored) listed.stored);
+      within = omega (arith, solid, ap length items, length-set xs i (renamed node x), listed.within);
+      solid = subst (λ n. NoHoleFrom n new.items.items) (sym solid) (subst (NoHoleFrom old.solid) (sym items) (renewed-solid node xs i h some old.solid listed.solid));
+    }
+
+-- what is in one list and in that list without a member that is not sought
+module _ {X : Type 0} (sought : X → Bool) where
+  abbrev Around : (with' without' low : ℕ) → Type 0
+  Around with' without' low = ((with' ≡ without') × (without' ≤ low)) ⊎ ((with' ≡ suc without') × (low < without'))
+
+  around : (near far : List X) (x : X) → sought x ≡ false → Around (last_place sought (near ++ x ∷ far)) (last_place sought (near ++ far)) (length far)
+  around [] far x other = inl (rw other refl, last_place-le sought far)
+  around (y ∷ near) far x other = grind (arith, around near far x other, length-append)
+
+  reverse-set : (xs : List X) (i : ℕ) (d : X) → i < length xs → reverse (set xs i d) ≡ reverse (drop (suc i) xs) ++ d ∷ reverse (take i xs)
+  reverse-set xs i d h =
+      ap reverse (set_split xs i d h) ∙ reverse-append (take i xs) (d ∷ drop (suc i) xs) ∙ ap (λ l. l ++ reverse (take i xs)) (reverse-append (d ∷ []) (drop (suc i) xs))
+      ∙ append_assoc (reverse (drop (suc i) xs)) (d ∷ []) (reverse (take i xs))
+
+  -- the place without the member at an index, from that in a list where one that is not sought is there
+  pub record IsPlaceWithout (xs : List X) (i place : ℕ) : Type 0 where
+    pub below : place ≤ i → place ≡ last_place sought (reverse (remove xs i))
+    pub above : i < place → place - 1 ≡ last_place sought (reverse (remove xs i))
+
+  pub place-without : (xs : List X) (i place : ℕ) (d : X) → i < length xs → sought d ≡ false → place ≡ last_place sought (reverse (set xs i d)) → IsPlaceWithout xs i place
+  place-without xs i place d h other is = grind (arith, reverse-set, reverse-append, length-reverse, length-take-le, around)
+
+module _ (mark : ℕ) (low : mark < nowhere) where
+  -- whether a stored item is the entry of the mark
+  abbrev pub is_mark : Stored → Bool
+  is_mark x = is_entry mark (item_of x)
+
+  pub no-hole : is_mark stored.Hole ≡ false
+  no-hole = grind (arith, nat_tests)
+
+  node-same : (x : Stored) → IsStored x → eqb (number_by by_node (item_of x)) (suc (suc mark)) ≡ is_mark x
+  node-same stored.Hole is = number-same (λ e. e.node) mark (record { node = nowhere; name = nowhere; attrs = [] }) (eqb nowhere mark) (λ _. no-hole) refl
+  node-same stored.Marker is = eqb-zero-suc (suc mark)
+  node-same (stored.Entry e) is = number-same (λ x. x.node) mark (entry_is e) (eqb e.node mark) (λ gone. absurd (omega (arith, gone, is.1))) refl
+
+  place-node : (xs : List Stored) → All IsStored xs → last_place (λ k. k == suc (suc mark)) (map (λ x. number_by by_node (item_of x)) xs) ≡ last_place is_mark xs
+  place-node [] all = refl
+  place-node (x ∷ xs) all = λ k. cond (node-same x (All-head IsStored x xs all) k) (suc (length-map xs (λ y. number_by by_node (item_of y)) k)) (place-node xs (All-tail IsStored x xs all) k)
+
+  All-turned : (xs : List Stored) → All IsStored xs → All IsStored (reverse xs)
+  All-turned xs all k d l = let h : k < length xs = omega (arith, length-reverse xs) in subst IsStored (sym (get_or-reverse xs k d h)) (all (length xs - 1 - k) d (omega arith))
+
+  -- what the numbers say, where that at an index is cleared
+  pub mark-place : (xs : List Stored) (ns : List ℕ) (i place : ℕ) → i < length xs → All IsStored xs → ns ≡ numbers_by by_node xs
+      → place ≡ last_up (λ k. k == suc (suc mark)) (set ns i none) (length (set ns i none)) → IsPlaceWithout is_mark xs i place
+  mark-place xs ns i place h all are is =
+      let cleared : set ns i none ≡ numbers_by by_node (set xs i stored.Hole) = ap (λ l. set l i none) are ∙ sym (map-set (λ x. number_by by_node (item_of x)) xs i stored.Hole) in
+      place-without is_mark xs i place stored.Hole h no-hole
+      (is ∙ ap (λ l. last_up (λ k. k == suc (suc mark)) l (length l)) cleared ∙ last-is (suc (suc mark)) (numbers_by by_node (set xs i stored.Hole))
+      ∙ ap (last_place (λ k. k == suc (suc mark))) (reverse-map (λ x. number_by by_node (item_of x)) (set xs i stored.Hole))
+      ∙ place-node (reverse (set xs i stored.Hole)) (All-turned (set xs i stored.Hole) (All-set IsStored xs i stored.Hole tt all)))
+
+-- an item that is put right after the entry of the mark
+pub insert-after : (mark : ℕ) (rest : List Stored) (y : Stored) (to : ℕ) → to ≡ last_place (λ x. is_entry mark (item_of x)) (reverse rest) → IsTrue (list_any (is_entry mark) (items_of rest))
+    → items_of (insert rest to y) ≡ put_before (is_entry mark) (item_of y) (items_of rest)
+insert-after mark rest y zero is there =
+    absurd (not_missing mark rest there (position_nearest item_of (is_entry mark) rest ∙ position-none (λ x. is_entry mark (item_of x)) (reverse rest) (sym is)))
+insert-after mark rest y (suc i) is there =
+    let found : position (is_entry mark) (items_of rest) ≡ Some (length (reverse rest) - 1 - i) = position_nearest item_of (is_entry mark) rest ∙ position-some (λ x. is_entry mark (item_of x)) (reverse rest) i (sym is) in
+    let next : suc i ≡ i + 1 = omega arith in
+    ap (λ n. items_of (insert rest n y)) next
+    ∙ insert_nearest item_of (is_entry mark) rest i (length (reverse rest) - 1 - i) y found (omega (arith, length-reverse rest, last_place-le (λ x. is_entry mark (item_of x)) (reverse rest)))
+
+-- a write where the member is taken out
+pub remove-set : {X : Type 0} (xs : List X) (i : ℕ) (y : X) → remove (set xs i y) i ≡ remove xs i
+remove-set xs i y = ap (λ l. l ++ drop (suc i) (set xs i y)) (take-set xs i y) ∙ ap (λ l. take i xs ++ l) (drop-set-lt (suc i) xs i y (omega arith))
+
+-- an entry that becomes that of another node, and is put right after the entry of the mark
+pub moved-after : (node mark : ℕ) (items : List Stored) (i to : ℕ) (y : Stored) → i < length items → is_some (told (get_or items i stored.Hole)) ≡ true → y ≡ renamed node (get_or items i stored.Hole)
+    → to ≡ last_place (λ x. is_entry mark (item_of x)) (reverse (remove items i)) → IsTrue (list_any (is_entry mark) (items_of (remove items i)))
+    → items_of (insert (remove (set items i y) i) to (get_or (set items i y) i stored.Hole)) ≡ put_before (is_entry mark) (for_node node (item_of (get_or items i stored.Hole))) (items_of (remove items i))
+moved-after node mark items i to y within entry new is there =
+    ap items_of (ap (λ l. insert l to (get_or (set items i y) i stored.Hole)) (remove-set items i y) ∙ ap (insert (remove items i) to) (get_or-set_same items i y stored.Hole within ∙ new))
+    ∙ insert-after mark (remove items i) (renamed node (get_or items i stored.Hole)) to is there
+    ∙ ap (λ x. put_before (is_entry mark) x (items_of (remove items i))) (renamed-item node (get_or items i stored.Hole) entry)

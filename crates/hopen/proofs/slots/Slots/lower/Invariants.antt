@@ -1,0 +1,16 @@
+use Rattle.hopen.proofs.Names.{◌≡◌, ◌≤◌, get_or, insert, remove, IsListed}
+use Rattle.hopen.specs.declared.entry.Slot.TheVariants as stored
+use Rattle.hopen.proofs.slots.Slots.lower.Given as goal
+
+-- the item that moves is at the index
+abbrev pub invariant-loop-index : goal.invariant-loop-index
+invariant-loop-index l =
+    record {
+      listed : IsListed l.self;
+      below : l.index ≤ l.fn.from;
+      above : l.fn.to ≤ l.index;
+      moved : l.self.items.items ≡ insert (remove l.fn.self.items.items l.fn.from) l.index (get_or l.fn.self.items.items l.fn.from stored.Hole);
+    }
+
+abbrev pub decreases-loop-index : goal.decreases-loop-index
+decreases-loop-index l = l.index

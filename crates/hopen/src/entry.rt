@@ -1,0 +1,84 @@
+//! Entries of the list of active formatting elements, and markers (HTML Standard, `#the-list-of-active-formatting-elements`).
+
+ghost use Rattle.std.specs.Prelude.{◌≡◌, IfOk, map, nat_eq, false};
+ghost use Rattle.std.specs.Option.{option_map, option_map_or};
+ghost use Rattle.hopen.specs.Vocabulary.{attribute_of, entry_is, is_equal, is_gone, renamed, told};
+
+use crate::attributes::are_same;
+use hnodes::{Attributes, NodeId};
+use names::{Attr, NameId};
+use std::alloc::{AllocError, Global};
+
+/// An entry: its node, and the name and the attributes of the token that the node was made for.
+#[derive(Debug, Drop)]
+pub struct Entry {
+    pub node: NodeId,
+    pub name: NameId,
+    pub attrs: Attributes,
+}
+
+/// A marker or an entry, or the hole that an entry left.
+#[derive(Drop)]
+pub(crate) enum Slot {
+    Hole,
+    Marker,
+    Entry(Entry),
+}
+
+impl Entry {
+    /// A copy, which shares the attributes.
+    pub fn copy(&self) -> Result<Self, AllocError>
+        ensures { IfOk result (λ copy. entry_is copy ≡ entry_is self.now) }
+    {
+        Ok(Entry {
+            node: self.node,
+            name: self.name,
+            attrs: self.attrs.share()?,
+        })
+    }
+}
+
+impl Slot {
+    /// The entry, if it is one.
+    pub(crate) fn entry(&self) -> Option<&Entry>
+        ensures { option_map (λ e. entry_is e.now) result ≡ told self.now }
+    {
+        match self {
+            Slot::Hole | Slot::Marker => None,
+            Slot::Entry(entry) => Some(entry),
+        }
+    }
+
+    /// Whether it is a hole.
+    pub(crate) fn is_hole(&self) -> bool
+        ensures { result ≡ is_gone self.now }
+    {
+        matches!(self, Slot::Hole)
+    }
+
+    /// Whether it is an entry that was made for an equal token: with the same name, and the same attributes in whatever order.
+    pub(crate) fn is_equal(
+        &self,
+        alloc: Global,
+        name: NameId,
+        attrs: &[Attr],
+    ) -> Result<bool, AllocError>
+        // whatever the new entry's node
+        ensures { IfOk result (λ equal. equal
+            ≡ option_map_or (is_equal nat_eq (record { node = 0; name = name; attrs = map attribute_of attrs.now })) (told self.now) false) }
+    {
+        let Slot::Entry(entry) = self else {
+            return Ok(false);
+        };
+        Ok(name == entry.name && are_same(alloc, attrs, entry.attrs.as_slice())?)
+    }
+
+    /// Sets the node of an entry; does nothing to a marker or a hole.
+    pub(crate) fn set_node(&mut self, node: NodeId)
+        ensures { self.new ≡ renamed node self.old }
+    {
+        if let Slot::Entry(entry) = self {
+            entry.node = node;
+        }
+    }
+}

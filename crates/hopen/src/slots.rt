@@ -1,0 +1,373 @@
+//! The items of the list of active formatting elements, with the holes that entries leave: nothing moves where one is removed.
+
+ghost use Rattle.std.specs.Prelude.{◌≡◌, ◌≢◌, ℕ, suc, ◌+◌, ◌-◌, ◌<◌, ◌≤◌, ◌++◌, ◌∷◌, [], IfOk, IfSome, OnOk, OnErr, IsTrue, is_some, true, false, insert};
+ghost use Rattle.std.specs.Prelude.{length, map, nat_eq, not, remove, slice_index_or, slice_set, filter, take, drop};
+ghost use Rattle.std.specs.List.{All, list_any};
+ghost use Rattle.std.specs.Option.{option_map_or};
+ghost use Rattle.hnodes.specs.Chains.{none};
+ghost use Rattle.hnodes.specs.Nearest.{changed_at, put_before};
+ghost use Rattle.hopen.specs.Vocabulary.{attribute_of, by_hash, by_name, by_node, entry_hash, for_node, is_entry, is_gone, item_of, items_of, number_by, numbers_by};
+ghost use Rattle.hopen.specs.Vocabulary.{told, with_room, IsListed, IsStored};
+ghost use Rattle.hopen.specs.declared.entry.Slot.TheVariants as stored;
+
+use crate::entry::Slot;
+use crate::hashes::find_hash;
+use hnodes::{Chains, NodeId, name_number};
+use names::{Attr, Keys, NameId};
+use std::alloc::{AllocError, Global};
+
+/// How many equal entries there may be after the last marker, by the Noah's Ark clause.
+const MOST_EQUAL: usize = 3;
+
+/// So many items are passed one by one, and so many entries of a name are compared one by one, with so many attributes each.
+pub(crate) const FEW: usize = 8;
+
+/// The number of markers, in each list of numbers.
+pub(crate) const MARKER: usize = 0;
+
+/// The number of the entry of a node.
+pub(crate) fn node_number(node: NodeId) -> usize
+    ensures { result ≡ suc (suc node) }
+{
+    node.index() + 2
+}
+
+/// The numbers of an item: those of its name, its hash and its node.
+#[derive(Clone, Copy)]
+pub(crate) struct Numbers {
+    pub(crate) name: usize,
+    pub(crate) hash: usize,
+    pub(crate) node: usize,
+}
+
+/// Items, and where each of their numbers is last.
+#[derive(Drop)]
+pub(crate) struct Slots {
+    pub(crate) items: Vec<Slot>,
+    pub(crate) names: Chains,
+    /// Kept only where there are keys.
+    pub(crate) hashes: Chains,
+    pub(crate) nodes: Chains,
+    /// The keys of the hashes; `None` while no name has many entries, and then the name is the hash.
+    pub(crate) keys: Option<Keys>,
+    /// From this index on there is no hole.
+    pub(crate) solid: usize,
+}
+
+/// Adds the numbers of the hash, where hashes are kept, and of the node of an item that comes after this many. On an error nothing
+/// changes.
+#[inline(always)]
+fn push_numbers(
+    hashes: &mut Chains,
+    nodes: &mut Chains,
+    hashed: bool,
+    numbers: Numbers,
+    len: usize,
+) -> Result<(), AllocError>
+    requires hash { numbers.hash ≢ none }
+    requires node { numbers.node ≢ none }
+    requires len { length nodes.old ≡ len }
+    ensures hashes { OnOk result (hashed ≡ true → hashes.new ≡ hashes.old ++ numbers.hash ∷ []) }
+    ensures nodes { OnOk result (nodes.new ≡ nodes.old ++ numbers.node ∷ []) }
+    ensures same_hashes { OnErr result (hashes.new ≡ hashes.old) }
+    ensures same_nodes { OnErr result (nodes.new ≡ nodes.old) }
+{
+    nodes.push(numbers.node)?;
+    if !hashed {
+        return Ok(());
+    }
+    if let Err(error) = hashes.push(numbers.hash) {
+        nodes.truncate(len);
+        return Err(error);
+    }
+    Ok(())
+}
+
+impl Slots {
+    pub(crate) fn new(alloc: Global) -> Self
+        ensures items { result.items.items ≡ [] }
+        ensures listed { IsListed result }
+    {
+        Slots {
+            items: Vec::new(alloc),
+            names: Chains::new(alloc),
+            hashes: Chains::new(alloc),
+            nodes: Chains::new(alloc),
+            keys: None,
+            solid: 0,
+        }
+    }
+
+    /// Whether there are more entries of a name after the last marker than are compared one by one, or such with many attributes.
+    fn is_crowded(&self, name: NameId) -> bool
+        requires { IsListed self.now }
+    {
+        let marker = self.names.last(MARKER);
+        let mut place = self.names.last(name_number(name));
+        for _ in 0..FEW {
+            if place <= marker {
+                return false;
+            }
+            match self.items.get(place - 1) {
+                Some(Slot::Entry(entry)) if entry.attrs.as_slice().len() <= FEW => {}
+                _ => return true,
+            }
+            place = self.names.before(place);
+        }
+        place > marker
+    }
+
+    /// Before an entry of a name comes: if that name has many, hashes the entries from now on. On an error nothing changes.
+    pub(crate) fn hash_if_crowded(
+        &mut self,
+        alloc: Global,
+        keys: &Keys,
+        name: NameId,
+    ) -> Result<(), AllocError>
+        requires listed { IsListed self.old }
+        ensures listed { IsListed self.new }
+        ensures items { self.new.items.items ≡ self.old.items.items }
+    {
+        if self.keys.is_none() && self.is_crowded(name) {
+            self.hashes = hash_items(alloc, Some(*keys), &self.items)?;
+            self.keys = Some(*keys);
+        }
+        Ok(())
+    }
+
+    /// Where the hash of each item is.
+    fn by_hash(&self) -> &Chains
+        requires { IsListed self.now }
+        ensures { result.now ≡ numbers_by (by_hash self.now.keys) self.now.items.items }
+    {
+        match self.keys {
+            Some(_) => &self.hashes,
+            None => &self.names,
+        }
+    }
+
+    /// The Noah's Ark clause: how many items come after the entry that gives way to a new one, the earliest of the equal entries after the
+    /// last marker, if there are three. Equal entries have the same hash.
+    pub(crate) fn giving_way(
+        &self,
+        alloc: Global,
+        number: usize,
+        name: NameId,
+        attrs: &[Attr],
+    ) -> Result<Option<usize>, AllocError>
+        requires listed { IsListed self.now }
+        requires number { number ≡ suc (suc (entry_hash self.now.keys (record { node = 0; name = name; attrs = map attribute_of attrs.now }))) }
+        ensures within { IfOk result (λ earliest. IfSome earliest (λ back. back < length self.now.items.items)) }
+        ensures room { IfOk result (λ earliest. option_map_or (remove (items_of self.now.items.items)) earliest (items_of self.now.items.items)
+            ≡ with_room nat_eq (record { node = 0; name = name; attrs = map attribute_of attrs.now }) (items_of self.now.items.items)) }
+    {
+        let hashes = self.by_hash();
+        let marker = hashes.last(MARKER);
+        let mut place = hashes.last(number);
+        let mut equal = 0;
+        let mut earliest = None;
+        while place > marker {
+            if self.items[place - 1].is_equal(alloc, name, attrs)? {
+                equal += 1;
+                earliest = Some(self.items.len() - place);
+            }
+            place = hashes.before(place);
+        }
+        Ok(if equal < MOST_EQUAL { None } else { earliest })
+    }
+
+    /// Adds an item at the end. On an error no item changes.
+    #[inline(always)]
+    pub(crate) fn put(&mut self, item: Slot, numbers: Numbers) -> Result<(), AllocError>
+        requires listed { IsListed self.old }
+        requires stored { IsStored item }
+        requires there { is_gone item ≡ false }
+        requires name { numbers.name ≡ number_by by_name (item_of item) }
+        requires hash { numbers.hash ≡ number_by (by_hash self.old.keys) (item_of item) }
+        requires node { numbers.node ≡ number_by by_node (item_of item) }
+        ensures listed { IsListed self.new }
+        ensures ok { OnOk result (self.new.items.items ≡ self.old.items.items ++ item ∷ []) }
+        ensures err { OnErr result (self.new.items.items ≡ self.old.items.items) }
+    {
+        let len = self.items.len();
+        let hashed = self.keys.is_some();
+        self.items.push(item)?;
+        if let Err(error) = self.names.push(numbers.name) {
+            self.items.truncate(len);
+            return Err(error);
+        }
+        if let Err(error) = push_numbers(&mut self.hashes, &mut self.nodes, hashed, numbers, len) {
+            self.names.truncate(len);
+            self.items.truncate(len);
+            return Err(error);
+        }
+        Ok(())
+    }
+
+    /// Keeps the first `len` items.
+    pub(crate) fn truncate(&mut self, len: usize)
+        requires listed { IsListed self.old }
+        requires within { len ≤ length self.old.items.items }
+        ensures listed { IsListed self.new }
+        ensures items { self.new.items.items ≡ take len self.old.items.items }
+    {
+        if self.keys.is_some() {
+            self.hashes.truncate(len);
+        }
+        self.names.truncate(len);
+        self.nodes.truncate(len);
+        self.items.truncate(len);
+        self.solid = self.solid.min(len);
+    }
+
+    /// Leaves a hole at an index.
+    pub(crate) fn hide(&mut self, index: usize)
+        requires listed { IsListed self.old }
+        requires within { index < length self.old.items.items }
+        ensures listed { IsListed self.new }
+        ensures items { self.new.items.items ≡ slice_set self.old.items.items index stored.Hole }
+    {
+        if self.keys.is_some() {
+            self.hashes.clear(index);
+        }
+        self.names.clear(index);
+        self.nodes.clear(index);
+        self.items[index] = Slot::Hole;
+        self.solid = self.solid.max(index + 1);
+    }
+
+    /// Sets the node of the entry at an index.
+    #[inline(always)]
+    pub(crate) fn renew(&mut self, index: usize, node: NodeId)
+        requires listed { IsListed self.old }
+        requires within { index < length self.old.items.items }
+        requires entry { is_some (told (slice_index_or self.old.items.items index stored.Hole)) ≡ true }
+        ensures listed { IsListed self.new }
+        ensures items { items_of self.new.items.items ≡ changed_at (length self.old.items.items - 1 - index) (for_node node) (items_of self.old.items.items) }
+    {
+        self.nodes.clear(index);
+        self.nodes.set(index, node_number(node));
+        self.items[index].set_node(node);
+    }
+
+    /// Exchanges the items at an index and at the next one.
+    fn swap(&mut self, index: usize)
+        requires listed { IsListed self.old }
+        requires within { index + 1 < length self.old.items.items }
+        ensures listed { IsListed self.new }
+        ensures items { self.new.items.items
+            ≡ slice_set (slice_set self.old.items.items index (slice_index_or self.old.items.items (index + 1) stored.Hole))
+            (index + 1) (slice_index_or self.old.items.items index stored.Hole) }
+    {
+        if self.keys.is_some() {
+            self.hashes.swap(index);
+        }
+        self.names.swap(index);
+        self.nodes.swap(index);
+        self.items.swap(index, index + 1);
+        self.solid = self.solid.max(index + 2);
+    }
+
+    /// Moves an item up to a greater index.
+    fn raise(&mut self, from: usize, to: usize)
+        requires listed { IsListed self.old }
+        requires from { from ≤ to }
+        requires to { to < length self.old.items.items }
+        ensures listed { IsListed self.new }
+        ensures items { self.new.items.items ≡ insert (remove self.old.items.items from) to (slice_index_or self.old.items.items from stored.Hole) }
+    {
+        for index in from..to {
+            self.swap(index);
+        }
+    }
+
+    /// Moves an item down to a smaller index.
+    fn lower(&mut self, from: usize, to: usize)
+        requires listed { IsListed self.old }
+        requires from { from < length self.old.items.items }
+        requires to { to ≤ from }
+        ensures listed { IsListed self.new }
+        ensures items { self.new.items.items ≡ insert (remove self.old.items.items from) to (slice_index_or self.old.items.items from stored.Hole) }
+    {
+        let mut index = from;
+        while index > to {
+            index -= 1;
+            self.swap(index);
+        }
+    }
+
+    /// Sets the node of the entry at an index, and moves it right after the entry of another node.
+    pub(crate) fn move_after(&mut self, index: usize, node: NodeId, mark: NodeId)
+        requires listed { IsListed self.old }
+        requires within { index < length self.old.items.items }
+        requires entry { is_some (told (slice_index_or self.old.items.items index stored.Hole)) ≡ true }
+        requires mark { IsTrue (list_any (is_entry mark) (items_of (remove self.old.items.items index))) }
+        ensures listed { IsListed self.new }
+        ensures items { items_of self.new.items.items
+            ≡ put_before (is_entry mark) (for_node node (item_of (slice_index_or self.old.items.items index stored.Hole)))
+            (items_of (remove self.old.items.items index)) }
+    {
+        self.nodes.clear(index);
+        let place = self.nodes.last(node_number(mark));
+        self.nodes.set(index, node_number(node));
+        self.items[index].set_node(node);
+        if place <= index {
+            self.lower(index, place);
+        } else {
+            self.raise(index, place - 1);
+        }
+    }
+
+    /// Takes the holes from an index on out.
+    pub(crate) fn close(&mut self, from: usize)
+        requires listed { IsListed self.old }
+        requires within { from ≤ length self.old.items.items }
+        ensures listed { IsListed self.new }
+        ensures items { self.new.items.items ≡ take from self.old.items.items ++ filter (λ i. not (is_gone i)) (drop from self.old.items.items) }
+    {
+        if self.keys.is_some() {
+            self.hashes.compact(from);
+        }
+        self.names.compact(from);
+        self.nodes.compact(from);
+        take_holes(&mut self.items, from);
+        self.solid = from;
+    }
+}
+
+/// The numbers of the hashes of items.
+#[inline(never)]
+fn hash_items(alloc: Global, keys: Option<Keys>, items: &[Slot]) -> Result<Chains, AllocError>
+    requires { All IsStored items.now }
+    ensures { IfOk result (λ hashes. hashes ≡ numbers_by (by_hash keys) items.now) }
+{
+    let mut hashes = Chains::new(alloc);
+    for index in 0..items.len() {
+        match &items[index] {
+            Slot::Entry(entry) => {
+                hashes.push(find_hash(alloc, keys, entry.name, entry.attrs.as_slice())?)?;
+            }
+            Slot::Marker => hashes.push(MARKER)?,
+            Slot::Hole => {
+                hashes.push(MARKER)?;
+                hashes.clear(index);
+            }
+        }
+    }
+    Ok(hashes)
+}
+
+/// Takes the holes from an index on out.
+fn take_holes(items: &mut Vec<Slot>, from: usize)
+    requires { from ≤ length items.old.items }
+    ensures { items.new.items ≡ take from items.old.items ++ filter (λ i. not (is_gone i)) (drop from items.old.items) }
+{
+    let mut end = from;
+    for index in from..items.len() {
+        if !items[index].is_hole() {
+            items.swap(end, index);
+            end += 1;
+        }
+    }
+    items.truncate(end);
+}
