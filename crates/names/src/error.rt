@@ -1,6 +1,6 @@
 //! Parse errors.
 
-ghost use Rattle.std.specs.Prelude.{◌≡◌};
+ghost use Rattle.std.specs.Prelude.{◌≡◌, Some};
 ghost use Rattle.names.specs.Codes.{code_rank, code_text};
 
 use std::fmt;
@@ -133,6 +133,8 @@ impl ErrorCode {
 
 /// Its text.
 impl fmt::Debug for ErrorCode {
+    ghost debug_output = { λ code. Some (code_text code) };
+
     fn fmt<W: fmt::Write>(&self, f: &mut fmt::Formatter<W>) -> fmt::Result {
         f.write_str(self.text())
     }

@@ -160,6 +160,8 @@ impl fmt::Display for Refusal {
 
 /// As it is displayed.
 impl fmt::Debug for Refusal {
+    ghost debug_output = { λ refusal. Some (refusal_text refusal) };
+
     fn fmt<W: fmt::Write>(&self, f: &mut fmt::Formatter<W>) -> fmt::Result {
         fmt::Display::fmt(self, f)
     }

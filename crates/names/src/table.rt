@@ -105,6 +105,8 @@ fn slot_of(text: &str) -> usize
 pub struct Names {
     /// The names that are not known ones: a set, but the type says less than `IndexSet`, and a library that mentions a table carries all of it.
     others: IndexMap<String, (), Keys>,
+    /// The keys under which they are hashed.
+    hash_keys: Keys,
     /// In each slot the number that was found last for a text of it; such a text is found again without a hash.
     recent: [u32; SLOTS],
 }
@@ -112,15 +114,19 @@ pub struct Names {
 // Written out: a derived drop is read anew in the proof of each function that may drop a table.
 impl Drop for Names {
     fn drop(self) {
-        let Names { others, recent: _ } = self;
+        let Names {
+            others,
+            hash_keys: _,
+            recent: _,
+        } = self;
         drop(others);
     }
 }
 
 impl Model for Names {
-    ghost use Rattle.std.specs.Prelude.{ℕ, List, ◌++◌, map};
+    ghost use Rattle.std.specs.Prelude.{◌≡◌, ℕ, List, ◌++◌, map};
     ghost use Rattle.std.specs.String.{string_bytes};
-    ghost use Rattle.indexmap.specs.IndexMap.{keys};
+    ghost use Rattle.indexmap.specs.IndexMap.{hasher_of, keys};
     ghost use Rattle.names.specs.Table.{AreOthers};
     ghost use Rattle.names.specs.Tags.{known};
 
@@ -128,7 +134,7 @@ impl Model for Names {
 
     ghost view = { λ n. known ++ map string_bytes (keys n.others) };
 
-    ghost invariant = { λ n. AreOthers (keys n.others) };
+    ghost invariant = { λ n. AreOthers (keys n.others) × (hasher_of n.others ≡ n.hash_keys) };
 }
 
 impl Names {
@@ -139,6 +145,7 @@ impl Names {
     {
         Names {
             others: IndexMap::with_hasher(alloc, keys),
+            hash_keys: keys,
             recent: [0; SLOTS],
         }
     }

@@ -1,6 +1,6 @@
 //! The names of tags that the rules mention.
 
-ghost use Rattle.std.specs.Prelude.{◌≡◌};
+ghost use Rattle.std.specs.Prelude.{◌≡◌, Some};
 ghost use Rattle.names.specs.Tags.{tag_text};
 
 use std::fmt;
@@ -48,6 +48,8 @@ impl Tag {
 
 /// Its text.
 impl fmt::Debug for Tag {
+    ghost debug_output = { λ tag. Some (tag_text tag) };
+
     fn fmt<W: fmt::Write>(&self, f: &mut fmt::Formatter<W>) -> fmt::Result {
         f.write_str(self.text())
     }

@@ -9,7 +9,7 @@ returns-in-Some-clause-place c =
     sym (place_of_known (keys c.self.inside.others) c.args.text.now c.in-Some.index c.in-Some.ensures) ∙ ap (λ (names : Texts). position (bytes_eq c.args.text.now) names) c.self.view_is
 
 pub returns-in-Some-clause-names : goal.returns-in-Some-clause-names
-returns-in-Some-clause-names c = rw (← c.self.view_is) (are_names _ c.self.invariant)
+returns-in-Some-clause-names c = rw (← c.self.view_is) (are_names _ c.self.invariant.0)
 
 pub returns-in_err-index-clause-place : goal.returns-in_err-index-clause-place
 returns-in_err-index-clause-place c =
@@ -17,7 +17,7 @@ returns-in_err-index-clause-place c =
     ∙ sym (place_of_other (keys c.self.inside.others) c.args.text.now c.in_default.ensures) ∙ ap (λ (names : Texts). position (bytes_eq c.args.text.now) names) c.self.view_is
 
 pub returns-in_err-index-clause-names : goal.returns-in_err-index-clause-names
-returns-in_err-index-clause-names c = rw (← c.self.view_is) (are_names _ c.self.invariant)
+returns-in_err-index-clause-names c = rw (← c.self.view_is) (are_names _ c.self.invariant.0)
 
 pub returns-clause-place : goal.returns-clause-place
 returns-clause-place c =
@@ -25,4 +25,4 @@ returns-clause-place c =
     ∙ sym (place_of_other (keys c.self.inside.others) c.args.text.now c.in_default.ensures) ∙ ap (λ (names : Texts). position (bytes_eq c.args.text.now) names) c.self.view_is
 
 pub returns-clause-names : goal.returns-clause-names
-returns-clause-names c = rw (← c.self.view_is) (are_names _ c.self.invariant)
+returns-clause-names c = rw (← c.self.view_is) (are_names _ c.self.invariant.0)

@@ -10,7 +10,7 @@ pub returns-in-Some-clause-added : goal.returns-in-Some-clause-added
 returns-in-Some-clause-added c = interned-there c.args.self.now c.in-Some.id c.args.text.now (slice_get_within c.args.self.now c.in-Some.id c.args.text.now c.in-Some.ensures.found)
 
 pub returns-clause-names : goal.returns-clause-names
-returns-clause-names c = are_names _ c.self.invariant
+returns-clause-names c = are_names _ c.self.invariant.0
 
 pub returns-clause-grows : goal.returns-clause-grows
 returns-clause-grows c = (c.in_ok-id.ensures.grows.0, c.self.view_is ∙ c.in_ok-id.ensures.grows.1)

@@ -35,18 +35,19 @@ pub returns-in_err-from_str-in-None-clause-grows : goal.returns-in_err-from_str-
 returns-in_err-from_str-in-None-clause-grows c = grows_same _ _ c.self.view_is
 
 pub invariant_of-self-in_err-insert-in-None : goal.invariant_of-self-in_err-insert-in-None
-invariant_of-self-in_err-insert-in-None c = subst (λ (keys : List (String Global)). AreOthers keys) (sym (ap keys_of c.in_err-insert-in-None.ensures.err)) c.self.invariant
+invariant_of-self-in_err-insert-in-None c =
+    (subst (λ (keys : List (String Global)). AreOthers keys) (sym (ap keys_of c.in_err-insert-in-None.ensures.err)) c.self.invariant.0, c.insert.ensures.hasher ∙ c.self.invariant.1)
 
 pub returns-in_err-insert-in-None-clause-grows : goal.returns-in_err-insert-in-None-clause-grows
 returns-in_err-insert-in-None-clause-grows c = grows_same _ _ (ap (λ (keys : List (String Global)). known ++ map string_bytes keys) (ap keys_of c.in_err-insert-in-None.ensures.err) ∙ c.self.view_is)
 
 pub returns-in_err-from_str-in-None-clause-names : goal.returns-in_err-from_str-in-None-clause-names
-returns-in_err-from_str-in-None-clause-names c = are_names _ c.self.invariant
+returns-in_err-from_str-in-None-clause-names c = are_names _ c.self.invariant.0
 
 pub returns-in_err-insert-in-None-clause-names : goal.returns-in_err-insert-in-None-clause-names
 returns-in_err-insert-in-None-clause-names c =
     let P : List (String Global) → Type 0 = λ keys. AreNames (known ++ map string_bytes keys) in
-    subst P (sym (ap keys_of c.in_err-insert-in-None.ensures.err)) (are_names (keys c.self.inside.others) c.self.invariant)
+    subst P (sym (ap keys_of c.in_err-insert-in-None.ensures.err)) (are_names (keys c.self.inside.others) c.self.invariant.0)
 
 -- the others with the new one last
 grown_keys : (c : goal.In_ok-insert-in-None) → keys c.insert.new.self ≡ keys c.self.inside.others ++ c.in_ok-from_str-in-None.field-0 ∷ []
@@ -58,7 +59,7 @@ number : (c : goal.In_ok-insert-in-None) → c.in-Ok.index ≡ 128 + length (key
 number c = c.in-Ok.ensures.1 ∙ ap (λ n. 128 + n) (c.len.ensures.len ∙ sym (length-keys_of c.self.inside.others.entries))
 
 grown_others : (c : goal.In_ok-insert-in-None) → AreOthers (keys c.insert.new.self)
-grown_others c = others_grown (keys c.self.inside.others) _ _ c.self.invariant (let fits = c.in-Ok.ensures in omega (arith, fits, number c))
+grown_others c = others_grown (keys c.self.inside.others) _ _ c.self.invariant.0 (let fits = c.in-Ok.ensures in omega (arith, fits, number c))
     (ap (λ (text : List ℕ). list_any (bytes_eq text) known) c.in_ok-from_str-in-None.ensures.ok ∙ c.in_default.ensures) c.insert.ensures.unique (grown_keys c)
 
 grown_table : (c : goal.In_ok-insert-in-None) → known ++ map string_bytes (keys c.insert.new.self) ≡ c.args.self.now ++ c.args.text.now ∷ []
@@ -66,7 +67,7 @@ grown_table c = table_grown (keys c.self.inside.others) _ _ c.args.self.now c.se
     ∙ ap (λ (x : List ℕ). c.args.self.now ++ x ∷ []) c.in_ok-from_str-in-None.ensures.ok
 
 pub invariant_of-self-in-None : goal.invariant_of-self-in-None
-invariant_of-self-in-None c = grown_others c
+invariant_of-self-in-None c = (grown_others c, c.insert.ensures.hasher ∙ c.self.invariant.1)
 
 pub returns-in_ok-insert-in-None-clause-grows : goal.returns-in_ok-insert-in-None-clause-grows
 returns-in_ok-insert-in-None-clause-grows c = (c.args.text.now ∷ [], grown_table c)

@@ -10,7 +10,7 @@ returns-then-index-lt-KNOWN-clause-text c =
     ∙ ap (λ (names : Texts). slice_get names c.args.index) c.self.view_is
 
 pub returns-then-index-lt-KNOWN-clause-names : goal.returns-then-index-lt-KNOWN-clause-names
-returns-then-index-lt-KNOWN-clause-names c = rw (← c.self.view_is) (are_names _ c.self.invariant)
+returns-then-index-lt-KNOWN-clause-names c = rw (← c.self.view_is) (are_names _ c.self.invariant.0)
 
 pub returns-in_err-text-clause-text : goal.returns-in_err-text-clause-text
 returns-in_err-text-clause-text c =
@@ -18,7 +18,7 @@ returns-in_err-text-clause-text c =
     ∙ sym (other_at (keys c.self.inside.others) c.args.self.now c.args.index None c.self.view_is c.if-index-lt-KNOWN.false (key_at c.self.inside.others (c.args.index - 128) None c.in_err-text.ensures.entry))
 
 pub returns-in_err-text-clause-names : goal.returns-in_err-text-clause-names
-returns-in_err-text-clause-names c = rw (← c.self.view_is) (are_names _ c.self.invariant)
+returns-in_err-text-clause-names c = rw (← c.self.view_is) (are_names _ c.self.invariant.0)
 
 pub returns-clause-text : goal.returns-clause-text
 returns-clause-text c =
@@ -26,4 +26,4 @@ returns-clause-text c =
     ∙ sym (other_at (keys c.self.inside.others) c.args.self.now c.args.index (Some c.in_ok-text.text.now) c.self.view_is c.if-index-lt-KNOWN.false (key_at c.self.inside.others (c.args.index - 128) (Some (c.in_ok-text.text.now, c.in_ok-text.field-0-1.now)) c.in_ok-text.ensures.entry))
 
 pub returns-clause-names : goal.returns-clause-names
-returns-clause-names c = rw (← c.self.view_is) (are_names _ c.self.invariant)
+returns-clause-names c = rw (← c.self.view_is) (are_names _ c.self.invariant.0)
