@@ -1,7 +1,7 @@
 //! The items of the list of active formatting elements, with the holes that entries leave: nothing moves where one is removed.
 
 ghost use Rattle.std.specs.Prelude.{◌≡◌, ◌≢◌, ℕ, suc, ◌+◌, ◌-◌, ◌<◌, ◌≤◌, ◌++◌, ◌∷◌, [], IfOk, IfSome, OnOk, OnErr, IsTrue, is_some, true, false, insert};
-ghost use Rattle.std.specs.Prelude.{length, map, nat_eq, not, remove, slice_index_or, slice_set, filter, take, drop};
+ghost use Rattle.std.specs.Prelude.{◌⊎◌, Some, length, map, nat_eq, not, remove, slice_index_or, slice_set, filter, take, drop};
 ghost use Rattle.std.specs.List.{All, list_any};
 ghost use Rattle.std.specs.Option.{option_map_or};
 ghost use Rattle.hnodes.specs.Chains.{none};
@@ -127,6 +127,7 @@ impl Slots {
         requires listed { IsListed self.old }
         ensures listed { IsListed self.new }
         ensures items { self.new.items.items ≡ self.old.items.items }
+        ensures keys { (self.new.keys ≡ self.old.keys) ⊎ (self.new.keys ≡ Some keys.now) }
     {
         if self.keys.is_none() && self.is_crowded(name) {
             self.hashes = hash_items(alloc, Some(*keys), &self.items)?;
