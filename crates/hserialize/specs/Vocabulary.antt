@@ -20,10 +20,11 @@ pub use Rattle.hserialize.specs.Regions.{are_region_content, form_after, in_regi
 pub use Rattle.hserialize.specs.Testing.{after_visit, alone, begins_at, content_among, inside_is, is_phrasing, is_plain_at, is_plain_attribute, is_plain_element, is_text_at, marked, standing_at_top, standing_in, standing_of, tag_at, texts_at_top, top_content}
 pub use Rattle.hserialize.specs.Walk.{goes_in, inserts_marker, node_of, visits, visits_from}
 pub use Rattle.hserialize.specs.Words.{is_empty}
-pub use Rattle.hserialize.specs.Writing.{closing_of, name_around, opening_of, stands_raw, visit_text}
-pub use Rattle.hserialize.specs.Written.{attribute_text, end_tag_text, start_tag_text, written}
+pub use Rattle.hserialize.specs.Writing.{closing_of, holds_raw, name_around, opening_of, stands_raw, visit_text}
+pub use Rattle.hserialize.specs.Written.{attribute_text, end_tag_text, has_no_references, start_tag_text, written, written_among}
 pub use Rattle.hserialize.specs.declared.escaping.Setting.TheVariants.{Text}
 pub use Rattle.hserialize.specs.declared.walk.Visit.TheVariants.{Enter, Leave}
 pub use Rattle.names.specs.Names.{text_of}
+pub use Rattle.names.specs.Sets.{raw_kind}
 pub use Rattle.names.specs.Tags.{tag_of}
 pub use Rattle.names.specs.declared.refusal.Refusal.TheVariants.{Write}

@@ -1,5 +1,6 @@
 -- What a visit of a walk writes. Names are numbers, and texts are theirs.
-use Rattle.std.specs.Prelude.{ℕ, Bool, false, List, [], ◌++◌, Option, Some, None, codes, map, option_and_then, if◌then◌else◌}
+use Rattle.std.specs.Prelude.{ℕ, Bool, false, eqb, List, [], ◌++◌, Option, Some, None, codes, map, option_and_then, if◌then◌else◌}
+use Rattle.std.specs.Option.{option_map_or}
 use Rattle.names.specs.Sets.{is_void, raw_kind}
 use Rattle.names.specs.Tags.{tag_of}
 use Rattle.hnodes.specs.Forest.{What, document, doctype, element, comment, text, Forest}
@@ -21,9 +22,14 @@ holds_raw (Some name) = has_no_references (raw_kind (tag_of name))
 abbrev pub name_around : ℕ → Forest ℕ → Option ℕ
 name_around n f = option_and_then (λ p. name_of p f) (parent_of n f)
 
--- whether the texts next to a node are written as they are
-abbrev pub stands_raw : ℕ → Forest ℕ → Bool
-stands_raw n f = holds_raw (name_around n f)
+-- where the children of node root are written as a list of their own, whose texts are written as they are or not, and in the nodes
+-- inside each by its name: the same in a node, and next to one
+module _ (root : ℕ) (raw : Bool) where
+  abbrev pub raw_in : ℕ → Forest ℕ → Bool
+  raw_in n f = if eqb n root then raw else holds_raw (name_of n f)
+
+  abbrev pub stands_raw : ℕ → Forest ℕ → Bool
+  stands_raw n f = option_map_or (λ p. raw_in p f) (parent_of n f) false
 
 module _ (texts : ℕ → List ℕ) where
   -- where a node ends
@@ -48,6 +54,6 @@ module _ (escaping : Escaping) (texts : ℕ → List ℕ) where
   opening_of raw None = []
   opening_of raw (Some w) = opening raw w
 
-  abbrev pub visit_text : Forest ℕ → Visit → List ℕ
-  visit_text f (Enter n) = opening_of (stands_raw n f) (what_of n f)
-  visit_text f (Leave n) = closing_of texts (what_of n f)
+  abbrev pub visit_text : (root : ℕ) (raw : Bool) → Forest ℕ → Visit → List ℕ
+  visit_text root raw f (Enter n) = opening_of (stands_raw root raw n f) (what_of n f)
+  visit_text root raw f (Leave n) = closing_of texts (what_of n f)

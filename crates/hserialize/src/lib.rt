@@ -25,7 +25,10 @@ pub use gathered::Gathered;
 pub use lines::{error_lines, print_errors, print_tree, tree_text};
 pub use node_view::NodeView;
 pub use plain::is_plain;
-pub use serializer::{serialize, serialize_outer, serialize_outer_to_vec, serialize_to_vec};
+pub use serializer::{
+    serialize, serialize_in, serialize_in_to_vec, serialize_outer, serialize_outer_to_vec,
+    serialize_to_vec,
+};
 pub use target::{Target, write_all};
 pub use walk::{Reach, TreeWalk, Visit, inserts_marker};
 pub use writer::{Writer, put, put_parts, room};

@@ -1,8 +1,8 @@
 //! Trees as text (HTML Standard, `#serialising-html-fragments`, "Serializing HTML fragments").
 
-ghost use Rattle.std.specs.Prelude.{◌≡◌, ◌++◌, ◌<◌, codes, map, OnOk, if◌then◌else◌};
+ghost use Rattle.std.specs.Prelude.{◌≡◌, ◌++◌, ◌<◌, codes, map, Some, OnOk, if◌then◌else◌};
 ghost use Rattle.std.specs.Option.{option_map};
-ghost use Rattle.hserialize.specs.Vocabulary.{text_of, children_of, tree_at, attribute_of, spelled, spelled_attribute, name_of, what_of, escaped, Holds, IsFlushed, Puts, WritesText, taken, attribute_text, start_tag_text, end_tag_text, written, stands_raw, name_around, opening_of, closing_of, Text};
+ghost use Rattle.hserialize.specs.Vocabulary.{text_of, children_of, tree_at, attribute_of, spelled, spelled_attribute, name_of, what_of, escaped, Holds, IsFlushed, Puts, WritesText, taken, attribute_text, start_tag_text, end_tag_text, written, written_among, has_no_references, holds_raw, raw_kind, stands_raw, name_around, opening_of, closing_of, Text};
 
 use crate::escaped::put_escaped;
 use crate::escaping::{Escaping, Setting};
@@ -12,7 +12,7 @@ use crate::target::Target;
 use crate::walk::{Reach, TreeWalk, Visit, goes_in};
 use crate::writer::{Writer, put, put_before, put_between, room};
 use hnodes::{NodeId, Tree};
-use names::{Attr, NameId, Names, RawKind, Refusal};
+use names::{Attr, NameId, Names, RawKind, Refusal, Tag};
 use std::alloc::Global;
 
 /// Writes an attribute.
@@ -47,21 +47,58 @@ fn put_start_tag<W: Target>(
     put(out, b">")
 }
 
-/// Whether texts next to a node are written as they are: by the name of what they are in.
-fn stands_raw(tree: &Tree, node: NodeId) -> bool
-    requires { node < tree.now.made }
-    ensures { result ≡ stands_raw node tree.now.trees }
+/// Whether the texts in an element of this name are written as they are.
+fn is_raw(tag: Tag) -> bool
+    ensures { result ≡ has_no_references (raw_kind tag) }
 {
-    let Some(parent) = tree.parent(node) else {
-        return false;
-    };
-    let Some(name) = tree.name(parent) else {
-        return false;
-    };
     matches!(
-        name.tag().raw_kind(),
+        tag.raw_kind(),
         RawKind::Rawtext | RawKind::Script | RawKind::Plaintext
     )
+}
+
+/// Whether the texts in a node are written as they are, by its name.
+fn holds_raw(tree: &Tree, node: NodeId) -> bool
+    requires { node < tree.now.made }
+    ensures { result ≡ holds_raw (name_of node tree.now.trees) }
+{
+    let Some(name) = tree.name(node) else {
+        return false;
+    };
+    is_raw(name.tag())
+}
+
+/// A list of trees that is written: the children of a node, and whether the texts among them are written as they are.
+#[derive(Drop)]
+pub(crate) struct Listing {
+    root: NodeId,
+    raw: bool,
+}
+
+impl Listing {
+    /// As the node's own name says.
+    fn own(tree: &Tree, root: NodeId) -> Listing
+        requires { root < tree.now.made }
+        ensures root { result.root ≡ root }
+        ensures raw { result.raw ≡ holds_raw (name_of root tree.now.trees) }
+    {
+        Listing {
+            root,
+            raw: holds_raw(tree, root),
+        }
+    }
+}
+
+/// Whether texts next to a node are written as they are: as the list says, and inside its trees by the name of what they are in.
+fn stands_raw(tree: &Tree, list: &Listing, node: NodeId) -> bool
+    requires { node < tree.now.made }
+    ensures { result ≡ stands_raw list.now.root list.now.raw node tree.now.trees }
+{
+    match tree.parent(node) {
+        Some(parent) if parent == list.root => list.raw,
+        Some(parent) => holds_raw(tree, parent),
+        None => false,
+    }
 }
 
 /// Writes where a node begins.
@@ -70,11 +107,12 @@ fn put_opening<W: Target>(
     escaping: Escaping,
     tree: &Tree,
     names: &Names,
+    list: &Listing,
     node: NodeId,
 ) -> Result<(), Refusal>
     requires { node < tree.now.made }
     ensures { Puts (taken W.written W.failed out.old) (taken W.written W.failed out.new)
-        (opening_of escaping (text_of names.now) (stands_raw node tree.now.trees) (what_of node tree.now.trees))
+        (opening_of escaping (text_of names.now) (stands_raw list.now.root list.now.raw node tree.now.trees) (what_of node tree.now.trees))
         result }
 {
     match NodeView::of(tree, node) {
@@ -83,7 +121,7 @@ fn put_opening<W: Target>(
         NodeView::Element(name, attrs) => put_start_tag(out, escaping, names, name, attrs),
         NodeView::Comment(data) => put_between(out, b"<!--", data, b"-->"),
         NodeView::Text(data) => {
-            if stands_raw(tree, node) {
+            if stands_raw(tree, list, node) {
                 put(out, data.as_bytes())
             } else {
                 put_escaped(out, data, escaping, Setting::Text)
@@ -110,23 +148,22 @@ fn put_closing<W: Target>(
     }
 }
 
-/// Writes the children of a node. Nothing is handed on.
-fn put_children<W: Target>(
+/// Writes a list of trees. Nothing is handed on.
+fn put_list<W: Target>(
     out: &mut Writer<'_, W>,
     escaping: Escaping,
     tree: &Tree,
     names: &Names,
-    node: NodeId,
+    list: &Listing,
 ) -> Result<(), Refusal>
-    requires { node < tree.now.made }
+    requires { list.now.root < tree.now.made }
     ensures { Puts (taken W.written W.failed out.old) (taken W.written W.failed out.new)
-        (written escaping (option_map (text_of names.now) (name_of node tree.now.trees))
-        (spelled (text_of names.now) (children_of node tree.now.trees))) result }
+        (written_among escaping list.now.raw (spelled (text_of names.now) (children_of list.now.root tree.now.trees))) result }
 {
     prove!(names.are_names());
-    for visit in TreeWalk::new(tree, node, Reach::Written) {
+    for visit in TreeWalk::new(tree, list.root, Reach::Written) {
         match visit {
-            Visit::Enter(node) => put_opening(out, escaping, tree, names, node)?,
+            Visit::Enter(node) => put_opening(out, escaping, tree, names, list, node)?,
             Visit::Leave(node) => put_closing(out, tree, names, node)?,
         }
     }
@@ -148,11 +185,33 @@ fn put_outer<W: Target>(
 {
     prove!(names.are_names());
     prove!(tree.are_nodes());
-    put_opening(out, escaping, tree, names, node)?;
+    let list = Listing::own(tree, node);
+    put_opening(out, escaping, tree, names, &list, node)?;
     if goes_in(tree, Reach::Written, node) {
-        put_children(out, escaping, tree, names, node)?;
+        put_list(out, escaping, tree, names, &list)?;
     }
     put_closing(out, tree, names, node)
+}
+
+/// Writes a list of trees as text, and flushes.
+fn write_list<W: Target>(
+    alloc: Global,
+    tree: &Tree,
+    names: &Names,
+    list: &Listing,
+    escaping: Escaping,
+    target: &mut W,
+) -> Result<(), Refusal>
+    requires { list.now.root < tree.now.made }
+    ensures text { WritesText W.written W.failed
+        (written_among escaping list.now.raw (spelled (text_of names.now) (children_of list.now.root tree.now.trees)))
+        target.old target.new result }
+    ensures flushed { OnOk result (IsFlushed W.flushes target.new) }
+{
+    let mut held = room(alloc)?;
+    let mut out = Writer::new(target, &mut held);
+    put_list(&mut out, escaping, tree, names, list)?;
+    out.finish()
 }
 
 /// Writes the children of a node as text, by the HTML fragment serialization algorithm (`#html-fragment-serialisation-algorithm`), and
@@ -173,10 +232,15 @@ pub fn serialize<W: Target>(
         target.old target.new result }
     ensures flushed { OnOk result (IsFlushed W.flushes target.new) }
 {
-    let mut held = room(alloc)?;
-    let mut out = Writer::new(target, &mut held);
-    put_children(&mut out, escaping, tree, names, node)?;
-    out.finish()
+    prove!(names.are_names());
+    write_list(
+        alloc,
+        tree,
+        names,
+        &Listing::own(tree, node),
+        escaping,
+        target,
+    )
 }
 
 /// The text that [`serialize`] writes. An error is `Memory`.
@@ -193,6 +257,47 @@ pub fn serialize_to_vec(
 {
     let mut text = Gathered::new(alloc);
     let answer = serialize(alloc, tree, names, node, escaping, &mut text);
+    text.into_text(answer)
+}
+
+/// Writes the children of a node as [`serialize`] does, but as a list that is in an element of this name
+/// (`#html-fragment-serialisation-algorithm`): the name, and not the node's own, says whether the texts among them are written raw. So
+/// what was parsed in a context is written to be read in it again, where the root that holds it is named html in each context.
+pub fn serialize_in<W: Target>(
+    alloc: Global,
+    tree: &Tree,
+    names: &Names,
+    node: NodeId,
+    name: &str,
+    escaping: Escaping,
+    target: &mut W,
+) -> Result<(), Refusal>
+    requires { node < tree.now.made }
+    ensures text { WritesText W.written W.failed
+        (written escaping (Some name.now) (spelled (text_of names.now) (children_of node tree.now.trees))) target.old target.new result }
+    ensures flushed { OnOk result (IsFlushed W.flushes target.new) }
+{
+    let list = Listing {
+        root: node,
+        raw: is_raw(Tag::named(name)),
+    };
+    write_list(alloc, tree, names, &list, escaping, target)
+}
+
+/// The text that [`serialize_in`] writes. An error is `Memory`.
+pub fn serialize_in_to_vec(
+    alloc: Global,
+    tree: &Tree,
+    names: &Names,
+    node: NodeId,
+    name: &str,
+    escaping: Escaping,
+) -> Result<Vec<u8>, Refusal>
+    requires { node < tree.now.made }
+    ensures { Holds result (written escaping (Some name.now) (spelled (text_of names.now) (children_of node tree.now.trees))) }
+{
+    let mut text = Gathered::new(alloc);
+    let answer = serialize_in(alloc, tree, names, node, name, escaping, &mut text);
     text.into_text(answer)
 }
 

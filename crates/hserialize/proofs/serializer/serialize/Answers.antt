@@ -1,13 +1,13 @@
-use Rattle.hserialize.proofs.Names.{◌∙◌, ap, rules}
-use Rattle.hserialize.proofs.Finished.{cut_short, finished}
+use Rattle.hserialize.proofs.Names.{◌∙◌, subst, text_of, spelled, children_of, name_of, written_among, WritesText}
+use Rattle.hserialize.proofs.Wrote.{own-written}
 use Rattle.hserialize.proofs.serializer.serialize.Goals as goal
-
-pub returns-in_err-put_children-clause-text : goal.returns-in_err-put_children-clause-text
-returns-in_err-put_children-clause-text g c =
-    cut_short g.W.Target.written g.W.Target.failed _ _ _ c.new-out.result _ c.new-out.ensures.name c.new-out.ensures.same (ap (λ v. v.items) c.new-out.ensures.held ∙ c.in_ok-held.ensures) c.put_children.new.out
-    _ c.from_residual-in_err-put_children.ensures.1 c.in_err-put_children.ensures (search rules)
 
 pub returns-clause-text : goal.returns-clause-text
 returns-clause-text g c =
-    finished g.W.Target.written g.W.Target.failed _ _ _ c.new-out.result _ c.new-out.ensures.name c.new-out.ensures.same (ap (λ v. v.items) c.new-out.ensures.held ∙ c.in_ok-held.ensures) c.put_children.new.out c.finish.new.self
-    c.finish.result c.in_ok-put_children.ensures c.finish.ensures.ends (search rules)
+    let how = c.args.escaping in
+    let names = c.args.names.now in
+    let f = c.args.tree.now.trees in
+    subst (λ text. WritesText g.W.Target.written g.W.Target.failed text c.args.target.now c.write_list.new.target c.write_list.result)
+    ((λ i. written_among how (c.own.ensures.raw i) (spelled (text_of names) (children_of (c.own.ensures.root i) f)))
+    ∙ own-written how names (spelled (text_of names) (children_of c.args.node f)) (name_of c.args.node f) c.are_names.ensures.names)
+    c.write_list.ensures.text

@@ -1,6 +1,0 @@
-use Rattle.hserialize.proofs.Names.{taken}
-use Rattle.hserialize.proofs.Wrote.{IsWriting}
-use Rattle.hserialize.proofs.serializer.put_children.Given as goal
-
-abbrev pub invariant-loop-visit : goal.invariant-loop-visit
-invariant-loop-visit g l = IsWriting l.fn.escaping l.names l.tree.trees l.fn.node (taken g.W.Target.written g.W.Target.failed l.initial.out) (taken g.W.Target.written g.W.Target.failed l.out) l.visit-iterator
