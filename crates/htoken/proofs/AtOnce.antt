@@ -1,5 +1,5 @@
 -- Tags that stand whole in a run.
-use Rattle.htoken.proofs.Names.{◌≡◌, ◌≤◌, ◌<◌, ℕ, suc, ◌+◌, ◌-◌, true, false, ◌||◌, List, [], ◌∷◌, ◌++◌, length, take, drop, sym, refl, ap, ◌∙◌, subst, Result, Ok, Err, Option, Some, None, append-nil, arith, nat_tests, length-take-le, take-append-drop, IsUtf8-from_ascii, chars-nil, codes, is_some, slice_get, slice_index, is_ascii, list_all, chars, IsUtf8, ParseError, Placed, RawKind, RefusedName, Refusal, Memory, Texts, Grows, name_bytes, placed, raw_kind, refused_name, tag_named, is_plain_byte, IsCut, plain_chars, hand_one, Entities, TagWalk, IsInTag, IsWholeTag, State, Token, Tokenizer, IsSpan, IsSpanOf, next, EndsTag, TakesFront, TakesPart, IsTag, start_tag, end_tag, tag_mark, Tok, Span, Start, End, Item, ItemToken, Event, TokenMeans, gives_item, has_refused, Reads, HasTaken, holds, Takes, take_took, IsHeld, IsLast, less, next_place, slice_range, IsBareName, bare_bytes, bare_front, bare_no_errors, bare_placed, bare_plain, bare_within, tag, all_weaker, MatchResult, get_or, get_or-append_seam, IsCharBoundary}
+use Rattle.htoken.proofs.Names.{◌≡◌, ◌≤◌, ◌<◌, ℕ, suc, ◌+◌, ◌-◌, true, false, ◌||◌, List, [], ◌∷◌, ◌++◌, length, take, drop, sym, refl, ap, ◌∙◌, subst, Result, Ok, Err, Option, Some, None, append-nil, arith, nat_tests, length-take-le, take-append-drop, IsUtf8-from_ascii, chars-nil, codes, is_some, slice_get, slice_index, is_ascii, list_all, chars, IsUtf8, ParseError, Placed, RawKind, RefusedName, Refusal, Memory, Texts, Grows, name_bytes, placed, raw_kind, refused_name, tag_named, is_plain_byte, IsCut, plain_chars, hand_one, Entities, TagWalk, IsInTag, IsWholeTag, State, Tokenizer, IsSpan, IsSpanOf, next, EndsTag, TakesFront, TakesPart, IsTag, start_tag, end_tag, tag_mark, Tok, Span, Start, End, Item, ItemToken, Event, HandedMeans, gives_item, has_refused, Reads, HasTaken, holds, Takes, take_took, IsHeld, IsLast, less, next_place, slice_range, IsBareName, bare_bytes, bare_front, bare_no_errors, bare_placed, bare_plain, bare_within, tag, all_weaker, MatchResult, get_or, get_or-append_seam, IsCharBoundary, Handed}
 use Rattle.std.proofs.lemmas.Str.{IsCharBoundary-before_ascii}
 use Rattle.names.specs.declared.raw.RawKind.TheVariants as kind
 use Rattle.htag.specs.declared.kind.TagKind.TheVariants as which
@@ -127,10 +127,10 @@ module _ (table : Entities) (start : RawKind) (t : Tokenizer) (names : Texts) (t
       abbrev span : Span
       span = record { text = less t ∷ fed; tokens = tok ∷ []; errors = [] }
 
-      tag_given : {S : Type 0} (gives : S → ParseError → Result (Unit {0}) Refusal → S → Type 0) (gives_token : S → Token → Result (Unit {0}) Refusal → S → Type 0) → has_refused (tok ∷ []) ≡ false
+      tag_given : {S : Type 0} (gives : S → ParseError → Result (Unit {0}) Refusal → S → Type 0) (gives_token : S → Handed → Result (Unit {0}) Refusal → S → Type 0) → has_refused (tok ∷ []) ≡ false
           → (next h.here (record { text = less t ∷ fed; tokens = tok ∷ []; errors = [] })).kind ≡ kind.None
           → (new : Tokenizer) → new ≡ record t { next = new.next; state = state.Text; last = new.last } → new.next ≡ next_place (text ++ fed) → IsLast names new.last (next h.here (record { text = less t ∷ fed; tokens = tok ∷ []; errors = [] })).name
-          → (token : Token) → TokenMeans names token tok → (old s : S) (answer : Result (Unit {0}) Refusal) → gives_token old token answer s → Takes (gives_item gives gives_token) table start text fed taken names old answer s new
+          → (token : Handed) → HandedMeans names token tok → (old s : S) (answer : Result (Unit {0}) Refusal) → gives_token old token answer s → Takes (gives_item gives gives_token) table start text fed taken names old answer s new
       unfolding less_ahead reads_as
       tag_given gives gives_token allowed to_data new then place last token means old s answer given =
           spans_end (gives_item gives gives_token) table start text fed names taken (record t { next = new.next }) (less_ahead fed new.next place) span (ap (λ (x : List Placed). x ++ fed) (sym held_less.0))
@@ -151,7 +151,7 @@ module _ (table : Entities) (start : RawKind) (t : Tokenizer) (names : Texts) (t
     pub any_walk : (walk : TagWalk) → HasTaken table start (record t { tag = walk }) names text taken
     any_walk walk = holds (reads_as h (record t { tag = walk }) names [] taken refl refl h.next_is h.stands refl h.name_is h.is_in (subst (λ (s : State). IsHeld s table names h.here (record t { tag = walk }) h.held []) (sym after_less) held_less))
 
-    module _ {S : Type 0} (gives : S → ParseError → Result (Unit {0}) Refusal → S → Type 0) (gives_token : S → Token → Result (Unit {0}) Refusal → S → Type 0) (fed : List Placed) (place : ℕ) (next_is : place ≡ next_place (text ++ fed)) (walk : TagWalk) (is_start : walk.kind ≡ which.Start) where
+    module _ {S : Type 0} (gives : S → ParseError → Result (Unit {0}) Refusal → S → Type 0) (gives_token : S → Handed → Result (Unit {0}) Refusal → S → Type 0) (fed : List Placed) (place : ℕ) (next_is : place ≡ next_place (text ++ fed)) (walk : TagWalk) (is_start : walk.kind ≡ which.Start) where
       pub plain_ends : (read : Texts) → Grows read names → IsWholeTag table read walk fed [] → (new : Tokenizer) (old s : S) (answer : Result (Unit {0}) Refusal) → EndsTag (gives_item gives gives_token) (record t { next = place; tag = walk }) names old answer new s
           → Takes (gives_item gives gives_token) table start text fed taken names old answer s new
       unfolding less_ahead reads_as
@@ -172,7 +172,7 @@ module _ (table : Entities) (start : RawKind) (t : Tokenizer) (names : Texts) (t
 
     -- A BARE TAG
 
-    module _ {S : Type 0} (gives : S → ParseError → Result (Unit {0}) Refusal → S → Type 0) (gives_token : S → Token → Result (Unit {0}) Refusal → S → Type 0) (run : List ℕ) (at size : ℕ) (u : IsUtf8 run) (room : at + length run ≤ 0xFFFFFFFFFFFFFFFF) where
+    module _ {S : Type 0} (gives : S → ParseError → Result (Unit {0}) Refusal → S → Type 0) (gives_token : S → Handed → Result (Unit {0}) Refusal → S → Type 0) (run : List ℕ) (at size : ℕ) (u : IsUtf8 run) (room : at + length run ≤ 0xFFFFFFFFFFFFFFFF) where
       module _ (bare : IsBareName run size) where
         start_is : (end : ℕ) (more : List Placed) → IsTag table end more (record { text = less t ∷ placed at (chars (take (size + 1) run)); tokens = Start (take size run) [] false t.at ∷ []; errors = [] })
         start_is end more =
@@ -185,7 +185,7 @@ module _ (table : Entities) (start : RawKind) (t : Tokenizer) (names : Texts) (t
             ∙ ap (λ (x : List ParseError). record { text = ((less t ∷ name) ++ []) ++ close; tokens = Start (name_bytes name) [] false t.at ∷ []; errors = x }) (sym (bare_no_errors run size bare at)))
 
         pub start_given : (name : ℕ) (new : Tokenizer) → new ≡ record t { next = at + size + 1; state = state.Text; last = Some name } → slice_get names name ≡ Some (take size run)
-            → refused_name (tag_named (take size run)) ≡ None → raw_kind (tag_named (take size run)) ≡ kind.None → (token : Token) → TokenMeans names token (Start (take size run) [] false t.at)
+            → refused_name (tag_named (take size run)) ≡ None → raw_kind (tag_named (take size run)) ≡ kind.None → (token : Handed) → HandedMeans names token (Start (take size run) [] false t.at)
             → (old s : S) (answer : Result (Unit {0}) Refusal) → gives_token old token answer s → Takes (gives_item gives gives_token) table start text (placed at (chars (take (size + 1) run))) taken names old answer s new
         start_given name new then number in_profile to_data token means old s answer given =
             tag_given (placed at (chars (take (size + 1) run))) (Start (take size run) [] false t.at) start_is gives gives_token (ap (λ (x : Option RefusedName). is_some x || false) in_profile) to_data new
@@ -204,7 +204,7 @@ module _ (table : Entities) (start : RawKind) (t : Tokenizer) (names : Texts) (t
             ∙ ap (λ (x : List ℕ). record { text = ((opening ++ name) ++ []) ++ close; tokens = End x t.at ∷ []; errors = [] }) (sym (bare_bytes rest size bare (at + 1)))
             ∙ ap (λ (x : List ParseError). record { text = ((opening ++ name) ++ []) ++ close; tokens = End (name_bytes name) t.at ∷ []; errors = x ++ [] }) (sym (bare_no_errors rest size bare (at + 1))))
 
-        pub end_given : (new : Tokenizer) → new ≡ record t { next = at + size + 2; state = state.Text } → (token : Token) → TokenMeans names token (End (take size rest) t.at)
+        pub end_given : (new : Tokenizer) → new ≡ record t { next = at + size + 2; state = state.Text } → (token : Handed) → HandedMeans names token (End (take size rest) t.at)
             → (old s : S) (answer : Result (Unit {0}) Refusal) → gives_token old token answer s → Takes (gives_item gives gives_token) table start text (placed at (chars (take (size + 2) run))) taken names old answer s new
         end_given new then token means old s answer given =
             tag_given (placed at (chars (take (size + 2) run))) (End (take size rest) t.at) end_is gives gives_token refl refl new

@@ -1,5 +1,5 @@
 -- The input's end after `<!`: what came after it is read as a comment.
-use Rattle.htoken.proofs.Names.{◌≡◌, ℕ, true, false, List, [], ◌∷◌, ◌++◌, sym, refl, ap, ◌∙◌, subst, Result, Ok, Err, append-nil, IncorrectlyOpenedComment, ParseError, Placed, RawKind, Refusal, Texts, all, place, error, is_plain_in_bogus, Entities, Bogus, IsCommentOf, WalkEnds, Opened, Raised, Token, Tokenizer, IsDataSpan, is_declaration, bogus_declaration, Span, Event, Comment, TokenMeans, gives_item, Reads, IsHeld, EndsHeld, held_ran_out, held_ended, less, Keeps, BeginsBogus, GivesSpan}
+use Rattle.htoken.proofs.Names.{◌≡◌, ℕ, true, false, List, [], ◌∷◌, ◌++◌, sym, refl, ap, ◌∙◌, subst, Result, Ok, Err, append-nil, IncorrectlyOpenedComment, ParseError, Placed, RawKind, Refusal, Texts, all, place, error, is_plain_in_bogus, Entities, Bogus, IsCommentOf, WalkEnds, Opened, Raised, Tokenizer, IsDataSpan, is_declaration, bogus_declaration, Span, Event, Comment, gives_item, Reads, IsHeld, EndsHeld, held_ran_out, held_ended, less, Keeps, BeginsBogus, GivesSpan, Handed, HandedMeans}
 use Rattle.names.specs.declared.raw.RawKind.TheVariants as kind
 use Rattle.htoken.specs.declared.state.State.TheVariants as state
 use Rattle.htoken.proofs.AtEnd.{no_script, stands_at_end}
@@ -9,7 +9,7 @@ use Rattle.htoken.proofs.InData.{in_data}
 use Rattle.htoken.proofs.InMarkup.{keeps, kept, refused}
 use Rattle.htoken.proofs.Reading.{held_in, kind_in}
 
-module _ {S : Type 0} (gives : S → ParseError → Result (Unit {0}) Refusal → S → Type 0) (gives_token : S → Token → Result (Unit {0}) Refusal → S → Type 0) (table : Entities) (start : RawKind) (end : ℕ) (text : List Placed) (names : Texts)
+module _ {S : Type 0} (gives : S → ParseError → Result (Unit {0}) Refusal → S → Type 0) (gives_token : S → Handed → Result (Unit {0}) Refusal → S → Type 0) (table : Entities) (start : RawKind) (end : ℕ) (text : List Placed) (names : Texts)
     (taken : List Event) (t : Tokenizer) (h : Reads table start t names text [] taken) (at : ℕ) (so : Opened) (after_bang : t.state ≡ state.Declaration at so) where
   abbrev body : List Placed
   body = t.held.items
@@ -36,7 +36,7 @@ module _ {S : Type 0} (gives : S → ParseError → Result (Unit {0}) Refusal �
   declared_stopped begun then raised r s k = held_ran_out (ap (λ (x : Refusal). Err x) (refused begun.raised raised k.reported r k.handed)) refl
 
   pub declared_cut : (begun mid new : Tokenizer) (old s : S) (answer : Result (Unit {0}) Refusal) → BeginsBogus t body e begun → Keeps begun mid → mid.comment ≡ begun.comment → EndsIn begun (Ok tt) mid.raised
-      → GivesSpan (gives_item gives gives_token) (λ names x. TokenMeans names x (Comment mid.comment.data mid.at)) mid old answer new s → EndsHeld (gives_item gives gives_token) table start end text taken names old answer new s
+      → GivesSpan (gives_item gives gives_token) (λ names x. HandedMeans names x (Comment mid.comment.data mid.at)) mid old answer new s → EndsHeld (gives_item gives gives_token) table start end text taken names old answer new s
   declared_cut begun mid new old s answer b keep same k g =
       let raised : mid.raised.errors.items ≡ e ∷ k.reported = kept begun.raised mid.raised k.reported k.handed ∙ ap (λ (x : List ParseError). x ++ k.reported) (b.raised_is ∙ ap (λ (x : List ParseError). x ++ e ∷ []) declared.1) in
       let span : Span = record { text = mark ++ body; tokens = Comment mid.comment.data mid.at ∷ []; errors = mid.raised.errors.items } in

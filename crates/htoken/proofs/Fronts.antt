@@ -1,10 +1,10 @@
 -- A run of characters, a part after another.
-use Rattle.htoken.proofs.Names.{◌≡◌, ◌≤◌, ◌<◌, ℕ, zero, suc, ◌+◌, List, [], ◌∷◌, ◌++◌, length, take, drop, sym, refl, ap, ◌∙◌, subst, Result, Ok, Err, append_assoc, append-nil, arith, true, slice_index, MatchResult, list_all, chars, IsAscii, nat_tests, length-take-le, take_all, IsCharBoundary-from_drop, IsUtf8-from_ascii, Placed, RawKind, Refusal, Texts, Grows, placed, text_kept, is_plain_byte, IsCut, plain_chars, plain_drop, placed_cut, placed_more, Entities, Token, Tokenizer, Tok, Item, ItemToken, ItemError, Event, Gives, Reports, TokenMeans, Mean, tokens_in, IsRefused, AreFront, HandsEvents, TakesFront, TakesPart, HasTaken, Takes, take_ran_out, take_refused, take_sink_refused, take_took, IfOk, IsCharBoundary, placed_part, placed_rest, attrs_kept, and_parts, all_weaker, is_ascii}
+use Rattle.htoken.proofs.Names.{◌≡◌, ◌≤◌, ◌<◌, ℕ, zero, suc, ◌+◌, List, [], ◌∷◌, ◌++◌, length, take, drop, sym, refl, ap, ◌∙◌, subst, Result, Ok, Err, append_assoc, append-nil, arith, true, slice_index, MatchResult, list_all, chars, IsAscii, nat_tests, length-take-le, take_all, IsCharBoundary-from_drop, IsUtf8-from_ascii, Placed, RawKind, Refusal, Texts, Grows, grows_on, placed, text_kept, is_plain_byte, IsCut, plain_chars, plain_drop, placed_cut, placed_more, Entities, Token, Tokenizer, Tok, Item, ItemToken, ItemError, Event, Gives, Reports, TokenMeans, Alone, WithNames, token_in, Handed, HandedMeans, Mean, tokens_in, IsRefused, AreFront, HandsEvents, TakesFront, TakesPart, HasTaken, Takes, take_ran_out, take_refused, take_sink_refused, take_took, IfOk, IsCharBoundary, placed_part, placed_rest, attrs_kept, and_parts, all_weaker, is_ascii}
 use Rattle.std.proofs.lemmas.Result.{IfOk-weaker}
 use Rattle.htoken.specs.declared.token.Token.TheVariants as code
 use Rattle.htoken.proofs.Handing.{HandsEvents-append}
 
--- what was handed over stands for the same when the table of names has grown
+-- a token stands for the same when the table of names has grown
 pub token_kept : (old new : Texts) → Grows old new → (token : Token) (tok : Tok) → TokenMeans old token tok → TokenMeans new token tok
 token_kept old new grows (code.Doctype name public system forced at) tok h = h
 token_kept old new grows (code.Start name attrs closing at) tok (text, texts, is, are, e) = (text, texts, text_kept old new name text grows is, attrs_kept old new grows attrs.items texts are, e)
@@ -13,9 +13,19 @@ token_kept old new grows (code.Comment text at) tok h = h
 token_kept old new grows (code.Char ch at) tok h = h
 token_kept old new grows (code.Eof at) tok h = h
 
+-- so does what was handed over
+handed_kept : (old new : Texts) → Grows old new → (h : Handed) (tok : Tok) → HandedMeans old h tok → HandedMeans new h tok
+handed_kept old new grows (Alone token) tok (other, means) = (other, token_kept old new grows token tok means)
+handed_kept old new grows (WithNames table token) tok (before, tag, means) = (grows_on table old new before grows, tag, means)
+
+-- its token stands for the token by every later table
+pub handed_means : (names : Texts) (h : Handed) (tok : Tok) → HandedMeans names h tok → TokenMeans names (token_in h) tok
+handed_means names (Alone token) tok (other, means) = means
+handed_means names (WithNames table token) tok (before, tag, means) = token_kept table names before token tok means
+
 mean_kept : (old new : Texts) → Grows old new → (items : List Item) (events : List Event) → Mean old items events → Mean new items events
 mean_kept old new grows [] [] h = tt
-mean_kept old new grows (ItemToken t ∷ items) (Gives tok ∷ events) h = (token_kept old new grows t tok h.0, mean_kept old new grows items events h.1)
+mean_kept old new grows (ItemToken t ∷ items) (Gives tok ∷ events) h = (handed_kept old new grows t tok h.0, mean_kept old new grows items events h.1)
 mean_kept old new grows (ItemError e ∷ items) (Reports error ∷ events) h = (h.0, mean_kept old new grows items events h.1)
 mean_kept old new grows (ItemToken t ∷ items) (Reports error ∷ events) h = absurd h.0
 mean_kept old new grows (ItemError e ∷ items) (Gives tok ∷ events) h = absurd h.0

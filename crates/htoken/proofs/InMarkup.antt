@@ -1,5 +1,5 @@
 -- A character of a comment or a doctype, and the input's end in it.
-use Rattle.htoken.proofs.Names.{◌≡◌, ℕ, Bool, true, false, List, [], ◌∷◌, ◌++◌, sym, refl, ap, ◌∙◌, subst, Result, Ok, Err, Option, append_assoc, append-nil, ParseError, Placed, RawKind, Refusal, Memory, Texts, Hands, Entities, WalkEnds, Raised, State, Token, Tokenizer, Tok, Span, Event, TokenMeans, gives_item, Standing, next, has_refused, IsDataSpan, Reads, Takes, IsHeld, IsIn, IsLast, IsInMarkup, EndsHeld, held_ran_out, held_ended, Keeps, GivesSpan, WalkTakes, walk_ran_out, sink_refused, walk_goes_on, walk_ended, raises}
+use Rattle.htoken.proofs.Names.{◌≡◌, ℕ, Bool, true, false, List, [], ◌∷◌, ◌++◌, sym, refl, ap, ◌∙◌, subst, Result, Ok, Err, Option, append_assoc, append-nil, ParseError, Placed, RawKind, Refusal, Memory, Texts, Hands, Entities, WalkEnds, Raised, State, Tokenizer, Tok, Span, Event, gives_item, Standing, next, has_refused, IsDataSpan, Reads, Takes, IsHeld, IsIn, IsLast, IsInMarkup, EndsHeld, held_ran_out, held_ended, Keeps, GivesSpan, WalkTakes, walk_ran_out, sink_refused, walk_goes_on, walk_ended, raises, Handed, HandedMeans}
 use Rattle.names.specs.declared.raw.RawKind.TheVariants as kind
 use Rattle.htoken.proofs.Going.{stays_both, ran_out, goes_on, span_ends}
 use Rattle.htoken.proofs.Handing.{span_given}
@@ -20,7 +20,7 @@ refused s t [] x h = let never = h.0 in absurd cc
 refused s t (e ∷ es) x (Ok u, next, given, more) = refused next t es x more
 refused s t (e ∷ es) x (Err y, next, given, more) = let is = more.0 in let why : y ≡ Memory = given in cc
 
-module _ {S W V : Type 0} (gives : S → ParseError → Result (Unit {0}) Refusal → S → Type 0) (gives_token : S → Token → Result (Unit {0}) Refusal → S → Type 0)
+module _ {S W V : Type 0} (gives : S → ParseError → Result (Unit {0}) Refusal → S → Type 0) (gives_token : S → Handed → Result (Unit {0}) Refusal → S → Type 0)
     (HasRead : W → List Placed → List ParseError → Type 0) (IsOne : ℕ → List Placed → List Placed → V → List ParseError → Type 0) (token : V → ℕ → Tok)
     (given : (here : Standing) (text : List Placed) (value : V) (at : ℕ) (errors : List ParseError) → ((next here (record { text = text; tokens = token value at ∷ []; errors = errors })).kind ≡ kind.None)
     × ((next here (record { text = text; tokens = token value at ∷ []; errors = errors })).name ≡ here.name) × (has_refused (token value at ∷ []) ≡ false))
@@ -60,7 +60,7 @@ module _ {S W V : Type 0} (gives : S → ParseError → Result (Unit {0}) Refusa
         }))
 
     pub markup_ends : (mid new : Tokenizer) (then : W) (value : V) (old s : S) (answer : Result (Unit {0}) Refusal) → Keeps t mid → Took (Ok true) then value mid.raised
-        → GivesSpan (gives_item gives gives_token) (λ names x. TokenMeans names x (token value mid.at)) mid old answer new s → Takes (gives_item gives gives_token) table start text (p ∷ []) taken names old answer s new
+        → GivesSpan (gives_item gives gives_token) (λ names x. HandedMeans names x (token value mid.at)) mid old answer new s → Takes (gives_item gives gives_token) table start text (p ∷ []) taken names old answer s new
     markup_ends mid new then value old s answer keep (walk_ran_out reported e hd b) g = absurd cc
     markup_ends mid new then value old s answer keep (sink_refused x reported e hd b) g = absurd cc
     markup_ends mid new then value old s answer keep (walk_goes_on reported e hd has) g = absurd cc
@@ -87,7 +87,7 @@ module _ {S W V : Type 0} (gives : S → ParseError → Result (Unit {0}) Refusa
     markup_end_stopped r value raised then s e = held_ran_out (ap (λ (x : Refusal). Err x) (refused t.raised raised e.reported r e.handed)) refl
 
     pub markup_cut : (mid new : Tokenizer) (value : V) (old s : S) (answer : Result (Unit {0}) Refusal) → Keeps t mid → Ended (Ok tt) value mid.raised
-        → GivesSpan (gives_item gives gives_token) (λ names x. TokenMeans names x (token value mid.at)) mid old answer new s
+        → GivesSpan (gives_item gives gives_token) (λ names x. HandedMeans names x (token value mid.at)) mid old answer new s
         → EndsHeld (gives_item gives gives_token) table start end text taken names old answer new s
     markup_cut mid new value old s answer keep e g =
         let raised : mid.raised.errors.items ≡ i.first ++ (i.own ++ e.reported) = kept t.raised mid.raised e.reported e.handed ∙ ap (λ (x : List ParseError). x ++ e.reported) i.raised_is ∙ append_assoc i.first i.own e.reported in

@@ -1,5 +1,5 @@
 -- A run of plain characters, taken as a whole.
-use Rattle.htoken.proofs.Names.{◌≡◌, ◌≤◌, ◌<◌, ℕ, zero, suc, ◌+◌, Bool, true, false, List, [], ◌∷◌, ◌++◌, length, take, sym, refl, ap, ◌∙◌, subst, arith, drop, Result, Ok, Err, Option, append_assoc, append-nil, nat_tests, list_all, ◌||◌, length-take-le, len_utf8, encode_utf8, chars, string_bytes, ParseError, Placed, RawKind, Refusal, Memory, Texts, Grows, all, placed, is_clean, is_plain_byte, is_plain, IsCut, all_placed, plain_take, Entities, and_parts, HasReadOf, IsCommentOf, TakesRun, IsInTag, State, Tokenizer, Item, Event, Comment, Standing, is_script, FollowsAll, IsDataSpan, HandsEvents, run_events, replaced, tag_mark, after_place, next_from, next_place, less, Stands, Reads, holds, Takes, take_sink_refused, take_took, IsHeld, IsIn, IsLast, IsBetween, IsInMarkup, IsInMarkedTag, ◌==◌, one_long, last_char, run_ran_out, run_refused, run_goes_on, all_weaker, IsUtf8, run_plain, Hands, Token, gives_item, run_tokens, plain_chars}
+use Rattle.htoken.proofs.Names.{◌≡◌, ◌≤◌, ◌<◌, ℕ, zero, suc, ◌+◌, Bool, true, false, List, [], ◌∷◌, ◌++◌, length, take, sym, refl, ap, ◌∙◌, subst, arith, drop, Result, Ok, Err, Option, append_assoc, append-nil, nat_tests, list_all, ◌||◌, length-take-le, len_utf8, encode_utf8, chars, string_bytes, ParseError, Placed, RawKind, Refusal, Memory, Texts, Grows, all, placed, is_clean, is_plain_byte, is_plain, IsCut, all_placed, plain_take, Entities, and_parts, HasReadOf, IsCommentOf, TakesRun, IsInTag, State, Tokenizer, Item, Event, Comment, Standing, is_script, FollowsAll, IsDataSpan, HandsEvents, run_events, replaced, tag_mark, after_place, next_from, next_place, less, Stands, Reads, holds, Takes, take_sink_refused, take_took, IsHeld, IsIn, IsLast, IsBetween, IsInMarkup, IsInMarkedTag, ◌==◌, one_long, last_char, run_ran_out, run_refused, run_goes_on, all_weaker, IsUtf8, run_plain, Hands, gives_item, run_tokens, plain_chars, Handed}
 use Rattle.htoken.specs.declared.state.State.TheVariants as state
 use Rattle.htoken.proofs.InMarkup.{keeps, kept, refused}
 use Rattle.htoken.proofs.InRaw.{after_characters}
@@ -194,7 +194,7 @@ module _ {S : Type 0} (gives : S → Item → Result (Unit {0}) Refusal → S �
 
 -- A RUN OF BYTES WHERE NOTHING IS HELD, of which the sink has taken what it took
 
-pub bytes_taken : {S : Type 0} (gives : S → ParseError → Result (Unit {0}) Refusal → S → Type 0) (gives_token : S → Token → Result (Unit {0}) Refusal → S → Type 0) (table : Entities) (start : RawKind) (names : Texts) (text : List Placed) (taken : List Event) (t : Tokenizer) → Reads table start t names text [] taken → t.state ≡ state.Text
+pub bytes_taken : {S : Type 0} (gives : S → ParseError → Result (Unit {0}) Refusal → S → Type 0) (gives_token : S → Handed → Result (Unit {0}) Refusal → S → Type 0) (table : Entities) (start : RawKind) (names : Texts) (text : List Placed) (taken : List Event) (t : Tokenizer) → Reads table start t names text [] taken → t.state ≡ state.Text
     → (at : ℕ) (run : List ℕ) → IsUtf8 run → list_all is_plain_byte run ≡ true → 0 < length run → at + length run ≤ 0xFFFFFFFFFFFFFFFF
     → (new : Tokenizer) → new ≡ record t { next = at + length run; script = new.script } → (is_script t.kind ≡ true → FollowsAll t.script (placed at (chars run)) new.script)
     → (old s : S) (answer : Result (Unit {0}) Refusal) → Hands gives_token old (run_tokens (placed at (chars run))) answer s → Takes (gives_item gives gives_token) table start text (placed at run) taken names old answer s new
@@ -207,7 +207,7 @@ bytes_taken gives gives_token table start names text taken t h in_text at run u 
     (run_given gives gives_token names old s (placed at (chars run)) answer given))
 
 -- bad parts where nothing is held
-pub bad_taken : {S : Type 0} (gives : S → ParseError → Result (Unit {0}) Refusal → S → Type 0) (gives_token : S → Token → Result (Unit {0}) Refusal → S → Type 0) (table : Entities) (start : RawKind) (names : Texts) (text : List Placed) (taken : List Event) (t : Tokenizer) → Reads table start t names text [] taken
+pub bad_taken : {S : Type 0} (gives : S → ParseError → Result (Unit {0}) Refusal → S → Type 0) (gives_token : S → Handed → Result (Unit {0}) Refusal → S → Type 0) (table : Entities) (start : RawKind) (names : Texts) (text : List Placed) (taken : List Event) (t : Tokenizer) → Reads table start t names text [] taken
     → t.state ≡ state.Text → is_script t.kind ≡ false → (at n : ℕ) → 0 < n → at + n ≤ 0xFFFFFFFFFFFFFFFF → (old s : S) (answer : Result (Unit {0}) Refusal) → Hands gives_token old (run_tokens (replaced at n)) answer s
     → Takes (gives_item gives gives_token) table start text (replaced at n) taken names old answer s (record t { next = at + n })
 bad_taken gives gives_token table start names text taken t h in_text other at n some within old s answer given =

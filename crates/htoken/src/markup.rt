@@ -1,7 +1,7 @@
 //! What follows `<!`, comments and doctypes (HTML Standard, `#bogus-comment-state` to `#bogus-doctype-state`).
 
 ghost use Rattle.std.specs.Prelude.{◌≡◌, ◌∷◌, List, [], true, OnOk, length, MatchResult};
-ghost use Rattle.htoken.specs.Vocabulary.{all, BeginsBogus, Character, Comment, doctype_token, Entities, error, Event, gives_item, GivesSpan, is_plain_in_bogus, Kind, place, Reader, Reads, Takes, TakesNext, Texts, TokenMeans};
+ghost use Rattle.htoken.specs.Vocabulary.{all, BeginsBogus, Character, Comment, doctype_token, Entities, error, Event, gives_item, GivesSpan, HandedMeans, is_plain_in_bogus, Kind, place, Reader, Reads, Takes, TakesNext, Texts};
 
 use crate::declaration::{Opened, Opens, plain_front};
 use crate::sink::TokenSink;
@@ -120,7 +120,7 @@ impl<'t> Tokenizer<'t> {
 
     /// Hands over the comment that has ended.
     pub(crate) fn end_comment<S: TokenSink>(&mut self, sink: &mut S) -> Result<(), Refusal>
-        ensures { GivesSpan (gives_item S.gives S.gives_token) (λ names token. TokenMeans names token (Comment self.old.comment.data self.old.at)) self.old
+        ensures { GivesSpan (gives_item S.gives S.gives_token) (λ names token. HandedMeans names token (Comment self.old.comment.data self.old.at)) self.old
             sink.old result self.new sink.new }
     {
         let walk = mem::replace(&mut self.comment, CommentWalk::bogus(self.alloc));
@@ -148,7 +148,7 @@ impl<'t> Tokenizer<'t> {
 
     /// Hands over the doctype that has ended.
     pub(crate) fn end_doctype<S: TokenSink>(&mut self, sink: &mut S) -> Result<(), Refusal>
-        ensures { GivesSpan (gives_item S.gives S.gives_token) (λ names token. TokenMeans names token (doctype_token self.old.doctype.found self.old.at))
+        ensures { GivesSpan (gives_item S.gives S.gives_token) (λ names token. HandedMeans names token (doctype_token self.old.doctype.found self.old.at))
             self.old sink.old result self.new sink.new }
     {
         let walk = mem::replace(&mut self.doctype, DoctypeWalk::new(self.alloc));

@@ -102,7 +102,7 @@ impl<'t> Tokenizer<'t> {
         sink: &mut S,
     ) -> Result<(), Refusal>
         ensures { (text : List ℕ) (attrs : List (List ℕ × List ℕ))
-            → EndsStartTag (gives_item S.gives S.gives_token) self.old name text attrs sink.old result self.new sink.new }
+            → EndsStartTag (gives_item S.gives S.gives_token) self.old names.now name text attrs sink.old result self.new sink.new }
     {
         let at = self.at;
         let tag = name.tag();

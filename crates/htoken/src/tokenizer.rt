@@ -1,7 +1,7 @@
 //! Characters in, tokens out: a tokenizer, and which state takes a character (HTML Standard, `#tokenization`).
 
 ghost use Rattle.std.specs.Prelude.{◌≡◌, ◌∷◌, List, [], Some, Err, IfErr, MatchBool};
-ghost use Rattle.htoken.specs.Vocabulary.{after_place, Character, EndsSpan, Entities, Event, FeedsText, Finishes, from_of, gives_item, Grows, Hands, HasTaken, HoldsFrom, IsTable, items_of, Kind, Refused, start_kind, Takes, Texts};
+ghost use Rattle.htoken.specs.Vocabulary.{after_place, Alone, Character, EndsSpan, Entities, Event, FeedsText, Finishes, from_of, gives_item, Grows, Hands, HasTaken, HoldsFrom, IsTable, items_of, Kind, Refused, start_kind, Takes, Texts, WithNames};
 
 use crate::hand::hand_errors;
 use crate::script::Script;
@@ -247,7 +247,7 @@ impl<'t> Tokenizer<'t> {
         token: Token,
         sink: &mut S,
     ) -> Result<(), Refusal>
-        ensures handed { Hands (gives_item S.gives S.gives_token) sink.old (items_of self.old.raised.errors.items (Some token)) result sink.new }
+        ensures handed { Hands (gives_item S.gives S.gives_token) sink.old (items_of self.old.raised.errors.items (Some (Alone token))) result sink.new }
         ensures then { EndsSpan self.old self.new }
     {
         self.end_errors(sink)?;
@@ -262,7 +262,7 @@ impl<'t> Tokenizer<'t> {
         names: &Names,
         sink: &mut S,
     ) -> Result<(), Refusal>
-        ensures handed { Hands (gives_item S.gives S.gives_token) sink.old (items_of self.old.raised.errors.items (Some token)) result sink.new }
+        ensures handed { Hands (gives_item S.gives S.gives_token) sink.old (items_of self.old.raised.errors.items (Some (WithNames names.now token))) result sink.new }
         ensures then { EndsSpan self.old self.new }
     {
         self.end_errors(sink)?;

@@ -1,9 +1,9 @@
-use Rattle.htoken.proofs.Names.{◌+◌, arith, IsUtf8-past_char, Placed, Token, err_is, one_more, one_refused, none_left}
+use Rattle.htoken.proofs.Names.{◌+◌, arith, IsUtf8-past_char, Placed, Handed, Alone, err_is, one_more, one_refused, none_left}
 use Rattle.htoken.specs.declared.token.Token.TheVariants as code
 use Rattle.htoken.proofs.sink.TokenSink.take_run_by_one.Goals as goal
 
-abbrev token : Placed → Token
-token p = code.Char p.ch p.at
+abbrev token : Placed → Handed
+token p = Alone (code.Char p.ch p.at)
 
 pub loop-index-preserved : goal.loop-index-preserved
 loop-index-preserved g c =

@@ -1,4 +1,4 @@
-use Rattle.htoken.proofs.Names.{◌+◌, ◌∙◌, List, ℕ, Some, [], take, sym, refl, ap, subst, arith, raw_kind, refused_name, tag_named, grows_on, front_of, AttrsMean, gives_item, err_is}
+use Rattle.htoken.proofs.Names.{◌+◌, ◌∙◌, List, ℕ, Some, [], take, sym, refl, ap, subst, arith, raw_kind, refused_name, tag_named, grows_not, grows_on, front_of, AttrsMean, gives_item, err_is}
 use Rattle.htoken.proofs.AtOnce.{memory_out, nothing_taken, start_cut, start_given, bare_boundary}
 use Rattle.htoken.proofs.Fronts.{cut_refused}
 use Rattle.htoken.proofs.Taking.{IsCalm, taken_kept, taken_now}
@@ -28,7 +28,7 @@ returns-in_err-take_tag-clause-takes g c =
     let number = c.in_ok-name.ensures.number ∙ ap (λ (x : List ℕ). Some x) named in
     cut_refused gives table start text c.args.at (c.args.size + 1) run (start_cut run c.args.size c.utf8.run c.requires.bare) taken _ _ _ _ _ _
     (start_given table start c.args.self.now c.intern.new.self text taken k c.requires.less g.S.ErrorSink.gives g.S.TokenSink.gives_token run c.args.at c.args.size c.utf8.run (omega (arith, c.requires.within)) c.requires.bare c.in_ok-name.name _ refl
-    number (ap refused_name tag ∙ leads.0) (ap raw_kind tag ∙ leads.1) _ (name, [], number, subst (λ x. AttrsMean c.intern.new.self x []) (sym c.new.ensures.items) tt, refl) _ _ _ c.in_err-take_tag.ensures))
+    number (ap refused_name tag ∙ leads.0) (ap raw_kind tag ∙ leads.1) _ (grows_not _, refl, (name, [], number, subst (λ x. AttrsMean c.intern.new.self x []) (sym c.new.ensures.items) tt, refl)) _ _ _ c.in_err-take_tag.ensures))
 
 pub returns-clause-takes : goal.returns-clause-takes
 returns-clause-takes g c = λ table start before text taken grows h.
@@ -40,7 +40,7 @@ returns-clause-takes g c = λ table start before text taken grows h.
     let leads = c.leads_to_data.ensures c.if-not-leads_to_data.false in
     let number = c.in_ok-name.ensures.number ∙ ap (λ (x : List ℕ). Some x) named in
     start_given table start c.args.self.now c.intern.new.self text taken k c.requires.less g.S.ErrorSink.gives g.S.TokenSink.gives_token run c.args.at c.args.size c.utf8.run (omega (arith, c.requires.within)) c.requires.bare c.in_ok-name.name _ refl
-    number (ap refused_name tag ∙ leads.0) (ap raw_kind tag ∙ leads.1) _ (name, [], number, subst (λ x. AttrsMean c.intern.new.self x []) (sym c.new.ensures.items) tt, refl) _ _ _ c.in_ok-take_tag.ensures
+    number (ap refused_name tag ∙ leads.0) (ap raw_kind tag ∙ leads.1) _ (grows_not _, refl, (name, [], number, subst (λ x. AttrsMean c.intern.new.self x []) (sym c.new.ensures.items) tt, refl)) _ _ _ c.in_ok-take_tag.ensures
 
 pub returns-clause-cut : goal.returns-clause-cut
 returns-clause-cut g c = start_cut c.args.run.now c.args.size c.utf8.run c.requires.bare
