@@ -123,7 +123,7 @@ once : (x : ℕ) → times x alone ≡ (if ltb x 1 then 1 else 0)
 once zero = refl
 once (suc k) = rw (lt-leb (suc (suc k)) 1 (omega arith), ne_eqb 0 (suc k) (λ e. omega arith)) refl
 
-pub begun-kept : (l m : ℕ) (t : Nodes ℕ) (o : OpenNodes ℕ) (items : List (Listed ℕ)) (errors : List ParseError) → t ≡ record { limit = l; made = 1; trees = alone } → o ≡ record { limit = m; stack = [] } → items ≡ []
-    → Kept numbers (record { nodes = t; open_nodes = o; items = items; foster = false; errors = errors })
-begun-kept l m t o items errors a b c =
+pub begun-kept : (l m : ℕ) (t : Nodes ℕ) (o : OpenNodes ℕ) (items : List (Listed ℕ)) (errors : List ParseError) (noted : List (ℕ × ℕ)) → t ≡ record { limit = l; made = 1; trees = alone } → o ≡ record { limit = m; stack = [] } → items ≡ []
+    → Kept numbers (record { nodes = t; open_nodes = o; items = items; foster = false; errors = errors; again = noted })
+begun-kept l m t o items errors noted a b c =
     rw (a, b, c) (record { counted = record { once = once; begins = (none, none, refl) }; open_stands = record { stand = tt; order = tt }; plain = tt })

@@ -12,7 +12,7 @@ pub use Rattle.hadopt.specs.Naming.{numbers, Naming, texts}
 pub use Rattle.hadopt.specs.Passings.{passes}
 pub use Rattle.hadopt.specs.Places.{place_in, is_fostering, foster_place, place, beside}
 pub use Rattle.hadopt.specs.Reconstructs.{stops_going_back, reconstructed, renewed_each, renewed}
-pub use Rattle.hadopt.specs.Site.{SiteOf, stack, Goes, Refused, trees, with_items, and_then, Outcome, with_stack, with_trees, node_of, error_unless, with_error, from_top, current_is}
+pub use Rattle.hadopt.specs.Site.{SiteOf, stack, Goes, Refused, trees, with_items, with_again, and_then, Outcome, with_stack, with_trees, node_of, error_unless, with_error, from_top, current_is}
 pub use Rattle.hadopt.specs.Spelled.{Agree}
 pub use Rattle.hnodes.specs.Nearest.{before, without, put_before, after, changed, changed_at}
 pub use Rattle.hopen.specs.Formatting.{Listed, EntryOf, marker, entry, without_entry, entry_of, find_entry, for_node, entries, is_entry, entry_at, with_node, is_of_node, after_marker}

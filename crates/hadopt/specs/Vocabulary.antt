@@ -12,7 +12,7 @@ pub use Rattle.hadopt.specs.Naming.{numbers, texts}
 pub use Rattle.hadopt.specs.Passings.{passes}
 pub use Rattle.hadopt.specs.Places.{is_fostering, beside, foster_place, place_in, place}
 pub use Rattle.hadopt.specs.Reconstructs.{stops_going_back, renewed, reconstructed}
-pub use Rattle.hadopt.specs.Site.{Goes, stack, trees, with_stack, with_trees, and_then, with_items, SiteOf, from_top, node_of, current_is, with_error}
+pub use Rattle.hadopt.specs.Site.{Goes, stack, trees, with_stack, with_trees, and_then, with_items, SiteOf, from_top, node_of, current_is, with_error, with_again}
 pub use Rattle.hadopt.specs.Site.{error_unless}
 pub use Rattle.hadopt.specs.Spelled.{Agree, OperationsKnowNoNames}
 pub use Rattle.hnodes.specs.Nearest.{without, before, changed, put_before, changed_at}

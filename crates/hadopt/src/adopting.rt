@@ -61,6 +61,7 @@ impl Site {
         ensures few { self.new.nodes.made ≤ self.old.nodes.made + 1 }
     {
         let new = self.create_sharing(entry.name, entry.attrs, at)?;
+        self.note_again(new, entry.node)?;
         // Step 4.13.8
         self.graft(inner.last_node, Place::LastIn(new));
         // Step 4.13.6
@@ -219,6 +220,7 @@ impl Site {
         self.graft(inner.last_node, place);
         // Step 4.15
         let new = self.create_sharing(formatting_element.name, formatting_element.attrs, at)?;
+        self.note_again(new, formatting_element.node)?;
         // Steps 4.16 and 4.17
         self.move_children(furthest_block, new);
         self.graft(new, Place::LastIn(furthest_block));

@@ -1,17 +1,18 @@
 //! The site that the tree rules edit: nodes, open elements, formatting elements, foster parenting, parse errors.
 
-ghost use Rattle.std.specs.Prelude.{◌≡◌, ◌<◌, IfOk, false, []};
-ghost use Rattle.hadopt.specs.Vocabulary.{document, none, tree, Gives, Kept, numbers, Goes, with_error, error_unless};
+ghost use Rattle.std.specs.Prelude.{◌≡◌, ◌<◌, IfOk, OnOk, false, []};
+ghost use Rattle.hadopt.specs.Vocabulary.{document, none, tree, Gives, Kept, numbers, Goes, with_error, with_again, error_unless};
 
-use hnodes::Tree;
+use hnodes::{NodeId, Tree};
 use hopen::{Formatting, OpenStack};
 use names::{ErrorCode, Keys, ParseError, Refusal};
 use std::alloc::{AllocError, Global};
 use std::marker::Model;
 
-/// The nodes, the stack of open elements, the list of active formatting elements, whether foster parenting is on, and the parse
-/// errors so far, in the order in which they were raised. No call recurses over the depth of the document. After a refusal the
-/// nodes are a tree and the open nodes are among them; of the state then only a few clauses say more.
+/// The nodes, the stack of open elements, the list of active formatting elements, whether foster parenting is on, the parse
+/// errors so far, in the order in which they were raised, and which elements were made again. No call recurses over the depth of
+/// the document. After a refusal the nodes are a tree and the open nodes are among them; of the state then only a few clauses say
+/// more.
 #[derive(Drop)]
 pub struct Site {
     pub(crate) tree: Tree,
@@ -19,6 +20,7 @@ pub struct Site {
     pub(crate) list: Formatting,
     pub(crate) foster: bool,
     errors: Vec<ParseError>,
+    again: Vec<(NodeId, NodeId)>,
     pub(crate) alloc: Global,
 }
 
@@ -33,7 +35,7 @@ impl Model for Site {
 
     ghost coded = { Prim.hlevel (codes, coded_forest) };
 
-    ghost view = { λ s. record { nodes = s.tree; open_nodes = s.stack; items = s.list; foster = s.foster; errors = s.errors.items } };
+    ghost view = { λ s. record { nodes = s.tree; open_nodes = s.stack; items = s.list; foster = s.foster; errors = s.errors.items; again = s.again.items } };
 
     ghost invariant = { λ s. AreMade s.tree.made s.stack.stack };
 }
@@ -55,6 +57,7 @@ impl Site {
           items = [];
           foster = false;
           errors = [];
+          again = [];
         }) }
         ensures kept { IfOk result (λ s. Kept numbers s) }
     {
@@ -64,6 +67,7 @@ impl Site {
             list: Formatting::new(alloc, keys),
             foster: false,
             errors: Vec::new(alloc),
+            again: Vec::new(alloc),
             alloc,
         })
     }
@@ -109,6 +113,15 @@ impl Site {
         self.error(code, at)
     }
 
+    /// Notes that an element is another one made again: it was made for the entry of that in the list of active formatting elements.
+    pub(crate) fn note_again(&mut self, new: NodeId, old: NodeId) -> Result<(), AllocError>
+        ensures done { OnOk result (self.new ≡ with_again new old self.old) }
+        ensures nodes { self.new.nodes ≡ self.old.nodes }
+    {
+        self.again.push((new, old))?;
+        Ok(())
+    }
+
     /// The tree.
     pub fn tree(&self) -> &Tree
         ensures { result.now ≡ self.now.nodes }
@@ -130,11 +143,13 @@ impl Site {
         &self.errors
     }
 
-    /// The tree and the parse errors.
-    pub fn into_parts(self) -> (Tree, Vec<ParseError>)
+    /// The tree, the parse errors, and the elements that were made again, in order, each with the element whose entry in the list of
+    /// active formatting elements it was made for.
+    pub fn into_parts(self) -> (Tree, Vec<ParseError>, Vec<(NodeId, NodeId)>)
         ensures tree { result.0 ≡ self.nodes }
         ensures errors { result.1.items ≡ self.errors }
+        ensures again { result.2.items ≡ self.again }
     {
-        (self.tree, self.errors)
+        (self.tree, self.errors, self.again)
     }
 }

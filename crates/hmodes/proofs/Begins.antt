@@ -1,5 +1,5 @@
 -- Characters that are put after the formatting elements were reconstructed: the first of them reconstructs these.
-use Rattle.hmodes.proofs.Vocabulary.{◌≡◌, ◌≢◌, inl, inr, ℕ, Bool, true, false, List, ◌∷◌, Option, None, Result, Ok, Err, refl, sym, ◌∙◌, ap, subst, ◌&&◌, ◌==◌, if◌then◌else◌, MatchOption, false≢true, is_space, characters, Hands, Placed, Refusal, run_tokens, Gives, put_each, numbers, reconstructed, Outcome, Goes, SiteOf, and_then, OnGoes, perform, flow_of, with_site, rule_of, State, Token, character, flow_then, Rule, Chain, ends, refuses, goes_again, Step, drops, goes, is_dropped, begun, put, Building, TakesToken, TakesOn, StaysRefused, StepGives, refused_by, AreSome, before_text, puts_in, put_all, Mode}
+use Rattle.hmodes.proofs.Vocabulary.{◌≡◌, ◌≢◌, inl, inr, ℕ, Bool, true, false, List, ◌∷◌, Option, None, Result, Ok, Err, refl, sym, ◌∙◌, ap, subst, ◌&&◌, ◌==◌, if◌then◌else◌, MatchOption, false≢true, is_space, characters, Hands, Placed, Refusal, run_tokens, Gives, put_each, numbers, reconstructed, Outcome, Goes, SiteOf, and_then, OnGoes, perform, flow_of, with_site, rule_of, State, Token, character, flow_then, Rule, Chain, ends, refuses, goes_again, Step, drops, goes, is_dropped, begun, put, Building, TakesToken, TakesOn, StaysRefused, StepGives, refused_by, AreSome, before_text, puts_in, put_all, Mode, Alone}
 use Rattle.htoken.specs.declared.token.Token.TheVariants as code
 use Rattle.hadopt.specs.Site as site
 use Rattle.hmodes.specs.declared.mode.Mode.TheVariants as mode
@@ -61,7 +61,7 @@ module _ (b : Building) (free : b.refused ≡ None) (off : b.state.site.foster �
   abbrev after : SiteOf ℕ → Result (Unit {0}) Refusal → Building
   after x answer = record { state = with_site x begin; root = b.root; told = b.told; refused = refused_by answer }
 
-  taking : (answer : Result (Unit {0}) Refusal) (new : Building) → TakesOn p.at (character p.ch) b answer new → TakesToken b (code.Char p.ch p.at) answer new
+  taking : (answer : Result (Unit {0}) Refusal) (new : Building) → TakesOn p.at (character p.ch) b answer new → TakesToken b (Alone (code.Char p.ch p.at)) answer new
   taking answer new t = subst (λ (r : Option Refusal). MatchOption r (TakesOn p.at (character p.ch) b answer new) (λ q. StaysRefused q b answer new)) (sym free) t
 
   kept : is_dropped (character p.ch) b.state ≡ false
@@ -88,7 +88,7 @@ module _ (b : Building) (free : b.refused ≡ None) (off : b.state.site.foster �
     same : Rule numbers p.at (character p.ch) begin ≡ Rule numbers p.at (character p.ch) (begun (now y).state)
     same = rule-is (Goes y) is ∙ sym (rule_puts p.at p.ch (with_site y begin) some begins.1)
 
-    from-now : (answer : Result (Unit {0}) Refusal) (mid : Building) → TakesToken (now y) (code.Char p.ch p.at) answer mid → TakesToken b (code.Char p.ch p.at) answer mid
+    from-now : (answer : Result (Unit {0}) Refusal) (mid : Building) → TakesToken (now y) (Alone (code.Char p.ch p.at)) answer mid → TakesToken b (Alone (code.Char p.ch p.at)) answer mid
     from-now answer mid given =
         let on = taken p.at (character p.ch) (now y) mid answer free given in
         taking answer mid (record {

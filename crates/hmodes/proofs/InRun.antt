@@ -1,5 +1,5 @@
 -- Characters of a run, each of which is put where the first one is.
-use Rattle.hmodes.proofs.Vocabulary.{◌≡◌, ◌⊎◌, inl, inr, ℕ, Bool, true, false, List, [], ◌∷◌, Option, Some, None, Result, Ok, Err, refl, sym, ◌∙◌, ap, subst, ◌&&◌, ◌==◌, nat_le, is_none, if◌then◌else◌, MatchOption, characters, Hands, Placed, Refusal, Memory, TooManyNodes, run_tokens, Given, Nodes, add_char, text_before, Place, Gives, numbers, Outcome, Goes, SiteOf, flow_of, with_site, AreSome, State, Token, character, Rule, Chain, ends, refuses, Step, goes, begun, token_of, place_of, Building, Takes, TakesToken, TakesOn, StaysRefused, Stands, refused_by}
+use Rattle.hmodes.proofs.Vocabulary.{◌≡◌, ◌⊎◌, inl, inr, ℕ, Bool, true, false, List, [], ◌∷◌, Option, Some, None, Result, Ok, Err, refl, sym, ◌∙◌, ap, subst, ◌&&◌, ◌==◌, nat_le, is_none, if◌then◌else◌, MatchOption, characters, Hands, Placed, Refusal, Memory, TooManyNodes, run_tokens, Nodes, add_char, text_before, Place, Gives, numbers, Outcome, Goes, SiteOf, flow_of, with_site, AreSome, State, Token, character, Rule, Chain, ends, refuses, Step, goes, begun, token_of, place_of, Building, Takes, TakesToken, TakesOn, StaysRefused, Stands, refused_by, Alone, Handed, token_in}
 use Rattle.htoken.specs.declared.token.Token.TheVariants as code
 use Rattle.hadopt.specs.Site as site
 use Rattle.hadopt.specs.Inserts as inserts
@@ -57,16 +57,16 @@ module _ (b : Building) (free : b.refused ≡ None) (off : b.state.site.foster �
       goes (ap (λ (d : Bool). d && (c == 10)) h.lf)
       (subst (λ (s : State ℕ). Chain numbers at (character c) s (site.Refused r)) (sym h.begins) (refuses (rule_with at c v some ∙ ap (flow_of (with_nodes v)) e)))
 
-  takes : (p : Placed) (old : Building) (answer : Result (Unit {0}) Refusal) (new : Building) → old.refused ≡ None → TakesOn p.at (character p.ch) old answer new → TakesToken old (code.Char p.ch p.at) answer new
+  takes : (p : Placed) (old : Building) (answer : Result (Unit {0}) Refusal) (new : Building) → old.refused ≡ None → TakesOn p.at (character p.ch) old answer new → TakesToken old (Alone (code.Char p.ch p.at)) answer new
   takes p old answer new none t = subst (λ (r : Option Refusal). MatchOption r (TakesOn p.at (character p.ch) old answer new) (λ q. StaysRefused q old answer new)) (sym none) t
 
   -- the first character, or each after another
-  took : (p : Placed) (v : Nodes ℕ) (old : Building) → Before v old → (p.ch == 0) ≡ false → (x : SiteOf ℕ) → inserts.put p.at p.ch to (site_with v) ≡ Goes x → TakesToken old (code.Char p.ch p.at) (Ok tt) (after_put x None)
+  took : (p : Placed) (v : Nodes ℕ) (old : Building) → Before v old → (p.ch == 0) ≡ false → (x : SiteOf ℕ) → inserts.put p.at p.ch to (site_with v) ≡ Goes x → TakesToken old (Alone (code.Char p.ch p.at)) (Ok tt) (after_put x None)
   took p v old h some x e =
       takes p old (Ok tt) (after_put x None) h.refused (record { step = step_with p.at p.ch v old h some (Goes x) e; told = sym h.told; root = sym h.root; refused = refl })
 
   wrong : (p : Placed) (v : Nodes ℕ) (old : Building) → Before v old → (p.ch == 0) ≡ false → (x : SiteOf ℕ) (r : Refusal) → (r ≡ Memory) ⊎ (inserts.put p.at p.ch to (site_with v) ≡ site.Refused r)
-      → TakesToken old (code.Char p.ch p.at) (Err r) (after_put x (Some r))
+      → TakesToken old (Alone (code.Char p.ch p.at)) (Err r) (after_put x (Some r))
   wrong p v old h some x r (inl m) = takes p old (Err r) (after_put x (Some r)) h.refused (record { step = inl m; told = sym h.told; root = sym h.root; refused = refl })
   wrong p v old h some x r (inr e) =
       takes p old (Err r) (after_put x (Some r)) h.refused (record { step = inr (step_with p.at p.ch v old h some (site.Refused r) e); told = sym h.told; root = sym h.root; refused = refl })
@@ -138,9 +138,9 @@ taken at t old new answer none given = subst (λ (q : Option Refusal). MatchOpti
 pub stands-on : (at : ℕ) (t : Token ℕ) (old new : Building) → Stands old.root old.state → TakesOn at t old (Ok tt) new → Stands new.root new.state
 stands-on at t old new s on = subst (λ (r : ℕ). Stands r new.state) (sym on.root) (stands-after old.root at t old.state new.state s on.step)
 
-pub stands-run : (ts : List Given) (old new : Building) → Stands old.root old.state → old.refused ≡ None → Hands TakesToken old ts (Ok tt) new → Stands new.root new.state
+pub stands-run : (ts : List Handed) (old new : Building) → Stands old.root old.state → old.refused ≡ None → Hands TakesToken old ts (Ok tt) new → Stands new.root new.state
 stands-run [] old new s none h = subst (λ (b : Building). Stands b.root b.state) h.1 s
 stands-run (t ∷ ts) old new s none (Err e, mid, given, rest) = let never = rest.0 in absurd cc
 stands-run (t ∷ ts) old new s none (Ok u, mid, given, rest) =
-    let on = taken (place_of t) (token_of t) old mid (Ok u) none given in
-    stands-run ts mid new (stands-on (place_of t) (token_of t) old mid s on) on.refused rest
+    let on = taken (place_of (token_in t)) (token_of (token_in t)) old mid (Ok u) none given in
+    stands-run ts mid new (stands-on (place_of (token_in t)) (token_of (token_in t)) old mid s on) on.refused rest

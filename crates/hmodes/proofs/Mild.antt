@@ -1,5 +1,5 @@
 -- Programs that never have the token go again, save no mode and adopt nothing: what refuses them is a limit.
-use Rattle.hmodes.proofs.Vocabulary.{cond_both, ◌≡◌, inl, inr, ℕ, zero, suc, Bool, true, false, leb, List, [], ◌∷◌, Option, Some, None, refl, ◌∙◌, length, is_none, ◌&&◌, option_map_or, Attribute, What, element, graft, make, add_char, text_before, Place, LastIn, before, changed_at, OpenNode, EntryOf, entry_at, for_node, Placed, TooManyNodes, TooDeep, Naming, Outcome, Goes, SiteOf, and_then, stack, trees, with_trees, with_stack, with_items, from_top, node_of, place, made, added, inserted, pushed, stops_going_back, renewed, renewed_each, Do, ◌▸◌, when, unless, choose, fostered, each_pending, again, again_as, save_mode, insert, insert_named, insert_root, insert_root_named, insert_comment, comment_in_document, comment_in_first, insert_doctype, put, push_head, reconstruct, adopt, adopt_listed, Token, character, State, Flow, Done, Again, Refused, flow_then, flow_map, token_name, token_attrs, token_text, token_char, doctype_node, answer_of, perform, with_foster, with_control, each_of, flow_of, head_pushed, current_node, IsLimit}
+use Rattle.hmodes.proofs.Vocabulary.{cond_both, ◌≡◌, inl, inr, ℕ, zero, suc, Bool, true, false, leb, List, [], ◌∷◌, Option, Some, None, refl, ◌∙◌, length, is_none, ◌&&◌, option_map_or, Attribute, What, element, graft, make, add_char, text_before, Place, LastIn, before, changed_at, OpenNode, EntryOf, entry_at, for_node, Placed, TooManyNodes, TooDeep, Naming, Outcome, Goes, SiteOf, and_then, stack, trees, with_trees, with_stack, with_items, with_again, from_top, node_of, place, made, added, inserted, pushed, stops_going_back, renewed, renewed_each, Do, ◌▸◌, when, unless, choose, fostered, each_pending, again, again_as, save_mode, insert, insert_named, insert_root, insert_root_named, insert_comment, comment_in_document, comment_in_first, insert_doctype, put, push_head, reconstruct, adopt, adopt_listed, Token, character, State, Flow, Done, Again, Refused, flow_then, flow_map, token_name, token_attrs, token_text, token_char, doctype_node, answer_of, perform, with_foster, with_control, each_of, flow_of, head_pushed, current_node, IsLimit}
 use Rattle.hnodes.specs.Forest as forest
 use Rattle.names.specs.declared.tag.Tag.TheVariants as tag
 use Rattle.hadopt.specs.Site as site
@@ -54,7 +54,7 @@ module _ {N : Type 0} (n : Naming N) (at : ℕ) where
   limited-renewed : (back : ℕ) (o : Option (EntryOf N)) (s : SiteOf N) → Limited (option_map_or (λ e. renewed n at back e s) o (Goes s))
   limited-renewed back None s = tt
   limited-renewed back (Some e) s =
-      limited-then (inserted at e.name e.attrs (place n s) s) (λ t. Goes (with_items (changed_at back (for_node s.nodes.made) t.items) t)) (limited-inserted at e.name e.attrs (place n s) s) (λ t. tt)
+      limited-then (inserted at e.name e.attrs (place n s) s) (λ t. Goes (with_again s.nodes.made e.node (with_items (changed_at back (for_node s.nodes.made) t.items) t))) (limited-inserted at e.name e.attrs (place n s) s) (λ t. tt)
 
   limited-each : (back : ℕ) (s : SiteOf N) → Limited (renewed_each n at back s)
   limited-each zero s = tt

@@ -99,6 +99,7 @@ module _ (names : Texts) where
             items = [];
             foster = false;
             errors = [];
+            again = [];
           };
           control = (fragment_begins numbers context limits).control;
           context = Some (spelled-alike names context within i);

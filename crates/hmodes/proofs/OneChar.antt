@@ -1,5 +1,5 @@
 -- A character by the rules of a mode that puts it, maybe after the formatting elements, or keeps it as pending.
-use Rattle.hmodes.proofs.Vocabulary.{◌≡◌, inl, inr, ℕ, Bool, true, false, Option, Some, None, Result, Ok, Err, refl, sym, ◌∙◌, ap, subst, ◌&&◌, ◌==◌, not, is_none, if◌then◌else◌, MatchOption, result_err, false≢true, is_space, Refusal, numbers, StateGives, perform, rule_of, State, character, Rule, ends, refuses, goes, begun, Do, Building, TakesToken, TakesOn, StaysRefused, refused_by, is_for_text, char_rule, takes_char, Mode}
+use Rattle.hmodes.proofs.Vocabulary.{◌≡◌, inl, inr, ℕ, Bool, true, false, Option, Some, None, Result, Ok, Err, refl, sym, ◌∙◌, ap, subst, ◌&&◌, ◌==◌, not, is_none, if◌then◌else◌, MatchOption, result_err, false≢true, is_space, Refusal, numbers, StateGives, perform, rule_of, State, character, Rule, ends, refuses, goes, begun, Do, Building, TakesToken, TakesOn, StaysRefused, refused_by, is_for_text, char_rule, takes_char, Mode, Alone}
 use Rattle.htoken.specs.declared.token.Token.TheVariants as code
 use Rattle.hmodes.specs.declared.token_kind.TokenKind.TheVariants.{Ws, Char, Nul}
 use Rattle.hmodes.specs.declared.mode.Mode.TheVariants as mode
@@ -34,11 +34,11 @@ module _ (b : Building) (free : b.refused ≡ None) (takes : takes_char b.state 
   abbrev after : State ℕ → Option Refusal → Building
   after t refused = record { state = t; root = b.root; told = b.told; refused = refused }
 
-  taking : (answer : Result (Unit {0}) Refusal) (new : Building) → TakesOn at (character c) b answer new → TakesToken b (code.Char c at) answer new
+  taking : (answer : Result (Unit {0}) Refusal) (new : Building) → TakesOn at (character c) b answer new → TakesToken b (Alone (code.Char c at)) answer new
   taking answer new t = subst (λ (r : Option Refusal). MatchOption r (TakesOn at (character c) b answer new) (λ q. StaysRefused q b answer new)) (sym free) t
 
   pub taken_by_rule : (answer : Result (Unit {0}) Refusal) (t : State ℕ) → StateGives answer t (perform numbers at (character c) (char_rule b.state.control.mode) (begun b.state))
-      → TakesToken b (code.Char c at) answer (after t (refused_by answer))
+      → TakesToken b (Alone (code.Char c at)) answer (after t (refused_by answer))
   taken_by_rule (Ok u) t g =
       taking (Ok tt) (after t None) (record { step = goes (ap (λ (d : Bool). d && (c == 10)) parts.0) (ends (rule ∙ g)); told = refl; root = refl; refused = refl })
   taken_by_rule (Err r) t (inl m) = taking (Err r) (after t (Some r)) (record { step = inl m; told = refl; root = refl; refused = refl })

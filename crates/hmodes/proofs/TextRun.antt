@@ -1,5 +1,5 @@
 -- Characters that are put as they are.
-use Rattle.hmodes.proofs.Vocabulary.{◌≡◌, ℕ, zero, suc, Bool, true, false, List, [], ◌∷◌, ◌++◌, ◌+◌, ◌-◌, length, Option, Some, None, Result, Ok, Err, refl, sym, ap, ◌∙◌, arith, subst, list_all, ◌&&◌, ◌==◌, not, is_none, result_err, and_parts, false≢true, nat_tests, placed, characters, Placed, one_more, one_refused, len_utf8, encode_utf8, repeat, chars, IsUtf8, IsUtf8-nil, IsUtf8-encode, IsUtf8-append, chars-nil, chars_past_char, AreNodes, IsPlace, Hands, Refusal, Place, run_tokens, replaced, StartsAt, IsSpread, Given, Gives, put_each, Outcome, SiteOf, with_site, State, Token, begun, Building, Stands, Takes, TakesToken, puts_run, refused_by, AreSome, puts_in, puts_each, put_all}
+use Rattle.hmodes.proofs.Vocabulary.{◌≡◌, ℕ, zero, suc, Bool, true, false, List, [], ◌∷◌, ◌++◌, ◌+◌, ◌-◌, length, Option, Some, None, Result, Ok, Err, refl, sym, ap, ◌∙◌, arith, subst, list_all, ◌&&◌, ◌==◌, not, is_none, result_err, and_parts, false≢true, nat_tests, placed, characters, Placed, one_more, one_refused, len_utf8, encode_utf8, repeat, chars, IsUtf8, IsUtf8-nil, IsUtf8-encode, IsUtf8-append, chars-nil, chars_past_char, AreNodes, IsPlace, Hands, Refusal, Place, run_tokens, replaced, StartsAt, IsSpread, Gives, put_each, Outcome, SiteOf, with_site, State, Token, begun, Building, Stands, Takes, TakesToken, puts_run, refused_by, AreSome, puts_in, puts_each, put_all, Alone, Handed}
 use Rattle.std.proofs.lemmas.List.{length-append}
 use Rattle.names.proofs.Handing.{Continues-all}
 use Rattle.htext.specs.Run.{is_clean}
@@ -115,7 +115,7 @@ pub gives-of : (b old : Building) (s : State ℕ) (x : SiteOf ℕ) (answer : Res
 gives-of b old s x answer f is begins g = subst (λ (t : State ℕ). Gives answer x (f t)) (begins ∙ ap (λ (o : Building). begun o.state) is) g
 
 -- what an unrefused building is after tokens, or after one
-pub stands_by_run : (ts : List Given) (old new : Building) (answer : Result (Unit {0}) Refusal) → (old.refused ≡ None → Stands old.root old.state) → old.refused ≡ None → result_err answer ≡ None → Hands TakesToken old ts answer new
+pub stands_by_run : (ts : List Handed) (old new : Building) (answer : Result (Unit {0}) Refusal) → (old.refused ≡ None → Stands old.root old.state) → old.refused ≡ None → result_err answer ≡ None → Hands TakesToken old ts answer new
     → Stands new.root new.state
 stands_by_run ts old new answer stands free none h =
     stands-run ts old new (stands free) free (subst (λ (a : Result (Unit {0}) Refusal). Hands TakesToken old ts a new) (ok-of answer none) h)
@@ -139,16 +139,16 @@ pub rest_clean : (run rest : List ℕ) (c : ℕ) → IsUtf8 run → run ≡ enco
 rest_clean run rest c u is h = (and_parts (is_clean c) (list_all is_clean (chars rest)) (sym (ap (list_all is_clean) (chars_past_char run rest c u is)) ∙ h)).1
 
 -- A run is taken whose first character was taken by itself, and then what is left.
-abbrev token : Placed → Given
-token p = Char p.ch p.at
+abbrev token : Placed → Handed
+token p = Alone (Char p.ch p.at)
 
 module _ (b mid : Building) (at : ℕ) (run rest : List ℕ) (c : ℕ) (u : IsUtf8 run) (is : run ≡ encode_utf8 c ++ rest) where
-  pub rest_taken : (next : ℕ) → next ≡ at + (length run - length rest) → TakesToken b (Char c at) (Ok tt) mid → (answer : Result (Unit {0}) Refusal) (new : Building)
+  pub rest_taken : (next : ℕ) → next ≡ at + (length run - length rest) → TakesToken b (Alone (Char c at)) (Ok tt) mid → (answer : Result (Unit {0}) Refusal) (new : Building)
       → Hands TakesToken mid (run_tokens (placed next (chars rest))) answer new → Hands TakesToken b (run_tokens (placed at (chars run))) answer new
   rest_taken next here given answer new h =
       one_more TakesToken token b (run_tokens (placed at (chars run))) b at run (Continues-all TakesToken b (run_tokens (placed at (chars run)))) c rest u is at refl mid next
       (omega (arith, here, ap length is, length-append (encode_utf8 c) rest)) given answer new h
 
-  pub first_refused : (e : Refusal) → TakesToken b (Char c at) (Err e) mid → Hands TakesToken b (run_tokens (placed at (chars run))) (Err e) mid
+  pub first_refused : (e : Refusal) → TakesToken b (Alone (Char c at)) (Err e) mid → Hands TakesToken b (run_tokens (placed at (chars run))) (Err e) mid
   first_refused e given =
       one_refused TakesToken token b (run_tokens (placed at (chars run))) b at run (Continues-all TakesToken b (run_tokens (placed at (chars run)))) c rest u is at refl mid e given

@@ -14,7 +14,7 @@ pub use Rattle.hadopt.specs.Kept.{Each, Kept, Pairs, TellsTables}
 pub use Rattle.hadopt.specs.Naming.{Naming, numbers, texts}
 pub use Rattle.hadopt.specs.Places.{is_fostering, place}
 pub use Rattle.hadopt.specs.Reconstructs.{reconstructed, renewed, renewed_each, stops_going_back}
-pub use Rattle.hadopt.specs.Site.{Goes, Outcome, SiteOf, and_then, current_is, error_unless, from_top, node_of, stack, trees, with_error, with_items, with_stack, with_trees}
+pub use Rattle.hadopt.specs.Site.{Goes, Outcome, SiteOf, and_then, current_is, error_unless, from_top, node_of, stack, trees, with_error, with_items, with_again, with_stack, with_trees}
 pub use Rattle.hnodes.specs.Nearest.{before, changed_at}
 pub use Rattle.hopen.specs.Formatting.{EntryOf, Listed, after_marker, cleared, entry, entry_at, entry_of, find_entry, for_node, is_equal, marker, most_equal, with_room, without_earliest, without_entry}
 pub use Rattle.hmarkup.specs.Quirks.{QuirkLine}
@@ -58,6 +58,7 @@ pub use Rattle.hopen.specs.Stack.{OpenNode, above, current, furthest_block, in_s
 pub use Rattle.hopen.specs.declared.scope.Scope.TheVariants.{Default}
 pub use Rattle.htext.proofs.Wide.{has_characters, none_left, one_more, one_refused}
 pub use Rattle.htoken.specs.Run.{IsSpread, StartsAt, replaced, run_tokens}
+pub use Rattle.htoken.specs.Token.{Alone, Handed, token_in}
 pub use Rattle.htoken.specs.declared.token.Token.{Token as Given}
 pub use Rattle.names.specs.Placed.{characters, is_space, placed}
 pub use Rattle.names.specs.Sink.{Continues, Hands}

@@ -3,7 +3,7 @@ use Rattle.std.specs.Prelude.{◌≡◌, ◌<◌, ◌⊎◌, ℕ, Bool, not, ◌
 use Rattle.names.specs.declared.error.ParseError.{ParseError}
 use Rattle.names.specs.declared.refusal.Refusal.{Refusal}
 use Rattle.names.specs.declared.refusal.Refusal.TheVariants.{Memory}
-use Rattle.htoken.specs.declared.token.Token.{Token as Given}
+use Rattle.htoken.specs.Token.{Handed, token_in}
 use Rattle.hadopt.specs.Naming.{numbers}
 use Rattle.hadopt.specs.Site.{Goes}
 use Rattle.hadopt.specs.Site as site
@@ -63,8 +63,8 @@ pub record TakesOn (at : ℕ) (t : Token ℕ) (old : Building) (answer : Result 
 abbrev pub Takes : ℕ → Token ℕ → Building → Result (Unit {0}) Refusal → Building → Type 0
 Takes at t old answer new = MatchOption old.refused (TakesOn at t old answer new) (λ r. StaysRefused r old answer new)
 
-abbrev pub TakesToken : Building → Given → Result (Unit {0}) Refusal → Building → Type 0
-TakesToken old token answer new = Takes (place_of token) (token_of token) old answer new
+abbrev pub TakesToken : Building → Handed → Result (Unit {0}) Refusal → Building → Type 0
+TakesToken old handed answer new = Takes (place_of (token_in handed)) (token_of (token_in handed)) old answer new
 
 -- A parse error is taken: one error more is reported; or memory ran out.
 abbrev pub Tells : ParseError → Building → Result (Unit {0}) Refusal → Building → Type 0

@@ -1,7 +1,8 @@
 //! The builder of a tree: it takes tokens and runs of text, and gives the tree with its errors, or one refusal.
 
-ghost use Rattle.std.specs.Prelude.{◌≡◌, ◌+◌, ◌-◌, ◌<◌, ◌≤◌, ◌++◌, ◌==◌, ◌&&◌, not, List, [], Some, None, true, Err, length, is_none, IfErr, IfOk, MatchResult};
+ghost use Rattle.std.specs.Prelude.{◌≡◌, ◌+◌, ◌-◌, ◌<◌, ◌≤◌, ◌++◌, ◌==◌, ◌&&◌, not, List, [], Some, None, true, Err, length, is_none, IfErr, IfOk, MatchResult, slice_get};
 ghost use Rattle.std.specs.List.{list_all};
+ghost use Rattle.std.specs.Option.{option_map};
 ghost use Rattle.std.specs.Result.{result_err};
 ghost use Rattle.std.specs.Str.{chars};
 ghost use Rattle.hmodes.specs.Vocabulary.{Refused, Memory, numbers, document_begins, fragment_begins, token_of, Takes, TakesToken, puts_run, AreSome, puts_each, takes_char, is_clean, MAX_INPUT, run_tokens, IsSpread, placed};
@@ -12,7 +13,7 @@ use crate::tree_construction::TreeConstruction;
 use hmarkup::{ErrorSink, Quirks};
 use hnodes::{NodeId, Tree};
 use htoken::{Token, TokenSink};
-use names::{Keys, NameId, ParseError, Refusal};
+use names::{Keys, NameId, Names, ParseError, Refusal};
 use std::alloc::{AllocError, Global};
 use std::marker::Model;
 
@@ -56,12 +57,14 @@ impl<'q> Model for Builder<'q> {
 }
 
 /// What was built: the tree, the document or a fragment's root element, and the parse errors: those of the rules in the order in
-/// which they were raised, then those that were handed over.
+/// which they were raised, then those that were handed over. And the elements that were made again, by reconstructing the active
+/// formatting elements or by the adoption agency, in order, each with the element whose entry it was made for.
 #[derive(Drop)]
 pub struct Built {
     pub tree: Tree,
     pub root: NodeId,
     pub errors: Vec<ParseError>,
+    pub again: Vec<(NodeId, NodeId)>,
 }
 
 impl<'q> Builder<'q> {
@@ -111,12 +114,27 @@ impl<'q> Builder<'q> {
         self.state.site.tree().made()
     }
 
-    /// The tree, its root, and the parse errors. A builder that has refused gives the same refusal and no tree, since its tree may
-    /// be between two edits of a token. Any other error is `Memory`.
+    /// The tree as it is so far.
+    pub fn tree(&self) -> &Tree
+        ensures { result.now ≡ self.now.state.site.nodes }
+    {
+        self.state.site.tree()
+    }
+
+    /// The place of the first pending table character (`#parsing-main-intabletext`), if one is pending.
+    pub fn first_pending(&self) -> Option<u64>
+        ensures { result ≡ option_map (λ c. c.at) (slice_get self.now.state.control.pending 0) }
+    {
+        Some(self.state.control.pending.first()?.at)
+    }
+
+    /// The tree, its root, the parse errors, and which elements were made again. A builder that has refused gives the same refusal
+    /// and no tree, since its tree may be between two edits of a token. Any other error is `Memory`.
     pub fn finish(self) -> Result<Built, Refusal>
         ensures tree { IfOk result (λ built. built.tree ≡ self.entry.state.site.nodes) }
         ensures root { IfOk result (λ built. (built.root ≡ self.entry.root) × (built.root < built.tree.made)) }
         ensures errors { IfOk result (λ built. built.errors.items ≡ self.entry.state.site.errors ++ self.entry.told) }
+        ensures made_again { IfOk result (λ built. built.again.items ≡ self.entry.state.site.again) }
         ensures again { (refusal : Refused) → self.entry.refused ≡ Some refusal → result ≡ Err refusal }
         ensures memory { self.entry.refused ≡ None → IfErr result (λ refusal. refusal ≡ Memory) }
     {
@@ -132,9 +150,14 @@ impl<'q> Builder<'q> {
             return Err(refusal);
         }
         let TreeConstruction { site, .. } = state;
-        let (tree, raised) = site.into_parts();
+        let (tree, raised, again) = site.into_parts();
         let errors = joined(raised, told)?;
-        Ok(Built { tree, root, errors })
+        Ok(Built {
+            tree,
+            root,
+            errors,
+            again,
+        })
     }
 
     /// Takes the first character of a run by itself. If what is left can be put whole then, as after one that changes the mode, or an LF
@@ -270,6 +293,10 @@ impl<'q> TokenSink for Builder<'q> {
     fn take_token(&mut self, mut token: Token) -> Result<(), Refusal> {
         let at = token.place();
         self.take(&mut token, at)
+    }
+
+    fn take_tag(&mut self, token: Token, _names: &Names) -> Result<(), Refusal> {
+        self.take_token(token)
     }
 
     fn take_text(&mut self, ch: char, at: u64) -> Result<(), Refusal> {

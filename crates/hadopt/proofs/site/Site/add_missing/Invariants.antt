@@ -5,7 +5,7 @@ use Rattle.hadopt.proofs.site.Site.add_missing.Given as goal
 
 -- the value of a site
 abbrev site_of : Inside → SiteOf ℕ
-site_of s = record { nodes = s.tree; open_nodes = s.stack; items = s.list; foster = s.foster; errors = s.errors.items }
+site_of s = record { nodes = s.tree; open_nodes = s.stack; items = s.list; foster = s.foster; errors = s.errors.items; again = s.again.items }
 
 abbrev pub invariant-loop-attr : goal.invariant-loop-attr
 invariant-loop-attr l = record {
