@@ -2,6 +2,7 @@
 use Rattle.hparse.proofs.Names.{◌≡◌, List, [], ◌∷◌, ◌++◌, map, sym, ap, ◌∙◌, subst, Option, None, Result, Ok, Err, append-nil, append_assoc, inl, inr, ◌⊎◌, ParseError, Refusal, Memory, Hands, Given, Item, ItemToken, ItemError, gives_item, numbers, Goes, Refused, Steps, and, token_of, place_of, Building, TakesToken, tokens_handed, errors_handed}
 use Rattle.std.specs.Prelude.{MatchOption}
 use Rattle.hmodes.specs.Step.{Step, none, refused}
+use Rattle.htoken.specs.Token.{Handed, token_in}
 use Rattle.hmodes.specs.Building.{TakesOn, TakesError, Tells, StaysRefused}
 use Rattle.hparse.proofs.Numbered.{placed_number}
 
@@ -10,8 +11,8 @@ abbrev pub builds : Building → Item → Result (Unit {0}) Refusal → Building
 builds = gives_item TakesError TakesToken
 
 -- a builder that has refused nothing took this token, or this error
-pub takes_on : (t : Given) (old new : Building) (answer : Result (Unit {0}) Refusal) → old.refused ≡ None → TakesToken old t answer new → TakesOn (place_of t) (token_of t) old answer new
-takes_on t old new answer is given = subst (λ (o : Option Refusal). MatchOption o (TakesOn (place_of t) (token_of t) old answer new) (λ r. StaysRefused r old answer new)) is given
+pub takes_on : (t : Handed) (old new : Building) (answer : Result (Unit {0}) Refusal) → old.refused ≡ None → TakesToken old t answer new → TakesOn (place_of (token_in t)) (token_of (token_in t)) old answer new
+takes_on t old new answer is given = subst (λ (o : Option Refusal). MatchOption o (TakesOn (place_of (token_in t)) (token_of (token_in t)) old answer new) (λ r. StaysRefused r old answer new)) is given
 
 pub tells : (e : ParseError) (old new : Building) (answer : Result (Unit {0}) Refusal) → old.refused ≡ None → TakesError old e answer new → Tells e old answer new
 tells e old new answer is given = subst (λ (o : Option Refusal). MatchOption o (Tells e old answer new) (λ r. StaysRefused r old answer new)) is given
@@ -66,7 +67,7 @@ refused_by_rules old new (ItemToken t ∷ items) e is (Err r, next, given, rest)
     let same : r ≡ e = let it = rest.0 in cc in
     elim took.step [
       | inl why ↦ inl (sym same ∙ why)
-      | inr step ↦ inr (refused (subst (λ (x : Refusal). Step numbers (place_of t) (token_of t) old.state (Refused x)) same step))
+      | inr step ↦ inr (refused (subst (λ (x : Refusal). Step numbers (place_of (token_in t)) (token_of (token_in t)) old.state (Refused x)) same step))
     ]
 refused_by_rules old new (ItemError f ∷ items) e is (Err r, next, given, rest) =
     let took = tells f old next (Err r) is given in

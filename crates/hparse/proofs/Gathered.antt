@@ -1,5 +1,6 @@
 -- What a collection has been handed: it keeps all, and refuses for want of memory alone.
 use Rattle.hparse.proofs.Names.{◌≡◌, List, [], ◌∷◌, ◌++◌, sym, ap, ◌∙◌, subst, Result, Ok, Err, append-nil, append_assoc, IsPermutation, ParseError, Refusal, Texts, Hands, Token, Tok, Item, ItemToken, ItemError, gives_item, Collected, Began, Handed, tokens_handed, errors_handed, TokensMean}
+use Rattle.htoken.specs.Token.{token_in}
 use Rattle.hparse.specs.Collecting.{KeepsError, KeepsToken}
 use Rattle.hparse.proofs.Refusing.{RefusesForMemory}
 
@@ -11,7 +12,7 @@ gathers : (s t : Collected) (items : List Item) → Hands collects s items (Ok t
 gathers s t [] h = (ap (λ (x : Collected). x.tokens.items) (sym h.1) ∙ sym (append-nil s.tokens.items), ap (λ (x : Collected). x.errors.items) (sym h.1) ∙ sym (append-nil s.errors.items))
 gathers s t (ItemToken k ∷ items) (Ok u, next, given, rest) =
     let g = gathers next t items rest in
-    (g.0 ∙ ap (λ (x : List Token). x ++ tokens_handed items) given.0 ∙ append_assoc s.tokens.items (k ∷ []) (tokens_handed items), g.1 ∙ ap (λ (x : List ParseError). x ++ errors_handed items) given.1)
+    (g.0 ∙ ap (λ (x : List Token). x ++ tokens_handed items) given.0 ∙ append_assoc s.tokens.items (token_in k ∷ []) (tokens_handed items), g.1 ∙ ap (λ (x : List ParseError). x ++ errors_handed items) given.1)
 gathers s t (ItemError e ∷ items) (Ok u, next, given, rest) =
     let g = gathers next t items rest in
     (g.0 ∙ ap (λ (x : List Token). x ++ tokens_handed items) given.0, g.1 ∙ ap (λ (x : List ParseError). x ++ errors_handed items) given.1 ∙ append_assoc s.errors.items (e ∷ []) (errors_handed items))

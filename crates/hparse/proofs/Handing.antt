@@ -1,8 +1,8 @@
 -- What a sink has been handed, and what it is handed after that.
 use Rattle.hparse.proofs.Names.{◌≡◌, List, [], ◌∷◌, ◌++◌, sym, refl, ap, subst, Result, Ok, IsPermutation, IsPermutation-append_left, IsPermutation-refl, IsPermutation-trans, ParseError, Refusal, Texts, Grows, grows_not, grows_on, Token, Tok, Item, ItemToken, ItemError, Event, Reports, tokens_in, errors_in, HandsEvents, Began, Handed, tokens_handed, errors_handed, TokensMean}
 use Rattle.names.proofs.Handing.{Hands-append}
-use Rattle.htoken.specs.Token.{Gives, Mean}
-use Rattle.htoken.proofs.Fronts.{token_kept}
+use Rattle.htoken.specs.Token.{Gives, Mean, token_in}
+use Rattle.htoken.proofs.Fronts.{handed_means, token_kept}
 
 module _ (old new : Texts) (grows : Grows old new) where
   -- tokens stand for the same ones when the table has grown
@@ -20,7 +20,7 @@ TokensMean-append names (t ∷ ts) us [] ls h k = absurd h
 
 pub tokens_handed-append : (xs ys : List Item) → tokens_handed (xs ++ ys) ≡ tokens_handed xs ++ tokens_handed ys
 tokens_handed-append [] ys = refl
-tokens_handed-append (ItemToken t ∷ xs) ys = ap (λ (x : List Token). t ∷ x) (tokens_handed-append xs ys)
+tokens_handed-append (ItemToken t ∷ xs) ys = ap (λ (x : List Token). token_in t ∷ x) (tokens_handed-append xs ys)
 tokens_handed-append (ItemError e ∷ xs) ys = tokens_handed-append xs ys
 
 pub errors_handed-append : (xs ys : List Item) → errors_handed (xs ++ ys) ≡ errors_handed xs ++ errors_handed ys
@@ -32,7 +32,7 @@ errors_handed-append (ItemError e ∷ xs) ys = ap (λ (x : List ParseError). e �
 parts_of_mean : (names : Texts) (items : List Item) (events : List Event) → Mean names items events
     → TokensMean names (tokens_handed items) (tokens_in events) × (errors_handed items ≡ errors_in events)
 parts_of_mean names [] [] m = (tt, refl)
-parts_of_mean names (ItemToken t ∷ items) (Gives tok ∷ events) m = let rest = parts_of_mean names items events m.1 in ((m.0, rest.0), rest.1)
+parts_of_mean names (ItemToken t ∷ items) (Gives tok ∷ events) m = let rest = parts_of_mean names items events m.1 in ((handed_means names t tok m.0, rest.0), rest.1)
 parts_of_mean names (ItemError e ∷ items) (Reports f ∷ events) m =
     let rest = parts_of_mean names items events m.1 in
     let same : e ≡ f = m.0 in

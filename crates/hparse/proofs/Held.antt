@@ -1,11 +1,12 @@
 -- What a feeding holds after more items, and after the end of the text.
-use Rattle.hparse.proofs.Names.{◌≡◌, ◌<◌, arith, ℕ, zero, suc, ◌+◌, true, false, length, List, [], ◌∷◌, ◌++◌, sym, refl, ap, ◌∙◌, subst, Result, Ok, Err, append-nil, append_assoc, map, MatchResult, IsPermutation, IsPermutation-refl, IsPermutation-append_right, IsPermutation-append_comm, ParseError, Placed, RawKind, Refusal, Texts, Grows, Hands, grows_not, CharItem, Character, InputError, characters_among, errors_among, items, bad_each, input_errors, run_items, start_kind, Token, replaced, Tok, Event, Reports, Item, gives_item, IsRefused, AreFront, tokens_in, errors_in, HandsEvents, Entities, HasTaken, Manner, Began, Handed, Intake, HoldsItems, TakesItems, items_ran_out, items_stopped, items_refused, items_taken, Proceeds, EndsText, text_ran_out, text_stopped, text_taken}
+use Rattle.hparse.proofs.Names.{◌≡◌, ◌<◌, arith, ℕ, zero, suc, ◌+◌, true, false, length, List, [], ◌∷◌, ◌++◌, sym, refl, ap, ◌∙◌, subst, Result, Ok, Err, append-nil, append_assoc, map, MatchResult, IsPermutation, IsPermutation-refl, IsPermutation-append_right, IsPermutation-append_comm, ParseError, Placed, RawKind, Refusal, Texts, Grows, Hands, grows_not, CharItem, Character, InputError, characters_among, errors_among, items, bad_each, input_errors, run_items, start_kind, replaced, Tok, Event, Reports, Item, gives_item, IsRefused, AreFront, tokens_in, errors_in, HandsEvents, Entities, HasTaken, Manner, Began, Handed, Intake, HoldsItems, TakesItems, items_ran_out, items_stopped, items_refused, items_taken, Proceeds, EndsText, text_ran_out, text_stopped, text_taken}
 use Rattle.std.specs.Prelude.{is_err}
 use Rattle.std.specs.Bool.{◌==◌}
 use Rattle.std.specs.Char.{len_utf8}
 use Rattle.names.specs.Placed.{placed, error}
 use Rattle.names.specs.declared.error.ErrorCode.TheVariants.{ReplacedBytes}
 use Rattle.htoken.proofs.Handing.{reports_given}
+use Rattle.htoken.specs.Token.{Handed as HandedToken}
 use Rattle.htoken.specs.Tokens.{eof_of}
 use Rattle.htoken.specs.declared.tokenizer.Tokenizer.{Tokenizer}
 use Rattle.htoken.specs.Tokenizing.{holds, in_ambiguous_ampersand, Takes, take_ran_out, take_refused, take_sink_refused, take_took, Finishes, finish_ran_out, finish_sink_refused, finish_took}
@@ -24,7 +25,7 @@ errors_among-append (Character p ∷ xs) ys = errors_among-append xs ys
 errors_among-append (InputError e ∷ xs) ys = ap (λ (x : List ParseError). e ∷ x) (errors_among-append xs ys)
 
 -- what was taken is a front of what the text gives, whatever comes after
-taken_front : (table : Entities) (start : RawKind) (t : Tokenizer) (names : Texts) (text : List Placed) (taken : List Event) → HasTaken table start t names text taken → (more : List Placed) (end : ℕ)
+pub taken_front : (table : Entities) (start : RawKind) (t : Tokenizer) (names : Texts) (text : List Placed) (taken : List Event) → HasTaken table start t names text taken → (more : List Placed) (end : ℕ)
     → AreFront table start (text ++ more) end taken
 taken_front table start t names text taken (holds h) more end =
     let st = h.stands end more in
@@ -118,7 +119,9 @@ module _ {S : Type 0} (gives : S → Item → Result (Unit {0}) Refusal → S �
     holds_items : (xs : List CharItem) (mid : S) → Handed gives old.names began (tokens_in h.taken) ((errors_among items ++ errors_among xs) ++ errors_in h.taken) (Ok tt) mid
         → new.unfed ≡ [] → (answer : Result (Unit {0}) Refusal) → new.stopped ≡ is_err answer
         → Takes gives m.table (start_kind m.start) (characters_among items) (characters_among xs) h.taken new.names mid answer new.sink new.tokenizer → TakesItems gives m began items xs answer new
-    holds_items xs mid opts unfed answer noted (take_ran_out events e handed front) = items_ran_out e
+    holds_items xs mid opts unfed answer noted (take_ran_out events e handed front) =
+        items_ran_out (h.taken ++ events) _ e (noted ∙ ap is_err e) (after_events (errors_among xs) mid opts events (Ok tt) handed)
+        (λ more end. subst (λ (x : List Placed). AreFront m.table (start_kind m.start) x end (h.taken ++ events)) (with_more items xs more) (front (characters_among more) end))
     holds_items xs mid opts unfed answer noted (take_refused name at events e handed refused) =
         items_refused name at (tokens_in (h.taken ++ events)) _ e (noted ∙ ap is_err e) (after_events (errors_among xs) mid opts events (Ok tt) handed)
         (λ more end. subst (λ (x : List Placed). IsRefused m.table (start_kind m.start) x end (tokens_in (h.taken ++ events)) name at) (with_more items xs more) (refused (characters_among more) end))
@@ -157,7 +160,8 @@ module _ {S : Type 0} (gives : S → Item → Result (Unit {0}) Refusal → S �
 
     pub ends_text : (end : ℕ) (answer : Result (Unit {0}) Refusal)
         → Finishes gives m.table (start_kind m.start) end (characters_among items) h.taken new.names old.sink answer new.sink → EndsText gives m began items end answer new
-    ends_text end answer (finish_ran_out events e handed front) = text_ran_out e
+    ends_text end answer (finish_ran_out events e handed front) =
+        text_ran_out (h.taken ++ events) (errors_among items ++ errors_in (h.taken ++ events)) e (at_end events (Ok tt) handed) front
     ends_text end answer (finish_sink_refused x events e handed front) =
         text_stopped x (h.taken ++ events) (errors_among items ++ errors_in (h.taken ++ events)) e (at_end events (Err x) handed) front
     ends_text end answer (finish_took events e handed t) =
@@ -200,7 +204,8 @@ module _ {S : Type 0} (gives : S → Item → Result (Unit {0}) Refusal → S �
   -- items that are handed over after others count as handed over with them
   after_unfed : (m : Manner) (began : Began S) (fed unfed items : List CharItem) (answer : Result (Unit {0}) Refusal) (new : Intake S) → TakesItems gives m began fed (unfed ++ items) answer new
       → TakesItems gives m began (fed ++ unfed) items answer new
-  after_unfed m began fed unfed items answer new (items_ran_out e) = items_ran_out e
+  after_unfed m began fed unfed items answer new (items_ran_out events errors e noted handed front) =
+      items_ran_out events errors e noted handed (λ more end. subst (λ (is : List CharItem). AreFront m.table (start_kind m.start) (characters_among is) end events) (regrouped fed unfed items more) (front more end))
   after_unfed m began fed unfed items answer new (items_stopped x events errors e noted handed front) =
       items_stopped x events errors e noted handed (λ more end. subst (λ (is : List CharItem). AreFront m.table (start_kind m.start) (characters_among is) end events) (regrouped fed unfed items more) (front more end))
   after_unfed m began fed unfed items answer new (items_refused name at tokens errors e noted handed refused) =
@@ -264,7 +269,7 @@ errors_of_bad : (n at : ℕ) → errors_among (items (bad_each at n)) ≡ input_
 errors_of_bad zero at = refl
 errors_of_bad (suc n) at = ap (λ (es : List ParseError). error ReplacedBytes at ∷ es) (errors_of_bad n (at + 1))
 
-module _ {S : Type 0} (gives : S → ParseError → Result (Unit {0}) Refusal → S → Type 0) (gives_token : S → Token → Result (Unit {0}) Refusal → S → Type 0) (old new : Intake S) (none : old.unfed ≡ []) (at : ℕ) where
+module _ {S : Type 0} (gives : S → ParseError → Result (Unit {0}) Refusal → S → Type 0) (gives_token : S → HandedToken → Result (Unit {0}) Refusal → S → Type 0) (old new : Intake S) (none : old.unfed ≡ []) (at : ℕ) where
   abbrev to_item : S → Item → Result (Unit {0}) Refusal → S → Type 0
   to_item = gives_item gives gives_token
 

@@ -4,6 +4,7 @@ pub mod Gathered
 pub mod Handing
 pub mod Held
 pub mod Joined
+pub mod NodesMade
 pub mod Meant
 pub mod Names
 pub mod Numbered
@@ -11,6 +12,7 @@ pub mod OfNames
 pub mod Parsings
 pub mod Pieces
 pub mod Placed
+pub mod ReadIn
 pub mod Refusing
 pub mod RunOf
 pub mod Sorting

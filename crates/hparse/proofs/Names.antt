@@ -1,5 +1,5 @@
 -- The names of other crates and of specs/ that several proofs cite, in one place.
-pub use Rattle.hparse.specs.Vocabulary.{Entities, token_of, of_document, HasRead, FeedsPiece, EndsInput, WasRead, HoldsItems, EndsText, Refuses, Manner, Began, Comes, as_document, ParseCase, ParseOptions, document, fragment, HasParsed, AnswersParse, options_of, origins_if, PlacesToken, Shows, HasReadTokens, IsUnrefusedText, IsUnrefused, CharItem, bad_each, input_errors, gives_item, Given, AreNames, Hands, Memory}
+pub use Rattle.hparse.specs.Vocabulary.{Entities, token_of, of_document, HasRead, FeedsPiece, EndsInput, WasRead, HoldsItems, EndsText, Refuses, Manner, Began, Comes, as_document, ParseCase, ParseOptions, document, fragment, HasParsed, AnswersParse, options_of, PlacesToken, Shows, HasReadTokens, IsUnrefusedText, IsUnrefused, CharItem, bad_each, input_errors, gives_item, Given, AreNames, Hands, Memory}
 pub use Rattle.hadopt.proofs.Agreeing.{numbers-agree}
 pub use Rattle.hadopt.specs.Naming.{numbers, texts}
 pub use Rattle.hadopt.specs.Site.{Goes, Refused}
@@ -14,11 +14,10 @@ pub use Rattle.hnodes.specs.Forest.{none, tree}
 pub use Rattle.hnodes.specs.Named.{AreOf}
 pub use Rattle.hnodes.specs.Rows.{attribute_of}
 pub use Rattle.hparse.specs.Answer.{Answers, accepted}
-pub use Rattle.hparse.specs.Fed.{piece_ran_out, piece_refused, piece_read, input_ran_out, input_comes}
+pub use Rattle.hparse.specs.Fed.{piece_refused, piece_read}
 pub use Rattle.hparse.specs.Holding.{TakesItems, items_ran_out, items_stopped, items_refused, items_taken, Proceeds, text_ran_out, text_stopped, text_taken}
-pub use Rattle.hparse.specs.Input.{tokens_handed, errors_handed, settled_in, reads_in, Handed, IsRefusedFor, by_sink, by_tag, by_bytes, IsTaken}
+pub use Rattle.hparse.specs.Input.{tokens_handed, errors_handed, settled_in, reads_in, Handed, IsRefusedFor, by_sink, by_tag, by_bytes, by_memory, IsTaken}
 pub use Rattle.hparse.specs.Intake.{Intake}
-pub use Rattle.hparse.specs.Origins.{OriginState, Makes}
 pub use Rattle.hparse.specs.Parse.{begins, manner, Parses}
 pub use Rattle.hparse.specs.Parsing.{places_item, BeginsIn, TellsPlaces, a_document, a_fragment}
 pub use Rattle.hparse.specs.Taken.{placed}

@@ -10,11 +10,7 @@ use Rattle.hnodes.specs.Spelled.{spelled_attribute}
 use Rattle.hadopt.specs.Spelled.{Agree}
 use Rattle.hmodes.specs.Beginning.{Limits, fragment_begins, form_of, control_in}
 use Rattle.hmodes.specs.Reset.{context_mode}
-use Rattle.hmodes.specs.Tokens as given
-
--- a token of the program as the rules take it, and its place
-abbrev pub placed_number : Given → PlacedToken ℕ
-placed_number t = record { token = token_of t; at = given.place_of t }
+pub use Rattle.hparse.specs.Placing.{placed_number}
 
 module _ (names : Texts) (are : AreNames names) where
   abbrev pub spell : ℕ → List ℕ
@@ -60,6 +56,7 @@ module _ (names : Texts) (are : AreNames names) where
       items = [];
       foster = false;
       errors = [];
+      again = [];
     };
     control = control_in (context_mode tag) (form_of tag);
     context = Some context;

@@ -1,10 +1,12 @@
 -- What one piece more does to a parser, and what the input's end does.
-use Rattle.hparse.proofs.Names.{◌≡◌, ℕ, List, ◌++◌, refl, sym, ap, subst, Option, None, Result, Ok, Err, inl, inr, ◌⊎◌, MatchResult, Refusal, Memory, Texts, Grows, AreNames, Origin, Parsed, Parser, Placing, Reading, HasRead, FeedsPiece, piece_ran_out, piece_refused, piece_read, EndsInput, input_ran_out, input_comes, IsRefusedFor, IsTaken, ParseCase, ParseOptions, Parses, manner, places_item, HasParsed, AnswersParse, TellsPlaces}
+use Rattle.hparse.proofs.Names.{◌≡◌, ℕ, List, ◌++◌, refl, sym, ap, subst, Option, None, option_map, Result, Ok, Err, inl, inr, ◌⊎◌, MatchResult, Refusal, Memory, Texts, Grows, AreNames, Origin, Parsed, Parser, Placing, Reading, HasRead, FeedsPiece, piece_refused, piece_read, EndsInput, IsRefusedFor, IsTaken, ParseCase, ParseOptions, Parses, manner, places_item, HasParsed, AnswersParse, TellsPlaces}
 use Rattle.hparse.specs.Parsing.{FeedsParser, feed_ran_out, feed_refused, feed_read, IsBuilt, ShowsParse, parse_ran_out, parse_answered}
 use Rattle.hparse.proofs.Built.{became}
-use Rattle.hparse.proofs.Pieces.{but_for_memory}
+use Rattle.hparse.proofs.Pieces.{all_or_memory}
 use Rattle.hparse.proofs.Placed.{handed_on, inner, refused_inner, taken_inner}
-use Rattle.hparse.proofs.Told.{lists, told}
+use Rattle.hparse.specs.Origins.{again_laid}
+use Rattle.hparse.specs.Placing.{makings_of}
+use Rattle.hparse.proofs.Told.{told}
 use Rattle.hparse.proofs.Trees.{parses_refused, parses_taken}
 
 -- what is built of a builder that has refused nothing
@@ -18,7 +20,6 @@ module _ (opts : ParseOptions) (parse_case : ParseCase) (bytes : List ℕ) (old 
 
   -- a piece that was read
   pub feeds_on : (piece : List ℕ) (new : Parser) → new.refused ≡ None → FeedsPiece places_item (manner opts parse_case) h.began (bytes ++ piece) (Ok tt) new.reading.value → FeedsParser opts parse_case (bytes ++ piece) (Ok tt) new
-  feeds_on piece new accepts (piece_ran_out is) = absurd cc
   feeds_on piece new accepts (piece_refused refusal is refused) = absurd cc
   feeds_on piece new accepts (piece_read is k) =
       feed_read refl (record { accepts = accepts; began = h.began; unrefused = h.unrefused; none_told = h.none_told; root_is = h.root_is; begins = h.begins; places = h.places; has_read = k })
@@ -32,10 +33,9 @@ module _ (opts : ParseOptions) (parse_case : ParseCase) (bytes : List ℕ) (old 
 
     -- a piece that was refused
     pub feeds_refused : (piece : List ℕ) (new : Parser) → FeedsPiece places_item (manner opts parse_case) h.began (bytes ++ piece) (Err e) reading → FeedsParser opts parse_case (bytes ++ piece) (Err e) new
-    feeds_refused piece new (piece_ran_out is) = feed_ran_out is
     feeds_refused piece new (piece_refused refusal is from) =
         let same : refusal ≡ e = cc in
-        elim (but_for_memory e (λ (more : List ℕ). Parses opts parse_case ((bytes ++ piece) ++ more) (Err e))
+        elim (all_or_memory e (λ (more : List ℕ). Parses opts parse_case ((bytes ++ piece) ++ more) (Err e))
         (λ more. refused ((bytes ++ piece) ++ more) (subst (IsRefusedFor places_item (manner opts parse_case) h.began ((bytes ++ piece) ++ more) reading.feeding.names reading.feeding.sink) same (from more)))) [
           | inl why ↦ feed_ran_out (ap (λ (x : Refusal). Err x) why)
           | inr all ↦ feed_refused e refl all
@@ -44,8 +44,7 @@ module _ (opts : ParseOptions) (parse_case : ParseCase) (bytes : List ℕ) (old 
 
     -- an input that is refused at its end
     pub ends_refused : EndsInput places_item (manner opts parse_case) h.began bytes (Err e) reading → ShowsParse opts parse_case bytes (Err e)
-    ends_refused (input_ran_out is) = parse_ran_out (let why : e ≡ Memory = cc in ap (λ (x : Refusal). Err x) why)
-    ends_refused (input_comes r) = elim (refused bytes r) [
+    ends_refused r = elim (refused bytes r) [
       | inl why ↦ parse_ran_out (ap (λ (x : Refusal). Err x) why)
       | inr p ↦ parse_answered p
     ]
@@ -64,7 +63,7 @@ module _ (opts : ParseOptions) (parse_case : ParseCase) (bytes : List ℕ) (old 
     -- what it built
     taken : (parsed : Parsed) (all : List ℕ) → Took all → IsBuilt later now parsed → AnswersParse opts parse_case all (Ok parsed)
     taken parsed all t r =
-        parses_taken opts parse_case (inner h.began) all reading.feeding.names now.builder h.unrefused h.begins later grows are h.none_told h.root_is parsed (lists now.origins)
+        parses_taken opts parse_case (inner h.began) all reading.feeding.names now.builder h.unrefused h.begins later grows are h.none_told h.root_is parsed (option_map (again_laid now.builder.state.site.again) (makings_of now))
         (taken_inner reading.feeding.names h.began now (manner opts parse_case) all t) r
         (subst (λ (places : Option (List Origin)). TellsPlaces opts parse_case all places) (sym r.places_are)
         (told opts parse_case h.began all reading.feeding.names now h.unrefused h.begins later grows are t h.places))
@@ -72,9 +71,8 @@ module _ (opts : ParseOptions) (parse_case : ParseCase) (bytes : List ℕ) (old 
     -- an input that was taken
     pub ends_built : (result : Result Parsed Refusal) → EndsInput places_item (manner opts parse_case) h.began bytes (Ok tt) reading
         → BuiltBy later now result → ShowsParse opts parse_case bytes result
-    ends_built result (input_ran_out is) r = absurd cc
-    ends_built (Ok parsed) (input_comes t) r = parse_answered (taken parsed bytes t (r (still_unrefused bytes t)))
-    ends_built (Err e) (input_comes t) r = parse_ran_out (ap (λ (x : Refusal). Err x) (r (still_unrefused bytes t)))
+    ends_built (Ok parsed) t r = parse_answered (taken parsed bytes t (r (still_unrefused bytes t)))
+    ends_built (Err e) t r = parse_ran_out (ap (λ (x : Refusal). Err x) (r (still_unrefused bytes t)))
 
     -- wherever it ended
     pub built_answers : (result : Result Parsed Refusal) → BuiltBy later now result → (all : List ℕ) → IsTaken places_item (manner opts parse_case) h.began all reading.feeding.names now

@@ -1,16 +1,17 @@
 -- What one piece more does to a reading, and what the input's end does.
-use Rattle.hparse.proofs.Names.{◌≡◌, ℕ, ◌-◌, Bool, true, false, cond, eqb, List, [], ◌∷◌, ◌++◌, length, Option, None, Some, sym, refl, ap, ◌∙◌, subst, Result, Ok, Err, append-nil, append_assoc, inl, inr, ◌⊎◌, AreNames, ParseError, Placed, Refusal, Memory, Hands, BadBytes, Policy, Read, CharItem, items, characters_among, errors_among, HasFed, start_kind, Tok, Event, Item, IsRefused, AreFront, tokens_in, Reading, Manner, Began, settled_in, reads_in, Handed, IsRefusedFor, by_sink, by_tag, by_bytes, Comes, Intake, HoldsItems, TakesItems, items_ran_out, items_stopped, items_refused, items_taken, Proceeds, EndsText, text_ran_out, text_stopped, text_taken, Refuses, HasRead, FeedsPiece, piece_ran_out, piece_refused, piece_read, EndsInput, input_ran_out, input_comes, characters_among-items}
+use Rattle.hparse.proofs.Names.{◌≡◌, ℕ, ◌-◌, Bool, true, false, cond, eqb, List, [], ◌∷◌, ◌++◌, length, map, Option, None, Some, sym, refl, ap, ◌∙◌, subst, Result, Ok, Err, append-nil, append_assoc, inl, inr, ◌⊎◌, AreNames, ParseError, Placed, Refusal, Memory, Hands, BadBytes, Policy, Read, CharItem, items, characters_among, errors_among, HasFed, start_kind, Tok, Event, Item, IsRefused, AreFront, tokens_in, Reading, Manner, Began, settled_in, reads_in, Handed, IsRefusedFor, by_sink, by_tag, by_bytes, by_memory, Comes, Intake, HoldsItems, TakesItems, items_ran_out, items_stopped, items_refused, items_taken, Proceeds, EndsText, text_ran_out, text_stopped, text_taken, Refuses, HasRead, FeedsPiece, piece_refused, piece_read, EndsInput, characters_among-items}
 use Rattle.std.specs.Str.Lossy.{utf8_valid_len}
 use Rattle.std.proofs.lemmas.Bool.{eqb-true}
+use Rattle.std.proofs.lemmas.List.{map-append}
 use Rattle.names.specs.declared.refusal.Refusal.TheVariants.{NotUtf8, TooLarge, OutOfProfile}
 use Rattle.names.specs.declared.raw.RefusedName.{RefusedName}
 use Rattle.htext.specs.declared.BadBytes.TheVariants as bad
-use Rattle.htext.specs.Text.{read_len, refusal_of, refusal_with}
+use Rattle.htext.specs.Text.{character_of, read_len, refusal_of, refusal_with}
 use Rattle.htext.specs.Decoding.{Feeds, ran_out, sink_refused, took_all, Ends, end_refused, end_reached, HandsOn, IsRefusedFrom, answer_at_end}
 use Rattle.htoken.specs.Tokens.{Tokens}
 use Rattle.hparse.specs.Input.{how_of, text_in, end_in}
-use Rattle.hparse.specs.Holding.{refusing_ran_out, refusing}
-use Rattle.htext.proofs.Texts.{items-append, errors_among-items}
+use Rattle.htext.proofs.Texts.{items-append, errors_among-items, goes_on}
+use Rattle.hparse.proofs.Held.{characters_among-append, taken_front}
 
 -- bytes are refused where what is read of them ends
 refusal_place : (b : Bool) (of : BadBytes) (more v at : ℕ) (r : Refusal) → cond b None (Some (refusal_with of more v)) ≡ Some r → (r ≡ NotUtf8 at) ⊎ (r ≡ TooLarge at) → at ≡ v
@@ -43,8 +44,8 @@ is_memory Memory = inl refl
 is_memory other = inr (λ e. cc)
 
 -- what holds but for want of memory, whatever comes after, holds of all or none
-pub but_for_memory : {X : Type 0} (e : Refusal) (P : X → Type 0) → ((x : X) → (e ≡ Memory) ⊎ P x) → (e ≡ Memory) ⊎ ((x : X) → P x)
-but_for_memory e P h = elim (is_memory e) [
+pub all_or_memory : {X : Type 0} (e : Refusal) (P : X → Type 0) → ((x : X) → (e ≡ Memory) ⊎ P x) → (e ≡ Memory) ⊎ ((x : X) → P x)
+all_or_memory e P h = elim (is_memory e) [
   | inl why ↦ inl why
   | inr differs ↦ inr (λ x. elim (h x) [
     | inl why ↦ absurd (differs why)
@@ -60,21 +61,24 @@ whole_from a b r false e h = absurd cc
 module _ {S : Type 0} (gives : S → Item → Result (Unit {0}) Refusal → S → Type 0) (m : Manner) (began : Began S) where
   -- an item that was handed over
   was_taken : (before : List CharItem) (x : CharItem) (new : Intake S) → TakesItems gives m began before (x ∷ []) (Ok tt) new → HoldsItems gives m began new (before ++ x ∷ [])
-  was_taken before x new (items_ran_out e) = absurd cc
+  was_taken before x new (items_ran_out events errors e noted handed front) = absurd cc
   was_taken before x new (items_stopped r events errors e noted handed front) = absurd cc
   was_taken before x new (items_refused name at tokens errors e noted handed refused) = absurd cc
   was_taken before x new (items_taken e held) = held
 
   -- a text is refused, whatever comes after these items
   data Stops (e : Refusal) (new : Intake S) (xs : List CharItem) : Type 0 where
-    by_memory : e ≡ Memory → Stops e new xs
+    in_memory : (events : List Event) (errors : List ParseError) → e ≡ Memory → new.stopped ≡ true → Handed gives new.names began (tokens_in events) errors (Ok tt) new.sink
+        → ((end : ℕ) → AreFront m.table (start_kind m.start) (characters_among xs) end events) → Stops e new xs
     in_sink : (events : List Event) (errors : List ParseError) → new.stopped ≡ true → Handed gives new.names began (tokens_in events) errors (Err e) new.sink
         → ((end : ℕ) → AreFront m.table (start_kind m.start) (characters_among xs) end events) → Stops e new xs
     in_tag : (name : RefusedName) (at : ℕ) (tokens : List Tok) (errors : List ParseError) → e ≡ OutOfProfile name at → new.stopped ≡ true → Handed gives new.names began tokens errors (Ok tt) new.sink
         → ((end : ℕ) → IsRefused m.table (start_kind m.start) (characters_among xs) end tokens name at) → Stops e new xs
 
   was_refused : (before : List CharItem) (x : CharItem) (more : List CharItem) (new : Intake S) (e : Refusal) → TakesItems gives m began before (x ∷ []) (Err e) new → Stops e new (before ++ x ∷ more)
-  was_refused before x more new e (items_ran_out is) = by_memory cc
+  was_refused before x more new e (items_ran_out events errors is noted handed front) =
+      let why : e ≡ Memory = cc in
+      in_memory events errors why noted handed (λ end. front more end)
   was_refused before x more new e (items_stopped r events errors is noted handed front) =
       let same : r ≡ e = cc in
       in_sink events errors noted (subst (λ (y : Refusal). Handed gives new.names began (tokens_in events) errors (Err y) new.sink) same handed) (λ end. front more end)
@@ -110,16 +114,32 @@ module _ {S : Type 0} (gives : S → Item → Result (Unit {0}) Refusal → S �
   refused_new before text s t e (more, is, given) k = subst (Stops e t) (longer before text more is) (held_stop s t (items before) (items more) e given k)
 
   -- so the input is refused
-  stops_input : (bytes : List ℕ) (e : Refusal) (t : Intake S) → Stops e t (items (reads_in m bytes)) → (e ≡ Memory) ⊎ ((t.stopped ≡ true) × IsRefusedFor gives m began bytes t.names t.sink e)
-  stops_input bytes e t (by_memory why) = inl why
-  stops_input bytes e t (in_sink events errors noted handed front) =
-      inr (noted, by_sink e events errors handed (subst (λ (x : List Placed). AreFront m.table (start_kind m.start) x (end_in m bytes) events) (characters_among-items (reads_in m bytes)) (front (end_in m bytes))))
-  stops_input bytes e t (in_tag name at tokens errors is noted handed refused) =
-      inr (
-        noted,
-        subst (IsRefusedFor gives m began bytes t.names t.sink) (sym is)
-            (by_tag name at tokens errors handed (subst (λ (x : List Placed). IsRefused m.table (start_kind m.start) x (end_in m bytes) tokens name at) (characters_among-items (reads_in m bytes)) (refused (end_in m bytes)))),
-      )
+  stops_input : (bytes : List ℕ) (e : Refusal) (t : Intake S) → Stops e t (items (reads_in m bytes)) → (t.stopped ≡ true) × IsRefusedFor gives m began bytes t.names t.sink e
+  stops_input bytes e t (in_memory events errors why noted handed front) = (
+    noted,
+    subst (IsRefusedFor gives m began bytes t.names t.sink) (sym why)
+        (by_memory events errors handed (subst (λ (x : List Placed). AreFront m.table (start_kind m.start) x (end_in m bytes) events) (characters_among-items (reads_in m bytes)) (front (end_in m bytes)))),
+  )
+  stops_input bytes e t (in_sink events errors noted handed front) = (
+    noted,
+    by_sink e events errors handed (subst (λ (x : List Placed). AreFront m.table (start_kind m.start) x (end_in m bytes) events) (characters_among-items (reads_in m bytes)) (front (end_in m bytes))),
+  )
+  stops_input bytes e t (in_tag name at tokens errors is noted handed refused) = (
+    noted,
+    subst (IsRefusedFor gives m began bytes t.names t.sink) (sym is)
+        (by_tag name at tokens errors handed (subst (λ (x : List Placed). IsRefused m.table (start_kind m.start) x (end_in m bytes) tokens name at) (characters_among-items (reads_in m bytes)) (refused (end_in m bytes)))),
+  )
+
+  -- memory ran out once this was held
+  pub ran_out_after : (bytes more : List ℕ) (feeding : Intake S) → HoldsItems gives m began feeding (items (settled_in m bytes)) → IsRefusedFor gives m began (bytes ++ more) feeding.names feeding.sink Memory
+  ran_out_after bytes more feeding h =
+      let on = goes_on true (how_of m).bom m.bad m.limit bytes more in
+      let text : characters_among h.fed ++ (characters_among feeding.unfed ++ map character_of on.0) ≡ text_in m (bytes ++ more) =
+      sym (append_assoc (characters_among h.fed) (characters_among feeding.unfed) (map character_of on.0))
+      ∙ ap (λ (x : List Placed). x ++ map character_of on.0) (sym (characters_among-append h.fed feeding.unfed) ∙ ap characters_among h.items_are ∙ characters_among-items (settled_in m bytes))
+      ∙ sym (map-append character_of (settled_in m bytes) on.0) ∙ ap (map character_of) (sym on.1) in
+      by_memory h.was_fed.taken _ h.was_fed.handed (subst (λ (x : List Placed). AreFront m.table (start_kind m.start) x (end_in m (bytes ++ more)) h.was_fed.taken) text
+      (taken_front m.table (start_kind m.start) feeding.tokenizer feeding.names (characters_among h.fed) h.was_fed.taken h.was_fed.has_taken (characters_among feeding.unfed ++ map character_of on.0) (end_in m (bytes ++ more))))
 
   module _ (held : List CharItem) (at : ℕ) (refusal : Refusal) (new : Intake S) (here : (refusal ≡ NotUtf8 at) ⊎ (refusal ≡ TooLarge at)) where
     text_of : (bytes : List ℕ) → held ≡ items (reads_in m bytes) → characters_among held ≡ text_in m bytes
@@ -127,22 +147,27 @@ module _ {S : Type 0} (gives : S → Item → Result (Unit {0}) Refusal → S �
 
     -- the text before the bytes that are refused is read
     pub refuses_bytes : EndsText gives m began held at (Ok tt) new → Refuses gives m began held refusal refusal new
-    refuses_bytes (text_ran_out e) = absurd cc
+    refuses_bytes (text_ran_out events errors e handed front) = absurd cc
     refuses_bytes (text_stopped r events errors e handed front) = absurd cc
-    refuses_bytes (text_taken tokens errors e t handed) = refusing (λ bytes is r.
+    refuses_bytes (text_taken tokens errors e t handed) = λ bytes is r.
         by_bytes refusal tokens errors (errors_among held ++ errors) handed
         (subst (λ (n : ℕ). Tokens m.table (start_kind m.start) (text_in m bytes) n tokens errors) (place_of (how_of m) at bytes refusal r here)
-        (subst (λ (x : List Placed). Tokens m.table (start_kind m.start) x at tokens errors) (text_of bytes is) t)) r)
+        (subst (λ (x : List Placed). Tokens m.table (start_kind m.start) x at tokens errors) (text_of bytes is) t)) r
+
+    -- a front of it is one of the input's text
+    front_in : (bytes : List ℕ) → held ≡ items (reads_in m bytes) → refusal_of (how_of m) bytes ≡ Some refusal → (events : List Event) → AreFront m.table (start_kind m.start) (characters_among held) at events
+        → AreFront m.table (start_kind m.start) (text_in m bytes) (end_in m bytes) events
+    front_in bytes is r events front =
+        subst (λ (n : ℕ). AreFront m.table (start_kind m.start) (text_in m bytes) n events) (place_of (how_of m) at bytes refusal r here)
+        (subst (λ (x : List Placed). AreFront m.table (start_kind m.start) x at events) (text_of bytes is) front)
 
     -- it is refused
     pub refuses_text : (earlier : Refusal) → EndsText gives m began held at (Err earlier) new → Refuses gives m began held refusal earlier new
-    refuses_text earlier (text_ran_out e) = refusing_ran_out cc
+    refuses_text earlier (text_ran_out events errors e handed front) =
+        let same : Memory ≡ earlier = cc in λ bytes is r. subst (IsRefusedFor gives m began bytes new.names new.sink) same (by_memory events errors handed (front_in bytes is r events front))
     refuses_text earlier (text_stopped x events errors e handed front) =
         let same : x ≡ earlier = cc in
-        refusing (λ bytes is r.
-        by_sink earlier events errors (subst (λ (y : Refusal). Handed gives new.names began (tokens_in events) errors (Err y) new.sink) same handed)
-        (subst (λ (n : ℕ). AreFront m.table (start_kind m.start) (text_in m bytes) n events) (place_of (how_of m) at bytes refusal r here)
-        (subst (λ (x : List Placed). AreFront m.table (start_kind m.start) x at events) (text_of bytes is) front)))
+        λ bytes is r. by_sink earlier events errors (subst (λ (y : Refusal). Handed gives new.names began (tokens_in events) errors (Err y) new.sink) same handed) (front_in bytes is r events front)
     refuses_text earlier (text_taken tokens errors e t handed) = absurd cc
 
   module _ (bytes piece : List ℕ) (old : Reading S) (h : HasRead gives m began old bytes) where
@@ -164,37 +189,28 @@ module _ {S : Type 0} (gives : S → Item → Result (Unit {0}) Refusal → S �
     -- it was refused, and so is the input; `feeding` is as the refusal left it, and `new` as the end of its text did
     module _ (e answer : Refusal) (feeding : Intake S) (new : Reading S)
         (answered : (held : List CharItem) → HoldsItems gives m began feeding held → Refuses gives m began held e answer new.feeding)
-        (stopped : feeding.stopped ≡ true → (answer ≡ e) × (new.feeding ≡ feeding)) (memory : e ≡ Memory → answer ≡ Memory) where
-      out_of_memory : e ≡ Memory → FeedsPiece gives m began (bytes ++ piece) (Err answer) new
-      out_of_memory why = piece_ran_out (ap (λ (x : Refusal). Err x) (memory why))
-
-      refused_after : Refuses gives m began (items (settled_in m (bytes ++ piece))) e answer new.feeding → IsRefusedFrom (how_of m) (bytes ++ piece) e → FeedsPiece gives m began (bytes ++ piece) (Err answer) new
-      refused_after (refusing_ran_out why) j = piece_ran_out (ap (λ (x : Refusal). Err x) why)
-      refused_after (refusing f) j = piece_refused answer refl (λ more. f ((bytes ++ piece) ++ more) (ap items (sym (j more).1)) (j more).0)
-
-      abbrev StopsAt : List ℕ → Type 0
-      StopsAt more = (e ≡ Memory) ⊎ ((feeding.stopped ≡ true) × IsRefusedFor gives m began ((bytes ++ piece) ++ more) feeding.names feeding.sink e)
-
+        (stopped : feeding.stopped ≡ true → (answer ≡ e) × (new.feeding ≡ feeding)) (memory : e ≡ Memory → (answer ≡ Memory) × (new.feeding ≡ feeding)) where
       -- as it is answered
-      as_answered : (feeding.stopped ≡ true) → (more : List ℕ) → IsRefusedFor gives m began ((bytes ++ piece) ++ more) feeding.names feeding.sink e → IsRefusedFor gives m began ((bytes ++ piece) ++ more) new.feeding.names new.feeding.sink answer
-      as_answered noted more r =
-          subst (λ (f : Intake S). IsRefusedFor gives m began ((bytes ++ piece) ++ more) f.names f.sink answer) (sym (stopped noted).1)
-          (subst (IsRefusedFor gives m began ((bytes ++ piece) ++ more) feeding.names feeding.sink) (sym (stopped noted).0) r)
-
-      refused_in : ((more : List ℕ) → StopsAt more) → FeedsPiece gives m began (bytes ++ piece) (Err answer) new
-      refused_in all = elim (but_for_memory e _ all) [
-        | inl why ↦ out_of_memory why
-        | inr r ↦ piece_refused answer refl (λ more. as_answered (r more).0 more (r more).1)
-      ]
+      as_answered : (all : List ℕ) (r : Refusal) → (answer ≡ r) × (new.feeding ≡ feeding) → IsRefusedFor gives m began all feeding.names feeding.sink r → IsRefusedFor gives m began all new.feeding.names new.feeding.sink answer
+      as_answered all r is refused =
+          subst (λ (f : Intake S). IsRefusedFor gives m began all f.names f.sink answer) (sym is.1) (subst (IsRefusedFor gives m began all feeding.names feeding.sink) (sym is.0) refused)
 
       refused_by : Feeds (Proceeds gives) (how_of m) bytes piece old.feeding (Err e) feeding → FeedsPiece gives m began (bytes ++ piece) (Err answer) new
-      refused_by (ran_out front rest is split handed) = out_of_memory cc
+      refused_by (ran_out front rest is split handed) =
+          piece_refused answer refl (λ more. as_answered ((bytes ++ piece) ++ more) Memory (memory cc)
+          (subst (λ (all : List ℕ). IsRefusedFor gives m began all feeding.names feeding.sink Memory)
+          (append_assoc bytes front (rest ++ more) ∙ ap (λ (x : List ℕ). bytes ++ x) (sym (append_assoc front rest more) ∙ ap (λ (x : List ℕ). x ++ more) (sym split)) ∙ sym (append_assoc bytes piece more))
+          (ran_out_after (bytes ++ front) (rest ++ more) feeding (took_new (settled_in m bytes) (settled_in m (bytes ++ front)) old.feeding feeding handed h.holds))))
       refused_by (sink_refused x is handed) =
           let same : x ≡ e = cc in
-          refused_in (λ more. stops_input ((bytes ++ piece) ++ more) e feeding
+          piece_refused answer refl (λ more.
+          let r = stops_input ((bytes ++ piece) ++ more) e feeding
           (refused_new (settled_in m bytes) (reads_in m ((bytes ++ piece) ++ more)) old.feeding feeding e
-          (subst (λ (y : Refusal). HandsOn (Proceeds gives) (settled_in m bytes) (reads_in m ((bytes ++ piece) ++ more)) old.feeding (Err y) feeding) same (handed more)) h.holds))
-      refused_by (took_all handed j) = refused_after (answered (items (settled_in m (bytes ++ piece))) (took_new (settled_in m bytes) (settled_in m (bytes ++ piece)) old.feeding feeding handed h.holds)) j
+          (subst (λ (y : Refusal). HandsOn (Proceeds gives) (settled_in m bytes) (reads_in m ((bytes ++ piece) ++ more)) old.feeding (Err y) feeding) same (handed more)) h.holds) in
+          as_answered ((bytes ++ piece) ++ more) e (stopped r.0) r.1)
+      refused_by (took_all handed j) =
+          piece_refused answer refl (λ more.
+          answered (items (settled_in m (bytes ++ piece))) (took_new (settled_in m bytes) (settled_in m (bytes ++ piece)) old.feeding feeding handed h.holds) ((bytes ++ piece) ++ more) (ap items (sym (j more).1)) (j more).0)
 
       pub refuses_piece : HasFedPiece (Err e) feeding → FeedsPiece gives m began (bytes ++ piece) (Err answer) new
       refuses_piece f = refused_by (as_begun (Err e) feeding f)
@@ -213,16 +229,11 @@ module _ {S : Type 0} (gives : S → Item → Result (Unit {0}) Refusal → S �
     -- a refusal at the end; `feeding` is as it left it, and `new` as the end of its text did
     module _ (e answer : Refusal) (feeding : Intake S) (new : Reading S)
         (answered : (held : List CharItem) → HoldsItems gives m began feeding held → Refuses gives m began held e answer new.feeding)
-        (stopped : feeding.stopped ≡ true → (answer ≡ e) × (new.feeding ≡ feeding)) (memory : e ≡ Memory → answer ≡ Memory) where
-      by_end : Refuses gives m began (items (reads_in m bytes)) e answer new.feeding → refusal_of (how_of m) bytes ≡ Some e → EndsInput gives m began bytes (Err answer) new
-      by_end (refusing_ran_out why) is = input_ran_out (ap (λ (x : Refusal). Err x) why)
-      by_end (refusing f) is = input_comes (f bytes refl is)
-
-      by_stop : (e ≡ Memory) ⊎ ((feeding.stopped ≡ true) × IsRefusedFor gives m began bytes feeding.names feeding.sink e) → EndsInput gives m began bytes (Err answer) new
-      by_stop (inl why) = input_ran_out (ap (λ (x : Refusal). Err x) (memory why))
-      by_stop (inr (noted, r)) =
-          input_comes (subst (λ (f : Intake S). IsRefusedFor gives m began bytes f.names f.sink answer) (sym (stopped noted).1)
-          (subst (IsRefusedFor gives m began bytes feeding.names feeding.sink) (sym (stopped noted).0) r))
+        (stopped : feeding.stopped ≡ true → (answer ≡ e) × (new.feeding ≡ feeding)) where
+      by_stop : (feeding.stopped ≡ true) × IsRefusedFor gives m began bytes feeding.names feeding.sink e → EndsInput gives m began bytes (Err answer) new
+      by_stop (noted, r) =
+          subst (λ (f : Intake S). IsRefusedFor gives m began bytes f.names f.sink answer) (sym (stopped noted).1)
+          (subst (IsRefusedFor gives m began bytes feeding.names feeding.sink) (sym (stopped noted).0) r)
 
       refused_at_end : Ends (Proceeds gives) (how_of m) bytes old.feeding (Err e) feeding → EndsInput gives m began bytes (Err answer) new
       refused_at_end (end_refused x is handed) =
@@ -230,7 +241,7 @@ module _ {S : Type 0} (gives : S → Item → Result (Unit {0}) Refusal → S �
           by_stop (stops_input bytes e feeding (refused_new (settled_in m bytes) (reads_in m bytes) old.feeding feeding e
           (subst (λ (y : Refusal). HandsOn (Proceeds gives) (settled_in m bytes) (reads_in m bytes) old.feeding (Err y) feeding) same handed) h.holds))
       refused_at_end (end_reached handed is) =
-          by_end (answered (items (reads_in m bytes)) (all_held feeding handed)) (some_at_end (refusal_of (how_of m) bytes) e is)
+          answered (items (reads_in m bytes)) (all_held feeding handed) bytes refl (some_at_end (refusal_of (how_of m) bytes) e is)
 
       pub ends_refused : HasEnded (Err e) feeding → EndsInput gives m began bytes (Err answer) new
       ends_refused f = refused_at_end (as_ended (Err e) feeding f)
@@ -249,28 +260,30 @@ module _ {S : Type 0} (gives : S → Item → Result (Unit {0}) Refusal → S �
         end_of =
             end_is ∙ sym (whole_from (end_in m bytes) (length bytes) (refusal_with m.bad (utf8_valid_len bytes - end_in m bytes) (end_in m bytes)) (eqb (end_in m bytes) (length bytes)) refl unrefused)
 
+        front_of : (events : List Event) → AreFront m.table (start_kind m.start) (characters_among (items (reads_in m bytes))) end events → AreFront m.table (start_kind m.start) (text_in m bytes) (end_in m bytes) events
+        front_of events front =
+            subst (λ (n : ℕ). AreFront m.table (start_kind m.start) (text_in m bytes) n events) end_of
+            (subst (λ (x : List Placed). AreFront m.table (start_kind m.start) x end events) (characters_among-items (reads_in m bytes)) front)
+
         by_text : (answer : Result (Unit {0}) Refusal) → EndsText gives m began (items (reads_in m bytes)) end answer new.feeding → EndsInput gives m began bytes answer new
-        by_text answer (text_ran_out is) = input_ran_out is
+        by_text answer (text_ran_out events errors is handed front) =
+            subst (Comes gives m began bytes new.feeding.names new.feeding.sink) (sym is) (by_memory events errors handed (front_of events front))
         by_text answer (text_stopped e events errors is handed front) =
-            input_comes (subst (Comes gives m began bytes new.feeding.names new.feeding.sink) (sym is)
-            (by_sink e events errors handed
-            (subst (λ (n : ℕ). AreFront m.table (start_kind m.start) (text_in m bytes) n events) end_of
-            (subst (λ (x : List Placed). AreFront m.table (start_kind m.start) x end events) (characters_among-items (reads_in m bytes)) front))))
+            subst (Comes gives m began bytes new.feeding.names new.feeding.sink) (sym is) (by_sink e events errors handed (front_of events front))
         by_text answer (text_taken tokens errors is t handed) =
-            input_comes (subst (Comes gives m began bytes new.feeding.names new.feeding.sink) (sym is) (record {
+            subst (Comes gives m began bytes new.feeding.names new.feeding.sink) (sym is) (record {
               tokens = tokens;
               errors = errors;
               read = subst (λ (n : ℕ). Tokens m.table (start_kind m.start) (text_in m bytes) n tokens errors) end_is
                   (subst (λ (x : List Placed). Tokens m.table (start_kind m.start) x end tokens errors) (characters_among-items (reads_in m bytes)) t);
               handed = subst (λ (es : List ParseError). Handed gives new.feeding.names began tokens (es ++ errors) (Ok tt) new.feeding.sink) (errors_among-items (reads_in m bytes)) handed;
               whole = unrefused;
-            }))
+            })
 
       pub ends_input : (new : Reading S) (end : ℕ) → end ≡ length bytes → HasEnded (Ok tt) feeding → (answer : Result (Unit {0}) Refusal) → EndsText gives m began (items (reads_in m bytes)) end answer new.feeding → EndsInput gives m began bytes answer new
       ends_input new end end_is f = by_text new end end_is (taken_at_end (as_ended (Ok tt) feeding f)).1
 
   -- bytes that were read
   pub has_read : (bytes : List ℕ) (new : Reading S) → FeedsPiece gives m began bytes (Ok tt) new → HasRead gives m began new bytes
-  has_read bytes new (piece_ran_out is) = absurd cc
   has_read bytes new (piece_refused refusal is refused) = absurd cc
   has_read bytes new (piece_read is h) = h

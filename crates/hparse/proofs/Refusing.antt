@@ -1,5 +1,5 @@
 -- A document that is read into a sink that refuses for want of memory alone.
-use Rattle.hparse.proofs.Names.{◌≡◌, ℕ, List, [], ◌∷◌, ◌++◌, refl, Result, Ok, Err, inl, inr, ◌⊎◌, ParseError, Refusal, Memory, Texts, Hands, BadBytes, input_errors, decoded, Entities, Item, of_document, Answers, accepted, Began, IsRefusedFor, by_sink, by_tag, by_bytes, IsTaken, as_document}
+use Rattle.hparse.proofs.Names.{◌≡◌, ℕ, List, [], ◌∷◌, ◌++◌, refl, Result, Ok, Err, inl, inr, ◌⊎◌, ParseError, Refusal, Memory, Texts, Hands, BadBytes, input_errors, decoded, Entities, Item, of_document, Answers, accepted, Began, IsRefusedFor, by_sink, by_tag, by_bytes, by_memory, IsTaken, as_document}
 use Rattle.hparse.specs.Answer.{refused_text, refused_bytes}
 use Rattle.hparse.proofs.Sorting.{in_order, order-permutes, order-sorted}
 
@@ -21,6 +21,7 @@ module _ {S : Type 0} (gives : S → Item → Result (Unit {0}) Refusal → S �
     answers_refused only e (by_sink refusal events errors handed front) = inl (stops only began.sink now handed.items e handed.hands)
     answers_refused only e (by_tag name at tokens errors handed refused) =
         inr (refused_text e (record { tokens = tokens; name = name; at = at; refused = refused; refusal_is = refl }))
+    answers_refused only e (by_memory events errors handed front) = inl refl
     answers_refused only e (by_bytes refusal tokens errors handed given read is) = inr (refused_bytes e tokens errors read is)
 
     -- the errors of a document that was taken

@@ -1,5 +1,5 @@
 -- The answer that a collection of a document's tokens shows.
-use Rattle.hparse.proofs.Names.{◌≡◌, ℕ, List, [], ◌++◌, sym, refl, ap, subst, Result, Ok, Err, inl, inr, ◌⊎◌, MatchResult, IsPermutation-trans, ParseError, Refusal, Memory, Texts, BadBytes, input_errors, Policy, decoded, Entities, Token, Collected, Reading, TokenRun, of_document, Answers, accepted, FeedsPiece, piece_ran_out, piece_refused, piece_read, EndsInput, input_ran_out, input_comes, Began, IsRefusedFor, IsTaken, as_document, Shows, HasReadTokens, TokensMean}
+use Rattle.hparse.proofs.Names.{◌≡◌, ℕ, List, [], ◌++◌, sym, refl, ap, subst, Result, Ok, Err, inl, inr, ◌⊎◌, MatchResult, IsPermutation-trans, ParseError, Refusal, Memory, Texts, BadBytes, input_errors, Policy, decoded, Entities, Token, Collected, Reading, TokenRun, of_document, Answers, accepted, FeedsPiece, piece_refused, piece_read, EndsInput, Began, IsRefusedFor, IsTaken, as_document, Shows, HasReadTokens, TokensMean}
 use Rattle.hparse.specs.Collecting.{IsRunOf}
 use Rattle.hparse.specs.Shown as shown
 use Rattle.hparse.proofs.Gathered.{collects, collects-refuses, tokens_gathered, errors_gathered}
@@ -29,18 +29,15 @@ module _ (table : Entities) (of : BadBytes) (limit : ℕ) where
     module _ (old new : Reading Collected) (h : HasReadTokens table of limit old bytes) where
       -- the end of a document
       pub shows_end : (e : Refusal) → EndsInput collects (as_document table of limit) h.began bytes (Err e) new → Shows table how bytes (Err e)
-      shows_end e (input_ran_out is) = shown.ran_out (let why : e ≡ Memory = cc in ap (λ (x : Refusal). Err x) why)
-      shows_end e (input_comes r) = shows_refused e (answers_refused collects table of limit h.began bytes new.feeding.names new.feeding.sink collects-refuses e r)
+      shows_end e r = shows_refused e (answers_refused collects table of limit h.began bytes new.feeding.names new.feeding.sink collects-refuses e r)
 
       pub shows_all : (result : Result TokenRun Refusal) → EndsInput collects (as_document table of limit) h.began bytes (Ok tt) new → MatchResult result (IsRunOf new.feeding.names new.feeding.sink) (λ refusal. refusal ≡ Memory) → Shows table how bytes result
-      shows_all result (input_ran_out is) r = absurd cc
-      shows_all (Ok run) (input_comes t) r = shows_taken h.began new.feeding.names new.feeding.sink h.no_tokens h.no_errors run t r
-      shows_all (Err e) (input_comes t) r = shown.ran_out (ap (λ (x : Refusal). Err x) r)
+      shows_all (Ok run) t r = shows_taken h.began new.feeding.names new.feeding.sink h.no_tokens h.no_errors run t r
+      shows_all (Err e) t r = shown.ran_out (ap (λ (x : Refusal). Err x) r)
 
   module _ (fed : List ℕ) (old new : Reading Collected) (h : HasReadTokens table of limit old fed) (piece : List ℕ) where
     -- a piece that is refused, whatever comes after
     pub shows_piece : (more all : List ℕ) (e : Refusal) → FeedsPiece collects (as_document table of limit) h.began (fed ++ piece) (Err e) new → (fed ++ piece) ++ more ≡ all → Shows table how all (Err e)
-    shows_piece more all e (piece_ran_out is) whole = shown.ran_out (let why : e ≡ Memory = cc in ap (λ (x : Refusal). Err x) why)
     shows_piece more all e (piece_refused refusal is refused) whole =
         let same : refusal ≡ e = cc in
         subst (λ (x : List ℕ). Shows table how x (Err e)) whole

@@ -1,5 +1,5 @@
 -- What the input of a builder becomes, with names as texts.
-use Rattle.hparse.proofs.Names.{◌≡◌, ℕ, List, [], ◌++◌, map, sym, refl, ap, ◌∙◌, subst, Option, None, Ok, Err, append_assoc, inl, inr, ◌⊎◌, IsPermutation, IsPermutation-trans, IsPermutation-append_left, IsPermutation-append_comm, ParseError, Refusal, Memory, Texts, Grows, AreNames, spelling, grows_on, input_errors, Given, Tok, tokens_in, numbers, texts, Goes, Refused, spelled_state, State, PlacedToken, Steps, steps_spelled, numbers-agree, Building, Origin, Parsed, Began, Handed, reads_in, tokens_handed, errors_handed, IsRefusedFor, by_sink, by_tag, by_bytes, IsTaken, AreOf, TokensAreOf, ParseCase, document, fragment, ParseOptions, Parses, begins, manner, BeginsIn, a_document, a_fragment, AnswersParse, TellsPlaces, placed, TokensMean}
+use Rattle.hparse.proofs.Names.{◌≡◌, ℕ, List, [], ◌++◌, map, sym, refl, ap, ◌∙◌, subst, Option, None, Ok, Err, append_assoc, inl, inr, ◌⊎◌, IsPermutation, IsPermutation-trans, IsPermutation-append_left, IsPermutation-append_comm, ParseError, Refusal, Memory, Texts, Grows, AreNames, spelling, grows_on, input_errors, Given, Tok, tokens_in, numbers, texts, Goes, Refused, spelled_state, State, PlacedToken, Steps, steps_spelled, numbers-agree, Building, Origin, Parsed, Began, Handed, reads_in, tokens_handed, errors_handed, IsRefusedFor, by_sink, by_tag, by_bytes, by_memory, IsTaken, AreOf, TokensAreOf, ParseCase, document, fragment, ParseOptions, Parses, begins, manner, BeginsIn, a_document, a_fragment, AnswersParse, TellsPlaces, placed, TokensMean}
 use Rattle.names.proofs.Handing.{text_kept}
 use Rattle.hnodes.specs.Edits.{Nodes}
 use Rattle.hnodes.specs.Spelled.{spelled}
@@ -48,6 +48,7 @@ module _ (opts : ParseOptions) (parse_case : ParseCase) (began : Began Building)
     | inr steps ↦ inr (refused_token e events front (in_texts h.grows (tokens_handed h.items) (tokens_in events) (Refused e) h.tokens_mean steps))
   ]
   parses_refused e (by_tag name at tokens errors h refused) = inr (refused_tag name at tokens (spelled_state spell now.state) refused (gone tokens errors h))
+  parses_refused e (by_memory events errors h front) = inl refl
   parses_refused e (by_bytes refusal tokens errors handed h read is) = inr (refused_bytes e errors (spelled_state spell now.state) (record { tokens = tokens; read = read; steps = gone tokens handed h }) is)
 
   module _ (none_told : began.sink.told ≡ []) (root_is : began.sink.root ≡ root_of parse_case) where

@@ -1,15 +1,45 @@
 -- What a reading was fed is unrefused: its tokenizer has handed over every span that is settled.
-use Rattle.hparse.proofs.Names.{◌≡◌, ℕ, List, [], ◌∷◌, ◌++◌, map, sym, ap, ◌∙◌, subst, append-nil, Result, Placed, Refusal, grows_not, Policy, CharItem, items, characters_among, characters_among-items, start_kind, Tok, Item, HasTaken, texts, Goes, State, PlacedToken, Steps, and, Parser, Reading, HasRead, WasRead, Manner, Began, settled_in, ParseCase, ParseOptions, begins, manner, places_item, HasParsed, placed, IsUnrefusedText, IsUnrefused}
+use Rattle.hparse.proofs.Names.{◌≡◌, ℕ, List, [], ◌∷◌, ◌++◌, map, sym, ap, ◌∙◌, subst, append-nil, append_assoc, Result, Ok, ParseError, Placed, RawKind, Refusal, Texts, grows_not, Policy, CharItem, items, characters_among, errors_among, characters_among-items, start_kind, Tok, Event, Item, Entities, tokens_in, errors_in, HasTaken, texts, Goes, State, PlacedToken, Steps, and, Parser, Reading, HasRead, WasRead, Manner, Began, settled_in, Handed, ParseCase, ParseOptions, begins, manner, places_item, HasParsed, placed, IsUnrefusedText, IsUnrefused}
 use Rattle.std.proofs.lemmas.List.{map-append}
 use Rattle.htext.specs.Decoding.{IsUndecided}
+use Rattle.htext.proofs.Texts.{errors_among-items}
 use Rattle.htoken.specs.Token.{Span}
 use Rattle.htoken.specs.Tokens.{tokens_of}
 use Rattle.htoken.specs.Settled.{AreTaken}
+use Rattle.htoken.specs.Tokenizing.{holds, in_ambiguous_ampersand, later_errors}
+use Rattle.htoken.specs.declared.tokenizer.Tokenizer.{Tokenizer}
 use Rattle.htoken.proofs.Settled.{settled_are_taken}
 use Rattle.hmodes.specs.Step.{none}
+use Rattle.hparse.specs.Into.{AreOfFront, HasSettled}
 use Rattle.hparse.specs.Unrefused.{AreSettledIn, settled_text}
 use Rattle.hparse.proofs.Placed.{handed_inner, inner}
 use Rattle.hparse.proofs.Trees.{gone}
+
+-- what was taken is of a front of the text, whatever comes after
+of_front : (table : Entities) (start : RawKind) (t : Tokenizer) (names : Texts) (text : List Placed) (taken : List Event) → HasTaken table start t names text taken → (more : List Placed) (end : ℕ)
+    → AreOfFront table start text more end taken
+of_front table start t names text taken (holds h) more end =
+    let st = h.stands end more in
+    record {
+      spans = st.spans;
+      rest = h.held ++ more;
+      later = [];
+      text_is = ap (λ (x : List Placed). x ++ more) h.text_is ∙ append_assoc h.front h.held more ∙ ap (λ (x : List Placed). x ++ (h.held ++ more)) st.front_is;
+      cut = st.cut;
+      tokens_are = st.tokens_are;
+      errors_are = st.errors_are;
+    }
+of_front table start t names text taken (in_ambiguous_ampersand h) more end =
+    let st = h.stands end more in
+    record {
+      spans = st.spans;
+      rest = more;
+      later = later_errors h.amp more;
+      text_is = ap (λ (x : List Placed). x ++ more) st.front_is;
+      cut = st.cut;
+      tokens_are = st.tokens_are;
+      errors_are = st.errors_are;
+    }
 
 -- what leads on from tokens leads on from the first of them
 pub front_steps : (ts us : List (PlacedToken (List ℕ))) (s s' : State (List ℕ)) → Steps texts (ts ++ us) s (Goes s') → (mid : State (List ℕ)) × Steps texts ts s (Goes mid)
@@ -22,17 +52,33 @@ leads_on tokens front others s s' are steps =
     front_steps (map placed front) (map placed others) s s' (subst (λ (ts : List (PlacedToken (List ℕ))). Steps texts ts s (Goes s')) (ap (map placed) are ∙ map-append placed front others) steps)
 
 module _ {S : Type 0} (gives : S → Item → Result (Unit {0}) Refusal → S → Type 0) (m : Manner) (began : Began S) (reading : Reading S) (bytes : List ℕ) (h : HasRead gives m began reading bytes) where
+  all_fed : h.holds.fed ≡ items (settled_in m bytes)
+  all_fed = sym (append-nil h.holds.fed) ∙ ap (λ (more : List CharItem). h.holds.fed ++ more) (sym h.all_fed) ∙ h.holds.items_are
+
+  has_taken : HasTaken m.table (start_kind m.start) reading.feeding.tokenizer reading.feeding.names (settled_text m bytes) h.holds.was_fed.taken
+  has_taken =
+      subst (λ (cs : List Placed). HasTaken m.table (start_kind m.start) reading.feeding.tokenizer reading.feeding.names cs h.holds.was_fed.taken)
+      (ap characters_among all_fed ∙ characters_among-items (settled_in m bytes)) h.holds.was_fed.has_taken
+
   are_taken : (spans : List Span) → AreSettledIn m bytes spans → AreTaken h.holds.was_fed.taken spans
   are_taken spans settled =
-      let all : h.holds.fed ≡ items (settled_in m bytes) = sym (append-nil h.holds.fed) ∙ ap (λ (more : List CharItem). h.holds.fed ++ more) (sym h.all_fed) ∙ h.holds.items_are in
-      settled_are_taken m.table (start_kind m.start) reading.feeding.tokenizer reading.feeding.names (settled_text m bytes) h.holds.was_fed.taken spans h.is_table
-      (subst (λ (cs : List Placed). HasTaken m.table (start_kind m.start) reading.feeding.tokenizer reading.feeding.names cs h.holds.was_fed.taken)
-      (ap characters_among all ∙ characters_among-items (settled_in m bytes)) h.holds.was_fed.has_taken) settled
+      settled_are_taken m.table (start_kind m.start) reading.feeding.tokenizer reading.feeding.names (settled_text m bytes) h.holds.was_fed.taken spans h.is_table has_taken settled
 
   pub unrefused_text : IsUnrefusedText m bytes
   unrefused_text = record {
     undecided = subst (λ (how : Policy). IsUndecided how bytes) h.how_is h.fed.undecided;
     in_profile = λ spans settled. (are_taken spans settled).in_profile;
+  }
+
+  -- and its sink took what is settled
+  pub has_settled : HasSettled gives m began bytes reading.feeding.names reading.feeding.sink
+  has_settled = record {
+    unrefused = unrefused_text;
+    events = h.holds.was_fed.taken;
+    handed = subst (λ (es : List ParseError). Handed gives reading.feeding.names began (tokens_in h.holds.was_fed.taken) (es ++ errors_in h.holds.was_fed.taken) (Ok tt) reading.feeding.sink)
+        (ap errors_among all_fed ∙ errors_among-items (settled_in m bytes)) h.holds.was_fed.handed;
+    no_more = of_front m.table (start_kind m.start) reading.feeding.tokenizer reading.feeding.names (settled_text m bytes) h.holds.was_fed.taken has_taken;
+    no_less = are_taken;
   }
 
 module _ (opts : ParseOptions) (parse_case : ParseCase) (bytes : List ℕ) (old : Parser) (h : HasParsed opts parse_case old bytes) where

@@ -5,7 +5,7 @@ use Rattle.names.specs.Names.{Texts}
 use Rattle.names.specs.declared.error.ParseError.{ParseError}
 use Rattle.names.specs.declared.refusal.Refusal.{Refusal}
 use Rattle.names.specs.declared.refusal.Refusal.TheVariants.{Memory}
-use Rattle.htoken.specs.declared.token.Token.{Token}
+use Rattle.htoken.specs.Token.{Handed, token_in}
 use Rattle.hparse.specs.declared.collect.Collected.{Collected}
 use Rattle.hparse.specs.declared.token_run.TokenRun.{TokenRun}
 use Rattle.hparse.specs.Answer.{error_cmp}
@@ -14,8 +14,8 @@ abbrev pub KeepsError : Collected → ParseError → Result (Unit {0}) Refusal �
 KeepsError old error answer new = MatchResult answer (λ _. (new.tokens.items ≡ old.tokens.items) × (new.errors.items ≡ old.errors.items ++ error ∷ []))
     (λ e. e ≡ Memory)
 
-abbrev pub KeepsToken : Collected → Token → Result (Unit {0}) Refusal → Collected → Type 0
-KeepsToken old token answer new = MatchResult answer (λ _. (new.tokens.items ≡ old.tokens.items ++ token ∷ []) × (new.errors.items ≡ old.errors.items))
+abbrev pub KeepsToken : Collected → Handed → Result (Unit {0}) Refusal → Collected → Type 0
+KeepsToken old handed answer new = MatchResult answer (λ _. (new.tokens.items ≡ old.tokens.items ++ token_in handed ∷ []) × (new.errors.items ≡ old.errors.items))
     (λ e. e ≡ Memory)
 
 -- what was collected, with the errors in order

@@ -1,7 +1,6 @@
 -- What a reading has read, and what its calls do. It began as `began`.
 use Rattle.std.specs.Prelude.{◌≡◌, ◌≤◌, ℕ, List, [], ◌++◌, Result, Ok, Err}
 use Rattle.names.specs.declared.refusal.Refusal.{Refusal}
-use Rattle.names.specs.declared.refusal.Refusal.TheVariants.{Memory}
 use Rattle.htext.specs.Items.{items}
 use Rattle.names.specs.Names.{AreNames}
 use Rattle.htext.specs.Decoding.{HasFed}
@@ -27,14 +26,12 @@ module _ {S : Type 0} (gives : S → Item → Result (Unit {0}) Refusal → S �
   abbrev pub WasRead : List ℕ → Type 0
   WasRead bytes = (reading : Reading S) × HasRead reading bytes
 
-  -- What feeding the last piece of these bytes does: memory ran out, or they are refused, whatever comes after, or they have been read.
+  -- What feeding the last piece of these bytes does: they are refused, whatever comes after, or they have been read.
   pub data FeedsPiece (bytes : List ℕ) (answer : Result (Unit {0}) Refusal) (new : Reading S) : Type 0 where
-    piece_ran_out : answer ≡ Err Memory → FeedsPiece bytes answer new
     piece_refused : (refusal : Refusal) → answer ≡ Err refusal
         → ((more : List ℕ) → IsRefusedFor gives m began (bytes ++ more) new.feeding.names new.feeding.sink refusal) → FeedsPiece bytes answer new
     piece_read : answer ≡ Ok tt → HasRead new bytes → FeedsPiece bytes answer new
 
-  -- What the end of the input does, after these bytes: memory ran out, or it is what they give.
-  pub data EndsInput (bytes : List ℕ) (answer : Result (Unit {0}) Refusal) (new : Reading S) : Type 0 where
-    input_ran_out : answer ≡ Err Memory → EndsInput bytes answer new
-    input_comes : Comes gives m began bytes new.feeding.names new.feeding.sink answer → EndsInput bytes answer new
+  -- What the end of the input does, after these bytes: what they give comes.
+  abbrev pub EndsInput : List ℕ → Result (Unit {0}) Refusal → Reading S → Type 0
+  EndsInput bytes answer new = Comes gives m began bytes new.feeding.names new.feeding.sink answer

@@ -29,10 +29,13 @@ pub record HoldsItems {S : Type 0} (gives : S → Item → Result (Unit {0}) Ref
   pub was_fed : WasFed gives m began feeding fed
 
 module _ {S : Type 0} (gives : S → Item → Result (Unit {0}) Refusal → S → Type 0) where
-  -- What handing over items does, after others: memory ran out; or the sink refused what the text gives, or the text is refused,
-  -- whatever comes after; or they are held too.
+  -- What handing over items does, after others: memory ran out, or the sink refused what the text gives, or the text is refused, whatever
+  -- comes after; or they are held too.
   pub data TakesItems (m : Manner) (began : Began S) (before items : List CharItem) (answer : Result (Unit {0}) Refusal) (new : Intake S) : Type 0 where
-    items_ran_out : answer ≡ Err refusal.Memory → TakesItems m began before items answer new
+    items_ran_out : (events : List Event) (errors : List ParseError) → answer ≡ Err refusal.Memory → new.stopped ≡ true
+        → Handed gives new.names began (tokens_in events) errors (Ok tt) new.sink
+        → ((more : List CharItem) (end : ℕ) → AreFront m.table (start_kind m.start) (characters_among (before ++ (items ++ more))) end events)
+        → TakesItems m began before items answer new
     items_stopped : (e : Refusal) (events : List Event) (errors : List ParseError) → answer ≡ Err e → new.stopped ≡ true
         → Handed gives new.names began (tokens_in events) errors (Err e) new.sink
         → ((more : List CharItem) (end : ℕ) → AreFront m.table (start_kind m.start) (characters_among (before ++ (items ++ more))) end events)
@@ -50,7 +53,9 @@ module _ {S : Type 0} (gives : S → Item → Result (Unit {0}) Refusal → S �
 
   -- What the end of the text does, after these items: memory ran out, or the sink refused what the text gives, or it took all of that.
   pub data EndsText (m : Manner) (began : Began S) (items : List CharItem) (end : ℕ) (answer : Result (Unit {0}) Refusal) (new : Intake S) : Type 0 where
-    text_ran_out : answer ≡ Err refusal.Memory → EndsText m began items end answer new
+    text_ran_out : (events : List Event) (errors : List ParseError) → answer ≡ Err refusal.Memory
+        → Handed gives new.names began (tokens_in events) errors (Ok tt) new.sink
+        → AreFront m.table (start_kind m.start) (characters_among items) end events → EndsText m began items end answer new
     text_stopped : (e : Refusal) (events : List Event) (errors : List ParseError) → answer ≡ Err e
         → Handed gives new.names began (tokens_in events) errors (Err e) new.sink
         → AreFront m.table (start_kind m.start) (characters_among items) end events → EndsText m began items end answer new
@@ -58,8 +63,7 @@ module _ {S : Type 0} (gives : S → Item → Result (Unit {0}) Refusal → S �
         → Tokens m.table (start_kind m.start) (characters_among items) end tokens errors
         → Handed gives new.names began tokens (errors_among items ++ errors) (Ok tt) new.sink → EndsText m began items end answer new
 
-  -- The answer once a decoder has refused bytes of which these items were read: memory ran out, or the bytes are refused for it.
-  pub data Refuses (m : Manner) (began : Began S) (held : List CharItem) (refused answer : Refusal) (new : Intake S) : Type 0 where
-    refusing_ran_out : answer ≡ refusal.Memory → Refuses m began held refused answer new
-    refusing : ((bytes : List ℕ) → held ≡ items (reads_in m bytes) → refusal_of (how_of m) bytes ≡ Some refused
-        → IsRefusedFor gives m began bytes new.names new.sink answer) → Refuses m began held refused answer new
+  -- The answer once a decoder has refused bytes of which these items were read: the bytes are refused for it.
+  abbrev pub Refuses : Manner → Began S → List CharItem → Refusal → Refusal → Intake S → Type 0
+  Refuses m began held refused answer new = (bytes : List ℕ) → held ≡ items (reads_in m bytes) → refusal_of (how_of m) bytes ≡ Some refused
+      → IsRefusedFor gives m began bytes new.names new.sink answer

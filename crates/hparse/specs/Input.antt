@@ -5,7 +5,7 @@ use Rattle.names.specs.declared.error.ParseError.{ParseError}
 use Rattle.names.specs.declared.placed.Placed.{Placed}
 use Rattle.names.specs.declared.raw.RefusedName.{RefusedName}
 use Rattle.names.specs.declared.refusal.Refusal.{Refusal}
-use Rattle.names.specs.declared.refusal.Refusal.TheVariants.{OutOfProfile}
+use Rattle.names.specs.declared.refusal.Refusal.TheVariants.{Memory, OutOfProfile}
 use Rattle.names.specs.Names.{Texts, Grows}
 use Rattle.names.specs.Sink.{Hands}
 use Rattle.htext.specs.declared.BadBytes.{BadBytes}
@@ -18,7 +18,7 @@ use Rattle.htoken.specs.declared.token.Start.{Start}
 use Rattle.htoken.specs.declared.token.Start.TheVariants as start
 use Rattle.htoken.specs.declared.token.Token.{Token}
 use Rattle.htoken.specs.Standing.{start_kind}
-use Rattle.htoken.specs.Token.{Tok, Event, Item, ItemToken, ItemError}
+use Rattle.htoken.specs.Token.{Tok, Event, Item, ItemToken, ItemError, token_in}
 use Rattle.htoken.specs.Tokens.{Tokens, IsRefused, AreFront, tokens_in}
 use Rattle.hparse.specs.TokenRun.{TokensMean}
 
@@ -55,12 +55,12 @@ end_in m bytes = read_len (how_of m) bytes
 -- the tokens and the errors among what a sink was handed
 abbrev pub tokens_handed : List Item → List Token
 tokens_handed [] = []
-tokens_handed (ItemToken token ∷ items) = token ∷ tokens_handed items
+tokens_handed (ItemToken handed ∷ items) = token_in handed ∷ tokens_handed items
 tokens_handed (ItemError error ∷ items) = tokens_handed items
 
 abbrev pub errors_handed : List Item → List ParseError
 errors_handed [] = []
-errors_handed (ItemToken token ∷ items) = errors_handed items
+errors_handed (ItemToken handed ∷ items) = errors_handed items
 errors_handed (ItemError error ∷ items) = error ∷ errors_handed items
 
 -- A sink as it begins, and the table of names of the tokens.
@@ -80,7 +80,7 @@ pub record Handed {S : Type 0} (gives : S → Item → Result (Unit {0}) Refusal
 
 module _ {S : Type 0} (gives : S → Item → Result (Unit {0}) Refusal → S → Type 0) (m : Manner) (began : Began S) (bytes : List ℕ) (names : Texts)
     (now : S) where
-  -- The input is refused, where the sink was handed what comes before.
+  -- The input is refused, where the sink was handed what comes before: or memory ran out, where it took a front of what the text gives.
   pub data IsRefusedFor : Refusal → Type 0 where
     -- the sink refuses what its text gives
     by_sink : (refusal : Refusal) (events : List Event) (errors : List ParseError) → Handed gives names began (tokens_in events) errors (Err refusal) now
@@ -92,6 +92,8 @@ module _ {S : Type 0} (gives : S → Item → Result (Unit {0}) Refusal → S �
     by_bytes : (refusal : Refusal) (tokens : List Tok) (errors handed : List ParseError) → Handed gives names began tokens handed (Ok tt) now
         → Tokens m.table (start_kind m.start) (text_in m bytes) (end_in m bytes) tokens errors → refusal_of (how_of m) bytes ≡ Some refusal
         → IsRefusedFor refusal
+    by_memory : (events : List Event) (errors : List ParseError) → Handed gives names began (tokens_in events) errors (Ok tt) now
+        → AreFront m.table (start_kind m.start) (text_in m bytes) (end_in m bytes) events → IsRefusedFor Memory
 
   -- The sink took all that the input gives.
   pub record IsTaken : Type 0 where

@@ -8,6 +8,7 @@ pub mod Input
 pub mod Into
 pub mod Intake
 pub mod Origins
+pub mod PageText
 pub mod Parse
 pub mod Parsing
 pub mod Placing

@@ -1,75 +1,101 @@
--- Where the nodes of a tree came from: the tokens in whose steps they were made.
-use Rattle.std.specs.Prelude.{◌≡◌, ℕ, ◌-◌, Bool, true, false, List, [], ◌∷◌, ◌++◌, length, map, replicate, take, slice_get, Option, Some, None, option_map}
-use Rattle.std.specs.Prelude.{if◌then◌else◌}
-use Rattle.std.specs.Option.{unwrap_or}
+-- Where the nodes of a tree came from: the tokens in whose steps they were made, and how.
+use Rattle.std.specs.Prelude.{◌≡◌, ℕ, ◌+◌, ◌-◌, ◌==◌, ◌&&◌, Bool, true, false, List, [], ◌∷◌, ◌++◌, length, map, replicate, slice_get, slice_set, Option}
+use Rattle.std.specs.Prelude.{Some, None, option_map, if◌then◌else◌}
+use Rattle.std.specs.List.{range_with_len}
+use Rattle.std.specs.Option.{option_map_or}
 use Rattle.names.specs.declared.error.ParseError.{ParseError}
+use Rattle.names.specs.declared.tag.Tag.{Tag}
+use Rattle.names.specs.declared.tag.Tag.TheVariants as tag
 use Rattle.htoken.specs.Standing.{start_kind}
 use Rattle.htoken.specs.Token.{Tok}
 use Rattle.htoken.specs.Tokens.{Tokens}
-use Rattle.hnodes.specs.Forest.{Forest}
-use Rattle.hnodes.specs.Spots.{kind_of}
+use Rattle.hnodes.specs.Edits.{Nodes}
+use Rattle.hnodes.specs.Spots.{kind_of, name_of}
 use Rattle.hnodes.specs.declared.node.NodeKind.{NodeKind}
 use Rattle.hnodes.specs.declared.node.NodeKind.TheVariants as kind
 use Rattle.hadopt.specs.Naming.{Naming, texts}
 use Rattle.hadopt.specs.Site.{Goes}
-use Rattle.hmodes.specs.State.{Token, character, PlacedToken, State}
+use Rattle.hmodes.specs.State.{Token, start, character, PlacedToken, State}
 use Rattle.hmodes.specs.Step.{Step}
 use Rattle.hparse.specs.declared.origins.Origin.{Origin}
 use Rattle.hparse.specs.Input.{text_in}
 use Rattle.hparse.specs.Parse.{ParseCase, ParseOptions, begins, manner, start_of}
 use Rattle.hparse.specs.Taken.{placed}
 
--- What is known after some tokens: the origins of the nodes, by their numbers, and the place of the first character after the last token
--- that is no character.
-pub record OriginState : Type 0 where
-  pub list : List Origin
-  pub first : Option ℕ
+-- a node that the token at this byte implied
+abbrev pub implied : ℕ → Origin
+implied at = record { at = at; in_source = false; again_of = None }
 
--- What a token makes came from it. But characters in a table wait for the token after them (#parsing-main-intabletext): a text that another
--- token makes came from the first of the characters right before it.
-abbrev pub origin_of : Option ℕ → ℕ → Bool → Origin
-origin_of first at is_character = record { token = at; text = if is_character then at else unwrap_or first at }
-
--- the list when so many nodes were made: those that are new came from here
-abbrev pub resized : Origin → ℕ → List Origin → List Origin
-resized origin made list = take made list ++ replicate (made - length list) origin
-
--- after the step of a token at this place
-abbrev pub after_token : ℕ → Bool → ℕ → OriginState → OriginState
-after_token at is_character made o = record {
-  list = resized (origin_of o.first at is_character) made o.list;
-  first = if is_character then Some (unwrap_or o.first at) else None;
-}
+-- How a node of this kind is made in the step of a token that begins here, where the first character of a text is that the token makes:
+-- an element is of a tag of its own, or implied
+abbrev pub making_of : (at first : ℕ) → Option NodeKind → Bool → Origin
+making_of at first (Some kind.Text) own = record { at = first; in_source = true; again_of = None }
+making_of at first (Some kind.Element) own = record { at = at; in_source = own; again_of = None }
+making_of at first other own = record { at = at; in_source = true; again_of = None }
 
 module _ {N : Type 0} where
-  abbrev pub is_character : Token N → Bool
-  is_character (character c) = true
-  is_character t = false
+  -- Where the first character is of a text that a token makes: a character makes one of itself, another token of the pending table
+  -- characters (#parsing-main-intabletext).
+  abbrev pub first_of : Token N → ℕ → State N → ℕ
+  first_of (character c) at s = at
+  first_of t at s = option_map_or (λ c. c.at) (slice_get s.control.pending 0) at
 
-  -- what was made before any token came from the beginning
-  abbrev pub first_origins : State N → OriginState
-  first_origins s = record { list = replicate s.site.nodes.made (record { token = 0; text = 0 }); first = None }
+module _ {N : Type 0} (n : Naming N) where
+  -- the name of the element of a start tag: of image it is img (#parsing-main-inbody)
+  abbrev pub element_name : Tag → N → N
+  element_name tag.Image x = n.known tag.Img
+  element_name t x = x
 
--- The tokens lead from one state to another, and these are the origins of the nodes before and after.
-pub data Makes {N : Type 0} (n : Naming N) : List (PlacedToken N) → State N → OriginState → State N → OriginState → Type 0 where
-  none : {s : State N} {o : OriginState} → Makes n [] s o s o
-  and : {t : PlacedToken N} {ts : List (PlacedToken N)} {s s' s'' : State N} {o o' : OriginState} → Step n t.at t.token s (Goes s')
-      → Makes n ts s' (after_token t.at (is_character t.token) s'.site.nodes.made o) s'' o' → Makes n (t ∷ ts) s o s'' o'
+  abbrev pub own_name : Token N → Option N
+  own_name (start x attrs closing) = Some (element_name (n.tag x) x)
+  own_name t = None
 
--- These are the origins of the nodes, by their numbers, that the tokens of these bytes make.
+  abbrev pub are_same : Option N → Option N → Bool
+  are_same (Some x) (Some y) = n.same x y
+  are_same x None = false
+  are_same None y = false
+
+  -- The element of a start tag is the last node that its step makes: the others are implied.
+  abbrev pub is_own : Option N → Nodes N → ℕ → Bool
+  is_own own nodes k = (k + 1) == nodes.made && are_same own (name_of k nodes.trees)
+
+  -- how node k was made
+  module _ (at first : ℕ) (own : Option N) (nodes : Nodes N) where
+    abbrev pub making : ℕ → Origin
+    making k = making_of at first (kind_of k nodes.trees) (is_own own nodes k)
+
+    -- how all of them were made: those after the list in that step
+    abbrev pub with_made : List Origin → List Origin
+    with_made list = list ++ map making (range_with_len (length list) (nodes.made - length list))
+
+  -- how the nodes were made after the step of a token that led from one state to another
+  abbrev pub after_token : PlacedToken N → State N → State N → List Origin → List Origin
+  after_token t s s' list = with_made t.at (first_of t.token t.at s) (own_name t.token) s'.site.nodes list
+
+  -- The tokens lead from one state to another, and so the nodes were made before and after.
+  pub data Makes : List (PlacedToken N) → State N → List Origin → State N → List Origin → Type 0 where
+    none : {s : State N} {list : List Origin} → Makes [] s list s list
+    and : {t : PlacedToken N} {ts : List (PlacedToken N)} {s s' s'' : State N} {list list' : List Origin} → Step n t.at t.token s (Goes s')
+        → Makes ts s' (after_token t s s' list) s'' list' → Makes (t ∷ ts) s list s'' list'
+
+-- the document and a fragment's root, before any token
+abbrev pub first_makings : {N : Type 0} → State N → List Origin
+first_makings s = replicate s.site.nodes.made (implied 0)
+
+-- with the note that these elements were made again, each of another
+abbrev pub noted : ℕ × ℕ → List Origin → List Origin
+noted x list = option_map_or (λ m. slice_set list x.0 (record m { in_source = false; again_of = Some x.1 })) (slice_get list x.0) list
+
+abbrev pub again_laid : List (ℕ × ℕ) → List Origin → List Origin
+again_laid [] list = list
+again_laid (x ∷ again) list = again_laid again (noted x list)
+
+-- The tokens of these bytes make the nodes so, by their numbers.
 pub record AreOrigins (opts : ParseOptions) (parse_case : ParseCase) (bytes : List ℕ) (list : List Origin) : Type 0 where
   pub tokens : List Tok
   pub errors : List ParseError
   pub state : State (List ℕ)
-  pub origins : OriginState
+  pub made : List Origin
   pub read : Tokens opts.table (start_kind (start_of parse_case)) (text_in (manner opts parse_case) bytes) (length bytes) tokens errors
-  pub makes : Makes texts (map placed tokens) (begins opts parse_case) (first_origins (begins opts parse_case)) state origins
-  pub list_is : list ≡ origins.list
-
--- the place where a node came from, as what it is
-abbrev pub place_as : Option NodeKind → Origin → ℕ
-place_as (Some kind.Text) origin = origin.text
-place_as what origin = origin.token
-
-abbrev pub place_in : {N : Type 0} → Forest N → List Origin → ℕ → Option ℕ
-place_in trees list n = option_map (place_as (kind_of n trees)) (slice_get list n)
+  pub makes : Makes texts (map placed tokens) (begins opts parse_case) (first_makings (begins opts parse_case)) state made
+  pub list_is : list ≡ again_laid state.site.again made

@@ -23,8 +23,8 @@ use Rattle.hparse.specs.declared.placing.Placing.{Placing}
 use Rattle.hparse.specs.Answer.{error_cmp}
 use Rattle.hparse.specs.Fed.{HasRead}
 use Rattle.hparse.specs.Input.{Began}
-use Rattle.hparse.specs.Origins.{AreOrigins}
-use Rattle.hparse.specs.Placing.{PlacesError, PlacesToken, origins_if}
+use Rattle.hparse.specs.Origins.{AreOrigins, again_laid}
+use Rattle.hparse.specs.Placing.{PlacesError, PlacesToken, makings_if, makings_of}
 use Rattle.hnodes.specs.Named.{AreOf}
 use Rattle.hparse.specs.Parse.{ParseCase, document, fragment, ParseOptions, Parse, Parses, manner, root_of}
 
@@ -56,7 +56,7 @@ pub record HasParsed (opts : ParseOptions) (parse_case : ParseCase) (parser : Pa
   pub none_told : began.sink.builder.told ≡ []
   pub root_is : began.sink.builder.root ≡ root_of parse_case
   pub begins : BeginsIn opts began.names parse_case began.sink.builder.state
-  pub places : began.sink.origins ≡ origins_if opts.places began.sink.builder.state
+  pub places : makings_of began.sink ≡ makings_if opts.places began.sink.builder.state
   pub has_read : HasRead places_item (manner opts parse_case) began parser.reading.value bytes
 
 -- A parser with this builder and this table of names that was fed nothing.
@@ -64,7 +64,7 @@ pub record IsUnfed (options : Options) (start : Start) (names : Texts) (builder 
   pub accepts : parser.refused ≡ None
   pub sink : Placing
   pub builder_is : sink.builder ≡ builder
-  pub places : sink.origins ≡ origins_if options.places builder.state
+  pub places : makings_of sink ≡ makings_if options.places builder.state
   pub has_read : HasRead places_item (record { table = options.table.now; start = start; bad = options.bad_bytes; limit = options.limits.input })
       (record { names = names; sink = sink }) parser.reading.value []
 
@@ -75,7 +75,7 @@ pub data FeedsParser (opts : ParseOptions) (parse_case : ParseCase) (bytes : Lis
       → FeedsParser opts parse_case bytes answer new
   feed_read : answer ≡ Ok tt → HasParsed opts parse_case new bytes → FeedsParser opts parse_case bytes answer new
 
--- the origins of its nodes, where it has them
+-- how its nodes were made, where it has that
 abbrev pub places_in : Parsed → Option (List Origin)
 places_in parsed = option_map (λ places. places.items) parsed.places
 
@@ -91,7 +91,7 @@ pub record IsMadeOf (names : Texts) (tree : Nodes ℕ) (root : ℕ) (errors : Li
 -- what a builder has built
 abbrev pub IsBuilt : Texts → Placing → Parsed → Type 0
 IsBuilt names sink = IsMadeOf names sink.builder.state.site.nodes sink.builder.root (sink.builder.state.site.errors ++ sink.builder.told)
-    (option_map (λ made. made.list) sink.origins)
+    (option_map (again_laid sink.builder.state.site.again) (makings_of sink))
 
 -- What was parsed is this: the same tree, in which the names inside the root are numbers of its table, the same root and the same
 -- errors. The texts of the table are distinct, the known ones first.

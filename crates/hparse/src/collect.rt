@@ -64,6 +64,10 @@ impl TokenSink for Collected {
         Ok(())
     }
 
+    fn take_tag(&mut self, token: Token, _names: &Names) -> Result<(), Refusal> {
+        self.take_token(token)
+    }
+
     fn take_text(&mut self, ch: char, at: u64) -> Result<(), Refusal> {
         self.take_token(Token::Char { ch, at })
     }

@@ -101,7 +101,7 @@ impl<'t, S: TokenSink> Feeding<'t, S> {
         ensures answer { (m : Manner) (began : Began S) (held : List CharItem) → HoldsItems (gives_item S.gives S.gives_token) m began self.old held
             → Refuses (gives_item S.gives S.gives_token) m began held refusal result self.new }
         ensures stopped { self.old.stopped ≡ true → (result ≡ refusal) × (self.new ≡ self.old) }
-        ensures memory { refusal ≡ Refusal.Memory → result ≡ Refusal.Memory }
+        ensures memory { refusal ≡ Refusal.Memory → (result ≡ Refusal.Memory) × (self.new ≡ self.old) }
     {
         if self.stopped {
             return refusal;

@@ -10,6 +10,7 @@ mod errors;
 mod feeding;
 pub mod options;
 pub mod origins;
+mod page_text;
 pub mod parsed;
 pub mod parser;
 mod placing;

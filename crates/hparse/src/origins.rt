@@ -1,67 +1,145 @@
 //! Where the nodes of a tree came from.
 
-ghost use Rattle.std.specs.Prelude.{◌≡◌, Some, None, replicate, IfOk};
-ghost use Rattle.hparse.specs.Origins.{place_as, after_token};
+ghost use Rattle.std.specs.Prelude.{◌≡◌, ◌<◌, replicate, Some, IfOk};
+ghost use Rattle.hparse.specs.Vocabulary.{again_laid, are_same, element_name, implied, is_own, making, making_of, noted, numbers, own_name, tag_of, token_of, with_made};
 
-use hnodes::NodeKind;
+use hnodes::{NodeId, NodeKind, Tree};
+use htoken::Token;
+use names::{NameId, Tag};
 use std::alloc::{AllocError, Global};
-use std::marker::Model;
 
-/// Where a node came from, as a byte of the input: `text` where the node is a text, and `token` where it is none. A node came from the
-/// first byte of the token in whose step it was made (`#tree-construction`). But characters in a table wait for the token after them
-/// (`#parsing-main-intabletext`): a text that another token made came from the first of the characters right before it.
+/// How a node came to be.
 #[derive(Clone, Copy)]
 pub struct Origin {
-    pub token: u64,
-    pub text: u64,
+    /// The first byte of the token in whose step it was made (`#tree-construction`); of a text, its first character.
+    pub at: u64,
+
+    /// Whether that token is its own: an element's start tag, a comment, a doctype, a text's characters. An element that has none was made
+    /// again, or the token implied it, as html, head, body and tbody. The document and a fragment's root are implied at byte 0.
+    pub in_source: bool,
+
+    /// The element that it was made again of: reconstructed, or by the adoption agency.
+    pub again_of: Option<NodeId>,
 }
 
-impl Origin {
-    /// The place of a node of this kind.
-    pub fn place(self, kind: NodeKind) -> u64
-        ensures { result ≡ place_as (Some kind) self }
-    {
-        match kind {
-            NodeKind::Text => self.text,
-            _ => self.token,
-        }
-    }
+/// How the nodes were made that there are before any token, which are this many.
+pub(crate) fn first_makings(alloc: Global, made: u32) -> Result<Vec<Origin>, AllocError>
+    ensures { IfOk result (λ list. list.items ≡ replicate made (implied 0)) }
+{
+    vec![in alloc; Origin {
+        at: 0,
+        in_source: false,
+        again_of: None,
+    }; made as usize]
 }
 
-/// The origins of the nodes that were made, by their numbers.
+/// A token whose step makes nodes: where it begins, where the first character of a text is that it makes, and the name of its own element
+/// if it is a start tag.
 #[derive(Drop)]
-pub(crate) struct Origins {
-    pub(crate) list: Vec<Origin>,
-
-    /// The place of the first character after the last token that is no character.
-    first: Option<u64>,
+pub(crate) struct Maker {
+    pub(crate) at: u64,
+    pub(crate) first: u64,
+    pub(crate) own: Option<NameId>,
 }
 
-impl Model for Origins {
-    ghost use Rattle.hparse.specs.Origins.{OriginState};
-
-    ghost Value = { OriginState };
-
-    ghost view = { λ o. record { list = o.list.items; first = o.first } };
+/// The name of the element of a start tag of this name: of image it is img (`#parsing-main-inbody`).
+#[tactic(auto, using(crate::proofs::NodesMade::other_element))]
+fn element_name(name: NameId) -> NameId
+    ensures { result ≡ element_name numbers (tag_of name) name }
+{
+    match name.tag() {
+        Tag::Image => Tag::Img.number(),
+        _ => name,
+    }
 }
 
-impl Origins {
-    /// The origins of the nodes that were made before any token, which are this many.
-    pub(crate) fn new(alloc: Global, made: u32) -> Result<Origins, AllocError>
-        ensures { IfOk result (λ o. o ≡ record { list = replicate made (record { token = 0; text = 0 }); first = None }) }
+/// The name of its element, if it is a start tag.
+pub(crate) fn own_name(token: &Token) -> Option<NameId>
+    ensures { result ≡ own_name numbers (token_of token.now) }
+{
+    match token {
+        Token::Start { name, .. } => Some(element_name(*name)),
+        _ => None,
+    }
+}
+
+/// Whether both are names, and the same one.
+fn are_same(own: Option<NameId>, name: Option<NameId>) -> bool
+    ensures { result ≡ are_same numbers own name }
+{
+    match (own, name) {
+        (Some(own), Some(name)) => own == name,
+        _ => false,
+    }
+}
+
+/// How a node of this kind is made by a token that begins here, where the first character of a text is that the token makes.
+fn making_of(at: u64, first: u64, kind: NodeKind, own: bool) -> Origin
+    ensures { result ≡ making_of at first (Some kind) own }
+{
+    let (at, in_source) = match kind {
+        NodeKind::Text => (first, true),
+        NodeKind::Element => (at, own),
+        _ => (at, true),
+    };
+    Origin {
+        at,
+        in_source,
+        again_of: None,
+    }
+}
+
+impl Maker {
+    /// Whether a node is its own element: the last node that its step made, if that has its name.
+    fn is_own(&self, tree: &Tree, node: NodeId) -> bool
+        requires { node < tree.now.made }
+        ensures { result ≡ is_own numbers self.now.own tree.now node }
     {
-        let list = vec![in alloc; Origin { token: 0, text: 0 }; made as usize]?;
-        Ok(Origins { list, first: None })
+        node.index() + 1 == tree.made() as usize && are_same(self.own, tree.name(node))
     }
 
-    /// Adds the nodes that the step of a token at this place made, after which there are this many.
-    pub(crate) fn add(&mut self, at: u64, is_character: bool, made: u32) -> Result<(), AllocError>
-        ensures { IfOk result (λ u. self.new ≡ after_token at is_character made self.old) }
+    /// How it made a node.
+    fn making(&self, tree: &Tree, node: NodeId) -> Origin
+        requires { node < tree.now.made }
+        ensures { result ≡ making numbers self.now.at self.now.first self.now.own tree.now node }
     {
-        let first = self.first.unwrap_or(at);
-        let text = if is_character { at } else { first };
-        self.list.resize(made as usize, Origin { token: at, text })?;
-        self.first = if is_character { Some(first) } else { None };
+        let own = self.is_own(tree, node);
+        making_of(self.at, self.first, tree.kind(node), own)
+    }
+
+    /// Adds how the nodes of the tree were made that the list does not have.
+    #[tactic(auto, using(crate::proofs::NodesMade::one_more, crate::proofs::NodesMade::none_left))]
+    pub(crate) fn add(&self, tree: &Tree, list: &mut Vec<Origin>) -> Result<(), AllocError>
+        ensures { IfOk result (λ u. list.new.items ≡ with_made numbers self.now.at self.now.first self.now.own tree.now list.old.items) }
+    {
+        while let Some(node) = tree.node(list.len()) {
+            list.push(self.making(tree, node))?;
+        }
         Ok(())
+    }
+}
+
+/// Notes in a list that an element was made again of another.
+#[tactic(auto, using(crate::proofs::NodesMade::noted_in, crate::proofs::NodesMade::noted_out))]
+fn note_again(list: &mut [Origin], element: NodeId, of: NodeId)
+    ensures { list.new ≡ noted (element, of) list.old }
+{
+    let index = element.index();
+    if index < list.len() {
+        let at = list[index].at;
+        list[index] = Origin {
+            at,
+            in_source: false,
+            again_of: Some(of),
+        };
+    }
+}
+
+/// Notes in a list which elements were made again, each with the element that it was made of.
+pub(crate) fn lay_again(list: &mut [Origin], again: &[(NodeId, NodeId)])
+    ensures { list.new ≡ again_laid again.now list.old }
+{
+    for (element, of) in again {
+        note_again(list, *element, *of);
     }
 }

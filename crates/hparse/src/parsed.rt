@@ -1,8 +1,7 @@
 //! What a parse gives.
 
-ghost use Rattle.std.specs.Prelude.{◌≡◌, ◌<◌};
+ghost use Rattle.std.specs.Prelude.{◌≡◌, ◌<◌, option_map, slice_get};
 ghost use Rattle.std.specs.Option.{option_and_then};
-ghost use Rattle.hparse.specs.Origins.{place_in};
 
 use crate::origins::Origin;
 use hnodes::{NodeId, Tree};
@@ -16,7 +15,7 @@ pub struct Parsed {
     pub names: Names,
     pub errors: Vec<ParseError>,
 
-    /// Where each node came from, by its number, where the options ask for places.
+    /// How each node came to be, by its number, where the options ask for places.
     pub places: Option<Vec<Origin>>,
     pub ghost made: { root < tree.made },
 }
@@ -39,13 +38,20 @@ impl Drop for Parsed {
 }
 
 impl Parsed {
-    /// The byte at which the token begins that a node came from, as [`Origin`] says; none where the options ask for no places. The
-    /// document, and a fragment's root, came from byte 0.
+    /// The byte at which the token begins in whose step a node was made; of a text, its first character. None where the options ask
+    /// for no places. The document, and a fragment's root, came from byte 0.
     pub fn place(&self, node: NodeId) -> Option<u64>
         requires { node < self.now.tree.made }
-        ensures { result ≡ option_and_then (λ places. place_in self.now.tree.trees places.items node) self.now.places }
+        ensures { result ≡ option_and_then (λ places. option_map (λ m. m.at) (slice_get places.items node)) self.now.places }
     {
-        let origin = self.places.as_ref()?.get(node.index())?;
-        Some(origin.place(self.tree.kind(node)))
+        Some(self.places.as_ref()?.get(node.index())?.at)
+    }
+
+    /// How a node came to be; none where the options ask for no places.
+    pub fn origin(&self, node: NodeId) -> Option<Origin>
+        requires { node < self.now.tree.made }
+        ensures { result ≡ option_and_then (λ places. slice_get places.items node) self.now.places }
+    {
+        Some(*self.places.as_ref()?.get(node.index())?)
     }
 }

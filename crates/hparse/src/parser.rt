@@ -1,18 +1,19 @@
 //! A parser that is fed bytes.
 
 ghost use Rattle.std.specs.Prelude.{◌≡◌, ◌<◌, ◌⊎◌, ℕ, List, [], ◌++◌, None, Some, true, false, Err, option_map, IfErr, IfOk, MatchResult};
-ghost use Rattle.hparse.specs.Vocabulary.{Refused, BadContext, Memory, ParseCase, ParseOptions, document, fragment, is_context, ReadsInput, AnswersParse, FeedsParser, IsUnfed, HasParsed, IsBuilt, IsMadeOf, ShowsParse, options_of, IsUnrefused};
+ghost use Rattle.hparse.specs.Vocabulary.{again_laid, Refused, BadContext, Memory, ParseCase, ParseOptions, document, fragment, is_context, ReadsInput, AnswersParse, FeedsParser, IsUnfed, HasParsed, IsBuilt, IsMadeOf, ShowsParse, options_of, IsUnrefused};
 
 use crate::context::is_context;
 use crate::errors::sort_errors;
 use crate::options::Options;
-use crate::origins::Origin;
+use crate::origins::{Origin, lay_again};
 use crate::parsed::Parsed;
 use crate::placing::Placing;
 use crate::reader::read_to_end;
 use crate::reading::Reading;
 use crate::source::Source;
 use hmodes::{Builder, Built};
+use hnodes::NodeId;
 use htoken::Start;
 use names::{Names, Refusal};
 use std::alloc::{AllocError, Global};
@@ -114,12 +115,12 @@ impl<'t> Parser<'t> {
             refused: _,
         } = self;
         let (names, sink) = Box::into_inner(reading).into_parts();
-        let (builder, places) = sink.into_parts();
+        let (builder, makings) = sink.into_parts();
         match builder.finish() {
-            Ok(built) => in_order(names, built, places),
+            Ok(built) => in_order(names, built, makings),
             Err(refusal) => {
                 drop(names);
-                drop(places);
+                drop(makings);
                 Err(refusal)
             }
         }
@@ -168,17 +169,33 @@ pub fn parse_reader<R: Source>(
     parser.built()
 }
 
-/// What was built, with the errors in their order.
+/// Where the nodes came from, if that is asked for, with the elements noted that were made again.
+fn with_again(places: Option<Vec<Origin>>, again: &[(NodeId, NodeId)]) -> Option<Vec<Origin>>
+    ensures { option_map (λ list. list.items) result ≡ option_map (λ list. again_laid again.now list.items) places }
+{
+    match places {
+        Some(mut list) => {
+            lay_again(&mut list, again);
+            Some(list)
+        }
+        None => None,
+    }
+}
+
+/// What was built, with the errors in their order, and with the elements noted that were made again.
 fn in_order(names: Names, built: Built, places: Option<Vec<Origin>>) -> Result<Parsed, Refusal>
     requires { built.root < built.tree.made }
-    ensures { MatchResult result (IsMadeOf names built.tree built.root built.errors.items (option_map (λ list. list.items) places))
-        (λ refusal. refusal ≡ Memory) }
+    ensures { MatchResult result (IsMadeOf names built.tree built.root built.errors.items
+        (option_map (λ list. again_laid built.again.items list.items) places)) (λ refusal. refusal ≡ Memory) }
 {
     let Built {
         tree,
         root,
         mut errors,
+        again,
     } = built;
+    let places = with_again(places, &again);
+    drop(again);
     let sorted = sort_errors(&mut errors);
     let parsed = Parsed {
         tree,

@@ -1,27 +1,27 @@
 //! A builder of a tree that keeps where the nodes came from.
 
 ghost use Rattle.std.specs.Prelude.{◌≡◌, option_map, IfOk, IfErr};
-ghost use Rattle.hparse.specs.Vocabulary.{Memory, Given, token_of, is_character, after_token, PlacesToken, origins_if};
+ghost use Rattle.hparse.specs.Vocabulary.{Alone, Memory, Given, first_of, makings_if, makings_of, numbers, place_of, own_name, PlacesToken, token_of, with_made};
 
-use crate::origins::{Origin, Origins};
+use crate::origins::{Maker, Origin, first_makings, own_name};
 use hmarkup::ErrorSink;
 use hmodes::Builder;
 use htoken::{Token, TokenSink};
 use names::{Names, ParseError, Refusal};
 use std::alloc::{AllocError, Global};
 
-/// A builder, and where the nodes that it made came from, if that is asked for.
+/// A builder, and how the nodes were made that it has, if that is asked for.
 pub struct Placing<'q> {
     pub(crate) builder: Builder<'q>,
-    pub(crate) origins: Option<Origins>,
+    pub(crate) makings: Option<Vec<Origin>>,
 }
 
 // Written out, as that of a parser.
 impl<'q> Drop for Placing<'q> {
     fn drop(self) {
-        let Placing { builder, origins } = self;
+        let Placing { builder, makings } = self;
         drop(builder);
-        drop(origins);
+        drop(makings);
     }
 }
 
@@ -29,68 +29,80 @@ impl<'q> Placing<'q> {
     /// A builder that has been handed nothing.
     pub fn new(alloc: Global, builder: Builder<'q>, places: bool) -> Result<Placing<'q>, AllocError>
         ensures builder { IfOk result (λ placing. placing.builder ≡ builder.entry) }
-        ensures origins { IfOk result (λ placing. placing.origins ≡ origins_if places builder.entry.state) }
+        ensures makings { IfOk result (λ placing. makings_of placing ≡ makings_if places builder.entry.state) }
     {
         let made = builder.made();
-        let origins = if places {
-            Some(Origins::new(alloc, made)?)
+        let makings = if places {
+            Some(first_makings(alloc, made)?)
         } else {
             None
         };
-        Ok(Placing { builder, origins })
+        Ok(Placing { builder, makings })
     }
 
-    /// The builder, and the origins of the nodes by their numbers.
+    /// The builder, and how the nodes were made, by their numbers.
     pub fn into_parts(self) -> (Builder<'q>, Option<Vec<Origin>>)
         ensures builder { result.0 ≡ self.entry.builder }
-        ensures places { option_map (λ places. places.items) result.1 ≡ option_map (λ origins. origins.list) self.entry.origins }
+        ensures makings { result.1 ≡ self.entry.makings }
     {
-        let Placing { builder, origins } = self;
-        let Some(Origins { list, .. }) = origins else {
-            return (builder, None);
-        };
-        (builder, Some(list))
+        let Placing { builder, makings } = self;
+        (builder, makings)
     }
 
-    /// Keeps where the nodes came from that the builder has made of a token at this place.
-    fn keep(&mut self, at: u64, is_character: bool) -> Result<(), Refusal>
+    /// What is known of a token before its step.
+    fn maker(&self, token: &Token) -> Maker
+        ensures at { result.at ≡ place_of token.now }
+        ensures first { result.first ≡ first_of (token_of token.now) (place_of token.now) self.now.builder.state }
+        ensures own { result.own ≡ own_name numbers (token_of token.now) }
+    {
+        let at = token.place();
+        let first = match token {
+            Token::Char { .. } => at,
+            _ => self.builder.first_pending().unwrap_or(at),
+        };
+        Maker {
+            at,
+            first,
+            own: own_name(token),
+        }
+    }
+
+    /// Keeps how the nodes were made that the builder has made in the step of a token.
+    fn keep(&mut self, maker: &Maker) -> Result<(), Refusal>
         ensures builder { self.new.builder ≡ self.old.builder }
-        ensures origins { IfOk result (λ u. self.new.origins
-            ≡ option_map (after_token at is_character self.old.builder.state.site.nodes.made) self.old.origins) }
+        ensures makings { IfOk result (λ u. makings_of self.new
+            ≡ option_map (with_made numbers maker.now.at maker.now.first maker.now.own self.old.builder.state.site.nodes) (makings_of self.old)) }
         ensures memory { IfErr result (λ e. e ≡ Memory) }
     {
-        if let Some(origins) = &mut self.origins {
-            origins.add(at, is_character, self.builder.made())?;
+        if let Some(makings) = &mut self.makings {
+            maker.add(self.builder.tree(), makings)?;
         }
         Ok(())
     }
 
-    /// Takes a token, and keeps where what it makes came from.
+    /// Takes a token, and keeps how the nodes are made that it makes.
     #[inline(never)]
     fn place_token(&mut self, token: Token) -> Result<(), Refusal>
-        ensures { PlacesToken self.old token result self.new }
+        ensures { PlacesToken self.old (Alone token) result self.new }
     {
-        let at = token.place();
-        let is_character = is_character(&token);
+        let maker = self.maker(&token);
         self.builder.take_token(token)?;
-        self.keep(at, is_character)
+        self.keep(&maker)
     }
 
     /// Takes a character of text in the same way.
     #[inline(never)]
     fn place_text(&mut self, ch: char, at: u64) -> Result<(), Refusal>
-        ensures { PlacesToken self.old (Given.Char ch at) result self.new }
+        ensures { PlacesToken self.old (Alone (Given.Char ch at)) result self.new }
     {
         self.builder.take_text(ch, at)?;
-        self.keep(at, true)
+        let maker = Maker {
+            at,
+            first: at,
+            own: None,
+        };
+        self.keep(&maker)
     }
-}
-
-/// Whether it is a character.
-fn is_character(token: &Token) -> bool
-    ensures { result ≡ is_character (token_of token.now) }
-{
-    matches!(token, Token::Char { .. })
 }
 
 impl<'q> ErrorSink for Placing<'q> {
@@ -110,7 +122,7 @@ impl<'q> TokenSink for Placing<'q> {
 
     #[inline(always)]
     fn take_token(&mut self, token: Token) -> Result<(), Refusal> {
-        if self.origins.is_none() {
+        if self.makings.is_none() {
             return self.builder.take_token(token);
         }
         self.place_token(token)
@@ -123,7 +135,7 @@ impl<'q> TokenSink for Placing<'q> {
 
     #[inline(always)]
     fn take_text(&mut self, ch: char, at: u64) -> Result<(), Refusal> {
-        if self.origins.is_none() {
+        if self.makings.is_none() {
             return self.builder.take_text(ch, at);
         }
         self.place_text(ch, at)
@@ -131,7 +143,7 @@ impl<'q> TokenSink for Placing<'q> {
 
     #[inline(always)]
     fn take_run(&mut self, run: &str, at: u64) -> Result<(), Refusal> {
-        if self.origins.is_none() {
+        if self.makings.is_none() {
             return self.builder.take_run(run, at);
         }
         self.take_run_by_one(run, at)
@@ -139,12 +151,12 @@ impl<'q> TokenSink for Placing<'q> {
 
     #[inline(always)]
     fn may_spread(&self) -> bool {
-        self.origins.is_none() && self.builder.may_spread()
+        self.makings.is_none() && self.builder.may_spread()
     }
 
     #[inline(always)]
     fn take_spread(&mut self, run: &str, at: u64) -> Result<bool, Refusal> {
-        if self.origins.is_none() {
+        if self.makings.is_none() {
             return self.builder.take_spread(run, at);
         }
         Ok(false)
@@ -152,7 +164,7 @@ impl<'q> TokenSink for Placing<'q> {
 
     #[inline(always)]
     fn take_bad(&mut self, count: usize, at: u64) -> Result<(), Refusal> {
-        if self.origins.is_none() {
+        if self.makings.is_none() {
             return self.builder.take_bad(count, at);
         }
         self.take_bad_by_one(count, at)

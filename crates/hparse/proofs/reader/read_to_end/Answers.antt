@@ -1,6 +1,6 @@
-use Rattle.hparse.proofs.Names.{◌≡◌, ℕ, ◌+◌, ◌<◌, ◌≤◌, List, [], length, take, drop, ap, subst, ◌∙◌, sym, arith, rules, err_from_is_err_and, Consumes, gives_item, Comes}
+use Rattle.hparse.proofs.Names.{◌≡◌, ℕ, ◌+◌, ◌<◌, ◌≤◌, List, [], length, take, drop, ap, subst, ◌∙◌, sym, arith, rules, err_from_is_err_and, Consumes, gives_item}
 use Rattle.htext.specs.declared.decoder.TheConstants.{MAX_INPUT}
-use Rattle.hparse.proofs.Turns.{not_turned, no_turn, turned, refused_turn, failed_turn, ended, front_of_buffer, some_of_buffer, few_of_buffer}
+use Rattle.hparse.proofs.Turns.{no_buffer, not_turned, no_turn, turned, refused_turn, failed_turn, ended, front_of_buffer, some_of_buffer, few_of_buffer}
 use Rattle.hparse.proofs.reader.read_to_end.Goals as goal
 
 pub loop-turn-init : goal.loop-turn-init
@@ -22,8 +22,12 @@ pub returns-in-None : goal.returns-in-None
 returns-in-None g c = λ m began before start.
     let h = c.loop-turn.invariant.0 m began before start in
     failed_turn g.R.Source.left g.R.Source.failed (gives_item g.S.ErrorSink.gives g.S.TokenSink.gives_token) m began before c.loop-turn._turn c.args.source.now c.loop-turn.source c.loop-turn.reading h c.read.new.self c.args.piece
-    (λ bytes. Comes (gives_item g.S.ErrorSink.gives g.S.TokenSink.gives_token) m began bytes c.loop-turn.reading.feeding.names c.loop-turn.reading.feeding.sink)
     c.in-None.ensures.bytes c.in-None.ensures.count
+
+pub returns-in_err-buffer : goal.returns-in_err-buffer
+returns-in_err-buffer g c = λ m began before start.
+    let e = err_from_is_err_and c.from_residual.result c.from_residual.ensures.1 in
+    rw (e.1, e.2) (no_buffer g.R.Source.left g.R.Source.failed (gives_item g.S.ErrorSink.gives g.S.TokenSink.gives_token) m began before c.args.source.now c.args.reading.now c.args.piece start)
 
 pub returns-in_err-feed-in-Some : goal.returns-in_err-feed-in-Some
 returns-in_err-feed-in-Some g c = λ m began before start.
@@ -53,5 +57,4 @@ returns g c = λ m began before start.
     let h = c.loop-turn.invariant.0 m began before start in
     let fits : m.limit ≤ MAX_INPUT = start.fits in
     let many : m.limit + 3 < c.loop-turn._turn = omega arith in
-    no_turn g.R.Source.left g.R.Source.failed (gives_item g.S.ErrorSink.gives g.S.TokenSink.gives_token) m began before c.loop-turn._turn c.args.source.now c.loop-turn.source c.loop-turn.reading h c.args.piece
-    (λ bytes. Comes (gives_item g.S.ErrorSink.gives g.S.TokenSink.gives_token) m began bytes c.loop-turn.reading.feeding.names c.loop-turn.reading.feeding.sink) _ many
+    no_turn g.R.Source.left g.R.Source.failed (gives_item g.S.ErrorSink.gives g.S.TokenSink.gives_token) m began before c.loop-turn._turn c.args.source.now c.loop-turn.source c.loop-turn.reading h c.args.piece _ many

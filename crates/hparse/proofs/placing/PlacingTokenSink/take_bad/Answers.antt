@@ -4,4 +4,4 @@ use Rattle.hparse.proofs.placing.PlacingTokenSink.take_bad.Goals as goal
 
 pub returns-then-is_none : goal.returns-then-is_none
 returns-then-is_none c =
-    hands_without c.args.self.now c.take_bad.new.self (run_tokens (replaced c.args.at c.args.count)) c.take_bad.result (is_without c.args.self.now.origins c.is_none.result c.is_none.ensures c.if-is_none.true) c.take_bad.ensures
+    hands_without c.args.self.now c.take_bad.new.self (run_tokens (replaced c.args.at c.args.count)) c.take_bad.result (is_without c.args.self.now.makings c.is_none.result c.is_none.ensures c.if-is_none.true) c.take_bad.ensures
