@@ -59,7 +59,7 @@ module _ {N : Type 0} where
   -- the states of the law: limits, errors and context are those of z
   abbrev pub state : State N → ℕ → Forest N → List (OpenNode N) → List (Listed N) → Control → State N
   state z made f stack items c = record {
-    site = record { nodes = record { limit = z.site.nodes.limit; made = made; trees = f }; open_nodes = record { limit = z.site.open_nodes.limit; stack = stack }; items = items; foster = false; errors = z.site.errors };
+    site = record { nodes = record { limit = z.site.nodes.limit; made = made; trees = f }; open_nodes = record { limit = z.site.open_nodes.limit; stack = stack }; items = items; foster = false; errors = z.site.errors; again = z.site.again };
     control = c;
     context = z.context;
     quirks_list = z.quirks_list;
