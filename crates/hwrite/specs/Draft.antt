@@ -9,7 +9,7 @@ use Rattle.names.specs.Names.{Texts}
 use Rattle.htext.specs.Text.{Policy}
 use Rattle.charref.specs.Reference.{Entities}
 use Rattle.htoken.specs.declared.token.Token.{Token}
-use Rattle.htoken.specs.Token.{Tok, TokenMeans}
+use Rattle.htoken.specs.Token.{Handed, Tok, TokenMeans, token_in}
 use Rattle.hparse.specs.Answer.{Answers}
 use Rattle.hwrite.specs.declared.draft.Draft.{Draft}
 use Rattle.hwrite.specs.Quoted.{escaped, quoted}
@@ -95,8 +95,8 @@ Drafts old token new =
     → ComesTo names old (joined (line_of tok) lines) text → ComesTo names new lines text
 
 -- the steps of a draft as a sink: it takes all tokens while there is memory, and keeps no errors
-abbrev pub DraftsToken : Draft → Token → Result (Unit {0}) Refusal → Draft → Type 0
-DraftsToken old token answer new = MatchResult answer (λ _. Drafts (drafted old) token (drafted new)) (λ e. e ≡ Memory)
+abbrev pub DraftsToken : Draft → Handed → Result (Unit {0}) Refusal → Draft → Type 0
+DraftsToken old handed answer new = MatchResult answer (λ _. Drafts (drafted old) (token_in handed) (drafted new)) (λ e. e ≡ Memory)
 
 abbrev pub PassesError : Draft → ParseError → Result (Unit {0}) Refusal → Draft → Type 0
 PassesError old error answer new = (answer ≡ Ok tt) × (new ≡ old)

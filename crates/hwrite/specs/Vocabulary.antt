@@ -2,19 +2,20 @@
 pub use Rattle.hnodes.specs.Forest.{children_of}
 pub use Rattle.hnodes.specs.Spelled.{spelled}
 pub use Rattle.hparse.specs.Answer.{Answers, of_document}
-pub use Rattle.hparse.specs.Calls.{counted}
+pub use Rattle.hparse.specs.Calls.{Reads, counted, counted_by}
 pub use Rattle.hparse.specs.Into.{as_document}
 pub use Rattle.hparse.specs.Parse.{Parses}
 pub use Rattle.hparse.specs.Parsing.{AnswersParse, options_of}
 pub use Rattle.hparse.specs.Reader.{ReadsInput}
 pub use Rattle.hparse.specs.TokenRun.{TokensMean}
 pub use Rattle.hparse.specs.Unrefused.{IsUnrefused, IsUnrefusedText}
+pub use Rattle.hserialize.specs.Calls.{Writes, counted_unless}
 pub use Rattle.hserialize.specs.Output.{IsFlushed, Puts, WritesText, taken}
 pub use Rattle.htag.specs.Attributes.{AttrsMean}
 pub use Rattle.htoken.specs.Token.{Char, Comment, Doctype, End, Start, Tok, TokenMeans}
 pub use Rattle.hwrite.specs.Command.{name_of}
 pub use Rattle.hwrite.specs.Context.{AllowsContext, case_in}
-pub use Rattle.hwrite.specs.Counted.{failures_of, inner_of}
+pub use Rattle.hwrite.specs.Counted.{CalledOnce, failures_of, inner_of, taken_of}
 pub use Rattle.hwrite.specs.Draft.{Adds, AddsCharacters, AddsText, AnswersDraft, ComesTo, Drafts, Fills, drafted, empty, end_of_characters, is_hole}
 pub use Rattle.hwrite.specs.Prints.{Prints, is_plain_in, parse_text, parsed_text, plain_line, tokens_text}
 pub use Rattle.hwrite.specs.Quoted.{escaped, escaped_byte, quoted}

@@ -1,13 +1,15 @@
 //! Readers and writers that count their failed calls.
 
-ghost use Rattle.std.specs.Prelude.{◌≡◌};
-ghost use Rattle.hwrite.specs.Vocabulary.{counted, failures_of, inner_of};
+ghost use Rattle.std.specs.Prelude.{◌≡◌, true, Ok, is_ok};
+ghost use Rattle.std.specs.Result.{result_ok};
+ghost use Rattle.std.specs.Io.KnownBytes.{Keeps};
+ghost use Rattle.hwrite.specs.Vocabulary.{CalledOnce, Reads, Writes, counted, counted_by, counted_unless, failures_of, inner_of, taken_of};
 
+use crate::devices::{ReadDevice, WriteDevice};
 use hparse::Source;
 use hserialize::Target;
-use std::io::{Read, Write};
 
-/// Any reader or writer, with a count of its failed calls. No call is tried again, not even an interrupted one.
+/// Any reader or writer, with a count of its failed calls. Each call makes one of it: none is tried again, not even an interrupted one.
 #[derive(Drop)]
 pub struct Counted<T> {
     inner: T,
@@ -38,13 +40,17 @@ impl<T> Counted<T> {
     }
 }
 
-impl<R: Read> Source for Counted<R> {
-    ghost left = { λ source. R.remaining (inner_of source) };
+impl<D: ReadDevice> Source for Counted<D> {
+    ghost left = { λ source. D.remaining (inner_of source) };
 
     ghost failed = { failures_of };
 
-    fn read(&mut self, buffer: &mut [u8]) -> Option<usize> {
-        match self.inner.read(buffer) {
+    fn read(&mut self, buffer: &mut [u8]) -> Option<usize>
+        ensures bytes { Reads (D.remaining (inner_of self.old)) (D.remaining (inner_of self.new)) result buffer.new }
+        ensures count { failures_of self.new ≡ counted_by (failures_of self.old) result }
+        ensures once { CalledOnce (λ answer. D.reads (inner_of self.old) answer buffer.new (inner_of self.new)) result_ok result }
+    {
+        match self.inner.read_once(buffer) {
             Ok(count) => Some(count),
             Err(_) => {
                 self.count_failure();
@@ -58,13 +64,20 @@ impl<R: Read> Source for Counted<R> {
     }
 }
 
-impl<W: Write> Target for Counted<W> {
-    ghost written = { λ target. W.contents (inner_of target) };
+impl<D: WriteDevice> Target for Counted<D> {
+    ghost written = { λ target. D.contents (inner_of target) };
 
     ghost failed = { failures_of };
 
-    fn write(&mut self, bytes: &[u8]) -> Option<usize> {
-        match self.inner.write(bytes) {
+    // One flush of what is inside, which succeeded.
+    ghost flushes = { λ before after. D.flushes (inner_of before) (Ok tt) (inner_of after) };
+
+    fn write(&mut self, bytes: &[u8]) -> Option<usize>
+        ensures bytes { Writes (D.contents (inner_of self.old)) (D.contents (inner_of self.new)) result bytes.now }
+        ensures count { failures_of self.new ≡ counted_by (failures_of self.old) result }
+        ensures once { CalledOnce (λ answer. D.writes (inner_of self.old) bytes.now answer (inner_of self.new)) (taken_of bytes.now) result }
+    {
+        match self.inner.write_once(bytes) {
             Ok(count) if count > 0 || bytes.is_empty() => Some(count),
             _ => {
                 self.count_failure();
@@ -73,8 +86,13 @@ impl<W: Write> Target for Counted<W> {
         }
     }
 
-    fn flush(&mut self) -> bool {
-        let is_flushed = self.inner.flush().is_ok();
+    fn flush(&mut self) -> bool
+        ensures bytes { Keeps (D.contents (inner_of self.old)) (D.contents (inner_of self.new)) }
+        ensures flushed { result ≡ true → D.flushes (inner_of self.old) (Ok tt) (inner_of self.new) }
+        ensures count { failures_of self.new ≡ counted_unless (failures_of self.old) result }
+        ensures once { CalledOnce (λ answer. D.flushes (inner_of self.old) answer (inner_of self.new)) is_ok result }
+    {
+        let is_flushed = self.inner.flush_once().is_ok();
         if !is_flushed {
             self.count_failure();
         }

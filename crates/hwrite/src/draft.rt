@@ -11,7 +11,7 @@ use crate::words::{
 };
 use hmarkup::ErrorSink;
 use htoken::{Token, TokenSink};
-use names::{Attr, NameId, ParseError, Refusal};
+use names::{Attr, NameId, Names, ParseError, Refusal};
 use std::alloc::{AllocError, Global};
 
 /// What is where a name between quotes is left out: no line has this byte.
@@ -190,6 +190,10 @@ impl TokenSink for Draft {
     fn take_token(&mut self, token: Token) -> Result<(), Refusal> {
         self.push(&token)?;
         Ok(())
+    }
+
+    fn take_tag(&mut self, token: Token, _names: &Names) -> Result<(), Refusal> {
+        self.take_token(token)
     }
 
     fn take_text(&mut self, ch: char, at: u64) -> Result<(), Refusal> {

@@ -7,7 +7,7 @@ use crate::command::{Command, Task};
 use crate::draft::Draft;
 use crate::filling::print_draft;
 use hparse::{Options, Parsed, Parser, Source, parse_reader, read_into};
-use hserialize::{Target, is_plain, print_errors, print_tree, serialize, write_all};
+use hserialize::{Target, print_errors, print_tree, write_all};
 use names::{Names, Refusal};
 use std::alloc::Global;
 use std::mem::forget;
@@ -69,7 +69,14 @@ fn read_draft<S: Source>(
     ensures { ReadsInput S.left S.failed (AnswersDraft options.now.table.now (of_document options.now.bad_bytes options.now.limits.input))
         (IsUnrefusedText (as_document options.now.table.now options.now.bad_bytes options.now.limits.input)) piece [] source.old source.new result }
 {
-    read_into(alloc, piece, options, Draft::new(alloc), source)
+    let (draft, answer) = read_into(alloc, piece, options, Draft::new(alloc), source);
+    match answer {
+        Ok(names) => Ok((names, draft)),
+        Err(refusal) => {
+            drop(draft);
+            Err(refusal)
+        }
+    }
 }
 
 /// What the task prints of the tree of a document or a fragment.
@@ -114,12 +121,13 @@ fn print_parsed<W: Target>(
         target.old target.new result }
     ensures flushed { OnOk result (IsFlushed W.flushes target.new) }
 {
-    let (tree, names) = (&parsed.tree, &parsed.names);
     match command.task {
         Task::Errors => print_errors(alloc, &parsed.errors, target),
-        Task::Write => serialize(alloc, tree, names, parsed.root, command.escaping, target),
+        Task::Write => parsed.serialize(alloc, command.escaping, target),
         Task::Plain => write_text(target, plain_line(is_plain_in(command.context, parsed))),
-        Task::Tree | Task::Tokens => print_tree(alloc, tree, names, parsed.root, target),
+        Task::Tree | Task::Tokens => {
+            print_tree(alloc, &parsed.tree, &parsed.names, parsed.root, target)
+        }
     }
 }
 
@@ -136,7 +144,7 @@ fn is_plain_in(context: Option<&str>, parsed: &Parsed) -> bool
         (spelled (text_of parsed.now.names) (children_of parsed.now.root parsed.now.tree.trees)) }
 {
     match context {
-        Some(name) => is_plain(&parsed.tree, &parsed.names, parsed.root, name),
+        Some(name) => parsed.is_plain(name),
         None => false,
     }
 }

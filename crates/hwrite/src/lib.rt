@@ -1,13 +1,14 @@
 //! The one crate that a user of the library depends on: parsing, writing, what comes back, and the program's engine, which reads an
 //! input from a reader and prints to a writer. What is in crates below is passed on.
 //!
-//! [`read_into`] hands tokens and parse errors to a [`TokenSink`] of the user's. Where the sink refuses one, it is handed no more, the
-//! reading ends, and `read_into` answers that refusal; `Refusal::Write` is one that no input brings.
+//! [`read_into`] hands tokens and parse errors to a [`TokenSink`] of the user's, and gives it back. Where the sink refuses one, it is handed
+//! no more, the reading ends, and `read_into` answers that refusal; `Refusal::Write` is one that no input brings.
 #![tactic(auto)]
 
 mod columns;
 pub mod command;
 pub mod counted;
+pub mod devices;
 mod draft;
 pub mod engine;
 mod filling;
@@ -19,6 +20,7 @@ mod words;
 pub use columns::line_column;
 pub use command::{Command, Task};
 pub use counted::Counted;
+pub use devices::{ReadDevice, WriteDevice};
 pub use engine::{parser, run, write_text};
 pub use given_context::check_context;
 pub use hmarkup::ErrorSink;
@@ -30,8 +32,9 @@ pub use hparse::{
     is_context, parse_reader, read_into, tokens,
 };
 pub use hserialize::{
-    Escaping, Target, error_lines, is_plain, print_errors, print_tree, serialize, serialize_outer,
-    serialize_outer_to_vec, serialize_to_vec, tree_text, write_all,
+    Escaping, Target, error_lines, is_plain, print_errors, print_tree, serialize, serialize_in,
+    serialize_in_to_vec, serialize_outer, serialize_outer_to_vec, serialize_to_vec, tree_text,
+    write_all,
 };
 pub use htext::{BadBytes, MAX_INPUT};
 pub use htoken::{Token, TokenSink};
