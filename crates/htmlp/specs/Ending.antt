@@ -1,5 +1,5 @@
 -- How the program ends.
-use Rattle.std.specs.Prelude.{ℕ, List, [], ◌∷◌, ◌++◌, Option, None, Some, Result, Ok, Err, codes, decimal, option_map}
+use Rattle.std.specs.Prelude.{ℕ, Bool, true, false, List, [], ◌∷◌, ◌++◌, Option, None, Some, Result, Ok, Err, codes, option_map}
 use Rattle.std.specs.List.{concat}
 use Rattle.clap.specs.Words.{Text}
 use Rattle.names.specs.declared.refusal.Refusal.{Refusal}
@@ -7,7 +7,7 @@ use Rattle.names.specs.declared.refusal.Refusal.TheVariants as refusal
 use Rattle.htmlp.specs.declared.fault.Fault.{Fault}
 use Rattle.htmlp.specs.declared.fault.Fault.TheVariants as fault
 use Rattle.htmlp.specs.declared.numeric.Numeric.{Numeric}
-use Rattle.htmlp.specs.Numeric.{name_of, range_of}
+use Rattle.htmlp.specs.Numeric.{name_of, range_text}
 use Rattle.names.specs.RefusalText.{refusal_text}
 
 -- A refusal ends with 2, but where the reader or the writer failed.
@@ -25,12 +25,31 @@ abbrev pub status_of : Result (Unit {0}) Fault → ℕ
 status_of (Ok _) = 0
 status_of (Err fault) = fault_status fault
 
-abbrev pub refusal_line : Refusal → List ℕ
-refusal_line refusal.Read = codes "fault: cannot read" ++ 10 ∷ []
-refusal_line refusal.Write = codes "fault: cannot write" ++ 10 ∷ []
-refusal_line refusal = codes "refused: " ++ refusal_text refusal ++ 10 ∷ []
+-- the line of a refusal
+abbrev pub refusal_line : Refusal → Text
+refusal_line refusal.Read = codes "fault: cannot read"
+refusal_line refusal.Write = codes "fault: cannot write"
+refusal_line refusal = codes "refused: " ++ refusal_text refusal
 
--- what stands around the name of what was refused, in the line that says it
+-- as `clap` writes of a value that is not accepted, of an option of this name and this range
+abbrev pub number_line : Text → Text → Text → Text
+number_line value name range = concat (
+    codes "error: invalid value '" ∷ value ∷ codes "' for '--" ∷ name ∷ codes " <N>': " ∷ range ∷ (10 ∷ 10 ∷ [])
+    ∷ codes "For more information, try '--help'." ∷ []
+    )
+
+-- what is said of a fault: its line, but where it is of `clap`
+abbrev pub fault_line : Fault → Option Text
+fault_line fault.Memory = Some (codes "fault: out of memory")
+fault_line fault.NotUtf8 = Some (codes "fault: the command line is not UTF-8")
+fault_line fault.BadBytes = Some (codes "fault: --bad-bytes is refuse or replace")
+fault_line fault.NoRandomBytes = Some (codes "fault: no random bytes")
+fault_line (fault.Line error) = None
+fault_line (fault.Number option value) = Some (number_line value.now (name_of option) (range_text option))
+fault_line (fault.Limit option) = Some (refusal_line refusal.BadLimits)
+fault_line (fault.Refused refusal name) = Some (refusal_line refusal)
+
+-- what stands around the name of what was refused, in the line that explains it
 abbrev pub around_name : Refusal → Option (Text × Text)
 around_name refusal.Read = Some (codes "htmlp: cannot read '", codes "'")
 around_name (refusal.BadTable cause) = Some (codes "htmlp: '", codes "' is not a table of character references")
@@ -39,37 +58,35 @@ around_name refusal.BadContext = Some (codes "htmlp: '", codes "' is not the nam
 around_name _ = None
 
 -- that line, if there is something to say, and a name
-abbrev pub name_line : Option (Text × Text) → Option Text → List ℕ
-name_line (Some around) (Some name) = concat (around.0 ∷ name ∷ around.1 ∷ (10 ∷ []) ∷ [])
-name_line _ _ = []
+abbrev pub name_line : Option (Text × Text) → Option Text → Option Text
+name_line (Some around) (Some name) = Some (concat (around.0 ∷ name ∷ around.1 ∷ []))
+name_line _ _ = None
 
--- an option, what stands between, and its range
-abbrev pub range_text : Numeric → Text → List ℕ
-range_text option between = concat (
-    name_of option ∷ between ∷ codes "a number from " ∷ decimal (range_of option).0 ∷ codes " to " ∷ decimal (range_of option).1 ∷ (10 ∷ []) ∷ []
-    )
+-- the line that explains a limit that is out of its range
+abbrev pub limit_line : Numeric → Text
+limit_line option = concat (codes "htmlp: --" ∷ name_of option ∷ codes " is " ∷ range_text option ∷ [])
 
-abbrev pub limit_line : Numeric → List ℕ
-limit_line option = codes "htmlp: --" ++ range_text option (codes " is ")
+-- the line that explains a fault: it names what was refused
+abbrev pub explanation : Fault → Option Text
+explanation (fault.Limit option) = Some (limit_line option)
+explanation (fault.Refused refusal name) = name_line (around_name refusal) (option_map (λ s. s.now) name)
+explanation _ = None
 
--- as `clap` writes of a value that is not accepted
-abbrev pub number_lines : Numeric → Text → List ℕ
-number_lines option value =
-    concat (codes "error: invalid value '" ∷ value ∷ codes "' for '--" ∷ [])
-    ++ (range_text option (codes " <N>': ") ++ concat ((10 ∷ []) ∷ codes "For more information, try '--help'." ∷ (10 ∷ []) ∷ []))
+-- a line with its end, if there is one
+abbrev pub line_text : Option Text → List ℕ
+line_text None = []
+line_text (Some line) = line ++ 10 ∷ []
 
--- the lines of a fault, but where they are of `clap`
-abbrev pub fault_text : Fault → Option (List ℕ)
-fault_text fault.Memory = Some (codes "fault: out of memory" ++ 10 ∷ [])
-fault_text fault.NotUtf8 = Some (codes "fault: the command line is not UTF-8" ++ 10 ∷ [])
-fault_text fault.BadBytes = Some (codes "fault: --bad-bytes is refuse or replace" ++ 10 ∷ [])
-fault_text fault.NoRandomBytes = Some (codes "fault: no random bytes" ++ 10 ∷ [])
-fault_text (fault.Line error) = None
-fault_text (fault.Number option value) = Some (number_lines option value.now)
-fault_text (fault.Limit option) = Some (refusal_line refusal.BadLimits ++ limit_line option)
-fault_text (fault.Refused refusal name) = Some (refusal_line refusal ++ name_line (around_name refusal) (option_map (λ s. s.now) name))
+-- a fault's explanation, where it is explained
+abbrev pub explained : Bool → Fault → Option Text
+explained true fault = explanation fault
+explained false fault = None
+
+-- what is written of a fault, but where it is of `clap`: one line, and where it is explained another
+abbrev pub fault_text : Bool → Fault → Option (List ℕ)
+fault_text explains fault = option_map (λ line. (line ++ 10 ∷ []) ++ line_text (explained explains fault)) (fault_line fault)
 
 -- what the program writes at its end
-abbrev pub ending_text : Result (Unit {0}) Fault → Option (List ℕ)
-ending_text (Ok _) = Some []
-ending_text (Err fault) = fault_text fault
+abbrev pub ending_text : Bool → Result (Unit {0}) Fault → Option (List ℕ)
+ending_text explains (Ok _) = Some []
+ending_text explains (Err fault) = fault_text explains fault

@@ -3,6 +3,7 @@ use Rattle.std.specs.Prelude.{◌≡◌, ◌⊎◌, ◌||◌, ℕ, ⊤, Bool, tr
 use Rattle.std.specs.Prelude.{codes, IsSome, ◌==◌, if◌then◌else◌}
 use Rattle.std.specs.Str.Parse.{digits_value, without_leading_plus}
 use Rattle.clap.specs.Words.{App, IsAmong, IsUnsignedIn, Rule, Text, fault_of, first_of, kind_of, new_app, new_rule, subcommand_of, with_rule, with_subcommand}
+use Rattle.clap.specs.declared.builder.action.ArgAction.TheVariants.{SetTrue}
 use Rattle.htext.specs.declared.BadBytes.{BadBytes}
 use Rattle.htext.specs.declared.BadBytes.TheVariants.{Refuse, Replace}
 use Rattle.hserialize.specs.declared.escaping.Escaping.{Escaping}
@@ -43,6 +44,10 @@ context_rules Fragment = record (option_rule (codes "in")) { required = true } �
 abbrev pub each_rules : List Rule
 each_rules = map option_rule (codes "piece" ∷ codes "entities" ∷ codes "quirks" ∷ codes "bad-bytes" ∷ codes "nodes" ∷ codes "open" ∷ [])
 
+-- `--explain`
+abbrev pub explain_rule : Rule
+explain_rule = record (new_rule (codes "explain")) { long = Some (codes "explain"); action = Some SetTrue }
+
 abbrev pub with_rules : List Rule → App → App
 with_rules [] app = app
 with_rules (rule ∷ rules) app = with_rules rules (with_rule app rule)
@@ -53,7 +58,7 @@ named_reads entry = (entry.name.now, entry.reads)
 
 -- a command of this name, with its file and its options
 abbrev pub command_app : Text × Reads → App
-command_app (name, reads) = with_rules each_rules (with_rules (context_rules reads) (with_rule (new_app name) file_rule))
+command_app (name, reads) = with_rule (with_rules each_rules (with_rules (context_rules reads) (with_rule (new_app name) file_rule))) explain_rule
 
 -- the program without its commands, one of which is required
 abbrev pub bare_program : App
@@ -79,6 +84,11 @@ program = with_commands commands bare_program
 abbrev pub asks_version : List Text → Bool
 asks_version (own ∷ word ∷ []) = bytes_eq word (codes "--version") || bytes_eq word (codes "-V")
 asks_version words = false
+
+-- whether a word before `--` is `--explain`
+abbrev pub asks_explanation : List Text → Bool
+asks_explanation [] = false
+asks_explanation (word ∷ words) = if bytes_eq word (codes "--") then false else (bytes_eq word (codes "--explain") || asks_explanation words)
 
 -- the task that the words name
 abbrev pub task_of : List Text → Option Task

@@ -1,7 +1,7 @@
 -- What the program does in its surroundings. `has_words`, `cannot_begin` (there are no words, or no keys), `opens` and `cannot_open` say
 -- what calls of the surroundings returned; of a reader `left` says the bytes that it has left, where it says, and of a writer `written`
 -- those that it has taken; `failed` says how many of their calls have failed.
-use Rattle.std.specs.Prelude.{◌≡◌, ◌⊎◌, ℕ, List, [], true, false, Option, None, Some, Result, Ok, Err, IfSome, MatchResult, option_map, codes, IsErrAnd}
+use Rattle.std.specs.Prelude.{◌≡◌, ◌⊎◌, ◌||◌, ℕ, Bool, List, [], true, false, Option, None, Some, Result, Ok, Err, IfSome, MatchResult, option_map, codes, IsErrAnd}
 use Rattle.clap.specs.Words.{Text, takes}
 use Rattle.names.specs.declared.refusal.Refusal.{Refusal}
 use Rattle.names.specs.declared.refusal.Refusal.TheVariants.{Memory, Read, BadContext}
@@ -24,7 +24,7 @@ use Rattle.htmlp.specs.declared.fault.Fault.{Fault}
 use Rattle.htmlp.specs.declared.fault.Fault.TheVariants as fault
 use Rattle.htmlp.specs.Ending.{ending_text, status_of}
 use Rattle.htmlp.specs.Fault.{IsLimitFault, IsRefused, IsUnread}
-use Rattle.htmlp.specs.Line.{program, task_of, value_of, asks_version, escaping_of, number_or, bad_bytes_of, AreGood, FaultOf}
+use Rattle.htmlp.specs.Line.{program, task_of, value_of, asks_explanation, asks_version, escaping_of, number_or, bad_bytes_of, AreGood, FaultOf}
 use Rattle.htmlp.specs.declared.version.TheConstants.{VERSION}
 
 -- what a run of the engine, over what has this name, is for the program
@@ -151,6 +151,12 @@ module _ {R F : Type 0} (opens : R → List ℕ → F → Type 0) (cannot_open :
           → AnswersInput left reads written writes opts (codes "standard input") input input' output output' outcome
           → AnswersWords surroundings words input input' output output' outcome
 
+-- A fault is explained where standard error is a terminal, and where the words ask for it.
+pub record IsExplained {R : Type 0} (is_terminal : R → Bool → Type 0) (surroundings : R) (words : List Text) (explains : Bool) : Type 0 where
+  pub terminal : Bool
+  pub told : is_terminal surroundings terminal
+  pub explains_is : explains ≡ (terminal || asks_explanation words)
+
 module _ {R F S W : Type 0} (has_words : R → List Text → Type 0) (cannot_begin : R → Fault → Type 0) (opens : R → List ℕ → F → Type 0)
     (cannot_open : R → List ℕ → Type 0)
     (has_text : R → List ℕ → List ℕ → Type 0) (lacks_text : R → List ℕ → Fault → Type 0)
@@ -168,23 +174,31 @@ module _ {R F S W : Type 0} (has_words : R → List Text → Type 0) (cannot_beg
         output' outcome
         → Answers surroundings input input' output output' outcome
 
+  -- Whether a fault is explained: not where there are no words.
+  pub data Explains (is_terminal : R → Bool → Type 0) (surroundings : R) (outcome : Result (Unit {0}) Fault) (explains : Bool) : Type 0 where
+    without_words : (why : Fault) → cannot_begin surroundings why → outcome ≡ Err why → explains ≡ false
+        → Explains is_terminal surroundings outcome explains
+    with_words : (words : List Text) → has_words surroundings words → IsExplained is_terminal surroundings words explains
+        → Explains is_terminal surroundings outcome explains
+
   -- The program does what its command line says, writes the lines of its ending to standard error, and returns its status.
-  pub record Ends {E : Type 0} (errors_written : E → Option (List ℕ)) (errors_failed : E → ℕ) (surroundings : R) (input input' : S)
-      (output output' : W)
-      (errors errors' : E) (status : ℕ) : Type 0 where
+  pub record Ends {E : Type 0} (is_terminal : R → Bool → Type 0) (errors_written : E → Option (List ℕ)) (errors_failed : E → ℕ) (surroundings : R)
+      (input input' : S) (output output' : W) (errors errors' : E) (status : ℕ) : Type 0 where
     pub outcome : Result (Unit {0}) Fault
     pub answered : Answers surroundings input input' output output' outcome
-    pub told : IfSome (ending_text outcome) (EndsWith (errors_written errors) (errors_failed errors) (errors_written errors') (errors_failed errors'))
+    pub explains : Bool
+    pub explains_is : Explains is_terminal surroundings outcome explains
+    pub told : IfSome (ending_text explains outcome) (EndsWith (errors_written errors) (errors_failed errors) (errors_written errors') (errors_failed errors'))
     pub status_is : status ≡ status_of outcome
 
 -- The program ran, and this was its status.
 pub record HasRun {R F S W E : Type 0} (has_words : R → List Text → Type 0) (cannot_begin : R → Fault → Type 0) (opens : R → List ℕ → F → Type 0)
     (cannot_open : R → List ℕ → Type 0) (has_text : R → List ℕ → List ℕ → Type 0) (lacks_text : R → List ℕ → Fault → Type 0)
     (left_in_file : F → Option (List ℕ)) (failed_in_file : F → ℕ) (left : S → Option (List ℕ)) (reads : S → ℕ)
-    (written : W → Option (List ℕ)) (writes : W → ℕ) (errors_written : E → Option (List ℕ)) (errors_failed : E → ℕ) (surroundings : R)
-    (status : ℕ) : Type 0 where
+    (written : W → Option (List ℕ)) (writes : W → ℕ) (is_terminal : R → Bool → Type 0) (errors_written : E → Option (List ℕ))
+    (errors_failed : E → ℕ) (surroundings : R) (status : ℕ) : Type 0 where
   pub input : S × S
   pub output : W × W
   pub errors : E × E
   pub ends : Ends has_words cannot_begin opens cannot_open has_text lacks_text left_in_file failed_in_file left reads written writes
-      errors_written errors_failed surroundings input.0 input.1 output.0 output.1 errors.0 errors.1 status
+      is_terminal errors_written errors_failed surroundings input.0 input.1 output.0 output.1 errors.0 errors.1 status

@@ -1,9 +1,9 @@
 //! The commands of the program, as `clap` reads them.
 
 ghost use Rattle.std.specs.Prelude.{◌≡◌, map, false, codes, IfOk};
-ghost use Rattle.htmlp.specs.Vocabulary.{app_of, new_app, rule_of, with_rule, fields_of, bare_program, choice_rule, command_app, context_rules, file_rule, named_reads, program, with_commands, with_rules};
+ghost use Rattle.htmlp.specs.Vocabulary.{app_of, new_app, rule_of, with_rule, fields_of, bare_program, choice_rule, command_app, context_rules, explain_rule, file_rule, named_reads, program, with_commands, with_rules};
 
-use clap::{Arg, Command};
+use clap::{Arg, ArgAction, Command};
 use std::alloc::{AllocError, Global};
 
 /// What a command reads.
@@ -186,11 +186,8 @@ fn command<'a>(alloc: Global, entry: &CommandEntry) -> Result<Command<'a>, Alloc
     ensures local { IfOk result (λ command. (fields_of command).has_globals ≡ false) }
 {
     let bare = bare_command(alloc, entry)?;
-    with_choices(
-        alloc,
-        with_choices(alloc, bare, choices(entry.reads))?,
-        &EACH,
-    )
+    let chosen = with_choices(alloc, bare, choices(entry.reads))?;
+    with_choices(alloc, chosen, &EACH)?.arg(explain(alloc))
 }
 
 /// A command with its file, without options.
@@ -253,4 +250,15 @@ fn option<'a>(alloc: Global, choice: &Choice) -> Arg<'a>
         .value_name(choice.value)
         .help(choice.help)
         .required(choice.required)
+}
+
+/// The option that asks for a line that explains a fault.
+fn explain<'a>(alloc: Global) -> Arg<'a>
+    ensures rule { rule_of result ≡ explain_rule }
+    ensures local { result.global ≡ false }
+{
+    Arg::new(alloc, "explain")
+        .long("explain")
+        .help("A second line on standard error that names what was refused, as on a terminal")
+        .action(ArgAction::SetTrue)
 }

@@ -1,16 +1,21 @@
-//! Why the program ends without an answer.
+//! Why the program ends without an answer, and what it says then.
 
-ghost use Rattle.std.specs.Prelude.{◌≡◌, None};
+ghost use Rattle.std.specs.Prelude.{◌≡◌, ◌++◌, IfSome, None, codes, option_map};
+ghost use Rattle.htmlp.specs.Vocabulary.{around_name, detail_text, explanation, fault_line, message_text, name_line, name_of, number_line, number_text, range_text, refusal_line};
 ghost use Rattle.htmlp.specs.Fault.{fault_of_error};
 ghost use Rattle.htmlp.specs.declared.fault.Fault.TheVariants as fault;
 
+use crate::message::Message;
 use crate::numeric::Numeric;
 use clap::error::ErrorKind;
 use names::Refusal;
 use std::alloc::AllocError;
+use thiserror::Error;
 
-/// Why the program ends without an answer.
-#[derive(Debug, Drop)]
+/// Why the program ends without an answer. It is displayed as its line on standard error: what a derive writes has no contract, so it
+/// shows what `line` gives, which has one, and which the ending writes.
+#[derive(Debug, Drop, Error)]
+#[error("{}", self.line())]
 pub enum Fault<'a> {
     /// Out of memory while the command line was read.
     Memory,
@@ -19,6 +24,7 @@ pub enum Fault<'a> {
     /// The system gives no random bytes, without which the program doesn't run.
     NoRandomBytes,
     /// The words are not those of a command, or ask for help.
+    #[error(transparent)]
     Line(clap::Error),
     /// The value of an option is no number that is read.
     Number {
@@ -34,6 +40,124 @@ pub enum Fault<'a> {
         refusal: Refusal,
         name: Option<&'a str>,
     },
+}
+
+impl<'a> Fault<'a> {
+    /// Its line, but where `clap` has its own.
+    pub fn line(&self) -> Message<'a>
+        ensures { IfSome (fault_line self.now) (λ line. message_text result ≡ line) }
+    {
+        match self {
+            Fault::Memory => Message::of("fault: out of memory", "", "", ""),
+            Fault::NotUtf8 => Message::of("fault: the command line is not UTF-8", "", "", ""),
+            Fault::NoRandomBytes => Message::of("fault: no random bytes", "", "", ""),
+            Fault::Line(_) => Message::of("", "", "", ""),
+            Fault::Number { option, value } => number_line(*option, *value),
+            Fault::BadBytes => Message::of("fault: --bad-bytes is refuse or replace", "", "", ""),
+            Fault::Limit(_) => refusal_line(Refusal::BadLimits),
+            Fault::Refused { refusal, .. } => refusal_line(*refusal),
+        }
+    }
+
+    /// The line that explains it: it names what was refused, where the command line has a name of it.
+    pub fn explanation(&self) -> Option<Message<'a>>
+        ensures { option_map message_text result ≡ explanation self.now }
+    {
+        match self {
+            Fault::Limit(option) => Some(Message::of(
+                "htmlp: --",
+                option.name(),
+                " is ",
+                option.range_text(),
+            )),
+            Fault::Refused { refusal, name } => name_line(around_name(*refusal), *name),
+            _ => None,
+        }
+    }
+}
+
+fn number_line<'a>(option: Numeric, value: &'a str) -> Message<'a>
+    ensures { message_text result ≡ number_line value.now (name_of option) (range_text option) }
+{
+    value_line(value, option.name(), option.range_text())
+}
+
+/// What is said of a value that is no number: as `clap` says it, in two lines.
+fn value_line<'a>(value: &'a str, name: &'a str, range: &'a str) -> Message<'a>
+    ensures { message_text result ≡ number_line value.now name.now range.now }
+{
+    let words = [
+        "error: invalid value '",
+        value,
+        "' for '--",
+        name,
+        " <N>': ",
+        range,
+        "\n\nFor more information, try '--help'.",
+    ];
+    Message {
+        words,
+        number: None,
+    }
+}
+
+fn refusal_line<'a>(refusal: Refusal) -> Message<'a>
+    ensures { message_text result ≡ refusal_line refusal }
+{
+    match refusal {
+        Refusal::Read => Message::of("fault: cannot read", "", "", ""),
+        Refusal::Write => Message::of("fault: cannot write", "", "", ""),
+        _ => refused_line(refusal.name(), refusal.detail(), refusal.number()),
+    }
+}
+
+fn refused_line<'a>(
+    name: &'a str,
+    detail: Option<&'a str>,
+    number: Option<(&'a str, u64)>,
+) -> Message<'a>
+    ensures { message_text result ≡ codes "refused: " ++ ((name.now ++ detail_text (option_map (λ s. s.now) detail.entry))
+        ++ number_text (option_map (λ p. (p.0.now, p.1)) number.entry)) }
+{
+    match detail {
+        Some(word) => {
+            let words = ["refused: ", name, " ", word, "", "", ""];
+            Message { words, number }
+        }
+        None => {
+            let words = ["refused: ", name, "", "", "", "", ""];
+            Message { words, number }
+        }
+    }
+}
+
+/// What stands around the name of what was refused.
+fn around_name<'a>(refusal: Refusal) -> Option<(&'a str, &'a str)>
+    ensures { option_map (λ p. (p.0.now, p.1.now)) result ≡ around_name refusal }
+{
+    match refusal {
+        Refusal::Read => Some(("htmlp: cannot read '", "'")),
+        Refusal::BadTable { .. } => Some(("htmlp: '", "' is not a table of character references")),
+        Refusal::BadQuirks { .. } => Some(("htmlp: '", "' is not a list of quirky doctypes")),
+        Refusal::BadContext => Some((
+            "htmlp: '",
+            "' is not the name of an element in which a fragment can stand",
+        )),
+        _ => None,
+    }
+}
+
+fn name_line<'a>(around: Option<(&'a str, &'a str)>, name: Option<&'a str>) -> Option<Message<'a>>
+    ensures { option_map message_text result
+        ≡ name_line (option_map (λ p. (p.0.now, p.1.now)) around.entry) (option_map (λ s. s.now) name.entry) }
+{
+    match around {
+        None => None,
+        Some((before, after)) => match name {
+            None => None,
+            Some(name) => Some(Message::of(before, name, after, "")),
+        },
+    }
 }
 
 impl From<AllocError> for Fault<'_> {

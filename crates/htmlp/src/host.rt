@@ -13,7 +13,7 @@ use hwrite::{Counted, Target};
 use names::{Keys, Refusal};
 use std::alloc::Global;
 use std::fs::File;
-use std::io::{ErrorKind, Stderr, Stdin, Stdout};
+use std::io::{ErrorKind, IsTerminal, Stderr, Stdin, Stdout};
 use std::process::ExitCode;
 use std::{env, fs};
 
@@ -35,6 +35,8 @@ impl Surroundings for HostRuntime {
 
     ghost lacks_text = { λ _ _ _. ⊤ };
 
+    ghost is_terminal = { λ _ _. ⊤ };
+
     fn alloc(&self) -> Global {
         Alloc::alloc(self)
     }
@@ -51,6 +53,10 @@ impl Surroundings for HostRuntime {
             Ok(keys) => Ok(keys),
             Err(_) => Err(Fault::NoRandomBytes),
         }
+    }
+
+    fn on_terminal(&self) -> bool {
+        self.stderr().is_terminal()
     }
 
     fn open(&self, name: &str) -> Option<Counted<File>> {
@@ -103,7 +109,7 @@ pub fn start(rt: &HostRuntime) -> ExitCode
         ⟦<Counted<File> as Source>⟧.left ⟦<Counted<File> as Source>⟧.failed
         ⟦<Counted<Stdin> as Source>⟧.left ⟦<Counted<Stdin> as Source>⟧.failed
         ⟦<Counted<Stdout> as Target>⟧.written ⟦<Counted<Stdout> as Target>⟧.failed
-        ⟦<Counted<Stderr> as Target>⟧.written ⟦<Counted<Stderr> as Target>⟧.failed
+        ⟦<HostRuntime as Surroundings>⟧.is_terminal ⟦<Counted<Stderr> as Target>⟧.written ⟦<Counted<Stderr> as Target>⟧.failed
         rt.now (exit_status result) }
 {
     let mut input = Counted::new(rt.stdin());

@@ -1,7 +1,7 @@
 //! The command line.
 
 ghost use Rattle.std.specs.Prelude.{◌≡◌, ◌<◌, ◌≤◌, [], true, codes, map, None, Some, string_bytes, IfOk, IfErr, OnOk, IsSome, MatchResult};
-ghost use Rattle.htmlp.specs.Vocabulary.{fault_of, first_value, found_of, takes, task_named, bad_bytes_of, escaping_of, number_or, program, task_of, value_of, AreGood, FaultOf, IsNumber, IsNumberFault, OptionFault, Says, accepted, name_of, IsWithin};
+ghost use Rattle.htmlp.specs.Vocabulary.{asks_explanation, fault_of, first_value, found_of, takes, task_named, bad_bytes_of, escaping_of, number_or, program, task_of, value_of, AreGood, FaultOf, IsNumber, IsNumberFault, OptionFault, Says, accepted, name_of, IsWithin};
 ghost use Rattle.htmlp.specs.declared.fault.Fault.TheVariants as fault;
 
 use crate::commands::command_line;
@@ -106,4 +106,19 @@ fn number<'a>(found: &ArgMatches<'a>, option: Numeric, default: u64) -> Result<u
             _ => Err(Fault::Number { option, value }),
         },
     }
+}
+
+/// Whether a word before `--` is `--explain`, which `clap` takes as an option of each command.
+pub(crate) fn asks_explanation(words: &[String]) -> bool
+    ensures { result ≡ asks_explanation (map string_bytes words.now) }
+{
+    for word in words {
+        if word.as_str() == "--" {
+            return false;
+        }
+        if word.as_str() == "--explain" {
+            return true;
+        }
+    }
+    false
 }

@@ -7,6 +7,7 @@ mod ending;
 mod fault;
 mod host;
 mod line;
+mod message;
 mod numeric;
 mod parts;
 mod program;

@@ -1,7 +1,7 @@
 //! The options whose values are numbers.
 
 ghost use Rattle.std.specs.Prelude.{◌≡◌};
-ghost use Rattle.htmlp.specs.Numeric.{accepted, name_of, range_of};
+ghost use Rattle.htmlp.specs.Numeric.{accepted, name_of, range_of, range_text};
 
 use hmodes::{LEAST, MAX_DEPTH, MAX_NODES};
 
@@ -16,7 +16,7 @@ pub enum Numeric {
 
 impl Numeric {
     /// What stands after `--`.
-    pub fn name(self) -> &'static str
+    pub fn name<'a>(self) -> &'a str
         ensures { result.now ≡ name_of self }
     {
         match self {
@@ -36,6 +36,18 @@ impl Numeric {
             Numeric::Nodes => (LEAST, MAX_NODES),
             Numeric::Open => (LEAST, MAX_DEPTH),
             Numeric::Escape => (1, 2),
+        }
+    }
+
+    /// The range, as the program says it.
+    pub fn range_text<'a>(self) -> &'a str
+        ensures { result.now ≡ range_text self }
+    {
+        match self {
+            Numeric::Piece => "a number from 1 to 65536",
+            Numeric::Nodes => "a number from 16 to 16777216",
+            Numeric::Open => "a number from 16 to 1048576",
+            Numeric::Escape => "a number from 1 to 2",
         }
     }
 

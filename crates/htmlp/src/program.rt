@@ -1,11 +1,11 @@
 //! The program: does what the words of its command line say.
 
 ghost use Rattle.std.specs.Prelude.{◌≡◌, ◌<◌, ◌⊎◌, List, map, option_map, MatchResult, Ok, Err, string_bytes};
-ghost use Rattle.htmlp.specs.Vocabulary.{Text, AreLimits, Bounds, AllowsContext, IsLimitFault, IsRefused, task_of, value_of, Says, range_of, IsWithin, AnswersFile, AnswersInput, AnswersWords, Answers, Ends, FindsQuirks, FindsTable, told_of};
+ghost use Rattle.htmlp.specs.Vocabulary.{Text, AreLimits, Bounds, AllowsContext, IsLimitFault, IsRefused, task_of, value_of, Says, range_of, IsWithin, AnswersFile, AnswersInput, AnswersWords, Answers, Ends, IsExplained, FindsQuirks, FindsTable, told_of};
 
 use crate::ending::ending;
 use crate::fault::Fault;
-use crate::line::line;
+use crate::line::{asks_explanation, line};
 use crate::numeric::Numeric;
 use crate::said::Line;
 use crate::surroundings::Surroundings;
@@ -31,16 +31,23 @@ pub fn run_program<R: Surroundings, S: Source, W: Target, E: Target>(
     errors: &mut E,
 ) -> u8
     ensures { Ends R.has_words R.cannot_begin R.opens R.cannot_open R.has_text R.lacks_text R.File.left R.File.failed S.left S.failed W.written W.failed
-        E.written E.failed
+        R.is_terminal E.written E.failed
         surroundings.now input.old input.new output.old output.new errors.old errors.new result }
 {
     match surroundings.words() {
         Ok(words) => {
             let outcome = answer(surroundings, &words, input, output);
-            ending(&outcome, errors)
+            ending(&outcome, explains(surroundings, &words), errors)
         }
-        Err(fault) => ending(&Err(fault), errors),
+        Err(fault) => ending(&Err(fault), false, errors),
     }
+}
+
+/// Whether a fault is explained: where a person reads standard error, and where the words ask for it.
+fn explains<R: Surroundings>(surroundings: &R, words: &[String]) -> bool
+    ensures { IsExplained R.is_terminal surroundings.now (map string_bytes words.now) result }
+{
+    surroundings.on_terminal() || asks_explanation(words)
 }
 
 /// Does what the command line of these words says.

@@ -1,6 +1,6 @@
 //! What the program runs in.
 
-ghost use Rattle.std.specs.Prelude.{◌≡◌, ℕ, List, None, map, IfErr, IfSome, MatchResult, string_bytes, ⊤};
+ghost use Rattle.std.specs.Prelude.{◌≡◌, ℕ, Bool, List, None, map, IfErr, IfSome, MatchResult, string_bytes, ⊤};
 ghost use Rattle.htmlp.specs.Fault.{IsUnread};
 ghost use Rattle.htmlp.specs.declared.fault.Fault.{Fault as Faults};
 
@@ -32,6 +32,9 @@ pub trait Surroundings {
     // No text can be read from a file of this name, for this reason.
     ghost lacks_text: { Self → List ℕ → Faults → Type 0 };
 
+    // Standard error is a terminal, or is none.
+    ghost is_terminal: { Self → Bool → Type 0 };
+
     /// The allocator for everything that the program keeps.
     fn alloc(&self) -> Global;
 
@@ -42,6 +45,10 @@ pub trait Surroundings {
     /// Keys that nobody can know: random bytes of the system.
     fn keys(&self) -> Result<Keys, Fault<'static>>
         ensures { MatchResult result (λ _. ⊤) (cannot_begin self.now) };
+
+    /// Whether standard error is a terminal, where a person reads it.
+    fn on_terminal(&self) -> bool
+        ensures { is_terminal self.now result };
 
     /// Opens a file for reading. None where there is no such file, or it cannot be opened.
     fn open(&self, name: &str) -> Option<Self::File>

@@ -1,9 +1,15 @@
-use Rattle.htmlp.proofs.Names.{IfSome, subst, sym, WritesAll}
-use Rattle.htmlp.specs.Ending.{fault_text}
+use Rattle.htmlp.proofs.Names.{◌≡◌, List, ℕ, [], ◌∷◌, ◌++◌, Option, None, Some, ap₂, option_map, subst, IfSome, WritesAll}
+use Rattle.htmlp.specs.Ending.{explained, fault_line, line_text}
+use Rattle.htmlp.specs.Message.{message_text}
 use Rattle.htmlp.proofs.ending.write_fault.Goals as goal
 
-pub returns-in-Number : goal.returns-in-Number
-returns-in-Number g c =
-    subst (λ fault. IfSome (fault_text fault)
-    (λ text. WritesAll (g.W.Target.written c.args.target.now) (g.W.Target.failed c.args.target.now) (g.W.Target.written c.write_number_fault.new.target)
-    (g.W.Target.failed c.write_number_fault.new.target) text c.write_number_fault.result)) (sym c.in-Number.is) c.write_number_fault.ensures
+told : (line : Option (List ℕ)) (text : List ℕ) (its more : Option (List ℕ)) (P : List ℕ → Type 0) → IfSome line (λ l. text ≡ l) → its ≡ more
+    → P ((text ++ 10 ∷ []) ++ line_text its) → IfSome (option_map (λ l. (l ++ 10 ∷ []) ++ line_text more) line) P
+told None text its more P is same h = tt
+told (Some line) text its more P is same h = subst P (ap₂ (λ l m. (l ++ 10 ∷ []) ++ line_text m) is same) h
+
+pub returns-in_default : goal.returns-in_default
+returns-in_default g c =
+    told (fault_line c.args.fault.now) (message_text c.line.result) _ (explained c.args.explains c.args.fault.now)
+    (λ text. WritesAll (g.W.Target.written c.args.target.now) (g.W.Target.failed c.args.target.now) (g.W.Target.written c.write_lines.new.target)
+    (g.W.Target.failed c.write_lines.new.target) text c.write_lines.result) c.line.ensures c.explained.ensures c.write_lines.ensures

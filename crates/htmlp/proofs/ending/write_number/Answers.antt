@@ -1,15 +1,17 @@
-use Rattle.htmlp.proofs.Names.{List, ℕ, ◌++◌, ◌∙◌, ap, ap₂, codes, decimal, WritesAll-stops, WritesAll-then}
+use Rattle.htmlp.proofs.Names.{◌∙◌, List, ℕ, [], ◌∷◌, ◌++◌, ◌≡◌, Option, ap, codes, concat, option_map, sym, subst, Bor, WritesAll}
+use Rattle.std.proofs.lemmas.List.{append-nil}
+use Rattle.names.specs.RefusalText.{number_text}
 use Rattle.htmlp.proofs.ending.write_number.Goals as goal
 
-abbrev spaced : List ℕ → List ℕ
-spaced word = codes " " ++ word
+abbrev number_of : Option (Bor (List ℕ) × ℕ) → List ℕ
+number_of n = number_text (option_map (λ p. (p.0.now, p.1)) n)
 
-pub returns-in_err-write_word : goal.returns-in_err-write_word
-returns-in_err-write_word g c =
-    WritesAll-stops _ _ _ _ (spaced c.as_bytes.result.now) (spaced (decimal c.args.number)) _ c.in_err-write_word.field-0.0 c.from_residual.result
-    (ap (λ w. spaced w ++ spaced (decimal c.args.number)) c.as_bytes.ensures.value) c.from_residual.ensures.1 c.in_err-write_word.ensures
+in_parts : (word digits : List ℕ) → concat (codes " " ∷ word ∷ codes " " ∷ digits ∷ []) ≡ (codes " " ++ word) ++ (codes " " ++ digits)
+in_parts word digits = ap (λ d. 32 ∷ (word ++ (32 ∷ d))) (append-nil digits)
 
-pub returns : goal.returns
-returns g c =
-    WritesAll-then _ _ _ _ _ _ (spaced c.as_bytes.result.now) (spaced c.as_bytes-2.result.now) _ c.write_word-2.result
-    (ap₂ (λ w d. spaced w ++ spaced d) c.as_bytes.ensures.value (c.as_bytes-2.ensures.value ∙ c.format.ensures.text)) c.in_ok-write_word.ensures c.write_word-2.ensures
+pub returns-in-Some : goal.returns-in-Some
+returns-in-Some g c =
+    subst (λ text. WritesAll (g.W.Target.written c.args.target.now) (g.W.Target.failed c.args.target.now) (g.W.Target.written c.write_parts.new.target)
+    (g.W.Target.failed c.write_parts.new.target) text c.write_parts.result)
+    (in_parts c.in-Some.word.now c.format.result.now ∙ ap (λ d. (codes " " ++ c.in-Some.word.now) ++ (codes " " ++ d)) c.format.ensures.text
+    ∙ ap number_of (sym c.in-Some.is)) c.write_parts.ensures

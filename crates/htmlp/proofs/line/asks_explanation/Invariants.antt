@@ -1,0 +1,7 @@
+use Rattle.htmlp.proofs.Names.{◌≡◌, drop, map, string_bytes}
+use Rattle.htmlp.specs.Line.{asks_explanation}
+use Rattle.htmlp.proofs.line.asks_explanation.Given as goal
+
+-- the words that are left ask for it as all do
+abbrev pub invariant-loop-word : goal.invariant-loop-word
+invariant-loop-word l = asks_explanation (map string_bytes (drop l.word-index l.words)) ≡ asks_explanation (map string_bytes l.words)
