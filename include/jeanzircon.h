@@ -5,10 +5,13 @@
  * else is here is plain C that prepares their arguments and indexes what they wrote.
  *
  * Who owns what. Every buffer is the caller's. The library keeps no pointer after a call, and has no state of its own: nothing is
- * opened, and nothing but a jz_doc (below) is to be freed.
+ * opened, and it makes nothing that is to be freed. What the plain C makes is: a jz_doc by jz_free, texts, tables and files by free().
+ * What is written. Each call writes its answer. Where all has room, jz_text and jz_table also write to `output`, jz_tree to `rows` and
+ * `words`, jz_page to these and, where wanted, to `errors` and `text`; where not, or at any other status, to none of them.
  * Units. Lengths and places are bytes, from 0. Texts are UTF-8 and end with no NUL.
- * Errors. Every call on an input returns a status: 0, a refusal of the input, or a fault of the call. A refusal has its place.
- * Threads. Any number of threads may call at once, each with buffers of its own. Not from a signal handler.
+ * Errors. Every call on an input returns a status: 0, a refusal, or a fault of the call. A refusal of the input has its place.
+ * Threads. Any number of threads may call at once. They may share the input, the options and the lists, which no call writes to, and no
+ * buffer that is written. Not from a signal handler.
  * Memory. The library calls malloc, realloc and free, and frees all that it took before it returns. Where they give none the status is
  * JZ_MEMORY. It needs some 80 KB of stack, however the input is nested.
  */
@@ -20,6 +23,9 @@
 #include <stdio.h>
 #include <stdlib.h>
 #include <string.h>
+#ifdef __GLIBC__
+#include <malloc.h>
+#endif
 #ifdef __has_include
 #if __has_include(<sys/random.h>)
 #include <sys/random.h>
@@ -66,8 +72,12 @@ enum {
     JZ_TREE = 1,   /* the tree, a line for each node and each attribute */
     JZ_ERRORS = 2, /* a line for each parse error: its byte and its code */
     JZ_WRITE = 3,  /* the tree as HTML */
-    JZ_PLAIN = 4   /* "plain\n" or "not plain\n": whether a fragment comes back when what is written of it is parsed */
+    JZ_PLAIN = 4   /* "plain\n" or "not plain\n": whether a fragment is plain */
 };
+
+/* A fragment that is plain comes back, as the same nodes, when what is written of it inside an element of the context's name is parsed
+ * in that context. That is what JZ_WRITE gives, but in style, script, iframe and noembed: it writes a fragment as it stands in its root,
+ * which has no such name, so its text is escaped there, and does not come back. What does is the text as it is (jz_data). */
 
 /* Bytes that are lent for a call. `bytes` must not be null and must be readable for `length` bytes; an empty one is JZ_NO_BYTES. */
 typedef struct jz_bytes {
@@ -81,7 +91,7 @@ typedef struct jz_bytes {
  * draw the keys by jz_draw_keys, and change what you need. JZ_DEFAULTS has no list and no keys.
  *
  * A later version may add fields at the end, and then takes each earlier size too. A size that a library does not know, as that of a later
- * version, it refuses (JZ_BAD_SIZE) and reads no further, so that no wish is left out in silence. */
+ * version, it refuses before all else (JZ_BAD_SIZE), and reads no other field, so that no wish is left out in silence. */
 typedef struct jz_options {
     size_t size;        /* sizeof(jz_options) */
     jz_bytes context;   /* the name of the element in which a fragment is; empty: the input is a document */
@@ -110,8 +120,7 @@ typedef struct jz_answer {
 /* Makes the text of a task of an input, and writes it to the beginning of `output`, if `room` is enough.
  *
  * Promised: the text is the one that the program prints for the same input and options, however it is read in pieces. Where the status
- * is not JZ_OK, nothing is written; at JZ_TOO_SHORT `answer->length` is the room that is needed. No more of the text than there is room
- * for is ever kept in memory.
+ * is not JZ_OK, nothing is written; at JZ_TOO_SHORT `answer->length` is the room that is needed, and the text was measured, not kept.
  * Required, and not checked: no pointer is null, those in `options` neither, nor `output` where `room` is 0 (jz_text_room asks for the
  * room without one); `input` is readable for `length` bytes and `output` writable for `room`; `output` and `answer` overlap nothing
  * else that is handed in; each length is below 2^63; nobody writes to what is lent, nor reads `output` and `answer`, until the call
@@ -340,17 +349,21 @@ static inline const char *jz_error_name(uint32_t code) {
     return code < sizeof texts / sizeof *texts ? texts[code] : "?";
 }
 
-/* What a refusal names: an element, or what is wrong with a table; "" if nothing. */
-static inline const char *jz_detail_name(const jz_answer *answer) {
+/* What a refusal names, by the status and the detail of any answer: an element, or what is wrong with a table; "" if nothing. */
+static inline const char *jz_detail_of(uint32_t status, uint32_t detail) {
     static const char *const elements[] = { "", "math", "svg", "template", "select", "option", "optgroup", "frame", "frameset", "keygen" };
     static const char *const causes[] = { "", "Json", "Shape", "Key", "Codepoints", "Characters" };
-    if (answer->status == JZ_OUT_OF_PROFILE && answer->detail < sizeof elements / sizeof *elements) return elements[answer->detail];
-    if (answer->status == JZ_BAD_TABLE && answer->detail < sizeof causes / sizeof *causes) return causes[answer->detail];
+    if (status == JZ_OUT_OF_PROFILE && detail < sizeof elements / sizeof *elements) return elements[detail];
+    if (status == JZ_BAD_TABLE && detail < sizeof causes / sizeof *causes) return causes[detail];
     return "";
 }
 
+static inline const char *jz_detail_name(const jz_answer *answer) { return jz_detail_of(answer->status, answer->detail); }
+
+static inline const char *jz_page_detail_name(const jz_page_answer *answer) { return jz_detail_of(answer->status, answer->detail); }
+
 /* A tree and its parse errors in the caller's memory, made by jz_parse or jz_make_page and freed by jz_free. It lends its words and errors
- * until it is freed; to read it from several threads at once is fine. Its fields are its own business, but for the last two. */
+ * until it is freed; several threads may read it at once. Its fields are its own business, but for `root` and the last two. */
 typedef struct jz_node {
     uint32_t kind, parent, first_child, next;
     size_t words, end;
@@ -358,8 +371,9 @@ typedef struct jz_node {
 
 typedef struct jz_doc {
     jz_node *nodes; /* by number */
+    size_t length; /* of the input */
     uint32_t count;
-    uint32_t root; /* the document, or a fragment's root */
+    uint32_t root; /* the document, or a fragment's root, an element without name and attributes */
     uint8_t *words;
     jz_error *errors; /* in the order of the input */
     size_t error_count;
@@ -400,6 +414,16 @@ static inline uint32_t jz_tree_rooms(const uint8_t *input, size_t length, const 
     return answer->status;
 }
 
+/* Has glibc give back to the system what was freed, where an input of this length may have taken much: once a block of up to 32 MB was
+ * freed, it takes such blocks from its heap, and keeps there what is freed. */
+static inline void jz_give_back(size_t length) {
+#ifdef __GLIBC__
+    if (length >= 1048576) malloc_trim(0);
+#else
+    (void)length;
+#endif
+}
+
 /* The same block, with no more room than these bytes need. */
 static inline void *jz_cut(void *block, size_t length) {
     void *cut = realloc(block, length + 1);
@@ -413,6 +437,7 @@ static inline uint32_t jz_text_in(size_t room, uint32_t task, const uint8_t *inp
     uint32_t status = block ? jz_text(task, input, length, options, block, room, answer) : jz_fault(answer, JZ_MEMORY);
     if (status == JZ_OK) *text = (uint8_t *)jz_cut(block, (size_t)answer->length);
     else free(block);
+    jz_give_back(length);
     return status;
 }
 
@@ -451,11 +476,14 @@ static inline uint32_t jz_make_table(const uint8_t *entities, size_t length, uin
 
 /* Gives back what a tree holds. A tree of zeros holds nothing, and a freed one is of zeros, so that it can be freed again. */
 static inline void jz_free(jz_doc *doc) {
+    size_t length;
     if (!doc) return;
+    length = doc->length;
     free(doc->nodes);
     free(doc->words);
     free(doc->errors);
     memset(doc, 0, sizeof *doc);
+    jz_give_back(length);
 }
 
 /* Puts rows into their places by number, and finds their words. */
@@ -495,6 +523,7 @@ static inline uint32_t jz_page_in(jz_rooms rooms, const uint8_t *input, size_t l
     uint32_t wants = JZ_WANT_ERRORS | (text ? JZ_WANT_TEXT : 0), status = JZ_MEMORY;
     jz_row *rows = (jz_row *)malloc((rooms.rows + 1) * sizeof *rows);
     uint8_t *html = (uint8_t *)malloc(rooms.text + 1);
+    doc->length = length;
     doc->root = options->context.length ? 1 : 0;
     doc->words = (uint8_t *)malloc(rooms.words + 1);
     doc->errors = (jz_error *)malloc((rooms.errors + 1) * sizeof *doc->errors);
@@ -505,6 +534,7 @@ static inline uint32_t jz_page_in(jz_rooms rooms, const uint8_t *input, size_t l
         doc->words = (uint8_t *)jz_cut(doc->words, (size_t)answer->words);
         doc->errors = (jz_error *)jz_cut(doc->errors, (size_t)answer->errors * sizeof *doc->errors);
         doc->error_count = (size_t)answer->errors;
+        jz_give_back(length);
         status = jz_index(doc, rows, (size_t)answer->nodes, (size_t)answer->words);
     }
     if (status == JZ_OK && text) *text = (uint8_t *)jz_cut(html, (size_t)answer->text);

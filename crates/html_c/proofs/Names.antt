@@ -5,7 +5,7 @@ pub use Rattle.hnodes.specs.Forest.{Forest, none, tree}
 pub use Rattle.hnodes.specs.Spots.{kind_in}
 pub use Rattle.hparse.specs.declared.parsed.Parsed.{Parsed}
 pub use Rattle.html_c.specs.Exports.{none_for_memory, none_of_bytes, no_command, unmet_rows}
-pub use Rattle.html_c.specs.Given.{unmet}
+pub use Rattle.html_c.specs.Given.{no_size, of_size, unmet}
 pub use Rattle.html_c.specs.Input.{left_in}
 pub use Rattle.html_c.specs.declared.answer.Given.{Given}
 pub use Rattle.html_c.specs.declared.fault.CallFault.{CallFault}

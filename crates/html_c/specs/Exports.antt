@@ -8,7 +8,7 @@ use Rattle.hwrite.specs.Context.{case_in}
 use Rattle.hwrite.specs.Prints.{prints_of}
 use Rattle.hwrite.specs.declared.command.Task.{Task}
 use Rattle.hserialize.specs.declared.escaping.Escaping.{Escaping}
-use Rattle.html_c.specs.Given.{context_told, escaping_told, may_be_in, task_told, NoCommand, Tells, Unmet}
+use Rattle.html_c.specs.Given.{context_told, escaping_told, may_be_in, task_told, GivesNothing, NoCommand, Tells, Unmet}
 use Rattle.html_c.specs.Room.{fault_answer, put_over, room_answer}
 use Rattle.html_c.specs.Rows.{rows_of, words_of}
 use Rattle.html_c.specs.declared.answer.Answer.{Answer}
@@ -48,7 +48,8 @@ pub data GivesNone (number : ℕ) (input : List ℕ) (given : Given) (why : Call
 pub data AnswersText (number : ℕ) (input : List ℕ) (given : Given) (old new : List ℕ) (answer : Answer) : Type 0 where
   text_answered : (text : List ℕ) → GivesText number input given text → new ≡ put_over (nat_le (length text) (length old)) text old
       → answer ≡ room_answer (nat_le (length text) (length old)) (length text) 0 → AnswersText number input given old new answer
-  none_answered : (why : CallFault) → GivesNone number input given why → new ≡ old → answer ≡ fault_answer why → AnswersText number input given old new answer
+  none_answered : (why : CallFault) → GivesNothing given.size (GivesNone number input given) why → new ≡ old → answer ≡ fault_answer why
+      → AnswersText number input given old new answer
 
 -- what the input is: a document, or a fragment in an element of this name
 abbrev pub case_given : Given → ParseCase
@@ -79,5 +80,5 @@ pub data AnswersTree (input : List ℕ) (given : Given) (rows rows' : List NodeR
   tree_answered : (its_rows : List NodeRow) (its_words : List ℕ) → GivesRows input given its_rows its_words
       → rows' ≡ put_over (fit its_rows rows its_words words) its_rows rows → words' ≡ put_over (fit its_rows rows its_words words) its_words words
       → answer ≡ room_answer (fit its_rows rows its_words words) (length its_words) (length its_rows) → AnswersTree input given rows rows' words words' answer
-  no_tree_answered : (why : CallFault) → GivesNoRows input given why → rows' ≡ rows → words' ≡ words → answer ≡ fault_answer why
-      → AnswersTree input given rows rows' words words' answer
+  no_tree_answered : (why : CallFault) → GivesNothing given.size (GivesNoRows input given) why → rows' ≡ rows → words' ≡ words
+      → answer ≡ fault_answer why → AnswersTree input given rows rows' words words' answer

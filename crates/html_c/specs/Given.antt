@@ -1,6 +1,8 @@
 -- The options of a call: the meaning of what a caller hands in, and why it is not accepted.
-use Rattle.std.specs.Prelude.{◌≡◌, ◌<◌, ◌≤◌, ◌==◌, if◌then◌else◌, ℕ, Bool, true, false, List, [], ◌∷◌, Option, None, Some, Ok, Err}
+use Rattle.std.specs.Prelude.{◌≡◌, ◌<◌, ◌≤◌, ◌==◌, ◌+◌, ◌*◌, ◌^◌, if◌then◌else◌, ℕ, Bool, true, false, List, [], ◌∷◌, Option, None, Some, Ok, Err}
 use Rattle.std.specs.Str.{IsUtf8}
+use Rattle.std.specs.declared.hash.DefaultHasher.{DefaultHasher}
+use Rattle.names.specs.Keys.{made_of}
 use Rattle.names.specs.declared.refusal.Refusal.{Refusal}
 use Rattle.names.specs.declared.refusal.Refusal.TheVariants.{BadContext, BadLimits}
 use Rattle.hmarkup.specs.Quirks.{ReadsQuirks}
@@ -52,6 +54,15 @@ NoEscaping given why = (escaping_told given.escaping ≡ None) × (why ≡ fault
 abbrev pub IsSize : ℕ → Type 0
 IsSize size = size ≡ 104
 
+-- the library knows no options of this many bytes
+abbrev pub NoSize : ℕ → CallFault → Type 0
+NoSize size why = (IsSize size → ⊥) × (why ≡ fault.BadSize)
+
+-- Why a call gives nothing: its options have a size that the library does not know, whatever else they say; or one that it knows, and this is a reason.
+pub data GivesNothing (size : ℕ) (reasons : CallFault → Type 0) (why : CallFault) : Type 0 where
+  no_size : NoSize size why → GivesNothing size reasons why
+  of_size : IsSize size → reasons why → GivesNothing size reasons why
+
 -- this many bytes may be fed at a time
 abbrev pub IsPiece : ℕ → Type 0
 IsPiece piece = (0 < piece) × (piece ≤ 65536)
@@ -85,7 +96,6 @@ pub record AreSameButTables (given other : Given) : Type 0 where
 
 -- Something that is given is not accepted, for this reason.
 pub data Unmet (given : Given) (why : CallFault) : Type 0 where
-  no_size : (IsSize given.size → ⊥) → why ≡ fault.BadSize → Unmet given why
   no_bad_bytes : bad_told given.bad_bytes ≡ None → why ≡ fault.BadNumber → Unmet given why
   no_piece : (IsPiece given.piece → ⊥) → why ≡ fault.BadNumber → Unmet given why
   no_context : (IsUtf8 given.context.now → ⊥) → why ≡ fault.NotText → Unmet given why
@@ -94,6 +104,10 @@ pub data Unmet (given : Given) (why : CallFault) : Type 0 where
   no_quirks : (IsUtf8 given.quirks.now → ⊥) → why ≡ fault.NotText → Unmet given why
   quirks_refused : (refusal : Refusal) → ReadsQuirks given.quirks.now (Err refusal) → why ≡ fault.Refused refusal → Unmet given why
   limits_refused : (AreLimits (bounds_told given) → ⊥) → why ≡ fault.Refused BadLimits → Unmet given why
+
+-- The keys that are given: of the number whose halves are the two fields.
+abbrev pub keys_told : Given → DefaultHasher
+keys_told given = made_of (given.key_high * 2 ^ 64 + given.key_low)
 
 -- These are the lists that are given.
 abbrev pub HasLists : Given → Lists → Type 0

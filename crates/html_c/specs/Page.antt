@@ -6,7 +6,7 @@ use Rattle.hparse.specs.Parse.{Parse, Parses, ParseOptions}
 use Rattle.hserialize.specs.declared.escaping.Escaping.{Escaping}
 use Rattle.html_c.specs.Exports.{GivesRows, GivesNoRows, GivesText, case_given}
 use Rattle.html_c.specs.Faults.{at_of, detail_of, status_of}
-use Rattle.html_c.specs.Given.{escaping_told, NoEscaping, Tells}
+use Rattle.html_c.specs.Given.{escaping_told, GivesNothing, NoEscaping, Tells}
 use Rattle.html_c.specs.Room.{fit_status, put_over}
 use Rattle.html_c.specs.declared.answer.ErrorRow.{ErrorRow}
 use Rattle.html_c.specs.declared.answer.Given.{Given}
@@ -95,5 +95,5 @@ pub data GivesNoPage (number : ℕ) (input : List ℕ) (given : Given) (why : Ca
 pub data AnswersPage (number : ℕ) (input : List ℕ) (given : Given) (old new : Parts) (answer : PageAnswer) : Type 0 where
   page_answered : (page : Parts) → GivesPage number input given page → new ≡ put_parts page old → answer ≡ page_answer (all_fit page old) page
       → AnswersPage number input given old new answer
-  no_page_answered : (why : CallFault) → GivesNoPage number input given why → new ≡ old → answer ≡ page_fault why
+  no_page_answered : (why : CallFault) → GivesNothing given.size (GivesNoPage number input given) why → new ≡ old → answer ≡ page_fault why
       → AnswersPage number input given old new answer

@@ -11,7 +11,7 @@ pub use Rattle.hparse.specs.Parsing.{options_of}
 pub use Rattle.html_c.specs.Exports.{AnswersText, AnswersTree, ComesToNone, GivesNoRows, GivesNone, GivesRows, GivesText, fit}
 pub use Rattle.html_c.specs.Faults.{kept}
 pub use Rattle.html_c.specs.Fitted.{IsFitted, text_of, text_of as written_in}
-pub use Rattle.html_c.specs.Given.{AreSameButTables, HasLimits, HasLists, IsCommand, IsPiece, IsSize, NoCommand, NoEscaping, Tells, Unmet, bad_told, context_told, escaping_told, may_be_in, task_told}
+pub use Rattle.html_c.specs.Given.{AreSameButTables, GivesNothing, HasLimits, HasLists, IsCommand, IsPiece, IsSize, NoCommand, NoEscaping, NoSize, Tells, Unmet, bad_told, context_told, escaping_told, keys_told, may_be_in, task_told}
 pub use Rattle.html_c.specs.Page.{AnswersPage, GivesNoPage, GivesPage, all_fit, error_row, page_answer, page_fault, parts, put_parts, wants_told}
 pub use Rattle.html_c.specs.Parts.{parts_of}
 pub use Rattle.html_c.specs.Room.{fault_answer, fit_status, put_over, room_answer}

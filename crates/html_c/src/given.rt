@@ -1,7 +1,7 @@
 //! The options of a call.
 
 ghost use Rattle.std.specs.Prelude.{◌≡◌, ◌<◌, ◌≤◌, MatchResult, Some, None, Ok, true};
-ghost use Rattle.html_c.specs.Vocabulary.{ReadsQuirks, options_of, name_of, AllowsContext, bad_told, context_told, escaping_told, may_be_in, task_told, HasLimits, HasLists, IsCommand, IsPiece, IsSize, NoCommand, NoEscaping, Tells, Unmet};
+ghost use Rattle.html_c.specs.Vocabulary.{ReadsQuirks, options_of, name_of, AllowsContext, bad_told, context_told, escaping_told, keys_told, may_be_in, task_told, HasLimits, HasLists, IsCommand, IsPiece, IsSize, NoCommand, NoEscaping, NoSize, Tells, Unmet};
 ghost use Rattle.html_c.specs.declared.fault.CallFault.TheVariants as fault;
 
 use crate::answer::Given;
@@ -55,9 +55,9 @@ pub(crate) struct Lists {
 }
 
 impl<'a> Given<'a> {
-    /// Checks that the options have the size that the library knows. Nothing else of them is read before.
+    /// Checks that the options have the size that the library knows. Every other call here requires it, and so reads nothing before.
     pub(crate) fn check_size(&self) -> Result<(), CallFault>
-        ensures { MatchResult result (λ _. IsSize self.now.size) (Unmet self.now) }
+        ensures { MatchResult result (λ _. IsSize self.now.size) (NoSize self.now.size) }
     {
         if self.size == SIZE {
             Ok(())
@@ -68,6 +68,7 @@ impl<'a> Given<'a> {
 
     /// How `Write` escapes.
     pub(crate) fn escaping(&self) -> Result<Escaping, CallFault>
+        requires { IsSize self.now.size }
         ensures { MatchResult result (λ how. escaping_told self.now.escaping ≡ Some how) (NoEscaping self.now) }
     {
         match self.escaping {
@@ -79,6 +80,7 @@ impl<'a> Given<'a> {
 
     /// How many bytes are fed at a time.
     pub(crate) fn piece(&self) -> Result<usize, CallFault>
+        requires { IsSize self.now.size }
         ensures { MatchResult result (λ piece. (piece ≡ self.now.piece) × IsPiece piece) (Unmet self.now) }
     {
         if 0 < self.piece && self.piece <= MOST_PIECE {
@@ -90,6 +92,7 @@ impl<'a> Given<'a> {
 
     /// The name of the element in which the input is, if it is a fragment.
     pub(crate) fn context(&self) -> Result<Option<&'a str>, CallFault>
+        requires { IsSize self.now.size }
         ensures { let told = context_told self.now.context.now in
             MatchResult result (λ name. (name_of name ≡ told) × AllowsContext told) (Unmet self.now) }
     {
@@ -100,6 +103,7 @@ impl<'a> Given<'a> {
 
     /// The name that is given for it, which may be one that no fragment can have.
     fn context_name(&self) -> Result<Option<&'a str>, CallFault>
+        requires { IsSize self.now.size }
         ensures { MatchResult result (λ name. name_of name ≡ context_told self.now.context.now) (Unmet self.now) }
     {
         if self.context.is_empty() {
@@ -113,6 +117,7 @@ impl<'a> Given<'a> {
 
     /// The quirks list.
     fn quirks(&self, alloc: Global) -> Result<Quirks, CallFault>
+        requires { IsSize self.now.size }
         ensures { MatchResult result (λ quirks. ReadsQuirks self.now.quirks.now (Ok quirks)) (Unmet self.now) }
     {
         match str::from_utf8(self.quirks) {
@@ -123,9 +128,9 @@ impl<'a> Given<'a> {
 
     /// The command that is given, with the task of this number.
     pub(crate) fn command(&self, number: u32) -> Result<Command<'a>, CallFault>
+        requires { IsSize self.now.size }
         ensures { MatchResult result (IsCommand number self.now) (NoCommand number self.now) }
     {
-        self.check_size()?;
         let Some(task) = task_of(number) else {
             return Err(CallFault::BadNumber);
         };
@@ -144,6 +149,7 @@ impl<'a> Given<'a> {
 
     /// The lists that are given.
     pub(crate) fn lists(&self, alloc: Global) -> Result<Lists, CallFault>
+        requires { IsSize self.now.size }
         ensures { MatchResult result (HasLists self.now) (Unmet self.now) }
     {
         let table = table_of(alloc, self.entities)?;
@@ -153,6 +159,7 @@ impl<'a> Given<'a> {
 
     /// What becomes of bytes that are not UTF-8.
     pub(crate) fn bad_bytes(&self) -> Result<BadBytes, CallFault>
+        requires { IsSize self.now.size }
         ensures { MatchResult result (λ bad. bad_told self.now.bad_bytes ≡ Some bad) (Unmet self.now) }
     {
         match self.bad_bytes {
@@ -164,13 +171,17 @@ impl<'a> Given<'a> {
 
     /// How large a tree may become.
     pub(crate) fn limits(&self) -> Result<Limits, CallFault>
+        requires { IsSize self.now.size }
         ensures { MatchResult result (HasLimits self.now) (Unmet self.now) }
     {
         Ok(Limits::new(MAX_INPUT, self.nodes, self.open)?)
     }
 
     /// The keys of the hashes.
-    fn keys(&self) -> Keys {
+    fn keys(&self) -> Keys
+        requires { IsSize self.now.size }
+        ensures { result ≡ keys_told self.now }
+    {
         Keys::new((u128::from(self.key_high) << 64) | u128::from(self.key_low))
     }
 
@@ -187,7 +198,8 @@ impl<'a> Given<'a> {
         requires lists { HasLists self.now lists.now }
         requires bad_bytes { bad_told self.now.bad_bytes ≡ Some bad_bytes }
         requires limits { HasLimits self.now limits }
-        ensures { Tells self.now (options_of result) }
+        ensures told { Tells self.now (options_of result) }
+        ensures keys { result.keys ≡ keys_told self.now }
     {
         Options {
             table: &lists.table,

@@ -1,7 +1,7 @@
 //! A page: the tree of an input, its parse errors as rows, and its HTML, by one parse.
 
 ghost use Rattle.std.specs.Prelude.{◌≡◌, if◌then◌else◌, ℕ, List, [], length, map, None, IfOk, MatchResult};
-ghost use Rattle.html_c.specs.Vocabulary.{Memory, parsed_text, IsFitted, all_fit, error_row, page_answer, parts, put_parts, wants_told, GivesNoPage, GivesPage, parts_of, IsPage};
+ghost use Rattle.html_c.specs.Vocabulary.{Memory, parsed_text, IsFitted, all_fit, error_row, page_answer, parts, put_parts, wants_told, GivesNoPage, GivesNothing, GivesPage, parts_of, IsPage};
 ghost use Rattle.hwrite.specs.declared.command.Task.TheVariants as task;
 
 use crate::answer::{ErrorRow, Given, NodeRow, PageAnswer};
@@ -126,9 +126,11 @@ pub(crate) fn page_of(
     given: &Given,
     room: usize,
 ) -> Result<Page, CallFault>
-    ensures says { MatchResult result (λ page. GivesPage number input.now given.now (parts_of page)) (GivesNoPage number input.now given.now) }
+    ensures says { MatchResult result (λ page. GivesPage number input.now given.now (parts_of page))
+        (GivesNothing given.now.size (GivesNoPage number input.now given.now)) }
     ensures room { IfOk result (λ page. page.text.room ≡ room) }
 {
+    given.check_size()?;
     let Some(wants) = wants_of(number) else {
         return Err(CallFault::BadNumber);
     };

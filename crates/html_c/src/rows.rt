@@ -149,8 +149,9 @@ pub(crate) fn rows_inside(
     ensures rows { IfOk result (λ rows. rows.nodes.items ≡ rows_of root (children_of root tree.now.trees)) }
     ensures words { IfOk result (λ rows. rows.words.items ≡ words_of (spelled (text_of names.now) (children_of root tree.now.trees))) }
 {
+    // (so that the words alone grow, and leave no smaller blocks behind)
     let mut rows = Rows {
-        nodes: Vec::new(alloc),
+        nodes: Vec::with_capacity(alloc, tree.made() as usize)?,
         words: Vec::new(alloc),
     };
     for node in tree.descendants(root) {

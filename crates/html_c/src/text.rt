@@ -1,7 +1,7 @@
 //! The text of a task.
 
 ghost use Rattle.std.specs.Prelude.{◌≡◌, ◌<◌, ℕ, IfOk, MatchResult, Ok};
-ghost use Rattle.html_c.specs.Vocabulary.{options_of, name_of, AllowsContext, context_of, prints_of, ComesToNone, GivesNone, GivesText, kept, written_in, HasLists, IsCommand};
+ghost use Rattle.html_c.specs.Vocabulary.{options_of, name_of, AllowsContext, context_of, prints_of, ComesToNone, GivesNone, GivesNothing, GivesText, kept, written_in, HasLists, IsCommand};
 
 use crate::answer::Given;
 use crate::fault::CallFault;
@@ -21,9 +21,11 @@ pub(crate) fn text_of(
     given: &Given,
     room: usize,
 ) -> Result<Fitted, CallFault>
-    ensures says { MatchResult result (λ text. GivesText number input.now given.now (written_in text)) (GivesNone number input.now given.now) }
+    ensures says { MatchResult result (λ text. GivesText number input.now given.now (written_in text))
+        (GivesNothing given.now.size (GivesNone number input.now given.now)) }
     ensures room { IfOk result (λ text. text.room ≡ room) }
 {
+    given.check_size()?;
     let command = given.command(number)?;
     let lists = given.lists(alloc)?;
     let text = text_with(alloc, command, input, given, &lists, room);

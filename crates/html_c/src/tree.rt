@@ -1,7 +1,7 @@
 //! What an input is parsed as, and the rows of its tree.
 
 ghost use Rattle.std.specs.Prelude.{◌≡◌, ◌<◌, MatchResult};
-ghost use Rattle.html_c.specs.Vocabulary.{Memory, options_of, name_of, AllowsContext, GivesNoRows, GivesRows, HasLists, IsPiece, IsSize, context_told, ComesToParse, GivesParse, HasRows};
+ghost use Rattle.html_c.specs.Vocabulary.{Memory, options_of, name_of, AllowsContext, GivesNoRows, GivesNothing, GivesRows, HasLists, IsPiece, IsSize, context_told, ComesToParse, GivesParse, HasRows};
 
 use crate::answer::Given;
 use crate::fault::CallFault;
@@ -15,8 +15,10 @@ use std::alloc::Global;
 
 /// The rows and the words of the tree of an input.
 pub(crate) fn rows_of(alloc: Global, input: &[u8], given: &Given) -> Result<Rows, CallFault>
-    ensures { MatchResult result (λ rows. GivesRows input.now given.now rows.nodes.items rows.words.items) (GivesNoRows input.now given.now) }
+    ensures { MatchResult result (λ rows. GivesRows input.now given.now rows.nodes.items rows.words.items)
+        (GivesNothing given.now.size (GivesNoRows input.now given.now)) }
 {
+    given.check_size()?;
     let parsed = parse_of(alloc, input, given)?;
     let rows = rows_in(alloc, &parsed);
     drop(parsed);
@@ -32,9 +34,9 @@ pub(crate) fn rows_in(alloc: Global, parsed: &Parsed) -> Result<Rows, Refusal>
 
 /// What an input is parsed as.
 pub(crate) fn parse_of(alloc: Global, input: &[u8], given: &Given) -> Result<Parsed, CallFault>
+    requires { IsSize given.now.size }
     ensures { MatchResult result (GivesParse input.now given.now) (GivesNoRows input.now given.now) }
 {
-    given.check_size()?;
     let context = given.context()?;
     let piece = given.piece()?;
     let lists = given.lists(alloc)?;

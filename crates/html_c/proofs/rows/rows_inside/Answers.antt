@@ -4,7 +4,7 @@ use Rattle.html_c.proofs.rows.rows_inside.Goals as goal
 pub loop-node-init : goal.loop-node-init
 loop-node-init c =
     begun c.args.names.now c.args.tree.now.made c.args.tree.now.trees c.args.root _ _ _ c.descendants-node-items.result c.descendants-node-items.ensures.nodes.counted c.requires
-    c.new.ensures.items c.new-2.ensures.items c.into_iter-node-iterator.ensures.into_iter_gives c.descendants-node-items.ensures.order
+    c.in_ok-with_capacity.ensures.items c.new.ensures.items c.into_iter-node-iterator.ensures.into_iter_gives c.descendants-node-items.ensures.order
 
 pub loop-node-preserved : goal.loop-node-preserved
 loop-node-preserved c =

@@ -27,8 +27,8 @@ text_in-requires-clause-piece c = c.requires.command.1.is_piece.0
 pub returns-in_err-text_in-clause-says : goal.returns-in_err-text_in-clause-says
 returns-in_err-text_in-clause-says c = λ number is.
     fails c.from_residual-in_err-text_in.result (fault.Refused c.in_err-text_in.field-0.0) _ _ c.from_residual-in_err-text_in.ensures.1
-    (no_text c.args.input.now c.args.given.now (options_of c.options-options.result) c.options-options.ensures number c.args.command is c.in_err-text_in.field-0.0 c.in_err-text_in.ensures.says)
+    (no_text c.args.input.now c.args.given.now (options_of c.options-options.result) c.options-options.ensures.told number c.args.command is c.in_err-text_in.field-0.0 c.in_err-text_in.ensures.says)
 
 pub returns-clause-says : goal.returns-clause-says
 returns-clause-says c = λ number is.
-    a_text c.args.input.now c.args.given.now (options_of c.options-options.result) c.options-options.ensures number c.args.command is c.in_ok-text_in.field-0.all.bytes c.in_ok-text_in.ensures.says
+    a_text c.args.input.now c.args.given.now (options_of c.options-options.result) c.options-options.ensures.told number c.args.command is c.in_ok-text_in.field-0.all.bytes c.in_ok-text_in.ensures.says

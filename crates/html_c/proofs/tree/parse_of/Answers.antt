@@ -2,11 +2,8 @@ use Rattle.html_c.proofs.Names.{unmet_rows}
 use Rattle.html_c.proofs.Outcomes.{fails}
 use Rattle.html_c.proofs.tree.parse_of.Goals as goal
 
-pub returns-in_err-check_size : goal.returns-in_err-check_size
-returns-in_err-check_size c = fails c.from_residual.result c.in_err-check_size.field-0.0 _ _ c.from_residual.ensures.1 (unmet_rows c.in_err-check_size.ensures)
-
 pub returns-in_err-context : goal.returns-in_err-context
-returns-in_err-context c = fails c.from_residual-in_err-context.result c.in_err-context.field-0.0 _ _ c.from_residual-in_err-context.ensures.1 (unmet_rows c.in_err-context.ensures)
+returns-in_err-context c = fails c.from_residual.result c.in_err-context.field-0.0 _ _ c.from_residual.ensures.1 (unmet_rows c.in_err-context.ensures)
 
 pub returns-in_err-piece : goal.returns-in_err-piece
 returns-in_err-piece c = fails c.from_residual-in_err-piece.result c.in_err-piece.field-0.0 _ _ c.from_residual-in_err-piece.ensures.1 (unmet_rows c.in_err-piece.ensures)

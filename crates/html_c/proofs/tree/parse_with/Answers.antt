@@ -22,8 +22,8 @@ parsed-requires-clause-piece c = c.requires.piece.1.0
 pub returns-in_err-parsed : goal.returns-in_err-parsed
 returns-in_err-parsed c =
     fails c.from_residual-in_err-parsed.result (fault.Refused c.in_err-parsed.field-0.0) _ _ c.from_residual-in_err-parsed.ensures.1
-    (no_parse c.args.input.now c.args.given.now (options_of c.options-options.result) c.options-options.ensures (name_of c.args.context) c.requires.context c.in_err-parsed.field-0.0 c.in_err-parsed.ensures)
+    (no_parse c.args.input.now c.args.given.now (options_of c.options-options.result) c.options-options.ensures.told (name_of c.args.context) c.requires.context c.in_err-parsed.field-0.0 c.in_err-parsed.ensures)
 
 pub returns : goal.returns
 returns c =
-    a_parse c.args.input.now c.args.given.now (options_of c.options-options.result) c.options-options.ensures (name_of c.args.context) c.requires.context c.in_ok-parsed.field-0 c.in_ok-parsed.ensures
+    a_parse c.args.input.now c.args.given.now (options_of c.options-options.result) c.options-options.ensures.told (name_of c.args.context) c.requires.context c.in_ok-parsed.field-0 c.in_ok-parsed.ensures

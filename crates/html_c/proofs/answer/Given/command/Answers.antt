@@ -3,11 +3,8 @@ use Rattle.html_c.specs.Given.{may_be_in, misplaced, no_escaping}
 use Rattle.html_c.proofs.Outcomes.{fails}
 use Rattle.html_c.proofs.answer.Given.command.Goals as goal
 
-pub returns-in_err-check_size : goal.returns-in_err-check_size
-returns-in_err-check_size c = fails c.from_residual.result c.in_err-check_size.field-0.0 _ _ c.from_residual.ensures.1 (unmet c.in_err-check_size.ensures)
-
 pub returns-in_err-context : goal.returns-in_err-context
-returns-in_err-context c = fails c.from_residual-in_err-context.result c.in_err-context.field-0.0 _ _ c.from_residual-in_err-context.ensures.1 (unmet c.in_err-context.ensures)
+returns-in_err-context c = fails c.from_residual.result c.in_err-context.field-0.0 _ _ c.from_residual.ensures.1 (unmet c.in_err-context.ensures)
 
 pub returns-in_err-escaping : goal.returns-in_err-escaping
 returns-in_err-escaping c = fails c.from_residual-in_err-escaping.result c.in_err-escaping.field-0.0 _ _ c.from_residual-in_err-escaping.ensures.1 (no_escaping c.in_err-escaping.ensures)

@@ -2,8 +2,8 @@ use Rattle.html_c.proofs.Names.{ap}
 use Rattle.hmodes.specs.Bounds.{Bounds}
 use Rattle.html_c.proofs.answer.Given.options.Goals as goal
 
-pub returns : goal.returns
-returns c = record {
+pub returns-clause-told : goal.returns-clause-told
+returns-clause-told c = record {
   size = c.requires.size;
   context = c.requires.context;
   piece = c.requires.piece;
