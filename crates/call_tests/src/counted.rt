@@ -108,6 +108,24 @@ fn a_write_fails(rt: HostRuntime) {
     }
 }
 
+/// Whether a read, a write and a flush are one call each of a device of which this call fails.
+fn are_one_call(failing: u64) -> bool {
+    let mut source = Counted::new(Faulty::at(failing));
+    let mut target = Counted::new(Faulty::at(failing));
+    let mut flushed = Counted::new(Faulty::at(failing));
+    let _ = source.read(&mut [0; 2]);
+    let _ = target.write(b"ab");
+    let _ = flushed.flush();
+    source.into_inner().calls == 1
+        && target.into_inner().calls == 1
+        && flushed.into_inner().calls == 1
+}
+
+#[test]
+fn each_is_one_call(rt: HostRuntime) {
+    assert!(rt; are_one_call(0) && are_one_call(1));
+}
+
 /// Whether a write of bytes fails where none is taken, and one of no bytes does not.
 fn none_are_taken() -> bool {
     let mut target = Counted::new(Full);

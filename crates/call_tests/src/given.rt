@@ -6,10 +6,12 @@ use htoken::{Token, TokenSink, Tokenizer};
 use names::{Names, ParseError, Refusal};
 use std::alloc::Global;
 
-/// What it took: the characters as they are, a letter for each other token, and `!` for an error. It refuses what is more than `left`.
+/// What it took: the characters as they are, a letter for each other token, and `!` for an error. It refuses what is more than `left`,
+/// and counts what it refused.
 #[derive(Drop)]
 pub struct Taken {
     pub text: String,
+    pub refused: u32,
     left: u32,
 }
 
@@ -17,12 +19,14 @@ impl Taken {
     pub fn new(alloc: Global, left: u32) -> Taken {
         Taken {
             text: String::new(alloc),
+            refused: 0,
             left,
         }
     }
 
     fn add(&mut self, ch: char) -> Result<(), Refusal> {
         if self.left == 0 {
+            self.refused = self.refused.saturating_add(1);
             return Err(Refusal::Write);
         }
         self.left -= 1;
@@ -64,6 +68,10 @@ impl TokenSink for Taken {
             Token::Eof { .. } => '.',
         };
         self.add(letter)
+    }
+
+    fn take_tag(&mut self, token: Token, _names: &Names) -> Result<(), Refusal> {
+        self.take_token(token)
     }
 
     fn take_text(&mut self, ch: char, _at: u64) -> Result<(), Refusal> {

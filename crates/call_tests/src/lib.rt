@@ -10,6 +10,8 @@ mod given;
 #[cfg(test)]
 mod pages;
 #[cfg(test)]
+mod reading;
+#[cfg(test)]
 mod refusals;
 #[cfg(test)]
 mod sinks;

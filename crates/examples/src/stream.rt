@@ -7,7 +7,6 @@ use hwrite::{
     Counted, ErrorSink, Keys, Names, Options, ParseError, Quirks, Refusal, Table, Tag, Token,
     TokenSink, read_into,
 };
-use std::cell::Cell;
 use std::fs::File;
 use std::{env, fs};
 
@@ -29,12 +28,11 @@ pub fn print_first_links(rt: &HostRuntime) -> anyhow::Result<()> {
 
 /// Prints the links of the page, read with these options.
 fn print_links(rt: &HostRuntime, options: &Options<'_>) -> anyhow::Result<()> {
-    let left = Cell::new(most(rt)?);
+    let left = most(rt)?;
     let mut page = Counted::new(File::open(rt, word(rt, 1)?.as_str())?);
-    let links = Links { rt, left: &left };
-    let answer = read_into(rt.alloc(), PIECE, options, links, &mut page);
+    let (links, answer) = read_into(rt.alloc(), PIECE, options, Links { rt, left }, &mut page);
     // Where no more are wanted, the refusal is that of the sink.
-    if left.get() > 0 {
+    if links.left > 0 {
         answer?;
     }
     Ok(())
@@ -60,19 +58,19 @@ fn most(rt: &HostRuntime) -> anyhow::Result<u64> {
 struct Links<'a> {
     rt: &'a HostRuntime,
     /// How many more are wanted.
-    left: &'a Cell<u64>,
+    left: u64,
 }
 
 impl<'a> Links<'a> {
     /// Prints a link. A refusal ends the reading: no more are wanted, or this one cannot be printed.
-    fn print(&self, link: &str) -> Result<(), Refusal> {
-        let Some(left) = self.left.get().checked_sub(1) else {
+    fn print(&mut self, link: &str) -> Result<(), Refusal> {
+        let Some(left) = self.left.checked_sub(1) else {
             return Err(Refusal::Write);
         };
         if println!(self.rt; "{link}").is_err() {
             return Err(Refusal::Write);
         }
-        self.left.set(left);
+        self.left = left;
         Ok(())
     }
 }
