@@ -1,11 +1,14 @@
 /* Calls the library where the Nth allocation and all that follow are refused, for each N: the status is then JZ_MEMORY, nothing is
  * written, and all that was taken is freed. The same of the plain C of its header, which tries again where one allocation is refused in
  * the first parse; and what that plain C costs, in parses, in bytes looked at and in memory kept, and does with null pointers; what a
- * table in its flat form costs, and a text that is only measured. Its argument names an input. The last line is 'N passed, M failed'.
+ * table in its flat form costs, and a text that is only measured; options before a page that cannot be read; threads with small stacks.
+ * Its argument names an input, and `once` after it has each function called once. The last line is 'N passed, M failed'.
  * Linked with -Wl,--wrap=X for each X of malloc, realloc, free, jz_text, jz_page and jz_table. */
 #include <malloc.h>
+#include <pthread.h>
 #include <stdio.h>
 #include <string.h>
+#include <sys/mman.h>
 #include <sys/resource.h>
 #include <sys/wait.h>
 #include <time.h>
@@ -32,7 +35,8 @@ uint32_t __real_jz_page(uint32_t, const uint8_t *, size_t, const jz_options *, j
 uint32_t __real_jz_table(const uint8_t *, size_t, uint8_t *, size_t, jz_answer *);
 
 /* `left` allocations are given before all are refused, `only` is the one that is refused, and -1 of either refuses none. */
-static long left = -1, only = -1, alive, calls, parses, passed, failed;
+static long left = -1, only = -1, passed, failed;
+static _Atomic long alive, calls, parses;
 
 static int is_refused(void) {
     if (calls++ == only) return 1;
@@ -243,18 +247,35 @@ static void check_errors(size_t length) {
     check(!strcmp(jz_error_name(JZ_ERROR_EOF_IN_TAG), "eof-in-tag") && !strcmp(jz_error_name(JZ_ERROR_COUNT), "?"), "the name of a code");
 }
 
-/* Options of a size that the library does not know are refused, and not read any further. */
+/* The bytes at the end of a page of memory, after which none can be read. */
+static uint8_t *last_bytes(size_t count) {
+    size_t page = (size_t)sysconf(_SC_PAGESIZE);
+    uint8_t *begin = (uint8_t *)mmap(NULL, 2 * page, PROT_READ | PROT_WRITE, MAP_PRIVATE | MAP_ANONYMOUS, -1, 0);
+    check(begin != MAP_FAILED && !mprotect(begin + page, page, PROT_NONE), "memory that cannot be read");
+    return begin + page - count;
+}
+
+/* Options of a size that the library does not know are refused before anything else is: of these nothing but the size can be read, and
+ * there is no such task and no such wish. Those that it knows are read as far as they go. */
 static void check_sizes(size_t length) {
-    static const size_t sizes[] = { 0, 8, sizeof options - 8, sizeof options - 1, sizeof options + 1, sizeof options + 8, SIZE_MAX };
-    for (uint32_t task = 0; task < TABLE; task++)
-        for (size_t i = 0; i < sizeof sizes / sizeof *sizes; i++) {
-            jz_answer answer;
-            options.context = jz_lent((const uint8_t *)1, 5);
-            options.size = sizes[i];
-            check(call(task, length, &answer) == JZ_BAD_SIZE && is_untouched(), "options of another size");
+    size_t *size = (size_t *)last_bytes(sizeof *size);
+    const jz_options *given = (const jz_options *)size;
+    jz_answer answer;
+    jz_page_answer page;
+    for (*size = 0; *size < 4096; *size += *size == sizeof options - 1 ? 2 : 1) {
+        for (uint32_t task = 0; task <= TASKS; task++) {
+            memset(text, 'x', 64);
+            check(jz_text(task, input, length, given, text, 64, &answer) == JZ_BAD_SIZE && !answer.length && *text == 'x', "a text by short options");
+            jz_page(task, input, length, given, rows, ROWS, text, PART, errors, ERRORS, text + PART, PART, &page);
+            check(page.status == JZ_BAD_SIZE && !page.nodes && !page.text && *text == 'x', "a page by short options");
         }
-    options.size = sizeof options;
-    set_context(TREE);
+        check(jz_tree(input, length, given, rows, ROWS, text, sizeof text, &answer) == JZ_BAD_SIZE && !answer.nodes, "a tree by short options");
+    }
+    *size = SIZE_MAX;
+    check(jz_text(9, input, length, given, text, 64, &answer) == JZ_BAD_SIZE, "a text by options of the greatest size");
+    jz_options *last = (jz_options *)last_bytes(sizeof options);
+    *last = options;
+    check(jz_tree(input, length, last, rows, ROWS, text, sizeof text, &answer) == JZ_OK, "options at the end of what can be read");
     check(!strcmp(jz_status_name(JZ_BAD_SIZE), "BadSize"), "the name of a status");
 }
 
@@ -316,6 +337,8 @@ static void check_rooms(uint32_t task, const char *page, size_t length) {
                                  : jz_tree_rooms((const uint8_t *)page, length, &options, &asked);
     check(status == it.answer.status && told == status && memcmp(&asked, &it.answer, sizeof asked) == 0, "the room that is asked for");
     check((status == JZ_OK) == !is_nothing(task, &it), "what is made, or refused");
+    check(status != JZ_OUT_OF_PROFILE || (!strcmp(jz_detail_name(&it.answer), "svg") && (task != PAGE || !strcmp(jz_page_detail_name(&it.page), "svg"))),
+          "the name of what is refused");
     check(task != PAGE || status || (malloc_usable_size(it.doc.errors) < it.page.errors * sizeof(jz_error) + 8192 && malloc_usable_size(it.html) < it.page.text + 8192),
           "the memory that is kept of a page");
     check(!it.bytes || malloc_usable_size(it.bytes) < it.answer.length + 8192, "the memory that is kept");
@@ -472,12 +495,82 @@ static void check_measured(void) {
     check(wait(&status) > 0 && status == 0, "a text that is measured");
 }
 
+/* The kilobytes of memory that are resident. */
+static long resident(void) {
+    long pages = 0;
+    FILE *file = fopen("/proc/self/statm", "r");
+    check(file && fscanf(file, "%*d %ld", &pages) == 1, "the memory that is resident");
+    if (file) fclose(file);
+    return pages * (sysconf(_SC_PAGESIZE) / 1024);
+}
+
+/* That ten parses of 2 MB need no more than 1.75 times the memory of one, and leave little of it behind. (It wants an untried malloc.) */
+static void check_kept(void) {
+    int status;
+    if (fork() == 0) {
+        static char page[2200000];
+        size_t length = lists_page(page, 18000);
+        long before = resident(), first = 0;
+        struct rusage most;
+        for (int i = 0; i < 10; i++) {
+            made it;
+            if (make(PAGE, page, length, &it) != JZ_OK || getrusage(RUSAGE_SELF, &most)) _exit(1);
+            give_back(PAGE, &it);
+            if (i == 0) first = most.ru_maxrss - before;
+        }
+        dprintf(1, "a page of %zu bytes: one parse takes %ld KB, ten take %ld and keep %ld. ", length, first, most.ru_maxrss - before, resident() - before);
+        _exit(resident() - before > first / 4 || most.ru_maxrss - before > first * 7 / 4);
+    }
+    check(wait(&status) > 0 && status == 0, "the memory of ten parses");
+}
+
+enum { NESTED = 100000, THREADS = 4 };
+static uint8_t nested[5 * NESTED];
+
+static void *make_nested(void *it) {
+    made *its = (made *)it;
+    jz_make_page(nested, sizeof nested, &options, &its->doc, &its->html, &its->page);
+    return NULL;
+}
+
+/* Threads that share an input and options, each with 96 KB of stack, on deeply nested elements. */
+static void check_threads(void) {
+    pthread_t threads[THREADS];
+    made its[THREADS];
+    pthread_attr_t small;
+    int is_right = pthread_attr_init(&small) == 0 && pthread_attr_setstacksize(&small, 98304) == 0;
+    for (size_t at = 0; at < sizeof nested; at += 5) memcpy(nested + at, "<div>", 5);
+    for (int i = 0; i < THREADS; i++) is_right &= !pthread_create(&threads[i], &small, make_nested, &its[i]);
+    for (int i = 0; i < THREADS; i++) is_right &= !pthread_join(threads[i], NULL);
+    for (int i = 0; i < THREADS; i++)
+        is_right &= its[i].page.status == JZ_OK && its[i].page.text == 11 * NESTED && !memcmp(its[i].html, its[0].html, 11 * NESTED)
+            && its[i].doc.count == NESTED + its[i].doc.root + 1;
+    check(is_right, "threads that share an input and options");
+    for (int i = 0; i < THREADS; i++) give_back(PAGE, &its[i]);
+    pthread_attr_destroy(&small);
+}
+
+/* Each function once, for valgrind. */
+static int call_once(size_t length) {
+    for (uint32_t task = 0; task < ALL; task++) {
+        jz_answer answer;
+        made it;
+        set_context(task);
+        check(call(task, length, &answer) == JZ_OK && make(task, input, length, &it) == JZ_OK, "a call");
+        give_back(task, &it);
+    }
+    check_sizes(length);
+    return failed != 0;
+}
+
 int main(int count, char **words) {
     static char long_text[ROOM];
-    FILE *file = count == 2 ? fopen(words[1], "rb") : NULL;
+    FILE *file = count > 1 ? fopen(words[1], "rb") : NULL;
     if (!file) return 3;
     size_t length = fread(input, 1, ROOM, file);
     fclose(file);
+    if (count > 2) return call_once(length);
+    check_kept();
     memset(long_text, 'x', sizeof long_text);
     for (uint32_t task = 0; task < ALL; task++) {
         set_context(task);
@@ -492,6 +585,7 @@ int main(int count, char **words) {
     }
     check_errors(length);
     check_sizes(length);
+    check_threads();
     check_file(words[1], length);
     check_nulls();
     check_keys();

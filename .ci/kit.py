@@ -1,11 +1,17 @@
 """The crates of crates.txt, the words with which the kit's `rattle` reads one of them over the libraries that stand built in crates/*/out/rlib,
-and a script as a module."""
+a script as a module, and its usage."""
 import importlib.machinery
 import importlib.util
 import os
 import subprocess
+import sys
 
 ROOT = os.path.dirname(os.path.dirname(os.path.realpath(__file__)))
+
+
+def usage():
+    """Ends the script with what it says of itself, where its words are not known or ask for that."""
+    os.execv(f"{ROOT}/tools/usage", ["usage", sys.argv[0], *sys.argv[1:]])
 
 
 def uses():
