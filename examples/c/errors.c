@@ -22,7 +22,7 @@ int main(int count, char **words) {
         return 3;
     }
     if (jz_parse(page, length, &options, &doc, &answer) != JZ_OK)
-        fprintf(stderr, "refused: %s at %lu\n", jz_status_name(answer.status), (unsigned long)answer.at);
+        fprintf(stderr, "refused: %s %s at %lu\n", jz_status_name(answer.status), jz_detail_name(&answer), (unsigned long)answer.at);
     else
         print_errors(words[1], page, &doc);
     jz_free(&doc);

@@ -6,6 +6,7 @@ import ctypes
 import functools
 import operator
 import os
+import struct
 from collections.abc import Callable, Iterator
 from typing import TYPE_CHECKING, NamedTuple, TypedDict, Union
 
@@ -65,20 +66,18 @@ class PageAnswer(ctypes.Structure):
     _fields_ = [("status", ctypes.c_uint32), ("detail", ctypes.c_uint32), *((name, ctypes.c_uint64) for name in ("at", "nodes", "words", "errors", "text"))]
 
 
-class Row(ctypes.Structure):
+# A jz_row and a jz_error, and the bytes of an item of each room of jz_page.
+ROW, ERROR_ROW = struct.Struct("=5I"), struct.Struct("=QI4x")
+SIZES = ROW.size, 1, ERROR_ROW.size, 1
+
+
+class Row(NamedTuple):
     """A node: its number, its kind (1 a doctype, 2 an element, 3 a comment, 4 a text), and the nodes around it or NO_NODE."""
     number: int
     kind: int
     parent: int
     first_child: int
     next: int
-    _fields_ = [(name, ctypes.c_uint32) for name in ("number", "kind", "parent", "first_child", "next")]
-
-
-class ErrorRow(ctypes.Structure):
-    at: int
-    code: int
-    _fields_ = [("at", ctypes.c_uint64), ("code", ctypes.c_uint32)]
 
 
 class Node(NamedTuple):
@@ -95,6 +94,7 @@ class ParseError(NamedTuple):
 
 
 class Page(NamedTuple):
+    """What one parse gives. Two parses of one page are equal."""
     nodes: list[Node]
     errors: list[ParseError]
     html: bytes
@@ -133,8 +133,7 @@ def declared(library: ctypes.CDLL) -> ctypes.CDLL:
     given = [ctypes.c_char_p, size, ctypes.POINTER(Options)]
     library.jz_version.argtypes = []
     library.jz_text.argtypes = [number, *given, output, size, answer]
-    rows, errors = ctypes.POINTER(Row), ctypes.POINTER(ErrorRow)
-    library.jz_page.argtypes = [number, *given, rows, size, output, size, errors, size, output, size, ctypes.POINTER(PageAnswer)]
+    library.jz_page.argtypes = [number, *given, *(output, size) * 4, ctypes.POINTER(PageAnswer)]
     library.jz_table.argtypes = [ctypes.c_char_p, size, output, size, answer]
     library.jz_version.restype = library.jz_text.restype = library.jz_page.restype = library.jz_table.restype = number
     return library
@@ -146,13 +145,27 @@ KEYS = int.from_bytes(os.urandom(16), "little")
 
 
 class Refused(Exception):
-    """Why there is nothing: its status, the element or the cause that it names, and its byte (of a quirks list the line)."""
+    """Why there is nothing: its status, the number of the element or the cause that it names, and its byte (of a quirks list the line)."""
 
-    def __init__(self, answer: Answer | PageAnswer) -> None:
-        self.status, self.at = answer.status, answer.at
-        words = [NAMES[answer.status], *DETAILS.get(answer.status, [""])[answer.detail:answer.detail + 1]]
-        places = {10: ["line", str(answer.at)], **dict.fromkeys(range(1, 6), ["at", str(answer.at)])}
-        super().__init__(" ".join(filter(None, words + places.get(answer.status, []))))
+    def __init__(self, status: int, detail: int, at: int) -> None:
+        super().__init__(status, detail, at)
+        self.status, self.detail, self.at = status, detail, at
+
+    def __str__(self) -> str:
+        words = [NAMES[self.status], *DETAILS.get(self.status, [""])[self.detail:self.detail + 1]]
+        places = {10: ["line", str(self.at)], **dict.fromkeys(range(1, 6), ["at", str(self.at)])}
+        return " ".join(filter(None, words + places.get(self.status, [])))
+
+
+def answered(answer: Answer | PageAnswer) -> bool:
+    """Whether all was written; there was too little room where not. Else it is refused."""
+    if answer.status not in (0, TOO_SHORT):
+        raise Refused(answer.status, answer.detail, answer.at)
+    return answer.status == 0
+
+
+# Of no length, since ctypes keeps a type for each length that it is asked for.
+LENT = ctypes.c_char * 0
 
 
 def lent(value: Bytes) -> bytes:
@@ -207,12 +220,10 @@ def written(call: Callable[[ctypes.Array[ctypes.c_char], int, Answer], int], roo
     """The bytes that a call writes, which is made again where they want more room."""
     answer = Answer()
     while True:
-        output = ctypes.create_string_buffer(room)
-        call(output, room, answer)
-        if answer.status == 0:
-            return output[:answer.length]
-        if answer.status != TOO_SHORT:
-            raise Refused(answer)
+        output = bytearray(room)
+        call(LENT.from_buffer(output), room, answer)
+        if answered(answer):
+            return bytes(memoryview(output)[:answer.length])
         room = answer.length
 
 
@@ -223,7 +234,15 @@ def table(entities: Bytes) -> bytes:
 
 
 def text(task: int, page: Bytes, **settings: Unpack[Settings]) -> bytes:
-    """The bytes of a task's text."""
+    """The bytes of a task's text.
+
+    PLAIN says whether a fragment comes back when what is written of it inside an element of the context's name is parsed in that context.
+    WRITE gives that, but in style, script, iframe and noembed: there it escapes the text, which stands in a root without that name, and what
+    comes back is the text as it is:
+
+    >>> text(PLAIN, b"a<b", context=b"style"), text(WRITE, b"a<b", context=b"style"), tree(b"a<b", context=b"style")[0].words
+    (b'plain\\n', b'a&lt;b', ['a<b'])
+    """
     page = lent(page)
     call = functools.partial(LIBRARY.jz_text, whole(task, 32), page, len(page), options(**settings))
     return written(call, len(page) * (6 if task in (TOKENS, TREE) else 2) + 1024)
@@ -235,15 +254,14 @@ def parsed(wants: int, page: Bytes, settings: Settings) -> Page:
     answer, given, few, room = PageAnswer(), options(**settings), len(page) // 16 + 64, len(page) * 2 + 1024
     rooms = [few, room, few * (wants & 1), room * (wants >> 1)]
     while True:
-        rows, words, errors, html = buffers = [(kind * size)() for kind, size in zip((Row, ctypes.c_char, ErrorRow, ctypes.c_char), rooms)]
-        LIBRARY.jz_page(wants, page, len(page), given, *(it for pair in zip(buffers, rooms) for it in pair), answer)
+        buffers = [bytearray(count * size + 1) for count, size in zip(rooms, SIZES)]
+        LIBRARY.jz_page(wants, page, len(page), given, *(it for pair in zip(map(LENT.from_buffer, buffers), rooms) for it in pair), answer)
         rooms = [answer.nodes, answer.words, answer.errors, answer.text]
-        if answer.status == 0:
-            each = zip(rows[:answer.nodes], words[:answer.words].split(b"\xfe"))
+        if answered(answer):
+            rows, words, errors, html = [memoryview(it)[:count * size] for it, count, size in zip(buffers, rooms, SIZES)]
+            each = zip(map(Row._make, ROW.iter_unpack(rows)), bytes(words).split(b"\xfe"))
             nodes = [Node(row, [word.decode() for word in node.split(b"\xff")[:-1]]) for row, node in each]
-            return Page(nodes, [ParseError(it.at, CODES[it.code]) for it in errors[:answer.errors]], html[:answer.text])
-        if answer.status != TOO_SHORT:
-            raise Refused(answer)
+            return Page(nodes, [ParseError(at, CODES[code]) for at, code in ERROR_ROW.iter_unpack(errors)], bytes(html))
 
 
 def tree(page: Bytes, **settings: Unpack[Settings]) -> list[Node]:

@@ -175,7 +175,9 @@ pub fn errors(input: &[u8], options: &Options) -> Result<Vec<ParseError>, Error>
     Ok(parsed(WANT_ERRORS, input, options)?.errors)
 }
 
-/// Whether a fragment is plain in its context: it comes back when what is written of it is parsed.
+/// Whether a fragment is plain in its context: it comes back, as the same nodes, when what is written of it inside an element of the
+/// context's name is parsed in that context. `Task::Write` gives that, but in style, script, iframe and noembed: there it escapes the text,
+/// which stands in a root without that name, and what comes back is the text as it is (`Node::text`).
 pub fn is_plain(fragment: &[u8], options: &Options) -> Result<bool, Error> {
     Ok(text(Task::Plain, fragment, options)? == "plain\n")
 }
