@@ -1,5 +1,5 @@
 -- What a collection has been handed: it keeps all, and refuses for want of memory alone.
-use Rattle.hparse.proofs.Names.{◌≡◌, List, [], ◌∷◌, ◌++◌, sym, ap, ◌∙◌, subst, Result, Ok, Err, append-nil, append_assoc, IsPermutation, ParseError, Refusal, Texts, Hands, Token, Tok, Item, ItemToken, ItemError, gives_item, Collected, Began, Handed, tokens_handed, errors_handed, TokensMean}
+use Rattle.hparse.proofs.Names.{◌≡◌, List, [], ◌∷◌, ◌++◌, sym, ap, ◌∙◌, subst, Result, Ok, Err, append-nil, append_assoc, IsPermutation, ParseError, Refusal, Texts, Hands, Token, Tok, Item, ItemToken, ItemError, gives_item, Collected, Began, WasHanded, tokens_handed, errors_handed, TokensMean}
 use Rattle.htoken.specs.Token.{token_in}
 use Rattle.hparse.specs.Collecting.{KeepsError, KeepsToken}
 use Rattle.hparse.proofs.Refusing.{RefusesForMemory}
@@ -25,7 +25,7 @@ collects-refuses old (ItemError x) e new h = h
 
 module _ (names : Texts) (began : Began Collected) (now : Collected) (tokens : List Tok) (errors : List ParseError) where
   -- what an empty collection has then
-  module _ (h : Handed collects names began tokens errors (Ok tt) now) where
+  module _ (h : WasHanded collects names began tokens errors (Ok tt) now) where
     pub tokens_gathered : began.sink.tokens.items ≡ [] → TokensMean names now.tokens.items tokens
     tokens_gathered none = subst (λ (ts : List Token). TokensMean names ts tokens) (ap (λ (x : List Token). x ++ tokens_handed h.items) (sym none) ∙ sym (gathers began.sink now h.items h.hands).0) h.tokens_mean
 

@@ -1,5 +1,5 @@
 -- What a sink has been handed, and what it is handed after that.
-use Rattle.hparse.proofs.Names.{◌≡◌, List, [], ◌∷◌, ◌++◌, sym, refl, ap, subst, Result, Ok, IsPermutation, IsPermutation-append_left, IsPermutation-refl, IsPermutation-trans, ParseError, Refusal, Texts, Grows, grows_not, grows_on, Token, Tok, Item, ItemToken, ItemError, Event, Reports, tokens_in, errors_in, HandsEvents, Began, Handed, tokens_handed, errors_handed, TokensMean}
+use Rattle.hparse.proofs.Names.{◌≡◌, List, [], ◌∷◌, ◌++◌, sym, refl, ap, subst, Result, Ok, IsPermutation, IsPermutation-append_left, IsPermutation-refl, IsPermutation-trans, ParseError, Refusal, Texts, Grows, grows_not, grows_on, Token, Tok, Item, ItemToken, ItemError, Event, Reports, tokens_in, errors_in, HandsEvents, Began, WasHanded, tokens_handed, errors_handed, TokensMean}
 use Rattle.names.proofs.Handing.{Hands-append}
 use Rattle.htoken.specs.Token.{Gives, Mean, token_in}
 use Rattle.htoken.proofs.Fronts.{handed_means, token_kept}
@@ -44,12 +44,12 @@ parts_of_mean names (x ∷ items) [] m = absurd m
 
 module _ {S : Type 0} (gives : S → Item → Result (Unit {0}) Refusal → S → Type 0) where
   -- nothing was handed over
-  pub handed_none : (began : Began S) → Handed gives began.names began [] [] (Ok tt) began.sink
+  pub handed_none : (began : Began S) → WasHanded gives began.names began [] [] (Ok tt) began.sink
   handed_none began = record { grows = grows_not began.names; items = []; hands = (refl, refl); tokens_mean = tt; errors_are = IsPermutation-refl [] }
 
   -- events were handed over after others, and the table has grown
   pub handed_more : (old new : Texts) (grows : Grows old new) (began : Began S) (mid now : S) (tokens : List Tok) (errors : List ParseError) (events : List Event) (answer : Result (Unit {0}) Refusal)
-      → Handed gives old began tokens errors (Ok tt) mid → HandsEvents gives new mid events answer now → Handed gives new began (tokens ++ tokens_in events) (errors ++ errors_in events) answer now
+      → WasHanded gives old began tokens errors (Ok tt) mid → HandsEvents gives new mid events answer now → WasHanded gives new began (tokens ++ tokens_in events) (errors ++ errors_in events) answer now
   handed_more old new grows began mid now tokens errors events answer h (items, mean, given) = record {
     grows = grows_on began.names old new h.grows grows;
     items = h.items ++ items;
@@ -63,7 +63,7 @@ module _ {S : Type 0} (gives : S → Item → Result (Unit {0}) Refusal → S �
 
   -- the same tokens and errors, the latter in another order
   pub handed_as : (names : Texts) (began : Began S) (now : S) (tokens tokens' : List Tok) (errors errors' : List ParseError) (answer : Result (Unit {0}) Refusal) → tokens ≡ tokens' → IsPermutation errors' errors
-      → Handed gives names began tokens errors answer now → Handed gives names began tokens' errors' answer now
+      → WasHanded gives names began tokens errors answer now → WasHanded gives names began tokens' errors' answer now
   handed_as names began now tokens tokens' errors errors' answer same order h = record {
     grows = h.grows;
     items = h.items;

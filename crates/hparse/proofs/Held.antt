@@ -1,12 +1,12 @@
 -- What a feeding holds after more items, and after the end of the text.
-use Rattle.hparse.proofs.Names.{◌≡◌, ◌<◌, arith, ℕ, zero, suc, ◌+◌, true, false, length, List, [], ◌∷◌, ◌++◌, sym, refl, ap, ◌∙◌, subst, Result, Ok, Err, append-nil, append_assoc, map, MatchResult, IsPermutation, IsPermutation-refl, IsPermutation-append_right, IsPermutation-append_comm, ParseError, Placed, RawKind, Refusal, Texts, Grows, Hands, grows_not, CharItem, Character, InputError, characters_among, errors_among, items, bad_each, input_errors, run_items, start_kind, replaced, Tok, Event, Reports, Item, gives_item, IsRefused, AreFront, tokens_in, errors_in, HandsEvents, Entities, HasTaken, Manner, Began, Handed, Intake, HoldsItems, TakesItems, items_ran_out, items_stopped, items_refused, items_taken, Proceeds, EndsText, text_ran_out, text_stopped, text_taken}
+use Rattle.hparse.proofs.Names.{◌≡◌, ◌<◌, arith, ℕ, zero, suc, ◌+◌, true, false, length, List, [], ◌∷◌, ◌++◌, sym, refl, ap, ◌∙◌, subst, Result, Ok, Err, append-nil, append_assoc, map, MatchResult, IsPermutation, IsPermutation-refl, IsPermutation-append_right, IsPermutation-append_comm, ParseError, Placed, RawKind, Refusal, Texts, Grows, Hands, grows_not, CharItem, Character, InputError, characters_among, errors_among, items, bad_each, input_errors, run_items, start_kind, replaced, Tok, Event, Reports, Item, gives_item, IsRefused, AreFront, tokens_in, errors_in, HandsEvents, Entities, HasTaken, Manner, Began, WasHanded, Intake, HoldsItems, TakesItems, items_ran_out, items_stopped, items_refused, items_taken, Proceeds, EndsText, text_ran_out, text_stopped, text_taken}
 use Rattle.std.specs.Prelude.{is_err}
 use Rattle.std.specs.Bool.{◌==◌}
 use Rattle.std.specs.Char.{len_utf8}
 use Rattle.names.specs.Placed.{placed, error}
 use Rattle.names.specs.declared.error.ErrorCode.TheVariants.{ReplacedBytes}
 use Rattle.htoken.proofs.Handing.{reports_given}
-use Rattle.htoken.specs.Token.{Handed as HandedToken}
+use Rattle.htoken.specs.Token.{Handed}
 use Rattle.htoken.specs.Tokens.{eof_of}
 use Rattle.htoken.specs.declared.tokenizer.Tokenizer.{Tokenizer}
 use Rattle.htoken.specs.Tokenizing.{holds, in_ambiguous_ampersand, Takes, take_ran_out, take_refused, take_sink_refused, take_took, Finishes, finish_ran_out, finish_sink_refused, finish_took}
@@ -75,7 +75,7 @@ module _ {S : Type 0} (gives : S → Item → Result (Unit {0}) Refusal → S �
     abbrev all_errors : List ParseError
     all_errors = errors_among items ++ errors_in h.taken
 
-    after_error : (answer : Result (Unit {0}) Refusal) → HandsEvents gives new.names old.sink (Reports e ∷ []) answer new.sink → Handed gives new.names began (tokens_in h.taken ++ []) (all_errors ++ e ∷ []) answer new.sink
+    after_error : (answer : Result (Unit {0}) Refusal) → HandsEvents gives new.names old.sink (Reports e ∷ []) answer new.sink → WasHanded gives new.names began (tokens_in h.taken ++ []) (all_errors ++ e ∷ []) answer new.sink
     after_error answer given = handed_more gives old.names new.names (subst (Grows old.names) (sym names_are) (grows_not old.names)) began old.sink new.sink (tokens_in h.taken) all_errors (Reports e ∷ []) answer h.handed given
 
     text_is : characters_among items ≡ characters_among (items ++ InputError e ∷ [])
@@ -105,18 +105,18 @@ module _ {S : Type 0} (gives : S → Item → Result (Unit {0}) Refusal → S �
 
   module _ (grows : Grows old.names new.names) where
     -- the events after those that were taken, where these errors were handed over before them
-    after_events : (es : List ParseError) (mid : S) → Handed gives old.names began (tokens_in h.taken) ((errors_among items ++ es) ++ errors_in h.taken) (Ok tt) mid
+    after_events : (es : List ParseError) (mid : S) → WasHanded gives old.names began (tokens_in h.taken) ((errors_among items ++ es) ++ errors_in h.taken) (Ok tt) mid
         → (events : List Event) (answer : Result (Unit {0}) Refusal) → HandsEvents gives new.names mid events answer new.sink
-        → Handed gives new.names began (tokens_in (h.taken ++ events)) ((errors_among items ++ es) ++ errors_in (h.taken ++ events)) answer new.sink
+        → WasHanded gives new.names began (tokens_in (h.taken ++ events)) ((errors_among items ++ es) ++ errors_in (h.taken ++ events)) answer new.sink
     after_events es mid opts events answer given =
         let before : List ParseError = errors_among items ++ es in
-        subst (λ (ks : List Tok). Handed gives new.names began ks ((errors_among items ++ es) ++ errors_in (h.taken ++ events)) answer new.sink) (sym (tokens_in-append h.taken events))
-        (subst (λ (x : List ParseError). Handed gives new.names began (tokens_in h.taken ++ tokens_in events) x answer new.sink)
+        subst (λ (ks : List Tok). WasHanded gives new.names began ks ((errors_among items ++ es) ++ errors_in (h.taken ++ events)) answer new.sink) (sym (tokens_in-append h.taken events))
+        (subst (λ (x : List ParseError). WasHanded gives new.names began (tokens_in h.taken ++ tokens_in events) x answer new.sink)
         (append_assoc (errors_among items ++ es) (errors_in h.taken) (errors_in events) ∙ ap (λ (x : List ParseError). (errors_among items ++ es) ++ x) (sym (errors_in-append h.taken events)))
         (handed_more gives old.names new.names grows began mid new.sink (tokens_in h.taken) ((errors_among items ++ es) ++ errors_in h.taken) events answer opts given))
 
     -- items, the errors of which were handed over first
-    holds_items : (xs : List CharItem) (mid : S) → Handed gives old.names began (tokens_in h.taken) ((errors_among items ++ errors_among xs) ++ errors_in h.taken) (Ok tt) mid
+    holds_items : (xs : List CharItem) (mid : S) → WasHanded gives old.names began (tokens_in h.taken) ((errors_among items ++ errors_among xs) ++ errors_in h.taken) (Ok tt) mid
         → new.unfed ≡ [] → (answer : Result (Unit {0}) Refusal) → new.stopped ≡ is_err answer
         → Takes gives m.table (start_kind m.start) (characters_among items) (characters_among xs) h.taken new.names mid answer new.sink new.tokenizer → TakesItems gives m began items xs answer new
     holds_items xs mid opts unfed answer noted (take_ran_out events e handed front) =
@@ -135,16 +135,16 @@ module _ {S : Type 0} (gives : S → Item → Result (Unit {0}) Refusal → S �
           was_fed = record {
             taken = h.taken ++ events;
             has_taken = subst (λ (x : List Placed). HasTaken m.table (start_kind m.start) new.tokenizer new.names x (h.taken ++ events)) (sym (characters_among-append items xs)) has;
-            handed = subst (λ (x : List ParseError). Handed gives new.names began (tokens_in (h.taken ++ events)) (x ++ errors_in (h.taken ++ events)) (Ok tt) new.sink) (sym (errors_among-append items xs))
+            handed = subst (λ (x : List ParseError). WasHanded gives new.names began (tokens_in (h.taken ++ events)) (x ++ errors_in (h.taken ++ events)) (Ok tt) new.sink) (sym (errors_among-append items xs))
                 (after_events (errors_among xs) mid opts events (Ok tt) handed);
             unstopped = noted ∙ ap is_err e;
           };
         })
 
     -- characters
-    no_errors : (es : List ParseError) → es ≡ [] → Handed gives old.names began (tokens_in h.taken) ((errors_among items ++ es) ++ errors_in h.taken) (Ok tt) old.sink
+    no_errors : (es : List ParseError) → es ≡ [] → WasHanded gives old.names began (tokens_in h.taken) ((errors_among items ++ es) ++ errors_in h.taken) (Ok tt) old.sink
     no_errors es none =
-        subst (λ (x : List ParseError). Handed gives old.names began (tokens_in h.taken) (x ++ errors_in h.taken) (Ok tt) old.sink)
+        subst (λ (x : List ParseError). WasHanded gives old.names began (tokens_in h.taken) (x ++ errors_in h.taken) (Ok tt) old.sink)
         (sym (append-nil (errors_among items)) ∙ ap (λ (x : List ParseError). errors_among items ++ x) (sym none)) h.handed
 
     pub holds_characters : (xs : List CharItem) → errors_among xs ≡ [] → new.unfed ≡ [] → (answer : Result (Unit {0}) Refusal) → new.stopped ≡ is_err answer
@@ -153,9 +153,9 @@ module _ {S : Type 0} (gives : S → Item → Result (Unit {0}) Refusal → S �
 
     -- the end
     at_end : (events : List Event) (answer : Result (Unit {0}) Refusal) → HandsEvents gives new.names old.sink events answer new.sink
-        → Handed gives new.names began (tokens_in (h.taken ++ events)) (errors_among items ++ errors_in (h.taken ++ events)) answer new.sink
+        → WasHanded gives new.names began (tokens_in (h.taken ++ events)) (errors_among items ++ errors_in (h.taken ++ events)) answer new.sink
     at_end events answer given =
-        subst (λ (x : List ParseError). Handed gives new.names began (tokens_in (h.taken ++ events)) (x ++ errors_in (h.taken ++ events)) answer new.sink) (append-nil (errors_among items))
+        subst (λ (x : List ParseError). WasHanded gives new.names began (tokens_in (h.taken ++ events)) (x ++ errors_in (h.taken ++ events)) answer new.sink) (append-nil (errors_among items))
         (after_events [] old.sink (no_errors [] refl) events answer given)
 
     pub ends_text : (end : ℕ) (answer : Result (Unit {0}) Refusal)
@@ -170,7 +170,7 @@ module _ {S : Type 0} (gives : S → Item → Result (Unit {0}) Refusal → S �
   -- errors that were handed over before any of these characters
   module _ (es : List ParseError) where
     told_after : (answer : Result (Unit {0}) Refusal) (mid : S) → HandsEvents gives old.names old.sink (map Reports es) answer mid
-        → Handed gives old.names began (tokens_in h.taken) ((errors_among items ++ es) ++ errors_in h.taken) answer mid
+        → WasHanded gives old.names began (tokens_in h.taken) ((errors_among items ++ es) ++ errors_in h.taken) answer mid
     told_after answer mid given =
         handed_as gives old.names began mid _ _ _ _ answer
         (ap (λ (ks : List Tok). tokens_in h.taken ++ ks) (ap tokens_in (sym (append-nil (map Reports es))) ∙ tokens_in-map es []) ∙ append-nil (tokens_in h.taken))
@@ -181,7 +181,7 @@ module _ {S : Type 0} (gives : S → Item → Result (Unit {0}) Refusal → S �
     -- one of them was refused
     pub stops_telling : (xs : List CharItem) (e : Refusal) → new.names ≡ old.names → new.stopped ≡ true → HandsEvents gives old.names old.sink (map Reports es) (Err e) new.sink → TakesItems gives m began items xs (Err e) new
     stops_telling xs e names_are noted given =
-        items_stopped e h.taken _ refl noted (subst (λ (n : Texts). Handed gives n began (tokens_in h.taken) ((errors_among items ++ es) ++ errors_in h.taken) (Err e) new.sink) (sym names_are) (told_after (Err e) new.sink given))
+        items_stopped e h.taken _ refl noted (subst (λ (n : Texts). WasHanded gives n began (tokens_in h.taken) ((errors_among items ++ es) ++ errors_in h.taken) (Err e) new.sink) (sym names_are) (told_after (Err e) new.sink given))
         (λ more end. subst (λ (x : List Placed). AreFront m.table (start_kind m.start) x end h.taken) (with_more items xs more)
         (taken_front m.table (start_kind m.start) old.tokenizer old.names (characters_among items) h.taken h.has_taken (characters_among xs ++ characters_among more) end))
 
@@ -269,7 +269,7 @@ errors_of_bad : (n at : ℕ) → errors_among (items (bad_each at n)) ≡ input_
 errors_of_bad zero at = refl
 errors_of_bad (suc n) at = ap (λ (es : List ParseError). error ReplacedBytes at ∷ es) (errors_of_bad n (at + 1))
 
-module _ {S : Type 0} (gives : S → ParseError → Result (Unit {0}) Refusal → S → Type 0) (gives_token : S → HandedToken → Result (Unit {0}) Refusal → S → Type 0) (old new : Intake S) (none : old.unfed ≡ []) (at : ℕ) where
+module _ {S : Type 0} (gives : S → ParseError → Result (Unit {0}) Refusal → S → Type 0) (gives_token : S → Handed → Result (Unit {0}) Refusal → S → Type 0) (old new : Intake S) (none : old.unfed ≡ []) (at : ℕ) where
   abbrev to_item : S → Item → Result (Unit {0}) Refusal → S → Type 0
   to_item = gives_item gives gives_token
 

@@ -1,5 +1,5 @@
 -- What one piece more does to a reading, and what the input's end does.
-use Rattle.hparse.proofs.Names.{◌≡◌, ℕ, ◌-◌, Bool, true, false, cond, eqb, List, [], ◌∷◌, ◌++◌, length, map, Option, None, Some, sym, refl, ap, ◌∙◌, subst, Result, Ok, Err, append-nil, append_assoc, inl, inr, ◌⊎◌, AreNames, ParseError, Placed, Refusal, Memory, Hands, BadBytes, Policy, Read, CharItem, items, characters_among, errors_among, HasFed, start_kind, Tok, Event, Item, IsRefused, AreFront, tokens_in, Reading, Manner, Began, settled_in, reads_in, Handed, IsRefusedFor, by_sink, by_tag, by_bytes, by_memory, Comes, Intake, HoldsItems, TakesItems, items_ran_out, items_stopped, items_refused, items_taken, Proceeds, EndsText, text_ran_out, text_stopped, text_taken, Refuses, HasRead, FeedsPiece, piece_refused, piece_read, EndsInput, characters_among-items}
+use Rattle.hparse.proofs.Names.{◌≡◌, ℕ, ◌-◌, Bool, true, false, cond, eqb, List, [], ◌∷◌, ◌++◌, length, map, Option, None, Some, sym, refl, ap, ◌∙◌, subst, Result, Ok, Err, append-nil, append_assoc, inl, inr, ◌⊎◌, AreNames, ParseError, Placed, Refusal, Memory, Hands, BadBytes, Policy, Read, CharItem, items, characters_among, errors_among, HasFed, start_kind, Tok, Event, Item, IsRefused, AreFront, tokens_in, Reading, Manner, Began, settled_in, reads_in, WasHanded, IsRefusedFor, by_sink, by_tag, by_bytes, by_memory, Comes, Intake, HoldsItems, TakesItems, items_ran_out, items_stopped, items_refused, items_taken, Proceeds, EndsText, text_ran_out, text_stopped, text_taken, Refuses, HasRead, FeedsPiece, piece_refused, piece_read, EndsInput, characters_among-items}
 use Rattle.std.specs.Str.Lossy.{utf8_valid_len}
 use Rattle.std.proofs.lemmas.Bool.{eqb-true}
 use Rattle.std.proofs.lemmas.List.{map-append}
@@ -68,11 +68,11 @@ module _ {S : Type 0} (gives : S → Item → Result (Unit {0}) Refusal → S �
 
   -- a text is refused, whatever comes after these items
   data Stops (e : Refusal) (new : Intake S) (xs : List CharItem) : Type 0 where
-    in_memory : (events : List Event) (errors : List ParseError) → e ≡ Memory → new.stopped ≡ true → Handed gives new.names began (tokens_in events) errors (Ok tt) new.sink
+    in_memory : (events : List Event) (errors : List ParseError) → e ≡ Memory → new.stopped ≡ true → WasHanded gives new.names began (tokens_in events) errors (Ok tt) new.sink
         → ((end : ℕ) → AreFront m.table (start_kind m.start) (characters_among xs) end events) → Stops e new xs
-    in_sink : (events : List Event) (errors : List ParseError) → new.stopped ≡ true → Handed gives new.names began (tokens_in events) errors (Err e) new.sink
+    in_sink : (events : List Event) (errors : List ParseError) → new.stopped ≡ true → WasHanded gives new.names began (tokens_in events) errors (Err e) new.sink
         → ((end : ℕ) → AreFront m.table (start_kind m.start) (characters_among xs) end events) → Stops e new xs
-    in_tag : (name : RefusedName) (at : ℕ) (tokens : List Tok) (errors : List ParseError) → e ≡ OutOfProfile name at → new.stopped ≡ true → Handed gives new.names began tokens errors (Ok tt) new.sink
+    in_tag : (name : RefusedName) (at : ℕ) (tokens : List Tok) (errors : List ParseError) → e ≡ OutOfProfile name at → new.stopped ≡ true → WasHanded gives new.names began tokens errors (Ok tt) new.sink
         → ((end : ℕ) → IsRefused m.table (start_kind m.start) (characters_among xs) end tokens name at) → Stops e new xs
 
   was_refused : (before : List CharItem) (x : CharItem) (more : List CharItem) (new : Intake S) (e : Refusal) → TakesItems gives m began before (x ∷ []) (Err e) new → Stops e new (before ++ x ∷ more)
@@ -81,7 +81,7 @@ module _ {S : Type 0} (gives : S → Item → Result (Unit {0}) Refusal → S �
       in_memory events errors why noted handed (λ end. front more end)
   was_refused before x more new e (items_stopped r events errors is noted handed front) =
       let same : r ≡ e = cc in
-      in_sink events errors noted (subst (λ (y : Refusal). Handed gives new.names began (tokens_in events) errors (Err y) new.sink) same handed) (λ end. front more end)
+      in_sink events errors noted (subst (λ (y : Refusal). WasHanded gives new.names began (tokens_in events) errors (Err y) new.sink) same handed) (λ end. front more end)
   was_refused before x more new e (items_refused name at tokens errors is noted handed refused) =
       let why : e ≡ OutOfProfile name at = cc in
       in_tag name at tokens errors why noted handed (λ end. refused more end)
@@ -167,7 +167,7 @@ module _ {S : Type 0} (gives : S → Item → Result (Unit {0}) Refusal → S �
         let same : Memory ≡ earlier = cc in λ bytes is r. subst (IsRefusedFor gives m began bytes new.names new.sink) same (by_memory events errors handed (front_in bytes is r events front))
     refuses_text earlier (text_stopped x events errors e handed front) =
         let same : x ≡ earlier = cc in
-        λ bytes is r. by_sink earlier events errors (subst (λ (y : Refusal). Handed gives new.names began (tokens_in events) errors (Err y) new.sink) same handed) (front_in bytes is r events front)
+        λ bytes is r. by_sink earlier events errors (subst (λ (y : Refusal). WasHanded gives new.names began (tokens_in events) errors (Err y) new.sink) same handed) (front_in bytes is r events front)
     refuses_text earlier (text_taken tokens errors e t handed) = absurd cc
 
   module _ (bytes piece : List ℕ) (old : Reading S) (h : HasRead gives m began old bytes) where
@@ -276,7 +276,7 @@ module _ {S : Type 0} (gives : S → Item → Result (Unit {0}) Refusal → S �
               errors = errors;
               read = subst (λ (n : ℕ). Tokens m.table (start_kind m.start) (text_in m bytes) n tokens errors) end_is
                   (subst (λ (x : List Placed). Tokens m.table (start_kind m.start) x end tokens errors) (characters_among-items (reads_in m bytes)) t);
-              handed = subst (λ (es : List ParseError). Handed gives new.feeding.names began tokens (es ++ errors) (Ok tt) new.feeding.sink) (errors_among-items (reads_in m bytes)) handed;
+              handed = subst (λ (es : List ParseError). WasHanded gives new.feeding.names began tokens (es ++ errors) (Ok tt) new.feeding.sink) (errors_among-items (reads_in m bytes)) handed;
               whole = unrefused;
             })
 

@@ -1,10 +1,10 @@
 -- What a builder that keeps how nodes are made has been handed: what the builder in it was, and how they were made.
-use Rattle.hparse.proofs.Names.{◌≡◌, ℕ, ◌+◌, ◌-◌, length, Bool, true, false, List, [], ◌∷◌, ◌++◌, map, sym, refl, ap, ◌∙◌, subst, Option, Some, None, Result, Ok, Err, inl, inr, ◌⊎◌, option_map, ParseError, Refusal, Memory, Texts, Hands, input_errors, Given, run_tokens, Tok, Item, ItemToken, ItemError, numbers, Goes, Building, TakesToken, spelled_placed, spelled_state, PlacedToken, State, end, start, Placing, Manner, Began, Handed, reads_in, tokens_handed, IsRefusedFor, by_sink, by_tag, by_bytes, by_memory, IsTaken, places_item, PlacesToken}
+use Rattle.hparse.proofs.Names.{◌≡◌, ℕ, ◌+◌, ◌-◌, length, Bool, true, false, List, [], ◌∷◌, ◌++◌, map, sym, refl, ap, ◌∙◌, subst, Option, Some, None, Result, Ok, Err, inl, inr, ◌⊎◌, option_map, ParseError, Refusal, Memory, Texts, Hands, input_errors, Given, run_tokens, Tok, Item, ItemToken, ItemError, numbers, Goes, Building, TakesToken, spelled_placed, spelled_state, PlacedToken, State, end, start, Placing, Manner, Began, WasHanded, reads_in, tokens_handed, IsRefusedFor, by_sink, by_tag, by_bytes, by_memory, IsTaken, places_item, PlacesToken}
 use Rattle.std.proofs.Common.{not}
 use Rattle.std.specs.Prelude.{is_some, ◌&&◌, ◌==◌}
 use Rattle.std.specs.List.{range_with_len}
 use Rattle.htoken.specs.Run.{TakesSpread}
-use Rattle.htoken.specs.Token.{Handed as HandedToken, token_in}
+use Rattle.htoken.specs.Token.{Handed, token_in}
 use Rattle.hadopt.specs.Naming.{Naming}
 use Rattle.hadopt.specs.Spelled.{Agree}
 use Rattle.hnodes.proofs.Spellings.{questions}
@@ -53,7 +53,7 @@ abbrev pub inner : Began Placing → Began Building
 inner began = record { names = began.names; sink = began.sink.builder }
 
 module _ (names : Texts) (began : Began Placing) (now : Placing) where
-  pub handed_inner : (tokens : List Tok) (errors : List ParseError) → Handed places_item names began tokens errors (Ok tt) now → Handed builds names (inner began) tokens errors (Ok tt) now.builder
+  pub handed_inner : (tokens : List Tok) (errors : List ParseError) → WasHanded places_item names began tokens errors (Ok tt) now → WasHanded builds names (inner began) tokens errors (Ok tt) now.builder
   handed_inner tokens errors h = record { grows = h.grows; items = h.items; hands = handed_on began.sink now h.items h.hands; tokens_mean = h.tokens_mean; errors_are = h.errors_are }
 
   module _ (m : Manner) (bytes : List ℕ) where
@@ -145,12 +145,12 @@ module _ {N M : Type 0} (m : Naming N) (n : Naming M) (g : N → M) (agree : Agr
 abbrev plain : Building → Placing
 plain b = record { builder = b; makings = None }
 
-plain_hands : (old new : Building) (ts : List HandedToken) (answer : Result (Unit {0}) Refusal) → Hands TakesToken old ts answer new → Hands PlacesToken (plain old) ts answer (plain new)
+plain_hands : (old new : Building) (ts : List Handed) (answer : Result (Unit {0}) Refusal) → Hands TakesToken old ts answer new → Hands PlacesToken (plain old) ts answer (plain new)
 plain_hands old new [] answer h = (h.0, ap plain h.1)
 plain_hands old new (t ∷ ts) answer (Ok u, next, given, rest) = (Ok u, plain next, (given, refl), plain_hands next new ts answer rest)
 plain_hands old new (t ∷ ts) answer (Err e, next, given, rest) = (Err e, plain next, inr given, (rest.0, ap plain rest.1))
 
-pub hands_without : (old : Placing) (new : Building) (ts : List HandedToken) (answer : Result (Unit {0}) Refusal) → old.makings ≡ None → Hands TakesToken old.builder ts answer new
+pub hands_without : (old : Placing) (new : Building) (ts : List Handed) (answer : Result (Unit {0}) Refusal) → old.makings ≡ None → Hands TakesToken old.builder ts answer new
     → Hands PlacesToken old ts answer (record old { builder = new })
 hands_without old new ts answer is h =
     subst (λ o. Hands PlacesToken (record { builder = old.builder; makings = o }) ts answer (record { builder = new; makings = o })) (sym is) (plain_hands old.builder new ts answer h)

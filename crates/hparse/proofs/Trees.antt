@@ -1,5 +1,5 @@
 -- What the input of a builder becomes, with names as texts.
-use Rattle.hparse.proofs.Names.{◌≡◌, ℕ, List, [], ◌++◌, map, sym, refl, ap, ◌∙◌, subst, Option, None, Ok, Err, append_assoc, inl, inr, ◌⊎◌, IsPermutation, IsPermutation-trans, IsPermutation-append_left, IsPermutation-append_comm, ParseError, Refusal, Memory, Texts, Grows, AreNames, spelling, grows_on, input_errors, Given, Tok, tokens_in, numbers, texts, Goes, Refused, spelled_state, State, PlacedToken, Steps, steps_spelled, numbers-agree, Building, Origin, Parsed, Began, Handed, reads_in, tokens_handed, errors_handed, IsRefusedFor, by_sink, by_tag, by_bytes, by_memory, IsTaken, AreOf, TokensAreOf, ParseCase, document, fragment, ParseOptions, Parses, begins, manner, BeginsIn, a_document, a_fragment, AnswersParse, TellsPlaces, placed, TokensMean}
+use Rattle.hparse.proofs.Names.{◌≡◌, ℕ, List, [], ◌++◌, map, sym, refl, ap, ◌∙◌, subst, Option, None, Ok, Err, append_assoc, inl, inr, ◌⊎◌, IsPermutation, IsPermutation-trans, IsPermutation-append_left, IsPermutation-append_comm, ParseError, Refusal, Memory, Texts, Grows, AreNames, spelling, grows_on, input_errors, Given, Tok, tokens_in, numbers, texts, Goes, Refused, spelled_state, State, PlacedToken, Steps, steps_spelled, numbers-agree, Building, Origin, Parsed, Began, WasHanded, reads_in, tokens_handed, errors_handed, IsRefusedFor, by_sink, by_tag, by_bytes, by_memory, IsTaken, AreOf, TokensAreOf, ParseCase, document, fragment, ParseOptions, Parses, begins, manner, BeginsIn, a_document, a_fragment, AnswersParse, TellsPlaces, placed, TokensMean}
 use Rattle.names.proofs.Handing.{text_kept}
 use Rattle.hnodes.specs.Edits.{Nodes}
 use Rattle.hnodes.specs.Spelled.{spelled}
@@ -38,7 +38,7 @@ module _ (opts : ParseOptions) (parse_case : ParseCase) (began : Began Building)
       ((steps_spelled numbers texts spell (numbers-agree later are)).steps (map placed_number ts) began.sink.state o steps))
 
   -- where all of them were handed over
-  pub gone : (tokens : List Tok) (errors : List ParseError) → Handed builds names began tokens errors (Ok tt) now → Steps texts (map placed tokens) (begins opts parse_case) (Goes (spelled_state spell now.state))
+  pub gone : (tokens : List Tok) (errors : List ParseError) → WasHanded builds names began tokens errors (Ok tt) now → Steps texts (map placed tokens) (begins opts parse_case) (Goes (spelled_state spell now.state))
   gone tokens errors h = in_texts h.grows (tokens_handed h.items) tokens (Goes now.state) h.tokens_mean (became began.sink now h.items unrefused h.hands).steps
 
   -- a refusal, but for want of memory

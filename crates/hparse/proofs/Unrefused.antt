@@ -1,5 +1,5 @@
 -- What a reading was fed is unrefused: its tokenizer has handed over every span that is settled.
-use Rattle.hparse.proofs.Names.{◌≡◌, ℕ, List, [], ◌∷◌, ◌++◌, map, sym, ap, ◌∙◌, subst, append-nil, append_assoc, Result, Ok, ParseError, Placed, RawKind, Refusal, Texts, grows_not, Policy, CharItem, items, characters_among, errors_among, characters_among-items, start_kind, Tok, Event, Item, Entities, tokens_in, errors_in, HasTaken, texts, Goes, State, PlacedToken, Steps, and, Parser, Reading, HasRead, WasRead, Manner, Began, settled_in, Handed, ParseCase, ParseOptions, begins, manner, places_item, HasParsed, placed, IsUnrefusedText, IsUnrefused}
+use Rattle.hparse.proofs.Names.{◌≡◌, ℕ, List, [], ◌∷◌, ◌++◌, map, sym, ap, ◌∙◌, subst, append-nil, append_assoc, Result, Ok, ParseError, Placed, RawKind, Refusal, Texts, grows_not, Policy, CharItem, items, characters_among, errors_among, characters_among-items, start_kind, Tok, Event, Item, Entities, tokens_in, errors_in, HasTaken, texts, Goes, State, PlacedToken, Steps, and, Parser, Reading, HasRead, WasRead, Manner, Began, settled_in, WasHanded, ParseCase, ParseOptions, begins, manner, places_item, HasParsed, placed, IsUnrefusedText, IsUnrefused}
 use Rattle.std.proofs.lemmas.List.{map-append}
 use Rattle.htext.specs.Decoding.{IsUndecided}
 use Rattle.htext.proofs.Texts.{errors_among-items}
@@ -75,7 +75,7 @@ module _ {S : Type 0} (gives : S → Item → Result (Unit {0}) Refusal → S �
   has_settled = record {
     unrefused = unrefused_text;
     events = h.holds.was_fed.taken;
-    handed = subst (λ (es : List ParseError). Handed gives reading.feeding.names began (tokens_in h.holds.was_fed.taken) (es ++ errors_in h.holds.was_fed.taken) (Ok tt) reading.feeding.sink)
+    handed = subst (λ (es : List ParseError). WasHanded gives reading.feeding.names began (tokens_in h.holds.was_fed.taken) (es ++ errors_in h.holds.was_fed.taken) (Ok tt) reading.feeding.sink)
         (ap errors_among all_fed ∙ errors_among-items (settled_in m bytes)) h.holds.was_fed.handed;
     no_more = of_front m.table (start_kind m.start) reading.feeding.tokenizer reading.feeding.names (settled_text m bytes) h.holds.was_fed.taken has_taken;
     no_less = are_taken;

@@ -10,7 +10,7 @@ use Rattle.htoken.specs.Standing.{start_kind}
 use Rattle.htoken.specs.Token.{Tok, Event, Item}
 use Rattle.htoken.specs.Tokens.{Tokens, IsRefused, AreFront, tokens_in, errors_in}
 use Rattle.htoken.specs.Tokenizing.{HasTaken}
-use Rattle.hparse.specs.Input.{Manner, Began, how_of, reads_in, Handed, IsRefusedFor}
+use Rattle.hparse.specs.Input.{Manner, Began, how_of, reads_in, WasHanded, IsRefusedFor}
 use Rattle.hparse.specs.Intake.{Intake}
 
 -- The tokenizer was fed the characters among these items; the sink was handed the tokens and errors that it gave, and the errors among the items.
@@ -18,7 +18,7 @@ pub record WasFed {S : Type 0} (gives : S → Item → Result (Unit {0}) Refusal
     (items : List CharItem) : Type 0 where
   pub taken : List Event
   pub has_taken : HasTaken m.table (start_kind m.start) feeding.tokenizer feeding.names (characters_among items) taken
-  pub handed : Handed gives feeding.names began (tokens_in taken) (errors_among items ++ errors_in taken) (Ok tt) feeding.sink
+  pub handed : WasHanded gives feeding.names began (tokens_in taken) (errors_among items ++ errors_in taken) (Ok tt) feeding.sink
   pub unstopped : feeding.stopped ≡ false
 
 -- These items were handed over: those that were fed, and the unfed ones of a run.
@@ -33,15 +33,15 @@ module _ {S : Type 0} (gives : S → Item → Result (Unit {0}) Refusal → S �
   -- comes after; or they are held too.
   pub data TakesItems (m : Manner) (began : Began S) (before items : List CharItem) (answer : Result (Unit {0}) Refusal) (new : Intake S) : Type 0 where
     items_ran_out : (events : List Event) (errors : List ParseError) → answer ≡ Err refusal.Memory → new.stopped ≡ true
-        → Handed gives new.names began (tokens_in events) errors (Ok tt) new.sink
+        → WasHanded gives new.names began (tokens_in events) errors (Ok tt) new.sink
         → ((more : List CharItem) (end : ℕ) → AreFront m.table (start_kind m.start) (characters_among (before ++ (items ++ more))) end events)
         → TakesItems m began before items answer new
     items_stopped : (e : Refusal) (events : List Event) (errors : List ParseError) → answer ≡ Err e → new.stopped ≡ true
-        → Handed gives new.names began (tokens_in events) errors (Err e) new.sink
+        → WasHanded gives new.names began (tokens_in events) errors (Err e) new.sink
         → ((more : List CharItem) (end : ℕ) → AreFront m.table (start_kind m.start) (characters_among (before ++ (items ++ more))) end events)
         → TakesItems m began before items answer new
     items_refused : (name : RefusedName) (at : ℕ) (tokens : List Tok) (errors : List ParseError) → answer ≡ Err (refusal.OutOfProfile name at)
-        → new.stopped ≡ true → Handed gives new.names began tokens errors (Ok tt) new.sink
+        → new.stopped ≡ true → WasHanded gives new.names began tokens errors (Ok tt) new.sink
         → ((more : List CharItem) (end : ℕ) → IsRefused m.table (start_kind m.start) (characters_among (before ++ (items ++ more))) end tokens name at)
         → TakesItems m began before items answer new
     items_taken : answer ≡ Ok tt → HoldsItems gives m began new (before ++ items) → TakesItems m began before items answer new
@@ -54,14 +54,14 @@ module _ {S : Type 0} (gives : S → Item → Result (Unit {0}) Refusal → S �
   -- What the end of the text does, after these items: memory ran out, or the sink refused what the text gives, or it took all of that.
   pub data EndsText (m : Manner) (began : Began S) (items : List CharItem) (end : ℕ) (answer : Result (Unit {0}) Refusal) (new : Intake S) : Type 0 where
     text_ran_out : (events : List Event) (errors : List ParseError) → answer ≡ Err refusal.Memory
-        → Handed gives new.names began (tokens_in events) errors (Ok tt) new.sink
+        → WasHanded gives new.names began (tokens_in events) errors (Ok tt) new.sink
         → AreFront m.table (start_kind m.start) (characters_among items) end events → EndsText m began items end answer new
     text_stopped : (e : Refusal) (events : List Event) (errors : List ParseError) → answer ≡ Err e
-        → Handed gives new.names began (tokens_in events) errors (Err e) new.sink
+        → WasHanded gives new.names began (tokens_in events) errors (Err e) new.sink
         → AreFront m.table (start_kind m.start) (characters_among items) end events → EndsText m began items end answer new
     text_taken : (tokens : List Tok) (errors : List ParseError) → answer ≡ Ok tt
         → Tokens m.table (start_kind m.start) (characters_among items) end tokens errors
-        → Handed gives new.names began tokens (errors_among items ++ errors) (Ok tt) new.sink → EndsText m began items end answer new
+        → WasHanded gives new.names began tokens (errors_among items ++ errors) (Ok tt) new.sink → EndsText m began items end answer new
 
   -- The answer once a decoder has refused bytes of which these items were read: the bytes are refused for it.
   abbrev pub Refuses : Manner → Began S → List CharItem → Refusal → Refusal → Intake S → Type 0

@@ -70,7 +70,7 @@ pub record Began (S : Type 0) : Type 0 where
 
 -- The sink was handed items in order, up to the first that it refused. Their tokens stand for these under the table as it is now; their
 -- errors are these, in some order.
-pub record Handed {S : Type 0} (gives : S → Item → Result (Unit {0}) Refusal → S → Type 0) (names : Texts) (began : Began S) (tokens : List Tok)
+pub record WasHanded {S : Type 0} (gives : S → Item → Result (Unit {0}) Refusal → S → Type 0) (names : Texts) (began : Began S) (tokens : List Tok)
     (errors : List ParseError) (answer : Result (Unit {0}) Refusal) (now : S) : Type 0 where
   pub grows : Grows began.names names
   pub items : List Item
@@ -83,16 +83,16 @@ module _ {S : Type 0} (gives : S → Item → Result (Unit {0}) Refusal → S �
   -- The input is refused, where the sink was handed what comes before: or memory ran out, where it took a front of what the text gives.
   pub data IsRefusedFor : Refusal → Type 0 where
     -- the sink refuses what its text gives
-    by_sink : (refusal : Refusal) (events : List Event) (errors : List ParseError) → Handed gives names began (tokens_in events) errors (Err refusal) now
+    by_sink : (refusal : Refusal) (events : List Event) (errors : List ParseError) → WasHanded gives names began (tokens_in events) errors (Err refusal) now
         → AreFront m.table (start_kind m.start) (text_in m bytes) (end_in m bytes) events → IsRefusedFor refusal
     -- a start tag of its text is out of the profile
-    by_tag : (name : RefusedName) (at : ℕ) (tokens : List Tok) (errors : List ParseError) → Handed gives names began tokens errors (Ok tt) now
+    by_tag : (name : RefusedName) (at : ℕ) (tokens : List Tok) (errors : List ParseError) → WasHanded gives names began tokens errors (Ok tt) now
         → IsRefused m.table (start_kind m.start) (text_in m bytes) (end_in m bytes) tokens name at → IsRefusedFor (OutOfProfile name at)
     -- the sink takes all of its text, but bytes follow that
-    by_bytes : (refusal : Refusal) (tokens : List Tok) (errors handed : List ParseError) → Handed gives names began tokens handed (Ok tt) now
+    by_bytes : (refusal : Refusal) (tokens : List Tok) (errors handed : List ParseError) → WasHanded gives names began tokens handed (Ok tt) now
         → Tokens m.table (start_kind m.start) (text_in m bytes) (end_in m bytes) tokens errors → refusal_of (how_of m) bytes ≡ Some refusal
         → IsRefusedFor refusal
-    by_memory : (events : List Event) (errors : List ParseError) → Handed gives names began (tokens_in events) errors (Ok tt) now
+    by_memory : (events : List Event) (errors : List ParseError) → WasHanded gives names began (tokens_in events) errors (Ok tt) now
         → AreFront m.table (start_kind m.start) (text_in m bytes) (end_in m bytes) events → IsRefusedFor Memory
 
   -- The sink took all that the input gives.
@@ -100,7 +100,7 @@ module _ {S : Type 0} (gives : S → Item → Result (Unit {0}) Refusal → S �
     pub tokens : List Tok
     pub errors : List ParseError
     pub read : Tokens m.table (start_kind m.start) (text_in m bytes) (length bytes) tokens errors
-    pub handed : Handed gives names began tokens (input_errors (reads_in m bytes) ++ errors) (Ok tt) now
+    pub handed : WasHanded gives names began tokens (input_errors (reads_in m bytes) ++ errors) (Ok tt) now
     pub whole : refusal_of (how_of m) bytes ≡ None
 
   -- What it gives: it is refused, or taken.

@@ -14,7 +14,7 @@ use Rattle.htoken.specs.Settled.{AreTaken}
 use Rattle.htoken.specs.Standing.{at_start, start_kind}
 use Rattle.htoken.specs.Token.{Item, Event, Span}
 use Rattle.htoken.specs.Tokens.{Cut, spans_text, tokens_of, errors_of, tokens_in, errors_in}
-use Rattle.hparse.specs.Input.{Manner, Began, Handed, settled_in, IsRefusedFor, IsTaken}
+use Rattle.hparse.specs.Input.{Manner, Began, WasHanded, settled_in, IsRefusedFor, IsTaken}
 use Rattle.hparse.specs.Reader.{ReadsTo}
 use Rattle.hparse.specs.Unrefused.{AreSettledIn, IsUnrefusedText, settled_text}
 
@@ -41,7 +41,7 @@ module _ {S : Type 0} (gives : S → Item → Result (Unit {0}) Refusal → S �
   pub record HasSettled (began : Began S) (bytes : List ℕ) (names : Texts) (now : S) : Type 0 where
     pub unrefused : IsUnrefusedText m bytes
     pub events : List Event
-    pub handed : Handed gives names began (tokens_in events) (input_errors (settled_in m bytes) ++ errors_in events) (Ok tt) now
+    pub handed : WasHanded gives names began (tokens_in events) (input_errors (settled_in m bytes) ++ errors_in events) (Ok tt) now
     pub no_more : (more : List Placed) (end : ℕ) → AreOfFront m.table (start_kind m.start) (settled_text m bytes) more end events
     pub no_less : (spans : List Span) → AreSettledIn m bytes spans → AreTaken events spans
 
