@@ -15,8 +15,8 @@ KeepsError old error answer new = MatchResult answer (λ _. (new.tokens.items �
     (λ e. e ≡ Memory)
 
 abbrev pub KeepsToken : Collected → Handed → Result (Unit {0}) Refusal → Collected → Type 0
-KeepsToken old handed answer new = MatchResult answer (λ _. (new.tokens.items ≡ old.tokens.items ++ token_in handed ∷ []) × (new.errors.items ≡ old.errors.items))
-    (λ e. e ≡ Memory)
+KeepsToken old handed answer new = MatchResult answer
+    (λ _. (new.tokens.items ≡ old.tokens.items ++ token_in handed ∷ []) × (new.errors.items ≡ old.errors.items)) (λ e. e ≡ Memory)
 
 -- what was collected, with the errors in order
 pub record IsRunOf (names : Texts) (collected : Collected) (run : TokenRun) : Type 0 where
