@@ -2,7 +2,6 @@
 use Rattle.hlaws.proofs.Names.{◌≡◌, ℕ, suc, ◌+◌, ◌≤◌, Bool, true, false, not, List, ◌∷◌, length, refl, sym, ap, subst, arith, Forest, size, texts, State, Builds, begins_with_line_feed}
 use Rattle.hadopt.specs.Site.{trees}
 use Rattle.hlaws.specs.Building as spec
-use Rattle.hlaws.specs.Building.{IsBuilt, BeginsWell, HasRoom}
 use Rattle.hlaws.specs.ComesBack.{PlainBuilds}
 use Rattle.hlaws.proofs.FromTable.{good, lf_safe}
 use Rattle.hlaws.proofs.NamesAsTexts.{text_laws}

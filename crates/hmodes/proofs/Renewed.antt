@@ -1,5 +1,5 @@
 -- Where the formatting elements are reconstructed, none is left to be.
-use Rattle.hmodes.proofs.Vocabulary.{◌≡◌, ℕ, zero, suc, Bool, true, List, [], ◌∷◌, Option, Some, None, length, refl, ap, ◌∙◌, ◌==◌, ◌||◌, if◌then◌else◌, option_map_or, eq-eqb, Attribute, element, Place, before, changed_at, is_open, EntryOf, Listed, marker, entry, entry_at, for_node, made, inserted, numbers, place, stops_going_back, renewed, renewed_each, reconstructed, Outcome, Goes, SiteOf, stack, OnGoes, goes-then, before_text, puts_in, Mode}
+use Rattle.hmodes.proofs.Vocabulary.{◌≡◌, ℕ, zero, suc, Bool, true, List, [], ◌∷◌, Option, Some, None, length, refl, ap, ◌∙◌, ◌==◌, ◌||◌, if◌then◌else◌, option_map_or, eq-eqb, Attribute, Place, before, changed_at, is_open, EntryOf, Listed, marker, entry, entry_at, for_node, made, inserted, numbers, place, stops_going_back, renewed, renewed_each, reconstructed, Outcome, Goes, SiteOf, stack, OnGoes, goes-then, before_text, puts_in, Mode}
 use Rattle.hadopt.specs.Site as site
 use Rattle.hmodes.specs.declared.mode.Mode.TheVariants as mode
 use Rattle.hadopt.proofs.Climbing.{inserted-goes}

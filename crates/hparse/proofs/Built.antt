@@ -1,5 +1,5 @@
 -- What a builder has been handed, as steps of the rules.
-use Rattle.hparse.proofs.Names.{◌≡◌, List, [], ◌∷◌, ◌++◌, map, sym, ap, ◌∙◌, subst, Option, None, Result, Ok, Err, append-nil, append_assoc, inl, inr, ◌⊎◌, ParseError, Refusal, Memory, Hands, Given, Item, ItemToken, ItemError, gives_item, numbers, Goes, Refused, Steps, and, token_of, place_of, Building, TakesToken, tokens_handed, errors_handed}
+use Rattle.hparse.proofs.Names.{◌≡◌, List, [], ◌∷◌, ◌++◌, map, sym, ap, ◌∙◌, subst, Option, None, Result, Ok, Err, append-nil, append_assoc, inl, inr, ◌⊎◌, ParseError, Refusal, Memory, Hands, Item, ItemToken, ItemError, gives_item, numbers, Goes, Refused, Steps, and, token_of, place_of, Building, TakesToken, tokens_handed, errors_handed}
 use Rattle.std.specs.Prelude.{MatchOption}
 use Rattle.hmodes.specs.Step.{Step, none, refused}
 use Rattle.htoken.specs.Token.{Handed, token_in}

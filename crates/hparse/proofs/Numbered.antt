@@ -1,5 +1,5 @@
 -- The tokens of a text as numbers and as texts: what comes of them is the same.
-use Rattle.hparse.proofs.Names.{◌≡◌, ℕ, List, [], ◌∷◌, map, sym, refl, ap, ◌∙◌, Some, false, slice_get, Attr, Texts, AreNames, tag_named, spelling, AttrsMean, Given, Tok, TokenMeans, tree, none, attribute_of, numbers, texts, spelled_placed, spelled_state, PlacedToken, State, start, end, token_of, numbers-agree, TokensMean, placed}
+use Rattle.hparse.proofs.Names.{◌≡◌, ℕ, List, [], ◌∷◌, map, sym, refl, ap, ◌∙◌, Some, false, slice_get, Attr, Texts, AreNames, tag_named, spelling, AttrsMean, Given, Tok, TokenMeans, tree, none, attribute_of, numbers, texts, spelled_placed, spelled_state, PlacedToken, State, start, end, numbers-agree, TokensMean, placed}
 use Rattle.names.specs.declared.tag.Tag.{Tag}
 use Rattle.names.specs.declared.tag.Tag.TheVariants.{Html}
 use Rattle.names.specs.Tags.{tag_of}

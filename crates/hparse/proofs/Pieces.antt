@@ -7,7 +7,7 @@ use Rattle.names.specs.declared.refusal.Refusal.TheVariants.{NotUtf8, TooLarge, 
 use Rattle.names.specs.declared.raw.RefusedName.{RefusedName}
 use Rattle.htext.specs.declared.BadBytes.TheVariants as bad
 use Rattle.htext.specs.Text.{character_of, read_len, refusal_of, refusal_with}
-use Rattle.htext.specs.Decoding.{Feeds, ran_out, sink_refused, took_all, Ends, end_refused, end_reached, HandsOn, IsRefusedFrom, answer_at_end}
+use Rattle.htext.specs.Decoding.{Feeds, ran_out, sink_refused, took_all, Ends, end_refused, end_reached, HandsOn, answer_at_end}
 use Rattle.htoken.specs.Tokens.{Tokens}
 use Rattle.hparse.specs.Input.{how_of, text_in, end_in}
 use Rattle.htext.proofs.Texts.{items-append, errors_among-items, goes_on}

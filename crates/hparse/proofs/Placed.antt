@@ -1,5 +1,5 @@
 -- What a builder that keeps how nodes are made has been handed: what the builder in it was, and how they were made.
-use Rattle.hparse.proofs.Names.{◌≡◌, ℕ, ◌+◌, ◌-◌, length, Bool, true, false, List, [], ◌∷◌, ◌++◌, map, sym, refl, ap, ◌∙◌, subst, Option, Some, None, Result, Ok, Err, inl, inr, ◌⊎◌, option_map, ParseError, Refusal, Memory, Texts, Hands, input_errors, Given, run_tokens, Tok, Item, ItemToken, ItemError, numbers, Goes, Building, TakesToken, spelled_placed, spelled_state, PlacedToken, State, end, start, Placing, Manner, Began, WasHanded, reads_in, tokens_handed, IsRefusedFor, by_sink, by_tag, by_bytes, by_memory, IsTaken, places_item, PlacesToken}
+use Rattle.hparse.proofs.Names.{◌≡◌, ℕ, ◌+◌, ◌-◌, length, Bool, true, false, List, [], ◌∷◌, ◌++◌, map, sym, refl, ap, ◌∙◌, subst, Option, Some, None, Result, Ok, Err, inl, inr, ◌⊎◌, option_map, ParseError, Refusal, Memory, Texts, Hands, input_errors, run_tokens, Tok, Item, ItemToken, ItemError, numbers, Goes, Building, TakesToken, spelled_placed, spelled_state, PlacedToken, State, end, start, Placing, Manner, Began, WasHanded, reads_in, tokens_handed, IsRefusedFor, by_sink, by_tag, by_bytes, by_memory, IsTaken, places_item, PlacesToken}
 use Rattle.std.proofs.Common.{not}
 use Rattle.std.specs.Prelude.{is_some, ◌&&◌, ◌==◌}
 use Rattle.std.specs.List.{range_with_len}

@@ -1,6 +1,6 @@
 -- Where the nodes of a tree came from: the tokens in whose steps they were made, and how.
 use Rattle.std.specs.Prelude.{◌≡◌, ℕ, ◌+◌, ◌-◌, ◌==◌, ◌&&◌, Bool, true, false, List, [], ◌∷◌, ◌++◌, length, map, replicate, slice_get, slice_set, Option}
-use Rattle.std.specs.Prelude.{Some, None, option_map, if◌then◌else◌}
+use Rattle.std.specs.Prelude.{Some, None}
 use Rattle.std.specs.List.{range_with_len}
 use Rattle.std.specs.Option.{option_map_or}
 use Rattle.names.specs.declared.error.ParseError.{ParseError}

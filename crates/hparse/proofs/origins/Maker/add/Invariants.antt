@@ -1,4 +1,4 @@
-use Rattle.hparse.proofs.Names.{◌≡◌, ◌+◌, ◌-◌, ◌≤◌, length}
+use Rattle.hparse.proofs.Names.{◌≡◌, ◌-◌, length}
 use Rattle.hadopt.specs.Naming.{numbers}
 use Rattle.hparse.specs.Origins.{with_made}
 use Rattle.hparse.proofs.origins.Maker.add.Given as goal
