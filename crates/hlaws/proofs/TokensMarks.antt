@@ -1,7 +1,7 @@
 -- Tags and comments, whole.
-use Rattle.hlaws.proofs.Names.{◌≡◌, ℕ, Bool, true, false, not, ◌&&◌, ◌||◌, nat_eq, Some, List, [], ◌∷◌, ◌++◌, map, refl, sym, ◌∙◌, ap, subst, arith, append-nil, append_assoc, and_right, or_from, or_parts, nat_tests, codes, encode_utf8_all, list_all, all-characters, all_weaker, first_is, Placed, RawKind, characters, place, begins, spells, all, is_letter, without_null, name_bytes, raw_kind, is_refused, tag_named, Entities, IsTable, Attribute, Span, Standing, next, parts_text, attributes_after, ends_name, IsSpanOf, has_refused, start, end, comment, taken, begins_with, has_part}
+use Rattle.hlaws.proofs.Names.{◌≡◌, ℕ, Bool, true, false, not, ◌&&◌, ◌||◌, nat_eq, Some, List, [], ◌∷◌, ◌++◌, map, refl, sym, ◌∙◌, ap, subst, arith, append-nil, append_assoc, and_right, or_from, or_parts, nat_tests, map-append, codes, encode_utf8_all, list_all, all-characters, all_weaker, first_is, Placed, RawKind, characters, place, begins, spells, all, is_letter, without_null, name_bytes, raw_kind, is_refused, tag_named, Entities, IsTable, Attribute, Span, Standing, next, parts_text, attributes_after, ends_name, IsSpanOf, has_refused, start, end, comment, taken, begins_with, has_part}
 use Rattle.names.specs.declared.raw.RawKind.TheVariants as kind
-use Rattle.names.specs.Placed.{stops, before, text_bytes}
+use Rattle.names.specs.Placed.{stops, before, Avoids, text_bytes}
 use Rattle.hmarkup.specs.Comment.{IsComment, closed, closes_comment, closes_at_once}
 use Rattle.hmarkup.specs.Comment as text_of_comment
 use Rattle.hmarkup.proofs.Marks.{before-avoids, before-here}

@@ -16,7 +16,7 @@ use Rattle.hlaws.proofs.TokensCore.{escaped_as}
 use Rattle.hlaws.proofs.TokensCuts.{split, Cuts, Same, join, cuts_as, text_cuts}
 use Rattle.hlaws.proofs.TokensMarks.{IsElementName, after_start}
 use Rattle.hlaws.proofs.TokensRaw.{is_raw, raw_cuts, raw_end_cuts, pushed_on, pushed, no_end_in, no_end_of_none, level_zero}
-use Rattle.hlaws.proofs.TokensPlain.{fits, fits_context, all_contexts, IsKnownName, known_name, InData, Reads, led, told, reads-nil, reads-append, StartTag, a_start_tag, end_spelled, end_tag_reads, start_tag_reads, text_reads}
+use Rattle.hlaws.proofs.TokensPlain.{fits, fits_context, all_contexts, IsKnownName, known_name, InData, Reads, led, told, reads-nil, reads-append, StartTag, a_start_tag, end_spelled, end_tag_reads, start_tag_reads, text_reads, comment_reads}
 
 -- ONE TEXT AT MOST
 
