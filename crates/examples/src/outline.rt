@@ -4,7 +4,7 @@
 
 use anyhow::Context;
 use hwrite::{
-    Escaping, Keys, Options, Parsed, Parser, Quirks, Refusal, Table, Tag, line_column,
+    Escaping, Keys, Lines, Options, Parsed, Parser, Quirks, Refusal, Table, Tag,
     serialize_outer_to_vec,
 };
 use std::alloc::Global;
@@ -55,9 +55,10 @@ fn print_all(rt: &HostRuntime, page: &Parsed, bytes: &[u8]) -> anyhow::Result<()
     print_attributes(rt, page)?;
     print_title(rt, page)?;
     print_headings(rt, page)?;
-    print_images(rt, page, bytes)?;
+    let lines = Lines::of(rt.alloc(), bytes)?;
+    print_images(rt, page, &lines)?;
     print_length(rt, page)?;
-    print_errors(rt, page, bytes)
+    print_errors(rt, page, &lines)
 }
 
 /// Prints the attributes of the element that the page is in, such as its language.
@@ -107,7 +108,7 @@ fn print_headings(rt: &HostRuntime, page: &Parsed) -> anyhow::Result<()> {
 }
 
 /// Prints the images that have no `alt`, each with its line and its column, as HTML.
-fn print_images(rt: &HostRuntime, page: &Parsed, bytes: &[u8]) -> anyhow::Result<()> {
+fn print_images(rt: &HostRuntime, page: &Parsed, lines: &Lines) -> anyhow::Result<()> {
     for node in page.tree.descendants(page.root) {
         if page.tree.is(node, Tag::Img) && page.attribute(node, "alt").is_none() {
             let html = serialize_outer_to_vec(
@@ -117,7 +118,7 @@ fn print_images(rt: &HostRuntime, page: &Parsed, bytes: &[u8]) -> anyhow::Result
                 node,
                 Escaping::Two,
             )?;
-            let (line, column) = line_column(bytes, page.place(node).unwrap_or(0));
+            let (line, column) = lines.line_column(page.place(node).unwrap_or(0));
             println!(rt;
                 "image without alt at line {line}, column {column}: {}",
                 String::from_utf8(html)?
@@ -140,9 +141,9 @@ fn print_length(rt: &HostRuntime, page: &Parsed) -> anyhow::Result<()> {
 }
 
 /// Prints the parse errors of a page, each with its line and its column.
-fn print_errors(rt: &HostRuntime, page: &Parsed, bytes: &[u8]) -> anyhow::Result<()> {
+fn print_errors(rt: &HostRuntime, page: &Parsed, lines: &Lines) -> anyhow::Result<()> {
     for error in &page.errors {
-        let (line, column) = line_column(bytes, error.at);
+        let (line, column) = lines.line_column(error.at);
         println!(rt;
             "error at line {line}, column {column}: {}",
             error.code.text()

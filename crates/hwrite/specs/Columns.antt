@@ -1,5 +1,5 @@
 -- Lines and columns of the bytes of a text.
-use Rattle.std.specs.Prelude.{ℕ, zero, suc, ◌+◌, Bool, not, ◌&&◌, ◌||◌, ◌==◌, List, nat_le, nat_lt, slice_index_or, if◌then◌else◌}
+use Rattle.std.specs.Prelude.{◌≡◌, ℕ, zero, suc, ◌+◌, ◌*◌, Option, Some, slice_get, Bool, not, ◌&&◌, ◌||◌, ◌==◌, List, nat_le, nat_lt, slice_index_or, if◌then◌else◌}
 
 -- whether a byte of UTF-8 begins a character
 abbrev pub begins_character : ℕ → Bool
@@ -20,3 +20,7 @@ column_at text zero = 1
 column_at text (suc at) =
     if ends_line text at then 1
     else (if begins_character (slice_index_or text at 0) then 1 else 0) + column_at text at
+
+-- the line and the column of each byte at a multiple of 256
+abbrev pub AreMarks : List ℕ → List (ℕ × ℕ) → Type 0
+AreMarks text marks = (k : ℕ) (mark : ℕ × ℕ) → slice_get marks k ≡ Some mark → mark ≡ (line_at text (k * 256), column_at text (k * 256))

@@ -1,19 +1,40 @@
-//! The line and the column of a byte.
+//! The lines and the columns of bytes.
 
-ghost use Rattle.std.specs.Prelude.{◌≡◌, ◌<◌, length, min};
-ghost use Rattle.hwrite.specs.Columns.{begins_character, column_at, ends_line, line_at};
+ghost use Rattle.std.specs.Prelude.{◌≡◌, ◌<◌, ◌≤◌, ◌/◌, ◌+◌, IfOk, length, min};
+ghost use Rattle.hwrite.specs.Columns.{AreMarks, begins_character, column_at, ends_line, line_at};
+
+use std::alloc::{AllocError, Global};
+
+/// How many bytes have one mark.
+const STEP: usize = 256;
 
 /// The line and the column, both from 1, of the byte of a text at this offset from 0, as a [`names::ParseError`] has it. A line ends
 /// at LF, CR LF or CR. Columns count characters of UTF-8, by the bytes that begin one. An offset past the end is taken for the end.
-/// Takes as many steps as there are bytes before it.
+/// Takes as many steps as there are bytes before it: for more than one question see [`Lines`].
 pub fn line_column(text: &[u8], at: u64) -> (usize, usize)
     ensures line { result.0 ≡ line_at text.now (min at (length text.now)) }
     ensures column { result.1 ≡ column_at text.now (min at (length text.now)) }
 {
-    let end = at.min(text.len() as u64) as usize;
-    let mut line = 1;
-    let mut column = 1;
-    for index in 0..end {
+    place_after(text, 0, end_of(text, at), (1, 1))
+}
+
+/// The offset, or the text's length where it is past the end.
+fn end_of(text: &[u8], at: u64) -> usize
+    ensures { result ≡ min at (length text.now) }
+{
+    at.min(text.len() as u64) as usize
+}
+
+/// The line and the column of a byte, from those of one before it.
+#[tactic(auto, using(crate::proofs::Columns::line_within, crate::proofs::Columns::column_within))]
+fn place_after(text: &[u8], from: usize, end: usize, place: (usize, usize)) -> (usize, usize)
+    requires order { (from ≤ end) × (end ≤ length text.now) }
+    requires from { (place.0 ≡ line_at text.now from) × (place.1 ≡ column_at text.now from) }
+    ensures line { result.0 ≡ line_at text.now end }
+    ensures column { result.1 ≡ column_at text.now end }
+{
+    let (mut line, mut column) = place;
+    for index in from..end {
         if ends_line(text, index) {
             line += 1;
             column = 1;
@@ -37,4 +58,42 @@ fn begins_character(byte: u8) -> bool
     ensures { result ≡ begins_character byte }
 {
     byte < 0x80 || byte >= 0xC0
+}
+
+/// The lines of a text: an index, made once, of which each question takes at most 256 steps. It takes 16 bytes for 256 of the text.
+#[derive(Drop)]
+pub struct Lines<'t> {
+    text: &'t [u8],
+    /// The line and the column of each byte at a multiple of STEP.
+    marks: Vec<(usize, usize)>,
+    ghost marked: { AreMarks text.now marks.items },
+    ghost whole: { length text.now / 256 < length marks.items },
+}
+
+impl<'t> Lines<'t> {
+    /// The lines of a text. Takes as many steps as it has bytes.
+    pub fn of(alloc: Global, text: &'t [u8]) -> Result<Lines<'t>, AllocError>
+        ensures { IfOk result (λ lines. lines.text.now ≡ text.now) }
+    {
+        let mut marks = Vec::with_capacity(alloc, text.len() / STEP + 1)?;
+        let mut place = (1, 1);
+        marks.push(place)?;
+        let mut from = 0;
+        while text.len() - from >= STEP {
+            place = place_after(text, from, from + STEP, place);
+            from += STEP;
+            marks.push(place)?;
+        }
+        Ok(Lines { text, marks })
+    }
+
+    /// The line and the column of a byte, as [`line_column`] has them.
+    pub fn line_column(&self, at: u64) -> (usize, usize)
+        ensures line { result.0 ≡ line_at self.now.text.now (min at (length self.now.text.now)) }
+        ensures column { result.1 ≡ column_at self.now.text.now (min at (length self.now.text.now)) }
+    {
+        let end = end_of(self.text, at);
+        let mark = end / STEP;
+        place_after(self.text, mark * STEP, end, self.marks[mark])
+    }
 }

@@ -17,7 +17,7 @@ pub mod lines;
 mod quoted;
 mod words;
 
-pub use columns::line_column;
+pub use columns::{Lines, line_column};
 pub use command::{Command, Task};
 pub use counted::Counted;
 pub use devices::{ReadDevice, WriteDevice};

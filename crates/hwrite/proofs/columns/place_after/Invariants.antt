@@ -1,6 +1,6 @@
-use Rattle.hwrite.proofs.Vocabulary.{◌≡◌, ◌≤◌, ◌+◌}
+use Rattle.std.proofs.Common.{◌≡◌, ◌≤◌, ◌+◌}
 use Rattle.hwrite.specs.Columns.{column_at, line_at}
-use Rattle.hwrite.proofs.columns.line_column.Given as goal
+use Rattle.hwrite.proofs.columns.place_after.Given as goal
 
 -- the place after the bytes so far
 abbrev pub invariant-loop-index : goal.invariant-loop-index
