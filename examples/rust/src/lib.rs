@@ -6,10 +6,12 @@
 
 mod codes;
 mod error;
+mod lines;
 mod raw;
 mod table;
 
 pub use error::{Error, ErrorCode, ErrorKind, ParseError};
+pub use lines::Lines;
 pub use table::{Table, QUIRKS};
 
 use std::collections::hash_map::RandomState;

@@ -1,8 +1,8 @@
 //! What the wrapper gives.
 
 use jeanzircon::{
-    errors, is_plain, links, text, version, BadBytes, Doctype, Error, ErrorKind, Kind, Options,
-    Page, Parser, Table, Task, Tree,
+    errors, is_plain, links, text, version, BadBytes, Doctype, Error, ErrorKind, Kind, Lines,
+    Options, Page, Parser, Table, Task, Tree,
 };
 use std::collections::HashSet;
 
@@ -247,4 +247,15 @@ fn plain_fragments_are_told() {
 #[test]
 fn the_library_has_the_version_of_the_crate() {
     assert_eq!(version(), env!("CARGO_PKG_VERSION"));
+}
+
+#[test]
+fn lines_are_found_once() {
+    let page = b"<p>\xc3\xa9\r\n\r<br/>".repeat(30);
+    let lines = Lines::new(&page);
+    let found: Vec<_> = [0, 5, 7, 8, 256, 999]
+        .iter()
+        .map(|&at| lines.line_column(at))
+        .collect();
+    assert_eq!(found, [(1, 1), (1, 5), (2, 1), (3, 1), (41, 2), (61, 6)]);
 }
