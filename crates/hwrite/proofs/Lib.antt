@@ -1,6 +1,6 @@
 pub mod Alike
 pub mod CallLemmas
-pub mod Columns
+pub mod Marks
 pub mod DoctypeLine
 pub mod DraftRead
 pub mod Drafting

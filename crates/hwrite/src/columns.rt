@@ -26,7 +26,7 @@ fn end_of(text: &[u8], at: u64) -> usize
 }
 
 /// The line and the column of a byte, from those of one before it.
-#[tactic(auto, using(crate::proofs::Columns::line_within, crate::proofs::Columns::column_within))]
+#[tactic(auto, using(crate::proofs::Marks::line_within, crate::proofs::Marks::column_within))]
 fn place_after(text: &[u8], from: usize, end: usize, place: (usize, usize)) -> (usize, usize)
     requires order { (from ≤ end) × (end ≤ length text.now) }
     requires from { (place.0 ≡ line_at text.now from) × (place.1 ≡ column_at text.now from) }

@@ -1,6 +1,6 @@
 use Rattle.std.proofs.Common.{◌<◌, ◌/◌, arith, length}
 use Rattle.std.proofs.lemmas.Grind.{common_steps}
-use Rattle.hwrite.proofs.Columns.{at_mark}
+use Rattle.hwrite.proofs.Marks.{at_mark}
 use Rattle.hwrite.proofs.columns.Lines.line_column.Goals as goal
 
 pub place_after-requires-clause-from : goal.place_after-requires-clause-from

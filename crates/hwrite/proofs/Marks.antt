@@ -1,4 +1,4 @@
--- Lines and columns are no more than the bytes before them.
+-- The places of bytes: no line or column is more than the bytes before it, and what a mark has.
 use Rattle.std.proofs.Common.{◌≡◌, ℕ, zero, suc, ◌≤◌, ◌+◌, ◌*◌, arith, List, if◌then◌else◌, Bool, true, false, ◌<◌, Some, length, get_or, sym, ◌∙◌, ap}
 use Rattle.std.proofs.lemmas.Option.{slice_get-get_or}
 use Rattle.std.proofs.lemmas.Grind.{common_steps}
