@@ -1,8 +1,8 @@
 -- The places of bytes: no line or column is more than the bytes before it, and what a mark has.
-use Rattle.std.proofs.Common.{◌≡◌, ℕ, zero, suc, ◌≤◌, ◌+◌, ◌*◌, arith, List, if◌then◌else◌, Bool, true, false, ◌<◌, Some, length, get_or, sym, ◌∙◌, ap}
+use Rattle.std.proofs.Common.{◌≡◌, ℕ, zero, suc, ◌≤◌, ◌+◌, ◌*◌, arith, List, ◌<◌, Some, length, get_or, sym, ◌∙◌, ap}
 use Rattle.std.proofs.lemmas.Option.{slice_get-get_or}
 use Rattle.std.proofs.lemmas.Grind.{common_steps}
-use Rattle.hwrite.specs.Columns.{AreMarks, column_at, line_at, ends_line, begins_character}
+use Rattle.hwrite.specs.Columns.{AreMarks, column_at, line_at}
 
 pub line_within : (text : List ℕ) (at : ℕ) → line_at text at ≤ at + 1
 line_within text zero = grind (arith, common_steps)

@@ -1,5 +1,5 @@
 -- Lines and columns of the bytes of a text.
-use Rattle.std.specs.Prelude.{◌≡◌, ℕ, zero, suc, ◌+◌, ◌*◌, Option, Some, slice_get, Bool, not, ◌&&◌, ◌||◌, ◌==◌, List, nat_le, nat_lt, slice_index_or, if◌then◌else◌}
+use Rattle.std.specs.Prelude.{◌≡◌, ℕ, zero, suc, ◌+◌, ◌*◌, Some, slice_get, Bool, not, ◌&&◌, ◌||◌, ◌==◌, List, nat_le, nat_lt, slice_index_or, if◌then◌else◌}
 
 -- whether a byte of UTF-8 begins a character
 abbrev pub begins_character : ℕ → Bool
