@@ -1,8 +1,7 @@
 -- What the bytes after an `&` settle of it.
-use Rattle.charref.proofs.Names.{arith, ◌≡◌, inl, inr, ℕ, zero, suc, ◌+◌, ◌-◌, ◌≤◌, ◌<◌, min, Bool, true, false, true≢false, not, nat_eq, List, [], ◌∷◌, ◌++◌, length, take, drop, slice_get, get_or, Option, Some, None, refl, sym, ap, ◌∙◌, subst, length-append, append_assoc, and_parts, and_from, nat_tests, take_more, length-map, is_ascii, starts_with, list_all, some_same, Placed, placed, characters, all, is_alphanumeric, is_empty, Reference, Characters, Search, Alphanumeric, Walk, Entry, Entities, IsTable, Piece, longest, is_key, is_key_name, ends_in_semicolon, code_at, AreMarked, IsAfterKey, IsOpenKey, OpenKey, IsSortedTable, IsRange, IsOver, GoesOn, HasNone, HasRead, key_bytes, IsOpen, IsRead, characters_of, errors_of, unknown_of, HasTaken, IsOpenKeyOf, HasWalked, Settles, SettlesNothing}
+use Rattle.charref.proofs.Names.{arith, ◌≡◌, inl, inr, ℕ, zero, suc, ◌+◌, ◌-◌, ◌≤◌, ◌<◌, min, true, false, true≢false, not, nat_eq, List, [], ◌∷◌, ◌++◌, length, take, drop, slice_get, get_or, Option, Some, None, refl, sym, ap, ◌∙◌, subst, length-append, append_assoc, and_parts, and_from, nat_tests, take_more, length-map, is_ascii, starts_with, list_all, some_same, Placed, placed, characters, all, is_alphanumeric, is_empty, Reference, Characters, Search, Alphanumeric, Walk, Entry, Entities, IsTable, Piece, longest, is_key, is_key_name, ends_in_semicolon, code_at, IsAfterKey, IsOpenKey, OpenKey, IsSortedTable, IsRange, IsOver, GoesOn, HasNone, HasRead, key_bytes, IsOpen, IsRead, characters_of, errors_of, unknown_of, HasTaken, IsOpenKeyOf, HasWalked, Settles, SettlesNothing}
 use Rattle.std.proofs.Common.{take-take, take-append-drop}
-use Rattle.std.proofs.lemmas.List.{length-take, length-take-le, get_or-take, get_or-set_same, get_or-set_other}
-use Rattle.std.proofs.Common.{set}
+use Rattle.std.proofs.lemmas.List.{length-take, length-take-le, get_or-take}
 use Rattle.charref.specs.Table.{code_of}
 use Rattle.std.proofs.lemmas.Bool.{cases_lt}
 use Rattle.std.proofs.lemmas.List.Folds.{list_all_at}
@@ -13,7 +12,7 @@ use Rattle.charref.specs.AtOnce.{HasWhole}
 use Rattle.charref.proofs.Keys.{longest-whole, longest-over, no_longer}
 use Rattle.charref.proofs.Core.{once}
 use Rattle.charref.proofs.Naming.{is_key_of, key_of}
-use Rattle.charref.proofs.Ranges.{only_first, within}
+use Rattle.charref.proofs.Ranges.{within}
 use Rattle.charref.proofs.Searching.{read_ampersand}
 use Rattle.charref.proofs.Fronts.{run_more}
 use Rattle.charref.proofs.Extending.{opens_more, front_of, follows, ends, closes, continues, last_letter, best_before, settled_before}
@@ -214,11 +213,6 @@ some_placed : (at : ℕ) (bytes : List ℕ) → 0 < length bytes → is_empty (p
 some_placed at [] some = absurd (omega arith)
 some_placed at (x ∷ xs) some = refl
 
-pub after_key : (table : Entities) (place : ℕ) (e : Entry) (search : Search) → IsSortedTable table → slice_get table place ≡ Some e → HasRead search table e.key → GoesOn table e.key → IsAfterKey table search
-after_key table place e search sorted at read goes =
-    let here : place ≡ search.low = (only_first table e.key search.low search.high sorted read.range).here place e at refl in
-    record { entry = e; stands = ap (slice_get table) (sym here) ∙ at; read = read; goes_on = goes }
-
 -- the next byte settles the key, where it does after the text of the key
 pub key_settles_before : (table : Entities) (bytes : List ℕ) (count : ℕ) (key : OpenKey) (found : Reference) → IsTable table → IsOpenKeyOf table bytes key → count ≡ key.search.depth - 1 → count < length bytes
     → is_ascii (get_or bytes count 0) ≡ true
@@ -248,15 +242,3 @@ none_unmarked table key byte text is read unmarked = record {
       let code : code_at e.key key.search.depth ≡ byte + 1 = ap (code_at e.key) read.depth ∙ ap code_of parts.1 in
       true≢false (sym (is.marked.at k e at range.0 range.1) ∙ ap (λ n. get_or key.goes_on n false) code ∙ unmarked);
 }
-
--- what is marked for one key more
-pub marked_more : (table : Entities) (search : Search) (place code : ℕ) (e : Entry) (marks : List Bool) → AreMarked table search place marks → slice_get table place ≡ Some e → code ≡ code_at e.key search.depth → code < length marks
-    → AreMarked table search (place + 1) (set marks code true)
-marked_more table search place code e marks before stands is within = record { at = λ k f at low high. by k f at low high (nat_eq k place) (nat_eq (code_at f.key search.depth) code) refl refl }
-  where
-    by : (k : ℕ) (f : Entry) → slice_get table k ≡ Some f → search.low ≤ k → k < place + 1 → (here same : Bool) → nat_eq k place ≡ here → nat_eq (code_at f.key search.depth) code ≡ same → get_or (set marks code true) (code_at f.key search.depth) false ≡ true
-    by k f at low high here true at-place is-code = ap (λ n. get_or (set marks code true) n false) (grind (arith, nat_tests)) ∙ get_or-set_same marks code true false within
-    by k f at low high true false at-place is-code =
-        let one : e ≡ f = some_same e f (sym stands ∙ ap (slice_get table) (grind (arith, nat_tests)) ∙ at) in
-        absurd (true≢false (sym (let same : code_at f.key search.depth ≡ code = ap (λ (g : Entry). code_at g.key search.depth) (sym one) ∙ sym is in grind (arith, nat_tests)) ∙ is-code))
-    by k f at low high false false at-place is-code = get_or-set_other marks code (code_at f.key search.depth) true false (λ same. true≢false (sym (grind (arith, nat_tests)) ∙ is-code)) ∙ before.at k f at low (grind (arith, nat_tests))

@@ -22,6 +22,10 @@ code_at_first x y xs ys h = elim (cases_lt y x) [
   | inr le ↦ omega arith
 ]
 
+-- what follows equal first bytes of two keys in order
+past_first : (x y : ℕ) (xs ys : List ℕ) → x ≡ y → slice_cmp nat_cmp (x ∷ xs) (y ∷ ys) ≡ Less → slice_cmp nat_cmp xs ys ≡ Less
+past_first x y xs ys is h = subst (λ o. ordering_then o (slice_cmp nat_cmp xs ys) ≡ Less) (subst (λ z. nat_cmp x z ≡ Equal) is (tied x)) h
+
 -- of two keys in order that begin with these bytes, the byte after them
 pub code_at-le : (bytes a b : List ℕ) → starts_with nat_eq a bytes ≡ true → starts_with nat_eq b bytes ≡ true → slice_cmp nat_cmp a b ≡ Less
     → code_at a (length bytes) ≤ code_at b (length bytes)
@@ -33,9 +37,7 @@ code_at-le (c ∷ cs) (x ∷ xs) [] p q h = absurd (true≢false (sym q))
 code_at-le (c ∷ cs) (x ∷ xs) (y ∷ ys) p q h =
     let x-is : c ≡ x = nat_same c x (and_parts _ _ p).0 in
     let y-is : c ≡ y = nat_same c y (and_parts _ _ q).0 in
-    let same : nat_cmp x y ≡ Equal = subst (λ z. nat_cmp x z ≡ Equal) (sym x-is ∙ y-is) (tied x) in
-    let rest : slice_cmp nat_cmp xs ys ≡ Less = subst (λ o. ordering_then o (slice_cmp nat_cmp xs ys) ≡ Less) same h in
-    code_at-le cs xs ys (and_parts _ _ p).1 (and_parts _ _ q).1 rest
+    code_at-le cs xs ys (and_parts _ _ p).1 (and_parts _ _ q).1 (past_first x y xs ys (sym x-is ∙ y-is) h)
 
 -- to begin with one byte more
 pub starts_with-more : (bytes : List ℕ) (byte : ℕ) (key : List ℕ)
@@ -51,9 +53,19 @@ begins_later [] [] p h = cc
 begins_later (x ∷ xs) [] p h = cc
 begins_later [] (c ∷ cs) p h = true≢false (sym p)
 begins_later (x ∷ xs) (c ∷ cs) p h =
-    let x-is : c ≡ x = nat_same c x (and_parts _ _ p).0 in
-    let same : nat_cmp x c ≡ Equal = subst (λ z. nat_cmp x z ≡ Equal) (sym x-is) (tied x) in
-    begins_later xs cs (and_parts _ _ p).1 (subst (λ o. ordering_then o (slice_cmp nat_cmp xs cs) ≡ Less) same h)
+    begins_later xs cs (and_parts _ _ p).1 (past_first x c xs cs (sym (nat_same c x (and_parts _ _ p).0)) h)
+
+-- what is between bytes and a key that begins with them begins with them
+pub begins_between : (bytes a b : List ℕ) → starts_with nat_eq b bytes ≡ true → slice_cmp nat_cmp bytes a ≡ Less → slice_cmp nat_cmp a b ≡ Less → starts_with nat_eq a bytes ≡ true
+begins_between [] a b p h g = refl
+begins_between (c ∷ cs) [] b p h g = absurd (cc)
+begins_between (c ∷ cs) (x ∷ xs) [] p h g = absurd (true≢false (sym p))
+begins_between (c ∷ cs) (x ∷ xs) (y ∷ ys) p h g =
+    let y-is : c ≡ y = nat_same c y (and_parts _ _ p).0 in
+    let least : c + 1 ≤ x + 1 = code_at_first c x cs xs h in
+    let most : x + 1 ≤ y + 1 = code_at_first x y xs ys g in
+    let x-is : c ≡ x = omega arith in
+    and_from _ _ (grind (arith, nat_tests)) (begins_between cs xs ys (and_parts _ _ p).1 (past_first c x cs xs x-is h) (past_first x y xs ys (sym x-is ∙ y-is) g))
 
 -- keys in order, by their places
 pub below_each : (keys : Entities) (P : List ℕ → Type 0) (k : ℕ) (e : Entry) → AllByRecursion P (map (λ e. e.key) keys) → slice_get keys k ≡ Some e → P e.key

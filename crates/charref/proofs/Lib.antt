@@ -2,6 +2,7 @@ pub mod Names
 pub mod Keys
 pub mod Ranges
 pub mod Searching
+pub mod Ends
 pub mod Indexing
 pub mod KeyTexts
 pub mod Members

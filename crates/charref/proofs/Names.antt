@@ -9,7 +9,7 @@ pub use Rattle.charref.specs.Open.{IsOpen}
 pub use Rattle.charref.specs.Pieces.{IsRead, number_of, characters_of, errors_of, unknown_of}
 pub use Rattle.charref.specs.Reading.{is_character, codepoints, entry_of, entities_of, IsRefusedWith}
 pub use Rattle.charref.specs.Reference.{Entry, Entities, is_hex_digit, digit_value, IsTable, longest, is_key, is_key_name, is_empty_list, ends_in_semicolon, is_kept, named, named_piece, longer, IsReference, kept, unknown, begins_number, is_semicolon_if_any, decimal, hexadecimal, no_digits, alone, Piece, core}
-pub use Rattle.charref.specs.Table.{code_at, IsSortedTable, IsRange, IsRising, IsStart, IsIndex, HasRead, best_entry, is_whole, IsOver, GoesOn, HasNone, IsParted, entry, entries, key_at, IsAfterKey, IsOpenKey, AreMarked}
+pub use Rattle.charref.specs.Table.{code_at, IsSortedTable, IsRange, IsRising, IsStart, IsIndex, HasRead, best_entry, is_whole, IsOver, GoesOn, HasNone, IsParted, entry, entries, key_at, IsAfterKey, IsOpenKey, AreEnds, AreMarked}
 pub use Rattle.charref.specs.Walk.{HasTaken, NextIs}
 pub use Rattle.charref.specs.declared.entries.Entity.{Entity}
 pub use Rattle.charref.specs.declared.key.TheConstants.{ALPHANUMERICS}

@@ -1,5 +1,5 @@
 -- A name that has been read: its key, or none.
-use Rattle.charref.proofs.Names.{arith, ◌≡◌, ℕ, zero, suc, ◌-◌, ◌<◌, true, true≢false, nat_eq, List, [], ◌∷◌, ◌++◌, length, take, drop, slice_get, get_or, Some, refl, sym, ap, ◌∙◌, subst, and_parts, nat_tests, starts_with, list_all, Placed, characters, begins, all, past, is_alphanumeric, Entry, Entities, IsTable, is_key, ends_in_semicolon}
+use Rattle.charref.proofs.Names.{arith, ◌≡◌, ℕ, zero, suc, ◌-◌, ◌<◌, true, true≢false, nat_eq, List, [], ◌∷◌, ◌++◌, length, take, drop, slice_get, get_or, Some, refl, sym, ap, ◌∙◌, subst, take-append-drop, and_parts, nat_tests, starts_with, list_all, Placed, characters, begins, all, past, is_alphanumeric, Entry, Entities, IsTable, is_key, ends_in_semicolon}
 use Rattle.std.proofs.Math.Seq.{drop-append_seam}
 -- under the name by which the crates above cite it
 pub use Rattle.names.proofs.Words.{all-append}
@@ -21,6 +21,9 @@ key_of (x ∷ xs) (c ∷ cs) p =
     let first : c ≡ x = (let h : nat_eq c x ≡ true = (and_parts _ _ p).0 in grind (arith, nat_tests)) in
     let others : cs ≡ take (length cs) xs = key_of xs cs (and_parts _ _ p).1 in
     cc
+
+pub rest_of_key : (key bytes : List ℕ) → starts_with nat_eq key bytes ≡ true → key ≡ bytes ++ drop (length bytes) key
+rest_of_key key bytes p = sym (take-append-drop (length bytes) key) ∙ ap (λ xs. xs ++ drop (length bytes) key) (sym (key_of key bytes p))
 
 pub take-map : (n : ℕ) (text : List Placed) → take n (characters text) ≡ characters (take n text)
 take-map zero text = refl

@@ -1,7 +1,7 @@
 -- A walk outside of a value goes on only while what it has taken may become a reference.
-use Rattle.charref.proofs.Names.{arith, ◌≡◌, ℕ, ◌<◌, true, false, nat_eq, List, [], ◌∷◌, ◌++◌, map, length, drop, Some, refl, sym, ap, ◌∙◌, append_assoc, append-nil, map-append, take-append-drop, and_parts, slice_get_within, get_or_from_slice_get, starts_with, Placed, characters, all, is_empty, is_alphanumeric, Base, Decimal, Hexadecimal, ReferenceState, NumberSign, Number, Walk, Entry, Entities, IsTable, longest, named, named_piece, GoesOn, key_bytes, IsSign, IsHeld, in_name, after_sign, after_x, in_number, IsOpen, IsRead, number_of, HasTaken}
+use Rattle.charref.proofs.Names.{arith, ◌≡◌, ℕ, ◌<◌, true, false, List, [], ◌∷◌, ◌++◌, map, length, drop, Some, refl, sym, ap, ◌∙◌, append_assoc, append-nil, map-append, and_parts, slice_get_within, get_or_from_slice_get, Placed, characters, all, is_empty, is_alphanumeric, Base, Decimal, Hexadecimal, ReferenceState, NumberSign, Number, Walk, Entry, Entities, IsTable, longest, named, named_piece, GoesOn, key_bytes, IsSign, IsHeld, in_name, after_sign, after_x, in_number, IsOpen, IsRead, number_of, HasTaken}
 use Rattle.charref.proofs.Core.{has_found}
-use Rattle.charref.proofs.Naming.{key_of}
+use Rattle.charref.proofs.Naming.{rest_of_key}
 use Rattle.std.proofs.lemmas.List.{take_all}
 use Rattle.charref.proofs.Numbers.{one_number_sign, first_digit, number_closed}
 
@@ -42,9 +42,6 @@ placed_again : (cs : List ℕ) → characters (map at_once cs) ≡ cs
 unfolding at_once
 placed_again [] = refl
 placed_again (c ∷ cs) = ap (λ ds. c ∷ ds) (placed_again cs)
-
-rest_of_key : (key bytes : List ℕ) → starts_with nat_eq key bytes ≡ true → key ≡ bytes ++ drop (length bytes) key
-rest_of_key key bytes p = sym (take-append-drop (length bytes) key) ∙ ap (λ xs. xs ++ drop (length bytes) key) (sym (key_of key bytes p))
 
 some_more : (cs ds : List ℕ) → length ds < length (ds ++ cs) → is_empty (map at_once cs) ≡ false
 some_more [] ds h = absurd (let e : ds ++ [] ≡ ds = append-nil ds in let s : length (ds ++ []) ≡ length ds = ap length e in omega arith)

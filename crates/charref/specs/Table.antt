@@ -44,6 +44,11 @@ pub record IsRange (table : Entities) (bytes : List ℕ) (low high : ℕ) : Type
   pub within : high ≤ length table
   pub exact : (k : ℕ) (e : Entry) → slice_get table k ≡ Some e → starts_with nat_eq e.key bytes ≡ (nat_le low k && nat_lt k high)
 
+-- For each place from `first` on: the entries whose keys begin with the key there are from it up to its end.
+pub record AreEnds (table : Entities) (first : ℕ) (ends : List ℕ) : Type 0 where
+  pub size : length ends ≡ length table
+  pub at : (place : ℕ) (e : Entry) → first ≤ place → slice_get table place ≡ Some e → IsRange table e.key place (get_or ends place 0)
+
 -- From `low` up to `high` the byte at this depth never decreases.
 pub record IsRising (table : Entities) (low high depth : ℕ) : Type 0 where
   pub at : (j k : ℕ) (e f : Entry) → slice_get table j ≡ Some e → slice_get table k ≡ Some f → low ≤ j → j ≤ k → k < high

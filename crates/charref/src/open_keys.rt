@@ -1,12 +1,12 @@
 //! Open keys: the keys of the table of named character references without a `;`, with which longer keys begin, such as `&not` of
 //! `&notin;`. Stored are the look-ups that have read them, by the first two letters of their names.
 
-ghost use Rattle.std.specs.Prelude.{◌≡◌, ◌<◌, ◌≤◌, length, IfOk, IfSome};
-ghost use Rattle.charref.specs.Vocabulary.{All, AreMarked, IsAfterKey, IsOpenKey, IsOpenKeyOf, IsSortedTable};
+ghost use Rattle.std.specs.Prelude.{◌≡◌, ◌+◌, ◌<◌, length, get_or, slice_get, Some, IfOk, IfSome};
+ghost use Rattle.charref.specs.Vocabulary.{All, AreEnds, Entry, IsOpenKey, IsOpenKeyOf, IsRange, IsSortedTable};
 
 use crate::flat::Flat;
-use crate::search::{Search, code_at, search_of};
-use crate::walking::ends_in_semicolon;
+use crate::key::begin_with;
+use crate::search::{Search, code_at};
 use std::alloc::{AllocError, Global};
 
 /// How many pairs of letters are told apart.
@@ -38,34 +38,44 @@ fn pair_number(first: u8, second: u8) -> usize {
     usize::from(first % 64) * 64 + usize::from(second % 64)
 }
 
-/// The look-up that has read the key at this place, if the key has no `;` and a longer key begins with it.
-fn after_key(flat: &Flat, place: usize) -> Option<Search>
+/// Where the keys that begin with the key at this place end, by where those that begin with each later key do. Over a table this
+/// compares no more bytes than all its keys have, twice: each key is found to begin with one other, the longest that it begins with.
+fn end_of(flat: &Flat, place: usize, ends: &[usize]) -> usize
     requires sorted { IsSortedTable flat.now }
     requires within { place < length flat.now }
-    ensures { IfSome result (λ search. IsAfterKey flat.now search) }
+    requires later { AreEnds flat.now (place + 1) ends.now }
+    ensures { (e : Entry) → slice_get flat.now place ≡ Some e → IsRange flat.now e.key place result }
 {
     let key = flat.key(place);
-    if ends_in_semicolon(key) {
-        return None;
+    let mut end = place + 1;
+    while end < flat.len() && begin_with(flat.key(end), key) {
+        end = ends[end];
     }
-    let search = search_of(flat, key);
-    if search.goes_on(flat) {
-        Some(search)
-    } else {
-        None
-    }
+    end
 }
 
-/// The codes (`code_at`) with which keys go on after what this look-up has read.
-fn next_codes(flat: &Flat, search: &Search) -> [bool; CODES]
-    requires { (search.now.low ≤ search.now.high) × (search.now.high ≤ length flat.now) }
-    ensures { AreMarked flat.now search.now search.now.high result }
+/// The key at this place as an open key: a longer key begins with it. Keys that begin with a longer one go on with its code.
+fn open_key(flat: &Flat, place: usize, ends: &[usize]) -> OpenKey
+    requires sorted { IsSortedTable flat.now }
+    requires within { place < length flat.now }
+    requires ends { AreEnds flat.now 0 ends.now }
+    requires longer { place + 1 < get_or ends.now place 0 }
+    ensures { IsOpenKey flat.now result }
 {
-    let mut found = [false; CODES];
-    for place in search.low..search.high {
-        found[usize::from(code_at(flat.key(place), search.depth))] = true;
+    let search = Search {
+        depth: flat.key(place).len(),
+        low: place,
+        high: ends[place],
+        best: Some(place),
+    };
+    let mut goes_on = [false; CODES];
+    goes_on[0] = true;
+    let mut next = place + 1;
+    while next < search.high {
+        goes_on[usize::from(code_at(flat.key(next), search.depth))] = true;
+        next = ends[next];
     }
-    found
+    OpenKey { search, goes_on }
 }
 
 impl OpenKeys {
@@ -74,14 +84,19 @@ impl OpenKeys {
         requires { IsSortedTable flat.now }
         ensures { IfOk result (λ keys. All (IsOpenKey flat.now) keys.read.items) }
     {
+        let mut ends = vec![in alloc; 0usize; flat.len()]?;
+        let mut first = flat.len();
+        while first > 0 {
+            first -= 1;
+            ends[first] = end_of(flat, first, &ends);
+        }
         let mut keys = OpenKeys {
             read: Vec::new(alloc),
             counts: Vec::new(alloc),
         };
         for place in 0..flat.len() {
-            if let Some(search) = after_key(flat, place) {
-                let goes_on = next_codes(flat, &search);
-                keys.read.push(OpenKey { search, goes_on })?;
+            if ends[place] > place + 1 {
+                keys.read.push(open_key(flat, place, &ends))?;
                 keys.count(flat.key(place))?;
             }
         }

@@ -214,15 +214,3 @@ pub(crate) fn search_for(flat: &Flat, text: &[u8]) -> Search
     }
     search
 }
-
-/// The look-up that has read all of a text.
-pub(crate) fn search_of(flat: &Flat, text: &[u8]) -> Search
-    requires sorted { IsSortedTable flat.now }
-    ensures { HasRead result flat.now text.now }
-{
-    let mut search = Search::new(flat);
-    for byte in text {
-        search.narrow(flat, *byte);
-    }
-    search
-}

@@ -1,5 +1,0 @@
-use Rattle.charref.proofs.Names.{take, HasRead}
-use Rattle.charref.proofs.search.search_of.Given as goal
-
-abbrev pub invariant-loop-byte : goal.invariant-loop-byte
-invariant-loop-byte l = HasRead l.search l.flat (take l.byte-index l.text)
