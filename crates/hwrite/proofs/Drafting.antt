@@ -1,117 +1,104 @@
--- What pieces of token lines add to a draft, and what a draft becomes then.
-use Rattle.hwrite.proofs.Vocabulary.{◌≡◌, ℕ, ◌+◌, ◌≤◌, Bool, true, false, List, [], ◌∷◌, ◌++◌, length, drop, refl, sym, ap, subst, ◌∙◌, append_assoc, append-nil, if◌then◌else◌, codes, decimal, encode_utf8, Result, Ok, Err, OnOk, drop_all, flat_map, Texts, Token, Tok, TokenMeans, Start, Eof, Drafted, Extends, Adds, to_write, escaped, quoted, Line, Characters, attribute_words, joined, line_of, line_text}
+-- What tokens do to a draft, and what they are that it is handed.
+use Rattle.hwrite.proofs.Vocabulary.{◌≡◌, ℕ, ◌+◌, ◌<◌, Bool, true, false, List, [], ◌∷◌, ◌++◌, refl, sym, ap, ap₂, ◌∙◌, append_assoc, append-nil, codes, decimal, encode_utf8, drop, flat_map, get_or, length, map, string_bytes, Texts, Token, Tok, TokensMean, drafted, to_write, escaped, Line, Characters, joined, line_of, line_text, lines_of, attribute_of, tok_of, tok_handed}
+use Rattle.std.proofs.lemmas.List.{at_drop_more}
+use Rattle.std.proofs.lemmas.List.Concat.{flat_map-append}
+use Rattle.std.proofs.lemmas.Option.{get_or_from_slice_get}
+use Rattle.names.specs.declared.attr.Attr.{Attr}
+use Rattle.htag.specs.Attributes.{AttrsMean}
 use Rattle.htoken.specs.declared.token.Token.TheVariants as code
-use Rattle.htoken.specs.Token.{End}
-use Rattle.hwrite.specs.Draft.{AddsText, AddsCharacters, Drafts, beginning_of_characters, end_of_characters}
-use Rattle.hwrite.proofs.Fills.{extends_none, extends_whole, extends_then, extends_as, fills_more}
-use Rattle.hwrite.proofs.Holes.{IsWhole, begun-whole, characters-whole, escaped-whole}
-use Rattle.hwrite.proofs.OpenLines.{IsWords-line_of, characters_come, words_come}
+use Rattle.htoken.specs.Token.{Alone, Char, End, Handed, HandedMeans, Start, TokenMeans, WithNames, is_tag}
+use Rattle.hwrite.specs.declared.draft.Draft.{Draft}
+use Rattle.hwrite.specs.Draft.{AddsText, Drafts, after_characters, beginning_of_characters, end_of_characters}
+use Rattle.hwrite.specs.TokenLines.{Words}
 
-module _ (names : Texts) where
-  pub adds_none : (d : Drafted) → Adds names d d []
-  adds_none d = (extends_none names d.text d.holes, refl)
+-- characters that are right after others
+after_characters-joined : (text : List ℕ) (at : ℕ) (lines : List Line) → after_characters (joined (Characters at text) lines) ≡ escaped text ++ after_characters lines
+after_characters-joined text at [] = refl
+after_characters-joined text at (Words later words ∷ lines) = refl
+after_characters-joined text at (Characters later more ∷ lines) = simp (flat_map-append, append_assoc) refl
 
-  pub adds_then : (a b c : Drafted) (bytes rest : List ℕ) → Adds names a b bytes → Adds names b c rest → Adds names a c (bytes ++ rest)
-  adds_then a b c bytes rest h k = (extends_then names a.text a.holes b.text b.holes c.text c.holes bytes rest h.0 k.0, k.1 ∙ h.1)
+-- characters that begin a line
+begun : (text : List ℕ) (at : ℕ) (lines : List Line) → flat_map line_text (joined (Characters at text) lines) ≡ decimal at ++ codes " " ++ codes "chars \"" ++ escaped text ++ after_characters lines
+begun text at [] = simp append_assoc refl
+begun text at (Words later words ∷ lines) = simp append_assoc refl
+begun text at (Characters later more ∷ lines) = simp (flat_map-append, append_assoc) refl
 
-  -- the beginning of a line
-  pub begun : (t h t' : List ℕ) (at : ℕ) (words : List ℕ) → t' ≡ t ++ decimal at ++ codes " " ++ words → IsWhole words → Extends names t h t' h (decimal at ++ codes " " ++ words)
-  begun t h t' at words is whole =
-      let regrouped : t ++ decimal at ++ codes " " ++ words ≡ t ++ (decimal at ++ codes " " ++ words) = simp append_assoc in
-      extends_whole names t h t' h (decimal at ++ codes " " ++ words) (is ∙ regrouped) refl (begun-whole at words whole)
+characters_come : (v : Bool) (at : ℕ) (text old mid new : List ℕ) (lines : List Line) → mid ≡ old ++ beginning_of_characters v at → new ≡ mid ++ escaped text
+    → new ++ to_write true lines ≡ old ++ to_write v (joined (Characters at text) lines)
+characters_come true at text old mid new lines b e =
+    rw (e, b, append-nil old) (append_assoc old (escaped text) (after_characters lines) ∙ ap (λ (l : List ℕ). old ++ l) (sym (after_characters-joined text at lines)))
+characters_come false at text old mid new lines b e = rw (e, b, begun text at lines) (simp append_assoc)
 
-  -- attributes of which some were written
-  pub HasAdded : Drafted → Drafted → ℕ → List (List ℕ × List ℕ) → Type 0
-  HasAdded old new i meant = (done : List ℕ) × Adds names old new done × (done ++ flat_map attribute_words (drop i meant) ≡ flat_map attribute_words meant)
+-- a character was drafted
+pub character_drafted : (old mid : Draft) (new : List ℕ) (ch at : ℕ) → AddsText old mid (beginning_of_characters old.in_characters at) true → new ≡ string_bytes mid.text ++ escaped (encode_utf8 ch)
+    → (lines : List Line) → new ++ to_write mid.in_characters lines ≡ drafted old (joined (line_of (Char ch at)) lines)
+character_drafted old mid new ch at a is lines =
+    ap (λ (v : Bool). new ++ to_write v lines) a.open_is ∙ characters_come old.in_characters at (encode_utf8 ch) (string_bytes old.text) (string_bytes mid.text) new lines a.text_is is
 
-  pub no_attribute : (old : Drafted) (meant : List (List ℕ × List ℕ)) → HasAdded old old 0 meant
-  unfolding HasAdded
-  no_attribute old meant = ([], adds_none old, refl)
+-- whether a line is words
+abbrev pub IsWords : Line → Type 0
+IsWords (Words at words) = Unit {0}
+IsWords (Characters at text) = ⊥
 
-  pub one_attribute : (old mid new : Drafted) (i : ℕ) (meant : List (List ℕ × List ℕ)) (it : List ℕ × List ℕ) → HasAdded old mid i meant → drop i meant ≡ it ∷ drop (i + 1) meant
-      → Adds names mid new (attribute_words it) → HasAdded old new (i + 1) meant
-  unfolding HasAdded
-  one_attribute old mid new i meant it (done, added, all) next more = (
-    done ++ attribute_words it,
-    adds_then old mid new done (attribute_words it) added more,
-    append_assoc done (attribute_words it) (flat_map attribute_words (drop (i + 1) meant)) ∙ ap (λ (ts : List (List ℕ × List ℕ)). done ++ flat_map attribute_words ts) (sym next) ∙ all,
-  )
+-- the line of a token that is no character
+pub is_words : (names : Texts) (token : Token) → ((ch at : ℕ) → token ≡ code.Char ch at → ⊥) → IsWords (line_of (tok_of names token))
+is_words names (code.Char ch at) other = absurd (other ch at refl)
+is_words names token other = tt
 
-  pub all_attributes : (old new : Drafted) (i : ℕ) (meant : List (List ℕ × List ℕ)) → HasAdded old new i meant → length meant ≤ i → Adds names old new (flat_map attribute_words meant)
-  unfolding HasAdded
-  all_attributes old new i meant (done, added, all) past =
-      subst (Adds names old new) (sym (append-nil done) ∙ ap (λ (ts : List (List ℕ × List ℕ)). done ++ flat_map attribute_words ts) (sym (drop_all i meant past)) ∙ all) added
+words_come : (v : Bool) (line : Line) (old mid new : List ℕ) (lines : List Line) → IsWords line → mid ≡ old ++ end_of_characters v → new ≡ mid ++ line_text line
+    → new ++ to_write false lines ≡ old ++ to_write v (joined line lines)
+words_come true (Words at words) old mid new lines is b e =
+    rw (e, b) (append_assoc (old ++ codes "\"\n") (line_text (Words at words)) (flat_map line_text lines) ∙ append_assoc old (codes "\"\n") (line_text (Words at words) ++ flat_map line_text lines))
+words_come false (Words at words) old mid new lines is b e = rw (e, b, append-nil old) (append_assoc old (line_text (Words at words)) (flat_map line_text lines))
+words_come v (Characters at text) old mid new lines is b e = absurd is
 
-  -- the line of a start tag
-  pub start_line : (t h t' t'' h'' t''' h''' all : List ℕ) (name : List ℕ) (attrs : List (List ℕ × List ℕ)) (closing : Bool) (at : ℕ) (end : List ℕ)
-      → t' ≡ t ++ decimal at ++ codes " " ++ codes "start " → Extends names t' h t'' h'' (quoted name) → Extends names t'' h'' t''' h''' (flat_map attribute_words attrs) → all ≡ t''' ++ end
-      → IsWhole end → end ≡ (if closing then codes " /" else codes "") ++ codes "\n" → Extends names t h all h''' (line_text (line_of (Start name attrs closing at)))
-  start_line t h t' t'' h'' t''' h''' all name attrs closing at end o n a e whole is =
-      let opened = decimal at ++ codes " " ++ codes "start " in
-      let words = opened ++ quoted name in
-      let more = words ++ flat_map attribute_words attrs in
-      let written = extends_then names t h t' h t'' h'' opened (quoted name) (begun t h t' at (codes "start ") o refl) n in
-      let tagged = extends_then names t h t'' h'' t''' h''' words (flat_map attribute_words attrs) written a in
-      let ended = extends_then names t h t''' h''' all h''' more end tagged (extends_whole names t''' h''' all h''' end e refl whole) in
-      let same : more ++ end ≡ line_text (line_of (Start name attrs closing at)) = rw is (simp append_assoc) in
-      extends_as names t h all h''' (more ++ end) (line_text (line_of (Start name attrs closing at))) same ended
+-- a line of words was drafted
+pub words_drafted : (old mid : Draft) (new : List ℕ) (line : Line) → IsWords line → AddsText old mid (end_of_characters old.in_characters) false → new ≡ string_bytes mid.text ++ line_text line
+    → (lines : List Line) → new ++ to_write mid.in_characters lines ≡ drafted old (joined line lines)
+words_drafted old mid new line words a is lines =
+    ap (λ (v : Bool). new ++ to_write v lines) a.open_is ∙ words_come old.in_characters line (string_bytes old.text) (string_bytes mid.text) new lines words a.text_is is
 
-  -- the line of an end tag
-  end_words : (at : ℕ) (name : List ℕ) → decimal at ++ codes " " ++ codes "end " ++ quoted name ++ codes "\n" ≡ line_text (line_of (End name at))
-  end_words at name = simp append_assoc
+-- the end
+pub ended : (v : Bool) → end_of_characters v ≡ to_write v []
+ended true = refl
+ended false = refl
 
-  pub end_line : (t h t' t'' h'' all : List ℕ) (name : List ℕ) (at : ℕ) → t' ≡ t ++ decimal at ++ codes " " ++ codes "end " → Extends names t' h t'' h'' (quoted name) → all ≡ t'' ++ codes "\n"
-      → Extends names t h all h'' (line_text (line_of (End name at)))
-  end_line t h t' t'' h'' all name at o n e =
-      let opened = decimal at ++ codes " " ++ codes "end " in
-      let named = extends_then names t h t' h t'' h'' opened (quoted name) (begun t h t' at (codes "end ") o refl) n in
-      let ended = extends_then names t h t'' h'' all h'' (opened ++ quoted name) (codes "\n") named (extends_whole names t'' h'' all h'' (codes "\n") e refl refl) in
-      extends_as names t h all h'' (opened ++ quoted name ++ codes "\n") (line_text (line_of (End name at))) (end_words at name) ended
+-- what a token stands for is the token with its names as texts
+attributes_are : (names : Texts) (attrs : List Attr) (meant : List (List ℕ × List ℕ)) → AttrsMean names attrs meant → map (attribute_of names) attrs ≡ meant
+attributes_are names [] [] h = refl
+attributes_are names (a ∷ attrs) (t ∷ ts) h =
+    ap₂ (λ (x : List ℕ × List ℕ) (xs : List (List ℕ × List ℕ)). x ∷ xs) (ap₂ (λ (n v : List ℕ). (n, v)) (get_or_from_slice_get names a.name t.0 [] h.0) h.1) (attributes_are names attrs ts h.2)
+attributes_are names [] (t ∷ ts) h = absurd h
+attributes_are names (a ∷ attrs) [] h = absurd h
 
--- what is written before characters, and they themselves, have no hole
-beginning-whole : (v : Bool) (at : ℕ) (text : List ℕ) → IsWhole (beginning_of_characters v at ++ escaped text)
-beginning-whole true at text = escaped-whole text
-beginning-whole false at text = characters-whole at text
+token_is : (names : Texts) (token : Token) (tok : Tok) → TokenMeans names token tok → tok_of names token ≡ tok
+token_is names (code.Doctype name public system forced at) tok h = sym h
+token_is names (code.Start name attrs closing at) tok h =
+    ap₂ (λ (n : List ℕ) (ts : List (List ℕ × List ℕ)). Start n ts closing at) (get_or_from_slice_get names name h.0 [] h.2) (attributes_are names attrs.items h.1 h.3) ∙ sym h.4
+token_is names (code.End name at) tok h = ap (λ (n : List ℕ). End n at) (get_or_from_slice_get names name h.0 [] h.1) ∙ sym h.2
+token_is names (code.Comment text at) tok h = sym h
+token_is names (code.Char ch at) tok h = sym h
+token_is names (code.Eof at) tok h = sym h
 
-ending-whole : (v : Bool) → IsWhole (end_of_characters v)
-ending-whole true = refl
-ending-whole false = refl
+pub tokens_are : (names : Texts) (tokens : List Token) (meant : List Tok) → TokensMean names tokens meant → map (tok_of names) tokens ≡ meant
+tokens_are names [] [] h = refl
+tokens_are names (t ∷ tokens) (m ∷ meant) h = ap₂ (λ (x : Tok) (xs : List Tok). x ∷ xs) (token_is names t m h.0) (tokens_are names tokens meant h.1)
+tokens_are names [] (m ∷ meant) h = absurd h
+tokens_are names (t ∷ tokens) [] h = absurd h
 
-pub drafts_character : (old new : Drafted) (token : Token) (ch at : ℕ) → token ≡ code.Char ch at → AddsCharacters old new at (encode_utf8 ch) → Drafts old token new
-drafts_character old new token ch at is a = λ names tok lines text means c.
-    let line : line_of tok ≡ Characters at (encode_utf8 ch) = ap line_of (subst (λ (t : Token). TokenMeans names t tok) is means) in
-    let added = beginning_of_characters old.in_characters at ++ escaped (encode_utf8 ch) in
-    let before = subst (λ (l : Line). c.written ++ to_write old.in_characters (joined l lines) ≡ text) line c.whole in
-    record {
-      written = c.written ++ added;
-      fills = fills_more names old.text old.holes new.text new.holes c.written added c.fills
-          (extends_whole names old.text old.holes new.text new.holes added a.text_is a.holes_are (beginning-whole old.in_characters at (encode_utf8 ch)));
-      whole = ap (λ (v : Bool). c.written ++ added ++ to_write v lines) a.open_is ∙ characters_come old.in_characters at (encode_utf8 ch) lines c.written text before;
-    }
+-- one more of some tokens was drafted
+pub next_drafted : (names : Texts) (old new : Draft) (tokens : List Token) (i : ℕ) (token : Token) → i < length tokens → token ≡ get_or tokens i token → Drafts old (tok_of names token) new
+    → drafted new (lines_of (map (tok_of names) (drop (i + 1) tokens))) ≡ drafted old (lines_of (map (tok_of names) (drop i tokens)))
+next_drafted names old new tokens i token within is step =
+    let left = λ (ts : List Token). drafted old (lines_of (map (tok_of names) ts)) in
+    step (lines_of (map (tok_of names) (drop (i + 1) tokens))) ∙ ap (λ (t : Token). left (t ∷ drop (i + 1) tokens)) is ∙ sym (at_drop_more left tokens i token within)
 
-pub drafts_line : (old mid new : Drafted) (token : Token) → ((ch at : ℕ) → token ≡ code.Char ch at → ⊥) → AddsText old mid (end_of_characters old.in_characters) false
-    → ((names : Texts) (meant : Tok) → TokenMeans names token meant → Adds names mid new (line_text (line_of meant))) → Drafts old token new
-drafts_line old mid new token other a adds = λ names tok lines text means c.
-    let line = adds names tok means in
-    let ended = end_of_characters old.in_characters in
-    let until = fills_more names old.text old.holes mid.text mid.holes c.written ended c.fills (extends_whole names old.text old.holes mid.text mid.holes ended a.text_is a.holes_are (ending-whole old.in_characters)) in
-    record {
-      written = c.written ++ ended ++ line_text (line_of tok);
-      fills = fills_more names mid.text mid.holes new.text new.holes (c.written ++ ended) (line_text (line_of tok)) until line.0;
-      whole = ap (λ (v : Bool). c.written ++ ended ++ line_text (line_of tok) ++ to_write v lines) (line.1 ∙ a.open_is)
-          ∙ words_come old.in_characters (line_of tok) lines c.written text (IsWords-line_of names token tok other means) c.whole;
-    }
+-- one without names is the same with any table
+without_names : (names : Texts) (token : Token) → is_tag token ≡ false → tok_of [] token ≡ tok_of names token
+without_names names (code.Start name attrs closing at) h = absurd cc
+without_names names (code.End name at) h = absurd cc
+without_names names token h = refl
 
--- where that call succeeded
-pub drafts_line_ok : {T E : Type 0} (r : Result T E) (old mid new : Drafted) (token : Token) → ((ch at : ℕ) → token ≡ code.Char ch at → ⊥) → AddsText old mid (end_of_characters old.in_characters) false
-    → ((names : Texts) (meant : Tok) → TokenMeans names token meant → OnOk r (Adds names mid new (line_text (line_of meant)))) → OnOk r (Drafts old token new)
-drafts_line_ok (Ok x) old mid new token other a adds = drafts_line old mid new token other a adds
-drafts_line_ok (Err e) old mid new token other a adds = tt
-
--- a line without names
-pub whole_line : (names : Texts) (t h t' : List ℕ) (tok meant : Tok) → meant ≡ tok → t' ≡ t ++ line_text (line_of tok) → IsWhole (line_text (line_of tok)) → Extends names t h t' h (line_text (line_of meant))
-whole_line names t h t' tok meant same is whole =
-    subst (λ (k : Tok). Extends names t h t' h (line_text (line_of k))) (sym same) (extends_whole names t h t' h (line_text (line_of tok)) is refl whole)
-
-pub eof_line : (t t' : List ℕ) (at : ℕ) → t' ≡ t ++ decimal at ++ codes " " ++ codes "eof\n" → t' ≡ t ++ line_text (line_of (Eof at))
-eof_line t t' at is = is ∙ simp append_assoc
+pub handed_is : (names : Texts) (handed : Handed) (tok : Tok) → HandedMeans names handed tok → tok_handed handed ≡ tok
+handed_is names (Alone token) tok h = without_names names token h.0 ∙ token_is names token tok h.1
+handed_is names (WithNames table token) tok h = token_is table token tok h.2

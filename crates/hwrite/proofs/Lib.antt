@@ -1,15 +1,9 @@
 pub mod Alike
 pub mod CallLemmas
-pub mod Marks
-pub mod DoctypeLine
 pub mod DraftRead
 pub mod Drafting
 pub mod Escapes
-pub mod InHoles
-pub mod Fills
-pub mod Holes
-pub mod Meanings
-pub mod OpenLines
+pub mod Marks
 pub mod Printed
 pub mod Tasks
 pub mod Vocabulary

@@ -1,30 +1,28 @@
 -- The names of other crates and of specs/ that several proofs cite, in one place.
 pub use Rattle.hnodes.specs.Forest.{Forest}
-pub use Rattle.hwrite.specs.Vocabulary.{spelled, Answers, of_document, counted, as_document, Parses, AnswersParse, options_of, ReadsInput, TokensMean, IsUnrefusedText, WritesText, taken, AttrsMean, Doctype, Comment, Char, Tok, TokenMeans, Start, name_of, case_in, is_hole, Fills, drafted, ComesTo, AnswersDraft, Adds, Prints, tokens_text, plain_line, escaped_byte, escaped, quoted, Runs, RunsIn, BeginsIn, quoted_or_none, line_of, line_text, token_lines, attribute_words, Texts}
+pub use Rattle.hwrite.specs.Vocabulary.{spelled, Answers, of_document, counted, as_document, Parses, AnswersParse, options_of, ReadsInput, TokensMean, IsUnrefusedText, WritesText, Doctype, Comment, Char, Tok, Start, name_of, case_in, drafted, table_of, attribute_of, tok_of, Prints, PrintsTokens, tokens_text, plain_line, escaped_byte, escaped, quoted, Runs, RunsIn, BeginsIn, quoted_or_none, line_of, line_text, token_lines, attribute_words}
 pub use Rattle.hparse.specs.Parse.{ParseOptions}
 pub use Rattle.hparse.specs.declared.parsed.Parsed.{Parsed}
 pub use Rattle.hserialize.specs.Lines.{error_lines}
-pub use Rattle.hserialize.proofs.Output.{none_put, part_put, part_failed, last_put, passed_on, HasLeft}
 pub use Rattle.hserialize.specs.Output.{AppendsBeginning}
 pub use Rattle.hserialize.specs.declared.escaping.Escaping.{Escaping}
-pub use Rattle.htoken.specs.Token.{Eof}
 pub use Rattle.htoken.specs.declared.token.Token.{Token}
-pub use Rattle.hwrite.specs.Draft.{hole, Drafted, nothing, Extends, to_write}
+pub use Rattle.hwrite.specs.Draft.{to_write, tok_handed}
 pub use Rattle.hwrite.specs.Prints.{printed, not_printed}
 pub use Rattle.hwrite.specs.Quoted.{is_unescaped}
 pub use Rattle.hwrite.specs.Running.{ran, allowed}
 pub use Rattle.hwrite.specs.TokenLines.{lines_of, Line, Characters, joined}
+pub use Rattle.names.specs.Names.{Texts}
 pub use Rattle.names.specs.Spelling.{spelling}
 pub use Rattle.names.specs.declared.refusal.Refusal.{Refusal}
 pub use Rattle.names.specs.declared.refusal.Refusal.TheVariants.{Memory, Write}
-pub use Rattle.std.proofs.Common.{◌≡◌, ℕ, zero, suc, ◌<◌, Bool, true, false, cond, List, [], ◌∷◌, ◌++◌, refl, ◌∙◌, arith, codes, decimal, Option, None, Some, if◌then◌else◌, ◌⊎◌, inl, inr, Result, Ok, ap, subst, sym, append-nil, Err, append_assoc, OnOk, IfErr, ◌≢◌, ◌+◌, ◌≤◌, length, get_or, drop, add-one, ap₂, slice_get, string_bytes, rules}
+pub use Rattle.std.proofs.Common.{◌≡◌, ℕ, zero, suc, ◌<◌, Bool, true, false, cond, List, [], ◌∷◌, ◌++◌, refl, ◌∙◌, arith, codes, decimal, Option, None, Some, if◌then◌else◌, ◌⊎◌, inl, inr, Result, Ok, ap, subst, sym, append-nil, Err, append_assoc, OnOk, IfErr, ◌≢◌, ◌+◌, ◌≤◌, length, get_or, drop, add-one, ap₂, string_bytes, rules, map}
 pub use Rattle.std.proofs.lemmas.Bool.Decides.{nat_tests}
 pub use Rattle.std.proofs.lemmas.Grind.{common_steps}
 pub use Rattle.std.proofs.lemmas.List.{drop_all}
-pub use Rattle.std.proofs.lemmas.Result.{err_from_is_err_and}
-pub use Rattle.std.proofs.lemmas.Slice.Zip.{AllZip-long}
+pub use Rattle.std.proofs.lemmas.Result.{err_from_is_err_and, on_ok_weaker}
 unfoldable pub use Rattle.std.specs.Char.{encode_utf8}
 unfoldable pub use Rattle.std.specs.Fmt.{digits}
 pub use Rattle.std.specs.Io.KnownBytes.{Appends}
-pub use Rattle.std.specs.List.{list_all, position_or_len, before_first, after_first, flat_map}
+pub use Rattle.std.specs.List.{list_all, flat_map}
 pub use Rattle.std.specs.Prelude.{nat_lt}

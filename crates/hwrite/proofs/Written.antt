@@ -37,13 +37,6 @@ module _ {W : Type 0} (written : W → Option (List ℕ)) (failed : W → ℕ) w
         stopped refusal before last (ap (λ (x : Refusal). Err x) (sym same)) un gave (λ more. none ((before ++ last) ++ more) refusal (from more)) few (untouched target)
     not_read none target e (read_to_end bytes un gave end its) = refused e bytes refl un gave end (none bytes e its) (untouched target)
 
-    -- what was read is an answer of some bytes
-    pub an_answer : (run : R) → ReadsInput left reads answers unrefused piece [] old new (Ok run) → (bytes : List ℕ) × answers bytes (Ok run)
-    an_answer run (reading_ran_out is count) = absurd cc
-    an_answer run (reading_failed bytes is un given count) = absurd cc
-    an_answer run (reading_stopped refusal before last is un gave from few) = absurd cc
-    an_answer run (read_to_end bytes un gave end its) = (bytes, its)
-
     -- the input was read, and its text was written, or a beginning of it
     text_comes : (target target' : W) (bytes text : List ℕ) (answer : Result (Unit {0}) Refusal) → Gave left reads old new bytes → IsAtEnd (left new) → prints bytes (Ok text)
         → WritesText written failed text target target' answer → Runs left reads written failed prints unrefused piece old new target target' answer
@@ -52,19 +45,13 @@ module _ {W : Type 0} (written : W → Option (List ℕ)) (failed : W → ℕ) w
     text_comes target target' bytes text answer gave end printed (text_cut beginning rest e whole appended failing) =
         write_failed bytes beginning rest e gave end (subst (λ (t : List ℕ). prints bytes (Ok t)) whole printed) appended failing
 
-    pub comes_to_written : (target target' : W) (run : R) (answer : Result (Unit {0}) Refusal) → ReadsInput left reads answers unrefused piece [] old new (Ok run)
-        → ((bytes : List ℕ) → answers bytes (Ok run) → (text : List ℕ) × prints bytes (Ok text) × WritesText written failed text target target' answer)
-        → Runs left reads written failed prints unrefused piece old new target target' answer
-    comes_to_written target target' run answer (reading_ran_out is count) written_of = absurd cc
-    comes_to_written target target' run answer (reading_failed bytes is un given count) written_of = absurd cc
-    comes_to_written target target' run answer (reading_stopped refusal before last is un gave from few) written_of = absurd cc
-    comes_to_written target target' run answer (read_to_end bytes un gave end its) written_of =
-        let w = written_of bytes its in text_comes target target' bytes w.0 answer gave end w.1 w.2
-
     pub comes_to_text : (target target' : W) (run : R) (text : List ℕ) (answer : Result (Unit {0}) Refusal) → ReadsInput left reads answers unrefused piece [] old new (Ok run)
         → ((bytes : List ℕ) → answers bytes (Ok run) → prints bytes (Ok text)) → WritesText written failed text target target' answer
         → Runs left reads written failed prints unrefused piece old new target target' answer
-    comes_to_text target target' run text answer r printed w = comes_to_written target target' run answer r (λ bytes its. (text, printed bytes its, w))
+    comes_to_text target target' run text answer (reading_ran_out is count) printed w = absurd cc
+    comes_to_text target target' run text answer (reading_failed bytes is un given count) printed w = absurd cc
+    comes_to_text target target' run text answer (reading_stopped refusal before last is un gave from few) printed w = absurd cc
+    comes_to_text target target' run text answer (read_to_end bytes un gave end its) printed w = text_comes target target' bytes text answer gave end (printed bytes its) w
 
     -- the same of an input that is in an element
     module _ (context : Option (List ℕ)) where

@@ -1,59 +1,45 @@
--- Token lines whose names are not known yet: what a draft holds, what tokens do to it, and the lines it becomes.
-use Rattle.std.specs.Prelude.{◌≡◌, ◌≢◌, ℕ, Bool, true, false, List, [], ◌∷◌, ◌++◌, ◌==◌, Some, Result, Ok, Err, MatchResult, codes, decimal, flat_map}
-use Rattle.std.specs.Prelude.{slice_get}
+-- The lines of tokens, as they come: what a draft holds, what tokens do to it, and the lines it becomes.
+use Rattle.std.specs.Prelude.{◌≡◌, ℕ, Bool, true, false, List, [], ◌∷◌, ◌++◌, Option, None, Some, Result, Ok, MatchResult, codes, decimal, flat_map, map}
+use Rattle.std.specs.Borrow.{Bor}
 use Rattle.std.specs.String.{string_bytes}
+use Rattle.names.specs.declared.attr.Attr.{Attr}
 use Rattle.names.specs.declared.error.ParseError.{ParseError}
 use Rattle.names.specs.declared.refusal.Refusal.{Refusal}
 use Rattle.names.specs.declared.refusal.Refusal.TheVariants.{Memory}
-use Rattle.names.specs.Names.{Texts}
-use Rattle.htext.specs.Text.{Policy}
-use Rattle.charref.specs.Reference.{Entities}
+use Rattle.names.specs.Names.{Texts, text_of}
+use Rattle.hmarkup.specs.DoctypeWalk.{text_of as text_if_any}
 use Rattle.htoken.specs.declared.token.Token.{Token}
-use Rattle.htoken.specs.Token.{Handed, Tok, TokenMeans, token_in}
-use Rattle.hparse.specs.Answer.{Answers}
+use Rattle.htoken.specs.declared.token.Token.TheVariants as code
+use Rattle.htoken.specs.Token.{Handed, Alone, WithNames, Tok, Doctype, Start, End, Comment, Char, Eof}
 use Rattle.hwrite.specs.declared.draft.Draft.{Draft}
-use Rattle.hwrite.specs.Quoted.{escaped, quoted}
-use Rattle.hwrite.specs.Prints.{tokens_text}
+use Rattle.hwrite.specs.Quoted.{escaped}
 use Rattle.hwrite.specs.TokenLines.{Line, Characters, joined, line_of, line_text}
 
--- the byte that is where a name between quotes is left out
-abbrev pub hole : ℕ
-hole = 1
+-- the texts of a table of names, if there is one
+abbrev pub table_of : Option (Bor Texts) → Texts
+table_of None = []
+table_of (Some names) = names.now
 
-abbrev pub is_hole : ℕ → Bool
-is_hole b = b == hole
+-- an attribute and a token with their names as texts
+abbrev pub attribute_of : Texts → Attr → List ℕ × List ℕ
+attribute_of names attr = (text_of names attr.name, string_bytes attr.value)
 
--- With these names in its holes, one after another, a text is these bytes. The names are numbers of this table.
-pub data Fills (names : Texts) : List ℕ → List ℕ → List ℕ → Type 0 where
-  nothing : Fills names [] [] []
-  a_byte : (b : ℕ) (text holes bytes : List ℕ) → b ≢ hole → Fills names text holes bytes → Fills names (b ∷ text) holes (b ∷ bytes)
-  a_name : (id : ℕ) (name text holes bytes : List ℕ) → slice_get names id ≡ Some name → Fills names text holes bytes
-      → Fills names (hole ∷ text) (id ∷ holes) (quoted name ++ bytes)
+abbrev pub tok_of : Texts → Token → Tok
+tok_of names (code.Doctype name public system forced at) = Doctype (text_if_any name) (text_if_any public) (text_if_any system) forced at
+tok_of names (code.Start name attrs closing at) = Start (text_of names name) (map (attribute_of names) attrs.items) closing at
+tok_of names (code.End name at) = End (text_of names name) at
+tok_of names (code.Comment text at) = Comment (string_bytes text) at
+tok_of names (code.Char ch at) = Char ch at
+tok_of names (code.Eof at) = Eof at
 
--- A draft by its parts: a text, the names of its holes, and whether characters end it, whose line is open.
-pub record Drafted : Type 0 where
-  pub text : List ℕ
-  pub holes : List ℕ
-  pub in_characters : Bool
+-- the same of what a sink is handed: what comes alone has no names
+abbrev pub tok_handed : Handed → Tok
+tok_handed (Alone token) = tok_of [] token
+tok_handed (WithNames names token) = tok_of names token
 
-abbrev pub drafted : Draft → Drafted
-drafted draft = record { text = string_bytes draft.text; holes = draft.names.items; in_characters = draft.in_characters }
-
--- A text with holes grew by what is these bytes, with the names of this table.
-pub record Extends (names : Texts) (text holes text' holes' bytes : List ℕ) : Type 0 where
-  pub more : List ℕ
-  pub others : List ℕ
-  pub text_is : text' ≡ text ++ more
-  pub holes_are : holes' ≡ holes ++ others
-  pub fills : Fills names more others bytes
-
-abbrev pub Adds : Texts → Drafted → Drafted → List ℕ → Type 0
-Adds names old new bytes = Extends names old.text old.holes new.text new.holes bytes × (new.in_characters ≡ old.in_characters)
-
--- this text was added, without a name, and a line of characters is open then or is not
-pub record AddsText (old new : Drafted) (text : List ℕ) (is_open : Bool) : Type 0 where
-  pub text_is : new.text ≡ old.text ++ text
-  pub holes_are : new.holes ≡ old.holes
+-- this text was added, and a line of characters is open then or is not
+pub record AddsText (old new : Draft) (text : List ℕ) (is_open : Bool) : Type 0 where
+  pub text_is : string_bytes new.text ≡ string_bytes old.text ++ text
   pub open_is : new.in_characters ≡ is_open
 
 -- what is written before characters at this place, where a line of characters is open or is not, and what ends such a line
@@ -65,13 +51,6 @@ abbrev pub end_of_characters : Bool → List ℕ
 end_of_characters true = codes "\"\n"
 end_of_characters false = []
 
--- characters were added, the first at this place
-abbrev pub AddsCharacters : Drafted → Drafted → ℕ → List ℕ → Type 0
-AddsCharacters old new at text = AddsText old new (beginning_of_characters old.in_characters at ++ escaped text) true
-
-abbrev pub empty : Drafted
-empty = record { text = []; holes = []; in_characters = false }
-
 -- what is still to be written of lines, right after characters that are their line's so far
 abbrev pub after_characters : List Line → List ℕ
 after_characters (Characters at text ∷ lines) = escaped text ++ (codes "\"\n" ++ flat_map line_text lines)
@@ -82,27 +61,17 @@ abbrev pub to_write : Bool → List Line → List ℕ
 to_write true lines = after_characters lines
 to_write false lines = flat_map line_text lines
 
--- Once these lines have come, a draft is this text, where names are of this table.
-pub record ComesTo (names : Texts) (draft : Drafted) (lines : List Line) (text : List ℕ) : Type 0 where
-  pub written : List ℕ
-  pub fills : Fills names draft.text draft.holes written
-  pub whole : written ++ to_write draft.in_characters lines ≡ text
+-- what a draft is once these lines have come
+abbrev pub drafted : Draft → List Line → List ℕ
+drafted draft lines = string_bytes draft.text ++ to_write draft.in_characters lines
 
--- A token was drafted: with its line and those after it, a draft became what it becomes now with those after it.
-abbrev pub Drafts : Drafted → Token → Drafted → Type 0
-Drafts old token new =
-    (names : Texts) (tok : Tok) (lines : List Line) (text : List ℕ) → TokenMeans names token tok
-    → ComesTo names old (joined (line_of tok) lines) text → ComesTo names new lines text
+-- A token was drafted: with the lines after it, a draft comes to what it came to with those and the token's.
+abbrev pub Drafts : Draft → Tok → Draft → Type 0
+Drafts old tok new = (lines : List Line) → drafted new lines ≡ drafted old (joined (line_of tok) lines)
 
 -- the steps of a draft as a sink: it takes all tokens while there is memory, and keeps no errors
 abbrev pub DraftsToken : Draft → Handed → Result (Unit {0}) Refusal → Draft → Type 0
-DraftsToken old handed answer new = MatchResult answer (λ _. Drafts (drafted old) (token_in handed) (drafted new)) (λ e. e ≡ Memory)
+DraftsToken old handed answer new = MatchResult answer (λ _. Drafts old (tok_handed handed) new) (λ e. e ≡ Memory)
 
 abbrev pub PassesError : Draft → ParseError → Result (Unit {0}) Refusal → Draft → Type 0
 PassesError old error answer new = (answer ≡ Ok tt) × (new ≡ old)
-
--- the answer of the bytes of a document: a draft of the lines of its tokens, or what it is refused for
-abbrev pub AnswersDraft : Entities → Policy → List ℕ → Result (Texts × Draft) Refusal → Type 0
-AnswersDraft table how bytes (Ok read) =
-    (answer : List Tok × List ParseError) × Answers table how bytes (Ok answer) × ComesTo read.0 (drafted read.1) [] (tokens_text answer)
-AnswersDraft table how bytes (Err refusal) = Answers table how bytes (Err refusal)

@@ -1,8 +1,11 @@
 -- What is printed of an input: the text of its answer.
-use Rattle.std.specs.Prelude.{ℕ, Bool, true, false, List, Option, None, Result, Ok, Err, codes, option_map}
+use Rattle.std.specs.Prelude.{ℕ, Bool, true, false, List, Option, None, Result, Ok, Err, codes, option_map, String, string_bytes}
+use Rattle.std.specs.Global.{Global}
 use Rattle.names.specs.declared.error.ParseError.{ParseError}
 use Rattle.names.specs.Names.{text_of}
 use Rattle.names.specs.declared.refusal.Refusal.{Refusal}
+use Rattle.htext.specs.Text.{Policy}
+use Rattle.charref.specs.Reference.{Entities}
 use Rattle.htoken.specs.Token.{Tok}
 use Rattle.hnodes.specs.Forest.{Forest, children_of}
 use Rattle.hnodes.specs.Spelled.{spelled}
@@ -82,3 +85,8 @@ parsed_text escaping task.Errors context parsed = error_lines parsed.errors.item
 parsed_text escaping task.Write context parsed = written escaping (option_map (text_of parsed.names) (name_of parsed.root parsed.tree.trees)) (nodes_of parsed)
 parsed_text escaping task.Plain context parsed = plain_line (is_plain_in (case_in context) (nodes_of parsed))
 parsed_text escaping _ context parsed = tree_text (nodes_of parsed)
+
+-- what is printed of the tokens of a document, as a text in memory
+abbrev pub PrintsTokens : Entities → Policy → List ℕ → Result (String Global) Refusal → Type 0
+PrintsTokens table how bytes (Ok text) = Prints (Answers table how) tokens_text bytes (Ok (string_bytes text))
+PrintsTokens table how bytes (Err refusal) = Prints (Answers table how) tokens_text bytes (Err refusal)

@@ -10,16 +10,15 @@ pub use Rattle.hparse.specs.Reader.{ReadsInput}
 pub use Rattle.hparse.specs.TokenRun.{TokensMean}
 pub use Rattle.hparse.specs.Unrefused.{IsUnrefused, IsUnrefusedText}
 pub use Rattle.hserialize.specs.Calls.{Writes, counted_unless}
-pub use Rattle.hserialize.specs.Output.{IsFlushed, Puts, WritesText, taken}
-pub use Rattle.htag.specs.Attributes.{AttrsMean}
-pub use Rattle.htoken.specs.Token.{Char, Comment, Doctype, End, Start, Tok, TokenMeans}
+pub use Rattle.hserialize.specs.Output.{IsFlushed, WritesText}
+pub use Rattle.htoken.specs.Token.{Char, Comment, Doctype, End, Start, Tok}
 pub use Rattle.hwrite.specs.Command.{name_of}
 pub use Rattle.hwrite.specs.Context.{AllowsContext, case_in}
 pub use Rattle.hwrite.specs.Counted.{CalledOnce, failures_of, inner_of, taken_of}
-pub use Rattle.hwrite.specs.Draft.{Adds, AddsCharacters, AddsText, AnswersDraft, ComesTo, Drafts, Fills, drafted, empty, end_of_characters, is_hole}
-pub use Rattle.hwrite.specs.Prints.{Prints, is_plain_in, parse_text, parsed_text, plain_line, tokens_text}
+pub use Rattle.hwrite.specs.Draft.{AddsText, attribute_of, beginning_of_characters, drafted, Drafts, end_of_characters, table_of, tok_of}
+pub use Rattle.hwrite.specs.Prints.{Prints, PrintsTokens, is_plain_in, parse_text, parsed_text, plain_line, tokens_text}
 pub use Rattle.hwrite.specs.Quoted.{escaped, escaped_byte, quoted}
 pub use Rattle.hwrite.specs.Running.{BeginsIn, ReadsIn, Runs, RunsIn, RunsTask}
-pub use Rattle.hwrite.specs.TokenLines.{attribute_words, line_of, line_text, quoted_or_none, token_lines}
-pub use Rattle.names.specs.Names.{Texts, text_of}
+pub use Rattle.hwrite.specs.TokenLines.{Line, attribute_words, line_of, line_text, quoted_or_none, token_lines}
+pub use Rattle.names.specs.Names.{text_of}
 pub use Rattle.names.specs.declared.refusal.Refusal.TheVariants.{BadContext}

@@ -1,14 +1,13 @@
 //! An input from a reader, and what is made of it to a writer.
 
 ghost use Rattle.std.specs.Prelude.{◌≡◌, ◌<◌, ◌≤◌, [], OnOk};
-ghost use Rattle.hwrite.specs.Vocabulary.{text_of, children_of, spelled, Answers, of_document, Parses, options_of, AnswersParse, IsUnrefused, IsUnrefusedText, as_document, ReadsInput, name_of, case_in, is_plain_in, parse_text, parsed_text, plain_line, tokens_text, Prints, AnswersDraft, BeginsIn, ReadsIn, Runs, RunsIn, RunsTask, IsFlushed, WritesText};
+ghost use Rattle.hwrite.specs.Vocabulary.{text_of, children_of, spelled, Answers, of_document, Parses, options_of, AnswersParse, IsUnrefused, IsUnrefusedText, as_document, ReadsInput, name_of, case_in, is_plain_in, parse_text, parsed_text, plain_line, tokens_text, Prints, PrintsTokens, BeginsIn, ReadsIn, Runs, RunsIn, RunsTask, IsFlushed, WritesText};
 
 use crate::command::{Command, Task};
 use crate::draft::Draft;
-use crate::filling::print_draft;
 use hparse::{Options, Parsed, Parser, Source, parse_reader, read_into};
 use hserialize::{Target, print_errors, print_tree, write_all};
-use names::{Names, Refusal};
+use names::Refusal;
 use std::alloc::Global;
 use std::mem::forget;
 
@@ -51,27 +50,27 @@ fn run_tokens<S: Source, W: Target>(
         source.old source.new target.old target.new result }
     ensures flushed { OnOk result (IsFlushed W.flushes target.new) }
 {
-    let (names, draft) = read_draft(alloc, piece, options, source)?;
-    let answer = print_draft(alloc, &draft, &names, target);
-    drop(names);
-    drop(draft);
-    answer
+    let text = read_lines(alloc, piece, options, source)?;
+    write_text(target, text.as_bytes())
 }
 
-/// The lines of the tokens of a document, and the names that they leave out.
-fn read_draft<S: Source>(
+/// The lines of the tokens of a document.
+fn read_lines<S: Source>(
     alloc: Global,
     piece: usize,
     options: &Options,
     source: &mut S,
-) -> Result<(Names, Draft), Refusal>
+) -> Result<String, Refusal>
     requires piece { 0 < piece }
-    ensures { ReadsInput S.left S.failed (AnswersDraft options.now.table.now (of_document options.now.bad_bytes options.now.limits.input))
+    ensures { ReadsInput S.left S.failed (PrintsTokens options.now.table.now (of_document options.now.bad_bytes options.now.limits.input))
         (IsUnrefusedText (as_document options.now.table.now options.now.bad_bytes options.now.limits.input)) piece [] source.old source.new result }
 {
     let (draft, answer) = read_into(alloc, piece, options, Draft::new(alloc), source);
     match answer {
-        Ok(names) => Ok((names, draft)),
+        Ok(names) => {
+            drop(names);
+            draft.into_text()
+        }
         Err(refusal) => {
             drop(draft);
             Err(refusal)

@@ -11,7 +11,6 @@ pub mod counted;
 pub mod devices;
 mod draft;
 pub mod engine;
-mod filling;
 pub mod given_context;
 pub mod lines;
 mod quoted;

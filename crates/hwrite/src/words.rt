@@ -1,12 +1,15 @@
-//! Lines of tokens, and parts of them, in which no name of a tag or an attribute is.
+//! Lines of tokens, and parts of them.
 
-ghost use Rattle.std.specs.Prelude.{◌≡◌, ◌++◌, codes, decimal, OnOk};
+ghost use Rattle.std.specs.Prelude.{◌≡◌, ◌++◌, [], codes, decimal, if◌then◌else◌, map, OnOk};
+ghost use Rattle.std.specs.List.{flat_map};
 ghost use Rattle.std.specs.String.{string_bytes};
-ghost use Rattle.hmarkup.specs.DoctypeWalk.{text_of};
-ghost use Rattle.hwrite.specs.Vocabulary.{Doctype, Comment, Char, quoted_or_none, line_of, line_text};
+ghost use Rattle.hmarkup.specs.DoctypeWalk.{text_of as text_if_any};
+ghost use Rattle.hwrite.specs.Vocabulary.{Doctype, Start, Char, attribute_of, attribute_words, quoted, quoted_or_none, line_of, line_text, table_of, text_of, tok_of};
 
 use crate::quoted::{push_escaped, push_quoted};
+use htoken::Token;
 use itoa::Buffer;
+use names::{Attr, NameId, Names};
 use std::alloc::AllocError;
 
 /// What is before the characters of a line, and after them.
@@ -27,7 +30,7 @@ pub fn begin_line(text: &mut String, at: u64, words: &str) -> Result<(), AllocEr
 /// Writes a text between quotes, or `-` if there is none.
 fn push_optional(text: &mut String, source: &Option<String>) -> Result<(), AllocError>
     ensures { OnOk result
-        (string_bytes text.new ≡ string_bytes text.old ++ quoted_or_none (text_of source.now)) }
+        (string_bytes text.new ≡ string_bytes text.old ++ quoted_or_none (text_if_any source.now)) }
 {
     match source {
         Some(source) => push_quoted(text, source),
@@ -35,8 +38,19 @@ fn push_optional(text: &mut String, source: &Option<String>) -> Result<(), Alloc
     }
 }
 
+/// Ends a line, with these words if they are to be there.
+fn end_line(text: &mut String, words: &str, has_words: bool) -> Result<(), AllocError>
+    ensures { OnOk result (string_bytes text.new
+        ≡ string_bytes text.old ++ (if has_words then words.now else []) ++ codes "\n") }
+{
+    if has_words {
+        text.push_str(words)?;
+    }
+    text.push('\n')
+}
+
 /// Writes the line of a doctype.
-pub fn push_doctype(
+fn push_doctype(
     text: &mut String,
     name: &Option<String>,
     public_id: &Option<String>,
@@ -45,7 +59,7 @@ pub fn push_doctype(
     at: u64,
 ) -> Result<(), AllocError>
     ensures { OnOk result (string_bytes text.new ≡ string_bytes text.old
-        ++ line_text (line_of (Doctype (text_of name.now) (text_of public_id.now) (text_of system_id.now) forced at))) }
+        ++ line_text (line_of (Doctype (text_if_any name.now) (text_if_any public_id.now) (text_if_any system_id.now) forced at))) }
 {
     begin_line(text, at, "doctype ")?;
     push_optional(text, name)?;
@@ -53,29 +67,105 @@ pub fn push_doctype(
     push_optional(text, public_id)?;
     text.push(' ')?;
     push_optional(text, system_id)?;
-    if forced {
-        text.push_str(" quirks\n")
-    } else {
-        text.push('\n')
+    end_line(text, " quirks", forced)
+}
+
+/// The text of a name of this table.
+fn name_text<'n>(names: Option<&'n Names>, name: NameId) -> &'n str
+    ensures { result.now ≡ text_of (table_of names.entry) name }
+{
+    match names {
+        Some(names) => names.text(name),
+        None => "",
     }
 }
 
-/// Writes the line of a comment.
-pub fn push_comment(text: &mut String, comment: &str, at: u64) -> Result<(), AllocError>
+/// Writes an attribute of a start tag.
+fn push_attribute(text: &mut String, attr: &Attr, names: Option<&Names>) -> Result<(), AllocError>
     ensures { OnOk result (string_bytes text.new
-        ≡ string_bytes text.old ++ line_text (line_of (Comment comment.now at))) }
+        ≡ string_bytes text.old ++ attribute_words (attribute_of (table_of names.entry) attr.now)) }
 {
-    begin_line(text, at, "comment ")?;
-    push_quoted(text, comment)?;
+    text.push(' ')?;
+    push_quoted(text, name_text(names, attr.name))?;
+    text.push('=')?;
+    push_quoted(text, &attr.value)
+}
+
+/// Writes the attributes of a start tag.
+fn push_attributes(
+    text: &mut String,
+    attrs: &[Attr],
+    names: Option<&Names>,
+) -> Result<(), AllocError>
+    ensures { OnOk result (string_bytes text.new
+        ≡ string_bytes text.old ++ flat_map attribute_words (map (attribute_of (table_of names.entry)) attrs.now)) }
+{
+    for attr in attrs {
+        push_attribute(text, attr, names)?;
+    }
+    Ok(())
+}
+
+/// Writes the line of a start tag.
+fn push_start_tag(
+    text: &mut String,
+    name: NameId,
+    attrs: &[Attr],
+    closing: bool,
+    at: u64,
+    names: Option<&Names>,
+) -> Result<(), AllocError>
+    ensures { OnOk result (string_bytes text.new ≡ string_bytes text.old
+        ++ line_text (line_of (Start (text_of (table_of names.entry) name) (map (attribute_of (table_of names.entry)) attrs.now) closing at))) }
+{
+    begin_line(text, at, "start ")?;
+    push_quoted(text, name_text(names, name))?;
+    push_attributes(text, attrs, names)?;
+    end_line(text, " /", closing)
+}
+
+/// Writes a line of words and a text between quotes.
+fn push_quoted_line(text: &mut String, at: u64, words: &str, source: &str) -> Result<(), AllocError>
+    ensures { OnOk result (string_bytes text.new
+        ≡ string_bytes text.old ++ decimal at ++ codes " " ++ words.now ++ quoted source.now ++ codes "\n") }
+{
+    begin_line(text, at, words)?;
+    push_quoted(text, source)?;
     text.push('\n')
 }
 
 /// Writes the line of one character.
-pub fn push_character(text: &mut String, ch: char, at: u64) -> Result<(), AllocError>
+fn push_character(text: &mut String, ch: char, at: u64) -> Result<(), AllocError>
     ensures { OnOk result (string_bytes text.new
         ≡ string_bytes text.old ++ line_text (line_of (Char ch at))) }
 {
     begin_line(text, at, CHARACTERS)?;
     push_escaped(text, ch)?;
     text.push_str(END_OF_CHARACTERS)
+}
+
+/// Writes the line of a token by itself, with the table of its names if it is a tag.
+pub fn push_line(text: &mut String, token: &Token, names: Option<&Names>) -> Result<(), AllocError>
+    ensures { OnOk result (string_bytes text.new
+        ≡ string_bytes text.old ++ line_text (line_of (tok_of (table_of names.entry) token.now))) }
+{
+    match token {
+        Token::Doctype {
+            name,
+            public_id,
+            system_id,
+            forced,
+            at,
+        } => push_doctype(text, name, public_id, system_id, *forced, *at),
+        Token::Start {
+            name,
+            attrs,
+            closing,
+            at,
+        } => push_start_tag(text, *name, attrs, *closing, *at, names),
+        Token::End { name, at } => push_quoted_line(text, *at, "end ", name_text(names, *name)),
+        Token::Comment { text: comment, at } => push_quoted_line(text, *at, "comment ", comment),
+        Token::Char { ch, at } => push_character(text, *ch, *at),
+        Token::Eof { at } => begin_line(text, *at, "eof\n"),
+    }
 }

@@ -1,26 +1,20 @@
-use Rattle.hwrite.proofs.Vocabulary.{◌≡◌, ℕ, List, Result, Ok, Err, IfErr, Refusal, Memory, token_lines}
-use Rattle.std.specs.Prelude.{IfOk}
+use Rattle.hwrite.proofs.Vocabulary.{◌≡◌, ◌∙◌, List, ℕ, sym, subst, ap, drop_all, map, Token, TokensMean, drafted, lines_of, tok_of, token_lines}
 use Rattle.std.specs.Global.{Vec}
-use Rattle.hserialize.specs.Gathered.{Holds}
+use Rattle.hwrite.proofs.Drafting.{next_drafted, tokens_are}
 use Rattle.hwrite.proofs.lines.token_lines.Goals as goal
 
--- a text in memory, by its two clauses
-all_held : (r : Result (Vec ℕ) Refusal) (text : List ℕ) → Holds r text → IfOk r (λ it. it.items ≡ text)
-all_held (Ok it) text h = h
-all_held (Err e) text h = tt
+pub loop-token-init : goal.loop-token-init
+loop-token-init c = c.new-draft.ensures (lines_of (map (tok_of c.args.run.now.names) c.deref-token-items.result.now))
 
-not_held : (r : Result (Vec ℕ) Refusal) (text : List ℕ) → Holds r text → IfErr r (λ e. e ≡ Memory)
-not_held (Ok it) text h = tt
-not_held (Err e) text h = h
-
-pub print_draft-answer-requires : goal.print_draft-answer-requires
-print_draft-answer-requires c = (token_lines c.requires.0, c.in_ok-draft.ensures c.requires.0 c.requires.1)
+pub loop-token-preserved : goal.loop-token-preserved
+loop-token-preserved c =
+    next_drafted c.args.run.now.names c.loop-token.draft c.push.new.self c.deref-token-items.result.now c.loop-token.token-index c.token-item.result c.loop-token-test.true c.token-item.is c.in_ok-push.ensures
+    ∙ c.loop-token.invariant
 
 pub returns-clause-lines : goal.returns-clause-lines
 returns-clause-lines c = λ tokens means.
-    all_held c.into_text.result (token_lines tokens) (c.into_text.ensures (token_lines tokens) c.new-text.result c.new-text.ensures (c.print_draft-answer.ensures.text (token_lines tokens) (c.in_ok-draft.ensures tokens means)))
-
-pub returns-clause-memory : goal.returns-clause-memory
-returns-clause-memory c =
-    not_held c.into_text.result (token_lines c.requires.0) (c.into_text.ensures (token_lines c.requires.0) c.new-text.result c.new-text.ensures
-    (c.print_draft-answer.ensures.text (token_lines c.requires.0) (c.in_ok-draft.ensures c.requires.0 c.requires.1)))
+    let names = c.args.run.now.names in
+    let items : List Token = c.deref-token-items.result.now in
+    let means' = subst (λ (ts : List Token). TokensMean names ts tokens) (sym c.deref-token-items.ensures.value) means in
+    let all = subst (λ (ts : List Token). drafted c.loop-token.draft (lines_of (map (tok_of names) ts)) ≡ token_lines (map (tok_of names) items)) (drop_all c.loop-token.token-index items c.loop-token-test.false) c.loop-token.invariant in
+    ap (λ (v : Vec ℕ). v.items) c.into_bytes.ensures.value ∙ c.in_ok-text.ensures ∙ all ∙ ap token_lines (tokens_are names items tokens means')

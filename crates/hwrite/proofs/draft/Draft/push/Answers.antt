@@ -1,13 +1,9 @@
-use Rattle.hwrite.proofs.Vocabulary.{drafted}
-use Rattle.hwrite.proofs.Drafting.{drafts_character, drafts_line_ok}
-use Rattle.hwrite.proofs.Fills.{on_ok}
+use Rattle.hwrite.proofs.Vocabulary.{string_bytes, on_ok_weaker, line_of, table_of, tok_of}
+use Rattle.hwrite.proofs.Drafting.{is_words, words_drafted}
 use Rattle.hwrite.proofs.draft.Draft.push.Goals as goal
-
-pub returns-in-Char : goal.returns-in-Char
-returns-in-Char c =
-    on_ok c.push_text.result c.push_text.ensures (λ a. drafts_character (drafted c.args.self.now) (drafted c.push_text.new.self) c.args.token.now c.in-Char.ch c.in-Char.at c.in-Char.is a)
 
 pub returns : goal.returns
 returns c =
-    drafts_line_ok c.push_line.result (drafted c.args.self.now) (drafted c.end_characters.new.self) (drafted c.push_line.new.self) c.args.token.now c.in_default.not-Char
-    c.in_ok-end_characters.ensures c.push_line.ensures
+    let names = table_of c.args.names in
+    on_ok_weaker c.push_line.result (words_drafted c.args.self.now c.end_characters.new.self (string_bytes c.push_line.new.text) (line_of (tok_of names c.args.token.now)) (is_words names c.args.token.now c.in_default.not-Char)
+    c.in_ok-end_characters.ensures) c.push_line.ensures
