@@ -524,6 +524,31 @@ static void check_kept(void) {
     check(wait(&status) > 0 && status == 0, "the memory of ten parses");
 }
 
+/* That the rooms of a tree are told in the memory of its parse, however long its words are: of 128 KB, in which each p has a b with the same
+ * long attribute, 1 GB. */
+static void check_counted(void) {
+    int status;
+    if (fork() == 0) {
+        static uint8_t page[131072];
+        size_t at = 0, half = sizeof page / 2;
+        at += (size_t)sprintf((char *)page, "<p><b id=%0*d>", (int)half, 0);
+        for (; at + 4 <= sizeof page; at += 4) memcpy(page + at, "<p>x", 4);
+        long before = resident(), parse;
+        struct rusage most;
+        jz_answer answer;
+        jz_page_answer all;
+        jz_row row;
+        jz_error error;
+        status = jz_text(JZ_ERRORS, page, at, &options, text, 0, &answer) == JZ_TOO_SHORT && !getrusage(RUSAGE_SELF, &most);
+        parse = most.ru_maxrss - before;
+        status &= jz_page(JZ_WANT_ERRORS, page, at, &options, &row, 0, text, 0, &error, 0, text, 0, &all) == JZ_TOO_SHORT;
+        status &= all.words > half * (half / 4 - 64) && !getrusage(RUSAGE_SELF, &most);
+        dprintf(1, "a tree with %ld MB of words: its parse takes %ld KB, its rooms %ld. ", (long)all.words >> 20, parse, most.ru_maxrss - before);
+        _exit(!status || most.ru_maxrss - before > 3 * parse);
+    }
+    check(wait(&status) > 0 && status == 0, "the memory of a tree whose rooms are told");
+}
+
 enum { NESTED = 100000, THREADS = 4 };
 static uint8_t nested[5 * NESTED];
 
@@ -571,6 +596,7 @@ int main(int count, char **words) {
     fclose(file);
     if (count > 2) return call_once(length);
     check_kept();
+    check_counted();
     memset(long_text, 'x', sizeof long_text);
     for (uint32_t task = 0; task < ALL; task++) {
         set_context(task);

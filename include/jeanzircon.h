@@ -13,7 +13,8 @@
  * Threads. Any number of threads may call at once. They may share the input, the options and the lists, which no call writes to, and no
  * buffer that is written. Not from a signal handler.
  * Memory. The library calls malloc, realloc and free, and frees all that it took before it returns. Where they give none the status is
- * JZ_MEMORY. It needs some 80 KB of stack, however the input is nested.
+ * JZ_MEMORY. A call takes what its parse takes, and for a text as much as it writes of it; rows, words and errors are written straight
+ * into their rooms. It needs some 80 KB of stack, however the input is nested.
  */
 #ifndef JEANZIRCON_H
 #define JEANZIRCON_H

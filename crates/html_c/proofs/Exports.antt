@@ -1,5 +1,5 @@
 -- What a call gives, from what was given and what came of the input.
-use Rattle.html_c.proofs.Names.{◌≡◌, ℕ, Bool, true, List, [], Option, None, Some, Ok, Err, map, ap, refl, subst, sym, ◌∙◌, if◌then◌else◌, Refusal, Memory, ParseOptions, Parsed, name_of, AllowsContext, context_of, prints_of, ComesToNone, none_for_memory, Tells, context_told, parts_of, ComesToParse, GivesParse, Given}
+use Rattle.html_c.proofs.Names.{◌≡◌, ℕ, Bool, true, List, [], Option, None, Some, Ok, Err, map, ap, refl, subst, sym, if◌then◌else◌, Refusal, Memory, ParseOptions, Parsed, name_of, AllowsContext, context_of, prints_of, ComesToNone, none_for_memory, Tells, context_told, ComesToParse, GivesParse, Given}
 use Rattle.std.proofs.Common.{false}
 use Rattle.hserialize.specs.declared.escaping.Escaping.{Escaping}
 use Rattle.hwrite.specs.Prints.{parsed_text}
@@ -9,11 +9,9 @@ use Rattle.hwrite.specs.declared.command.Task.TheVariants as task
 use Rattle.hwrite.proofs.Tasks.{parsed_printed}
 use Rattle.html_c.specs.Exports.{GivesText, GivesNone, comes_to_none, GivesNoRows, no_rows, prints}
 use Rattle.html_c.specs.Given.{IsCommand, escaping_told}
-use Rattle.html_c.specs.Page.{GivesErrors, GivesPage, GivesWanted, error_row, wants_told}
-use Rattle.html_c.specs.Trees.{IsPage}
-use Rattle.html_c.specs.declared.answer.ErrorRow.{ErrorRow}
+use Rattle.html_c.specs.Page.{GivesErrors, GivesPage, GivesWanted, Parts, error_row, wants_told}
+use Rattle.html_c.specs.Trees.{parsed_parts}
 use Rattle.html_c.specs.declared.fault.CallFault.TheVariants as fault
-use Rattle.html_c.specs.declared.page.Page.{Page}
 use Rattle.html_c.specs.declared.page.Wants.{Wants}
 use Rattle.html_c.proofs.Trees.{some_rows}
 
@@ -53,16 +51,16 @@ module _ (input : List ℕ) (given : Given) (parsed : Parsed) (h : GivesParse in
   pub no_memory : (refusal : Refusal) → refusal ≡ Memory → GivesNoRows input given (fault.Refused refusal)
   no_memory refusal is = no_rows h.opts refusal h.tells (none_for_memory is) refl
 
-  errors_where : (wants : Bool) (rows : List ErrorRow) → rows ≡ (if wants then map error_row parsed.errors.items else []) → GivesWanted wants (GivesErrors input given) rows
-  errors_where false rows is = is
-  errors_where true rows is =
-      let (parse, made, parses, told) = h.answers in record { opts = h.opts; tells = h.tells; parse = parse; parses = parses; rows_are = is ∙ ap (map error_row) made.errors }
+  errors_where : (wants : Bool) → GivesWanted wants (GivesErrors input given) (if wants then map error_row parsed.errors.items else [])
+  errors_where false = refl
+  errors_where true =
+      let (parse, made, parses, told) = h.answers in record { opts = h.opts; tells = h.tells; parse = parse; parses = parses; rows_are = ap (map error_row) made.errors }
 
   module _ (how : Escaping) (how_is : escaping_told given.escaping ≡ Some how) where
-    text_where : (wants : Bool) (text : List ℕ) → prints task.Write how given h.opts input (Ok (parsed_text how task.Write None parsed))
-        → text ≡ (if wants then parsed_text how task.Write None parsed else []) → GivesWanted wants (GivesText 3 input given) text
-    text_where false text printed is = is
-    text_where true text printed is = record {
+    text_where : (wants : Bool) → prints task.Write how given h.opts input (Ok (parsed_text how task.Write None parsed))
+        → GivesWanted wants (GivesText 3 input given) (if wants then parsed_text how task.Write None parsed else [])
+    text_where false printed = refl
+    text_where true printed = record {
       task = task.Write;
       how = how;
       opts = h.opts;
@@ -70,16 +68,17 @@ module _ (input : List ℕ) (given : Given) (parsed : Parsed) (h : GivesParse in
       placed = refl;
       how_is = how_is;
       tells = h.tells;
-      text_is = subst (λ (x : List ℕ). prints task.Write how given h.opts input (Ok x)) (sym is) printed;
+      text_is = printed;
     }
 
-    pub a_page : (number : ℕ) (wants : Wants) (page : Page) → wants_told number ≡ Some wants → IsPage wants how parsed page → GivesPage number input given (parts_of page)
-    a_page number wants page wants_are is = record {
+    pub a_page : (number : ℕ) (wants : Wants) (page : Parts) → wants_told number ≡ Some wants
+        → page ≡ parsed_parts parsed wants.errors (if wants.text then parsed_text how task.Write None parsed else []) → GivesPage number input given page
+    a_page number wants page wants_are is = rw is record {
       wants = wants;
       how = how;
       wants_are = wants_are;
       how_is = how_is;
-      tree = some_rows input given parsed page.tree h is.tree;
-      errors = errors_where wants.errors (parts_of page).errors is.errors_are;
-      text = text_where wants.text (parts_of page).text (parsed_printed how task.Write h.opts (context_told given.context.now) input parsed h.answers) is.text_is;
+      tree = some_rows input given parsed h;
+      errors = errors_where wants.errors;
+      text = text_where wants.text (parsed_printed how task.Write h.opts (context_told given.context.now) input parsed h.answers);
     }

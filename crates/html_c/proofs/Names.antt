@@ -1,20 +1,22 @@
 -- The names of other crates and of specs/ that several proofs cite, in one place.
 pub use Rattle.charref.specs.Reading.{table_of}
-pub use Rattle.html_c.specs.Vocabulary.{ReadsQuirks, children_of, spelled, ParseOptions, options_of, ComesToNone, IsPiece, Tells, context_told, parts_of, kind_number, link_to, rows_of, words_of, ended, ReadsTable, ComesToParse, GivesParse, name_of, AllowsContext, context_of, prints_of, Memory}
+pub use Rattle.html_c.specs.Vocabulary.{PutsAt, ReadsQuirks, children_of, spelled, ParseOptions, options_of, ComesToNone, IsPiece, Tells, context_told, kind_number, link_to, rows_of, words_of, ReadsTable, ComesToParse, GivesParse, name_of, AllowsContext, context_of, prints_of, Memory}
 pub use Rattle.hnodes.specs.Forest.{Forest, none, tree}
 pub use Rattle.hnodes.specs.Spots.{kind_in}
 pub use Rattle.hparse.specs.declared.parsed.Parsed.{Parsed}
 pub use Rattle.html_c.specs.Exports.{none_for_memory, none_of_bytes, no_command, unmet_rows}
 pub use Rattle.html_c.specs.Given.{no_size, of_size, unmet}
 pub use Rattle.html_c.specs.Input.{left_in}
+pub use Rattle.html_c.specs.Parts.{parts_of}
 pub use Rattle.html_c.specs.declared.answer.Given.{Given}
 pub use Rattle.html_c.specs.declared.fault.CallFault.{CallFault}
 pub use Rattle.html_c.specs.declared.fitted.Fitted.{Fitted}
 pub use Rattle.hwrite.specs.Context.{case_in}
 pub use Rattle.names.specs.Names.{text_of}
 pub use Rattle.names.specs.declared.refusal.Refusal.{Refusal}
-pub use Rattle.std.proofs.Common.{◌≡◌, ℕ, ◌<◌, List, [], ◌∷◌, ◌++◌, Some, map, refl, sym, ap, ap₂, subst, ◌∙◌, Bool, true, Result, Ok, Err, inl, inr, length, ◌+◌, drop, Option, None}
-pub use Rattle.std.proofs.lemmas.List.{append_assoc, append-nil}
+pub use Rattle.std.proofs.Common.{◌≡◌, ℕ, ◌<◌, List, [], ◌∷◌, ◌++◌, Some, map, refl, sym, ap, ap₂, subst, ◌∙◌, Bool, true, Result, Ok, Err, inl, inr, length, ◌+◌, take, Option, None, arith, rules}
+pub use Rattle.std.proofs.lemmas.Grind.{common_steps}
+pub use Rattle.std.proofs.lemmas.List.{append-nil}
 pub use Rattle.std.specs.List.{flat_map}
 pub use Rattle.std.specs.Prelude.{IsErrAnd, if◌then◌else◌}
 pub use base.Logic.{SProp, ent, emp, via, fst∗}

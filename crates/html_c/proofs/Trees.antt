@@ -10,8 +10,7 @@ use Rattle.hparse.specs.Parsing.{AnswersParse}
 use Rattle.hparse.specs.Reader.{ReadsInput, reading_ran_out, reading_failed, reading_stopped, read_to_end}
 use Rattle.hwrite.proofs.Printed.{children_are}
 use Rattle.html_c.specs.Exports.{GivesRows, case_given}
-use Rattle.html_c.specs.Trees.{HasRows}
-use Rattle.html_c.specs.declared.rows.Rows.{Rows}
+use Rattle.html_c.specs.Trees.{parsed_rows, parsed_words}
 
 module _ {S : Type 0} (left : S → List ℕ) (opts : ParseOptions) (context : Option (List ℕ)) (unrefused : List ℕ → Type 0) (piece : ℕ) (source source' : S) where
   answered : (bytes : List ℕ) (answer : Result Parsed Refusal) → left source ≡ bytes → AnswersParse opts (case_in context) bytes answer → ComesToParse opts context (left source) answer
@@ -54,17 +53,17 @@ module _ {N M : Type 0} (g : N → M) where
         next = link_to (same_first rest i);
       } ∷ (same_rows n kids i ++ same_rows p rest i))
 
-pub some_rows : (input : List ℕ) (given : Given) (parsed : Parsed) (rows : Rows) → GivesParse input given parsed → HasRows parsed rows → GivesRows input given rows.nodes.items rows.words.items
-some_rows input given parsed rows h has =
+pub some_rows : (input : List ℕ) (given : Given) (parsed : Parsed) → GivesParse input given parsed → GivesRows input given (parsed_rows parsed) (parsed_words parsed)
+some_rows input given parsed h =
     let (parse, is, parses, told) = h.answers in let its = case_given given in
     record {
       opts = h.opts;
       tells = h.tells;
       parse = parse;
       parses = parses;
-      rows_are = has.rows_are ∙ sym (same_rows (text_of parsed.names) parsed.root (children_of parsed.root parsed.tree.trees))
+      rows_are = sym (same_rows (text_of parsed.names) parsed.root (children_of parsed.root parsed.tree.trees))
           ∙ ap₂ (λ (p : ℕ) (f : Forest (List ℕ)). rows_of p f) is.root (children_are its parsed parse is);
-      words_are = has.words_are ∙ ap words_of (children_are its parsed parse is);
+      words_are = ap words_of (children_are its parsed parse is);
     }
 
 pub not_begun : (opts : ParseOptions) (context : Option (List ℕ)) (bytes : List ℕ) (r : Result Parsed Refusal) (e : Refusal) → AllowsContext context → IsErrAnd r (λ g. g ≡ e)

@@ -1,5 +1,5 @@
 -- What is written to a caller's room, and what is answered.
-use Rattle.std.specs.Prelude.{ℕ, Bool, List, ◌++◌, length, drop, if◌then◌else◌}
+use Rattle.std.specs.Prelude.{◌≡◌, ◌<◌, ◌≤◌, ◌+◌, ℕ, Bool, List, ◌++◌, length, take, drop, if◌then◌else◌}
 use Rattle.html_c.specs.Faults.{at_of, detail_of, status_of}
 use Rattle.html_c.specs.declared.answer.Answer.{Answer}
 use Rattle.html_c.specs.declared.fault.CallFault.{CallFault}
@@ -7,6 +7,17 @@ use Rattle.html_c.specs.declared.fault.CallFault.{CallFault}
 -- items over the beginning of a room, if they fit
 abbrev pub put_over : {A : Type 0} → Bool → List A → List A → List A
 put_over fits items room = if fits then items ++ drop (length items) room else room
+
+-- items over what was at a place of a room
+abbrev pub over_at : {A : Type 0} → ℕ → List A → List A → List A
+over_at at items room = take at room ++ (items ++ drop (length items) (drop at room))
+
+-- Items are put at a place of a room, if they fit there. The next place is after them, or as far as numbers go.
+pub record PutsAt {A : Type 0} (at : ℕ) (items old new : List A) (next : ℕ) : Type 0 where
+  pub onward : at ≤ next
+  pub counted : next < 18446744073709551615 → next ≡ at + length items
+  pub long : length new ≡ length old
+  pub fits : at + length items ≤ length old → (next ≡ at + length items) × (new ≡ over_at at items old)
 
 -- the status where everything fits, or something does not
 abbrev pub fit_status : Bool → ℕ

@@ -1,19 +1,20 @@
 //! A page: the tree of an input, its parse errors as rows, and its HTML, by one parse.
 
-ghost use Rattle.std.specs.Prelude.{◌≡◌, if◌then◌else◌, ℕ, List, [], length, map, None, IfOk, MatchResult};
-ghost use Rattle.html_c.specs.Vocabulary.{Memory, parsed_text, IsFitted, all_fit, error_row, page_answer, parts, put_parts, wants_told, GivesNoPage, GivesNothing, GivesPage, parts_of, IsPage};
+ghost use Rattle.std.specs.Prelude.{◌≡◌, ◌≤◌, if◌then◌else◌, ℕ, List, [], true, length, map, None, IfOk, MatchResult};
+ghost use Rattle.html_c.specs.Vocabulary.{Memory, parsed_text, IsFitted, all_fit, error_row, page_answer, parts, put_parts, wants_told, GivesNoPage, GivesNothing, GivesPage, parsed_parts, put_over};
+ghost use Rattle.html_c.specs.Parts.{parts_of};
 ghost use Rattle.hwrite.specs.declared.command.Task.TheVariants as task;
 
 use crate::answer::{ErrorRow, Given, NodeRow, PageAnswer};
 use crate::fault::CallFault;
 use crate::fitted::Fitted;
-use crate::room::{put, status};
+use crate::room::{put_at, status};
 use crate::rows::Rows;
-use crate::tree::{parse_of, rows_in};
+use crate::tree::parse_of;
 use hparse::Parsed;
 use hwrite::{Escaping, serialize};
 use names::{ParseError, Refusal};
-use std::alloc::{AllocError, Global};
+use std::alloc::Global;
 
 /// What is wanted of a page beside its tree.
 #[derive(Clone, Copy)]
@@ -22,11 +23,11 @@ pub(crate) struct Wants {
     pub(crate) text: bool,
 }
 
-/// The parts of a page. One that is not wanted is empty.
+/// A page whose parts are counted, with as much of its text as has room.
 #[derive(Drop)]
 pub(crate) struct Page {
     pub(crate) tree: Rows,
-    pub(crate) errors: Vec<ErrorRow>,
+    pub(crate) has_errors: bool,
     pub(crate) text: Fitted,
 }
 
@@ -54,25 +55,16 @@ fn error_row(error: &ParseError) -> ErrorRow
     }
 }
 
-/// The rows of parse errors.
-fn error_rows(alloc: Global, errors: &[ParseError]) -> Result<Vec<ErrorRow>, AllocError>
-    ensures { IfOk result (λ rows. rows.items ≡ map error_row errors.now) }
+/// Writes the rows of parse errors to the beginning of a room, if they are to be written.
+fn put_errors(fits: bool, errors: &[ParseError], room: &mut [ErrorRow])
+    requires { fits ≡ true → length errors.now ≤ length room.old }
+    ensures { room.new ≡ put_over fits (map error_row errors.now) room.old }
 {
-    errors.iter().map(|error| error_row(error)).collect(alloc)
-}
-
-/// The same, if they are wanted.
-fn errors_in(
-    alloc: Global,
-    wanted: bool,
-    errors: &[ParseError],
-) -> Result<Vec<ErrorRow>, AllocError>
-    ensures { IfOk result (λ rows. rows.items ≡ (if wanted then map error_row errors.now else [])) }
-{
-    if wanted {
-        error_rows(alloc, errors)
-    } else {
-        Ok(Vec::new(alloc))
+    if fits {
+        let mut at = 0;
+        for error in errors {
+            at = put_at(&[error_row(error)], room, at);
+        }
     }
 }
 
@@ -106,16 +98,19 @@ fn page_in(
     alloc: Global,
     wants: Wants,
     escaping: Escaping,
-    parsed: &Parsed,
+    parsed: Parsed,
     room: usize,
 ) -> Result<Page, Refusal>
-    ensures made { MatchResult result (IsPage wants escaping parsed.now) (λ refusal. refusal ≡ Memory) }
+    ensures made { MatchResult result (λ page. parts_of page ≡ parsed_parts parsed wants.errors (if wants.text then parsed_text escaping task.Write None parsed else [])) (λ refusal. refusal ≡ Memory) }
     ensures room { IfOk result (λ page. page.text.room ≡ room) }
 {
-    let tree = rows_in(alloc, parsed)?;
-    let errors = errors_in(alloc, wants.errors, &parsed.errors)?;
-    let text = html_in(alloc, wants.text, escaping, parsed, room)?;
-    Ok(Page { tree, errors, text })
+    let text = html_in(alloc, wants.text, escaping, &parsed, room)?;
+    let tree = Rows::of(parsed)?;
+    Ok(Page {
+        tree,
+        has_errors: wants.errors,
+        text,
+    })
 }
 
 /// The page of an input.
@@ -136,20 +131,29 @@ pub(crate) fn page_of(
     };
     let escaping = given.escaping()?;
     let parsed = parse_of(alloc, input, given)?;
-    let page = page_in(alloc, wants, escaping, &parsed, room);
-    drop(parsed);
-    Ok(page?)
+    Ok(page_in(alloc, wants, escaping, parsed, room)?)
 }
 
 impl Page {
+    /// Its parse errors, if they are wanted.
+    fn errors(&self) -> &[ParseError]
+        ensures { map error_row result.now ≡ (parts_of self.now).errors }
+    {
+        if self.has_errors {
+            &self.tree.parsed.errors
+        } else {
+            &[]
+        }
+    }
+
     /// Whether all parts fit their rooms.
     fn fits(&self, rows: &[NodeRow], words: &[u8], errors: &[ErrorRow], text: &[u8]) -> bool
         requires { self.now.text.room ≡ length text.now }
         ensures { result ≡ all_fit (parts_of self.now) (parts rows.now words.now errors.now text.now) }
     {
-        self.tree.nodes.len() <= rows.len()
-            && self.tree.words.len() <= words.len()
-            && self.errors.len() <= errors.len()
+        self.tree.nodes <= rows.len()
+            && self.tree.words <= words.len()
+            && self.errors().len() <= errors.len()
             && self.text.fits(text)
     }
 
@@ -161,9 +165,9 @@ impl Page {
             status: status(fits),
             detail: 0,
             at: 0,
-            nodes: self.tree.nodes.len() as u64,
-            words: self.tree.words.len() as u64,
-            errors: self.errors.len() as u64,
+            nodes: self.tree.nodes as u64,
+            words: self.tree.words as u64,
+            errors: self.errors().len() as u64,
             text: self.text.count as u64,
         }
     }
@@ -181,9 +185,8 @@ impl Page {
         ensures answer { result ≡ page_answer (all_fit (parts_of self.now) (parts rows.old words.old errors.old text.old)) (parts_of self.now) }
     {
         let fits = self.fits(rows, words, errors, text);
-        put(fits, &self.tree.nodes, rows);
-        put(fits, &self.tree.words, words);
-        put(fits, &self.errors, errors);
+        self.tree.put(fits, rows, words);
+        put_errors(fits, self.errors(), errors);
         self.text.put(fits, text);
         self.answer(fits)
     }

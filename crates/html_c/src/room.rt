@@ -1,7 +1,7 @@
 //! The caller's rooms.
 
 ghost use Rattle.std.specs.Prelude.{◌≡◌, ◌≤◌, true, length, nat_le};
-ghost use Rattle.html_c.specs.Vocabulary.{fit, text_of, page_fault, fault_answer, fit_status, put_over, room_answer};
+ghost use Rattle.html_c.specs.Vocabulary.{PutsAt, fit, parsed_rows, parsed_words, text_of, page_fault, fault_answer, fit_status, put_over, room_answer};
 
 use crate::answer::{Answer, NodeRow, PageAnswer};
 use crate::fault::CallFault;
@@ -59,6 +59,16 @@ fn room_answer(fits: bool, length: usize, nodes: usize) -> Answer
     }
 }
 
+/// Puts items at a place of a room, if they fit there. Returns the place after them, or the greatest number.
+pub(crate) fn put_at<T: Copy>(items: &[T], room: &mut [T], at: usize) -> usize
+    ensures { PutsAt at items.now room.old room.new result }
+{
+    if at <= room.len() && items.len() <= room.len() - at {
+        room[at..at + items.len()].copy_from_slice(items);
+    }
+    at.saturating_add(items.len())
+}
+
 /// Writes items to the beginning of a room, where all that an answer writes fits.
 pub(crate) fn put<T: Copy>(fits: bool, items: &[T], room: &mut [T])
     requires { fits ≡ true → length items.now ≤ length room.old }
@@ -92,13 +102,12 @@ pub(crate) fn put_text(text: &Fitted, room: &mut [u8]) -> Answer
 
 /// Writes the rows and the words of a tree to the beginnings of their rooms, if all of them fit.
 pub(crate) fn put_rows(tree: &Rows, rows: &mut [NodeRow], words: &mut [u8]) -> Answer
-    ensures rows { rows.new ≡ put_over (fit tree.now.nodes.items rows.old tree.now.words.items words.old) tree.now.nodes.items rows.old }
-    ensures words { words.new ≡ put_over (fit tree.now.nodes.items rows.old tree.now.words.items words.old) tree.now.words.items words.old }
-    ensures answer { result ≡ room_answer (fit tree.now.nodes.items rows.old tree.now.words.items words.old)
-        (length tree.now.words.items) (length tree.now.nodes.items) }
+    ensures rows { rows.new ≡ put_over (fit (parsed_rows tree.now.parsed) rows.old (parsed_words tree.now.parsed) words.old) (parsed_rows tree.now.parsed) rows.old }
+    ensures words { words.new ≡ put_over (fit (parsed_rows tree.now.parsed) rows.old (parsed_words tree.now.parsed) words.old) (parsed_words tree.now.parsed) words.old }
+    ensures answer { result ≡ room_answer (fit (parsed_rows tree.now.parsed) rows.old (parsed_words tree.now.parsed) words.old)
+        (length (parsed_words tree.now.parsed)) (length (parsed_rows tree.now.parsed)) }
 {
-    let fits = tree.nodes.len() <= rows.len() && tree.words.len() <= words.len();
-    put(fits, &tree.nodes, rows);
-    put(fits, &tree.words, words);
-    room_answer(fits, tree.words.len(), tree.nodes.len())
+    let fits = tree.nodes <= rows.len() && tree.words <= words.len();
+    tree.put(fits, rows, words);
+    room_answer(fits, tree.words, tree.nodes)
 }

@@ -1,88 +1,59 @@
-//! A tree as rows of numbers and as the bytes of its words.
+//! A tree as rows of numbers and as the bytes of its words, which are counted, and written where there is room.
 
-ghost use Rattle.std.specs.Prelude.{◌≡◌, ◌<◌, ◌++◌, ◌∷◌, [], Some, flat_map, map, IfOk, IfSome, OnOk, string_bytes};
+ghost use Rattle.std.specs.Prelude.{◌≡◌, ◌<◌, ◌≤◌, true, length, flat_map, map, IfSome, MatchResult};
 ghost use Rattle.names.specs.Names.{text_of};
-ghost use Rattle.html_c.specs.Vocabulary.{children_of, attribute_of, spelled, spelled_attribute, spelled_what, what_of, attribute_words, ended, kind_number, link_to, row_at, rows_of, node_words_at, words_at, words_of};
+ghost use Rattle.html_c.specs.Vocabulary.{Memory, PutsAt, attribute_of, spelled_attribute, what_of, attribute_words, ended, kind_number, link_to, parsed_rows, parsed_words, put_over, row_at, words_at};
 
 use crate::answer::NodeRow;
-use hnodes::{DocumentType, NodeId, NodeKind, Tree};
+use crate::room::put_at;
+use hnodes::{NodeId, NodeKind, Tree};
+use hparse::Parsed;
 use hserialize::NodeView;
-use names::{Attr, NameId, Names};
-use std::alloc::{AllocError, Global};
+use names::{Attr, Names, Refusal};
 
 /// What ends a word, and what ends the words of a node. Neither is in a UTF-8 text.
 const WORD_END: u8 = 0xFF;
 
 const NODE_END: u8 = 0xFE;
 
-/// The nodes of a tree, and their words.
-#[derive(Drop)]
-pub(crate) struct Rows {
-    pub(crate) nodes: Vec<NodeRow>,
-    pub(crate) words: Vec<u8>,
+/// Puts a word at a place, and returns the place after it, as do the next.
+fn put_word(word: &str, room: &mut [u8], at: usize) -> usize
+    ensures { PutsAt at (ended word.now) room.old room.new result }
+{
+    let end = put_at(word.as_bytes(), room, at);
+    put_at(&[WORD_END], room, end)
 }
 
-/// Adds a word.
-fn push_word(words: &mut Vec<u8>, word: &str) -> Result<(), AllocError>
-    ensures { OnOk result (words.new.items ≡ words.old.items ++ ended word.now) }
+/// Puts the words of attributes.
+fn put_attributes(names: &Names, attrs: &[Attr], room: &mut [u8], at: usize) -> usize
+    ensures { PutsAt at (flat_map attribute_words (map (spelled_attribute (text_of names.now)) (map attribute_of attrs.now))) room.old room.new result }
 {
-    words.extend_from_slice(word.as_bytes())?;
-    words.push(WORD_END)?;
-    Ok(())
-}
-
-/// Adds the words of attributes.
-fn push_attributes(words: &mut Vec<u8>, names: &Names, attrs: &[Attr]) -> Result<(), AllocError>
-    ensures { OnOk result (words.new.items ≡ words.old.items
-        ++ flat_map attribute_words (map (spelled_attribute (text_of names.now)) (map attribute_of attrs.now))) }
-{
+    let mut at = at;
     for attr in attrs {
-        push_word(words, names.text(attr.name))?;
-        push_word(words, &attr.value)?;
+        let end = put_word(names.text(attr.name), room, at);
+        at = put_word(&attr.value, room, end);
     }
-    Ok(())
+    at
 }
 
-/// Adds the words of a doctype.
-fn push_doctype(words: &mut Vec<u8>, texts: &DocumentType) -> Result<(), AllocError>
-    ensures { OnOk result (words.new.items ≡ words.old.items
-        ++ (ended (string_bytes texts.now.name) ++ (ended (string_bytes texts.now.public_id) ++ ended (string_bytes texts.now.system_id)))) }
-{
-    push_word(words, &texts.name)?;
-    push_word(words, &texts.public_id)?;
-    push_word(words, &texts.system_id)
-}
-
-/// Adds the words of an element.
-fn push_element(
-    words: &mut Vec<u8>,
-    names: &Names,
-    name: NameId,
-    attrs: &[Attr],
-) -> Result<(), AllocError>
-    ensures { OnOk result (words.new.items ≡ words.old.items ++ (ended (text_of names.now name)
-        ++ flat_map attribute_words (map (spelled_attribute (text_of names.now)) (map attribute_of attrs.now)))) }
-{
-    push_word(words, names.text(name))?;
-    push_attributes(words, names, attrs)
-}
-
-/// Adds the words of a node.
-fn push_words(
-    words: &mut Vec<u8>,
-    tree: &Tree,
-    names: &Names,
-    node: NodeId,
-) -> Result<(), AllocError>
+/// Puts the words of a node.
+fn put_words(tree: &Tree, names: &Names, node: NodeId, room: &mut [u8], at: usize) -> usize
     requires { node < tree.now.made }
-    ensures { OnOk result (words.new.items ≡ words.old.items ++ words_at (text_of names.now) (what_of node tree.now.trees)) }
+    ensures { PutsAt at (words_at (text_of names.now) (what_of node tree.now.trees)) room.old room.new result }
 {
     match NodeView::of(tree, node) {
-        NodeView::Document => Ok(()),
-        NodeView::Doctype(texts) => push_doctype(words, texts),
-        NodeView::Element(name, attrs) => push_element(words, names, name, attrs),
-        NodeView::Comment(text) => push_word(words, text),
-        NodeView::Text(text) => push_word(words, text),
+        NodeView::Document => at,
+        NodeView::Doctype(texts) => {
+            let public_id = put_word(&texts.name, room, at);
+            let system_id = put_word(&texts.public_id, room, public_id);
+            put_word(&texts.system_id, room, system_id)
+        }
+        NodeView::Element(name, attrs) => {
+            let end = put_word(names.text(name), room, at);
+            put_attributes(names, attrs, room, end)
+        }
+        NodeView::Comment(text) => put_word(text, room, at),
+        NodeView::Text(text) => put_word(text, room, at),
     }
 }
 
@@ -124,38 +95,57 @@ fn row_at(tree: &Tree, node: NodeId) -> NodeRow
     }
 }
 
-impl Rows {
-    /// Adds a node and its words.
-    fn push(&mut self, tree: &Tree, names: &Names, node: NodeId) -> Result<(), AllocError>
-        requires { node < tree.now.made }
-        ensures { OnOk result ((self.new.nodes.items ≡ self.old.nodes.items ++ row_at node tree.now.trees ∷ [])
-            × (self.new.words.items ≡ self.old.words.items ++ node_words_at (text_of names.now) (what_of node tree.now.trees))) }
-    {
-        push_words(&mut self.words, tree, names, node)?;
-        self.words.push(NODE_END)?;
-        self.nodes.push(row_at(tree, node))?;
-        Ok(())
+/// Puts the rows and the words of what was parsed, each at the beginning of a room. Returns the places after them.
+fn put_parsed(parsed: &Parsed, rows: &mut [NodeRow], words: &mut [u8]) -> (usize, usize)
+    ensures rows { PutsAt 0 (parsed_rows parsed.now) rows.old rows.new result.0 }
+    ensures words { PutsAt 0 (parsed_words parsed.now) words.old words.new result.1 }
+{
+    let tree = &parsed.tree;
+    let mut row_end = 0;
+    let mut word_end = 0;
+    for node in tree.descendants(parsed.root) {
+        row_end = put_at(&[row_at(tree, node)], rows, row_end);
+        word_end = put_words(tree, &parsed.names, node, words, word_end);
+        word_end = put_at(&[NODE_END], words, word_end);
     }
+    (row_end, word_end)
 }
 
-/// The rows and the words of the nodes inside a node, in tree order.
-pub(crate) fn rows_inside(
-    alloc: Global,
-    tree: &Tree,
-    names: &Names,
-    root: NodeId,
-) -> Result<Rows, AllocError>
-    requires { root < tree.now.made }
-    ensures rows { IfOk result (λ rows. rows.nodes.items ≡ rows_of root (children_of root tree.now.trees)) }
-    ensures words { IfOk result (λ rows. rows.words.items ≡ words_of (spelled (text_of names.now) (children_of root tree.now.trees))) }
-{
-    // (so that the words alone grow, and leave no smaller blocks behind)
-    let mut rows = Rows {
-        nodes: Vec::with_capacity(alloc, tree.made() as usize)?,
-        words: Vec::new(alloc),
-    };
-    for node in tree.descendants(root) {
-        rows.push(tree, names, node)?;
+/// A tree that was parsed, and how many rows, and how many bytes of words, it has.
+#[derive(Drop)]
+pub(crate) struct Rows {
+    pub(crate) parsed: Parsed,
+    pub(crate) nodes: usize,
+    pub(crate) words: usize,
+    ghost nodes_are: { nodes ≡ length (parsed_rows parsed) },
+    ghost words_are: { words ≡ length (parsed_words parsed) },
+}
+
+impl Rows {
+    /// Counts them, if numbers are large enough for that.
+    pub(crate) fn of(parsed: Parsed) -> Result<Rows, Refusal>
+        ensures { MatchResult result (λ rows. rows.parsed ≡ parsed) (λ refusal. refusal ≡ Memory) }
+    {
+        let (nodes, words) = put_parsed(&parsed, &mut [], &mut []);
+        if nodes == usize::MAX || words == usize::MAX {
+            return Err(Refusal::Memory);
+        }
+        Ok(Rows {
+            parsed,
+            nodes,
+            words,
+        })
     }
-    Ok(rows)
+
+    /// Writes them to the beginnings of their rooms, if they are to be written.
+    pub(crate) fn put(&self, fits: bool, rows: &mut [NodeRow], words: &mut [u8])
+        requires rows { fits ≡ true → length (parsed_rows self.now.parsed) ≤ length rows.old }
+        requires words { fits ≡ true → length (parsed_words self.now.parsed) ≤ length words.old }
+        ensures rows { rows.new ≡ put_over fits (parsed_rows self.now.parsed) rows.old }
+        ensures words { words.new ≡ put_over fits (parsed_words self.now.parsed) words.old }
+    {
+        if fits {
+            put_parsed(&self.parsed, rows, words);
+        }
+    }
 }

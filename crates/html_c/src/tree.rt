@@ -1,35 +1,26 @@
 //! What an input is parsed as, and the rows of its tree.
 
 ghost use Rattle.std.specs.Prelude.{◌≡◌, ◌<◌, MatchResult};
-ghost use Rattle.html_c.specs.Vocabulary.{Memory, options_of, name_of, AllowsContext, GivesNoRows, GivesNothing, GivesRows, HasLists, IsPiece, IsSize, context_told, ComesToParse, GivesParse, HasRows};
+ghost use Rattle.html_c.specs.Vocabulary.{options_of, name_of, AllowsContext, GivesNoRows, GivesNothing, GivesRows, HasLists, IsPiece, IsSize, context_told, ComesToParse, GivesParse, parsed_rows, parsed_words};
 
 use crate::answer::Given;
 use crate::fault::CallFault;
 use crate::given::Lists;
 use crate::input::Input;
-use crate::rows::{Rows, rows_inside};
+use crate::rows::Rows;
 use hparse::{Options, Parsed, parse_reader};
 use hwrite::parser;
 use names::Refusal;
 use std::alloc::Global;
 
-/// The rows and the words of the tree of an input.
+/// The tree of an input, with its rows and its words counted.
 pub(crate) fn rows_of(alloc: Global, input: &[u8], given: &Given) -> Result<Rows, CallFault>
-    ensures { MatchResult result (λ rows. GivesRows input.now given.now rows.nodes.items rows.words.items)
+    ensures { MatchResult result (λ rows. GivesRows input.now given.now (parsed_rows rows.parsed) (parsed_words rows.parsed))
         (GivesNothing given.now.size (GivesNoRows input.now given.now)) }
 {
     given.check_size()?;
     let parsed = parse_of(alloc, input, given)?;
-    let rows = rows_in(alloc, &parsed);
-    drop(parsed);
-    Ok(rows?)
-}
-
-/// The rows and the words of what was parsed.
-pub(crate) fn rows_in(alloc: Global, parsed: &Parsed) -> Result<Rows, Refusal>
-    ensures { MatchResult result (HasRows parsed.now) (λ refusal. refusal ≡ Memory) }
-{
-    Ok(rows_inside(alloc, &parsed.tree, &parsed.names, parsed.root)?)
+    Ok(Rows::of(parsed)?)
 }
 
 /// What an input is parsed as.

@@ -273,8 +273,9 @@ def tree(page: Bytes, **settings: Unpack[Settings]) -> list[Node]:
 
 
 def errors(page: Bytes, **settings: Unpack[Settings]) -> list[ParseError]:
-    """The parse errors, in the order of their places."""
-    return parsed(1, page, settings).errors
+    """The parse errors, in the order of their places. They are read from a text, since the tree may take far more memory than its page."""
+    lines = map(str.split, text(ERRORS, page, **settings).decode().splitlines())
+    return [ParseError(int(at), code) for at, code in lines]
 
 
 def parse(page: Bytes, **settings: Unpack[Settings]) -> Page:

@@ -180,6 +180,18 @@ pub struct ParseError {
     pub code: ErrorCode,
 }
 
+impl ParseError {
+    /// That of a line of `Task::Errors`.
+    pub(crate) fn of_line(line: &str) -> ParseError {
+        let (at, code) = line.split_once(' ').expect("a byte and a code");
+        let number = TEXTS.iter().position(|it| *it == code);
+        ParseError {
+            at: at.parse().expect("a byte"),
+            code: ErrorCode(number.expect("a code of the header") as u32),
+        }
+    }
+}
+
 /// As the program says it: `2 eof-in-tag`.
 impl fmt::Display for ParseError {
     fn fmt(&self, f: &mut fmt::Formatter) -> fmt::Result {

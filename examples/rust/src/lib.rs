@@ -172,9 +172,11 @@ fn text_room(task: Task, input: &[u8]) -> usize {
     input.len() * if task == Task::Errors { 24 } else { 6 } + 1024
 }
 
-/// The parse errors of an input, in the order of their places.
+/// The parse errors of an input, in the order of their places. They are read from a text, since the tree may take far more memory
+/// than its page.
 pub fn errors(input: &[u8], options: &Options) -> Result<Vec<ParseError>, Error> {
-    Ok(parsed(WANT_ERRORS, input, options)?.errors)
+    let lines = text(Task::Errors, input, options)?;
+    Ok(lines.lines().map(ParseError::of_line).collect())
 }
 
 /// Whether a fragment is plain in its context: it comes back, as the same nodes, when what is written of it inside an element of the

@@ -13,10 +13,10 @@ returns-in_err-parsed c =
     fails c.from_residual-in_err-parsed.result c.in_err-parsed.field-0.0 _ _ c.from_residual-in_err-parsed.ensures.1
     (of_size c.in_ok-check_size.ensures c.in_err-parsed.ensures)
 
-pub returns-in_err-rows : goal.returns-in_err-rows
-returns-in_err-rows c =
-    fails c.from_residual-in_err-rows.result (fault.Refused c.in_err-rows.field-0.0) _ _ c.from_residual-in_err-rows.ensures.1
-    (of_size c.in_ok-check_size.ensures (no_memory c.args.input.now c.args.given.now c.in_ok-parsed.parsed c.in_ok-parsed.ensures c.in_err-rows.field-0.0 c.in_err-rows.ensures))
+pub returns-in_err-of : goal.returns-in_err-of
+returns-in_err-of c =
+    fails c.from_residual-in_err-of.result (fault.Refused c.in_err-of.field-0.0) _ _ c.from_residual-in_err-of.ensures.1
+    (of_size c.in_ok-check_size.ensures (no_memory c.args.input.now c.args.given.now c.in_ok-parsed.parsed c.in_ok-parsed.ensures c.in_err-of.field-0.0 c.in_err-of.ensures))
 
 pub returns : goal.returns
-returns c = some_rows c.args.input.now c.args.given.now c.in_ok-parsed.parsed c.in_ok-rows.field-0 c.in_ok-parsed.ensures c.in_ok-rows.ensures
+returns c = rw c.in_ok-of.ensures (some_rows c.args.input.now c.args.given.now c.in_ok-parsed.parsed c.in_ok-parsed.ensures)
