@@ -24,6 +24,7 @@ pub mod Holes
 pub mod Live
 pub mod LiveEdits
 pub mod Moved
+pub mod Jumped
 pub mod Slotted
 pub mod Marked
 pub mod Closed

@@ -1,5 +1,5 @@
 -- Lists with holes: what is asked of the formatting elements and what is done with them are the same without the holes.
-use Rattle.hopen.proofs.Names.{◌≡◌, ℕ, zero, suc, ◌<◌, ◌≤◌, nat_eq, eqb, Bool, true, false, cond, ◌||◌, List, [], ◌∷◌, Option, Some, None, inl, inr, if◌then◌else◌, length, filter, refl, ap, arith, find, list_any, slice_get, option_map, eqb-true, ne_eqb, cases_Bool, changed_at, EntryOf, Listed, marker, entry, after_marker, is_of_node, is_entry, entry_of, for_node, find_entry, nth_live, nowhere, is_hole, live, IsSlot, AreSlots, nat_tests}
+use Rattle.hopen.proofs.Names.{◌≡◌, ℕ, zero, suc, ◌<◌, ◌≤◌, nat_eq, eqb, Bool, true, false, List, [], ◌∷◌, Option, Some, None, if◌then◌else◌, length, filter, refl, ap, arith, find, list_any, slice_get, option_map, eqb-true, ne_eqb, changed_at, EntryOf, Listed, marker, entry, after_marker, is_entry, entry_of, for_node, find_entry, nth_live, nowhere, is_hole, live, IsSlot, AreSlots, nat_tests}
 
 -- a number below nowhere is not that of a hole
 pub apart : (a b : ℕ) → a < nowhere → eqb b nowhere ≡ true → eqb a b ≡ false

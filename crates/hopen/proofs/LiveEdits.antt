@@ -1,5 +1,5 @@
 -- Edits of lists with holes: what is left without the holes, and that each item is still a marker, an entry or the hole.
-use Rattle.hopen.proofs.Names.{arith, ◌≡◌, ℕ, zero, suc, ◌<◌, nat_eq, Bool, true, false, cond, not, ◌&&◌, List, [], ◌∷◌, Option, Some, None, inl, inr, refl, ◌∙◌, ap, find, list_any, remove, option_map_or, cases_Bool, without, put_before, changed_at, EntryOf, Listed, marker, entry, after_marker, cleared, is_entry, for_node, with_node, booked, has_bookmark, without_earliest, with_room, nowhere, hole, is_hole, live, AreSlots, Bookmark, InPlace, After, changed}
+use Rattle.hopen.proofs.Names.{arith, ◌≡◌, ℕ, zero, suc, ◌<◌, nat_eq, Bool, true, false, cond, not, List, [], ◌∷◌, Option, Some, None, refl, ◌∙◌, ap, find, remove, option_map_or, without, put_before, changed_at, EntryOf, Listed, marker, entry, cleared, is_entry, for_node, with_node, booked, has_bookmark, without_earliest, with_room, nowhere, hole, is_hole, live, AreSlots, Bookmark, InPlace, After, changed}
 use Rattle.hopen.proofs.Live.{apart, is_hole-for_node, Spares, spares-node, find_is-live, any-live, any_after-live, filter_after-live}
 
 pub live-cons : (x : Listed ℕ) (xs ys : List (Listed ℕ)) → live xs ≡ live ys → live (x ∷ xs) ≡ live (x ∷ ys)

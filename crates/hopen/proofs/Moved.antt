@@ -1,38 +1,35 @@
--- Exchanges of neighbours in a list and what a run of them does; an entry that becomes that of another node, and where an entry
+-- Exchanges in a list and what a run of them does; an entry that becomes that of another node, and where an entry
 -- is among the others.
-use Rattle.hopen.proofs.Names.{◌≡◌, ℕ, zero, suc, ◌+◌, ◌-◌, ◌<◌, ◌≤◌, ◌==◌, ◌⊎◌, inl, Bool, true, false, IsTrue, cond, eqb, List, [], ◌∷◌, ◌++◌, Option, Some, is_some, length, get_or, set, take, drop, map, reverse, refl, sym, ◌∙◌, ap, arith, subst, max, All, insert, list_any, position, remove, eqb-zero-suc, append_assoc, drop-set-lt, get_or-map, get_or-reverse, get_or-set_other, length-append, length-map, length-reverse, length-set, length-take-le, map-set, reverse-append, All-get_or, All-head, All-set, All-tail, last_up, none, EntryOf, for_node, is_entry, IsStored, entry_is, is_gone, item_of, items_of, nowhere, renamed, told, DefaultHasher, IsListed, by_hash, by_name, by_node, number_by, numbers_by, changed_at, put_before, last_place, Stored, Slots, reverse-map, set_nearest, last_place-le, nat_tests, get_or-set_same, set-get_or, set-set, set_split, take-set, insert_nearest, position_nearest, position-none, position-some}
+use Rattle.hopen.proofs.Names.{◌≡◌, ◌≢◌, ℕ, zero, suc, ◌+◌, ◌-◌, ◌<◌, ◌≤◌, ◌==◌, ◌⊎◌, inl, Bool, true, false, IsTrue, cond, eqb, List, [], ◌∷◌, ◌++◌, Option, Some, is_some, length, get_or, set, take, drop, map, reverse, refl, sym, ◌∙◌, ap, arith, subst, All, insert, list_any, position, remove, swap, swap_is, length-swap, eqb-zero-suc, append_assoc, drop-set-lt, get_or-map, get_or-reverse, get_or-set_other, length-append, length-map, length-reverse, length-set, length-take-le, map-set, reverse-append, All-get_or, All-head, All-set, All-tail, last_up, none, EntryOf, for_node, is_entry, IsStored, entry_is, is_gone, item_of, items_of, nowhere, renamed, told, DefaultHasher, IsListed, by_hash, by_name, by_node, number_by, numbers_by, changed_at, put_before, last_place, Stored, Slots, reverse-map, set_nearest, last_place-le, nat_tests, get_or-set_same, set-get_or, set-set, set_split, take-set, insert_nearest, position_nearest, position-none, position-some}
 use Rattle.hopen.specs.declared.entry.Slot.TheVariants as stored
 use Rattle.hopen.proofs.Chained.{last-is}
 use Rattle.hopen.proofs.ItemLists.{not_missing}
 use Rattle.hopen.proofs.Listed.{number-same}
 
--- the members at an index and at the next one in each other's place
-abbrev pub exchanged : {X : Type 0} → List X → ℕ → X → List X
-exchanged xs i d = set (set xs i (get_or xs (i + 1) d)) (i + 1) (get_or xs i d)
-
-abbrev exchanged_suc : {X : Type 0} → List X → ℕ → X → List X
-exchanged_suc xs i d = set (set xs i (get_or xs (suc i) d)) (suc i) (get_or xs i d)
+-- the members at two indexes in each other's place
+abbrev pub exchanged : {X : Type 0} → List X → (i j : ℕ) → X → List X
+exchanged xs i j d = set (set xs i (get_or xs j d)) j (get_or xs i d)
 
 module _ {X : Type 0} where
-  suc-is : (xs : List X) (i : ℕ) (d : X) → exchanged xs i d ≡ exchanged_suc xs i d
-  suc-is xs i d = let one : i + 1 ≡ suc i = omega arith in ap (λ n. set (set xs i (get_or xs n d)) n (get_or xs i d)) one
+  suc-is : (xs : List X) (i : ℕ) (d : X) → exchanged xs i (i + 1) d ≡ exchanged xs i (suc i) d
+  suc-is xs i d = let one : i + 1 ≡ suc i = omega arith in ap (λ n. exchanged xs i n d) one
 
-  up_suc : (ys : List X) (i : ℕ) (x d : X) → i < length ys → exchanged_suc (insert ys i x) i d ≡ insert ys (suc i) x
+  up_suc : (ys : List X) (i : ℕ) (x d : X) → i < length ys → exchanged (insert ys i x) i (suc i) d ≡ insert ys (suc i) x
   up_suc [] i x d h = absurd (omega arith)
   up_suc (y ∷ ys) zero x d h = refl
   up_suc (y ∷ ys) (suc i) x d h = ap (λ l. y ∷ l) (up_suc ys i x d (omega arith))
 
-  down_suc : (ys : List X) (i : ℕ) (x d : X) → i < length ys → exchanged_suc (insert ys (suc i) x) i d ≡ insert ys i x
+  down_suc : (ys : List X) (i : ℕ) (x d : X) → i < length ys → exchanged (insert ys (suc i) x) i (suc i) d ≡ insert ys i x
   down_suc [] i x d h = absurd (omega arith)
   down_suc (y ∷ ys) zero x d h = refl
   down_suc (y ∷ ys) (suc i) x d h = ap (λ l. y ∷ l) (down_suc ys i x d (omega arith))
 
   -- a member that was put in goes one up, or one down
-  pub exchanged-up : (ys : List X) (i : ℕ) (x d : X) → i < length ys → exchanged (insert ys i x) i d ≡ insert ys (i + 1) x
+  pub exchanged-up : (ys : List X) (i : ℕ) (x d : X) → i < length ys → exchanged (insert ys i x) i (i + 1) d ≡ insert ys (i + 1) x
   exchanged-up ys i x d h = let one : suc i ≡ i + 1 = omega arith in suc-is (insert ys i x) i d ∙ up_suc ys i x d h ∙ ap (λ n. insert ys n x) one
 
-  pub exchanged-down : (ys : List X) (i : ℕ) (x d : X) → i < length ys → exchanged (insert ys (i + 1) x) i d ≡ insert ys i x
-  exchanged-down ys i x d h = let one : i + 1 ≡ suc i = omega arith in ap (λ n. exchanged (insert ys n x) i d) one ∙ suc-is (insert ys (suc i) x) i d ∙ down_suc ys i x d h
+  pub exchanged-down : (ys : List X) (i : ℕ) (x d : X) → i < length ys → exchanged (insert ys (i + 1) x) i (i + 1) d ≡ insert ys i x
+  exchanged-down ys i x d h = let one : i + 1 ≡ suc i = omega arith in ap (λ n. exchanged (insert ys n x) i n d) one ∙ down_suc ys i x d h
 
   -- a member that is taken out and put back
   pub insert-remove : (xs : List X) (i : ℕ) (d : X) → i < length xs → insert (remove xs i) i (get_or xs i d) ≡ xs
@@ -40,30 +37,42 @@ module _ {X : Type 0} where
   insert-remove (x ∷ xs) zero d h = refl
   insert-remove (x ∷ xs) (suc i) d h = ap (λ l. x ∷ l) (insert-remove xs i d (omega arith))
 
-  pub length-exchanged : (xs : List X) (i : ℕ) (d : X) → length (exchanged xs i d) ≡ length xs
-  length-exchanged xs i d = length-set (set xs i (get_or xs (i + 1) d)) (i + 1) (get_or xs i d) ∙ length-set xs i (get_or xs (i + 1) d)
+  map-exchanged : {Y : Type 0} (f : X → Y) (xs : List X) (i j : ℕ) (d : X) (e : Y) → i < length xs → j < length xs → map f (exchanged xs i j d) ≡ exchanged (map f xs) i j e
+  map-exchanged f xs i j d e h k = grind (arith, map-set, get_or-map)
 
-  pub map-exchanged : {Y : Type 0} (f : X → Y) (xs : List X) (i : ℕ) (d : X) (e : Y) → i + 1 < length xs → map f (exchanged xs i d) ≡ exchanged (map f xs) i e
-  map-exchanged f xs i d e h = grind (arith, map-set, get_or-map)
+  All-exchanged : (P : X → Type 0) (xs : List X) (i j : ℕ) (d : X) → i < length xs → j < length xs → All P xs → All P (exchanged xs i j d)
+  All-exchanged P xs i j d h k all =
+      All-set P (set xs i (get_or xs j d)) j (get_or xs i d) (All-get_or P xs i d h all) (All-set P xs i (get_or xs j d) (All-get_or P xs j d k all) all)
 
-  pub All-exchanged : (P : X → Type 0) (xs : List X) (i : ℕ) (d : X) → i + 1 < length xs → All P xs → All P (exchanged xs i d)
-  All-exchanged P xs i d h all =
-      All-set P (set xs i (get_or xs (i + 1) d)) (i + 1) (get_or xs i d) (All-get_or P xs i d (omega arith) all) (All-set P xs i (get_or xs (i + 1) d) (All-get_or P xs (i + 1) d h all) all)
-
-  pub exchanged-above : (xs : List X) (i k : ℕ) (d x : X) → i + 2 ≤ k → get_or (exchanged xs i d) k x ≡ get_or xs k x
-  exchanged-above xs i k d x h = grind (arith, get_or-set_other)
-
--- the numbers of the items, where all is exchanged alike
-pub numbers-exchanged : (of : EntryOf ℕ → ℕ) (items : List Stored) (numbers : List ℕ) (i : ℕ) (d : Stored) → i + 1 < length items → numbers ≡ numbers_by of items
-    → exchanged numbers i 0 ≡ numbers_by of (exchanged items i d)
-numbers-exchanged of items numbers i d h are = ap (λ ns. exchanged ns i 0) are ∙ sym (map-exchanged (λ x. number_by of (item_of x)) items i d 0 h)
+  exchanged-other : (xs : List X) (i j k : ℕ) (d x : X) → k ≢ i → k ≢ j → get_or (exchanged xs i j d) k x ≡ get_or xs k x
+  exchanged-other xs i j k d x a b = get_or-set_other (set xs i (get_or xs j d)) j k (get_or xs i d) x b ∙ get_or-set_other xs i k (get_or xs j d) x a
 
 -- no hole from an index on
 abbrev pub NoHoleFrom : ℕ → List Stored → Type 0
 NoHoleFrom from items = (i : ℕ) → from ≤ i → i < length items → (x : Stored) → is_gone (get_or items i x) ≡ false
 
-pub solid-exchanged : (items : List Stored) (solid i : ℕ) (d : Stored) → NoHoleFrom solid items → NoHoleFrom (max solid (i + 2)) (exchanged items i d)
-solid-exchanged items solid i d all k h l x = ap is_gone (exchanged-above items i k d x (omega arith)) ∙ all k (omega arith) (omega (arith, length-exchanged items i d)) x
+-- what is kept of the list, where all is exchanged alike
+module _ (i j : ℕ) (old new : Slots) (listed : IsListed old) (low : i < length old.items.items) (high : j < length old.items.items) where
+  numbers-exchanged : (of : EntryOf ℕ → ℕ) (numbers : List ℕ) → numbers ≡ numbers_by of old.items.items → exchanged numbers i j 0 ≡ numbers_by of (exchanged old.items.items i j stored.Hole)
+  numbers-exchanged of numbers are = ap (λ ns. exchanged ns i j 0) are ∙ sym (map-exchanged (λ x. number_by of (item_of x)) old.items.items i j stored.Hole 0 low high)
+
+  pub listed-exchanged : new.keys ≡ old.keys → new.names ≡ exchanged old.names i j 0 → (is_some old.keys ≡ true → new.hashes ≡ exchanged old.hashes i j 0) → new.nodes ≡ exchanged old.nodes i j 0
+      → new.items.items ≡ swap old.items.items i j → (old.solid ≤ new.solid) × (i < new.solid) × (j < new.solid) × (new.solid ≤ length old.items.items) → IsListed new
+  listed-exchanged keys names hashes nodes items bounds =
+      let xs = old.items.items in
+      let now : new.items.items ≡ exchanged xs i j stored.Hole = items ∙ sym (swap_is xs i j stored.Hole low high) in
+      let size : length new.items.items ≡ length xs = ap length items ∙ length-swap xs i j in
+      record {
+        names = names ∙ numbers-exchanged by_name old.names listed.names ∙ ap (numbers_by by_name) (sym now);
+        hashes = λ some. let there = ap is_some (sym keys) ∙ some in
+            hashes there ∙ numbers-exchanged (by_hash old.keys) old.hashes (listed.hashes there) ∙ (λ k. numbers_by (by_hash (sym keys k)) (sym now k));
+        nodes = nodes ∙ numbers-exchanged by_node old.nodes listed.nodes ∙ ap (numbers_by by_node) (sym now);
+        stored = subst (All IsStored) (sym now) (All-exchanged IsStored xs i j stored.Hole low high listed.stored);
+        within = omega (arith, size, bounds.3);
+        solid = λ k from to x.
+            ap (λ ys. is_gone (get_or ys k x)) now ∙ ap is_gone (exchanged-other xs i j k stored.Hole x (omega (arith, bounds.1)) (omega (arith, bounds.2)))
+            ∙ listed.solid k (omega (arith, bounds.0)) (omega (arith, size)) x;
+      }
 
 -- an entry that becomes that of another node
 module _ (node : ℕ) where

@@ -19,12 +19,11 @@ use std::marker::Model;
 /// The list of active formatting elements.
 ///
 /// Each call takes the same time at any length, amortized, where few entries have the same hash; but `len` counts, `get` and `renew` pass
-/// the holes that removed entries left, unless `reach` closed them, and `move_to_bookmark` takes a step for each item that it passes.
+/// the holes that removed entries left, unless `reach` closed them, and `move_to_bookmark` takes a step for each entry that it passes, and
+/// for each later one of its name; towards the front for each hole too.
 #[derive(Drop)]
 pub struct Formatting {
     slots: Slots,
-    /// How many items and holes entries have passed since all holes were closed.
-    passed: usize,
     /// The keys of the hashes.
     keys: Keys,
     alloc: Global,
@@ -100,7 +99,6 @@ impl Formatting {
     {
         Formatting {
             slots: Slots::new(alloc),
-            passed: 0,
             keys,
             alloc,
         }
@@ -257,30 +255,7 @@ impl Formatting {
     {
         match bookmark {
             Bookmark::InPlace => self.replace(from, to),
-            Bookmark::After(mark) => {
-                self.close_if_passed(from, mark);
-                self.move_after(from, to, mark);
-            }
-        }
-    }
-
-    /// Before an entry is moved to another: closes all holes once as many items and holes were passed as there are, so that no hole is
-    /// passed again and again.
-    fn close_if_passed(&mut self, from: NodeId, mark: NodeId)
-        ensures { self.new ≡ self.old }
-    {
-        let len = self.slots.items.len();
-        if len <= FEW || self.slots.solid == 0 {
-            return;
-        }
-        let nodes = &self.slots.nodes;
-        let steps = nodes
-            .last(node_number(from))
-            .abs_diff(nodes.last(node_number(mark)));
-        self.passed = self.passed.saturating_add(steps);
-        if self.passed >= len {
-            self.slots.close(0);
-            self.passed = 0;
+            Bookmark::After(mark) => self.move_after(from, to, mark),
         }
     }
 

@@ -1,12 +1,12 @@
 //! The items of the list of active formatting elements, with the holes that entries leave: nothing moves where one is removed.
 
 ghost use Rattle.std.specs.Prelude.{◌≡◌, ◌≢◌, ℕ, suc, ◌+◌, ◌-◌, ◌<◌, ◌≤◌, ◌++◌, ◌∷◌, [], IfOk, IfSome, OnOk, OnErr, IsTrue, is_some, true, false, insert};
-ghost use Rattle.std.specs.Prelude.{◌⊎◌, Some, length, map, nat_eq, not, remove, slice_index_or, slice_set, filter, take, drop};
+ghost use Rattle.std.specs.Prelude.{◌⊎◌, Some, length, map, nat_eq, not, remove, slice_index, slice_index_or, slice_set, filter, take, drop};
 ghost use Rattle.std.specs.List.{All, list_any};
 ghost use Rattle.std.specs.Option.{option_map_or};
 ghost use Rattle.hnodes.specs.Chains.{none};
 ghost use Rattle.hnodes.specs.Nearest.{changed_at, put_before};
-ghost use Rattle.hopen.specs.Vocabulary.{attribute_of, by_hash, by_name, by_node, entry_hash, for_node, is_entry, is_gone, item_of, items_of, number_by, numbers_by};
+ghost use Rattle.hopen.specs.Vocabulary.{attribute_of, by_hash, by_name, by_node, entry_hash, for_node, is_entry, is_gone, item_of, items_of, live, number_by, numbers_by};
 ghost use Rattle.hopen.specs.Vocabulary.{told, with_room, IsListed, IsStored};
 ghost use Rattle.hopen.specs.declared.entry.Slot.TheVariants as stored;
 
@@ -81,6 +81,37 @@ fn push_numbers(
         return Err(error);
     }
     Ok(())
+}
+
+/// The index of the last hole after an index and before a place, if there is one.
+fn last_hole(items: &[Slot], index: usize, place: usize) -> Option<usize>
+    requires index { index < length items.now }
+    requires place { place ≤ length items.now }
+    ensures { IfSome result (λ k. (index < k) × (k < length items.now) × (is_gone (slice_index_or items.now k stored.Hole) ≡ true)) }
+{
+    let mut hole = place;
+    while hole > index + 1 {
+        hole -= 1;
+        if items[hole].is_hole() {
+            return Some(hole);
+        }
+    }
+    None
+}
+
+/// Moves the number at an index to where none is.
+fn move_number(numbers: &mut Chains, index: usize, to: usize)
+    requires within { index < length numbers.old }
+    requires number { slice_index numbers.old index ≢ none }
+    requires to { to < length numbers.old }
+    requires free { slice_index numbers.old to ≡ none }
+    ensures { numbers.new ≡ slice_set (slice_set numbers.old index (slice_index numbers.old to)) to (slice_index numbers.old index) }
+{
+    let Some(number) = numbers.get(index) else {
+        unreachable!()
+    };
+    numbers.clear(index);
+    numbers.set(to, number);
 }
 
 impl Slots {
@@ -297,8 +328,8 @@ impl Slots {
         }
     }
 
-    /// Sets the node of the entry at an index, and moves it right after the entry of another node.
-    pub(crate) fn move_after(&mut self, index: usize, node: NodeId, mark: NodeId)
+    /// Sets the node of the entry at an index, and moves it right after the entry of another node, past one item at a time.
+    fn step_after(&mut self, index: usize, node: NodeId, mark: NodeId)
         requires listed { IsListed self.old }
         requires within { index < length self.old.items.items }
         requires entry { is_some (told (slice_index_or self.old.items.items index stored.Hole)) ≡ true }
@@ -317,6 +348,63 @@ impl Slots {
         } else {
             self.raise(index, place - 1);
         }
+    }
+
+    /// Moves the entry at an index to where a hole is, and leaves one.
+    fn jump(&mut self, index: usize, hole: usize)
+        requires listed { IsListed self.old }
+        requires within { index < length self.old.items.items }
+        requires entry { is_some (told (slice_index_or self.old.items.items index stored.Hole)) ≡ true }
+        requires hole_within { hole < length self.old.items.items }
+        requires hole { is_gone (slice_index_or self.old.items.items hole stored.Hole) ≡ true }
+        ensures listed { IsListed self.new }
+        ensures items { self.new.items.items
+            ≡ slice_set (slice_set self.old.items.items index (slice_index_or self.old.items.items hole stored.Hole))
+            hole (slice_index_or self.old.items.items index stored.Hole) }
+    {
+        move_number(&mut self.names, index, hole);
+        move_number(&mut self.nodes, index, hole);
+        self.items.swap(index, hole);
+        self.solid = self.solid.max(index + 1);
+        if self.keys.is_some() {
+            move_number(&mut self.hashes, index, hole);
+        }
+    }
+
+    /// Moves the entry at an index to the last hole before the entry of a node, if that hole comes after it. Returns where it then is.
+    fn approach(&mut self, index: usize, mark: NodeId) -> usize
+        requires listed { IsListed self.old }
+        requires within { index < length self.old.items.items }
+        requires entry { is_some (told (slice_index_or self.old.items.items index stored.Hole)) ≡ true }
+        ensures listed { IsListed self.new }
+        ensures within { result < length self.new.items.items }
+        ensures entry { slice_index_or self.new.items.items result stored.Hole ≡ slice_index_or self.old.items.items index stored.Hole }
+        ensures rest { live (items_of (remove self.new.items.items result)) ≡ live (items_of (remove self.old.items.items index)) }
+    {
+        if self.solid <= index {
+            return index;
+        }
+        let place = self.nodes.last(node_number(mark));
+        let Some(hole) = last_hole(&self.items, index, place) else {
+            return index;
+        };
+        self.jump(index, hole);
+        hole
+    }
+
+    /// Sets the node of the entry at an index, and moves it right after the entry of another node: where that comes later, past no hole.
+    pub(crate) fn move_after(&mut self, index: usize, node: NodeId, mark: NodeId)
+        requires listed { IsListed self.old }
+        requires within { index < length self.old.items.items }
+        requires entry { is_some (told (slice_index_or self.old.items.items index stored.Hole)) ≡ true }
+        requires mark { IsTrue (list_any (is_entry mark) (items_of (remove self.old.items.items index))) }
+        ensures listed { IsListed self.new }
+        ensures items { live (items_of self.new.items.items)
+            ≡ live (put_before (is_entry mark) (for_node node (item_of (slice_index_or self.old.items.items index stored.Hole)))
+            (items_of (remove self.old.items.items index))) }
+    {
+        let near = self.approach(index, mark);
+        self.step_after(near, node, mark);
     }
 
     /// Takes the holes from an index on out.

@@ -17,6 +17,6 @@ loop-index-preserved c =
       below = omega arith;
       above = omega arith;
       moved =
-          c.swap.ensures.items ∙ ap (λ xs. exchanged xs i stored.Hole) (c.loop-index.invariant.moved ∙ ap (λ n. insert (remove old c.args.from) n (get_or old c.args.from stored.Hole)) next)
+          c.swap.ensures.items ∙ ap (λ xs. exchanged xs i (i + 1) stored.Hole) (c.loop-index.invariant.moved ∙ ap (λ n. insert (remove old c.args.from) n (get_or old c.args.from stored.Hole)) next)
           ∙ exchanged-down (remove old c.args.from) i (get_or old c.args.from stored.Hole) stored.Hole (omega arith);
     }

@@ -20,6 +20,6 @@ loop-index-preserved c =
     record {
       listed = c.swap.ensures.listed;
       moved =
-          c.swap.ensures.items ∙ ap (λ xs. exchanged xs c.loop-index.index stored.Hole) c.loop-index.invariant.moved
+          c.swap.ensures.items ∙ ap (λ xs. exchanged xs c.loop-index.index (c.loop-index.index + 1) stored.Hole) c.loop-index.invariant.moved
           ∙ exchanged-up (remove old c.args.from) c.loop-index.index (get_or old c.args.from stored.Hole) stored.Hole (omega arith);
     }
