@@ -101,7 +101,9 @@ fn page_in(
     parsed: Parsed,
     room: usize,
 ) -> Result<Page, Refusal>
-    ensures made { MatchResult result (λ page. parts_of page ≡ parsed_parts parsed wants.errors (if wants.text then parsed_text escaping task.Write None parsed else [])) (λ refusal. refusal ≡ Memory) }
+    ensures made { MatchResult result
+        (λ page. parts_of page ≡ parsed_parts parsed wants.errors (if wants.text then parsed_text escaping task.Write None parsed else []))
+        (λ refusal. refusal ≡ Memory) }
     ensures room { IfOk result (λ page. page.text.room ≡ room) }
 {
     let text = html_in(alloc, wants.text, escaping, &parsed, room)?;

@@ -102,8 +102,10 @@ pub(crate) fn put_text(text: &Fitted, room: &mut [u8]) -> Answer
 
 /// Writes the rows and the words of a tree to the beginnings of their rooms, if all of them fit.
 pub(crate) fn put_rows(tree: &Rows, rows: &mut [NodeRow], words: &mut [u8]) -> Answer
-    ensures rows { rows.new ≡ put_over (fit (parsed_rows tree.now.parsed) rows.old (parsed_words tree.now.parsed) words.old) (parsed_rows tree.now.parsed) rows.old }
-    ensures words { words.new ≡ put_over (fit (parsed_rows tree.now.parsed) rows.old (parsed_words tree.now.parsed) words.old) (parsed_words tree.now.parsed) words.old }
+    ensures rows { rows.new ≡ put_over (fit (parsed_rows tree.now.parsed) rows.old (parsed_words tree.now.parsed) words.old)
+        (parsed_rows tree.now.parsed) rows.old }
+    ensures words { words.new ≡ put_over (fit (parsed_rows tree.now.parsed) rows.old (parsed_words tree.now.parsed) words.old)
+        (parsed_words tree.now.parsed) words.old }
     ensures answer { result ≡ room_answer (fit (parsed_rows tree.now.parsed) rows.old (parsed_words tree.now.parsed) words.old)
         (length (parsed_words tree.now.parsed)) (length (parsed_rows tree.now.parsed)) }
 {
