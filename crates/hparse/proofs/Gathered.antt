@@ -2,6 +2,7 @@
 use Rattle.hparse.proofs.Names.{◌≡◌, List, [], ◌∷◌, ◌++◌, sym, ap, ◌∙◌, subst, Result, Ok, Err, append-nil, append_assoc, IsPermutation, ParseError, Refusal, Texts, Hands, Token, Tok, Item, ItemToken, ItemError, gives_item, Collected, Began, WasHanded, tokens_handed, errors_handed, TokensMean}
 use Rattle.htoken.specs.Token.{token_in}
 use Rattle.hparse.specs.Collecting.{KeepsError, KeepsToken}
+use Rattle.hparse.proofs.Handing.{tokens_mean}
 use Rattle.hparse.proofs.Refusing.{RefusesForMemory}
 
 -- a step of the collection
@@ -27,7 +28,7 @@ module _ (names : Texts) (began : Began Collected) (now : Collected) (tokens : L
   -- what an empty collection has then
   module _ (h : WasHanded collects names began tokens errors (Ok tt) now) where
     pub tokens_gathered : began.sink.tokens.items ≡ [] → TokensMean names now.tokens.items tokens
-    tokens_gathered none = subst (λ (ts : List Token). TokensMean names ts tokens) (ap (λ (x : List Token). x ++ tokens_handed h.items) (sym none) ∙ sym (gathers began.sink now h.items h.hands).0) h.tokens_mean
+    tokens_gathered none = subst (λ (ts : List Token). TokensMean names ts tokens) (ap (λ (x : List Token). x ++ tokens_handed h.items) (sym none) ∙ sym (gathers began.sink now h.items h.hands).0) (tokens_mean names h.items tokens h.items_mean)
 
     pub errors_gathered : began.sink.errors.items ≡ [] → IsPermutation errors now.errors.items
     errors_gathered none = subst (IsPermutation errors) (ap (λ (x : List ParseError). x ++ errors_handed h.items) (sym none) ∙ sym (gathers began.sink now h.items h.hands).1) h.errors_are

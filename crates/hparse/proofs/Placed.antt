@@ -54,13 +54,13 @@ inner began = record { names = began.names; sink = began.sink.builder }
 
 module _ (names : Texts) (began : Began Placing) (now : Placing) where
   pub handed_inner : (tokens : List Tok) (errors : List ParseError) → WasHanded places_item names began tokens errors (Ok tt) now → WasHanded builds names (inner began) tokens errors (Ok tt) now.builder
-  handed_inner tokens errors h = record { grows = h.grows; items = h.items; hands = handed_on began.sink now h.items h.hands; tokens_mean = h.tokens_mean; errors_are = h.errors_are }
+  handed_inner tokens errors h = record { grows = h.grows; items = h.items; hands = handed_on began.sink now h.items h.hands; items_mean = h.items_mean; errors_are = h.errors_are }
 
   module _ (m : Manner) (bytes : List ℕ) where
     pub refused_inner : (e : Refusal) → IsRefusedFor places_item m began bytes names now e → (e ≡ Memory) ⊎ IsRefusedFor builds m (inner began) bytes names now.builder e
     refused_inner e (by_sink refusal events errors h front) = elim (refused_on began.sink now h.items e h.hands) [
       | inl why ↦ inl why
-      | inr on ↦ inr (by_sink e events errors (record { grows = h.grows; items = h.items; hands = on; tokens_mean = h.tokens_mean; errors_are = h.errors_are }) front)
+      | inr on ↦ inr (by_sink e events errors (record { grows = h.grows; items = h.items; hands = on; items_mean = h.items_mean; errors_are = h.errors_are }) front)
     ]
     refused_inner e (by_tag name at tokens errors h refused) = inr (by_tag name at tokens errors (handed_inner tokens errors h) refused)
     refused_inner e (by_memory events errors h front) = inl refl

@@ -3,7 +3,7 @@ use Rattle.hparse.proofs.Names.{◌≡◌, ℕ, Bool, true, false, List, map, sy
 use Rattle.hparse.specs.Origins.{Makes, again_laid, first_makings}
 use Rattle.hparse.specs.Placing.{makings_if, makings_of}
 use Rattle.hparse.specs.declared.origins.Origin.{Origin}
-use Rattle.hparse.proofs.Handing.{tokens_kept}
+use Rattle.hparse.proofs.Handing.{tokens_kept, tokens_mean}
 use Rattle.hparse.proofs.Numbered.{placed_number, tokens_spelled}
 use Rattle.hparse.proofs.Placed.{makes_on, makes_spelled, none_on}
 use Rattle.hparse.proofs.Trees.{begins_spelled}
@@ -24,7 +24,7 @@ module _ (opts : ParseOptions) (parse_case : ParseCase) (began : Began Placing) 
       subst (λ (s : State (List ℕ)). Makes texts (map placed t.tokens) s (first_makings s) (spelled_state spell now.builder.state) made)
       (begins_spelled opts began.names later parse_case began.sink.builder.state (grows_on began.names names later t.handed.grows grows) are begins_in)
       (subst (λ (ps : List (PlacedToken (List ℕ))). Makes texts ps (spelled_state spell began.sink.builder.state) (first_makings began.sink.builder.state) (spelled_state spell now.builder.state) made)
-      (tokens_spelled later are (tokens_handed t.handed.items) t.tokens (tokens_kept names later grows (tokens_handed t.handed.items) t.tokens t.handed.tokens_mean))
+      (tokens_spelled later are (tokens_handed t.handed.items) t.tokens (tokens_kept names later grows (tokens_handed t.handed.items) t.tokens (tokens_mean names t.handed.items t.tokens t.handed.items_mean)))
       (makes_spelled numbers texts spell (numbers-agree later are) (steps_spelled numbers texts spell (numbers-agree later are)) given began.sink.builder.state now.builder.state (first_makings began.sink.builder.state) made makes))
 
   -- the list of a page

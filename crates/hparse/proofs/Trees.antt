@@ -8,7 +8,7 @@ use Rattle.hadopt.specs.Spelled.{outcome_map}
 use Rattle.hparse.specs.Parse.{refused_token, refused_tag, refused_bytes, accepted, root_of}
 use Rattle.hparse.specs.Parsing.{IsMadeOf, places_in}
 use Rattle.hparse.proofs.Built.{Became, became, builds, refused_by_rules}
-use Rattle.hparse.proofs.Handing.{tokens_kept}
+use Rattle.hparse.proofs.Handing.{tokens_kept, tokens_mean}
 use Rattle.hparse.proofs.OfNames.{within, tokens_of_table, children_are_of}
 use Rattle.hmodes.proofs.OfTable.{document-of, fragment-of}
 use Rattle.hparse.proofs.Numbered.{placed_number, tokens_spelled, fragment_spelled}
@@ -39,13 +39,13 @@ module _ (opts : ParseOptions) (parse_case : ParseCase) (began : Began Building)
 
   -- where all of them were handed over
   pub gone : (tokens : List Tok) (errors : List ParseError) → WasHanded builds names began tokens errors (Ok tt) now → Steps texts (map placed tokens) (begins opts parse_case) (Goes (spelled_state spell now.state))
-  gone tokens errors h = in_texts h.grows (tokens_handed h.items) tokens (Goes now.state) h.tokens_mean (became began.sink now h.items unrefused h.hands).steps
+  gone tokens errors h = in_texts h.grows (tokens_handed h.items) tokens (Goes now.state) (tokens_mean names h.items tokens h.items_mean) (became began.sink now h.items unrefused h.hands).steps
 
   -- a refusal, but for want of memory
   pub parses_refused : (e : Refusal) → IsRefusedFor builds (manner opts parse_case) began bytes names now e → (e ≡ Memory) ⊎ Parses opts parse_case bytes (Err e)
   parses_refused e (by_sink refusal events errors h front) = elim (refused_by_rules began.sink now h.items e unrefused h.hands) [
     | inl why ↦ inl why
-    | inr steps ↦ inr (refused_token e events front (in_texts h.grows (tokens_handed h.items) (tokens_in events) (Refused e) h.tokens_mean steps))
+    | inr steps ↦ inr (refused_token e events front (in_texts h.grows (tokens_handed h.items) (tokens_in events) (Refused e) (tokens_mean names h.items (tokens_in events) h.items_mean) steps))
   ]
   parses_refused e (by_tag name at tokens errors h refused) = inr (refused_tag name at tokens (spelled_state spell now.state) refused (gone tokens errors h))
   parses_refused e (by_memory events errors h front) = inl refl
@@ -76,7 +76,7 @@ module _ (opts : ParseOptions) (parse_case : ParseCase) (began : Began Building)
       of_table : AreOf later now.state.site.nodes.trees
       of_table =
           trees_of_table opts began.names later parse_case began.sink.state now.state (map placed_number (tokens_handed t.handed.items)) (grows_on began.names names later t.handed.grows grows) are begins_in
-          (tokens_of_table later (tokens_handed t.handed.items) t.tokens (tokens_kept names later grows (tokens_handed t.handed.items) t.tokens t.handed.tokens_mean)) b.steps
+          (tokens_of_table later (tokens_handed t.handed.items) t.tokens (tokens_kept names later grows (tokens_handed t.handed.items) t.tokens (tokens_mean names t.handed.items t.tokens t.handed.items_mean))) b.steps
 
       told_is : now.told ≡ errors_handed t.handed.items
       told_is = b.told ∙ ap (λ (x : List ParseError). x ++ errors_handed t.handed.items) none_told

@@ -18,9 +18,8 @@ use Rattle.htoken.specs.declared.token.Start.{Start}
 use Rattle.htoken.specs.declared.token.Start.TheVariants as start
 use Rattle.htoken.specs.declared.token.Token.{Token}
 use Rattle.htoken.specs.Standing.{start_kind}
-use Rattle.htoken.specs.Token.{Tok, Event, Item, ItemToken, ItemError, token_in}
+use Rattle.htoken.specs.Token.{Tok, Event, Item, ItemToken, ItemError, HandedMeans, token_in}
 use Rattle.htoken.specs.Tokens.{Tokens, IsRefused, AreFront, tokens_in}
-use Rattle.hparse.specs.TokenRun.{TokensMean}
 
 -- how the text of an input is read: with these references, as a document or in a context, what becomes of bad bytes, and at most so
 -- many bytes
@@ -63,19 +62,27 @@ errors_handed [] = []
 errors_handed (ItemToken handed ∷ items) = errors_handed items
 errors_handed (ItemError error ∷ items) = error ∷ errors_handed items
 
+-- The tokens among the items stand for these, in order: only tags came with a table, each with one of its numbers, and this table has all texts of that.
+abbrev pub ItemsMean : Texts → List Item → List Tok → Type 0
+ItemsMean names [] [] = Unit {0}
+ItemsMean names (ItemToken handed ∷ items) (tok ∷ tokens) = HandedMeans names handed tok × ItemsMean names items tokens
+ItemsMean names (ItemError error ∷ items) tokens = ItemsMean names items tokens
+ItemsMean names [] (tok ∷ tokens) = ⊥
+ItemsMean names (ItemToken handed ∷ items) [] = ⊥
+
 -- A sink as it begins, and the table of names of the tokens.
 pub record Began (S : Type 0) : Type 0 where
   pub names : Texts
   pub sink : S
 
--- The sink was handed items in order, up to the first that it refused. Their tokens stand for these under the table as it is now; their
+-- The sink was handed items in order, up to the first that it refused. Their tokens stand for these under the table as it is now, and their
 -- errors are these, in some order.
 pub record WasHanded {S : Type 0} (gives : S → Item → Result (Unit {0}) Refusal → S → Type 0) (names : Texts) (began : Began S) (tokens : List Tok)
     (errors : List ParseError) (answer : Result (Unit {0}) Refusal) (now : S) : Type 0 where
   pub grows : Grows began.names names
   pub items : List Item
   pub hands : Hands gives began.sink items answer now
-  pub tokens_mean : TokensMean names (tokens_handed items) tokens
+  pub items_mean : ItemsMean names items tokens
   pub errors_are : IsPermutation errors (errors_handed items)
 
 module _ {S : Type 0} (gives : S → Item → Result (Unit {0}) Refusal → S → Type 0) (m : Manner) (began : Began S) (bytes : List ℕ) (names : Texts)
