@@ -11,10 +11,9 @@ empty line is between two records. A page has `#data`, `#errors`, `#document-fra
 and `#document`, its tree. A list of trees has `#written`, its HTML, `#document-fragment`, `#document`, and if it does not come back
 `#limit`, which limit of plain content it breaks, and `#back`, the tree that comes back or the refusal. In it \\r and \\0 are CR and NUL.
 
-    python3 cases.py FOLDER [BEGINNING]
+    python3 cases.py FOLDER
 
-writes FOLDER/NAME.in, a script, and FOLDER/NAME.out, its answers, for each file with this beginning; of page.html NAME.words, words for
-model_runs, in place of a script."""
+writes FOLDER/NAME.in, a script, and FOLDER/NAME.out, its answers, for each file."""
 import glob
 import json
 import os
@@ -28,7 +27,6 @@ VOID = set("area base basefont bgsound br col embed hr img input link meta param
 # What has its text as it is, since its text has no references.
 RAW = set("iframe noembed noframes plaintext script style xmp".split())
 QUOTE, ANGLES = {'"': "&quot;"}, {"<": "&lt;", ">": "&gt;"}
-PAGE = {"tree": "14 nodes, 2 errors\n"}
 
 
 def coded(text):
@@ -53,7 +51,7 @@ class Script:
 
     def read_list(self, call, why, refusal):
         """Reads a table or a quirks list, unless the last one was the same, and says whether it is accepted."""
-        kind, is_good = call.startswith("quirks"), why not in refusal
+        kind, is_good = call.startswith("doctypes"), why not in refusal
         if self.lists.get(kind) != call:
             self.say(call, "ok" if is_good else refused(refusal))
             if is_good:
@@ -62,8 +60,8 @@ class Script:
 
     def run(self, words, given, text, refusal, told):
         """Runs the engine as the words of a command line say, and what a case tells besides."""
-        table = f"table {told['entities']}" if "entities" in told else "core"
-        quirks = f"quirks {coded(told.get('quirks', ''))}"
+        table = f"entities {told['entities']}" if "entities" in told else "core"
+        quirks = f"doctypes {coded(told.get('quirks', ''))}"
         if not self.read_list(table, "BadTable", refusal) or not self.read_list(quirks, "BadQuirks", refusal):
             return
         options = options_of(words[1:])
@@ -148,15 +146,15 @@ class Grower:
     def __init__(self, script, context):
         self.root, self.made, self.say = Node(1, element=context), 2, script.say
         self.say("tree new 1000", "ok")
-        self.say(f"tree element {context}", "1")
+        self.say(f"tree element {context}", "ok")
 
     def make(self, parent, kind, text):
         node = Node(self.made, **{kind: text})
         self.made += 1
         if kind == "text":
-            self.say(f"tree text {parent.number} in {coded(text)}", "ok")
+            self.say(f"tree text {parent.number} {coded(text)}", "ok")
         else:
-            self.say(f"tree {kind} {coded(text)}", str(node.number))
+            self.say(f"tree {kind} {coded(text)}", "ok")
             self.say(f"tree append {node.number} {parent.number}", "ok")
         return node
 
@@ -224,26 +222,17 @@ def trees(script, record):
     root = Grower(script, context).grow(tree)
     if html(root, QUOTE) != written:
         raise SystemExit(f"{written!r} is stored, and {html(root, QUOTE)!r} should be written")
-    is_plain = "yes" if back == tree else "no"
-    answer = f'{is_plain} "{tree}" "{written}" "{html(root, QUOTE | ANGLES)}" -'
-    script.say(f"tree written 1 {context}", answer)
+    script.say(f"tree written 1 {context}", f'{"yes" if back == tree else "no"} "{tree}" "{written}"')
     text, refusal = ("", back) if back.startswith("refused: ") else (back, "")
     for given in (written, html(root, QUOTE | ANGLES)):
         script.run(["fragment", "--in", context], given, text, refusal, {})
 
 
-def main():
-    folder, beginning = (*sys.argv[1:], "")[:2]
-    for path in sorted(glob.glob(f"{DATA}/{beginning}*")):
+def main(folder):
+    for path in sorted(glob.glob(f"{DATA}/*")):
         name, end = os.path.basename(path).split(".")
-        if end == "html":
-            for task, answer in PAGE.items():
-                for ending, text in (("in", ""), ("words", f"{task}\n{path}"), ("out", answer)):
-                    with open(f"{folder}/{name}-{task}.{ending}", "w", encoding="utf-8") as file:
-                        file.write(text)
-        else:
-            (of_lines if end == "jsonl" else of_records)(path).write(folder, name)
+        (of_lines if end == "jsonl" else of_records)(path).write(folder, name)
 
 
 if __name__ == "__main__":
-    main()
+    main(*sys.argv[1:])

@@ -1,6 +1,6 @@
 //! Tests by what only calls can show: sinks that refuse, what is held, calls that are counted. What comes of an input, and of a call after
 //! a refusal, is in the stored cases of `data/cases`, what comes of a command line in the stored runs of `htmlp`, what comes of each read
-//! and each write that fails in `.ci/refused-calls`, and what names, tables, lists and trees answer in `.ci/models`.
+//! and each write that fails in `.ci/refused-calls`.
 #![tactic(auto)]
 
 #[cfg(test)]

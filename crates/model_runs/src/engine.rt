@@ -1,10 +1,10 @@
-//! The engine on an input, read in many ways, and the calls that answer with a text in memory.
+//! The engine on an input, read in many ways, the calls that answer with a text in memory, and long pages.
 
 ghost use Rattle.std.specs.Prelude.{◌<◌};
 
 use crate::answers::Answers;
 use crate::hand::Hand;
-use crate::words::{bytes, number, text, word};
+use crate::words::{after, bytes, number, text, word};
 use hwrite::{
     BadBytes, Command, Counted, Escaping, Keys, Limits, Options, Parsed, Parser, Quirks, Refusal,
     Table, Task, error_lines, parse_reader, parser, run, token_lines, tokens,
@@ -82,7 +82,7 @@ fn command_of<'a>(task: Task, context: &'a str, line: &str) -> Command<'a> {
 /// is asked, whether the refusal comes with the last byte.
 fn say(trial: &Trial, is_at_once: bool, out: &mut Answers) {
     let whole = outcome_of(trial, PIECE, trial.input);
-    out.bytes(&whole.text);
+    out.quoted(&whole.text);
     if let Some(refusal) = whole.refusal {
         out.refusal(refusal);
     }
@@ -170,6 +170,34 @@ fn comes_at_once(trial: &Trial, whole: &Outcome) -> bool {
     };
     outcome_of(trial, 1, Failing(front)).refusal == Some(Refusal::Read)
         && outcome_of(trial, 1, Failing(trial.input)) == *whole
+}
+
+/// Parses a page of a part that stands so many times, and says how many nodes its tree has, and how many parse errors.
+pub fn say_page(
+    hand: &mut Hand,
+    table: &Table,
+    quirks: &Quirks,
+    line: &str,
+) -> Result<(), Refusal> {
+    let options = Options::new(table, quirks, Keys::for_tests());
+    let page = repeated(hand.alloc, &options, number(line, 1), after(line, 2))?;
+    hand.out.number(page.tree.made() as usize);
+    hand.out.number(page.errors.len());
+    drop(page);
+    Ok(())
+}
+
+fn repeated(
+    alloc: Global,
+    options: &Options<'_>,
+    count: usize,
+    part: &str,
+) -> Result<Parsed, Refusal> {
+    let mut parser = Parser::document(alloc, options)?;
+    for _ in 0..count {
+        parser.feed(part.as_bytes())?;
+    }
+    parser.finish()
 }
 
 /// The tree and the parse errors of a file.

@@ -1,104 +1,74 @@
 //! Calls of the stack of open elements.
 
-use crate::answers::Answers;
 use crate::hand::{Hand, PLACE};
-use crate::words::{count, group, number, scope, word};
-use hnodes::NodeId;
-use hopen::OpenStack;
+use hopen::{Group, Open, OpenStack, Scope};
 use names::Refusal;
-use std::mem::replace;
 
-/// Makes a call.
-pub fn call(stack: &mut OpenStack, hand: &mut Hand, line: &str) -> Result<(), Refusal> {
-    match word(line, 1) {
-        // (An assignment would drop the old one field by field, each a step of the proof.)
-        "new" => drop(replace(stack, OpenStack::new(hand.alloc, count(line, 2)))),
-        "pop_to" => stack.pop_to(hand.name(line, 2)?),
-        "name" => return say_name(stack, hand, line),
-        "push" | "insert_below" | "replace" | "exchange" => return open(stack, hand, line),
-        _ => edit(stack, hand, line),
+/// Makes one of many calls. Whether the topmost node is then found, and no heading.
+pub fn call_one(
+    stack: &mut OpenStack,
+    hand: &mut Hand,
+    call: &str,
+    turn: usize,
+) -> Result<bool, Refusal> {
+    match call {
+        "push" => stack.push(hand.open(turn, turn)?, PLACE)?,
+        "pop" => drop(stack.pop()),
+        "exchange" => exchange(stack, hand, turn)?,
+        _ => change(stack, hand, call, turn)?,
+    }
+    Ok(match stack.from_top(0) {
+        Some(top) => is_found(stack, top) && is_nearest(stack, top) && has_ends(stack),
+        None => stack.len() == 0,
+    })
+}
+
+/// A node gives way to a new one of its name below the node that was right below it.
+fn exchange(stack: &mut OpenStack, hand: &mut Hand, turn: usize) -> Result<(), Refusal> {
+    let leaving = turn.saturating_mul(2).saturating_add(1);
+    let new = hand.open(stack.len().saturating_add(turn), leaving)?;
+    let (leaving, above) = (hand.node(leaving), hand.node(leaving.saturating_add(1)));
+    if stack.contains(leaving) {
+        stack.exchange(leaving, above, new)?;
     }
     Ok(())
 }
 
-/// Makes a call that opens a node, which comes first with its name.
-fn open(stack: &mut OpenStack, hand: &mut Hand, line: &str) -> Result<(), Refusal> {
-    let (near, above) = (hand.node(line, 4), hand.node(line, 5));
-    let open = hand.open(line)?;
-    match word(line, 1) {
-        "push" => stack.push(open, PLACE)?,
-        "insert_below" => stack.insert_below(near, open, PLACE)?,
-        "replace" => stack.replace(near, open)?,
-        _ if stack.contains(near) => stack.exchange(near, above, open)?,
-        _ => hand.out.say("-"),
+/// Changes what is right above the current node.
+fn change(stack: &mut OpenStack, hand: &mut Hand, call: &str, turn: usize) -> Result<(), Refusal> {
+    let number = stack.len().saturating_add(turn);
+    let new = hand.open(number, number)?;
+    let near = stack.get(1).map_or(new.node, |open| open.node);
+    match call {
+        "insert" => stack.insert_below(near, new, PLACE)?,
+        "replace" => stack.replace(near, new)?,
+        _ => stack.remove(near),
     }
     Ok(())
 }
 
-/// Makes a call that takes nodes from the stack.
-fn edit(stack: &mut OpenStack, hand: &mut Hand, line: &str) {
-    let (up, count) = (count(line, 2) as usize, count(line, 3) as usize);
-    match word(line, 1) {
-        "pop" => hand.out.open(stack.pop()),
-        "pop_to_node" => stack.pop_to_node(hand.node(line, 2)),
-        "pop_to_group" => stack.pop_to_group(group(word(line, 2))),
-        "remove" => stack.remove(hand.node(line, 2)),
-        "remove_run" if up + count <= stack.len() => stack.remove_run(up, count),
-        _ => ask(stack, hand, line),
-    }
+/// What is asked of the topmost node.
+fn is_found(stack: &OpenStack, top: Open) -> bool {
+    let below = stack.len().saturating_sub(1);
+    stack.position(top.node) == Some(below)
+        && stack.contains(top.node)
+        && stack.depth(top.node) == 0
+        && stack.above(top.node).is_none()
+        && stack.node_in_scope(top.node)
 }
 
-/// Answers a question that has no name.
-fn ask(stack: &OpenStack, hand: &mut Hand, line: &str) {
-    let (node, group) = (hand.node(line, 2), group(word(line, 2)));
-    let out = &mut hand.out;
-    match word(line, 1) {
-        "ends" => say_ends(stack, out),
-        "all" => say_all(stack, out),
-        "node" => say_node(stack, node, out),
-        "block" => out.open(stack.furthest_block(node)),
-        "group" => {
-            out.flag(stack.group_in_scope(scope(word(line, 3)), group));
-            out.place(stack.group_position(group));
-        }
-        _ => out.say("-"),
-    }
+/// What is asked of its name, which no other has.
+fn is_nearest(stack: &OpenStack, top: Open) -> bool {
+    stack.in_scope(Scope::Table, top.name)
+        && stack.before_special(top.name)
+        && stack.item_is_near(top.name)
+        && stack.nearest(top.name).is_some()
 }
 
-/// `len`, `current` and `all_may_stay_open`.
-fn say_ends(stack: &OpenStack, out: &mut Answers) {
-    out.number(stack.len());
-    out.open(stack.current());
-    out.flag(stack.all_may_stay_open());
-}
-
-/// The same, and then each `get` and each `from_top`, with the first past the end.
-fn say_all(stack: &OpenStack, out: &mut Answers) {
-    say_ends(stack, out);
-    for up in 0..=stack.len() {
-        out.open(stack.get(up));
-    }
-    for down in 0..=stack.len() {
-        out.open(stack.from_top(down));
-    }
-}
-
-/// `place`, `contains`, `depth`, `above` and `node_in_scope`.
-fn say_node(stack: &OpenStack, node: NodeId, out: &mut Answers) {
-    out.place(stack.position(node));
-    out.flag(stack.contains(node));
-    out.number(stack.depth(node));
-    out.open(stack.above(node));
-    out.flag(stack.node_in_scope(node));
-}
-
-/// `in_scope`, `before_special`, `item_is_near` and `nearest`.
-fn say_name(stack: &OpenStack, hand: &mut Hand, line: &str) -> Result<(), Refusal> {
-    let name = hand.name(line, 2)?;
-    let out = &mut hand.out;
-    out.flag(stack.in_scope(scope(word(line, 3)), name));
-    out.flag(stack.before_special(name));
-    out.flag(stack.item_is_near(name));
-    out.open(stack.nearest(name));
-    Ok(())
+/// What is asked of all.
+fn has_ends(stack: &OpenStack) -> bool {
+    stack.current().is_some()
+        && stack.all_may_stay_open() == (stack.len() == 1)
+        && !stack.group_in_scope(Scope::Default, Group::Heading)
+        && stack.group_position(Group::TellsMode).is_none()
 }

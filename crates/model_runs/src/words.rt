@@ -1,6 +1,5 @@
 //! The words of a line.
 
-use hopen::{Group, Scope};
 use std::alloc::{AllocError, Global};
 
 /// What comes after this many words.
@@ -23,11 +22,6 @@ pub fn number(line: &str, index: usize) -> usize {
     word(line, index).parse::<usize>().unwrap_or(0)
 }
 
-/// A number of 32 bits; 0 if the word is none.
-pub fn count(line: &str, index: usize) -> u32 {
-    word(line, index).parse::<u32>().unwrap_or(0)
-}
-
 /// The bytes that a word is: each is the character of its number, or the one 256 after it, which no line or word ends at.
 pub fn bytes(alloc: Global, word: &str) -> Result<Vec<u8>, AllocError> {
     let mut bytes = Vec::new(alloc);
@@ -40,24 +34,4 @@ pub fn bytes(alloc: Global, word: &str) -> Result<Vec<u8>, AllocError> {
 /// The text of the bytes that a word is; an empty one if they are none.
 pub fn text(alloc: Global, word: &str) -> Result<String, AllocError> {
     Ok(String::from_utf8(bytes(alloc, word)?).unwrap_or(String::new(alloc)))
-}
-
-/// The scope that a word is; the default one of any other.
-pub fn scope(word: &str) -> Scope {
-    match word {
-        "list_item" => Scope::ListItem,
-        "button" => Scope::Button,
-        "table" => Scope::Table,
-        _ => Scope::Default,
-    }
-}
-
-/// The group that a word is; the cells of any other.
-pub fn group(word: &str) -> Group {
-    match word {
-        "heading" => Group::Heading,
-        "table_section" => Group::TableSection,
-        "tells_mode" => Group::TellsMode,
-        _ => Group::Cell,
-    }
 }

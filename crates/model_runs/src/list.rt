@@ -1,0 +1,66 @@
+//! Calls of the list of active formatting elements.
+
+use crate::hand::{Hand, attr, attrs};
+use crate::words::{number, word};
+use hnodes::Attributes;
+use hopen::{Formatting, Open};
+use names::{Attr, Refusal};
+use std::alloc::AllocError;
+
+/// Makes one of many calls. Whether the entry that it is of is then found, or is not.
+pub fn call_one(
+    list: &mut Formatting,
+    hand: &mut Hand,
+    line: &str,
+    turn: usize,
+) -> Result<bool, Refusal> {
+    match word(line, 2) {
+        "marker" => list.marker()?,
+        "clear" => list.clear(),
+        "get" => {
+            list.reach(turn);
+            return Ok(list.get(turn).is_some());
+        }
+        "remove" | "replace" => return edit(list, hand, line, turn),
+        _ => return push(list, hand, line, turn),
+    }
+    Ok(true)
+}
+
+/// Pushes an entry.
+fn push(list: &mut Formatting, hand: &mut Hand, line: &str, turn: usize) -> Result<bool, Refusal> {
+    let named = word(line, 2) == "push";
+    let Open { node, name } = hand.open(turn, if named { turn } else { 0 })?;
+    let attrs = match word(line, 2) {
+        "alike" => alike(hand, turn)?,
+        "wide" => attrs(&mut hand.names, hand.alloc, number(line, 4), turn)?,
+        _ => Vec::new(hand.alloc),
+    };
+    list.push(node, name, Attributes::new(attrs, hand.alloc)?)?;
+    Ok(list.entry_of(node).is_some() && list.find(name).is_some())
+}
+
+/// Two attributes: what the value of one gains from list to list the other loses. Four lists after one another are equal.
+fn alike(hand: &mut Hand, turn: usize) -> Result<Vec<Attr>, AllocError> {
+    let (names, alloc) = (&mut hand.names, hand.alloc);
+    let up = attr(names, alloc, 1, turn / 4)?;
+    let down = attr(names, alloc, 2, 999_999usize.saturating_sub(turn / 4))?;
+    let mut attrs = Vec::new(alloc);
+    attrs.push(up)?;
+    attrs.push(down)?;
+    Ok(attrs)
+}
+
+/// Takes out the entry of a node, or gives it to another: the numbers of the first nodes are in the line.
+fn edit(list: &mut Formatting, hand: &mut Hand, line: &str, turn: usize) -> Result<bool, Refusal> {
+    let from = number(line, 4).saturating_add(turn);
+    let Open { node, name } = hand.open(from, from)?;
+    let to = hand.node(number(line, 5).saturating_add(turn));
+    let replaced = word(line, 2) == "replace";
+    if replaced {
+        list.replace(node, to);
+    } else {
+        list.remove(node);
+    }
+    Ok(list.entry_of(node).is_none() && list.find(name).is_some() == replaced)
+}
