@@ -504,7 +504,7 @@ static long resident(void) {
     return pages * (sysconf(_SC_PAGESIZE) / 1024);
 }
 
-/* That ten parses of 2 MB need no more than 1.75 times the memory of one, and leave little of it behind. (It wants an untried malloc.) */
+/* That ten parses of 2 MB need no more than 1.5 times the memory of one, and leave little of it behind. (It wants an untried malloc.) */
 static void check_kept(void) {
     int status;
     if (fork() == 0) {
@@ -519,7 +519,7 @@ static void check_kept(void) {
             if (i == 0) first = most.ru_maxrss - before;
         }
         dprintf(1, "a page of %zu bytes: one parse takes %ld KB, ten take %ld and keep %ld. ", length, first, most.ru_maxrss - before, resident() - before);
-        _exit(resident() - before > first / 4 || most.ru_maxrss - before > first * 7 / 4);
+        _exit(resident() - before > first / 4 || most.ru_maxrss - before > first * 3 / 2);
     }
     check(wait(&status) > 0 && status == 0, "the memory of ten parses");
 }
