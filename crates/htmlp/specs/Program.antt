@@ -1,7 +1,8 @@
 -- What the program does in its surroundings. `has_words`, `cannot_begin` (there are no words, or no keys), `opens` and `cannot_open` say
 -- what calls of the surroundings returned; of a reader `left` says the bytes that it has left, where it says, and of a writer `written`
 -- those that it has taken; `failed` says how many of their calls have failed.
-use Rattle.std.specs.Prelude.{◌≡◌, ◌⊎◌, ◌||◌, ℕ, Bool, List, [], true, false, Option, None, Some, Result, Ok, Err, IfSome, MatchResult, option_map, codes, IsErrAnd}
+use Rattle.std.specs.Prelude.{◌≡◌, ◌⊎◌, ◌||◌, ℕ, Bool, List, [], true, false, Option, None, Some, Result, Ok, Err, IfSome, MatchResult, option_map, codes}
+use Rattle.std.specs.Prelude.{IsErrAnd}
 use Rattle.clap.specs.Words.{Text, takes}
 use Rattle.names.specs.declared.refusal.Refusal.{Refusal}
 use Rattle.names.specs.declared.refusal.Refusal.TheVariants.{Memory, Read, BadContext}

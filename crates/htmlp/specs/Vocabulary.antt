@@ -2,12 +2,16 @@
 pub use Rattle.clap.specs.Words.{Text, app_of, fault_of, first_value, found_of, new_app, rule_of, takes, with_rule}
 pub use Rattle.clap.specs.declared.builder.command.Command.TheViews.{out-Command as fields_of}
 pub use Rattle.hmodes.specs.Bounds.{AreLimits, Bounds}
-pub use Rattle.htmlp.specs.Ending.{around_name, ending_text, explained, explanation, fault_line, fault_status, fault_text, limit_line, line_text, name_line, number_line, refusal_line, status_of}
+pub use Rattle.htmlp.specs.Ending.{around_name, ending_text, explained, explanation, fault_line, fault_status, fault_text, limit_line, line_text, name_line}
+pub use Rattle.htmlp.specs.Ending.{number_line, refusal_line, status_of}
 pub use Rattle.htmlp.specs.Fault.{IsLimitFault, IsRefused, IsUnread}
-pub use Rattle.htmlp.specs.Line.{AreGood, FaultOf, IsNumber, IsNumberFault, OptionFault, Says, asks_explanation, asks_version, bad_bytes_of, bare_program, choice_rule, command_app, context_rules, escaping_of, explain_rule, file_rule, named_reads, number_or, program, task_of, value_of, with_commands, with_rules}
+pub use Rattle.htmlp.specs.Line.{AreGood, FaultOf, IsNumber, IsNumberFault, OptionFault, Says, asks_explanation, asks_version, bad_bytes_of, bare_program}
+pub use Rattle.htmlp.specs.Line.{choice_rule, command_app, context_rules, escaping_of, explain_rule, file_rule, named_reads, number_or, program, task_of}
+pub use Rattle.htmlp.specs.Line.{value_of, with_commands, with_rules}
 pub use Rattle.htmlp.specs.Message.{message_text}
 pub use Rattle.htmlp.specs.Numeric.{IsWithin, accepted, name_of, range_of, range_text}
-pub use Rattle.htmlp.specs.Program.{Answers, AnswersFile, AnswersInput, AnswersWords, Ends, FindsQuirks, FindsTable, HasRun, IsExplained, WritesVersion, told_of}
+pub use Rattle.htmlp.specs.Program.{Answers, AnswersFile, AnswersInput, AnswersWords, Ends, FindsQuirks, FindsTable, HasRun, IsExplained, WritesVersion}
+pub use Rattle.htmlp.specs.Program.{told_of}
 pub use Rattle.hwrite.specs.Calls.{EndsWith, WritesAll}
 pub use Rattle.hwrite.specs.Command.{task_named}
 pub use Rattle.hwrite.specs.Context.{AllowsContext}
