@@ -13,6 +13,7 @@ pub both : {A : Type 0} {at mid_at next : ℕ} {a b items old mid new : List A} 
 both {at = at} {a = a} {b = b} {old = old} p q is = rw is let e = length-append a b in record {
   onward = omega (arith, p.onward, q.onward);
   counted = λ h. let last = q.counted h in omega (arith, e, p.counted (omega (arith, h, q.onward)), last);
+  further = λ h. let past = q.further h in grind (arith, e, p.counted, p.further, past);
   long = q.long ∙ p.long;
   fits = λ h.
       let (end, first) = p.fits (omega (arith, e, h)) in let (last, second) = q.fits (omega (arith, e, h, end, p.long)) in
@@ -20,4 +21,4 @@ both {at = at} {a = a} {b = b} {old = old} p q is = rw is let e = length-append 
 }
 
 pub no_more : {A : Type 0} {at : ℕ} {room : List A} → PutsAt at [] room room at
-no_more {at = at} {room = room} = record { onward = omega arith; counted = λ h. omega arith; long = refl; fits = λ fits. (omega arith, sym (take-append-drop at room)) }
+no_more {at = at} {room = room} = record { onward = omega arith; counted = λ h. omega arith; further = λ h. omega (arith, h); long = refl; fits = λ fits. (omega arith, sym (take-append-drop at room)) }

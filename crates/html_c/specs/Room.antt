@@ -12,10 +12,15 @@ put_over fits items room = if fits then items ++ drop (length items) room else r
 abbrev pub over_at : {A : Type 0} → ℕ → List A → List A → List A
 over_at at items room = take at room ++ (items ++ drop (length items) (drop at room))
 
--- Items are put at a place of a room, if they fit there. The next place is after them, or as far as numbers go.
+-- the greatest number of a `usize`
+abbrev pub greatest : ℕ
+greatest = 18446744073709551615
+
+-- Items are put at a place of a room, if they fit there. The next place is after them, or as far as numbers go where that is further.
 pub record PutsAt {A : Type 0} (at : ℕ) (items old new : List A) (next : ℕ) : Type 0 where
   pub onward : at ≤ next
-  pub counted : next < 18446744073709551615 → next ≡ at + length items
+  pub counted : next < greatest → next ≡ at + length items
+  pub further : greatest ≤ next → greatest ≤ at + length items
   pub long : length new ≡ length old
   pub fits : at + length items ≤ length old → (next ≡ at + length items) × (new ≡ over_at at items old)
 

@@ -1,8 +1,8 @@
 //! A tree as rows of numbers and as the bytes of its words, which are counted, and written where there is room.
 
-ghost use Rattle.std.specs.Prelude.{◌≡◌, ◌<◌, ◌≤◌, true, length, flat_map, map, IfSome, MatchResult};
+ghost use Rattle.std.specs.Prelude.{◌≡◌, ◌<◌, ◌≤◌, ◌⊎◌, true, length, flat_map, map, IfErr, IfSome, MatchResult};
 ghost use Rattle.names.specs.Names.{text_of};
-ghost use Rattle.html_c.specs.Vocabulary.{Memory, PutsAt, attribute_of, spelled_attribute, what_of, attribute_words, ended, kind_number, link_to, parsed_rows, parsed_words, put_over, row_at, words_at};
+ghost use Rattle.html_c.specs.Vocabulary.{Memory, PutsAt, greatest, attribute_of, spelled_attribute, what_of, attribute_words, ended, kind_number, link_to, parsed_rows, parsed_words, put_over, row_at, words_at};
 
 use crate::answer::NodeRow;
 use crate::room::put_at;
@@ -124,7 +124,8 @@ pub(crate) struct Rows {
 impl Rows {
     /// Counts them, if numbers are large enough for that.
     pub(crate) fn of(parsed: Parsed) -> Result<Rows, Refusal>
-        ensures { MatchResult result (λ rows. rows.parsed ≡ parsed) (λ refusal. refusal ≡ Memory) }
+        ensures counted { MatchResult result (λ rows. rows.parsed ≡ parsed) (λ refusal. refusal ≡ Memory) }
+        ensures too_many { IfErr result (λ e. (greatest ≤ length (parsed_rows parsed)) ⊎ (greatest ≤ length (parsed_words parsed))) }
     {
         let (nodes, words) = put_parsed(&parsed, &mut [], &mut []);
         if nodes == usize::MAX || words == usize::MAX {

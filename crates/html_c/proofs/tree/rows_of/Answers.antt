@@ -16,7 +16,7 @@ returns-in_err-parsed c =
 pub returns-in_err-of : goal.returns-in_err-of
 returns-in_err-of c =
     fails c.from_residual-in_err-of.result (fault.Refused c.in_err-of.field-0.0) _ _ c.from_residual-in_err-of.ensures.1
-    (of_size c.in_ok-check_size.ensures (no_memory c.args.input.now c.args.given.now c.in_ok-parsed.parsed c.in_ok-parsed.ensures c.in_err-of.field-0.0 c.in_err-of.ensures))
+    (of_size c.in_ok-check_size.ensures (no_memory c.args.input.now c.args.given.now c.in_ok-parsed.parsed c.in_ok-parsed.ensures c.in_err-of.field-0.0 c.in_err-of.ensures.counted))
 
 pub returns : goal.returns
-returns c = rw c.in_ok-of.ensures (some_rows c.args.input.now c.args.given.now c.in_ok-parsed.parsed c.in_ok-parsed.ensures)
+returns c = rw c.in_ok-of.ensures.counted (some_rows c.args.input.now c.args.given.now c.in_ok-parsed.parsed c.in_ok-parsed.ensures)
