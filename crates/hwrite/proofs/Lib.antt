@@ -3,6 +3,8 @@ pub mod CallLemmas
 pub mod DraftRead
 pub mod Drafting
 pub mod Escapes
+pub mod Indexing
+pub mod KindLemmas
 pub mod Marks
 pub mod Printed
 pub mod Tasks

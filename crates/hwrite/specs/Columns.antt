@@ -5,9 +5,13 @@ use Rattle.std.specs.Prelude.{◌≡◌, ℕ, zero, suc, ◌+◌, ◌*◌, Some,
 abbrev pub begins_character : ℕ → Bool
 begins_character b = nat_lt b 128 || nat_le 192 b
 
--- whether a line ends with the byte at a place: with LF, or with CR that no LF follows
+-- whether a line ends with a byte: with LF, or with CR that is not before LF
+abbrev pub is_end : ℕ → Bool → Bool
+is_end byte before_lf = byte == 10 || (byte == 13 && not before_lf)
+
+-- whether a line ends with the byte at a place
 abbrev pub ends_line : List ℕ → ℕ → Bool
-ends_line text at = slice_index_or text at 0 == 10 || (slice_index_or text at 0 == 13 && not (slice_index_or text (1 + at) 0 == 10))
+ends_line text at = is_end (slice_index_or text at 0) (slice_index_or text (1 + at) 0 == 10)
 
 -- the line of a place, from 1: one more than the lines that end before it
 abbrev pub line_at : List ℕ → ℕ → ℕ

@@ -1,9 +1,11 @@
+pub mod ByteKinds
 pub mod Calls
 pub mod Columns
 pub mod Command
 pub mod Context
 pub mod Counted
 pub mod Draft
+pub mod Indexed
 pub mod Prints
 pub mod Quoted
 pub mod Running

@@ -1,12 +1,12 @@
 //! The lines and the columns of bytes.
 
-ghost use Rattle.std.specs.Prelude.{◌≡◌, ◌<◌, ◌≤◌, ◌/◌, ◌+◌, IfOk, length, min};
-ghost use Rattle.hwrite.specs.Columns.{AreMarks, begins_character, column_at, ends_line, line_at};
+ghost use Rattle.std.specs.Prelude.{◌≡◌, ◌==◌, ◌<◌, ◌≤◌, ◌/◌, ◌+◌, ◌-◌, ◌^◌, if◌then◌else◌, IfOk, length, min, slice_index_or};
+ghost use Rattle.hwrite.specs.Columns.{AreMarks, begins_character, column_at, is_end, line_at};
 
 use std::alloc::{AllocError, Global};
 
 /// How many bytes have one mark.
-const STEP: usize = 256;
+pub(crate) const STEP: usize = 256;
 
 /// The line and the column, both from 1, of the byte of a text at this offset from 0, as a [`names::ParseError`] has it. A line ends
 /// at LF, CR LF or CR. Columns count characters of UTF-8, by the bytes that begin one. An offset past the end is taken for the end.
@@ -15,49 +15,51 @@ pub fn line_column(text: &[u8], at: u64) -> (usize, usize)
     ensures line { result.0 ≡ line_at text.now (min at (length text.now)) }
     ensures column { result.1 ≡ column_at text.now (min at (length text.now)) }
 {
-    place_after(text, 0, end_of(text, at), (1, 1))
+    place_after(text, 0, end_of(text.len(), at), (1, 1))
 }
 
 /// The offset, or the text's length where it is past the end.
-fn end_of(text: &[u8], at: u64) -> usize
-    ensures { result ≡ min at (length text.now) }
+pub(crate) fn end_of(length: usize, at: u64) -> usize
+    ensures { result ≡ min at length }
 {
-    at.min(text.len() as u64) as usize
+    at.min(length as u64) as usize
 }
 
 /// The line and the column of a byte, from those of one before it.
-#[tactic(auto, using(crate::proofs::Marks::line_within, crate::proofs::Marks::column_within))]
 fn place_after(text: &[u8], from: usize, end: usize, place: (usize, usize)) -> (usize, usize)
     requires order { (from ≤ end) × (end ≤ length text.now) }
     requires from { (place.0 ≡ line_at text.now from) × (place.1 ≡ column_at text.now from) }
     ensures line { result.0 ≡ line_at text.now end }
     ensures column { result.1 ≡ column_at text.now end }
 {
-    let (mut line, mut column) = place;
+    let mut place = place;
     for index in from..end {
-        if ends_line(text, index) {
-            line += 1;
-            column = 1;
-        } else if begins_character(text[index]) {
-            column += 1;
-        }
+        place = next_place(place, text[index], is_before_lf(text, index));
     }
-    (line, column)
+    place
 }
 
-/// Whether a line ends with the byte at this place.
-fn ends_line(text: &[u8], index: usize) -> bool
+/// Whether LF is the byte after the one at this place.
+fn is_before_lf(text: &[u8], index: usize) -> bool
     requires { index < length text.now }
-    ensures { result ≡ ends_line text.now index }
+    ensures { result ≡ (slice_index_or text.now (1 + index) 0 == 10) }
 {
-    text[index] == b'\n' || text[index] == b'\r' && text.get(index + 1) != Some(&b'\n')
+    text.get(index + 1) == Some(&b'\n')
 }
 
-/// Whether a byte begins a character, so that it continues none.
-fn begins_character(byte: u8) -> bool
-    ensures { result ≡ begins_character byte }
+/// The line and the column of the byte after this one, from its own.
+pub(crate) fn next_place(place: (usize, usize), byte: u8, before_lf: bool) -> (usize, usize)
+    ensures line { place.0 < 2 ^ 64 - 1 → result.0 ≡ (if is_end byte before_lf then 1 else 0) + place.0 }
+    ensures column { place.1 < 2 ^ 64 - 1 → result.1 ≡ (if is_end byte before_lf then 1 else (if begins_character byte then 1 else 0) + place.1) }
 {
-    byte < 0x80 || byte >= 0xC0
+    let (line, column) = place;
+    if byte == b'\n' || byte == b'\r' && !before_lf {
+        (line.saturating_add(1), 1)
+    } else if byte < 0x80 || byte >= 0xC0 {
+        (line, column.saturating_add(1))
+    } else {
+        (line, column)
+    }
 }
 
 /// The lines of a text: an index, made once, of which each question takes at most 256 steps. It takes 16 bytes for 256 of the text.
@@ -92,7 +94,7 @@ impl<'t> Lines<'t> {
         ensures line { result.0 ≡ line_at self.now.text.now (min at (length self.now.text.now)) }
         ensures column { result.1 ≡ column_at self.now.text.now (min at (length self.now.text.now)) }
     {
-        let end = end_of(self.text, at);
+        let end = end_of(self.text.len(), at);
         let mark = end / STEP;
         place_after(self.text, mark * STEP, end, self.marks[mark])
     }

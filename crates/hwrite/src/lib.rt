@@ -5,6 +5,7 @@
 //! no more, the reading ends, and `read_into` answers that refusal; `Refusal::Write` is one that no input brings.
 #![tactic(auto)]
 
+mod byte_kinds;
 mod columns;
 pub mod command;
 pub mod counted;
@@ -12,6 +13,7 @@ pub mod devices;
 mod draft;
 pub mod engine;
 pub mod given_context;
+mod line_index;
 pub mod lines;
 mod quoted;
 mod words;
@@ -37,6 +39,7 @@ pub use hserialize::{
 };
 pub use htext::{BadBytes, MAX_INPUT};
 pub use htoken::{Token, TokenSink};
+pub use line_index::LineIndex;
 pub use lines::token_lines;
 pub use names::{
     Attr, ErrorCode, Keys, NameId, Names, ParseError, Refusal, RefusedName, TableFault, Tag,

@@ -1,8 +1,8 @@
-use Rattle.std.proofs.Common.{◌≡◌, ◌≤◌, ◌+◌}
+use Rattle.std.proofs.Common.{◌≡◌}
 use Rattle.hwrite.specs.Columns.{column_at, line_at}
 use Rattle.hwrite.proofs.columns.place_after.Given as goal
 
 -- the place after the bytes so far
 abbrev pub invariant-loop-index : goal.invariant-loop-index
 invariant-loop-index l =
-    (l.line ≡ line_at l.text l.index) × (l.column ≡ column_at l.text l.index) × (l.line ≤ l.index + 1) × (l.column ≤ l.index + 1)
+    (l.place.0 ≡ line_at l.text l.index) × (l.place.1 ≡ column_at l.text l.index)
