@@ -199,7 +199,7 @@ impl Names {
         ensures names { AreNames self.now }
     {
         let index = self.recent[slot_of(text)];
-        let found = self.stored(index as usize)?;
+        let found = self.nth(index as usize)?;
         if found == text {
             Some(NameId { index })
         } else {
@@ -234,8 +234,8 @@ impl Names {
         }
     }
 
-    /// The text at a place of the table.
-    fn stored(&self, index: usize) -> Option<&str>
+    /// The text of the name with this number, if the table has so many: 0 is the first.
+    pub fn nth(&self, index: usize) -> Option<&str>
         ensures text { option_map (λ t. t.now) result ≡ slice_get self.now index }
         ensures names { AreNames self.now }
     {
@@ -252,7 +252,7 @@ impl Names {
         ensures text { option_map (λ t. t.now) result ≡ slice_get self.now id }
         ensures names { AreNames self.now }
     {
-        self.stored(id.index())
+        self.nth(id.index())
     }
 
     /// The text of a name, or the empty text if the number is not of this table.

@@ -2,7 +2,7 @@ use Rattle.std.specs.Prelude.{◌-◌}
 use Rattle.indexmap.specs.IndexMap.{keys}
 use Rattle.names.proofs.Vocabulary.{ap, map, sym, ◌∙◌, string_bytes, None, Some, option_map, slice_get, Texts, known}
 use Rattle.names.proofs.TableLemmas.{are_names, key_at, other_at, slice_get-within}
-use Rattle.names.proofs.table.Names.stored.Goals as goal
+use Rattle.names.proofs.table.Names.nth.Goals as goal
 
 pub returns-then-index-lt-KNOWN-clause-text : goal.returns-then-index-lt-KNOWN-clause-text
 returns-then-index-lt-KNOWN-clause-text c =
