@@ -1,13 +1,11 @@
 -- What the calls that lend answer.
-use Rattle.hnodes.proofs.Names.{◌≡◌, ℕ, ◌<◌, List, [], Option, Some, None, length, get_or, refl, sym, ◌∙◌, ap, arith, option_and_then, Vec, Global, String, Box, option_map, Attribute, times, Spot, spot_of, parent_of, what_of, name_in, attributes_in, text_in, doctype_in, Nodes, own_text, Row, Look, row_at, parent_in, first_in, last_in, previous_in, next_in, row_of, look_in, content_is, nodes_of, IsTree, Node, NodeData, Attr, ArrayString, Inside}
+use Rattle.hnodes.proofs.Names.{◌≡◌, ℕ, ◌<◌, Option, Some, None, length, get_or, refl, sym, ◌∙◌, ap, arith, option_and_then, option_map, times, Spot, spot_of, parent_of, what_of, Nodes, Row, Look, row_at, parent_in, first_in, last_in, previous_in, next_in, row_of, look_in, content_is, nodes_of, IsTree, Node, Inside}
 use Rattle.std.proofs.Common.{IfSome}
 use Rattle.hnodes.proofs.Spots.{Loose-spot}
 use Rattle.hnodes.proofs.Forests.{some_inj}
 use Rattle.hnodes.proofs.Within.{one-of, once-of, there as is_there, links-among, ends-among}
 use Rattle.hnodes.proofs.Rows.{row_seen}
 use Rattle.hnodes.proofs.Opened.{Opened, opened}
-use Rattle.hnodes.specs.declared.node.NodeData.TheVariants as content
-use Rattle.hnodes.specs.declared.node.DocumentType.{DocumentType as DoctypeOf}
 
 -- the row of a node is that of its place
 pub place_seen : (t : Inside) (v : Nodes ℕ) (n : ℕ) → Opened t v → n < v.made → look_in t.nodes.items n ≡ option_map row_at (spot_of n v.trees)
@@ -64,31 +62,3 @@ near t v n k x e s h same g =
       previous = if_some x.previous v.made (λ j p. there j (around.1 j (ap previous_in seen ∙ p)));
       next = if_some x.next v.made (λ j p. there j (around.2 j (ap next_in seen ∙ p)));
     }
-
--- what is not of a kind answers nothing
-pub no_name : (w : NodeData) → ((a : ℕ) (b : Vec Attr Global) → w ≡ content.Element a b → ⊥) → ((a : ℕ) (b : Box (List (Attribute ℕ)) Global) → w ≡ content.Wide a b → ⊥) → ((a : ℕ) (b : List (Attribute ℕ)) → w ≡ content.Shared a b → ⊥) → None ≡ name_in (content_is w)
-no_name (content.Element a b) h i j = absurd (h a b refl)
-no_name (content.Wide a b) h i j = absurd (i a b refl)
-no_name (content.Shared a b) h i j = absurd (j a b refl)
-no_name _ h i j = refl
-
-pub no_attributes : (w : NodeData) → ((a : ℕ) (b : Vec Attr Global) → w ≡ content.Element a b → ⊥) → ((a : ℕ) (b : Box (List (Attribute ℕ)) Global) → w ≡ content.Wide a b → ⊥) → ((a : ℕ) (b : List (Attribute ℕ)) → w ≡ content.Shared a b → ⊥) → None ≡ attributes_in (content_is w)
-no_attributes (content.Element a b) h i j = absurd (h a b refl)
-no_attributes (content.Wide a b) h i j = absurd (i a b refl)
-no_attributes (content.Shared a b) h i j = absurd (j a b refl)
-no_attributes _ h i j = refl
-
-pub no_text : (w : NodeData) → ((a : String Global) → w ≡ content.Comment a → ⊥) → ((a : String Global) → w ≡ content.Text a → ⊥) → ((a : ArrayString) → w ≡ content.Short a → ⊥) → None ≡ text_in (content_is w)
-no_text (content.Comment a) h i j = absurd (h a refl)
-no_text (content.Text a) h i j = absurd (i a refl)
-no_text (content.Short a) h i j = absurd (j a refl)
-no_text _ h i j = refl
-
-pub no_characters : (w : NodeData) → ((a : String Global) → w ≡ content.Text a → ⊥) → ((a : ArrayString) → w ≡ content.Short a → ⊥) → [] ≡ own_text (content_is w)
-no_characters (content.Text a) i j = absurd (i a refl)
-no_characters (content.Short a) i j = absurd (j a refl)
-no_characters _ i j = refl
-
-pub no_doctype : (w : NodeData) → ((a : Box DoctypeOf Global) → w ≡ content.Doctype a → ⊥) → None ≡ doctype_in (content_is w)
-no_doctype (content.Doctype d) h = absurd (h d refl)
-no_doctype _ h = refl

@@ -1,6 +1,7 @@
 -- The names of other crates and of specs/ that several proofs cite, in one place.
 pub use Rattle.arrayvec.specs.ArrayString.{ArrayString}
-pub use Rattle.hnodes.specs.Differing.{names_differ}
+pub use Rattle.hnodes.specs.Clean.{are_clean}
+pub use Rattle.hnodes.specs.Differing.{names_differ, names_end}
 pub use Rattle.hnodes.specs.Edits.{Nodes, AreNodes, graft_last, move_all, with_text, with_attribute, AreCounted, place_node, graft, make, IsPlace, graft_before, before_place, if_text, text_before, with_char, char_into}
 pub use Rattle.hnodes.specs.Elements.{elements_among, is_element}
 pub use Rattle.hnodes.specs.Forest.{What, document, Forest, none, tree, size, times, join, tree_at, cut, children_of, change_children, IsOutside, Attribute, change_what, put_before, roots, text, doctype, element, comment}

@@ -4,6 +4,7 @@ pub mod Passed
 pub mod Edits
 pub mod Attributes
 pub mod Differing
+pub mod Clean
 pub mod Makes
 pub mod Spelled
 pub mod Links

@@ -2,7 +2,7 @@
 
 ghost use Rattle.std.specs.Prelude.{◌≡◌, ◌&&◌, ◌++◌, ◌∷◌, [], suc, length, map, nat_eq, not, take, OnOk, OnErr, IfOk};
 ghost use Rattle.std.specs.List.{list_any};
-ghost use Rattle.hnodes.specs.Vocabulary.{attribute_of, names_differ, numbers_of};
+ghost use Rattle.hnodes.specs.Vocabulary.{are_clean, attribute_of, is_clean, names_differ, names_end, numbers_of};
 
 use crate::chains::Chains;
 use names::{Attr, NameId};
@@ -95,6 +95,48 @@ pub(crate) fn many_differ(attrs: &[Attr], alloc: Global) -> Result<bool, AllocEr
     }
     names.sort_unstable();
     Ok(names.is_sorted_by(|name, next| name < next))
+}
+
+/// Whether the names of attributes differ.
+pub(crate) fn differ(attrs: &[Attr], alloc: Global) -> Result<bool, AllocError>
+    ensures { IfOk result (λ differ. differ ≡ names_differ nat_eq (map attribute_of attrs.now)) }
+{
+    if attrs.len() <= FEW_ATTRIBUTES {
+        return Ok(few_differ(attrs));
+    }
+    many_differ(attrs, alloc)
+}
+
+/// Whether a text has neither NUL nor CR.
+pub fn is_clean(text: &str) -> bool
+    ensures { result ≡ is_clean text.now }
+{
+    text.bytes().all(|byte| byte != 0 && byte != b'\r')
+}
+
+/// Whether all values of attributes are clean.
+pub(crate) fn are_clean(attrs: &[Attr]) -> bool
+    ensures { result ≡ are_clean (map attribute_of attrs.now) }
+{
+    attrs.iter().all(|attr| is_clean(&attr.value))
+}
+
+/// One more than the number of a name.
+fn past(name: NameId) -> usize
+    ensures { result ≡ suc name }
+{
+    name.index() + 1
+}
+
+/// One more than the greatest number among the names of attributes; 0 without any.
+pub(crate) fn names_end(attrs: &[Attr]) -> usize
+    ensures { result ≡ names_end (map attribute_of attrs.now) }
+{
+    let mut end = 0;
+    for attr in attrs {
+        end = end.max(past(attr.name));
+    }
+    end
 }
 
 impl Indexed {

@@ -2,6 +2,7 @@
 #![tactic(auto)]
 
 pub mod attributes;
+mod attrs;
 pub mod chains;
 mod elements;
 mod laws;
@@ -12,7 +13,7 @@ mod shared;
 mod tree;
 mod walks;
 
-pub use attributes::{FEW_ATTRIBUTES, index_attrs, name_number};
+pub use attributes::{FEW_ATTRIBUTES, index_attrs, is_clean, name_number};
 pub use chains::{Chains, NONE};
 pub use elements::ChildElements;
 pub use laws::{edits_know_no_names, questions_know_no_names};

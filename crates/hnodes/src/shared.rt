@@ -1,20 +1,91 @@
 //! Attributes that are stored once, for all elements and entries that have them.
 
 ghost use Rattle.std.specs.Prelude.{◌≡◌, ◌++◌, ◌∷◌, [], IfOk, map, nat_eq};
-ghost use Rattle.hnodes.specs.Vocabulary.{attribute_of, names_differ};
+ghost use Rattle.hnodes.specs.Vocabulary.{are_clean, attribute_of, names_differ, names_end};
 
-use crate::attributes::{FEW_ATTRIBUTES, few_differ, many_differ};
+use crate::attributes::{are_clean, differ, names_end};
 use names::Attr;
 use std::alloc::{AllocError, Global};
 use std::marker::Model;
 use std::rc::Rc;
 
+/// Attributes, and what is found of them once.
+#[derive(Debug, Drop)]
+struct Listed {
+    attrs: Vec<Attr>,
+    /// Whether their names differ.
+    differ: bool,
+    /// Whether their values are clean.
+    clean: bool,
+    /// One more than the greatest number among their names.
+    names_end: usize,
+}
+
+impl Model for Listed {
+    ghost use Rattle.std.specs.Prelude.{ℕ, List};
+    ghost use Rattle.std.specs.Coded.{coded_list, coded×, coded_ℕ};
+    ghost use Rattle.hnodes.specs.Forest.{Attribute};
+
+    ghost Value = { List (Attribute ℕ) };
+
+    ghost coded = { coded_list (coded× coded_ℕ (coded_list coded_ℕ)) };
+
+    ghost use Rattle.hnodes.specs.Shared.{listed_in, IsKnown};
+
+    ghost view = { listed_in };
+
+    ghost invariant = { IsKnown };
+}
+
+impl Listed {
+    /// These attributes.
+    fn new(attrs: Vec<Attr>, alloc: Global) -> Result<Self, AllocError>
+        ensures { IfOk result (λ listed. listed ≡ map attribute_of attrs.items) }
+    {
+        let differ = differ(&attrs, alloc)?;
+        let clean = are_clean(&attrs);
+        let names_end = names_end(&attrs);
+        Ok(Listed {
+            attrs,
+            differ,
+            clean,
+            names_end,
+        })
+    }
+
+    /// The attributes.
+    fn attrs(&self) -> &[Attr]
+        ensures { map attribute_of result.now ≡ self.now }
+    {
+        &self.attrs
+    }
+
+    /// Whether their names differ.
+    fn differ(&self) -> bool
+        ensures { result ≡ names_differ nat_eq self.now }
+    {
+        self.differ
+    }
+
+    /// Whether their values are clean.
+    fn clean(&self) -> bool
+        ensures { result ≡ are_clean self.now }
+    {
+        self.clean
+    }
+
+    /// One more than the greatest number among their names.
+    fn names_end(&self) -> usize
+        ensures { result ≡ names_end self.now }
+    {
+        self.names_end
+    }
+}
+
 /// A list of attributes that is stored once, however many share it. An empty one takes no memory of its own.
 #[derive(Debug, Drop)]
 pub struct Attributes {
-    list: Option<Rc<Vec<Attr>>>,
-    /// Whether their names differ.
-    differ: bool,
+    list: Option<Rc<Listed>>,
 }
 
 impl Model for Attributes {
@@ -26,11 +97,9 @@ impl Model for Attributes {
 
     ghost coded = { coded_list (coded× coded_ℕ (coded_list coded_ℕ)) };
 
-    ghost use Rattle.hnodes.specs.Shared.{shared_in, IsShared};
+    ghost use Rattle.hnodes.specs.Shared.{shared_in};
 
     ghost view = { shared_in };
-
-    ghost invariant = { IsShared };
 }
 
 impl Attributes {
@@ -39,18 +108,11 @@ impl Attributes {
         ensures { IfOk result (λ shared. shared ≡ map attribute_of attrs.items) }
     {
         if attrs.is_empty() {
-            return Ok(Attributes {
-                list: None,
-                differ: true,
-            });
+            return Ok(Attributes { list: None });
         }
-        let differ = if attrs.len() <= FEW_ATTRIBUTES {
-            few_differ(&attrs)
-        } else {
-            many_differ(&attrs, alloc)?
-        };
-        let list = Some(Rc::new(alloc, attrs)?);
-        Ok(Attributes { list, differ })
+        let listed = Listed::new(attrs, alloc)?;
+        let list = Some(Rc::new(alloc, listed)?);
+        Ok(Attributes { list })
     }
 
     /// The same attributes for one more. Takes the same time however many there are.
@@ -61,10 +123,7 @@ impl Attributes {
             Some(list) => Some(list.clone()?),
             None => None,
         };
-        Ok(Attributes {
-            list,
-            differ: self.differ,
-        })
+        Ok(Attributes { list })
     }
 
     /// The attributes.
@@ -72,7 +131,7 @@ impl Attributes {
         ensures { map attribute_of result.now ≡ self.now }
     {
         match &self.list {
-            Some(list) => list,
+            Some(list) => list.attrs(),
             None => &[],
         }
     }
@@ -81,7 +140,30 @@ impl Attributes {
     pub(crate) fn differ(&self) -> bool
         ensures { result ≡ names_differ nat_eq self.now }
     {
-        self.differ
+        match &self.list {
+            Some(list) => list.differ(),
+            None => true,
+        }
+    }
+
+    /// Whether their values are clean.
+    pub(crate) fn clean(&self) -> bool
+        ensures { result ≡ are_clean self.now }
+    {
+        match &self.list {
+            Some(list) => list.clean(),
+            None => true,
+        }
+    }
+
+    /// One more than the greatest number among their names; 0 without any.
+    pub(crate) fn names_end(&self) -> usize
+        ensures { result ≡ names_end self.now }
+    {
+        match &self.list {
+            Some(list) => list.names_end(),
+            None => 0,
+        }
     }
 
     /// Copies of the attributes, and one more.

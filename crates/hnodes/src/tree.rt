@@ -10,7 +10,6 @@ ghost use Rattle.hnodes.specs.Vocabulary.{is_present, kind_of, last_child_of, na
 ghost use Rattle.hnodes.specs.Vocabulary.{previous_of, text, text_before, text_of, tree, what_of, with_char, with_text, AreNodes, IsOutside, IsPlace, Makes};
 ghost use Rattle.hnodes.specs.Vocabulary.{Memory, Place, TooManyNodes};
 
-use crate::attributes::{few_differ, has_name};
 use crate::links::{detach, hook};
 use crate::node::{
     self, DocumentType, Node, NodeData, NodeId, NodeKind, NodeLink, Place, add_attr, add_char,
@@ -420,19 +419,6 @@ impl Tree {
         Ok(())
     }
 
-    /// Whether an element has an attribute of a name.
-    fn has_attr(&self, at: NodeId, name: NameId) -> bool
-        requires { at < self.now.made }
-        ensures { result ≡ is_present nat_eq name (attributes_of at self.now.trees) }
-    {
-        match &self.nodes[at.number as usize].content {
-            NodeData::Element(_, attrs) => has_name(attrs, name),
-            NodeData::Wide(_, indexed) => indexed.has(name),
-            NodeData::Shared(_, attrs) => has_name(attrs.as_slice(), name),
-            _ => false,
-        }
-    }
-
     /// Whether a node is another one or inside it, to be tested before a node moves. Takes as many steps as the node is deep.
     pub fn is_inside(&self, node: NodeId, top: NodeId) -> bool
         requires node_in { node < self.now.made }
@@ -499,12 +485,21 @@ impl Tree {
         self.nodes[at.number as usize].previous.get()
     }
 
+    /// What a node holds.
+    #[inline(always)]
+    pub(crate) fn content(&self, at: NodeId) -> &NodeData
+        requires { at < self.now.made }
+        ensures { Some (content_is result.now) ≡ what_of at self.now.trees }
+    {
+        &self.nodes[at.number as usize].content
+    }
+
     /// The kind of a node.
     pub fn kind(&self, at: NodeId) -> NodeKind
         requires { at < self.now.made }
         ensures { Some result ≡ kind_of at self.now.trees }
     {
-        match &self.nodes[at.number as usize].content {
+        match self.content(at) {
             NodeData::Document => NodeKind::Document,
             NodeData::Doctype(_) => NodeKind::Doctype,
             NodeData::Element(_, _) => NodeKind::Element,
@@ -521,37 +516,11 @@ impl Tree {
         requires { at < self.now.made }
         ensures { result ≡ name_of at self.now.trees }
     {
-        match &self.nodes[at.number as usize].content {
+        match self.content(at) {
             NodeData::Element(name, _) => Some(*name),
             NodeData::Wide(name, _) => Some(*name),
             NodeData::Shared(name, _) => Some(*name),
             _ => None,
-        }
-    }
-
-    /// The attributes of an element.
-    pub fn attrs(&self, at: NodeId) -> Option<&[Attr]>
-        requires { at < self.now.made }
-        ensures { option_map (λ attrs. map attribute_of attrs.now) result ≡ attributes_of at self.now.trees }
-    {
-        match &self.nodes[at.number as usize].content {
-            NodeData::Element(_, attrs) => Some(attrs),
-            NodeData::Wide(_, indexed) => Some(indexed.attrs()),
-            NodeData::Shared(_, attrs) => Some(attrs.as_slice()),
-            _ => None,
-        }
-    }
-
-    /// Whether no two attributes of an element have one name; true for another node. Takes constant time.
-    pub fn attrs_differ(&self, at: NodeId) -> bool
-        requires { at < self.now.made }
-        ensures { result ≡ option_map_or (names_differ nat_eq) (attributes_of at self.now.trees) true }
-    {
-        match &self.nodes[at.number as usize].content {
-            NodeData::Element(_, attrs) => few_differ(attrs),
-            NodeData::Wide(_, indexed) => indexed.differ(),
-            NodeData::Shared(_, attrs) => attrs.differ(),
-            _ => true,
         }
     }
 
@@ -560,7 +529,7 @@ impl Tree {
         requires { at < self.now.made }
         ensures { option_map (λ text. text.now) result ≡ text_of at self.now.trees }
     {
-        match &self.nodes[at.number as usize].content {
+        match self.content(at) {
             NodeData::Text(text) => Some(text),
             NodeData::Short(text) => Some(text),
             NodeData::Comment(text) => Some(text),
@@ -573,7 +542,7 @@ impl Tree {
         requires { at < self.now.made }
         ensures { Some result.now ≡ option_map own_text_of (what_of at self.now.trees) }
     {
-        match &self.nodes[at.number as usize].content {
+        match self.content(at) {
             NodeData::Text(text) => text,
             NodeData::Short(text) => text,
             _ => "",
@@ -585,7 +554,7 @@ impl Tree {
         requires { at < self.now.made }
         ensures { option_map (λ texts. doctype_texts texts.now) result ≡ doctype_of at self.now.trees }
     {
-        match &self.nodes[at.number as usize].content {
+        match self.content(at) {
             NodeData::Doctype(texts) => Some(texts),
             _ => None,
         }

@@ -1,27 +1,16 @@
 use Rattle.hnodes.proofs.Names.{◌∙◌, ap, sym, nat_eq, ℕ, Option, option_and_then, list_any, Attr, Attribute, What, attributes_in, content_is}
 use Rattle.hnodes.specs.Attributes.{is_present}
 use Rattle.hnodes.proofs.Indexed.{searched-is}
-use Rattle.hnodes.proofs.Lends.{lent_what, no_attributes}
 use Rattle.hnodes.proofs.tree.Tree.has_attr.Goals as goal
 
 pub returns-in-Element : goal.returns-in-Element
 returns-in-Element c =
     c.has_name.ensures ∙ ap (list_any (λ (a : Attr). nat_eq a.name c.args.name)) c.deref.ensures.value ∙ searched-is c.args.name c.in-Element.attrs.items
     ∙ ap (λ w. is_present nat_eq c.args.name (attributes_in (content_is w))) (sym c.in-Element.is)
-    ∙ ap (λ (o : Option (What ℕ)). is_present nat_eq c.args.name (option_and_then attributes_in o)) (lent_what c.self.inside c.args.self.now c.args.at c.at.inside.number c.index.result.now c.self.view_is c.self.invariant c.requires c.at.view_is c.index.ensures)
-
-pub returns-in-Wide : goal.returns-in-Wide
-returns-in-Wide c =
-    c.has.ensures ∙ ap (list_any (λ (a : Attribute ℕ). nat_eq a.0 c.args.name)) c.deref-in-Wide.ensures ∙ ap (λ w. is_present nat_eq c.args.name (attributes_in (content_is w))) (sym c.in-Wide.is)
-    ∙ ap (λ (o : Option (What ℕ)). is_present nat_eq c.args.name (option_and_then attributes_in o)) (lent_what c.self.inside c.args.self.now c.args.at c.at.inside.number c.index.result.now c.self.view_is c.self.invariant c.requires c.at.view_is c.index.ensures)
+    ∙ ap (λ (o : Option (What ℕ)). is_present nat_eq c.args.name (option_and_then attributes_in o)) c.content.ensures
 
 pub returns-in-Shared : goal.returns-in-Shared
 returns-in-Shared c =
     c.has_name-in-Shared.ensures ∙ searched-is c.args.name c.as_slice.result.now ∙ ap (list_any (λ (a : Attribute ℕ). nat_eq a.0 c.args.name)) c.as_slice.ensures
     ∙ ap (λ w. is_present nat_eq c.args.name (attributes_in (content_is w))) (sym c.in-Shared.is)
-    ∙ ap (λ (o : Option (What ℕ)). is_present nat_eq c.args.name (option_and_then attributes_in o)) (lent_what c.self.inside c.args.self.now c.args.at c.at.inside.number c.index.result.now c.self.view_is c.self.invariant c.requires c.at.view_is c.index.ensures)
-
-pub returns-in_default : goal.returns-in_default
-returns-in_default c =
-    ap (is_present nat_eq c.args.name) (no_attributes c.index.result.now.content c.in_default.not-Element c.in_default.not-Wide c.in_default.not-Shared)
-    ∙ ap (λ (o : Option (What ℕ)). is_present nat_eq c.args.name (option_and_then attributes_in o)) (lent_what c.self.inside c.args.self.now c.args.at c.at.inside.number c.index.result.now c.self.view_is c.self.invariant c.requires c.at.view_is c.index.ensures)
+    ∙ ap (λ (o : Option (What ℕ)). is_present nat_eq c.args.name (option_and_then attributes_in o)) c.content.ensures
