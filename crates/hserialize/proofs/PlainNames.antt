@@ -1,6 +1,7 @@
 -- Names and attributes that are plain.
-use Rattle.hserialize.proofs.Names.{◌≡◌, ℕ, ◌<◌, Bool, true, false, not, List, [], ◌∷◌, length, drop, map, refl, sym, ◌∙◌, ap, and_parts, Decides-eqb, ◌&&◌, ◌||◌, nat_eq, Texts, AreNames, text_of, names_differ, are_plain_attributes}
+use Rattle.hserialize.proofs.Names.{◌≡◌, ℕ, ◌<◌, Bool, true, false, not, List, [], ◌∷◌, length, drop, map, refl, sym, ◌∙◌, ap, and_parts, Decides-eqb, ◌&&◌, ◌||◌, nat_eq, suc, Texts, AreNames, text_of, names_differ, are_plain_attributes}
 use Rattle.std.proofs.Common.{◌-◌, ◌≤◌, inl, inr, get_or, take, arith}
+use Rattle.std.proofs.Math.Nat.{le-max_left, le-max_right}
 use Rattle.std.proofs.lemmas.Bool.{cases_lt}
 use Rattle.std.proofs.lemmas.List.{take_all, get_or_past}
 use Rattle.std.proofs.lemmas.Slice.Eq.{bytes_eq-Decides}
@@ -8,10 +9,12 @@ use Rattle.std.specs.Prelude.{bytes_eq}
 use Rattle.std.specs.List.{list_all, list_any}
 use Rattle.std.specs.Char.{is_ascii_lowercase}
 use Rattle.names.proofs.KnownTags.{different}
+use Rattle.hnodes.specs.Clean.{are_clean, is_clean}
+use Rattle.hnodes.specs.Differing.{names_end}
 use Rattle.hnodes.specs.Forest.{Attribute}
 use Rattle.hnodes.specs.Spelled.{spelled_attribute}
-use Rattle.hserialize.specs.Plain.{is_clean, is_name_byte, is_plain_name}
-use Rattle.hserialize.specs.Testing.{is_plain_attribute}
+use Rattle.hserialize.specs.Plain.{is_name_byte, is_plain_name}
+use Rattle.hserialize.specs.Testing.{has_plain_name, ArePlainTo}
 
 -- a name whose first byte is a lower letter
 pub lower_first : (name bytes : List ℕ) (all : Bool) → bytes ≡ name → 1 ≤ length bytes → true ≡ is_ascii_lowercase (get_or bytes 0 0) → all ≡ list_all is_name_byte (take (length bytes - 1) (drop 1 bytes)) → all ≡ is_plain_name name
@@ -37,25 +40,25 @@ plain-within names i h = elim (cases_lt i (length names)) [
   | inr past ↦ (let none : false ≡ true = ap is_plain_name (sym (get_or_past names i [] past)) ∙ h in absurd cc)
 ]
 
-has-name : (names : Texts) (i : ℕ) (attrs : List (Attribute ℕ)) → AreNames names → i < length names → list_all (is_plain_attribute (text_of names)) attrs ≡ true
+has-name : (names : Texts) (i : ℕ) (attrs : List (Attribute ℕ)) → AreNames names → i < length names → list_all (has_plain_name (text_of names)) attrs ≡ true
     → list_any (λ b. nat_eq b.0 i) attrs ≡ list_any (λ b. bytes_eq (text_of names i) b.0) (map (spelled_attribute (text_of names)) attrs)
 has-name names i [] table h plain = refl
 has-name names i (a ∷ attrs) table h plain =
     let (one, others) = and_parts _ _ plain in
-    λ k. sym (same-name names i a.0 table h (plain-within names a.0 (and_parts _ _ one).0)) k || has-name names i attrs table h others k
+    λ k. sym (same-name names i a.0 table h (plain-within names a.0 one)) k || has-name names i attrs table h others k
 
-apart : (name clean all same differ : Bool) → (((name && clean) && all) && (not same && differ)) ≡ (name && clean && not same && (all && differ))
-apart name clean all same differ = grind (arith)
+apart : (name names clean cleans same differ : Bool) → (((name && names) && (clean && cleans)) && (not same && differ)) ≡ (name && clean && not same && ((names && cleans) && differ))
+apart name names clean cleans same differ = grind (arith)
 
 none : (u v w : Bool) → (u && not v && false) ≡ (u && not w && false)
 none u v w = grind (arith)
 
--- attributes are plain if each is by itself, and their names differ
+-- attributes are plain if their names are, their values are clean, and the names differ
 pub plain-are : (names : Texts) (attrs : List (Attribute ℕ)) → AreNames names
-    → (list_all (is_plain_attribute (text_of names)) attrs && names_differ nat_eq attrs) ≡ are_plain_attributes (map (spelled_attribute (text_of names)) attrs)
+    → ((list_all (has_plain_name (text_of names)) attrs && are_clean attrs) && names_differ nat_eq attrs) ≡ are_plain_attributes (map (spelled_attribute (text_of names)) attrs)
 plain-are names [] table = refl
 plain-are names (a ∷ attrs) table =
-    apart name (is_clean a.1) (list_all (is_plain_attribute (text_of names)) attrs) same (names_differ nat_eq attrs)
+    apart name (list_all (has_plain_name (text_of names)) attrs) (is_clean a.1) (are_clean attrs) same (names_differ nat_eq attrs)
     ∙ ap (λ u. name && is_clean a.1 && not same && u) (plain-are names attrs table)
     ∙ compared name others refl refl (plain-are names attrs table)
   where
@@ -71,8 +74,18 @@ plain-are names (a ∷ attrs) table =
     others : Bool
     others = are_plain_attributes (map (spelled_attribute (text_of names)) attrs)
 
-    compared : (u v : Bool) → name ≡ u → others ≡ v → (list_all (is_plain_attribute (text_of names)) attrs && names_differ nat_eq attrs) ≡ others
+    compared : (u v : Bool) → name ≡ u → others ≡ v → ((list_all (has_plain_name (text_of names)) attrs && are_clean attrs) && names_differ nat_eq attrs) ≡ others
         → (u && is_clean a.1 && not same && v) ≡ (u && is_clean a.1 && not same_text && v)
     compared false v e e' law = refl
     compared true false e e' law = none (is_clean a.1) same same_text
-    compared true true e e' law = ap (λ w. is_clean a.1 && not w && true) (has-name names a.0 attrs table (plain-within names a.0 e) (and_parts _ _ (law ∙ e')).0)
+    compared true true e e' law =
+        let plain = (and_parts _ _ (and_parts _ _ (law ∙ e')).0).0 in
+        ap (λ w. is_clean a.1 && not w && true) (has-name names a.0 attrs table (plain-within names a.0 e) plain)
+
+-- attributes have plain names if those end no later than the plain ones
+pub plain-to : (names : Texts) (end : ℕ) (attrs : List (Attribute ℕ)) → ArePlainTo (text_of names) end → names_end attrs ≤ end → true ≡ list_all (has_plain_name (text_of names)) attrs
+plain-to names end [] plain h = refl
+plain-to names end (a ∷ attrs) plain h =
+    let first = le-max_left (suc a.0) (names_end attrs) in
+    let rest = le-max_right (suc a.0) (names_end attrs) in
+    λ k. sym (plain a.0 (omega (arith, first, h))) k && plain-to names end attrs plain (omega (arith, rest, h)) k

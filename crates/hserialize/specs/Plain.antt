@@ -5,6 +5,7 @@ use Rattle.std.specs.List.{list_any, list_all, starts_with}
 use Rattle.names.specs.declared.tag.Tag.{Tag}
 use Rattle.names.specs.declared.tag.Tag.TheVariants as tag
 use Rattle.names.specs.Tags.{tag_named}
+use Rattle.hnodes.specs.Clean.{is_clean}
 use Rattle.hnodes.specs.Forest.{Attribute, What, document, doctype, element, comment, text, Forest, none, tree}
 use Rattle.hserialize.specs.Walk.{inserts_marker}
 use Rattle.hserialize.specs.Words.{is_empty}
@@ -23,10 +24,6 @@ begins_with part t = starts_with nat_eq t part
 abbrev pub has_part : List ℕ → List ℕ → Bool
 has_part part [] = begins_with part []
 has_part part (b ∷ bs) = begins_with part (b ∷ bs) || has_part part bs
-
--- neither NUL nor CR
-abbrev pub is_clean : List ℕ → Bool
-is_clean t = list_all (λ b. not (b == 0 || b == 13)) t
 
 -- whether a text may be where these may
 abbrev pub is_among_texts : Texts → List ℕ → Bool

@@ -1,5 +1,5 @@
 -- What a walk knows of where a node is, and what it tests there. Names are numbers, and texts are theirs.
-use Rattle.std.specs.Prelude.{ℕ, Bool, true, false, not, ◌&&◌, eqb, List, Option, Some, None, codes, map, option_and_then, if◌then◌else◌}
+use Rattle.std.specs.Prelude.{◌≡◌, ◌<◌, ℕ, Bool, true, false, not, ◌&&◌, eqb, List, Option, Some, None, codes, map, option_and_then, if◌then◌else◌}
 use Rattle.names.specs.declared.tag.Tag.{Tag}
 use Rattle.names.specs.declared.tag.Tag.TheVariants as tag
 use Rattle.names.specs.Tags.{tag_of}
@@ -7,7 +7,7 @@ use Rattle.hnodes.specs.Forest.{Attribute, What, element, comment, text, Forest}
 use Rattle.hnodes.specs.Spelled.{spelled_attribute}
 use Rattle.hnodes.specs.Spots.{first_child_of, name_of, next_of, parent_of, what_of}
 use Rattle.hserialize.specs.ContentTable.{row, takes_role, texts_in, takes_comments}
-use Rattle.hserialize.specs.Plain.{Inside, begins_with, is_clean, is_plain_name, is_plain_text, is_plain_comment, are_plain_attributes, is_nested, is_a}
+use Rattle.hserialize.specs.Plain.{Inside, begins_with, is_plain_name, is_plain_text, is_plain_comment, are_plain_attributes, is_nested, is_a}
 use Rattle.hserialize.specs.Plain.{is_button, drops_line_feed}
 use Rattle.hserialize.specs.declared.around.Around.{Around}
 use Rattle.hserialize.specs.declared.around.Standing.{Standing}
@@ -108,9 +108,13 @@ abbrev pub begins_at : Option ℕ → Forest ℕ → Bool
 begins_at node f = begins_with_line_feed (option_and_then (λ n. what_of n f) node)
 
 module _ (spelling : ℕ → List ℕ) where
-  -- an attribute by itself
-  abbrev pub is_plain_attribute : Attribute ℕ → Bool
-  is_plain_attribute a = is_plain_name (spelling a.0) && is_clean a.1
+  -- an attribute
+  abbrev pub has_plain_name : Attribute ℕ → Bool
+  has_plain_name a = is_plain_name (spelling a.0)
+
+  -- all names with smaller numbers
+  abbrev pub ArePlainTo : ℕ → Type 0
+  ArePlainTo end = (name : ℕ) → name < end → is_plain_name (spelling name) ≡ true
 
   abbrev pub is_plain_element : Inside → Tag → List (Attribute ℕ) → (line_feed : Bool) → Bool
   is_plain_element inside t attrs line_feed =

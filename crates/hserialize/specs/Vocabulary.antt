@@ -1,4 +1,6 @@
 -- The words of the contracts, in one place.
+pub use Rattle.hnodes.specs.Clean.{are_clean}
+pub use Rattle.hnodes.specs.Differing.{names_end}
 pub use Rattle.hnodes.specs.Edits.{AreNodes}
 pub use Rattle.hnodes.specs.Forest.{What, children_of, tree_at, element}
 pub use Rattle.hnodes.specs.Passed.{ancestors_of, is_among}
@@ -14,10 +16,10 @@ pub use Rattle.hserialize.specs.Gathered.{Holds, failures_of, gathered}
 pub use Rattle.hserialize.specs.Lent.{what_is}
 pub use Rattle.hserialize.specs.Lines.{attribute_line, error_line, error_lines, identifiers, in_order, indented, node_lines, tree_text}
 pub use Rattle.hserialize.specs.Output.{AppendsBeginning, IsFlushed, Puts, WritesText, taken}
-pub use Rattle.hserialize.specs.Plain.{are_plain_attributes, begins_with, drops_line_feed, has_part, is_a, is_among_texts, is_button, is_clean, is_form, is_name_byte, is_nested, is_plain, is_plain_comment, is_plain_name, is_plain_text}
+pub use Rattle.hserialize.specs.Plain.{are_plain_attributes, begins_with, drops_line_feed, has_part, is_a, is_among_texts, is_button, is_form, is_name_byte, is_nested, is_plain, is_plain_comment, is_plain_name, is_plain_text}
 pub use Rattle.hserialize.specs.Printing.{attribute_count, lines_of}
 pub use Rattle.hserialize.specs.Regions.{are_region_content, form_after, in_region}
-pub use Rattle.hserialize.specs.Testing.{after_visit, alone, begins_at, content_among, inside_is, is_phrasing, is_plain_at, is_plain_attribute, is_plain_element, is_text_at, marked, standing_at_top, standing_in, standing_of, tag_at, texts_at_top, top_content}
+pub use Rattle.hserialize.specs.Testing.{after_visit, alone, begins_at, content_among, has_plain_name, inside_is, is_phrasing, is_plain_at, is_plain_element, is_text_at, marked, standing_at_top, standing_in, standing_of, tag_at, texts_at_top, top_content, ArePlainTo}
 pub use Rattle.hserialize.specs.Walk.{goes_in, inserts_marker, node_of, visits, visits_from}
 pub use Rattle.hserialize.specs.Words.{is_empty}
 pub use Rattle.hserialize.specs.Writing.{closing_of, holds_raw, name_around, opening_of, stands_raw, visit_text}

@@ -12,6 +12,7 @@ pub mod gathered;
 mod lines;
 pub mod node_view;
 mod plain;
+mod plain_names;
 mod plain_texts;
 mod serializer;
 mod sorted;

@@ -1,12 +1,14 @@
 //! Whether a list of trees is plain.
 
 ghost use Rattle.std.specs.Prelude.{◌≡◌, ◌<◌, ◌&&◌, ◌||◌, IfSome, Some, false, map};
-ghost use Rattle.hserialize.specs.Vocabulary.{text_of, tag_of, children_of, attribute_of, spelled, spelled_attribute, attributes_of, first_child_of, next_of, parent_of, what_of, are_plain_attributes, is_form, is_plain, drops_line_feed, are_region_content, form_after, in_region, tag_at, standing_of, inside_is, is_phrasing, is_text_at, begins_at, is_plain_element, is_plain_at, after_visit, node_of};
+ghost use Rattle.std.specs.List.{list_all};
+ghost use Rattle.hserialize.specs.Vocabulary.{text_of, has_plain_name, are_clean, tag_of, children_of, attribute_of, spelled, spelled_attribute, attributes_of, first_child_of, next_of, parent_of, what_of, are_plain_attributes, is_form, is_plain, drops_line_feed, are_region_content, form_after, in_region, tag_at, standing_of, inside_is, is_phrasing, is_text_at, begins_at, is_plain_element, is_plain_at, after_visit, node_of};
 
 use crate::around::{Around, Standing};
 use crate::content::Content;
 use crate::content_rows::row;
-use crate::plain_texts::{all_plain_attributes, begins_with, is_plain_comment, is_plain_text};
+use crate::plain_names::PlainNames;
+use crate::plain_texts::{begins_with, is_plain_comment, is_plain_text};
 use crate::{NodeView, Reach, TreeWalk, Visit, inserts_marker};
 use hnodes::{NodeId, NodeKind, Tree};
 use names::{Attr, NameId, Names, Tag};
@@ -65,20 +67,29 @@ fn drops_line_feed(tag: Tag) -> bool
     matches!(tag, Tag::Pre | Tag::Listing | Tag::Textarea)
 }
 
+/// Whether each attribute of an element is plain by itself.
+fn all_plain_attributes(tree: &Tree, names: &PlainNames, node: NodeId, attrs: &[Attr]) -> bool
+    requires made { node < tree.now.made }
+    requires own { attributes_of node tree.now.trees ≡ Some (map attribute_of attrs.now) }
+    ensures { result ≡ (list_all (has_plain_name (text_of names.now)) (map attribute_of attrs.now) && are_clean (map attribute_of attrs.now)) }
+{
+    names.are_plain(tree.attr_names_end(node), attrs) && tree.attrs_clean(node)
+}
+
 /// Whether the attributes of an element are plain.
-fn are_plain_attributes(tree: &Tree, names: &Names, node: NodeId, attrs: &[Attr]) -> bool
+fn are_plain_attributes(tree: &Tree, names: &PlainNames, node: NodeId, attrs: &[Attr]) -> bool
     requires made { node < tree.now.made }
     requires own { attributes_of node tree.now.trees ≡ Some (map attribute_of attrs.now) }
     ensures { result ≡ are_plain_attributes (map (spelled_attribute (text_of names.now)) (map attribute_of attrs.now)) }
 {
     prove!(names.are_names());
-    all_plain_attributes(names, attrs) && tree.attrs_differ(node)
+    all_plain_attributes(tree, names, node, attrs) && tree.attrs_differ(node)
 }
 
 /// Whether an element is plain by itself.
 fn is_plain_element(
     tree: &Tree,
-    names: &Names,
+    names: &PlainNames,
     standing: Standing,
     node: NodeId,
     name: NameId,
@@ -97,7 +108,7 @@ fn is_plain_element(
 }
 
 /// Whether a node is plain by itself, before its siblings.
-fn is_plain_node(tree: &Tree, names: &Names, standing: Standing, node: NodeId) -> bool
+fn is_plain_node(tree: &Tree, names: &PlainNames, standing: Standing, node: NodeId) -> bool
     requires { node < tree.now.made }
     ensures { result ≡ is_plain_at (text_of names.now) (inside_is standing) node tree.now.trees }
 {
@@ -116,7 +127,7 @@ fn is_plain_node(tree: &Tree, names: &Names, standing: Standing, node: NodeId) -
 /// What is around the nodes of a region that come after a visit; None if what is visited is not plain.
 fn after_visit(
     tree: &Tree,
-    names: &Names,
+    names: &PlainNames,
     root: NodeId,
     top: Content,
     around: Around,
@@ -137,7 +148,7 @@ fn after_visit(
 
 /// Whether what is in a node is content of it, wherever forms are, down to the elements that insert a marker: what is in
 /// those is a region by itself.
-fn is_plain_region(tree: &Tree, names: &Names, root: NodeId, top: Content) -> bool
+fn is_plain_region(tree: &Tree, names: &PlainNames, root: NodeId, top: Content) -> bool
     requires made { root < tree.now.made }
     requires not_phrasing { is_phrasing top ≡ false }
     ensures { result ≡ are_region_content (in_region top) (spelled (text_of names.now) (children_of root tree.now.trees)) }
@@ -162,7 +173,7 @@ fn is_form(tag: Tag) -> bool
 
 /// Whether a form is around the nodes that come after a visit. None if a form is in a form, or if what is in an element
 /// that inserts a marker is not its content.
-fn form_after(tree: &Tree, names: &Names, in_form: bool, visit: Visit) -> Option<bool>
+fn form_after(tree: &Tree, names: &PlainNames, in_form: bool, visit: Visit) -> Option<bool>
     requires { node_of visit < tree.now.made }
     ensures { result ≡ form_after (text_of names.now) tree.now.trees visit in_form }
 {
@@ -181,9 +192,8 @@ fn form_after(tree: &Tree, names: &Names, in_form: bool, visit: Visit) -> Option
     }
 }
 
-/// Whether the children of a node are a plain list in an element of this name: they come back from the parser as they are. Takes
-/// no memory, and as many steps as there are nodes, attributes, and bytes in names, values and texts.
-pub fn is_plain(tree: &Tree, names: &Names, root: NodeId, context: &str) -> bool
+/// Whether the children of a node are a plain list in an element of this name.
+fn is_plain_list(tree: &Tree, names: &PlainNames, root: NodeId, context: &str) -> bool
     requires { root < tree.now.made }
     ensures { result ≡ is_plain context.now (spelled (text_of names.now) (children_of root tree.now.trees)) }
 {
@@ -203,4 +213,15 @@ pub fn is_plain(tree: &Tree, names: &Names, root: NodeId, context: &str) -> bool
         }
     }
     true
+}
+
+/// Whether the children of a node are a plain list in an element of this name: they come back from the parser as they are. Takes
+/// no memory, and as many steps as there are bytes in the names of the table, nodes, bytes in texts, and attributes with their
+/// values. Attributes that many elements share are a step for each of these, unless a name of the table that no attribute may have
+/// has a smaller number than one of theirs: then each of their names is looked at.
+pub fn is_plain(tree: &Tree, names: &Names, root: NodeId, context: &str) -> bool
+    requires { root < tree.now.made }
+    ensures { result ≡ is_plain context.now (spelled (text_of names.now) (children_of root tree.now.trees)) }
+{
+    is_plain_list(tree, &PlainNames::of(names), root, context)
 }

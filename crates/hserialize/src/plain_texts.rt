@@ -1,11 +1,10 @@
-//! Plain texts, comments and attributes.
+//! Plain texts and comments.
 
-ghost use Rattle.std.specs.Prelude.{◌≡◌, map};
-ghost use Rattle.std.specs.List.{list_all};
-ghost use Rattle.hserialize.specs.Vocabulary.{text_of, attribute_of, begins_with, has_part, is_clean, is_among_texts, is_plain_text, is_plain_comment, is_name_byte, is_plain_name, is_plain_attribute};
+ghost use Rattle.std.specs.Prelude.{◌≡◌};
+ghost use Rattle.hserialize.specs.Vocabulary.{begins_with, has_part, is_among_texts, is_plain_text, is_plain_comment};
 
 use crate::content::Texts;
-use names::{Attr, Names};
+use hnodes::is_clean;
 
 /// Whether a part is in a text.
 fn has_part(text: &str, part: &str) -> bool
@@ -19,13 +18,6 @@ pub(crate) fn begins_with(text: &str, part: &str) -> bool
     ensures { result ≡ begins_with part.now text.now }
 {
     text.as_bytes().starts_with(part.as_bytes())
-}
-
-/// Whether a text has neither NUL nor CR.
-fn is_clean(text: &str) -> bool
-    ensures { result ≡ is_clean text.now }
-{
-    text.bytes().all(|byte| byte != 0 && byte != b'\r')
 }
 
 /// Whether a text is white space alone.
@@ -64,42 +56,4 @@ pub(crate) fn is_plain_comment(text: &str) -> bool
         && !has_part(text, "--!>")
         && !begins_with(text, ">")
         && !begins_with(text, "->")
-}
-
-/// Whether a byte may be in the name of an attribute.
-fn is_name_byte(byte: u8) -> bool
-    ensures { result ≡ is_name_byte byte }
-{
-    matches!(byte, b'a'..=b'z' | b'0'..=b'9' | b'-' | b'_' | b':')
-}
-
-/// Whether all of these bytes may be.
-fn are_name_bytes(bytes: &[u8]) -> bool
-    ensures { result ≡ list_all is_name_byte bytes.now }
-{
-    bytes.iter().all(|&byte| is_name_byte(byte))
-}
-
-/// Whether the name of an attribute is plain.
-fn is_plain_name(name: &str) -> bool
-    ensures { result ≡ is_plain_name name.now }
-{
-    match name.as_bytes() {
-        [first, rest @ ..] => first.is_ascii_lowercase() && are_name_bytes(rest),
-        [] => false,
-    }
-}
-
-/// Whether the name and the value of an attribute are plain.
-fn is_plain_attribute(names: &Names, attr: &Attr) -> bool
-    ensures { result ≡ is_plain_attribute (text_of names.now) (attribute_of attr.now) }
-{
-    is_plain_name(names.text(attr.name)) && is_clean(&attr.value)
-}
-
-/// Whether each of these attributes is plain by itself.
-pub(crate) fn all_plain_attributes(names: &Names, attrs: &[Attr]) -> bool
-    ensures { result ≡ list_all (is_plain_attribute (text_of names.now)) (map attribute_of attrs.now) }
-{
-    attrs.iter().all(|attr| is_plain_attribute(names, attr))
 }

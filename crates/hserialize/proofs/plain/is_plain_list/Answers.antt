@@ -1,7 +1,7 @@
 use Rattle.hserialize.proofs.Names.{◌∙◌, ◌≡◌, ℕ, List, sym, ap, Tag, text_of, tag_named, children_of, spelled, row, in_context, in_context_of, is_form, top_content}
 use Rattle.hserialize.proofs.Regions.{begun, none_plain, not_plain, top_other}
 use Rattle.hserialize.proofs.Walks.{fails, found, goes_on}
-use Rattle.hserialize.proofs.plain.is_plain.Goals as goal
+use Rattle.hserialize.proofs.plain.is_plain_list.Goals as goal
 
 -- the plain lists in an element whose known name is that of the context
 of_context : (context : List ℕ) (t : Tag) → t ≡ tag_named context → in_context_of (row t).1 (is_form t) ≡ in_context context

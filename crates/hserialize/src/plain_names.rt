@@ -1,0 +1,108 @@
+//! Names of attributes that are plain.
+
+ghost use Rattle.std.specs.Prelude.{◌≡◌, map, true};
+ghost use Rattle.std.specs.List.{list_all};
+ghost use Rattle.names.specs.Names.{AreNames};
+ghost use Rattle.hserialize.specs.Vocabulary.{attribute_of, has_plain_name, is_name_byte, is_plain_name, names_end, text_of, ArePlainTo};
+
+use names::{Attr, Names};
+use std::marker::Model;
+
+/// Whether a byte may be in the name of an attribute.
+fn is_name_byte(byte: u8) -> bool
+    ensures { result ≡ is_name_byte byte }
+{
+    matches!(byte, b'a'..=b'z' | b'0'..=b'9' | b'-' | b'_' | b':')
+}
+
+/// Whether all of these bytes may be.
+fn are_name_bytes(bytes: &[u8]) -> bool
+    ensures { result ≡ list_all is_name_byte bytes.now }
+{
+    bytes.iter().all(|&byte| is_name_byte(byte))
+}
+
+/// Whether the name of an attribute is plain.
+fn is_plain_name(name: &str) -> bool
+    ensures { result ≡ is_plain_name name.now }
+{
+    match name.as_bytes() {
+        [first, rest @ ..] => first.is_ascii_lowercase() && are_name_bytes(rest),
+        [] => false,
+    }
+}
+
+/// Whether the table has a name of this number, and it is plain.
+fn is_plain_at(names: &Names, index: usize) -> bool
+    ensures { result ≡ is_plain_name (text_of names.now index) }
+{
+    match names.nth(index) {
+        Some(name) => is_plain_name(name),
+        None => false,
+    }
+}
+
+/// The number of the first name of a table that is not plain, or of the first that it does not have.
+fn plain_end(names: &Names) -> usize
+    ensures { ArePlainTo (text_of names.now) result }
+{
+    for index in 0..usize::MAX {
+        if !is_plain_at(names, index) {
+            return index;
+        }
+    }
+    usize::MAX
+}
+
+/// A table of names, and a number up to which they are all plain.
+#[derive(Drop)]
+pub(crate) struct PlainNames<'a> {
+    names: &'a Names,
+    end: usize,
+}
+
+impl<'a> Model for PlainNames<'a> {
+    ghost use Rattle.names.specs.Names.{text_of, Texts, AreNames};
+    ghost use Rattle.hserialize.specs.Testing.{ArePlainTo};
+
+    ghost Value = { Texts };
+
+    ghost view = { λ s. s.names.now };
+
+    ghost invariant = { λ s. ArePlainTo (text_of s.names.now) s.end };
+}
+
+impl<'a> PlainNames<'a> {
+    /// The names of a table.
+    pub(crate) fn of(names: &'a Names) -> PlainNames<'a>
+        ensures { result ≡ names.now }
+    {
+        let end = plain_end(names);
+        PlainNames { names, end }
+    }
+
+    /// Its texts are distinct, the known ones first: always so, to be said in a `prove!`.
+    pub(crate) fn are_names(&self) -> bool
+        ensures holds { result ≡ true }
+        ensures names { AreNames self.now }
+    {
+        self.names.are_names()
+    }
+
+    /// Whether the names of all these attributes, whose numbers end here, are plain.
+    pub(crate) fn are_plain(&self, end: usize, attrs: &[Attr]) -> bool
+        requires { end ≡ names_end (map attribute_of attrs.now) }
+        ensures { result ≡ list_all (has_plain_name (text_of self.now)) (map attribute_of attrs.now) }
+    {
+        end <= self.end || have_plain_names(self.names, attrs)
+    }
+}
+
+/// Whether the names of all these attributes are plain.
+fn have_plain_names(names: &Names, attrs: &[Attr]) -> bool
+    ensures { result ≡ list_all (has_plain_name (text_of names.now)) (map attribute_of attrs.now) }
+{
+    attrs
+        .iter()
+        .all(|attr| is_plain_name(names.text(attr.name)))
+}
