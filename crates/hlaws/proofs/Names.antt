@@ -26,6 +26,7 @@ pub use Rattle.hmodes.specs.declared.mode.Mode.{Mode}
 pub use Rattle.hmodes.specs.declared.mode.Mode.TheVariants.{InBody, InCaption, InCell, InTable, InTableBody, InRow, InColumnGroup, Text, InTableText}
 pub use Rattle.hmodes.specs.declared.token_kind.TokenKind.TheVariants.{Comment, Start, End}
 pub use Rattle.hnodes.proofs.Forests.{join-none}
+pub use Rattle.hnodes.specs.Clean.{is_clean}
 pub use Rattle.hnodes.specs.Edits.{graft_last, if_text, text_before}
 pub use Rattle.hnodes.specs.Forest.{Forest, none, tree, size, children_of, element, text, What, times, join, Attribute}
 pub use Rattle.hnodes.specs.declared.node.Place.TheVariants.{LastIn}
@@ -37,7 +38,7 @@ pub use Rattle.hparse.specs.Input.{reads_in, text_in}
 pub use Rattle.hparse.specs.Parse.{ParseOptions, fragment, manner, policy, Parse, Parses, accepted, is_context, start_of, refused_token, refused_tag}
 pub use Rattle.hparse.specs.Taken.{placed, taken}
 pub use Rattle.hserialize.specs.ContentTable.{row, texts_in, takes_role, takes_comments}
-pub use Rattle.hserialize.specs.Plain.{are_content_if, in_context_of, is_form, Inside, are_content, is_a, is_button, drops_line_feed, is_nested, inside_element, inside_node, is_plain_node, are_plain_attributes, is_plain_text, is_plain_comment, is_clean, is_among_texts, begins_with, begins_with_text, begins_with_line_feed, has_part, is_name_byte}
+pub use Rattle.hserialize.specs.Plain.{are_content_if, in_context_of, is_form, Inside, are_content, is_a, is_button, drops_line_feed, is_nested, inside_element, inside_node, is_plain_node, are_plain_attributes, is_plain_text, is_plain_comment, is_among_texts, begins_with, begins_with_text, begins_with_line_feed, has_part, is_name_byte}
 pub use Rattle.hserialize.specs.declared.content.Content.{Content}
 pub use Rattle.hserialize.specs.declared.content.Role.{Role}
 pub use Rattle.hserialize.specs.Escaping.{written_char, escaped}
