@@ -1,24 +1,49 @@
 //! Attributes that are stored once, for all elements and entries that have them.
 
-ghost use Rattle.std.specs.Prelude.{◌≡◌, ◌++◌, ◌∷◌, [], IfOk, map, nat_eq};
+ghost use Rattle.std.specs.Prelude.{◌≡◌, ◌++◌, ◌∷◌, [], IfOk, IfSome, map, nat_eq};
+ghost use Rattle.hnodes.specs.Shared.{IsFound};
 ghost use Rattle.hnodes.specs.Vocabulary.{are_clean, attribute_of, names_differ, names_end};
 
-use crate::attributes::{are_clean, differ, names_end};
+use crate::attributes::{FEW_ATTRIBUTES, are_clean, differ, few_differ, names_end};
 use names::Attr;
 use std::alloc::{AllocError, Global};
 use std::marker::Model;
 use std::rc::Rc;
 
-/// Attributes, and what is found of them once.
-#[derive(Debug, Drop)]
-struct Listed {
-    attrs: Vec<Attr>,
+/// What is found once of attributes.
+#[derive(Clone, Copy, Debug)]
+struct Found {
     /// Whether their names differ.
     differ: bool,
     /// Whether their values are clean.
     clean: bool,
     /// One more than the greatest number among their names.
     names_end: usize,
+}
+
+/// A value of at most this many bytes is short.
+const SHORT_VALUE: usize = 64;
+
+/// What is found of attributes, unless there are only a few with short values: those are looked at in constant time.
+fn look_at(attrs: &[Attr], alloc: Global) -> Result<Option<Found>, AllocError>
+    ensures { IfOk result (λ found. IfSome found (λ f. IsFound f (map attribute_of attrs.now))) }
+{
+    let is_short = attrs.iter().all(|attr| attr.value.len() <= SHORT_VALUE);
+    if is_short && attrs.len() <= FEW_ATTRIBUTES {
+        return Ok(None);
+    }
+    Ok(Some(Found {
+        differ: differ(attrs, alloc)?,
+        clean: are_clean(attrs),
+        names_end: names_end(attrs),
+    }))
+}
+
+/// Attributes, and what is found of them.
+#[derive(Debug, Drop)]
+struct Listed {
+    attrs: Vec<Attr>,
+    found: Option<Found>,
 }
 
 impl Model for Listed {
@@ -30,11 +55,11 @@ impl Model for Listed {
 
     ghost coded = { coded_list (coded× coded_ℕ (coded_list coded_ℕ)) };
 
-    ghost use Rattle.hnodes.specs.Shared.{listed_in, IsKnown};
+    ghost use Rattle.hnodes.specs.Shared.{listed_in, IsListed};
 
     ghost view = { listed_in };
 
-    ghost invariant = { IsKnown };
+    ghost invariant = { IsListed };
 }
 
 impl Listed {
@@ -42,15 +67,8 @@ impl Listed {
     fn new(attrs: Vec<Attr>, alloc: Global) -> Result<Self, AllocError>
         ensures { IfOk result (λ listed. listed ≡ map attribute_of attrs.items) }
     {
-        let differ = differ(&attrs, alloc)?;
-        let clean = are_clean(&attrs);
-        let names_end = names_end(&attrs);
-        Ok(Listed {
-            attrs,
-            differ,
-            clean,
-            names_end,
-        })
+        let found = look_at(&attrs, alloc)?;
+        Ok(Listed { attrs, found })
     }
 
     /// The attributes.
@@ -64,21 +82,30 @@ impl Listed {
     fn differ(&self) -> bool
         ensures { result ≡ names_differ nat_eq self.now }
     {
-        self.differ
+        match &self.found {
+            Some(found) => found.differ,
+            None => few_differ(&self.attrs),
+        }
     }
 
     /// Whether their values are clean.
     fn clean(&self) -> bool
         ensures { result ≡ are_clean self.now }
     {
-        self.clean
+        match &self.found {
+            Some(found) => found.clean,
+            None => are_clean(&self.attrs),
+        }
     }
 
     /// One more than the greatest number among their names.
     fn names_end(&self) -> usize
         ensures { result ≡ names_end self.now }
     {
-        self.names_end
+        match &self.found {
+            Some(found) => found.names_end,
+            None => names_end(&self.attrs),
+        }
     }
 }
 
