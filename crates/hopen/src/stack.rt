@@ -292,6 +292,13 @@ impl OpenStack {
         self.get(self.position_of(Sought::Name(name))?)
     }
 
+    /// The nearest open node of a group.
+    pub fn nearest_of(&self, group: Group) -> Option<Open>
+        ensures { option_map open_of result ≡ find (is_of tag_of group) self.now.stack }
+    {
+        self.get(self.position_of(Sought::Group(group))?)
+    }
+
     /// The open node right above a node; `None` if the node is the topmost or not open.
     pub fn above(&self, node: NodeId) -> Option<Open>
         ensures { option_map open_of result ≡ current_of (above_of node self.now.stack) }
