@@ -1,5 +1,23 @@
 -- Searches that go up the open nodes, in the words of the code.
-use Rattle.hopen.proofs.Names.{◌≡◌, ℕ, zero, suc, ◌<◌, ◌-◌, List, [], ◌∷◌, ◌++◌, Option, Some, None, length, drop, map, reverse, subst, refl, sym, ◌∙◌, ap, arith, position, find, slice_get, option_or, unwrap_or, IfSome, words, no_words, reverse-append, length-reverse, length-map, OpenNode, current, topmost_special, furthest_block, is_node, Tag, is_special, before, take_nearest, position_within}
+use Rattle.hopen.proofs.Names.{◌≡◌, ℕ, zero, suc, ◌<◌, ◌≤◌, ◌-◌, Bool, List, [], ◌∷◌, ◌++◌, Option, Some, None, length, drop, take, map, reverse, subst, refl, sym, ◌∙◌, ap, arith, position, position_or_len, find, slice_get, option_or, unwrap_or, IfSome, words, no_words, reverse-append, length-reverse, length-map, OpenNode, current, topmost_special, furthest_block, is_node, Tag, is_special, before, take_nearest, position_within}
+
+-- among so many of the first members
+module _ {Y : Type 0} (sought : Y → Bool) where
+  pub find-front : (ys : List Y) (n : ℕ) → n ≤ position_or_len sought ys → find sought (take n ys) ≡ None
+  find-front [] zero h = refl
+  find-front [] (suc n) h = refl
+  find-front (y ∷ ys) zero h = refl
+  find-front (y ∷ ys) (suc n) h = grind (arith, find-front ys n)
+
+  pub find-none : (ys : List Y) (n : ℕ) → find sought ys ≡ None → find sought (take n ys) ≡ None
+  find-none ys zero h = refl
+  find-none [] (suc n) h = refl
+  find-none (y ∷ ys) (suc n) h = grind (arith, find-none ys n)
+
+  pub find-within : (ys : List Y) (n : ℕ) → position_or_len sought ys < n → find sought (take n ys) ≡ find sought ys
+  find-within ys zero h = absurd (omega arith)
+  find-within [] (suc n) h = refl
+  find-within (y ∷ ys) (suc n) h = grind (arith, find-within ys n)
 
 module _ {N : Type 0} where
   pub current-drop : (n : ℕ) (ys : List (OpenNode N)) → current (drop n ys) ≡ slice_get ys n

@@ -1,6 +1,6 @@
 //! The stack of open elements (HTML Standard, `#the-stack-of-open-elements`).
 
-ghost use Rattle.std.specs.Prelude.{◌≡◌, ◌≤◌, ◌↔◌, ◌⊎◌, [], ◌∷◌, OnOk, OnErr, IfErr, IfSome, MatchOption, ◌<◌, ◌+◌, ◌-◌, length, drop, reverse, nat_eq, true};
+ghost use Rattle.std.specs.Prelude.{◌≡◌, ◌≤◌, ◌↔◌, ◌⊎◌, [], ◌∷◌, OnOk, OnErr, IfErr, IfSome, MatchOption, ◌<◌, ◌+◌, ◌-◌, length, drop, take, reverse, nat_eq, true};
 ghost use Rattle.std.specs.Prelude.{leb, if◌then◌else◌};
 ghost use Rattle.std.specs.List.{find, list_all, position, remove_range, slice_get};
 ghost use Rattle.std.specs.Option.{option_map};
@@ -292,11 +292,15 @@ impl OpenStack {
         self.get(self.position_of(Sought::Name(name))?)
     }
 
-    /// The nearest open node of a group.
-    pub fn nearest_of(&self, group: Group) -> Option<Open>
-        ensures { option_map open_of result ≡ find (is_of tag_of group) self.now.stack }
+    /// The nearest open node of a group below the topmost node.
+    pub fn nearest_below_first(&self, group: Group) -> Option<Open>
+        ensures { option_map open_of result ≡ find (is_of tag_of group) (take (length self.now.stack - 1) self.now.stack) }
     {
-        self.get(self.position_of(Sought::Group(group))?)
+        let index = self.index(Sought::Group(group))?;
+        if index == 0 {
+            return None;
+        }
+        Some(self.items[index].opened)
     }
 
     /// The open node right above a node; `None` if the node is the topmost or not open.
