@@ -17,4 +17,3 @@ pub mod Ways
 pub mod Bound
 pub mod Spellings
 pub mod Agreeing
-pub mod Halves

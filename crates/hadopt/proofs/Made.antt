@@ -1,5 +1,5 @@
 -- Open nodes that were made.
-use Rattle.hadopt.proofs.Names.{◌≡◌, ℕ, zero, suc, ◌+◌, ◌<◌, ◌≤◌, Bool, true, List, [], ◌∷◌, ◌++◌, Option, Some, None, cond_both, some_same, refl, sym, subst, arith, drop, find, slice_get, reverse, reverse_onto, option_map, IfSome, OnOk, OnErr, Result, Nodes, make, What, open_of, OpenNode, OpenNodes, current, Refusal, past, Each, AreMade}
+use Rattle.hadopt.proofs.Names.{◌≡◌, ℕ, zero, suc, ◌+◌, ◌<◌, ◌≤◌, Bool, true, List, [], ◌∷◌, ◌++◌, Option, Some, None, cond_both, some_same, refl, sym, subst, arith, drop, take, find, slice_get, reverse, reverse_onto, option_map, IfSome, OnOk, OnErr, Result, Nodes, make, What, open_of, OpenNode, OpenNodes, current, Refusal, past, Each, AreMade}
 use Rattle.std.specs.Prelude.{Ok, Err}
 use Rattle.hopen.specs.declared.stack.Open.{Open}
 use Rattle.hadopt.proofs.Lists.{each-map}
@@ -27,6 +27,11 @@ module _ (P : OpenNode ℕ → Type 0) where
   each-found test stack None is e = tt
   each-found test [] (Some x) is e = cc
   each-found test (y ∷ up) (Some x) is e = cond_both (test y) (Some y) (find test up) (λ o. Some (open_of x) ≡ o → P (open_of x)) (λ _ h. this x y (some_same (open_of x) y h) e.0) (λ _ h. each-found test up (Some x) h e.1) is
+
+  pub each-take : (n : ℕ) (stack : List (OpenNode ℕ)) → Each P stack → Each P (take n stack)
+  each-take zero stack e = tt
+  each-take (suc n) [] e = tt
+  each-take (suc n) (x ∷ up) e = (e.0, each-take n up e.1)
 
   each-join : (xs ys : List (OpenNode ℕ)) → Each P xs → Each P ys → Each P (xs ++ ys)
   each-join [] ys a b = b

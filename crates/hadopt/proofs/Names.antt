@@ -3,7 +3,7 @@ pub use Rattle.hadopt.specs.Adopts.{InnerLoop, inner_loop, entries_for, inner_tu
 pub use Rattle.hadopt.specs.AfterInnerLoop.{WithFurthestBlock}
 pub use Rattle.hadopt.specs.Closes.{other_end, closed, past, without_implied, popped_to}
 pub use Rattle.hadopt.specs.Gives.{Gives}
-pub use Rattle.hadopt.specs.InnerLoops.{AreDifferent, without_entries, way_after, way_left}
+pub use Rattle.hadopt.specs.InnerLoops.{AreDifferent}
 pub use Rattle.hadopt.specs.Inserts.{made, inserted, pushed, put, added, put_each, with_missing, listed}
 pub use Rattle.hadopt.specs.Kept.{Each, Kept, Pairs, PlaceStands, TellsTables}
 pub use Rattle.hadopt.specs.Made.{AreMade}

@@ -4,7 +4,7 @@ pub use Rattle.hadopt.specs.Adopts.{outer_turn, outer_loop, is_unlisted, adopted
 pub use Rattle.hadopt.specs.AfterInnerLoop.{AfterInnerLoop, WithFurthestBlock}
 pub use Rattle.hadopt.specs.Closes.{closed, closed_p, other_end, past, popped_to}
 pub use Rattle.hadopt.specs.Gives.{Gives}
-pub use Rattle.hadopt.specs.InnerLoops.{AreDifferent, HalfGives, way_after, way_left, without_entries}
+pub use Rattle.hadopt.specs.InnerLoops.{AreDifferent}
 pub use Rattle.hadopt.specs.Inserts.{made, added, pushed, inserted, put, put_each, listed, with_missing}
 pub use Rattle.hadopt.specs.Kept.{Kept, PlaceStands, OpenStands}
 pub use Rattle.hadopt.specs.Meets.{inner_loop_of, InnerLoopGives, TurnGives}

@@ -3,7 +3,7 @@
 ghost use Rattle.std.specs.Prelude.{◌≡◌, ℕ, ◌<◌, ◌≤◌, ◌+◌, IfOk, Some, length, nat_eq, ◌*◌, map, OnOk, true};
 ghost use Rattle.std.specs.Option.{option_map};
 ghost use Rattle.hadopt.specs.Vocabulary.{most_kept, node_replaced, inner_turn, inner_loop, after_inner_loop, with_furthest_block, with_formatting_element, outer_turn, outer_loop, is_unlisted, AfterInnerLoop};
-ghost use Rattle.hadopt.specs.Vocabulary.{WithFurthestBlock, AreDifferent, HalfGives, way_after, way_left, without_entries, inner_loop_of, InnerLoopGives, TurnGives, IsPlace, graft, place_node, element, IsOutside};
+ghost use Rattle.hadopt.specs.Vocabulary.{WithFurthestBlock, AreDifferent, inner_loop_of, InnerLoopGives, TurnGives, IsPlace, graft, place_node, element, IsOutside};
 ghost use Rattle.hadopt.specs.Vocabulary.{attribute_of, Place, without, open_of, is_node, is_open, Gives, made, Goes, stack, trees, with_stack, with_trees, before, furthest_block, find_entry, entry_is, numbers, and_then};
 ghost use Rattle.hadopt.specs.Vocabulary.{with_items, adopted, Kept, changed, put_before, EntryOf, InPlace, move_all, above};
 
@@ -26,13 +26,6 @@ pub(crate) enum Turn {
 pub(crate) struct InnerLoop {
     pub(crate) last_node: NodeId,
     pub(crate) bookmark: Bookmark,
-}
-
-/// In the inner loop, with so many open nodes left above.
-#[derive(Clone, Copy)]
-pub(crate) struct Halfway {
-    pub(crate) inner: InnerLoop,
-    pub(crate) left: usize,
 }
 
 /// How many turns of the inner loop leave the node its entry (step 4.13.4).
@@ -85,96 +78,31 @@ impl Site {
         })
     }
 
-    /// Steps 4.13.5 to 4.13.9: one of the first turns of the inner loop, whose node keeps its entry.
+    /// Steps 4.13.4 to 4.13.9: a turn of the inner loop with a node, after this many turns.
     fn inner_turn(
         &mut self,
         inner: InnerLoop,
         furthest_block: NodeId,
+        passed: usize,
         node: Open,
         at: u64,
     ) -> Result<InnerLoop, Refusal>
         requires begun { 0 < inner.last_node }
         requires last_in { inner.last_node < self.old.nodes.made }
-        ensures done { (passed : ℕ) → passed < most_kept
-            → InnerLoopGives result self.new (inner_turn numbers at furthest_block passed (open_of node) (inner_loop_of inner self.old)) }
+        ensures done { InnerLoopGives result self.new (inner_turn numbers at furthest_block passed (open_of node) (inner_loop_of inner self.old)) }
         ensures last_node { IfOk result (λ c. (0 < c.last_node) × (c.last_node < self.new.nodes.made)) }
         ensures few { self.new.nodes.made ≤ self.old.nodes.made + 1 }
+        ensures none { most_kept ≤ passed → self.new.nodes.made ≡ self.old.nodes.made }
     {
-        match copy(self.list.entry_of(node.node))? {
-            Some(entry) => self.replace_node(inner, furthest_block, node.node, entry, at),
-            None => {
-                self.leave(node.node);
-                Ok(inner)
-            }
-        }
-    }
-
-    /// Steps 4.11 to 4.13: the first turns of the inner loop, whose nodes keep their entry.
-    fn first_inner_turns(
-        &mut self,
-        formatting_element: NodeId,
-        furthest_block: NodeId,
-        at: u64,
-    ) -> Result<Halfway, Refusal>
-        requires begun { 0 < furthest_block }
-        requires block_in { furthest_block < self.old.nodes.made }
-        requires different { AreDifferent self.old }
-        ensures done { HalfGives formatting_element furthest_block at result self.new
-            (inner_loop numbers at furthest_block 0 (before (is_node formatting_element) (above furthest_block self.old.open_nodes.stack))
-            (record { last_node = furthest_block; bookmark = InPlace; site = self.old })) }
-        ensures last_node { IfOk result (λ h. (0 < h.inner.last_node) × (h.inner.last_node < self.new.nodes.made)) }
-        ensures few { self.new.nodes.made ≤ self.old.nodes.made + most_kept }
-    {
-        let mut inner = InnerLoop {
-            last_node: furthest_block,
-            bookmark: Bookmark::InPlace,
-        };
-        let mut left = self.stack.depth(furthest_block);
-        let mut passed = 0;
-        while left > 0 && passed < MOST_KEPT {
-            // Step 4.13.2
-            left -= 1;
-            let Some(node) = self.from_top(left) else {
-                unreachable!()
-            };
-            // Step 4.13.3
-            if node.node == formatting_element {
-                return Ok(Halfway { inner, left: 0 });
-            }
-            inner = self.inner_turn(inner, furthest_block, node, at)?;
-            // Step 4.13.1
-            passed += 1;
-        }
-        Ok(Halfway { inner, left })
-    }
-
-    /// Step 4.13.4 of all further turns: removes the entries of their nodes, from the one with `below` nodes below it. Returns how many
-    /// nodes are below the formatting element then.
-    fn remove_entries(&mut self, formatting_element: NodeId, below: usize) -> usize
-        requires { below ≤ length (stack self.old) }
-        ensures site { self.new ≡ with_items (without_entries (way_after formatting_element below self.old) self.old.items) self.old }
-        ensures end { result ≡ below + length (way_after formatting_element below self.old) }
-    {
-        for up in below..self.stack.len() {
-            let Some(node) = self.get(up) else {
-                return up;
-            };
-            if node.node == formatting_element {
-                return up;
-            }
+        if passed >= MOST_KEPT {
+            // Step 4.13.4
             self.remove_entry(node.node);
+        } else if let Some(entry) = copy(self.list.entry_of(node.node))? {
+            return self.replace_node(inner, furthest_block, node.node, entry, at);
         }
-        self.stack.len()
-    }
-
-    /// Steps 4.13.4 and 4.13.5 of all further turns: removes their nodes, from the one with `below` nodes below it, with their entries:
-    /// from the stack in one pass.
-    fn leave_way(&mut self, formatting_element: NodeId, below: usize)
-        requires { below ≤ length (stack self.old) }
-        ensures { self.new ≡ way_left formatting_element below self.old }
-    {
-        let end = self.remove_entries(formatting_element, below);
-        self.stack.remove_run(below, end - below);
+        // Step 4.13.5
+        self.leave(node.node);
+        Ok(inner)
     }
 
     /// Steps 4.10 to 4.13: the inner loop, up from the furthest block to the formatting element.
@@ -193,10 +121,24 @@ impl Site {
         ensures last_node { IfOk result (λ c. (0 < c.last_node) × (c.last_node < self.new.nodes.made)) }
         ensures few { self.new.nodes.made ≤ self.old.nodes.made + most_kept }
     {
-        let half = self.first_inner_turns(formatting_element, furthest_block, at)?;
-        let below = self.stack.len() - half.left;
-        self.leave_way(formatting_element, below);
-        Ok(half.inner)
+        let mut inner = InnerLoop {
+            last_node: furthest_block,
+            bookmark: Bookmark::InPlace,
+        };
+        let mut passed = 0;
+        // Step 4.13.2
+        let mut next = self.stack.above(furthest_block);
+        while let Some(node) = next {
+            // Step 4.13.3
+            if node.node == formatting_element {
+                return Ok(inner);
+            }
+            next = self.stack.above(node.node);
+            inner = self.inner_turn(inner, furthest_block, passed, node, at)?;
+            // Step 4.13.1
+            passed = MOST_KEPT.min(passed + 1);
+        }
+        Ok(inner)
     }
 
     /// Steps 4.14 to 4.19: the last node goes to the appropriate place in the common ancestor. A new element takes all children of the

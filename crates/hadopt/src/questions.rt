@@ -1,7 +1,7 @@
 //! What the rules ask of the open nodes and of the formatting elements.
 
-ghost use Rattle.std.specs.Prelude.{◌≡◌, ◌<◌, IfSome, length, nat_eq, slice_get};
-ghost use Rattle.std.specs.List.{list_all, position};
+ghost use Rattle.std.specs.Prelude.{◌≡◌, ◌<◌, ◌-◌, IfSome, length, nat_eq, take};
+ghost use Rattle.std.specs.List.{find, list_all};
 ghost use Rattle.std.specs.Option.{option_map};
 ghost use Rattle.hadopt.specs.Vocabulary.{find_entry, open_of, is_named, is_of, is_node, is_open, furthest_block, Default, tag_of, is_fostering, stack, from_top, stops_node, stops_item, current_of, is_in_scope};
 ghost use Rattle.hadopt.specs.Vocabulary.{may_stay_open, current_is};
@@ -27,21 +27,6 @@ impl Site {
         ensures made { IfSome result (λ x. (0 < x.node) × (x.node < self.now.nodes.made)) }
     {
         self.stack.from_top(down)
-    }
-
-    /// The open node with `up` nodes below it: 0 is the current one.
-    pub fn get(&self, up: usize) -> Option<Open>
-        ensures node { option_map open_of result ≡ slice_get (stack self.now) up }
-        ensures made { IfSome result (λ x. (0 < x.node) × (x.node < self.now.nodes.made)) }
-    {
-        self.stack.get(up)
-    }
-
-    /// How many nodes are open.
-    pub fn open_count(&self) -> usize
-        ensures { result ≡ length (stack self.now) }
-    {
-        self.stack.len()
     }
 
     /// Whether a node is open.
@@ -93,12 +78,12 @@ impl Site {
         self.stack.group_in_scope(scope, group)
     }
 
-    /// How many open nodes are below the nearest one of a group; `None` if there is none.
-    pub fn group_position(&self, group: Group) -> Option<usize>
-        ensures found { result ≡ position (is_of tag_of group) (stack self.now) }
-        ensures within { IfSome result (λ up. up < length (stack self.now)) }
+    /// The nearest open node of a group below html.
+    pub fn nearest_below_first(&self, group: Group) -> Option<Open>
+        ensures node { option_map open_of result ≡ find (is_of tag_of group) (take (length (stack self.now) - 1) (stack self.now)) }
+        ensures made { IfSome result (λ x. (0 < x.node) × (x.node < self.now.nodes.made)) }
     {
-        self.stack.group_position(group)
+        self.stack.nearest_below_first(group)
     }
 
     /// Whether a node is in scope.

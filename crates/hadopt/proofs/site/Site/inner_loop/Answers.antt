@@ -1,13 +1,37 @@
-use Rattle.hadopt.proofs.Names.{◌≡◌, ◌-◌, ◌∙◌, ap, sym, ℕ, length, InnerLoop, way_left, inner_loop_of, SiteOf, Goes, Outcome, stack}
-use Rattle.hadopt.proofs.Halves.{half-goes}
+use Rattle.hadopt.proofs.Names.{◌≡◌, ◌<◌, ◌≤◌, ◌+◌, ℕ, Some, None, sym, ap, ◌∙◌, subst, arith, option_map, open_of, InPlace, current, before, above, is_node, InnerLoop, inner_loop, numbers, SiteOf, OpenNode, Option, Outcome, inner_loop_of, stack, Refusal, Refused, Result, Ok, Err, inl, inr, ◌⊎◌}
+use Rattle.hadopt.proofs.Ways.{way-begins, way-step}
 use Rattle.hadopt.proofs.site.Site.inner_loop.Goals as goal
 
-pub returns-clause-done : goal.returns-clause-done
-returns-clause-done c =
-    let half = c.in_ok-half.half in
-    let s = c.first_inner_turns.new.self in
-    let many : c.len.result ≡ length (stack s) = c.len.ensures.number ∙ ap (λ (t : SiteOf ℕ). length (stack t)) c.self.view_is in
-    let at_site : SiteOf ℕ → Outcome (InnerLoop ℕ) = λ t. Goes (inner_loop_of half.inner t) in
-    half-goes c.args.formatting_element c.args.furthest_block c.args.at half.left (inner_loop_of half.inner s) _ c.in_ok-half.ensures.done
-    ∙ ap (λ (k : ℕ). at_site (way_left c.args.formatting_element (k - half.left) s)) (sym many)
-    ∙ ap at_site (sym c.leave_way.ensures)
+pub loop-next-init : goal.loop-next-init
+loop-next-init c =
+    let start : InnerLoop ℕ = record { last_node = c.args.furthest_block; bookmark = InPlace; site = c.args.self.now } in
+    let next = c.above-next.ensures ∙ ap (λ (s : SiteOf ℕ). current (above c.args.furthest_block s.open_nodes.stack)) c.self.view_is in
+    record {
+      begun = c.requires.begun;
+      last_in = c.requires.block_in;
+      few = omega arith;
+      within = omega arith;
+      on = rw (next) (way-begins c.args.formatting_element c.args.furthest_block c.args.at start c.requires.different);
+    }
+
+pub loop-next-smaller : goal.loop-next-smaller
+loop-next-smaller c =
+    let l = c.loop-next in
+    let next = c.above-next-in-Some.ensures ∙ ap (λ (s : SiteOf ℕ). current (above c.in-Some.node.node s.open_nodes.stack)) c.self-in-Some.view_is in
+    rw (next)
+    (way-step l.invariant.on (open_of c.in-Some.node) (ap (option_map open_of) c.in-Some.is) (inner_loop_of c.in_ok-inner.inner c.inner_turn.new.self)
+    l.invariant.few (sym c.eq.ensures ∙ c.if-eq.false) c.in_ok-inner.ensures.done).1
+
+pub loop-next-preserved : goal.loop-next-preserved
+loop-next-preserved c =
+    let l = c.loop-next in
+    let next = c.above-next-in-Some.ensures ∙ ap (λ (s : SiteOf ℕ). current (above c.in-Some.node.node s.open_nodes.stack)) c.self-in-Some.view_is in
+    record {
+      begun = c.in_ok-inner.ensures.last_node.0;
+      last_in = c.in_ok-inner.ensures.last_node.1;
+      few = omega (arith, c.min-passed.ensures);
+      within = grind (arith, l.invariant.within, l.invariant.few, c.min-passed.ensures, c.in_ok-inner.ensures.few, c.in_ok-inner.ensures.none);
+      on = rw (c.min-passed.ensures, next)
+          (way-step l.invariant.on (open_of c.in-Some.node) (ap (option_map open_of) c.in-Some.is) (inner_loop_of c.in_ok-inner.inner c.inner_turn.new.self)
+          l.invariant.few (sym c.eq.ensures ∙ c.if-eq.false) c.in_ok-inner.ensures.done).0;
+    }
