@@ -68,16 +68,16 @@ pub use Rattle.names.specs.declared.refusal.Refusal.{Refusal}
 pub use Rattle.names.specs.declared.refusal.Refusal.TheVariants.{Memory, TooDeep, TooManyNodes}
 pub use Rattle.names.specs.declared.tag.Tag.{Tag}
 pub use Rattle.std.proofs.Common.{Bool, Err, List, None, Ok, Option, Result, Some, [], ap, ap₂, arith, cond, drop, eqb, false, filter, get_or, if◌then◌else◌, inl, inr, is_none, leb, length, ltb, map, max, nat_eq, not, refl, reverse, rules, subst, suc, sym, true, unwrap_or, zero, ℕ, ◌&&◌, ◌++◌, ◌+◌, ◌-◌, ◌<◌, ◌||◌, ◌∙◌, ◌∷◌, ◌≡◌, ◌≢◌, ◌≤◌, ◌⊎◌}
-pub use Rattle.std.proofs.lemmas.Bool.{and_parts, cond_both, eq-eqb, eqb-true, false≢true, leb-true, lt-leb, ltb-false, ltb-true, ne_eqb, true≢false}
+pub use Rattle.std.proofs.lemmas.Bool.{and_parts, cond_both, eq-eqb, eqb-true, false≢true, leb-true, lt-leb, ltb-true, ne_eqb, true≢false}
 pub use Rattle.std.proofs.lemmas.Bool.Decides.{nat_tests}
 pub use Rattle.std.proofs.lemmas.Grind.{common_steps}
 pub use Rattle.std.proofs.lemmas.Result.{err_from_is_err_and}
 pub use Rattle.std.proofs.lemmas.Str.{IsUtf8-append, IsUtf8-encode, IsUtf8-nil, IsUtf8-past_char, chars-nil, chars_past_char}
 pub use Rattle.std.specs.Char.{len_utf8}
 unfoldable pub use Rattle.std.specs.Char.{encode_utf8}
-pub use Rattle.std.specs.List.{list_all, list_any, position, position_or_len, repeat}
+pub use Rattle.std.specs.List.{list_all, list_any, repeat}
 pub use Rattle.std.specs.Option.{option_map, option_map_or}
-pub use Rattle.std.specs.Prelude.{IfSome, MatchOption, codes, is_some, nat_le, option_and_then, slice_get, ◌==◌}
+pub use Rattle.std.specs.Prelude.{IfSome, MatchOption, codes, is_some, nat_le, slice_get, ◌==◌}
 pub use Rattle.std.specs.Result.{IsErrAnd, result_err}
 pub use Rattle.std.specs.Str.{IsUtf8, chars, str_eq_ignore_ascii_case}
 pub use Rattle.std.specs.Vec.Iter.{into_iter_items}

@@ -1,6 +1,6 @@
 //! Resetting the insertion mode (HTML Standard, `#reset-the-insertion-mode-appropriately`).
 
-ghost use Rattle.std.specs.Prelude.{◌≡◌, option_and_then, slice_get};
+ghost use Rattle.std.specs.Prelude.{◌≡◌};
 ghost use Rattle.std.specs.Option.{option_map_or};
 ghost use Rattle.hmodes.specs.Vocabulary.{numbers, from_top, tag_of, InBody, context_mode, stack, open_mode, root_mode, reset_mode};
 
@@ -46,21 +46,10 @@ impl<'q> TreeConstruction<'q> {
     pub(crate) fn reset_mode(&self) -> Mode
         ensures { result ≡ reset_mode numbers self.now.context (stack self.now.site) }
     {
-        let below_first = self.site.open_count().saturating_sub(1);
-        match self.site.group_position(Group::TellsMode) {
+        match self.site.nearest_below_first(Group::TellsMode) {
             // the first open node is read as the context
-            Some(up) if up < below_first => self.mode_at(up).unwrap_or(Mode::InBody),
-            _ => self.root_mode(),
-        }
-    }
-
-    /// The mode that the open node with this many below it decides on.
-    fn mode_at(&self, up: usize) -> Option<Mode>
-        ensures { result ≡ option_and_then (λ x. open_mode (tag_of x.name)) (slice_get (stack self.now.site) up) }
-    {
-        match self.site.get(up) {
-            Some(node) => open_mode(node.name.tag()),
-            None => None,
+            Some(node) => open_mode(node.name.tag()).unwrap_or(Mode::InBody),
+            None => self.root_mode(),
         }
     }
 
