@@ -12,6 +12,7 @@ pub returns-clause-before : goal.returns-clause-before
 returns-clause-before c = λ k earlier. elim (cases_eq (k / 4) (c.args.at / 4)) [
   | inl same ↦
       let inside : c.args.at / 4 < length c.args.kinds.now = omega arith in
-      rw (same, get_or-set_same) (written_before (get_or c.args.kinds.now (c.args.at / 4) 0) c.args.kind (c.args.at % 4) (k % 4) (omega arith) (omega arith) (omega arith))
+      rw (same, get_or-set_same)
+      (written_before (get_or c.args.kinds.now (c.args.at / 4) 0) c.args.kind (c.args.at % 4) (k % 4) (omega arith) (omega arith) (omega arith))
   | inr other ↦ rw get_or-set_other refl
 ]
