@@ -1,0 +1,85 @@
+/* The links of a tree, found in one walk without Python's lock. The texts inside links go one after another into one buffer, in which
+ * each link has its part: so nested links take no more than others. */
+#include "module.h"
+
+static int add_link(Links *found, uint32_t node, jz_bytes href) {
+    Link *link;
+    if (found->count == found->room) {
+        size_t room = 2 * found->room + 64;
+        Link *more = (Link *)realloc(found->links, room * sizeof *more);
+        if (!more) return 0;
+        found->links = more;
+        found->room = room;
+    }
+    link = &found->links[found->count];
+    link->href = href;
+    link->begin = link->end = found->length;
+    link->node = node;
+    link->outer = found->open;
+    found->open = (uint32_t)found->count++;
+    return 1;
+}
+
+/* A node is entered: a text is kept where a link is open, and an element may be one. Returns 0 where memory runs out. */
+static int enter(Links *found, const jz_doc *doc, uint32_t node) {
+    jz_bytes it;
+    if (found->open != JZ_NONE && jz_kind(doc, node) == JZ_TEXT_NODE) {
+        it = jz_data(doc, node);
+        memcpy(found->text + found->length, it.bytes, it.length);
+        found->length += it.length;
+    } else if (jz_kind(doc, node) == JZ_ELEMENT && jz_is(jz_name(doc, node), "a")) {
+        it = jz_attribute(doc, node, "href");
+        if (it.bytes) return add_link(found, node, it);
+    }
+    return 1;
+}
+
+static void leave(Links *found, uint32_t node) {
+    if (found->open == JZ_NONE || found->links[found->open].node != node) return;
+    found->links[found->open].end = found->length;
+    found->open = found->links[found->open].outer;
+}
+
+/* Finds the links of a tree whose words have so many bytes, which its texts do not pass. Returns 0 where memory runs out; what is found is
+ * freed by free_links in either case. */
+int find_links(const jz_doc *doc, size_t words, Links *found) {
+    uint32_t node = jz_first_child(doc, doc->root), next;
+    memset(found, 0, sizeof *found);
+    found->open = JZ_NONE;
+    if (!(found->text = (uint8_t *)malloc(words + 1))) return 0;
+    while (node != JZ_NONE) {
+        if (!enter(found, doc, node)) return 0;
+        next = jz_first_child(doc, node);
+        while (next == JZ_NONE && node != JZ_NONE && node != doc->root) {
+            leave(found, node);
+            next = jz_next(doc, node);
+            if (next == JZ_NONE) node = jz_parent(doc, node);
+        }
+        node = next;
+    }
+    return 1;
+}
+
+static PyObject *pair(PyObject *one, PyObject *other) {
+    PyObject *both = one && other ? PyTuple_Pack(2, one, other) : NULL;
+    Py_XDECREF(one);
+    Py_XDECREF(other);
+    return both;
+}
+
+/* A list of each link's href and text. */
+PyObject *give_links(const Links *found, int is_found) {
+    PyObject *list = is_found ? PyList_New((Py_ssize_t)found->count) : PyErr_NoMemory();
+    size_t i;
+    for (i = 0; list && i < found->count; i++) {
+        const Link *link = &found->links[i];
+        PyObject *it = pair(string(link->href), string(jz_lent(found->text + link->begin, link->end - link->begin)));
+        if (!it || PyList_SetItem(list, (Py_ssize_t)i, it) < 0) Py_CLEAR(list);
+    }
+    return list;
+}
+
+void free_links(Links *found) {
+    free(found->links);
+    free(found->text);
+}
