@@ -210,24 +210,18 @@ class Page(_base.Page):
 
     def _etree(self, element: Make, sub: Make, comment: Make, fix: Callable[[str, str], str] | None) -> Any:
         fixed: Callable[[str, str], str] = fix or (lambda what, it: it)
-        top: Any = None
-        made: dict[int, Any] = {}
-        last: dict[int, Any] = {}
-        for node in itertools.chain([] if self._root == 0 else [self.root], self):
-            number, parent, kind = node.number, node.row.parent, node.kind
-            if kind == "element" or kind == "fragment":
-                name = fixed("name", node.name or "") if kind == "element" else "DOCUMENT_FRAGMENT"
-                attributes = {fixed("name", it): fixed("text", value) for it, value in node.attributes.items()}
-                if parent in made:
-                    last[parent] = made[number] = sub(made[parent], name, attributes)
-                elif top is None:
-                    top = made[number] = element(name, attributes)
-            elif kind == "comment" and parent in made:
-                last[parent] = comment(fixed("comment", node.data or ""))
+        top: Any = element("DOCUMENT_FRAGMENT", {}) if self._root else None
+        made, last, rows = {self._root: top} if self._root else {}, dict[int, Any](), self._rows.tolist()
+        for number, kind, parent, part in zip(rows[::5], rows[1::5], rows[2::5], self._parts):
+            words = [it.decode() for it in part.split(b"\xff")]
+            if kind == ELEMENT and (parent in made or top is None):
+                attributes = {fixed("name", name): fixed("text", value) for name, value in zip(words[1:-1:2], words[2:-1:2])}
+                given = fixed("name", words[0]), attributes
+                made[number] = sub(made[parent], *given) if parent in made else element(*given)
+                top, last[parent] = made[number] if top is None else top, made[number]
+            elif kind == COMMENT and parent in made:
+                last[parent] = comment(fixed("comment", words[0]))
                 made[parent].append(last[parent])
-            elif kind == "text" and parent in made:
-                if parent in last:
-                    last[parent].tail = fixed("text", node.data or "")
-                else:
-                    made[parent].text = fixed("text", node.data or "")
+            elif kind == TEXT and parent in made:
+                setattr(last.get(parent, made[parent]), "tail" if parent in last else "text", fixed("text", words[0]))
         return top
