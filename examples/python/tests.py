@@ -243,7 +243,7 @@ class Pages(unittest.TestCase):
     def test_types(self):
         words = [sys.executable, "-m", "mypy", "--strict", "--enable-incomplete-feature=Unpack", "--cache-dir", os.devnull, "-p", "jeanzircon"]
         it = subprocess.run(words, capture_output=True, text=True, cwd=os.path.dirname(jz.__path__[0]))
-        self.assertEqual((it.returncode, it.stderr), (0, ""), it.stdout)
+        self.assertEqual(it.returncode, 0, it.stdout + it.stderr)
 
 
 @unittest.skipIf(CASES is None, "no stored cases are named")

@@ -1,5 +1,5 @@
-"""Chooses the way to the library: the module in C, where it was built of this version, and else ctypes. Where JEANZIRCON_LIBRARY names a shared object, this
-one is called, by ctypes."""
+"""Chooses the way to the library: the module in C, where it was built of this version, and else ctypes. Where JEANZIRCON_LIBRARY names a
+shared object, this one is called, by ctypes."""
 import os
 
 from ._base import NUMBER, Engine

@@ -142,8 +142,8 @@ class Page(_base.Page):
     def _place(self, number: int) -> int:
         """Where the row of this number is; a KeyError where it is none."""
         if self._places is None:
-            self._places = dict(zip(self._rows[::5].tolist(), range(len(self._parts))))
-            self._places[self._root] = -1
+            # (whole before another thread sees it)
+            self._places = {**dict(zip(self._rows[::5].tolist(), range(len(self._parts)))), self._root: -1}
         return self._places[number]
 
     def _at(self, number: int) -> Node | None:
