@@ -33,8 +33,7 @@ many tree fill 299999
 many stack push 100000
 many stack exchange 49999
 many stack pop 100000
-many stack push 100000
-many stack insert 100000
+many stack push 200000
 many stack replace 100000
 many stack remove 199998""",
     # In the second and third line holes are made in the middle, which the fourth goes over.

@@ -1,46 +1,65 @@
 -- What is seen of the open nodes after an edit of their vector.
-use Rattle.hopen.proofs.Names.{◌≡◌, ℕ, suc, ◌+◌, ◌-◌, ◌<◌, Bool, List, Option, Some, None, length, drop, map, reverse, sym, ◌∙◌, ap, subst, arith, cond, leb, position, length-drop, length-map, length-reverse, drop-length, unwrap_or, IfSome, after, words, no_words, OpenNode, OpenNodes, opened_by, open_nodes_of, KeptNode, Inside, nat_tests, MatchOption, Result, Ok, Err}
+use Rattle.hopen.proofs.Names.{◌≡◌, ℕ, suc, ◌<◌, ◌≤◌, Bool, List, [], ◌∷◌, Some, None, length, map, reverse, set, refl, sym, ◌∙◌, ap, subst, arith, length-map, length-set, without, changed, last_place, position, position-none, no_words, put_before, somes, holds_one, slots_of, stack_of, OpenNode, OpenNodes, opened_by, open_nodes_of, KeptNode, LastLevels, Inside, Stands, Rests, EndsOpen}
+use Rattle.hopen.proofs.ExchangedSlots.{ends-set}
+use Rattle.hopen.proofs.OpenLevels.{set-placed, IsPlaced}
+use Rattle.hopen.proofs.Somes.{changed-somes, left-somes}
 
-pub seen : (s : Inside) (n : OpenNodes ℕ) (word : List (OpenNode ℕ) → List (OpenNode ℕ)) (items : List KeptNode) → open_nodes_of s ≡ n → reverse (map opened_by items) ≡ word (reverse (map opened_by s.items.items))
-    → ◌≡◌ {A = OpenNodes ℕ} (record { limit = s.limit; stack = reverse (map opened_by items) }) (record { limit = n.limit; stack = word n.stack })
+pub seen : (s : Inside) (n : OpenNodes ℕ) (word : List (OpenNode ℕ) → List (OpenNode ℕ)) (items : List KeptNode) → open_nodes_of s ≡ n
+    → stack_of items ≡ word (stack_of s.items.items)
+    → ◌≡◌ {A = OpenNodes ℕ} (record { limit = s.limit; stack = stack_of items }) (record { limit = n.limit; stack = word n.stack })
 seen s n word items e h =
-    let P : OpenNodes ℕ → Type 0 = λ m. ◌≡◌ {A = OpenNodes ℕ} (record { limit = s.limit; stack = reverse (map opened_by items) }) (record { limit = m.limit; stack = word m.stack }) in
+    let P : OpenNodes ℕ → Type 0 = λ m. ◌≡◌ {A = OpenNodes ℕ} (record { limit = s.limit; stack = stack_of items })
+    (record { limit = m.limit; stack = word m.stack }) in
     subst P e (ap (λ (l : List (OpenNode ℕ)). record { limit = s.limit; stack = l }) h)
 
--- an index of the vector that is found, and how many nodes are nearer
-pub record Found (items : List KeptNode) (sought : OpenNode ℕ → Bool) (i : ℕ) : Type 0 where
-  pub up : ℕ
-  pub position_is : position sought (reverse (map opened_by items)) ≡ Some up
-  pub sum : i + suc up ≡ length items
-
-pub found : (s : Inside) (n : OpenNodes ℕ) (sought : OpenNode ℕ → Bool) (i : ℕ) → open_nodes_of s ≡ n → position sought n.stack ≡ Some (length n.stack - 1 - i) → i < length n.stack → Found s.items.items sought i
-found s n sought i e =
-    let P : OpenNodes ℕ → Type 0 = λ m. position sought m.stack ≡ Some (length m.stack - 1 - i) → i < length m.stack → Found s.items.items sought i in
-    subst P e (λ p h. record {
-      up = length (reverse (map opened_by s.items.items)) - 1 - i;
-      position_is = p;
-      sum = omega (arith, length-reverse (map opened_by s.items.items), length-map s.items.items opened_by);
-    })
-
--- no index is found
-pub none_found : (o : Option ℕ) (P : Type 0) (Q : ℕ → Type 0) → ((i : ℕ) → o ≡ Some i → ⊥) → MatchOption o P Q → P
-none_found o P Q never h = grind arith
-
 -- an edit that finds nothing leaves all as it is
-pub kept : (n : OpenNodes ℕ) (word : List (OpenNode ℕ) → List (OpenNode ℕ)) → word n.stack ≡ n.stack → n ≡ record { limit = n.limit; stack = word n.stack }
-kept n word e = ap (λ (l : List (OpenNode ℕ)). record { limit = n.limit; stack = l }) (sym e)
+pub kept : (s : Inside) (n : OpenNodes ℕ) (word : List (OpenNode ℕ) → List (OpenNode ℕ)) → open_nodes_of s ≡ n
+    → word (stack_of s.items.items) ≡ stack_of s.items.items
+    → n ≡ record { limit = n.limit; stack = word n.stack }
+kept s n word e h =
+    let P : OpenNodes ℕ → Type 0 = λ m. m ≡ record { limit = m.limit; stack = word m.stack } in
+    subst P e (ap (λ (l : List (OpenNode ℕ)). record { limit = s.limit; stack = l }) (sym h))
 
--- what is left above an index, or nothing where none is found
-pub left_is : {X : Type 0} (sought : X → Bool) (ys : List X) (o : Option ℕ) → MatchOption o (position sought ys ≡ None) (λ i. position sought ys ≡ Some (length ys - 1 - i)) → IfSome o (λ i. i < length ys)
-    → drop (length ys - unwrap_or o 0) ys ≡ after sought ys
-left_is sought ys None p h = ap (λ n. drop n ys) (let all : length ys - 0 ≡ length ys = omega arith in all) ∙ drop-length ys ∙ sym (no_words sought ys p).after_is
-left_is sought ys (Some i) p h = ap (λ n. drop n ys) (let n : length ys - i ≡ suc (length ys - 1 - i) = omega arith in n) ∙ sym (words sought ys (length ys - 1 - i) p).after_is
+module _ (s : OpenNode ℕ → Bool) (items : List KeptNode) (level : ℕ) (at : level ≡ last_place (holds_one s) (slots_of items)) (none : level ≡ 0) where
+  absent : position (holds_one s) (slots_of items) ≡ None
+  absent = position-none (holds_one s) (slots_of items) (sym at ∙ none)
 
--- how many nodes are above an index, or none where none is found
-pub depth_is : {X : Type 0} (sought : X → Bool) (ys : List X) (o : Option ℕ) → MatchOption o (position sought ys ≡ None) (λ i. position sought ys ≡ Some (length ys - 1 - i)) → IfSome o (λ i. i < length ys)
-    → unwrap_or o 0 ≡ length (after sought ys)
-depth_is sought ys o p h = grind (arith, left_is, length-drop)
+  pub none-left : without s (stack_of items) ≡ stack_of items
+  none-left = sym (left-somes s (slots_of items)) ∙ ap somes ((no_words (holds_one s) (slots_of items) absent).changed_is (λ _. None))
 
--- what a check of the room says where it passes
-pub room-left : {E : Type 0} (e : E) (limit many : ℕ) → ◌≡◌ {A = Result (Unit {0}) E} (Ok tt) (cond (leb limit many) (Err e) (Ok tt)) → many < limit
-room-left {E} e limit many = grind (arith, nat_tests)
+  pub none-replaced : (y : OpenNode ℕ) → changed s (λ _. y) (stack_of items) ≡ stack_of items
+  none-replaced y = sym (changed-somes s y (slots_of items)) ∙ ap somes ((no_words (holds_one s) (slots_of items) absent).changed_is (λ _. Some y))
+
+module _ {X : Type 0} (s : X → Bool) where
+  pub length-changed : (g : X → X) (xs : List X) → length (changed s g xs) ≡ length xs
+  length-changed g [] = refl
+  length-changed g (x ∷ xs) = grind (arith, length-changed g xs)
+
+  pub length-without-le : (xs : List X) → length (without s xs) ≤ length xs
+  length-without-le [] = omega arith
+  length-without-le (x ∷ xs) = grind (arith, length-without-le xs)
+
+  pub length-put-le : (y : X) (xs : List X) → length (put_before s y xs) ≤ suc (length xs)
+  length-put-le y [] = omega arith
+  length-put-le y (x ∷ xs) = grind (arith, length-put-le y xs)
+
+-- a slot's node leaves, or another takes its place
+module _ (s : OpenNode ℕ → Bool) (items : List KeptNode) (i : ℕ) (p : IsPlaced s items i) where
+  pub stack-left : somes (reverse (set (map opened_by items) i None)) ≡ without s (stack_of items)
+  stack-left = ap somes (set-placed s items i None p) ∙ left-somes s (slots_of items)
+
+  module _ (new : List KeptNode) (y : OpenNode ℕ) (is : map opened_by new ≡ set (map opened_by items) i (Some y)) where
+    pub stack-replaced : stack_of new ≡ changed s (λ _. y) (stack_of items)
+    stack-replaced = ap (λ l. somes (reverse l)) is ∙ ap somes (set-placed s items i (Some y) p) ∙ changed-somes s y (slots_of items)
+
+    pub rests-replaced : (last next : LastLevels) → Rests last items → Stands next new → next.holes ≡ last.holes → Rests next new
+    rests-replaced last next r stands holes =
+        let within : i < length items = omega (arith, p.sum) in
+        let many : length new ≡ length items =
+        sym (length-map new opened_by) ∙ ap length is ∙ length-set (map opened_by items) i (Some y) ∙ length-map items opened_by in
+        record {
+          stands = stands;
+          ends = subst EndsOpen (sym is) (ends-set (map opened_by items) i y (omega (arith, length-map items opened_by)) r.ends);
+          holes = omega (arith, r.holes, ap length stack-replaced, length-changed s (λ _. y) (stack_of items));
+          levels = omega (arith, r.levels);
+        }

@@ -1,48 +1,160 @@
--- What is kept of the open nodes where one passes the one right below it.
-use Rattle.hopen.proofs.Names.{◌≡◌, ◌≢◌, ℕ, suc, ◌+◌, ◌<◌, eqb, cond, List, length, map, get_or, set, refl, sym, ◌∙◌, ap, subst, arith, transport, cases_Bool, get_or-set_same, get_or-set_other, length-map, length-set, IsHeld, IsLinked, KeepSets, Stands, name_of, names_in, node_of, nodes_in, opened_by, same_name_of, same_node_of, sets_at, swap_with_next, level_after_swap, OpenNode, KeptNode, LastLevels, nat_tests, CanPass}
-use Rattle.hopen.proofs.Projected.{length-nodes}
-use Rattle.hopen.proofs.Swapped.{held-none, linked-swapped, swapped-apart, swapped-lower, swapped-map, swapped-upper, moved-other, moved-table, walk-in}
+-- What is kept of the open nodes where one passes the next one below it.
+use Rattle.hopen.proofs.Names.{◌≡◌, ◌≢◌, ℕ, zero, suc, ◌+◌, ◌<◌, ◌≤◌, false, List, [], ◌∷◌, Option, Some, None, length, map, take, get_or, set, ◌⊎◌, inl, inr, sym, ◌∙◌, ap, subst, transport, arith, cases_eq, cases_lt, get_or-set_same, get_or-set_other, get_or-take, length-map, length-set, length-take-le, map-set, take-map, closing, closing_in, exchanged, is_hole_kind, kind_at, kind_of, name_in, names_in, node_in, nodes_in, nearest_in, nearest_up, opened_by, same_name_of, same_node_of, sets_at, set_node, AreHoles, CanPass, IsLinked, KeepSets, Kind, KeptNode, LastLevels, NameSet, OpenNode, SetNodes, Stands, is_special, tag_of}
+use Rattle.hopen.specs.declared.kept.Kind.TheVariants as kind
+use Rattle.std.proofs.Math.ListN.{get_or-map}
+use Rattle.hopen.proofs.Held.{some≢none}
+use Rattle.hopen.proofs.NearestUp.{nearest-alike, nearest-hole, nearest-plain}
+use Rattle.hopen.proofs.Projected.{length-nodes, no-name, node-at}
+use Rattle.hopen.proofs.Swapped.{exchanged-apart, exchanged-length, exchanged-lower, exchanged-map, exchanged-upper, linked-alone}
 
--- one entry is written
-get-set : (t : List ℕ) (a v k : ℕ) → a < length t → get_or (set t a v) k 0 ≡ cond (eqb k a) v (get_or t k 0)
-get-set t a v k h = grind (arith, cases_Bool, get_or-set_same, get_or-set_other, nat_tests)
+-- what the first slots keep
+pub sets-take : (ys : List (Option (OpenNode ℕ))) (sets : List SetNodes) (n : ℕ) → n ≤ length ys → KeepSets ys sets → KeepSets (take n ys) (take n sets)
+sets-take ys sets n within k = λ set m less live.
+    let h : m < n = omega (arith, length-take-le n ys within) in
+    let same = get_or-take n ys m None h in
+    ap (λ l. get_or l m 0) (sym (take-map (set_node set) n sets)) ∙ get_or-take n (map (set_node set) sets) m 0 h ∙ k set m (omega arith) (λ e. live (same ∙ e))
+    ∙ sym (nearest-alike set ys (take n ys) (suc m) (λ j f. get_or-take n ys j None (omega arith)))
 
--- two neighbours change places that are nowhere below
-module _ (t ns bs : List ℕ) (l : IsLinked t ns bs) (long : length bs ≡ length ns) (i : ℕ) (within : suc i < length ns) (upper : get_or t (get_or ns i 0) 0 ≡ suc i) (lower : get_or t (get_or ns (suc i) 0) 0 ≡ suc (suc i)) where
-  pub linked-alone : IsLinked (set (set t (get_or ns i 0) (suc (suc i))) (get_or ns (suc i) 0) (suc i)) (swap_with_next i ns) (swap_with_next i bs)
-  linked-alone =
-      let a : ℕ = get_or ns i 0 in
-      let b : ℕ = get_or ns (suc i) 0 in
-      let held-upper : IsHeld t bs a (suc i) 0 = held-none t ns bs l i long upper in
-      let held-lower : IsHeld t bs b (suc (suc i)) 0 = held-none t ns bs l (suc i) long lower in
-      let differ : get_or ns i 0 ≢ get_or ns (suc i) 0 = λ e. absurd (omega (arith, upper, lower, ap (λ n. get_or t n 0) e)) in
-      let table : (k : ℕ) → get_or (set (set t a (suc (suc i))) b (suc i)) k 0 ≡ level_after_swap i (get_or t k 0) = λ k.
-      get-set (set t a (suc (suc i))) b (suc i) k (omega (arith, length-set t a (suc (suc i)), walk-in t ns bs l (suc i) within)) ∙ ap (cond (eqb k b) (suc i)) (get-set t a (suc (suc i)) k (walk-in t ns bs l i (omega arith)))
-      ∙ moved-table t bs i a b 0 0 (suc i) (suc (suc i)) refl refl held-upper held-lower k in
-      let list : (j : ℕ) → get_or bs j 0 ≡ level_after_swap i (get_or bs j 0) =
-      λ j. sym (moved-other i (get_or bs j 0) (λ e. absurd (let z = held-upper.in_list j e in omega arith)) (λ e. absurd (let z = held-lower.in_list j e in omega arith))) in
-      linked-swapped t ns bs l i within differ (set (set t a (suc (suc i))) b (suc i)) (swap_with_next i bs) table (swapped-upper i bs 0 (omega arith)) (swapped-lower i bs 0 (omega arith)) (λ j ne nf. swapped-apart i j bs 0 ne nf ∙ list j)
+-- slots past an index that are holes alone
+nearest-holes : (set : NameSet) (ys : List (Option (OpenNode ℕ))) (i n : ℕ) → i ≤ n → ((m : ℕ) → i ≤ m → m < n → get_or ys m None ≡ None)
+    → nearest_up set ys n ≡ nearest_up set ys i
+nearest-holes set ys i zero h holes = let same : zero ≡ i = omega arith in ap (nearest_up set ys) same
+nearest-holes set ys i (suc n) h holes = elim (cases_lt i (suc n)) as (λ _. nearest_up set ys (suc n) ≡ nearest_up set ys i) [
+  | inl less ↦ nearest-hole set ys n (holes n (omega arith) (omega arith)) ∙ nearest-holes set ys i n (omega arith) (λ m a b. holes m a (omega arith))
+  | inr past ↦ let same : suc n ≡ i = omega arith in ap (nearest_up set ys) same
+]
 
-module _ (last : LastLevels) (items : List KeptNode) (i : ℕ) (s : Stands last items) (p : CanPass last items i) where
-  next : i + 1 ≡ suc i
-  next = omega arith
+-- a node that is not special, and the next one below it, change places
+module _ (ys : List (Option (OpenNode ℕ))) (i j : ℕ) (x y : OpenNode ℕ) (less : i < j) (within : j < length ys) (holes : AreHoles i j (names_in ys))
+    (first : get_or ys i None ≡ Some x) (second : get_or ys j None ≡ Some y) (plain : is_special (tag_of x.name) ≡ false) where
+  abbrev zs : List (Option (OpenNode ℕ))
+  zs = exchanged i j None ys
+
+  between : (m : ℕ) → i < m → m < j → get_or ys m None ≡ None
+  between m a b = no-name ys m (holes m a b)
+
+  apart : (m : ℕ) → m ≢ i → m ≢ j → get_or zs m None ≡ get_or ys m None
+  apart m ne nf = exchanged-apart i j None ys m ne nf
+
+  above : (m : ℕ) → m < i → get_or zs m None ≡ get_or ys m None
+  above m h = apart m (λ e. absurd (omega arith)) (λ e. absurd (omega arith))
+
+  module _ (set : NameSet) where
+    nearest-above : (n : ℕ) → n ≤ i → nearest_up set zs n ≡ nearest_up set ys n
+    nearest-above n h = nearest-alike set ys zs n (λ m f. above m (omega arith))
+
+    -- the lower one with what is above both
+    abbrev lower : ℕ
+    lower = nearest_in set (Some y) (nearest_up set ys i)
+
+    was-lower : nearest_up set ys (suc j) ≡ lower
+    was-lower =
+        ap (λ z. nearest_in set z (nearest_up set ys j)) second
+        ∙ ap (nearest_in set (Some y)) (nearest-holes set ys (suc i) j less (λ m a b. between m a b) ∙ ap (λ z. nearest_in set z (nearest_up set ys i)) first
+        ∙ nearest-plain set x (nearest_up set ys i) plain)
+
+    is-upper : nearest_up set zs (suc i) ≡ lower
+    is-upper = (λ t. nearest_in set ((exchanged-upper i j None ys less within ∙ second) t) (nearest-above i (omega arith) t))
+
+    is-lower : nearest_up set zs (suc j) ≡ lower
+    is-lower =
+        ap (λ z. nearest_in set z (nearest_up set zs j)) (exchanged-lower i j None ys within ∙ first) ∙ nearest-plain set x (nearest_up set zs j) plain
+        ∙ nearest-holes set zs (suc i) j less (λ m a b. apart m (λ e. absurd (omega arith)) (λ e. absurd (omega arith)) ∙ between m a b) ∙ is-upper
+
+    nearest-below : (n : ℕ) → j < n → nearest_up set zs n ≡ nearest_up set ys n
+    nearest-below zero h = absurd (omega arith)
+    nearest-below (suc n) h = elim (cases_lt j n) as (λ _. nearest_up set zs (suc n) ≡ nearest_up set ys (suc n)) [
+      | inl more ↦ (λ t. nearest_in set (apart n (λ e. absurd (omega arith)) (λ e. absurd (omega arith)) t) (nearest-below n more t))
+      | inr past ↦ let at : n ≡ j = omega arith in ap (λ k. nearest_up set zs (suc k)) at ∙ is-lower ∙ sym was-lower
+          ∙ ap (λ k. nearest_up set ys (suc k)) (sym at)
+    ]
+
+  -- what the slots keep, where the upper one now keeps its own
+  pub sets-exchanged : (sets : List SetNodes) (p : SetNodes) → length sets ≡ length ys → KeepSets ys sets
+      → ((set : NameSet) → set_node set p ≡ nearest_in set (Some y) (nearest_up set ys i))
+      → KeepSets zs (set sets i p)
+  sets-exchanged sets p long k own = λ s n h live.
+      let many : length zs ≡ length ys = exchanged-length i j None ys in
+      let written : map (set_node s) (set sets i p) ≡ set (map (set_node s) sets) i (set_node s p) = map-set (set_node s) sets i p in
+      ap (λ l. get_or l n 0) written ∙ at s n (omega arith) live (cases_eq n i)
+    where
+      at : (s : NameSet) (n : ℕ) → n < length ys → get_or zs n None ≢ None → (n ≡ i) ⊎ (n ≢ i)
+          → get_or (set (map (set_node s) sets) i (set_node s p)) n 0 ≡ nearest_up s zs (suc n)
+      at s n h live (inl e) =
+          ap (λ m. get_or (set (map (set_node s) sets) i (set_node s p)) m 0) e
+          ∙ get_or-set_same (map (set_node s) sets) i (set_node s p) 0 (omega (arith, length-map sets (set_node s))) ∙ own s
+          ∙ sym (is-upper s) ∙ ap (λ m. nearest_up s zs (suc m)) (sym e)
+      at s n h live (inr ne) = get_or-set_other (map (set_node s) sets) i n (set_node s p) 0 ne ∙ go (cases_lt n i) (cases_lt j n) (cases_lt n j)
+        where
+          go : (n < i) ⊎ (i ≤ n) → (j < n) ⊎ (n ≤ j) → (n < j) ⊎ (j ≤ n) → get_or (map (set_node s) sets) n 0 ≡ nearest_up s zs (suc n)
+          go (inl a) b d = k s n h (λ f. live (above n a ∙ f)) ∙ sym (nearest-above s (suc n) (omega arith))
+          go (inr a) (inl b) d = k s n h (λ f. live (apart n ne (λ e. absurd (omega arith)) ∙ f)) ∙ sym (nearest-below s (suc n) (omega arith))
+          go (inr a) (inr b) (inl d) = absurd (live (apart n ne (λ e. absurd (omega arith)) ∙ between n (omega arith) d))
+          go (inr a) (inr b) (inr d) =
+              let here : n ≡ j = omega arith in
+              k s n h (some≢none y _ (ap (λ m. get_or ys m None) here ∙ second)) ∙ sym (nearest-below s (suc n) (omega arith))
+
+-- how many must be closed, where one slot is written
+closing-set : (ks : List Kind) (i : ℕ) (k d : Kind) → i < length ks → closing_in (set ks i k) + closing (get_or ks i d) ≡ closing_in ks + closing k
+closing-set [] i k d h = absurd (omega arith)
+closing-set (x ∷ ks) zero k d h = omega arith
+closing-set (x ∷ ks) (suc i) k d h = omega (arith, closing-set ks i k d (omega arith))
+
+closing-exchanged : (ks : List Kind) (i j : ℕ) (d : Kind) → i < j → j < length ks → closing_in (exchanged i j d ks) ≡ closing_in ks
+closing-exchanged ks i j d less within =
+    let other : get_or (set ks i (get_or ks j d)) j d ≡ get_or ks j d = get_or-set_other ks i j (get_or ks j d) d (λ e. absurd (omega arith)) in
+    omega (
+      arith,
+      closing-set ks i (get_or ks j d) d (omega arith),
+      closing-set (set ks i (get_or ks j d)) j (get_or ks i d) d (omega (arith, length-set ks i (get_or ks j d))),
+      ap closing other,
+    )
+
+module _ (last : LastLevels) (items : List KeptNode) (i j : ℕ) (s : Stands last items) (p : CanPass last items i j) (x y : KeptNode)
+    (first : x ≡ get_or items i x) (second : y ≡ get_or items j y) where
+  front : i < length items
+  front = omega (arith, p.order, p.within)
 
   -- the node has passed
-  pub stands-passed : (after : LastLevels) (new : List KeptNode) → map opened_by new ≡ swap_with_next i (map opened_by items) → map same_node_of new ≡ swap_with_next i (map same_node_of items)
-      → IsLinked after.names.items (swap_with_next i (names_in (map opened_by items))) (map same_name_of new)
-      → after.nodes.items ≡ set (set last.nodes.items (get_or (nodes_in (map opened_by items)) i 0) (i + 1 + 1)) (get_or (nodes_in (map opened_by items)) (i + 1) 0) (i + 1)
-      → KeepSets (map opened_by new) (map sets_at new) → Stands after new
-  stands-passed after new opened same_nodes names nodes sets = record {
-    names = subst (λ l. IsLinked after.names.items l (map same_name_of new)) (sym (moved name_of)) names;
-    nodes = transport (λ t. IsLinked (sym table t) (sym (moved node_of) t) (sym same_nodes t))
-        (linked-alone last.nodes.items (nodes_in (map opened_by items)) (map same_node_of items) s.nodes (omega (arith, length-map items same_node_of, length-nodes items)) i (omega (arith, p.within, length-nodes items))
-        (p.upper ∙ next) (ap (λ k. get_or last.nodes.items (get_or (nodes_in (map opened_by items)) k 0) 0) (sym next) ∙ p.lower ∙ (let e : i + 2 ≡ suc (suc i) = omega arith in e)));
+  pub stands-passed : (after : LastLevels) (new : List KeptNode) → map opened_by new ≡ exchanged i j None (map opened_by items)
+      → map same_node_of new ≡ exchanged i j 0 (map same_node_of items)
+      → IsLinked after.names.items (exchanged i j 0 (names_in (map opened_by items))) (map same_name_of new)
+      → after.nodes.items ≡ set (set last.nodes.items x.opened.node (suc j)) y.opened.node (suc i)
+      → KeepSets (map opened_by new) (map sets_at new) → map kind_at new ≡ exchanged i j kind.Hole (map kind_at items) → after.must_close ≡ last.must_close
+      → Stands after new
+  stands-passed after new opened same_nodes names nodes sets kinds closes = record {
+    names = subst (λ l. IsLinked after.names.items l (map same_name_of new)) (sym (moved name_in)) names;
+    nodes = transport (λ t. IsLinked (sym nodes t) (sym (moved node_in) t) (sym same_nodes t))
+        (linked-alone last.nodes.items (nodes_in ys) (map same_node_of items) s.nodes
+        (omega (arith, length-map items same_node_of, length-nodes items)) i j x.opened.node y.opened.node p.order
+        (omega (arith, p.within, length-nodes items)) (node-at items i x front first upper.0)
+        (node-at items j y p.within second lower.0) holes upper.2 lower.1);
     sets = sets;
-    fits = omega (arith, s.fits, ap length nodes, length-set (set last.nodes.items (get_or (nodes_in (map opened_by items)) i 0) (i + 1 + 1)) (get_or (nodes_in (map opened_by items)) (i + 1) 0) (i + 1), length-set last.nodes.items (get_or (nodes_in (map opened_by items)) i 0) (i + 1 + 1));
+    kinds = kinds ∙ ap (exchanged i j kind.Hole) s.kinds ∙ sym (exchanged-map i j None ys kind_of) ∙ ap (map kind_of) (sym opened);
+    closes = closes ∙ s.closes ∙ sym (ap closing_in kinds
+        ∙ closing-exchanged (map kind_at items) i j kind.Hole p.order (omega (arith, p.within, length-map items kind_at)));
+    fits = omega (
+      arith,
+      s.fits,
+      ap length nodes,
+      length-set (set last.nodes.items x.opened.node (suc j)) y.opened.node
+          (suc i),
+      length-set last.nodes.items x.opened.node (suc j),
+    );
   }
     where
-      moved : (g : OpenNode ℕ → ℕ) → map g (map opened_by new) ≡ swap_with_next i (map g (map opened_by items))
-      moved g = ap (map g) opened ∙ swapped-map g i (map opened_by items)
+      ys : List (Option (OpenNode ℕ))
+      ys = map opened_by items
 
-      table : after.nodes.items ≡ set (set last.nodes.items (get_or (nodes_in (map opened_by items)) i 0) (suc (suc i))) (get_or (nodes_in (map opened_by items)) (suc i) 0) (suc i)
-      table = nodes ∙ (let e : i + 1 + 1 ≡ suc (suc i) = omega arith in (λ t. set (set last.nodes.items (get_or (nodes_in (map opened_by items)) i 0) (e t)) (get_or (nodes_in (map opened_by items)) (next t) 0) (next t)))
+      upper : (is_hole_kind x.kind ≡ false) × (is_special (tag_of x.opened.name) ≡ false) × (get_or last.nodes.items x.opened.node 0 ≡ suc i)
+      upper = p.upper x first
+
+      lower : (is_hole_kind y.kind ≡ false) × (get_or last.nodes.items y.opened.node 0 ≡ suc j)
+      lower = p.lower y second
+
+      moved : (g : Option (OpenNode ℕ) → ℕ) → map g (map opened_by new) ≡ exchanged i j (g None) (map g ys)
+      moved g = ap (map g) opened ∙ exchanged-map i j None ys g
+
+      -- a slot with no name has no node
+      holes : AreHoles i j (nodes_in ys)
+      holes m a b = get_or-map node_in ys m None ∙ ap node_in (no-name ys m (p.holes m a b))

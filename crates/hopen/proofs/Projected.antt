@@ -1,43 +1,90 @@
 -- What the items of a vector keep, by index.
-use Rattle.hopen.proofs.Names.{◌≡◌, ◌≢◌, ℕ, suc, ◌+◌, ◌<◌, List, length, map, get_or, set, sym, ◌∙◌, ap, arith, length-map, get_or-map, get_or-set_other, map-set, map-set_same, swap_with_next, name_of, names_in, node_of, nodes_in, opened_by, same_name_of, same_node_of, KeptNode}
-use Rattle.hopen.proofs.Swapped.{swapped-set}
+use Rattle.hopen.proofs.Names.{◌≡◌, ℕ, zero, suc, ◌<◌, ◌≤◌, true, false, List, length, map, get_or, set, Option, Some, None, inl, inr, refl, sym, ◌∙◌, ap, arith, cases_lt, length-map, get_or_past, get_or-set_other, get_or_default, map-set, map-set_same, exchanged, is_hole_kind, names_in, name_in, nodes_in, node_in, open_of, opened_by, same_name_of, same_node_of, IsHeld, IsLinked, KeptNode, OpenNode}
+use Rattle.std.proofs.Math.ListN.{get_or-map}
+use Rattle.hopen.proofs.Held.{held, is-held, no-node, some≢none}
+use Rattle.hopen.proofs.Swapped.{walk-in}
 
 module _ (items : List KeptNode) where
   pub length-names : length (names_in (map opened_by items)) ≡ length items
-  length-names = length-map (map opened_by items) name_of ∙ length-map items opened_by
+  length-names = length-map (map opened_by items) name_in ∙ length-map items opened_by
 
   pub length-nodes : length (nodes_in (map opened_by items)) ≡ length items
-  length-nodes = length-map (map opened_by items) node_of ∙ length-map items opened_by
+  length-nodes = length-map (map opened_by items) node_in ∙ length-map items opened_by
 
-  module _ (i : ℕ) (d : KeptNode) (h : i < length items) where
-    pub name-at : get_or (names_in (map opened_by items)) i 0 ≡ (KeptNode.opened (get_or items i d)).name
-    name-at = get_or-map name_of (map opened_by items) i (opened_by d) 0 (omega (arith, length-map items opened_by)) ∙ ap name_of (get_or-map opened_by items i d (opened_by d) h)
+-- what is read at an index
+module _ {Y : Type 0} (f : KeptNode → Y) (d : Y) (items : List KeptNode) (i : ℕ) (x : KeptNode) (h : i < length items) (is : x ≡ get_or items i x) where
+  pub part-at : get_or (map f items) i d ≡ f x
+  part-at = get_or_default (map f items) i d (f x) (omega (arith, length-map items f)) ∙ get_or-map f items i x ∙ ap f (sym is)
 
-    pub node-at : get_or (nodes_in (map opened_by items)) i 0 ≡ (KeptNode.opened (get_or items i d)).node
-    node-at = get_or-map node_of (map opened_by items) i (opened_by d) 0 (omega (arith, length-map items opened_by)) ∙ ap node_of (get_or-map opened_by items i d (opened_by d) h)
+-- a slot with a node is no hole
+some-same : {X : Type 0} (x y : X) → Some x ≡ Some y → x ≡ y
+some-same x y e = grind arith
 
-    pub same_name-at : get_or (map same_name_of items) i 0 ≡ KeptNode.same_name (get_or items i d)
-    same_name-at = get_or-map same_name_of items i d 0 h
+pub live-of : (x : KeptNode) (o : OpenNode ℕ) → opened_by x ≡ Some o → (is_hole_kind x.kind ≡ false) × (open_of x.opened ≡ o)
+live-of x o e =
+    let live = is-held x (some≢none o (opened_by x) e) in
+    (live, some-same (open_of x.opened) o (sym (held x live) ∙ e))
 
-    pub same_node-at : get_or (map same_node_of items) i 0 ≡ KeptNode.same_node (get_or items i d)
-    same_node-at = get_or-map same_node_of items i d 0 h
+-- a slot with no name is a hole
+hole-of : (z : Option (OpenNode ℕ)) → name_in z ≡ 0 → z ≡ None
+hole-of None e = refl
+hole-of (Some x) e = absurd (omega arith)
 
--- two neighbours are written
-module _ {X Y : Type 0} (f : X → Y) (items : List X) (i : ℕ) (a b d : X) (within : i + 1 < length items) where
-  pub two-same : f a ≡ f (get_or items i d) → f b ≡ f (get_or items (i + 1) d) → map f (set (set items i a) (i + 1) b) ≡ map f items
-  two-same e g =
-      let ne : i + 1 ≢ i = omega arith in
-      map-set_same f (set items i a) (i + 1) b d (g ∙ ap f (sym (get_or-set_other items i (i + 1) a d ne))) ∙ map-set_same f items i a d e
+pub no-name : (ys : List (Option (OpenNode ℕ))) (m : ℕ) → get_or (names_in ys) m 0 ≡ 0 → get_or ys m None ≡ None
+no-name ys m e = hole-of (get_or ys m None) (sym (get_or-map name_in ys m None) ∙ e)
 
-  pub two-upper : f b ≡ f (get_or items (i + 1) d) → map f (set (set items i a) (i + 1) b) ≡ set (map f items) i (f a)
-  two-upper g =
-      let ne : i + 1 ≢ i = omega arith in
-      map-set_same f (set items i a) (i + 1) b d (g ∙ ap f (sym (get_or-set_other items i (i + 1) a d ne))) ∙ map-set f items i a
+module _ (items : List KeptNode) (i : ℕ) (x : KeptNode) (h : i < length items) (is : x ≡ get_or items i x) where
+  pub same_name-at : get_or (map same_name_of items) i 0 ≡ x.same_name
+  same_name-at = part-at same_name_of 0 items i x h is
 
-  pub two-swapped : f a ≡ f (get_or items (i + 1) d) → f b ≡ f (get_or items i d) → map f (set (set items i a) (i + 1) b) ≡ swap_with_next i (map f items)
-  two-swapped e g =
-      let next : i + 1 ≡ suc i = omega arith in
-      map-set f (set items i a) (i + 1) b ∙ ap (λ (l : List Y). set l (i + 1) (f b)) (map-set f items i a)
-      ∙ (λ t. set (set (map f items) i ((e ∙ sym (get_or-map f items (i + 1) d (f d) within)) t)) (i + 1) ((g ∙ sym (get_or-map f items i d (f d) (omega arith))) t))
-      ∙ ap (λ n. set (set (map f items) i (get_or (map f items) n (f d))) n (get_or (map f items) i (f d))) next
-      ∙ swapped-set i (map f items) (f d) (omega (arith, length-map items f))
+  pub same_node-at : get_or (map same_node_of items) i 0 ≡ x.same_node
+  same_node-at = part-at same_node_of 0 items i x h is
+
+  pub name-hole : is_hole_kind x.kind ≡ true → get_or (names_in (map opened_by items)) i 0 ≡ 0
+  name-hole e =
+      get_or-map name_in (map opened_by items) i None
+      ∙ ap name_in (part-at opened_by None items i x h is ∙ no-node x e)
+
+  -- where it is no hole
+  module _ (live : is_hole_kind x.kind ≡ false) where
+    pub opened-at : get_or (map opened_by items) i None ≡ Some (open_of x.opened)
+    opened-at = part-at opened_by None items i x h is ∙ held x live
+
+    pub name-at : get_or (names_in (map opened_by items)) i 0 ≡ suc x.opened.name
+    name-at = get_or-map name_in (map opened_by items) i None ∙ ap name_in opened-at
+
+    pub node-at : get_or (nodes_in (map opened_by items)) i 0 ≡ suc x.opened.node
+    node-at = get_or-map node_in (map opened_by items) i None ∙ ap node_in opened-at
+
+    -- its numbers are in the tables
+    pub name-in : (t bs : List ℕ) → IsLinked t (names_in (map opened_by items)) bs → x.opened.name < length t
+    name-in t bs l = walk-in t (names_in (map opened_by items)) bs l i x.opened.name name-at (omega (arith, length-names items))
+
+    pub node-in : (t bs : List ℕ) → IsLinked t (nodes_in (map opened_by items)) bs → x.opened.node < length t
+    node-in t bs l = walk-in t (nodes_in (map opened_by items)) bs l i x.opened.node node-at (omega (arith, length-nodes items))
+
+-- one that keeps a level is in the list
+pub held-within : (t bs : List ℕ) (a p n : ℕ) → 0 < p → IsHeld t bs a p n → n ≤ length bs
+held-within t bs a p zero h held = omega arith
+held-within t bs a p (suc j) h held =
+    elim (cases_lt j (length bs)) [ inl less ↦ omega arith | inr past ↦ absurd (omega (arith, held.there j refl, get_or_past bs j 0 past)) ]
+
+-- two members are written
+module _ {X Y : Type 0} (f : X → Y) (items : List X) (i j : ℕ) (a b d : X) (less : i < j) where
+  unmoved : f (get_or (set items i a) j d) ≡ f (get_or items j d)
+  unmoved = ap f (get_or-set_other items i j a d (λ e. absurd (omega arith)))
+
+  pub two-same : f a ≡ f (get_or items i d) → f b ≡ f (get_or items j d) → map f (set (set items i a) j b) ≡ map f items
+  two-same e g = map-set_same f (set items i a) j b d (g ∙ sym unmoved) ∙ map-set_same f items i a d e
+
+  pub two-upper : f b ≡ f (get_or items j d) → map f (set (set items i a) j b) ≡ set (map f items) i (f a)
+  two-upper g = map-set_same f (set items i a) j b d (g ∙ sym unmoved) ∙ map-set f items i a
+
+  pub two-exchanged : (c : Y) → j < length items → f a ≡ f (get_or items j d) → f b ≡ f (get_or items i d)
+      → map f (set (set items i a) j b) ≡ exchanged i j c (map f items)
+  two-exchanged c within e g =
+      map-set f (set items i a) j b ∙ ap (λ l. set l j (f b)) (map-set f items i a)
+      ∙ (λ r. set (set (map f items) i ((e ∙ at j within) r)) j ((g ∙ at i (omega arith)) r))
+    where
+      at : (n : ℕ) → n < length items → f (get_or items n d) ≡ get_or (map f items) n c
+      at n h = sym (get_or-map f items n d) ∙ get_or_default (map f items) n (f d) c (omega (arith, length-map items f))

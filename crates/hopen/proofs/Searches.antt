@@ -1,31 +1,14 @@
 -- Searches that go up the open nodes, in the words of the code.
-use Rattle.hopen.proofs.Names.{◌≡◌, ℕ, zero, suc, ◌<◌, ◌≤◌, ◌-◌, Bool, List, [], ◌∷◌, ◌++◌, Option, Some, None, length, drop, take, map, reverse, subst, refl, sym, ◌∙◌, ap, arith, position, position_or_len, find, slice_get, option_or, unwrap_or, IfSome, words, no_words, reverse-append, length-reverse, length-map, OpenNode, current, topmost_special, furthest_block, is_node, Tag, is_special, before, take_nearest, position_within}
+use Rattle.hopen.proofs.Names.{◌≡◌, ℕ, suc, ◌-◌, ◌+◌, inl, inr, Bool, true, false, ◌&&◌, List, [], ◌∷◌, ◌++◌, Option, Some, None, length, drop, take, map, reverse, refl, sym, ◌∙◌, ap, arith, cases_lt, nat_eq, nat_tests, zero-add, position, find, list_all, list_all-append, option_or, words, no_words, reverse-append, OpenNode, current, topmost_special, furthest_block, is_node, Tag, is_special, may_stay_open, before, after, take_nearest, drop_nearest, tag_of, somes, slots_of, stack_of, holds_one, opened_by, closing, closing_in, kind_of, last_place, KeptNode, LastLevels, Stands, position-none}
+use Rattle.hopen.proofs.OpenLevels.{placed}
+use Rattle.hopen.proofs.Somes.{after-somes, before-somes, reverse-somes}
 
--- among so many of the first members
-module _ {Y : Type 0} (sought : Y → Bool) where
-  pub find-front : (ys : List Y) (n : ℕ) → n ≤ position_or_len sought ys → find sought (take n ys) ≡ None
-  find-front [] zero h = refl
-  find-front [] (suc n) h = refl
-  find-front (y ∷ ys) zero h = refl
-  find-front (y ∷ ys) (suc n) h = grind (arith, find-front ys n)
-
-  pub find-none : (ys : List Y) (n : ℕ) → find sought ys ≡ None → find sought (take n ys) ≡ None
-  find-none ys zero h = refl
-  find-none [] (suc n) h = refl
-  find-none (y ∷ ys) (suc n) h = grind (arith, find-none ys n)
-
-  pub find-within : (ys : List Y) (n : ℕ) → position_or_len sought ys < n → find sought (take n ys) ≡ find sought ys
-  find-within ys zero h = absurd (omega arith)
-  find-within [] (suc n) h = refl
-  find-within (y ∷ ys) (suc n) h = grind (arith, find-within ys n)
+-- all of a list pass from either end
+all-reverse : {X : Type 0} (p : X → Bool) (xs : List X) → list_all p (reverse xs) ≡ list_all p xs
+all-reverse p [] = refl
+all-reverse p (x ∷ xs) = ap (list_all p) (reverse-append (x ∷ []) xs) ∙ list_all-append p (reverse xs) (x ∷ []) ∙ rw (all-reverse p xs) (grind arith)
 
 module _ {N : Type 0} where
-  pub current-drop : (n : ℕ) (ys : List (OpenNode N)) → current (drop n ys) ≡ slice_get ys n
-  current-drop zero [] = refl
-  current-drop zero (y ∷ ys) = refl
-  current-drop (suc n) [] = refl
-  current-drop (suc n) (y ∷ ys) = current-drop n ys
-
   -- the topmost of many is in the upper part where there is one
   topmost-append : (tag : N → Tag) (xs ys : List (OpenNode N)) → topmost_special tag (xs ++ ys) ≡ option_or (topmost_special tag ys) (topmost_special tag xs)
   topmost-append tag [] ys = grind arith
@@ -36,15 +19,105 @@ module _ {N : Type 0} where
   topmost-reverse tag (x ∷ xs) =
       ap (topmost_special tag) (reverse-append (x ∷ []) xs) ∙ topmost-append tag (reverse xs) (x ∷ []) ∙ rw (topmost-reverse tag xs) (grind arith)
 
--- the same over a vector, whose last member is the nearest
-module _ {X N : Type 0} (f : X → OpenNode N) where
-  -- the special nodes below one, from the topmost on
-  pub furthest-nearest : (tag : N → Tag) (n : ℕ) (items : List X) (o : Option ℕ) → o ≡ position (is_node n) (reverse (map f items))
-      → find (λ x. is_special (tag x.name)) (map f (drop (length items - unwrap_or o (length items)) items)) ≡ furthest_block tag n (reverse (map f items))
-  furthest-nearest tag n items o e =
-      sym (topmost-reverse tag (map f (drop (length items - unwrap_or o (length items)) items)))
-      ∙ ap (topmost_special tag) (go o e (subst (λ (q : Option ℕ). IfSome q (λ up. up < length (reverse (map f items)))) (sym e) (position_within (is_node n) (reverse (map f items)))))
+-- what is left when nodes are popped up to one that is sought: where the current node is that one, where it is not, and where there is none
+module _ {N : Type 0} (s : OpenNode N → Bool) where
+  pub after-here : (x : OpenNode N) (xs : List (OpenNode N)) → Some x ≡ current xs → s x ≡ true → after s xs ≡ drop 1 xs
+  after-here x [] e sought = absurd (grind arith)
+  after-here x (y ∷ xs) e sought = grind arith
+
+  pub after-past : (x : OpenNode N) (xs : List (OpenNode N)) → Some x ≡ current xs → s x ≡ false → after s xs ≡ after s (drop 1 xs)
+  after-past x [] e other = absurd (grind arith)
+  after-past x (y ∷ xs) e other = grind arith
+
+  pub after-none : (xs : List (OpenNode N)) → None ≡ current xs → after s xs ≡ drop 1 xs
+  after-none [] e = refl
+  after-none (y ∷ xs) e = absurd (grind arith)
+
+-- the slots of a vector, by the level of the nearest node that is sought
+module _ (q : OpenNode ℕ → Bool) (items : List KeptNode) (level : ℕ) (at : level ≡ last_place (holds_one q) (slots_of items)) where
+  abbrev pub s : Option (OpenNode ℕ) → Bool
+  s = holds_one q
+
+  absent : level ≡ 0 → position s (slots_of items) ≡ None
+  absent none = position-none s (slots_of items) (sym at ∙ none)
+
+  -- the slots from the level on are those below it, or all of them where none is open
+  slots-below : reverse (map opened_by (drop level items)) ≡ before s (slots_of items)
+  slots-below = elim (cases_lt 0 level) [
+    | inl some ↦ (let p = placed q items level at some in let sum : level + p.up ≡ length items = omega (arith, p.sum) in sym ((words s (slots_of items) p.up p.position_is).before_is ∙ take_nearest opened_by items level p.up sum))
+    | inr none ↦ (let zero_level : level ≡ 0 = omega arith in ap (λ k. reverse (map opened_by (drop k items))) zero_level ∙ sym (no_words s (slots_of items) (absent zero_level)).before_is)
+  ]
+
+  -- those up to the one before the level are those above it
+  slots-above : slots_of (take (level - 1) items) ≡ after s (slots_of items)
+  slots-above = elim (cases_lt 0 level) [
+    | inl some ↦ (let p = placed q items level at some in sym ((words s (slots_of items) p.up p.position_is).after_is ∙ drop_nearest opened_by items (level - 1) (suc p.up) p.sum))
+    | inr none ↦ (let zero_level : level ≡ 0 = omega arith in ap (λ k. slots_of (take (k - 1) items)) zero_level ∙ sym (no_words s (slots_of items) (absent zero_level)).after_is)
+  ]
+
+  pub above-level : stack_of (take (level - 1) items) ≡ after q (stack_of items)
+  above-level = ap somes slots-above ∙ after-somes q (slots_of items)
+
+-- the nearest that is sought, but for the last member
+module _ {X : Type 0} (q : X → Bool) where
+  last-sought : (xs : List X) → after q xs ≡ [] → find q (take (length xs - 1) xs) ≡ None
+  last-sought [] e = refl
+  last-sought (x ∷ []) e = refl
+  last-sought (x ∷ y ∷ ys) e =
+      let n : suc (suc (length ys)) - 1 ≡ suc (length ys) = omega arith in
+      let m : suc (length ys) - 1 ≡ length ys = omega arith in
+      ap (λ k. find q (take k (x ∷ y ∷ ys))) n ∙ go e (λ f. ap (λ k. find q (take k (y ∷ ys))) (sym m) ∙ last-sought (y ∷ ys) f)
     where
-      go : (o : Option ℕ) → o ≡ position (is_node n) (reverse (map f items)) → IfSome o (λ up. up < length (reverse (map f items))) → reverse (map f (drop (length items - unwrap_or o (length items)) items)) ≡ before (is_node n) (reverse (map f items))
-      go None e h = let z : length items - length items ≡ 0 = omega arith in ap (λ k. reverse (map f (drop k items))) z ∙ sym (no_words (is_node n) (reverse (map f items)) (sym e)).before_is
-      go (Some up) e h = sym ((words (is_node n) (reverse (map f items)) up (sym e)).before_is ∙ take_nearest f items (length items - up) up (omega (arith, length-reverse (map f items), length-map items f)))
+      go : after q (x ∷ y ∷ ys) ≡ [] → (after q (y ∷ ys) ≡ [] → find q (take (length ys) (y ∷ ys)) ≡ None) → find q (x ∷ take (length ys) (y ∷ ys)) ≡ None
+      go e f = grind arith
+
+  before-last : (xs : List X) (z : X) (zs : List X) → after q xs ≡ z ∷ zs → find q (take (length xs - 1) xs) ≡ find q xs
+  before-last [] z zs e = refl
+  before-last (x ∷ []) z zs e = grind arith
+  before-last (x ∷ y ∷ ys) z zs e =
+      let n : suc (suc (length ys)) - 1 ≡ suc (length ys) = omega arith in
+      let m : suc (length ys) - 1 ≡ length ys = omega arith in
+      ap (λ k. find q (take k (x ∷ y ∷ ys))) n ∙ go e (λ f. ap (λ k. find q (take k (y ∷ ys))) (sym m) ∙ before-last (y ∷ ys) z zs f)
+    where
+      go : after q (x ∷ y ∷ ys) ≡ z ∷ zs → (after q (y ∷ ys) ≡ z ∷ zs → find q (take (length ys) (y ∷ ys)) ≡ find q (y ∷ ys)) → find q (x ∷ take (length ys) (y ∷ ys)) ≡ find q (x ∷ y ∷ ys)
+      go e f = grind arith
+
+-- where nothing is above the nearest, or where something is
+module _ (q : OpenNode ℕ → Bool) (items : List KeptNode) (level : ℕ) (at : level ≡ last_place (holds_one q) (slots_of items)) where
+  pub topmost-found : current (stack_of (take (level - 1) items)) ≡ None → find q (take (length (stack_of items) - 1) (stack_of items)) ≡ None
+  topmost-found e = go (stack_of (take (level - 1) items)) (above-level q items level at) e
+    where
+      go : (xs : List (OpenNode ℕ)) → xs ≡ after q (stack_of items) → current xs ≡ None → find q (take (length (stack_of items) - 1) (stack_of items)) ≡ None
+      go [] is e = last-sought q (stack_of items) (sym is)
+      go (x ∷ xs) is e = absurd (grind arith)
+
+  pub below-found : (x : OpenNode ℕ) → current (stack_of (take (level - 1) items)) ≡ Some x → find q (take (length (stack_of items) - 1) (stack_of items)) ≡ find q (stack_of items)
+  below-found x e = go (stack_of (take (level - 1) items)) (above-level q items level at) e
+    where
+      go : (xs : List (OpenNode ℕ)) → xs ≡ after q (stack_of items) → current xs ≡ Some x → find q (take (length (stack_of items) - 1) (stack_of items)) ≡ find q (stack_of items)
+      go [] is e = absurd (grind arith)
+      go (y ∷ ys) is e = before-last q (stack_of items) y ys (sym is)
+
+-- the special nodes below one, from the topmost on
+pub furthest-level : (n : ℕ) (items : List KeptNode) (level : ℕ) → level ≡ last_place (holds_one (is_node n)) (slots_of items)
+    → find (λ x. is_special (tag_of x.name)) (somes (map opened_by (drop level items))) ≡ furthest_block tag_of n (stack_of items)
+furthest-level n items level at =
+    sym (topmost-reverse tag_of (somes (map opened_by (drop level items))))
+    ∙ ap (topmost_special tag_of) (sym (reverse-somes (map opened_by (drop level items))) ∙ ap somes (slots-below (is_node n) items level at) ∙ before-somes (is_node n) (slots_of items))
+
+-- none must be closed where all may stay
+closing-all : (ys : List (Option (OpenNode ℕ))) → nat_eq (closing_in (map kind_of ys)) 0 ≡ list_all (λ x. may_stay_open (tag_of x.name)) (somes ys)
+closing-all [] = refl
+closing-all (None ∷ ys) = ap (λ k. nat_eq k 0) (zero-add (closing_in (map kind_of ys))) ∙ closing-all ys
+closing-all (Some y ∷ ys) = go (may_stay_open (tag_of y.name)) refl (closing-all ys)
+  where
+    go : (v : Bool) → may_stay_open (tag_of y.name) ≡ v → nat_eq (closing_in (map kind_of ys)) 0 ≡ list_all (λ x. may_stay_open (tag_of x.name)) (somes ys)
+        → nat_eq (closing (kind_of (Some y)) + closing_in (map kind_of ys)) 0 ≡ (may_stay_open (tag_of y.name) && list_all (λ x. may_stay_open (tag_of x.name)) (somes ys))
+    go true e rest = rw e (ap (λ k. nat_eq k 0) (zero-add (closing_in (map kind_of ys))) ∙ rest)
+    go false e rest = rw e (grind (arith, nat_tests))
+
+pub all-stay : (last : LastLevels) (items : List KeptNode) → Stands last items → nat_eq last.must_close 0 ≡ list_all (λ x. may_stay_open (tag_of x.name)) (stack_of items)
+all-stay last items s =
+    let p : OpenNode ℕ → Bool = λ x. may_stay_open (tag_of x.name) in
+    ap (λ k. nat_eq k 0) (s.closes ∙ ap closing_in s.kinds) ∙ closing-all (map opened_by items)
+    ∙ sym (ap (list_all p) (reverse-somes (map opened_by items)) ∙ all-reverse p (somes (map opened_by items)))

@@ -1,164 +1,221 @@
--- The kept levels under each change of the items.
-use Rattle.hopen.proofs.Names.{◌≡◌, ℕ, zero, suc, ◌+◌, ◌-◌, ◌<◌, ◌≤◌, List, [], ◌∷◌, ◌++◌, length, map, take, drop, get_or, set, refl, sym, ◌∙◌, ap, subst, arith, transport, get_or_default, drop-drop, drop_at, length-take-le, length-reverse, length-map, length-set, map-append, take-map, drop-map, map-set, get_or-map, map-set_same, take-append_seam, remove_range, AreIn, CanGiveWay, IsLinked, KeepSets, KeepsFrom, Stands, closing, kept_above, must_close_in, name_of, names_in, nearest_in, node_of, nodes_in, opened_by, same_name_of, same_node_of, sets_at, stack_of, OpenNode, OpenNodes, open_nodes_of, Inside, KeptNode, LastLevels, set_node, SetNodes, open_of, Open, add-one, drop-set, AreAlike, StandsAs, reverse_push, take-more, drop-more}
-use Rattle.hopen.proofs.KeptBy.{above-front, sets-more, sets-renamed, sets-take}
-use Rattle.hopen.proofs.Linked.{linked-in, linked-less, linked-more}
-use Rattle.hopen.proofs.Projected.{length-names, length-nodes, node-at, same_node-at}
-use Rattle.hopen.proofs.Swapped.{linked-fresh}
+-- The kept levels as slots come and go at the end of their vector.
+use Rattle.hopen.proofs.Names.{◌≡◌, ◌≢◌, ℕ, suc, ◌+◌, ◌-◌, ◌<◌, ◌≤◌, List, [], ◌∷◌, ◌++◌, Option, Some, None, length, map, take, drop, get_or, set, refl, sym, ◌∙◌, ap, subst, arith, transport, cases_lt, ◌⊎◌, inl, inr, length-append, length-map, length-set, map-append, take-map, get_or_append_left, get_or_push, take-more, drop-more, AreIn, IsLinked, KeepSets, Stands, StandsAs, AreAlike, closing, closing_in, kind_at, kind_of, name_in, names_in, nearest_in, nearest_up, node_in, nodes_in, opened_by, same_name_of, same_node_of, sets_at, slots_of, stack_of, somes, IsIn, OpenNode, KeptNode, LastLevels, Kind, set_node, NameSet, SetNodes, open_of, reverse_push, drop-map}
+use Rattle.hopen.proofs.Linked.{linked-gap, linked-hole, linked-in, linked-less, linked-more}
+use Rattle.hopen.proofs.NearestUp.{nearest-alike}
 
--- the last item of a vector
-pub stack-more : (items : List KeptNode) (x : KeptNode) → stack_of (items ++ x ∷ []) ≡ opened_by x ∷ stack_of items
-stack-more items x = reverse_push opened_by items x
+-- the last slot of a vector
+pub slots-more : (items : List KeptNode) (x : KeptNode) → slots_of (items ++ x ∷ []) ≡ opened_by x ∷ slots_of items
+slots-more items x = reverse_push opened_by items x
 
-pub length-stack_of : (items : List KeptNode) → length (stack_of items) ≡ length items
-length-stack_of items = length-reverse (map opened_by items) ∙ length-map items opened_by
+pub stack-more : (items : List KeptNode) (x : KeptNode) (y : OpenNode ℕ) → opened_by x ≡ Some y → stack_of (items ++ x ∷ []) ≡ y ∷ stack_of items
+stack-more items x y e = ap somes (slots-more items x) ∙ ap (λ o. somes (o ∷ slots_of items)) e
 
--- as many items as nodes are seen
-pub many : (s : Inside) (n : OpenNodes ℕ) → open_nodes_of s ≡ n → length s.items.items ≡ length n.stack
-many s n e = sym (length-stack_of s.items.items) ∙ ap (λ (m : OpenNodes ℕ). length m.stack) e
+pub stack-hole : (items : List KeptNode) (x : KeptNode) → opened_by x ≡ None → stack_of (items ++ x ∷ []) ≡ stack_of items
+stack-hole items x e = ap somes (slots-more items x) ∙ ap (λ o. somes (o ∷ slots_of items)) e
 
--- what a node is to keep hangs on those above it alone
-pub keeps-taken : (items : List KeptNode) (i : ℕ) (y : OpenNode ℕ) (p : SetNodes) → i ≤ length items → KeepsFrom items i y p → KeepsFrom (take i items) (length (take i items)) y p
-keeps-taken items i y p h a = record { nodes = λ set. a.nodes set ∙ ap (nearest_in set y) (same (set_node set)); must_close = a.must_close ∙ ap (closing y) (same must_close_in) }
-  where
-    same : (f : SetNodes → ℕ) → kept_above f items i ≡ kept_above f (take i items) (length (take i items))
-    same f =
-        sym (above-front (map f (map sets_at items)) i 0) ∙ ap (λ (l : List ℕ). get_or (0 ∷ l) i 0) (take-map f i (map sets_at items) ∙ ap (map f) (take-map sets_at i items))
-        ∙ ap (kept_above f (take i items)) (sym (length-take-le i items h))
+-- how many must be closed
+pub closing-more : (ks : List Kind) (k : Kind) → closing_in (ks ++ k ∷ []) ≡ closing_in ks + closing k
+closing-more [] k = omega arith
+closing-more (j ∷ ks) k = omega (arith, closing-more ks k)
+
+pub one-closes : (k : Kind) → closing k ≤ 1
+one-closes k = grind arith
+
+pub few-close : (ks : List Kind) → closing_in ks ≤ length ks
+few-close [] = omega arith
+few-close (k ∷ ks) = omega (arith, few-close ks, one-closes k)
+
+-- two lists that are alike, but for their last member
+unpush : {X : Type 0} (xs ys : List X) (a b : X) → xs ++ a ∷ [] ≡ ys ++ b ∷ [] → length xs ≡ length ys → (xs ≡ ys) × (a ≡ b)
+unpush [] [] a b e h = (refl, grind arith)
+unpush [] (y ∷ ys) a b e h = absurd (omega arith)
+unpush (x ∷ xs) [] a b e h = absurd (omega arith)
+unpush (x ∷ xs) (y ∷ ys) a b e h = grind (arith, unpush xs ys a b)
+
+-- one slot more
+module _ (ys : List (Option (OpenNode ℕ))) (sets : List SetNodes) (long : length sets ≡ length ys) (y : Option (OpenNode ℕ)) (p : SetNodes) where
+  pub sets-less : KeepSets (ys ++ y ∷ []) (sets ++ p ∷ []) → KeepSets ys sets
+  sets-less k set m h live =
+      let more : length (ys ++ y ∷ []) ≡ length ys + 1 = length-append ys (y ∷ []) in
+      sym (ap (λ l. get_or l m 0) (map-append (set_node set) sets (p ∷ [])) ∙ get_or_append_left (map (set_node set) sets) (set_node set p ∷ []) 0 m (omega (arith, length-map sets (set_node set))))
+      ∙ k set m (omega arith) (λ e. live (sym (get_or_append_left ys (y ∷ []) None m h) ∙ e))
+      ∙ nearest-alike set ys (ys ++ y ∷ []) (suc m) (λ j less. get_or_append_left ys (y ∷ []) None j (omega arith))
+
+  pub sets-more : ((set : NameSet) → y ≢ None → set_node set p ≡ nearest_in set y (nearest_up set ys (length ys))) → KeepSets ys sets → KeepSets (ys ++ y ∷ []) (sets ++ p ∷ [])
+  sets-more new k set m h live = go (cases_lt m (length ys))
+    where
+      more : length (ys ++ y ∷ []) ≡ length ys + 1
+      more = length-append ys (y ∷ [])
+
+      same : (n : ℕ) → n ≤ length ys → nearest_up set (ys ++ y ∷ []) n ≡ nearest_up set ys n
+      same n h = nearest-alike set ys (ys ++ y ∷ []) n (λ j less. get_or_append_left ys (y ∷ []) None j (omega arith))
+
+      go : (m < length ys) ⊎ (length ys ≤ m) → get_or (map (set_node set) (sets ++ p ∷ [])) m 0 ≡ nearest_up set (ys ++ y ∷ []) (suc m)
+      go (inl less) =
+          ap (λ l. get_or l m 0) (map-append (set_node set) sets (p ∷ [])) ∙ get_or_append_left (map (set_node set) sets) (set_node set p ∷ []) 0 m (omega (arith, length-map sets (set_node set)))
+          ∙ k set m less (λ e. live (get_or_append_left ys (y ∷ []) None m less ∙ e)) ∙ sym (same (suc m) (omega arith))
+      go (inr past) =
+          let at : length ys ≡ m = omega (arith, more) in
+          let here : get_or (ys ++ y ∷ []) m None ≡ y = get_or_push ys y None m at in
+          ap (λ l. get_or l m 0) (map-append (set_node set) sets (p ∷ [])) ∙ get_or_push (map (set_node set) sets) (set_node set p) 0 m (omega (arith, length-map sets (set_node set)))
+          ∙ new set (λ e. live (here ∙ e)) ∙ ap (nearest_in set y) (sym (same (length ys) (omega arith))) ∙ ap (λ n. nearest_in set y (nearest_up set (ys ++ y ∷ []) n)) at
+          ∙ ap (λ z. nearest_in set z (nearest_up set (ys ++ y ∷ []) m)) (sym here)
 
 module _ (items : List KeptNode) (x : KeptNode) where
-  names-more : names_in (map opened_by (items ++ x ∷ [])) ≡ names_in (map opened_by items) ++ x.opened.name ∷ []
-  names-more = ap names_in (map-append opened_by items (x ∷ [])) ∙ map-append name_of (map opened_by items) (opened_by x ∷ [])
+  each : {X : Type 0} (f : KeptNode → X) → map f (items ++ x ∷ []) ≡ map f items ++ f x ∷ []
+  each f = map-append f items (x ∷ [])
 
-  nodes-more : nodes_in (map opened_by (items ++ x ∷ [])) ≡ nodes_in (map opened_by items) ++ x.opened.node ∷ []
-  nodes-more = ap nodes_in (map-append opened_by items (x ∷ [])) ∙ map-append node_of (map opened_by items) (opened_by x ∷ [])
+  numbers : (f : Option (OpenNode ℕ) → ℕ) → map f (map opened_by (items ++ x ∷ [])) ≡ map f (map opened_by items) ++ f (opened_by x) ∷ []
+  numbers f = ap (map f) (map-append opened_by items (x ∷ [])) ∙ map-append f (map opened_by items) (opened_by x ∷ [])
 
-  long : {X Y : Type 0} (f : KeptNode → X) (g : OpenNode ℕ → Y) → length (map f items) ≡ length (map g (map opened_by items))
+  long : {X Y : Type 0} (f : KeptNode → X) (g : Option (OpenNode ℕ) → Y) → length (map f items) ≡ length (map g (map opened_by items))
   long f g = length-map items f ∙ sym (length-map (map opened_by items) g ∙ length-map items opened_by)
 
-  module _ (last : LastLevels) where
-    linked-names : Stands last (items ++ x ∷ []) → IsLinked last.names.items (names_in (map opened_by items) ++ x.opened.name ∷ []) (map same_name_of items ++ x.same_name ∷ [])
-    linked-names s = transport (λ t. IsLinked last.names.items (names-more t) (map-append same_name_of items (x ∷ []) t)) s.names
+  module _ (last : LastLevels) (s : Stands last (items ++ x ∷ [])) where
+    linked-names : IsLinked last.names.items (names_in (map opened_by items) ++ name_in (opened_by x) ∷ []) (map same_name_of items ++ x.same_name ∷ [])
+    linked-names = transport (λ t. IsLinked last.names.items (numbers name_in t) (each same_name_of t)) s.names
 
-    linked-nodes : Stands last (items ++ x ∷ []) → IsLinked last.nodes.items (nodes_in (map opened_by items) ++ x.opened.node ∷ []) (map same_node_of items ++ x.same_node ∷ [])
-    linked-nodes s = transport (λ t. IsLinked last.nodes.items (nodes-more t) (map-append same_node_of items (x ∷ []) t)) s.nodes
+    linked-nodes : IsLinked last.nodes.items (nodes_in (map opened_by items) ++ node_in (opened_by x) ∷ []) (map same_node_of items ++ x.same_node ∷ [])
+    linked-nodes = transport (λ t. IsLinked last.nodes.items (numbers node_in t) (each same_node_of t)) s.nodes
 
-    -- the tables have the numbers of an item
-    pub stands-in : Stands last (items ++ x ∷ []) → (x.opened.name < length last.names.items) × (x.opened.node < length last.nodes.items)
-    stands-in s = (
-      linked-in last.names.items (names_in (map opened_by items)) (map same_name_of items ++ x.same_name ∷ []) x.opened.name (linked-names s),
-      linked-in last.nodes.items (nodes_in (map opened_by items)) (map same_node_of items ++ x.same_node ∷ []) x.opened.node (linked-nodes s),
-    )
+    left-sets : KeepSets (map opened_by items) (map sets_at items)
+    left-sets =
+        sets-less (map opened_by items) (map sets_at items) (length-map items sets_at ∙ sym (length-map items opened_by)) (opened_by x) x.sets
+        (transport (λ t. KeepSets (each opened_by t) (each sets_at t)) s.sets)
 
-    -- the last item goes
-    pub stands-less : Stands last (items ++ x ∷ []) → (next : LastLevels) → next.names.items ≡ set last.names.items x.opened.name x.same_name → next.nodes.items ≡ set last.nodes.items x.opened.node x.same_node → Stands next items
-    stands-less s next names nodes = record {
-      names = rw names (linked-less last.names.items (names_in (map opened_by items)) (map same_name_of items) x.opened.name x.same_name (long same_name_of name_of) (linked-names s));
-      nodes = rw nodes (linked-less last.nodes.items (nodes_in (map opened_by items)) (map same_node_of items) x.opened.node x.same_node (long same_node_of node_of) (linked-nodes s));
-      sets = transport (λ t. KeepSets (front opened_by t) (front sets_at t)) (sets-take (map opened_by (items ++ x ∷ [])) (map sets_at (items ++ x ∷ [])) s.sets (length items));
-      fits = omega (arith, s.fits, ap length nodes, length-set last.nodes.items x.opened.node x.same_node);
-    }
+    kinds : (map kind_at items ≡ map kind_of (map opened_by items)) × (x.kind ≡ kind_of (opened_by x))
+    kinds = unpush (map kind_at items) (map kind_of (map opened_by items)) x.kind (kind_of (opened_by x)) (sym (each kind_at) ∙ s.kinds ∙ map-map-more) (long kind_at kind_of)
       where
-        front : {X : Type 0} (f : KeptNode → X) → take (length items) (map f (items ++ x ∷ [])) ≡ map f items
-        front f = take-map f (length items) (items ++ x ∷ []) ∙ ap (map f) (take-append_seam items (x ∷ []))
+        map-map-more : map kind_of (map opened_by (items ++ x ∷ [])) ≡ map kind_of (map opened_by items) ++ kind_of (opened_by x) ∷ []
+        map-map-more = ap (map kind_of) (map-append opened_by items (x ∷ [])) ∙ map-append kind_of (map opened_by items) (opened_by x ∷ [])
 
-    -- an item comes, with what the tables say
-    pub stands-more : (level : ℕ) → level ≡ suc (length items) → Stands last items → x.opened.name < length last.names.items → x.opened.node < length last.nodes.items
+    closes : last.must_close ≡ closing_in (map kind_at items) + closing x.kind
+    closes = s.closes ∙ ap closing_in (each kind_at) ∙ closing-more (map kind_at items) x.kind
+
+    -- the last slot is a hole, and goes
+    pub stands-hole : opened_by x ≡ None → Stands last items
+    stands-hole gone = record {
+      names = linked-hole last.names.items (names_in (map opened_by items)) (map same_name_of items) x.same_name (long same_name_of name_in)
+          (subst (λ o. IsLinked last.names.items (names_in (map opened_by items) ++ name_in o ∷ []) (map same_name_of items ++ x.same_name ∷ [])) gone linked-names);
+      nodes = linked-hole last.nodes.items (nodes_in (map opened_by items)) (map same_node_of items) x.same_node (long same_node_of node_in)
+          (subst (λ o. IsLinked last.nodes.items (nodes_in (map opened_by items) ++ node_in o ∷ []) (map same_node_of items ++ x.same_node ∷ [])) gone linked-nodes);
+      sets = left-sets;
+      kinds = kinds.0;
+      closes = omega (arith, closes, ap closing (kinds.1 ∙ ap kind_of gone));
+      fits = s.fits;
+    }
+
+    module _ (live : opened_by x ≡ Some (open_of x.opened)) where
+      names-live : IsLinked last.names.items (names_in (map opened_by items) ++ suc x.opened.name ∷ []) (map same_name_of items ++ x.same_name ∷ [])
+      names-live = subst (λ o. IsLinked last.names.items (names_in (map opened_by items) ++ name_in o ∷ []) (map same_name_of items ++ x.same_name ∷ [])) live linked-names
+
+      nodes-live : IsLinked last.nodes.items (nodes_in (map opened_by items) ++ suc x.opened.node ∷ []) (map same_node_of items ++ x.same_node ∷ [])
+      nodes-live = subst (λ o. IsLinked last.nodes.items (nodes_in (map opened_by items) ++ node_in o ∷ []) (map same_node_of items ++ x.same_node ∷ [])) live linked-nodes
+
+      -- the tables have the numbers of its node
+      pub stands-in : (x.opened.name < length last.names.items) × (x.opened.node < length last.nodes.items)
+      stands-in = (
+        linked-in last.names.items (names_in (map opened_by items)) (map same_name_of items ++ x.same_name ∷ []) x.opened.name names-live,
+        linked-in last.nodes.items (nodes_in (map opened_by items)) (map same_node_of items ++ x.same_node ∷ []) x.opened.node nodes-live,
+      )
+
+      pub stands-counted : closing x.kind ≤ last.must_close
+      stands-counted = omega (arith, closes)
+
+      -- and the slot goes
+      pub stands-less : (next : LastLevels) → next.names.items ≡ set last.names.items x.opened.name x.same_name → next.nodes.items ≡ set last.nodes.items x.opened.node x.same_node
+          → next.must_close ≡ last.must_close - closing x.kind → Stands next items
+      stands-less next names nodes must_close = record {
+        names = rw names (linked-less last.names.items (names_in (map opened_by items)) (map same_name_of items) x.opened.name x.same_name (long same_name_of name_in) names-live);
+        nodes = rw nodes (linked-less last.nodes.items (nodes_in (map opened_by items)) (map same_node_of items) x.opened.node x.same_node (long same_node_of node_in) nodes-live);
+        sets = left-sets;
+        kinds = kinds.0;
+        closes = omega (arith, closes, must_close);
+        fits = omega (arith, s.fits, ap length nodes, length-set last.nodes.items x.opened.node x.same_node);
+      }
+
+  module _ (last : LastLevels) (s : Stands last items) where
+    more-kinds : x.kind ≡ kind_of (opened_by x) → map kind_at (items ++ x ∷ []) ≡ map kind_of (map opened_by (items ++ x ∷ []))
+    more-kinds e =
+        each kind_at ∙ (λ t. s.kinds t ++ e t ∷ []) ∙ sym (ap (map kind_of) (map-append opened_by items (x ∷ [])) ∙ map-append kind_of (map opened_by items) (opened_by x ∷ []))
+
+    more-sets : ((set : NameSet) → opened_by x ≢ None → set_node set x.sets ≡ nearest_in set (opened_by x) (nearest_up set (map opened_by items) (length (map opened_by items))))
+        → KeepSets (map opened_by (items ++ x ∷ [])) (map sets_at (items ++ x ∷ []))
+    more-sets keeps = transport (λ t. KeepSets (sym (each opened_by) t) (sym (each sets_at) t))
+        (sets-more (map opened_by items) (map sets_at items) (length-map items sets_at ∙ sym (length-map items opened_by)) (opened_by x) x.sets keeps s.sets)
+
+    -- a hole comes
+    pub stands-gap : opened_by x ≡ None → x.kind ≡ kind_of None → x.same_name ≡ 0 → x.same_node ≡ 0 → Stands last (items ++ x ∷ [])
+    stands-gap gone kind same_name same_node = record {
+      names = transport (λ t. IsLinked last.names.items (sym (numbers name_in ∙ ap (λ o. names_in (map opened_by items) ++ name_in o ∷ []) gone) t) (sym (each same_name_of ∙ ap (λ n. map same_name_of items ++ n ∷ []) same_name) t))
+          (linked-gap last.names.items (names_in (map opened_by items)) (map same_name_of items) (long same_name_of name_in) s.names);
+      nodes = transport (λ t. IsLinked last.nodes.items (sym (numbers node_in ∙ ap (λ o. nodes_in (map opened_by items) ++ node_in o ∷ []) gone) t) (sym (each same_node_of ∙ ap (λ n. map same_node_of items ++ n ∷ []) same_node) t))
+          (linked-gap last.nodes.items (nodes_in (map opened_by items)) (map same_node_of items) (long same_node_of node_in) s.nodes);
+      sets = more-sets (λ set ne. absurd (ne gone));
+      kinds = more-kinds (kind ∙ ap kind_of (sym gone));
+      closes = omega (arith, s.closes, ap closing_in (each kind_at), closing-more (map kind_at items) x.kind, ap closing kind);
+      fits = s.fits;
+    }
+
+    -- a node comes, with what the tables say
+    pub stands-more : (level : ℕ) → level ≡ suc (length items) → opened_by x ≡ Some (open_of x.opened) → x.kind ≡ kind_of (Some (open_of x.opened)) → x.opened.name < length last.names.items → x.opened.node < length last.nodes.items
         → x.same_name ≡ get_or last.names.items x.opened.name 0 → x.same_node ≡ get_or last.nodes.items x.opened.node 0
-        → KeepsFrom items (length items) (opened_by x) x.sets
-        → (next : LastLevels) → next.names.items ≡ set last.names.items x.opened.name level → next.nodes.items ≡ set last.nodes.items x.opened.node level → Stands next (items ++ x ∷ [])
-    stands-more level is s name_in node_in same_name same_node keeps next names nodes = record {
-      names = rw names (transport (λ t. IsLinked (set last.names.items x.opened.name level) (sym names-more t) (sym (map-append same_name_of items (x ∷ [])) t))
-          (linked-more last.names.items (names_in (map opened_by items)) (map same_name_of items) x.opened.name x.same_name level (omega (arith, is, length-names items)) same_name (long same_name_of name_of) name_in s.names));
-      nodes = rw nodes (transport (λ t. IsLinked (set last.nodes.items x.opened.node level) (sym nodes-more t) (sym (map-append same_node_of items (x ∷ [])) t))
-          (linked-more last.nodes.items (nodes_in (map opened_by items)) (map same_node_of items) x.opened.node x.same_node level (omega (arith, is, length-nodes items)) same_node (long same_node_of node_of) node_in s.nodes));
-      sets = transport (λ t. KeepSets (sym (map-append opened_by items (x ∷ [])) t) (sym (map-append sets_at items (x ∷ [])) t))
-          (sets-more (map opened_by items) (map sets_at items) s.sets (opened_by x) x.sets
-          (λ set. keeps.nodes set ∙ ap (λ n. nearest_in set (opened_by x) (kept_above (set_node set) items n)) (sym (length-map items opened_by)))
-          (keeps.must_close ∙ ap (λ n. closing (opened_by x) (kept_above must_close_in items n)) (sym (length-map items opened_by))));
+        → ((set : NameSet) → set_node set x.sets ≡ nearest_in set (Some (open_of x.opened)) (nearest_up set (map opened_by items) (length items)))
+        → (next : LastLevels) → next.names.items ≡ set last.names.items x.opened.name level → next.nodes.items ≡ set last.nodes.items x.opened.node level
+        → next.must_close ≡ last.must_close + closing x.kind → Stands next (items ++ x ∷ [])
+    stands-more level is live kind name_in' node_in' same_name same_node keeps next names nodes must_close = record {
+      names = rw names (transport (λ t. IsLinked (set last.names.items x.opened.name level) (sym (numbers name_in ∙ ap (λ o. names_in (map opened_by items) ++ name_in o ∷ []) live) t) (sym (each same_name_of) t))
+          (linked-more last.names.items (names_in (map opened_by items)) (map same_name_of items) x.opened.name x.same_name level (omega (arith, is, long same_name_of name_in, length-map items same_name_of)) same_name (long same_name_of name_in) name_in' s.names));
+      nodes = rw nodes (transport (λ t. IsLinked (set last.nodes.items x.opened.node level) (sym (numbers node_in ∙ ap (λ o. nodes_in (map opened_by items) ++ node_in o ∷ []) live) t) (sym (each same_node_of) t))
+          (linked-more last.nodes.items (nodes_in (map opened_by items)) (map same_node_of items) x.opened.node x.same_node level (omega (arith, is, long same_node_of node_in, length-map items same_node_of)) same_node (long same_node_of node_in) node_in' s.nodes));
+      sets = more-sets (λ set ne. keeps set ∙ ap (λ n. nearest_in set (Some (open_of x.opened)) (nearest_up set (map opened_by items) n)) (sym (length-map items opened_by)) ∙ ap (λ o. nearest_in set o (nearest_up set (map opened_by items) (length (map opened_by items)))) (sym live));
+      kinds = more-kinds (kind ∙ ap kind_of (sym live));
+      closes = omega (arith, s.closes, ap closing_in (each kind_at), closing-more (map kind_at items) x.kind, must_close);
       fits = omega (arith, s.fits, ap length nodes, length-set last.nodes.items x.opened.node level);
     }
+
+-- one item of a vector, and those above it
+module _ (items : List KeptNode) (n j : ℕ) (x : KeptNode) (next : n ≡ suc j) (within : j < length items) (is : x ≡ get_or items j x) where
+  taken : (last : LastLevels) → Stands last (take n items) → Stands last (take j items ++ x ∷ [])
+  taken last s = subst (λ (xs : List KeptNode). Stands last xs) (take-more items n j x next within is) s
+
+  pub taken-hole : (last : LastLevels) → Stands last (take n items) → opened_by x ≡ None → Stands last (take j items)
+  taken-hole last s gone = stands-hole (take j items) x last (taken last s) gone
+
+  pub taken-in : (last : LastLevels) → Stands last (take n items) → opened_by x ≡ Some (open_of x.opened) → (x.opened.name < length last.names.items) × (x.opened.node < length last.nodes.items)
+  taken-in last s live = stands-in (take j items) x last (taken last s) live
+
+  pub taken-counted : (last : LastLevels) → Stands last (take n items) → opened_by x ≡ Some (open_of x.opened) → closing x.kind ≤ last.must_close
+  taken-counted last s live = stands-counted (take j items) x last (taken last s) live
+
+  pub taken-less : (last next : LastLevels) → Stands last (take n items) → opened_by x ≡ Some (open_of x.opened) → next.names.items ≡ set last.names.items x.opened.name x.same_name
+      → next.nodes.items ≡ set last.nodes.items x.opened.node x.same_node → next.must_close ≡ last.must_close - closing x.kind → Stands next (take j items)
+  taken-less last left s live names nodes must_close = stands-less (take j items) x last (taken last s) live left names nodes must_close
+
+  pub numbers-more : (names nodes : ℕ) → AreIn names nodes (map opened_by (drop n items)) → IsIn names nodes (opened_by x) → AreIn names nodes (map opened_by (drop j items))
+  numbers-more names nodes rest here = subst (λ (xs : List KeptNode). AreIn names nodes (map opened_by xs)) (sym (drop-more items n j x next within is)) (here, rest)
+
+  pub numbers-less : (names nodes : ℕ) → AreIn names nodes (map opened_by (drop j items)) → IsIn names nodes (opened_by x) × AreIn names nodes (map opened_by (drop n items))
+  numbers-less names nodes all = subst (λ (xs : List KeptNode). AreIn names nodes (map opened_by xs)) (drop-more items n j x next within is) all
+
+-- where the same nodes are open, their numbers are in the tables
+pub numbers-alike : (n : ℕ) (xs ys : List KeptNode) (names nodes : ℕ) → map opened_by xs ≡ map opened_by ys → AreIn names nodes (map opened_by (drop n ys)) → AreIn names nodes (map opened_by (drop n xs))
+numbers-alike n xs ys names nodes e all = subst (AreIn names nodes) (sym (drop-map opened_by n ys) ∙ ap (drop n) (sym e) ∙ drop-map opened_by n xs) all
 
 -- items that keep the same stand alike
 module _ (last : LastLevels) (xs ys : List KeptNode) (a : AreAlike xs ys) where
   pub stands-alike : Stands last ys → Stands last xs
-  stands-alike s = transport (λ t. StandsAs last (sym a.opened t) (sym a.same_names t) (sym a.same_nodes t) (sym a.sets t)) s
+  stands-alike s = transport (λ t. StandsAs last (sym a.rest.opened t) (sym a.same_names t) (sym a.rest.same_nodes t) (sym a.rest.sets t) (sym a.rest.kinds t)) s
 
   pub alike-take : (n : ℕ) → AreAlike (take n xs) (take n ys)
-  alike-take n = record { opened = part opened_by a.opened; same_names = part same_name_of a.same_names; same_nodes = part same_node_of a.same_nodes; sets = part sets_at a.sets }
+  alike-take n = record {
+    rest = record { opened = part opened_by a.rest.opened; same_nodes = part same_node_of a.rest.same_nodes; sets = part sets_at a.rest.sets; kinds = part kind_at a.rest.kinds };
+    same_names = part same_name_of a.same_names;
+  }
     where
       part : {X : Type 0} (f : KeptNode → X) → map f xs ≡ map f ys → map f (take n xs) ≡ map f (take n ys)
       part f e = sym (take-map f n xs) ∙ ap (take n) e ∙ take-map f n ys
 
-numbers-alike : (xs ys : List KeptNode) (names nodes : ℕ) → map opened_by xs ≡ map opened_by ys → AreIn names nodes ys → AreIn names nodes xs
-numbers-alike [] ys names nodes e all = tt
-numbers-alike (x ∷ xs) [] names nodes e all = cc
-numbers-alike (x ∷ xs) (y ∷ ys) names nodes e all = grind (arith, numbers-alike xs ys names nodes)
-
-pub numbers-drop_alike : (n : ℕ) (xs ys : List KeptNode) (names nodes : ℕ) → map opened_by xs ≡ map opened_by ys → AreIn names nodes (drop n ys) → AreIn names nodes (drop n xs)
-numbers-drop_alike n xs ys names nodes e all = numbers-alike (drop n xs) (drop n ys) names nodes (sym (drop-map opened_by n xs) ∙ ap (drop n) e ∙ drop-map opened_by n ys) all
-
--- a new node in the place of one of its name
-module _ (last next : LastLevels) (items : List KeptNode) (i : ℕ) (x y : KeptNode) (new : Open) (s : Stands last items) (within : i < length items) (is : x ≡ get_or items i x) (fresh : CanGiveWay last x (suc i) new) where
-  renamed-opened : y.opened ≡ new → map opened_by (set items i y) ≡ set (map opened_by items) i (open_of new)
-  renamed-opened e = map-set opened_by items i y ∙ ap (λ (z : Open). set (map opened_by items) i (open_of z)) e
-
-  pub stands-renamed : new.node < length last.nodes.items → y.opened ≡ new → y.same_name ≡ x.same_name → y.same_node ≡ x.same_node → y.sets ≡ x.sets
-      → next.names.items ≡ last.names.items → next.nodes.items ≡ set (set last.nodes.items x.opened.node 0) new.node (suc i) → Stands next (set items i y)
-  stands-renamed new_in opened same_name same_node sets names nodes = record {
-    names = transport (λ t. IsLinked (sym names t) (sym same_names t) (sym (map-set_same same_name_of items i y x (same_name ∙ ap same_name_of is)) t)) s.names;
-    nodes = transport (λ t. IsLinked (sym table t) (sym moved t) (sym (map-set_same same_node_of items i y x (same_node ∙ ap same_node_of is)) t))
-        (linked-fresh last.nodes.items (nodes_in (map opened_by items)) (map same_node_of items) s.nodes i (omega (arith, length-nodes items)) new.node new_in
-        (same_node-at items i x within ∙ ap same_node_of (sym is) ∙ fresh.none_above) (ap (λ n. get_or last.nodes.items n 0) here ∙ fresh.none_below) fresh.fresh);
-    sets = transport (λ t. KeepSets (sym (renamed-opened opened) t) (sym (map-set_same sets_at items i y x (sets ∙ ap sets_at is)) t))
-        (sets-renamed (map opened_by items) (map sets_at items) s.sets i (opened_by x) (open_of new) (omega (arith, length-map items opened_by))
-        (sym fresh.name ∙ ap name_of (ap opened_by is ∙ sym (get_or-map opened_by items i x (opened_by x) within))) fresh.plain);
-    fits = omega (arith, s.fits, ap length nodes, length-set (set last.nodes.items x.opened.node 0) new.node (suc i), length-set last.nodes.items x.opened.node 0);
-  }
-    where
-      here : get_or (nodes_in (map opened_by items)) i 0 ≡ x.opened.node
-      here = node-at items i x within ∙ ap (λ (z : KeptNode). z.opened.node) (sym is)
-
-      table : next.nodes.items ≡ set (set last.nodes.items (get_or (nodes_in (map opened_by items)) i 0) 0) new.node (suc i)
-      table = nodes ∙ ap (λ n. set (set last.nodes.items n 0) new.node (suc i)) (sym here)
-
-      same_names : names_in (map opened_by (set items i y)) ≡ names_in (map opened_by items)
-      same_names =
-          ap names_in (renamed-opened opened)
-          ∙ map-set_same name_of (map opened_by items) i (open_of new) (opened_by x) (sym fresh.name ∙ ap (λ (z : KeptNode). z.opened.name) is ∙ ap name_of (sym (get_or-map opened_by items i x (opened_by x) within)))
-
-      moved : nodes_in (map opened_by (set items i y)) ≡ set (nodes_in (map opened_by items)) i new.node
-      moved = ap nodes_in (renamed-opened opened) ∙ map-set node_of (map opened_by items) i (open_of new)
-
--- one item of a vector, and those above it
-module _ (items : List KeptNode) (n j : ℕ) (x : KeptNode) (next : n ≡ suc j) (within : j < length items) (is : x ≡ get_or items j x) where
-  pub taken-in : (last : LastLevels) → Stands last (take n items) → (x.opened.name < length last.names.items) × (x.opened.node < length last.nodes.items)
-  taken-in last s = stands-in (take j items) x last (subst (λ (xs : List KeptNode). Stands last xs) (take-more items n j x next within is) s)
-
-  pub taken-less : (last next : LastLevels) → Stands last (take n items) → next.names.items ≡ set last.names.items x.opened.name x.same_name → next.nodes.items ≡ set last.nodes.items x.opened.node x.same_node → Stands next (take j items)
-  taken-less last left s names nodes = stands-less (take j items) x last (subst (λ (xs : List KeptNode). Stands last xs) (take-more items n j x next within is) s) left names nodes
-
-  pub numbers-more : (names nodes : ℕ) → AreIn names nodes (drop n items) → x.opened.name < names → x.opened.node < nodes → AreIn names nodes (drop j items)
-  numbers-more names nodes rest name_in node_in = subst (λ (xs : List KeptNode). AreIn names nodes xs) (sym (drop-more items n j x next within is)) (name_in, node_in, rest)
-
-  pub numbers-less : (names nodes : ℕ) → AreIn names nodes (drop j items) → (x.opened.name < names) × (x.opened.node < nodes) × AreIn names nodes (drop n items)
-  numbers-less names nodes all = subst (λ (xs : List KeptNode). AreIn names nodes xs) (drop-more items n j x next within is) all
-
--- the numbers are in the tables where an item takes the place of another
-pub numbers-replaced : (items : List KeptNode) (i : ℕ) (x : KeptNode) (names nodes : ℕ) → i < length items → AreIn names nodes (drop i items) → x.opened.name < names → x.opened.node < nodes → AreIn names nodes (drop i (set items i x))
-numbers-replaced items i x names nodes within all name_in node_in =
-    let rest = numbers-less items (suc i) i (get_or items i x) refl within (get_or_default items i x (get_or items i x) within) names nodes all in
-    rw (drop-set items i x within, add-one) (name_in, node_in, rest.2)
-
--- and where a run of items leaves
-numbers-drop : (k : ℕ) (items : List KeptNode) (names nodes : ℕ) → AreIn names nodes items → AreIn names nodes (drop k items)
-numbers-drop zero items names nodes all = all
-numbers-drop (suc k) [] names nodes all = all
-numbers-drop (suc k) (x ∷ items) names nodes all = numbers-drop k items names nodes all.2
-
-pub numbers-left : (items : List KeptNode) (from to : ℕ) (names nodes : ℕ) → from ≤ to → to ≤ length items → AreIn names nodes (drop from items) → AreIn names nodes (drop from (remove_range items from to))
-numbers-left items from to names nodes order within all =
-    let rest = numbers-drop (to - from) (drop from items) names nodes all in
-    let sum : from + (to - from) ≡ to = omega arith in
-    let left : drop from (remove_range items from to) ≡ drop to items = drop_at (take from items) (drop to items) from (length-take-le from items (omega arith)) in
-    let same : drop (to - from) (drop from items) ≡ drop to items = drop-drop (to - from) from items ∙ ap (λ n. drop n items) sum in
-    subst (λ (xs : List KeptNode). AreIn names nodes xs) (same ∙ sym left) rest
+-- as few must be closed as there are slots
+pub few-closed : (last : LastLevels) (items : List KeptNode) → Stands last items → last.must_close ≤ length items
+few-closed last items s = omega (arith, s.closes, few-close (map kind_at items), length-map items kind_at)

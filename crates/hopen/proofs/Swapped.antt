@@ -1,303 +1,440 @@
--- Two neighbours of a list that change places, and the levels that are kept of them.
-use Rattle.hopen.proofs.Names.{◌≡◌, ◌≢◌, ℕ, zero, suc, ◌-◌, ◌<◌, ◌≤◌, eqb, Bool, true, false, cond, ◌&&◌, List, [], ◌∷◌, length, map, get_or, set, ◌⊎◌, inl, inr, refl, sym, ◌∙◌, ap, subst, arith, remove, true≢false, cases_Bool, cases_lt, eqb-true, eqb-false, get_or-set_same, get_or-set_other, get_or_past, length-set, last_up, up-sought, up-other, up-within, up-found, up-least, up-past, up-alike, IsHeld, IsLinked, swap_with_next, level_after_swap, nat_tests}
-use Rattle.hopen.proofs.Linked.{eqb-same, eqb-not}
+-- Members of a list that change places, leave or give way, and the levels that are kept of them.
+use Rattle.hopen.proofs.Names.{◌≡◌, ◌≢◌, ℕ, zero, suc, ◌-◌, ◌<◌, ◌≤◌, eqb, Bool, true, false, cond, ◌&&◌, List, length, map, get_or, set, ◌⊎◌, inl, inr, refl, sym, ◌∙◌, ap, subst, arith, cases_Bool, cases_eq, cases_lt, eqb-true, eqb-false, eqb-zero-suc, get_or-set_same, get_or-set_other, get_or_past, length-set, map-set, set-get_or, set-set, last_up, last_same, up-sought, up-other, up-within, up-found, up-least, up-past, up-alike, IsHeld, IsLinked, AreHoles, exchanged, level_exchanged, nat_tests}
+use Rattle.std.proofs.Math.ListN.{get_or-map}
+use Rattle.hopen.proofs.Linked.{either, eqb-same, eqb-not, numbered, same-from, same-hole, same-member, kept-hole, kept-member}
 
 -- where a level goes
-pub moved-upper : (i p : ℕ) → p ≡ suc i → level_after_swap i p ≡ suc (suc i)
-moved-upper i p e = ap (λ v. cond v (suc (suc i)) (cond (eqb p (suc (suc i))) (suc i) p)) (ap (λ q. eqb q (suc i)) e ∙ eqb-same (suc i))
+module _ (i j p : ℕ) where
+  pub moved-upper : p ≡ suc i → level_exchanged i j p ≡ suc j
+  moved-upper e = grind (arith, nat_tests)
 
-pub moved-lower : (i p : ℕ) → p ≡ suc (suc i) → level_after_swap i p ≡ suc i
-moved-lower i p e =
-    let ne : p ≢ suc i = omega arith in
-    ap (λ v. cond v (suc (suc i)) (cond (eqb p (suc (suc i))) (suc i) p)) (eqb-not p (suc i) ne)
-    ∙ ap (λ v. cond v (suc i) p) (ap (λ q. eqb q (suc (suc i))) e ∙ eqb-same (suc (suc i)))
+  pub moved-lower : i < j → p ≡ suc j → level_exchanged i j p ≡ suc i
+  moved-lower h e = grind (arith, nat_tests)
 
-pub moved-other : (i p : ℕ) → p ≢ suc i → p ≢ suc (suc i) → level_after_swap i p ≡ p
-moved-other i p ne nf = ap (λ v. cond v (suc (suc i)) (cond (eqb p (suc (suc i))) (suc i) p)) (eqb-not p (suc i) ne) ∙ ap (λ v. cond v (suc i) p) (eqb-not p (suc (suc i)) nf)
+  pub moved-other : p ≢ suc i → p ≢ suc j → level_exchanged i j p ≡ p
+  moved-other ne nf = grind (arith, nat_tests)
 
+-- a kept level after the member at an index, which kept another level, has left
+abbrev pub level_left : ℕ → ℕ → ℕ → ℕ
+level_left i b p = cond (eqb p (suc i)) b p
+
+left-other : (i b p : ℕ) → p ≢ suc i → level_left i b p ≡ p
+left-other i b p ne = ap (λ v. cond v b p) (eqb-not p (suc i) ne)
+
+-- both tests pass
 and-true : (v w : Bool) → (v && w) ≡ true → (v ≡ true) × (w ≡ true)
 and-true v w e = grind arith
 
 -- two levels that change, each at the one that keeps it
-module _ (t bs : List ℕ) (i a b m n p q : ℕ) (first : p ≡ suc i) (second : q ≡ suc (suc i)) (upper : IsHeld t bs a p m) (lower : IsHeld t bs b q n) where
-  pub moved-table : (k : ℕ) → cond (eqb n 0 && eqb k b) p (cond (eqb m 0 && eqb k a) q (get_or t k 0)) ≡ level_after_swap i (get_or t k 0)
+module _ (t bs : List ℕ) (i j a b m n p q : ℕ) (less : i < j) (first : p ≡ suc i) (second : q ≡ suc j)
+    (upper : IsHeld t bs a p m) (lower : IsHeld t bs b q n) where
+  pub moved-table : (k : ℕ) → cond (eqb n 0 && eqb k b) p (cond (eqb m 0 && eqb k a) q (get_or t k 0)) ≡ level_exchanged i j (get_or t k 0)
   moved-table k = grind (arith, cases_Bool, eqb-same, and-true, moved-lower, moved-upper, moved-other, nat_tests)
 
-  pub moved-list : (j : ℕ) → cond (eqb n (suc j)) p (cond (eqb m (suc j)) q (get_or bs j 0)) ≡ level_after_swap i (get_or bs j 0)
-  moved-list j = grind (arith, cases_Bool, moved-lower, moved-upper, moved-other, nat_tests)
+  pub moved-list : (k : ℕ) → cond (eqb n (suc k)) p (cond (eqb m (suc k)) q (get_or bs k 0)) ≡ level_exchanged i j (get_or bs k 0)
+  moved-list k = grind (arith, cases_Bool, moved-lower, moved-upper, moved-other, nat_tests)
 
-module _ {X : Type 0} where
-  pub swapped-length : (i : ℕ) (xs : List X) → length (swap_with_next i xs) ≡ length xs
-  swapped-length zero xs = grind arith
-  swapped-length (suc i) [] = refl
-  swapped-length (suc i) (x ∷ xs) = ap suc (swapped-length i xs)
+-- a level that changes at the one that keeps it
+module _ (t bs : List ℕ) (i a n b : ℕ) (held : IsHeld t bs a (suc i) n) where
+  left-table : (k : ℕ) → cond (eqb n 0 && eqb k a) b (get_or t k 0) ≡ level_left i b (get_or t k 0)
+  left-table k = grind (arith, cases_Bool, eqb-same, and-true, nat_tests)
 
-  pub swapped-before : (i j : ℕ) (xs : List X) (d : X) → j < i → get_or (swap_with_next i xs) j d ≡ get_or xs j d
-  swapped-before zero j xs d h = absurd (omega arith)
-  swapped-before (suc i) j [] d h = refl
-  swapped-before (suc i) zero (x ∷ xs) d h = refl
-  swapped-before (suc i) (suc j) (x ∷ xs) d h = swapped-before i j xs d (omega arith)
+  left-list : (k : ℕ) → cond (eqb n (suc k)) b (get_or bs k 0) ≡ level_left i b (get_or bs k 0)
+  left-list k = grind (arith, cases_Bool, nat_tests)
 
-  pub swapped-upper : (i : ℕ) (xs : List X) (d : X) → suc i < length xs → get_or (swap_with_next i xs) i d ≡ get_or xs (suc i) d
-  swapped-upper zero xs d h = grind arith
-  swapped-upper (suc i) [] d h = absurd (omega arith)
-  swapped-upper (suc i) (x ∷ xs) d h = swapped-upper i xs d (omega arith)
+-- a list in which two members have changed places
+module _ {X : Type 0} (i j : ℕ) (d : X) (xs : List X) where
+  pub exchanged-length : length (exchanged i j d xs) ≡ length xs
+  exchanged-length = length-set (set xs i (get_or xs j d)) j (get_or xs i d) ∙ length-set xs i (get_or xs j d)
 
-  pub swapped-lower : (i : ℕ) (xs : List X) (d : X) → suc i < length xs → get_or (swap_with_next i xs) (suc i) d ≡ get_or xs i d
-  swapped-lower zero xs d h = grind arith
-  swapped-lower (suc i) [] d h = absurd (omega arith)
-  swapped-lower (suc i) (x ∷ xs) d h = swapped-lower i xs d (omega arith)
+  pub exchanged-upper : i < j → j < length xs → get_or (exchanged i j d xs) i d ≡ get_or xs j d
+  exchanged-upper less h =
+      get_or-set_other (set xs i (get_or xs j d)) j i (get_or xs i d) d (λ e. absurd (omega arith)) ∙ get_or-set_same xs i (get_or xs j d) d (omega arith)
 
-  pub swapped-after : (i j : ℕ) (xs : List X) (d : X) → suc i < j → get_or (swap_with_next i xs) j d ≡ get_or xs j d
-  swapped-after zero j xs d h = grind arith
-  swapped-after (suc i) j [] d h = refl
-  swapped-after (suc i) zero (x ∷ xs) d h = absurd (omega arith)
-  swapped-after (suc i) (suc j) (x ∷ xs) d h = swapped-after i j xs d (omega arith)
+  pub exchanged-lower : j < length xs → get_or (exchanged i j d xs) j d ≡ get_or xs i d
+  exchanged-lower h = get_or-set_same (set xs i (get_or xs j d)) j (get_or xs i d) d (omega (arith, length-set xs i (get_or xs j d)))
 
-  pub swapped-apart : (i j : ℕ) (xs : List X) (d : X) → j ≢ i → j ≢ suc i → get_or (swap_with_next i xs) j d ≡ get_or xs j d
-  swapped-apart i j xs d ne nf = elim (cases_lt j i) [ inl less ↦ swapped-before i j xs d less | inr past ↦ swapped-after i j xs d (omega arith) ]
+  pub exchanged-apart : (m : ℕ) → m ≢ i → m ≢ j → get_or (exchanged i j d xs) m d ≡ get_or xs m d
+  exchanged-apart m ne nf = get_or-set_other (set xs i (get_or xs j d)) j m (get_or xs i d) d nf ∙ get_or-set_other xs i m (get_or xs j d) d ne
 
-  -- all but the upper one are as they were
-  pub swapped-rest : (i : ℕ) (xs : List X) → suc i < length xs → remove (swap_with_next i xs) (suc i) ≡ remove xs i
-  swapped-rest zero xs h = grind arith
-  swapped-rest (suc i) [] h = absurd (omega arith)
-  swapped-rest (suc i) (x ∷ xs) h = ap (λ l. x ∷ l) (swapped-rest i xs (omega arith))
+  pub exchanged-same : get_or xs i d ≡ get_or xs j d → exchanged i j d xs ≡ xs
+  exchanged-same e = (λ r. set (set xs i (sym e r)) j (e r)) ∙ ap (λ l. set l j (get_or xs j d)) (set-get_or xs i d) ∙ set-get_or xs j d
 
-  pub swapped-same : (i : ℕ) (xs : List X) (d : X) → suc i < length xs → get_or xs i d ≡ get_or xs (suc i) d → swap_with_next i xs ≡ xs
-  swapped-same zero xs d h e = grind arith
-  swapped-same (suc i) [] d h e = absurd (omega arith)
-  swapped-same (suc i) (x ∷ xs) d h e = ap (λ l. x ∷ l) (swapped-same i xs d (omega arith) e)
+  pub exchanged-map : {Y : Type 0} (f : X → Y) → map f (exchanged i j d xs) ≡ exchanged i j (f d) (map f xs)
+  exchanged-map f =
+      map-set f (set xs i (get_or xs j d)) j (get_or xs i d) ∙ ap (λ l. set l j (f (get_or xs i d))) (map-set f xs i (get_or xs j d))
+      ∙ (λ r. set (set (map f xs) i (sym (get_or-map f xs j d) r)) j (sym (get_or-map f xs i d) r))
 
-  -- by two writes
-  pub swapped-set : (i : ℕ) (xs : List X) (d : X) → suc i < length xs → set (set xs i (get_or xs (suc i) d)) (suc i) (get_or xs i d) ≡ swap_with_next i xs
-  swapped-set zero xs d h = grind arith
-  swapped-set (suc i) [] d h = absurd (omega arith)
-  swapped-set (suc i) (x ∷ xs) d h = ap (λ l. x ∷ l) (swapped-set i xs d (omega arith))
+-- where a number is last, once two others have changed places that have holes alone between them
+module _ (s : ℕ → Bool) (hole : s 0 ≡ false) (i j : ℕ) (ns : List ℕ) (less : i < j) (within : j < length ns) (holes : AreHoles i j ns) where
+  abbrev ms : List ℕ
+  ms = exchanged i j 0 ns
 
-pub swapped-map : {X Y : Type 0} (f : X → Y) (i : ℕ) (xs : List X) → map f (swap_with_next i xs) ≡ swap_with_next i (map f xs)
-swapped-map f zero xs = grind arith
-swapped-map f (suc i) [] = refl
-swapped-map f (suc i) (x ∷ xs) = ap (λ l. f x ∷ l) (swapped-map f i xs)
+  up-before : (n : ℕ) → n ≤ i → last_up s ms n ≡ last_up s ns n
+  up-before n h = up-alike s ns ms n (λ m f. ap s (exchanged-apart i j 0 ns m (λ e. absurd (omega arith)) (λ e. absurd (omega arith))))
 
--- where a number is last, once two others have changed places
-module _ (s : ℕ → Bool) (i : ℕ) (ns : List ℕ) (within : suc i < length ns) where
-  up-before : (n : ℕ) → n ≤ i → last_up s (swap_with_next i ns) n ≡ last_up s ns n
-  up-before n h = up-alike s ns (swap_with_next i ns) n (λ j less. ap s (swapped-before i j ns 0 (omega arith)))
+  -- holes are not sought
+  up-holes : last_up s ns j ≡ last_up s ns (suc i)
+  up-holes = up-past s ns (suc i) j less (λ m a b. ap s (holes m a b) ∙ hole)
+
+  up-between : last_up s ms j ≡ last_up s ms (suc i)
+  up-between =
+      up-past s ms (suc i) j less (λ m a b. ap s (exchanged-apart i j 0 ns m (λ e. absurd (omega arith)) (λ e. absurd (omega arith)) ∙ holes m a b) ∙ hole)
 
   -- not both are sought
-  module _ (one : s (get_or ns i 0) ≡ true → s (get_or ns (suc i) 0) ≡ false) where
-    low : last_up s ns i ≤ i
-    low = up-within s ns i
+  module _ (one : s (get_or ns i 0) ≡ true → s (get_or ns j 0) ≡ false) where
+    at-pair : last_up s ms (suc j) ≡ level_exchanged i j (last_up s ns (suc j))
+    at-pair =
+        let upper = exchanged-upper i j 0 ns less within in
+        let lower = exchanged-lower i j 0 ns within in
+        grind (arith, cases_Bool, one, up-within s ns i, up-holes, up-between, upper, lower, up-before i, up-sought, up-other, nat_tests)
 
-    at-pair : last_up s (swap_with_next i ns) (suc (suc i)) ≡ level_after_swap i (last_up s ns (suc (suc i)))
-    at-pair = grind (arith, cases_Bool, one, low, swapped-lower, swapped-upper, up-before, moved-upper, moved-lower, moved-other, nat_tests)
-
-    pub up-swapped : (n : ℕ) → suc i < n → last_up s (swap_with_next i ns) n ≡ level_after_swap i (last_up s ns n)
+    up-swapped : (n : ℕ) → j < n → last_up s ms n ≡ level_exchanged i j (last_up s ns n)
     up-swapped zero h = absurd (omega arith)
-    up-swapped (suc n) h = grind (arith, up-swapped n, up-sought, swapped-after, moved-other, up-other, cases_Bool, at-pair, nat_tests)
+    up-swapped (suc n) h = grind (arith, up-swapped n, up-sought, exchanged-apart, moved-other, up-other, cases_Bool, at-pair, nat_tests)
 
--- a level of a number below an index where it is too
+-- the level of a member at an index or below it, of the same number
 pub record Walks (ns : List ℕ) (i p : ℕ) : Type 0 where
   pub below : i < p
   pub most : p ≤ length ns
   pub number : get_or ns (p - 1) 0 ≡ get_or ns i 0
 
+-- whose level it is where a number is last
+up-at : (k : ℕ) (ns : List ℕ) (n i : ℕ) → last_up (numbered k) ns n ≡ suc i → get_or ns i 0 ≡ suc k
+up-at k ns n i e =
+    let at : last_up (numbered k) ns n - 1 ≡ i = omega arith in
+    ap (λ j. get_or ns j 0) (sym at) ∙ eqb-true _ (suc k) (up-found (numbered k) ns n (omega arith))
+
 module _ (t ns bs : List ℕ) (l : IsLinked t ns bs) (i : ℕ) where
-  -- whose level a number of the table is, or one of the list
-  table-at : (k : ℕ) → get_or t k 0 ≡ suc i → get_or ns i 0 ≡ k
-  table-at k e =
-      let up : last_up (λ n. eqb n k) ns (length ns) ≡ suc i = sym (l.says k) ∙ e in
-      let at : last_up (λ n. eqb n k) ns (length ns) - 1 ≡ i = omega arith in
-      ap (λ j. get_or ns j 0) (sym at) ∙ eqb-true _ k (up-found (λ n. eqb n k) ns (length ns) (omega arith))
+  -- whose level it is that the table says
+  pub table-at : (k : ℕ) → get_or t k 0 ≡ suc i → get_or ns i 0 ≡ suc k
+  table-at k e = up-at k ns (length ns) i (sym (l.says k) ∙ e)
 
-  module _ (long : length bs ≡ length ns) where
-    list-in : (j : ℕ) → get_or bs j 0 ≡ suc i → j < length ns
-    list-in j e = elim (cases_lt j (length ns)) [ inl less ↦ less | inr past ↦ absurd (omega (arith, get_or_past bs j 0 (omega arith))) ]
-
-    list-at : (j : ℕ) → get_or bs j 0 ≡ suc i → (i < j) × (get_or ns i 0 ≡ get_or ns j 0)
-    list-at j e =
-        let s : ℕ → Bool = λ n. eqb n (get_or ns j 0) in
-        let up : last_up s ns j ≡ suc i = sym (l.kept j (list-in j e)) ∙ e in
-        let at : last_up s ns j - 1 ≡ i = omega arith in
-        (omega (arith, up-within s ns j), ap (λ k. get_or ns k 0) (sym at) ∙ eqb-true _ _ (up-found s ns j (omega arith)))
-
-    -- the table keeps the level of one that has none of its number below it
-    pub held-none : get_or t (get_or ns i 0) 0 ≡ suc i → IsHeld t bs (get_or ns i 0) (suc i) 0
-    held-none here = record {
-      in_table = λ k e. (refl, sym (table-at k e));
-      in_list = λ j e. absurd (omega (arith, l.says (get_or ns i 0), (list-at j e).0, up-least (λ n. eqb n (get_or ns i 0)) ns (length ns) j (list-in j e) (ap (λ n. eqb n (get_or ns i 0)) (sym (list-at j e).1) ∙ eqb-same (get_or ns i 0))));
-      here = λ e. here;
-      there = λ j e. absurd (omega arith);
-    }
-
-    -- else the next one keeps it
-    later : (j k : ℕ) → get_or bs j 0 ≡ suc i → get_or bs k 0 ≡ suc i → j < k → ⊥
-    later j k e f less =
-        let a = list-at j e in
-        let b = list-at k f in
-        let same : get_or ns j 0 ≡ get_or ns k 0 = sym a.1 ∙ b.1 in
-        absurd (omega (arith, a.0, l.kept k (list-in k f), up-least (λ n. eqb n (get_or ns k 0)) ns k j less (ap (λ n. eqb n (get_or ns k 0)) same ∙ eqb-same (get_or ns k 0))))
-
-    pub held-next : (n j : ℕ) → n ≡ suc j → get_or bs j 0 ≡ suc i → IsHeld t bs (get_or ns i 0) (suc i) n
-    held-next n j next here = record {
-      in_table = λ k e. absurd (omega (arith, l.says k, (list-at j here).0, up-least (λ n. eqb n k) ns (length ns) j (list-in j here) (ap (λ n. eqb n k) (sym (list-at j here).1 ∙ table-at k e) ∙ eqb-same k)));
-      in_list = λ k e. one k e (cases_lt j k) (cases_lt k j);
-      here = λ e. absurd (omega arith);
-      there = λ k e. let same : j ≡ k = omega arith in ap (λ m. get_or bs m 0) (sym same) ∙ here;
-    }
+  module _ (a : ℕ) (member : get_or ns i 0 ≡ suc a) where
+    -- the one in the list that keeps its level is below it, of its number
+    list-own : length bs ≡ length ns → (j : ℕ) → get_or bs j 0 ≡ suc i → (i < j) × (j < length ns) × (get_or ns j 0 ≡ suc a)
+    list-own long j e = own (get_or ns j 0) refl
       where
-        one : (k : ℕ) → get_or bs k 0 ≡ suc i → (j < k) ⊎ (k ≤ j) → (k < j) ⊎ (j ≤ k) → n ≡ suc k
-        one k e (inl less) b = absurd (later j k here e less)
-        one k e (inr a) (inl less) = absurd (later k j e here less)
-        one k e (inr a) (inr b) = omega arith
+        h : j < length ns
+        h = elim (cases_lt j (length ns)) [ inl less ↦ less | inr past ↦ absurd (omega (arith, get_or_past bs j 0 (omega arith))) ]
 
-    -- the member that keeps it is given, or there is none
-    pub held-at : (n : ℕ) → (n ≡ 0 → get_or t (get_or ns i 0) 0 ≡ suc i) → ((j : ℕ) → n ≡ suc j → get_or bs j 0 ≡ suc i) → IsHeld t bs (get_or ns i 0) (suc i) n
-    held-at zero here there = held-none (here refl)
-    held-at (suc j) here there = held-next (suc j) j refl (there j refl)
+        own : (m : ℕ) → get_or ns j 0 ≡ m → (i < j) × (j < length ns) × (get_or ns j 0 ≡ suc a)
+        own zero f = absurd (omega (arith, kept-hole t ns bs l j h f))
+        own (suc k) f =
+            let up : last_up (numbered k) ns j ≡ suc i = sym (kept-member t ns bs l j h k f) ∙ e in
+            (omega (arith, up-within (numbered k) ns j), h, f ∙ sym (up-at k ns j i up) ∙ member)
 
-  pub walk-start : i < length ns → Walks ns i (get_or t (get_or ns i 0) 0)
-  walk-start h =
-      let s : ℕ → Bool = λ n. eqb n (get_or ns i 0) in
-      let up = l.says (get_or ns i 0) in
-      let least = up-least s ns (length ns) i h (eqb-same (get_or ns i 0)) in
-      record {
-        below = omega arith;
-        most = omega (arith, up-within s ns (length ns));
-        number = ap (λ p. get_or ns (p - 1) 0) up ∙ eqb-true _ _ (up-found s ns (length ns) (omega arith));
+    -- a member past it of its number has a level past it
+    past-own : (n j : ℕ) → j < n → get_or ns j 0 ≡ suc a → suc j ≤ last_up (numbered a) ns n
+    past-own n j h e = up-least (numbered a) ns n j h (ap (numbered a) e ∙ eqb-same (suc a))
+
+    -- the table says its level at its own number alone
+    own-table : (k : ℕ) → get_or t k 0 ≡ suc i → k ≡ a
+    own-table k e = omega (arith, table-at k e)
+
+    module _ (long : length bs ≡ length ns) where
+      -- the table keeps the level of one that has none of its number below it
+      pub held-none : get_or t a 0 ≡ suc i → IsHeld t bs a (suc i) 0
+      held-none here = record {
+        in_table = λ k e. (refl, own-table k e);
+        in_list = λ j e. let own = list-own long j e in absurd (omega (arith, own.0, l.says a, past-own (length ns) j own.1 own.2));
+        here = λ e. here;
+        there = λ j e. absurd (omega arith);
       }
 
-  -- so its number is in the table
-  pub walk-in : i < length ns → get_or ns i 0 < length t
-  walk-in h =
-      let w = walk-start h in
-      let b = w.below in
-      elim (cases_lt (get_or ns i 0) (length t)) as (λ _. get_or ns i 0 < length t) [ inl less ↦ less | inr past ↦ absurd (omega (arith, get_or_past t (get_or ns i 0) 0 past)) ]
+      -- else the next one keeps it, and no later one
+      later : (j k : ℕ) → get_or bs j 0 ≡ suc i → get_or bs k 0 ≡ suc i → j < k → ⊥
+      later j k e f less =
+          let upper = list-own long j e in
+          let lower = list-own long k f in
+          omega (arith, upper.0, kept-member t ns bs l k lower.1 a lower.2, past-own k j less upper.2)
 
-  pub walk-up : (p : ℕ) → Walks ns i p → suc i < p → Walks ns i (get_or bs (p - 1) 0) × (get_or bs (p - 1) 0 < p)
-  walk-up p w h =
-      let s : ℕ → Bool = λ n. eqb n (get_or ns (p - 1) 0) in
-      let most = w.most in
-      let up = l.kept (p - 1) (omega arith) in
-      let least = up-least s ns (p - 1) i (omega arith) (ap (λ n. eqb n (get_or ns (p - 1) 0)) (sym w.number) ∙ eqb-same (get_or ns (p - 1) 0)) in
-      let within = up-within s ns (p - 1) in (
+      pub held-next : (n j : ℕ) → n ≡ suc j → get_or bs j 0 ≡ suc i → IsHeld t bs a (suc i) n
+      held-next n j next here = record {
+        in_table = λ k e. absurd (not-table (ap (λ m. get_or t m 0) (sym (own-table k e)) ∙ e));
+        in_list = λ k e. one k e (cases_lt j k) (cases_lt k j);
+        here = λ e. absurd (omega arith);
+        there = λ k e. let same : j ≡ k = omega arith in ap (λ m. get_or bs m 0) (sym same) ∙ here;
+      }
+        where
+          not-table : get_or t a 0 ≢ suc i
+          not-table e = let own = list-own long j here in omega (arith, own.0, l.says a, past-own (length ns) j own.1 own.2)
+
+          one : (k : ℕ) → get_or bs k 0 ≡ suc i → (j < k) ⊎ (k ≤ j) → (k < j) ⊎ (j ≤ k) → n ≡ suc k
+          one k e (inl less) b = absurd (later j k here e less)
+          one k e (inr a) (inl less) = absurd (later k j e here less)
+          one k e (inr a) (inr b) = omega arith
+
+      -- the member that keeps it is given, or there is none
+      pub held-at : (n : ℕ) → (n ≡ 0 → get_or t a 0 ≡ suc i) → ((j : ℕ) → n ≡ suc j → get_or bs j 0 ≡ suc i) → IsHeld t bs a (suc i) n
+      held-at zero here there = held-none (here refl)
+      held-at (suc j) here there = held-next (suc j) j refl (there j refl)
+
+    pub walk-start : i < length ns → Walks ns i (get_or t a 0)
+    walk-start h =
+        let up = l.says a in
+        let least = past-own (length ns) i h member in
         record {
           below = omega arith;
-          most = omega arith;
-          number = ap (λ q. get_or ns (q - 1) 0) up ∙ eqb-true _ _ (up-found s ns (p - 1) (omega arith)) ∙ w.number;
-        },
-        omega arith,
-      )
+          most = omega (arith, up-within (numbered a) ns (length ns));
+          number = ap (λ p. get_or ns (p - 1) 0) up ∙ eqb-true _ _ (up-found (numbered a) ns (length ns) (omega arith)) ∙ sym member;
+        }
 
-  -- two neighbours that are not of one number change places
-  module _ (within : suc i < length ns) (differ : get_or ns i 0 ≢ get_or ns (suc i) 0) (u cs : List ℕ) (table : (k : ℕ) → get_or u k 0 ≡ level_after_swap i (get_or t k 0))
-      (upper : get_or cs i 0 ≡ get_or bs (suc i) 0) (lower : get_or cs (suc i) 0 ≡ get_or bs i 0) (rest : (j : ℕ) → j ≢ i → j ≢ suc i → get_or cs j 0 ≡ level_after_swap i (get_or bs j 0)) where
-    one-of : (k : ℕ) → eqb (get_or ns i 0) k ≡ true → eqb (get_or ns (suc i) 0) k ≡ false
-    one-of k e = eqb-not (get_or ns (suc i) 0) k (λ f. differ (eqb-true _ k e ∙ sym f))
+    -- so its number is in the table
+    pub walk-in : i < length ns → a < length t
+    walk-in h =
+        let b = (walk-start h).below in
+        elim (cases_lt a (length t)) as (λ _. a < length t) [ inl less ↦ less | inr past ↦ absurd (omega (arith, get_or_past t a 0 past)) ]
 
-    pub linked-swapped : IsLinked u (swap_with_next i ns) cs
-    linked-swapped = record {
-      says = λ k. table k ∙ ap (level_after_swap i) (l.says k) ∙ sym (up-swapped (λ n. eqb n k) i ns within (one-of k) (length ns) within) ∙ ap (last_up (λ n. eqb n k) (swap_with_next i ns)) (sym (swapped-length i ns));
-      kept = λ j h. kept j (let less : j < length ns = omega (arith, swapped-length i ns) in less) (cases_lt j i) (cases_lt (suc i) j) (cases_lt i j);
-    }
-      where
-        ms : List ℕ
-        ms = swap_with_next i ns
+    pub walk-up : (p : ℕ) → Walks ns i p → suc i < p → Walks ns i (get_or bs (p - 1) 0) × (get_or bs (p - 1) 0 < p)
+    walk-up p w h =
+        let most = w.most in
+        let up = kept-member t ns bs l (p - 1) (omega arith) a (w.number ∙ member) in
+        let least = past-own (p - 1) i (omega arith) member in
+        let within = up-within (numbered a) ns (p - 1) in (
+          record {
+            below = omega arith;
+            most = omega arith;
+            number = ap (λ q. get_or ns (q - 1) 0) up ∙ eqb-true _ _ (up-found (numbered a) ns (p - 1) (omega arith)) ∙ sym member;
+          },
+          omega arith,
+        )
 
-        kept : (j : ℕ) → j < length ns → (j < i) ⊎ (i ≤ j) → (suc i < j) ⊎ (j ≤ suc i) → (i < j) ⊎ (j ≤ i) → get_or cs j 0 ≡ last_up (λ n. eqb n (get_or ms j 0)) ms j
-        kept j h (inl less) b m =
-            let ne : j ≢ i = omega arith in
-            let nf : j ≢ suc i = omega arith in
-            let s : ℕ → Bool = λ n. eqb n (get_or ns j 0) in
-            let up : get_or bs j 0 ≡ last_up s ns j = l.kept j h in
-            let most = up-within s ns j in
-            let ng : get_or bs j 0 ≢ suc i = omega arith in
-            let nh : get_or bs j 0 ≢ suc (suc i) = omega arith in
-            rest j ne nf ∙ moved-other i (get_or bs j 0) ng nh ∙ up ∙ sym (up-before s i ns within j (omega arith)) ∙ ap (λ n. last_up (λ m. eqb m n) ms j) (sym (swapped-before i j ns 0 less))
-        kept j h (inr a) (inl more) m =
-            let ne : j ≢ i = omega arith in
-            let nf : j ≢ suc i = omega arith in
-            rest j ne nf ∙ ap (level_after_swap i) (l.kept j h) ∙ sym (up-swapped (λ n. eqb n (get_or ns j 0)) i ns within (one-of (get_or ns j 0)) j more) ∙ ap (λ n. last_up (λ m. eqb m n) ms j) (sym (swapped-after i j ns 0 more))
-        kept j h (inr a) (inr b) (inl m) =
-            let at : suc i ≡ j = omega arith in
-            let x = get_or ns i 0 in
-            subst (λ k. get_or cs k 0 ≡ last_up (λ n. eqb n (get_or ms k 0)) ms k) at
-            (lower ∙ l.kept i (omega arith) ∙ sym (up-before (λ n. eqb n x) i ns within i (omega arith))
-            ∙ sym (up-other (λ n. eqb n x) ms i (ap (λ n. eqb n x) (swapped-upper i ns 0 within) ∙ eqb-not _ x (λ e. differ (sym e)))) ∙ ap (λ y. last_up (λ n. eqb n y) ms (suc i)) (sym (swapped-lower i ns 0 within)))
-        kept j h (inr a) (inr b) (inr m) =
-            let at : i ≡ j = omega arith in
-            let y = get_or ns (suc i) 0 in
-            subst (λ k. get_or cs k 0 ≡ last_up (λ n. eqb n (get_or ms k 0)) ms k) at
-            (upper ∙ l.kept (suc i) within ∙ up-other (λ n. eqb n y) ns i (eqb-not _ y differ) ∙ sym (up-before (λ n. eqb n y) i ns within i (omega arith)) ∙ ap (λ x. last_up (λ n. eqb n x) ms i) (sym (swapped-upper i ns 0 within)))
+-- two members that have holes alone between them, and are not of one number, change places
+module _ (t ns bs : List ℕ) (l : IsLinked t ns bs) (i j a b : ℕ) (less : i < j) (within : j < length ns)
+    (first : get_or ns i 0 ≡ suc a) (second : get_or ns j 0 ≡ suc b) (differ : a ≢ b) (holes : AreHoles i j ns) (u cs : List ℕ)
+    (table : (k : ℕ) → get_or u k 0 ≡ level_exchanged i j (get_or t k 0)) (upper : get_or cs i 0 ≡ get_or bs j 0)
+    (lower : get_or cs j 0 ≡ get_or bs i 0) (rest : (m : ℕ) → m ≢ i → m ≢ j → get_or cs m 0 ≡ level_exchanged i j (get_or bs m 0)) where
+  abbrev after : List ℕ
+  after = exchanged i j 0 ns
 
-  -- a number that is nowhere else gives way to one that is nowhere
-  module _ (within : i < length ns) (new : ℕ) (new_in : new < length t) (none_above : get_or bs i 0 ≡ 0) (none_below : get_or t (get_or ns i 0) 0 ≡ suc i) (fresh : get_or t new 0 ≡ 0) where
-    abbrev pub old : ℕ
-    old = get_or ns i 0
+  -- where a number is last
+  one-of : (k : ℕ) → numbered k (get_or ns i 0) ≡ true → numbered k (get_or ns j 0) ≡ false
+  one-of k e = eqb-not (get_or ns j 0) (suc k) (λ f. let g : get_or ns i 0 ≡ suc k = eqb-true _ (suc k) e in differ (omega arith))
 
-    abbrev pub ms : List ℕ
-    ms = set ns i new
+  swapped : (k n : ℕ) → j < n → last_up (numbered k) after n ≡ level_exchanged i j (last_up (numbered k) ns n)
+  swapped k n h = up-swapped (numbered k) (eqb-zero-suc k) i j ns less within holes (one-of k) n h
 
-    there : get_or ms i 0 ≡ new
-    there = get_or-set_same ns i new 0 within
+  before : (k n : ℕ) → n ≤ i → last_up (numbered k) after n ≡ last_up (numbered k) ns n
+  before k n h = up-before (numbered k) (eqb-zero-suc k) i j ns less within holes n h
 
-    elsewhere : (j : ℕ) → j ≢ i → get_or ms j 0 ≡ get_or ns j 0
-    elsewhere j ne = get_or-set_other ns i j new 0 ne
+  -- what the two keep
+  upper-keeps : get_or cs i 0 ≡ last_same after i
+  upper-keeps =
+      upper ∙ kept-member t ns bs l j within b second ∙ up-holes (numbered b) (eqb-zero-suc b) i j ns less within holes
+      ∙ up-other (numbered b) ns i (eqb-not (get_or ns i 0) (suc b) (λ e. differ (omega arith))) ∙ sym (before b i (omega arith))
+      ∙ sym (same-member after i b (exchanged-upper i j 0 ns less within ∙ second))
 
-    not-new : (j : ℕ) → j < length ns → eqb (get_or ns j 0) new ≡ false
-    not-new j h = elim (cases_Bool (eqb (get_or ns j 0) new)) [ inl e ↦ absurd (omega (arith, l.says new, up-least (λ n. eqb n new) ns (length ns) j h e)) | inr e ↦ e ]
+  lower-keeps : get_or cs j 0 ≡ last_same after j
+  lower-keeps =
+      lower ∙ kept-member t ns bs l i (omega arith) a first ∙ sym (before a i (omega arith))
+      ∙ sym (up-other (numbered a) after i (eqb-not (get_or after i 0) (suc a) (λ e. differ (omega (arith, exchanged-upper i j 0 ns less within)))))
+      ∙ sym (up-between (numbered a) (eqb-zero-suc a) i j ns less within holes) ∙ sym (same-member after j a (exchanged-lower i j 0 ns within ∙ first))
 
-    not-old : (j : ℕ) → j < length ns → j ≢ i → eqb (get_or ns j 0) old ≡ false
-    not-old j h ne = grind (arith, cases_Bool, up-least, nat_tests)
+  -- and the others
+  rest-keeps : (m : ℕ) → m < length ns → m ≢ i → m ≢ j → get_or cs m 0 ≡ last_same after m
+  rest-keeps m h ne nf = same-from after m (get_or cs m 0)
+      (λ e. let none : get_or bs m 0 ≡ 0 = kept-hole t ns bs l m h (sym apart ∙ e) in rest m ne nf ∙ unmoved (omega arith) ∙ none)
+      (λ k e. rest m ne nf ∙ number k (sym apart ∙ e) (cases_lt m i) (cases_lt j m))
+    where
+      apart : get_or after m 0 ≡ get_or ns m 0
+      apart = exchanged-apart i j 0 ns m ne nf
 
-    -- each of the others is sought as before
-    other : (k j : ℕ) → eqb new k ≡ false → eqb old k ≡ false → eqb (get_or ms j 0) k ≡ eqb (get_or ns j 0) k
-    other k j a b = grind (arith, cases_Bool (eqb j i), elsewhere, there, nat_tests)
+      unmoved : get_or bs m 0 ≤ i → level_exchanged i j (get_or bs m 0) ≡ get_or bs m 0
+      unmoved low = moved-other i j (get_or bs m 0) (λ e. absurd (omega arith)) (λ e. absurd (omega arith))
 
-    many : length ms ≡ length ns
-    many = length-set ns i new
+      number : (k : ℕ) → get_or ns m 0 ≡ suc k → (m < i) ⊎ (i ≤ m) → (j < m) ⊎ (m ≤ j) → level_exchanged i j (get_or bs m 0) ≡ last_up (numbered k) after m
+      number k e (inl above) d =
+          let is = kept-member t ns bs l m h k e in
+          unmoved (omega (arith, up-within (numbered k) ns m)) ∙ is ∙ sym (before k m (omega arith))
+      number k e (inr a) (inl below) = ap (level_exchanged i j) (kept-member t ns bs l m h k e) ∙ sym (swapped k m below)
+      number k e (inr a) (inr b) = absurd (omega (arith, holes m (omega arith) (omega arith)))
 
-    old_in : old < length t
-    old_in = elim (cases_lt old (length t)) [ inl less ↦ less | inr past ↦ absurd (omega (arith, get_or_past t old 0 past)) ]
+  pub linked-swapped : IsLinked u (exchanged i j 0 ns) cs
+  linked-swapped = record {
+    says = λ k. table k ∙ ap (level_exchanged i j) (l.says k) ∙ sym (swapped k (length ns) within) ∙ ap (last_up (numbered k) after) (sym many);
+    kept = λ m h. either Keeps i m upper-keeps (λ ne. either Keeps j m lower-keeps (λ nf. rest-keeps m (omega (arith, many)) ne nf));
+  }
+    where
+      many : length after ≡ length ns
+      many = exchanged-length i j 0 ns
 
-    pub linked-fresh : IsLinked (set (set t old 0) new (suc i)) ms bs
-    linked-fresh = record { says = λ k. says k (cases_Bool (eqb new k)) (cases_Bool (eqb old k)); kept = λ j h. kept j (let less : j < length ns = omega (arith, many) in less) (cases_lt j i) (cases_lt i j) }
-      where
-        says : (k : ℕ) → (eqb new k ≡ true) ⊎ (eqb new k ≡ false) → (eqb old k ≡ true) ⊎ (eqb old k ≡ false) → get_or (set (set t old 0) new (suc i)) k 0 ≡ last_up (λ n. eqb n k) ms (length ms)
-        says k (inl a) b =
-            let same : new ≡ k = eqb-true new k a in
-            let past : last_up (λ n. eqb n new) ms (length ms) ≡ last_up (λ n. eqb n new) ms (suc i) =
-            up-past (λ n. eqb n new) ms (suc i) (length ms) (omega (arith, many)) (λ j more less. let ne : j ≢ i = omega arith in ap (λ n. eqb n new) (elsewhere j ne) ∙ not-new j (omega (arith, many))) in
-            subst (λ k. get_or (set (set t old 0) new (suc i)) k 0 ≡ last_up (λ n. eqb n k) ms (length ms)) same
-            (get_or-set_same (set t old 0) new (suc i) 0 (omega (arith, length-set t old 0)) ∙ sym (past ∙ up-sought (λ n. eqb n new) ms i (ap (λ n. eqb n new) there ∙ eqb-same new)))
-        says k (inr a) (inl b) =
-            let same : old ≡ k = eqb-true old k b in
-            let ne : old ≢ new = λ e. true≢false (sym (ap (λ n. eqb n k) (sym e) ∙ b) ∙ a) in
-            let none : last_up (λ n. eqb n old) ms (length ms) ≡ 0 =
-            up-past (λ n. eqb n old) ms 0 (length ms) (omega arith) (λ j more less. elim (cases_lt j i) as (λ _. eqb (get_or ms j 0) old ≡ false) [ inl f ↦ nothing j less (let ng : j ≢ i = omega arith in ng) | inr f ↦ elim (cases_lt i j) as (λ _. eqb (get_or ms j 0) old ≡ false) [ inl g ↦ nothing j less (let ng : j ≢ i = omega arith in ng) | inr g ↦ at j (let e : i ≡ j = omega arith in e) ne ] ]) in
-            subst (λ k. get_or (set (set t old 0) new (suc i)) k 0 ≡ last_up (λ n. eqb n k) ms (length ms)) same
-            (get_or-set_other (set t old 0) new old (suc i) 0 ne ∙ get_or-set_same t old 0 0 old_in ∙ sym none)
-          where
-            nothing : (j : ℕ) → j < length ms → j ≢ i → eqb (get_or ms j 0) old ≡ false
-            nothing j less ne = ap (λ n. eqb n old) (elsewhere j ne) ∙ not-old j (omega (arith, many)) ne
+      Keeps : ℕ → Type 0
+      Keeps m = get_or cs m 0 ≡ last_same after m
 
-            at : (j : ℕ) → i ≡ j → old ≢ new → eqb (get_or ms j 0) old ≡ false
-            at j e ne = ap (λ m. eqb (get_or ms m 0) old) (sym e) ∙ ap (λ n. eqb n old) there ∙ eqb-not new old (λ f. ne (sym f))
-        says k (inr a) (inr b) =
-            get_or-set_other (set t old 0) new k (suc i) 0 (λ e. eqb-false new k a (sym e)) ∙ get_or-set_other t old k 0 0 (λ e. eqb-false old k b (sym e)) ∙ l.says k
-            ∙ ap (last_up (λ n. eqb n k) ns) (sym many) ∙ sym (up-alike (λ n. eqb n k) ns ms (length ms) (λ j h. other k j a b))
+-- where a number is last, once a member has left a hole
+module _ (s : ℕ → Bool) (hole : s 0 ≡ false) (i : ℕ) (ns : List ℕ) (within : i < length ns) where
+  up-above : (n : ℕ) → n ≤ i → last_up s (set ns i 0) n ≡ last_up s ns n
+  up-above n h = up-alike s ns (set ns i 0) n (λ m less. ap s (get_or-set_other ns i m 0 0 (λ e. absurd (omega arith))))
 
-        kept : (j : ℕ) → j < length ns → (j < i) ⊎ (i ≤ j) → (i < j) ⊎ (j ≤ i) → get_or bs j 0 ≡ last_up (λ n. eqb n (get_or ms j 0)) ms j
-        kept j h (inl less) m =
-            let ne : j ≢ i = omega arith in
-            l.kept j h ∙ sym (up-alike (λ n. eqb n (get_or ns j 0)) ns ms j (λ k f. let ng : k ≢ i = omega arith in ap (λ n. eqb n (get_or ns j 0)) (elsewhere k ng)))
-            ∙ ap (λ y. last_up (λ n. eqb n y) ms j) (sym (elsewhere j ne))
-        kept j h (inr a) (inl more) =
-            let ne : j ≢ i = omega arith in
-            let f : eqb new (get_or ns j 0) ≡ false = eqb-not new (get_or ns j 0) (λ e. eqb-false (get_or ns j 0) new (not-new j h) (sym e)) in
-            let g : eqb old (get_or ns j 0) ≡ false = eqb-not old (get_or ns j 0) (λ e. eqb-false (get_or ns j 0) old (not-old j h ne) (sym e)) in
-            l.kept j h ∙ sym (up-alike (λ n. eqb n (get_or ns j 0)) ns ms j (λ k _. other (get_or ns j 0) k f g)) ∙ ap (λ y. last_up (λ n. eqb n y) ms j) (sym (elsewhere j ne))
-        kept j h (inr a) (inr b) =
-            let at : i ≡ j = omega arith in
-            subst (λ k. get_or bs k 0 ≡ last_up (λ n. eqb n (get_or ms k 0)) ms k) at
-            (none_above ∙ sym (up-past (λ n. eqb n new) ms 0 i (omega arith) (λ k more less. let ne : k ≢ i = omega arith in ap (λ n. eqb n new) (elsewhere k ne) ∙ not-new k (omega arith))) ∙ ap (λ y. last_up (λ n. eqb n y) ms i) (sym there))
+  at-hole : last_up s (set ns i 0) (suc i) ≡ last_up s ns i
+  at-hole = up-other s (set ns i 0) i (ap s (get_or-set_same ns i 0 0 within) ∙ hole) ∙ up-above i (omega arith)
+
+  up-left : (n : ℕ) → i < n → last_up s (set ns i 0) n ≡ level_left i (last_up s ns i) (last_up s ns n)
+  up-left zero h = absurd (omega arith)
+  up-left (suc n) h = grind (arith, up-left n, up-sought, up-other, up-within s ns i, get_or-set_other, cases_Bool, at-hole, nat_tests)
+
+-- a member leaves a hole, and the one that kept its level keeps what it kept
+module _ (t ns bs : List ℕ) (l : IsLinked t ns bs) (i a next : ℕ) (within : i < length ns) (held : IsHeld t bs a (suc i) next) (u cs : List ℕ)
+    (table : (k : ℕ) → get_or u k 0 ≡ cond (eqb next 0 && eqb k a) (get_or bs i 0) (get_or t k 0))
+    (list : (m : ℕ) → m ≢ i → get_or cs m 0 ≡ cond (eqb next (suc m)) (get_or bs i 0) (get_or bs m 0)) (gone : get_or cs i 0 ≡ 0) where
+  abbrev left : List ℕ
+  left = set ns i 0
+
+  -- where a number is last past the hole
+  left-past : (k n : ℕ) → i < n → level_left i (get_or bs i 0) (last_up (numbered k) ns n) ≡ last_up (numbered k) left n
+  left-past k n h = go (cases_eq (last_up (numbered k) ns n) (suc i)) ∙ sym (up-left (numbered k) (eqb-zero-suc k) i ns within n h)
+    where
+      p : ℕ
+      p = last_up (numbered k) ns n
+
+      go : (p ≡ suc i) ⊎ (p ≢ suc i) → level_left i (get_or bs i 0) p ≡ level_left i (last_up (numbered k) ns i) p
+      go (inl e) = ap (λ b. level_left i b p) (kept-member t ns bs l i within k (up-at k ns n i e))
+      go (inr ne) = left-other i (get_or bs i 0) p ne ∙ sym (left-other i (last_up (numbered k) ns i) p ne)
+
+  rest-left : (m : ℕ) → m < length ns → m ≢ i → get_or cs m 0 ≡ last_same left m
+  rest-left m h ne = same-from left m (get_or cs m 0)
+      (λ e. let none : get_or bs m 0 ≡ 0 = kept-hole t ns bs l m h (sym apart ∙ e) in level ∙ unmoved (omega arith) ∙ none)
+      (λ k e. level ∙ number k (sym apart ∙ e) (cases_lt m i))
+    where
+      apart : get_or left m 0 ≡ get_or ns m 0
+      apart = get_or-set_other ns i m 0 0 ne
+
+      level : get_or cs m 0 ≡ level_left i (get_or bs i 0) (get_or bs m 0)
+      level = list m ne ∙ left-list t bs i a next (get_or bs i 0) held m
+
+      unmoved : get_or bs m 0 ≤ i → level_left i (get_or bs i 0) (get_or bs m 0) ≡ get_or bs m 0
+      unmoved low = left-other i (get_or bs i 0) (get_or bs m 0) (λ e. absurd (omega arith))
+
+      number : (k : ℕ) → get_or ns m 0 ≡ suc k → (m < i) ⊎ (i ≤ m) → level_left i (get_or bs i 0) (get_or bs m 0) ≡ last_up (numbered k) left m
+      number k e (inl above) =
+          let is = kept-member t ns bs l m h k e in
+          unmoved (omega (arith, up-within (numbered k) ns m)) ∙ is ∙ sym (up-above (numbered k) (eqb-zero-suc k) i ns within m (omega arith))
+      number k e (inr past) = ap (level_left i (get_or bs i 0)) (kept-member t ns bs l m h k e) ∙ left-past k m (omega arith)
+
+  pub linked-left : IsLinked u (set ns i 0) cs
+  linked-left = record {
+    says = λ k. table k ∙ left-table t bs i a next (get_or bs i 0) held k ∙ ap (level_left i (get_or bs i 0)) (l.says k) ∙ left-past k (length ns) within
+        ∙ ap (last_up (numbered k) left) (sym many);
+    kept = λ m h. either (λ p. get_or cs p 0 ≡ last_same left p) i m hole-keeps (λ ne. rest-left m (omega (arith, many)) ne);
+  }
+    where
+      many : length left ≡ length ns
+      many = length-set ns i 0
+
+      hole-keeps : get_or cs i 0 ≡ last_same left i
+      hole-keeps = gone ∙ sym (same-hole left i (get_or-set_same ns i 0 0 within))
+
+-- a hole is filled with a number that is nowhere
+module _ (t ns bs : List ℕ) (l : IsLinked t ns bs) (i new : ℕ) (within : i < length ns) (new_in : new < length t)
+    (empty : get_or ns i 0 ≡ 0) (fresh : get_or t new 0 ≡ 0) where
+  abbrev filled : List ℕ
+  filled = set ns i (suc new)
+
+  there : get_or filled i 0 ≡ suc new
+  there = get_or-set_same ns i (suc new) 0 within
+
+  elsewhere : (m : ℕ) → m ≢ i → get_or filled m 0 ≡ get_or ns m 0
+  elsewhere m ne = get_or-set_other ns i m (suc new) 0 ne
+
+  not-new : (m : ℕ) → m < length ns → numbered new (get_or ns m 0) ≡ false
+  not-new m h = elim (cases_Bool (numbered new (get_or ns m 0))) [
+    | inl e ↦ absurd (omega (arith, l.says new, up-least (numbered new) ns (length ns) m h e))
+    | inr e ↦ e
+  ]
+
+  still-not : (m : ℕ) → m < length ns → m ≢ i → numbered new (get_or filled m 0) ≡ false
+  still-not m h ne = ap (numbered new) (elsewhere m ne) ∙ not-new m h
+
+  -- the new number is last there, and nowhere before
+  new-up : last_up (numbered new) filled (length ns) ≡ suc i
+  new-up =
+      up-past (numbered new) filled (suc i) (length ns) within (λ m a b. still-not m b (λ e. absurd (omega arith)))
+      ∙ up-sought (numbered new) filled i (ap (numbered new) there ∙ eqb-same (suc new))
+
+  new-before : last_up (numbered new) filled i ≡ 0
+  new-before = up-past (numbered new) filled 0 i (omega arith) (λ m a b. still-not m (omega arith) (λ e. absurd (omega arith)))
+
+  -- another number is last where it was
+  up-filled : (k n : ℕ) → k ≢ new → last_up (numbered k) filled n ≡ last_up (numbered k) ns n
+  up-filled k n ne = up-alike (numbered k) ns filled n
+      (λ m h. either (λ p. numbered k (get_or filled p 0) ≡ numbered k (get_or ns p 0)) i m here (λ nf. ap (numbered k) (elsewhere m nf)))
+    where
+      here : numbered k (get_or filled i 0) ≡ numbered k (get_or ns i 0)
+      here = ap (numbered k) there ∙ eqb-not (suc new) (suc k) (λ e. ne (omega arith)) ∙ sym (ap (numbered k) empty ∙ eqb-zero-suc k)
+
+  rest-filled : (m : ℕ) → m < length ns → m ≢ i → get_or bs m 0 ≡ last_same filled m
+  rest-filled m h ne = same-from filled m (get_or bs m 0) (λ e. kept-hole t ns bs l m h (sym (elsewhere m ne) ∙ e))
+      (λ k e. number k (sym (elsewhere m ne) ∙ e))
+    where
+      number : (k : ℕ) → get_or ns m 0 ≡ suc k → get_or bs m 0 ≡ last_up (numbered k) filled m
+      number k e = kept-member t ns bs l m h k e ∙ sym (up-filled k m (λ f. eqb-false (get_or ns m 0) (suc new) (not-new m h) (omega arith)))
+
+  filled-keeps : get_or bs i 0 ≡ last_same filled i
+  filled-keeps = kept-hole t ns bs l i within empty ∙ sym new-before ∙ sym (same-member filled i new there)
+
+  filled-says : (k : ℕ) → get_or (set t new (suc i)) k 0 ≡ last_up (numbered k) filled (length ns)
+  filled-says k = either (λ m. get_or (set t new (suc i)) m 0 ≡ last_up (numbered m) filled (length ns)) new k
+      (get_or-set_same t new (suc i) 0 new_in ∙ sym new-up)
+      (λ ne. get_or-set_other t new k (suc i) 0 ne ∙ l.says k ∙ sym (up-filled k (length ns) ne))
+
+  pub linked-filled : IsLinked (set t new (suc i)) (set ns i (suc new)) bs
+  linked-filled = record {
+    says = λ k. filled-says k ∙ ap (last_up (numbered k) filled) (sym many);
+    kept = λ m h. either (λ p. get_or bs p 0 ≡ last_same filled p) i m filled-keeps (λ ne. rest-filled m (omega (arith, many)) ne);
+  }
+    where
+      many : length filled ≡ length ns
+      many = length-set ns i (suc new)
+
+-- one entry is written
+get-set : (t : List ℕ) (a v k : ℕ) → a < length t → get_or (set t a v) k 0 ≡ cond (eqb k a) v (get_or t k 0)
+get-set t a v k h = grind (arith, cases_Bool, get_or-set_same, get_or-set_other, nat_tests)
+
+-- a number that is nowhere else gives way to one that is nowhere
+module _ (t ns bs : List ℕ) (l : IsLinked t ns bs) (i old : ℕ) (member : get_or ns i 0 ≡ suc old) (long : length bs ≡ length ns) (within : i < length ns)
+    (new : ℕ) (new_in : new < length t) (none_above : get_or bs i 0 ≡ 0) (none_below : get_or t old 0 ≡ suc i) (fresh : get_or t new 0 ≡ 0) where
+  -- first the old one leaves a hole
+  left-alone : IsLinked (set t old 0) (set ns i 0) bs
+  left-alone = linked-left t ns bs l i old 0 within (held-none t ns bs l i old member long none_below) (set t old 0) bs
+      (λ k. get-set t old 0 k (walk-in t ns bs l i old member within) ∙ ap (λ b. cond (eqb k old) b (get_or t k 0)) (sym none_above))
+      (λ m ne. sym (ap (λ v. cond v (get_or bs i 0) (get_or bs m 0)) (eqb-zero-suc m))) none_above
+
+  still-fresh : get_or (set t old 0) new 0 ≡ 0
+  still-fresh = get_or-set_other t old new 0 0 (λ e. absurd (omega (arith, ap (λ k. get_or t k 0) e))) ∙ fresh
+
+  pub linked-fresh : IsLinked (set (set t old 0) new (suc i)) (set ns i (suc new)) bs
+  linked-fresh =
+      subst (λ xs. IsLinked (set (set t old 0) new (suc i)) xs bs) (set-set ns i 0 (suc new))
+      (linked-filled (set t old 0) (set ns i 0) bs left-alone i new (omega (arith, length-set ns i 0)) (omega (arith, length-set t old 0))
+      (get_or-set_same ns i 0 0 within) still-fresh)
+
+-- two members that have holes alone between them, and are nowhere below, change places
+module _ (t ns bs : List ℕ) (l : IsLinked t ns bs) (long : length bs ≡ length ns) (i j a b : ℕ) (less : i < j) (within : j < length ns)
+    (first : get_or ns i 0 ≡ suc a) (second : get_or ns j 0 ≡ suc b) (holes : AreHoles i j ns)
+    (upper : get_or t a 0 ≡ suc i) (lower : get_or t b 0 ≡ suc j) where
+  abbrev table : List ℕ
+  table = set (set t a (suc j)) b (suc i)
+
+  held-upper : IsHeld t bs a (suc i) 0
+  held-upper = held-none t ns bs l i a first long upper
+
+  held-lower : IsHeld t bs b (suc j) 0
+  held-lower = held-none t ns bs l j b second long lower
+
+  table-alone : (k : ℕ) → get_or table k 0 ≡ level_exchanged i j (get_or t k 0)
+  table-alone k =
+      get-set (set t a (suc j)) b (suc i) k (omega (arith, length-set t a (suc j), walk-in t ns bs l j b second within))
+      ∙ ap (cond (eqb k b) (suc i)) (get-set t a (suc j) k (walk-in t ns bs l i a first (omega arith)))
+      ∙ moved-table t bs i j a b 0 0 (suc i) (suc j) less refl refl held-upper held-lower k
+
+  list-alone : (m : ℕ) → get_or bs m 0 ≡ level_exchanged i j (get_or bs m 0)
+  list-alone m =
+      sym (moved-other i j (get_or bs m 0) (λ e. absurd (omega (arith, held-upper.in_list m e))) (λ e. absurd (omega (arith, held-lower.in_list m e))))
+
+  differ : a ≢ b
+  differ e = omega (arith, ap (λ n. get_or t n 0) e)
+
+  pub linked-alone : IsLinked (set (set t a (suc j)) b (suc i)) (exchanged i j 0 ns) (exchanged i j 0 bs)
+  linked-alone = linked-swapped t ns bs l i j a b less within first second differ holes table (exchanged i j 0 bs) table-alone
+      (exchanged-upper i j 0 bs less (omega arith)) (exchanged-lower i j 0 bs (omega arith)) (λ m ne nf. exchanged-apart i j 0 bs m ne nf ∙ list-alone m)

@@ -7,11 +7,13 @@ written_back new old n lent same is long = grind (arith, take-append_seam, lengt
 
 -- where tables say the same levels of the same items, these are in them
 pub stands_same : (old new : LastLevels) (xs ys : List KeptNode) → ((k : ℕ) → slice_index new.names.items k ≡ slice_index old.names.items k) → ((k : ℕ) → slice_index new.nodes.items k ≡ slice_index old.nodes.items k)
-    → (length old.nodes.items < 2 ^ 32 → length new.nodes.items < 2 ^ 32) → ys ≡ xs → Stands old xs → Stands new ys
-stands_same old new xs ys names nodes fits same s =
+    → (length old.nodes.items < 2 ^ 32 → length new.nodes.items < 2 ^ 32) → new.must_close ≡ old.must_close → ys ≡ xs → Stands old xs → Stands new ys
+stands_same old new xs ys names nodes fits must_close same s =
     subst (Stands new) (sym same) (record {
       names = record { says = λ k. names k ∙ s.names.says k; kept = s.names.kept };
       nodes = record { says = λ k. nodes k ∙ s.nodes.says k; kept = s.nodes.kept };
       sets = s.sets;
+      kinds = s.kinds;
+      closes = must_close ∙ s.closes;
       fits = fits s.fits;
     })

@@ -1,19 +1,30 @@
--- What is kept of the open nodes, so that no question has to search them. In a vector of items the current node is the last.
-use Rattle.std.specs.Prelude.{◌≡◌, ℕ, zero, suc, false, ◌+◌, ◌<◌, ◌^◌, ◌==◌, List, [], ◌∷◌, length, map, reverse, slice_index, if◌then◌else◌}
+-- What is kept of the open nodes, so that no question has to search them. A vector has a slot for each of them, the current node's last; where a node
+-- has left from above others, its slot is a hole.
+use Rattle.std.specs.Prelude.{◌≡◌, ◌≢◌, ℕ, zero, suc, Bool, true, false, ◌+◌, ◌<◌, ◌^◌, ◌==◌, List, [], ◌∷◌, Option, Some, None, length, map, reverse}
+use Rattle.std.specs.Prelude.{slice_index, slice_index_or, slice_set, if◌then◌else◌}
 use Rattle.hopen.specs.Stack.{OpenNode}
 use Rattle.hopen.specs.Opens.{open_of}
 use Rattle.hopen.specs.NameSets.{is_in, set_node}
+use Rattle.hopen.specs.Slots.{somes}
 use Rattle.hnodes.specs.Chains.{last_up}
 use Rattle.names.specs.Sets.{is_special, may_stay_open}
 use Rattle.names.specs.Tags.{tag_of}
 use Rattle.hopen.specs.declared.kept.KeptNode.{KeptNode}
+use Rattle.hopen.specs.declared.kept.Kind.{Kind}
+use Rattle.hopen.specs.declared.kept.Kind.TheVariants as kind
 use Rattle.hopen.specs.declared.kept.LastLevels.{LastLevels}
 use Rattle.hopen.specs.declared.name_sets.NameSet.{NameSet}
 use Rattle.hopen.specs.declared.name_sets.SetNodes.{SetNodes}
 use Rattle.hopen.specs.declared.stack.Open.{Open}
 
-abbrev pub opened_by : KeptNode → OpenNode ℕ
-opened_by x = open_of x.opened
+abbrev pub is_hole : Kind → Bool
+is_hole kind.Hole = true
+is_hole kind.MayStay = false
+is_hole kind.MustClose = false
+
+-- the node that is open in a slot; none in a hole
+abbrev pub opened_by : KeptNode → Option (OpenNode ℕ)
+opened_by x = if is_hole x.kind then None else Some (open_of x.opened)
 
 abbrev pub same_name_of : KeptNode → ℕ
 same_name_of x = x.same_name
@@ -24,68 +35,95 @@ same_node_of x = x.same_node
 abbrev pub sets_at : KeptNode → SetNodes
 sets_at x = x.sets
 
--- 1 if one that must be closed is kept, else 0
-abbrev pub must_close_in : SetNodes → ℕ
-must_close_in p = if p.must_close == 0 then 0 else 1
+abbrev pub kind_at : KeptNode → Kind
+kind_at x = x.kind
+
+-- the slots of a vector, the current node's first
+abbrev pub slots_of : List KeptNode → List (Option (OpenNode ℕ))
+slots_of items = reverse (map opened_by items)
 
 -- the nodes that a vector has open, the current one first
 abbrev pub stack_of : List KeptNode → List (OpenNode ℕ)
-stack_of items = reverse (map opened_by items)
+stack_of items = somes (slots_of items)
 
-abbrev pub name_of : OpenNode ℕ → ℕ
-name_of y = y.name
+-- the number after that of the name in a slot; 0 in a hole
+abbrev pub name_in : Option (OpenNode ℕ) → ℕ
+name_in None = 0
+name_in (Some y) = suc y.name
 
-abbrev pub node_of : OpenNode ℕ → ℕ
-node_of y = y.node
+-- the same of the node
+abbrev pub node_in : Option (OpenNode ℕ) → ℕ
+node_in None = 0
+node_in (Some y) = suc y.node
 
-abbrev pub names_in : List (OpenNode ℕ) → List ℕ
-names_in ys = map name_of ys
+abbrev pub names_in : List (Option (OpenNode ℕ)) → List ℕ
+names_in ys = map name_in ys
 
-abbrev pub nodes_in : List (OpenNode ℕ) → List ℕ
-nodes_in ys = map node_of ys
+abbrev pub nodes_in : List (Option (OpenNode ℕ)) → List ℕ
+nodes_in ys = map node_in ys
 
--- A table says where each number is last in a list, and each member of the list keeps where its number is last before it. Levels
--- count from 1; 0 is none.
+-- where the number of a member is last before it; 0 for a hole
+abbrev pub last_same : List ℕ → ℕ → ℕ
+last_same numbers j = if slice_index numbers j == 0 then 0 else last_up (λ n. n == slice_index numbers j) numbers j
+
+-- A table says where each number is last in a list, in which 0 is a hole and each number is one more, and each member of the list keeps where its number
+-- is last before it. Levels count from 1; 0 is none.
 pub record IsLinked (table numbers befores : List ℕ) : Type 0 where
-  pub says : (k : ℕ) → slice_index table k ≡ last_up (λ n. n == k) numbers (length numbers)
-  pub kept : (j : ℕ) → j < length numbers → slice_index befores j ≡ last_up (λ n. n == slice_index numbers j) numbers j
+  pub says : (k : ℕ) → slice_index table k ≡ last_up (λ n. n == suc k) numbers (length numbers)
+  pub kept : (j : ℕ) → j < length numbers → slice_index befores j ≡ last_same numbers j
 
--- what each of a list keeps, if a step makes it of that one and of what the one before it keeps
-abbrev pub kept_by : (OpenNode ℕ → ℕ → ℕ) → (first : ℕ) → List (OpenNode ℕ) → List ℕ
-kept_by step before [] = []
-kept_by step before (y ∷ ys) = step y before ∷ kept_by step (step y before) ys
+-- from a slot on upwards, the nearest node of a set, by the number after its own, if this is that of the slots above; 0 is none
+abbrev pub nearest_in : NameSet → Option (OpenNode ℕ) → (above : ℕ) → ℕ
+nearest_in set None above = above
+nearest_in set (Some y) above = if is_in set y then suc y.node else above
 
--- from a node on upwards, the nearest one of a set, by the number after its own; 0 is none
-abbrev pub nearest_in : NameSet → OpenNode ℕ → (above : ℕ) → ℕ
-nearest_in set y above = if is_in set y then suc y.node else above
+-- the same of the first slots, as many as are given
+abbrev pub nearest_up : NameSet → List (Option (OpenNode ℕ)) → ℕ → ℕ
+nearest_up set ys zero = 0
+nearest_up set ys (suc n) = nearest_in set (slice_index_or ys n None) (nearest_up set ys n)
 
--- and whether any may not be open at the end of the body
-abbrev pub closing : OpenNode ℕ → (above : ℕ) → ℕ
-closing y above = if may_stay_open (tag_of y.name) then above else 1
+-- each slot that is no hole keeps that of the slots down to it
+abbrev pub KeepSets : List (Option (OpenNode ℕ)) → List SetNodes → Type 0
+KeepSets ys sets = (set : NameSet) (n : ℕ) → n < length ys → slice_index_or ys n None ≢ None → slice_index (map (set_node set) sets) n ≡ nearest_up set ys (suc n)
 
--- the topmost one first, each of these nodes keeps that
-pub record KeepSets (ys : List (OpenNode ℕ)) (sets : List SetNodes) : Type 0 where
-  pub nodes : (set : NameSet) → map (set_node set) sets ≡ kept_by (nearest_in set) 0 ys
-  pub must_close : map must_close_in sets ≡ kept_by closing 0 ys
+-- what a slot is
+abbrev pub kind_of : Option (OpenNode ℕ) → Kind
+kind_of None = kind.Hole
+kind_of (Some y) = if may_stay_open (tag_of y.name) then kind.MayStay else kind.MustClose
 
--- what the item above an index keeps; 0 if there is none
-abbrev pub kept_above : (SetNodes → ℕ) → List KeptNode → ℕ → ℕ
-kept_above f items index = slice_index (0 ∷ map f (map sets_at items)) index
+-- 1 for a slot whose node may not be open at the end of the body
+abbrev pub closing : Kind → ℕ
+closing kind.Hole = 0
+closing kind.MayStay = 0
+closing kind.MustClose = 1
 
--- that is what a node at an index is to keep
-pub record KeepsFrom (items : List KeptNode) (index : ℕ) (y : OpenNode ℕ) (p : SetNodes) : Type 0 where
-  pub nodes : (set : NameSet) → set_node set p ≡ nearest_in set y (kept_above (set_node set) items index)
-  pub must_close : must_close_in p ≡ closing y (kept_above must_close_in items index)
+-- how many nodes may not be
+abbrev pub closing_in : List Kind → ℕ
+closing_in [] = 0
+closing_in (k ∷ kinds) = closing k + closing_in kinds
 
--- what is kept of these nodes is right, and so is what each of them keeps
-pub record StandsAs (last : LastLevels) (ys : List (OpenNode ℕ)) (same_names same_nodes : List ℕ) (kept : List SetNodes) : Type 0 where
+-- what is kept of these slots is right, and so is what each of them keeps
+pub record StandsAs (last : LastLevels) (ys : List (Option (OpenNode ℕ))) (same_names same_nodes : List ℕ) (kept : List SetNodes) (ks : List Kind) : Type 0 where
   pub names : IsLinked last.names.items (names_in ys) same_names
   pub nodes : IsLinked last.nodes.items (nodes_in ys) same_nodes
   pub sets : KeepSets ys kept
+  pub kinds : ks ≡ map kind_of ys
+  pub closes : last.must_close ≡ closing_in ks
   pub fits : length last.nodes.items < 2 ^ 32
 
 abbrev pub Stands : LastLevels → List KeptNode → Type 0
-Stands last items = StandsAs last (map opened_by items) (map same_name_of items) (map same_node_of items) (map sets_at items)
+Stands last items = StandsAs last (map opened_by items) (map same_name_of items) (map same_node_of items) (map sets_at items) (map kind_at items)
+
+-- the last slot is no hole
+abbrev pub EndsOpen : List (Option (OpenNode ℕ)) → Type 0
+EndsOpen ys = (k : ℕ) → length ys ≡ suc k → slice_index_or ys k None ≢ None
+
+-- All of that between two calls: the last slot is no hole, and the holes are counted.
+pub record Rests (last : LastLevels) (items : List KeptNode) : Type 0 where
+  pub stands : Stands last items
+  pub ends : EndsOpen (map opened_by items)
+  pub holes : last.holes + length (stack_of items) ≡ length items
+  pub levels : length items < 2 ^ 32
 
 -- a level is kept just by the member at an index, from 1, or where that is 0, just by the table at a number
 pub record IsHeld (table befores : List ℕ) (number level next : ℕ) : Type 0 where
@@ -94,54 +132,66 @@ pub record IsHeld (table befores : List ℕ) (number level next : ℕ) : Type 0 
   pub here : next ≡ 0 → slice_index table number ≡ level
   pub there : (j : ℕ) → next ≡ suc j → slice_index befores j ≡ level
 
--- the members at an index and at the next one change places
-abbrev pub swap_with_next : {X : Type 0} → ℕ → List X → List X
-swap_with_next zero (x ∷ y ∷ xs) = y ∷ x ∷ xs
-swap_with_next (suc i) (x ∷ xs) = x ∷ swap_with_next i xs
-swap_with_next i xs = xs
+-- two members of a list change places
+abbrev pub exchanged : {X : Type 0} → ℕ → ℕ → X → List X → List X
+exchanged i j d xs = slice_set (slice_set xs i (slice_index_or xs j d)) j (slice_index_or xs i d)
 
 -- a kept level after that
-abbrev pub level_after_swap : ℕ → ℕ → ℕ
-level_after_swap i p = if p == suc i then suc (suc i) else (if p == suc (suc i) then suc i else p)
+abbrev pub level_exchanged : ℕ → ℕ → ℕ → ℕ
+level_exchanged i j p = if p == suc i then suc j else (if p == suc j then suc i else p)
 
--- two vectors keep the same, but for where the next node of a name may be
-pub record AreAlike (xs ys : List KeptNode) : Type 0 where
-  pub opened : map opened_by xs ≡ map opened_by ys
-  pub same_names : map same_name_of xs ≡ map same_name_of ys
-  pub same_nodes : map same_node_of xs ≡ map same_node_of ys
-  pub sets : map sets_at xs ≡ map sets_at ys
+-- between two indices there are holes alone
+abbrev pub AreHoles : ℕ → ℕ → List ℕ → Type 0
+AreHoles i j numbers = (m : ℕ) → i < m → m < j → slice_index numbers m ≡ 0
 
--- the same, but for the levels of the nodes of their names too
+-- two vectors keep the same, but for the levels of the nodes of their names
 pub record AreAlikeButNames (xs ys : List KeptNode) : Type 0 where
   pub opened : map opened_by xs ≡ map opened_by ys
   pub same_nodes : map same_node_of xs ≡ map same_node_of ys
   pub sets : map sets_at xs ≡ map sets_at ys
+  pub kinds : map kind_at xs ≡ map kind_at ys
+
+-- the same, and the same levels of names, but for where the next node of a name may be
+pub record AreAlike (xs ys : List KeptNode) : Type 0 where
+  pub rest : AreAlikeButNames xs ys
+  pub same_names : map same_name_of xs ≡ map same_name_of ys
 
 -- tables as long as others: a node and a name that are in the others are in these
 pub record AreAsLong (last other : LastLevels) : Type 0 where
   pub names : length last.names.items ≡ length other.names.items
   pub nodes : length last.nodes.items ≡ length other.nodes.items
+  pub holes : last.holes ≡ other.holes
 
 -- the tables have an entry for a node and one for its name, so their levels can be written there
 abbrev pub HasRoom : LastLevels → Open → Type 0
 HasRoom last x = (x.name < length last.names.items) × (x.node < length last.nodes.items)
 
--- a node that is open at a level and nowhere else, and a new one of its name that is open nowhere; the name is not special
-pub record CanGiveWay (last : LastLevels) (x : KeptNode) (level : ℕ) (new : Open) : Type 0 where
-  pub name : x.opened.name ≡ new.name
-  pub plain : is_special (tag_of new.name) ≡ false
+-- a node that is open at a level and nowhere else, and is not special
+pub record IsAlone (last : LastLevels) (x : KeptNode) (level : ℕ) : Type 0 where
+  pub live : is_hole x.kind ≡ false
+  pub plain : is_special (tag_of x.opened.name) ≡ false
   pub none_above : x.same_node ≡ 0
   pub none_below : slice_index last.nodes.items x.opened.node ≡ level
+
+-- and a new one of its name that is open nowhere
+pub record CanGiveWay (last : LastLevels) (x : KeptNode) (level : ℕ) (new : Open) : Type 0 where
+  pub alone : IsAlone last x level
+  pub name : x.opened.name ≡ new.name
   pub fresh : slice_index last.nodes.items new.node ≡ 0
 
--- A node is not special, and neither it nor the next one below it is open again below.
-pub record CanPass (last : LastLevels) (items : List KeptNode) (index : ℕ) : Type 0 where
-  pub within : index + 1 < length items
-  pub plain : is_special (tag_of (slice_index (names_in (map opened_by items)) index)) ≡ false
-  pub upper : slice_index last.nodes.items (slice_index (nodes_in (map opened_by items)) index) ≡ index + 1
-  pub lower : slice_index last.nodes.items (slice_index (nodes_in (map opened_by items)) (index + 1)) ≡ index + 2
+-- Two nodes with holes alone between them: the upper one is not special, and neither is open again below.
+pub record CanPass (last : LastLevels) (items : List KeptNode) (i j : ℕ) : Type 0 where
+  pub order : i < j
+  pub within : j < length items
+  pub holes : AreHoles i j (names_in (map opened_by items))
+  pub upper : (x : KeptNode) → x ≡ slice_index_or items i x → (is_hole x.kind ≡ false) × (is_special (tag_of x.opened.name) ≡ false) × (slice_index last.nodes.items x.opened.node ≡ suc i)
+  pub lower : (x : KeptNode) → x ≡ slice_index_or items j x → (is_hole x.kind ≡ false) × (slice_index last.nodes.items x.opened.node ≡ suc j)
 
--- the numbers of each item are in tables of these lengths
-abbrev pub AreIn : (names nodes : ℕ) → List KeptNode → Type 0
+-- the numbers of a slot are in tables of these lengths
+abbrev pub IsIn : (names nodes : ℕ) → Option (OpenNode ℕ) → Type 0
+IsIn names nodes None = Unit {0}
+IsIn names nodes (Some y) = (y.name < names) × (y.node < nodes)
+
+abbrev pub AreIn : (names nodes : ℕ) → List (Option (OpenNode ℕ)) → Type 0
 AreIn names nodes [] = Unit {0}
-AreIn names nodes (x ∷ rest) = (x.opened.name < names) × (x.opened.node < nodes) × AreIn names nodes rest
+AreIn names nodes (y ∷ ys) = IsIn names nodes y × AreIn names nodes ys

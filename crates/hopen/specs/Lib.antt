@@ -6,6 +6,7 @@ pub mod Coding
 pub mod Rows
 pub mod Spelled
 pub mod NameSets
+pub mod Slots
 pub mod Kept
 pub mod Vocabulary
 pub mod Formatting

@@ -1,13 +1,15 @@
 //! A node leaves the stack, and a new one comes right below another: the end of the adoption agency (`#adoption-agency-algorithm`). The node that
 //! leaves passes those from it down to that other one, one at a time, and then the new one takes its place: so nothing below is looked at.
 
-ghost use Rattle.std.specs.Prelude.{◌≡◌, ℕ, List, ◌∷◌, ◌++◌, ◌+◌, ◌<◌, ◌≤◌, ◌^◌, ◌==◌, ◌&&◌, false, true, suc, length, map, remove, slice_index, slice_set};
-ghost use Rattle.std.specs.Prelude.{vec_capacity, vec_len, if◌then◌else◌};
+ghost use Rattle.std.specs.Prelude.{◌≡◌, ◌≢◌, ℕ, List, ◌∷◌, ◌++◌, ◌+◌, ◌<◌, ◌≤◌, ◌^◌, ◌==◌, ◌&&◌, None, false, true, suc, drop, length, map, reverse};
+ghost use Rattle.std.specs.Prelude.{slice_index, slice_index_or, slice_set, vec_capacity, vec_len, if◌then◌else◌};
 ghost use Rattle.hnodes.specs.Nearest.{put_before, without};
-ghost use Rattle.hopen.specs.Vocabulary.{is_node, is_open, is_special, names_in, nodes_in, open_of, opened_by, same_name_of, same_node_of, sets_at, stack_of};
-ghost use Rattle.hopen.specs.Vocabulary.{swap_with_next, tag_of, AreAlikeButNames, AreAsLong, CanPass, HasRoom, IsHeld, IsLinked, KeepSets, Stands};
+ghost use Rattle.hopen.specs.Vocabulary.{exchanged, is_hole, is_node, is_open, is_special, names_in, open_of, opened_by, same_name_of, same_node_of, sets_at};
+ghost use Rattle.hopen.specs.Vocabulary.{kind_at, somes, stack_of, tag_of, AreAlikeButNames, AreAsLong, AreHoles, CanPass, EndsOpen, HasRoom, IsHeld, IsLinked};
+ghost use Rattle.hopen.specs.Vocabulary.{KeepSets, Rests, Stands};
+ghost use Rattle.hopen.specs.declared.kept.Kind.TheVariants as Kind;
 
-use crate::kept::{KeptNode, LastLevels, hint, insert, remove_run, replace, sets_from};
+use crate::kept::{KeptNode, LastLevels, hint, insert, remove, replace, sets_with};
 use crate::stack::Open;
 use hnodes::NodeId;
 use names::NameId;
@@ -17,7 +19,8 @@ fn next_of_name(names: &[u32], items: &[KeptNode], index: usize) -> u32
     requires linked { IsLinked names.now (names_in (map opened_by items.now)) (map same_name_of items.now) }
     requires levels { length items.now < 2 ^ 32 }
     requires within { index < length items.now }
-    ensures { IsHeld names.now (map same_name_of items.now) (slice_index (names_in (map opened_by items.now)) index) (index + 1) result }
+    requires live { (x : KeptNode) → x ≡ slice_index_or items.now index x → is_hole x.kind ≡ false }
+    ensures { (x : KeptNode) → x ≡ slice_index_or items.now index x → IsHeld names.now (map same_name_of items.now) x.opened.name (index + 1) result }
 {
     let item = items[index];
     let level = index as u32 + 1;
@@ -66,112 +69,161 @@ fn keep(names: &mut [u32], items: &mut [KeptNode], name: NameId, next: u32, leve
     }
 }
 
-/// Makes what is kept of the names of a node and the one right below it right for when the two have changed places.
-fn swap_names(names: &mut [u32], items: &mut [KeptNode], index: usize)
+/// Makes what is kept of the other nodes of a name right for when one has left.
+pub(crate) fn unlink_name(names: &mut [u32], items: &mut [KeptNode], index: usize)
     requires linked { IsLinked names.old (names_in (map opened_by items.old)) (map same_name_of items.old) }
     requires levels { length items.old < 2 ^ 32 }
-    requires within { index + 1 < length items.old }
-    ensures linked { IsLinked names.new (swap_with_next index (names_in (map opened_by items.old))) (map same_name_of items.new) }
+    requires within { index < length items.old }
+    requires live { (x : KeptNode) → x ≡ slice_index_or items.old index x → is_hole x.kind ≡ false }
+    ensures linked { IsLinked names.new (slice_set (names_in (map opened_by items.old)) index 0) (slice_set (map same_name_of items.new) index 0) }
+    ensures rest { AreAlikeButNames items.new items.old }
+{
+    let item = items[index];
+    let next = next_of_name(names, items, index);
+    keep(names, items, item.opened.name, next, item.same_name);
+    hint(items, item.same_name, next);
+}
+
+/// Makes what is kept of the names of a node and the next one below it right for when the two have changed places.
+fn swap_names(names: &mut [u32], items: &mut [KeptNode], index: usize, below: usize)
+    requires linked { IsLinked names.old (names_in (map opened_by items.old)) (map same_name_of items.old) }
+    requires levels { length items.old < 2 ^ 32 }
+    requires order { index < below }
+    requires within { below < length items.old }
+    requires upper { (x : KeptNode) → x ≡ slice_index_or items.old index x → is_hole x.kind ≡ false }
+    requires lower { (x : KeptNode) → x ≡ slice_index_or items.old below x → is_hole x.kind ≡ false }
+    requires holes { AreHoles index below (names_in (map opened_by items.old)) }
+    ensures linked { IsLinked names.new (exchanged index below 0 (names_in (map opened_by items.old))) (map same_name_of items.new) }
     ensures rest { AreAlikeButNames items.new items.old }
 {
     let upper = items[index];
-    let lower = items[index + 1];
+    let lower = items[below];
     if upper.opened.name == lower.opened.name {
         return;
     }
     let upper_next = next_of_name(names, items, index);
-    let lower_next = next_of_name(names, items, index + 1);
-    let level = index as u32 + 1;
-    keep(names, items, upper.opened.name, upper_next, level + 1);
-    keep(names, items, lower.opened.name, lower_next, level);
+    let lower_next = next_of_name(names, items, below);
+    let upper_level = index as u32 + 1;
+    let lower_level = below as u32 + 1;
+    keep(names, items, upper.opened.name, upper_next, lower_level);
+    keep(names, items, lower.opened.name, lower_next, upper_level);
     link(items, index, lower.same_name, lower_next);
-    link(items, index + 1, upper.same_name, upper_next);
-    hint(items, lower.same_name, level);
-    hint(items, upper.same_name, level + 1);
+    link(items, below, upper.same_name, upper_next);
+    hint(items, lower.same_name, upper_level);
+    hint(items, upper.same_name, lower_level);
 }
 
-/// Exchanges the nodes of an item and the one right below it, and all but what they keep of their names.
-fn swap_items(items: &mut [KeptNode], index: usize)
-    requires within { index + 1 < length items.old }
-    requires levels { length items.old < 2 ^ 32 }
+/// Exchanges the nodes of an item and the next one below it, and all but what they keep of their names.
+fn swap_items(items: &mut [KeptNode], index: usize, below: usize)
+    requires order { index < below }
+    requires within { below < length items.old }
     requires sets { KeepSets (map opened_by items.old) (map sets_at items.old) }
-    requires plain { is_special (tag_of (slice_index (names_in (map opened_by items.old)) index)) ≡ false }
-    requires fits { slice_index (nodes_in (map opened_by items.old)) (index + 1) + 1 < 2 ^ 32 }
-    ensures opened { map opened_by items.new ≡ swap_with_next index (map opened_by items.old) }
+    requires upper { (x : KeptNode) → x ≡ slice_index_or items.old index x → (is_hole x.kind ≡ false) × (is_special (tag_of x.opened.name) ≡ false) }
+    requires lower { (x : KeptNode) → x ≡ slice_index_or items.old below x → (is_hole x.kind ≡ false) × (x.opened.node + 1 < 2 ^ 32) }
+    requires holes { AreHoles index below (names_in (map opened_by items.old)) }
+    ensures opened { map opened_by items.new ≡ exchanged index below None (map opened_by items.old) }
     ensures same_names { map same_name_of items.new ≡ map same_name_of items.old }
-    ensures same_nodes { map same_node_of items.new ≡ swap_with_next index (map same_node_of items.old) }
+    ensures same_nodes { map same_node_of items.new ≡ exchanged index below 0 (map same_node_of items.old) }
     ensures sets { KeepSets (map opened_by items.new) (map sets_at items.new) }
+    ensures kinds { map kind_at items.new ≡ exchanged index below Kind.Hole (map kind_at items.old) }
 {
     let upper = items[index];
-    let lower = items[index + 1];
+    let lower = items[below];
     // Taken apart for the prover alone (CONTRIBUTING.md, "Traps").
     let Open { node, name } = lower.opened;
-    let sets = sets_from(items, index, name, node);
+    let sets = sets_with(&items[..index], name, node);
     items[index] = KeptNode {
         opened: Open { node, name },
         same_name: upper.same_name,
         next_name: upper.next_name,
         same_node: lower.same_node,
         sets,
+        kind: lower.kind,
     };
-    items[index + 1] = KeptNode {
+    items[below] = KeptNode {
         opened: upper.opened,
         same_name: lower.same_name,
         next_name: lower.next_name,
         same_node: upper.same_node,
         sets: lower.sets,
+        kind: upper.kind,
     };
 }
 
-/// Exchanges a node that is not special and the one right below it. Neither is open further below.
-fn swap(last: &mut LastLevels, items: &mut [KeptNode], index: usize)
+/// Exchanges a node that is not special and the next one below it. Neither is open further below.
+fn swap(last: &mut LastLevels, items: &mut [KeptNode], index: usize, below: usize)
     requires stands { Stands last.old items.old }
     requires levels { length items.old < 2 ^ 32 }
-    requires can_pass { CanPass last.old items.old index }
+    requires can_pass { CanPass last.old items.old index below }
     ensures stands { Stands last.new items.new }
-    ensures opened { map opened_by items.new ≡ swap_with_next index (map opened_by items.old) }
+    ensures opened { map opened_by items.new ≡ exchanged index below None (map opened_by items.old) }
     ensures tables { AreAsLong last.new last.old }
 {
     let upper = items[index];
-    let lower = items[index + 1];
-    let level = index as u32 + 1;
-    swap_names(&mut last.names, items, index);
-    last.nodes[upper.opened.node.index()] = level + 1;
-    last.nodes[lower.opened.node.index()] = level;
-    swap_items(items, index);
+    let lower = items[below];
+    swap_names(&mut last.names, items, index, below);
+    last.nodes[upper.opened.node.index()] = below as u32 + 1;
+    last.nodes[lower.opened.node.index()] = index as u32 + 1;
+    swap_items(items, index, below);
 }
 
-/// Whether a node can pass the one right below it.
-fn can_pass(last: &LastLevels, items: &[KeptNode], index: usize) -> bool
-    requires { index + 1 < length items.now }
-    ensures { (result ≡ true) → CanPass last.now items.now index }
+/// Whether a node can pass the next one below it.
+fn can_pass(last: &LastLevels, items: &[KeptNode], index: usize, below: usize) -> bool
+    requires order { index < below }
+    requires within { below < length items.now }
+    requires holes { AreHoles index below (names_in (map opened_by items.now)) }
+    ensures { (result ≡ true) → CanPass last.now items.now index below }
 {
     let upper = items[index].opened;
-    let lower = items[index + 1].opened;
-    if upper.name.tag().is_special() {
+    let lower = items[below].opened;
+    if items[index].kind.is_hole() || items[below].kind.is_hole() {
         return false;
     }
-    if last.of_node(upper.node) as usize != index + 1 {
+    if upper.name.tag().is_special() || last.of_node(upper.node) as usize != index + 1 {
         return false;
     }
-    last.of_node(lower.node) as usize == index + 2
+    last.of_node(lower.node) as usize == below + 1
+}
+
+/// The index of the next open node below one.
+fn next_open(items: &[KeptNode], index: usize) -> usize
+    requires ends { EndsOpen (map opened_by items.now) }
+    requires within { index + 1 < length items.now }
+    ensures order { index < result }
+    ensures within { result < length items.now }
+    ensures holes { AreHoles index result (names_in (map opened_by items.now)) }
+{
+    let mut next = index + 1;
+    while items[next].kind.is_hole() {
+        next += 1;
+    }
+    next
 }
 
 /// Moves a node down to another index, or up to the first node that it cannot pass, and returns where it then is.
 fn sink(last: &mut LastLevels, items: &mut [KeptNode], from: usize, to: usize) -> usize
     requires stands { Stands last.old items.old }
+    requires ends { EndsOpen (map opened_by items.old) }
     requires levels { length items.old < 2 ^ 32 }
     requires from { from < length items.old }
+    requires live { slice_index_or (map opened_by items.old) from None ≢ None }
     requires to { to < length items.old }
     ensures stands { Stands last.new items.new }
+    ensures ends { EndsOpen (map opened_by items.new) }
     ensures within { result < length items.new }
-    ensures rest { remove (map opened_by items.new) result ≡ remove (map opened_by items.old) from }
+    ensures same { slice_index_or (map opened_by items.new) result None ≡ slice_index_or (map opened_by items.old) from None }
+    ensures rest { somes (reverse (slice_set (map opened_by items.new) result None)) ≡ somes (reverse (slice_set (map opened_by items.old) from None)) }
+    ensures below { drop (result + 1) (map opened_by items.new) ≡ drop (result + 1) (map opened_by items.old) }
     ensures tables { AreAsLong last.new last.old }
 {
     let mut index = from;
-    while index < to && can_pass(last, items, index) {
-        swap(last, items, index);
-        index += 1;
+    while index < to {
+        let below = next_open(items, index);
+        if !can_pass(last, items, index, below) {
+            break;
+        }
+        swap(last, items, index, below);
+        index = below;
     }
     index
 }
@@ -185,12 +237,12 @@ pub(crate) fn exchange(
     above: NodeId,
     new: Open,
 )
-    requires stands { Stands last.old items.old.items }
-    requires open { is_open leaving (stack_of items.old.items) ≡ true }
-    requires room { vec_len items.old ≤ vec_capacity items.old }
-    requires levels { length items.old.items < 2 ^ 32 }
+    requires rests { Rests last.old items.old.items }
+    requires live { is_open leaving (stack_of items.old.items) ≡ true }
+    requires room { vec_len items.old < vec_capacity items.old }
+    requires levels { length items.old.items + 1 < 2 ^ 32 }
     requires new_in { HasRoom last.old new }
-    ensures stands { Stands last.new items.new.items }
+    ensures rests { Rests last.new items.new.items }
     ensures items { stack_of items.new.items ≡ put_before (is_node above) (open_of new) (without (is_node leaving) (stack_of items.old.items)) }
 {
     let from = last.of_node(leaving) as usize - 1;
@@ -200,7 +252,7 @@ pub(crate) fn exchange(
         replace(last, items, index, new);
         return;
     }
-    remove_run(last, items, index, index + 1);
+    remove(last, items, index);
     let level = last.of_node(above) as usize;
     if level > 0 {
         insert(last, items, level, new);

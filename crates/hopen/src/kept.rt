@@ -1,19 +1,32 @@
 //! The levels that open nodes keep, so that no question has to search the stack.
 
-ghost use Rattle.std.specs.Prelude.{◌≡◌, true, suc, ℕ, ◌+◌, ◌<◌, ◌≤◌, ◌^◌, OnOk, OnErr, ◌∷◌, drop, insert, length, map, slice_index, slice_set, take};
-ghost use Rattle.std.specs.Prelude.{vec_capacity, vec_len, if◌then◌else◌};
-ghost use Rattle.std.specs.List.{remove_range};
+ghost use Rattle.std.specs.Prelude.{◌≡◌, ◌≢◌, true, false, suc, ℕ, ◌+◌, ◌-◌, ◌<◌, ◌≤◌, ◌^◌, OnOk, OnErr, ◌∷◌, Some, None, drop, insert, length, map, reverse, take};
+ghost use Rattle.std.specs.Prelude.{slice_index, slice_index_or, slice_set, vec_capacity, vec_len, if◌then◌else◌};
 ghost use Rattle.std.specs.Option.{option_map};
-ghost use Rattle.hopen.specs.Vocabulary.{current, kept_above, must_close_in, open_of, opened_by, set_node, stack_of, AreAlike, AreAsLong, AreIn, CanGiveWay};
-ghost use Rattle.hopen.specs.Vocabulary.{HasRoom, KeepsFrom, Stands};
+ghost use Rattle.hopen.specs.Vocabulary.{closing, current, is_hole, kind_of, nearest_in, nearest_up, open_of, opened_by, set_node, sets_at, somes, stack_of, tag_of};
+ghost use Rattle.hopen.specs.Vocabulary.{AreAlike, AreAsLong, AreIn, CanGiveWay, EndsOpen, HasRoom, IsAlone, KeepSets, Rests, Stands};
+ghost use Rattle.hopen.specs.declared.kept.Kind.TheVariants as Kind;
 
+use crate::exchange::unlink_name;
 use crate::name_sets::{NameSet, SetNodes};
 use crate::stack::Open;
 use hnodes::NodeId;
-use names::NameId;
+use names::sets::MAY_STAY_OPEN;
+use names::{NameId, Tag};
 use std::alloc::AllocError;
 
-/// An open node, and the levels that are known of it. Levels count from 1, the topmost; 0 is none.
+/// What a slot of the stack is.
+#[derive(Clone, Copy)]
+pub(crate) enum Kind {
+    /// The hole that a node left.
+    Hole,
+    /// An open node that may be open at the end of the body.
+    MayStay,
+    /// One that may not.
+    MustClose,
+}
+
+/// An open node, and the levels that are known of it; or a hole. Levels count slots from 1, the topmost; 0 is none.
 #[derive(Clone, Copy)]
 pub(crate) struct KeptNode {
     pub(crate) opened: Open,
@@ -25,15 +38,19 @@ pub(crate) struct KeptNode {
     pub(crate) same_node: u32,
     /// The nearest nodes of sets of names, from it on upwards.
     pub(crate) sets: SetNodes,
+    pub(crate) kind: Kind,
 }
 
 const _: () = prove!(std::mem::size_of::<KeptNode>() == 64);
 
-/// For each name, and each node, by its number: the nearest level where it is open, 0 if it is not.
+/// For each name, and each node, by its number: the nearest level where it is open, 0 if it is not. And how many open nodes may not be
+/// open at the end of the body, and how many holes there are.
 #[derive(Drop)]
 pub(crate) struct LastLevels {
     pub(crate) names: Vec<u32>,
     pub(crate) nodes: Vec<u32>,
+    pub(crate) must_close: u32,
+    pub(crate) holes: u32,
 }
 
 /// The level of a number; 0 if the table does not reach it.
@@ -62,10 +79,45 @@ fn make_room(levels: &mut Vec<u32>, number: usize) -> Result<(), AllocError>
     levels.resize(number + GROWTH, 0)
 }
 
+impl Kind {
+    /// The kind of an open node of a name.
+    #[inline(always)]
+    fn of(tag: Tag) -> Kind
+        ensures live { is_hole result ≡ false }
+        ensures kind { (name : ℕ) → tag ≡ tag_of name → (node : ℕ) → result ≡ kind_of (Some (record { node = node; name = name })) }
+    {
+        if tag.sets() & MAY_STAY_OPEN == 0 {
+            Kind::MustClose
+        } else {
+            Kind::MayStay
+        }
+    }
+
+    /// Whether it is a hole.
+    #[inline(always)]
+    pub(crate) fn is_hole(self) -> bool
+        ensures { result ≡ is_hole self }
+    {
+        matches!(self, Kind::Hole)
+    }
+
+    /// 1 for a node that may not be open at the end of the body, else 0.
+    #[inline(always)]
+    fn closing(self) -> u32
+        ensures { result ≡ closing self }
+    {
+        match self {
+            Kind::MustClose => 1,
+            Kind::Hole | Kind::MayStay => 0,
+        }
+    }
+}
+
 impl KeptNode {
-    /// An item whose levels are not known yet.
+    /// A slot for a node, whose levels are not known yet.
     pub(crate) fn new(opened: Open) -> Self
-        ensures { result.opened ≡ opened }
+        ensures opened { result.opened ≡ opened }
+        ensures live { is_hole result.kind ≡ false }
     {
         KeptNode {
             opened,
@@ -73,7 +125,33 @@ impl KeptNode {
             next_name: 0,
             same_node: 0,
             sets: SetNodes::none(),
+            kind: Kind::MayStay,
         }
+    }
+
+    /// The hole that its node leaves.
+    fn hole(self) -> Self
+        ensures hole { result.kind ≡ Kind.Hole }
+        ensures levels { (result.same_name ≡ 0) × (result.same_node ≡ 0) }
+    {
+        KeptNode {
+            same_name: 0,
+            next_name: 0,
+            same_node: 0,
+            kind: Kind::Hole,
+            ..self
+        }
+    }
+
+    /// The node that is open here; none in a hole.
+    #[inline(always)]
+    pub(crate) fn held(&self) -> Option<Open>
+        ensures { option_map open_of result ≡ opened_by self.now }
+    {
+        if self.kind.is_hole() {
+            return None;
+        }
+        Some(self.opened)
     }
 }
 
@@ -98,6 +176,7 @@ impl LastLevels {
         ensures same_names { (k : ℕ) → slice_index self.new.names.items k ≡ slice_index self.old.names.items k }
         ensures same_nodes { (k : ℕ) → slice_index self.new.nodes.items k ≡ slice_index self.old.nodes.items k }
         ensures fits { length self.old.nodes.items < 2 ^ 32 → length self.new.nodes.items < 2 ^ 32 }
+        ensures counts { (self.new.must_close ≡ self.old.must_close) × (self.new.holes ≡ self.old.holes) }
         ensures room { OnOk result (HasRoom self.new (record { node = node; name = name })) }
     {
         make_room(&mut self.names, name.index())?;
@@ -110,44 +189,81 @@ impl LastLevels {
         requires { HasRoom self.old opened }
         ensures names { self.new.names.items ≡ slice_set self.old.names.items opened.name of_name }
         ensures nodes { self.new.nodes.items ≡ slice_set self.old.nodes.items opened.node of_node }
+        ensures counts { (self.new.must_close ≡ self.old.must_close) × (self.new.holes ≡ self.old.holes) }
     {
         self.names[opened.name.index()] = of_name;
         self.nodes[opened.node.index()] = of_node;
     }
 
+    /// Notes that a node of a kind, which was open once, is closed.
+    fn forget(&mut self, node: NodeId, kind: Kind)
+        requires node { node < length self.old.nodes.items }
+        requires counted { closing kind ≤ self.old.must_close }
+        ensures names { self.new.names.items ≡ self.old.names.items }
+        ensures nodes { self.new.nodes.items ≡ slice_set self.old.nodes.items node 0 }
+        ensures closes { self.new.must_close ≡ self.old.must_close - closing kind }
+        ensures holes { self.new.holes ≡ self.old.holes }
+    {
+        self.nodes[node.index()] = 0;
+        self.must_close -= kind.closing();
+    }
+
     /// Notes that the node of the lowest item is closed: what the item kept is the nearest again.
     #[inline(always)]
     pub(crate) fn take_back(&mut self, item: &KeptNode)
-        requires { HasRoom self.old item.now.opened }
+        requires room { HasRoom self.old item.now.opened }
+        requires counted { closing item.now.kind ≤ self.old.must_close }
         ensures names { self.new.names.items ≡ slice_set self.old.names.items item.now.opened.name item.now.same_name }
         ensures nodes { self.new.nodes.items ≡ slice_set self.old.nodes.items item.now.opened.node item.now.same_node }
+        ensures closes { self.new.must_close ≡ self.old.must_close - closing item.now.kind }
+        ensures holes { self.new.holes ≡ self.old.holes }
     {
         self.set(item.opened, item.same_name, item.same_node);
+        self.must_close -= item.kind.closing();
     }
 }
 
-/// The nearest nodes of sets of names above an index.
-#[inline(always)]
-pub(crate) fn sets_above(items: &[KeptNode], index: usize) -> SetNodes
-    requires { index ≤ length items.now }
-    ensures nodes { (set : NameSet) → set_node set result ≡ kept_above (set_node set) items.now index }
-    ensures must_close { must_close_in result ≡ kept_above must_close_in items.now index }
+/// The nearest nodes of sets of names among these slots, from the last that is no hole.
+#[inline(never)]
+fn sets_over_holes(items: &[KeptNode]) -> SetNodes
+    requires { KeepSets (map opened_by items.now) (map sets_at items.now) }
+    ensures { (set : NameSet) → set_node set result ≡ nearest_up set (map opened_by items.now) (length items.now) }
 {
-    if index > 0 {
-        items[index - 1].sets
-    } else {
-        SetNodes::none()
+    let mut index = items.len();
+    while index > 0 {
+        index -= 1;
+        if !items[index].kind.is_hole() {
+            return items[index].sets;
+        }
     }
+    SetNodes::none()
 }
 
-/// The same from a node on upwards, where it is open at an index.
+/// The nearest nodes of sets of names among these slots.
 #[inline(always)]
-pub(crate) fn sets_from(items: &[KeptNode], index: usize, name: NameId, node: NodeId) -> SetNodes
-    requires within { index ≤ length items.now }
+pub(crate) fn sets_of(items: &[KeptNode]) -> SetNodes
+    requires { KeepSets (map opened_by items.now) (map sets_at items.now) }
+    ensures { (set : NameSet) → set_node set result ≡ nearest_up set (map opened_by items.now) (length items.now) }
+{
+    let len = items.len();
+    if len == 0 {
+        return SetNodes::none();
+    }
+    if items[len - 1].kind.is_hole() {
+        return sets_over_holes(items);
+    }
+    items[len - 1].sets
+}
+
+/// The same with a node right below them.
+#[inline(always)]
+pub(crate) fn sets_with(items: &[KeptNode], name: NameId, node: NodeId) -> SetNodes
+    requires keep { KeepSets (map opened_by items.now) (map sets_at items.now) }
     requires fits { node + 1 < 2 ^ 32 }
-    ensures { KeepsFrom items.now index (open_of (record { node = node; name = name })) result }
+    ensures { (set : NameSet) → set_node set result
+        ≡ nearest_in set (Some (record { node = node; name = name })) (nearest_up set (map opened_by items.now) (length items.now)) }
 {
-    sets_above(items, index).with(name.tag(), node.index() as u32 + 1)
+    sets_of(items).with(name.tag(), node.index() as u32 + 1)
 }
 
 /// Notes where the next node of a name is, in the item at a level, if there is one.
@@ -160,30 +276,47 @@ pub(crate) fn hint(items: &mut [KeptNode], level: u32, next: u32)
     }
 }
 
-/// Takes the items from an index on out of the tables, the last one first.
+/// Takes the nodes of the slots from an index on out of the tables, the last one first.
 fn unwind(last: &mut LastLevels, items: &[KeptNode], from: usize)
     requires stands { Stands last.old items.now }
     requires within { from ≤ length items.now }
     ensures stands { Stands last.new (take from items.now) }
-    ensures numbers { AreIn (length last.new.names.items) (length last.new.nodes.items) (drop from items.now) }
+    ensures numbers { AreIn (length last.new.names.items) (length last.new.nodes.items) (map opened_by (drop from items.now)) }
     ensures tables { AreAsLong last.new last.old }
 {
     let mut end = items.len();
     while end > from {
         end -= 1;
-        last.take_back(&items[end]);
+        close_at(last, items, end);
     }
 }
 
-/// Opens the node of the item at an index right below those above it: writes what the item keeps, and its level into the tables.
+/// Takes the node of the slot at an index out of the tables, where none is below it.
+#[inline(always)]
+fn close_at(last: &mut LastLevels, items: &[KeptNode], index: usize)
+    requires within { index < length items.now }
+    requires stands { Stands last.old (take (index + 1) items.now) }
+    requires numbers { AreIn (length last.old.names.items) (length last.old.nodes.items) (map opened_by (drop (index + 1) items.now)) }
+    ensures stands { Stands last.new (take index items.now) }
+    ensures numbers { AreIn (length last.new.names.items) (length last.new.nodes.items) (map opened_by (drop index items.now)) }
+    ensures tables { AreAsLong last.new last.old }
+{
+    let item = items[index];
+    if !item.kind.is_hole() {
+        last.take_back(&item);
+    }
+}
+
+/// Opens the node of the slot at an index right below those above it: writes what the slot keeps, and its level into the tables.
 #[inline(always)]
 fn open_at(last: &mut LastLevels, items: &mut [KeptNode], index: usize)
     requires stands { Stands last.old (take index items.old) }
     requires within { index < length items.old }
-    requires numbers { AreIn (length last.old.names.items) (length last.old.nodes.items) (drop index items.old) }
+    requires live { (x : KeptNode) → x ≡ slice_index_or items.old index x → is_hole x.kind ≡ false }
+    requires numbers { AreIn (length last.old.names.items) (length last.old.nodes.items) (map opened_by (drop index items.old)) }
     requires levels { length items.old < 2 ^ 32 }
     ensures stands { Stands last.new (take (index + 1) items.new) }
-    ensures numbers { AreIn (length last.new.names.items) (length last.new.nodes.items) (drop (index + 1) items.new) }
+    ensures numbers { AreIn (length last.new.names.items) (length last.new.nodes.items) (map opened_by (drop (index + 1) items.new)) }
     ensures same { map opened_by items.new ≡ map opened_by items.old }
     ensures tables { AreAsLong last.new last.old }
 {
@@ -191,26 +324,49 @@ fn open_at(last: &mut LastLevels, items: &mut [KeptNode], index: usize)
     let opened = items[index].opened;
     // Taken apart for the prover alone (CONTRIBUTING.md, "Traps").
     let Open { node, name } = opened;
-    let sets = sets_from(items, index, name, node);
+    let sets = sets_with(&items[..index], name, node);
     let same_name = last.names[name.index()];
     let same_node = last.nodes[node.index()];
+    let kind = Kind::of(name.tag());
     let item = KeptNode {
         opened: Open { node, name },
         same_name,
         next_name: 0,
         same_node,
         sets,
+        kind,
     };
     last.set(opened, level, level);
+    last.must_close += kind.closing();
     items[index] = item;
     hint(items, same_name, level);
 }
 
-/// Puts the items from an index on into the tables again, with the levels that they have now.
+/// Puts the slot at an index right below those above it.
+#[inline(always)]
+fn settle(last: &mut LastLevels, items: &mut [KeptNode], index: usize)
+    requires stands { Stands last.old (take index items.old) }
+    requires within { index < length items.old }
+    requires numbers { AreIn (length last.old.names.items) (length last.old.nodes.items) (map opened_by (drop index items.old)) }
+    requires levels { length items.old < 2 ^ 32 }
+    ensures stands { Stands last.new (take (index + 1) items.new) }
+    ensures numbers { AreIn (length last.new.names.items) (length last.new.nodes.items) (map opened_by (drop (index + 1) items.new)) }
+    ensures same { map opened_by items.new ≡ map opened_by items.old }
+    ensures tables { AreAsLong last.new last.old }
+{
+    let item = items[index];
+    if item.kind.is_hole() {
+        items[index] = item.hole();
+    } else {
+        open_at(last, items, index);
+    }
+}
+
+/// Puts the slots from an index on below those above them again, with the levels that they have now.
 fn rewind(last: &mut LastLevels, items: &mut [KeptNode], from: usize)
     requires stands { Stands last.old (take from items.old) }
     requires within { from ≤ length items.old }
-    requires numbers { AreIn (length last.old.names.items) (length last.old.nodes.items) (drop from items.old) }
+    requires numbers { AreIn (length last.old.names.items) (length last.old.nodes.items) (map opened_by (drop from items.old)) }
     requires levels { length items.old < 2 ^ 32 }
     ensures stands { Stands last.new items.new }
     ensures same { map opened_by items.new ≡ map opened_by items.old }
@@ -218,21 +374,21 @@ fn rewind(last: &mut LastLevels, items: &mut [KeptNode], from: usize)
 {
     let mut index = from;
     while index < items.len() {
-        open_at(last, items, index);
+        settle(last, items, index);
         index += 1;
     }
 }
 
-/// Pushes an item for a node. On an error the items stay; the tables may have grown.
+/// Pushes a slot for a node. On an error the items stay; the tables may have grown.
 #[inline(always)]
 pub(crate) fn push(
     last: &mut LastLevels,
     items: &mut Vec<KeptNode>,
     opened: Open,
 ) -> Result<(), AllocError>
-    requires stands { Stands last.old items.old.items }
+    requires rests { Rests last.old items.old.items }
     requires levels { length items.old.items + 1 < 2 ^ 32 }
-    ensures stands { Stands last.new items.new.items }
+    ensures rests { Rests last.new items.new.items }
     ensures ok { OnOk result (stack_of items.new.items ≡ open_of opened ∷ stack_of items.old.items) }
     ensures err { OnErr result (items.new.items ≡ items.old.items) }
 {
@@ -243,47 +399,147 @@ pub(crate) fn push(
     Ok(())
 }
 
-/// Removes the last item and returns its node.
+/// Whether the last slot is a hole.
+#[inline(always)]
+fn ends_in_hole(items: &[KeptNode]) -> bool
+    ensures hole { (result ≡ true) → (0 < length items.now) × (slice_index_or (map opened_by items.now) (length items.now - 1) None ≡ None) }
+    ensures live { (result ≡ false) → EndsOpen (map opened_by items.now) }
+{
+    let len = items.len();
+    len > 0 && items[len - 1].kind.is_hole()
+}
+
+/// Takes away the holes at the end, one at a time.
+#[inline(always)]
+fn trim_holes(last: &mut LastLevels, items: &mut Vec<KeptNode>)
+    requires stands { Stands last.old items.old.items }
+    requires holes { last.old.holes + length (stack_of items.old.items) ≡ length items.old.items }
+    requires levels { length items.old.items < 2 ^ 32 }
+    ensures rests { Rests last.new items.new.items }
+    ensures same { stack_of items.new.items ≡ stack_of items.old.items }
+    ensures tables { (length last.new.names.items ≡ length last.old.names.items) × (length last.new.nodes.items ≡ length last.old.nodes.items) }
+    ensures len { length items.new.items ≤ length items.old.items }
+    ensures capacity { vec_capacity items.new ≡ vec_capacity items.old }
+{
+    while ends_in_hole(items) {
+        items.truncate(items.len() - 1);
+        last.holes -= 1;
+    }
+}
+
+/// Takes away the holes at the end, if there are any.
+#[inline(always)]
+fn trim(last: &mut LastLevels, items: &mut Vec<KeptNode>)
+    requires stands { Stands last.old items.old.items }
+    requires holes { last.old.holes + length (stack_of items.old.items) ≡ length items.old.items }
+    requires levels { length items.old.items < 2 ^ 32 }
+    ensures rests { Rests last.new items.new.items }
+    ensures same { stack_of items.new.items ≡ stack_of items.old.items }
+    ensures tables { (length last.new.names.items ≡ length last.old.names.items) × (length last.new.nodes.items ≡ length last.old.nodes.items) }
+    ensures len { length items.new.items ≤ length items.old.items }
+    ensures capacity { vec_capacity items.new ≡ vec_capacity items.old }
+{
+    if last.holes == 0 {
+        return;
+    }
+    trim_holes(last, items);
+}
+
+/// Closes the current node and returns it.
 pub(crate) fn pop(last: &mut LastLevels, items: &mut Vec<KeptNode>) -> Option<Open>
-    requires { Stands last.old items.old.items }
-    ensures stands { Stands last.new items.new.items }
+    requires { Rests last.old items.old.items }
+    ensures rests { Rests last.new items.new.items }
     ensures popped { option_map open_of result ≡ current (stack_of items.old.items) }
     ensures rest { stack_of items.new.items ≡ drop 1 (stack_of items.old.items) }
 {
     let item = items.pop()?;
     last.take_back(&item);
+    trim(last, items);
     Some(item.opened)
 }
 
-/// Removes the items from an index up to another one, which stays, and updates the levels below them.
-pub(crate) fn remove_run(last: &mut LastLevels, items: &mut Vec<KeptNode>, from: usize, to: usize)
-    requires stands { Stands last.old items.old.items }
-    requires order { from ≤ to }
-    requires within { to ≤ length items.old.items }
-    requires levels { length items.old.items < 2 ^ 32 }
-    ensures stands { Stands last.new items.new.items }
-    ensures items { map opened_by items.new.items ≡ map opened_by (remove_range items.old.items from to) }
-    ensures tables { AreAsLong last.new last.old }
-    ensures capacity { vec_capacity items.new ≡ vec_capacity items.old }
+/// Whether a node can leave or give way with nothing below looked at: it is not special, and open nowhere else.
+fn is_alone(last: &LastLevels, item: &KeptNode, level: u32) -> bool
+    requires { is_hole item.now.kind ≡ false }
+    ensures { (result ≡ true) → IsAlone last.now item.now level }
 {
-    if from == to {
-        return;
-    }
-    unwind(last, items, from);
-    items.drain(from..to);
-    rewind(last, items, from);
-}
-
-/// Whether a new node can take the place of one with nothing below looked at: the name is the same and not special, the node is open
-/// nowhere else, and the new one nowhere.
-fn can_give_way(last: &LastLevels, item: &KeptNode, level: u32, name: NameId, node: NodeId) -> bool
-    ensures { (result ≡ true) → CanGiveWay last.now item.now level (record { node = node; name = name }) }
-{
-    item.opened.name == name
-        && !name.tag().is_special()
+    !item.opened.name.tag().is_special()
         && item.same_node == 0
         && last.of_node(item.opened.node) == level
-        && last.of_node(node) == 0
+}
+
+/// Makes a hole of a slot whose node is open nowhere else and not special. It takes constant time.
+fn leave(last: &mut LastLevels, items: &mut [KeptNode], index: usize)
+    requires stands { Stands last.old items.old }
+    requires within { index < length items.old }
+    requires levels { length items.old < 2 ^ 32 }
+    requires alone { (x : KeptNode) → x ≡ slice_index_or items.old index x → IsAlone last.old x (suc index) }
+    ensures stands { Stands last.new items.new }
+    ensures opened { map opened_by items.new ≡ slice_set (map opened_by items.old) index None }
+    ensures tables { AreAsLong last.new last.old }
+{
+    let node = items[index].opened.node;
+    let kind = items[index].kind;
+    unlink_name(&mut last.names, items, index);
+    last.forget(node, kind);
+    let item = items[index];
+    items[index] = item.hole();
+}
+
+/// The same of any node: what is kept below it is made anew.
+fn leave_slowly(last: &mut LastLevels, items: &mut [KeptNode], index: usize)
+    requires stands { Stands last.old items.old }
+    requires within { index < length items.old }
+    requires levels { length items.old < 2 ^ 32 }
+    ensures stands { Stands last.new items.new }
+    ensures opened { map opened_by items.new ≡ slice_set (map opened_by items.old) index None }
+    ensures tables { AreAsLong last.new last.old }
+{
+    unwind(last, items, index);
+    let item = items[index];
+    items[index] = item.hole();
+    rewind(last, items, index);
+}
+
+/// Makes a hole of a slot. It takes constant time where its node is not special and open nowhere else.
+fn make_hole(last: &mut LastLevels, items: &mut [KeptNode], index: usize)
+    requires stands { Stands last.old items.old }
+    requires within { index < length items.old }
+    requires live { slice_index_or (map opened_by items.old) index None ≢ None }
+    requires levels { length items.old < 2 ^ 32 }
+    ensures stands { Stands last.new items.new }
+    ensures opened { map opened_by items.new ≡ slice_set (map opened_by items.old) index None }
+    ensures tables { AreAsLong last.new last.old }
+{
+    if is_alone(last, &items[index], index as u32 + 1) {
+        leave(last, items, index);
+    } else {
+        leave_slowly(last, items, index);
+    }
+}
+
+/// Closes the node of the slot at an index.
+pub(crate) fn remove(last: &mut LastLevels, items: &mut Vec<KeptNode>, index: usize)
+    requires rests { Rests last.old items.old.items }
+    requires within { index < length items.old.items }
+    requires live { slice_index_or (map opened_by items.old.items) index None ≢ None }
+    ensures rests { Rests last.new items.new.items }
+    ensures items { stack_of items.new.items ≡ somes (reverse (slice_set (map opened_by items.old.items) index None)) }
+    ensures tables { (length last.new.names.items ≡ length last.old.names.items) × (length last.new.nodes.items ≡ length last.old.nodes.items) }
+    ensures len { length items.new.items ≤ length items.old.items }
+    ensures capacity { vec_capacity items.new ≡ vec_capacity items.old }
+{
+    make_hole(last, items, index);
+    last.holes += 1;
+    trim(last, items);
+}
+
+/// Whether a new node can take the place of one with nothing below looked at: it has its name, and is open nowhere.
+fn can_give_way(last: &LastLevels, item: &KeptNode, level: u32, name: NameId, node: NodeId) -> bool
+    requires { is_hole item.now.kind ≡ false }
+    ensures { (result ≡ true) → CanGiveWay last.now item.now level (record { node = node; name = name }) }
+{
+    item.opened.name == name && is_alone(last, item, level) && last.of_node(node) == 0
 }
 
 /// Puts a new node in the place of one. It takes constant time where the new node has the name of the old one, which is not special and
@@ -291,10 +547,12 @@ fn can_give_way(last: &LastLevels, item: &KeptNode, level: u32, name: NameId, no
 pub(crate) fn replace(last: &mut LastLevels, items: &mut [KeptNode], index: usize, new: Open)
     requires stands { Stands last.old items.old }
     requires within { index < length items.old }
+    requires live { slice_index_or (map opened_by items.old) index None ≢ None }
     requires levels { length items.old < 2 ^ 32 }
     requires new_in { HasRoom last.old new }
     ensures stands { Stands last.new items.new }
-    ensures items { map opened_by items.new ≡ slice_set (map opened_by items.old) index (open_of new) }
+    ensures items { map opened_by items.new ≡ slice_set (map opened_by items.old) index (Some (open_of new)) }
+    ensures tables { AreAsLong last.new last.old }
 {
     let item = items[index];
     let level = index as u32 + 1;
@@ -312,7 +570,7 @@ pub(crate) fn replace(last: &mut LastLevels, items: &mut [KeptNode], index: usiz
     }
 }
 
-/// Inserts a node at an index, and updates the levels below it.
+/// Inserts a slot for a node at an index, and updates the levels below it.
 pub(crate) fn insert(last: &mut LastLevels, items: &mut Vec<KeptNode>, index: usize, new: Open)
     requires stands { Stands last.old items.old.items }
     requires within { index ≤ length items.old.items }
@@ -320,7 +578,8 @@ pub(crate) fn insert(last: &mut LastLevels, items: &mut Vec<KeptNode>, index: us
     requires levels { length items.old.items + 1 < 2 ^ 32 }
     requires new_in { HasRoom last.old new }
     ensures stands { Stands last.new items.new.items }
-    ensures items { map opened_by items.new.items ≡ insert (map opened_by items.old.items) index (open_of new) }
+    ensures items { map opened_by items.new.items ≡ insert (map opened_by items.old.items) index (Some (open_of new)) }
+    ensures tables { AreAsLong last.new last.old }
 {
     unwind(last, items, index);
     if items.insert(index, KeptNode::new(new)).is_err() {

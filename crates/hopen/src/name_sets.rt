@@ -2,13 +2,12 @@
 
 ghost use Rattle.std.specs.Prelude.{◌≡◌, false, if◌then◌else◌};
 ghost use Rattle.hopen.specs.NameSets.{is_in_set, set_node};
-ghost use Rattle.names.specs.Sets.{may_stay_open};
 
 use crate::scope::{Group, Scope};
 use names::Tag;
 use names::sets::{
-    BUTTON_SCOPE, CELL, HEADING, ITEM_STOP, LIST_ITEM_SCOPE, MAY_STAY_OPEN, SCOPE, SPECIAL,
-    TABLE_SCOPE, TABLE_SECTION, TELLS_MODE,
+    BUTTON_SCOPE, CELL, HEADING, ITEM_STOP, LIST_ITEM_SCOPE, SCOPE, SPECIAL, TABLE_SCOPE,
+    TABLE_SECTION, TELLS_MODE,
 };
 
 /// A set of known names that a search looks for, or that stops it.
@@ -38,8 +37,6 @@ pub(crate) struct SetNodes {
     table_section: u32,
     cell: u32,
     tells_mode: u32,
-    /// Not the nearest, but any of those that may not be open at the end of the body.
-    pub(crate) must_close: u32,
 }
 
 /// A new node if it is in a set, else the old one.
@@ -52,8 +49,7 @@ fn node_if(is_new: bool, new: u32, old: u32) -> u32
 impl SetNodes {
     /// No open node.
     pub(crate) fn none() -> SetNodes
-        ensures nodes { (set : NameSet) → set_node set result ≡ 0 }
-        ensures must_close { result.must_close ≡ 0 }
+        ensures { (set : NameSet) → set_node set result ≡ 0 }
     {
         SetNodes::default()
     }
@@ -80,8 +76,7 @@ impl SetNodes {
     /// The same of a node right below these.
     #[inline(always)]
     pub(crate) fn with(&self, tag: Tag, node: u32) -> SetNodes
-        ensures nodes { (set : NameSet) → set_node set result ≡ (if is_in_set set tag then node else set_node set self.now) }
-        ensures must_close { result.must_close ≡ (if may_stay_open tag then self.now.must_close else node) }
+        ensures { (set : NameSet) → set_node set result ≡ (if is_in_set set tag then node else set_node set self.now) }
     {
         let sets = tag.sets();
         SetNodes {
@@ -95,7 +90,6 @@ impl SetNodes {
             table_section: node_if(sets & TABLE_SECTION != 0, node, self.table_section),
             cell: node_if(sets & CELL != 0, node, self.cell),
             tells_mode: node_if(sets & TELLS_MODE != 0, node, self.tells_mode),
-            must_close: node_if(sets & MAY_STAY_OPEN == 0, node, self.must_close),
         }
     }
 }

@@ -1,11 +1,12 @@
 //! What is sought among the open nodes.
 
-ghost use Rattle.std.specs.Prelude.{◌≡◌, ◌≤◌, length, map};
+ghost use Rattle.std.specs.Prelude.{◌≡◌, ◌-◌, ◌+◌, ◌≤◌, drop, length, map, take};
 ghost use Rattle.std.specs.List.{find};
-ghost use Rattle.hnodes.specs.Chains.{last_up};
-ghost use Rattle.hopen.specs.Vocabulary.{holds, is_in, is_special, last_place, names_in, opened_by, stack_of, tag_of, Stands};
+ghost use Rattle.std.specs.Option.{option_map};
+ghost use Rattle.hopen.specs.Vocabulary.{current, holds_one, is_in, is_sought, is_special, last_place, open_of, opened_by, slots_of, somes, stack_of, tag_of};
+ghost use Rattle.hopen.specs.Vocabulary.{Stands};
 
-use crate::kept::{KeptNode, LastLevels, sets_above};
+use crate::kept::{KeptNode, LastLevels, sets_of};
 use crate::name_sets::{NameSet, SetNodes};
 use crate::scope::Group;
 use crate::stack::Open;
@@ -20,26 +21,58 @@ pub(crate) enum Sought {
     Group(Group),
 }
 
-/// The first node that is special.
+impl Sought {
+    /// Whether a node is sought.
+    #[inline(always)]
+    pub(crate) fn is(self, node: Open) -> bool
+        ensures { result ≡ is_sought self (open_of node) }
+    {
+        match self {
+            Sought::Node(sought) => node.node == sought,
+            Sought::Name(name) => node.name == name,
+            Sought::Group(group) => group.has(node.name.tag()),
+        }
+    }
+}
+
+/// The first special node from a slot on downwards.
 pub(crate) fn first_special(items: &[KeptNode]) -> Option<Open>
-    ensures { result ≡ find (λ x. is_special (tag_of x.name)) (map (λ x. x.opened) items.now) }
+    ensures { option_map open_of result ≡ find (λ x. is_special (tag_of x.name)) (somes (map opened_by items.now)) }
 {
-    items
-        .iter()
-        .map(|item| item.opened)
-        .find(|open| open.name.tag().is_special())
+    for item in items {
+        if let Some(node) = item.held() {
+            if node.name.tag().is_special() {
+                return Some(node);
+            }
+        }
+    }
+    None
+}
+
+/// The nearest node above a slot.
+pub(crate) fn last_open(items: &[KeptNode]) -> Option<Open>
+    ensures { option_map open_of result ≡ current (stack_of items.now) }
+{
+    let mut index = items.len();
+    while index > 0 {
+        index -= 1;
+        if let Some(node) = items[index].held() {
+            return Some(node);
+        }
+    }
+    None
 }
 
 /// The level of the nearest node whose name is in a set, of those down to a level, by a look at each.
 #[inline(never)]
 fn search(items: &[KeptNode], set: NameSet, from: u32) -> u32
     requires { from ≤ length items.now }
-    ensures { result ≡ last_up (holds set) (names_in (map opened_by items.now)) from }
+    ensures { result ≡ last_place (holds_one (is_in set)) (slots_of (take from items.now)) }
 {
     let mut level = from;
     while level > 0 {
-        let tag = items[level as usize - 1].opened.name.tag();
-        if SetNodes::none().with(tag, 1).of(set) > 0 {
+        let item = items[level as usize - 1];
+        if !item.kind.is_hole() && SetNodes::none().with(item.opened.name.tag(), 1).of(set) > 0 {
             break;
         }
         level -= 1;
@@ -51,9 +84,9 @@ fn search(items: &[KeptNode], set: NameSet, from: u32) -> u32
 #[inline(always)]
 pub(crate) fn set_level(last: &LastLevels, items: &[KeptNode], set: NameSet) -> u32
     requires { Stands last.now items.now }
-    ensures { result ≡ last_place (is_in set) (stack_of items.now) }
+    ensures { result ≡ last_place (holds_one (is_in set)) (slots_of items.now) }
 {
-    let node = sets_above(items, items.len()).of(set) as usize;
+    let node = sets_of(items).of(set) as usize;
     if node == 0 {
         return 0;
     }
@@ -62,4 +95,46 @@ pub(crate) fn set_level(last: &LastLevels, items: &[KeptNode], set: NameSet) -> 
         return search(items, set, level);
     }
     level
+}
+
+/// The level of the nearest node that is sought; 0 if none is open.
+#[inline(always)]
+pub(crate) fn level_of(last: &LastLevels, items: &[KeptNode], sought: Sought) -> u32
+    requires { Stands last.now items.now }
+    ensures { result ≡ last_place (holds_one (is_sought sought)) (slots_of items.now) }
+{
+    match sought {
+        Sought::Node(node) => last.of_node(node),
+        Sought::Name(name) => last.of_name(name),
+        Sought::Group(group) => set_level(last, items, NameSet::Group(group)),
+    }
+}
+
+/// The nearest node that is sought.
+pub(crate) fn nearest(last: &LastLevels, items: &[KeptNode], sought: Sought) -> Option<Open>
+    requires { Stands last.now items.now }
+    ensures { option_map open_of result ≡ find (is_sought sought) (stack_of items.now) }
+{
+    let level = level_of(last, items, sought) as usize;
+    if level == 0 {
+        return None;
+    }
+    Some(items[level - 1].opened)
+}
+
+/// The same, unless it is the topmost node.
+pub(crate) fn nearest_below_first(
+    last: &LastLevels,
+    items: &[KeptNode],
+    sought: Sought,
+) -> Option<Open>
+    requires { Stands last.now items.now }
+    ensures { option_map open_of result ≡ find (is_sought sought) (take (length (stack_of items.now) - 1) (stack_of items.now)) }
+{
+    let level = level_of(last, items, sought) as usize;
+    if level == 0 {
+        return None;
+    }
+    last_open(&items[..level - 1])?;
+    Some(items[level - 1].opened)
 }

@@ -1,19 +1,20 @@
 //! The stack of open elements (HTML Standard, `#the-stack-of-open-elements`).
 
-ghost use Rattle.std.specs.Prelude.{◌≡◌, ◌≤◌, ◌↔◌, ◌⊎◌, [], ◌∷◌, OnOk, OnErr, IfErr, IfSome, MatchOption, ◌<◌, ◌+◌, ◌-◌, length, drop, take, reverse, nat_eq, true};
-ghost use Rattle.std.specs.Prelude.{leb, if◌then◌else◌};
-ghost use Rattle.std.specs.List.{find, list_all, position, remove_range, slice_get};
-ghost use Rattle.std.specs.Option.{option_map};
+ghost use Rattle.std.specs.Prelude.{◌≡◌, ◌<◌, ◌≤◌, ◌+◌, ◌-◌, ◌^◌, ◌↔◌, ◌⊎◌, [], ◌∷◌, OnOk, OnErr, IfErr, length, drop, take, reverse, nat_eq, true};
+ghost use Rattle.std.specs.List.{find, list_all, slice_get};
+ghost use Rattle.std.specs.Option.{option_map, option_map_or};
 ghost use Rattle.hnodes.specs.Nearest.{after, without, changed, put_before};
 ghost use Rattle.hopen.specs.Vocabulary.{above as above_of, current as current_of, furthest_block as furthest_block_of, in_scope as is_in_scope, is_in, is_named};
-ghost use Rattle.hopen.specs.Vocabulary.{is_node, is_of, is_open, is_sought, is_special, last_place, may_stay_open, open_of, stops as stops_node, stops_item};
+ghost use Rattle.hopen.specs.Vocabulary.{is_node, is_of, is_open, is_sought, is_special, may_stay_open, open_of, stops as stops_node, stops_item};
 ghost use Rattle.hopen.specs.Vocabulary.{tag_of, Default, Memory, TooDeep};
 
 use crate::exchange::exchange;
-use crate::kept::{KeptNode, LastLevels, insert, pop, push, remove_run, replace, sets_above};
+use crate::kept::{KeptNode, LastLevels, pop, push, remove, replace};
 use crate::name_sets::NameSet;
 use crate::scope::{Group, Scope};
-use crate::sought::{Sought, first_special, set_level};
+use crate::sought::{
+    Sought, first_special, last_open, level_of, nearest, nearest_below_first, set_level,
+};
 use hnodes::NodeId;
 use names::{NameId, Refusal};
 use std::alloc::{AllocError, Global};
@@ -28,13 +29,12 @@ pub struct Open {
 
 /// The open nodes with their names, from html down to the current node.
 ///
-/// No question searches the stack, but for `furthest_block`, which passes the nodes from the formatting element down to the block, and
-/// for questions of scope or groups that come to a node that is open twice. A push and a pop take the same time at any depth,
-/// amortized. Where the names are the same and not special, `exchange` takes a step for each node from the one that leaves down to the
-/// other, and nothing below, and `replace` takes the same time at any depth. Else these two, and `remove`, `remove_run` and
-/// `insert_below` always, take a step for each node below. An open node takes 64 bytes; each of the two tables of levels takes 4 bytes
-/// for each number up to the greatest one. `push`, `replace`, `insert_below` and `exchange` alone allocate, and on an error they change
-/// nothing.
+/// A node that leaves from above others leaves a hole, so none of these moves. No question searches the stack, but for `furthest_block`
+/// and `above`, which pass the slots from a node to the one that is asked for, and for questions of scope or groups that come to a node
+/// that is open twice. A push and a pop take the same time at any depth, amortized. So do `remove` and `replace` where the node is not
+/// special and open nowhere else, and has the name of the new one; `exchange` then takes a step for each slot from the node that leaves
+/// down to the other. Else these three take a step for each slot below. A slot takes 64 bytes; each of the two tables of levels takes 4
+/// bytes for each number up to the greatest one. `push`, `replace` and `exchange` alone allocate, and on an error they change nothing.
 #[derive(Drop)]
 pub struct OpenStack {
     items: Vec<KeptNode>,
@@ -68,6 +68,8 @@ impl OpenStack {
             last: LastLevels {
                 names: Vec::new(alloc),
                 nodes: Vec::new(alloc),
+                must_close: 0,
+                holes: 0,
             },
             limit,
         }
@@ -78,7 +80,7 @@ impl OpenStack {
         ensures number { result ≡ length self.now.stack }
         ensures fits { length self.now.stack ≤ self.now.limit }
     {
-        self.items.len()
+        self.items.len() - self.last.holes as usize
     }
 
     /// Opens a node, which becomes the current one. `at` is the byte offset of the token.
@@ -89,7 +91,7 @@ impl OpenStack {
         ensures refused { IfErr result (λ e. (e ≡ TooDeep at) ⊎ (e ≡ Memory)) }
         ensures err { OnErr result (self.new ≡ self.old) }
     {
-        self.room(at)?;
+        room(self.items.len(), self.last.holes, self.limit, at)?;
         push(&mut self.last, &mut self.items, opened)?;
         Ok(())
     }
@@ -106,39 +108,31 @@ impl OpenStack {
     pub fn pop_to(&mut self, name: NameId)
         ensures { self.new ≡ record self.old { stack = after (is_named nat_eq name) self.old.stack } }
     {
-        self.close_to(Sought::Name(name));
+        self.close_to(&Sought::Name(name));
     }
 
     /// Pops nodes up to and including a node; all of them if it is not open.
     pub fn pop_to_node(&mut self, node: NodeId)
         ensures { self.new ≡ record self.old { stack = above_of node self.old.stack } }
     {
-        self.close_to(Sought::Node(node));
+        self.close_to(&Sought::Node(node));
     }
 
     /// Pops nodes up to and including the nearest one of a group; all of them if there is none.
     pub fn pop_to_group(&mut self, group: Group)
         ensures { self.new ≡ record self.old { stack = after (is_of tag_of group) self.old.stack } }
     {
-        self.close_to(Sought::Group(group));
+        self.close_to(&Sought::Group(group));
     }
 
     /// Removes a node; does nothing if it is not open.
     pub fn remove(&mut self, node: NodeId)
         ensures { self.new ≡ record self.old { stack = without (is_node node) self.old.stack } }
     {
-        if let Some(index) = self.index(Sought::Node(node)) {
-            remove_run(&mut self.last, &mut self.items, index, index + 1);
+        let level = self.last.of_node(node) as usize;
+        if level > 0 {
+            remove(&mut self.last, &mut self.items, level - 1);
         }
-    }
-
-    /// Removes the `count` open nodes from the one with `up` nodes below it on upwards, in one pass over these and the nodes below.
-    pub fn remove_run(&mut self, up: usize, count: usize)
-        requires { up + count ≤ length self.old.stack }
-        ensures { self.new ≡ record self.old { stack = remove_range self.old.stack up (up + count) } }
-    {
-        let to = self.items.len() - up;
-        remove_run(&mut self.last, &mut self.items, to - count, to);
     }
 
     /// Puts another node in the place of an open one; does nothing if that is not open. It takes the same time at any depth where the
@@ -147,38 +141,27 @@ impl OpenStack {
         ensures ok { OnOk result (self.new ≡ record self.old { stack = changed (is_node node) (λ _. open_of by) self.old.stack }) }
         ensures err { OnErr result (self.new ≡ self.old) }
     {
-        if let Some(index) = self.index(Sought::Node(node)) {
+        let level = self.last.of_node(node) as usize;
+        if level > 0 {
             self.last.make_room(by.name, by.node)?;
-            replace(&mut self.last, &mut self.items, index, by);
-        }
-        Ok(())
-    }
-
-    /// Inserts a node right below an open one; inserts nothing if that is not open. `at` is the byte offset of the token.
-    pub fn insert_below(&mut self, node: NodeId, opened: Open, at: u64) -> Result<(), Refusal>
-        ensures ok { OnOk result (self.new ≡ record self.old { stack = put_before (is_node node) (open_of opened) self.old.stack }) }
-        ensures full { (result ≡ Err (TooDeep at)) ↔ (self.old.limit ≤ length self.old.stack) }
-        ensures refused { IfErr result (λ e. (e ≡ TooDeep at) ⊎ (e ≡ Memory)) }
-        ensures err { OnErr result (self.new ≡ self.old) }
-    {
-        self.room(at)?;
-        if let Some(index) = self.index(Sought::Node(node)) {
-            self.last.make_room(opened.name, opened.node)?;
-            self.items.reserve(1)?;
-            insert(&mut self.last, &mut self.items, index + 1, opened);
+            replace(&mut self.last, &mut self.items, level - 1, by);
         }
         Ok(())
     }
 
     /// Takes a node out and puts a new one right below another, in place of it (the end of the adoption agency,
     /// `#adoption-agency-algorithm`). Where the new node has the name of the one that leaves, which is not special, this takes a step for
-    /// each node from the one that leaves down to the other.
+    /// each slot from the one that leaves down to the other.
     pub fn exchange(&mut self, leaving: NodeId, above: NodeId, new: Open) -> Result<(), AllocError>
         requires { is_open leaving self.old.stack ≡ true }
         ensures ok { OnOk result (self.new ≡ record self.old { stack = put_before (is_node above) (open_of new) (without (is_node leaving) self.old.stack) }) }
         ensures err { OnErr result (self.new ≡ self.old) }
     {
+        if self.items.len() >= u32::MAX as usize {
+            return Err(AllocError);
+        }
         self.last.make_room(new.name, new.node)?;
+        self.items.reserve(1)?;
         exchange(&mut self.last, &mut self.items, leaving, above, new);
         Ok(())
     }
@@ -187,7 +170,7 @@ impl OpenStack {
     pub fn contains(&self, node: NodeId) -> bool
         ensures { result ≡ is_open node self.now.stack }
     {
-        self.position(node).is_some()
+        self.last.of_node(node) > 0
     }
 
     /// Whether an element of a name is in a scope (`#has-an-element-in-the-specific-scope`): going up from the current node, it is met
@@ -218,7 +201,7 @@ impl OpenStack {
     pub fn all_may_stay_open(&self) -> bool
         ensures { result ≡ list_all (λ x. may_stay_open (tag_of x.name)) self.now.stack }
     {
-        sets_above(&self.items, self.items.len()).must_close == 0
+        self.last.must_close == 0
     }
 
     /// Whether a node is in scope, without further words.
@@ -242,76 +225,33 @@ impl OpenStack {
         Some(self.items.last()?.opened)
     }
 
-    /// The open node with `up` nodes below it: 0 is the current node.
-    pub fn get(&self, up: usize) -> Option<Open>
-        ensures { option_map open_of result ≡ slice_get self.now.stack up }
-    {
-        if up >= self.items.len() {
-            return None;
-        }
-        Some(self.items[self.items.len() - 1 - up].opened)
-    }
-
     /// The open node with `down` nodes above it: 0 is the topmost, html.
     pub fn from_top(&self, down: usize) -> Option<Open>
         ensures { option_map open_of result ≡ slice_get (reverse self.now.stack) down }
     {
-        if down >= self.items.len() {
-            return None;
-        }
-        Some(self.items[down].opened)
-    }
-
-    /// How many open nodes are below a node; `None` if it is not open.
-    pub fn position(&self, node: NodeId) -> Option<usize>
-        ensures found { result ≡ position (is_node node) self.now.stack }
-        ensures within { IfSome result (λ up. up < length self.now.stack) }
-    {
-        self.position_of(Sought::Node(node))
-    }
-
-    /// How many open nodes are below the nearest one of a group; `None` if there is none.
-    pub fn group_position(&self, group: Group) -> Option<usize>
-        ensures found { result ≡ position (is_of tag_of group) self.now.stack }
-        ensures within { IfSome result (λ up. up < length self.now.stack) }
-    {
-        self.position_of(Sought::Group(group))
-    }
-
-    /// How many open nodes are above a node; 0 if it is not open.
-    pub fn depth(&self, node: NodeId) -> usize
-        ensures { result ≡ length (above_of node self.now.stack) }
-    {
-        self.index(Sought::Node(node)).unwrap_or(0)
+        self.items.iter().filter_map(|item| item.held()).nth(down)
     }
 
     /// The nearest open node of a name.
     pub fn nearest(&self, name: NameId) -> Option<Open>
         ensures { option_map open_of result ≡ find (is_named nat_eq name) self.now.stack }
     {
-        self.get(self.position_of(Sought::Name(name))?)
+        nearest(&self.last, &self.items, Sought::Name(name))
     }
 
     /// The nearest open node of a group below the topmost node.
     pub fn nearest_below_first(&self, group: Group) -> Option<Open>
         ensures { option_map open_of result ≡ find (is_of tag_of group) (take (length self.now.stack - 1) self.now.stack) }
     {
-        let index = self.index(Sought::Group(group))?;
-        if index == 0 {
-            return None;
-        }
-        Some(self.items[index].opened)
+        nearest_below_first(&self.last, &self.items, Sought::Group(group))
     }
 
     /// The open node right above a node; `None` if the node is the topmost or not open.
     pub fn above(&self, node: NodeId) -> Option<Open>
         ensures { option_map open_of result ≡ current_of (above_of node self.now.stack) }
     {
-        let index = self.index(Sought::Node(node))?;
-        if index == 0 {
-            return None;
-        }
-        Some(self.items[index - 1].opened)
+        let level = self.last.of_node(node) as usize;
+        last_open(&self.items[..level.saturating_sub(1)])
     }
 
     /// The furthest block of a formatting element: the topmost special node below it (`#parsing-main-inbody`), or of all open nodes if it is not
@@ -319,64 +259,19 @@ impl OpenStack {
     pub fn furthest_block(&self, formatting: NodeId) -> Option<Open>
         ensures { option_map open_of result ≡ furthest_block_of tag_of formatting self.now.stack }
     {
-        let below = self.position(formatting).unwrap_or(self.items.len());
-        first_special(&self.items[self.items.len() - below..])
-    }
-
-    /// Checks that one more node may be open.
-    fn room(&self, at: u64) -> Result<(), Refusal>
-        ensures { result ≡ (if leb self.now.limit (length self.now.stack) then Err (TooDeep at) else Ok tt) }
-    {
-        if self.items.len() >= self.limit as usize {
-            return Err(Refusal::TooDeep { at });
-        }
-        Ok(())
-    }
-
-    /// The level of the nearest node that is sought, from 1, the topmost; 0 if none is open.
-    #[inline(always)]
-    fn last_level(&self, sought: Sought) -> u32
-        ensures { result ≡ last_place (is_sought sought) self.now.stack }
-    {
-        match sought {
-            Sought::Node(node) => self.last.of_node(node),
-            Sought::Name(name) => self.last.of_name(name),
-            Sought::Group(group) => set_level(&self.last, &self.items, NameSet::Group(group)),
-        }
-    }
-
-    /// How many open nodes are below the nearest that is sought; None if there is none.
-    #[inline(always)]
-    fn position_of(&self, sought: Sought) -> Option<usize>
-        ensures found { result ≡ position (is_sought sought) self.now.stack }
-        ensures within { IfSome result (λ up. up < length self.now.stack) }
-    {
-        let index = self.index(sought)?;
-        Some(self.items.len() - 1 - index)
-    }
-
-    /// How many open nodes are above the nearest that is sought; None if there is none.
-    #[inline(always)]
-    fn index(&self, sought: Sought) -> Option<usize>
-        ensures found { MatchOption result (position (is_sought sought) self.now.stack ≡ None)
-            (λ i. position (is_sought sought) self.now.stack ≡ Some (length self.now.stack - 1 - i)) }
-        ensures within { IfSome result (λ i. i < length self.now.stack) }
-    {
-        let level = self.last_level(sought) as usize;
-        if level == 0 {
-            return None;
-        }
-        Some(level - 1)
+        let level = self.last.of_node(formatting) as usize;
+        first_special(&self.items[level..])
     }
 
     /// Pops nodes up to and including the nearest that is sought; all of them if there is none.
     #[inline(always)]
-    fn close_to(&mut self, sought: Sought)
-        ensures { self.new ≡ record self.old { stack = after (is_sought sought) self.old.stack } }
+    fn close_to(&mut self, sought: &Sought)
+        ensures { self.new ≡ record self.old { stack = after (is_sought sought.now) self.old.stack } }
     {
-        let index = self.index(sought).unwrap_or(0);
-        while self.len() > index {
-            self.pop();
+        while let Some(node) = self.pop() {
+            if sought.is(node) {
+                return;
+            }
         }
     }
 
@@ -385,7 +280,27 @@ impl OpenStack {
     fn is_nearer(&self, sought: Sought, stops: NameSet) -> bool
         ensures { result ≡ is_in_scope (is_in stops) (is_sought sought) self.now.stack }
     {
-        let level = self.last_level(sought);
+        let level = level_of(&self.last, &self.items, sought);
         level > 0 && level >= set_level(&self.last, &self.items, stops)
     }
+}
+
+/// Checks that one more node may be open, where so many of the slots are holes, and that there may be one more slot.
+#[inline(always)]
+fn room(slots: usize, holes: u32, limit: u32, at: u64) -> Result<(), Refusal>
+    requires { holes ≤ slots }
+    ensures ok { OnOk result ((slots - holes < limit) × (slots + 1 < 2 ^ 32)) }
+    ensures full { (result ≡ Err (TooDeep at)) ↔ (limit ≤ slots - holes) }
+    ensures refused { IfErr result (λ e. (e ≡ TooDeep at) ⊎ (e ≡ Memory)) }
+{
+    if slots < limit as usize {
+        return Ok(());
+    }
+    if slots - holes as usize >= limit as usize {
+        return Err(Refusal::TooDeep { at });
+    }
+    if slots >= u32::MAX as usize {
+        return Err(Refusal::Memory);
+    }
+    Ok(())
 }

@@ -38,21 +38,22 @@ fn exchange(stack: &mut OpenStack, hand: &mut Hand, turn: usize) -> Result<(), R
 fn change(stack: &mut OpenStack, hand: &mut Hand, call: &str, turn: usize) -> Result<(), Refusal> {
     let number = stack.len().saturating_add(turn);
     let new = hand.open(number, number)?;
-    let near = stack.get(1).map_or(new.node, |open| open.node);
+    let near = right_above(stack).map_or(new.node, |open| open.node);
     match call {
-        "insert" => stack.insert_below(near, new, PLACE)?,
         "replace" => stack.replace(near, new)?,
         _ => stack.remove(near),
     }
     Ok(())
 }
 
+/// The node right above the current node.
+fn right_above(stack: &OpenStack) -> Option<Open> {
+    stack.above(stack.current()?.node)
+}
+
 /// What is asked of the topmost node.
 fn is_found(stack: &OpenStack, top: Open) -> bool {
-    let below = stack.len().saturating_sub(1);
-    stack.position(top.node) == Some(below)
-        && stack.contains(top.node)
-        && stack.depth(top.node) == 0
+    stack.contains(top.node)
         && stack.above(top.node).is_none()
         && stack.node_in_scope(top.node)
 }
@@ -70,5 +71,5 @@ fn has_ends(stack: &OpenStack) -> bool {
     stack.current().is_some()
         && stack.all_may_stay_open() == (stack.len() == 1)
         && !stack.group_in_scope(Scope::Default, Group::Heading)
-        && stack.group_position(Group::TellsMode).is_none()
+        && stack.nearest_below_first(Group::TellsMode).is_none()
 }

@@ -1,155 +1,273 @@
-use Rattle.hopen.proofs.Names.{◌≡◌, ℕ, suc, ◌-◌, ◌<◌, ◌≤◌, true, List, Some, length, map, reverse, get_or, insert, remove, set, inl, inr, sym, subst, ◌∙◌, ap, arith, true≢false, cases_lt, with_items_is, length-map, position, is_some, with_items, put_before, without, insert_nearest, no_words, remove_range, ◌+◌, last_place, is_some-position, remove_nearest, last_place-le, position-none, position-some, Stands, node_of, opened_by, same_node_of, stack_of, open_of, is_node, is_open, KeptNode, LastLevels, OpenNode}
-use Rattle.std.proofs.Common.{Vec, Global, Bool}
-use Rattle.hopen.proofs.ExchangedStack.{exchanged-nearest, item_of, length-left, map-insert, map-remove_range, set-insert}
-use Rattle.hopen.proofs.Linked.{says-levels}
-use Rattle.hopen.proofs.Standing.{length-stack_of}
+use Rattle.hopen.proofs.Names.{◌≡◌, ◌≢◌, ℕ, suc, ◌+◌, ◌-◌, ◌<◌, ◌≤◌, true, List, Option, Some, None, length, map, reverse, get_or, set, drop, insert, sym, ◌∙◌, ap, subst, arith, ltb, ltb-true, with_items_is, with_items, length-insert, length-map, length-set, no_words, position-none, put_before, without, holds_one, is_node, is_open, last_place, open_of, opened_by, same_node_of, slots_of, somes, stack_of, AreAsLong, EndsOpen, KeptNode, LastLevels, OpenNode, Rests, Stands}
+use Rattle.hopen.proofs.ExchangedSlots.{ends-insert, ends-set, length-filled, length-more, put-placed, put-sunk}
+use Rattle.hopen.proofs.OpenLevels.{level-within, node-level, placed, set-placed}
+use Rattle.hopen.proofs.SlotEdits.{length-gone}
+use Rattle.hopen.proofs.Somes.{any-somes, left-somes, put-somes}
 use Rattle.hopen.proofs.exchange.exchange.Goals as goal
 
+-- what the table says of a node
 module _ (last : LastLevels) (items : List KeptNode) (s : Stands last items) (n p : ℕ) (is : p ≡ get_or last.nodes.items n 0) where
-  level-of : p ≡ last_place (is_node n) (stack_of items)
-  level-of = is ∙ says-levels node_of last.nodes.items (map same_node_of items) (map opened_by items) s.nodes n
+  level-of : p ≡ last_place (holds_one (is_node n)) (slots_of items)
+  level-of = is ∙ node-level last.nodes.items (map same_node_of items) items s.nodes n
 
   level-le : p ≤ length items
-  level-le = omega (arith, level-of, last_place-le (is_node n) (stack_of items), length-stack_of items)
+  level-le = level-within (is_node n) items p level-of
 
-  -- an open node has a level
-  open-level : is_open n (stack_of items) ≡ true → 0 < p
-  open-level e = elim (cases_lt 0 p) [
-    | inl some ↦ some
-    | inr none ↦ absurd (true≢false (sym e ∙ sym (is_some-position (is_node n) (stack_of items)) ∙ ap is_some (position-none (is_node n) (stack_of items) (omega (arith, level-of)))))
-  ]
+  -- it is not open, so nothing comes below it
+  put-none : p ≡ 0 → (x : OpenNode ℕ) → stack_of items ≡ put_before (is_node n) x (stack_of items)
+  put-none none x =
+      let zs = slots_of items in
+      let words = no_words (holds_one (is_node n)) zs (position-none (holds_one (is_node n)) zs (sym level-of ∙ none)) in
+      sym (ap somes (words.put_is (Some x))) ∙ put-somes (is_node n) x zs
 
-  found-at : (i : ℕ) → p ≡ suc i → position (is_node n) (stack_of items) ≡ Some (length (stack_of items) - 1 - i)
-  found-at i e = position-some (is_node n) (stack_of items) i (sym level-of ∙ e)
+  -- it is open
+  module _ (here : is_open n (stack_of items) ≡ true) where
+    open-level : 0 < p
+    open-level = ltb-true 0 p (ap (λ k. ltb 0 k) level-of ∙ any-somes (is_node n) (slots_of items) ∙ here)
 
-  -- what is left without it
-  left-without : is_open n (stack_of items) ≡ true → (l : List (OpenNode ℕ)) → l ≡ remove (map opened_by items) (p - 1) → reverse l ≡ without (is_node n) (stack_of items)
-  left-without here l e =
-      let some = open-level here in
-      ap reverse (e ∙ sym (map-remove_range opened_by items (p - 1) (suc (p - 1))))
-      ∙ remove_nearest opened_by (is_node n) items (p - 1) (length (stack_of items) - 1 - (p - 1)) (found-at (p - 1) (omega arith)) (omega (arith, some, level-le, length-stack_of items))
+    open-here : get_or (map opened_by items) (p - 1) None ≢ None
+    open-here = (placed (is_node n) items p level-of open-level).live
 
--- a member leaves, where the vector was written anew before
-left-is : (base left : List KeptNode) (i : ℕ) → map opened_by left ≡ map opened_by (remove_range base i (i + 1)) → map opened_by left ≡ remove (map opened_by base) i
-left-is base left i e = let next : i + 1 ≡ suc i = omega arith in e ∙ map-remove_range opened_by base i (i + 1) ∙ ap (remove_range (map opened_by base) i) next
+    -- what is left without it
+    left-is : somes (reverse (set (map opened_by items) (p - 1) None)) ≡ without (is_node n) (stack_of items)
+    left-is = ap somes (set-placed (is_node n) items (p - 1) None (placed (is_node n) items p level-of open-level)) ∙ left-somes (is_node n) (slots_of items)
+
+-- what `sink` ensures
+abbrev Sunk : (last after : LastLevels) (items sunk : List KeptNode) (from i : ℕ) → Type 0
+Sunk last after items sunk from i = record {
+  stands : Stands after sunk;
+  ends : EndsOpen (map opened_by sunk);
+  within : i < length sunk;
+  same : get_or (map opened_by sunk) i None ≡ get_or (map opened_by items) from None;
+  rest : somes (reverse (set (map opened_by sunk) i None)) ≡ somes (reverse (set (map opened_by items) from None));
+  below : drop (i + 1) (map opened_by sunk) ≡ drop (i + 1) (map opened_by items);
+  tables : AreAsLong after last;
+}
+
+-- the node that leaves has sunk
+module _ (last after : LastLevels) (items lent sunk : List KeptNode) (r : Rests last items) (n p : ℕ) (is : p ≡ get_or last.nodes.items n 0)
+    (here : is_open n (stack_of items) ≡ true) (value : lent ≡ items) (long : length sunk ≡ length lent) (i : ℕ) (d : Sunk last after lent sunk (p - 1) i) where
+  abbrev ys : List (Option (OpenNode ℕ))
+  ys = map opened_by items
+
+  abbrev zs : List (Option (OpenNode ℕ))
+  zs = map opened_by sunk
+
+  done : Sunk last after items sunk (p - 1) i
+  done = subst (λ xs. Sunk last after xs sunk (p - 1) i) value d
+
+  many : length sunk ≡ length items
+  many = long ∙ ap length value
+
+  inside : i < length zs
+  inside = omega (arith, done.within, length-map sunk opened_by)
+
+  leaving-open : get_or ys (p - 1) None ≢ None
+  leaving-open = open-here last items r.stands n p is here
+
+  sunk-live : get_or zs i None ≢ None
+  sunk-live e = leaving-open (sym done.same ∙ e)
+
+  sunk-left : somes (reverse (set zs i None)) ≡ without (is_node n) (stack_of items)
+  sunk-left = done.rest ∙ left-is last items r.stands n p is here
+
+  length-sunk : length (stack_of sunk) ≡ length (stack_of items)
+  length-sunk = omega (arith, length-gone zs i sunk-live, length-gone ys (p - 1) leaving-open, ap length done.rest)
+
+  sunk-rests : Rests after sunk
+  sunk-rests = record {
+    stands = done.stands;
+    ends = done.ends;
+    holes = omega (arith, r.holes, done.tables.holes, length-sunk, many);
+    levels = omega (arith, r.levels, many);
+  }
+
+  -- another takes its place
+  module _ (next : LastLevels) (new : List KeptNode) (x : OpenNode ℕ) (opened : map opened_by new ≡ set zs i (Some x)) where
+    replaced-rests : Stands next new → AreAsLong next after → Rests next new
+    replaced-rests stands lengths =
+        let count : length new ≡ length items = sym (length-map new opened_by) ∙ ap length opened ∙ length-set zs i (Some x) ∙ length-map sunk opened_by
+        ∙ many in
+        let nodes : length (stack_of new) ≡ suc (length (somes (reverse (set zs i None)))) =
+        ap (λ l. length (somes (reverse l))) opened ∙ length-filled zs i x inside in
+        record {
+          stands = stands;
+          ends = subst EndsOpen (sym opened) (ends-set zs i x inside done.ends);
+          holes = omega (arith, r.holes, done.tables.holes, lengths.holes, nodes, length-gone zs i sunk-live, length-sunk, count);
+          levels = omega (arith, r.levels, count);
+        }
+
+    -- right below the other
+    module _ (m q to : ℕ) (other : q ≡ get_or last.nodes.items m 0) (level : to ≡ q - 1) (at : i ≡ to) (order : p - 1 < to) where
+      replaced-items : stack_of new ≡ put_before (is_node m) x (without (is_node n) (stack_of items))
+      replaced-items =
+          let next : i + 1 ≡ suc to = omega (arith, at) in
+          let place : last_place (holds_one (is_node m)) (reverse ys) ≡ suc to = sym (level-of last items r.stands m q other) ∙ (omega (arith, level, order)) in
+          let equal : length zs ≡ length ys = length-map sunk opened_by ∙ many ∙ sym (length-map items opened_by) in
+          let below : drop (suc to) zs ≡ drop (suc to) ys = ap (λ k. drop k zs) (sym next) ∙ done.below ∙ ap (λ k. drop k ys) next in
+          let rest : somes (reverse (set zs to None)) ≡ somes (reverse (set ys (p - 1) None)) =
+          ap (λ k. somes (reverse (set zs k None))) (sym at) ∙ done.rest in
+          ap (λ l. somes (reverse l)) opened ∙ ap (λ k. somes (reverse (set zs k (Some x)))) at
+          ∙ put-sunk (is_node m) ys zs (p - 1) to x order (omega (arith, at, inside, equal)) equal place below rest
+          ∙ ap (put_before (is_node m) x) (left-is last items r.stands n p is here)
+
+  -- it is closed
+  left-without : (whole left : List KeptNode) → whole ≡ sunk → stack_of left ≡ somes (reverse (set (map opened_by whole) i None))
+      → stack_of left ≡ without (is_node n) (stack_of items)
+  left-without whole left back gone = gone ∙ ap (λ (xs : List KeptNode). somes (reverse (set (map opened_by xs) i None))) back ∙ sunk-left
 
 pub overflow_sub-from : goal.overflow_sub-from
-overflow_sub-from c = omega (arith, open-level c.args.last.now c.args.items.now.items c.requires.stands c.args.leaving c.of_node.result c.of_node.ensures c.requires.open)
+overflow_sub-from c =
+    omega (arith, open-level c.args.last.now c.args.items.now.items c.requires.rests.stands c.args.leaving c.of_node.result c.of_node.ensures c.requires.live)
 
 pub sink-index-requires-clause-from : goal.sink-index-requires-clause-from
 sink-index-requires-clause-from c =
+    let last = c.args.last.now in
+    let items = c.args.items.now.items in
+    let stands = c.requires.rests.stands in
     omega (
       arith,
-      open-level c.args.last.now c.args.items.now.items c.requires.stands c.args.leaving c.of_node.result c.of_node.ensures c.requires.open,
-      level-le c.args.last.now c.args.items.now.items c.requires.stands c.args.leaving c.of_node.result c.of_node.ensures,
+      open-level last items stands c.args.leaving c.of_node.result c.of_node.ensures c.requires.live,
+      level-le last items stands c.args.leaving c.of_node.result c.of_node.ensures,
       ap length c.deref_mut.ensures.value,
     )
 
+pub sink-index-requires-clause-live : goal.sink-index-requires-clause-live
+sink-index-requires-clause-live c =
+    let live = open-here c.args.last.now c.args.items.now.items c.requires.rests.stands c.args.leaving c.of_node.result c.of_node.ensures c.requires.live in
+    λ e. live (ap (λ (xs : List KeptNode). get_or (map opened_by xs) (c.of_node.result - 1) None) (sym c.deref_mut.ensures.value) ∙ e)
+
 pub sink-index-requires-clause-to : goal.sink-index-requires-clause-to
 sink-index-requires-clause-to c =
+    let last = c.args.last.now in
+    let items = c.args.items.now.items in
+    let stands = c.requires.rests.stands in
     omega (
       arith,
-      open-level c.args.last.now c.args.items.now.items c.requires.stands c.args.leaving c.of_node.result c.of_node.ensures c.requires.open,
-      level-le c.args.last.now c.args.items.now.items c.requires.stands c.args.leaving c.of_node.result c.of_node.ensures,
-      level-le c.args.last.now c.args.items.now.items c.requires.stands c.args.above c.of_node-2.result c.of_node-2.ensures,
+      open-level last items stands c.args.leaving c.of_node.result c.of_node.ensures c.requires.live,
+      level-le last items stands c.args.leaving c.of_node.result c.of_node.ensures,
+      level-le last items stands c.args.above c.of_node-2.result c.of_node-2.ensures,
       c.saturating_sub-to.ensures,
       ap length c.deref_mut.ensures.value,
     )
 
+pub replace-requires-clause-live : goal.replace-requires-clause-live
+replace-requires-clause-live c =
+    let sunk = c.sink-index.new.items in
+    let first = c.sink-index.auto.items ∙ c.deref_mut.ensures.len in
+    let base = c.deref_mut-then-index-to.ensures.value ∙ with_items_is c.args.items.now sunk first in
+    let live = sunk-live c.args.last.now c.sink-index.new.last c.args.items.now.items c.deref_mut.result.now sunk c.requires.rests c.args.leaving
+    c.of_node.result
+    c.of_node.ensures c.requires.live c.deref_mut.ensures.value c.sink-index.auto.items c.sink-index.result c.sink-index.ensures in
+    λ e. live (ap (λ (xs : List KeptNode). get_or (map opened_by xs) c.sink-index.result None) (sym base) ∙ e)
+
+pub returns-then-index-to-clause-rests : goal.returns-then-index-to-clause-rests
+returns-then-index-to-clause-rests c =
+    let v = c.args.items.now in
+    let sunk = c.sink-index.new.items in
+    let first = c.sink-index.auto.items ∙ c.deref_mut.ensures.len in
+    let base = c.deref_mut-then-index-to.ensures.value ∙ with_items_is v sunk first in
+    let new = open_of c.args.new in
+    let written = c.replace.ensures.items ∙ ap (λ (xs : List KeptNode). set (map opened_by xs) c.sink-index.result (Some new)) base in
+    let back = with_items_is (with_items v sunk) c.replace.new.items (c.replace.auto.items ∙ c.deref_mut-then-index-to.ensures.len) in
+    let rests = replaced-rests c.args.last.now c.sink-index.new.last v.items c.deref_mut.result.now sunk c.requires.rests c.args.leaving c.of_node.result
+    c.of_node.ensures c.requires.live c.deref_mut.ensures.value c.sink-index.auto.items c.sink-index.result c.sink-index.ensures
+    c.replace.new.last c.replace.new.items new written c.replace.ensures.stands c.replace.ensures.tables in
+    subst (Rests c.replace.new.last) (sym back) rests
+
 pub returns-then-index-to-clause-items : goal.returns-then-index-to-clause-items
 returns-then-index-to-clause-items c =
-    let last = c.args.last.now in
-    let items = c.args.items.now.items in
-    let new = open_of c.args.new in
-    let from = c.of_node.result - 1 in
-    let to = c.saturating_sub-to.result in
-    let index = c.sink-index.result in
+    let v = c.args.items.now in
     let sunk = c.sink-index.new.items in
-    let x : KeptNode = item_of c.args.new in
     let first = c.sink-index.auto.items ∙ c.deref_mut.ensures.len in
-    let base : c.deref_mut-then-index-to.result.now ≡ sunk = c.deref_mut-then-index-to.ensures.value ∙ with_items_is c.args.items.now sunk first in
-    let rest : remove (map opened_by sunk) index ≡ remove (map opened_by items) from = c.sink-index.ensures.rest ∙ ap (λ (xs : List KeptNode). remove (map opened_by xs) from) c.deref_mut.ensures.value in
-    let written : map opened_by c.replace.new.items ≡ insert (remove (map opened_by items) from) to new =
-    c.replace.ensures.items ∙ ap (λ (xs : List KeptNode). set (map opened_by xs) index new) base ∙ set-insert (map opened_by sunk) index new (omega (arith, c.sink-index.ensures.within, length-map sunk opened_by))
-    ∙ (λ t. insert (rest t) (c.if-index-to.true t) new) in
-    let start = open-level last items c.requires.stands c.args.leaving c.of_node.result c.of_node.ensures c.requires.open in
-    let within : to < length items = omega (arith, c.if-from-to.true, c.saturating_sub-to.ensures, level-le last items c.requires.stands c.args.above c.of_node-2.result c.of_node-2.ensures) in
-    ap stack_of (with_items_is (with_items c.args.items.now sunk) c.replace.new.items (c.replace.auto.items ∙ c.deref_mut-then-index-to.ensures.len)) ∙ ap reverse written
-    ∙ exchanged-nearest opened_by items (is_node c.args.leaving) (is_node c.args.above) x from to c.if-from-to.true within
-    (found-at last items c.requires.stands c.args.leaving c.of_node.result c.of_node.ensures from (omega (arith, start)))
-    (found-at last items c.requires.stands c.args.above c.of_node-2.result c.of_node-2.ensures to (omega (arith, c.if-from-to.true, c.saturating_sub-to.ensures)))
+    let base = c.deref_mut-then-index-to.ensures.value ∙ with_items_is v sunk first in
+    let new = open_of c.args.new in
+    let written = c.replace.ensures.items ∙ ap (λ (xs : List KeptNode). set (map opened_by xs) c.sink-index.result (Some new)) base in
+    let back = with_items_is (with_items v sunk) c.replace.new.items (c.replace.auto.items ∙ c.deref_mut-then-index-to.ensures.len) in
+    ap stack_of back
+    ∙ replaced-items c.args.last.now c.sink-index.new.last v.items c.deref_mut.result.now sunk c.requires.rests c.args.leaving c.of_node.result
+    c.of_node.ensures c.requires.live c.deref_mut.ensures.value c.sink-index.auto.items c.sink-index.result c.sink-index.ensures
+    c.replace.new.last c.replace.new.items new written c.args.above c.of_node-2.result c.saturating_sub-to.result c.of_node-2.ensures
+    c.saturating_sub-to.ensures
+    c.if-index-to.true c.if-from-to.true
+
+pub remove-requires-clause-rests : goal.remove-requires-clause-rests
+remove-requires-clause-rests c =
+    let v = c.args.items.now in
+    let sunk = c.sink-index.new.items in
+    let back = with_items_is v sunk (c.sink-index.auto.items ∙ c.deref_mut.ensures.len) in
+    let rests = sunk-rests c.args.last.now c.sink-index.new.last v.items c.deref_mut.result.now sunk c.requires.rests c.args.leaving c.of_node.result
+    c.of_node.ensures c.requires.live c.deref_mut.ensures.value c.sink-index.auto.items c.sink-index.result c.sink-index.ensures in
+    subst (Rests c.sink-index.new.last) (sym back) rests
+
+pub remove-requires-clause-live : goal.remove-requires-clause-live
+remove-requires-clause-live c =
+    let v = c.args.items.now in
+    let sunk = c.sink-index.new.items in
+    let back = with_items_is v sunk (c.sink-index.auto.items ∙ c.deref_mut.ensures.len) in
+    let live = sunk-live c.args.last.now c.sink-index.new.last v.items c.deref_mut.result.now sunk c.requires.rests c.args.leaving c.of_node.result
+    c.of_node.ensures c.requires.live c.deref_mut.ensures.value c.sink-index.auto.items c.sink-index.result c.sink-index.ensures in
+    λ e. live (ap (λ (xs : List KeptNode). get_or (map opened_by xs) c.sink-index.result None) (sym back) ∙ e)
 
 pub insert-requires-clause-within : goal.insert-requires-clause-within
 insert-requires-clause-within c =
-    let left = c.remove_run.new.items.items in
-    let level = c.of_node-level.ensures ∙ says-levels node_of _ _ (map opened_by left) c.remove_run.ensures.stands.nodes c.args.above in
-    omega (arith, level, last_place-le (is_node c.args.above) (stack_of left), length-stack_of left)
-
--- the vector, written anew, has one item more than what is left
-left-long : (v : Vec KeptNode Global) (sunk left : List KeptNode) (i : ℕ) → length sunk ≡ v.len → i < length sunk → map opened_by left ≡ map opened_by (remove_range (with_items v sunk).items i (i + 1)) → length left + 1 ≡ v.len
-left-long v sunk left i len h e = omega (arith, length-left (with_items v sunk).items left i (omega (arith, ap length (with_items_is v sunk len))) e, ap length (with_items_is v sunk len))
-
-pub insert-requires-clause-room : goal.insert-requires-clause-room
-insert-requires-clause-room c =
-    let long = left-long c.args.items.now _ _ c.sink-index.result (c.sink-index.auto.items ∙ c.deref_mut.ensures.len) c.sink-index.ensures.within c.remove_run.ensures.items in
-    omega (arith, c.requires.room, c.remove_run.ensures.capacity)
-
-pub insert-requires-clause-levels : goal.insert-requires-clause-levels
-insert-requires-clause-levels c =
-    let long = left-long c.args.items.now _ _ c.sink-index.result (c.sink-index.auto.items ∙ c.deref_mut.ensures.len) c.sink-index.ensures.within c.remove_run.ensures.items in
-    omega (arith, c.requires.levels)
-
-pub returns-then-level-gt0-clause-items : goal.returns-then-level-gt0-clause-items
-returns-then-level-gt0-clause-items c =
-    let items = c.args.items.now.items in
-    let sunk = c.sink-index.new.items in
-    let base = with_items_is c.args.items.now sunk (c.sink-index.auto.items ∙ c.deref_mut.ensures.len) in
-    let left = c.remove_run.new.items.items in
-    let level = c.of_node-level.result in
-    let sought : OpenNode ℕ → Bool = is_node c.args.above in
-    let new : KeptNode = item_of c.args.new in
-    let gone = left-without c.args.last.now items c.requires.stands c.args.leaving c.of_node.result c.of_node.ensures c.requires.open (map opened_by left)
-    (left-is (with_items c.args.items.now sunk).items left c.sink-index.result c.remove_run.ensures.items ∙ ap (λ (xs : List KeptNode). remove (map opened_by xs) c.sink-index.result) base
-    ∙ c.sink-index.ensures.rest ∙ ap (λ (xs : List KeptNode). remove (map opened_by xs) (c.of_node.result - 1)) c.deref_mut.ensures.value) in
-    let says = c.of_node-level.ensures ∙ says-levels node_of _ _ (map opened_by left) c.remove_run.ensures.stands.nodes c.args.above in
-    let next : level - 1 + 1 ≡ level = omega arith in
-    let long = length-stack_of left in
-    let most = last_place-le sought (stack_of left) in
-    ap reverse (c.insert.ensures.items ∙ ap (λ n. insert (map opened_by left) n (open_of c.args.new)) (sym next) ∙ sym (map-insert opened_by left (level - 1 + 1) new))
-    ∙ insert_nearest opened_by sought left (level - 1) (length (stack_of left) - 1 - (level - 1)) new (position-some sought (stack_of left) (level - 1) (omega arith)) (omega arith)
-    ∙ ap (put_before sought (open_of c.args.new)) gone
+    level-le c.remove.new.last c.remove.new.items.items c.remove.ensures.rests.stands c.args.above c.of_node-level.result c.of_node-level.ensures
 
 pub returns-else-level-gt0-clause-items : goal.returns-else-level-gt0-clause-items
 returns-else-level-gt0-clause-items c =
-    let items = c.args.items.now.items in
+    let v = c.args.items.now in
+    let new = open_of c.args.new in
     let sunk = c.sink-index.new.items in
-    let base = with_items_is c.args.items.now sunk (c.sink-index.auto.items ∙ c.deref_mut.ensures.len) in
-    let left = c.remove_run.new.items.items in
-    let sought = is_node c.args.above in
-    let gone = left-without c.args.last.now items c.requires.stands c.args.leaving c.of_node.result c.of_node.ensures c.requires.open (map opened_by left)
-    (left-is (with_items c.args.items.now sunk).items left c.sink-index.result c.remove_run.ensures.items ∙ ap (λ (xs : List KeptNode). remove (map opened_by xs) c.sink-index.result) base
-    ∙ c.sink-index.ensures.rest ∙ ap (λ (xs : List KeptNode). remove (map opened_by xs) (c.of_node.result - 1)) c.deref_mut.ensures.value) in
-    let none = sym (says-levels node_of _ _ (map opened_by left) c.remove_run.ensures.stands.nodes c.args.above) ∙ sym c.of_node-level.ensures in
-    sym ((no_words sought (stack_of left) (position-none sought (stack_of left) (omega arith))).put_is (open_of c.args.new)) ∙ ap (put_before sought (open_of c.args.new)) gone
+    let left = c.remove.new.items.items in
+    let back = with_items_is v sunk (c.sink-index.auto.items ∙ c.deref_mut.ensures.len) in
+    let gone = left-without c.args.last.now c.sink-index.new.last v.items c.deref_mut.result.now sunk c.requires.rests c.args.leaving c.of_node.result
+    c.of_node.ensures c.requires.live c.deref_mut.ensures.value c.sink-index.auto.items c.sink-index.result c.sink-index.ensures
+    (with_items v sunk).items left back c.remove.ensures.items in
+    put-none c.remove.new.last left c.remove.ensures.rests.stands c.args.above c.of_node-level.result c.of_node-level.ensures (omega arith) new
+    ∙ ap (put_before (is_node c.args.above) new) gone
 
-pub returns-then-index-to-clause-stands : goal.returns-then-index-to-clause-stands
-returns-then-index-to-clause-stands c =
-    let is = with_items_is (with_items c.args.items.now c.sink-index.new.items) c.replace.new.items (c.replace.auto.items ∙ c.deref_mut-then-index-to.ensures.len) in
-    subst (Stands c.replace.new.last) (sym is) c.replace.ensures.stands
+pub returns-then-level-gt0-clause-rests : goal.returns-then-level-gt0-clause-rests
+returns-then-level-gt0-clause-rests c =
+    let new = open_of c.args.new in
+    let sunk = c.sink-index.new.items in
+    let left = c.remove.new.items.items in
+    let more = c.insert.new.items.items in
+    let level = c.of_node-level.result in
+    let opened = c.insert.ensures.items in
+    let rests = c.remove.ensures.rests in
+    let within = level-le c.remove.new.last left rests.stands c.args.above level c.of_node-level.ensures in
+    let inside : level ≤ length (map opened_by left) = omega (arith, within, length-map left opened_by) in
+    let back = with_items_is c.args.items.now sunk (c.sink-index.auto.items ∙ c.deref_mut.ensures.len) in
+    let many : length more ≡ length left + 1 =
+    sym (length-map more opened_by) ∙ ap length opened ∙ length-insert (map opened_by left) level (Some new) inside
+    ∙ ap (λ k. k + 1) (length-map left opened_by) in
+    record {
+      stands = c.insert.ensures.stands;
+      ends = subst EndsOpen (sym opened) (ends-insert (map opened_by left) level new inside rests.ends);
+      holes = omega (
+        arith,
+        rests.holes,
+        c.insert.ensures.tables.holes,
+        ap (λ l. length (somes (reverse l))) opened,
+        length-more new (map opened_by left) level,
+        many,
+      );
+      levels = omega (arith, c.requires.levels, c.remove.ensures.len, many, ap length back, c.sink-index.auto.items, ap length c.deref_mut.ensures.value);
+    }
 
-pub replace-requires-clause-stands : goal.replace-requires-clause-stands
-replace-requires-clause-stands c =
-    let is = c.deref_mut-then-index-to.ensures.value ∙ with_items_is c.args.items.now c.sink-index.new.items (c.sink-index.auto.items ∙ c.deref_mut.ensures.len) in
-    subst (Stands c.sink-index.new.last) (sym is) c.sink-index.ensures.stands
-
-pub remove_run-requires-clause-stands : goal.remove_run-requires-clause-stands
-remove_run-requires-clause-stands c =
-    subst (Stands c.sink-index.new.last) (sym (with_items_is c.args.items.now c.sink-index.new.items (c.sink-index.auto.items ∙ c.deref_mut.ensures.len))) c.sink-index.ensures.stands
-
-pub remove_run-requires-clause-within : goal.remove_run-requires-clause-within
-remove_run-requires-clause-within c =
-    omega (arith, c.sink-index.ensures.within, ap length (with_items_is c.args.items.now c.sink-index.new.items (c.sink-index.auto.items ∙ c.deref_mut.ensures.len)))
-
-pub remove_run-requires-clause-levels : goal.remove_run-requires-clause-levels
-remove_run-requires-clause-levels c =
-    omega (arith, c.requires.levels, ap length (with_items_is c.args.items.now c.sink-index.new.items (c.sink-index.auto.items ∙ c.deref_mut.ensures.len)), ap length c.deref_mut.ensures.value, c.sink-index.auto.items)
+pub returns-then-level-gt0-clause-items : goal.returns-then-level-gt0-clause-items
+returns-then-level-gt0-clause-items c =
+    let v = c.args.items.now in
+    let new = open_of c.args.new in
+    let sunk = c.sink-index.new.items in
+    let left = c.remove.new.items.items in
+    let level = c.of_node-level.result in
+    let back = with_items_is v sunk (c.sink-index.auto.items ∙ c.deref_mut.ensures.len) in
+    let gone = left-without c.args.last.now c.sink-index.new.last v.items c.deref_mut.result.now sunk c.requires.rests c.args.leaving c.of_node.result
+    c.of_node.ensures c.requires.live c.deref_mut.ensures.value c.sink-index.auto.items c.sink-index.result c.sink-index.ensures
+    (with_items v sunk).items left back c.remove.ensures.items in
+    let next : level ≡ level - 1 + 1 = omega arith in
+    let place = placed (is_node c.args.above) left level
+    (level-of c.remove.new.last left c.remove.ensures.rests.stands c.args.above level c.of_node-level.ensures) (omega arith) in
+    ap (λ l. somes (reverse l)) (c.insert.ensures.items ∙ ap (λ k. insert (map opened_by left) k (Some new)) next)
+    ∙ put-placed (is_node c.args.above) left (level - 1) new place ∙ ap (put_before (is_node c.args.above) new) gone

@@ -1,16 +1,31 @@
-use Rattle.hopen.proofs.Names.{◌≡◌, suc, ◌+◌, map, remove, ap, ◌∙◌, arith, length-map, opened_by}
-use Rattle.hopen.proofs.Swapped.{swapped-rest}
+use Rattle.hopen.proofs.Names.{◌+◌, drop, ◌≡◌, ℕ, ◌<◌, List, Option, None, length, map, reverse, get_or, set, sym, ◌∙◌, ap, subst, arith, length-map, opened_by, somes, EndsOpen, OpenNode}
+use Rattle.hopen.proofs.ExchangedSlots.{drop-exchanged, drop-later, ends-exchanged, rest-exchanged}
+use Rattle.hopen.proofs.Projected.{no-name}
+use Rattle.hopen.proofs.Swapped.{exchanged-lower}
 use Rattle.hopen.proofs.exchange.sink.Goals as goal
 
 pub loop-index-preserved : goal.loop-index-preserved
 loop-index-preserved c =
-    let ys = map opened_by c.loop-index.items in
+    let ys : List (Option (OpenNode ℕ)) = map opened_by c.loop-index.items in
     let i = c.loop-index.index in
-    let next : i + 1 ≡ suc i = omega arith in
-    let many = length-map c.loop-index.items opened_by in
+    let j = c.next_open-below.result in
+    let w = c.loop-index.invariant in
+    let below = c.next_open-below.ensures in
+    let opened = c.swap.ensures.opened in
+    let within : j < length ys = omega (arith, below.within, length-map c.loop-index.items opened_by) in
+    let holes : (m : ℕ) → i < m → m < j → get_or ys m None ≡ None =
+    λ m a b. no-name ys m (below.holes m a b) in
     record {
       stands = c.swap.ensures.stands;
-      within = omega (arith, c.swap.auto.items, c.loop-index.auto.items, c.requires.to);
-      rest = ap (λ l. remove l (i + 1)) c.swap.ensures.opened ∙ ap (remove _) next ∙ swapped-rest i ys (omega (arith, many, c.loop-index.auto.items, c.requires.to)) ∙ c.loop-index.invariant.rest;
-      tables = record { names = c.swap.ensures.tables.names ∙ c.loop-index.invariant.tables.names; nodes = c.swap.ensures.tables.nodes ∙ c.loop-index.invariant.tables.nodes };
+      ends = subst EndsOpen (sym opened) (ends-exchanged ys i j below.order within (λ e. c.requires.live (sym w.same ∙ e)) w.ends);
+      within = omega (arith, below.within, c.swap.auto.items);
+      same = ap (λ l. get_or l j None) opened ∙ exchanged-lower i j None ys within ∙ w.same;
+      rest = ap (λ l. somes (reverse (set l j None))) opened ∙ rest-exchanged ys i j below.order holes ∙ w.rest;
+      below = ap (drop (j + 1)) opened ∙ drop-exchanged i j ys below.order
+          ∙ drop-later (i + 1) (j + 1) ys (map opened_by c.args.items.now) (omega (arith, below.order)) w.below;
+      tables = record {
+        names = c.swap.ensures.tables.names ∙ w.tables.names;
+        nodes = c.swap.ensures.tables.nodes ∙ w.tables.nodes;
+        holes = c.swap.ensures.tables.holes ∙ w.tables.holes;
+      };
     }

@@ -1,49 +1,55 @@
-use Rattle.hopen.proofs.Names.{◌≡◌, ℕ, ◌+◌, ◌<◌, List, length, map, get_or, set, sym, ◌∙◌, ap, subst, arith, transport, with_items_is, length-set, IsLinked, names_in, nodes_in, opened_by, same_node_of, swap_with_next, KeptNode}
+use Rattle.hopen.proofs.Names.{◌≡◌, ℕ, suc, ◌+◌, ◌<◌, false, List, length, map, get_or, set, None, refl, sym, ◌∙◌, ap, transport, arith, with_items_is, exchanged, is_hole_kind, names_in, open_of, opened_by, same_node_of, tag_of, is_special, IsLinked, KeptNode, OpenNode}
+use Rattle.hopen.specs.declared.kept.Kind.TheVariants as kind
 use Rattle.hopen.proofs.Passed.{stands-passed}
-use Rattle.hopen.proofs.Projected.{length-nodes, node-at}
-use Rattle.hopen.proofs.Swapped.{walk-in}
+use Rattle.hopen.proofs.Projected.{live-of, node-in, opened-at, part-at}
 use Rattle.hopen.proofs.exchange.swap.Goals as goal
 
-module _ (items : List KeptNode) (i : ℕ) (x : KeptNode) (h : i < length items) (is : x ≡ get_or items i x) where
-  node-of : get_or (nodes_in (map opened_by items)) i 0 ≡ x.opened.node
-  node-of = node-at items i x h ∙ ap (λ (z : KeptNode). z.opened.node) (sym is)
+-- an item of another vector that has the same open
+module _ (items new : List KeptNode) (opened : map opened_by new ≡ map opened_by items) (i : ℕ) (x : KeptNode) (h : i < length items)
+    (is : x ≡ get_or items i x) (live : is_hole_kind x.kind ≡ false)
+    (z : KeptNode) (within : i < length new) (at : z ≡ get_or new i z) where
+  open-still : (is_hole_kind z.kind ≡ false) × (open_of z.opened ≡ open_of x.opened)
+  open-still = live-of z (open_of x.opened) (sym (part-at opened_by None new i z within at) ∙ ap (λ ys. get_or ys i None) opened
+      ∙ opened-at items i x h is live)
 
-  node-in : (t : List ℕ) → IsLinked t (nodes_in (map opened_by items)) (map same_node_of items) → x.opened.node < length t
-  node-in t l = subst (λ n. n < length t) node-of (walk-in t (nodes_in (map opened_by items)) (map same_node_of items) l i (omega (arith, length-nodes items)))
+pub swap_items-requires-clause-upper : goal.swap_items-requires-clause-upper
+swap_items-requires-clause-upper c = λ z at.
+    let x = c.index-items-index.result in
+    let is = c.index-items-index.is in
+    let p = c.requires.can_pass in
+    let upper = p.upper x is in
+    let front : c.args.index < length c.args.items.now = omega (arith, p.order, p.within) in
+    let still = open-still c.args.items.now c.swap_names.new.items c.swap_names.ensures.rest.opened c.args.index x front is upper.0 z
+    (omega (arith, front, c.swap_names.auto.items)) at in
+    (still.0, ap (λ (o : OpenNode ℕ). is_special (tag_of o.name)) still.1 ∙ upper.1)
 
-pub index_mut-requires : goal.index_mut-requires
-index_mut-requires c = omega (arith, c.index.ensures, node-in c.args.items.now c.args.index c.index-items-index.result (omega (arith, c.requires.can_pass.within)) c.index-items-index.is c.args.last.now.nodes.items c.requires.stands.nodes)
-
-pub index_mut-requires-2 : goal.index_mut-requires-2
-index_mut-requires-2 c =
-    omega (arith, c.index-2.ensures, length-set c.args.last.now.nodes.items c.index.result (c.args.index + 1 + 1), node-in c.args.items.now (c.args.index + 1) c.index-items-index-2.result c.requires.can_pass.within c.index-items-index-2.is c.args.last.now.nodes.items c.requires.stands.nodes)
-
-pub swap_items-requires-clause-fits : goal.swap_items-requires-clause-fits
-swap_items-requires-clause-fits c =
-    omega (
-      arith,
-      c.requires.stands.fits,
-      ap (λ ys. get_or (nodes_in ys) (c.args.index + 1) 0) c.swap_names.ensures.rest.opened,
-      walk-in c.args.last.now.nodes.items (nodes_in (map opened_by c.args.items.now)) (map same_node_of c.args.items.now) c.requires.stands.nodes (c.args.index + 1) (omega (arith, length-nodes c.args.items.now, c.requires.can_pass.within)),
-    )
+pub swap_items-requires-clause-lower : goal.swap_items-requires-clause-lower
+swap_items-requires-clause-lower c = λ z at.
+    let items = c.args.items.now in
+    let y = c.index-items-below.result in
+    let is = c.index-items-below.is in
+    let p = c.requires.can_pass in
+    let s = c.requires.stands in
+    let lower = p.lower y is in
+    let still = open-still items c.swap_names.new.items c.swap_names.ensures.rest.opened c.args.below y p.within is lower.0 z
+    (omega (arith, p.within, c.swap_names.auto.items)) at in
+    let node : z.opened.node ≡ y.opened.node = ap OpenNode.node still.1 in
+    (still.0, omega (arith, s.fits, node, node-in items c.args.below y p.within is lower.0 c.args.last.now.nodes.items (map same_node_of items) s.nodes))
 
 pub returns-clause-stands : goal.returns-clause-stands
 returns-clause-stands c =
     let items = c.args.items.now in
     let i = c.args.index in
+    let j = c.args.below in
     let last = c.args.last.now in
-    let x = c.index-items-index.result in
-    let y = c.index-items-index-2.result in
-    let within = c.requires.can_pass.within in
-    let first = c.index-items-index.is in
-    let second = c.index-items-index-2.is in
-    stands-passed last items i c.requires.stands c.requires.can_pass _ c.swap_items.new.items (c.swap_items.ensures.opened ∙ ap (swap_with_next i) c.swap_names.ensures.rest.opened) (c.swap_items.ensures.same_nodes ∙ ap (swap_with_next i) c.swap_names.ensures.rest.same_nodes)
-    (transport (λ t. IsLinked (sym (with_items_is last.names c.swap_names.new.names (c.swap_names.auto.names ∙ c.deref_mut.ensures.len)) t) (swap_with_next i (names_in (map opened_by items))) (sym c.swap_items.ensures.same_names t)) c.swap_names.ensures.linked)
-    (λ t. set (set last.nodes.items ((c.index.ensures ∙ sym (node-of items i x (omega (arith, within)) first)) t) (i + 1 + 1)) ((c.index-2.ensures ∙ sym (node-of items (i + 1) y within second)) t) (i + 1))
-    c.swap_items.ensures.sets
-
-pub returns-clause-tables : goal.returns-clause-tables
-returns-clause-tables c = record {
-  names = ap length (with_items_is c.args.last.now.names c.swap_names.new.names (c.swap_names.auto.names ∙ c.deref_mut.ensures.len)) ∙ c.swap_names.auto.names ∙ ap length c.deref_mut.ensures.value;
-  nodes = length-set (set c.args.last.now.nodes.items c.index.result (c.args.index + 1 + 1)) c.index-2.result (c.args.index + 1) ∙ length-set c.args.last.now.nodes.items c.index.result (c.args.index + 1 + 1);
-}
+    let moved = c.swap_items.ensures in
+    let rest = c.swap_names.ensures.rest in
+    let up : i + 1 ≡ suc i = omega arith in
+    let down : j + 1 ≡ suc j = omega arith in
+    stands-passed last items i j c.requires.stands c.requires.can_pass c.index-items-index.result c.index-items-below.result c.index-items-index.is
+    c.index-items-below.is _ c.swap_items.new.items
+    (moved.opened ∙ ap (exchanged i j None) rest.opened) (moved.same_nodes ∙ ap (exchanged i j 0) rest.same_nodes)
+    (transport (λ t. IsLinked (sym (with_items_is last.names c.swap_names.new.names (c.swap_names.auto.names ∙ c.deref_mut.ensures.len)) t)
+    (exchanged i j 0 (names_in (map opened_by items))) (sym moved.same_names t)) c.swap_names.ensures.linked)
+    (λ t. set (set last.nodes.items (c.index.ensures t) (down t)) (c.index-2.ensures t) (up t))
+    moved.sets (moved.kinds ∙ ap (exchanged i j kind.Hole) rest.kinds) refl

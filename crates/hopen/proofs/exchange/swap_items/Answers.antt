@@ -1,48 +1,76 @@
-use Rattle.hopen.proofs.Names.{◌≡◌, ℕ, suc, ◌+◌, ◌<◌, List, length, map, get_or, set, false, refl, sym, ◌∙◌, ap, arith, transport, get_or_default, get_or-map, length-map, KeepSets, KeepsFrom, closing, kept_above, must_close_in, names_in, nearest_in, opened_by, same_name_of, same_node_of, sets_at, set_node, OpenNode, KeptNode, is_special, tag_of}
-use Rattle.hopen.proofs.KeptBy.{sets-swapped}
-use Rattle.hopen.proofs.Projected.{name-at, node-at, two-same, two-swapped, two-upper}
+use Rattle.hopen.proofs.Names.{◌≡◌, ℕ, ◌<◌, List, length, map, take, get_or, set, false, Some, None, refl, sym, ◌∙◌, ap, arith, transport, get_or_default, length-map, length-take-le, take-map, exchanged, is_hole_kind, is_special, kind_at, names_in, nearest_in, nearest_up, open_of, opened_by, same_name_of, same_node_of, set_node, sets_at, tag_of, AreHoles, KeepSets, KeptNode, NameSet}
+use Rattle.hopen.specs.declared.kept.Kind.TheVariants as kind
+use Rattle.hopen.proofs.NearestUp.{nearest-take}
+use Rattle.hopen.proofs.Passed.{sets-exchanged, sets-take}
+use Rattle.hopen.proofs.Projected.{opened-at, two-exchanged, two-same, two-upper}
 use Rattle.hopen.proofs.exchange.swap_items.Goals as goal
 
--- what is read of the lower item
-lower-is : (items : List KeptNode) (i : ℕ) (x y : KeptNode) → i + 1 < length items → y ≡ get_or items (i + 1) y → y ≡ get_or items (i + 1) x
-lower-is items i x y within is = is ∙ get_or_default items (i + 1) y x within
+module _ (items : List KeptNode) (i j : ℕ) (x y : KeptNode) (less : i < j) (within : j < length items) (first : x ≡ get_or items i x)
+    (second : y ≡ get_or items j y) where
+  -- what is read of the lower item
+  lower-is : y ≡ get_or items j x
+  lower-is = second ∙ get_or_default items j y x within
+
+  module _ (a b : KeptNode) where
+    same : {Y : Type 0} (f : KeptNode → Y) → f a ≡ f x → f b ≡ f y → map f (set (set items i a) j b) ≡ map f items
+    same f e g = two-same f items i j a b x less (e ∙ ap f first) (g ∙ ap f lower-is)
+
+    moved : {Y : Type 0} (f : KeptNode → Y) (d : Y) → f a ≡ f y → f b ≡ f x → map f (set (set items i a) j b) ≡ exchanged i j d (map f items)
+    moved f d e g = two-exchanged f items i j a b x less d within (e ∙ ap f lower-is) (g ∙ ap f first)
+
+    new-sets : b.sets ≡ y.sets → map sets_at (set (set items i a) j b) ≡ set (map sets_at items) i a.sets
+    new-sets g = two-upper sets_at items i j a b x less (g ∙ ap sets_at lower-is)
+
+  sets-are : KeepSets (map opened_by items) (map sets_at items) → is_hole_kind x.kind ≡ false → is_special (tag_of x.opened.name) ≡ false
+      → is_hole_kind y.kind ≡ false
+      → AreHoles i j (names_in (map opened_by items)) → (a b : KeptNode) → opened_by a ≡ opened_by y → opened_by b ≡ opened_by x → b.sets ≡ y.sets
+      → ((set : NameSet) → set_node set a.sets ≡ nearest_in set (Some (open_of y.opened))
+      (nearest_up set (map opened_by (take i items)) (length (take i items))))
+      → KeepSets (map opened_by (set (set items i a) j b)) (map sets_at (set (set items i a) j b))
+  sets-are k live plain lives holes a b oa ob sb own =
+      let ys = map opened_by items in
+      let front : i < length items = omega arith in
+      let many = length-map items opened_by in
+      transport (λ t. KeepSets (sym (moved a b opened_by None oa ob) t) (sym (new-sets a b sb) t))
+      (sets-exchanged ys i j (open_of x.opened) (open_of y.opened) less (omega arith) holes (opened-at items i x front first live)
+      (opened-at items j y within second lives) plain
+      (map sets_at items) a.sets (length-map items sets_at ∙ sym many) k
+      (λ s. own s ∙ ap (nearest_in s (Some (open_of y.opened))) (ap (λ l. nearest_up s l (length (take i items))) (sym (take-map opened_by i items))
+      ∙ ap (nearest_up s (take i ys)) (length-take-le i items (omega arith)) ∙ nearest-take s ys i i (omega arith))))
+
+pub sets_with-sets-requires-clause-keep : goal.sets_with-sets-requires-clause-keep
+sets_with-sets-requires-clause-keep c =
+    let items = c.args.items.now in
+    let i = c.args.index in
+    transport (λ t. KeepSets (take-map opened_by i items t) (take-map sets_at i items t))
+    (sets-take (map opened_by items) (map sets_at items) i (omega (arith, c.requires.order, c.requires.within, length-map items opened_by)) c.requires.sets)
 
 pub returns-clause-opened : goal.returns-clause-opened
 returns-clause-opened c =
-    two-swapped opened_by c.args.items.now c.args.index _ _ _ c.requires.within (ap opened_by (lower-is _ _ c.index-items-index.result _ c.requires.within c.index-items-index-2.is)) (ap opened_by c.index-items-index.is)
+    moved c.args.items.now c.args.index c.args.below c.index-items-index.result c.index-items-below.result c.requires.order c.requires.within
+    c.index-items-index.is c.index-items-below.is _ _ opened_by None refl refl
 
 pub returns-clause-same_names : goal.returns-clause-same_names
 returns-clause-same_names c =
-    two-same same_name_of c.args.items.now c.args.index _ _ _ c.requires.within (ap same_name_of c.index-items-index.is) (ap same_name_of (lower-is _ _ c.index-items-index.result _ c.requires.within c.index-items-index-2.is))
+    same c.args.items.now c.args.index c.args.below c.index-items-index.result c.index-items-below.result c.requires.order c.requires.within
+    c.index-items-index.is c.index-items-below.is _ _ same_name_of refl refl
 
 pub returns-clause-same_nodes : goal.returns-clause-same_nodes
 returns-clause-same_nodes c =
-    two-swapped same_node_of c.args.items.now c.args.index _ _ _ c.requires.within (ap same_node_of (lower-is _ _ c.index-items-index.result _ c.requires.within c.index-items-index-2.is)) (ap same_node_of c.index-items-index.is)
+    moved c.args.items.now c.args.index c.args.below c.index-items-index.result c.index-items-below.result c.requires.order c.requires.within
+    c.index-items-index.is c.index-items-below.is _ _ same_node_of 0 refl refl
 
-module _ (items : List KeptNode) (i : ℕ) (x y : KeptNode) (within : i + 1 < length items) (is1 : x ≡ get_or items i x) (is2 : y ≡ get_or items (i + 1) y) (plain : is_special (tag_of (get_or (names_in (map opened_by items)) i 0)) ≡ false) (k : KeepSets (map opened_by items) (map sets_at items)) where
-  next : i + 1 ≡ suc i
-  next = omega arith
-
-  upper : get_or (map opened_by items) i (opened_by x) ≡ opened_by x
-  upper = get_or-map opened_by items i x (opened_by x) (omega arith) ∙ ap opened_by (sym is1)
-
-  not-special : is_special (tag_of (OpenNode.name (get_or (map opened_by items) i (opened_by x)))) ≡ false
-  not-special = ap (λ (z : OpenNode ℕ). is_special (tag_of z.name)) upper ∙ ap (λ n. is_special (tag_of n)) (ap (λ (z : KeptNode). z.opened.name) is1 ∙ sym (name-at items i x (omega arith))) ∙ plain
-
-  swapped-sets : (a b : KeptNode) → opened_by a ≡ opened_by y → opened_by b ≡ opened_by x → b.sets ≡ y.sets → KeepsFrom items i (opened_by y) a.sets
-      → KeepSets (map opened_by (set (set items i a) (i + 1) b)) (map sets_at (set (set items i a) (i + 1) b))
-  swapped-sets a b oa ob sb keeps =
-      let second : y ≡ get_or items (i + 1) x = lower-is items i x y within is2 in
-      let lower : opened_by y ≡ get_or (map opened_by items) (suc i) (opened_by x) = ap opened_by second ∙ sym (get_or-map opened_by items (i + 1) x (opened_by x) within) ∙ ap (λ n. get_or (map opened_by items) n (opened_by x)) next in
-      transport (λ t. KeepSets (sym (two-swapped opened_by items i a b x within (oa ∙ ap opened_by second) (ob ∙ ap opened_by is1)) t) (sym (two-upper sets_at items i a b x within (sb ∙ ap sets_at second)) t))
-      (sets-swapped (map opened_by items) (map sets_at items) k i (opened_by x) (omega (arith, length-map items opened_by)) not-special a.sets
-      (λ set. keeps.nodes set ∙ ap (λ (z : OpenNode ℕ). nearest_in set z (kept_above (set_node set) items i)) lower)
-      (keeps.must_close ∙ ap (λ (z : OpenNode ℕ). closing z (kept_above must_close_in items i)) lower))
-
-pub sets_from-sets-requires-clause-fits : goal.sets_from-sets-requires-clause-fits
-sets_from-sets-requires-clause-fits c =
-    omega (arith, c.requires.fits, node-at c.args.items.now (c.args.index + 1) c.index-items-index-2.result c.requires.within, ap (λ (z : KeptNode). z.opened.node) c.index-items-index-2.is)
+pub returns-clause-kinds : goal.returns-clause-kinds
+returns-clause-kinds c =
+    moved c.args.items.now c.args.index c.args.below c.index-items-index.result c.index-items-below.result c.requires.order c.requires.within
+    c.index-items-index.is c.index-items-below.is _ _ kind_at kind.Hole refl refl
 
 pub returns-clause-sets : goal.returns-clause-sets
 returns-clause-sets c =
-    swapped-sets c.args.items.now c.args.index c.index-items-index.result c.index-items-index-2.result c.requires.within c.index-items-index.is c.index-items-index-2.is c.requires.plain c.requires.sets _ _ refl refl refl c.sets_from-sets.ensures
+    let x = c.index-items-index.result in
+    let y = c.index-items-below.result in
+    let first = c.index-items-index.is in
+    let second = c.index-items-below.is in
+    sets-are c.args.items.now c.args.index c.args.below x y c.requires.order c.requires.within first second c.requires.sets (c.requires.upper x first).0
+    (c.requires.upper x first).1
+    (c.requires.lower y second).0 c.requires.holes _ _ refl refl refl c.sets_with-sets.ensures

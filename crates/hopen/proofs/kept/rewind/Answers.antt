@@ -3,11 +3,15 @@ use Rattle.hopen.proofs.kept.rewind.Goals as goal
 
 pub loop-index-preserved : goal.loop-index-preserved
 loop-index-preserved c = record {
-  within = omega (arith, c.open_at.auto.items);
-  stands = c.open_at.ensures.stands;
-  numbers = c.open_at.ensures.numbers;
-  same = c.open_at.ensures.same ∙ c.loop-index.invariant.same;
-  tables = record { names = c.open_at.ensures.tables.names ∙ c.loop-index.invariant.tables.names; nodes = c.open_at.ensures.tables.nodes ∙ c.loop-index.invariant.tables.nodes };
+  within = omega (arith, c.settle.auto.items);
+  stands = c.settle.ensures.stands;
+  numbers = c.settle.ensures.numbers;
+  same = c.settle.ensures.same ∙ c.loop-index.invariant.same;
+  tables = record {
+    names = c.settle.ensures.tables.names ∙ c.loop-index.invariant.tables.names;
+    nodes = c.settle.ensures.tables.nodes ∙ c.loop-index.invariant.tables.nodes;
+    holes = c.settle.ensures.tables.holes ∙ c.loop-index.invariant.tables.holes;
+  };
 }
 
 pub returns-clause-stands : goal.returns-clause-stands

@@ -1,33 +1,49 @@
-use Rattle.hopen.proofs.Names.{◌≡◌, ℕ, suc, ◌-◌, ◌<◌, Bool, true, false, cond, length, map, get_or, List, refl, sym, ◌∙◌, ap, arith, last_up, up-sought, up-other, names_in, opened_by, holds, is_in_set, KeptNode, NameSet, Open, Tag, tag_of}
-use Rattle.hopen.proofs.Projected.{name-at}
+use Rattle.hopen.proofs.Names.{◌≡◌, ℕ, suc, ◌-◌, ◌<◌, Bool, true, false, cond, length, take, length-take-le, ◌∷◌, refl, sym, ◌∙◌, ap, arith, last_place, holds_one, is_in, is_in_set, is_hole_kind, opened_by, slots_of, KeptNode, NameSet, Tag, tag_of}
+use Rattle.hopen.proofs.Held.{held, no-node}
+use Rattle.hopen.proofs.OpenLevels.{length-slots, place-here, place-past, slots-more}
 use Rattle.hopen.proofs.sought.search.Goals as goal
+use Rattle.hopen.proofs.sought.search.Goals.{else-not-is_hole-via-then-not-is_hole+else-of-gt0, else-not-is_hole-via-else-not-is_hole}
 
 -- whether a name is in the set, by what is kept of it
 told : (v : Bool) (m none : ℕ) → m ≡ cond v 1 none → none ≡ 0 → ((0 < m) → v ≡ true) × ((m ≡ 0) → v ≡ false)
 told true m none e z = (λ _. refl, λ h. absurd (omega (arith, e)))
 told false m none e z = (λ h. absurd (omega (arith, e, z)), λ _. refl)
 
--- a name of the list
-named : (items : List KeptNode) (set : NameSet) (i : ℕ) (x : KeptNode) (t : Tag) (v : Bool) → i < length items → t ≡ tag_of (Open.name (KeptNode.opened (get_or items i x))) → is_in_set set t ≡ v → holds set (get_or (names_in (map opened_by items)) i 0) ≡ v
-named items set i x t v h tag e = ap (holds set) (name-at items i x h) ∙ ap (is_in_set set) (sym tag) ∙ e
+-- what a slot that is no hole holds is in the set where its name is
+holds-named : (set : NameSet) (x : KeptNode) (t : Tag) (v : Bool) → is_hole_kind x.kind ≡ false → t ≡ tag_of x.opened.name → is_in_set set t ≡ v
+    → holds_one (is_in set) (opened_by x) ≡ v
+holds-named set x t v live tag e = ap (holds_one (is_in set)) (held x live) ∙ ap (is_in_set set) (sym tag) ∙ e
 
 pub loop-level-preserved : goal.loop-level-preserved
 loop-level-preserved c =
+    let items = c.args.items.now in
     let p = c.loop-level.level in
-    let next : p ≡ suc (p - 1) = omega arith in
-    let s = holds c.args.set in
-    let ns = names_in (map opened_by c.args.items.now) in
-    let no = (told (is_in_set c.args.set c.tag-tag.result) c.of.result _ (c.of.ensures ∙ c.with.ensures.nodes c.args.set) (c.none.ensures.nodes c.args.set)).1 (omega arith) in
+    let x = c.index-items-level.result in
+    let s = holds_one (is_in c.args.set) in
+    let no : s (opened_by x) ≡ false = elim c.else-not-is_hole.branch [
+      | else-not-is_hole-via-then-not-is_hole+else-of-gt0 w ↦
+          holds-named c.args.set x w.tag.result false (sym c.is_hole.ensures ∙ w.if-not-is_hole.true) w.tag.ensures
+          ((told (is_in_set c.args.set w.tag.result) w.of.result _ (w.of.ensures ∙ w.with.ensures c.args.set) (w.none.ensures c.args.set)).1 (omega arith))
+      | else-not-is_hole-via-else-not-is_hole w ↦ ap s (no-node x (sym c.is_hole.ensures ∙ w.if-not-is_hole.false))
+    ] in
     record {
       within = omega arith;
-      rest = c.loop-level.invariant.rest ∙ ap (last_up s ns) next ∙ up-other s ns (p - 1) (named c.args.items.now c.args.set (p - 1) c.index-items-level.result c.tag-tag.result false (omega arith) c.tag-tag.ensures no);
+      rest = c.loop-level.invariant.rest ∙ ap (last_place s) (slots-more items p (p - 1) x (omega arith) (omega arith)
+          ∙ ap (λ y. opened_by y ∷ slots_of (take (p - 1) items)) (sym c.index-items-level.is))
+          ∙ place-past s (opened_by x) (slots_of (take (p - 1) items)) no;
     }
 
 pub returns-then-of-gt0 : goal.returns-then-of-gt0
 returns-then-of-gt0 c =
+    let items = c.args.items.now in
     let p = c.loop-level.level in
-    let next : p ≡ suc (p - 1) = omega arith in
-    let s = holds c.args.set in
-    let ns = names_in (map opened_by c.args.items.now) in
-    let yes = (told (is_in_set c.args.set c.tag-tag.result) c.of.result _ (c.of.ensures ∙ c.with.ensures.nodes c.args.set) (c.none.ensures.nodes c.args.set)).0 (omega arith) in
-    next ∙ sym (c.loop-level.invariant.rest ∙ ap (last_up s ns) next ∙ up-sought s ns (p - 1) (named c.args.items.now c.args.set (p - 1) c.index-items-level.result c.tag-tag.result true (omega arith) c.tag-tag.ensures yes))
+    let x = c.index-items-level.result in
+    let s = holds_one (is_in c.args.set) in
+    let yes : s (opened_by x) ≡ true =
+    holds-named c.args.set x c.tag.result true (sym c.is_hole.ensures ∙ c.if-not-is_hole.true) c.tag.ensures
+    ((told (is_in_set c.args.set c.tag.result) c.of.result _ (c.of.ensures ∙ c.with.ensures c.args.set) (c.none.ensures c.args.set)).0 (omega arith)) in
+    let many : p ≡ suc (length (slots_of (take (p - 1) items))) = omega
+    (arith, length-slots (take (p - 1) items), length-take-le (p - 1) items (omega arith)) in
+    many ∙ sym (c.loop-level.invariant.rest ∙ ap (last_place s) (slots-more items p (p - 1) x (omega arith) (omega arith)
+    ∙ ap (λ y. opened_by y ∷ slots_of (take (p - 1) items)) (sym c.index-items-level.is))
+    ∙ place-here s (opened_by x) (slots_of (take (p - 1) items)) yes)

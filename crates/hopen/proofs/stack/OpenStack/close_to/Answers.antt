@@ -1,25 +1,24 @@
-use Rattle.hopen.proofs.Names.{◌≡◌, ℕ, ◌-◌, ◌+◌, length, drop, ap, sym, ◌∙◌, arith, length-drop, drop-drop, OpenNodes, after, is_sought}
-use Rattle.hopen.proofs.Opened.{left_is}
+use Rattle.hopen.proofs.Names.{ℕ, ap, sym, ◌∙◌, option_map, OpenNodes, after, is_sought, open_of}
+use Rattle.hopen.proofs.Searches.{after-here, after-none, after-past}
 use Rattle.hopen.proofs.stack.OpenStack.close_to.Goals as goal
 
-pub loop-self-preserved : goal.loop-self-preserved
-loop-self-preserved c =
-    let s = c.loop-self.self.stack in
-    let popped : c.pop.new.self.stack ≡ drop 1 s = ap (λ (n : OpenNodes ℕ). n.stack) c.pop.ensures.rest in
-    let many : length c.pop.new.self.stack ≡ length s - 1 = ap length popped ∙ length-drop 1 s in
-    let left : 1 + (length c.pop.new.self.stack - c.unwrap_or-index.result) ≡ length s - c.unwrap_or-index.result = omega arith in
+pub loop-node-preserved : goal.loop-node-preserved
+loop-node-preserved c =
+    let s = is_sought c.args.sought.now in
     record {
-      within = omega arith;
-      limit = ap (λ (n : OpenNodes ℕ). n.limit) c.pop.ensures.rest ∙ c.loop-self.invariant.limit;
-      rest = ap (drop (length c.pop.new.self.stack - c.unwrap_or-index.result)) popped ∙ drop-drop (length c.pop.new.self.stack - c.unwrap_or-index.result) 1 s ∙ ap (λ n. drop n s) left ∙ c.loop-self.invariant.rest;
+      limit = ap (λ (n : OpenNodes ℕ). n.limit) c.pop.ensures.rest ∙ c.loop-node.invariant.limit;
+      rest = ap (λ (n : OpenNodes ℕ). after s n.stack) c.pop.ensures.rest
+          ∙ sym (after-past s (open_of c.in-Some.node) c.loop-node.self.stack c.in-Some.ensures.popped (sym c.if-is.ensures)) ∙ c.loop-node.invariant.rest;
     }
+
+pub returns-then-is : goal.returns-then-is
+returns-then-is c =
+    let s = is_sought c.args.sought.now in
+    let rest = sym (after-here s (open_of c.in-Some.node) c.loop-node.self.stack c.in-Some.ensures.popped (sym c.if-is.ensures)) ∙ c.loop-node.invariant.rest in
+    c.pop.ensures.rest ∙ (λ i. record { limit = c.loop-node.invariant.limit i; stack = rest i })
 
 pub returns : goal.returns
 returns c =
-    let s = c.loop-self.self.stack in
-    let now = c.args.self.now in
-    let none : length s - c.unwrap_or-index.result ≡ 0 = omega arith in
-    let stack : s ≡ after (is_sought c.args.sought) now.stack =
-    sym (ap (λ n. drop n s) none) ∙ c.loop-self.invariant.rest ∙ ap (λ n. drop (length now.stack - n) now.stack) c.unwrap_or-index.ensures
-    ∙ left_is (is_sought c.args.sought) now.stack c.index.result c.index.ensures.found c.index.ensures.within in
-    λ i. record { limit = c.loop-self.invariant.limit i; stack = stack i }
+    let s = is_sought c.args.sought.now in
+    let rest = sym (after-none s c.loop-node.self.stack (sym (ap (option_map open_of) c.in_default.is) ∙ c.pop.ensures.popped)) ∙ c.loop-node.invariant.rest in
+    c.pop.ensures.rest ∙ (λ i. record { limit = c.loop-node.invariant.limit i; stack = rest i })

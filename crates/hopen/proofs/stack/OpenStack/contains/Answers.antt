@@ -1,5 +1,11 @@
-use Rattle.hopen.proofs.Names.{ap, ◌∙◌, is_some, is_node, is_some-position}
+use Rattle.hopen.proofs.Names.{ℕ, ltb, ap, ◌∙◌, slots_of, is_node, is_open, OpenNodes}
+use Rattle.hopen.proofs.OpenLevels.{node-level}
+use Rattle.hopen.proofs.Somes.{any-somes}
 use Rattle.hopen.proofs.stack.OpenStack.contains.Goals as goal
 
 pub returns : goal.returns
-returns c = c.is_some.ensures ∙ ap is_some c.position.ensures.found ∙ is_some-position (is_node c.args.node) c.args.self.now.stack
+returns c =
+    let items = c.self.inside.items.items in
+    ap (λ k. ltb 0 k) (c.of_node.ensures ∙ node-level _ _ items c.self.invariant.rests.stands.nodes c.args.node)
+    ∙ any-somes (is_node c.args.node) (slots_of items)
+    ∙ ap (λ (n : OpenNodes ℕ). is_open c.args.node n.stack) c.self.view_is

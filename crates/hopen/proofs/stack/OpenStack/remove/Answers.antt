@@ -1,26 +1,42 @@
-use Rattle.hopen.proofs.Names.{◌≡◌, ◌+◌, ℕ, suc, ◌∙◌, ap, arith, map, reverse, remove_range, remove_nearest, no_words, without, is_node, opened_by}
-use Rattle.hopen.proofs.Opened.{seen, found, none_found, kept}
-use Rattle.hopen.proofs.ExchangedStack.{length-left}
+use Rattle.hopen.proofs.Names.{◌≡◌, ◌-◌, length, ap, ◌∙◌, arith, without, is_node, stack_of}
+use Rattle.hopen.proofs.OpenLevels.{node-level, placed}
+use Rattle.hopen.proofs.Opened.{kept, length-without-le, none-left, seen, stack-left}
 use Rattle.hopen.proofs.stack.OpenStack.remove.Goals as goal
 
-next : (i : ℕ) → i + 1 ≡ suc i
-next i = omega arith
+pub remove-requires-clause-within : goal.remove-requires-clause-within
+remove-requires-clause-within c =
+    let items = c.self.inside.items.items in
+    let level = c.of_node-level.ensures ∙ node-level _ _ items c.self.invariant.rests.stands.nodes c.args.node in
+    omega (arith, (placed (is_node c.args.node) items c.of_node-level.result level (omega arith)).sum)
 
-pub returns-in-Some : goal.returns-in-Some
-returns-in-Some c =
-    let f = found c.self.inside c.args.self.now (is_node c.args.node) c.in-Some.index c.self.view_is c.in-Some.ensures.found c.in-Some.ensures.within in
-    seen c.self.inside c.args.self.now (without (is_node c.args.node)) c.remove_run.new.items.items c.self.view_is (ap reverse c.remove_run.ensures.items ∙ ap (λ n. reverse (map opened_by (remove_range c.self.inside.items.items c.in-Some.index n))) (next c.in-Some.index) ∙ remove_nearest opened_by (is_node c.args.node) c.self.inside.items.items c.in-Some.index f.up f.position_is f.sum)
-
-pub returns-in_default : goal.returns-in_default
-returns-in_default c = kept c.args.self.now (without (is_node c.args.node)) ((no_words (is_node c.args.node) c.args.self.now.stack (none_found c.index.result _ _ c.in_default.not-Some c.index.ensures.found)).without_is)
-
-pub remove_run-requires-clause-within : goal.remove_run-requires-clause-within
-remove_run-requires-clause-within c =
-    let f = found c.self.inside c.args.self.now (is_node c.args.node) c.in-Some.index c.self.view_is c.in-Some.ensures.found c.in-Some.ensures.within in
-    omega (arith, f.sum)
+pub remove-requires-clause-live : goal.remove-requires-clause-live
+remove-requires-clause-live c =
+    let items = c.self.inside.items.items in
+    let level = c.of_node-level.ensures ∙ node-level _ _ items c.self.invariant.rests.stands.nodes c.args.node in
+    (placed (is_node c.args.node) items c.of_node-level.result level (omega arith)).live
 
 pub invariant_of-self : goal.invariant_of-self
 invariant_of-self c =
-    let f = found c.self.inside c.args.self.now (is_node c.args.node) c.in-Some.index c.self.view_is c.in-Some.ensures.found c.in-Some.ensures.within in
-    let one = length-left c.self.inside.items.items c.remove_run.new.items.items c.in-Some.index (omega (arith, f.sum)) c.remove_run.ensures.items in
-    record { within = omega (arith, c.self.invariant.within); stands = c.remove_run.ensures.stands }
+    let items = c.self.inside.items.items in
+    let s = is_node c.args.node in
+    let level = c.of_node-level.ensures ∙ node-level _ _ items c.self.invariant.rests.stands.nodes c.args.node in
+    let left = c.remove.ensures.items ∙ stack-left s items (c.of_node-level.result - 1) (placed s items c.of_node-level.result level (omega arith)) in
+    record {
+      within = omega (arith, c.self.invariant.within, ap length left, length-without-le s (stack_of items));
+      rests = c.remove.ensures.rests;
+    }
+
+pub returns-then-level-gt0 : goal.returns-then-level-gt0
+returns-then-level-gt0 c =
+    let items = c.self.inside.items.items in
+    let s = is_node c.args.node in
+    let level = c.of_node-level.ensures ∙ node-level _ _ items c.self.invariant.rests.stands.nodes c.args.node in
+    let left = c.remove.ensures.items ∙ stack-left s items (c.of_node-level.result - 1) (placed s items c.of_node-level.result level (omega arith)) in
+    seen c.self.inside c.args.self.now (without s) c.remove.new.items.items c.self.view_is left
+
+pub returns-else-level-gt0 : goal.returns-else-level-gt0
+returns-else-level-gt0 c =
+    let items = c.self.inside.items.items in
+    let level = c.of_node-level.ensures ∙ node-level _ _ items c.self.invariant.rests.stands.nodes c.args.node in
+    let none : c.of_node-level.result ≡ 0 = omega (arith, c.if-level-gt0.false) in
+    kept c.self.inside c.args.self.now (without (is_node c.args.node)) c.self.view_is (none-left (is_node c.args.node) items c.of_node-level.result level none)

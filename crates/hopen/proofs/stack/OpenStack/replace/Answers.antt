@@ -1,50 +1,62 @@
-use Rattle.hopen.proofs.Names.{length, Stands, subst, ◌∙◌, ap, sym, refl, reverse, arith, with_items_is, map-set, with_items, no_words, is_node, open_of, opened_by, stack_of, KeptNode, change_nearest, changed}
-use Rattle.hopen.proofs.ExchangedStack.{item_of}
-use Rattle.hopen.proofs.Opened.{seen, found, none_found, kept}
-use Rattle.hnodes.proofs.Lent.{on_err}
-use Rattle.hopen.proofs.WrittenBack.{stands_same}
-use Rattle.std.proofs.lemmas.Result.{IfOk-from_err}
+use Rattle.hopen.proofs.Names.{◌≡◌, ◌-◌, List, Some, None, length, map, get_or, set, ap, sym, ◌∙◌, arith, subst, with_items_is, with_items, changed, is_node, open_of, opened_by, stack_of, KeptNode, Stands}
+use Rattle.hopen.proofs.OpenLevels.{node-level, placed}
+use Rattle.hopen.proofs.Opened.{kept, length-changed, none-replaced, rests-replaced, seen, stack-replaced}
 use Rattle.hopen.proofs.stack.OpenStack.replace.Goals as goal
-
-pub returns-in_ok-make_room-clause-ok : goal.returns-in_ok-make_room-clause-ok
-returns-in_ok-make_room-clause-ok c =
-    let f = found c.self.inside c.args.self.now (is_node c.args.node) c.in-Some.index c.self.view_is c.in-Some.ensures.found c.in-Some.ensures.within in
-    let items = c.self.inside.items.items in
-    let x : KeptNode = item_of c.args.by in
-    seen c.self.inside c.args.self.now (changed (is_node c.args.node) (λ _. open_of c.args.by)) (with_items c.self.inside.items c.replace.new.items).items c.self.view_is
-    (ap stack_of (with_items_is c.self.inside.items c.replace.new.items (omega arith))
-    ∙ ap reverse (rw c.deref_mut.ensures.value at c.replace.ensures.items ∙ sym (map-set opened_by items c.in-Some.index x))
-    ∙ change_nearest opened_by (is_node c.args.node) (λ _. open_of c.args.by) items c.in-Some.index f.up x x f.position_is f.sum refl)
-
-pub returns-in_default-clause-ok : goal.returns-in_default-clause-ok
-returns-in_default-clause-ok c =
-    kept c.args.self.now (changed (is_node c.args.node) (λ _. open_of c.args.by)) ((no_words (is_node c.args.node) c.args.self.now.stack (none_found c.index.result _ _ c.in_default.not-Some c.index.ensures.found)).changed_is (λ _. open_of c.args.by))
-
-pub invariant_of-self : goal.invariant_of-self
-invariant_of-self c = record {
-  within = c.self.invariant.within;
-  stands = stands_same c.self.inside.last _ c.self.inside.items.items _ c.in_err-make_room.ensures.same_names c.in_err-make_room.ensures.same_nodes c.in_err-make_room.ensures.fits refl c.self.invariant.stands;
-}
-
-pub returns-in_err-make_room-clause-ok : goal.returns-in_err-make_room-clause-ok
-returns-in_err-make_room-clause-ok c = IfOk-from_err c.from_residual.result _ c.from_residual.ensures.0
-
-pub returns-in_err-make_room-clause-err : goal.returns-in_err-make_room-clause-err
-returns-in_err-make_room-clause-err c = on_err c.from_residual.result c.self.view_is
-
-pub replace-requires-clause-stands : goal.replace-requires-clause-stands
-replace-requires-clause-stands c =
-    stands_same c.self.inside.last _ c.self.inside.items.items _ c.in_ok-make_room.ensures.same_names c.in_ok-make_room.ensures.same_nodes c.in_ok-make_room.ensures.fits c.deref_mut.ensures.value c.self.invariant.stands
 
 pub replace-requires-clause-within : goal.replace-requires-clause-within
 replace-requires-clause-within c =
-    let f = found c.self.inside c.args.self.now (is_node c.args.node) c.in-Some.index c.self.view_is c.in-Some.ensures.found c.in-Some.ensures.within in
-    omega (arith, f.sum, ap length c.deref_mut.ensures.value)
+    let items = c.self.inside.items.items in
+    let level = c.of_node-level.ensures ∙ node-level _ _ items c.self.invariant.rests.stands.nodes c.args.node in
+    let p = placed (is_node c.args.node) items c.of_node-level.result level (omega arith) in
+    omega (arith, p.sum, ap length c.deref_mut.ensures.value)
 
-pub invariant_of-self-in-Some : goal.invariant_of-self-in-Some
-invariant_of-self-in-Some c =
-    let is = with_items_is c.self.inside.items c.replace.new.items (c.replace.auto.items ∙ c.deref_mut.ensures.len) in
+pub replace-requires-clause-live : goal.replace-requires-clause-live
+replace-requires-clause-live c =
+    let items = c.self.inside.items.items in
+    let level = c.of_node-level.ensures ∙ node-level _ _ items c.self.invariant.rests.stands.nodes c.args.node in
+    let p = placed (is_node c.args.node) items c.of_node-level.result level (omega arith) in
+    λ e. p.live (ap (λ (l : List KeptNode). get_or (map opened_by l) (c.of_node-level.result - 1) None) (sym c.deref_mut.ensures.value) ∙ e)
+
+pub invariant_of-self-then-level-gt0 : goal.invariant_of-self-then-level-gt0
+invariant_of-self-then-level-gt0 c =
+    let items = c.self.inside.items.items in
+    let level = c.of_node-level.ensures ∙ node-level _ _ items c.self.invariant.rests.stands.nodes c.args.node in
+    let p = placed (is_node c.args.node) items c.of_node-level.result level (omega arith) in
+    let back = with_items_is c.self.inside.items c.replace.new.items (c.replace.auto.items ∙ c.deref_mut.ensures.len) in
+    let new = (with_items c.self.inside.items c.replace.new.items).items in
+    let is = ap (map opened_by) back ∙ c.replace.ensures.items
+    ∙ ap (λ (l : List KeptNode). set (map opened_by l) (c.of_node-level.result - 1) (Some (open_of c.args.by))) c.deref_mut.ensures.value in
+    let s = is_node c.args.node in
     record {
-      within = omega (arith, c.self.invariant.within, ap length is, c.replace.auto.items, ap length c.deref_mut.ensures.value);
-      stands = subst (Stands c.replace.new.last) (sym is) c.replace.ensures.stands;
+      within = omega (
+        arith,
+        c.self.invariant.within,
+        ap length
+            (stack-replaced s items (c.of_node-level.result - 1) p new (open_of c.args.by) is),
+        length-changed s (λ _. open_of c.args.by) (stack_of items),
+      );
+      rests = rests-replaced s items (c.of_node-level.result - 1) p new (open_of c.args.by) is c.self.inside.last c.replace.new.last c.self.invariant.rests
+          (subst (Stands c.replace.new.last) (sym back) c.replace.ensures.stands)
+          (c.replace.ensures.tables.holes ∙ c.in_ok-make_room.ensures.counts.1);
     }
+
+pub returns-in_ok-make_room-clause-ok : goal.returns-in_ok-make_room-clause-ok
+returns-in_ok-make_room-clause-ok c =
+    let items = c.self.inside.items.items in
+    let level = c.of_node-level.ensures ∙ node-level _ _ items c.self.invariant.rests.stands.nodes c.args.node in
+    let p = placed (is_node c.args.node) items c.of_node-level.result level (omega arith) in
+    let back = with_items_is c.self.inside.items c.replace.new.items (c.replace.auto.items ∙ c.deref_mut.ensures.len) in
+    let new = (with_items c.self.inside.items c.replace.new.items).items in
+    let is = ap (map opened_by) back ∙ c.replace.ensures.items
+    ∙ ap (λ (l : List KeptNode). set (map opened_by l) (c.of_node-level.result - 1) (Some (open_of c.args.by))) c.deref_mut.ensures.value in
+    let s = is_node c.args.node in
+    seen c.self.inside c.args.self.now (changed s (λ _. open_of c.args.by)) new c.self.view_is
+    (stack-replaced s items (c.of_node-level.result - 1) p new (open_of c.args.by) is)
+
+pub returns-else-level-gt0-clause-ok : goal.returns-else-level-gt0-clause-ok
+returns-else-level-gt0-clause-ok c =
+    let items = c.self.inside.items.items in
+    let level = c.of_node-level.ensures ∙ node-level _ _ items c.self.invariant.rests.stands.nodes c.args.node in
+    let none : c.of_node-level.result ≡ 0 = omega (arith, c.if-level-gt0.false) in
+    kept c.self.inside c.args.self.now (changed (is_node c.args.node) (λ _. open_of c.args.by)) c.self.view_is
+    (none-replaced (is_node c.args.node) items c.of_node-level.result level none (open_of c.args.by))

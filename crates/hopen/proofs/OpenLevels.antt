@@ -1,0 +1,156 @@
+-- Levels of slots, and what is open there.
+use Rattle.hopen.proofs.Names.{◌≡◌, ◌≢◌, ℕ, zero, suc, ◌+◌, ◌-◌, ◌<◌, ◌≤◌, eqb, Bool, true, false, cond, List, [], ◌∷◌, Option, Some, None, length, map, reverse, take, take-suc, get_or, set, inl, inr, refl, sym, ◌∙◌, ap, arith, cases_lt, eqb-zero-suc, find, position, slice_get, length-map, length-reverse, map-id, reverse-append, take_all, length-take-le, nat_tests, last_place, last_place-le, position-some, position-none, words, no_words, reverse_push, slice_get_nearest, change_nearest, changed, somes, holds_one, opened_by, open_of, slots_of, stack_of, node_in, name_in, names_in, nodes_in, is_node, is_named, nat_eq, IsLinked, EndsOpen, current, get_or_from_slice_get, slice_get_past, KeptNode, OpenNode}
+use Rattle.hopen.proofs.Held.{held, is-held, opened-at, some≢none}
+use Rattle.hopen.proofs.Linked.{says-levels}
+use Rattle.hopen.proofs.Somes.{find-somes, none-somes}
+
+-- one slot more
+pub slots-more : (items : List KeptNode) (p k : ℕ) (d : KeptNode) → p ≡ suc k → k < length items
+    → slots_of (take p items) ≡ opened_by (get_or items k d) ∷ slots_of (take k items)
+slots-more items p k d next within =
+    ap (λ n. slots_of (take n items)) next ∙ ap slots_of (take-suc items k d within) ∙ reverse_push opened_by (take k items) (get_or items k d)
+
+pub length-slots : (items : List KeptNode) → length (slots_of items) ≡ length items
+length-slots items = length-reverse (map opened_by items) ∙ length-map items opened_by
+
+-- the last slot, which is no hole, holds the current node
+pub current-last : (items : List KeptNode) (x : KeptNode) → EndsOpen (map opened_by items) → slice_get items (length items - 1) ≡ Some x
+    → current (stack_of items) ≡ Some (open_of x.opened)
+current-last items x ends there = elim (cases_lt (length items - 1) (length items)) [
+  | inl less ↦ here less
+  | inr past ↦ absurd (some≢none x (slice_get items (length items - 1)) there (slice_get_past items (length items - 1) past))
+]
+  where
+    here : length items - 1 < length items → current (stack_of items) ≡ Some (open_of x.opened)
+    here less =
+        let n = length items - 1 in
+        let is : get_or items n x ≡ x = get_or_from_slice_get items n x x there in
+        let slot : get_or (map opened_by items) n None ≡ opened_by x = opened-at items n x less ∙ ap opened_by is in
+        let live = is-held x (λ e. ends n (length-map items opened_by ∙ (omega arith)) (slot ∙ e)) in
+        ap (λ l. current (stack_of l)) (sym (take_all (length items) items (omega arith)))
+        ∙ ap (λ l. current (somes l)) (slots-more items (length items) n x (omega arith) less)
+        ∙ ap (λ z. current (somes (z ∷ slots_of (take n items)))) (ap opened_by is ∙ held x live)
+
+module _ {X : Type 0} (s : X → Bool) where
+  -- the place where the nearest is sought, or is not
+  pub place-here : (z : X) (zs : List X) → s z ≡ true → last_place s (z ∷ zs) ≡ suc (length zs)
+  place-here z zs e = ap (λ v. cond v (suc (length zs)) (last_place s zs)) e
+
+  pub place-past : (z : X) (zs : List X) → s z ≡ false → last_place s (z ∷ zs) ≡ last_place s zs
+  place-past z zs e = ap (λ v. cond v (suc (length zs)) (last_place s zs)) e
+
+  module _ (d : X) (ys : List X) where
+    one-more : (n : ℕ) → n < length ys → reverse (take (suc n) ys) ≡ get_or ys n d ∷ reverse (take n ys)
+    one-more n h = ap reverse (take-suc ys n d h) ∙ reverse-append (take n ys) (get_or ys n d ∷ [])
+
+    -- none from an index on is sought
+    pub place-less : (m n : ℕ) → m ≤ n → n ≤ length ys → ((k : ℕ) → m ≤ k → k < n → s (get_or ys k d) ≡ false)
+        → last_place s (reverse (take n ys)) ≡ last_place s (reverse (take m ys))
+    place-less m zero h within none = let same : zero ≡ m = omega arith in ap (λ k. last_place s (reverse (take k ys))) same
+    place-less m (suc n) h within none = elim (cases_lt m (suc n)) [
+      | inl less ↦
+          ap (last_place s) (one-more n (omega arith)) ∙ place-past (get_or ys n d) (reverse (take n ys)) (none n (omega arith) (omega arith))
+          ∙ place-less m n (omega arith) (omega arith) (λ k a b. none k a (omega arith))
+      | inr more ↦ (let same : suc n ≡ m = omega arith in ap (λ k. last_place s (reverse (take k ys))) same)
+    ]
+
+    -- the last that is sought
+    pub place-at : (j : ℕ) → j < length ys → s (get_or ys j d) ≡ true → ((k : ℕ) → j < k → k < length ys → s (get_or ys k d) ≡ false)
+        → last_place s (reverse ys) ≡ suc j
+    place-at j within here past =
+        ap (λ l. last_place s (reverse l)) (sym (take_all (length ys) ys (omega arith)))
+        ∙ place-less (suc j) (length ys) (omega arith) (omega arith) (λ k a b. past k (omega arith) b)
+        ∙ ap (last_place s) (one-more j within) ∙ place-here (get_or ys j d) (reverse (take j ys)) here
+        ∙ ap suc (length-reverse (take j ys) ∙ (omega (arith, length-take-le j ys (omega arith))))
+
+    -- none is sought
+    pub place-none : ((k : ℕ) → k < length ys → s (get_or ys k d) ≡ false) → last_place s (reverse ys) ≡ 0
+    place-none none =
+        ap (λ l. last_place s (reverse l)) (sym (take_all (length ys) ys (omega arith)))
+        ∙ place-less 0 (length ys) (omega arith) (omega arith) (λ k a b. none k b)
+
+-- what is found in the slots is no hole
+found-open : {X : Type 0} (s : X → Bool) (zs : List (Option X)) (z : Option X) → find (holds_one s) zs ≡ Some z → z ≢ None
+found-open s [] z e f = absurd (grind arith)
+found-open s (None ∷ zs) z e f = found-open s zs z e f
+found-open s (Some y ∷ zs) z e f = grind (arith, found-open s zs z)
+
+-- a slot that is nearest of those sought
+pub record IsPlaced (s : OpenNode ℕ → Bool) (items : List KeptNode) (i : ℕ) : Type 0 where
+  pub up : ℕ
+  pub sum : i + suc up ≡ length items
+  pub position_is : position (holds_one s) (slots_of items) ≡ Some up
+  pub find_is : (d : KeptNode) → find s (stack_of items) ≡ Some (open_of (KeptNode.opened (get_or items i d)))
+  pub live : get_or (map opened_by items) i None ≢ None
+
+module _ (s : OpenNode ℕ → Bool) (items : List KeptNode) (level : ℕ) (at : level ≡ last_place (holds_one s) (slots_of items)) where
+  pub level-within : level ≤ length items
+  level-within = omega (arith, at, last_place-le (holds_one s) (slots_of items), length-slots items)
+
+  pub not-placed : level ≡ 0 → find s (stack_of items) ≡ None
+  not-placed none = none-somes s (slots_of items)
+      ((no_words (holds_one s) (slots_of items) (position-none (holds_one s) (slots_of items) (sym at ∙ none))).find_is)
+
+  pub placed : 0 < level → IsPlaced s items (level - 1)
+  placed some = record {
+    up = up;
+    sum = sum;
+    position_is = there;
+    find_is = λ d. find-somes s (slots_of items) (open_of (KeptNode.opened (get_or items i d)))
+        (found d ∙ ap (λ o. Some o) (held (get_or items i d) (is-held (get_or items i d) (open-there d))));
+    live = λ e. none e;
+  }
+    where
+      i : ℕ
+      i = level - 1
+
+      up : ℕ
+      up = length (slots_of items) - 1 - i
+
+      sum : i + suc up ≡ length items
+      sum = omega (arith, level-within, some, length-slots items)
+
+      there : position (holds_one s) (slots_of items) ≡ Some up
+      there = position-some (holds_one s) (slots_of items) i (sym at ∙ (omega arith))
+
+      found : (d : KeptNode) → find (holds_one s) (slots_of items) ≡ Some (opened_by (get_or items i d))
+      found d = (words (holds_one s) (slots_of items) up there).find_is ∙ slice_get_nearest opened_by items i up d sum
+
+      open-there : (d : KeptNode) → opened_by (get_or items i d) ≢ None
+      open-there d = found-open s (slots_of items) (opened_by (get_or items i d)) (found d)
+
+      found-slot : find (holds_one s) (slots_of items) ≡ Some (get_or (map opened_by items) i None)
+      found-slot = (words (holds_one s) (slots_of items) up there).find_is ∙ ap (λ l. slice_get (reverse l) up) (sym (map-id (map opened_by items)))
+          ∙ slice_get_nearest (λ x. x) (map opened_by items) i up None (sum ∙ sym (length-map items opened_by))
+
+      none : get_or (map opened_by items) i None ≢ None
+      none = found-open s (slots_of items) (get_or (map opened_by items) i None) found-slot
+
+-- one slot becomes another
+pub set-placed : (s : OpenNode ℕ → Bool) (items : List KeptNode) (i : ℕ) (z : Option (OpenNode ℕ)) → IsPlaced s items i
+    → reverse (set (map opened_by items) i z) ≡ changed (holds_one s) (λ _. z) (slots_of items)
+set-placed s items i z p =
+    let ys = map opened_by items in
+    let back = map-id ys in
+    ap reverse (sym (map-id (set ys i z)))
+    ∙ change_nearest (λ x. x) (holds_one s) (λ _. z) ys i p.up None z (ap (λ l. position (holds_one s) (reverse l)) back ∙ p.position_is)
+    (p.sum ∙ sym (length-map items opened_by)) refl
+    ∙ ap (λ l. changed (holds_one s) (λ _. z) (reverse l)) back
+
+-- a number and the node or the name that has it
+node-sought : (k : ℕ) (z : Option (OpenNode ℕ)) → eqb (node_in z) (suc k) ≡ holds_one (is_node k) z
+node-sought k None = eqb-zero-suc k
+node-sought k (Some y) = grind (arith, nat_tests)
+
+name-sought : (k : ℕ) (z : Option (OpenNode ℕ)) → eqb (name_in z) (suc k) ≡ holds_one (is_named nat_eq k) z
+name-sought k None = eqb-zero-suc k
+name-sought k (Some y) = grind (arith, nat_tests)
+
+-- what the tables say
+pub node-level : (t bs : List ℕ) (items : List KeptNode) → IsLinked t (nodes_in (map opened_by items)) bs → (k : ℕ)
+    → get_or t k 0 ≡ last_place (holds_one (is_node k)) (slots_of items)
+node-level t bs items l k = says-levels node_in t bs (map opened_by items) l k ∙ (λ i. last_place (λ z. node-sought k z i) (slots_of items))
+
+pub name-level : (t bs : List ℕ) (items : List KeptNode) → IsLinked t (names_in (map opened_by items)) bs → (k : ℕ)
+    → get_or t k 0 ≡ last_place (holds_one (is_named nat_eq k)) (slots_of items)
+name-level t bs items l k = says-levels name_in t bs (map opened_by items) l k ∙ (λ i. last_place (λ z. name-sought k z i) (slots_of items))

@@ -1,0 +1,46 @@
+use Rattle.hopen.proofs.Names.{◌≡◌, ◌≢◌, ℕ, suc, ◌+◌, ◌&&◌, eqb, cond, List, length, map, get_or, set, sym, ◌∙◌, ap, subst, arith, get_or-set_same, get_or-set_other, length-map, IsHeld, names_in, opened_by, same_name_of, KeptNode}
+use Rattle.hopen.proofs.Projected.{held-within, length-names, name-in, same_name-at}
+use Rattle.hopen.proofs.Swapped.{linked-left}
+use Rattle.hopen.proofs.exchange.unlink_name.Goals as goal
+
+pub keep-requires-clause-name_in : goal.keep-requires-clause-name_in
+keep-requires-clause-name_in c =
+    let items = c.args.items.now in
+    let x = c.index-items-index.result in
+    let is = c.index-items-index.is in
+    name-in items c.args.index x c.requires.within is (c.requires.live x is) c.args.names.now (map same_name_of items) c.requires.linked
+
+pub keep-requires-clause-within : goal.keep-requires-clause-within
+keep-requires-clause-within c =
+    let items = c.args.items.now in
+    let x = c.index-items-index.result in
+    let held = c.next_of_name-next.ensures x c.index-items-index.is in
+    omega (
+      arith,
+      held-within c.args.names.now (map same_name_of items) x.opened.name (c.args.index + 1) c.next_of_name-next.result
+          (omega arith) held,
+      length-map items same_name_of,
+    )
+
+pub returns-clause-linked : goal.returns-clause-linked
+returns-clause-linked c =
+    let items : List KeptNode = c.args.items.now in
+    let i : ℕ = c.args.index in
+    let t : List ℕ = c.args.names.now in
+    let bs : List ℕ = map same_name_of items in
+    let x : KeptNode = c.index-items-index.result in
+    let is = c.index-items-index.is in
+    let n : ℕ = c.next_of_name-next.result in
+    let new : List ℕ = map same_name_of c.hint.new.items in
+    let level : x.same_name ≡ get_or bs i 0 = sym (same_name-at items i x c.requires.within is) in
+    let next : i + 1 ≡ suc i = omega arith in
+    let held : IsHeld t bs x.opened.name (suc i) n = subst (λ p. IsHeld t bs x.opened.name p n) next (c.next_of_name-next.ensures x is) in
+    let table : (k : ℕ) → get_or c.keep.new.names k 0 ≡ cond (eqb n 0 && eqb k x.opened.name) (get_or bs i 0) (get_or t k 0) = λ k.
+    c.keep.ensures.table k ∙ ap (λ b. cond (eqb n 0 && eqb k x.opened.name) b (get_or t k 0)) level in
+    let list : (m : ℕ) → m ≢ i → get_or (set new i 0) m 0 ≡ cond (eqb n (suc m)) (get_or bs i 0) (get_or bs m 0) = λ m ne.
+    get_or-set_other new i m 0 0 ne ∙ ap (λ (l : List ℕ). get_or l m 0) c.hint.ensures.same_names ∙ c.keep.ensures.befores m
+    ∙ ap (λ b. cond (eqb n (suc m)) b (get_or bs m 0)) level in
+    let long : length new ≡ length items = omega (arith, length-map c.hint.new.items same_name_of, c.hint.auto.items, c.keep.auto.items) in
+    linked-left t (names_in (map opened_by items)) bs c.requires.linked i x.opened.name n
+    (omega (arith, c.requires.within, length-names items)) held c.keep.new.names
+    (set new i 0) table list (get_or-set_same new i 0 0 (omega (arith, c.requires.within)))

@@ -1,0 +1,17 @@
+use Rattle.hopen.proofs.Names.{◌≡◌, ◌≤◌, ◌+◌, length, stack_of, Stands}
+use Rattle.std.specs.Prelude.{vec_capacity}
+use Rattle.hopen.proofs.kept.trim_holes.Given as goal
+
+abbrev pub invariant-loop-items : goal.invariant-loop-items
+invariant-loop-items l = record {
+  stands : Stands l.last l.items.items;
+  holes : l.last.holes + length (stack_of l.items.items) ≡ length l.items.items;
+  same : stack_of l.items.items ≡ stack_of l.initial.items.items;
+  names : length l.last.names.items ≡ length l.initial.last.names.items;
+  nodes : length l.last.nodes.items ≡ length l.initial.last.nodes.items;
+  len : length l.items.items ≤ length l.initial.items.items;
+  capacity : vec_capacity l.items ≡ vec_capacity l.initial.items;
+}
+
+abbrev pub decreases-loop-items : goal.decreases-loop-items
+decreases-loop-items l = length l.items.items
