@@ -1,8 +1,8 @@
 -- What a turn of the adoption agency's outer loop keeps, and what its steps ask.
-use Rattle.hadopt.proofs.Names.{◌≡◌, ◌≢◌, ℕ, ◌<◌, Bool, true, false, List, [], ◌∷◌, Option, Some, None, nat_eq, refl, subst, arith, Ok, Err, drop, ◌⊎◌, inl, inr, sym, ◌∙◌, ap, Result, IfOk, IfSome, Refusal, list_any, option_map, eq-eqb, cond_both, some_same, or-true, ne_eqb, OpenNode, is_node, is_open, in_scope, furthest_block, above, below, current, before, InPlace, Forest, AreCounted, place_node, at-most, deep-there, is-there, deep, deep-is, deep-self, place_in, stops, Default, EntryOf, Listed, marker, entry, is_entry, find_entry, tag_of, ErrorCode, numbers, Goes, SiteOf, stack, trees, with_stack, error_unless, InnerLoop, inner_loop, outer_turn, outer_loop, is_unlisted, adopted, most_turns, Gives, Each, Kept, AreDifferent, WithFurthestBlock}
+use Rattle.hadopt.proofs.Names.{◌≡◌, ◌≢◌, ℕ, ◌<◌, Bool, true, false, List, [], ◌∷◌, Option, Some, None, nat_eq, refl, subst, arith, Ok, Err, drop, ◌⊎◌, inl, inr, sym, ◌∙◌, ap, Result, IfOk, IfSome, Refusal, list_any, option_map, eq-eqb, cond_both, some_same, or-true, ne_eqb, OpenNode, is_node, is_open, in_scope, furthest_block, above, below, current, before, InPlace, Forest, AreCounted, place_node, at-most, deep-there, is-there, deep, deep-is, deep-self, place_in, stops, Default, EntryOf, Listed, marker, entry, is_entry, find_entry, tag_of, ErrorCode, numbers, Goes, SiteOf, stack, trees, with_stack, error_unless, InnerLoop, inner_loop, outer_turn, outer_loop, is_unlisted, adopted, most_turns, Gives, Each, Kept, AreDifferent, WithFurthestBlock, option_map_or, TreeInBody, current_is, Ended, popped_with, with_furthest_block, with_formatting_element}
 use Rattle.hadopt.proofs.Lists.{each-map, each-both, pairs-map, Among, skip, keep, among-after, each-among, front-among}
 use Rattle.hadopt.proofs.Climbing.{OnGoes, Climbing}
-use Rattle.hadopt.proofs.Searching.{any-after, at-nearest, special-there}
+use Rattle.hadopt.proofs.Searching.{any-after, at-nearest, scope-open, special-there}
 use Rattle.hadopt.proofs.Settling.{Well, place-fits}
 use Rattle.hadopt.proofs.Turning.{WellAfter, outer-turn-well, open-stands, inner-climbs}
 use Rattle.hadopt.proofs.Keeping.{to-well, from-well, numbers-tell}
@@ -71,8 +71,11 @@ pub unless-same : (v : Bool) (code : ErrorCode) (at : ℕ) (s t : SiteOf ℕ) �
 unless-same v code at s t is = let same : error_unless v code at s ≡ t = cc in ap (λ (u : SiteOf ℕ). u.items) (sym same) ∙ unless-items v code at s
 
 -- where the furthest block is found, the way up can begin, and where it goes on, it can be settled
-module _ (s : SiteOf ℕ) (f : ℕ) (b : OpenNode ℕ) (h : Well numbers s) (is_open_now : is_open f (stack s) ≡ true) (scope : in_scope (stops tag_of Default) (is_node f) (stack s) ≡ true)
+module _ (s : SiteOf ℕ) (f : ℕ) (b : OpenNode ℕ) (h : Well numbers s) (scope : in_scope (stops tag_of Default) (is_node f) (stack s) ≡ true)
     (has : list_any (is_entry f) s.items ≡ true) (under : list_any (is_node b.node) (before (is_node f) (stack s)) ≡ true) where
+  is_open_now : is_open f (stack s) ≡ true
+  is_open_now = scope-open (stops tag_of Default) f (stack s) scope
+
   abbrev way : List (OpenNode ℕ)
   way = before (is_node f) (above b.node (stack s))
 
@@ -101,7 +104,7 @@ module _ (s : SiteOf ℕ) (f : ℕ) (b : OpenNode ℕ) (h : Well numbers s) (is_
   pub after-there : (at : ℕ) (c : InnerLoop ℕ) → inner_loop numbers at b.node 0 way begin ≡ Goes c → AfterInnerLoop f b.node (current (above f (stack s))) c
   after-there at c e =
       let a = at-nearest (is_node f) (above b.node (stack s)) there.0 in
-      let k : Climbing numbers b.node (a.at ∷ a.up) c = subst (OnGoes (Climbing numbers b.node (a.at ∷ a.up))) e (inner-climbs numbers numbers-tell at f s h b under is_open_now scope a) in
+      let k : Climbing numbers b.node (a.at ∷ a.up) c = subst (OnGoes (Climbing numbers b.node (a.at ∷ a.up))) e (inner-climbs numbers numbers-tell at f s h b under scope a) in
       let m : Booked f [] c = subst (OnGoes (Booked f [])) e (inner-loop-booked at f b.node 0 way begin booked-start) in
       let fits = place-fits numbers b.node (a.at ∷ a.up) c k a.at a.up refl in
       let common_ancestor : current (above f (stack s)) ≡ current a.up = ap current (sym there.1 ∙ a.up_is) in
@@ -135,18 +138,32 @@ module _ (s : SiteOf ℕ) (f : ℕ) (b : OpenNode ℕ) (h : Well numbers s) (is_
   pub furthest-block-there : WithFurthestBlock f b.node s
   furthest-block-there = record { begun = b-stands.1; block_in = low b b-stands.0; different = different; after = after-there }
 
-pub kept-furthest-block : (s : SiteOf ℕ) (f : ℕ) (block : OpenNode ℕ) → Kept numbers s → is_open f (stack s) ≡ true → in_scope (stops tag_of Default) (is_node f) (stack s) ≡ true → list_any (is_entry f) s.items ≡ true → furthest_block tag_of f (stack s) ≡ Some block → WithFurthestBlock f block.node s
-kept-furthest-block s f block k o scope e b = furthest-block-there s f block (to-well numbers s k) o scope e (special-there tag_of (below f (stack s)) block b)
+pub kept-furthest-block : (s : SiteOf ℕ) (f : ℕ) (block : OpenNode ℕ) → Kept numbers s → in_scope (stops tag_of Default) (is_node f) (stack s) ≡ true → list_any (is_entry f) s.items ≡ true → furthest_block tag_of f (stack s) ≡ Some block → WithFurthestBlock f block.node s
+kept-furthest-block s f block k scope e b = furthest-block-there s f block (to-well numbers s k) scope e (special-there tag_of (below f (stack s)) block b)
 
 pub outer-turn-keeps : (at name : ℕ) (s t : SiteOf ℕ) (turn : code.Turn) → Kept numbers s → outer_turn numbers at name s ≡ Goes (turn_of turn t) → Kept numbers t
 outer-turn-keeps at name s t turn.Next k is = from-well numbers t (subst (OnGoes (WellAfter numbers numbers-tell at)) is (outer-turn-well numbers numbers-tell at name s (to-well numbers s k)))
 outer-turn-keeps at name s t turn.Ended k is = from-well numbers t (subst (OnGoes (WellAfter numbers numbers-tell at)) is (outer-turn-well numbers numbers-tell at name s (to-well numbers s k)))
 
-pub unless-furthest-block : (v : Bool) (code : ErrorCode) (at : ℕ) (s t : SiteOf ℕ) (f : ℕ) (block : OpenNode ℕ) → Goes (error_unless v code at s) ≡ Goes t → Kept numbers s → is_open f (stack s) ≡ true → in_scope (stops tag_of Default) (is_node f) (stack s) ≡ true → list_any (is_entry f) s.items ≡ true → furthest_block tag_of f (stack t) ≡ Some block → WithFurthestBlock f block.node t
-unless-furthest-block v code at s t f block is k o scope e b =
+pub unless-furthest-block : (v : Bool) (code : ErrorCode) (at : ℕ) (s t : SiteOf ℕ) (f : ℕ) (block : OpenNode ℕ) → Goes (error_unless v code at s) ≡ Goes t → Kept numbers s → in_scope (stops tag_of Default) (is_node f) (stack s) ≡ true → list_any (is_entry f) s.items ≡ true → furthest_block tag_of f (stack t) ≡ Some block → WithFurthestBlock f block.node t
+unless-furthest-block v code at s t f block is k scope e b =
     let same : error_unless v code at s ≡ t = cc in
     subst (λ (u : SiteOf ℕ). WithFurthestBlock f block.node u) same
-    (kept-furthest-block (error_unless v code at s) f block (kept-error v code at s k) (rw (unless-stack v code at s) o) (rw (unless-stack v code at s) scope) (rw (unless-items v code at s) e) (rw (same) b))
+    (kept-furthest-block (error_unless v code at s) f block (kept-error v code at s k) (rw (unless-stack v code at s) scope) (rw (unless-items v code at s) e) (rw (same) b))
+
+-- a turn with a formatting element in scope
+module _ (at : ℕ) (f : EntryOf ℕ) (s t : SiteOf ℕ) (scope : in_scope (stops tag_of Default) (is_node f.node) (stack s) ≡ true)
+    (told : Goes (error_unless (current_is (is_node f.node) s) TreeInBody at s) ≡ Goes t) where
+  in-scope-turn : with_formatting_element numbers at f s ≡ option_map_or (with_furthest_block numbers at f t) (furthest_block tag_of f.node (stack t)) (Goes (Ended (popped_with f t)))
+  in-scope-turn =
+      let same : error_unless (current_is (is_node f.node) s) TreeInBody at s ≡ t = cc in
+      rw (scope-open (stops tag_of Default) f.node (stack s) scope, scope, same) refl
+
+  pub blocked-turn : (block : OpenNode ℕ) → furthest_block tag_of f.node (stack t) ≡ Some block → with_formatting_element numbers at f s ≡ with_furthest_block numbers at f t block
+  blocked-turn block b = in-scope-turn ∙ ap (λ o. option_map_or (with_furthest_block numbers at f t) o (Goes (Ended (popped_with f t)))) b
+
+  pub unblocked-turn : furthest_block tag_of f.node (stack t) ≡ None → with_formatting_element numbers at f s ≡ Goes (Ended (popped_with f t))
+  unblocked-turn b = in-scope-turn ∙ ap (λ o. option_map_or (with_furthest_block numbers at f t) o (Goes (Ended (popped_with f t)))) b
 
 pub turn-keeps : (at name : ℕ) (s new : SiteOf ℕ) (r : Result code.Turn Refusal) → Kept numbers s → TurnGives r new (outer_turn numbers at name s) → IfOk r (λ t. Kept numbers new)
 turn-keeps at name s new (Ok t) k is = outer-turn-keeps at name s new t k is

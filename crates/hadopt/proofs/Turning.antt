@@ -7,7 +7,7 @@ use Rattle.hopen.specs.Formatting.{booked}
 use Rattle.names.specs.Sets.{stops_scope}
 use Rattle.hadopt.proofs.Lists.{each-map, each-both, pairs-map, Among, empty, skip, among-all, among-after, each-among, pairs-among, among-without, Front, front-among, front-pairs, front-each, pairs-put}
 use Rattle.hadopt.proofs.Climbing.{OnGoes, goes-then, made-goes, find-each, Plain, PlainEntries, plain-without, plain-with_node, Climbing, inner-loop-climbs}
-use Rattle.hadopt.proofs.Searching.{any-after, any-each, pairs-after, scope-front, At, at-nearest, special-there}
+use Rattle.hadopt.proofs.Searching.{any-after, any-each, pairs-after, scope-front, scope-open, At, at-nearest, special-there}
 use Rattle.hadopt.proofs.Settling.{Well, StandsAt, place-fits, placed-well, block-stands, ended, ended-sound, ended-out, ended-below, ended-above, ended-stands, ended-new, above-apart, block-apart}
 
 module _ {X : Type 0} where
@@ -161,12 +161,12 @@ module _ {N : Type 0} (n : Naming N) (tells : TellsTables n) (at : ℕ) where
   open-stands k s h there = let x = any-each _ (is_node k) (stack s) h.each there in subst (λ (j : ℕ). StandsAt n j s) (eqb-true x.0.node k x.2) x.1
 
   -- Where the furthest block is found, the way up can begin.
-  module _ (f : ℕ) (s : SiteOf N) (h : Well n s) (b : OpenNode N) (under : list_any (is_node b.node) (before (is_node f) (stack s)) ≡ true) (is_open_now : is_open f (stack s) ≡ true) (scope : in_scope (stops n.tag Default) (is_node f) (stack s) ≡ true) where
+  module _ (f : ℕ) (s : SiteOf N) (h : Well n s) (b : OpenNode N) (under : list_any (is_node b.node) (before (is_node f) (stack s)) ≡ true) (scope : in_scope (stops n.tag Default) (is_node f) (stack s) ≡ true) where
     abbrev pub start : InnerLoop N
     start = record { last_node = b.node; bookmark = InPlace; site = s }
 
     pub all : (list_any (is_node f) (above b.node (stack s)) ≡ true) × (above f (above b.node (stack s)) ≡ above f (stack s)) × (list_any (is_node b.node) (stack s) ≡ true)
-    all = any-after (is_node f) (is_node b.node) (stack s) under is_open_now
+    all = any-after (is_node f) (is_node b.node) (stack s) under (scope-open (stops n.tag Default) f (stack s) scope)
 
     pub begins : Climbing n b.node (above b.node (stack s)) start
     begins =
@@ -188,12 +188,12 @@ module _ {N : Type 0} (n : Naming N) (tells : TellsTables n) (at : ℕ) where
     pub inner-climbs : (a : At (is_node f) (above b.node (stack s))) → OnGoes (Climbing n b.node (a.at ∷ a.up)) (inner_loop n at b.node 0 (before (is_node f) (above b.node (stack s))) start)
     inner-climbs a = inner-loop-climbs n at b.node (before (is_node f) (above b.node (stack s))) (a.at ∷ a.up) 0 start (subst (λ (l : List (OpenNode N)). Climbing n b.node l start) a.is begins)
 
-  by-well : (fe : EntryOf N) (s : SiteOf N) (h : Well n s) (b : OpenNode N) → list_any (is_node b.node) (before (is_node fe.node) (stack s)) ≡ true → is_open fe.node (stack s) ≡ true → in_scope (stops n.tag Default) (is_node fe.node) (stack s) ≡ true
+  by-well : (fe : EntryOf N) (s : SiteOf N) (h : Well n s) (b : OpenNode N) → list_any (is_node b.node) (before (is_node fe.node) (stack s)) ≡ true → in_scope (stops n.tag Default) (is_node fe.node) (stack s) ≡ true
       → OnGoes WellAfter (with_furthest_block n at fe s b)
-  by-well fe s h b under is_open_now scope =
-      let all_there = all fe.node s h b under is_open_now scope in
+  by-well fe s h b under scope =
+      let all_there = all fe.node s h b under scope in
       let a = at-nearest (is_node fe.node) (above b.node (stack s)) all_there.0 in
-      goes-then (Climbing n b.node (a.at ∷ a.up)) WellAfter (inner_loop n at b.node 0 (before (is_node fe.node) (above b.node (stack s))) (record { last_node = b.node; bookmark = InPlace; site = s })) _ (inner-climbs fe.node s h b under is_open_now scope a)
+      goes-then (Climbing n b.node (a.at ∷ a.up)) WellAfter (inner_loop n at b.node 0 (before (is_node fe.node) (above b.node (stack s))) (record { last_node = b.node; bookmark = InPlace; site = s })) _ (inner-climbs fe.node s h b under scope a)
       (λ c k. goes-then (Well n) WellAfter (after_inner_loop n at fe b.node (current (above fe.node (stack s))) c) (λ t. Goes (Next t))
       (rw (← all_there.1, a.up_is) (ended-well fe b.node a.at a.up c k))
       (λ t m. m))
@@ -204,14 +204,14 @@ module _ {N : Type 0} (n : Naming N) (tells : TellsTables n) (at : ℕ) where
   with-well : (fe : EntryOf N) (s : SiteOf N) → Well n s → OnGoes WellAfter (with_formatting_element n at fe s)
   with-well fe s h = cond_both (not (is_open fe.node (stack s))) _ _ (OnGoes WellAfter)
       (λ _. listed-as n (with_error TreeInBody at s) (without_entry fe.node s.items) (plain-without n fe.node s.items h.plain) (erred n s TreeInBody at h))
-      (λ i. cond_both (not (in_scope (stops n.tag Default) (is_node fe.node) (stack s))) _ _ (OnGoes WellAfter) (λ _. erred n s TreeInBody at h)
-      (λ j. by_test (current_is (is_node fe.node) s) (λ z. OnGoes WellAfter (under (error_unless z TreeInBody at s))) (λ _. goes s h (not-false _ i) (not-false _ j)) (λ _. goes (with_error TreeInBody at s) (erred n s TreeInBody at h) (not-false _ i) (not-false _ j))))
+      (λ _. cond_both (not (in_scope (stops n.tag Default) (is_node fe.node) (stack s))) _ _ (OnGoes WellAfter) (λ _. erred n s TreeInBody at h)
+      (λ j. by_test (current_is (is_node fe.node) s) (λ z. OnGoes WellAfter (under (error_unless z TreeInBody at s))) (λ _. goes s h (not-false _ j)) (λ _. goes (with_error TreeInBody at s) (erred n s TreeInBody at h) (not-false _ j))))
     where
       under : SiteOf N → Outcome (Turn (SiteOf N))
       under t = option_map_or (with_furthest_block n at fe t) (furthest_block n.tag fe.node (stack t)) (Goes (Ended (popped_with fe t)))
 
-      goes : (t : SiteOf N) → Well n t → is_open fe.node (stack t) ≡ true → in_scope (stops n.tag Default) (is_node fe.node) (stack t) ≡ true → OnGoes WellAfter (under t)
-      goes t k x y = or-both (OnGoes WellAfter) (with_furthest_block n at fe t) (furthest_block n.tag fe.node (stack t)) _ (λ _. popped-well fe t k) (λ b e. by-well fe t k b (special-there n.tag (below fe.node (stack t)) b e) x y)
+      goes : (t : SiteOf N) → Well n t → in_scope (stops n.tag Default) (is_node fe.node) (stack t) ≡ true → OnGoes WellAfter (under t)
+      goes t k y = or-both (OnGoes WellAfter) (with_furthest_block n at fe t) (furthest_block n.tag fe.node (stack t)) _ (λ _. popped-well fe t k) (λ b e. by-well fe t k b (special-there n.tag (below fe.node (stack t)) b e) y)
 
   pub outer-turn-well : (name : N) (s : SiteOf N) → Well n s → OnGoes WellAfter (outer_turn n at name s)
   outer-turn-well name s h = or-both (OnGoes WellAfter) (λ f. with_formatting_element n at f s) (find_entry n.same name s.items) _ (λ _. other-well n at name s h) (λ f _. with-well f s h)

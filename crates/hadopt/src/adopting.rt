@@ -1,11 +1,11 @@
 //! The adoption agency algorithm (HTML Standard, `#adoption-agency-algorithm`), with the numbers of its steps.
 
-ghost use Rattle.std.specs.Prelude.{◌≡◌, ℕ, ◌<◌, ◌≤◌, ◌+◌, IfOk, Some, length, nat_eq, ◌*◌, map, OnOk, true};
+ghost use Rattle.std.specs.Prelude.{◌≡◌, ℕ, ◌<◌, ◌≤◌, ◌+◌, IfOk, Some, nat_eq, ◌*◌, map, OnOk, true, false};
 ghost use Rattle.std.specs.Option.{option_map};
 ghost use Rattle.hadopt.specs.Vocabulary.{most_kept, node_replaced, inner_turn, inner_loop, after_inner_loop, with_furthest_block, with_formatting_element, outer_turn, outer_loop, is_unlisted, AfterInnerLoop};
 ghost use Rattle.hadopt.specs.Vocabulary.{WithFurthestBlock, AreDifferent, inner_loop_of, InnerLoopGives, TurnGives, IsPlace, graft, place_node, element, IsOutside};
 ghost use Rattle.hadopt.specs.Vocabulary.{attribute_of, Place, without, open_of, is_node, is_open, Gives, made, Goes, stack, trees, with_stack, with_trees, before, furthest_block, find_entry, entry_is, numbers, and_then};
-ghost use Rattle.hadopt.specs.Vocabulary.{with_items, adopted, Kept, changed, put_before, EntryOf, InPlace, move_all, above};
+ghost use Rattle.hadopt.specs.Vocabulary.{adopted, Kept, changed, put_before, EntryOf, InPlace, move_all, above, is_in_scope, stops_node, tag_of, Default};
 
 use crate::listing::copy;
 use crate::site::Site;
@@ -210,6 +210,19 @@ impl Site {
         Ok(Turn::Next)
     }
 
+    /// Steps 4.4 and 4.5: a formatting element that is not in scope is an error. If it is not even open, its entry is removed.
+    fn out_of_scope(&mut self, node: NodeId, at: u64) -> Result<Turn, Refusal>
+        requires not_in_scope { is_in_scope (stops_node tag_of Default) (is_node node) (stack self.old) ≡ false }
+        ensures done { (f : EntryOf ℕ) → TurnGives result self.new (with_formatting_element numbers at (record f { node = node }) self.old) }
+        ensures nodes { self.new.nodes ≡ self.old.nodes }
+    {
+        self.error(ErrorCode::TreeInBody, at)?;
+        if !self.is_open(node) {
+            self.remove_entry(node);
+        }
+        Ok(Turn::Ended)
+    }
+
     /// Steps 4.4 to 4.19: a turn of the outer loop with a formatting element, the node of the last entry of the subject's name after the
     /// last marker. It should be the current node (step 4.6). Without a furthest block (step 4.7) it is popped (step 4.8). Only a turn with a
     /// furthest block copies the entry.
@@ -225,16 +238,8 @@ impl Site {
             → TurnGives result self.new (with_formatting_element numbers at (record f { node = node }) self.old) }
         ensures few { self.new.nodes.made ≤ self.old.nodes.made + 4 }
     {
-        // Step 4.4
-        if !self.is_open(node) {
-            self.error(ErrorCode::TreeInBody, at)?;
-            self.remove_entry(node);
-            return Ok(Turn::Ended);
-        }
-        // Step 4.5
         if !self.node_in_scope(node) {
-            self.error(ErrorCode::TreeInBody, at)?;
-            return Ok(Turn::Ended);
+            return self.out_of_scope(node, at);
         }
         let found = self.is_current(node);
         self.error_unless(found, ErrorCode::TreeInBody, at)?;

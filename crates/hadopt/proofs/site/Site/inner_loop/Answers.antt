@@ -1,4 +1,4 @@
-use Rattle.hadopt.proofs.Names.{◌≡◌, ◌<◌, ◌≤◌, ◌+◌, ℕ, Some, None, sym, ap, ◌∙◌, subst, arith, option_map, open_of, InPlace, current, before, above, is_node, InnerLoop, inner_loop, numbers, SiteOf, OpenNode, Option, Outcome, inner_loop_of, stack, Refusal, Refused, Result, Ok, Err, inl, inr, ◌⊎◌}
+use Rattle.hadopt.proofs.Names.{ℕ, sym, ap, ◌∙◌, arith, option_map, open_of, InPlace, current, above, InnerLoop, SiteOf, inner_loop_of}
 use Rattle.hadopt.proofs.Ways.{way-begins, way-step}
 use Rattle.hadopt.proofs.site.Site.inner_loop.Goals as goal
 

@@ -1,4 +1,4 @@
-use Rattle.hadopt.proofs.Names.{◌≡◌, ℕ, SiteOf, InnerLoop, Goes, Outcome, Some, entry_of, left, ◌∙◌, ap, sym, arith, option_map, open_of, entry_is, inner_loop_of, stack}
+use Rattle.hadopt.proofs.Names.{ℕ, SiteOf, InnerLoop, Goes, Outcome, entry_of, left, ◌∙◌, ap, sym, arith, option_map, open_of, entry_is, inner_loop_of}
 use Rattle.hadopt.proofs.Ways.{turn-kept, turn-unlisted, turn-later}
 use Rattle.hadopt.proofs.site.Site.inner_turn.Goals.{then-passed-ge-MOST_KEPT, else-passed-ge-MOST_KEPT+in_ok-entry+in_default}
 use Rattle.hadopt.proofs.site.Site.inner_turn.Goals as goal
