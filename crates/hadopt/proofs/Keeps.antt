@@ -1,10 +1,12 @@
 -- What a turn of the adoption agency's outer loop keeps, and what its steps ask.
-use Rattle.hadopt.proofs.Names.{◌≡◌, ◌≢◌, ℕ, ◌<◌, Bool, true, false, List, [], ◌∷◌, Option, Some, None, nat_eq, refl, subst, arith, Ok, Err, drop, ◌⊎◌, inl, inr, sym, ◌∙◌, ap, Result, IfOk, IfSome, Refusal, list_any, option_map, eq-eqb, cond_both, some_same, or-true, ne_eqb, OpenNode, is_node, is_open, in_scope, furthest_block, above, below, current, before, InPlace, Forest, AreCounted, place_node, at-most, deep-there, is-there, deep, deep-is, deep-self, place_in, stops, Default, EntryOf, Listed, marker, entry, is_entry, find_entry, tag_of, ErrorCode, numbers, Goes, SiteOf, stack, trees, with_stack, error_unless, InnerLoop, inner_loop, outer_turn, outer_loop, is_unlisted, adopted, most_turns, Gives, Each, Kept, AreDifferent, WithFurthestBlock, option_map_or, TreeInBody, current_is, Ended, popped_with, with_furthest_block, with_formatting_element}
+use Rattle.hadopt.proofs.Names.{◌≡◌, ◌≢◌, ℕ, ◌<◌, Bool, true, false, List, [], ◌∷◌, Some, None, nat_eq, refl, subst, arith, Ok, Err, drop, ◌⊎◌, inl, inr, sym, ◌∙◌, ap, Result, IfOk, IfSome, Refusal, list_any, eq-eqb, cond_both, some_same, or-true, ne_eqb, OpenNode, is_node, is_open, in_scope, furthest_block, above, below, current, before, InPlace, Forest, AreCounted, place_node, at-most, deep-there, is-there, deep, deep-is, deep-self, place_in, stops, Default, EntryOf, Listed, marker, entry, is_entry, find_entry, tag_of, ErrorCode, numbers, Goes, SiteOf, stack, trees, with_stack, error_unless, InnerLoop, inner_loop, outer_turn, outer_loop, is_unlisted, adopted, most_turns, Gives, Each, Kept, AreDifferent, WithFurthestBlock, option_map_or, TreeInBody, current_is, Ended, popped_with, with_furthest_block, with_formatting_element, with_error, cond}
+use Rattle.hadopt.proofs.Choices.{by_test}
+use Rattle.hopen.specs.Stack.{topmost_special}
 use Rattle.hadopt.proofs.Lists.{each-map, each-both, pairs-map, Among, skip, keep, among-after, each-among, front-among}
 use Rattle.hadopt.proofs.Climbing.{OnGoes, Climbing}
 use Rattle.hadopt.proofs.Searching.{any-after, at-nearest, scope-open, special-there}
 use Rattle.hadopt.proofs.Settling.{Well, place-fits}
-use Rattle.hadopt.proofs.Turning.{WellAfter, outer-turn-well, open-stands, inner-climbs}
+use Rattle.hadopt.proofs.Turning.{WellAfter, erred, outer-turn-well, open-stands, inner-climbs}
 use Rattle.hadopt.proofs.Keeping.{to-well, from-well, numbers-tell}
 use Rattle.hadopt.proofs.Booked.{Booked, inner-loop-booked, bookmark-there, way-others}
 use Rattle.hadopt.specs.declared.adopting.Turn as code
@@ -37,38 +39,9 @@ found-entry name (entry d ∷ items) e is = cond_both (nat_eq name d.name) (Some
     (λ _ s. rw (some_same d e s, eq-eqb e.node e.node refl) refl)
     (λ _ s. rw (found-entry name items e s) (or-true (is_entry e.node (entry d)))) is
 
--- .. and so is that of a node that was found
-pub found-node : (name node : ℕ) (items : List (Listed ℕ)) → option_map (λ e. e.node) (find_entry nat_eq name items) ≡ Some node → (f : EntryOf ℕ) × (find_entry nat_eq name items ≡ Some (record f { node = node }))
-found-node name node items is = go (find_entry nat_eq name items) refl is
-  where
-    go : (o : Option (EntryOf ℕ)) → find_entry nat_eq name items ≡ o → option_map (λ e. e.node) o ≡ Some node → (f : EntryOf ℕ) × (find_entry nat_eq name items ≡ Some (record f { node = node }))
-    go None e h = cc
-    go (Some f) e h = let same : f.node ≡ node = cc in (f, e ∙ ap (λ (k : ℕ). Some (record f { node = k })) same)
-
-pub found-none : (name : ℕ) (items : List (Listed ℕ)) → option_map (λ e. e.node) (find_entry nat_eq name items) ≡ None → find_entry nat_eq name items ≡ None
-found-none name items is = go (find_entry nat_eq name items) is
-  where
-    go : (o : Option (EntryOf ℕ)) → option_map (λ e. e.node) o ≡ None → o ≡ None
-    go None h = refl
-    go (Some f) h = cc
-
-pub has-node : (name node : ℕ) (items : List (Listed ℕ)) → option_map (λ e. e.node) (find_entry nat_eq name items) ≡ Some node → list_any (is_entry node) items ≡ true
-has-node name node items is = let h = found-node name node items is in found-entry name items (record h.0 { node = node }) h.1
-
-pub kept-error : (v : Bool) (code : ErrorCode) (at : ℕ) (s : SiteOf ℕ) → Kept numbers s → Kept numbers (error_unless v code at s)
-kept-error true code at s k = k
-kept-error false code at s k = record { counted = k.counted; open_stands = k.open_stands; plain = k.plain }
-
-pub unless-stack : (v : Bool) (code : ErrorCode) (at : ℕ) (s : SiteOf ℕ) → stack (error_unless v code at s) ≡ stack s
+unless-stack : (v : Bool) (code : ErrorCode) (at : ℕ) (s : SiteOf ℕ) → stack (error_unless v code at s) ≡ stack s
 unless-stack true code at s = refl
 unless-stack false code at s = refl
-
-pub unless-items : (v : Bool) (code : ErrorCode) (at : ℕ) (s : SiteOf ℕ) → (error_unless v code at s).items ≡ s.items
-unless-items true code at s = refl
-unless-items false code at s = refl
-
-pub unless-same : (v : Bool) (code : ErrorCode) (at : ℕ) (s t : SiteOf ℕ) → Goes (error_unless v code at s) ≡ Goes t → t.items ≡ s.items
-unless-same v code at s t is = let same : error_unless v code at s ≡ t = cc in ap (λ (u : SiteOf ℕ). u.items) (sym same) ∙ unless-items v code at s
 
 -- where the furthest block is found, the way up can begin, and where it goes on, it can be settled
 module _ (s : SiteOf ℕ) (f : ℕ) (b : OpenNode ℕ) (h : Well numbers s) (scope : in_scope (stops tag_of Default) (is_node f) (stack s) ≡ true)
@@ -138,32 +111,42 @@ module _ (s : SiteOf ℕ) (f : ℕ) (b : OpenNode ℕ) (h : Well numbers s) (sco
   pub furthest-block-there : WithFurthestBlock f b.node s
   furthest-block-there = record { begun = b-stands.1; block_in = low b b-stands.0; different = different; after = after-there }
 
-pub kept-furthest-block : (s : SiteOf ℕ) (f : ℕ) (block : OpenNode ℕ) → Kept numbers s → in_scope (stops tag_of Default) (is_node f) (stack s) ≡ true → list_any (is_entry f) s.items ≡ true → furthest_block tag_of f (stack s) ≡ Some block → WithFurthestBlock f block.node s
-kept-furthest-block s f block k scope e b = furthest-block-there s f block (to-well numbers s k) scope e (special-there tag_of (below f (stack s)) block b)
+-- .. also after the error that the formatting element is not the current node
+pub blocked-stands : (at : ℕ) (s t : SiteOf ℕ) (f : ℕ) (block : OpenNode ℕ) → Goes (with_error TreeInBody at s) ≡ Goes t → Kept numbers s → in_scope (stops tag_of Default) (is_node f) (stack s) ≡ true → list_any (is_entry f) s.items ≡ true
+    → furthest_block tag_of f (stack s) ≡ Some block → WithFurthestBlock f block.node t
+blocked-stands at s t f block told k scope e b =
+    let same : with_error TreeInBody at s ≡ t = cc in
+    let h = erred numbers s TreeInBody at (to-well numbers s k) in
+    subst (λ (u : SiteOf ℕ). WithFurthestBlock f block.node u) same (furthest-block-there (with_error TreeInBody at s) f block h scope e (special-there tag_of (below f (stack s)) block b))
+
+-- a formatting element with a furthest block is not the current node
+blocked-current : (f : ℕ) (block : OpenNode ℕ) (xs : List (OpenNode ℕ)) → furthest_block tag_of f xs ≡ Some block → option_map_or (is_node f) (current xs) false ≡ false
+blocked-current f block [] b = refl
+blocked-current f block (x ∷ up) b = by_test (is_node f x) (λ v. topmost_special tag_of (cond v [] (x ∷ before (is_node f) up)) ≡ Some block → v ≡ false) (λ _ k. cc) (λ _ _. refl) b
 
 pub outer-turn-keeps : (at name : ℕ) (s t : SiteOf ℕ) (turn : code.Turn) → Kept numbers s → outer_turn numbers at name s ≡ Goes (turn_of turn t) → Kept numbers t
 outer-turn-keeps at name s t turn.Next k is = from-well numbers t (subst (OnGoes (WellAfter numbers numbers-tell at)) is (outer-turn-well numbers numbers-tell at name s (to-well numbers s k)))
 outer-turn-keeps at name s t turn.Ended k is = from-well numbers t (subst (OnGoes (WellAfter numbers numbers-tell at)) is (outer-turn-well numbers numbers-tell at name s (to-well numbers s k)))
 
-pub unless-furthest-block : (v : Bool) (code : ErrorCode) (at : ℕ) (s t : SiteOf ℕ) (f : ℕ) (block : OpenNode ℕ) → Goes (error_unless v code at s) ≡ Goes t → Kept numbers s → in_scope (stops tag_of Default) (is_node f) (stack s) ≡ true → list_any (is_entry f) s.items ≡ true → furthest_block tag_of f (stack t) ≡ Some block → WithFurthestBlock f block.node t
-unless-furthest-block v code at s t f block is k scope e b =
-    let same : error_unless v code at s ≡ t = cc in
-    subst (λ (u : SiteOf ℕ). WithFurthestBlock f block.node u) same
-    (kept-furthest-block (error_unless v code at s) f block (kept-error v code at s k) (rw (unless-stack v code at s) scope) (rw (unless-items v code at s) e) (rw (same) b))
+-- a turn with a formatting element in scope, which is an error unless it is the current node
+module _ (at : ℕ) (f : EntryOf ℕ) (s t : SiteOf ℕ) (scope : in_scope (stops tag_of Default) (is_node f.node) (stack s) ≡ true) where
+  abbrev told : SiteOf ℕ
+  told = error_unless (current_is (is_node f.node) s) TreeInBody at s
 
--- a turn with a formatting element in scope
-module _ (at : ℕ) (f : EntryOf ℕ) (s t : SiteOf ℕ) (scope : in_scope (stops tag_of Default) (is_node f.node) (stack s) ≡ true)
-    (told : Goes (error_unless (current_is (is_node f.node) s) TreeInBody at s) ≡ Goes t) where
-  in-scope-turn : with_formatting_element numbers at f s ≡ option_map_or (with_furthest_block numbers at f t) (furthest_block tag_of f.node (stack t)) (Goes (Ended (popped_with f t)))
-  in-scope-turn =
-      let same : error_unless (current_is (is_node f.node) s) TreeInBody at s ≡ t = cc in
-      rw (scope-open (stops tag_of Default) f.node (stack s) scope, scope, same) refl
+  in-scope-turn : with_formatting_element numbers at f s ≡ option_map_or (with_furthest_block numbers at f told) (furthest_block tag_of f.node (stack s)) (Goes (Ended (popped_with f told)))
+  in-scope-turn = rw (scope-open (stops tag_of Default) f.node (stack s) scope, scope)
+      (ap (λ l. option_map_or (with_furthest_block numbers at f told) (furthest_block tag_of f.node l) (Goes (Ended (popped_with f told)))) (unless-stack (current_is (is_node f.node) s) TreeInBody at s))
 
-  pub blocked-turn : (block : OpenNode ℕ) → furthest_block tag_of f.node (stack t) ≡ Some block → with_formatting_element numbers at f s ≡ with_furthest_block numbers at f t block
-  blocked-turn block b = in-scope-turn ∙ ap (λ o. option_map_or (with_furthest_block numbers at f t) o (Goes (Ended (popped_with f t)))) b
+  pub blocked-turn : (block : OpenNode ℕ) → Goes (with_error TreeInBody at s) ≡ Goes t → furthest_block tag_of f.node (stack s) ≡ Some block → with_formatting_element numbers at f s ≡ with_furthest_block numbers at f t block
+  blocked-turn block is b =
+      let same : with_error TreeInBody at s ≡ t = cc in
+      in-scope-turn ∙ ap (λ o. option_map_or (with_furthest_block numbers at f told) o (Goes (Ended (popped_with f told)))) b
+      ∙ ap (λ v. with_furthest_block numbers at f (error_unless v TreeInBody at s) block) (blocked-current f.node block (stack s) b) ∙ ap (λ u. with_furthest_block numbers at f u block) same
 
-  pub unblocked-turn : furthest_block tag_of f.node (stack t) ≡ None → with_formatting_element numbers at f s ≡ Goes (Ended (popped_with f t))
-  unblocked-turn b = in-scope-turn ∙ ap (λ o. option_map_or (with_furthest_block numbers at f t) o (Goes (Ended (popped_with f t)))) b
+  pub unblocked-turn : Goes told ≡ Goes t → furthest_block tag_of f.node (stack s) ≡ None → with_formatting_element numbers at f s ≡ Goes (Ended (popped_with f t))
+  unblocked-turn is b =
+      let same : told ≡ t = cc in
+      in-scope-turn ∙ ap (λ o. option_map_or (with_furthest_block numbers at f told) o (Goes (Ended (popped_with f told)))) b ∙ ap (λ u. Goes (Ended (popped_with f u))) same
 
 pub turn-keeps : (at name : ℕ) (s new : SiteOf ℕ) (r : Result code.Turn Refusal) → Kept numbers s → TurnGives r new (outer_turn numbers at name s) → IfOk r (λ t. Kept numbers new)
 turn-keeps at name s new (Ok t) k is = outer-turn-keeps at name s new t k is

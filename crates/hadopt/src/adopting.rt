@@ -1,10 +1,10 @@
 //! The adoption agency algorithm (HTML Standard, `#adoption-agency-algorithm`), with the numbers of its steps.
 
-ghost use Rattle.std.specs.Prelude.{◌≡◌, ℕ, ◌<◌, ◌≤◌, ◌+◌, IfOk, Some, nat_eq, ◌*◌, map, OnOk, true, false};
+ghost use Rattle.std.specs.Prelude.{◌≡◌, ℕ, ◌<◌, ◌≤◌, ◌+◌, IfOk, None, ◌*◌, map, OnOk, true, false};
 ghost use Rattle.std.specs.Option.{option_map};
 ghost use Rattle.hadopt.specs.Vocabulary.{most_kept, node_replaced, inner_turn, inner_loop, after_inner_loop, with_furthest_block, with_formatting_element, outer_turn, outer_loop, is_unlisted, AfterInnerLoop};
 ghost use Rattle.hadopt.specs.Vocabulary.{WithFurthestBlock, AreDifferent, inner_loop_of, InnerLoopGives, TurnGives, IsPlace, graft, place_node, element, IsOutside};
-ghost use Rattle.hadopt.specs.Vocabulary.{attribute_of, Place, without, open_of, is_node, is_open, Gives, made, Goes, stack, trees, with_stack, with_trees, before, furthest_block, find_entry, entry_is, numbers, and_then};
+ghost use Rattle.hadopt.specs.Vocabulary.{attribute_of, Place, without, open_of, is_node, is_open, Gives, made, Goes, stack, trees, with_stack, with_trees, before, furthest_block, entry_is, numbers, and_then};
 ghost use Rattle.hadopt.specs.Vocabulary.{adopted, Kept, changed, put_before, EntryOf, InPlace, move_all, above, is_in_scope, stops_node, tag_of, Default};
 
 use crate::listing::copy;
@@ -223,54 +223,45 @@ impl Site {
         Ok(Turn::Ended)
     }
 
-    /// Steps 4.4 to 4.19: a turn of the outer loop with a formatting element, the node of the last entry of the subject's name after the
-    /// last marker. It should be the current node (step 4.6). Without a furthest block (step 4.7) it is popped (step 4.8). Only a turn with a
-    /// furthest block copies the entry.
-    fn with_formatting_element(
-        &mut self,
-        subject: NameId,
-        node: NodeId,
-        at: u64,
-    ) -> Result<Turn, Refusal>
-        requires kept { Kept numbers self.old }
-        requires entry { option_map (λ e. e.node) (find_entry nat_eq subject self.old.items) ≡ Some node }
-        ensures done { (f : EntryOf ℕ) → find_entry nat_eq subject self.old.items ≡ Some (record f { node = node })
-            → TurnGives result self.new (with_formatting_element numbers at (record f { node = node }) self.old) }
-        ensures few { self.new.nodes.made ≤ self.old.nodes.made + 4 }
+    /// Steps 4.6 and 4.8: the end of a turn without a furthest block. The formatting element, which should be the current node, is popped,
+    /// and its entry is removed.
+    fn without_furthest_block(&mut self, node: NodeId, at: u64) -> Result<Turn, Refusal>
+        requires in_scope { is_in_scope (stops_node tag_of Default) (is_node node) (stack self.old) ≡ true }
+        requires no_block { furthest_block tag_of node (stack self.old) ≡ None }
+        ensures done { (f : EntryOf ℕ) → TurnGives result self.new (with_formatting_element numbers at (record f { node = node }) self.old) }
+        ensures nodes { self.new.nodes ≡ self.old.nodes }
     {
-        if !self.node_in_scope(node) {
-            return self.out_of_scope(node, at);
-        }
         let found = self.is_current(node);
         self.error_unless(found, ErrorCode::TreeInBody, at)?;
-        match self.furthest_block(node) {
-            Some(furthest_block) => {
-                let Some(formatting_element) = copy(self.list.find(subject))? else {
-                    unreachable!()
-                };
-                self.with_furthest_block(formatting_element, furthest_block.node, at)
-            }
-            None => {
-                self.pop_to_node(node);
-                self.remove_entry(node);
-                Ok(Turn::Ended)
-            }
-        }
+        self.pop_to_node(node);
+        self.remove_entry(node);
+        Ok(Turn::Ended)
     }
 
-    /// Step 4.3: a turn of the outer loop. Its formatting element is the node of the last entry of the subject's name after the last marker.
+    /// Steps 4.3 to 4.19: a turn of the outer loop. Its formatting element is the node of the last entry of the subject's name after the last
+    /// marker. Only a turn with a furthest block copies the entry. The formatting element is above that block, so it is not the current
+    /// node, which is an error (step 4.6).
     fn outer_turn(&mut self, subject: NameId, at: u64) -> Result<Turn, Refusal>
         requires { Kept numbers self.old }
         ensures done { TurnGives result self.new (outer_turn numbers at subject self.old) }
         ensures kept { IfOk result (λ _. Kept numbers self.new) }
         ensures few { self.new.nodes.made ≤ self.old.nodes.made + 4 }
     {
-        match self.find(subject) {
-            Some(node) => self.with_formatting_element(subject, node, at),
-            None => {
-                self.other_end(subject, at)?;
-                Ok(Turn::Ended)
+        let Some(entry) = self.list.find(subject) else {
+            self.other_end(subject, at)?;
+            return Ok(Turn::Ended);
+        };
+        let node = entry.node;
+        if !self.node_in_scope(node) {
+            return self.out_of_scope(node, at);
+        }
+        match self.furthest_block(node) {
+            Some(furthest_block) => {
+                let formatting_element = entry.copy()?;
+                self.error(ErrorCode::TreeInBody, at)?;
+                self.with_furthest_block(formatting_element, furthest_block.node, at)
             }
+            None => self.without_furthest_block(node, at),
         }
     }
 

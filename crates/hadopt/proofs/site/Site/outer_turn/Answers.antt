@@ -1,27 +1,54 @@
-use Rattle.hadopt.proofs.Names.{◌≡◌, ◌∙◌, ap, sym, nat_eq, None, ℕ, find_entry, numbers, Goes, SiteOf, other_end, Ended}
-use Rattle.hadopt.specs.declared.adopting.Turn.TheVariants as turn
-use Rattle.hadopt.proofs.Keeps.{found-node, found-none, turn-keeps, outer-turn-keeps}
+use Rattle.hadopt.proofs.Names.{◌≡◌, ◌∙◌, ap, sym, subst, ℕ, nat_eq, Some, option_map, open_of, EntryOf, find_entry, entry_is, numbers, SiteOf, with_furthest_block, WithFurthestBlock}
+use Rattle.hadopt.proofs.Keeps.{found-entry, blocked-stands, blocked-turn, turn-keeps}
+use Rattle.hadopt.specs.Meets.{TurnGives}
 use Rattle.hadopt.proofs.site.Site.outer_turn.Goals as goal
 
-pub with_formatting_element-requires-clause-entry : goal.with_formatting_element-requires-clause-entry
-with_formatting_element-requires-clause-entry c = sym c.find.ensures ∙ c.in-Some.is
+pub returns-then-not-node_in_scope-clause-done : goal.returns-then-not-node_in_scope-clause-done
+returns-then-not-node_in_scope-clause-done c =
+    let f = entry_is c.in-Some.entry.now in
+    let found : find_entry nat_eq c.args.subject c.args.self.now.items ≡ Some f =
+    ap (λ (s : SiteOf ℕ). find_entry nat_eq c.args.subject s.items) (sym c.self.view_is) ∙ sym c.find.ensures ∙ ap (option_map (λ e. entry_is e.now)) c.in-Some.is in
+    rw found (c.out_of_scope.ensures.done f)
 
-pub returns-in-Some-clause-done : goal.returns-in-Some-clause-done
-returns-in-Some-clause-done c =
-    let f = found-node c.args.subject c.in-Some.node c.args.self.now.items (sym c.find.ensures ∙ c.in-Some.is) in
-    rw (f.1) (c.with_formatting_element.ensures.done f.0 f.1)
+pub returns-then-not-node_in_scope-clause-kept : goal.returns-then-not-node_in_scope-clause-kept
+returns-then-not-node_in_scope-clause-kept c =
+    turn-keeps c.args.at c.args.subject c.args.self.now c.out_of_scope.new.self c.out_of_scope.result c.requires (returns-then-not-node_in_scope-clause-done c)
 
-pub returns-in-Some-clause-kept : goal.returns-in-Some-clause-kept
-returns-in-Some-clause-kept c =
-    turn-keeps c.args.at c.args.subject c.args.self.now c.with_formatting_element.new.self c.with_formatting_element.result c.requires (returns-in-Some-clause-done c)
+pub with_furthest_block-requires : goal.with_furthest_block-requires
+with_furthest_block-requires c =
+    let f = entry_is c.in-Some.entry.now in
+    let found : find_entry nat_eq c.args.subject c.args.self.now.items ≡ Some f =
+    ap (λ (s : SiteOf ℕ). find_entry nat_eq c.args.subject s.items) (sym c.self.view_is) ∙ sym c.find.ensures ∙ ap (option_map (λ e. entry_is e.now)) c.in-Some.is in
+    let copied : f ≡ entry_is c.in_ok-formatting_element-in-Some-furthest_block.formatting_element = sym c.in_ok-formatting_element-in-Some-furthest_block.ensures in
+    record {
+      stands = subst (λ (e : EntryOf ℕ). WithFurthestBlock e.node c.in-Some-furthest_block.furthest_block.node c.error.new.self) copied
+          (blocked-stands c.args.at c.args.self.now c.error.new.self f.node (open_of c.in-Some-furthest_block.furthest_block) c.in_ok-error-in-Some-furthest_block.ensures.done c.requires
+          (sym c.node_in_scope.ensures ∙ c.if-not-node_in_scope.false)
+          (found-entry c.args.subject c.args.self.now.items f found)
+          (sym c.furthest_block.ensures ∙ ap (option_map open_of) c.in-Some-furthest_block.is));
+    }
 
-pub returns-in_ok-other_end-in-None-clause-done : goal.returns-in_ok-other_end-in-None-clause-done
-returns-in_ok-other_end-in-None-clause-done c =
-    let none : find_entry nat_eq c.args.subject c.args.self.now.items ≡ None = found-none c.args.subject c.args.self.now.items (sym c.find.ensures ∙ c.in-None.is) in
-    let gives : Goes (other_end numbers c.args.at c.args.subject c.args.self.now) ≡ Goes c.other_end.new.self = c.in_ok-other_end-in-None.ensures.done in
-    let same : other_end numbers c.args.at c.args.subject c.args.self.now ≡ c.other_end.new.self = cc in
-    rw (none) (ap (λ (s : SiteOf ℕ). Goes (Ended s)) same)
+pub returns-in_ok-error-in-Some-furthest_block-clause-done : goal.returns-in_ok-error-in-Some-furthest_block-clause-done
+returns-in_ok-error-in-Some-furthest_block-clause-done c =
+    let f = entry_is c.in-Some.entry.now in
+    let block = open_of c.in-Some-furthest_block.furthest_block in
+    let found : find_entry nat_eq c.args.subject c.args.self.now.items ≡ Some f =
+    ap (λ (s : SiteOf ℕ). find_entry nat_eq c.args.subject s.items) (sym c.self.view_is) ∙ sym c.find.ensures ∙ ap (option_map (λ e. entry_is e.now)) c.in-Some.is in
+    rw (found, blocked-turn c.args.at f c.args.self.now c.error.new.self (sym c.node_in_scope.ensures ∙ c.if-not-node_in_scope.false) block c.in_ok-error-in-Some-furthest_block.ensures.done (sym c.furthest_block.ensures ∙ ap (option_map open_of) c.in-Some-furthest_block.is))
+    (subst (λ (e : EntryOf ℕ). TurnGives c.with_furthest_block.result c.with_furthest_block.new.self (with_furthest_block numbers c.args.at e c.error.new.self block)) c.in_ok-formatting_element-in-Some-furthest_block.ensures
+    (c.with_furthest_block.ensures.done block.name))
 
-pub returns-in_ok-other_end-in-None-clause-kept : goal.returns-in_ok-other_end-in-None-clause-kept
-returns-in_ok-other_end-in-None-clause-kept c =
-    outer-turn-keeps c.args.at c.args.subject c.args.self.now c.other_end.new.self turn.Ended c.requires (returns-in_ok-other_end-in-None-clause-done c)
+pub returns-in_ok-error-in-Some-furthest_block-clause-kept : goal.returns-in_ok-error-in-Some-furthest_block-clause-kept
+returns-in_ok-error-in-Some-furthest_block-clause-kept c =
+    turn-keeps c.args.at c.args.subject c.args.self.now c.with_furthest_block.new.self c.with_furthest_block.result c.requires (returns-in_ok-error-in-Some-furthest_block-clause-done c)
+
+pub returns-in-None-clause-done : goal.returns-in-None-clause-done
+returns-in-None-clause-done c =
+    let f = entry_is c.in-Some.entry.now in
+    let found : find_entry nat_eq c.args.subject c.args.self.now.items ≡ Some f =
+    ap (λ (s : SiteOf ℕ). find_entry nat_eq c.args.subject s.items) (sym c.self.view_is) ∙ sym c.find.ensures ∙ ap (option_map (λ e. entry_is e.now)) c.in-Some.is in
+    rw found (c.without_furthest_block.ensures.done f)
+
+pub returns-in-None-clause-kept : goal.returns-in-None-clause-kept
+returns-in-None-clause-kept c =
+    turn-keeps c.args.at c.args.subject c.args.self.now c.without_furthest_block.new.self c.without_furthest_block.result c.requires (returns-in-None-clause-done c)
