@@ -223,9 +223,9 @@ impl LastLevels {
     }
 }
 
-/// The nearest nodes of sets of names among these slots, from the last that is no hole.
-#[inline(never)]
-fn sets_over_holes(items: &[KeptNode]) -> SetNodes
+/// The nearest nodes of sets of names among these slots.
+#[inline(always)]
+pub(crate) fn sets_of(items: &[KeptNode]) -> SetNodes
     requires { KeepSets (map opened_by items.now) (map sets_at items.now) }
     ensures { (set : NameSet) → set_node set result ≡ nearest_up set (map opened_by items.now) (length items.now) }
 {
@@ -237,22 +237,6 @@ fn sets_over_holes(items: &[KeptNode]) -> SetNodes
         }
     }
     SetNodes::none()
-}
-
-/// The nearest nodes of sets of names among these slots.
-#[inline(always)]
-pub(crate) fn sets_of(items: &[KeptNode]) -> SetNodes
-    requires { KeepSets (map opened_by items.now) (map sets_at items.now) }
-    ensures { (set : NameSet) → set_node set result ≡ nearest_up set (map opened_by items.now) (length items.now) }
-{
-    let len = items.len();
-    if len == 0 {
-        return SetNodes::none();
-    }
-    if items[len - 1].kind.is_hole() {
-        return sets_over_holes(items);
-    }
-    items[len - 1].sets
 }
 
 /// The same with a node right below them.

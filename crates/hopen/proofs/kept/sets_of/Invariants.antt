@@ -1,5 +1,5 @@
 use Rattle.hopen.proofs.Names.{◌≡◌, ◌≤◌, length, map, opened_by, nearest_up, NameSet}
-use Rattle.hopen.proofs.kept.sets_over_holes.Given as goal
+use Rattle.hopen.proofs.kept.sets_of.Given as goal
 
 abbrev pub invariant-loop-index : goal.invariant-loop-index
 invariant-loop-index l = record {
