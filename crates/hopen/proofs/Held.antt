@@ -1,5 +1,5 @@
 -- What is open in a slot.
-use Rattle.hopen.proofs.Names.{◌≡◌, ◌≢◌, ℕ, ◌<◌, Bool, true, false, cond, List, Option, Some, None, length, map, get_or, refl, ap, arith, get_or-map, is_hole_kind, opened_by, open_of, KeptNode}
+use Rattle.hopen.proofs.Names.{◌≡◌, ◌≢◌, ℕ, ◌<◌, Bool, true, false, cond, List, Option, Some, None, length, map, get_or, refl, ap, arith, get_or-map, is_hole_kind, opened_by, open_of, KeptNode, subst, kind_of, may_stay_open, tag_of, sym, ◌∙◌, IsBelow, LastLevels, Open, OpenNode}
 
 pub held : (x : KeptNode) → is_hole_kind x.kind ≡ false → opened_by x ≡ Some (open_of x.opened)
 held x e = ap (λ v. cond v None (Some (open_of x.opened))) e
@@ -19,3 +19,19 @@ is-held x ne = go (is_hole_kind x.kind) refl
 
 pub opened-at : (items : List KeptNode) (i : ℕ) (d : KeptNode) → i < length items → get_or (map opened_by items) i None ≡ opened_by (get_or items i d)
 opened-at items i d h = get_or-map opened_by items i d None h
+
+-- the kind of a slot with a node is no hole's
+pub kind-held : (y : OpenNode ℕ) → is_hole_kind (kind_of (Some y)) ≡ false
+kind-held y = go (may_stay_open (tag_of y.name)) refl
+  where
+    go : (v : Bool) → may_stay_open (tag_of y.name) ≡ v → is_hole_kind (kind_of (Some y)) ≡ false
+    go true e = rw e refl
+    go false e = rw e refl
+
+-- the slot of a node right below others
+pub below-held : (last : LastLevels) (above : List KeptNode) (new : Open) (x : KeptNode) → IsBelow last above new x → opened_by x ≡ Some (open_of x.opened)
+below-held last above new x b = held x (ap is_hole_kind b.kind ∙ kind-held (open_of new))
+
+pub below-same : (last : LastLevels) (above over : List KeptNode) (new : Open) (x y : KeptNode) → IsBelow last above new x → over ≡ above → y ≡ x → IsBelow last over y.opened y
+below-same last above over new x y b same is =
+    subst (λ (z : KeptNode). IsBelow last over z.opened z) (sym is) (subst (λ (xs : List KeptNode). IsBelow last xs x.opened x) (sym same) (subst (λ (o : Open). IsBelow last above o x) (sym b.opened) b))

@@ -1,10 +1,10 @@
 -- Vectors of items with holes, and where the entry of a node is in them.
-use Rattle.hopen.proofs.Names.{◌≡◌, if◌then◌else◌, ℕ, zero, suc, ◌+◌, ◌-◌, ◌<◌, ◌≤◌, eqb, Bool, true, false, cond, not, List, [], ◌∷◌, ◌++◌, Option, Some, None, is_some, length, map, filter, take, take-suc, drop, get_or, refl, sym, ◌∙◌, ap, subst, arith, All, position, position_or_len, list_any, slice_get, find, option_and_then, option_map, eqb-zero-suc, append-nil, get_or-map, length-append, length-map, All-drop, All-take, filter-append, EntryOf, Listed, marker, entry, as_entry, entry_of, for_node, is_entry, nth_live, AreSlots, IsSlot, IsStored, hole, is_gone, is_hole, item_of, items_of, live, nowhere, told, by_node, number_by, unless_hole, changed_at, Stored, is_some-position, slice_get_nearest, common_steps, nat_tests, lt-ltb, drop_at, take-append-drop, take_at, IsListed, Slots, ◌==◌, reverse, last_up, get_nearest, reverse_split}
+use Rattle.hopen.proofs.Names.{◌≡◌, if◌then◌else◌, ℕ, zero, suc, ◌+◌, ◌-◌, ◌<◌, ◌≤◌, eqb, Bool, true, false, cond, not, List, [], ◌∷◌, ◌++◌, Option, Some, None, is_some, length, map, filter, take, take-suc, drop, get_or, refl, sym, ◌∙◌, ap, subst, arith, All, position, position_or_len, list_any, slice_get, find, option_and_then, option_map, eqb-zero-suc, append-nil, get_or-map, length-append, length-map, All-drop, All-take, filter-append, EntryOf, Listed, marker, entry, as_entry, entry_of, for_node, is_entry, nth_live, AreSlots, IsSlot, IsStored, hole, is_gone, is_hole, item_of, items_of, live, nowhere, told, by_node, number_by, unless_hole, changed_at, Stored, is_some-position, slice_get_nearest, common_steps, nat_tests, lt-ltb, drop_at, take-append-drop, take_at, IsListed, Slots, ◌==◌, reverse, last_up, get_nearest, reverse_split, ltb, ltb-true, eqb-true, up-found, up-within, take-map}
 use Rattle.hopen.specs.declared.entry.Slot.TheVariants as stored
 use Rattle.hopen.proofs.ByHash.{last-at, number-at}
 use Rattle.hopen.proofs.ItemLists.{along_last, items_of_more, length-items_of}
 use Rattle.hopen.proofs.Live.{AllSolid, nth-none, nth-real, nth-within}
-use Rattle.hopen.proofs.Chained.{last-is, last_of}
+use Rattle.hopen.proofs.Chained.{before-is, last-is, last_of}
 use Rattle.hopen.proofs.Listed.{number-same, numbers-back, place, place-le}
 
 -- a smaller number is another
@@ -114,13 +114,17 @@ module _ (node : ℕ) (low : node < nowhere) where
   node-same : (e : EntryOf ℕ) (v : Bool) → IsSlot (entry e) → eqb e.node node ≡ v → eqb (suc (by_node e)) (suc (suc node)) ≡ v
   node-same e v slot same = grind (arith, number-same, nat_tests)
 
+  -- whether it has one
+  pub node-any : (items : List (Listed ℕ)) → AreSlots items → ltb 0 (node_place node items) ≡ list_any (is_entry node) items
+  node-any [] slots = refl
+  node-any (marker ∷ items) slots = rw (eqb-zero-suc (suc node)) (node-any items slots.1)
+  node-any (entry e ∷ items) slots = grind (arith, node-any items slots.1, node-same)
+
   pub node-none : (items : List (Listed ℕ)) → AreSlots items → node_place node items ≡ 0 → list_any (is_entry node) items ≡ false
-  node-none [] slots is = refl
-  node-none (marker ∷ items) slots is = node-none items slots.1 (rw (eqb-zero-suc (suc node)) at is)
-  node-none (entry e ∷ items) slots is = grind (arith, node-none items slots.1, node-same)
+  node-none items slots is = sym (node-any items slots) ∙ ap (ltb 0) is
 
   pub node-some : (items : List (Listed ℕ)) → AreSlots items → list_any (is_entry node) items ≡ true → 0 < node_place node items
-  node-some items slots there = grind (arith, node-none)
+  node-some items slots there = ltb-true 0 (node_place node items) (node-any items slots ∙ there)
 
   node-first : (items : List (Listed ℕ)) → AreSlots items → 0 < node_place node items → position_or_len (is_entry node) items ≡ length items - node_place node items
   node-first [] slots some = absurd (omega arith)
@@ -141,6 +145,21 @@ module _ (node : ℕ) (low : node < nowhere) where
   node-at items slots some =
       let first = node-first items slots some in
       rw (lt-ltb (position_or_len (is_entry node) items) (length items) (omega (arith, place-le by_node (suc (suc node)) items))) (ap (λ k. Some k) first)
+
+-- whether it has one before its last one, as the numbers of the nodes tell it
+module _ (node number p q : ℕ) (low : node < nowhere) (s : Slots) (l : IsListed s) (e : number ≡ suc (suc node)) (is : p ≡ last_up (λ k. k == number) s.nodes (length s.nodes)) (some : 0 < p) where
+  pub number-placed : get_or s.nodes (p - 1) 0 ≡ suc (suc node)
+  number-placed = ap (λ k. get_or s.nodes (k - 1) 0) is ∙ eqb-true _ _ (up-found (λ k. k == number) s.nodes (length s.nodes) (omega (arith, is))) ∙ e
+
+  pub before-any : q ≡ last_up (λ k. k == get_or s.nodes (p - 1) 0) s.nodes (p - 1) → ltb 0 q ≡ list_any (is_entry node) (items_of (take (p - 1) s.items.items))
+  before-any before =
+      let items = s.items.items in
+      let within : p ≤ length s.nodes = omega (arith, is, up-within (λ k. k == number) s.nodes (length s.nodes)) in
+      let numbers : reverse (take (p - 1) s.nodes) ≡ map (number_by by_node) (items_of (take (p - 1) items)) =
+      ap (λ ns. reverse (take (p - 1) ns)) l.nodes ∙ ap reverse (take-map (λ i. number_by by_node (item_of i)) (p - 1) items) ∙ numbers-back by_node (take (p - 1) items)
+      in
+      ap (ltb 0) (before ∙ before-is (get_or s.nodes (p - 1) 0) s.nodes (p - 1) (omega (arith, within)) ∙ (λ i. last_of (number-placed i) (numbers i)))
+      ∙ node-any node low (items_of (take (p - 1) items)) (slots-are (take (p - 1) items) (All-take IsStored (p - 1) items l.stored))
 
 pub no-position : {X : Type 0} (sought : X → Bool) (xs : List X) → list_any sought xs ≡ false → position sought xs ≡ None
 no-position sought xs none = grind (arith, is_some-position sought xs)

@@ -1,5 +1,5 @@
 -- The numbers of the items of a list.
-use Rattle.hopen.proofs.Names.{◌≡◌, ℕ, suc, ◌-◌, ◌<◌, ◌≤◌, nat_eq, eqb, Bool, true, false, cond, not, List, [], ◌∷◌, None, length, map, reverse, take, drop, filter, refl, sym, ◌∙◌, ap, arith, list_any, slice_get, option_and_then, reverse-reverse, length-map, eqb-suc-zero, eqb-zero-suc, without, EntryOf, Listed, marker, entry, as_entry, cleared, find_entry, item_of, items_of, nowhere, by_name, number_by, unless_hole, Stored, reverse-map, drop_nearest, last_place-le, nat_tests, map-map}
+use Rattle.hopen.proofs.Names.{◌≡◌, ℕ, suc, ◌-◌, ◌<◌, ◌≤◌, nat_eq, eqb, Bool, true, false, cond, not, List, [], ◌∷◌, None, length, map, reverse, take, drop, filter, refl, sym, ◌∙◌, ap, arith, list_any, slice_get, option_and_then, reverse-reverse, length-map, eqb-suc-zero, eqb-zero-suc, without, EntryOf, Listed, marker, entry, as_entry, cleared, find_entry, item_of, items_of, nowhere, by_name, number_by, unless_hole, Stored, reverse-map, drop_nearest, last_place-le, nat_tests, map-map, after}
 use Rattle.hopen.proofs.Chained.{last_of}
 use Rattle.hopen.proofs.ItemLists.{length-items_of}
 
@@ -89,6 +89,14 @@ find-at name low (entry e ∷ items) h = go (eqb e.name name) refl (rw (eqb-suc-
 pub filter-without : {X : Type 0} (sought : X → Bool) (xs : List X) → filter (λ x. not (sought x)) (without sought xs) ≡ filter (λ x. not (sought x)) xs
 filter-without sought [] = refl
 filter-without sought (x ∷ xs) = grind (arith, filter-without sought xs)
+
+pub any-without : {X : Type 0} (sought : X → Bool) (xs : List X) → list_any sought (without sought xs) ≡ list_any sought (after sought xs)
+any-without sought [] = refl
+any-without sought (x ∷ xs) = grind (arith, any-without sought xs)
+
+pub any-within : {X : Type 0} (sought : X → Bool) (xs : List X) → list_any sought (without sought xs) ≡ true → list_any sought xs ≡ true
+any-within sought [] e = e
+any-within sought (x ∷ xs) e = grind (arith, any-within sought xs)
 
 pub filter-all : {X : Type 0} (sought : X → Bool) (xs : List X) → list_any sought xs ≡ false → filter (λ x. not (sought x)) xs ≡ xs
 filter-all sought [] e = refl

@@ -15,7 +15,7 @@ pub use Rattle.hopen.specs.FormattingSpelled.{FormattingKnowsNoNames, spelled_en
 pub use Rattle.hopen.specs.Hashes.{entry_hash, distinct, hash_of, put_in, token_hash}
 pub use Rattle.hopen.specs.Holes.{nth_live}
 pub use Rattle.hopen.specs.Items.{item_of, items_of, IsStored, entry_is, is_gone, nowhere, AreSlots, IsSlot, hole, is_hole, live, told, renamed}
-pub use Rattle.hopen.specs.Kept.{opened_by, Stands, Rests, EndsOpen, names_in, name_in, same_name_of, stack_of, slots_of, same_node_of, node_in, AreIn, IsIn, sets_at, kind_at, kind_of, closing, closing_in, nodes_in, IsLinked, last_same, exchanged, level_exchanged, AreHoles, IsHeld, KeepSets, nearest_in, nearest_up, CanGiveWay, IsAlone, AreAlike, AreAlikeButNames, AreAsLong, CanPass, StandsAs, HasRoom, is_hole as is_hole_kind}
+pub use Rattle.hopen.specs.Kept.{opened_by, Stands, Rests, EndsOpen, names_in, name_in, same_name_of, stack_of, slots_of, same_node_of, node_in, AreIn, IsIn, sets_at, kind_at, kind_of, closing, closing_in, nodes_in, IsLinked, last_same, exchanged, level_exchanged, AreHoles, IsHeld, KeepSets, nearest_in, nearest_up, CanGiveWay, IsAlone, IsBelow, AreAlike, AreAlikeButNames, AreAsLong, CanPass, StandsAs, HasRoom, is_hole as is_hole_kind}
 pub use Rattle.hopen.specs.Listed.{number_by, IsListed, by_hash, by_name, by_node, numbers_by, unless_hole}
 pub use Rattle.hopen.specs.NameSets.{set_node, holds, is_in_set, is_in}
 pub use Rattle.hopen.specs.Opens.{open_of, is_sought}

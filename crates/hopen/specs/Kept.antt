@@ -166,6 +166,14 @@ pub record AreAsLong (last other : LastLevels) : Type 0 where
 abbrev pub HasRoom : LastLevels → Open → Type 0
 HasRoom last x = (x.name < length last.names.items) × (x.node < length last.nodes.items)
 
+-- the slot of a node right below others, where the tables and what these keep are right
+pub record IsBelow (last : LastLevels) (above : List KeptNode) (new : Open) (x : KeptNode) : Type 0 where
+  pub opened : x.opened ≡ new
+  pub same_name : x.same_name ≡ slice_index last.names.items new.name
+  pub same_node : x.same_node ≡ slice_index last.nodes.items new.node
+  pub sets : (set : NameSet) → set_node set x.sets ≡ nearest_in set (Some (open_of new)) (nearest_up set (map opened_by above) (length above))
+  pub kind : x.kind ≡ kind_of (Some (open_of new))
+
 -- a node that is open at a level and nowhere else, and is not special
 pub record IsAlone (last : LastLevels) (x : KeptNode) (level : ℕ) : Type 0 where
   pub live : is_hole x.kind ≡ false

@@ -8,7 +8,7 @@ pub use Rattle.hopen.specs.Hashes.{distinct, entry_hash, fed_name, hash_of}
 pub use Rattle.hopen.specs.Holes.{nth_live}
 pub use Rattle.hopen.specs.ItemCoding.{coded_items}
 pub use Rattle.hopen.specs.Items.{entry_is, is_gone, item_of, items_of, live, renamed, told, IsStored}
-pub use Rattle.hopen.specs.Kept.{AreAlike, AreAlikeButNames, AreAsLong, AreHoles, AreIn, CanGiveWay, CanPass, EndsOpen, HasRoom, IsAlone, IsHeld, IsLinked, KeepSets, Rests, Stands}
+pub use Rattle.hopen.specs.Kept.{AreAlike, AreAlikeButNames, AreAsLong, AreHoles, AreIn, CanGiveWay, CanPass, EndsOpen, HasRoom, IsAlone, IsBelow, IsHeld, IsLinked, KeepSets, Rests, Stands}
 pub use Rattle.hopen.specs.Kept.{exchanged, is_hole, kind_at, kind_of, closing, name_in, names_in, nearest_in, nearest_up, node_in, nodes_in, opened_by, same_name_of, same_node_of, sets_at, slots_of, stack_of}
 pub use Rattle.hopen.specs.Slots.{holds_one, somes}
 pub use Rattle.hopen.specs.Listed.{by_hash, by_name, by_node, number_by, numbers_by, IsListed}

@@ -269,21 +269,22 @@ impl Formatting {
         self.slots.move_after(index, to, mark);
     }
 
-    /// Removes the last entry of a node. Returns whether there was one.
+    /// Removes the last entry of a node. Returns whether it has another one.
     fn hide(&mut self, node: NodeId) -> bool
-        ensures there { result ≡ list_any (is_entry node) self.old }
         ensures entry { self.new ≡ without (is_entry node) self.old }
+        ensures more { result ≡ list_any (is_entry node) self.new }
     {
         let place = self.slots.nodes.last(node_number(node));
         if place == 0 {
             return false;
         }
+        let more = self.slots.nodes.before(place) > 0;
         if place < self.slots.items.len() {
             self.slots.hide(place - 1);
         } else {
             self.slots.truncate(place - 1);
         }
         trim(&mut self.slots);
-        true
+        more
     }
 }

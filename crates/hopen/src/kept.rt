@@ -1,10 +1,10 @@
 //! The levels that open nodes keep, so that no question has to search the stack.
 
-ghost use Rattle.std.specs.Prelude.{◌≡◌, ◌≢◌, true, false, suc, ℕ, ◌+◌, ◌-◌, ◌<◌, ◌≤◌, ◌^◌, OnOk, OnErr, ◌∷◌, Some, None, drop, insert, length, map, reverse, take};
+ghost use Rattle.std.specs.Prelude.{◌≡◌, ◌≢◌, List, true, false, suc, ℕ, ◌+◌, ◌-◌, ◌<◌, ◌≤◌, ◌^◌, OnOk, OnErr, ◌∷◌, Some, None, drop, insert, length, map, reverse, take};
 ghost use Rattle.std.specs.Prelude.{slice_index, slice_index_or, slice_set, vec_capacity, vec_len, if◌then◌else◌};
 ghost use Rattle.std.specs.Option.{option_map};
 ghost use Rattle.hopen.specs.Vocabulary.{closing, current, is_hole, kind_of, nearest_in, nearest_up, open_of, opened_by, set_node, sets_at, somes, stack_of, tag_of};
-ghost use Rattle.hopen.specs.Vocabulary.{AreAlike, AreAsLong, AreIn, CanGiveWay, EndsOpen, HasRoom, IsAlone, KeepSets, Rests, Stands};
+ghost use Rattle.hopen.specs.Vocabulary.{AreAlike, AreAsLong, AreIn, CanGiveWay, EndsOpen, HasRoom, IsAlone, IsBelow, KeepSets, Rests, Stands};
 ghost use Rattle.hopen.specs.declared.kept.Kind.TheVariants as Kind;
 
 use crate::exchange::unlink_name;
@@ -239,6 +239,20 @@ pub(crate) fn sets_of(items: &[KeptNode]) -> SetNodes
     SetNodes::none()
 }
 
+/// The same where the last slot is no hole.
+#[inline(always)]
+pub(crate) fn sets_at_end(items: &[KeptNode]) -> SetNodes
+    requires keep { KeepSets (map opened_by items.now) (map sets_at items.now) }
+    requires ends { EndsOpen (map opened_by items.now) }
+    ensures { (set : NameSet) → set_node set result ≡ nearest_up set (map opened_by items.now) (length items.now) }
+{
+    let len = items.len();
+    if len == 0 {
+        return SetNodes::none();
+    }
+    items[len - 1].sets
+}
+
 /// The same with a node right below them.
 #[inline(always)]
 pub(crate) fn sets_with(items: &[KeptNode], name: NameId, node: NodeId) -> SetNodes
@@ -291,7 +305,50 @@ fn close_at(last: &mut LastLevels, items: &[KeptNode], index: usize)
     }
 }
 
-/// Opens the node of the slot at an index right below those above it: writes what the slot keeps, and its level into the tables.
+/// The slot of a node right below others, whose nearest nodes of sets these are: what it keeps is what the tables say.
+#[inline(always)]
+fn slot_below(last: &LastLevels, sets: SetNodes, opened: Open) -> KeptNode
+    requires fits { length last.now.nodes.items < 2 ^ 32 }
+    requires room { HasRoom last.now opened }
+    ensures { (above : List KeptNode) → ((set : NameSet) → set_node set sets ≡ nearest_up set (map opened_by above) (length above)) → IsBelow last.now above opened result }
+{
+    // Taken apart for the prover alone (CONTRIBUTING.md, "Traps").
+    let Open { node, name } = opened;
+    let tag = name.tag();
+    let same_name = last.names[name.index()];
+    let same_node = last.nodes[node.index()];
+    KeptNode {
+        opened: Open { node, name },
+        same_name,
+        next_name: 0,
+        same_node,
+        sets: sets.with(tag, node.index() as u32 + 1),
+        kind: Kind::of(tag),
+    }
+}
+
+/// Writes the level of the node of a new slot into the tables.
+#[inline(always)]
+fn enter(last: &mut LastLevels, items: &mut [KeptNode], index: usize)
+    requires stands { Stands last.old (take index items.old) }
+    requires within { index < length items.old }
+    requires slot { (x : KeptNode) → x ≡ slice_index_or items.old index x → IsBelow last.old (take index items.old) x.opened x }
+    requires room { (x : KeptNode) → x ≡ slice_index_or items.old index x → HasRoom last.old x.opened }
+    requires levels { length items.old < 2 ^ 32 }
+    ensures stands { Stands last.new (take (index + 1) items.new) }
+    ensures same { map opened_by items.new ≡ map opened_by items.old }
+    ensures tables { AreAsLong last.new last.old }
+{
+    let level = index as u32 + 1;
+    let opened = items[index].opened;
+    let same_name = items[index].same_name;
+    let kind = items[index].kind;
+    last.set(opened, level, level);
+    last.must_close += kind.closing();
+    hint(items, same_name, level);
+}
+
+/// Opens the node of the slot at an index right below those above it.
 #[inline(always)]
 fn open_at(last: &mut LastLevels, items: &mut [KeptNode], index: usize)
     requires stands { Stands last.old (take index items.old) }
@@ -304,26 +361,9 @@ fn open_at(last: &mut LastLevels, items: &mut [KeptNode], index: usize)
     ensures same { map opened_by items.new ≡ map opened_by items.old }
     ensures tables { AreAsLong last.new last.old }
 {
-    let level = index as u32 + 1;
     let opened = items[index].opened;
-    // Taken apart for the prover alone (CONTRIBUTING.md, "Traps").
-    let Open { node, name } = opened;
-    let sets = sets_with(&items[..index], name, node);
-    let same_name = last.names[name.index()];
-    let same_node = last.nodes[node.index()];
-    let kind = Kind::of(name.tag());
-    let item = KeptNode {
-        opened: Open { node, name },
-        same_name,
-        next_name: 0,
-        same_node,
-        sets,
-        kind,
-    };
-    last.set(opened, level, level);
-    last.must_close += kind.closing();
-    items[index] = item;
-    hint(items, same_name, level);
+    items[index] = slot_below(last, sets_of(&items[..index]), opened);
+    enter(last, items, index);
 }
 
 /// Puts the slot at an index right below those above it.
@@ -378,8 +418,8 @@ pub(crate) fn push(
 {
     last.make_room(opened.name, opened.node)?;
     let index = items.len();
-    items.push(KeptNode::new(opened))?;
-    open_at(last, items, index);
+    items.push(slot_below(last, sets_at_end(items), opened))?;
+    enter(last, items, index);
     Ok(())
 }
 

@@ -4,9 +4,9 @@ ghost use Rattle.std.specs.Prelude.{◌≡◌, ◌-◌, ◌+◌, ◌≤◌, drop
 ghost use Rattle.std.specs.List.{find};
 ghost use Rattle.std.specs.Option.{option_map};
 ghost use Rattle.hopen.specs.Vocabulary.{current, holds_one, is_in, is_sought, is_special, last_place, open_of, opened_by, slots_of, somes, stack_of, tag_of};
-ghost use Rattle.hopen.specs.Vocabulary.{Stands};
+ghost use Rattle.hopen.specs.Vocabulary.{EndsOpen, Stands};
 
-use crate::kept::{KeptNode, LastLevels, sets_of};
+use crate::kept::{KeptNode, LastLevels, sets_at_end};
 use crate::name_sets::{NameSet, SetNodes};
 use crate::scope::Group;
 use crate::stack::Open;
@@ -83,10 +83,11 @@ fn search(items: &[KeptNode], set: NameSet, from: u32) -> u32
 /// The level of the nearest node whose name is in a set; 0 if none is open. It searches only where that node is open twice.
 #[inline(always)]
 pub(crate) fn set_level(last: &LastLevels, items: &[KeptNode], set: NameSet) -> u32
-    requires { Stands last.now items.now }
+    requires stands { Stands last.now items.now }
+    requires ends { EndsOpen (map opened_by items.now) }
     ensures { result ≡ last_place (holds_one (is_in set)) (slots_of items.now) }
 {
-    let node = sets_of(items).of(set) as usize;
+    let node = sets_at_end(items).of(set) as usize;
     if node == 0 {
         return 0;
     }
@@ -100,7 +101,8 @@ pub(crate) fn set_level(last: &LastLevels, items: &[KeptNode], set: NameSet) -> 
 /// The level of the nearest node that is sought; 0 if none is open.
 #[inline(always)]
 pub(crate) fn level_of(last: &LastLevels, items: &[KeptNode], sought: Sought) -> u32
-    requires { Stands last.now items.now }
+    requires stands { Stands last.now items.now }
+    requires ends { EndsOpen (map opened_by items.now) }
     ensures { result ≡ last_place (holds_one (is_sought sought)) (slots_of items.now) }
 {
     match sought {
@@ -112,7 +114,8 @@ pub(crate) fn level_of(last: &LastLevels, items: &[KeptNode], sought: Sought) ->
 
 /// The nearest node that is sought.
 pub(crate) fn nearest(last: &LastLevels, items: &[KeptNode], sought: Sought) -> Option<Open>
-    requires { Stands last.now items.now }
+    requires stands { Stands last.now items.now }
+    requires ends { EndsOpen (map opened_by items.now) }
     ensures { option_map open_of result ≡ find (is_sought sought) (stack_of items.now) }
 {
     let level = level_of(last, items, sought) as usize;
@@ -128,7 +131,8 @@ pub(crate) fn nearest_below_first(
     items: &[KeptNode],
     sought: Sought,
 ) -> Option<Open>
-    requires { Stands last.now items.now }
+    requires stands { Stands last.now items.now }
+    requires ends { EndsOpen (map opened_by items.now) }
     ensures { option_map open_of result ≡ find (is_sought sought) (take (length (stack_of items.now) - 1) (stack_of items.now)) }
 {
     let level = level_of(last, items, sought) as usize;

@@ -3,54 +3,54 @@ use Rattle.hopen.proofs.SetLevel.{nearest-at, nearest-from, node-in, none-open, 
 use Rattle.hopen.proofs.sought.set_level.Goals as goal
 
 pub returns-then-node-eq0 : goal.returns-then-node-eq0
-returns-then-node-eq0 c = none-open c.args.last.now c.args.items.now c.requires c.args.set c.of-node.result (c.of-node.ensures
-    ∙ c.sets_of.ensures c.args.set) c.if-node-eq0.true
+returns-then-node-eq0 c = none-open c.args.last.now c.args.items.now c.requires.stands c.args.set c.of-node.result (c.of-node.ensures
+    ∙ c.sets_at_end.ensures c.args.set) c.if-node-eq0.true
 
 pub index-level-requires : goal.index-level-requires
 index-level-requires c =
     omega (
       arith,
       c.args.last.now.nodes.ok.0,
-      node-in c.args.last.now c.args.items.now c.requires c.args.set c.of-node.result (c.of-node.ensures
-          ∙ c.sets_of.ensures c.args.set) (omega arith),
+      node-in c.args.last.now c.args.items.now c.requires.stands c.args.set c.of-node.result (c.of-node.ensures
+          ∙ c.sets_at_end.ensures c.args.set) (omega arith),
     )
 
 pub overflow_sub-level : goal.overflow_sub-level
 overflow_sub-level c =
-    let kept = c.of-node.ensures ∙ c.sets_of.ensures c.args.set in
+    let kept = c.of-node.ensures ∙ c.sets_at_end.ensures c.args.set in
     omega (
       arith,
-      (level-within c.args.last.now c.args.items.now c.requires c.args.set c.of-node.result kept
+      (level-within c.args.last.now c.args.items.now c.requires.stands c.args.set c.of-node.result kept
           (omega arith) c.index-level.result.now c.index-level.ensures).0,
     )
 
 pub bounds-items-level : goal.bounds-items-level
 bounds-items-level c =
-    let kept = c.of-node.ensures ∙ c.sets_of.ensures c.args.set in
-    let within = level-within c.args.last.now c.args.items.now c.requires c.args.set c.of-node.result kept
+    let kept = c.of-node.ensures ∙ c.sets_at_end.ensures c.args.set in
+    let within = level-within c.args.last.now c.args.items.now c.requires.stands c.args.set c.of-node.result kept
     (omega arith) c.index-level.result.now c.index-level.ensures in
     omega (arith, within.0, within.1)
 
 pub bounds-items-level-else-node-eq0 : goal.bounds-items-level-else-node-eq0
 bounds-items-level-else-node-eq0 c =
-    let kept = c.of-node.ensures ∙ c.sets_of.ensures c.args.set in
-    let within = level-within c.args.last.now c.args.items.now c.requires c.args.set c.of-node.result kept
+    let kept = c.of-node.ensures ∙ c.sets_at_end.ensures c.args.set in
+    let within = level-within c.args.last.now c.args.items.now c.requires.stands c.args.set c.of-node.result kept
     (omega arith) c.index-level.result.now c.index-level.ensures in
     omega (arith, within.0, within.1)
 
 pub search-requires : goal.search-requires
 search-requires c =
-    let kept = c.of-node.ensures ∙ c.sets_of.ensures c.args.set in
-    (level-within c.args.last.now c.args.items.now c.requires c.args.set c.of-node.result kept (omega arith) c.index-level.result.now c.index-level.ensures).1
+    let kept = c.of-node.ensures ∙ c.sets_at_end.ensures c.args.set in
+    (level-within c.args.last.now c.args.items.now c.requires.stands c.args.set c.of-node.result kept (omega arith) c.index-level.result.now c.index-level.ensures).1
 
 pub returns-then-items-level-gt0 : goal.returns-then-items-level-gt0
 returns-then-items-level-gt0 c =
-    let kept = c.of-node.ensures ∙ c.sets_of.ensures c.args.set in
-    c.search.ensures ∙ nearest-from c.args.last.now c.args.items.now c.requires c.args.set c.of-node.result kept
+    let kept = c.of-node.ensures ∙ c.sets_at_end.ensures c.args.set in
+    c.search.ensures ∙ nearest-from c.args.last.now c.args.items.now c.requires.stands c.args.set c.of-node.result kept
     (omega arith) c.index-level.result.now c.index-level.ensures
 
 pub returns : goal.returns
 returns c =
-    let kept = c.of-node.ensures ∙ c.sets_of.ensures c.args.set in
-    nearest-at c.args.last.now c.args.items.now c.requires c.args.set c.of-node.result kept
+    let kept = c.of-node.ensures ∙ c.sets_at_end.ensures c.args.set in
+    nearest-at c.args.last.now c.args.items.now c.requires.stands c.args.set c.of-node.result kept
     (omega arith) c.index-level.result.now c.index-level.ensures c.index-items-level.result (omega arith)

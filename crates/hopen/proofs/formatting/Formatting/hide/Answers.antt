@@ -1,15 +1,15 @@
-use Rattle.hopen.proofs.Names.{◌≡◌, suc, ◌+◌, ◌-◌, ◌<◌, length, refl, sym, ◌∙◌, ap, arith, list_any, remove, is_entry, hole, item_of, items_of, live, by_node, without, drop_nearest, is_some-position, no_words, set_nearest, words, is_some}
+use Rattle.hopen.proofs.Names.{◌≡◌, suc, ◌+◌, ◌-◌, ◌<◌, length, refl, sym, ◌∙◌, ap, arith, list_any, remove, is_entry, hole, item_of, items_of, live, by_node, without, drop_nearest, no_words, set_nearest, words, ◌==◌, up-within, ℕ, List, Bool, Listed, Stored, AreSlots, nowhere, position, Some}
 use Rattle.hopen.specs.declared.entry.Slot.TheVariants as stored
-use Rattle.hopen.proofs.Holes.{no-position, node-at, node-none, node_place, placed, placed-within, slots-are}
+use Rattle.hopen.proofs.Holes.{before-any, number-placed, no-position, node-at, node-none, node_place, placed, placed-within, slots-are}
 use Rattle.hopen.proofs.ItemLists.{length-items_of}
-use Rattle.hopen.proofs.Listed.{place-le}
+use Rattle.hopen.proofs.Listed.{any-without, place-le}
 use Rattle.hopen.proofs.Live.{any-live}
-use Rattle.hopen.proofs.LiveEdits.{hide-live, without1-live}
+use Rattle.hopen.proofs.LiveEdits.{hide-live, slots-without, without1-live}
 use Rattle.hopen.proofs.formatting.Formatting.hide.Goals as goal
 use Rattle.hopen.proofs.formatting.Formatting.hide.Goals.{then-place-len, else-place-len}
 
-pub returns-then-place-eq0-clause-there : goal.returns-then-place-eq0-clause-there
-returns-then-place-eq0-clause-there c =
+pub returns-then-place-eq0-clause-more : goal.returns-then-place-eq0-clause-more
+returns-then-place-eq0-clause-more c =
     let items = c.self.inside.slots.items.items in
     let place = placed c.args.node c.node_number.result c.last-place.result c.self.inside.slots c.self.invariant c.node_number.ensures c.last-place.ensures in
     let slots = slots-are items c.self.invariant.stored in
@@ -30,34 +30,70 @@ hide-requires-clause-within c = omega (arith, c.if-place-eq0.false, placed-withi
 pub truncate-requires-clause-within : goal.truncate-requires-clause-within
 truncate-requires-clause-within c = omega (arith, c.if-place-eq0.false, placed-within c.args.node c.node_number.result c.last-place.result c.self.inside.slots c.self.invariant c.node_number.ensures c.last-place.ensures)
 
-pub returns-clause-there : goal.returns-clause-there
-returns-clause-there c =
-    let items = c.self.inside.slots.items.items in
-    let place = placed c.args.node c.node_number.result c.last-place.result c.self.inside.slots c.self.invariant c.node_number.ensures c.last-place.ensures in
-    let slots = slots-are items c.self.invariant.stored in
-    let some : 0 < c.last-place.result = omega (arith, c.if-place-eq0.false) in
-    sym (ap (list_any (is_entry c.args.node)) (sym c.self.view_is) ∙ any-live c.args.node (items_of items) slots (omega arith)
-    ∙ sym (is_some-position (is_entry c.args.node) (items_of items)) ∙ ap is_some (node-at c.args.node (omega arith) (items_of items) slots (omega arith)))
+pub before-more-requires-clause-within : goal.before-more-requires-clause-within
+before-more-requires-clause-within c = omega (arith, c.last-place.ensures, up-within (λ k. k == c.node_number.result) c.self.inside.slots.nodes (length c.self.inside.slots.nodes))
+
+pub before-more-requires-clause-number : goal.before-more-requires-clause-number
+before-more-requires-clause-number c =
+    let there = number-placed c.args.node c.node_number.result c.last-place.result 0 (omega arith) c.self.inside.slots c.self.invariant c.node_number.ensures c.last-place.ensures (omega (arith, c.if-place-eq0.false)) in
+    λ is. omega (arith, there, is)
+
+-- where the last entry is, and what is left
+module _ (c : goal.After-trim) where
+  abbrev items : List Stored
+  items = c.self.inside.slots.items.items
+
+  abbrev view : List (Listed ℕ)
+  view = items_of items
+
+  abbrev sought : Listed ℕ → Bool
+  sought = is_entry c.args.node
+
+  abbrev i : ℕ
+  i = c.last-place.result - 1
+
+  abbrev up : ℕ
+  up = length view - node_place c.args.node view
+
+  low : c.args.node < nowhere
+  low = omega arith
+
+  some : 0 < c.last-place.result
+  some = omega (arith, c.if-place-eq0.false)
+
+  place : c.last-place.result ≡ node_place c.args.node view
+  place = placed c.args.node c.node_number.result c.last-place.result c.self.inside.slots c.self.invariant c.node_number.ensures c.last-place.ensures
+
+  slots : AreSlots view
+  slots = slots-are items c.self.invariant.stored
+
+  at : i + suc up ≡ length items
+  at = omega (arith, some, place, place-le by_node (suc (suc c.args.node)) view, length-items_of items)
+
+  first : position sought view ≡ Some up
+  first = node-at c.args.node low view slots (omega (arith, some, place))
+
+  without-is : live (without sought view) ≡ without sought c.args.self.now
+  without-is = sym (without1-live c.args.node view slots low) ∙ ap (without sought) c.self.view_is
+
+  gone : live (items_of c.if-place-len.self-inside.slots.items.items) ≡ live (remove view up)
+  gone =
+      elim c.if-place-len.branch [
+        | then-place-len w ↦
+            ap (λ f. live (items_of f.slots.items.items)) w.self-inside-is ∙ ap (λ xs. live (items_of xs)) w.hide.ensures.items
+            ∙ ap live (set_nearest item_of (λ _. hole) items i up stored.Hole stored.Hole at refl) ∙ hide-live up view
+        | else-place-len w ↦
+            let last : 0 ≡ up = omega (arith, at, w.if-place-len.false) in
+            ap (λ f. live (items_of f.slots.items.items)) w.self-inside-is ∙ ap (λ xs. live (items_of xs)) w.truncate.ensures.items
+            ∙ ap live (sym (drop_nearest item_of items i 1 (omega (arith, last, at)))) ∙ ap (λ k. live (remove view k)) last
+      ]
 
 pub returns-clause-entry : goal.returns-clause-entry
-returns-clause-entry c =
-    let items = c.self.inside.slots.items.items in
-    let place = placed c.args.node c.node_number.result c.last-place.result c.self.inside.slots c.self.invariant c.node_number.ensures c.last-place.ensures in
-    let slots = slots-are items c.self.invariant.stored in
-    let some : 0 < c.last-place.result = omega (arith, c.if-place-eq0.false) in
-    let up = length (items_of items) - node_place c.args.node (items_of items) in
-    let i = c.last-place.result - 1 in
-    let at : i + suc up ≡ length items = omega (arith, place-le by_node (suc (suc c.args.node)) (items_of items), length-items_of items) in
-    let gone : live (items_of c.if-place-len.self-inside.slots.items.items) ≡ live (remove (items_of items) up) =
-    elim c.if-place-len.branch [
-      | then-place-len w ↦
-          ap (λ f. live (items_of f.slots.items.items)) w.self-inside-is ∙ ap (λ xs. live (items_of xs)) w.hide.ensures.items
-          ∙ ap live (set_nearest item_of (λ _. hole) items i up stored.Hole stored.Hole at refl) ∙ hide-live up (items_of items)
-      | else-place-len w ↦
-          let last : 0 ≡ up = omega (arith, w.if-place-len.false) in
-          ap (λ f. live (items_of f.slots.items.items)) w.self-inside-is ∙ ap (λ xs. live (items_of xs)) w.truncate.ensures.items
-          ∙ ap live (sym (drop_nearest item_of items i 1 (omega (arith, last, at)))) ∙ ap (λ k. live (remove (items_of items) k)) last
-    ]
-    in
-    c.trim.ensures.same ∙ gone ∙ ap live (sym (words (is_entry c.args.node) (items_of items) up (node-at c.args.node (omega arith) (items_of items) slots (omega arith))).without_is)
-    ∙ sym (without1-live c.args.node (items_of items) slots (omega arith)) ∙ ap (without (is_entry c.args.node)) c.self.view_is
+returns-clause-entry c = c.trim.ensures.same ∙ gone c ∙ ap live (sym (words (sought c) (view c) (up c) (first c)).without_is) ∙ without-is c
+
+pub returns-clause-more : goal.returns-clause-more
+returns-clause-more c =
+    before-any c.args.node c.node_number.result c.last-place.result c.before-more.result (low c) c.self.inside.slots c.self.invariant c.node_number.ensures c.last-place.ensures (some c) c.before-more.ensures
+    ∙ ap (list_any (sought c)) (sym (drop_nearest item_of (items c) (i c) (suc (up c)) (at c)) ∙ sym (words (sought c) (view c) (up c) (first c)).after_is)
+    ∙ sym (any-without (sought c) (view c)) ∙ sym (any-live c.args.node (without (sought c) (view c)) (slots-without (sought c) (view c) (slots c)) (low c))
+    ∙ ap (list_any (sought c)) (without-is c ∙ sym (returns-clause-entry c))
