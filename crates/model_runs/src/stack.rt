@@ -53,9 +53,7 @@ fn right_above(stack: &OpenStack) -> Option<Open> {
 
 /// What is asked of the topmost node.
 fn is_found(stack: &OpenStack, top: Open) -> bool {
-    stack.contains(top.node)
-        && stack.above(top.node).is_none()
-        && stack.node_in_scope(top.node)
+    stack.contains(top.node) && stack.above(top.node).is_none() && stack.node_in_scope(top.node)
 }
 
 /// What is asked of its name, which no other has.
