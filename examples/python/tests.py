@@ -5,20 +5,29 @@ in C and, where JEANZIRCON_LIBRARY names a shared object, over ctypes.
 import copy
 import doctest
 import glob
+import gzip
 import importlib
 import importlib.util
+import io
 import json
 import os
 import pickle
+import re
+import signal
 import subprocess
 import sys
+import tarfile
 import tempfile
 import threading
 import unittest
 import warnings
 import xml.etree.ElementTree as ElementTree
+import zlib
 
 import jeanzircon as jz
+from jeanzircon._archives import Archives, Done
+from jeanzircon._crew import MORE, TIMES, are_more, line_of, links_of
+from jeanzircon._stored import Unread
 
 CASES = sys.argv.pop(1) if len(sys.argv) > 1 and os.path.isdir(sys.argv[1]) else None
 PAGE = b"<!DOCTYPE html><!-- c --><title> a\n b </title><p class=x id=y>1<a href=/one>2<b>3</b></a>&copy;<a>4</a><!--d--></p>5"
@@ -339,6 +348,166 @@ class Others(unittest.TestCase):
             soup = bs4.BeautifulSoup(markup, "jeanzircon")
             self.assertEqual((soup.title.text, soup.p["class"], soup.a["href"], soup.p.text), (" a\n b ", ["x"], "/one", "123©4"))
         self.assertRaises(jz.Refused, bs4.BeautifulSoup, "a<svg>", "jeanzircon")
+
+
+def record(kind, address, content_type, block, length=None):
+    """A record of a WARC file."""
+    fields = {"WARC-Type": kind, "WARC-Target-URI": f"http://a/{address}", "Content-Type": content_type}
+    fields["Content-Length"] = len(block) if length is None else length
+    return b"".join([b"WARC/1.0\r\n", *(f"{name}: {it}\r\n".encode() for name, it in fields.items()), b"\r\n", block, b"\r\n\r\n"])
+
+
+def response(address, body, *fields, kind="text/html; charset=utf-8", length=None):
+    head = "\r\n".join(["HTTP/1.1 200 OK", f"Content-Type: {kind}", *fields, "", ""]).encode()
+    return record("response", address, "application/http; msgtype=response", head + body, length)
+
+
+def chunks(body):
+    return b"5;x=y\r\n%b\r\n%x\r\n%b\r\n0\r\n\r\n" % (body[:5], len(body) - 5, body[5:])
+
+
+def folder_of(case, **files):
+    """A folder that has these files, with `_` for the dots in their names; it goes when the test is over."""
+    room = tempfile.TemporaryDirectory()
+    case.addCleanup(room.cleanup)
+    for name, content in files.items():
+        with open(f"{room.name}/{name.replace('_', '.')}", "wb") as file:
+            file.write(content)
+    return room.name
+
+
+def lines_of(*paths, most=1 << 20, done=None):
+    """The lines that are made of archives, and what is left out of them."""
+    archives = Archives(done or Done(), most)
+    return [json.loads(line_of(it, most).text) for it in archives.pages(paths)], dict(archives.left_out)
+
+
+def tar_of(**files):
+    packed = io.BytesIO()
+    with tarfile.open(fileobj=packed, mode="w:gz") as tar:
+        for name, content in files.items():
+            member = tarfile.TarInfo(name.replace("_", "."))
+            member.size = len(content)
+            tar.addfile(member, io.BytesIO(content))
+    return packed.getvalue()
+
+
+PACKED = zlib.compressobj(wbits=-15)
+RECORDS = [
+    (None, record("warcinfo", "", "application/warc-fields", b"x: y\r\n")), (None, record("request", "plain", "application/http", b"GET / HTTP/1.0\r\n\r\n")),
+    ("ok", response("plain", PAGE)), ("ok", response("chunks", chunks(PAGE), "Transfer-Encoding: chunked")),
+    ("ok", response("no-chunks", PAGE, "transfer-encoding:chunked")), ("ok", response("gzip", gzip.compress(PAGE), "Content-Encoding: gzip")),
+    ("ok", response("deflate", zlib.compress(PAGE), "Content-Encoding: deflate")),
+    ("ok", response("raw", PACKED.compress(PAGE) + PACKED.flush(), "Content-Encoding: deflate")),
+    ("ok", response("both", chunks(gzip.compress(PAGE)), "Content-Encoding: gzip", "Transfer-Encoding: chunked")),
+    ("UnknownCoding br", response("br", PAGE, "Content-Encoding: br")), (None, response("image", PAGE, kind="image/png")),
+    ("ok", record("resource", "resource", "text/html", PAGE)), ("OutOfProfile svg", response("svg", b"a<svg>")), ("ok", response("bytes", b"a\xff")),
+    ("BrokenRecord a chunk is cut off", response("cut", chunks(PAGE)[:-20], "Transfer-Encoding: chunked")),
+    ("BrokenRecord its headers do not end", record("response", "head", "application/http", b"HTTP/1.1 200 OK\r\n")),
+    ("BrokenRecord its content cannot be unpacked", response("no-gzip", b"\x1f\x8bxxxxxxxxxxxxxxx", "Content-Encoding: gzip")),
+    ("BrokenRecord its length is wrong", response("short", PAGE, length=99)), ("ok", response("after", PAGE)),
+    ("BrokenRecord it has no length", record("response", "none", "text/html", b"", length="x")), ("ok", response("last", PAGE)),
+]
+WARC = b"".join(it for _, it in RECORDS)
+
+
+class Crawls(unittest.TestCase):
+    def test_records(self):
+        wanted = [(number, status) for number, (status, _) in enumerate(RECORDS, 1) if status]
+        each = b"".join(gzip.compress(it) for _, it in RECORDS)
+        room = folder_of(self, a_warc=WARC, b_warc_gz=gzip.compress(WARC), c_warc_gz=each, d=WARC[:5000] + WARC[5000:].replace(b"\r\n\r\nWARC", b"\nWARC"))
+        for name in ("a.warc", "b.warc.gz", "c.warc.gz", "d"):
+            lines, left_out = lines_of(f"{room}/{name}")
+            self.assertEqual([(it["record"], it["status"]) for it in lines], wanted)
+            self.assertEqual(left_out, {"of another type": 1, "of another kind of record": 2})
+            first = {**lines[0], "seconds": 0}
+            self.assertEqual(first, {"archive": f"{room}/{name}", "record": 3, "address": "http://a/plain", "status": "ok", "at": None, "title": "a b",
+                                     "links": [["/one", "23"]], "errors": {}, "bytes": len(PAGE), "seconds": 0})
+            self.assertEqual({json.dumps(it["links"]) for it in lines if it["bytes"] == len(PAGE)}, {'[["/one", "23"]]'})
+            self.assertEqual([(it["at"], it["links"]) for it in lines if "svg" in it["status"]], [(1, [])])
+            self.assertEqual([it["errors"] for it in lines if it["address"] == "http://a/bytes"], [{"replaced-bytes": 1, "tree-initial": 1}])
+
+    def test_damage(self):
+        members = [gzip.compress(it) for it in (response(str(number), PAGE * 9) for number in range(5))]
+        bad = bytearray(members[1])
+        bad[90] ^= 255
+        again = [members[0], members[1][:90], b"\0" * 9, *members[2:]]
+        for parts in ([members[0], bytes(bad), *members[2:]], again):
+            room = folder_of(self, a_warc_gz=b"".join(parts))
+            self.assertEqual([it["status"][:6] for it in lines_of(room)[0]], ["ok", "Broken", "ok", "ok", "ok"])
+        ends = {"ok": b"\r\n", "BrokenRecord none begins here": b"junk", "BrokenRecord it is cut off": response("x", PAGE)[:-9]}
+        for status, end in ends.items():
+            room = folder_of(self, a_warc=response("a", PAGE) + end, b_warc_gz=gzip.compress(response("a", PAGE) + end))
+            self.assertEqual([it["status"] for it in lines_of(room)[0]][-1:], [status])
+        self.assertEqual(lines_of(folder_of(self, a_warc=b"", b_warc_gz=b""))[0], [])
+
+    def test_files(self):
+        tar = tar_of(a_html=PAGE, b_txt=PAGE, c_htm=b"a<svg>", d_html=b"x" * 2000)
+        broken = gzip.compress(gzip.decompress(tar).replace(b"b.txt", b"B.txt"))
+        room = folder_of(self, a_tar_gz=tar, b_tgz=broken, c_tar=gzip.decompress(tar)[:2000], d_html=PAGE, e_txt=PAGE, f=PAGE)
+        os.symlink("nowhere", f"{room}/g.html")
+        lines, left_out = lines_of(room, f"{room}/f", most=1000)
+        found = [(os.path.relpath(it["archive"], room), it["record"], it["status"], it["at"]) for it in lines]
+        self.assertEqual(found[:3], [("a.tar.gz", 1, "ok", None), ("a.tar.gz", 3, "OutOfProfile svg", 1), ("a.tar.gz", 4, "TooLarge", 1000)])
+        self.assertEqual([it[:2] for it in found[3:]], [("b.tgz", 1), ("b.tgz", 0), ("c.tar", 1), ("c.tar", 0), ("d.html", 1), ("g.html", 0), ("f", 1)])
+        self.assertEqual({it[2].split()[0] for it in found if not it[1]}, {"Unreadable"})
+        self.assertEqual((lines[0]["address"], left_out), ("a.html", {"of another name": 4}))
+
+    def test_limits(self):
+        large = gzip.compress(b"x" * 4000000)
+        room = folder_of(self, a_warc=response("a", large, "Content-Encoding: gzip") + response("b", b"x" * 3000000), b_html=b"")
+        self.assertEqual([it["status"] for it in lines_of(room)[0]], ["TooLarge", "TooLarge", "ok"])
+
+    def test_large_links(self):
+        begins = {"deep": b"<a href=/b><object>" * 200, "wide": b"<p><a href=%b>" % (b"x" * 9999) + b"<p>y" * 99, "plain": b"<a href=/b>x</a><p>" * 2000}
+        for name, begin in begins.items():
+            page = jz.parse(begin + b"<object>" + b"y" * 4000)
+            made = page.links()
+            count = sum(len(it) + len(text) for it, text in made)
+            self.assertEqual([are_more(page, it) for it in (0, count - 1, count, 2 * count)], [True, True, False, False])
+            for size in (count - MORE, 9999999):
+                is_more = count > TIMES * size + MORE
+                if is_more:
+                    self.assertRaises(Unread, links_of, page, size)
+                else:
+                    self.assertEqual(links_of(page, size), made)
+
+    def ran(self, *words):
+        words = [sys.executable, "-X", "dev", "-m", "jeanzircon.crawl", *words]
+        return subprocess.Popen(words, stdout=subprocess.PIPE, stderr=subprocess.PIPE, cwd=os.path.dirname(jz.__path__[0]))
+
+    def test_going_on(self):
+        room = folder_of(self, a_warc=WARC, b_tgz=tar_of(a_html=PAGE, b_html=PAGE), c_html=PAGE)
+        with self.ran("--processes", "1", room) as it:
+            one, said = it.communicate()
+            self.assertEqual((it.returncode, said.count(b"\n")), (0, 1), said)
+
+        def lines(text):
+            return sorted(re.sub('"seconds".*', "", it) for it in text.decode().splitlines())
+
+        for kept in (1, len(one) // 2):
+            with open(f"{room}/out", "wb") as file:
+                file.write(one[:kept])
+            with self.ran("--processes", "2", "--output", f"{room}/out", room) as it:
+                self.assertEqual((it.communicate()[0], it.returncode), (b"", 0))
+            with open(f"{room}/out", "rb") as file:
+                self.assertEqual(lines(file.read()), lines(one))
+        for words in (["--output", f"{room}/c.html", room], ["--no-such-word", room]):
+            with self.ran(*words) as it:
+                self.assertEqual((it.communicate()[0], it.returncode), (b"", 2))
+        with open(f"{room}/c.html", "rb") as file:
+            self.assertEqual(file.read(), PAGE)
+
+    def test_ctrl_c(self):
+        room = folder_of(self, a_warc=response("a", PAGE) * 1000)
+        with self.ran("--processes", "2", room) as it:
+            first = it.stdout.readline()
+            it.send_signal(signal.SIGINT)
+            rest, said = it.communicate()
+        self.assertEqual((it.returncode, said.count(b"\n"), (first + rest)[-1:]), (130, 1, b"\n"), said)
+        self.assertLess((first + rest).count(b"\n"), 1000)
+        for line in (first + rest).splitlines():
+            json.loads(line)
 
 
 if __name__ == "__main__":

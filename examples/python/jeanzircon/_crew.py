@@ -18,9 +18,9 @@ from . import Page, Refused, parse
 from ._base import Node
 from ._stored import Found, Unread, content_of
 
-# Links that are in links have their texts again and again, and formatting elements their attributes: a page's links may have so many characters
-# for each of its bytes, and so many more, and be in one another so deep.
-TIMES, MORE, DEEPEST = 8, 1 << 16, 16
+# A link that is in a link has its text again, and a formatting element that is made again its attributes. So the links of a page may have so many
+# characters for each of its bytes, and so many more; and where they might have more than FEW these are counted before they are made.
+TIMES, MORE, FEW = 8, 1 << 16, 1 << 25
 
 
 class Line(NamedTuple):
@@ -30,41 +30,45 @@ class Line(NamedTuple):
     text: str
 
 
-def depth_of(node: Node, known: dict[int, int]) -> int:
-    """In how many links a node is. What is found of the nodes that it is in is kept in `known`."""
+def depth_of(node: Node | None, known: dict[int, int]) -> int:
+    """In how many links what a node has is. What is found of the nodes around it is kept in `known`."""
     passed: list[Node] = []
-    at = node.parent
-    while at is not None and at.number not in known:
-        passed.append(at)
-        at = at.parent
-    depth = 0 if at is None else known[at.number]
+    while node is not None and node.number not in known:
+        passed.append(node)
+        node = node.parent
+    depth = 0 if node is None else known[node.number]
     for it in reversed(passed):
-        depth += it.name == "a"
+        depth += it.name == "a" and it.get("href") is not None
         known[it.number] = depth
     return depth
 
 
-def links_of(page: Page, room: int) -> list[tuple[str, str]]:
-    """The links of a page, each with its text, in time and memory that grow as the page does."""
-    found, known = [], dict[int, int]()
+def are_more(page: Page, room: int) -> bool:
+    """Whether the links of a page have more characters, in time that grows as the page does."""
     for node in page.iter("a"):
-        href = node.get("href")
-        if href is None:
-            continue
-        if depth_of(node, known) >= DEEPEST:
-            raise Unread("LinksTooLarge")
-        text = node.text()
-        room -= len(href) + len(text)
+        room -= len(node.get("href", ""))
         if room < 0:
-            raise Unread("LinksTooLarge")
-        found.append((href, text))
-    return found
+            return True
+    known: dict[int, int] = {}
+    return sum(len(it.data or "") * depth_of(it.parent, known) for it in page if it.kind == "text") > room
+
+
+def links_of(page: Page, size: int) -> list[tuple[str, str]]:
+    """The links of a page of so many bytes, each with its text."""
+    room = TIMES * size + MORE
+    count = sum(1 for _ in page.iter("a"))
+    if 2 * size * count > FEW and are_more(page, room):
+        raise Unread("LinksTooLarge")
+    links = page.links()
+    if sum(len(href) + len(text) for href, text in links) > room:
+        raise Unread("LinksTooLarge")
+    return links
 
 
 def read(content: bytes) -> dict[str, Any]:
     """What is said of a page."""
     page = parse(content, bad_bytes=1)
-    links = links_of(page, TIMES * len(content) + MORE)
+    links = links_of(page, len(content))
     return {"title": page.title, "links": links, "errors": Counter(it.code for it in page.errors)}
 
 
@@ -89,7 +93,6 @@ def line_of(found: Found, most: int) -> Line:
 
 def work(link: Connection, most: int) -> None:
     """What a process does: a line for each page, until there is nobody who asks."""
-    signal.signal(signal.SIGINT, signal.SIG_IGN)
     try:
         while True:
             link.send(line_of(link.recv(), most))
@@ -106,13 +109,9 @@ class Worker:
 
     def _start(self) -> None:
         context = multiprocessing.get_context("spawn")
-        resource_tracker.ensure_running()
         self._link, other = context.Pipe()
-        # (a process that begins with it blocked is not ended by a Ctrl-C before it can say so)
-        blocked = signal.pthread_sigmask(signal.SIG_BLOCK, [signal.SIGINT])
         self._process = context.Process(target=work, args=(other, self._most), daemon=True)
         self._process.start()
-        signal.pthread_sigmask(signal.SIG_SETMASK, blocked)
         other.close()
 
     def line_of(self, found: Found, is_ending: Callable[[], bool]) -> Line | None:
@@ -144,11 +143,20 @@ class Crew:
     def __init__(self, count: int, most: int, write: Callable[[Line], None]) -> None:
         self._write, self._is_ending = write, False
         self._waiting: queue.Queue[Found | None] = queue.Queue(2 * count)
+        self._count, self._most = count, most
+        self._threads: list[threading.Thread] = []
+        self._workers: list[Worker] = []
         self.fault: BaseException | None = None
-        self._workers = [Worker(most) for _ in range(count)]
-        self._threads = [threading.Thread(target=self._serve, args=(it,)) for it in self._workers]
-        for it in self._threads:
-            it.start()
+
+    def begin(self) -> None:
+        """Starts the processes. A Ctrl-C does not reach them: who asked for them ends them."""
+        resource_tracker.ensure_running()  # (which lets signals through)
+        blocked = signal.pthread_sigmask(signal.SIG_BLOCK, [signal.SIGINT])
+        for _ in range(self._count):
+            self._workers.append(Worker(self._most))
+            self._threads.append(threading.Thread(target=self._serve, args=(self._workers[-1],)))
+            self._threads[-1].start()
+        signal.pthread_sigmask(signal.SIG_SETMASK, blocked)
 
     def _serve(self, worker: Worker) -> None:
         while (found := self._waiting.get()) is not None:

@@ -116,11 +116,11 @@ class Window:
                 raise Broken("its headers do not end")
 
     def is_between(self) -> bool:
-        """Whether line ends come, and then a record or a mark."""
+        """Whether what ends a record comes next: two line ends, or at least a record or a mark."""
         while len(self._kept) < 32 and self._has_more():
             pass
-        follows = bytes(self._kept[:32]).lstrip(b"\r\n")[:5]
-        return b"WARC/".startswith(follows)
+        begin = bytes(self._kept[:32])
+        return begin.startswith(b"\r\n\r\n") or b"WARC/".startswith(begin.lstrip(b"\r\n")[:5])
 
     def begins(self, word: bytes) -> bool:
         """Whether what comes next begins so."""

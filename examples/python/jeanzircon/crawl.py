@@ -96,6 +96,7 @@ def crawled(given: argparse.Namespace, file: int, done: Done, stood: int) -> int
     crew = Crew(given.processes, given.largest, output.write)
     status = 1
     try:
+        crew.begin()
         for found in archives.pages(dict.fromkeys(given.archives)):
             crew.give(found)
         crew.end()
