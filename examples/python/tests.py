@@ -2,6 +2,7 @@
 in C and, where JEANZIRCON_LIBRARY names a shared object, over ctypes.
 
     python3 tests.py [CASES]     CASES: the folder data/cases. What wants lxml, bs4, html5lib or mypy is skipped where there is none"""
+import collections
 import copy
 import doctest
 import glob
@@ -26,7 +27,7 @@ import zlib
 
 import jeanzircon as jz
 from jeanzircon._archives import Archives, Done
-from jeanzircon._crew import MORE, TIMES, are_more, line_of, links_of
+from jeanzircon._crew import MORE, are_more, line_of, links_of
 from jeanzircon._stored import Unread
 
 CASES = sys.argv.pop(1) if len(sys.argv) > 1 and os.path.isdir(sys.argv[1]) else None
@@ -115,6 +116,7 @@ class Pages(unittest.TestCase):
         self.assertEqual(page.links(), [("/one", "23")])
         self.assertEqual((page.links(), list(page)), (list(jz.links(PAGE)), list(page.root)))
         self.assertEqual(page.errors, jz.errors(PAGE))
+        self.assertEqual(jz.parse(b"\0<p>\0").error_counts, {"unexpected-null-character": 2, "tree-initial": 1, "tree-in-body": 2})
         self.assertEqual(page.html, jz.text(jz.WRITE, PAGE))
         self.assertEqual((page.nodes, [it.row for it, _ in zip(page, range(3))]), (jz.tree(PAGE), [row for row, _ in jz.tree(PAGE)[:3]]))
         self.assertEqual(repr(page), "<Page 'a b', 18 nodes, 0 parse errors>")
@@ -265,6 +267,7 @@ class Stored(unittest.TestCase):
                     made = jz.parse(page, **settings)
                     came = outline(made)
                     self.assertEqual(made.errors, jz.errors(page, **settings))
+                    self.assertEqual(made.error_counts, collections.Counter(it.code for it in made.errors))
                     self.assertEqual(element_outline(jz.to_etree(made)), outline(top_of(made)))
                 except jz.Refused as refused:
                     came = f"refused: {refused}\n"
@@ -459,28 +462,24 @@ class Crawls(unittest.TestCase):
         self.assertEqual([it["status"] for it in lines_of(room)[0]], ["TooLarge", "TooLarge", "ok"])
 
     def test_large_links(self):
-        begins = {"deep": b"<a href=/b><object>" * 200, "wide": b"<p><a href=%b>" % (b"x" * 9999) + b"<p>y" * 99, "plain": b"<a href=/b>x</a><p>" * 2000}
-        for name, begin in begins.items():
-            page = jz.parse(begin + b"<object>" + b"y" * 4000)
+        for begin in (b"<a href=/b><object>" * 200, b"<p><a href=%b>" % (b"x" * 9999) + b"<p>y" * 99, b"<a href=/b>x</a><p><a>y</a>" * 2000):
+            page = jz.parse(begin + b"y" * 4000)
             made = page.links()
             count = sum(len(it) + len(text) for it, text in made)
             self.assertEqual([are_more(page, it) for it in (0, count - 1, count, 2 * count)], [True, True, False, False])
-            for size in (count - MORE, 9999999):
-                is_more = count > TIMES * size + MORE
-                if is_more:
-                    self.assertRaises(Unread, links_of, page, size)
-                else:
-                    self.assertEqual(links_of(page, size), made)
+            self.assertEqual(links_of(page, count), made)
+            self.assertRaises(Unread, links_of, page, -MORE)
 
     def ran(self, *words):
         words = [sys.executable, "-X", "dev", "-m", "jeanzircon.crawl", *words]
         return subprocess.Popen(words, stdout=subprocess.PIPE, stderr=subprocess.PIPE, cwd=os.path.dirname(jz.__path__[0]))
 
     def test_going_on(self):
-        room = folder_of(self, a_warc=WARC, b_tgz=tar_of(a_html=PAGE, b_html=PAGE), c_html=PAGE)
+        large = b"<p><a href=%b>" % (b"x" * 200000) + b"<p>y" * 20000
+        room = folder_of(self, a_warc=WARC, b_tgz=tar_of(a_html=PAGE, b_html=PAGE), c_html=PAGE, d_html=large)
         with self.ran("--processes", "1", room) as it:
             one, said = it.communicate()
-            self.assertEqual((it.returncode, said.count(b"\n")), (0, 1), said)
+            self.assertEqual((it.returncode, said.count(b"\n"), one.count(b'"status": "Memory"')), (0, 1, 1), said)
 
         def lines(text):
             return sorted(re.sub('"seconds".*', "", it) for it in text.decode().splitlines())
@@ -492,9 +491,9 @@ class Crawls(unittest.TestCase):
                 self.assertEqual((it.communicate()[0], it.returncode), (b"", 0))
             with open(f"{room}/out", "rb") as file:
                 self.assertEqual(lines(file.read()), lines(one))
-        for words in (["--output", f"{room}/c.html", room], ["--no-such-word", room]):
+        for status, words in {3: ["--output", f"{room}/c.html", room], 2: ["--no-such-word", room]}.items():
             with self.ran(*words) as it:
-                self.assertEqual((it.communicate()[0], it.returncode), (b"", 2))
+                self.assertEqual((it.communicate()[0], it.returncode), (b"", status))
         with open(f"{room}/c.html", "rb") as file:
             self.assertEqual(file.read(), PAGE)
 

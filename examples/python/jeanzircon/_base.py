@@ -232,6 +232,11 @@ class Page:
         raise NotImplementedError
 
     @property
+    def error_counts(self) -> dict[str, int]:
+        """How many parse errors there are of each code that occurs."""
+        raise NotImplementedError
+
+    @property
     def _input(self) -> bytes:
         """What was parsed."""
         raise NotImplementedError

@@ -5,10 +5,10 @@ import contextlib
 import json
 import multiprocessing
 import queue
+import resource
 import signal
 import threading
 import time
-from collections import Counter
 from collections.abc import Callable
 from multiprocessing import resource_tracker
 from multiprocessing.connection import Connection
@@ -69,7 +69,7 @@ def read(content: bytes) -> dict[str, Any]:
     """What is said of a page."""
     page = parse(content, bad_bytes=1)
     links = links_of(page, len(content))
-    return {"title": page.title, "links": links, "errors": Counter(it.code for it in page.errors)}
+    return {"title": page.title, "links": links, "errors": page.error_counts}
 
 
 def line_of(found: Found, most: int) -> Line:
@@ -92,7 +92,11 @@ def line_of(found: Found, most: int) -> Line:
 
 
 def work(link: Connection, most: int) -> None:
-    """What a process does: a line for each page, until there is nobody who asks."""
+    """What a process does: a line for each page, until there is nobody who asks. What a tree needs is not bounded by its page: attributes may be
+    copied, so memory is bounded for itself."""
+    hardest = resource.getrlimit(resource.RLIMIT_AS)[1]
+    room = 128 * most + (256 << 20)
+    resource.setrlimit(resource.RLIMIT_AS, (room if hardest == resource.RLIM_INFINITY else min(room, hardest), hardest))
     try:
         while True:
             link.send(line_of(link.recv(), most))
@@ -138,18 +142,18 @@ class Worker:
 
 
 class Crew:
-    """Workers, each with a thread that hands it pages and takes its lines to `write`."""
+    """Workers, each with a thread that hands it pages and takes its lines to `write`. After `stop` no more are written; `fault` is what failed."""
 
     def __init__(self, count: int, most: int, write: Callable[[Line], None]) -> None:
-        self._write, self._is_ending = write, False
+        self._count, self._most, self._write = count, most, write
         self._waiting: queue.Queue[Found | None] = queue.Queue(2 * count)
-        self._count, self._most = count, most
         self._threads: list[threading.Thread] = []
         self._workers: list[Worker] = []
-        self.fault: BaseException | None = None
+        self.is_ending, self.ended_by = False, 0
+        self.fault: Exception | None = None
 
     def begin(self) -> None:
-        """Starts the processes. A Ctrl-C does not reach them: who asked for them ends them."""
+        """Starts the processes. No Ctrl-C reaches them and the threads."""
         resource_tracker.ensure_running()  # (which lets signals through)
         blocked = signal.pthread_sigmask(signal.SIG_BLOCK, [signal.SIGINT])
         for _ in range(self._count):
@@ -161,28 +165,27 @@ class Crew:
     def _serve(self, worker: Worker) -> None:
         while (found := self._waiting.get()) is not None:
             try:
-                line = None if self._is_ending else worker.line_of(found, lambda: self._is_ending)
+                line = None if self.is_ending else worker.line_of(found, lambda: self.is_ending)
                 if line:
                     self._write(line)
             except Exception as fault:
-                self.fault, self._is_ending = self.fault or fault, True
+                self.fault = self.fault or fault
+                self.stop()
         worker.close()
 
     def give(self, found: Found) -> None:
-        """Waits until there is room for a page. What made a line fail is raised here."""
+        """Waits until there is room for a page."""
         self._waiting.put(found)
-        if self.fault:
-            raise self.fault
 
-    def end(self, is_early: bool = False) -> None:
-        """Waits until all that was given is written; or, early, ends the processes, and what is not written is left."""
-        if is_early:
-            self._is_ending = True
-            for it in self._workers:
-                it.terminate()
+    def stop(self, number: int = 0, frame: object = None) -> None:
+        """Ends the processes. A signal may call it: it takes no lock, and what waits for a process goes on by itself."""
+        self.is_ending, self.ended_by = True, number
+        for it in self._workers:
+            it.terminate()
+
+    def end(self) -> None:
+        """Waits until what was given is written, or left."""
         for _ in self._threads:
             self._waiting.put(None)
         for thread in self._threads:
             thread.join()
-        if self.fault and not is_early:
-            raise self.fault

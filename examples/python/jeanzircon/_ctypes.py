@@ -13,7 +13,7 @@ from . import _base, _lazy
 from ._base import Given, Refused
 
 SONAME = "libjeanzircon.so.0"
-TOO_SHORT = 13
+MEMORY, TOO_SHORT = 6, 13
 
 
 BYTES: Any = ctypes.c_char_p
@@ -130,7 +130,10 @@ def version() -> int:
 
 def block(size: int) -> bytearray | mmap.mmap:
     """So many bytes; where they are many, of memory that is touched where it is written alone."""
-    return bytearray(size) if size < 1 << 20 else mmap.mmap(-1, size)
+    try:
+        return bytearray(size) if size < 1 << 20 else mmap.mmap(-1, size)
+    except (MemoryError, OSError):
+        raise Refused(MEMORY, 0, 0) from None
 
 
 def written(call: Callable[[ctypes.Array[ctypes.c_char], int, Answer], int], size: int) -> bytes:

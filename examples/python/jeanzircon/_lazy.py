@@ -4,6 +4,7 @@ from __future__ import annotations
 import itertools
 import struct
 from bisect import bisect_left
+from collections import Counter
 from collections.abc import Callable, Iterator
 from typing import Any, TypeVar, overload
 
@@ -133,6 +134,11 @@ class Page(_base.Page):
     @property
     def errors(self) -> list[ParseError]:
         return [ParseError(at, CODES[code]) for at, code in ERROR_ROW.iter_unpack(self._errors)]
+
+    @property
+    def error_counts(self) -> dict[str, int]:
+        counts = Counter(code for _, code in ERROR_ROW.iter_unpack(self._errors))
+        return {CODES[code]: counts[code] for code in sorted(counts)}
 
     def _row(self, place: int) -> Row:
         if place < 0:

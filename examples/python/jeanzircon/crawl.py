@@ -48,9 +48,10 @@ class Output:
 
     def summary(self, left_out: Counter[str], stood: int) -> str:
         """What is said at the end."""
-        parts = [f"{count} {status}" for status, count in self._counts.most_common()] or ["no page"]
-        parts += [f"left out: {count} {why}" for why, count in sorted(left_out.items())] + [f"{stood} stood there"] * bool(stood)
-        return "\r\x1b[K" * sys.stderr.isatty() + f"crawl: {'; '.join(parts)}"
+        said = "crawl: " + (", ".join(f"{count} {status}" for status, count in self._counts.most_common()) or "no page")
+        if left_out:
+            said += "; left out: " + ", ".join(f"{count} {why}" for why, count in sorted(left_out.items()))
+        return "\r\x1b[K" * sys.stderr.isatty() + said + f"; {stood} stood there" * bool(stood)
 
 
 def standing(path: str) -> tuple[Done, int]:
@@ -94,23 +95,26 @@ def crawled(given: argparse.Namespace, file: int, done: Done, stood: int) -> int
     """Reads all archives; the status of the program."""
     output, archives = Output(file), Archives(done, given.largest)
     crew = Crew(given.processes, given.largest, output.write)
-    status = 1
+    for number in (signal.SIGINT, signal.SIGTERM):
+        signal.signal(number, crew.stop)
     try:
         crew.begin()
         for found in archives.pages(dict.fromkeys(given.archives)):
+            if crew.is_ending:
+                break
             crew.give(found)
-        crew.end()
-        status = 0
-    except KeyboardInterrupt:
-        status = 130
-    except OSError as fault:
-        print(f"fault: cannot write: {fault.strerror}", file=sys.stderr)
+    except BaseException:
+        crew.stop()
+        raise
     finally:
-        if status:
-            signal.signal(signal.SIGINT, signal.SIG_IGN)
-            crew.end(is_early=True)
+        crew.end()
     print(output.summary(archives.left_out, stood), file=sys.stderr)
-    return status
+    if isinstance(crew.fault, OSError):
+        print(f"fault: cannot write: {crew.fault.strerror}", file=sys.stderr)
+        return 3
+    if crew.fault:
+        raise crew.fault
+    return 128 + crew.ended_by if crew.is_ending else 0
 
 
 def main() -> int:
@@ -123,7 +127,7 @@ def main() -> int:
             return crawled(given, file.fileno(), done, stood)
     except (OSError, ValueError) as fault:
         print(f"fault: {fault}", file=sys.stderr)
-        return 2
+        return 3
 
 
 if __name__ == "__main__":

@@ -62,6 +62,20 @@ static PyObject *page_errors(PyObject *self, void *none) {
     return list;
 }
 
+static PyObject *page_error_counts(PyObject *self, void *none) {
+    const jz_doc *doc = &((Page *)self)->doc;
+    size_t counts[JZ_ERROR_COUNT] = { 0 }, i;
+    PyObject *found = PyDict_New();
+    (void)none;
+    for (i = 0; i < doc->error_count; i++) counts[doc->errors[i].code]++;
+    for (i = 0; found && i < JZ_ERROR_COUNT; i++) {
+        PyObject *count = counts[i] ? PyLong_FromSize_t(counts[i]) : NULL;
+        if (counts[i] && (!count || PyDict_SetItemString(found, jz_error_name((uint32_t)i), count) < 0)) Py_CLEAR(found);
+        Py_XDECREF(count);
+    }
+    return found;
+}
+
 static PyObject *page_node(PyObject *self, PyObject *number) {
     unsigned long it = PyLong_AsUnsignedLong(number);
     PyObject *node;
@@ -114,6 +128,7 @@ static PyMethodDef methods[] = { { "links", page_links, METH_NOARGS, NULL },
                                  { NULL, NULL, 0, NULL } };
 static PyGetSetDef gets[] = { { "root", page_root, NULL, NULL, NULL },
                               { "errors", page_errors, NULL, NULL, NULL },
+                              { "error_counts", page_error_counts, NULL, NULL, NULL },
                               { "_input", page_input, NULL, NULL, NULL },
                               { "_given", page_given, NULL, NULL, NULL },
                               { NULL, NULL, NULL, NULL, NULL } };
