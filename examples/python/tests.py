@@ -444,6 +444,14 @@ class Crawls(unittest.TestCase):
             self.assertEqual([it["status"] for it in lines_of(room)[0]][-1:], [status])
         self.assertEqual(lines_of(folder_of(self, a_warc=b"", b_warc_gz=b""))[0], [])
 
+    def test_passing_over(self):
+        room = folder_of(self, a_warc=WARC[:900] + b"x" * 9 + WARC[900:], b_warc_gz=gzip.compress(WARC), c_tar=tar_of(a_html=PAGE, b_html=PAGE), d_html=PAGE)
+        found = [(it["archive"], it["record"]) for it in lines_of(room)[0]]
+        done = Done()
+        for it in found[::2]:
+            done.add(*it)
+        self.assertEqual([(it["archive"], it["record"]) for it in lines_of(room, done=done)[0]], found[1::2])
+
     def test_files(self):
         tar = tar_of(a_html=PAGE, b_txt=PAGE, c_htm=b"a<svg>", d_html=b"x" * 2000)
         broken = gzip.compress(gzip.decompress(tar).replace(b"b.txt", b"B.txt"))

@@ -1,11 +1,9 @@
 """What is read of archives, a page at a time: WARC and tar files, folders of these and of HTML files, single files."""
 from __future__ import annotations
 
-import lzma
 import os
 import stat
 import tarfile
-import zlib
 from collections import Counter
 from collections.abc import Iterable, Iterator
 from typing import Any, BinaryIO
@@ -98,7 +96,7 @@ class Archives:
                 raise OSError("no file")
             reads = {"warc": self._of_warc, "tar": self._of_tar, "html": self._of_file}
             yield from reads[kind or kind_within(path)](path)
-        except (OSError, EOFError, tarfile.TarError, zlib.error, lzma.LZMAError) as why:
+        except Exception as why:  # (tarfile raises whatever its code comes upon)
             if not self._done.has(path, 0):
                 yield self._unreadable(path, why)
 

@@ -81,7 +81,7 @@ def unpacked(content: bytes, coding: str, most: int) -> bytes:
             return inflated(content, 15 if is_wrapped else -15, most)
     except zlib.error as error:
         raise Broken("its content cannot be unpacked") from error
-    raise Unread(f"UnknownCoding {coding}")
+    raise Unread(f"UnknownCoding {coding[:20]}")
 
 
 def codings(words: str) -> list[str]:
