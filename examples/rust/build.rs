@@ -4,6 +4,8 @@
 //! The archive is that of the folder `JEANZIRCON_LIB_DIR`. Without that it is the first of these: where `pkg-config` says for
 //! this version; in the checkout that the crate lies in; in the prefix that it lies in. The Standard's lists are those of the
 //! same checkout or prefix, or of that which the crate lies in.
+//!
+//! With `DOCS_RS` in the environment there need be no archive: `DOCS_RS=1 cargo doc`.
 
 use std::path::{Path, PathBuf};
 use std::process::Command;
@@ -16,6 +18,13 @@ const BESIDE: [(&str, &str); 2] = [
     ("examples/rust", "../../out"),
     ("share/jeanzircon/rust", "../../../lib"),
 ];
+
+/// The folder of the crate.
+fn here() -> PathBuf {
+    env::var_os("CARGO_MANIFEST_DIR")
+        .expect("cargo says where the crate is")
+        .into()
+}
 
 /// The folder that `pkg-config` names, which writes a backslash before a space.
 fn packaged() -> Option<PathBuf> {
@@ -35,7 +44,7 @@ fn folders() -> Vec<PathBuf> {
     if let Some(folder) = env::var_os("JEANZIRCON_LIB_DIR") {
         return vec![folder.into()];
     }
-    let here = Path::new(env!("CARGO_MANIFEST_DIR"));
+    let here = here();
     let beside = BESIDE.iter().filter(|(name, _)| here.ends_with(name));
     packaged()
         .into_iter()
@@ -44,22 +53,40 @@ fn folders() -> Vec<PathBuf> {
 }
 
 /// The folder of the Standard's lists.
-fn lists(archive: &Path) -> PathBuf {
-    let here = Path::new(env!("CARGO_MANIFEST_DIR"));
-    let places = [
-        archive.join("../data"),
-        archive.join("../share/jeanzircon"),
-        here.join("../../data"),
-        here.join(".."),
-    ];
+fn lists(archive: Option<&Path>) -> PathBuf {
+    let here = here();
+    let beside = [here.join("../../data"), here.join("..")];
+    let places: Vec<_> = archive
+        .into_iter()
+        .flat_map(|it| [it.join("../data"), it.join("../share/jeanzircon")])
+        .chain(beside)
+        .collect();
     let mut found = places.iter().filter_map(|it| fs::canonicalize(it).ok());
     found
         .find(|it| it.join("entities.json").is_file())
         .unwrap_or_else(|| panic!("no entities.json in {places:?}"))
 }
 
+/// The Standard's table: in its flat form, as the header with the lists has it, which is in the folder of the archive or in the prefix, or
+/// else as JSON.
+fn table(archive: Option<&Path>, lists: &Path) -> Vec<u8> {
+    let places = ["jeanzircon_data.h", "../include/jeanzircon_data.h"];
+    let headers = archive
+        .into_iter()
+        .flat_map(|it| places.map(|place| it.join(place)));
+    let mut texts = headers.filter_map(|it| fs::read_to_string(it).ok());
+    let flat = texts.find_map(|text| {
+        let (_, rest) = text.split_once("jz_standard_entities[] = {")?;
+        let (bytes, _) = rest.split_once('}')?;
+        let numbers = bytes.split(',').map(str::trim).filter(|it| !it.is_empty());
+        numbers.map(|it| it.parse().ok()).collect()
+    });
+    flat.unwrap_or_else(|| fs::read(lists.join("entities.json")).expect("entities.json is read"))
+}
+
 fn main() {
     for name in [
+        "DOCS_RS",
         "JEANZIRCON_LIB_DIR",
         "PKG_CONFIG",
         "PKG_CONFIG_PATH",
@@ -69,12 +96,18 @@ fn main() {
     }
     let folders = folders();
     let mut whole = folders.iter().filter_map(|it| fs::canonicalize(it).ok());
-    let Some(folder) = whole.find(|it| it.join(ARCHIVE).is_file()) else {
-        panic!("no {ARCHIVE} in {folders:?}: JEANZIRCON_LIB_DIR may name its folder");
-    };
-    println!("cargo:rustc-link-search=native={}", folder.display());
-    println!("cargo:rustc-link-lib=static=jeanzircon");
-    println!("cargo:rerun-if-changed={}", folder.join(ARCHIVE).display());
-    let lists = lists(&folder);
+    let archive = whole.find(|it| it.join(ARCHIVE).is_file());
+    match &archive {
+        Some(folder) => {
+            println!("cargo:rustc-link-search=native={}", folder.display());
+            println!("cargo:rustc-link-lib=static=jeanzircon");
+            println!("cargo:rerun-if-changed={}", folder.join(ARCHIVE).display());
+        }
+        None if env::var_os("DOCS_RS").is_some() => {}
+        None => panic!("no {ARCHIVE} in {folders:?}: JEANZIRCON_LIB_DIR may name its folder"),
+    }
+    let lists = lists(archive.as_deref());
     println!("cargo:rustc-env=JEANZIRCON_LISTS={}", lists.display());
+    let made = PathBuf::from(env::var_os("OUT_DIR").expect("cargo names a folder"));
+    fs::write(made.join("entities"), table(archive.as_deref(), &lists)).expect("a file is written");
 }

@@ -9,16 +9,17 @@ mod error;
 mod lines;
 mod raw;
 mod table;
+mod tree;
 
 pub use error::{Error, ErrorCode, ErrorKind, ParseError};
 pub use lines::Lines;
 pub use table::{Table, QUIRKS};
+pub use tree::{links, Doctype, Kind, Node, Tree};
 
 use std::collections::hash_map::RandomState;
-use std::hash::{BuildHasher, Hash, Hasher};
+use std::hash::{BuildHasher, Hasher};
 use std::mem::size_of;
 use std::sync::OnceLock;
-use std::{fmt, ptr, str};
 
 /// The version of the library, as `0.1.0`.
 pub fn version() -> String {
@@ -93,11 +94,11 @@ impl Default for Options<'_> {
 }
 
 impl Options<'_> {
-    fn raw(&self) -> raw::Options {
+    fn raw(&self, input: &[u8]) -> raw::Options {
         raw::Options {
             size: size_of::<raw::Options>(),
             context: raw::Bytes::of(self.context.as_bytes()),
-            entities: raw::Bytes::of(self.entities.flat()),
+            entities: raw::Bytes::of(self.entities.for_input(input)),
             quirks: raw::Bytes::of(self.quirks.as_bytes()),
             nodes: self.nodes,
             open: self.open,
@@ -149,7 +150,7 @@ fn utf8(bytes: Vec<u8>) -> String {
 
 /// The text of a task.
 pub fn text(task: Task, input: &[u8], options: &Options) -> Result<String, Error> {
-    let given = options.raw();
+    let given = options.raw(input);
     let bytes = written(text_room(task, input), |output, answer| {
         // SAFETY: the memory is Rust's and does not overlap, and lives through the call.
         unsafe {
@@ -210,17 +211,6 @@ impl<'a> Parser<'a> {
     }
 }
 
-/// No node.
-const NONE: u32 = u32::MAX;
-
-/// The tree of an input. It owns all that it lends.
-pub struct Tree {
-    root: u32,
-    /// By number: a row, and where its words begin and end.
-    nodes: Vec<(raw::Row, usize, usize)>,
-    words: Vec<u8>,
-}
-
 /// What one parse gives.
 #[derive(Debug)]
 pub struct Page {
@@ -243,7 +233,7 @@ const WANT_HTML: u32 = 2;
 
 /// The tree of an input, and its errors and its HTML where they are wanted.
 fn parsed(wants: u32, input: &[u8], options: &Options) -> Result<Page, Error> {
-    let (given, mut answer) = (options.raw(), raw::PageAnswer::default());
+    let (given, mut answer) = (options.raw(input), raw::PageAnswer::default());
     let few = input.len() / 4 + 64;
     let mut rooms = [few, input.len() * 2 + 256, 0, 0];
     if wants & WANT_ERRORS != 0 {
@@ -288,9 +278,8 @@ fn parsed(wants: u32, input: &[u8], options: &Options) -> Result<Page, Error> {
                 words.shrink_to_fit();
                 errors.shrink_to_fit();
                 html.shrink_to_fit();
-                let root = u32::from(!options.context.is_empty());
                 return Ok(Page {
-                    tree: Tree::index(rows, words, root),
+                    tree: Tree::of(rows, words, !options.context.is_empty()),
                     errors,
                     html: utf8(html),
                 });
@@ -300,271 +289,4 @@ fn parsed(wants: u32, input: &[u8], options: &Options) -> Result<Page, Error> {
             _ => return Err(Error::of_page(&answer)),
         }
     }
-}
-
-impl Tree {
-    /// Parses an input.
-    pub fn parse(input: &[u8], options: &Options) -> Result<Tree, Error> {
-        Ok(parsed(0, input, options)?.tree)
-    }
-
-    /// Puts rows into their places by number, and finds their words.
-    fn index(rows: Vec<raw::Row>, words: Vec<u8>, root: u32) -> Tree {
-        let count = rows
-            .iter()
-            .map(|row| row.number)
-            .max()
-            .unwrap_or(root)
-            .max(root)
-            + 1;
-        let blank = raw::Row {
-            number: NONE,
-            kind: NONE,
-            parent: NONE,
-            first_child: NONE,
-            next: NONE,
-        };
-        let mut nodes = vec![(blank, 0, 0); count as usize];
-        let first_child = rows.first().map_or(NONE, |row| row.number);
-        nodes[root as usize].0 = raw::Row {
-            number: root,
-            kind: if root == 0 { 0 } else { 2 },
-            first_child,
-            ..blank
-        };
-        let mut at = 0;
-        for row in rows {
-            let end = at
-                + words[at..]
-                    .iter()
-                    .position(|byte| *byte == 0xFE)
-                    .expect("a node's words end");
-            nodes[row.number as usize] = (row, at, end);
-            at = end + 1;
-        }
-        Tree { root, nodes, words }
-    }
-
-    /// The document, or the root element of a fragment.
-    pub fn root(&self) -> Node<'_> {
-        Node {
-            tree: self,
-            number: self.root,
-        }
-    }
-}
-
-/// The nodes in tree order, each after how deep it is.
-impl fmt::Debug for Tree {
-    fn fmt(&self, f: &mut fmt::Formatter) -> fmt::Result {
-        let mut depths = vec![0; self.nodes.len()];
-        let nodes = self.root().descendants().map(|node| {
-            let depth = depths[node.row().parent as usize];
-            depths[node.number as usize] = depth + 1;
-            (depth, node)
-        });
-        f.debug_list().entries(nodes).finish()
-    }
-}
-
-/// The kind of a node.
-#[derive(Clone, Copy, Debug, PartialEq, Eq, Hash)]
-pub enum Kind {
-    Document,
-    Doctype,
-    Element,
-    Comment,
-    Text,
-}
-
-/// What a doctype says; a part that it leaves out is empty.
-#[derive(Clone, Copy, Debug, PartialEq, Eq, Hash)]
-pub struct Doctype<'a> {
-    pub name: &'a str,
-    pub public: &'a str,
-    pub system: &'a str,
-}
-
-/// A node of a tree, which it is lent from. It equals itself alone, not another of the same name or text.
-#[derive(Clone, Copy)]
-pub struct Node<'a> {
-    tree: &'a Tree,
-    number: u32,
-}
-
-impl PartialEq for Node<'_> {
-    fn eq(&self, other: &Self) -> bool {
-        ptr::eq(self.tree, other.tree) && self.number == other.number
-    }
-}
-
-impl Eq for Node<'_> {}
-
-impl Hash for Node<'_> {
-    fn hash<H: Hasher>(&self, state: &mut H) {
-        ptr::hash(self.tree, state);
-        self.number.hash(state);
-    }
-}
-
-impl fmt::Debug for Node<'_> {
-    fn fmt(&self, f: &mut fmt::Formatter) -> fmt::Result {
-        let text = self.text().unwrap_or_default();
-        match self.kind() {
-            Kind::Document => f.write_str("Document"),
-            Kind::Doctype => self.doctype().map_or(Ok(()), |it| fmt::Debug::fmt(&it, f)),
-            Kind::Element => f
-                .debug_struct("Element")
-                .field("name", &self.name().unwrap_or_default())
-                .field("attributes", &self.attributes().collect::<Vec<_>>())
-                .finish(),
-            Kind::Comment => f.debug_tuple("Comment").field(&text).finish(),
-            Kind::Text => f.debug_tuple("Text").field(&text).finish(),
-        }
-    }
-}
-
-impl<'a> Node<'a> {
-    fn row(self) -> &'a raw::Row {
-        &self.tree.nodes[self.number as usize].0
-    }
-
-    fn at(self, number: u32) -> Option<Node<'a>> {
-        (number != NONE).then_some(Node {
-            tree: self.tree,
-            number,
-        })
-    }
-
-    pub fn kind(self) -> Kind {
-        [
-            Kind::Document,
-            Kind::Doctype,
-            Kind::Element,
-            Kind::Comment,
-            Kind::Text,
-        ][self.row().kind as usize]
-    }
-
-    pub fn parent(self) -> Option<Node<'a>> {
-        self.at(self.row().parent)
-    }
-
-    pub fn first_child(self) -> Option<Node<'a>> {
-        self.at(self.row().first_child)
-    }
-
-    pub fn next(self) -> Option<Node<'a>> {
-        self.at(self.row().next)
-    }
-
-    fn words(self) -> impl Iterator<Item = &'a str> {
-        let (_, start, end) = self.tree.nodes[self.number as usize];
-        let words = self.tree.words[start..end].split_inclusive(|byte| *byte == 0xFF);
-        words.map(|word| str::from_utf8(&word[..word.len() - 1]).expect("the library writes UTF-8"))
-    }
-
-    /// The name of an element or a doctype.
-    pub fn name(self) -> Option<&'a str> {
-        matches!(self.kind(), Kind::Element | Kind::Doctype).then(|| self.words().next())?
-    }
-
-    /// The name and the identifiers of a doctype.
-    pub fn doctype(self) -> Option<Doctype<'a>> {
-        let mut words = self.words();
-        let mut next = || (self.kind() == Kind::Doctype).then(|| words.next())?;
-        Some(Doctype {
-            name: next()?,
-            public: next()?,
-            system: next()?,
-        })
-    }
-
-    /// The characters of a text, or the data of a comment.
-    pub fn text(self) -> Option<&'a str> {
-        matches!(self.kind(), Kind::Text | Kind::Comment).then(|| self.words().next())?
-    }
-
-    /// The attributes of an element, in their order.
-    pub fn attributes(self) -> impl Iterator<Item = (&'a str, &'a str)> {
-        let count = if self.kind() == Kind::Element {
-            usize::MAX
-        } else {
-            0
-        };
-        let (names, values) = (
-            self.words().skip(1).step_by(2),
-            self.words().skip(2).step_by(2),
-        );
-        names.zip(values).take(count)
-    }
-
-    /// The value of an element's attribute of this name.
-    pub fn attribute(self, name: &str) -> Option<&'a str> {
-        self.attributes()
-            .find(|attribute| attribute.0 == name)
-            .map(|attribute| attribute.1)
-    }
-
-    /// The children of a node.
-    pub fn children(self) -> impl Iterator<Item = Node<'a>> {
-        std::iter::successors(self.first_child(), |node| node.next())
-    }
-
-    /// The nodes inside a node, in tree order.
-    pub fn descendants(self) -> impl Iterator<Item = Node<'a>> {
-        std::iter::successors(self.first_child(), move |node| node.after(self.number))
-    }
-
-    /// The node after this one in tree order, of those inside `top`.
-    fn after(self, top: u32) -> Option<Node<'a>> {
-        if let Some(child) = self.first_child() {
-            return Some(child);
-        }
-        let mut node = self;
-        while node.number != top {
-            if let Some(next) = node.next() {
-                return Some(next);
-            }
-            node = node.parent()?;
-        }
-        None
-    }
-
-    /// The characters of all texts inside a node.
-    pub fn text_content(self) -> String {
-        self.descendants()
-            .filter(|node| node.kind() == Kind::Text)
-            .filter_map(Node::text)
-            .collect()
-    }
-}
-
-/// The links of a page, each with its text. The time is that of the nodes and of the texts that are given, however they are
-/// nested.
-pub fn links(tree: &Tree) -> impl Iterator<Item = (&str, String)> {
-    // The texts one after another: those inside a node are from where it begins to where the first node past all inside it begins.
-    let mut texts = String::new();
-    let mut begins = vec![0; tree.nodes.len()];
-    let mut past = vec![NONE; tree.nodes.len()];
-    for node in tree.root().descendants() {
-        let (at, row) = (node.number as usize, node.row());
-        begins[at] = texts.len();
-        past[at] = match row.next {
-            NONE => past[row.parent as usize],
-            next => next,
-        };
-        if node.kind() == Kind::Text {
-            texts.push_str(node.text().unwrap_or_default());
-        }
-    }
-    let anchors = tree
-        .root()
-        .descendants()
-        .filter(|node| node.name() == Some("a"));
-    anchors.filter_map(move |node| {
-        let end = begins.get(past[node.number as usize] as usize);
-        let inside = begins[node.number as usize]..*end.unwrap_or(&texts.len());
-        Some((node.attribute("href")?, texts[inside].to_string()))
-    })
 }

@@ -1,6 +1,7 @@
 //! The library's functions and structs, as `include/jeanzircon.h` has them. Nothing compares the two.
 
 use crate::ParseError;
+use std::ffi::{c_int, c_void};
 
 #[repr(C)]
 #[derive(Clone, Copy)]
@@ -65,7 +66,16 @@ pub struct Row {
     pub next: u32,
 }
 
+/// The place of the first byte of this value.
+pub fn find(byte: u8, bytes: &[u8]) -> Option<usize> {
+    // SAFETY: the bytes can be read to their end.
+    let found = unsafe { memchr(bytes.as_ptr().cast(), byte.into(), bytes.len()) };
+    (!found.is_null()).then(|| found as usize - bytes.as_ptr() as usize)
+}
+
 extern "C" {
+    fn memchr(bytes: *const c_void, byte: c_int, count: usize) -> *const c_void;
+
     pub fn jz_version() -> u32;
 
     pub fn jz_text(

@@ -4,20 +4,33 @@ use crate::{raw, written, Error};
 use std::fmt;
 use std::sync::OnceLock;
 
-const ENTITIES: &str = include_str!(concat!(env!("JEANZIRCON_LISTS"), "/entities.json"));
+/// The Standard's table, in either form.
+const ENTITIES: &[u8] = include_bytes!(concat!(env!("OUT_DIR"), "/entities"));
+
+/// What a flat form begins with, and no JSON.
+const FLAT: u8 = 1;
 
 /// The Standard's quirks list.
 pub const QUIRKS: &str = include_str!(concat!(env!("JEANZIRCON_LISTS"), "/quirks.txt"));
 
 /// A table of character references, in the form in which the library reads it in a sixtieth of the time that its JSON takes.
-#[derive(Clone, PartialEq, Eq)]
-pub struct Table {
-    flat: Vec<u8>,
+#[derive(Clone)]
+pub struct Table(Form);
+
+#[derive(Clone)]
+enum Form {
+    Core,
+    Standard,
+    Own(Vec<u8>),
 }
 
 impl Table {
     /// That of a JSON text.
     pub fn read(json: &str) -> Result<Table, Error> {
+        Table::of(json.as_bytes())
+    }
+
+    fn of(json: &[u8]) -> Result<Table, Error> {
         let flat = written(json.len() + 256, |output, answer| {
             // SAFETY: the memory is Rust's and does not overlap, and lives through the call.
             unsafe {
@@ -30,28 +43,51 @@ impl Table {
                 )
             };
         })?;
-        Ok(Table { flat })
+        Ok(Table(Form::Own(flat)))
     }
 
-    pub(crate) fn flat(&self) -> &[u8] {
-        &self.flat
-    }
-
-    /// The Standard's, which browsers have. It is read once a program.
-    pub fn standard() -> &'static Table {
+    fn flat(&self) -> &[u8] {
         static STANDARD: OnceLock<Table> = OnceLock::new();
-        STANDARD.get_or_init(|| Table::read(ENTITIES).expect("the Standard's table is read"))
+        match &self.0 {
+            Form::Core => &[],
+            Form::Standard if ENTITIES[0] == FLAT => ENTITIES,
+            Form::Standard => STANDARD
+                .get_or_init(|| Table::of(ENTITIES).expect("the Standard's table is read"))
+                .flat(),
+            Form::Own(flat) => flat,
+        }
+    }
+
+    /// The form in which it is handed in with an input. Without `&` that has no reference, and the Standard's table gives what the core
+    /// table does, which it contains.
+    pub(crate) fn for_input(&self, input: &[u8]) -> &[u8] {
+        match self.0 {
+            Form::Standard if !input.contains(&b'&') => &[],
+            _ => self.flat(),
+        }
+    }
+
+    /// The Standard's, which browsers have.
+    pub fn standard() -> &'static Table {
+        &Table(Form::Standard)
     }
 
     /// The five references that serializers write: `&amp;`, `&lt;`, `&gt;`, `&quot;` and `&nbsp;`.
     pub fn core() -> &'static Table {
-        static CORE: Table = Table { flat: Vec::new() };
-        &CORE
+        &Table(Form::Core)
     }
 }
 
+impl PartialEq for Table {
+    fn eq(&self, other: &Self) -> bool {
+        self.flat() == other.flat()
+    }
+}
+
+impl Eq for Table {}
+
 impl fmt::Debug for Table {
     fn fmt(&self, f: &mut fmt::Formatter) -> fmt::Result {
-        write!(f, "Table({} bytes)", self.flat.len())
+        write!(f, "Table({} bytes)", self.flat().len())
     }
 }

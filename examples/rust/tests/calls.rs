@@ -1,10 +1,11 @@
 //! What the wrapper gives.
 
 use jeanzircon::{
-    errors, is_plain, links, text, version, BadBytes, Doctype, Error, ErrorKind, Kind, Lines,
+    errors, is_plain, links, text, version, BadBytes, Doctype, Error, ErrorKind, Kind, Lines, Node,
     Options, Page, Parser, Table, Task, Tree,
 };
 use std::collections::HashSet;
+use std::iter::successors;
 
 const PAGE: &[u8] =
     b"<!DOCTYPE html><p title='a&lt;b'>x<a href=/one>one <b>two</b></a><!--c--><a>no link</a>";
@@ -30,6 +31,40 @@ fn a_tree_is_walked() {
         .unwrap();
     assert_eq!(paragraph.attribute("title"), Some("a<b"));
     assert_eq!(paragraph.parent().unwrap().name(), Some("body"));
+}
+
+fn outside(node: Node<'_>) -> impl Iterator<Item = Node<'_>> {
+    successors(node.parent(), |it| it.parent())
+}
+
+#[test]
+fn links_between_nodes_agree() {
+    let page =
+        b"<p>a<b>b<i></i></b><!--c--></p><table><tr><td>x<td>y</table>z<b><p>1</b>2<div><div>";
+    for options in [Options::default(), div()] {
+        let tree = Tree::parse(page, &options).unwrap();
+        let (mut left, mut walked) = (vec![tree.root()], Vec::new());
+        while let Some(node) = left.pop() {
+            let mut children: Vec<_> = node.children().collect();
+            assert!(children.iter().all(|it| it.parent() == Some(node)));
+            assert_eq!(node.first_child(), children.first().copied());
+            children.reverse();
+            left.extend(children);
+            walked.push(node);
+        }
+        let inside: Vec<_> = tree.root().descendants().collect();
+        assert_eq!(walked[1..], inside);
+        for node in walked {
+            let found = inside
+                .iter()
+                .filter(|it| outside(**it).any(|it| it == node));
+            assert!(node.descendants().eq(found.copied()));
+        }
+        assert_eq!((tree.root().parent(), tree.root().next()), (None, None));
+    }
+    let empty = Tree::parse(b"", &div()).unwrap();
+    assert_eq!(empty.root().descendants().count(), 0);
+    assert_eq!((empty.root().name(), empty.root().next()), (None, None));
 }
 
 #[test]
@@ -219,6 +254,29 @@ fn pages_are_read_as_browsers_read_them() {
     assert_eq!(html(&own), "<p>c<table></table></p>");
     assert_ne!(Options::default().keys, 0);
     assert_eq!(Options::default().keys, Options::default().keys);
+}
+
+#[test]
+fn the_standard_table_is_left_out_where_nothing_refers_to_it() {
+    let json = include_str!(concat!(env!("JEANZIRCON_LISTS"), "/entities.json"));
+    let own = Table::read(json).unwrap();
+    assert_eq!(own, *Table::standard());
+    assert_ne!(own, *Table::core());
+    let tasks = [Task::Tree, Task::Errors, Task::Write, Task::Plain];
+    for page in [
+        "<p title='\"<'>x\u{A0}y</p>",
+        "<xmp>copy;</xmp>",
+        "<p>&copy",
+    ] {
+        for task in tasks {
+            let given = Options {
+                entities: &own,
+                ..div()
+            };
+            let wanted = text(task, page.as_bytes(), &given);
+            assert_eq!(text(task, page.as_bytes(), &div()), wanted);
+        }
+    }
 }
 
 #[test]

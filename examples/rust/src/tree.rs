@@ -1,0 +1,317 @@
+//! The tree of an input, which lends its nodes and their words.
+
+use crate::{parsed, raw, Error, Options};
+use std::hash::{Hash, Hasher};
+use std::{fmt, iter, ptr, str};
+
+/// No node.
+const NONE: u32 = u32::MAX;
+
+/// What a word ends with, and the words of a node.
+const WORD_END: u8 = 0xFF;
+const END: u8 = 0xFE;
+
+/// A node in its place in tree order, where its first child is the node after it; the root is at 0. The library's rows have the size
+/// and the alignment of these, so these are made in the memory of the rows.
+#[derive(Clone, Copy)]
+#[repr(C, packed(4))]
+struct Spot {
+    /// Where its words begin. They end where those of the node after it begin.
+    words: u64,
+    kind: u32,
+    /// The places of its parent, of the root NONE, and of the first node past all inside it.
+    parent: u32,
+    past: u32,
+}
+
+/// The tree of an input. It owns all that it lends.
+pub struct Tree {
+    root: Spot,
+    /// Those inside the root.
+    spots: Vec<Spot>,
+    words: Vec<u8>,
+}
+
+impl Tree {
+    /// Parses an input.
+    pub fn parse(input: &[u8], options: &Options) -> Result<Tree, Error> {
+        Ok(parsed(0, input, options)?.tree)
+    }
+
+    /// Of the library's rows, whose links are numbers, and their words.
+    pub(crate) fn of(rows: Vec<raw::Row>, words: Vec<u8>, is_fragment: bool) -> Tree {
+        let places = places(&rows);
+        let mut at = 0;
+        let spot = |row: raw::Row| {
+            let start = at;
+            at += 1 + raw::find(END, &words[at..]).expect("a node's words end");
+            Spot {
+                words: start as u64,
+                kind: row.kind,
+                parent: places[row.parent as usize],
+                past: places.get(row.next as usize).copied().unwrap_or(NONE),
+            }
+        };
+        let mut spots: Vec<_> = rows.into_iter().map(spot).collect();
+        spots.shrink_to_fit();
+        end_with_parents(&mut spots);
+        let root = Spot {
+            words: 0,
+            kind: if is_fragment { 2 } else { 0 },
+            parent: NONE,
+            past: spots.len() as u32 + 1,
+        };
+        Tree { root, spots, words }
+    }
+
+    /// The document, or the root element of a fragment.
+    pub fn root(&self) -> Node<'_> {
+        Node {
+            tree: self,
+            place: 0,
+        }
+    }
+}
+
+/// The places of nodes by their numbers; that of the root is 0.
+fn places(rows: &[raw::Row]) -> Vec<u32> {
+    let count = rows.iter().map(|row| row.number + 1).max().unwrap_or(0);
+    let mut places = vec![0; count as usize];
+    for (row, place) in rows.iter().zip(1..) {
+        places[row.number as usize] = place;
+    }
+    places
+}
+
+/// What is inside a node without a next one ends where its parent's ends.
+fn end_with_parents(spots: &mut [Spot]) {
+    let end = spots.len() as u32 + 1;
+    for at in 0..spots.len() {
+        if spots[at].past == NONE {
+            let parent = (spots[at].parent as usize).checked_sub(1);
+            spots[at].past = parent.map_or(end, |it| spots[it].past);
+        }
+    }
+}
+
+/// The nodes in tree order, each after how deep it is.
+impl fmt::Debug for Tree {
+    fn fmt(&self, f: &mut fmt::Formatter) -> fmt::Result {
+        let mut depths = vec![0; self.spots.len() + 1];
+        let nodes = self.root().descendants().map(|node| {
+            let depth = depths[node.spot().parent as usize];
+            depths[node.place as usize] = depth + 1;
+            (depth, node)
+        });
+        f.debug_list().entries(nodes).finish()
+    }
+}
+
+/// The kind of a node.
+#[derive(Clone, Copy, Debug, PartialEq, Eq, Hash)]
+pub enum Kind {
+    Document,
+    Doctype,
+    Element,
+    Comment,
+    Text,
+}
+
+/// What a doctype says; a part that it leaves out is empty.
+#[derive(Clone, Copy, Debug, PartialEq, Eq, Hash)]
+pub struct Doctype<'a> {
+    pub name: &'a str,
+    pub public: &'a str,
+    pub system: &'a str,
+}
+
+/// A node of a tree, which it is lent from. It equals itself alone, not another of the same name or text.
+#[derive(Clone, Copy)]
+pub struct Node<'a> {
+    tree: &'a Tree,
+    place: u32,
+}
+
+impl PartialEq for Node<'_> {
+    fn eq(&self, other: &Self) -> bool {
+        ptr::eq(self.tree, other.tree) && self.place == other.place
+    }
+}
+
+impl Eq for Node<'_> {}
+
+impl Hash for Node<'_> {
+    fn hash<H: Hasher>(&self, state: &mut H) {
+        ptr::hash(self.tree, state);
+        self.place.hash(state);
+    }
+}
+
+impl fmt::Debug for Node<'_> {
+    fn fmt(&self, f: &mut fmt::Formatter) -> fmt::Result {
+        let text = self.text().unwrap_or_default();
+        match self.kind() {
+            Kind::Document => f.write_str("Document"),
+            Kind::Doctype => self.doctype().map_or(Ok(()), |it| fmt::Debug::fmt(&it, f)),
+            Kind::Element => f
+                .debug_struct("Element")
+                .field("name", &self.name().unwrap_or_default())
+                .field("attributes", &self.attributes().collect::<Vec<_>>())
+                .finish(),
+            Kind::Comment => f.debug_tuple("Comment").field(&text).finish(),
+            Kind::Text => f.debug_tuple("Text").field(&text).finish(),
+        }
+    }
+}
+
+impl<'a> Node<'a> {
+    fn spot(self) -> Spot {
+        match self.place {
+            0 => self.tree.root,
+            place => self.tree.spots[place as usize - 1],
+        }
+    }
+
+    /// The node in a place, if there is one.
+    fn at(self, place: u32) -> Option<Node<'a>> {
+        let tree = self.tree;
+        (place as usize <= tree.spots.len()).then_some(Node { tree, place })
+    }
+
+    pub fn kind(self) -> Kind {
+        [
+            Kind::Document,
+            Kind::Doctype,
+            Kind::Element,
+            Kind::Comment,
+            Kind::Text,
+        ][self.spot().kind as usize]
+    }
+
+    pub fn parent(self) -> Option<Node<'a>> {
+        self.at(self.spot().parent)
+    }
+
+    pub fn first_child(self) -> Option<Node<'a>> {
+        self.descendants().next()
+    }
+
+    pub fn next(self) -> Option<Node<'a>> {
+        let next = self.at(self.spot().past)?;
+        (next.spot().parent == self.spot().parent).then_some(next)
+    }
+
+    /// The words of a node of one of these kinds; of any other none.
+    fn words(self, kinds: &[Kind]) -> Words<'a> {
+        if !kinds.contains(&self.kind()) {
+            return Words { left: &[] };
+        }
+        let words = &self.tree.words;
+        let next = self.at(self.place + 1);
+        let end = next.map_or(words.len(), |it| it.spot().words as usize);
+        Words {
+            left: &words[self.spot().words as usize..end],
+        }
+    }
+
+    /// The name of an element or a doctype.
+    pub fn name(self) -> Option<&'a str> {
+        self.words(&[Kind::Element, Kind::Doctype]).text()
+    }
+
+    /// The name and the identifiers of a doctype.
+    pub fn doctype(self) -> Option<Doctype<'a>> {
+        let mut words = self.words(&[Kind::Doctype]);
+        Some(Doctype {
+            name: words.text()?,
+            public: words.text()?,
+            system: words.text()?,
+        })
+    }
+
+    /// The characters of a text, or the data of a comment.
+    pub fn text(self) -> Option<&'a str> {
+        self.words(&[Kind::Text, Kind::Comment]).text()
+    }
+
+    fn pairs(self) -> impl Iterator<Item = (&'a [u8], &'a [u8])> {
+        let mut words = self.words(&[Kind::Element]);
+        words.next(); // the element's name
+        iter::from_fn(move || Some((words.next()?, words.next()?)))
+    }
+
+    /// The attributes of an element, in their order.
+    pub fn attributes(self) -> impl Iterator<Item = (&'a str, &'a str)> {
+        self.pairs().map(|(name, value)| (utf8(name), utf8(value)))
+    }
+
+    /// The value of an element's attribute of this name.
+    pub fn attribute(self, name: &str) -> Option<&'a str> {
+        let found = self.pairs().find(|pair| pair.0 == name.as_bytes());
+        found.map(|(_, value)| utf8(value))
+    }
+
+    /// The children of a node.
+    pub fn children(self) -> impl Iterator<Item = Node<'a>> {
+        iter::successors(self.first_child(), |node| node.next())
+    }
+
+    /// The nodes inside a node, in tree order.
+    pub fn descendants(self) -> impl Iterator<Item = Node<'a>> {
+        let tree = self.tree;
+        (self.place + 1..self.spot().past).map(move |place| Node { tree, place })
+    }
+
+    /// The characters of all texts inside a node.
+    pub fn text_content(self) -> String {
+        self.descendants()
+            .filter(|node| node.kind() == Kind::Text)
+            .filter_map(Node::text)
+            .collect()
+    }
+}
+
+/// What is left of a node's words, each with its end.
+struct Words<'a> {
+    left: &'a [u8],
+}
+
+impl<'a> Words<'a> {
+    fn next(&mut self) -> Option<&'a [u8]> {
+        let end = raw::find(WORD_END, self.left)?;
+        let word = &self.left[..end];
+        self.left = &self.left[end + 1..];
+        Some(word)
+    }
+
+    fn text(&mut self) -> Option<&'a str> {
+        self.next().map(utf8)
+    }
+}
+
+fn utf8(word: &[u8]) -> &str {
+    str::from_utf8(word).expect("the library writes UTF-8")
+}
+
+/// The links of a page, each with its text. The time is that of the nodes and of the texts that are given, however they are
+/// nested.
+pub fn links(tree: &Tree) -> impl Iterator<Item = (&str, String)> {
+    // The texts one after another: those inside a node are from where it begins to where the first node past all inside it begins.
+    let mut texts = String::new();
+    let mut begins = vec![0];
+    for node in tree.root().descendants() {
+        begins.push(texts.len());
+        if node.kind() == Kind::Text {
+            texts.push_str(node.text().unwrap_or_default());
+        }
+    }
+    begins.push(texts.len());
+    let anchors = tree
+        .root()
+        .descendants()
+        .filter(|node| node.name() == Some("a"));
+    anchors.filter_map(move |node| {
+        let inside = begins[node.place as usize]..begins[node.spot().past as usize];
+        Some((node.attribute("href")?, texts[inside].to_string()))
+    })
+}
