@@ -1,7 +1,8 @@
 /* Calls the library where the Nth allocation and all that follow are refused, for each N: the status is then JZ_MEMORY, nothing is
  * written, and all that was taken is freed. The same of the plain C of its header, which tries again where one allocation is refused in
  * the first parse; and what that plain C costs, in parses, in bytes looked at and in memory kept, and does with null pointers; what a
- * table in its flat form costs, and a text that is only measured; options before a page that cannot be read; threads with small stacks.
+ * table in its flat form costs, and a text that is only measured; options before a page that cannot be read; pieces; threads with small
+ * stacks.
  * Its argument names an input, and `once` after it has each function called once. The last line is 'N passed, M failed'.
  * Linked with -Wl,--wrap=X for each X of malloc, realloc, free, jz_text, jz_page and jz_table. */
 #include <malloc.h>
@@ -354,6 +355,110 @@ static size_t lists_page(char *page, int items) {
     return (size_t)(end - page);
 }
 
+/* What jz_parse makes of an input that is fed in pieces of this size; `taken` is the status of the last piece. */
+static uint32_t feed(const uint8_t *page, size_t length, size_t size, made *it, uint32_t *taken) {
+    jz_feeder feeder;
+    memset(&feeder, 'x', sizeof feeder);
+    memset(it, 'x', sizeof *it);
+    it->html = NULL;
+    jz_begin(&feeder);
+    *taken = JZ_OK;
+    for (size_t at = 0; at < length; at += size) *taken = jz_feed(&feeder, page + at, size < length - at ? size : length - at);
+    check(*taken != JZ_OK || (feeder.length == length && (!length || !memcmp(feeder.bytes, page, length))), "what is gathered");
+    uint32_t status = jz_end(&feeder, &options, &it->doc, &it->answer);
+    check(!feeder.bytes && !feeder.length && !feeder.room && !feeder.status, "a feeder after the end");
+    it->bytes = it->doc.words;
+    return status;
+}
+
+static int are_same_trees(const made *some, const made *others) {
+    const jz_doc *a = &some->doc, *b = &others->doc;
+    return !memcmp(&some->answer, &others->answer, sizeof some->answer) && a->count == b->count && a->root == b->root && a->length == b->length
+        && a->error_count == b->error_count && (!a->count || !memcmp(a->nodes, b->nodes, a->count * sizeof *a->nodes))
+        && (!a->words || !memcmp(a->words, b->words, (size_t)some->answer.length)) && are_same(a->errors, b->errors, a->error_count);
+}
+
+/* Pieces of each size give the tree, or the refusal, of the whole. */
+static void check_pieces(const void *page, size_t length) {
+    const uint8_t *bytes = (const uint8_t *)page;
+    made whole, it;
+    uint32_t taken, wanted = make(TREE, bytes, length, &whole);
+    for (size_t size = 1; size <= length + 1; size++) {
+        long before = alive;
+        uint32_t status = feed(bytes, length, size, &it, &taken);
+        check(taken == JZ_OK && status == wanted && are_same_trees(&it, &whole), "the tree of pieces");
+        give_back(TREE, &it);
+        check(alive == before, "what is kept of pieces");
+    }
+    give_back(TREE, &whole);
+}
+
+/* Pieces where one allocation is refused, or it and all after it; what is gathered grows several times. */
+static void check_fed(void) {
+    enum { SIZE = 1000 };
+    static char page[ROOM];
+    const uint8_t *bytes = (const uint8_t *)page;
+    size_t length = lists_page(page, 150);
+    made whole, it;
+    uint32_t taken;
+    check(make(TREE, page, length, &whole) == JZ_OK, "the tree of the whole");
+    calls = 0;
+    check(feed(bytes, length, SIZE, &it, &taken) == JZ_OK, "the tree of pieces");
+    long all = calls, refused = 0;
+    give_back(TREE, &it);
+    for (long at = 0; at < 2 * all; at++) {
+        long before = alive;
+        calls = 0;
+        if (at < all) left = at;
+        else only = at - all;
+        uint32_t status = feed(bytes, length, SIZE, &it, &taken);
+        left = only = -1;
+        refused += taken == JZ_MEMORY;
+        check(status == it.answer.status && (status == JZ_OK ? are_same_trees(&it, &whole) : status == JZ_MEMORY && is_empty(&it.doc)),
+              "pieces where memory is refused");
+        check(taken == JZ_OK || (taken == JZ_MEMORY && status == taken), "the status of pieces where memory is refused");
+        give_back(TREE, &it);
+        check(alive == before, "what is kept of pieces where memory is refused");
+    }
+    check(refused > 3, "pieces that are not taken");
+    give_back(TREE, &whole);
+}
+
+/* An input that gets too long, one that is given up, and null pointers. (The bytes of a long one are not there: none is read.) */
+static void check_feeders(void) {
+    static const uint8_t *const page = (const uint8_t *)"<p>x";
+    long before = alive;
+    jz_feeder feeder;
+    made it;
+    for (size_t length = JZ_MOST - 1; length <= JZ_MOST; length++) {
+        jz_begin(&feeder);
+        check(jz_feed(&feeder, page, 4) == JZ_OK && jz_feed(&feeder, page, 0) == JZ_OK && jz_feed(&feeder, NULL, 0) == JZ_OK, "a piece, and none");
+        feeder.length = feeder.room = length;
+        check(jz_feed(&feeder, page, 0) == JZ_OK && jz_feed(&feeder, page, SIZE_MAX) == JZ_TOO_LARGE && !feeder.bytes, "a piece that is too long");
+        check(jz_feed(&feeder, page, 1) == JZ_TOO_LARGE && !feeder.bytes && alive == before, "a piece after one that is too long");
+        check(jz_end(&feeder, &options, &it.doc, &it.answer) == JZ_TOO_LARGE && it.answer.status == JZ_TOO_LARGE && it.answer.at == JZ_MOST
+                  && is_empty(&it.doc), "the end of what is too long");
+    }
+    jz_begin(&feeder);
+    feeder.length = JZ_MOST - 1;
+    check(jz_feed(&feeder, page, 2) == JZ_TOO_LARGE, "a byte too many");
+    jz_drop(&feeder);
+    check(jz_feed(&feeder, page, 4) == JZ_OK && alive == before + 1, "a feeder that is used again");
+    jz_drop(&feeder);
+    jz_drop(&feeder);
+    jz_drop(NULL);
+    jz_begin(NULL);
+    check(alive == before && jz_feed(NULL, page, 1) == JZ_NULL && jz_feed(&feeder, NULL, 1) == JZ_NULL, "a piece with a null pointer");
+    for (int which = 0; which < 4; which++) {
+        memset(&it, 'x', sizeof it);
+        check(jz_feed(&feeder, page, 4) == JZ_OK, "a piece");
+        check(jz_end(which == 0 ? NULL : &feeder, which == 1 ? NULL : &options, which == 2 ? NULL : &it.doc, which == 3 ? NULL : &it.answer) == JZ_NULL
+                  && (which == 2 || is_empty(&it.doc)) && (which == 3 || it.answer.status == JZ_NULL), "an end with a null pointer");
+        jz_drop(&feeder);
+    }
+    check(alive == before, "what is kept of feeders");
+}
+
 /* How often an ordinary page is parsed, and one whose text or nodes are many for its length. */
 static void check_parses(void) {
     static char page[ROOM];
@@ -584,6 +689,7 @@ static int call_once(size_t length) {
         check(call(task, length, &answer) == JZ_OK && make(task, input, length, &it) == JZ_OK, "a call");
         give_back(task, &it);
     }
+    check_feeders();
     check_sizes(length);
     return failed != 0;
 }
@@ -611,6 +717,13 @@ int main(int count, char **words) {
     }
     check_errors(length);
     check_sizes(length);
+    set_context(TREE);
+    check_pieces(input, length);
+    check_pieces("", 0);
+    check_pieces("a<svg>", 6);
+    check_pieces("\xff", 1);
+    check_fed();
+    check_feeders();
     check_threads();
     check_file(words[1], length);
     check_nulls();

@@ -5,7 +5,8 @@
  * else is here is plain C that prepares their arguments and indexes what they wrote.
  *
  * Who owns what. Every buffer is the caller's. The library keeps no pointer after a call, and has no state of its own: nothing is
- * opened, and it makes nothing that is to be freed. What the plain C makes is: a jz_doc by jz_free, texts, tables and files by free().
+ * opened, and it makes nothing that is to be freed. What the plain C makes is: a jz_doc by jz_free, a jz_feeder by jz_end or jz_drop,
+ * texts, tables and files by free().
  * What is written. Each call writes its answer. Where all has room, jz_text and jz_table also write to `output`, jz_tree to `rows` and
  * `words`, jz_page to these and, where wanted, to `errors` and `text`; where not, or at any other status, to none of them.
  * Units. Lengths and places are bytes, from 0. Texts are UTF-8 and end with no NUL.
@@ -582,6 +583,84 @@ static inline uint32_t jz_parse(const uint8_t *input, size_t length, const jz_op
     answer->at = page.at;
     answer->length = page.words;
     answer->nodes = page.nodes;
+    return status;
+}
+
+/* The most bytes that an input has. */
+#define JZ_MOST ((size_t)1073741824)
+
+/* An input that comes in pieces, and is gathered, since the library reads it whole: before its end there are no nodes, and no refusal but
+ * for its length.
+ *
+ *     jz_begin(&feeder);
+ *     while ((count = read(socket, piece, sizeof piece)) > 0)
+ *         if (jz_feed(&feeder, piece, (size_t)count) != JZ_OK) break;
+ *     status = jz_end(&feeder, &options, &doc, &answer);
+ *
+ * What is gathered are `length` bytes at `bytes`, null where there are none, and may be handed to the other calls. */
+typedef struct jz_feeder {
+    uint8_t *bytes;
+    size_t length;
+    size_t room;
+    uint32_t status; /* JZ_OK, or why a piece was not taken */
+} jz_feeder;
+
+/* Begins a feeder, which holds nothing yet. */
+static inline void jz_begin(jz_feeder *feeder) {
+    if (feeder) memset(feeder, 0, sizeof *feeder);
+}
+
+/* Gives back what a feeder holds, for an input that is given up. The feeder is then as one that was just begun. */
+static inline void jz_drop(jz_feeder *feeder) {
+    size_t length;
+    if (!feeder) return;
+    length = feeder->length;
+    free(feeder->bytes);
+    jz_begin(feeder);
+    jz_give_back(length);
+}
+
+/* Has a feeder take so many more bytes. */
+static inline uint32_t jz_make_room(jz_feeder *feeder, size_t length) {
+    size_t room;
+    uint8_t *more;
+    if (length > JZ_MOST - feeder->length) return JZ_TOO_LARGE;
+    if (length <= feeder->room - feeder->length) return JZ_OK;
+    room = 2 * (feeder->length + length) + 8192;
+    if (room > JZ_MOST) room = JZ_MOST;
+    if (!(more = (uint8_t *)realloc(feeder->bytes, room))) return JZ_MEMORY;
+    feeder->bytes = more;
+    feeder->room = room;
+    return JZ_OK;
+}
+
+/* Takes a piece of an input, cut anywhere. Where memory runs out, or the input gets longer than JZ_MOST (JZ_TOO_LARGE, whatever is in it),
+ * the feeder gives back what it holds, and that is the status of each further piece, and of the end. */
+static inline uint32_t jz_feed(jz_feeder *feeder, const uint8_t *piece, size_t length) {
+    uint32_t status;
+    if (!feeder || (!piece && length)) return JZ_NULL;
+    status = feeder->status == JZ_OK ? jz_make_room(feeder, length) : feeder->status;
+    if (status != JZ_OK) {
+        jz_drop(feeder);
+        return feeder->status = status;
+    }
+    if (length) memcpy(feeder->bytes + feeder->length, piece, length);
+    feeder->length += length;
+    return JZ_OK;
+}
+
+/* Ends an input: parses what was gathered, as jz_parse does, and gives it back. Where a piece was not taken, there is no tree. */
+static inline uint32_t jz_end(jz_feeder *feeder, const jz_options *options, jz_doc *doc, jz_answer *answer) {
+    static const uint8_t none[1] = { 0 };
+    uint32_t status = feeder ? feeder->status : (uint32_t)JZ_NULL;
+    if (status == JZ_OK) {
+        status = jz_parse(feeder->bytes ? feeder->bytes : none, feeder->length, options, doc, answer);
+    } else {
+        if (doc) memset(doc, 0, sizeof *doc);
+        status = answer ? jz_fault(answer, status) : (uint32_t)JZ_NULL;
+        if (status == JZ_TOO_LARGE) answer->at = JZ_MOST;
+    }
+    jz_drop(feeder);
     return status;
 }
 
