@@ -20,13 +20,14 @@ import sys
 import tarfile
 import tempfile
 import threading
+import time
 import unittest
 import warnings
 import xml.etree.ElementTree as ElementTree
 import zlib
 
 import jeanzircon as jz
-from jeanzircon._archives import Archives, Done
+from jeanzircon._archives import Archives, Done, Place, kind_of
 from jeanzircon._crew import MORE, are_more, line_of, links_of
 from jeanzircon._stored import Unread
 
@@ -452,6 +453,18 @@ class Crawls(unittest.TestCase):
             done.add(*it)
         self.assertEqual([(it["archive"], it["record"]) for it in lines_of(room, done=done)[0]], found[1::2])
 
+    def test_parts(self):
+        each = b"".join(gzip.compress(it) for _, it in RECORDS)
+        two = b"".join(gzip.compress(it[1] + other[1]) for it, other in zip(RECORDS, RECORDS[1:]))
+        room = folder_of(self, a_warc=WARC[:900] + b"x" * 9 + WARC[900:], b_warc_gz=gzip.compress(WARC), c_warc_gz=each[:2000] + b"\0" * 9 + each[2000:],
+                         d_warc_gz=two, e_tar=tar_of(a_html=PAGE, b_html=PAGE), f_html=PAGE)
+        for path in (f"{room}/{it}" for it in os.listdir(room)):
+            pages = [*Archives(Done(), 1 << 20).pages([path])]
+            for number, it in enumerate(pages):
+                left = Archives(Done(), 1 << 20).at(Place(path, kind_of(path), it.record, it.begin))
+                self.assertEqual([*left], pages[number:])
+            self.assertEqual(len({it.begin for it in pages}) == len(pages), os.path.basename(path) in ("a.warc", "c.warc.gz", "f.html"))
+
     def test_files(self):
         tar = tar_of(a_html=PAGE, b_txt=PAGE, c_htm=b"a<svg>", d_html=b"x" * 2000)
         broken = gzip.compress(gzip.decompress(tar).replace(b"b.txt", b"B.txt"))
@@ -515,6 +528,46 @@ class Crawls(unittest.TestCase):
         self.assertLess((first + rest).count(b"\n"), 1000)
         for line in (first + rest).splitlines():
             json.loads(line)
+
+    def start(self, what, *words):
+        """A scheduler or a worker of a Dask cluster on this machine; it ends when the test is over."""
+        words = [sys.executable, "-m", f"distributed.cli.dask_{what}", "--host", "127.0.0.1", "--no-dashboard", *words]
+        env = {**os.environ, "PYTHONPATH": os.path.dirname(jz.__path__[0]), "OMP_NUM_THREADS": "1"}
+        it = subprocess.Popen(words, env=env, stdout=subprocess.DEVNULL, stderr=subprocess.DEVNULL)
+        self.addCleanup(it.wait)
+        self.addCleanup(it.kill)
+        return it
+
+    @needs("distributed")
+    def test_cluster(self):
+        body = b"<p><a href=/b>" + b"y" * 50000 + b"</a>"
+        many = b"".join(gzip.compress(response(str(it), body)) for it in range(250))
+        pages = {f"p{it}_html": PAGE for it in range(300)}
+        room = folder_of(self, a_warc_gz=many, b_warc_gz=many, c_warc_gz=gzip.compress(WARC), d_tar=tar_of(a_html=PAGE, b_html=body), **pages)
+        with tempfile.TemporaryDirectory() as other:
+            told = "--scheduler-file", f"{other}/scheduler"
+            self.start("scheduler", "--port", "0", *told)
+            workers = [self.start("worker", "--no-nanny", "--nthreads", "1", "--local-directory", f"{other}/{it}", *told) for it in range(2)]
+            while not os.path.exists(told[1]):
+                time.sleep(0.1)
+            with open(told[1]) as file:
+                address = json.load(file)["address"]
+            with self.ran("--scheduler", address, "--output", f"{other}/lines", room) as it:
+                while it.poll() is None and not (os.path.exists(f"{other}/lines") and os.path.getsize(f"{other}/lines")):
+                    time.sleep(0.01)
+                workers[0].kill()
+                self.assertEqual((it.communicate()[0], it.returncode), (b"", 0))
+            with open(f"{other}/lines") as file:
+                came = list(map(json.loads, file))
+        wanted = lines_of(room, most=8 << 20)[0]
+        for them in (came, wanted):
+            them.sort(key=lambda it: (it["archive"], it["record"], it.pop("seconds")))
+        self.assertEqual(len(came), 500 + len([it for it, _ in RECORDS if it]) + 302)
+        self.assertTrue(came == wanted)
+
+    def test_nothing_of_a_cluster(self):
+        words = "import jeanzircon.crawl, sys; sys.exit(any(it.split('.')[0] in ('dask', 'distributed', 'tornado') for it in sys.modules))"
+        self.assertEqual(subprocess.run([sys.executable, "-c", words], cwd=os.path.dirname(jz.__path__[0])).returncode, 0)
 
 
 if __name__ == "__main__":

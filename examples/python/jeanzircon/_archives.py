@@ -1,12 +1,13 @@
 """What is read of archives, a page at a time: WARC and tar files, folders of these and of HTML files, single files."""
 from __future__ import annotations
 
+import functools
 import os
 import stat
 import tarfile
 from collections import Counter
 from collections.abc import Iterable, Iterator
-from typing import Any, BinaryIO
+from typing import Any, BinaryIO, NamedTuple
 
 from . import _warc
 from ._stored import Found
@@ -18,18 +19,33 @@ NO_MEMBER = tuple(getattr(tarfile, it) for it in ("InvalidHeaderError", "Truncat
 
 
 class Done:
-    """Of which records of which archives lines stand: a bit for each, in numbers for a thousand of one archive."""
+    """Of which records of which archives lines stand: for each archive a bit for each, in numbers for a thousand."""
 
     def __init__(self) -> None:
-        self._blocks: dict[tuple[str, int], int] = {}
+        self._blocks: dict[str, dict[int, int]] = {}
 
     def add(self, archive: str, record: int) -> None:
         block, bit = divmod(record, BLOCK)
-        self._blocks[archive, block] = self._blocks.get((archive, block), 0) | 1 << bit
+        blocks = self._blocks.setdefault(archive, {})
+        blocks[block] = blocks.get(block, 0) | 1 << bit
 
     def has(self, archive: str, record: int) -> bool:
         block, bit = divmod(record, BLOCK)
-        return bool(self._blocks.get((archive, block), 0) >> bit & 1)
+        return bool(self._blocks.get(archive, {}).get(block, 0) >> bit & 1)
+
+    def of(self, archives: Iterable[str]) -> Done:
+        """What is known of these archives."""
+        found = Done()
+        found._blocks = {it: self._blocks[it] for it in archives if it in self._blocks}
+        return found
+
+
+class Place(NamedTuple):
+    """A file, what it is by its name, and the first record that is wanted of it; the file can be read from `begin` on."""
+    path: str
+    kind: str
+    record: int = 0
+    begin: tuple[int, int] = (0, 0)
 
 
 def kind_of(path: str) -> str:
@@ -70,58 +86,68 @@ class Archives:
     """The pages of archives, but those of which lines stand. A page is of at most so many bytes."""
 
     def __init__(self, done: Done, most: int) -> None:
-        self._done, self._most = done, most
+        self.done, self._most = done, most
         self.left_out: Counter[str] = Counter()
 
     def pages(self, paths: Iterable[str]) -> Iterator[Found]:
+        for it in self.places(paths):
+            yield from [it] if isinstance(it, Found) else self.at(it)
+
+    def places(self, paths: Iterable[str]) -> Iterator[Place | Found]:
+        """The files of these paths, and why a folder is not read."""
         for path in paths:
             if not os.path.isdir(path):
-                yield from self._told(path, kind_of(path))
+                yield Place(path, kind_of(path))
                 continue
             faults: list[OSError] = []
             for it in files_in(path, faults):
                 if kind := kind_of(it):
-                    yield from self._told(it, kind)
+                    yield Place(it, kind)
                 else:
                     self.left_out["of another name"] += 1
-            yield from (self._unreadable(str(it.filename), it) for it in faults if not self._done.has(str(it.filename), 0))
+            yield from (self._unreadable(str(it.filename), it) for it in faults if not self.done.has(str(it.filename), 0))
 
     def _unreadable(self, archive: str, why: Exception) -> Found:
         return Found(archive, 0, archive, status=f"Unreadable {getattr(why, 'strerror', None) or why}")
 
-    def _told(self, path: str, kind: str) -> Iterator[Found]:
+    def at(self, place: Place) -> Iterator[Found]:
         """The pages of a file, and, at the number 0, why not all of them are read."""
+        path = place.path
         try:
             if not stat.S_ISREG(os.stat(path).st_mode):
                 raise OSError("no file")
             reads = {"warc": self._of_warc, "tar": self._of_tar, "html": self._of_file}
-            yield from reads[kind or kind_within(path)](path)
+            yield from reads[place.kind or kind_within(path)](place)
         except Exception as why:  # (tarfile raises whatever its code comes upon)
-            if not self._done.has(path, 0):
+            if not self.done.has(path, 0):
                 yield self._unreadable(path, why)
 
-    def _of_warc(self, path: str) -> Iterator[Found]:
-        with open(path, "rb") as file:
-            yield from _warc.pages(path, file, self._done.has, self.left_out, self._most)
+    def _is_done(self, place: Place, record: int) -> bool:
+        return record < place.record or self.done.has(place.path, record)
+
+    def _of_warc(self, place: Place) -> Iterator[Found]:
+        with open(place.path, "rb") as file:
+            is_done = functools.partial(self._is_done, place)
+            yield from _warc.pages(place.path, file, place.begin, is_done, self.left_out, self._most)
 
     def _read(self, found: Found, file: BinaryIO) -> Found:
         content = file.read(self._most + 1)
         return found._replace(content=content) if len(content) <= self._most else found._replace(status="TooLarge", at=self._most)
 
-    def _of_file(self, path: str) -> Iterator[Found]:
-        if not self._done.has(path, 1):
-            with open(path, "rb") as file:
-                yield self._read(Found(path, 1, path), file)
+    def _of_file(self, place: Place) -> Iterator[Found]:
+        if not self._is_done(place, 1):
+            with open(place.path, "rb") as file:
+                yield self._read(Found(place.path, 1, place.path), file)
 
-    def _of_tar(self, path: str) -> Iterator[Found]:
+    def _of_tar(self, place: Place) -> Iterator[Found]:
         """The HTML files of a tar file, each with the number of its member."""
-        number = 0
+        path, number = place.path, 0
         tar: Any
         with tarfile.open(path, "r|*", tarinfo=Member) as tar:
             while member := tar.next():
                 tar.members = []  # (where all that were read are kept)
                 number += 1
-                if member.isdir() or self._done.has(path, number):
+                if member.isdir() or self._is_done(place, number):
                     continue
                 file = tar.extractfile(member) if member.isreg() and kind_of(member.name) == "html" else None
                 if file:

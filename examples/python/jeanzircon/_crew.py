@@ -9,12 +9,13 @@ import resource
 import signal
 import threading
 import time
-from collections.abc import Callable
+from collections.abc import Callable, Iterable
 from multiprocessing import resource_tracker
 from multiprocessing.connection import Connection
 from typing import Any, NamedTuple
 
 from . import Page, Refused, parse
+from ._archives import Archives
 from ._base import Node
 from ._stored import Found, Unread, content_of
 
@@ -152,7 +153,21 @@ class Crew:
         self.is_ending, self.ended_by = False, 0
         self.fault: Exception | None = None
 
-    def begin(self) -> None:
+    def run(self, archives: Archives, paths: Iterable[str]) -> None:
+        """Has all pages of these paths read."""
+        try:
+            self._begin()
+            for found in archives.pages(paths):
+                if self.is_ending:
+                    break
+                self._waiting.put(found)  # (once there is room)
+        except BaseException:
+            self.stop()
+            raise
+        finally:
+            self._end()
+
+    def _begin(self) -> None:
         """Starts the processes. No Ctrl-C reaches them and the threads."""
         resource_tracker.ensure_running()  # (which lets signals through)
         blocked = signal.pthread_sigmask(signal.SIG_BLOCK, [signal.SIGINT])
@@ -173,17 +188,13 @@ class Crew:
                 self.stop()
         worker.close()
 
-    def give(self, found: Found) -> None:
-        """Waits until there is room for a page."""
-        self._waiting.put(found)
-
     def stop(self, number: int = 0, frame: object = None) -> None:
         """Ends the processes. A signal may call it: it takes no lock, and what waits for a process goes on by itself."""
         self.is_ending, self.ended_by = True, number
         for it in self._workers:
             it.terminate()
 
-    def end(self) -> None:
+    def _end(self) -> None:
         """Waits until what was given is written, or left."""
         for _ in self._threads:
             self._waiting.put(None)

@@ -24,7 +24,8 @@ class Broken(Unread):
 
 
 class Found(NamedTuple):
-    """A page of an archive, or why it is not read. Its content is as it is stored, with the codings that HTTP names."""
+    """A page of an archive, or why it is not read. Its content is as it is stored, with the codings that HTTP names. `begin` is from where on the
+    archive can be read again: a byte, and how many records are before it."""
     archive: str
     record: int
     address: str
@@ -33,6 +34,7 @@ class Found(NamedTuple):
     coding: str = ""
     status: str = ""
     at: int | None = None
+    begin: tuple[int, int] = (0, 0)
 
 
 def whole_chunks(content: bytes) -> bytes:

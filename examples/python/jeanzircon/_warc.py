@@ -31,14 +31,17 @@ def begins_record(raw: bytes) -> bool:
 
 
 class Members:
-    """The pieces of a gzip file, of which a member that begins a record is marked: there a record begins, whatever was before."""
+    """The pieces of a gzip file, of which a member that begins a record is marked: there a record begins, whatever was before. `begin` is the
+    place of the last such member."""
 
     def __init__(self, file: BinaryIO) -> None:
         self._file, self._raw = file, b""
+        self.begin = 0
 
     def __iter__(self) -> Iterator[Piece]:
         while self._has_member():
             if begins_record(self._raw[:4096]):
+                self.begin = self._file.tell() - len(self._raw)
                 yield Mark.START
             try:
                 yield from self._member()
@@ -79,12 +82,32 @@ class Members:
             self._raw = self._raw[max(1, at if at >= 0 else len(self._raw) - 2):]
 
 
+class Pieces:
+    """The pieces of a file that is not packed, from where it stands."""
+
+    def __init__(self, file: BinaryIO) -> None:
+        self._file, self.begin = file, file.tell()
+
+    def __iter__(self) -> Iterator[Piece]:
+        while piece := self._file.read(PIECE):
+            yield piece
+
+
 class Window:
     """The bytes of an archive that were read and not yet taken. It stays before a mark until it is told to go on."""
 
-    def __init__(self, pieces: Iterator[Piece]) -> None:
-        self._pieces, self._kept = pieces, bytearray()
+    def __init__(self, source: Members | Pieces) -> None:
+        self._source, self._pieces, self._kept = source, iter(source), bytearray()
         self._mark: Mark | None = None
+        self._begin, self._taken = source.begin, 0
+
+    def begin(self, number: int, before: tuple[int, int]) -> tuple[int, int]:
+        """From where on the archive can be read again, which so many records are before; in a packed one that is where a member begins."""
+        return (self._begin + self._taken, number) if isinstance(self._source, Pieces) or not self._taken else before
+
+    def _drop(self, size: int) -> None:
+        del self._kept[:size]
+        self._taken += size
 
     def _has_more(self) -> bool:
         """Reads a piece, unless a mark is next."""
@@ -101,7 +124,7 @@ class Window:
         while len(self._kept) < size and self._has_more():
             pass
         found = bytes(self._kept[:size])
-        del self._kept[:size]
+        self._drop(len(found))
         return found
 
     def head(self, most: int) -> bytes:
@@ -131,9 +154,11 @@ class Window:
     def is_left(self) -> bool:
         """Leaves line ends, and says whether anything follows them."""
         while True:
-            self._kept = self._kept.lstrip(b"\r\n")
+            self._drop(len(self._kept) - len(self._kept.lstrip(b"\r\n")))
             if self._kept or self._mark in (Mark.DAMAGE, Mark.END):
                 return self._mark is not Mark.END or bool(self._kept)
+            if self._mark:
+                self._begin, self._taken = self._source.begin, 0
             self._mark = None
             self._has_more()
 
@@ -141,11 +166,11 @@ class Window:
         """Goes on to where a record begins, past one that is broken."""
         while True:
             found = RECORD.search(self._kept)
-            del self._kept[:found.start() if found else max(0, len(self._kept) - 8)]
+            self._drop(found.start() if found else max(0, len(self._kept) - 8))
             if found:
                 break
             if not self._has_more():
-                self._kept.clear()
+                self._drop(len(self._kept))
                 if self._mark in (Mark.START, Mark.END):
                     break
                 self._mark = None
@@ -221,24 +246,25 @@ def passed(record: Record, found: Found, left_out: Counter[str], most: int) -> F
     return page
 
 
-def pages(archive: str, file: BinaryIO, is_done: Callable[[str, int], bool], left_out: Counter[str], most: int) -> Iterator[Found]:
+def pages(archive: str, file: BinaryIO, begin: tuple[int, int], is_done: Callable[[int], bool], left_out: Counter[str], most: int) -> Iterator[Found]:
     """The pages of a WARC file and its broken records, each with the number of its record."""
     is_packed = file.read(2) == MAGIC[:2]
-    file.seek(0)
-    window = Window(iter(Members(file)) if is_packed else iter(lambda: file.read(PIECE), b""))
-    number = 0
+    file.seek(begin[0])
+    window = Window(Members(file) if is_packed else Pieces(file))
+    number = begin[1]
     while window.is_left():
+        begin = window.begin(number, begin)
         number += 1
-        found = Found(archive, number, archive)
+        found = Found(archive, number, archive, begin=begin)
         try:
             record = Record(window)
             found = found._replace(address=record.fields.get("warc-target-uri", archive).strip("<>"))
-            if is_done(archive, number):
+            if is_done(number):
                 record.end()
                 continue
             page = passed(record, found, left_out, most)
         except Broken as why:
-            page = None if is_done(archive, number) else found._replace(status=why.status)
+            page = None if is_done(number) else found._replace(status=why.status)
             window.seek()
         if page:
             yield page

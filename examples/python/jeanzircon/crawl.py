@@ -10,10 +10,15 @@ import sys
 import threading
 import time
 from collections import Counter
+from collections.abc import Callable
+from typing import TYPE_CHECKING
 
 from . import __version__
 from ._archives import Archives, Done
 from ._crew import Crew, Line
+
+if TYPE_CHECKING:
+    from ._cluster import Cluster
 
 SAYS = """Each line has archive and record, address, status ("ok", or why the page was not read, and at, the byte of a refusal), title, links (pairs of
 href and text), errors (how many of each code), bytes and seconds, in the order in which pages come done. Bytes that are not UTF-8 are read as U+FFFD,
@@ -81,35 +86,36 @@ def told() -> argparse.Namespace:
     words.add_argument("--output", metavar="FILE", help="where lines are added; standard output where none is named")
     words.add_argument("--processes", type=int, default=len(os.sched_getaffinity(0)), metavar="N", help="as many as there are cores, unless told")
     words.add_argument("--largest", type=int, default=8 << 20, metavar="BYTES", help="what a page may have, unpacked: 8388608, unless told")
+    words.add_argument("--scheduler", metavar="ADDRESS", help="a Dask scheduler, whose workers read the archives, at the paths that they have here")
     words.add_argument("--version", action="version", version=f"jeanzircon {__version__}")
     found = words.parse_args()
     lost = [it for it in found.archives if not os.path.exists(it)]
     if lost:
         words.error(f"there is no {lost[0]}")
+    if found.scheduler:
+        found.archives = [os.path.abspath(it) for it in found.archives]
     if found.processes < 1 or found.largest < 1:
         words.error("--processes and --largest are 1 or more")
     return found
 
 
+def readers(given: argparse.Namespace, write: Callable[[Line], None]) -> Crew | Cluster:
+    """Who reads the pages: processes of this machine, or the workers of a cluster."""
+    if given.scheduler is None:
+        return Crew(given.processes, given.largest, write)
+    from ._cluster import Cluster
+    return Cluster(given.scheduler, given.largest, write)
+
+
 def crawled(given: argparse.Namespace, file: int, done: Done, stood: int) -> int:
     """Reads all archives; the status of the program."""
     output, archives = Output(file), Archives(done, given.largest)
-    crew = Crew(given.processes, given.largest, output.write)
+    crew = readers(given, output.write)
     for number in (signal.SIGINT, signal.SIGTERM):
         signal.signal(number, crew.stop)
-    try:
-        crew.begin()
-        for found in archives.pages(dict.fromkeys(given.archives)):
-            if crew.is_ending:
-                break
-            crew.give(found)
-    except BaseException:
-        crew.stop()
-        raise
-    finally:
-        crew.end()
+    crew.run(archives, dict.fromkeys(given.archives))
     print(output.summary(archives.left_out, stood), file=sys.stderr)
-    if isinstance(crew.fault, OSError):
+    if isinstance(crew.fault, OSError) and crew.fault.strerror:
         print(f"fault: cannot write: {crew.fault.strerror}", file=sys.stderr)
         return 3
     if crew.fault:
@@ -119,13 +125,13 @@ def crawled(given: argparse.Namespace, file: int, done: Done, stood: int) -> int
 
 def main() -> int:
     given = told()
-    if given.output is None:
-        return crawled(given, sys.stdout.fileno(), Done(), 0)
     try:
+        if given.output is None:
+            return crawled(given, sys.stdout.fileno(), Done(), 0)
         done, stood = standing(given.output)
         with open(given.output, "ab") as file:
             return crawled(given, file.fileno(), done, stood)
-    except (OSError, ValueError) as fault:
+    except (ImportError, OSError, ValueError) as fault:
         print(f"fault: {fault}", file=sys.stderr)
         return 3
 
