@@ -1,9 +1,9 @@
 //! Links the library as an archive, so that a program runs wherever it is put: a search path for a shared library would not
 //! reach the programs of crates that depend on this one.
 //!
-//! The archive is that of the folder `JEANZIRCON_LIB_DIR`. Without that it is the first of these: where `pkg-config` says for
-//! this version; in the checkout that the crate lies in; in the prefix that it lies in. The Standard's lists are those of the
-//! same checkout or prefix, or of that which the crate lies in.
+//! The archive is that of the folder `JEANZIRCON_LIB_DIR`. Without that it is the first of these: in the crate's own `lib`, which
+//! a released crate has; where `pkg-config` says for this version; in the checkout that the crate lies in; in the prefix that it
+//! lies in. The Standard's lists are those of the same crate, checkout or prefix, or of that which the crate lies in.
 //!
 //! With `DOCS_RS` in the environment there need be no archive: `DOCS_RS=1 cargo doc`.
 
@@ -45,6 +45,10 @@ fn folders() -> Vec<PathBuf> {
         return vec![folder.into()];
     }
     let here = here();
+    let released = here.join("lib");
+    if released.join(ARCHIVE).is_file() {
+        return vec![released];
+    }
     let beside = BESIDE.iter().filter(|(name, _)| here.ends_with(name));
     packaged()
         .into_iter()
