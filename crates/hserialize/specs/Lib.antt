@@ -13,6 +13,8 @@ pub mod ContentTable
 pub mod ContentRows
 pub mod Plain
 pub mod PlainRows
+pub mod PlainDocument
+pub mod PlainDocumentRows
 pub mod Testing
 pub mod Regions
 pub mod Lines
