@@ -1,5 +1,5 @@
 -- What is kept of the open nodes where one passes the next one below it.
-use Rattle.hopen.proofs.Names.{◌≡◌, ◌≢◌, ℕ, zero, suc, ◌+◌, ◌<◌, ◌≤◌, false, List, [], ◌∷◌, Option, Some, None, length, map, take, get_or, set, ◌⊎◌, inl, inr, sym, ◌∙◌, ap, subst, transport, arith, cases_eq, cases_lt, get_or-set_same, get_or-set_other, get_or-take, length-map, length-set, length-take-le, map-set, take-map, closing, closing_in, exchanged, is_hole_kind, kind_at, kind_of, name_in, names_in, node_in, nodes_in, nearest_in, nearest_up, opened_by, same_name_of, same_node_of, sets_at, set_node, AreHoles, CanPass, IsLinked, KeepSets, Kind, KeptNode, LastLevels, NameSet, OpenNode, SetNodes, Stands, is_special, tag_of}
+use Rattle.hopen.proofs.Names.{◌≡◌, ◌≢◌, ℕ, zero, suc, ◌+◌, ◌<◌, ◌≤◌, false, List, [], ◌∷◌, Option, Some, None, length, map, take, get_or, set, ◌⊎◌, inl, inr, sym, ◌∙◌, ap, subst, transport, arith, cases_eq, cases_lt, get_or_default, get_or-set_same, get_or-set_other, get_or-take, length-map, length-set, length-take-le, map-set, take-map, closing, closing_in, exchanged, is_hole_kind, kind_at, kind_of, name_in, names_in, node_in, nodes_in, nearest_in, nearest_up, opened_by, same_name_of, same_node_of, sets_at, set_node, AreHoles, CanPass, IsLinked, KeepSets, Kind, KeptNode, LastLevels, NameSet, OpenNode, SetNodes, Stands, is_special, tag_of}
 use Rattle.hopen.specs.declared.kept.Kind.TheVariants as kind
 use Rattle.std.proofs.Math.ListN.{get_or-map}
 use Rattle.hopen.proofs.Held.{some≢none}
@@ -70,14 +70,20 @@ module _ (ys : List (Option (OpenNode ℕ))) (i j : ℕ) (x y : OpenNode ℕ) (l
     ]
 
   -- what the slots keep, where the upper one now keeps its own
-  pub sets-exchanged : (sets : List SetNodes) (p : SetNodes) → length sets ≡ length ys → KeepSets ys sets
-      → ((set : NameSet) → set_node set p ≡ nearest_in set (Some y) (nearest_up set ys i))
-      → KeepSets zs (set sets i p)
-  sets-exchanged sets p long k own = λ s n h live.
+  pub sets-exchanged : (sets : List SetNodes) (p : SetNodes) → length sets ≡ length ys → KeepSets ys sets → p ≡ get_or sets j p → KeepSets zs (set sets i p)
+  sets-exchanged sets p long k is = λ s n h live.
       let many : length zs ≡ length ys = exchanged-length i j None ys in
       let written : map (set_node s) (set sets i p) ≡ set (map (set_node s) sets) i (set_node s p) = map-set (set_node s) sets i p in
       ap (λ l. get_or l n 0) written ∙ at s n (omega arith) live (cases_eq n i)
     where
+      -- the lower one's own are these
+      own : (s : NameSet) → set_node s p ≡ lower s
+      own s =
+          let inside : j < length sets = omega arith in
+          ap (set_node s) is ∙ sym (get_or-map (set_node s) sets j p)
+          ∙ get_or_default (map (set_node s) sets) j (set_node s p) 0 (omega (arith, length-map sets (set_node s)))
+          ∙ k s j within (some≢none y _ second) ∙ was-lower s
+
       at : (s : NameSet) (n : ℕ) → n < length ys → get_or zs n None ≢ None → (n ≡ i) ⊎ (n ≢ i)
           → get_or (set (map (set_node s) sets) i (set_node s p)) n 0 ≡ nearest_up s zs (suc n)
       at s n h live (inl e) =

@@ -9,7 +9,7 @@ ghost use Rattle.hopen.specs.Vocabulary.{kind_at, somes, stack_of, tag_of, AreAl
 ghost use Rattle.hopen.specs.Vocabulary.{KeepSets, Rests, Stands};
 ghost use Rattle.hopen.specs.declared.kept.Kind.TheVariants as Kind;
 
-use crate::kept::{KeptNode, LastLevels, hint, insert, remove, replace, sets_with};
+use crate::kept::{KeptNode, LastLevels, hint, insert, remove, replace};
 use crate::stack::Open;
 use hnodes::NodeId;
 use names::NameId;
@@ -113,13 +113,14 @@ fn swap_names(names: &mut [u32], items: &mut [KeptNode], index: usize, below: us
     hint(items, upper.same_name, lower_level);
 }
 
-/// Exchanges the nodes of an item and the next one below it, and all but what they keep of their names.
+/// Exchanges the nodes of an item and the next one below it, and all but what they keep of their names. The upper one is not special, so
+/// the nearest nodes of sets are the same from either on upwards.
 fn swap_items(items: &mut [KeptNode], index: usize, below: usize)
     requires order { index < below }
     requires within { below < length items.old }
     requires sets { KeepSets (map opened_by items.old) (map sets_at items.old) }
     requires upper { (x : KeptNode) → x ≡ slice_index_or items.old index x → (is_hole x.kind ≡ false) × (is_special (tag_of x.opened.name) ≡ false) }
-    requires lower { (x : KeptNode) → x ≡ slice_index_or items.old below x → (is_hole x.kind ≡ false) × (x.opened.node + 1 < 2 ^ 32) }
+    requires lower { (x : KeptNode) → x ≡ slice_index_or items.old below x → is_hole x.kind ≡ false }
     requires holes { AreHoles index below (names_in (map opened_by items.old)) }
     ensures opened { map opened_by items.new ≡ exchanged index below None (map opened_by items.old) }
     ensures same_names { map same_name_of items.new ≡ map same_name_of items.old }
@@ -129,24 +130,16 @@ fn swap_items(items: &mut [KeptNode], index: usize, below: usize)
 {
     let upper = items[index];
     let lower = items[below];
-    // Taken apart for the prover alone (CONTRIBUTING.md, "Traps").
-    let Open { node, name } = lower.opened;
-    let sets = sets_with(&items[..index], name, node);
     items[index] = KeptNode {
-        opened: Open { node, name },
         same_name: upper.same_name,
         next_name: upper.next_name,
-        same_node: lower.same_node,
-        sets,
-        kind: lower.kind,
+        ..lower
     };
     items[below] = KeptNode {
-        opened: upper.opened,
         same_name: lower.same_name,
         next_name: lower.next_name,
-        same_node: upper.same_node,
         sets: lower.sets,
-        kind: upper.kind,
+        ..upper
     };
 }
 
@@ -171,14 +164,13 @@ fn swap(last: &mut LastLevels, items: &mut [KeptNode], index: usize, below: usiz
 fn can_pass(last: &LastLevels, items: &[KeptNode], index: usize, below: usize) -> bool
     requires order { index < below }
     requires within { below < length items.now }
+    requires upper { (x : KeptNode) → x ≡ slice_index_or items.now index x → is_hole x.kind ≡ false }
+    requires lower { (x : KeptNode) → x ≡ slice_index_or items.now below x → is_hole x.kind ≡ false }
     requires holes { AreHoles index below (names_in (map opened_by items.now)) }
     ensures { (result ≡ true) → CanPass last.now items.now index below }
 {
     let upper = items[index].opened;
     let lower = items[below].opened;
-    if items[index].kind.is_hole() || items[below].kind.is_hole() {
-        return false;
-    }
     if upper.name.tag().is_special() || last.of_node(upper.node) as usize != index + 1 {
         return false;
     }
@@ -191,6 +183,7 @@ fn next_open(items: &[KeptNode], index: usize) -> usize
     requires within { index + 1 < length items.now }
     ensures order { index < result }
     ensures within { result < length items.now }
+    ensures live { (x : KeptNode) → x ≡ slice_index_or items.now result x → is_hole x.kind ≡ false }
     ensures holes { AreHoles index result (names_in (map opened_by items.now)) }
 {
     let mut next = index + 1;

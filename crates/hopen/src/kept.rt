@@ -253,17 +253,6 @@ pub(crate) fn sets_at_end(items: &[KeptNode]) -> SetNodes
     items[len - 1].sets
 }
 
-/// The same with a node right below them.
-#[inline(always)]
-pub(crate) fn sets_with(items: &[KeptNode], name: NameId, node: NodeId) -> SetNodes
-    requires keep { KeepSets (map opened_by items.now) (map sets_at items.now) }
-    requires fits { node + 1 < 2 ^ 32 }
-    ensures { (set : NameSet) → set_node set result
-        ≡ nearest_in set (Some (record { node = node; name = name })) (nearest_up set (map opened_by items.now) (length items.now)) }
-{
-    sets_of(items).with(name.tag(), node.index() as u32 + 1)
-}
-
 /// Notes where the next node of a name is, in the item at a level, if there is one.
 #[inline(always)]
 pub(crate) fn hint(items: &mut [KeptNode], level: u32, next: u32)

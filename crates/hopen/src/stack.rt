@@ -1,6 +1,7 @@
 //! The stack of open elements (HTML Standard, `#the-stack-of-open-elements`).
 
 ghost use Rattle.std.specs.Prelude.{◌≡◌, ◌<◌, ◌≤◌, ◌+◌, ◌-◌, ◌^◌, ◌↔◌, ◌⊎◌, [], ◌∷◌, OnOk, OnErr, IfErr, length, drop, take, reverse, nat_eq, true};
+ghost use Rattle.std.specs.Prelude.{vec_capacity, vec_len};
 ghost use Rattle.std.specs.List.{find, list_all, slice_get};
 ghost use Rattle.std.specs.Option.{option_map, option_map_or};
 ghost use Rattle.hnodes.specs.Nearest.{after, without, changed, put_before};
@@ -157,11 +158,8 @@ impl OpenStack {
         ensures ok { OnOk result (self.new ≡ record self.old { stack = put_before (is_node above) (open_of new) (without (is_node leaving) self.old.stack) }) }
         ensures err { OnErr result (self.new ≡ self.old) }
     {
-        if self.items.len() >= u32::MAX as usize {
-            return Err(AllocError);
-        }
         self.last.make_room(new.name, new.node)?;
-        self.items.reserve(1)?;
+        one_more(&mut self.items)?;
         exchange(&mut self.last, &mut self.items, leaving, above, new);
         Ok(())
     }
@@ -303,4 +301,19 @@ fn room(slots: usize, holes: u32, limit: u32, at: u64) -> Result<(), Refusal>
         return Err(Refusal::Memory);
     }
     Ok(())
+}
+
+/// Makes room for one more slot, if there may be one. On an error the slots stay.
+#[inline(always)]
+fn one_more(items: &mut Vec<KeptNode>) -> Result<(), AllocError>
+    ensures items { items.new.items ≡ items.old.items }
+    ensures ok { OnOk result ((vec_len items.new < vec_capacity items.new) × (vec_len items.new + 1 < 2 ^ 32)) }
+{
+    if items.len() >= u32::MAX as usize {
+        return Err(AllocError);
+    }
+    if items.len() < items.capacity() {
+        return Ok(());
+    }
+    items.reserve(1)
 }

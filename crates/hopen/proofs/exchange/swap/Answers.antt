@@ -1,7 +1,7 @@
-use Rattle.hopen.proofs.Names.{◌≡◌, ℕ, suc, ◌+◌, ◌<◌, false, List, length, map, get_or, set, None, refl, sym, ◌∙◌, ap, transport, arith, with_items_is, exchanged, is_hole_kind, names_in, open_of, opened_by, same_node_of, tag_of, is_special, IsLinked, KeptNode, OpenNode}
+use Rattle.hopen.proofs.Names.{◌≡◌, ℕ, suc, ◌+◌, ◌<◌, false, List, length, map, get_or, set, None, refl, sym, ◌∙◌, ap, transport, arith, with_items_is, exchanged, is_hole_kind, names_in, open_of, opened_by, tag_of, is_special, IsLinked, KeptNode, OpenNode}
 use Rattle.hopen.specs.declared.kept.Kind.TheVariants as kind
 use Rattle.hopen.proofs.Passed.{stands-passed}
-use Rattle.hopen.proofs.Projected.{live-of, node-in, opened-at, part-at}
+use Rattle.hopen.proofs.Projected.{live-of, opened-at, part-at}
 use Rattle.hopen.proofs.exchange.swap.Goals as goal
 
 -- an item of another vector that has the same open
@@ -29,12 +29,10 @@ swap_items-requires-clause-lower c = λ z at.
     let y = c.index-items-below.result in
     let is = c.index-items-below.is in
     let p = c.requires.can_pass in
-    let s = c.requires.stands in
     let lower = p.lower y is in
     let still = open-still items c.swap_names.new.items c.swap_names.ensures.rest.opened c.args.below y p.within is lower.0 z
     (omega (arith, p.within, c.swap_names.auto.items)) at in
-    let node : z.opened.node ≡ y.opened.node = ap OpenNode.node still.1 in
-    (still.0, omega (arith, s.fits, node, node-in items c.args.below y p.within is lower.0 c.args.last.now.nodes.items (map same_node_of items) s.nodes))
+    still.0
 
 pub returns-clause-stands : goal.returns-clause-stands
 returns-clause-stands c =

@@ -1,8 +1,7 @@
-use Rattle.hopen.proofs.Names.{◌≡◌, ℕ, ◌<◌, List, length, map, take, get_or, set, false, Some, None, refl, sym, ◌∙◌, ap, arith, transport, get_or_default, length-map, length-take-le, take-map, exchanged, is_hole_kind, is_special, kind_at, names_in, nearest_in, nearest_up, open_of, opened_by, same_name_of, same_node_of, set_node, sets_at, tag_of, AreHoles, KeepSets, KeptNode, NameSet}
+use Rattle.hopen.proofs.Names.{◌≡◌, ℕ, ◌<◌, List, length, map, get_or, set, false, None, refl, sym, ◌∙◌, ap, arith, transport, get_or_default, length-map, exchanged, is_hole_kind, is_special, kind_at, names_in, open_of, opened_by, same_name_of, same_node_of, sets_at, tag_of, AreHoles, KeepSets, KeptNode}
 use Rattle.hopen.specs.declared.kept.Kind.TheVariants as kind
-use Rattle.hopen.proofs.NearestUp.{nearest-take}
-use Rattle.hopen.proofs.Passed.{sets-exchanged, sets-take}
-use Rattle.hopen.proofs.Projected.{opened-at, two-exchanged, two-same, two-upper}
+use Rattle.hopen.proofs.Passed.{sets-exchanged}
+use Rattle.hopen.proofs.Projected.{opened-at, part-at, two-exchanged, two-same, two-upper}
 use Rattle.hopen.proofs.exchange.swap_items.Goals as goal
 
 module _ (items : List KeptNode) (i j : ℕ) (x y : KeptNode) (less : i < j) (within : j < length items) (first : x ≡ get_or items i x)
@@ -22,28 +21,17 @@ module _ (items : List KeptNode) (i j : ℕ) (x y : KeptNode) (less : i < j) (wi
     new-sets g = two-upper sets_at items i j a b x less (g ∙ ap sets_at lower-is)
 
   sets-are : KeepSets (map opened_by items) (map sets_at items) → is_hole_kind x.kind ≡ false → is_special (tag_of x.opened.name) ≡ false
-      → is_hole_kind y.kind ≡ false
-      → AreHoles i j (names_in (map opened_by items)) → (a b : KeptNode) → opened_by a ≡ opened_by y → opened_by b ≡ opened_by x → b.sets ≡ y.sets
-      → ((set : NameSet) → set_node set a.sets ≡ nearest_in set (Some (open_of y.opened))
-      (nearest_up set (map opened_by (take i items)) (length (take i items))))
+      → is_hole_kind y.kind ≡ false → AreHoles i j (names_in (map opened_by items))
+      → (a b : KeptNode) → opened_by a ≡ opened_by y → opened_by b ≡ opened_by x → a.sets ≡ y.sets → b.sets ≡ y.sets
       → KeepSets (map opened_by (set (set items i a) j b)) (map sets_at (set (set items i a) j b))
-  sets-are k live plain lives holes a b oa ob sb own =
+  sets-are k live plain lives holes a b oa ob sa sb =
       let ys = map opened_by items in
-      let front : i < length items = omega arith in
       let many = length-map items opened_by in
+      let front : i < length items = omega arith in
       transport (λ t. KeepSets (sym (moved a b opened_by None oa ob) t) (sym (new-sets a b sb) t))
       (sets-exchanged ys i j (open_of x.opened) (open_of y.opened) less (omega arith) holes (opened-at items i x front first live)
-      (opened-at items j y within second lives) plain
-      (map sets_at items) a.sets (length-map items sets_at ∙ sym many) k
-      (λ s. own s ∙ ap (nearest_in s (Some (open_of y.opened))) (ap (λ l. nearest_up s l (length (take i items))) (sym (take-map opened_by i items))
-      ∙ ap (nearest_up s (take i ys)) (length-take-le i items (omega arith)) ∙ nearest-take s ys i i (omega arith))))
-
-pub sets_with-sets-requires-clause-keep : goal.sets_with-sets-requires-clause-keep
-sets_with-sets-requires-clause-keep c =
-    let items = c.args.items.now in
-    let i = c.args.index in
-    transport (λ t. KeepSets (take-map opened_by i items t) (take-map sets_at i items t))
-    (sets-take (map opened_by items) (map sets_at items) i (omega (arith, c.requires.order, c.requires.within, length-map items opened_by)) c.requires.sets)
+      (opened-at items j y within second lives) plain (map sets_at items) a.sets (length-map items sets_at ∙ sym many) k
+      (sa ∙ sym (part-at sets_at a.sets items j y within second)))
 
 pub returns-clause-opened : goal.returns-clause-opened
 returns-clause-opened c =
@@ -73,4 +61,4 @@ returns-clause-sets c =
     let second = c.index-items-below.is in
     sets-are c.args.items.now c.args.index c.args.below x y c.requires.order c.requires.within first second c.requires.sets (c.requires.upper x first).0
     (c.requires.upper x first).1
-    (c.requires.lower y second).0 c.requires.holes _ _ refl refl refl c.sets_with-sets.ensures
+    (c.requires.lower y second) c.requires.holes _ _ refl refl refl refl

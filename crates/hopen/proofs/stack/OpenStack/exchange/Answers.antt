@@ -4,8 +4,8 @@ use Rattle.hopen.proofs.stack.OpenStack.exchange.Goals as goal
 
 pub invariant_of-self-2 : goal.invariant_of-self-2
 invariant_of-self-2 c =
-    let reserved = stack_of c.reserve.new.self.items in
-    let same = c.in_ok-reserve.ensures.items in
+    let reserved = stack_of c.one_more.new.items.items in
+    let same = c.in_ok-one_more.ensures.items in
     let open_in : is_open c.args.leaving reserved ≡ true =
     ap (λ (l : List KeptNode). is_open c.args.leaving (stack_of l)) same ∙ ap (λ (n : OpenNodes ℕ). is_open c.args.leaving n.stack) c.self.view_is
     ∙ c.requires in
