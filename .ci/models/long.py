@@ -27,8 +27,7 @@ tree move 0 2
 tree move 2 3
 tree append 3 0
 many tree nest 700000""",
-    # What is asked of the topmost node is asked at each step. (The last line asks at each for the node right above the current one, past all the holes
-    # that it made there: so it has fewer.)
+    # What is asked of the topmost node is asked at each step.
     "stack": """tree new 300000
 many tree fill 299999
 many stack push 100000
@@ -36,7 +35,7 @@ many stack exchange 49999
 many stack pop 100000
 many stack push 200000
 many stack replace 100000
-many stack remove 9998""",
+many stack remove 199998""",
     # In the second and third line holes are made in the middle, which the fourth goes over.
     "list": """tree new 100000
 many tree fill 99999

@@ -33,6 +33,7 @@ pub mod FormattingSpellings
 pub mod Ends
 pub mod ExchangedSlots
 pub mod OpenLevels
+pub mod NodeLevels
 pub mod Passed
 pub mod Searches
 pub mod SetLevel

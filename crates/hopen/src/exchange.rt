@@ -1,7 +1,7 @@
 //! A node leaves the stack, and a new one comes right below another: the end of the adoption agency (`#adoption-agency-algorithm`). The node that
 //! leaves passes those from it down to that other one, one at a time, and then the new one takes its place: so nothing below is looked at.
 
-ghost use Rattle.std.specs.Prelude.{◌≡◌, ◌≢◌, ℕ, List, ◌∷◌, ◌++◌, ◌+◌, ◌<◌, ◌≤◌, ◌^◌, ◌==◌, ◌&&◌, None, false, true, suc, drop, length, map, reverse};
+ghost use Rattle.std.specs.Prelude.{◌≡◌, ◌≢◌, ℕ, ◌+◌, ◌<◌, ◌≤◌, ◌^◌, ◌==◌, ◌&&◌, None, false, true, suc, drop, length, map, reverse};
 ghost use Rattle.std.specs.Prelude.{slice_index, slice_index_or, slice_set, vec_capacity, vec_len, if◌then◌else◌};
 ghost use Rattle.hnodes.specs.Nearest.{put_before, without};
 ghost use Rattle.hopen.specs.Vocabulary.{exchanged, is_hole, is_node, is_open, is_special, names_in, open_of, opened_by, same_name_of, same_node_of, sets_at};
@@ -9,7 +9,8 @@ ghost use Rattle.hopen.specs.Vocabulary.{kind_at, somes, stack_of, tag_of, AreAl
 ghost use Rattle.hopen.specs.Vocabulary.{KeepSets, Rests, Stands};
 ghost use Rattle.hopen.specs.declared.kept.Kind.TheVariants as Kind;
 
-use crate::kept::{KeptNode, LastLevels, hint, insert, remove, replace};
+use crate::kept::{KeptNode, LastLevels, hint, insert, replace};
+use crate::leaving::remove;
 use crate::stack::Open;
 use hnodes::NodeId;
 use names::NameId;
@@ -221,6 +222,32 @@ fn sink(last: &mut LastLevels, items: &mut [KeptNode], from: usize, to: usize) -
     index
 }
 
+/// Takes the node of a slot out and puts a new one right below another, if that is open.
+#[inline(never)]
+fn move_below(
+    last: &mut LastLevels,
+    items: &mut Vec<KeptNode>,
+    index: usize,
+    above: NodeId,
+    new: Open,
+)
+    requires rests { Rests last.old items.old.items }
+    requires within { index < length items.old.items }
+    requires live { slice_index_or (map opened_by items.old.items) index None ≢ None }
+    requires room { vec_len items.old < vec_capacity items.old }
+    requires levels { length items.old.items + 1 < 2 ^ 32 }
+    requires new_in { HasRoom last.old new }
+    ensures rests { Rests last.new items.new.items }
+    ensures items { stack_of items.new.items
+        ≡ put_before (is_node above) (open_of new) (somes (reverse (slice_set (map opened_by items.old.items) index None))) }
+{
+    remove(last, items, index);
+    let level = last.of_node(above) as usize;
+    if level > 0 {
+        insert(last, items, level, new);
+    }
+}
+
 /// Takes a node out and puts a new one right below another, by a pass over those from the one down to the other, where the one can
 /// pass them.
 pub(crate) fn exchange(
@@ -245,9 +272,5 @@ pub(crate) fn exchange(
         replace(last, items, index, new);
         return;
     }
-    remove(last, items, index);
-    let level = last.of_node(above) as usize;
-    if level > 0 {
-        insert(last, items, level, new);
-    }
+    move_below(last, items, index, above, new);
 }

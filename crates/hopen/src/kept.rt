@@ -1,13 +1,12 @@
 //! The levels that open nodes keep, so that no question has to search the stack.
 
-ghost use Rattle.std.specs.Prelude.{◌≡◌, ◌≢◌, List, true, false, suc, ℕ, ◌+◌, ◌-◌, ◌<◌, ◌≤◌, ◌^◌, OnOk, OnErr, ◌∷◌, Some, None, drop, insert, length, map, reverse, take};
+ghost use Rattle.std.specs.Prelude.{◌≡◌, ◌≢◌, List, true, false, ℕ, ◌+◌, ◌-◌, ◌<◌, ◌≤◌, ◌^◌, OnOk, OnErr, ◌∷◌, Some, None, drop, insert, length, map, take};
 ghost use Rattle.std.specs.Prelude.{slice_index, slice_index_or, slice_set, vec_capacity, vec_len, if◌then◌else◌};
 ghost use Rattle.std.specs.Option.{option_map};
-ghost use Rattle.hopen.specs.Vocabulary.{closing, current, is_hole, kind_of, nearest_in, nearest_up, open_of, opened_by, set_node, sets_at, somes, stack_of, tag_of};
+ghost use Rattle.hopen.specs.Vocabulary.{closing, is_hole, kind_of, nearest_up, open_of, opened_by, set_node, sets_at, stack_of, tag_of};
 ghost use Rattle.hopen.specs.Vocabulary.{AreAlike, AreAsLong, AreIn, CanGiveWay, EndsOpen, HasRoom, IsAlone, IsBelow, KeepSets, Rests, Stands};
 ghost use Rattle.hopen.specs.declared.kept.Kind.TheVariants as Kind;
 
-use crate::exchange::unlink_name;
 use crate::name_sets::{NameSet, SetNodes};
 use crate::stack::Open;
 use hnodes::NodeId;
@@ -130,7 +129,7 @@ impl KeptNode {
     }
 
     /// The hole that its node leaves.
-    fn hole(self) -> Self
+    pub(crate) fn hole(self) -> Self
         ensures hole { result.kind ≡ Kind.Hole }
         ensures levels { (result.same_name ≡ 0) × (result.same_node ≡ 0) }
     {
@@ -196,7 +195,7 @@ impl LastLevels {
     }
 
     /// Notes that a node of a kind, which was open once, is closed.
-    fn forget(&mut self, node: NodeId, kind: Kind)
+    pub(crate) fn forget(&mut self, node: NodeId, kind: Kind)
         requires node { node < length self.old.nodes.items }
         requires counted { closing kind ≤ self.old.must_close }
         ensures names { self.new.names.items ≡ self.old.names.items }
@@ -264,7 +263,7 @@ pub(crate) fn hint(items: &mut [KeptNode], level: u32, next: u32)
 }
 
 /// Takes the nodes of the slots from an index on out of the tables, the last one first.
-fn unwind(last: &mut LastLevels, items: &[KeptNode], from: usize)
+pub(crate) fn unwind(last: &mut LastLevels, items: &[KeptNode], from: usize)
     requires stands { Stands last.old items.now }
     requires within { from ≤ length items.now }
     ensures stands { Stands last.new (take from items.now) }
@@ -376,7 +375,7 @@ fn settle(last: &mut LastLevels, items: &mut [KeptNode], index: usize)
 }
 
 /// Puts the slots from an index on below those above them again, with the levels that they have now.
-fn rewind(last: &mut LastLevels, items: &mut [KeptNode], from: usize)
+pub(crate) fn rewind(last: &mut LastLevels, items: &mut [KeptNode], from: usize)
     requires stands { Stands last.old (take from items.old) }
     requires within { from ≤ length items.old }
     requires numbers { AreIn (length last.old.names.items) (length last.old.nodes.items) (map opened_by (drop from items.old)) }
@@ -392,7 +391,31 @@ fn rewind(last: &mut LastLevels, items: &mut [KeptNode], from: usize)
     }
 }
 
-/// Pushes a slot for a node. On an error the items stay; the tables may have grown.
+/// Puts a slot for a node right below the others. On an error the items stay.
+#[inline(always)]
+pub(crate) fn append(
+    last: &mut LastLevels,
+    items: &mut Vec<KeptNode>,
+    opened: Open,
+) -> Result<(), AllocError>
+    requires rests { Rests last.old items.old.items }
+    requires levels { length items.old.items + 1 < 2 ^ 32 }
+    requires room { HasRoom last.old opened }
+    ensures rests { Rests last.new items.new.items }
+    ensures ok { OnOk result (stack_of items.new.items ≡ open_of opened ∷ stack_of items.old.items) }
+    ensures err { OnErr result (items.new.items ≡ items.old.items) }
+    ensures full { OnErr result (vec_capacity items.old ≤ vec_len items.old) }
+    ensures tables { AreAsLong last.new last.old }
+    ensures len { OnOk result (length items.new.items ≡ length items.old.items + 1) }
+    ensures capacity { vec_capacity items.old ≤ vec_capacity items.new }
+{
+    let index = items.len();
+    items.push(slot_below(last, sets_at_end(items), opened))?;
+    enter(last, items, index);
+    Ok(())
+}
+
+/// Opens a node below the others. On an error the items stay; the tables may have grown.
 #[inline(always)]
 pub(crate) fn push(
     last: &mut LastLevels,
@@ -406,73 +429,11 @@ pub(crate) fn push(
     ensures err { OnErr result (items.new.items ≡ items.old.items) }
 {
     last.make_room(opened.name, opened.node)?;
-    let index = items.len();
-    items.push(slot_below(last, sets_at_end(items), opened))?;
-    enter(last, items, index);
-    Ok(())
-}
-
-/// Whether the last slot is a hole.
-#[inline(always)]
-fn ends_in_hole(items: &[KeptNode]) -> bool
-    ensures hole { (result ≡ true) → (0 < length items.now) × (slice_index_or (map opened_by items.now) (length items.now - 1) None ≡ None) }
-    ensures live { (result ≡ false) → EndsOpen (map opened_by items.now) }
-{
-    let len = items.len();
-    len > 0 && items[len - 1].kind.is_hole()
-}
-
-/// Takes away the holes at the end, one at a time.
-#[inline(always)]
-fn trim_holes(last: &mut LastLevels, items: &mut Vec<KeptNode>)
-    requires stands { Stands last.old items.old.items }
-    requires holes { last.old.holes + length (stack_of items.old.items) ≡ length items.old.items }
-    requires levels { length items.old.items < 2 ^ 32 }
-    ensures rests { Rests last.new items.new.items }
-    ensures same { stack_of items.new.items ≡ stack_of items.old.items }
-    ensures tables { (length last.new.names.items ≡ length last.old.names.items) × (length last.new.nodes.items ≡ length last.old.nodes.items) }
-    ensures len { length items.new.items ≤ length items.old.items }
-    ensures capacity { vec_capacity items.new ≡ vec_capacity items.old }
-{
-    while ends_in_hole(items) {
-        items.truncate(items.len() - 1);
-        last.holes -= 1;
-    }
-}
-
-/// Takes away the holes at the end, if there are any.
-#[inline(always)]
-fn trim(last: &mut LastLevels, items: &mut Vec<KeptNode>)
-    requires stands { Stands last.old items.old.items }
-    requires holes { last.old.holes + length (stack_of items.old.items) ≡ length items.old.items }
-    requires levels { length items.old.items < 2 ^ 32 }
-    ensures rests { Rests last.new items.new.items }
-    ensures same { stack_of items.new.items ≡ stack_of items.old.items }
-    ensures tables { (length last.new.names.items ≡ length last.old.names.items) × (length last.new.nodes.items ≡ length last.old.nodes.items) }
-    ensures len { length items.new.items ≤ length items.old.items }
-    ensures capacity { vec_capacity items.new ≡ vec_capacity items.old }
-{
-    if last.holes == 0 {
-        return;
-    }
-    trim_holes(last, items);
-}
-
-/// Closes the current node and returns it.
-pub(crate) fn pop(last: &mut LastLevels, items: &mut Vec<KeptNode>) -> Option<Open>
-    requires { Rests last.old items.old.items }
-    ensures rests { Rests last.new items.new.items }
-    ensures popped { option_map open_of result ≡ current (stack_of items.old.items) }
-    ensures rest { stack_of items.new.items ≡ drop 1 (stack_of items.old.items) }
-{
-    let item = items.pop()?;
-    last.take_back(&item);
-    trim(last, items);
-    Some(item.opened)
+    append(last, items, opened)
 }
 
 /// Whether a node can leave or give way with nothing below looked at: it is not special, and open nowhere else.
-fn is_alone(last: &LastLevels, item: &KeptNode, level: u32) -> bool
+pub(crate) fn is_alone(last: &LastLevels, item: &KeptNode, level: u32) -> bool
     requires { is_hole item.now.kind ≡ false }
     ensures { (result ≡ true) → IsAlone last.now item.now level }
 {
@@ -481,78 +442,28 @@ fn is_alone(last: &LastLevels, item: &KeptNode, level: u32) -> bool
         && last.of_node(item.opened.node) == level
 }
 
-/// Makes a hole of a slot whose node is open nowhere else and not special. It takes constant time.
-fn leave(last: &mut LastLevels, items: &mut [KeptNode], index: usize)
-    requires stands { Stands last.old items.old }
-    requires within { index < length items.old }
-    requires levels { length items.old < 2 ^ 32 }
-    requires alone { (x : KeptNode) → x ≡ slice_index_or items.old index x → IsAlone last.old x (suc index) }
-    ensures stands { Stands last.new items.new }
-    ensures opened { map opened_by items.new ≡ slice_set (map opened_by items.old) index None }
-    ensures tables { AreAsLong last.new last.old }
-{
-    let node = items[index].opened.node;
-    let kind = items[index].kind;
-    unlink_name(&mut last.names, items, index);
-    last.forget(node, kind);
-    let item = items[index];
-    items[index] = item.hole();
-}
-
-/// The same of any node: what is kept below it is made anew.
-fn leave_slowly(last: &mut LastLevels, items: &mut [KeptNode], index: usize)
-    requires stands { Stands last.old items.old }
-    requires within { index < length items.old }
-    requires levels { length items.old < 2 ^ 32 }
-    ensures stands { Stands last.new items.new }
-    ensures opened { map opened_by items.new ≡ slice_set (map opened_by items.old) index None }
-    ensures tables { AreAsLong last.new last.old }
-{
-    unwind(last, items, index);
-    let item = items[index];
-    items[index] = item.hole();
-    rewind(last, items, index);
-}
-
-/// Makes a hole of a slot. It takes constant time where its node is not special and open nowhere else.
-fn make_hole(last: &mut LastLevels, items: &mut [KeptNode], index: usize)
-    requires stands { Stands last.old items.old }
-    requires within { index < length items.old }
-    requires live { slice_index_or (map opened_by items.old) index None ≢ None }
-    requires levels { length items.old < 2 ^ 32 }
-    ensures stands { Stands last.new items.new }
-    ensures opened { map opened_by items.new ≡ slice_set (map opened_by items.old) index None }
-    ensures tables { AreAsLong last.new last.old }
-{
-    if is_alone(last, &items[index], index as u32 + 1) {
-        leave(last, items, index);
-    } else {
-        leave_slowly(last, items, index);
-    }
-}
-
-/// Closes the node of the slot at an index.
-pub(crate) fn remove(last: &mut LastLevels, items: &mut Vec<KeptNode>, index: usize)
-    requires rests { Rests last.old items.old.items }
-    requires within { index < length items.old.items }
-    requires live { slice_index_or (map opened_by items.old.items) index None ≢ None }
-    ensures rests { Rests last.new items.new.items }
-    ensures items { stack_of items.new.items ≡ somes (reverse (slice_set (map opened_by items.old.items) index None)) }
-    ensures tables { (length last.new.names.items ≡ length last.old.names.items) × (length last.new.nodes.items ≡ length last.old.nodes.items) }
-    ensures len { length items.new.items ≤ length items.old.items }
-    ensures capacity { vec_capacity items.new ≡ vec_capacity items.old }
-{
-    make_hole(last, items, index);
-    last.holes += 1;
-    trim(last, items);
-}
-
 /// Whether a new node can take the place of one with nothing below looked at: it has its name, and is open nowhere.
 fn can_give_way(last: &LastLevels, item: &KeptNode, level: u32, name: NameId, node: NodeId) -> bool
     requires { is_hole item.now.kind ≡ false }
     ensures { (result ≡ true) → CanGiveWay last.now item.now level (record { node = node; name = name }) }
 {
     item.opened.name == name && is_alone(last, item, level) && last.of_node(node) == 0
+}
+
+/// Puts a new node in the place of any: what is kept below it is made anew.
+#[inline(never)]
+fn replace_slowly(last: &mut LastLevels, items: &mut [KeptNode], index: usize, new: Open)
+    requires stands { Stands last.old items.old }
+    requires within { index < length items.old }
+    requires levels { length items.old < 2 ^ 32 }
+    requires new_in { HasRoom last.old new }
+    ensures stands { Stands last.new items.new }
+    ensures items { map opened_by items.new ≡ slice_set (map opened_by items.old) index (Some (open_of new)) }
+    ensures tables { AreAsLong last.new last.old }
+{
+    unwind(last, items, index);
+    items[index] = KeptNode::new(new);
+    rewind(last, items, index);
 }
 
 /// Puts a new node in the place of one. It takes constant time where the new node has the name of the old one, which is not special and
@@ -567,19 +478,16 @@ pub(crate) fn replace(last: &mut LastLevels, items: &mut [KeptNode], index: usiz
     ensures items { map opened_by items.new ≡ slice_set (map opened_by items.old) index (Some (open_of new)) }
     ensures tables { AreAsLong last.new last.old }
 {
-    let item = items[index];
+    // Taken apart for the prover alone (CONTRIBUTING.md, "Traps").
+    let Open { node, name } = new;
+    let old = items[index].opened.node;
     let level = index as u32 + 1;
-    if can_give_way(last, &item, level, new.name, new.node) {
-        last.nodes[item.opened.node.index()] = 0;
-        last.nodes[new.node.index()] = level;
-        items[index] = KeptNode {
-            opened: new,
-            ..item
-        };
+    if can_give_way(last, &items[index], level, name, node) {
+        items[index].opened = Open { node, name };
+        last.nodes[old.index()] = 0;
+        last.nodes[node.index()] = level;
     } else {
-        unwind(last, items, index);
-        items[index] = KeptNode::new(new);
-        rewind(last, items, index);
+        replace_slowly(last, items, index, Open { node, name });
     }
 }
 

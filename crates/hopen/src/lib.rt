@@ -10,6 +10,7 @@ pub mod formatting;
 mod hashes;
 mod kept;
 pub mod laws;
+mod leaving;
 mod name_sets;
 pub mod scope;
 mod slots;

@@ -1,6 +1,6 @@
 //! What is sought among the open nodes.
 
-ghost use Rattle.std.specs.Prelude.{◌≡◌, ◌-◌, ◌+◌, ◌≤◌, drop, length, map, take};
+ghost use Rattle.std.specs.Prelude.{◌≡◌, ◌-◌, ◌≤◌, length, map, take};
 ghost use Rattle.std.specs.List.{find};
 ghost use Rattle.std.specs.Option.{option_map};
 ghost use Rattle.hopen.specs.Vocabulary.{current, holds_one, is_in, is_sought, is_special, last_place, open_of, opened_by, slots_of, somes, stack_of, tag_of};

@@ -3,14 +3,15 @@
 ghost use Rattle.std.specs.Prelude.{◌≡◌, ◌<◌, ◌≤◌, ◌+◌, ◌-◌, ◌^◌, ◌↔◌, ◌⊎◌, [], ◌∷◌, OnOk, OnErr, IfErr, length, drop, take, reverse, nat_eq, true};
 ghost use Rattle.std.specs.Prelude.{vec_capacity, vec_len};
 ghost use Rattle.std.specs.List.{find, list_all, slice_get};
-ghost use Rattle.std.specs.Option.{option_map, option_map_or};
+ghost use Rattle.std.specs.Option.{option_map};
 ghost use Rattle.hnodes.specs.Nearest.{after, without, changed, put_before};
 ghost use Rattle.hopen.specs.Vocabulary.{above as above_of, current as current_of, furthest_block as furthest_block_of, in_scope as is_in_scope, is_in, is_named};
 ghost use Rattle.hopen.specs.Vocabulary.{is_node, is_of, is_open, is_sought, is_special, may_stay_open, open_of, stops as stops_node, stops_item};
 ghost use Rattle.hopen.specs.Vocabulary.{tag_of, Default, Memory, TooDeep};
 
 use crate::exchange::exchange;
-use crate::kept::{KeptNode, LastLevels, pop, push, remove, replace};
+use crate::kept::{KeptNode, LastLevels, push, replace};
+use crate::leaving::{pop, remove};
 use crate::name_sets::NameSet;
 use crate::scope::{Group, Scope};
 use crate::sought::{
@@ -30,9 +31,9 @@ pub struct Open {
 
 /// The open nodes with their names, from html down to the current node.
 ///
-/// A node that leaves from above others leaves a hole, so none of these moves. No question searches the stack, but for `furthest_block`
-/// and `above`, which pass the slots from a node to the one that is asked for, and for questions of scope or groups that come to a node
-/// that is open twice. A push and a pop take the same time at any depth, amortized. So do `remove` and `replace` where the node is not
+/// A node that leaves from above others leaves a hole, so none of these moves, but for the current one where a second hole is right above
+/// it. No question searches the stack, but for `furthest_block` and `above`, which pass the slots from a node to the one that is asked for,
+/// and for questions of scope or groups that come to a node that is open twice. A push and a pop take the same time at any depth, amortized. So do `remove` and `replace` where the node is not
 /// special and open nowhere else, and has the name of the new one; `exchange` then takes a step for each slot from the node that leaves
 /// down to the other. Else these three take a step for each slot below. A slot takes 64 bytes; each of the two tables of levels takes 4
 /// bytes for each number up to the greatest one. `push`, `replace` and `exchange` alone allocate, and on an error they change nothing.

@@ -1,36 +1,8 @@
-use Rattle.hopen.proofs.Names.{◌≡◌, ◌≢◌, ℕ, suc, ◌+◌, ◌-◌, ◌<◌, ◌≤◌, true, List, Option, Some, None, length, map, reverse, get_or, set, drop, insert, sym, ◌∙◌, ap, subst, arith, ltb, ltb-true, with_items_is, with_items, length-insert, length-map, length-set, no_words, position-none, put_before, without, holds_one, is_node, is_open, last_place, open_of, opened_by, same_node_of, slots_of, somes, stack_of, AreAsLong, EndsOpen, KeptNode, LastLevels, OpenNode, Rests, Stands}
-use Rattle.hopen.proofs.ExchangedSlots.{ends-insert, ends-set, length-filled, length-more, put-placed, put-sunk}
-use Rattle.hopen.proofs.OpenLevels.{level-within, node-level, placed, set-placed}
+use Rattle.hopen.proofs.Names.{◌≡◌, ◌≢◌, ℕ, suc, ◌+◌, ◌-◌, ◌<◌, true, List, Option, Some, None, length, map, reverse, get_or, set, drop, sym, ◌∙◌, ap, subst, arith, with_items_is, with_items, length-map, length-set, put_before, without, holds_one, is_node, is_open, last_place, open_of, opened_by, somes, stack_of, AreAsLong, EndsOpen, KeptNode, LastLevels, OpenNode, Rests, Stands}
+use Rattle.hopen.proofs.ExchangedSlots.{ends-set, length-filled, put-sunk}
+use Rattle.hopen.proofs.NodeLevels.{left-is, level-le, level-of, open-here, open-level}
 use Rattle.hopen.proofs.SlotEdits.{length-gone}
-use Rattle.hopen.proofs.Somes.{any-somes, left-somes, put-somes}
 use Rattle.hopen.proofs.exchange.exchange.Goals as goal
-
--- what the table says of a node
-module _ (last : LastLevels) (items : List KeptNode) (s : Stands last items) (n p : ℕ) (is : p ≡ get_or last.nodes.items n 0) where
-  level-of : p ≡ last_place (holds_one (is_node n)) (slots_of items)
-  level-of = is ∙ node-level last.nodes.items (map same_node_of items) items s.nodes n
-
-  level-le : p ≤ length items
-  level-le = level-within (is_node n) items p level-of
-
-  -- it is not open, so nothing comes below it
-  put-none : p ≡ 0 → (x : OpenNode ℕ) → stack_of items ≡ put_before (is_node n) x (stack_of items)
-  put-none none x =
-      let zs = slots_of items in
-      let words = no_words (holds_one (is_node n)) zs (position-none (holds_one (is_node n)) zs (sym level-of ∙ none)) in
-      sym (ap somes (words.put_is (Some x))) ∙ put-somes (is_node n) x zs
-
-  -- it is open
-  module _ (here : is_open n (stack_of items) ≡ true) where
-    open-level : 0 < p
-    open-level = ltb-true 0 p (ap (λ k. ltb 0 k) level-of ∙ any-somes (is_node n) (slots_of items) ∙ here)
-
-    open-here : get_or (map opened_by items) (p - 1) None ≢ None
-    open-here = (placed (is_node n) items p level-of open-level).live
-
-    -- what is left without it
-    left-is : somes (reverse (set (map opened_by items) (p - 1) None)) ≡ without (is_node n) (stack_of items)
-    left-is = ap somes (set-placed (is_node n) items (p - 1) None (placed (is_node n) items p level-of open-level)) ∙ left-somes (is_node n) (slots_of items)
 
 -- what `sink` ensures
 abbrev Sunk : (last after : LastLevels) (items sunk : List KeptNode) (from i : ℕ) → Type 0
@@ -112,9 +84,8 @@ module _ (last after : LastLevels) (items lent sunk : List KeptNode) (r : Rests 
           ∙ ap (put_before (is_node m) x) (left-is last items r.stands n p is here)
 
   -- it is closed
-  left-without : (whole left : List KeptNode) → whole ≡ sunk → stack_of left ≡ somes (reverse (set (map opened_by whole) i None))
-      → stack_of left ≡ without (is_node n) (stack_of items)
-  left-without whole left back gone = gone ∙ ap (λ (xs : List KeptNode). somes (reverse (set (map opened_by xs) i None))) back ∙ sunk-left
+  left-without : (whole : List KeptNode) → whole ≡ sunk → somes (reverse (set (map opened_by whole) i None)) ≡ without (is_node n) (stack_of items)
+  left-without whole back = ap (λ (xs : List KeptNode). somes (reverse (set (map opened_by xs) i None))) back ∙ sunk-left
 
 pub overflow_sub-from : goal.overflow_sub-from
 overflow_sub-from c =
@@ -191,8 +162,8 @@ returns-then-index-to-clause-items c =
     c.saturating_sub-to.ensures
     c.if-index-to.true c.if-from-to.true
 
-pub remove-requires-clause-rests : goal.remove-requires-clause-rests
-remove-requires-clause-rests c =
+pub move_below-requires-clause-rests : goal.move_below-requires-clause-rests
+move_below-requires-clause-rests c =
     let v = c.args.items.now in
     let sunk = c.sink-index.new.items in
     let back = with_items_is v sunk (c.sink-index.auto.items ∙ c.deref_mut.ensures.len) in
@@ -200,8 +171,8 @@ remove-requires-clause-rests c =
     c.of_node.ensures c.requires.live c.deref_mut.ensures.value c.sink-index.auto.items c.sink-index.result c.sink-index.ensures in
     subst (Rests c.sink-index.new.last) (sym back) rests
 
-pub remove-requires-clause-live : goal.remove-requires-clause-live
-remove-requires-clause-live c =
+pub move_below-requires-clause-live : goal.move_below-requires-clause-live
+move_below-requires-clause-live c =
     let v = c.args.items.now in
     let sunk = c.sink-index.new.items in
     let back = with_items_is v sunk (c.sink-index.auto.items ∙ c.deref_mut.ensures.len) in
@@ -209,65 +180,12 @@ remove-requires-clause-live c =
     c.of_node.ensures c.requires.live c.deref_mut.ensures.value c.sink-index.auto.items c.sink-index.result c.sink-index.ensures in
     λ e. live (ap (λ (xs : List KeptNode). get_or (map opened_by xs) c.sink-index.result None) (sym back) ∙ e)
 
-pub insert-requires-clause-within : goal.insert-requires-clause-within
-insert-requires-clause-within c =
-    level-le c.remove.new.last c.remove.new.items.items c.remove.ensures.rests.stands c.args.above c.of_node-level.result c.of_node-level.ensures
-
-pub returns-else-level-gt0-clause-items : goal.returns-else-level-gt0-clause-items
-returns-else-level-gt0-clause-items c =
+pub returns-clause-items : goal.returns-clause-items
+returns-clause-items c =
     let v = c.args.items.now in
-    let new = open_of c.args.new in
     let sunk = c.sink-index.new.items in
-    let left = c.remove.new.items.items in
     let back = with_items_is v sunk (c.sink-index.auto.items ∙ c.deref_mut.ensures.len) in
     let gone = left-without c.args.last.now c.sink-index.new.last v.items c.deref_mut.result.now sunk c.requires.rests c.args.leaving c.of_node.result
-    c.of_node.ensures c.requires.live c.deref_mut.ensures.value c.sink-index.auto.items c.sink-index.result c.sink-index.ensures
-    (with_items v sunk).items left back c.remove.ensures.items in
-    put-none c.remove.new.last left c.remove.ensures.rests.stands c.args.above c.of_node-level.result c.of_node-level.ensures (omega arith) new
-    ∙ ap (put_before (is_node c.args.above) new) gone
-
-pub returns-then-level-gt0-clause-rests : goal.returns-then-level-gt0-clause-rests
-returns-then-level-gt0-clause-rests c =
-    let new = open_of c.args.new in
-    let sunk = c.sink-index.new.items in
-    let left = c.remove.new.items.items in
-    let more = c.insert.new.items.items in
-    let level = c.of_node-level.result in
-    let opened = c.insert.ensures.items in
-    let rests = c.remove.ensures.rests in
-    let within = level-le c.remove.new.last left rests.stands c.args.above level c.of_node-level.ensures in
-    let inside : level ≤ length (map opened_by left) = omega (arith, within, length-map left opened_by) in
-    let back = with_items_is c.args.items.now sunk (c.sink-index.auto.items ∙ c.deref_mut.ensures.len) in
-    let many : length more ≡ length left + 1 =
-    sym (length-map more opened_by) ∙ ap length opened ∙ length-insert (map opened_by left) level (Some new) inside
-    ∙ ap (λ k. k + 1) (length-map left opened_by) in
-    record {
-      stands = c.insert.ensures.stands;
-      ends = subst EndsOpen (sym opened) (ends-insert (map opened_by left) level new inside rests.ends);
-      holes = omega (
-        arith,
-        rests.holes,
-        c.insert.ensures.tables.holes,
-        ap (λ l. length (somes (reverse l))) opened,
-        length-more new (map opened_by left) level,
-        many,
-      );
-      levels = omega (arith, c.requires.levels, c.remove.ensures.len, many, ap length back, c.sink-index.auto.items, ap length c.deref_mut.ensures.value);
-    }
-
-pub returns-then-level-gt0-clause-items : goal.returns-then-level-gt0-clause-items
-returns-then-level-gt0-clause-items c =
-    let v = c.args.items.now in
-    let new = open_of c.args.new in
-    let sunk = c.sink-index.new.items in
-    let left = c.remove.new.items.items in
-    let level = c.of_node-level.result in
-    let back = with_items_is v sunk (c.sink-index.auto.items ∙ c.deref_mut.ensures.len) in
-    let gone = left-without c.args.last.now c.sink-index.new.last v.items c.deref_mut.result.now sunk c.requires.rests c.args.leaving c.of_node.result
-    c.of_node.ensures c.requires.live c.deref_mut.ensures.value c.sink-index.auto.items c.sink-index.result c.sink-index.ensures
-    (with_items v sunk).items left back c.remove.ensures.items in
-    let next : level ≡ level - 1 + 1 = omega arith in
-    let place = placed (is_node c.args.above) left level
-    (level-of c.remove.new.last left c.remove.ensures.rests.stands c.args.above level c.of_node-level.ensures) (omega arith) in
-    ap (λ l. somes (reverse l)) (c.insert.ensures.items ∙ ap (λ k. insert (map opened_by left) k (Some new)) next)
-    ∙ put-placed (is_node c.args.above) left (level - 1) new place ∙ ap (put_before (is_node c.args.above) new) gone
+    c.of_node.ensures c.requires.live c.deref_mut.ensures.value c.sink-index.auto.items c.sink-index.result c.sink-index.ensures (with_items v sunk).items
+    back in
+    c.move_below.ensures.items ∙ ap (put_before (is_node c.args.above) (open_of c.args.new)) gone

@@ -1,6 +1,6 @@
 use Rattle.hopen.proofs.Names.{◌≡◌, ◌≤◌, ◌+◌, length, stack_of, Stands}
 use Rattle.std.specs.Prelude.{vec_capacity}
-use Rattle.hopen.proofs.kept.trim_holes.Given as goal
+use Rattle.hopen.proofs.leaving.trim.Given as goal
 
 abbrev pub invariant-loop-items : goal.invariant-loop-items
 invariant-loop-items l = record {

@@ -1,7 +1,7 @@
 use Rattle.hopen.proofs.Names.{◌∙◌, ap, sym, subst, set, map, length, map-set, take-set, opened_by, is_hole_kind, Stands, IsIn}
 use Rattle.hopen.proofs.Held.{no-node}
 use Rattle.hopen.proofs.SlotEdits.{numbers-replaced}
-use Rattle.hopen.proofs.kept.leave_slowly.Goals as goal
+use Rattle.hopen.proofs.leaving.leave_slowly.Goals as goal
 
 pub rewind-requires-clause-stands : goal.rewind-requires-clause-stands
 rewind-requires-clause-stands c = subst (Stands c.unwind.new.last) (sym (take-set c.args.items.now c.args.index c.hole.result)) c.unwind.ensures.stands

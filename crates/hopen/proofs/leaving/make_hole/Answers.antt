@@ -1,6 +1,6 @@
 use Rattle.hopen.proofs.Names.{◌≡◌, suc, ◌+◌, ◌∙◌, sym, subst, arith, get_or, get_or_default, IsAlone, KeptNode}
 use Rattle.hopen.proofs.Held.{is-held, opened-at}
-use Rattle.hopen.proofs.kept.make_hole.Goals as goal
+use Rattle.hopen.proofs.leaving.make_hole.Goals as goal
 
 pub is_alone-requires : goal.is_alone-requires
 is_alone-requires c =

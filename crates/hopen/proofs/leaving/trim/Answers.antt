@@ -1,6 +1,6 @@
 use Rattle.hopen.proofs.Names.{◌≡◌, ◌-◌, ◌<◌, List, None, length, map, take, get_or, sym, ap, ◌∙◌, subst, arith, rules, length-take-le, opened_by, stack_of, Stands, EndsOpen, KeptNode}
 use Rattle.hopen.proofs.Trimmed.{first-of, length-stack, stack-trimmed, stands-trimmed}
-use Rattle.hopen.proofs.kept.trim_holes.Goals as goal
+use Rattle.hopen.proofs.leaving.trim.Goals as goal
 
 pub overflow_sub-last : goal.overflow_sub-last
 overflow_sub-last c =

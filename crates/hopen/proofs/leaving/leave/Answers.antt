@@ -1,7 +1,7 @@
 use Rattle.hopen.proofs.Names.{◌≡◌, ◌-◌, map, set, get_or, sym, ◌∙◌, ap, subst, map-set, get_or_default, get_or-set_other, with_items_is, opened_by, same_name_of, same_node_of, sets_at, set_node, kind_at, closing, is_hole_kind, KeptNode, IsAlone, IsLinked, names_in}
 use Rattle.hopen.proofs.Gone.{kind-counted, node-known, stands-left}
 use Rattle.hopen.proofs.Held.{no-node}
-use Rattle.hopen.proofs.kept.leave.Goals as goal
+use Rattle.hopen.proofs.leaving.leave.Goals as goal
 
 pub forget-requires-clause-node : goal.forget-requires-clause-node
 forget-requires-clause-node c =

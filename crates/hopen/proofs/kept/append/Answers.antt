@@ -2,7 +2,7 @@ use Rattle.hopen.proofs.Names.{◌≡◌, ◌+◌, List, Some, None, [], ◌∷�
 use Rattle.hopen.proofs.Held.{below-held, below-same, some≢none}
 use Rattle.hopen.proofs.Standing.{stack-more}
 use Rattle.hopen.proofs.WrittenBack.{written_back}
-use Rattle.hopen.proofs.kept.push.Goals as goal
+use Rattle.hopen.proofs.kept.append.Goals as goal
 
 pub enter-requires-clause-slot : goal.enter-requires-clause-slot
 enter-requires-clause-slot c = λ y is.
@@ -12,7 +12,7 @@ enter-requires-clause-slot c = λ y is.
     let pushed : c.deref_mut.result.now ≡ items ++ x ∷ [] = c.deref_mut.ensures.value ∙ c.in_ok-push.ensures.items in
     let long : length items ≡ n = omega arith in
     let same : take n c.deref_mut.result.now ≡ items = ap (take n) pushed ∙ subst (λ k. take k (items ++ x ∷ []) ≡ items) long (take-append_seam items (x ∷ [])) in
-    below-same c.make_room.new.self c.deref.result.now (take n c.deref_mut.result.now) _ x y (c.slot_below.ensures c.deref.result.now c.sets_at_end.ensures) (same ∙ sym c.deref.ensures.value)
+    below-same c.args.last.now c.deref.result.now (take n c.deref_mut.result.now) _ x y (c.slot_below.ensures c.deref.result.now c.sets_at_end.ensures) (same ∙ sym c.deref.ensures.value)
     (is ∙ ap (λ xs. get_or xs n y) pushed ∙ get_or_push items x y n long)
 
 pub returns-clause-rests : goal.returns-clause-rests
@@ -22,8 +22,8 @@ returns-clause-rests c =
     let n = c.len-index.result in
     let new : List KeptNode = c.enter.new.items in
     let last = c.enter.new.last in
-    let below : IsBelow c.make_room.new.self c.deref.result.now c.args.opened x = c.slot_below.ensures c.deref.result.now c.sets_at_end.ensures in
-    let held : opened_by x ≡ Some (open_of x.opened) = below-held c.make_room.new.self c.deref.result.now c.args.opened x below in
+    let below : IsBelow c.args.last.now c.deref.result.now c.args.opened x = c.slot_below.ensures c.deref.result.now c.sets_at_end.ensures in
+    let held : opened_by x ≡ Some (open_of x.opened) = below-held c.args.last.now c.deref.result.now c.args.opened x below in
     let pushed : c.deref_mut.result.now ≡ items ++ x ∷ [] = c.deref_mut.ensures.value ∙ c.in_ok-push.ensures.items in
     let same : map opened_by new ≡ map opened_by (items ++ x ∷ []) = c.enter.ensures.same ∙ ap (map opened_by) pushed in
     let stack : stack_of new ≡ open_of x.opened ∷ stack_of items = ap (λ ys. somes (reverse ys)) same ∙ stack-more items x (open_of x.opened) held in
@@ -35,7 +35,7 @@ returns-clause-rests c =
     subst (Rests last) (sym (written_back new _ _ _ c.enter.ensures.same c.deref_mut.ensures.value c.deref_mut.ensures.len)) (record {
       stands = subst (Stands last) (take_all (n + 1) new (omega (arith, long))) c.enter.ensures.stands;
       ends = λ k is. some≢none (open_of x.opened) (get_or (map opened_by new) k None) (ap (λ zs. get_or zs k None) ys ∙ get_or_push (map opened_by items) (opened_by x) None k (over ∙ omega (arith, is, long, length-map new opened_by)) ∙ held);
-      holes = omega (arith, c.requires.rests.holes, c.enter.ensures.tables.holes, c.make_room.ensures.counts, ap length stack, long, before);
+      holes = omega (arith, c.requires.rests.holes, c.enter.ensures.tables.holes, ap length stack, long, before);
       levels = omega (arith, long, before, c.requires.levels);
     })
 
@@ -46,4 +46,4 @@ returns-clause-ok c =
     let pushed : c.deref_mut.result.now ≡ items ++ x ∷ [] = c.deref_mut.ensures.value ∙ c.in_ok-push.ensures.items in
     ap stack_of (written_back c.enter.new.items _ _ _ c.enter.ensures.same c.deref_mut.ensures.value c.deref_mut.ensures.len)
     ∙ ap (λ ys. somes (reverse ys)) (c.enter.ensures.same ∙ ap (map opened_by) pushed)
-    ∙ stack-more items x (open_of x.opened) (below-held c.make_room.new.self c.deref.result.now c.args.opened x (c.slot_below.ensures c.deref.result.now c.sets_at_end.ensures)) ∙ ap (λ (z : Open). open_of z ∷ stack_of items) (c.slot_below.ensures c.deref.result.now c.sets_at_end.ensures).opened
+    ∙ stack-more items x (open_of x.opened) (below-held c.args.last.now c.deref.result.now c.args.opened x (c.slot_below.ensures c.deref.result.now c.sets_at_end.ensures)) ∙ ap (λ (z : Open). open_of z ∷ stack_of items) (c.slot_below.ensures c.deref.result.now c.sets_at_end.ensures).opened

@@ -1,6 +1,6 @@
 use Rattle.hopen.proofs.Names.{◌≡◌, ◌∙◌, sym, ap, subst, arith, List, None, length, map, reverse, set, with_items, with_items_is, opened_by, somes, Stands, KeptNode}
 use Rattle.hopen.proofs.SlotEdits.{length-gone}
-use Rattle.hopen.proofs.kept.remove.Goals as goal
+use Rattle.hopen.proofs.leaving.remove.Goals as goal
 
 pub overflow_add-last : goal.overflow_add-last
 overflow_add-last c =
@@ -13,14 +13,14 @@ overflow_add-last c =
       length-gone (map opened_by items) c.args.index c.requires.live,
     )
 
-pub trim-requires-clause-stands : goal.trim-requires-clause-stands
-trim-requires-clause-stands c =
+pub tidy-requires-clause-stands : goal.tidy-requires-clause-stands
+tidy-requires-clause-stands c =
     let back = with_items_is c.args.items.now c.make_hole.new.items (c.make_hole.auto.items ∙ c.deref_mut.ensures.len) in
     let s : Stands c.make_hole.new.last (with_items c.args.items.now c.make_hole.new.items).items = subst (Stands c.make_hole.new.last) (sym back) c.make_hole.ensures.stands in
     record { names = s.names; nodes = s.nodes; sets = s.sets; kinds = s.kinds; closes = s.closes; fits = s.fits }
 
-pub trim-requires-clause-holes : goal.trim-requires-clause-holes
-trim-requires-clause-holes c =
+pub tidy-requires-clause-holes : goal.tidy-requires-clause-holes
+tidy-requires-clause-holes c =
     let items = c.args.items.now.items in
     let back = with_items_is c.args.items.now c.make_hole.new.items (c.make_hole.auto.items ∙ c.deref_mut.ensures.len) in
     let opened : map opened_by (with_items c.args.items.now c.make_hole.new.items).items ≡ set (map opened_by items) c.args.index None =
@@ -39,5 +39,5 @@ trim-requires-clause-holes c =
 pub returns-clause-items : goal.returns-clause-items
 returns-clause-items c =
     let back = with_items_is c.args.items.now c.make_hole.new.items (c.make_hole.auto.items ∙ c.deref_mut.ensures.len) in
-    c.trim.ensures.same
+    c.tidy.ensures.same
     ∙ ap (λ ys. somes (reverse ys)) (ap (map opened_by) back ∙ c.make_hole.ensures.opened ∙ ap (λ (xs : List KeptNode). set (map opened_by xs) c.args.index None) c.deref_mut.ensures.value)

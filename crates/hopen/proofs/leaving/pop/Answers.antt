@@ -1,0 +1,16 @@
+use Rattle.hopen.proofs.Names.{◌∙◌, arith}
+use Rattle.hopen.proofs.Trimmed.{full-ends}
+use Rattle.hopen.proofs.leaving.pop.Goals as goal
+
+pub returns-then-last-eq0-clause-rests : goal.returns-then-last-eq0-clause-rests
+returns-then-last-eq0-clause-rests c =
+    let taken = c.in_ok-closed.ensures in
+    record {
+      stands = taken.stands;
+      ends = full-ends c.take_last.new.items.items (omega (arith, taken.holes));
+      holes = taken.holes;
+      levels = omega (arith, c.requires.levels, taken.len);
+    }
+
+pub returns-clause-rest : goal.returns-clause-rest
+returns-clause-rest c = c.tidy.ensures.same ∙ c.in_ok-closed.ensures.rest

@@ -1,0 +1,181 @@
+//! Nodes that leave the stack: the current one, and those that leave from above others, which leave holes.
+
+ghost use Rattle.std.specs.Prelude.{◌≡◌, ◌≢◌, ◌+◌, ◌-◌, ◌<◌, ◌≤◌, ◌^◌, true, false, suc, IfSome, None, drop, length, map, reverse, slice_index_or, slice_set};
+ghost use Rattle.std.specs.Prelude.{vec_capacity, vec_len};
+ghost use Rattle.std.specs.Option.{option_map};
+ghost use Rattle.hopen.specs.Vocabulary.{current, open_of, opened_by, somes, stack_of, AreAsLong, EndsOpen, HasRoom, IsAlone, Rests, Stands};
+
+use crate::exchange::unlink_name;
+use crate::kept::{KeptNode, LastLevels, append, is_alone, rewind, unwind};
+use crate::stack::Open;
+
+/// Whether the last slot is a hole.
+#[inline(always)]
+fn ends_in_hole(items: &[KeptNode]) -> bool
+    ensures hole { (result ≡ true) → (0 < length items.now) × (slice_index_or (map opened_by items.now) (length items.now - 1) None ≡ None) }
+    ensures live { (result ≡ false) → EndsOpen (map opened_by items.now) }
+{
+    let len = items.len();
+    len > 0 && items[len - 1].kind.is_hole()
+}
+
+/// Takes away the holes at the end, one at a time.
+fn trim(last: &mut LastLevels, items: &mut Vec<KeptNode>)
+    requires stands { Stands last.old items.old.items }
+    requires holes { last.old.holes + length (stack_of items.old.items) ≡ length items.old.items }
+    requires levels { length items.old.items < 2 ^ 32 }
+    ensures rests { Rests last.new items.new.items }
+    ensures same { stack_of items.new.items ≡ stack_of items.old.items }
+    ensures tables { (length last.new.names.items ≡ length last.old.names.items) × (length last.new.nodes.items ≡ length last.old.nodes.items) }
+    ensures len { length items.new.items ≤ length items.old.items }
+    ensures capacity { vec_capacity items.new ≡ vec_capacity items.old }
+{
+    while ends_in_hole(items) {
+        items.truncate(items.len() - 1);
+        last.holes -= 1;
+    }
+}
+
+/// Takes the slot of the current node away and returns that node.
+#[inline(always)]
+fn take_last(last: &mut LastLevels, items: &mut Vec<KeptNode>) -> Option<Open>
+    requires { Rests last.old items.old.items }
+    ensures stands { Stands last.new items.new.items }
+    ensures holes { last.new.holes + length (stack_of items.new.items) ≡ length items.new.items }
+    ensures popped { option_map open_of result ≡ current (stack_of items.old.items) }
+    ensures rest { stack_of items.new.items ≡ drop 1 (stack_of items.old.items) }
+    ensures none { (result ≡ None) → Rests last.new items.new.items }
+    ensures some { IfSome result (λ x. HasRoom last.new x × (vec_len items.new < vec_len items.old)) }
+    ensures tables { AreAsLong last.new last.old }
+    ensures len { length items.new.items ≤ length items.old.items }
+    ensures capacity { vec_capacity items.new ≡ vec_capacity items.old }
+{
+    let item = items.pop()?;
+    last.take_back(&item);
+    Some(item.opened)
+}
+
+/// Whether there are two holes right above the current node.
+fn has_gap(items: &[KeptNode]) -> bool {
+    let len = items.len();
+    len > 2 && items[len - 2].kind.is_hole() && items[len - 3].kind.is_hole()
+}
+
+/// Moves the current node up to the end of the holes right above it, which go.
+fn lift(last: &mut LastLevels, items: &mut Vec<KeptNode>)
+    requires { Rests last.old items.old.items }
+    ensures rests { Rests last.new items.new.items }
+    ensures same { stack_of items.new.items ≡ stack_of items.old.items }
+    ensures tables { (length last.new.names.items ≡ length last.old.names.items) × (length last.new.nodes.items ≡ length last.old.nodes.items) }
+    ensures len { length items.new.items ≤ length items.old.items }
+    ensures capacity { vec_capacity items.old ≤ vec_capacity items.new }
+{
+    let Some(current) = take_last(last, items) else {
+        return;
+    };
+    trim(last, items);
+    if append(last, items, current).is_err() {
+        unreachable!()
+    }
+}
+
+/// Takes away the holes at the end, and where there are two or more right above the current node, those. So what is right above it is found
+/// at once, however many have left from there.
+#[inline(never)]
+fn tidy(last: &mut LastLevels, items: &mut Vec<KeptNode>)
+    requires stands { Stands last.old items.old.items }
+    requires holes { last.old.holes + length (stack_of items.old.items) ≡ length items.old.items }
+    requires levels { length items.old.items < 2 ^ 32 }
+    ensures rests { Rests last.new items.new.items }
+    ensures same { stack_of items.new.items ≡ stack_of items.old.items }
+    ensures tables { (length last.new.names.items ≡ length last.old.names.items) × (length last.new.nodes.items ≡ length last.old.nodes.items) }
+    ensures len { length items.new.items ≤ length items.old.items }
+    ensures capacity { vec_capacity items.old ≤ vec_capacity items.new }
+{
+    trim(last, items);
+    if has_gap(items) {
+        lift(last, items);
+    }
+}
+
+/// Closes the current node and returns it.
+pub(crate) fn pop(last: &mut LastLevels, items: &mut Vec<KeptNode>) -> Option<Open>
+    requires { Rests last.old items.old.items }
+    ensures rests { Rests last.new items.new.items }
+    ensures popped { option_map open_of result ≡ current (stack_of items.old.items) }
+    ensures rest { stack_of items.new.items ≡ drop 1 (stack_of items.old.items) }
+{
+    let closed = take_last(last, items)?;
+    if last.holes == 0 {
+        return Some(closed);
+    }
+    tidy(last, items);
+    Some(closed)
+}
+
+/// Makes a hole of a slot whose node is open nowhere else and not special. It takes constant time.
+fn leave(last: &mut LastLevels, items: &mut [KeptNode], index: usize)
+    requires stands { Stands last.old items.old }
+    requires within { index < length items.old }
+    requires levels { length items.old < 2 ^ 32 }
+    requires alone { (x : KeptNode) → x ≡ slice_index_or items.old index x → IsAlone last.old x (suc index) }
+    ensures stands { Stands last.new items.new }
+    ensures opened { map opened_by items.new ≡ slice_set (map opened_by items.old) index None }
+    ensures tables { AreAsLong last.new last.old }
+{
+    let node = items[index].opened.node;
+    let kind = items[index].kind;
+    unlink_name(&mut last.names, items, index);
+    last.forget(node, kind);
+    let item = items[index];
+    items[index] = item.hole();
+}
+
+/// The same of any node: what is kept below it is made anew.
+#[inline(never)]
+fn leave_slowly(last: &mut LastLevels, items: &mut [KeptNode], index: usize)
+    requires stands { Stands last.old items.old }
+    requires within { index < length items.old }
+    requires levels { length items.old < 2 ^ 32 }
+    ensures stands { Stands last.new items.new }
+    ensures opened { map opened_by items.new ≡ slice_set (map opened_by items.old) index None }
+    ensures tables { AreAsLong last.new last.old }
+{
+    unwind(last, items, index);
+    let item = items[index];
+    items[index] = item.hole();
+    rewind(last, items, index);
+}
+
+/// Makes a hole of a slot. It takes constant time where its node is not special and open nowhere else.
+fn make_hole(last: &mut LastLevels, items: &mut [KeptNode], index: usize)
+    requires stands { Stands last.old items.old }
+    requires within { index < length items.old }
+    requires live { slice_index_or (map opened_by items.old) index None ≢ None }
+    requires levels { length items.old < 2 ^ 32 }
+    ensures stands { Stands last.new items.new }
+    ensures opened { map opened_by items.new ≡ slice_set (map opened_by items.old) index None }
+    ensures tables { AreAsLong last.new last.old }
+{
+    if is_alone(last, &items[index], index as u32 + 1) {
+        leave(last, items, index);
+    } else {
+        leave_slowly(last, items, index);
+    }
+}
+
+/// Closes the node of the slot at an index.
+pub(crate) fn remove(last: &mut LastLevels, items: &mut Vec<KeptNode>, index: usize)
+    requires rests { Rests last.old items.old.items }
+    requires within { index < length items.old.items }
+    requires live { slice_index_or (map opened_by items.old.items) index None ≢ None }
+    ensures rests { Rests last.new items.new.items }
+    ensures items { stack_of items.new.items ≡ somes (reverse (slice_set (map opened_by items.old.items) index None)) }
+    ensures tables { (length last.new.names.items ≡ length last.old.names.items) × (length last.new.nodes.items ≡ length last.old.nodes.items) }
+    ensures len { length items.new.items ≤ length items.old.items }
+    ensures capacity { vec_capacity items.old ≤ vec_capacity items.new }
+{
+    make_hole(last, items, index);
+    last.holes += 1;
+    tidy(last, items);
+}
