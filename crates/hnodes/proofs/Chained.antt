@@ -1,9 +1,9 @@
 -- What is kept of a list of numbers, under each change.
-use Rattle.hnodes.proofs.ChainNames.{◌≡◌, ◌≢◌, ℕ, suc, ◌<◌, ◌≤◌, ◌%◌, false, List, [], ◌∷◌, ◌++◌, length, map, take, get_or, set, inl, inr, refl, sym, ◌∙◌, ap, subst, arith, cases_lt, get_or-set_same, get_or-set_other, get_or-map, length-map, length-set, length-take-le, length_push, take-map, take-append-le, none, last_up, number_of, before_of, numbers_of, befores_of, is_in, Keep, Says, IsChained, Link}
+use Rattle.hnodes.proofs.ChainNames.{◌≡◌, ◌≢◌, ℕ, suc, ◌<◌, ◌≤◌, false, List, [], ◌∷◌, ◌++◌, length, map, take, get_or, set, inl, inr, refl, sym, ◌∙◌, ap, subst, arith, cases_lt, get_or-set_same, get_or-set_other, get_or-map, length-map, length-set, length-take-le, length_push, take-map, take-append-le, none, last_up, number_of, before_of, numbers_of, befores_of, is_in, Keep, Says, IsChained, Link, group_of, in_group_of}
 use Rattle.std.proofs.lemmas.Bool.{cases_eq}
 use Rattle.std.proofs.lemmas.List.{get_or-take, get_or_push}
 use Rattle.std.proofs.lemmas.List.{take_all}
-use Rattle.hnodes.proofs.Groups.{nearest, own_nearest, in-group, not-in-group, none-in-group}
+use Rattle.hnodes.proofs.Groups.{group-less, nearest, own_nearest, in-group, not-in-group, none-in-group}
 use Rattle.hnodes.proofs.LastUp.{up-sought, up-other, up-within, up-alike}
 
 -- what a table says, and what is kept, of the first links
@@ -32,8 +32,8 @@ module _ (k : ℕ) (xs ys : List Link) (same : take k xs ≡ take k ys) (in_xs :
     kept = λ i h some.
         let e : get_or (numbers_of xs) i 0 ≡ get_or (numbers_of ys) i 0 = same-front number_of i h in
         sym (same-front before_of i h) ∙ c.kept i h (λ is. some (sym e ∙ is))
-        ∙ nearest-front (length last) (get_or (numbers_of xs) i 0 % length last) i (omega arith)
-        ∙ ap (λ n. nearest ys (length last) (n % length last) i) e;
+        ∙ nearest-front (length last) (group_of (get_or (numbers_of xs) i 0) (length last)) i (omega arith)
+        ∙ ap (λ n. nearest ys (length last) (group_of n (length last)) i) e;
   }
 
 -- links that differ in their hints alone
@@ -51,7 +51,7 @@ module _ (last : List ℕ) (xs ys : List Link) (numbers : numbers_of ys ≡ numb
     says = λ g h. c.says g h ∙ ap (λ ns. last_up (is_in (length last) g) ns k) (sym numbers);
     kept = λ i h some.
         ap (λ bs. get_or bs i 0) befores ∙ c.kept i h (λ e. some (ap (λ ns. get_or ns i 0) numbers ∙ e))
-        ∙ ap (λ ns. last_up (is_in (length last) (get_or ns i 0 % length last)) ns i) (sym numbers);
+        ∙ ap (λ ns. last_up (in_group_of (length last) (get_or ns i 0)) ns i) (sym numbers);
   }
 
 -- what is said and kept of a whole list
@@ -98,7 +98,7 @@ module _ (last : List ℕ) (links : List Link) (k n : ℕ) (at : get_or (numbers
   width = length last
 
   abbrev group : ℕ
-  group = n % width
+  group = group_of n width
 
   others : (g : ℕ) → is_in width g n ≡ false → nearest links width g (suc k) ≡ nearest links width g k
   others g e = up-other (is_in width g) (numbers_of links) k (ap (is_in width g) at ∙ e)
@@ -122,7 +122,7 @@ module _ (last : List ℕ) (links : List Link) (k n : ℕ) (at : get_or (numbers
 
   module _ (some : n ≢ none) (wide : 0 < width) where
     group-within : group < width
-    group-within = omega arith
+    group-within = group-less n width wide
 
     -- another place is said of its group
     module _ (place : ℕ) where
@@ -141,7 +141,7 @@ module _ (last : List ℕ) (links : List Link) (k n : ℕ) (at : get_or (numbers
     number-goes : ChainedTo last links (suc k) → ChainedTo (set last group (get_or (befores_of links) k 0)) links k
     number-goes c =
         let b = get_or (befores_of links) k 0 in
-        let is : b ≡ nearest links width group k = c.kept k (omega arith) (λ e. some (sym at ∙ e)) ∙ ap (λ m. nearest links width (m % width) k) at in
+        let is : b ≡ nearest links width group k = c.kept k (omega arith) (λ e. some (sym at ∙ e)) ∙ ap (λ m. nearest links width (group_of m width) k) at in
         record {
           says = λ g h.
               elim (cases_eq g group) [
@@ -154,7 +154,7 @@ module _ (last : List ℕ) (links : List Link) (k n : ℕ) (at : get_or (numbers
     number-comes : get_or (befores_of links) k 0 ≡ get_or last group 0 → ChainedTo last links k → ChainedTo (set last group (suc k)) links (suc k)
     number-comes before c =
         let here : suc k ≡ nearest links width group (suc k) = sym (up-sought (is_in width group) (numbers_of links) k (ap (is_in width group) at ∙ in-group width group n some refl)) in
-        let own : get_or (befores_of links) k 0 ≡ own_nearest links width k = before ∙ c.says group group-within ∙ ap (λ m. nearest links width (m % width) k) (sym at) in
+        let own : get_or (befores_of links) k 0 ≡ own_nearest links width k = before ∙ c.says group group-within ∙ ap (λ m. nearest links width (group_of m width) k) (sym at) in
         record {
           says = λ g h.
               elim (cases_eq g group) [
@@ -184,15 +184,18 @@ module _ (last : List ℕ) (links : List Link) (k next : ℕ) (x : Link) (is_nex
   pub more-none : x.number ≡ none → ChainedTo last links k → ChainedTo last links next
   more-none e c = subst (λ (m : ℕ). ChainedTo last links m) (sym is_next) (none-comes last links k x.number number-is e c)
 
-  pub less-some : x.number ≢ none → 0 < length last → ChainedTo last links next → ChainedTo (set last (x.number % length last) x.before) links k
-  less-some some wide c =
-      subst (λ (b : ℕ). ChainedTo (set last (x.number % length last) b) links k) before-is
-      (number-goes last links k x.number number-is some wide (subst (λ (m : ℕ). ChainedTo last links m) is_next c))
+  module _ (group : ℕ) (is_group : group ≡ group_of x.number (length last)) (some : x.number ≢ none) (wide : 0 < length last) where
+    pub less-some : ChainedTo last links next → ChainedTo (set last group x.before) links k
+    less-some c =
+        subst (λ (g : ℕ). ChainedTo (set last g x.before) links k) (sym is_group)
+        (subst (λ (b : ℕ). ChainedTo (set last (group_of x.number (length last)) b) links k) before-is
+        (number-goes last links k x.number number-is some wide (subst (λ (m : ℕ). ChainedTo last links m) is_next c)))
 
-  pub more-some : x.number ≢ none → 0 < length last → x.before ≡ get_or last (x.number % length last) 0 → ChainedTo last links k → ChainedTo (set last (x.number % length last) next) links next
-  more-some some wide before c =
-      subst (λ (m : ℕ). ChainedTo (set last (x.number % length last) m) links m) (sym is_next)
-      (number-comes last links k x.number number-is some wide (before-is ∙ before) c)
+    pub more-some : x.before ≡ get_or last group 0 → ChainedTo last links k → ChainedTo (set last group next) links next
+    more-some before c =
+        subst (λ (m : ℕ). ChainedTo (set last group m) links m) (sym is_next)
+        (subst (λ (g : ℕ). ChainedTo (set last g (suc k)) links (suc k)) (sym is_group)
+        (number-comes last links k x.number number-is some wide (before-is ∙ before ∙ ap (λ g. get_or last g 0) is_group) c))
 
 -- a list with one link more
 module _ (last : List ℕ) (links : List Link) (x : Link) (place : ℕ) (is_place : place ≡ suc (length links)) (c : IsChained last links) where
@@ -202,11 +205,11 @@ module _ (last : List ℕ) (links : List Link) (x : Link) (place : ℕ) (is_plac
   more-len : length more ≡ place
   more-len = omega (arith, length_push links x)
 
-  pub chained-push : x.number ≢ none → 0 < length last → x.before ≡ get_or last (x.number % length last) 0 → IsChained (set last (x.number % length last) place) more
-  chained-push some wide before =
-      let told = set last (x.number % length last) place in
+  pub chained-push : (group : ℕ) → group ≡ group_of x.number (length last) → x.number ≢ none → 0 < length last → x.before ≡ get_or last group 0 → IsChained (set last group place) more
+  chained-push group is_group some wide before =
+      let told = set last group place in
       let same : take (length links) links ≡ take (length links) more = sym (take-append-le (length links) links (x ∷ []) (omega arith)) in
       let front : ChainedTo last more (length links) = chained-front (length links) links more same (omega arith) (omega (arith, more-len)) last (chained-all last links c) in
       let all : ChainedTo told more place =
-      more-some last more (length links) place x is_place (omega (arith, more-len)) (get_or_push links x x (length links) refl) some wide before front in
-      is_chained-all told more (λ _. omega (arith, length-set last (x.number % length last) place)) (subst (λ (m : ℕ). ChainedTo told more m) (sym more-len) all)
+      more-some last more (length links) place x is_place (omega (arith, more-len)) (get_or_push links x x (length links) refl) group is_group some wide before front in
+      is_chained-all told more (λ _. omega (arith, length-set last group place)) (subst (λ (m : ℕ). ChainedTo told more m) (sym more-len) all)

@@ -1,6 +1,6 @@
 -- A list of numbers that keeps where its groups are, where one number changes.
 use Rattle.hnodes.proofs.Groups.{in-group, group-of}
-use Rattle.hnodes.proofs.ChainNames.{ne_eqb, ◌≡◌, ◌≢◌, ℕ, zero, suc, ◌+◌, ◌-◌, ◌<◌, ◌≤◌, ◌%◌, eqb, Bool, true, false, cond, List, length, get_or, set, ◌⊎◌, inl, inr, refl, sym, ◌∙◌, ap, subst, add-one, arith, cases_Bool, cases_lt, eqb-true, eqb-false, eq-eqb, false_from_ne_true, get_or-set_same, get_or-set_other, length-map, length-set, map-set, none, last_up, number_of, before_of, numbers_of, befores_of, is_in, Keep, Says, IsChained, IsNext, Link}
+use Rattle.hnodes.proofs.ChainNames.{ne_eqb, ◌≡◌, ◌≢◌, ℕ, zero, suc, ◌+◌, ◌-◌, ◌<◌, ◌≤◌, eqb, Bool, true, false, cond, List, length, get_or, set, ◌⊎◌, inl, inr, refl, sym, ◌∙◌, ap, subst, add-one, arith, cases_Bool, cases_lt, eqb-true, eqb-false, eq-eqb, false_from_ne_true, get_or-set_same, get_or-set_other, length-map, length-set, map-set, none, last_up, number_of, before_of, numbers_of, befores_of, is_in, Keep, Says, IsChained, IsNext, Link, group_of, in_group_of}
 use Rattle.std.proofs.Math.ListN.{get_or-map}
 use Rattle.hnodes.proofs.LastUp.{up-within, up-found, up-least, up-past, up-alike, up-alike-from}
 
@@ -169,7 +169,7 @@ module _ (last new xs ys bs ds : List ℕ) (g i next v : ℕ) where
     pub table-next : next ≡ 0 → get_or new g 0 ≡ v
     pub before-other : (j : ℕ) → j ≢ i → suc j ≢ next → get_or ds j 0 ≡ get_or bs j 0
     pub before-next : 0 < next → get_or ds (next - 1) 0 ≡ v
-    pub before-here : get_or ys i 0 ≢ none → get_or ds i 0 ≡ last_up (is_in (length last) (get_or ys i 0 % length last)) ys i
+    pub before-here : get_or ys i 0 ≢ none → get_or ds i 0 ≡ last_up (in_group_of (length last) (get_or ys i 0)) ys i
     pub keeps : v ≡ last_up (is_in (length last) g) ys (suc i)
 
   module _ (m : Mended) where
@@ -204,34 +204,34 @@ module _ (last new xs ys bs ds : List ℕ) (g i next v : ℕ) where
     mended-says says h a =
         says-in says h (omega (arith, m.len)) ∙ (λ t. last_up (is_in (sym m.len t) h) ys (sym m.differ.len t))
 
-    kept-at : Keep (length last) xs bs → (j : ℕ) → j < length xs → j ≢ i → get_or xs j 0 ≢ none → get_or ds j 0 ≡ last_up (is_in (length last) (get_or xs j 0 % length last)) ys j
+    kept-at : Keep (length last) xs bs → (j : ℕ) → j < length xs → j ≢ i → get_or xs j 0 ≢ none → get_or ds j 0 ≡ last_up (in_group_of (length last) (get_or xs j 0)) ys j
     kept-at keep j h other some = go (cases_Bool (eqb (suc j) next))
       where
-        go : (eqb (suc j) next ≡ true) ⊎ (eqb (suc j) next ≡ false) → get_or ds j 0 ≡ last_up (is_in (length last) (get_or xs j 0 % length last)) ys j
+        go : (eqb (suc j) next ≡ true) ⊎ (eqb (suc j) next ≡ false) → get_or ds j 0 ≡ last_up (in_group_of (length last) (get_or xs j 0)) ys j
         go (inl e) =
             let same : suc j ≡ next = eqb-true (suc j) next e in
             let positive : 0 < next = omega arith in
             let place : next - 1 ≡ j = omega arith in
             let in_it : is_in (length last) g (get_or xs j 0) ≡ true = subst (λ (k : ℕ). is_in (length last) g (get_or xs k 0) ≡ true) place (m.differ.next_is.found positive).2 in
-            let group : get_or xs j 0 % length last ≡ g = (group-of (length last) g (get_or xs j 0) in_it).1 in
+            let group : group_of (get_or xs j 0) (length last) ≡ g = (group-of (length last) g (get_or xs j 0) in_it).1 in
             let at : until (length xs) next ≡ j = sym (ap (λ n. until (length xs) n) same) in
             subst (λ (k : ℕ). get_or ds k 0 ≡ v) place (m.before-next positive) ∙ up-next ∙ (λ t. last_up (is_in (length last) (sym group t)) ys (at t))
         go (inr e) =
             let ne : suc j ≢ next = eqb-false (suc j) next e in
             let at : j ≢ until (length xs) next = until-ne (length xs) next j h ne in
-            m.before-other j other ne ∙ keep j h some ∙ sym (slot (length last) g i next xs ys m.differ (get_or xs j 0 % length last) j (inr (h, in-group (length last) (get_or xs j 0 % length last) (get_or xs j 0) some refl)) (inr at))
+            m.before-other j other ne ∙ keep j h some ∙ sym (slot (length last) g i next xs ys m.differ (group_of (get_or xs j 0) (length last)) j (inr (h, in-group (length last) (group_of (get_or xs j 0) (length last)) (get_or xs j 0) some refl)) (inr at))
 
     pub mended-keep : Keep (length last) xs bs → Keep (length new) ys ds
-    mended-keep keep j h some = go (cases_Bool (eqb j i)) ∙ ap (λ n. last_up (is_in n (get_or ys j 0 % n)) ys j) (sym m.len)
+    mended-keep keep j h some = go (cases_Bool (eqb j i)) ∙ ap (λ n. last_up (in_group_of n (get_or ys j 0)) ys j) (sym m.len)
       where
-        go : (eqb j i ≡ true) ⊎ (eqb j i ≡ false) → get_or ds j 0 ≡ last_up (is_in (length last) (get_or ys j 0 % length last)) ys j
+        go : (eqb j i ≡ true) ⊎ (eqb j i ≡ false) → get_or ds j 0 ≡ last_up (in_group_of (length last) (get_or ys j 0)) ys j
         go (inl e) =
             let same : j ≡ i = eqb-true j i e in
-            subst (λ (k : ℕ). get_or ys k 0 ≢ none → get_or ds k 0 ≡ last_up (is_in (length last) (get_or ys k 0 % length last)) ys k) (sym same) m.before-here some
+            subst (λ (k : ℕ). get_or ys k 0 ≢ none → get_or ds k 0 ≡ last_up (in_group_of (length last) (get_or ys k 0)) ys k) (sym same) m.before-here some
         go (inr e) =
             let other : j ≢ i = eqb-false j i e in
             let is : get_or ys j 0 ≡ get_or xs j 0 = m.differ.same j other in
-            kept-at keep j (omega (arith, m.differ.len)) other (λ n. some (is ∙ n)) ∙ ap (λ n. last_up (is_in (length last) (n % length last)) ys j) (sym is)
+            kept-at keep j (omega (arith, m.differ.len)) other (λ n. some (is ∙ n)) ∙ ap (λ n. last_up (in_group_of (length last) n) ys j) (sym is)
 
 -- in a list that is the same past an index
 pub next-same : (s : ℕ → Bool) (xs ys : List ℕ) (i n : ℕ) → length ys ≡ length xs → ((j : ℕ) → i < j → get_or ys j 0 ≡ get_or xs j 0) → IsNext s xs i n → IsNext s ys i n
@@ -246,22 +246,22 @@ module _ (last : List ℕ) (links : List Link) (chained : IsChained last links) 
   hint-number : get_or (numbers_of links) (n - 1) 0 ≢ none
   hint-number e = number (sym (number-at links (n - 1)) ∙ e)
 
-  hint-up : last_up (is_in (length last) (get_or (numbers_of links) (n - 1) 0 % length last)) (numbers_of links) (n - 1) ≡ suc i
+  hint-up : last_up (in_group_of (length last) (get_or (numbers_of links) (n - 1) 0)) (numbers_of links) (n - 1) ≡ suc i
   hint-up = sym (chained.kept (n - 1) (omega (arith, length-numbers links)) hint-number) ∙ before-at links (n - 1) ∙ before ∙ add-one i
 
-  hint-group : get_or (numbers_of links) i 0 % length last ≡ get_or (numbers_of links) (n - 1) 0 % length last
+  hint-group : group_of (get_or (numbers_of links) i 0) (length last) ≡ group_of (get_or (numbers_of links) (n - 1) 0) (length last)
   hint-group =
-      let h : ℕ = get_or (numbers_of links) (n - 1) 0 % length last in
+      let h : ℕ = group_of (get_or (numbers_of links) (n - 1) 0) (length last) in
       let found : is_in (length last) h (get_or (numbers_of links) (last_up (is_in (length last) h) (numbers_of links) (n - 1) - 1) 0) ≡ true = up-found (is_in (length last) h) (numbers_of links) (n - 1) (omega (arith, hint-up)) in
       let place : last_up (is_in (length last) h) (numbers_of links) (n - 1) - 1 ≡ i = omega (arith, hint-up) in
       (group-of (length last) h (get_or (numbers_of links) i 0) (subst (λ (m : ℕ). is_in (length last) h (get_or (numbers_of links) m 0) ≡ true) place found)).1
 
-  hint-least : (j : ℕ) → i < j → is_in (length last) (get_or (numbers_of links) (n - 1) 0 % length last) (get_or (numbers_of links) j 0) ≡ true → n ≤ suc j
-  hint-least j a t = elim (cases_lt j (n - 1)) as (λ _. n ≤ suc j) [ inl less ↦ absurd (omega (arith, hint-up, up-least (is_in (length last) (get_or (numbers_of links) (n - 1) 0 % length last)) (numbers_of links) (n - 1) j less t)) | inr more ↦ omega arith ]
+  hint-least : (j : ℕ) → i < j → in_group_of (length last) (get_or (numbers_of links) (n - 1) 0) (get_or (numbers_of links) j 0) ≡ true → n ≤ suc j
+  hint-least j a t = elim (cases_lt j (n - 1)) as (λ _. n ≤ suc j) [ inl less ↦ absurd (omega (arith, hint-up, up-least (in_group_of (length last) (get_or (numbers_of links) (n - 1) 0)) (numbers_of links) (n - 1) j less t)) | inr more ↦ omega arith ]
 
-  pub hint-next : IsNext (is_in (length last) (get_or (numbers_of links) i 0 % length last)) (numbers_of links) i n
+  pub hint-next : IsNext (in_group_of (length last) (get_or (numbers_of links) i 0)) (numbers_of links) i n
   hint-next =
-      let h : ℕ = get_or (numbers_of links) (n - 1) 0 % length last in
+      let h : ℕ = group_of (get_or (numbers_of links) (n - 1) 0) (length last) in
       let it : IsNext (is_in (length last) h) (numbers_of links) i n = record {
         found = λ _. (omega (arith, hint-up, up-within (is_in (length last) h) (numbers_of links) (n - 1)), omega (arith, length-numbers links), in-group (length last) h (get_or (numbers_of links) (n - 1) 0) hint-number refl);
         least = λ j a b t. (some, hint-least j a t);
@@ -269,7 +269,7 @@ module _ (last : List ℕ) (links : List Link) (chained : IsChained last links) 
       subst (λ (g : ℕ). IsNext (is_in (length last) g) (numbers_of links) i n) (sym hint-group) it
 
 -- a list where one number is another one
-pub not-in : (w g h n : ℕ) → h ≢ g → n % w ≡ g → is_in w h n ≡ false
+pub not-in : (w g h n : ℕ) → h ≢ g → group_of n w ≡ g → is_in w h n ≡ false
 not-in w g h n ne is = false_from_ne_true (is_in w h n) (λ e. ne (sym (group-of w h n e).1 ∙ is))
 
 pub differ-set : (w g i next : ℕ) (xs : List ℕ) (n : ℕ) → i < length xs → ((h : ℕ) → h ≢ g → is_in w h n ≡ is_in w h (get_or xs i 0)) → IsNext (is_in w g) xs i next → Differ w g i next xs (set xs i n)
@@ -291,7 +291,7 @@ module _ (last : List ℕ) (links : List Link) (x : Link) (g i next v : ℕ) (la
     pub befores2 : (j : ℕ) → get_or (befores_of links2) j 0 ≡ cond (eqb (j + 1) next) v (get_or (befores_of (set links i x)) j 0)
     pub numbers3 : numbers_of links3 ≡ numbers_of links2
     pub befores3 : befores_of links3 ≡ befores_of links2
-    pub here : x.number ≢ none → x.before ≡ last_up (is_in (length last) (x.number % length last)) (set (numbers_of links) i x.number) i
+    pub here : x.number ≢ none → x.before ≡ last_up (in_group_of (length last) x.number) (set (numbers_of links) i x.number) i
     pub keeps : v ≡ last_up (is_in (length last) g) (set (numbers_of links) i x.number) (suc i)
 
   module _ (r : Rewritten) where
@@ -335,12 +335,12 @@ module _ (last : List ℕ) (links : List Link) (x : Link) (g i next v : ℕ) (la
         number_is : get_or (set (numbers_of links) i x.number) i 0 ≡ x.number
         number_is = get_or-set_same (numbers_of links) i x.number 0 r.differ.within
 
-        here-at : get_or (set (numbers_of links) i x.number) i 0 ≢ none → get_or (befores_of links3) i 0 ≡ last_up (is_in (length last) (get_or (set (numbers_of links) i x.number) i 0 % length last)) (set (numbers_of links) i x.number) i
+        here-at : get_or (set (numbers_of links) i x.number) i 0 ≢ none → get_or (befores_of links3) i 0 ≡ last_up (in_group_of (length last) (get_or (set (numbers_of links) i x.number) i 0)) (set (numbers_of links) i x.number) i
         here-at some =
             befores-at i ∙ ap (λ b. cond b v (get_or (set (befores_of links) i x.before) i 0)) (ne_eqb (suc i) next not-next)
             ∙ get_or-set_same (befores_of links) i x.before 0 (omega (arith, r.differ.within, length-map links number_of, length-map links before_of))
             ∙ r.here (λ e. some (number_is ∙ e))
-            ∙ ap (λ n. last_up (is_in (length last) (n % length last)) (set (numbers_of links) i x.number) i) (sym number_is)
+            ∙ ap (λ n. last_up (in_group_of (length last) n) (set (numbers_of links) i x.number) i) (sym number_is)
 
     pub rewritten : IsChained last links → IsChained last2 links3
     rewritten c = record {

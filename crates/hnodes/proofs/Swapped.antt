@@ -1,6 +1,6 @@
 -- What numbers keep where they move to a neighbouring place.
 use Rattle.hnodes.proofs.Groups.{in-group}
-use Rattle.hnodes.proofs.ChainNames.{◌≡◌, ◌≢◌, ℕ, suc, ◌+◌, ◌-◌, ◌<◌, ◌≤◌, ◌%◌, Bool, true, false, List, length, get_or, set, ◌⊎◌, inl, inr, refl, sym, ◌∙◌, ap, subst, add-one, arith, cases_lt, false≢true, get_or-set_same, get_or-set_other, length-set, set_comm, none, last_up, is_in, IsNext, FitsAt, Link}
+use Rattle.hnodes.proofs.ChainNames.{◌≡◌, ◌≢◌, ℕ, suc, ◌+◌, ◌-◌, ◌<◌, ◌≤◌, Bool, true, false, List, length, get_or, set, ◌⊎◌, inl, inr, refl, sym, ◌∙◌, ap, subst, add-one, arith, cases_lt, false≢true, get_or-set_same, get_or-set_other, length-set, set_comm, none, last_up, is_in, IsNext, FitsAt, Link, group_of, in_group_of}
 use Rattle.std.proofs.lemmas.List.{set-set}
 use Rattle.hnodes.proofs.LastUp.{up-sought, up-other, up-alike}
 use Rattle.hnodes.proofs.Relinked.{next-same, not-in}
@@ -29,19 +29,19 @@ module _ (s : ℕ → Bool) (ys : List ℕ) (i n : ℕ) (other : s (get_or ys (i
   up-down = ap (λ k. last_up s ys k) (add-one (i + 1)) ∙ up-other s ys (i + 1) other
 
 module _ (w : ℕ) (ys : List ℕ) (i : ℕ) (x : Link) (free : get_or ys (i + 1) 0 ≡ none) where
-  other-here : is_in w (x.number % w) (get_or ys (i + 1) 0) ≡ false
-  other-here = ap (λ n. is_in w (x.number % w) n) free
+  other-here : in_group_of w x.number (get_or ys (i + 1) 0) ≡ false
+  other-here = ap (λ n. in_group_of w x.number n) free
 
   pub fit-down : FitsAt w ys (i + 1) x → FitsAt w ys i x
   fit-down f = record {
-    before = f.before ∙ up-down (is_in w (x.number % w)) ys i x.hint other-here;
-    next = next-down (is_in w (x.number % w)) ys i x.hint other-here f.next;
+    before = f.before ∙ up-down (in_group_of w x.number) ys i x.hint other-here;
+    next = next-down (in_group_of w x.number) ys i x.hint other-here f.next;
   }
 
   pub fit-up : FitsAt w ys i x → FitsAt w ys (i + 1) x
   fit-up f = record {
-    before = f.before ∙ sym (up-down (is_in w (x.number % w)) ys i x.hint other-here);
-    next = next-up (is_in w (x.number % w)) ys i x.hint other-here f.next;
+    before = f.before ∙ sym (up-down (in_group_of w x.number) ys i x.hint other-here);
+    next = next-up (in_group_of w x.number) ys i x.hint other-here f.next;
   }
 
 -- two neighbours were taken out, the lower one first, and the upper one came in below
@@ -77,10 +77,10 @@ module _ (w i : ℕ) (xs ys1 ys2 ys3 : List ℕ) (first second : Link) (e1 : ys1
   same-past1 j ne nf = same-past2 j ne ∙ ap (λ ys. get_or ys j 0) e2 ∙ get_or-set_other ys1 (i + 1) j none 0 nf
 
   -- both are of one group
-  pub fit-same : second.number ≢ none → FitsAt w ys2 (i + 1) second → first.number % w ≡ second.number % w → FitsAt w ys3 (i + 1) (record { number = first.number; before = i + 1; hint = second.hint })
+  pub fit-same : second.number ≢ none → FitsAt w ys2 (i + 1) second → group_of first.number w ≡ group_of second.number w → FitsAt w ys3 (i + 1) (record { number = first.number; before = i + 1; hint = second.hint })
   fit-same some f group =
-      let s : ℕ → Bool = is_in w (second.number % w) in
-      let sought : s (get_or ys3 i 0) ≡ true = ap s at3 ∙ in-group w (second.number % w) second.number some refl in
+      let s : ℕ → Bool = in_group_of w second.number in
+      let sought : s (get_or ys3 i 0) ≡ true = ap s at3 ∙ in-group w (group_of second.number w) second.number some refl in
       let up : last_up s ys3 (i + 1 + 1) ≡ i + 1 = up-down s ys3 i second.hint (ap s free-upper) ∙ ap (λ k. last_up s ys3 k) (add-one i) ∙ up-sought s ys3 i sought ∙ sym (add-one i) in
       record {
         before = sym up ∙ ap (λ k. last_up (is_in w k) ys3 (i + 1 + 1)) (sym group);
@@ -90,24 +90,24 @@ module _ (w i : ℕ) (xs ys1 ys2 ys3 : List ℕ) (first second : Link) (e1 : ys1
       }
 
   -- they are of two groups
-  pub fit-other : FitsAt w ys1 i first → first.number % w ≢ second.number % w → FitsAt w ys3 (i + 1) first
+  pub fit-other : FitsAt w ys1 i first → group_of first.number w ≢ group_of second.number w → FitsAt w ys3 (i + 1) first
   fit-other f group = record {
     before = f.before ∙ sym (up-down s ys3 i first.hint (ap s free-upper) ∙ up-alike s ys1 ys3 (i + 1) (λ j a. alike j a (cases_lt j i)));
     next = next-same s ys1 ys3 (i + 1) first.hint (len3 ∙ sym len1) (λ j a. same-past1 j (λ e. omega arith) (λ e. omega arith)) (next-up s ys1 i first.hint (sym (ap s n2) ∙ not-second) f.next);
   }
     where
       s : ℕ → Bool
-      s = is_in w (first.number % w)
+      s = in_group_of w first.number
 
-      not-second : is_in w (first.number % w) second.number ≡ false
-      not-second = not-in w (second.number % w) (first.number % w) second.number group refl
+      not-second : in_group_of w first.number second.number ≡ false
+      not-second = not-in w (group_of second.number w) (group_of first.number w) second.number group refl
 
-      alike : (j : ℕ) → j < i + 1 → (j < i) ⊎ (i ≤ j) → is_in w (first.number % w) (get_or ys3 j 0) ≡ is_in w (first.number % w) (get_or ys1 j 0)
-      alike j a (inl less) = ap (is_in w (first.number % w)) (same-past1 j (λ e. omega arith) (λ e. omega arith))
+      alike : (j : ℕ) → j < i + 1 → (j < i) ⊎ (i ≤ j) → in_group_of w first.number (get_or ys3 j 0) ≡ in_group_of w first.number (get_or ys1 j 0)
+      alike j a (inl less) = ap (in_group_of w first.number) (same-past1 j (λ e. omega arith) (λ e. omega arith))
       alike j a (inr more) =
           let here : j ≡ i = omega arith in
-          subst (λ (k : ℕ). is_in w (first.number % w) (get_or ys3 k 0) ≡ is_in w (first.number % w) (get_or ys1 k 0)) (sym here)
-          (ap (is_in w (first.number % w)) at3 ∙ not-second ∙ sym (ap (is_in w (first.number % w)) at1))
+          subst (λ (k : ℕ). in_group_of w first.number (get_or ys3 k 0) ≡ in_group_of w first.number (get_or ys1 k 0)) (sym here)
+          (ap (in_group_of w first.number) at3 ∙ not-second ∙ sym (ap (in_group_of w first.number) at1))
 
   -- what comes out in the end
   pub exchanged : first.number ≡ get_or xs i 0 → set ys3 (i + 1) first.number ≡ set (set xs i (get_or xs (i + 1) 0)) (i + 1) (get_or xs i 0)

@@ -1,6 +1,6 @@
 -- The walk down a group to where a number is.
-use Rattle.hnodes.proofs.ChainNames.{◌≡◌, ◌≢◌, ℕ, zero, suc, ◌<◌, ◌≤◌, ◌-◌, ◌%◌, Bool, true, eqb, List, length, get_or, refl, sym, ◌∙◌, ap, subst, arith, eqb-true, eq-eqb, ne_eqb, get_or-map, get_or_default, length-map, none, last_up, number_of, before_of, numbers_of, befores_of, is_in, Keep, IsChained, Link}
-use Rattle.hnodes.proofs.Groups.{nearest, in-group, group-of}
+use Rattle.hnodes.proofs.ChainNames.{◌≡◌, ◌≢◌, ℕ, zero, suc, ◌<◌, ◌≤◌, ◌-◌, Bool, true, eqb, List, length, get_or, refl, sym, ◌∙◌, ap, subst, arith, eqb-true, eq-eqb, ne_eqb, get_or-map, get_or_default, length-map, none, last_up, number_of, before_of, numbers_of, befores_of, is_in, Keep, IsChained, Link, group_of, in_group_of}
+use Rattle.hnodes.proofs.Groups.{group-less, nearest, in-group, group-of}
 use Rattle.hnodes.proofs.LastUp.{up-sought, up-other, up-within, up-found}
 
 -- where a number is last among the first links
@@ -13,28 +13,28 @@ up-down p q ns fewer zero = refl
 up-down p q ns fewer (suc i) = grind (arith, up-down p q ns fewer i, fewer (get_or ns i 0))
 
 -- the sought number is of its own group
-own-group : (width number : ℕ) → number ≢ none → (n : ℕ) → eqb n number ≡ true → is_in width (number % width) n ≡ true
+own-group : (width number : ℕ) → number ≢ none → (n : ℕ) → eqb n number ≡ true → in_group_of width number n ≡ true
 own-group width number some n e =
     let same = eqb-true n number e in
-    in-group width (number % width) n (λ is. some (sym same ∙ is)) (ap (λ m. m % width) same)
+    in-group width (group_of number width) n (λ is. some (sym same ∙ is)) (ap (λ m. group_of m width) same)
 
 -- so what a search for it finds is found from the nearest place of its group on
-from-group : (links : List Link) (width number k : ℕ) → number ≢ none → sought_up links number k ≡ sought_up links number (nearest links width (number % width) k)
-from-group links width number k some = up-down (is_in width (number % width)) (λ n. eqb n number) (numbers_of links) (own-group width number some) k
+from-group : (links : List Link) (width number k : ℕ) → number ≢ none → sought_up links number k ≡ sought_up links number (nearest links width (group_of number width) k)
+from-group links width number k some = up-down (in_group_of width number) (λ n. eqb n number) (numbers_of links) (own-group width number some) k
 
 -- at the place, if it is one, a number of the sought one's group is
 pub record Walks (links : List Link) (number place : ℕ) : Type 0 where
   pub width : ℕ
   pub kept : Keep width (numbers_of links) (befores_of links)
-  pub group : 0 < place → is_in width (number % width) (get_or (numbers_of links) (place - 1) 0) ≡ true
+  pub group : 0 < place → in_group_of width number (get_or (numbers_of links) (place - 1) 0) ≡ true
 
-walks-up : (links : List Link) (width number place k : ℕ) → Keep width (numbers_of links) (befores_of links) → place ≡ nearest links width (number % width) k → Walks links number place
+walks-up : (links : List Link) (width number place k : ℕ) → Keep width (numbers_of links) (befores_of links) → place ≡ nearest links width (group_of number width) k → Walks links number place
 walks-up links width number place k kept is = record {
   width = width;
   kept = kept;
   group =
-      subst (λ (m : ℕ). 0 < m → is_in width (number % width) (get_or (numbers_of links) (m - 1) 0) ≡ true) (sym is)
-      (up-found (is_in width (number % width)) (numbers_of links) k);
+      subst (λ (m : ℕ). 0 < m → in_group_of width number (get_or (numbers_of links) (m - 1) 0) ≡ true) (sym is)
+      (up-found (in_group_of width number) (numbers_of links) k);
 }
 
 -- the link at a place
@@ -52,14 +52,14 @@ module _ {links : List Link} {place : ℕ} {x : Link} (at : IsAt links place x) 
 
 -- a step of the walk
 module _ {links : List Link} {number place : ℕ} {x : Link} (some : number ≢ none) (w : Walks links number place) (at : IsAt links place x) where
-  kept-at : x.before ≡ nearest links w.width (number % w.width) (place - 1)
+  kept-at : x.before ≡ nearest links w.width (group_of number w.width) (place - 1)
   kept-at =
-      let in_group = group-of w.width (number % w.width) (get_or (numbers_of links) (place - 1) 0) (w.group at.some) in
+      let in_group = group-of w.width (group_of number w.width) (get_or (numbers_of links) (place - 1) 0) (w.group at.some) in
       sym (before-at at) ∙ w.kept (place - 1) (omega (arith, at.some, at.within, length-map links number_of)) in_group.0
       ∙ ap (λ g. last_up (is_in w.width g) (numbers_of links) (place - 1)) in_group.1
 
   pub walk-le : x.before ≤ place - 1
-  walk-le = omega (arith, kept-at, up-within (is_in w.width (number % w.width)) (numbers_of links) (place - 1))
+  walk-le = omega (arith, kept-at, up-within (in_group_of w.width number) (numbers_of links) (place - 1))
 
   pub walk-on : Walks links number x.before
   walk-on = walks-up links w.width number x.before (place - 1) w.kept kept-at
@@ -86,18 +86,18 @@ pub walk-from : {last : List ℕ} {links : List Link} {place : ℕ} {x : Link} �
 walk-from {last} {links} {place} {x} c at some = record {
   width = length last;
   kept = c.kept;
-  group = λ _. ap (is_in (length last) (x.number % length last)) (number-at at) ∙ in-group (length last) (x.number % length last) x.number some refl;
+  group = λ _. ap (in_group_of (length last) x.number) (number-at at) ∙ in-group (length last) (group_of x.number (length last)) x.number some refl;
 }
 
 -- the walk from the last place of a group
-module _ {last : List ℕ} {links : List Link} (c : IsChained last links) (number place : ℕ) (some : number ≢ none) (wide : 0 < length last) (is : place ≡ get_or last (number % length last) place) where
-  last-at : place ≡ nearest links (length last) (number % length last) (length (numbers_of links))
+module _ {last : List ℕ} {links : List Link} (c : IsChained last links) (number place : ℕ) (some : number ≢ none) (wide : 0 < length last) (is : place ≡ get_or last (group_of number (length last)) place) where
+  last-at : place ≡ nearest links (length last) (group_of number (length last)) (length (numbers_of links))
   last-at =
-      let within : number % length last < length last = omega arith in
-      is ∙ get_or_default last (number % length last) place 0 within ∙ c.says (number % length last) within
+      let within = group-less number (length last) wide in
+      is ∙ get_or_default last (group_of number (length last)) place 0 within ∙ c.says (group_of number (length last)) within
 
   pub last-le : place ≤ length links
-  last-le = omega (arith, last-at, up-within (is_in (length last) (number % length last)) (numbers_of links) (length (numbers_of links)), length-map links number_of)
+  last-le = omega (arith, last-at, up-within (in_group_of (length last) number) (numbers_of links) (length (numbers_of links)), length-map links number_of)
 
   pub last-walks : Walks links number place
   last-walks = walks-up links (length last) number place (length (numbers_of links)) c.kept last-at

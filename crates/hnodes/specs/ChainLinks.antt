@@ -1,6 +1,6 @@
--- What is kept of a list of numbers: the numbers that leave the same remainder are a group, and each keeps the nearest place before it
+-- What is kept of a list of numbers: the numbers that end in the same bits are a group, and each keeps the nearest place before it
 -- where one of its group is.
-use Rattle.std.specs.Prelude.{◌≡◌, ◌≢◌, ℕ, suc, ◌+◌, ◌-◌, ◌<◌, ◌≤◌, ◌^◌, ◌%◌, ◌==◌, ◌&&◌, Bool, true, not, List, length, map, slice_index}
+use Rattle.std.specs.Prelude.{◌≡◌, ◌≢◌, ℕ, suc, ◌+◌, ◌-◌, ◌<◌, ◌≤◌, ◌^◌, ◌==◌, ◌&&◌, Bool, true, not, List, length, map, slice_index, bit_and}
 use Rattle.hnodes.specs.Chains.{none, last_up}
 use Rattle.hnodes.specs.declared.chains.Link.{Link}
 
@@ -16,13 +16,17 @@ numbers_of links = map number_of links
 abbrev pub befores_of : List Link → List ℕ
 befores_of links = map before_of links
 
--- whether a number is of a group, where there are this many groups
+-- the group of a number, where there are this many: the bits that it shares with the last group
+abbrev pub group_of : (number width : ℕ) → ℕ
+group_of number width = bit_and number (width - 1)
+
+-- whether a number is of a group
 abbrev pub is_in : (width group : ℕ) → ℕ → Bool
-is_in width group n = not (n == none) && n % width == group
+is_in width group n = not (n == none) && group_of n width == group
 
 -- the same of the group of a number
-abbrev pub group_of : (width number : ℕ) → ℕ → Bool
-group_of width number = is_in width (number % width)
+abbrev pub in_group_of : (width number : ℕ) → ℕ → Bool
+in_group_of width number = is_in width (group_of number width)
 
 -- the next place past an index where a number is sought; 0 is none
 pub record IsNext (sought : ℕ → Bool) (numbers : List ℕ) (index place : ℕ) : Type 0 where
@@ -31,13 +35,13 @@ pub record IsNext (sought : ℕ → Bool) (numbers : List ℕ) (index place : �
 
 -- a link can be put at an index of the numbers: it keeps the nearest place of its group up to there, and the next one
 pub record FitsAt (width : ℕ) (numbers : List ℕ) (index : ℕ) (x : Link) : Type 0 where
-  pub before : x.before ≡ last_up (group_of width x.number) numbers (index + 1)
-  pub next : IsNext (group_of width x.number) numbers index x.hint
+  pub before : x.before ≡ last_up (in_group_of width x.number) numbers (index + 1)
+  pub next : IsNext (in_group_of width x.number) numbers index x.hint
 
 -- each number keeps the nearest place before it where one of its group is
 abbrev pub Keep : (width : ℕ) → (numbers befores : List ℕ) → Type 0
 Keep width numbers befores =
-    (i : ℕ) → i < length numbers → slice_index numbers i ≢ none → slice_index befores i ≡ last_up (is_in width (slice_index numbers i % width)) numbers i
+    (i : ℕ) → i < length numbers → slice_index numbers i ≢ none → slice_index befores i ≡ last_up (in_group_of width (slice_index numbers i)) numbers i
 
 -- a table says where each group is last
 abbrev pub Says : (last numbers : List ℕ) → Type 0

@@ -1,9 +1,9 @@
 //! Lists of numbers.
 
-ghost use Rattle.std.specs.Prelude.{◌≡◌, ◌≢◌, ◌==◌, ℕ, ◌%◌, ◌<◌, ◌≤◌, ◌+◌, ◌-◌, ◌*◌, ◌^◌, ◌++◌, OnOk, OnErr, [], ◌∷◌, drop, filter, if◌then◌else◌, length};
+ghost use Rattle.std.specs.Prelude.{◌≡◌, ◌≢◌, ◌==◌, ℕ, ◌<◌, ◌≤◌, ◌+◌, ◌-◌, ◌*◌, ◌^◌, max, ◌++◌, OnOk, OnErr, [], ◌∷◌, drop, filter, if◌then◌else◌, length};
 ghost use Rattle.std.specs.Prelude.{ltb, not, slice_get, slice_index, take, true};
 ghost use Rattle.hnodes.specs.Chains.{last_up, none};
-ghost use Rattle.hnodes.specs.ChainLinks.{IsChained, Keep, befores_of, is_in, numbers_of};
+ghost use Rattle.hnodes.specs.ChainLinks.{IsChained, Keep, befores_of, group_of, in_group_of, numbers_of};
 
 use std::alloc::{AllocError, Global};
 use std::marker::Model;
@@ -22,8 +22,8 @@ pub(crate) struct Link {
 
 /// A list of numbers.
 ///
-/// Numbers that leave the same remainder are a group, and there are more groups than numbers. A question walks the
-/// group of a number; an edit of one place updates what keeps it. A number takes 16 bytes, and a group 4.
+/// Numbers that end in the same bits are a group, and there are more groups than numbers. A question walks the group of a
+/// number; an edit of one place updates what keeps it. A number takes 16 bytes, and a group 4.
 #[derive(Debug, Drop)]
 pub struct Chains {
     pub(crate) links: Vec<Link>,
@@ -46,11 +46,21 @@ impl Model for Chains {
     ghost invariant = { λ c. AreChains c.last.items c.links.items };
 }
 
+/// The group of a number, of so many: they are a power of two, or some would stay empty.
+#[inline(always)]
+pub(crate) fn group_of(number: usize, width: usize) -> usize
+    requires { 0 < width }
+    ensures group { result ≡ group_of number width }
+    ensures within { result < width }
+{
+    number & (width - 1)
+}
+
 /// Walks down a group from one of its places to where a number of the group is; 0 if it is nowhere on the way.
 fn find_down(links: &[Link], from: usize, number: usize) -> usize
     requires within { from ≤ length links.now }
     requires group { (width : ℕ) × Keep width (numbers_of links.now) (befores_of links.now)
-        × (0 < from → is_in width (number % width) (slice_index (numbers_of links.now) (from - 1)) ≡ true) }
+        × (0 < from → in_group_of width number (slice_index (numbers_of links.now) (from - 1)) ≡ true) }
     requires number { number ≢ none }
     ensures { result ≡ last_up (λ k. k == number) (numbers_of links.now) from }
 {
@@ -76,7 +86,7 @@ fn unwind(last: &mut [u32], links: &[Link], from: usize)
         end -= 1;
         let link = links[end];
         if link.number as usize != NONE {
-            last[link.number as usize % last.len()] = link.before;
+            last[group_of(link.number as usize, last.len())] = link.before;
         }
     }
 }
@@ -105,7 +115,7 @@ fn rewind(last: &mut [u32], links: &mut [Link], from: usize)
         let number = links[index].number as usize;
         if number != NONE {
             let place = index as u32 + 1;
-            let group = number % last.len();
+            let group = group_of(number, last.len());
             let before = last[group];
             links[index].before = before;
             hint_at(links, before, place);
@@ -123,13 +133,13 @@ fn make_room(alloc: Global, last: &mut Vec<u32>, links: &mut [Link]) -> Result<(
     ensures same { numbers_of links.new ≡ numbers_of links.old }
     ensures room { OnOk result (0 < length last.new.items) }
     ensures width { OnOk result (length last.new.items ≡
-        (if ltb (length links.old) (length last.old.items) then length last.old.items else 2 * length last.old.items + 61)) }
+        (if ltb (length links.old) (length last.old.items) then length last.old.items else max 64 (2 * length last.old.items))) }
 {
     if links.len() < last.len() {
         return Ok(());
     }
     let mut table = Vec::new(alloc);
-    table.resize(2 * last.len() + 61, 0)?;
+    table.resize((2 * last.len()).max(64), 0)?;
     rewind(&mut table, links, 0);
     *last = table;
     Ok(())
@@ -186,7 +196,7 @@ impl Chains {
         if self.last.is_empty() {
             return 0;
         }
-        let place = self.last[number % self.last.len()];
+        let place = self.last[group_of(number, self.last.len())];
         find_down(&self.links, place as usize, number)
     }
 
@@ -212,7 +222,7 @@ impl Chains {
             return Err(AllocError);
         };
         make_room(self.alloc, &mut self.last, &mut self.links)?;
-        let group = number % self.last.len();
+        let group = group_of(number, self.last.len());
         let before = self.last[group];
         self.links.push(Link {
             number: number as u64,

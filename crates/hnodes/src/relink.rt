@@ -2,9 +2,9 @@
 
 ghost use Rattle.std.specs.Prelude.{◌≡◌, ◌≢◌, ℕ, ◌<◌, ◌≤◌, ◌+◌, ◌==◌, if◌then◌else◌, length, slice_index, slice_set};
 ghost use Rattle.hnodes.specs.Chains.{none};
-ghost use Rattle.hnodes.specs.ChainLinks.{AreChains, FitsAt, IsNext, befores_of, group_of, numbers_of};
+ghost use Rattle.hnodes.specs.ChainLinks.{AreChains, FitsAt, IsNext, befores_of, in_group_of, numbers_of};
 
-use crate::chains::{Chains, Link, NONE, hint_at};
+use crate::chains::{Chains, Link, NONE, group_of, hint_at};
 
 /// What a number at an index keeps: the nearest place before it where its group is, and the next one as a hint; 0 is none.
 ///
@@ -15,7 +15,7 @@ fn link_at(last: &[u32], links: &[Link], index: usize, number: u64) -> Link
     ensures number { result.number ≡ number }
     ensures fit { FitsAt (length last.now) (numbers_of links.now) index result }
 {
-    let mut before = last[number as usize % last.len()];
+    let mut before = last[group_of(number as usize, last.len())];
     let mut hint = 0;
     while before as usize > index + 1 {
         hint = before;
@@ -33,7 +33,7 @@ fn above(last: &[u32], links: &[Link], index: usize) -> u32
     requires chains { AreChains last.now links.now }
     requires within { index < length links.now }
     requires number { slice_index (numbers_of links.now) index ≢ none }
-    ensures { IsNext (group_of (length last.now) (slice_index (numbers_of links.now) index)) (numbers_of links.now) index result }
+    ensures { IsNext (in_group_of (length last.now) (slice_index (numbers_of links.now) index)) (numbers_of links.now) index result }
 {
     let Link { number, hint, .. } = links[index];
     if hint > 0 && hint as usize <= links.len() {
@@ -77,7 +77,8 @@ fn take_out(last: &mut [u32], links: &mut [Link], index: usize) -> Link
         before: 0,
         hint: 0,
     };
-    keep(last, links, number as usize % last.len(), hint, before);
+    let group = group_of(number as usize, last.len());
+    keep(last, links, group, hint, before);
     hint_at(links, before, hint);
     Link {
         number,
@@ -98,13 +99,8 @@ fn put_in(last: &mut [u32], links: &mut [Link], index: usize, link: Link)
 {
     let place = index as u32 + 1;
     links[index] = link;
-    keep(
-        last,
-        links,
-        link.number as usize % last.len(),
-        link.hint,
-        place,
-    );
+    let group = group_of(link.number as usize, last.len());
+    keep(last, links, group, link.hint, place);
     hint_at(links, link.before, place);
 }
 
@@ -121,7 +117,8 @@ fn exchange(last: &mut [u32], links: &mut [Link], index: usize)
     let first = take_out(last, links, index);
     let second = take_out(last, links, index + 1);
     put_in(last, links, index, second);
-    let same = first.number as usize % last.len() == second.number as usize % last.len();
+    let width = last.len();
+    let same = group_of(first.number as usize, width) == group_of(second.number as usize, width);
     let link = if same {
         Link {
             number: first.number,

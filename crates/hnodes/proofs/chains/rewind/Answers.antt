@@ -1,4 +1,4 @@
-use Rattle.hnodes.proofs.ChainNames.{◌≡◌, ℕ, ◌+◌, ◌<◌, ◌%◌, length, get_or, set, ap, sym, ◌∙◌, subst, refl, arith, get_or_default, get_or-set_same, length-set, map-set_same, number_of, Link}
+use Rattle.hnodes.proofs.ChainNames.{◌≡◌, ℕ, ◌+◌, ◌<◌, length, get_or, set, ap, sym, ◌∙◌, subst, refl, arith, get_or_default, get_or-set_same, length-set, map-set_same, number_of, Link}
 use Rattle.std.proofs.lemmas.List.{take-set-le}
 use Rattle.hnodes.proofs.Chained.{ChainedTo, is_chained-all, chained-to, chained-front, chained_to-same, says-le, more-none, more-some}
 use Rattle.hnodes.proofs.chains.rewind.Goals as goal
@@ -20,9 +20,8 @@ hint_at-requires c =
     let last = c.loop-index.last in
     let i = c.loop-index.index in
     let old : Link = get_or links i nothing in
-    let group = old.number % length last in
-    let wide : 0 < length last = omega (arith, c.requires.wide (omega arith)) in
-    omega (arith, says-le last links i group c.loop-index.invariant.chained (omega arith), length-set links i (record { number = old.number; before = get_or last group 0; hint = old.hint }))
+    let group = c.group_of-group.result in
+    omega (arith, says-le last links i group c.loop-index.invariant.chained c.group_of-group.ensures.within, length-set links i (record { number = old.number; before = get_or last group 0; hint = old.hint }))
 
 pub loop-index-preserved : goal.loop-index-preserved
 loop-index-preserved c =
@@ -32,14 +31,14 @@ loop-index-preserved c =
     let within : i < length links = omega arith in
     let wide : 0 < length last = omega (arith, c.requires.wide (omega arith)) in
     let old : Link = get_or links i nothing in
-    let group = old.number % length last in
-    let x : Link = record { number = old.number; before = get_or last group 0; hint = old.hint } in
     elim c.if-number-ne-NONE.branch [
       | then-number-ne-NONE w ↦
+          let group = w.group_of-group.result in
+          let x : Link = record { number = old.number; before = get_or last group 0; hint = old.hint } in
           let put = set links i x in
           let len : length put ≡ length links = length-set links i x in
           let front = chained-front i links put (sym (take-set-le i links i x (omega arith))) (omega arith) (omega arith) last c.loop-index.invariant.chained in
-          let more = more-some last put i (i + 1) x (omega arith) (omega arith) (get_or-set_same links i x x within) w.if-number-ne-NONE.true wide refl front in
+          let more = more-some last put i (i + 1) x (omega arith) (omega arith) (get_or-set_same links i x x within) group w.group_of-group.ensures.group w.if-number-ne-NONE.true wide refl front in
           rw (w.links-is, w.last-is) (record {
             within = omega (arith, ap length w.links-is);
             chained = chained_to-same (set last group (i + 1)) put w.hint_at.new.links w.hint_at.ensures.numbers w.hint_at.ensures.befores (i + 1) more;

@@ -16,7 +16,9 @@ loop-end-preserved-then-link-ne-NONE c =
     record {
       within = omega arith;
       above = omega arith;
-      chained = less-some c.loop-end.last links (end - 1) end x (omega arith) within (get_or_default links (end - 1) x nothing within) c.if-link-ne-NONE.true wide c.loop-end.invariant.chained;
+      chained =
+          less-some c.loop-end.last links (end - 1) end x (omega arith) within (get_or_default links (end - 1) x nothing within) c.group_of.result c.group_of.ensures.group c.if-link-ne-NONE.true wide
+          c.loop-end.invariant.chained;
     }
 
 pub loop-end-preserved : goal.loop-end-preserved

@@ -1,5 +1,4 @@
-use Rattle.hnodes.proofs.ChainNames.{ℕ, length, sym, ◌∙◌, subst, numbers_of, IsNext}
-use Rattle.hnodes.specs.ChainLinks.{group_of}
+use Rattle.hnodes.proofs.ChainNames.{ℕ, length, sym, ◌∙◌, subst, numbers_of, IsNext, in_group_of}
 use Rattle.hnodes.proofs.Relinked.{hint-next, number-at}
 use Rattle.hnodes.proofs.relink.above.Goals as goal
 
@@ -9,5 +8,5 @@ returns-then-next-index c =
 
 pub returns : goal.returns
 returns c =
-    subst (λ (n : ℕ). IsNext (group_of (length c.args.last.now) n) (numbers_of c.args.links.now) c.args.index c.link_at.result.hint)
+    subst (λ (n : ℕ). IsNext (in_group_of (length c.args.last.now) n) (numbers_of c.args.links.now) c.args.index c.link_at.result.hint)
     (c.link_at.ensures.number ∙ sym (number-at c.args.links.now c.args.index)) c.link_at.ensures.fit.next

@@ -40,10 +40,10 @@ put_in-requires-2-clause-fit c =
           let other : i + 1 ≢ i = omega arith in
           let kept : get_or ys1 (i + 1) 0 ≢ none = λ e. c.requires.second (sym (ap (λ ys. get_or ys (i + 1) 0) c.take_out-first.ensures.numbers ∙ get_or-set_other xs i (i + 1) none 0 other) ∙ e) in
           rw b.link-is (fit-same w i xs ys1 ys2 ys3 first second c.take_out-first.ensures.numbers c.take_out-second.ensures.numbers c.put_in.ensures.numbers within c.take_out-second.ensures.number
-          (λ e. kept (sym c.take_out-second.ensures.number ∙ e)) (subst (λ (n : ℕ). FitsAt n ys2 (i + 1) second) (sym c.put_in.auto.last) c.take_out-second.ensures.fit) b.if-same.true)
+          (λ e. kept (sym c.take_out-second.ensures.number ∙ e)) (subst (λ (n : ℕ). FitsAt n ys2 (i + 1) second) (sym c.put_in.auto.last) c.take_out-second.ensures.fit) (sym c.group_of.ensures.group ∙ b.if-same.true ∙ c.group_of-2.ensures.group))
       | else-same b ↦
           rw b.link-is (fit-other w i xs ys1 ys2 ys3 first second c.take_out-first.ensures.numbers c.take_out-second.ensures.numbers c.put_in.ensures.numbers within c.take_out-second.ensures.number
-          (subst (λ (n : ℕ). FitsAt n ys1 i first) (sym (c.put_in.auto.last ∙ c.take_out-second.auto.last)) c.take_out-first.ensures.fit) b.if-same.false)
+          (subst (λ (n : ℕ). FitsAt n ys1 i first) (sym (c.put_in.auto.last ∙ c.take_out-second.auto.last)) c.take_out-first.ensures.fit) (λ e. b.if-same.false (c.group_of.ensures.group ∙ e ∙ sym c.group_of-2.ensures.group)))
     ]
 
 pub returns-clause-numbers : goal.returns-clause-numbers

@@ -1,4 +1,5 @@
-use Rattle.hnodes.proofs.ChainNames.{◌<◌, ◌%◌, length, sym, ◌∙◌, ap, add-one, arith, last_up, is_in, numbers_of}
+use Rattle.hnodes.proofs.ChainNames.{◌<◌, length, sym, ◌∙◌, ap, add-one, arith, last_up, numbers_of, in_group_of, get_or}
+use Rattle.hnodes.proofs.Groups.{group-less}
 use Rattle.hnodes.proofs.Relinked.{walk-before, walk-next, length-numbers, down-within, down-less, down-walk}
 use Rattle.hnodes.proofs.relink.link_at.Goals as goal
 
@@ -7,7 +8,7 @@ loop-before-init c =
     let wide : 0 < length c.args.last.now = c.requires.chains.chained.wide (omega arith) in
     record {
       within = omega (arith, length-numbers c.args.links.now);
-      is = c.requires.chains.chained.says (c.args.number % length c.args.last.now) (omega arith);
+      is = ap (λ g. get_or c.args.last.now g 0) c.group_of.ensures.group ∙ c.requires.chains.chained.says _ (group-less c.args.number (length c.args.last.now) wide);
       found = λ some. absurd (omega arith);
     }
 
@@ -22,7 +23,7 @@ loop-before-preserved c = down-walk c.args.last.now c.args.links.now c.requires.
 
 pub returns-clause-fit : goal.returns-clause-fit
 returns-clause-fit c =
-    let s = is_in (length c.args.last.now) (c.args.number % length c.args.last.now) in
+    let s = in_group_of (length c.args.last.now) c.args.number in
     let xs = numbers_of c.args.links.now in
     record {
       before = walk-before s xs c.args.index c.loop-before.before c.loop-before.hint c.loop-before.invariant (omega arith) ∙ ap (λ n. last_up s xs n) (sym (add-one c.args.index));

@@ -1,4 +1,4 @@
-use Rattle.hnodes.proofs.ChainNames.{◌+◌, ◌%◌, length, ◌∙◌, add-one, arith, length-set, map-set, number_of}
+use Rattle.hnodes.proofs.ChainNames.{◌+◌, length, ◌∙◌, add-one, arith, length-set, map-set, number_of, group_of, ap, cond, eqb, set}
 use Rattle.hnodes.proofs.Relinked.{rewritten}
 use Rattle.hnodes.proofs.Edited.{In, in-differ, in-group-less, in-here, in-within, in-keeps}
 use Rattle.hnodes.proofs.relink.put_in.Goals as goal
@@ -15,11 +15,11 @@ returns-clause-chains c =
     record { chained = c.requires.chains.chained; within = c.requires.within; free = c.requires.free; some = c.requires.number; fits = c.requires.fit } in
     record {
       chained =
-          rewritten c.args.last.now c.args.links.now c.args.link (c.args.link.number % length c.args.last.now) c.args.index c.args.link.hint (c.args.index + 1) c.keep.new.last c.keep.new.links c.hint_at.new.links (record {
+          rewritten c.args.last.now c.args.links.now c.args.link (group_of c.args.link.number (length c.args.last.now)) c.args.index c.args.link.hint (c.args.index + 1) c.keep.new.last c.keep.new.links c.hint_at.new.links (record {
             differ = in-differ c.args.last.now c.args.links.now c.args.index c.args.link o;
             group = in-group-less c.args.last.now c.args.links.now c.args.index c.args.link o;
             numbers2 = c.keep.ensures.numbers;
-            table2 = c.keep.ensures.table;
+            table2 = c.keep.ensures.table ∙ ap (λ g. cond (eqb c.args.link.hint 0) (set c.args.last.now g (c.args.index + 1)) c.args.last.now) c.group_of-group.ensures.group;
             befores2 = c.keep.ensures.befores;
             numbers3 = c.hint_at.ensures.numbers;
             befores3 = c.hint_at.ensures.befores;

@@ -1,4 +1,4 @@
-use Rattle.hnodes.proofs.ChainNames.{◌≡◌, ℕ, ◌%◌, List, length, set, refl, sym, ◌∙◌, subst, arith, length-set, map-set, none, number_of, numbers_of, FitsAt, Link}
+use Rattle.hnodes.proofs.ChainNames.{◌≡◌, ℕ, List, length, set, refl, sym, ◌∙◌, subst, arith, length-set, map-set, none, number_of, numbers_of, FitsAt, Link, group_of, ap, cond, eqb}
 use Rattle.hnodes.proofs.Relinked.{nth, rewritten, number-at}
 use Rattle.hnodes.proofs.Edited.{Out, out-differ, out-group, out-before, out-within, out-fit}
 use Rattle.hnodes.proofs.relink.take_out.Goals as goal
@@ -14,12 +14,12 @@ returns-clause-chains c =
     let old : Link = nth c.args.links.now c.args.index in
     record {
       chained =
-          rewritten c.args.last.now c.args.links.now (record { number = 1; before = 0; hint = 0 }) (old.number % length c.args.last.now) c.args.index c.above-hint.result old.before c.keep.new.last c.keep.new.links
+          rewritten c.args.last.now c.args.links.now (record { number = 1; before = 0; hint = 0 }) (group_of old.number (length c.args.last.now)) c.args.index c.above-hint.result old.before c.keep.new.last c.keep.new.links
           c.hint_at.new.links (record {
             differ = out-differ c.args.last.now c.args.links.now c.args.index c.above-hint.result o;
             group = out-group c.args.last.now c.args.links.now c.args.index c.above-hint.result o;
             numbers2 = c.keep.ensures.numbers;
-            table2 = c.keep.ensures.table;
+            table2 = c.keep.ensures.table ∙ ap (λ g. cond (eqb c.above-hint.result 0) (set c.args.last.now g old.before) c.args.last.now) c.group_of-group.ensures.group;
             befores2 = c.keep.ensures.befores;
             numbers3 = c.hint_at.ensures.numbers;
             befores3 = c.hint_at.ensures.befores;

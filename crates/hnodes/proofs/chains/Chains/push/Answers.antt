@@ -1,4 +1,4 @@
-use Rattle.hnodes.proofs.ChainNames.{◌≡◌, ℕ, ◌<◌, ◌%◌, List, [], ◌∷◌, ◌++◌, suc, length, get_or, set, refl, ap, sym, ◌∙◌, subst, arith, rules, with_items_is, length_push, get_or_default, map-append, number_of, numbers_of, IsChained, AreChains, Link}
+use Rattle.hnodes.proofs.ChainNames.{◌≡◌, ◌<◌, List, [], ◌∷◌, ◌++◌, suc, length, get_or, set, refl, ap, sym, ◌∙◌, subst, arith, rules, with_items_is, length_push, get_or_default, map-append, number_of, numbers_of, IsChained, AreChains, Link, group_of}
 use Rattle.hnodes.proofs.Chained.{chained-push, chained-same}
 use Rattle.hnodes.proofs.Lent.{lent, on_err}
 use Rattle.hnodes.proofs.Walked.{last-le}
@@ -26,7 +26,7 @@ hint_at-requires c =
     let chained : IsChained last links = c.in_ok-make_room.ensures.chained in
     let wide : 0 < length last = c.in_ok-make_room.ensures.room in
     let pushed : c.push.new.self.items ≡ links ++ x ∷ [] = c.in_ok-push.ensures.items ∙ ap (λ ys. ys ++ x ∷ []) (with_items_is c.self.inside.links links (c.make_room.auto.links ∙ c.deref_mut.ensures.len)) in
-    let is : x.before ≡ get_or last (c.args.number % length last) x.before = search rules in
+    let is : x.before ≡ get_or last (group_of c.args.number (length last)) x.before = search rules in
     omega (arith, last-le chained c.args.number x.before c.requires wide is, ap length c.deref_mut-2.ensures.value, ap length pushed, length_push links x)
 
 pub invariant_of-self-2 : goal.invariant_of-self-2
@@ -38,20 +38,21 @@ invariant_of-self-2 c =
     let chained : IsChained last links = c.in_ok-make_room.ensures.chained in
     let wide : 0 < length last = c.in_ok-make_room.ensures.room in
     let len : c.len-2.result ≡ length last = search rules in
-    let next = set last (c.args.number % length last) place in
+    let group = c.group_of-group.result in
+    let is_group : group ≡ group_of c.args.number (length last) = c.group_of-group.ensures.group ∙ ap (group_of c.args.number) len in
+    let next = set last group place in
     -- the list has the link, and then its hints change
     let pushed : c.push.new.self.items ≡ links ++ x ∷ [] = c.in_ok-push.ensures.items ∙ ap (λ ys. ys ++ x ∷ []) (with_items_is c.self.inside.links links (c.make_room.auto.links ∙ c.deref_mut.ensures.len)) in
     let passed : c.deref_mut-2.result.now ≡ links ++ x ∷ [] = c.deref_mut-2.ensures.value ∙ pushed in
     let whole = with_items_is c.push.new.self c.hint_at.new.links (c.hint_at.auto.links ∙ c.deref_mut-2.ensures.len) in
     -- what the table said is what the link keeps
-    let is : x.before ≡ get_or last (c.args.number % length last) x.before = search rules in
-    let before : x.before ≡ get_or last (c.args.number % length last) 0 = is ∙ get_or_default last (c.args.number % length last) x.before 0 (omega arith) in
+    let before : x.before ≡ get_or last group 0 = c.index-before.ensures ∙ get_or_default last group x.before 0 (omega (arith, c.group_of-group.ensures.within, len)) in
     let is_place : place ≡ suc (length links) = omega arith in
-    let more : IsChained next (links ++ x ∷ []) = chained-push last links x place is_place chained c.requires wide before in
+    let more : IsChained next (links ++ x ∷ []) = chained-push last links x place is_place chained group is_group c.requires wide before in
     let same : IsChained next c.hint_at.new.links =
     chained-same next c.deref_mut-2.result.now c.hint_at.new.links c.hint_at.ensures.numbers c.hint_at.ensures.befores (subst (λ (ys : List Link). IsChained next ys) (sym passed) more) in
-    subst (λ (ys : List Link). AreChains (set last (c.args.number % c.len-2.result) place) ys) (sym whole) (record {
-      chained = subst (λ (m : ℕ). IsChained (set last (c.args.number % m) place) c.hint_at.new.links) (sym len) same;
+    subst (λ (ys : List Link). AreChains next ys) (sym whole) (record {
+      chained = same;
       fits = omega (arith, ap length passed, length_push links x);
     })
 
