@@ -28,7 +28,7 @@ import zlib
 
 import jeanzircon as jz
 from jeanzircon._archives import Archives, Done, Place, kind_of
-from jeanzircon._crew import MORE, are_more, line_of, links_of
+from jeanzircon._crew import MORE, are_more, line_of, links_of, said, said_by_nodes
 from jeanzircon._stored import Unread
 
 CASES = sys.argv.pop(1) if len(sys.argv) > 1 and os.path.isdir(sys.argv[1]) else None
@@ -491,9 +491,23 @@ class Crawls(unittest.TestCase):
             self.assertEqual(links_of(page, count), made)
             self.assertRaises(Unread, links_of, page, -MORE)
 
+    def test_said(self):
+        pages = [PAGE, b"", b"a<svg>", b"<a href=/b>" * 9, "<title>\t\f é<!--x-->\U0001f600\u2028  \x7f\"\\ </title><a href=é\x01>\ud7ff\r\n\t\x0b</a><p\0>".encode()]
+        for page in pages + [it for it, _, _ in cases() if CASES]:
+            came = []
+            for call in (said, said_by_nodes):
+                try:
+                    came.append(call(page))
+                except (jz.Refused, Unread) as why:
+                    came.append(str(why))
+            self.assertEqual(*came)
+        large = b"<a href=/b><object>" * 2000 + b"y" * 100000
+        for call in (said, said_by_nodes):
+            self.assertRaisesRegex(Unread, "LinksTooLarge", call, large)
+
     def ran(self, *words):
         words = [sys.executable, "-X", "dev", "-m", "jeanzircon.crawl", *words]
-        return subprocess.Popen(words, stdout=subprocess.PIPE, stderr=subprocess.PIPE, cwd=os.path.dirname(jz.__path__[0]))
+        return subprocess.Popen(words, 0, stdout=subprocess.PIPE, stderr=subprocess.PIPE, cwd=os.path.dirname(jz.__path__[0]))
 
     def test_going_on(self):
         large = b"<p><a href=%b>" % (b"x" * 200000) + b"<p>y" * 20000

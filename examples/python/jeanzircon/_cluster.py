@@ -8,7 +8,7 @@ from collections.abc import Callable, Iterable, Iterator
 from typing import TYPE_CHECKING, Any
 
 from ._archives import Archives, Done, Place
-from ._crew import Line, Worker, line_of
+from ._crew import Line, Worker, batches, line_of
 from ._stored import Found
 
 if TYPE_CHECKING:  # distributed need not be there for a check of types
@@ -23,7 +23,7 @@ else:
     from distributed import Client, KilledWorker
     from distributed import TimeoutError as Late
 
-# How many characters of lines a part has, and one page more; how many files are handed out together; how often a part that failed is tried again.
+# How many bytes of lines a part has, and one page more; how many files are handed out together; how often a part that failed is tried again.
 PART, FILES, AGAIN = 1 << 22, 256, 3
 Given = tuple[list[Line], "Counter[str]", list[Place]]
 
@@ -58,7 +58,7 @@ def bundles(places: Iterable[Place | Found]) -> Iterator[list[Place] | Found]:
 class Cluster:
     """The workers of a scheduler, each core of which has two parts to read. What they give is written here, each part once, whoever read it."""
 
-    def __init__(self, address: str, most: int, write: Callable[[Line], None]) -> None:
+    def __init__(self, address: str, most: int, write: Callable[[list[Line]], None]) -> None:
         self._client, self._most, self._write = Client(address, set_as_default=False), most, write
         self._came: queue.SimpleQueue[Any] = queue.SimpleQueue()
         self._parts: dict[Any, tuple[list[Place], Done]] = {}
@@ -86,7 +86,7 @@ class Cluster:
         room = 2 * max(1, sum(self._client.nthreads().values())) - len(self._parts)
         while room > 0 and (it := next(left, None)) is not None:
             if isinstance(it, Found):
-                self._write(line_of(it, self._most))
+                self._write([line_of(it, self._most)])
             else:
                 self._give(it, archives.done.of(place.path for place in it))
                 room -= 1
@@ -106,8 +106,7 @@ class Cluster:
         except queue.Empty:
             return
         del self._parts[future]
-        for line in lines:
-            self._write(line)
+        self._write(lines)
         archives.left_out.update(left_out)
         if rest:
             self._give(rest, done)
@@ -128,12 +127,11 @@ class Cluster:
     def _read_here(self, places: list[Place], done: Done) -> Given:
         """The lines of a part by a process of this machine, whose memory is bounded: a page that ends it is a line."""
         self._here = self._here or Worker(self._most)
-        archives, lines = Archives(done, self._most), list[Line]()
+        archives = Archives(done, self._most)
         for place in places:
-            for found in archives.at(place):
-                if line := self._here.line_of(found, lambda: self.is_ending):
-                    self._write(line)
-        return lines, archives.left_out, []
+            for batch in batches(archives.at(place)):
+                self._write(self._here.lines_of(batch, lambda: self.is_ending))
+        return [], archives.left_out, []
 
     def _end(self) -> None:
         """Leaves what is not read yet."""

@@ -1,4 +1,4 @@
-"""Processes that read pages side by side. What they are given and what they make is bounded: a page a process, and two that wait for each."""
+"""Processes that read pages side by side. What they are given and what they make is bounded: a batch of pages a process, and two that wait for each."""
 from __future__ import annotations
 
 import contextlib
@@ -9,26 +9,33 @@ import resource
 import signal
 import threading
 import time
-from collections.abc import Callable, Iterable
+from collections.abc import Callable, Iterable, Iterator
 from multiprocessing import resource_tracker
 from multiprocessing.connection import Connection
-from typing import Any, NamedTuple
+from typing import NamedTuple
 
 from . import Page, Refused, parse
 from ._archives import Archives
-from ._base import Node
+from ._base import Node, given
+from ._engine import ENGINE
 from ._stored import Found, Unread, content_of
 
 # A link that is in a link has its text again, and a formatting element that is made again its attributes. So the links of a page may have so many
 # characters for each of its bytes, and so many more; and where they might have more than FEW these are counted before they are made.
 TIMES, MORE, FEW = 8, 1 << 16, 1 << 25
+NOTHING = b'"title": null, "links": [], "errors": {}'
+
+
+# Pages are handed over so many bytes at a time, and one page more.
+BATCH = 1 << 16
+SETTINGS = given(bad_bytes=1)
 
 
 class Line(NamedTuple):
     """A line of the output, with what is counted of it."""
     status: str
     size: int
-    text: str
+    text: bytes
 
 
 def depth_of(node: Node | None, known: dict[int, int]) -> int:
@@ -66,20 +73,29 @@ def links_of(page: Page, size: int) -> list[tuple[str, str]]:
     return links
 
 
-def read(content: bytes) -> dict[str, Any]:
-    """What is said of a page."""
+def said_by_nodes(content: bytes) -> bytes:
+    """What is said of a page, but how large it is and how long it took; the module in C gives the same."""
     page = parse(content, bad_bytes=1)
-    links = links_of(page, len(content))
-    return {"title": page.title, "links": links, "errors": page.error_counts}
+    it = {"title": page.title, "links": links_of(page, len(content)), "errors": page.error_counts}
+    return json.dumps(it)[1:-1].encode()
+
+
+def said(content: bytes) -> bytes:
+    if (call := getattr(ENGINE, "said", None)) is None:
+        return said_by_nodes(content)
+    found: bytes | None = call(content, SETTINGS, TIMES * len(content) + MORE)
+    if found is None:
+        raise Unread("LinksTooLarge")
+    return found
 
 
 def line_of(found: Found, most: int) -> Line:
     begun, size, status, at = time.perf_counter(), 0, "ok", None
-    said: dict[str, Any] = {"title": None, "links": [], "errors": {}}
+    it = NOTHING
     try:
         content = content_of(found, most)
         size = len(content)
-        said = read(content)
+        it = said(content)
     except Unread as why:
         status, at = why.status, why.at
     except Refused as why:
@@ -87,22 +103,35 @@ def line_of(found: Found, most: int) -> Line:
         at = why.at if place else None
     except MemoryError:
         status = "Memory"
-    taken = round(time.perf_counter() - begun, 6)
-    begin = {"archive": found.archive, "record": found.record, "address": found.address, "status": status, "at": at}
-    return Line(status, size, json.dumps({**begin, **said, "bytes": size, "seconds": taken}) + "\n")
+    taken = time.perf_counter() - begun
+    begin = json.dumps({"archive": found.archive, "record": found.record, "address": found.address, "status": status, "at": at})
+    return Line(status, size, b'%s, %s, "bytes": %d, "seconds": %.6f}\n' % (begin[:-1].encode(), it, size, taken))
 
 
 def work(link: Connection, most: int) -> None:
-    """What a process does: a line for each page, until there is nobody who asks. What a tree needs is not bounded by its page: attributes may be
+    """What a process does: lines for pages, until there is nobody who asks. What a tree needs is not bounded by its page: attributes may be
     copied, so memory is bounded for itself."""
     hardest = resource.getrlimit(resource.RLIMIT_AS)[1]
     room = 128 * most + (256 << 20)
     resource.setrlimit(resource.RLIMIT_AS, (room if hardest == resource.RLIM_INFINITY else min(room, hardest), hardest))
     try:
         while True:
-            link.send(line_of(link.recv(), most))
+            link.send([line_of(it, most) for it in link.recv()])
     except (EOFError, OSError):
         pass
+
+
+def batches(pages: Iterable[Found]) -> Iterator[list[Found]]:
+    few: list[Found] = []
+    room = BATCH
+    for it in pages:
+        few.append(it)
+        room -= len(it.content) + 256
+        if room < 0:
+            yield few
+            few, room = [], BATCH
+    if few:
+        yield few
 
 
 class Worker:
@@ -119,17 +148,20 @@ class Worker:
         self._process.start()
         other.close()
 
-    def line_of(self, found: Found, is_ending: Callable[[], bool]) -> Line | None:
+    def lines_of(self, batch: list[Found], is_ending: Callable[[], bool]) -> list[Line]:
+        """The lines of some pages. Where the process ends, each is read by itself."""
         try:
-            self._link.send(found)
-            line: Line = self._link.recv()
-            return line
+            self._link.send(batch)
+            lines: list[Line] = self._link.recv()
+            return lines
         except (EOFError, OSError):
             if is_ending():
-                return None
+                return []
         self.close()
         self._start()
-        return line_of(found._replace(content=b"", status="ProcessEnded", at=None), self._most)
+        if len(batch) > 1:
+            return [line for it in batch for line in self.lines_of([it], is_ending)]
+        return [line_of(it._replace(content=b"", status="ProcessEnded", at=None), self._most) for it in batch]
 
     def terminate(self) -> None:
         """Ends the process, if it is not closed already."""
@@ -145,9 +177,9 @@ class Worker:
 class Crew:
     """Workers, each with a thread that hands it pages and takes its lines to `write`. After `stop` no more are written; `fault` is what failed."""
 
-    def __init__(self, count: int, most: int, write: Callable[[Line], None]) -> None:
+    def __init__(self, count: int, most: int, write: Callable[[list[Line]], None]) -> None:
         self._count, self._most, self._write = count, most, write
-        self._waiting: queue.Queue[Found | None] = queue.Queue(2 * count)
+        self._waiting: queue.Queue[list[Found] | None] = queue.Queue(2 * count)
         self._threads: list[threading.Thread] = []
         self._workers: list[Worker] = []
         self.is_ending, self.ended_by = False, 0
@@ -157,10 +189,10 @@ class Crew:
         """Has all pages of these paths read."""
         try:
             self._begin()
-            for found in archives.pages(paths):
+            for batch in batches(archives.pages(paths)):
                 if self.is_ending:
                     break
-                self._waiting.put(found)  # (once there is room)
+                self._waiting.put(batch)  # (once there is room)
         except BaseException:
             self.stop()
             raise
@@ -178,11 +210,9 @@ class Crew:
         signal.pthread_sigmask(signal.SIG_SETMASK, blocked)
 
     def _serve(self, worker: Worker) -> None:
-        while (found := self._waiting.get()) is not None:
+        while (batch := self._waiting.get()) is not None:
             try:
-                line = None if self.is_ending else worker.line_of(found, lambda: self.is_ending)
-                if line:
-                    self._write(line)
+                self._write([] if self.is_ending else worker.lines_of(batch, lambda: self.is_ending))
             except Exception as fault:
                 self.fault = self.fault or fault
                 self.stop()

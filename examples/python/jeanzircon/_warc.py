@@ -154,7 +154,8 @@ class Window:
     def is_left(self) -> bool:
         """Leaves line ends, and says whether anything follows them."""
         while True:
-            self._drop(len(self._kept) - len(self._kept.lstrip(b"\r\n")))
+            while count := len(begin := self._kept[:64]) - len(begin.lstrip(b"\r\n")):
+                self._drop(count)
             if self._kept or self._mark in (Mark.DAMAGE, Mark.END):
                 return self._mark is not Mark.END or bool(self._kept)
             if self._mark:
@@ -178,9 +179,10 @@ class Window:
 
 def fields_of(head: bytes) -> dict[str, str]:
     """The headers below a first line, by their names in small letters."""
-    lines = re.sub(rb"\r?\n[ \t]+", b" ", head).decode("utf-8", "replace").split("\n")
-    pairs = (it.partition(":") for it in lines[1:] if ":" in it)
-    return {name.strip().lower(): value.strip() for name, _, value in pairs}
+    if b"\n " in head or b"\n\t" in head:
+        head = re.sub(rb"\r?\n[ \t]+", b" ", head)
+    pairs = [it.partition(":") for it in head.decode("utf-8", "replace").split("\n")[1:]]
+    return {name.strip().lower(): value.strip() for name, colon, value in pairs if colon}
 
 
 class Record:

@@ -36,13 +36,13 @@ class Output:
         self._counts: Counter[str] = Counter()
         self._size, self._begun, self._shown = 0, time.monotonic(), 0.0
 
-    def write(self, line: Line) -> None:
+    def write(self, lines: list[Line]) -> None:
         with self._lock:
-            left = memoryview(line.text.encode())
+            left = memoryview(b"".join(it.text for it in lines))
             while left:
                 left = left[os.write(self._file, left):]
-            self._counts[line.status.partition(" ")[0]] += 1
-            self._size += line.size
+            self._counts.update(it.status.partition(" ")[0] for it in lines)
+            self._size += sum(it.size for it in lines)
             if sys.stderr.isatty() and time.monotonic() - self._shown > 0.25:
                 self._shown = time.monotonic()
                 print(f"\r\x1b[K{self.progress()}", end="", file=sys.stderr, flush=True)
@@ -99,7 +99,7 @@ def told() -> argparse.Namespace:
     return found
 
 
-def readers(given: argparse.Namespace, write: Callable[[Line], None]) -> Crew | Cluster:
+def readers(given: argparse.Namespace, write: Callable[[list[Line]], None]) -> Crew | Cluster:
     """Who reads the pages: processes of this machine, or the workers of a cluster."""
     if given.scheduler is None:
         return Crew(given.processes, given.largest, write)

@@ -133,6 +133,19 @@ static PyObject *module_links(PyObject *module, PyObject *args) {
     return list;
 }
 
+static PyObject *module_said(PyObject *module, PyObject *args) {
+    PyObject *input, *given;
+    Py_ssize_t room;
+    Call call;
+    jz_doc doc;
+    if (!PyArg_ParseTuple(args, "OOn", &input, &given, &room) || !read_call(module, input, given, &call)) return NULL;
+    Py_BEGIN_ALLOW_THREADS
+    jz_parse(call.bytes.bytes, call.bytes.length, &call.options, &doc, &call.answer);
+    Py_END_ALLOW_THREADS
+    if (call.answer.status != JZ_OK) return refuse(call.state, &call.answer);
+    return give_said(&doc, (size_t)call.answer.length, room < 0 ? 0 : (size_t)room);
+}
+
 /* Bytes of a block, which is freed; a refusal where there is none. */
 static PyObject *written(const State *state, uint8_t *block, const jz_answer *answer) {
     PyObject *bytes;
@@ -258,6 +271,7 @@ static void module_free(void *module) { module_clear((PyObject *)module); }
 
 static PyMethodDef functions[] = { { "parse", module_parse, METH_VARARGS, NULL },
                                    { "links", module_links, METH_VARARGS, NULL },
+                                   { "said", module_said, METH_VARARGS, NULL },
                                    { "text", module_text, METH_VARARGS, NULL },
                                    { "table", module_table, METH_O, NULL },
                                    { "standard", module_standard, METH_NOARGS, NULL },

@@ -66,6 +66,9 @@ int find_links(const jz_doc *doc, size_t words, Links *found);
 PyObject *give_links(const Links *found, int is_found);
 void free_links(Links *found);
 
+/* --- said.c */
+PyObject *give_said(jz_doc *doc, size_t words, size_t room);
+
 /* --- page.c */
 extern PyType_Spec page_spec;
 PyObject *new_page(State *state, PyObject *input, PyObject *given, jz_doc *doc, size_t words);
