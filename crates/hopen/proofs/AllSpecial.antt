@@ -7,7 +7,8 @@ use Rattle.hopen.specs.declared.scope.Group.TheVariants as group
 -- all sets
 abbrev every_set : List NameSet
 every_set =
-    name_set.Stops scope.Default ∷ name_set.Stops scope.ListItem ∷ name_set.Stops scope.Button ∷ name_set.Stops scope.Table ∷ name_set.Special ∷ name_set.StopsItem
+    name_set.Stops scope.Default ∷ name_set.Stops scope.ListItem ∷ name_set.Stops scope.Button ∷ name_set.Stops scope.Table ∷ name_set.Special
+    ∷ name_set.StopsItem
     ∷ name_set.Group group.Heading ∷ name_set.Group group.TableSection ∷ name_set.Group group.Cell ∷ name_set.Group group.TellsMode ∷ []
 
 -- what holds at all of them holds at each

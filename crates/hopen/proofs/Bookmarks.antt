@@ -14,7 +14,8 @@ module _ {N : Type 0} where
   any-without n k apart (entry e ∷ items) = grind (arith, any-without n k apart items, nat_tests)
 
   -- a bookmark after the entry of another node stays in the list
-  pub has_bookmark-after : (k n : ℕ) (items : List (Listed N)) → not (eqb k n) ≡ true → IsTrue (list_any (is_entry n) items) → IsTrue (has_bookmark k (After n) items)
+  pub has_bookmark-after : (k n : ℕ) (items : List (Listed N)) → not (eqb k n) ≡ true → IsTrue (list_any (is_entry n) items)
+      → IsTrue (has_bookmark k (After n) items)
   has_bookmark-after k n items apart there = any-without n k (not-true (eqb k n) apart) items ∙ there
 
 pub is_some-option_map : {X Y : Type 0} (f : X → Y) (o : Option X) → is_some (option_map f o) ≡ is_some o

@@ -47,26 +47,34 @@ module _ (of : EntryOf ℕ → ℕ) where
     skips (entry e ∷ items) up = go (eqb (suc (of e)) n) refl (skips items (suc up))
       where
         go : (v : Bool) → eqb (suc (of e)) n ≡ v → Skips items (suc up) (drop (length items - place of n items) (after_marker items))
-            → Skips (entry e ∷ items) up (drop (suc (length items) - cond v (suc (length (map (number_by of) items))) (place of n items)) (e ∷ after_marker items))
+            → Skips (entry e ∷ items) up (drop (suc (length items) - cond v (suc (length (map (number_by of) items))) (place of n items))
+            (e ∷ after_marker items))
         go true same rest =
             let none : suc (length items) - suc (length (map (number_by of) items)) ≡ 0 = omega (arith, length-map items (number_by of)) in
             rw none (record { count = refl; first = λ found. rw (same, none, add-zero) refl })
         go false same rest =
             let later : suc (length items) - place of n items ≡ suc (length items - place of n items) = omega (arith, place-le of n items) in
             let past : up + (suc (length items) - place of n items) ≡ suc up + (length items - place of n items) = omega (arith, place-le of n items) in
-            rw later (record { count = rw (not-sought e same) rest.count; first = λ found. rw (same, past) (rest.first found ∙ ap (λ v. farthest sought (suc up) (if v then Some up else found) (after_marker items)) (sym (not-sought e same))) })
+            rw later (record {
+              count = rw (not-sought e same) rest.count;
+              first = λ found. rw (same, past)
+                  (rest.first found ∙ ap (λ v. farthest sought (suc up) (if v then Some up else found) (after_marker items)) (sym (not-sought e same)));
+            })
 
     -- a step back from an item after the last marker to the one before it of the number
     pub record Steps (items : List (Listed ℕ)) (p q : ℕ) (here : Bool) : Type 0 where
       pub nearer : q < p
       pub number : 0 < q → get_or (map (number_by of) items) (length items - q) 0 ≡ n
-      pub count : length (filter sought (drop (length items - q) (after_marker items))) + (if here then 1 else 0) ≡ length (filter sought (drop (length items - p) (after_marker items)))
-      pub first : (found : Option ℕ) → farthest sought (length items - q) (if here then Some (length items - p) else found) (drop (length items - q) (after_marker items)) ≡ farthest sought (length items - p) found (drop (length items - p) (after_marker items))
+      pub count : length (filter sought (drop (length items - q) (after_marker items))) + (if here then 1 else 0)
+          ≡ length (filter sought (drop (length items - p) (after_marker items)))
+      pub first : (found : Option ℕ) → farthest sought (length items - q) (if here then Some (length items - p) else found)
+          (drop (length items - q) (after_marker items)) ≡ farthest sought (length items - p) found (drop (length items - p) (after_marker items))
 
     abbrev is_sought : Listed ℕ → Bool
     is_sought x = option_map_or sought (as_entry x) false
 
-    one-more : (e : EntryOf ℕ) (es : List (EntryOf ℕ)) (k : ℕ) → k ≡ length (filter sought es) → k + (if sought e then 1 else 0) ≡ length (filter sought (e ∷ es))
+    one-more : (e : EntryOf ℕ) (es : List (EntryOf ℕ)) (k : ℕ) → k ≡ length (filter sought es)
+        → k + (if sought e then 1 else 0) ≡ length (filter sought (e ∷ es))
     one-more e es k is = grind arith
 
     pub steps : (items : List (Listed ℕ)) (p q : ℕ) (x : Listed ℕ) → p ≤ length items → place of 0 items < p → slice_get items (length items - p) ≡ Some x
@@ -80,11 +88,13 @@ module _ (of : EntryOf ℕ → ℕ) where
         let low : place of n rest ≤ length rest = place-le of n rest in
         let down : suc up + (length rest - place of n rest) ≡ length items - q = omega arith in
         let entries : drop (length rest - place of n rest) (after_marker rest) ≡ drop (length items - q) (after_marker items) =
-        ap (drop (length rest - place of n rest)) left ∙ drop-drop (length rest - place of n rest) (suc up) (after_marker items) ∙ ap (λ k. drop k (after_marker items)) down
+        ap (drop (length rest - place of n rest)) left ∙ drop-drop (length rest - place of n rest) (suc up) (after_marker items)
+        ∙ ap (λ k. drop k (after_marker items)) down
         in
         let skipped = skips rest (suc up) in
         let count = ap (λ es. length (filter sought es)) (sym entries) ∙ skipped.count ∙ ap (λ es. length (filter sought es)) left in
-        let first = λ (found : Option ℕ). (λ i. farthest sought (sym down i) found (sym entries i)) ∙ skipped.first found ∙ ap (farthest sought (suc up) found) left in
+        let first = λ (found : Option ℕ). (λ i. farthest sought (sym down i) found (sym entries i)) ∙ skipped.first found
+        ∙ ap (farthest sought (suc up) found) left in
         record {
           nearer = omega arith;
           number = λ some.
@@ -93,8 +103,10 @@ module _ (of : EntryOf ℕ → ℕ) where
               ap (λ j. get_or (map (number_by of) items) j 0) (sym further) ∙ sym (get_or-drop (suc up) (map (number_by of) items) k 0)
               ∙ ap (λ ns. get_or ns k 0) (drop-map (number_by of) (suc up) items) ∙ last-at n q (map (number_by of) rest) (sym before) some;
           count = ap (λ y. length (filter sought (drop (length items - q) (after_marker items))) + (if is_sought y then 1 else 0)) there.1.0
-              ∙ one-more there.0 (drop (suc up) (after_marker items)) (length (filter sought (drop (length items - q) (after_marker items)))) count ∙ ap (λ es. length (filter sought es)) (sym there.1.1);
-          first = λ found. ap (λ y. farthest sought (length items - q) (if is_sought y then Some up else found) (drop (length items - q) (after_marker items))) there.1.0
+              ∙ one-more there.0 (drop (suc up) (after_marker items)) (length (filter sought (drop (length items - q) (after_marker items)))) count
+              ∙ ap (λ es. length (filter sought es)) (sym there.1.1);
+          first = λ found. ap (λ y. farthest sought (length items - q) (if is_sought y then Some up else found)
+              (drop (length items - q) (after_marker items))) there.1.0
               ∙ first (if sought there.0 then Some up else found) ∙ ap (farthest sought up found) (sym there.1.1);
         }
 

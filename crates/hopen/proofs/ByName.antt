@@ -14,7 +14,8 @@ module _ {X : Type 0} (sought : X → Bool) where
     not-sought : (x : X) → eqb (number x) n ≡ false → sought x ≡ false
     not-sought x other = grind (arith, nat_tests)
 
-    any-skip : (xs : List X) (p : ℕ) → p < length xs → eqb (get_or (map number xs) p 0) n ≡ false → list_any sought (take p xs) ≡ list_any sought (take (suc p) xs)
+    any-skip : (xs : List X) (p : ℕ) → p < length xs → eqb (get_or (map number xs) p 0) n ≡ false
+        → list_any sought (take p xs) ≡ list_any sought (take (suc p) xs)
     any-skip [] p h other = absurd (omega arith)
     any-skip (x ∷ xs) zero h other = ap (λ v. v || false) (sym (not-sought x other))
     any-skip (x ∷ xs) (suc p) h other = ap (λ v. sought x || v) (any-skip xs p (omega arith) other)

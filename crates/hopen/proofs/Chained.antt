@@ -9,9 +9,11 @@ module _ (sought : ℕ → Bool) (ns : List ℕ) where
   pub last_up-is : (k : ℕ) → k ≤ length ns → last_up sought ns k ≡ last_place sought (reverse (take k ns))
   last_up-is zero h = refl
   last_up-is (suc k) h =
-      let turned : reverse (take (suc k) ns) ≡ get_or ns k 0 ∷ reverse (take k ns) = ap reverse (take-suc ns k 0 (omega arith)) ∙ reverse-append (take k ns) (get_or ns k 0 ∷ []) in
+      let turned : reverse (take (suc k) ns) ≡ get_or ns k 0 ∷ reverse (take k ns) = ap reverse (take-suc ns k 0 (omega arith))
+      ∙ reverse-append (take k ns) (get_or ns k 0 ∷ []) in
       let size : length (reverse (take k ns)) ≡ k = length-reverse (take k ns) ∙ length-take-le k ns (omega arith) in
-      rw turned (ap (λ (m : ℕ). if sought (get_or ns k 0) then suc m else last_up sought ns k) (sym size) ∙ ap (λ (m : ℕ). if sought (get_or ns k 0) then suc (length (reverse (take k ns))) else m) (last_up-is k (omega arith)))
+      rw turned (ap (λ (m : ℕ). if sought (get_or ns k 0) then suc m else last_up sought ns k) (sym size)
+      ∙ ap (λ (m : ℕ). if sought (get_or ns k 0) then suc (length (reverse (take k ns))) else m) (last_up-is k (omega arith)))
 
 -- what the questions answer
 pub last-is : (n : ℕ) (ns : List ℕ) → last_up (λ k. k == n) ns (length ns) ≡ last_of n (reverse ns)

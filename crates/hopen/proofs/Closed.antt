@@ -48,7 +48,8 @@ listed-closed from old new listed keys h names hashes nodes solid items =
           hashes there ∙ numbers-closed (entry_hash old.keys) xs from old.hashes listed.stored (listed.hashes there)
           ∙ (λ i. numbers_by (by_hash (sym keys i)) (sym items i));
       nodes = nodes ∙ numbers-closed (λ e. e.node) xs from old.nodes listed.stored listed.nodes ∙ ap (numbers_by by_node) (sym items);
-      stored = subst (All IsStored) (sym items) (All-append IsStored (take from xs) kept (All-take IsStored from xs listed.stored) (All-filter stays IsStored (drop from xs) (All-drop IsStored from xs listed.stored)));
+      stored = subst (All IsStored) (sym items) (All-append IsStored (take from xs) kept (All-take IsStored from xs listed.stored)
+          (All-filter stays IsStored (drop from xs) (All-drop IsStored from xs listed.stored)));
       within = omega (arith, solid, ap length items, length-append (take from xs) kept, length-take-le from xs h);
       solid = subst (λ n. NoHoleFrom n new.items.items) (sym solid) (subst (NoHoleFrom from) (sym items) (solid-closed xs from h));
     }
@@ -74,7 +75,8 @@ module _ (from end index : ℕ) (old items : List Stored) (is : IsTaken from end
 
   kept-more : filter stays (between from (index + 1) old) ≡ filter stays (between from index old) ++ filter stays (next ∷ [])
   kept-more =
-      ap (filter stays) (between_more old from index stored.Hole (omega (arith, is.above, is.below)) h) ∙ filter-append stays (between from index old) (get_or old index stored.Hole ∷ [])
+      ap (filter stays) (between_more old from index stored.Hole (omega (arith, is.above, is.below)) h)
+      ∙ filter-append stays (between from index old) (get_or old index stored.Hole ∷ [])
       ∙ ap (λ x. filter stays (between from index old) ++ filter stays (x ∷ [])) (sym next-same.0)
 
   -- a hole is passed over
@@ -92,7 +94,8 @@ module _ (from end index : ℕ) (old items : List Stored) (is : IsTaken from end
       let within : end < length (swap items end index) = omega (arith, length-swap items end index) in
       let before : take end (swap items end index) ≡ take end items =
       ap (take end) (sym new) ∙ take-set-le end (set items end next) index last is.below ∙ take-set-le end items end next (omega arith) in
-      let moved : get_or (swap items end index) end stored.Hole ≡ next = (swapped_from_swap items (swap items end index) end index stored.Hole low high refl).0 in
+      let moved : get_or (swap items end index) end stored.Hole ≡ next = (swapped_from_swap items
+      (swap items end index) end index stored.Hole low high refl).0 in
       record {
         above = omega (arith, is.above);
         below = omega (arith, is.below);
@@ -102,6 +105,7 @@ module _ (from end index : ℕ) (old items : List Stored) (is : IsTaken from end
             ∙ append_assoc (take from old) (filter stays (between from index old)) (next ∷ [])
             ∙ ap (λ l. take from old ++ l) (sym (kept-more ∙ ap (λ l. filter stays (between from index old) ++ l) one));
         rest =
-            ap (drop (index + 1)) (sym new) ∙ drop-set-lt (index + 1) (set items end next) index last (omega arith) ∙ drop-set-lt (index + 1) items end next (omega (arith, is.below))
+            ap (drop (index + 1)) (sym new) ∙ drop-set-lt (index + 1) (set items end next) index last (omega arith)
+            ∙ drop-set-lt (index + 1) items end next (omega (arith, is.below))
             ∙ next-same.1;
       }

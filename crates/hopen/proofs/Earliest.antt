@@ -7,7 +7,8 @@ module _ {N : Type 0} (sought : EntryOf N → Bool) where
   farthest up found [] = found
   farthest up found (e ∷ es) = farthest (suc up) (if sought e then Some up else found) es
 
-  pub farthest-within : (up : ℕ) (found : Option ℕ) (es : List (EntryOf N)) (n : ℕ) → up + length es ≤ n → IfSome found (λ k. k < n) → IfSome (farthest up found es) (λ k. k < n)
+  pub farthest-within : (up : ℕ) (found : Option ℕ) (es : List (EntryOf N)) (n : ℕ) → up + length es ≤ n → IfSome found (λ k. k < n)
+      → IfSome (farthest up found es) (λ k. k < n)
   farthest-within up found [] n h before = before
   farthest-within up found (e ∷ es) n h before = farthest-within (suc up) (if sought e then Some up else found) es n (omega arith) (go (sought e))
     where
@@ -33,23 +34,29 @@ module _ {N : Type 0} (sought : EntryOf N → Bool) where
   removed (marker ∷ items) = refl
   removed (entry e ∷ items) = go (sought e) (list_any sought (after_marker items)) refl (removed items)
     where
-      less : (first : Option ℕ) → option_map_or (remove (entry e ∷ items)) (option_map suc first) (entry e ∷ items) ≡ entry e ∷ option_map_or (remove items) first items
+      less : (first : Option ℕ) → option_map_or (remove (entry e ∷ items)) (option_map suc first) (entry e ∷ items) ≡ entry e
+          ∷ option_map_or (remove items) first items
       less None = refl
       less (Some k) = refl
 
-      farther : (first : Option ℕ) → first ≡ farthest 1 None (after_marker items) → option_map_or (remove items) (farthest 0 None (after_marker items)) items ≡ without_earliest sought items
+      farther : (first : Option ℕ) → first ≡ farthest 1 None (after_marker items) → option_map_or (remove items)
+          (farthest 0 None (after_marker items)) items ≡ without_earliest sought items
           → option_map_or (remove (entry e ∷ items)) first (entry e ∷ items) ≡ entry e ∷ without_earliest sought items
       farther first is rest =
-          ap (λ o. option_map_or (remove (entry e ∷ items)) o (entry e ∷ items)) (is ∙ farthest-up 0 None (after_marker items)) ∙ less (farthest 0 None (after_marker items)) ∙ ap (λ xs. entry e ∷ xs) rest
+          ap (λ o. option_map_or (remove (entry e ∷ items)) o (entry e ∷ items)) (is ∙ farthest-up 0 None (after_marker items))
+          ∙ less (farthest 0 None (after_marker items)) ∙ ap (λ xs. entry e ∷ xs) rest
 
-      go : (v w : Bool) → list_any sought (after_marker items) ≡ w → option_map_or (remove items) (farthest 0 None (after_marker items)) items ≡ without_earliest sought items
-          → option_map_or (remove (entry e ∷ items)) (farthest 1 (if v then Some 0 else None) (after_marker items)) (entry e ∷ items) ≡ (if v && not w then items else entry e ∷ without_earliest sought items)
+      go : (v w : Bool) → list_any sought (after_marker items) ≡ w → option_map_or (remove items) (farthest 0 None (after_marker items)) items
+          ≡ without_earliest sought items
+          → option_map_or (remove (entry e ∷ items)) (farthest 1 (if v then Some 0 else None) (after_marker items)) (entry e ∷ items)
+          ≡ (if v && not w then items else entry e ∷ without_earliest sought items)
       go true false any rest = ap (λ o. option_map_or (remove (entry e ∷ items)) o (entry e ∷ items)) (farthest-none 1 (Some 0) (after_marker items) any)
       go true true any rest = farther (farthest 1 (Some 0) (after_marker items)) (farthest-some 1 (Some 0) (after_marker items) any) rest
       go false w any rest = farther (farthest 1 None (after_marker items)) refl rest
 
 -- the list without what gives way to a new entry, where this many are equal to it
-module _ {N : Type 0} (same : N → N → Bool) (new : EntryOf N) (items : List (Listed N)) (equal : ℕ) (count : equal ≡ length (filter (is_equal same new) (after_marker items))) where
+module _ {N : Type 0} (same : N → N → Bool) (new : EntryOf N) (items : List (Listed N)) (equal : ℕ)
+    (count : equal ≡ length (filter (is_equal same new) (after_marker items))) where
   pub room-made : most_equal ≤ equal → option_map_or (remove items) (farthest (is_equal same new) 0 None (after_marker items)) items ≡ with_room same new items
   room-made many = rw (le-leb most_equal (length (filter (is_equal same new) (after_marker items))) (omega arith)) (removed (is_equal same new) items)
 

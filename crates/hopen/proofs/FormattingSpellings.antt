@@ -31,22 +31,26 @@ module _ {N M : Type 0} (same : N → N → Bool) (same' : M → M → Bool) (g 
   without_earliest-map p q f [] = refl
   without_earliest-map p q f (marker ∷ items) = refl
   without_earliest-map p q f (entry e ∷ items) =
-      (λ i. if f e i && not (later i) then spelled_items g items else entry (spelled_entry g e) ∷ without_earliest-map p q f items i) ∙ go (p e && not (list_any p (after_marker items)))
+      (λ i. if f e i && not (later i) then spelled_items g items else entry (spelled_entry g e) ∷ without_earliest-map p q f items i)
+      ∙ go (p e && not (list_any p (after_marker items)))
     where
       later : list_any q (after_marker (spelled_items g items)) ≡ list_any p (after_marker items)
       later = ap (list_any q) (after_marker-map items) ∙ any-map (spelled_entry g) p q f (after_marker items)
 
-      go : (v : Bool) → cond v (spelled_items g items) (entry (spelled_entry g e) ∷ spelled_items g (without_earliest p items)) ≡ spelled_items g (cond v items (entry e ∷ without_earliest p items))
+      go : (v : Bool) → cond v (spelled_items g items) (entry (spelled_entry g e) ∷ spelled_items g (without_earliest p items))
+          ≡ spelled_items g (cond v items (entry e ∷ without_earliest p items))
       go true = refl
       go false = refl
 
-  equal-map : (new : EntryOf N) (items : List (Listed N)) → length (filter (is_equal same' (spelled_entry g new)) (after_marker (spelled_items g items))) ≡ length (filter (is_equal same new) (after_marker items))
+  equal-map : (new : EntryOf N) (items : List (Listed N)) → length (filter (is_equal same' (spelled_entry g new)) (after_marker (spelled_items g items)))
+      ≡ length (filter (is_equal same new) (after_marker items))
   equal-map new items =
       ap (λ es. length (filter (is_equal same' (spelled_entry g new)) es)) (after_marker-map items)
       ∙ ap length (filter-map (spelled_entry g) (is_equal same new) (is_equal same' (spelled_entry g new)) (is_equal-map new) (after_marker items))
       ∙ length-map (filter (is_equal same new) (after_marker items)) (spelled_entry g)
 
-  pushed-map : (new : EntryOf N) (items : List (Listed N)) → pushed same' (spelled_entry g new) (spelled_items g items) ≡ spelled_items g (pushed same new items)
+  pushed-map : (new : EntryOf N) (items : List (Listed N)) → pushed same' (spelled_entry g new) (spelled_items g items)
+      ≡ spelled_items g (pushed same new items)
   pushed-map new items = grind (arith, equal-map, without_earliest-map, is_equal-map)
 
   find_entry-map : (a : N) (items : List (Listed N)) → find_entry same' (g a) (spelled_items g items) ≡ option_map (spelled_entry g) (find_entry same a items)
@@ -65,9 +69,11 @@ module _ {N M : Type 0} (same : N → N → Bool) (same' : M → M → Bool) (g 
   for_node-map new i = grind arith
 
   with_node-map : (old new : ℕ) (items : List (Listed N)) → with_node old new (spelled_items g items) ≡ spelled_items g (with_node old new items)
-  with_node-map old new items = changed-map (spelled_item g) (is_entry old) (is_entry old) (is_entry-map old) (for_node new) (for_node new) (for_node-map new) items
+  with_node-map old new items = changed-map (spelled_item g) (is_entry old) (is_entry old) (is_entry-map old) (for_node new) (for_node new)
+      (for_node-map new) items
 
-  booked-map : (old new : ℕ) (bookmark : Bookmark) (items : List (Listed N)) → booked old new bookmark (spelled_items g items) ≡ spelled_items g (booked old new bookmark items)
+  booked-map : (old new : ℕ) (bookmark : Bookmark) (items : List (Listed N)) → booked old new bookmark (spelled_items g items)
+      ≡ spelled_items g (booked old new bookmark items)
   booked-map old new InPlace items = with_node-map old new items
   booked-map old new (After n) items =
       (λ i. option_map_or (λ x. put_before (is_entry n) (for_node new x) (left i)) (found i) (spelled_items g items)) ∙ go (find (is_entry old) items)
@@ -78,7 +84,8 @@ module _ {N M : Type 0} (same : N → N → Bool) (same' : M → M → Bool) (g 
       found : find (is_entry old) (spelled_items g items) ≡ option_map (spelled_item g) (find (is_entry old) items)
       found = find-map (spelled_item g) (is_entry old) (is_entry old) (is_entry-map old) items
 
-      go : (o : Option (Listed N)) → option_map_or (λ x. put_before (is_entry n) (for_node new x) (spelled_items g (without (is_entry old) items))) (option_map (spelled_item g) o) (spelled_items g items)
+      go : (o : Option (Listed N)) → option_map_or (λ x. put_before (is_entry n) (for_node new x) (spelled_items g (without (is_entry old) items)))
+          (option_map (spelled_item g) o) (spelled_items g items)
           ≡ spelled_items g (option_map_or (λ x. put_before (is_entry n) (for_node new x) (without (is_entry old) items)) o items)
       go None = refl
       go (Some x) = ap (λ y. put_before (is_entry n) y (spelled_items g (without (is_entry old) items))) (for_node-map new x)

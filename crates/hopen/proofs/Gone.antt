@@ -7,10 +7,12 @@ use Rattle.hopen.proofs.NearestUp.{nearest-neutral, nearest-plain}
 use Rattle.hopen.proofs.Swapped.{held-none, linked-fresh, linked-left, walk-in}
 
 -- what each slot keeps stays where a node of no set changes
-pub sets-neutral : (ys : List (Option (OpenNode ℕ))) (sets : List SetNodes) (i : ℕ) (x : OpenNode ℕ) (z : Option (OpenNode ℕ)) → i < length ys → get_or ys i None ≡ Some x → is_special (tag_of x.name) ≡ false
+pub sets-neutral : (ys : List (Option (OpenNode ℕ))) (sets : List SetNodes) (i : ℕ) (x : OpenNode ℕ) (z : Option (OpenNode ℕ)) → i < length ys
+    → get_or ys i None ≡ Some x → is_special (tag_of x.name) ≡ false
     → ((set : NameSet) (a : ℕ) → nearest_in set z a ≡ a) → KeepSets ys sets → KeepSets (set ys i z) sets
 sets-neutral ys sets i x z within here plain neutral k s m h live =
-    k s m (omega (arith, length-set ys i z)) (either (λ n. get_or ys n None ≢ None) i m (some≢none x (get_or ys i None) here) (λ ne e. live (get_or-set_other ys i m z None ne ∙ e)))
+    k s m (omega (arith, length-set ys i z)) (either (λ n. get_or ys n None ≢ None) i m (some≢none x (get_or ys i None) here)
+    (λ ne e. live (get_or-set_other ys i m z None ne ∙ e)))
     ∙ sym (nearest-neutral s ys (set ys i z) i (λ j ne. get_or-set_other ys i j z None ne) (λ a. ap (λ o. nearest_in s o a) here ∙ nearest-plain s x a plain)
     (λ a. ap (λ o. nearest_in s o a) (get_or-set_same ys i z None within) ∙ neutral s a) (suc m))
 
@@ -20,7 +22,8 @@ closing-left [] i k h e = absurd (omega arith)
 closing-left (j ∷ ks) zero k h e = omega (arith, ap closing e)
 closing-left (j ∷ ks) (suc i) k h e = omega (arith, closing-left ks i k (omega arith) e)
 
-module _ (last : LastLevels) (items : List KeptNode) (i : ℕ) (x : KeptNode) (s : Stands last items) (within : i < length items) (is : x ≡ get_or items i x) (alone : IsAlone last x (suc i)) where
+module _ (last : LastLevels) (items : List KeptNode) (i : ℕ) (x : KeptNode) (s : Stands last items) (within : i < length items) (is : x ≡ get_or items i x)
+    (alone : IsAlone last x (suc i)) where
   abbrev pub ys : List (Option (OpenNode ℕ))
   ys = map opened_by items
 
@@ -46,27 +49,37 @@ module _ (last : LastLevels) (items : List KeptNode) (i : ℕ) (x : KeptNode) (s
   node-known = walk-in last.nodes.items (nodes_in ys) (map same_node_of items) s.nodes i x.opened.node node-here nodes-within
 
   closed : closing_in (set (map kind_at items) i kind.Hole) + closing x.kind ≡ closing_in (map kind_at items)
-  closed = closing-left (map kind_at items) i x.kind (omega (arith, length-map items kind_at)) (ap kind_at is ∙ sym (get_or-map kind_at items i x x.kind within))
+  closed = closing-left (map kind_at items) i x.kind (omega (arith, length-map items kind_at))
+      (ap kind_at is ∙ sym (get_or-map kind_at items i x x.kind within))
 
   pub kind-counted : closing x.kind ≤ last.must_close
   kind-counted = omega (arith, closed, s.closes)
 
   -- it leaves, once the other nodes of its name are right
-  pub stands-left : (items' new : List KeptNode) (next : LastLevels) → map opened_by new ≡ set ys i None → map same_name_of new ≡ set (map same_name_of items') i 0
-      → map same_node_of new ≡ set (map same_node_of items) i 0 → ((set : NameSet) (m : ℕ) → m ≢ i → get_or (map (set_node set) (map sets_at new)) m 0 ≡ get_or (map (set_node set) (map sets_at items)) m 0) → map kind_at new ≡ set (map kind_at items) i kind.Hole
-      → IsLinked next.names.items (set (names_in ys) i 0) (set (map same_name_of items') i 0) → next.nodes.items ≡ set last.nodes.items x.opened.node 0 → next.must_close ≡ last.must_close - closing x.kind → Stands next new
+  pub stands-left : (items' new : List KeptNode) (next : LastLevels) → map opened_by new ≡ set ys i None
+      → map same_name_of new ≡ set (map same_name_of items') i 0
+      → map same_node_of new ≡ set (map same_node_of items) i 0 → ((set : NameSet) (m : ℕ) → m ≢ i
+      → get_or (map (set_node set) (map sets_at new)) m 0 ≡ get_or (map (set_node set) (map sets_at items)) m 0)
+      → map kind_at new ≡ set (map kind_at items) i kind.Hole
+      → IsLinked next.names.items (set (names_in ys) i 0) (set (map same_name_of items') i 0) → next.nodes.items ≡ set last.nodes.items x.opened.node 0
+      → next.must_close ≡ last.must_close - closing x.kind → Stands next new
   stands-left items' new next opened same_names same_nodes sets kinds names nodes must_close = record {
     names = transport (λ t. IsLinked next.names.items (sym (ap names_in opened ∙ map-set name_in ys i None) t) (sym same_names t)) names;
     nodes = transport (λ t. IsLinked (sym nodes t) (sym (ap nodes_in opened ∙ map-set node_in ys i None) t) (sym same_nodes t))
         (linked-left last.nodes.items (nodes_in ys) (map same_node_of items) s.nodes i x.opened.node 0 nodes-within
         (held-none last.nodes.items (nodes_in ys) (map same_node_of items) s.nodes i x.opened.node node-here long alone.none_below)
         (set last.nodes.items x.opened.node 0) (set (map same_node_of items) i 0)
-        (λ k. either (λ k. get_or (set last.nodes.items x.opened.node 0) k 0 ≡ cond (eqb k x.opened.node) (get_or (map same_node_of items) i 0) (get_or last.nodes.items k 0)) x.opened.node k
-        (get_or-set_same last.nodes.items x.opened.node 0 0 node-known ∙ sym (ap (λ v. cond v (get_or (map same_node_of items) i 0) (get_or last.nodes.items x.opened.node 0)) (eqb-same x.opened.node) ∙ same_node-here))
-        (λ ne. get_or-set_other last.nodes.items x.opened.node k 0 0 ne ∙ sym (ap (λ v. cond v (get_or (map same_node_of items) i 0) (get_or last.nodes.items k 0)) (eqb-not k x.opened.node ne))))
-        (λ m ne. get_or-set_other (map same_node_of items) i m 0 0 ne ∙ sym (ap (λ v. cond v (get_or (map same_node_of items) i 0) (get_or (map same_node_of items) m 0)) (eqb-zero-suc m)))
+        (λ k. either (λ k. get_or (set last.nodes.items x.opened.node 0) k 0 ≡ cond (eqb k x.opened.node) (get_or (map same_node_of items) i 0)
+        (get_or last.nodes.items k 0)) x.opened.node k
+        (get_or-set_same last.nodes.items x.opened.node 0 0 node-known
+        ∙ sym (ap (λ v. cond v (get_or (map same_node_of items) i 0) (get_or last.nodes.items x.opened.node 0)) (eqb-same x.opened.node) ∙ same_node-here))
+        (λ ne. get_or-set_other last.nodes.items x.opened.node k 0 0 ne
+        ∙ sym (ap (λ v. cond v (get_or (map same_node_of items) i 0) (get_or last.nodes.items k 0)) (eqb-not k x.opened.node ne))))
+        (λ m ne. get_or-set_other (map same_node_of items) i m 0 0 ne
+        ∙ sym (ap (λ v. cond v (get_or (map same_node_of items) i 0) (get_or (map same_node_of items) m 0)) (eqb-zero-suc m)))
         (get_or-set_same (map same_node_of items) i 0 0 (omega (arith, length-map items same_node_of))));
-    sets = λ group m h live. either (λ n. get_or (set ys i None) n None ≢ None → get_or (map (set_node group) (map sets_at new)) n 0 ≡ nearest_up group (set ys i None) (suc n)) i m
+    sets = λ group m h live. either (λ n. get_or (set ys i None) n None ≢ None → get_or (map (set_node group) (map sets_at new)) n 0
+        ≡ nearest_up group (set ys i None) (suc n)) i m
         (λ some. absurd (some (get_or-set_same ys i None None (omega (arith, many)))))
         (λ ne some. sets group m ne ∙ left group m (omega (arith, ap length opened, length-set ys i None, length-map new opened_by)) some)
         (λ e. live (ap (λ l. get_or l m None) opened ∙ e))
@@ -80,18 +93,30 @@ module _ (last : LastLevels) (items : List KeptNode) (i : ℕ) (x : KeptNode) (s
       left = sets-neutral ys (map sets_at items) i (open_of x.opened) None (omega (arith, many)) here alone.plain (λ set a. refl) s.sets
 
   -- or another of its name takes its place
-  pub stands-renamed : (next : LastLevels) (y : KeptNode) (new : Open) → x.opened.name ≡ new.name → get_or last.nodes.items new.node 0 ≡ 0 → new.node < length last.nodes.items → y.opened ≡ new → y.same_name ≡ x.same_name
-      → y.same_node ≡ x.same_node → y.sets ≡ x.sets → y.kind ≡ x.kind → next.names.items ≡ last.names.items → next.nodes.items ≡ set (set last.nodes.items x.opened.node 0) new.node (suc i)
+  pub stands-renamed : (next : LastLevels) (y : KeptNode) (new : Open) → x.opened.name ≡ new.name → get_or last.nodes.items new.node 0 ≡ 0
+      → new.node < length last.nodes.items → y.opened ≡ new → y.same_name ≡ x.same_name
+      → y.same_node ≡ x.same_node → y.sets ≡ x.sets → y.kind ≡ x.kind → next.names.items ≡ last.names.items
+      → next.nodes.items ≡ set (set last.nodes.items x.opened.node 0) new.node (suc i)
       → next.must_close ≡ last.must_close → Stands next (set items i y)
   stands-renamed next y new name fresh new_in opened same_name same_node sets kind names nodes must_close = record {
-    names = transport (λ t. IsLinked (sym names t) (sym same_numbers t) (sym (map-set_same same_name_of items i y x (same_name ∙ ap same_name_of is)) t)) s.names;
-    nodes = transport (λ t. IsLinked (sym nodes t) (sym (ap nodes_in renamed ∙ map-set node_in ys i (Some (open_of new))) t) (sym (map-set_same same_node_of items i y x (same_node ∙ ap same_node_of is)) t))
-        (linked-fresh last.nodes.items (nodes_in ys) (map same_node_of items) s.nodes i x.opened.node node-here long nodes-within new.node new_in same_node-here alone.none_below fresh);
+    names = transport (λ t. IsLinked (sym names t) (sym same_numbers t) (sym (map-set_same same_name_of items i y x (same_name ∙ ap same_name_of is)) t))
+        s.names;
+    nodes = transport (λ t. IsLinked (sym nodes t) (sym (ap nodes_in renamed ∙ map-set node_in ys i (Some (open_of new))) t)
+        (sym (map-set_same same_node_of items i y x (same_node ∙ ap same_node_of is)) t))
+        (linked-fresh last.nodes.items (nodes_in ys) (map same_node_of items) s.nodes i x.opened.node node-here long nodes-within new.node new_in
+        same_node-here alone.none_below fresh);
     sets = transport (λ t. KeepSets (sym renamed t) (sym (map-set_same sets_at items i y x (sets ∙ ap sets_at is)) t))
-        (sets-neutral ys (map sets_at items) i (open_of x.opened) (Some (open_of new)) (omega (arith, many)) here alone.plain (λ set a. nearest-plain set (open_of new) a (ap (λ n. is_special (tag_of n)) (sym name) ∙ alone.plain)) s.sets);
+        (sets-neutral ys (map sets_at items) i (open_of x.opened) (Some (open_of new)) (omega (arith, many)) here alone.plain
+        (λ set a. nearest-plain set (open_of new) a (ap (λ n. is_special (tag_of n)) (sym name) ∙ alone.plain)) s.sets);
     kinds = map-set_same kind_at items i y x (kind ∙ ap kind_at is) ∙ s.kinds ∙ sym (ap (map kind_of) renamed ∙ same_kinds);
     closes = must_close ∙ s.closes ∙ ap closing_in (sym (map-set_same kind_at items i y x (kind ∙ ap kind_at is)));
-    fits = omega (arith, s.fits, ap length nodes, length-set (set last.nodes.items x.opened.node 0) new.node (suc i), length-set last.nodes.items x.opened.node 0);
+    fits = omega (
+      arith,
+      s.fits,
+      ap length nodes,
+      length-set (set last.nodes.items x.opened.node 0) new.node (suc i),
+      length-set last.nodes.items x.opened.node 0,
+    );
   }
     where
       renamed : map opened_by (set items i y) ≡ set ys i (Some (open_of new))
@@ -101,4 +126,5 @@ module _ (last : LastLevels) (items : List KeptNode) (i : ℕ) (x : KeptNode) (s
       same_numbers = ap names_in renamed ∙ map-set_same name_in ys i (Some (open_of new)) None (ap suc (sym name) ∙ ap name_in (sym here))
 
       same_kinds : map kind_of (set ys i (Some (open_of new))) ≡ map kind_of ys
-      same_kinds = map-set_same kind_of ys i (Some (open_of new)) None (ap (λ n. kind_of (Some (record { node = 0; name = n }))) (sym name) ∙ ap kind_of (sym here))
+      same_kinds = map-set_same kind_of ys i (Some (open_of new)) None (ap (λ n. kind_of (Some (record { node = 0; name = n }))) (sym name)
+          ∙ ap kind_of (sym here))

@@ -32,6 +32,8 @@ kind-held y = go (may_stay_open (tag_of y.name)) refl
 pub below-held : (last : LastLevels) (above : List KeptNode) (new : Open) (x : KeptNode) → IsBelow last above new x → opened_by x ≡ Some (open_of x.opened)
 below-held last above new x b = held x (ap is_hole_kind b.kind ∙ kind-held (open_of new))
 
-pub below-same : (last : LastLevels) (above over : List KeptNode) (new : Open) (x y : KeptNode) → IsBelow last above new x → over ≡ above → y ≡ x → IsBelow last over y.opened y
+pub below-same : (last : LastLevels) (above over : List KeptNode) (new : Open) (x y : KeptNode) → IsBelow last above new x → over ≡ above → y ≡ x
+    → IsBelow last over y.opened y
 below-same last above over new x y b same is =
-    subst (λ (z : KeptNode). IsBelow last over z.opened z) (sym is) (subst (λ (xs : List KeptNode). IsBelow last xs x.opened x) (sym same) (subst (λ (o : Open). IsBelow last above o x) (sym b.opened) b))
+    subst (λ (z : KeptNode). IsBelow last over z.opened z) (sym is) (subst (λ (xs : List KeptNode). IsBelow last xs x.opened x) (sym same)
+    (subst (λ (o : Open). IsBelow last above o x) (sym b.opened) b))

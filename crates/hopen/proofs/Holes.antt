@@ -28,10 +28,13 @@ slot-is x s = grind arith
 pub slots-are : (items : List Stored) → All IsStored items → AreSlots (items_of items)
 slots-are items = along_last (λ xs. All IsStored xs → AreSlots (items_of xs)) (λ all. tt) more items
   where
-    more : (front : List Stored) (x : Stored) → (All IsStored front → AreSlots (items_of front)) → All IsStored (front ++ x ∷ []) → AreSlots (items_of (front ++ x ∷ []))
+    more : (front : List Stored) (x : Stored) → (All IsStored front → AreSlots (items_of front)) → All IsStored (front ++ x ∷ [])
+        → AreSlots (items_of (front ++ x ∷ []))
     more front x before all =
-        let first : All IsStored front = subst (λ (xs : List Stored). All IsStored xs) (take_at front (x ∷ []) (length front) refl) (All-take IsStored (length front) (front ++ x ∷ []) all) in
-        let last : All IsStored (x ∷ []) = subst (λ (xs : List Stored). All IsStored xs) (drop_at front (x ∷ []) (length front) refl) (All-drop IsStored (length front) (front ++ x ∷ []) all) in
+        let first : All IsStored front = subst (λ (xs : List Stored). All IsStored xs) (take_at front (x ∷ []) (length front) refl)
+        (All-take IsStored (length front) (front ++ x ∷ []) all) in
+        let last : All IsStored (x ∷ []) = subst (λ (xs : List Stored). All IsStored xs) (drop_at front (x ∷ []) (length front) refl)
+        (All-drop IsStored (length front) (front ++ x ∷ []) all) in
         subst AreSlots (sym (items_of_more front x)) (slot-is x (last 0 x (omega arith)), before first)
 
 -- without the holes, part by part
@@ -45,16 +48,21 @@ live-first x items left s rest = grind (arith, live-parts, append-nil, gone-is, 
 
 pub live-closed : (items : List Stored) → All IsStored items → live (items_of (filter (λ x. not (is_gone x)) items)) ≡ live (items_of items)
 live-closed [] all = refl
-live-closed (x ∷ items) all = live-first x items (filter (λ y. not (is_gone y)) items) (all 0 x (omega arith)) (live-closed items (λ k y h. all (suc k) y (omega arith)))
+live-closed (x ∷ items) all = live-first x items (filter (λ y. not (is_gone y)) items) (all 0 x (omega arith))
+    (live-closed items (λ k y h. all (suc k) y (omega arith)))
 
-pub live-tail : (items : List Stored) (from : ℕ) → All IsStored items → live (items_of (take from items ++ filter (λ x. not (is_gone x)) (drop from items))) ≡ live (items_of items)
+pub live-tail : (items : List Stored) (from : ℕ) → All IsStored items → live (items_of
+    (take from items ++ filter (λ x. not (is_gone x)) (drop from items))) ≡ live (items_of items)
 live-tail items from all =
-    live-parts (take from items) (filter (λ x. not (is_gone x)) (drop from items)) ∙ ap (λ l. l ++ live (items_of (take from items))) (live-closed (drop from items) (All-drop IsStored from items all))
+    live-parts (take from items) (filter (λ x. not (is_gone x)) (drop from items)) ∙ ap (λ l. l ++ live (items_of (take from items)))
+    (live-closed (drop from items) (All-drop IsStored from items all))
     ∙ sym (live-parts (take from items) (drop from items)) ∙ ap (λ xs. live (items_of xs)) (take-append-drop from items)
 
 -- one item more on the way from the last one on
-pub taken : (items : List Stored) (k j : ℕ) (x : Stored) → k ≡ suc j → j < length items → x ≡ get_or items j x → items_of (take k items) ≡ item_of x ∷ items_of (take j items)
-taken items k j x next within is = ap (λ n. items_of (take n items)) next ∙ ap items_of (take-suc items j x within) ∙ items_of_more (take j items) (get_or items j x) ∙ ap (λ y. item_of y ∷ items_of (take j items)) (sym is)
+pub taken : (items : List Stored) (k j : ℕ) (x : Stored) → k ≡ suc j → j < length items → x ≡ get_or items j x
+    → items_of (take k items) ≡ item_of x ∷ items_of (take j items)
+taken items k j x next within is = ap (λ n. items_of (take n items)) next ∙ ap items_of (take-suc items j x within)
+    ∙ items_of_more (take j items) (get_or items j x) ∙ ap (λ y. item_of y ∷ items_of (take j items)) (sym is)
 
 pub further : (c : ℕ) (o : Option ℕ) → option_map (λ k. c + k) (option_map suc o) ≡ option_map (λ k. suc c + k) o
 further c o = grind arith
@@ -67,23 +75,35 @@ pub nth-hole : (n : ℕ) (x : Listed ℕ) (xs : List (Listed ℕ)) → is_hole x
 nth-hole n x xs is = grind arith
 
 -- a hole at the end leaves
-pub live-dropped : (items : List Stored) (k j : ℕ) (x : Stored) → k ≡ suc j → j < length items → x ≡ get_or items j x → is_hole (item_of x) ≡ true → live (items_of (take k items)) ≡ live (items_of (take j items))
-live-dropped items k j x next within is gone = ap live (taken items k j x next within is) ∙ ap (λ v. cond (not v) (item_of x ∷ live (items_of (take j items))) (live (items_of (take j items)))) gone
+pub live-dropped : (items : List Stored) (k j : ℕ) (x : Stored) → k ≡ suc j → j < length items → x ≡ get_or items j x → is_hole (item_of x) ≡ true
+    → live (items_of (take k items)) ≡ live (items_of (take j items))
+live-dropped items k j x next within is gone = ap live (taken items k j x next within is)
+    ∙ ap (λ v. cond (not v) (item_of x ∷ live (items_of (take j items))) (live (items_of (take j items)))) gone
 
 -- how many are live
 pub length-live : (items : List Stored) → All IsStored items → length (live (items_of items)) ≡ length (filter (λ x. not (is_gone x)) items)
 length-live [] all = refl
-length-live (x ∷ items) all = grind (arith, live-parts (x ∷ []) items, length-append, gone-is x (all 0 x (omega arith)), length-live items (λ k y h. all (suc k) y (omega arith)))
+length-live (x ∷ items) all = grind (
+  arith,
+  live-parts (x ∷ []) items,
+  length-append,
+  gone-is x (all 0 x (omega arith)),
+  length-live items
+      (λ k y h. all (suc k) y (omega arith)),
+)
 
 -- what is at the last place of a number is no hole
-module _ (of : EntryOf ℕ → ℕ) (items : List Stored) (n p : ℕ) (x : Stored) (some : 0 < p) (at : place (unless_hole of) (suc (suc n)) (items_of items) ≡ p) (is : x ≡ get_or items (p - 1) x) where
+module _ (of : EntryOf ℕ → ℕ) (items : List Stored) (n p : ℕ) (x : Stored) (some : 0 < p) (at : place (unless_hole of) (suc (suc n)) (items_of items) ≡ p)
+    (is : x ≡ get_or items (p - 1) x) where
   place-within : p ≤ length items
   place-within = omega (arith, place-le (unless_hole of) (suc (suc n)) (items_of items), length-items_of items)
 
   place-number : number_by (unless_hole of) (item_of x) ≡ suc (suc n)
   place-number =
-      let size : length (map (number_by (unless_hole of)) (items_of items)) ≡ length items = length-map (items_of items) (number_by (unless_hole of)) ∙ length-items_of items in
-      ap (λ y. number_by (unless_hole of) (item_of y)) is ∙ sym (get_or-map (λ y. number_by (unless_hole of) (item_of y)) items (p - 1) x 0 (omega (arith, place-within)))
+      let size : length (map (number_by (unless_hole of)) (items_of items)) ≡ length items = length-map (items_of items) (number_by (unless_hole of))
+      ∙ length-items_of items in
+      ap (λ y. number_by (unless_hole of) (item_of y)) is ∙ sym (get_or-map (λ y. number_by (unless_hole of) (item_of y)) items (p - 1) x 0
+      (omega (arith, place-within)))
       ∙ number-at (unless_hole of) items p some place-within ∙ ap (λ k. get_or (map (number_by (unless_hole of)) (items_of items)) (k - p) 0) (sym size)
       ∙ last-at (suc (suc n)) p (map (number_by (unless_hole of)) (items_of items)) at some
 
@@ -126,28 +146,33 @@ module _ (node : ℕ) (low : node < nowhere) where
   pub node-some : (items : List (Listed ℕ)) → AreSlots items → list_any (is_entry node) items ≡ true → 0 < node_place node items
   node-some items slots there = ltb-true 0 (node_place node items) (node-any items slots ∙ there)
 
-  node-first : (items : List (Listed ℕ)) → AreSlots items → 0 < node_place node items → position_or_len (is_entry node) items ≡ length items - node_place node items
+  node-first : (items : List (Listed ℕ)) → AreSlots items → 0 < node_place node items
+      → position_or_len (is_entry node) items ≡ length items - node_place node items
   node-first [] slots some = absurd (omega arith)
   node-first (marker ∷ items) slots some =
       let there : 0 < node_place node items = rw (eqb-zero-suc (suc node)) at some in
       rw (eqb-zero-suc (suc node)) (omega (arith, node-first items slots.1 there, place-le by_node (suc (suc node)) items))
   node-first (entry e ∷ items) slots some = go (eqb e.node node) refl some (node-first items slots.1)
     where
-      go : (v : Bool) → eqb e.node node ≡ v → 0 < cond (eqb (suc (by_node e)) (suc (suc node))) (suc (length (map (number_by by_node) items))) (node_place node items)
+      go : (v : Bool) → eqb e.node node ≡ v → 0 < cond (eqb (suc (by_node e)) (suc (suc node))) (suc (length (map (number_by by_node) items)))
+          (node_place node items)
           → (0 < node_place node items → position_or_len (is_entry node) items ≡ length items - node_place node items)
-          → cond (not v) (1 + position_or_len (is_entry node) items) 0 ≡ suc (length items) - cond (eqb (suc (by_node e)) (suc (suc node))) (suc (length (map (number_by by_node) items))) (node_place node items)
+          → cond (not v) (1 + position_or_len (is_entry node) items) 0 ≡ suc (length items) - cond (eqb (suc (by_node e)) (suc (suc node)))
+          (suc (length (map (number_by by_node) items))) (node_place node items)
       go true same some rest = rw (node-same e true slots.0 same) (omega (arith, length-map items (number_by by_node)))
       go false same some rest =
           let there : 0 < node_place node items = rw (node-same e false slots.0 same) at some in
           rw (node-same e false slots.0 same) (omega (arith, rest there, place-le by_node (suc (suc node)) items))
 
-  pub node-at : (items : List (Listed ℕ)) → AreSlots items → 0 < node_place node items → position (is_entry node) items ≡ Some (length items - node_place node items)
+  pub node-at : (items : List (Listed ℕ)) → AreSlots items → 0 < node_place node items
+      → position (is_entry node) items ≡ Some (length items - node_place node items)
   node-at items slots some =
       let first = node-first items slots some in
       rw (lt-ltb (position_or_len (is_entry node) items) (length items) (omega (arith, place-le by_node (suc (suc node)) items))) (ap (λ k. Some k) first)
 
 -- whether it has one before its last one, as the numbers of the nodes tell it
-module _ (node number p q : ℕ) (low : node < nowhere) (s : Slots) (l : IsListed s) (e : number ≡ suc (suc node)) (is : p ≡ last_up (λ k. k == number) s.nodes (length s.nodes)) (some : 0 < p) where
+module _ (node number p q : ℕ) (low : node < nowhere) (s : Slots) (l : IsListed s) (e : number ≡ suc (suc node))
+    (is : p ≡ last_up (λ k. k == number) s.nodes (length s.nodes)) (some : 0 < p) where
   pub number-placed : get_or s.nodes (p - 1) 0 ≡ suc (suc node)
   number-placed = ap (λ k. get_or s.nodes (k - 1) 0) is ∙ eqb-true _ _ (up-found (λ k. k == number) s.nodes (length s.nodes) (omega (arith, is))) ∙ e
 
@@ -156,7 +181,8 @@ module _ (node number p q : ℕ) (low : node < nowhere) (s : Slots) (l : IsListe
       let items = s.items.items in
       let within : p ≤ length s.nodes = omega (arith, is, up-within (λ k. k == number) s.nodes (length s.nodes)) in
       let numbers : reverse (take (p - 1) s.nodes) ≡ map (number_by by_node) (items_of (take (p - 1) items)) =
-      ap (λ ns. reverse (take (p - 1) ns)) l.nodes ∙ ap reverse (take-map (λ i. number_by by_node (item_of i)) (p - 1) items) ∙ numbers-back by_node (take (p - 1) items)
+      ap (λ ns. reverse (take (p - 1) ns)) l.nodes ∙ ap reverse (take-map (λ i. number_by by_node (item_of i)) (p - 1) items)
+      ∙ numbers-back by_node (take (p - 1) items)
       in
       ap (ltb 0) (before ∙ before-is (get_or s.nodes (p - 1) 0) s.nodes (p - 1) (omega (arith, within)) ∙ (λ i. last_of (number-placed i) (numbers i)))
       ∙ node-any node low (items_of (take (p - 1) items)) (slots-are (take (p - 1) items) (All-take IsStored (p - 1) items l.stored))
@@ -170,7 +196,8 @@ solid-from zero xs there = tt
 solid-from (suc k) [] there = tt
 solid-from (suc k) (x ∷ xs) there = (there 0 (omega arith) (omega arith), solid-from k xs (λ j h w. there (suc j) (omega arith) (omega arith)))
 
-pub solid-end : (items : List Stored) (solid k : ℕ) → All IsStored items → ((i : ℕ) → solid ≤ i → i < length items → (x : Stored) → is_gone (get_or items i x) ≡ false)
+pub solid-end : (items : List Stored) (solid k : ℕ) → All IsStored items → ((i : ℕ) → solid ≤ i → i < length items → (x : Stored)
+    → is_gone (get_or items i x) ≡ false)
     → k ≤ length items - solid → AllSolid k (items_of items)
 solid-end items solid k all there h = solid-from k (items_of items) at
   where
@@ -179,13 +206,15 @@ solid-end items solid k all there h = solid-from k (items_of items) at
         let i = length items - suc j in
         let low : i < length items = omega (arith, length-items_of items) in
         let is : i + suc j ≡ length items = omega (arith, length-items_of items) in
-        ap is_hole (get_nearest item_of items i j stored.Hole hole is) ∙ gone-is (get_or items i stored.Hole) (all i stored.Hole low) ∙ there i (omega arith) low stored.Hole
+        ap is_hole (get_nearest item_of items i j stored.Hole hole is) ∙ gone-is (get_or items i stored.Hole) (all i stored.Hole low)
+        ∙ there i (omega arith) low stored.Hole
 
 -- an index that was found for an item with this many after it
 none-map : {X Y : Type 0} (f : X → Y) (o : Option X) → option_map f o ≡ None → o ≡ None
 none-map f o is = grind arith
 
-nth-up : (len index : ℕ) (o : Option ℕ) → ((up : ℕ) → o ≡ Some up → up < len) → Some index ≡ option_map (λ up. len - 1 - up) o → (up : ℕ) × ((o ≡ Some up) × (index + suc up ≡ len))
+nth-up : (len index : ℕ) (o : Option ℕ) → ((up : ℕ) → o ≡ Some up → up < len) → Some index ≡ option_map (λ up. len - 1 - up) o
+    → (up : ℕ) × ((o ≡ Some up) × (index + suc up ≡ len))
 nth-up len index o within is = grind arith
 
 module _ (items : List Stored) (stored : All IsStored items) (back : ℕ) where
@@ -206,7 +235,8 @@ module _ (items : List Stored) (stored : All IsStored items) (back : ℕ) where
 
 pub changed-marker : (up node : ℕ) (items : List (Listed ℕ)) → slice_get items up ≡ Some marker → changed_at up (for_node node) items ≡ items
 changed-marker up node [] is = refl
-changed-marker zero node (i ∷ items) is = ap (λ (j : Listed ℕ). for_node node j ∷ items) (let same : i ≡ marker = cc in same) ∙ ap (λ (j : Listed ℕ). j ∷ items) (let same : marker ≡ i = cc in same)
+changed-marker zero node (i ∷ items) is = ap (λ (j : Listed ℕ). for_node node j ∷ items) (let same : i ≡ marker = cc in same)
+    ∙ ap (λ (j : Listed ℕ). j ∷ items) (let same : marker ≡ i = cc in same)
 changed-marker (suc up) node (i ∷ items) is = ap (λ xs. i ∷ xs) (changed-marker up node items is)
 
 -- what belongs to no entry, and is no hole, is a marker

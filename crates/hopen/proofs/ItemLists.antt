@@ -22,11 +22,13 @@ length-items_of xs = length-reverse (map item_of xs) ∙ length-map xs item_of
 -- an entry that is there is found
 pub not_missing : (node : ℕ) (items : List Stored) → IsTrue (list_any (is_entry node) (items_of items)) → position (is_entry node) (items_of items) ≡ None → ⊥
 not_missing node items there none =
-    let same : is_some (position (is_entry node) (items_of items)) ≡ list_any (is_entry node) (items_of items) = is_some-position (is_entry node) (items_of items) in
+    let same : is_some (position (is_entry node) (items_of items)) ≡ list_any (is_entry node) (items_of items) =
+    is_some-position (is_entry node) (items_of items) in
     let never : is_some (position (is_entry node) (items_of items)) ≡ false = ap is_some none in
     cc
 
 -- and is the item that this many come after
-pub found_at : (node : ℕ) (items : List Stored) (back i : ℕ) (x : Stored) → position (is_entry node) (items_of items) ≡ Some back → i + suc back ≡ length items → x ≡ get_or items i x
+pub found_at : (node : ℕ) (items : List Stored) (back i : ℕ) (x : Stored) → position (is_entry node) (items_of items) ≡ Some back
+    → i + suc back ≡ length items → x ≡ get_or items i x
     → ◌≡◌ {A = Option (Listed ℕ)} (Some (item_of x)) (find (is_entry node) (items_of items))
 found_at node items back i x found at is = grind (arith, cond_some, find_at, slice_get_nearest)

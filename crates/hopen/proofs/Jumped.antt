@@ -8,7 +8,11 @@ use Rattle.hopen.proofs.Moved.{NoHoleFrom, exchanged, remove-set}
 
 -- a hole is before the index from which on there is none
 pub hole-before : (xs : List Stored) (solid i : ℕ) → NoHoleFrom solid xs → i < length xs → is_gone (get_or xs i stored.Hole) ≡ true → i < solid
-hole-before xs solid i none within gone = elim (cases_lt i solid) [ inl less ↦ less | inr past ↦ absurd (false≢true (sym (none i past within stored.Hole) ∙ gone)) ]
+hole-before xs solid i none within gone = elim (cases_lt i solid) [
+  | inl less ↦ less
+  | inr past ↦ absurd
+      (false≢true (sym (none i past within stored.Hole) ∙ gone))
+]
 
 -- nothing is lost with a hole
 without-hole : (xs : List Stored) (i : ℕ) → i < length xs → is_gone (get_or xs i stored.Hole) ≡ true → live (items_of (remove xs i)) ≡ live (items_of xs)
@@ -35,19 +39,22 @@ told-there : (x : Stored) → is_some (told x) ≡ true → is_gone x ≡ false
 told-there x some = grind arith
 
 -- where the others are as they were, so is what comes after the mark
-module _ (mark : ℕ) (low : mark < nowhere) (xs ys : List Stored) (i j : ℕ) (old : All IsStored xs) (new : All IsStored ys) (same : live (items_of (remove ys j)) ≡ live (items_of (remove xs i))) where
+module _ (mark : ℕ) (low : mark < nowhere) (xs ys : List Stored) (i j : ℕ) (old : All IsStored xs) (new : All IsStored ys)
+    (same : live (items_of (remove ys j)) ≡ live (items_of (remove xs i))) where
   others : (zs : List Stored) (k : ℕ) → All IsStored zs → AreSlots (items_of (remove zs k))
   others zs k all = slots-are (remove zs k) (All-append IsStored (take k zs) (drop (suc k) zs) (All-take IsStored k zs all) (All-drop IsStored (suc k) zs all))
 
   pub any-same : list_any (is_entry mark) (items_of (remove ys j)) ≡ list_any (is_entry mark) (items_of (remove xs i))
-  any-same = sym (any-live mark (items_of (remove ys j)) (others ys j new) low) ∙ ap (list_any (is_entry mark)) same ∙ any-live mark (items_of (remove xs i)) (others xs i old) low
+  any-same = sym (any-live mark (items_of (remove ys j)) (others ys j new) low) ∙ ap (list_any (is_entry mark)) same
+      ∙ any-live mark (items_of (remove xs i)) (others xs i old) low
 
   pub put-same : (node : ℕ) → is_some (told (get_or xs i stored.Hole)) ≡ true → i < length xs
       → live (put_before (is_entry mark) (for_node node (item_of (get_or xs i stored.Hole))) (items_of (remove ys j)))
       ≡ live (put_before (is_entry mark) (for_node node (item_of (get_or xs i stored.Hole))) (items_of (remove xs i)))
   put-same node some within =
       let x = get_or xs i stored.Hole in
-      let real : is_hole (for_node node (item_of x)) ≡ false = is_hole-for_node node (item_of x) ∙ gone-is x (All-get_or IsStored xs i stored.Hole within old) ∙ told-there x some in
+      let real : is_hole (for_node node (item_of x)) ≡ false = is_hole-for_node node (item_of x)
+      ∙ gone-is x (All-get_or IsStored xs i stored.Hole within old) ∙ told-there x some in
       let new_item = for_node node (item_of x) in
       sym (put_spared (is_entry mark) new_item real (items_of (remove ys j)) (spares-node mark (items_of (remove ys j)) (others ys j new) low))
       ∙ ap (put_before (is_entry mark) new_item) same

@@ -19,7 +19,8 @@ module _ (of : EntryOf ℕ → ℕ) where
   place n items = last_of n (map (number_by of) items)
 
   pub place-le : (n : ℕ) (items : List (Listed ℕ)) → place n items ≤ length items
-  place-le n items = let most : place n items ≤ length (map (number_by of) items) = last_place-le (λ k. eqb k n) (map (number_by of) items) in omega (arith, length-map items (number_by of))
+  place-le n items = let most : place n items ≤ length (map (number_by of) items) = last_place-le (λ k. eqb k n) (map (number_by of) items) in
+      omega (arith, length-map items (number_by of))
 
 -- the place of the last marker, and of the last item of a name
 abbrev pub marker_place : List (Listed ℕ) → ℕ
@@ -47,7 +48,8 @@ same-suc : (a b : ℕ) (v : Bool) → eqb a b ≡ v → eqb (suc a) (suc b) ≡ 
 same-suc a b v e = grind (arith, nat_tests)
 
 -- a number of an entry is that of what is sought where the entry has what is sought, and no hole has it
-pub number-same : (of : EntryOf ℕ → ℕ) (n : ℕ) (e : EntryOf ℕ) (v : Bool) → (e.name ≡ nowhere → v ≡ false) → eqb (of e) n ≡ v → eqb (suc (unless_hole of e)) (suc (suc n)) ≡ v
+pub number-same : (of : EntryOf ℕ → ℕ) (n : ℕ) (e : EntryOf ℕ) (v : Bool) → (e.name ≡ nowhere → v ≡ false) → eqb (of e) n ≡ v
+    → eqb (suc (unless_hole of e)) (suc (suc n)) ≡ v
 number-same of n e v none same = grind (arith, same-suc, eqb-zero-suc, nat_tests)
 
 named-same : (name : ℕ) → name < nowhere → (e : EntryOf ℕ) (v : Bool) → eqb e.name name ≡ v → eqb (suc (by_name e)) (suc (suc name)) ≡ v
@@ -62,7 +64,8 @@ find-none name low [] h = refl
 find-none name low (marker ∷ items) h = refl
 find-none name low (entry e ∷ items) h = go (eqb e.name name) refl (rw (eqb-suc-zero (by_name e)) at h) (find-none name low items)
   where
-    go : (v : Bool) → eqb e.name name ≡ v → cond (eqb (suc (by_name e)) (suc (suc name))) (suc (length (map (number_by by_name) items))) (name_place name items) ≤ marker_place items
+    go : (v : Bool) → eqb e.name name ≡ v → cond (eqb (suc (by_name e)) (suc (suc name))) (suc (length (map (number_by by_name) items)))
+        (name_place name items) ≤ marker_place items
         → (name_place name items ≤ marker_place items → find_entry nat_eq name items ≡ None) → find_entry nat_eq name (entry e ∷ items) ≡ None
     go true s h i =
         let here : suc (length (map (number_by by_name) items)) ≤ marker_place items = rw (named-same name low e true s) at h in
@@ -75,14 +78,18 @@ find-at name low [] h = absurd (omega arith)
 find-at name low (marker ∷ items) h = grind (arith, eqb-zero-suc, place-le, length-map)
 find-at name low (entry e ∷ items) h = go (eqb e.name name) refl (rw (eqb-suc-zero (by_name e)) at h) (find-at name low items)
   where
-    go : (v : Bool) → eqb e.name name ≡ v → marker_place items < cond (eqb (suc (by_name e)) (suc (suc name))) (suc (length (map (number_by by_name) items))) (name_place name items)
-        → (marker_place items < name_place name items → option_and_then as_entry (slice_get items (length items - name_place name items)) ≡ find_entry nat_eq name items)
-        → option_and_then as_entry (slice_get (entry e ∷ items) (suc (length items) - cond (eqb (suc (by_name e)) (suc (suc name))) (suc (length (map (number_by by_name) items))) (name_place name items))) ≡ find_entry nat_eq name (entry e ∷ items)
+    go : (v : Bool) → eqb e.name name ≡ v → marker_place items < cond (eqb (suc (by_name e)) (suc (suc name)))
+        (suc (length (map (number_by by_name) items))) (name_place name items)
+        → (marker_place items < name_place name items → option_and_then as_entry (slice_get items (length items - name_place name items))
+        ≡ find_entry nat_eq name items)
+        → option_and_then as_entry (slice_get (entry e ∷ items) (suc (length items) - cond (eqb (suc (by_name e)) (suc (suc name)))
+        (suc (length (map (number_by by_name) items))) (name_place name items))) ≡ find_entry nat_eq name (entry e ∷ items)
     go true s h i =
         let none : suc (length items) - suc (length (map (number_by by_name) items)) ≡ 0 = omega (arith, length-map items (number_by by_name)) in
         rw (named-same name low e true s, none, turned e.name name true s) refl
     go false s h i =
-        let more : suc (length items) - name_place name items ≡ suc (length items - name_place name items) = omega (arith, place-le by_name (suc (suc name)) items) in
+        let more : suc (length items) - name_place name items ≡ suc (length items - name_place name items) =
+        omega (arith, place-le by_name (suc (suc name)) items) in
         rw (named-same name low e false s, more, turned e.name name false s) (i (rw (named-same name low e false s) at h))
 
 -- the nearest of a node leaves

@@ -37,7 +37,8 @@ module _ {X : Type 0} where
   insert-remove (x ∷ xs) zero d h = refl
   insert-remove (x ∷ xs) (suc i) d h = ap (λ l. x ∷ l) (insert-remove xs i d (omega arith))
 
-  map-exchanged : {Y : Type 0} (f : X → Y) (xs : List X) (i j : ℕ) (d : X) (e : Y) → i < length xs → j < length xs → map f (exchanged xs i j d) ≡ exchanged (map f xs) i j e
+  map-exchanged : {Y : Type 0} (f : X → Y) (xs : List X) (i j : ℕ) (d : X) (e : Y) → i < length xs → j < length xs
+      → map f (exchanged xs i j d) ≡ exchanged (map f xs) i j e
   map-exchanged f xs i j d e h k = grind (arith, map-set, get_or-map)
 
   All-exchanged : (P : X → Type 0) (xs : List X) (i j : ℕ) (d : X) → i < length xs → j < length xs → All P xs → All P (exchanged xs i j d)
@@ -53,11 +54,15 @@ NoHoleFrom from items = (i : ℕ) → from ≤ i → i < length items → (x : S
 
 -- what is kept of the list, where all is exchanged alike
 module _ (i j : ℕ) (old new : Slots) (listed : IsListed old) (low : i < length old.items.items) (high : j < length old.items.items) where
-  numbers-exchanged : (of : EntryOf ℕ → ℕ) (numbers : List ℕ) → numbers ≡ numbers_by of old.items.items → exchanged numbers i j 0 ≡ numbers_by of (exchanged old.items.items i j stored.Hole)
-  numbers-exchanged of numbers are = ap (λ ns. exchanged ns i j 0) are ∙ sym (map-exchanged (λ x. number_by of (item_of x)) old.items.items i j stored.Hole 0 low high)
+  numbers-exchanged : (of : EntryOf ℕ → ℕ) (numbers : List ℕ) → numbers ≡ numbers_by of old.items.items
+      → exchanged numbers i j 0 ≡ numbers_by of (exchanged old.items.items i j stored.Hole)
+  numbers-exchanged of numbers are = ap (λ ns. exchanged ns i j 0) are ∙ sym (map-exchanged
+      (λ x. number_by of (item_of x)) old.items.items i j stored.Hole 0 low high)
 
-  pub listed-exchanged : new.keys ≡ old.keys → new.names ≡ exchanged old.names i j 0 → (is_some old.keys ≡ true → new.hashes ≡ exchanged old.hashes i j 0) → new.nodes ≡ exchanged old.nodes i j 0
-      → new.items.items ≡ swap old.items.items i j → (old.solid ≤ new.solid) × (i < new.solid) × (j < new.solid) × (new.solid ≤ length old.items.items) → IsListed new
+  pub listed-exchanged : new.keys ≡ old.keys → new.names ≡ exchanged old.names i j 0 → (is_some old.keys ≡ true → new.hashes ≡ exchanged old.hashes i j 0)
+      → new.nodes ≡ exchanged old.nodes i j 0
+      → new.items.items ≡ swap old.items.items i j → (old.solid ≤ new.solid) × (i < new.solid) × (j < new.solid) × (new.solid ≤ length old.items.items)
+      → IsListed new
   listed-exchanged keys names hashes nodes items bounds =
       let xs = old.items.items in
       let now : new.items.items ≡ exchanged xs i j stored.Hole = items ∙ sym (swap_is xs i j stored.Hole low high) in
@@ -111,14 +116,16 @@ module _ (node : ℕ) where
     renewed-solid : (solid : ℕ) → NoHoleFrom solid items → NoHoleFrom solid now
     renewed-solid solid all k from l x =
         let within : k < length items = omega (arith, length-set items i (renamed node there)) in
-        sym (get_or-map is_gone now k x true l) ∙ ap (λ bs. get_or bs k true) (same-by is_gone (renamed-gone there)) ∙ get_or-map is_gone items k x true within ∙ all k from within x
+        sym (get_or-map is_gone now k x true l) ∙ ap (λ bs. get_or bs k true) (same-by is_gone (renamed-gone there))
+        ∙ get_or-map is_gone items k x true within ∙ all k from within x
 
     -- its place in the list, as that is seen from the last item on
     pub renewed-items : items_of now ≡ changed_at (length items - 1 - i) (for_node node) (items_of items)
     renewed-items = set_nearest item_of (for_node node) items i (length items - 1 - i) stored.Hole (renamed node there) (omega arith) (renamed-item there some)
 
 -- what is kept of the list stays so
-pub listed-renewed : (node i : ℕ) (old new : Slots) → IsListed old → new.keys ≡ old.keys → i < length old.items.items → is_some (told (get_or old.items.items i stored.Hole)) ≡ true → node < nowhere
+pub listed-renewed : (node i : ℕ) (old new : Slots) → IsListed old → new.keys ≡ old.keys → i < length old.items.items
+    → is_some (told (get_or old.items.items i stored.Hole)) ≡ true → node < nowhere
     → new.names ≡ old.names → new.hashes ≡ old.hashes → new.nodes ≡ set (set old.nodes i none) i (suc (suc node)) → new.solid ≡ old.solid
     → new.items.items ≡ set old.items.items i (renamed node (get_or old.items.items i stored.Hole)) → IsListed new
 listed-renewed node i old new listed keys h some low names hashes nodes solid items =
@@ -126,16 +133,20 @@ listed-renewed node i old new listed keys h some low names hashes nodes solid it
     let x = get_or xs i stored.Hole in
     let stored : IsStored x = All-get_or IsStored xs i stored.Hole h listed.stored in
     let ns : set (set old.nodes i none) i (suc (suc node)) ≡ numbers_by by_node (set xs i (renamed node x)) =
-    set-set old.nodes i none (suc (suc node)) ∙ ap (λ l. set l i (suc (suc node))) listed.nodes ∙ ap (set (numbers_by by_node xs) i) (sym (renamed-node node x some stored))
+    set-set old.nodes i none (suc (suc node)) ∙ ap (λ l. set l i (suc (suc node))) listed.nodes
+    ∙ ap (set (numbers_by by_node xs) i) (sym (renamed-node node x some stored))
     ∙ sym (map-set (λ y. number_by by_node (item_of y)) xs i (renamed node x)) in
     record {
-      names = names ∙ listed.names ∙ sym (same-by node xs i h some (λ y. number_by by_name (item_of y)) (renamed-name node x)) ∙ ap (numbers_by by_name) (sym items);
-      hashes = λ there. hashes ∙ listed.hashes (ap is_some (sym keys) ∙ there) ∙ sym (same-by node xs i h some (λ y. number_by (by_hash old.keys) (item_of y)) (renamed-hash node old.keys x))
+      names = names ∙ listed.names ∙ sym (same-by node xs i h some (λ y. number_by by_name (item_of y)) (renamed-name node x))
+          ∙ ap (numbers_by by_name) (sym items);
+      hashes = λ there. hashes ∙ listed.hashes (ap is_some (sym keys) ∙ there) ∙ sym (same-by node xs i h some
+          (λ y. number_by (by_hash old.keys) (item_of y)) (renamed-hash node old.keys x))
           ∙ (λ j. numbers_by (by_hash (sym keys j)) (sym items j));
       nodes = nodes ∙ ns ∙ ap (numbers_by by_node) (sym items);
       stored = subst (All IsStored) (sym items) (All-set IsStored xs i (renamed node x) (renamed-stored node x low stored) listed.stored);
       within = omega (arith, solid, ap length items, length-set xs i (renamed node x), listed.within);
-      solid = subst (λ n. NoHoleFrom n new.items.items) (sym solid) (subst (NoHoleFrom old.solid) (sym items) (renewed-solid node xs i h some old.solid listed.solid));
+      solid = subst (λ n. NoHoleFrom n new.items.items) (sym solid) (subst (NoHoleFrom old.solid) (sym items)
+          (renewed-solid node xs i h some old.solid listed.solid));
     }
 
 -- what is in one list and in that list without a member that is not sought
@@ -149,7 +160,8 @@ module _ {X : Type 0} (sought : X → Bool) where
 
   reverse-set : (xs : List X) (i : ℕ) (d : X) → i < length xs → reverse (set xs i d) ≡ reverse (drop (suc i) xs) ++ d ∷ reverse (take i xs)
   reverse-set xs i d h =
-      ap reverse (set_split xs i d h) ∙ reverse-append (take i xs) (d ∷ drop (suc i) xs) ∙ ap (λ l. l ++ reverse (take i xs)) (reverse-append (d ∷ []) (drop (suc i) xs))
+      ap reverse (set_split xs i d h) ∙ reverse-append (take i xs) (d ∷ drop (suc i) xs)
+      ∙ ap (λ l. l ++ reverse (take i xs)) (reverse-append (d ∷ []) (drop (suc i) xs))
       ∙ append_assoc (reverse (drop (suc i) xs)) (d ∷ []) (reverse (take i xs))
 
   -- the place without the member at an index, from that in a list where one that is not sought is there
@@ -157,7 +169,8 @@ module _ {X : Type 0} (sought : X → Bool) where
     pub below : place ≤ i → place ≡ last_place sought (reverse (remove xs i))
     pub above : i < place → place - 1 ≡ last_place sought (reverse (remove xs i))
 
-  pub place-without : (xs : List X) (i place : ℕ) (d : X) → i < length xs → sought d ≡ false → place ≡ last_place sought (reverse (set xs i d)) → IsPlaceWithout xs i place
+  pub place-without : (xs : List X) (i place : ℕ) (d : X) → i < length xs → sought d ≡ false → place ≡ last_place sought (reverse (set xs i d))
+      → IsPlaceWithout xs i place
   place-without xs i place d h other is = grind (arith, reverse-set, reverse-append, length-reverse, length-take-le, around)
 
 module _ (mark : ℕ) (low : mark < nowhere) where
@@ -173,43 +186,54 @@ module _ (mark : ℕ) (low : mark < nowhere) where
   node-same stored.Marker is = eqb-zero-suc (suc mark)
   node-same (stored.Entry e) is = number-same (λ x. x.node) mark (entry_is e) (eqb e.node mark) (λ gone. absurd (omega (arith, gone, is.1))) refl
 
-  place-node : (xs : List Stored) → All IsStored xs → last_place (λ k. k == suc (suc mark)) (map (λ x. number_by by_node (item_of x)) xs) ≡ last_place is_mark xs
+  place-node : (xs : List Stored) → All IsStored xs → last_place (λ k. k == suc (suc mark)) (map (λ x. number_by by_node (item_of x)) xs)
+      ≡ last_place is_mark xs
   place-node [] all = refl
-  place-node (x ∷ xs) all = λ k. cond (node-same x (All-head IsStored x xs all) k) (suc (length-map xs (λ y. number_by by_node (item_of y)) k)) (place-node xs (All-tail IsStored x xs all) k)
+  place-node (x ∷ xs) all = λ k. cond (node-same x (All-head IsStored x xs all) k) (suc (length-map xs (λ y. number_by by_node (item_of y)) k))
+      (place-node xs (All-tail IsStored x xs all) k)
 
   All-turned : (xs : List Stored) → All IsStored xs → All IsStored (reverse xs)
-  All-turned xs all k d l = let h : k < length xs = omega (arith, length-reverse xs) in subst IsStored (sym (get_or-reverse xs k d h)) (all (length xs - 1 - k) d (omega arith))
+  All-turned xs all k d l = let h : k < length xs = omega (arith, length-reverse xs) in
+      subst IsStored (sym (get_or-reverse xs k d h)) (all (length xs - 1 - k) d (omega arith))
 
   -- what the numbers say, where that at an index is cleared
   pub mark-place : (xs : List Stored) (ns : List ℕ) (i place : ℕ) → i < length xs → All IsStored xs → ns ≡ numbers_by by_node xs
       → place ≡ last_up (λ k. k == suc (suc mark)) (set ns i none) (length (set ns i none)) → IsPlaceWithout is_mark xs i place
   mark-place xs ns i place h all are is =
-      let cleared : set ns i none ≡ numbers_by by_node (set xs i stored.Hole) = ap (λ l. set l i none) are ∙ sym (map-set (λ x. number_by by_node (item_of x)) xs i stored.Hole) in
+      let cleared : set ns i none ≡ numbers_by by_node (set xs i stored.Hole) = ap (λ l. set l i none) are
+      ∙ sym (map-set (λ x. number_by by_node (item_of x)) xs i stored.Hole) in
       place-without is_mark xs i place stored.Hole h no-hole
       (is ∙ ap (λ l. last_up (λ k. k == suc (suc mark)) l (length l)) cleared ∙ last-is (suc (suc mark)) (numbers_by by_node (set xs i stored.Hole))
       ∙ ap (last_place (λ k. k == suc (suc mark))) (reverse-map (λ x. number_by by_node (item_of x)) (set xs i stored.Hole))
       ∙ place-node (reverse (set xs i stored.Hole)) (All-turned (set xs i stored.Hole) (All-set IsStored xs i stored.Hole tt all)))
 
 -- an item that is put right after the entry of the mark
-pub insert-after : (mark : ℕ) (rest : List Stored) (y : Stored) (to : ℕ) → to ≡ last_place (λ x. is_entry mark (item_of x)) (reverse rest) → IsTrue (list_any (is_entry mark) (items_of rest))
+pub insert-after : (mark : ℕ) (rest : List Stored) (y : Stored) (to : ℕ) → to ≡ last_place (λ x. is_entry mark (item_of x)) (reverse rest)
+    → IsTrue (list_any (is_entry mark) (items_of rest))
     → items_of (insert rest to y) ≡ put_before (is_entry mark) (item_of y) (items_of rest)
 insert-after mark rest y zero is there =
-    absurd (not_missing mark rest there (position_nearest item_of (is_entry mark) rest ∙ position-none (λ x. is_entry mark (item_of x)) (reverse rest) (sym is)))
+    absurd (not_missing mark rest there (position_nearest item_of (is_entry mark) rest
+    ∙ position-none (λ x. is_entry mark (item_of x)) (reverse rest) (sym is)))
 insert-after mark rest y (suc i) is there =
-    let found : position (is_entry mark) (items_of rest) ≡ Some (length (reverse rest) - 1 - i) = position_nearest item_of (is_entry mark) rest ∙ position-some (λ x. is_entry mark (item_of x)) (reverse rest) i (sym is) in
+    let found : position (is_entry mark) (items_of rest) ≡ Some (length (reverse rest) - 1 - i) = position_nearest item_of (is_entry mark) rest
+    ∙ position-some (λ x. is_entry mark (item_of x)) (reverse rest) i (sym is) in
     let next : suc i ≡ i + 1 = omega arith in
     ap (λ n. items_of (insert rest n y)) next
-    ∙ insert_nearest item_of (is_entry mark) rest i (length (reverse rest) - 1 - i) y found (omega (arith, length-reverse rest, last_place-le (λ x. is_entry mark (item_of x)) (reverse rest)))
+    ∙ insert_nearest item_of (is_entry mark) rest i (length (reverse rest) - 1 - i) y found
+    (omega (arith, length-reverse rest, last_place-le (λ x. is_entry mark (item_of x)) (reverse rest)))
 
 -- a write where the member is taken out
 pub remove-set : {X : Type 0} (xs : List X) (i : ℕ) (y : X) → remove (set xs i y) i ≡ remove xs i
 remove-set xs i y = ap (λ l. l ++ drop (suc i) (set xs i y)) (take-set xs i y) ∙ ap (λ l. take i xs ++ l) (drop-set-lt (suc i) xs i y (omega arith))
 
 -- an entry that becomes that of another node, and is put right after the entry of the mark
-pub moved-after : (node mark : ℕ) (items : List Stored) (i to : ℕ) (y : Stored) → i < length items → is_some (told (get_or items i stored.Hole)) ≡ true → y ≡ renamed node (get_or items i stored.Hole)
+pub moved-after : (node mark : ℕ) (items : List Stored) (i to : ℕ) (y : Stored) → i < length items → is_some (told (get_or items i stored.Hole)) ≡ true
+    → y ≡ renamed node (get_or items i stored.Hole)
     → to ≡ last_place (λ x. is_entry mark (item_of x)) (reverse (remove items i)) → IsTrue (list_any (is_entry mark) (items_of (remove items i)))
-    → items_of (insert (remove (set items i y) i) to (get_or (set items i y) i stored.Hole)) ≡ put_before (is_entry mark) (for_node node (item_of (get_or items i stored.Hole))) (items_of (remove items i))
+    → items_of (insert (remove (set items i y) i) to (get_or (set items i y) i stored.Hole))
+    ≡ put_before (is_entry mark) (for_node node (item_of (get_or items i stored.Hole))) (items_of (remove items i))
 moved-after node mark items i to y within entry new is there =
-    ap items_of (ap (λ l. insert l to (get_or (set items i y) i stored.Hole)) (remove-set items i y) ∙ ap (insert (remove items i) to) (get_or-set_same items i y stored.Hole within ∙ new))
+    ap items_of (ap (λ l. insert l to (get_or (set items i y) i stored.Hole)) (remove-set items i y)
+    ∙ ap (insert (remove items i) to) (get_or-set_same items i y stored.Hole within ∙ new))
     ∙ insert-after mark (remove items i) (renamed node (get_or items i stored.Hole)) to is there
     ∙ ap (λ x. put_before (is_entry mark) x (items_of (remove items i))) (renamed-item node (get_or items i stored.Hole) entry)

@@ -7,7 +7,8 @@ use Rattle.hopen.proofs.LiveEdits.{hide-live, room-live}
 live-new : (new : EntryOf ℕ) → new.name < nowhere → (xs : List (Listed ℕ)) → live (entry new ∷ xs) ≡ entry new ∷ live xs
 live-new new low xs = ap (λ (v : Bool). cond (not v) (entry new ∷ live xs) (live xs)) (apart new.name nowhere low)
 
-pub pushed-live : (new : EntryOf ℕ) → new.name < nowhere → (xs : List (Listed ℕ)) (first : Option ℕ) → option_map_or (remove xs) first xs ≡ with_room nat_eq new xs
+pub pushed-live : (new : EntryOf ℕ) → new.name < nowhere → (xs : List (Listed ℕ)) (first : Option ℕ)
+    → option_map_or (remove xs) first xs ≡ with_room nat_eq new xs
     → live (option_map_or (λ k. changed_at (suc k) (λ _. hole) (entry new ∷ xs)) first (entry new ∷ xs)) ≡ pushed nat_eq new (live xs)
 pushed-live new low xs None room = live-new new low xs ∙ ap (λ l. entry new ∷ l) (ap live room ∙ sym (room-live new xs low))
 pushed-live new low xs (Some k) room =

@@ -22,7 +22,8 @@ unfolding IsStrictlySortedBy
 ascends-put n [] s = (tt, tt)
 ascends-put n (x ∷ xs) s = go (ltb n x) refl (eqb n x) refl (ascends-put n xs s.1)
   where
-    go : (v : Bool) → ltb n x ≡ v → (w : Bool) → eqb n x ≡ w → IsStrictlySortedBy nat_cmp (put_in n xs) → IsStrictlySortedBy nat_cmp (cond v (n ∷ x ∷ xs) (cond w (x ∷ xs) (x ∷ put_in n xs)))
+    go : (v : Bool) → ltb n x ≡ v → (w : Bool) → eqb n x ≡ w → IsStrictlySortedBy nat_cmp (put_in n xs)
+        → IsStrictlySortedBy nat_cmp (cond v (n ∷ x ∷ xs) (cond w (x ∷ xs) (x ∷ put_in n xs)))
     go true below w same rest = ((less n x (ltb-true n x below), above-trans n x xs (less n x (ltb-true n x below)) s.0), s)
     go false below true same rest = s
     go false below false same rest = (above-put x n xs (less x n (omega (arith, ltb-false n x below, eqb-false n x same))) s.0, rest)
@@ -51,7 +52,8 @@ module _ (p : ℕ → Bool) where
 
 -- numbers that ascend are known by the tests that find one
 unique : (xs ys : List ℕ) → IsStrictlySortedBy nat_cmp xs → IsStrictlySortedBy nat_cmp ys → ((p : ℕ → Bool) → list_any p xs ≡ list_any p ys) → xs ≡ ys
-unique xs ys s t same = btree_set_from_contains nat_cmp_total (record { keys = xs }) (record { keys = ys }) s t (λ q. same (is_at (nat_cmp q))) nat_cmp-IsAntisymmetric
+unique xs ys s t same = btree_set_from_contains nat_cmp_total (record { keys = xs }) (record { keys = ys }) s t
+    (λ q. same (is_at (nat_cmp q))) nat_cmp-IsAntisymmetric
 
 -- what is left of sorted numbers
 pub sorted-distinct : (xs sorted : List ℕ) → IsPermutation xs sorted → IsSorted nat_cmp sorted → dedup eqb sorted ≡ distinct xs
@@ -65,15 +67,18 @@ module _ (keys : DefaultHasher) where
   same-hash a b e = grind (arith, bytes_eq-true, nat_tests)
 
   module _ (p : ℕ → Bool) where
-    any-same : (a : Attribute ℕ) (ys : List (Attribute ℕ)) → list_any (same_attribute nat_eq a) ys ≡ true → p ((hash_of keys) a) ≡ true → list_any p (map (hash_of keys) ys) ≡ true
+    any-same : (a : Attribute ℕ) (ys : List (Attribute ℕ)) → list_any (same_attribute nat_eq a) ys ≡ true → p ((hash_of keys) a) ≡ true
+        → list_any p (map (hash_of keys) ys) ≡ true
     any-same a [] found h = cc
     any-same a (y ∷ ys) found h = grind (arith, any-same a ys, same-hash a y)
 
-    any-among : (xs ys : List (Attribute ℕ)) → are_among nat_eq xs ys ≡ true → list_any p (map (hash_of keys) xs) ≡ true → list_any p (map (hash_of keys) ys) ≡ true
+    any-among : (xs ys : List (Attribute ℕ)) → are_among nat_eq xs ys ≡ true → list_any p (map (hash_of keys) xs) ≡ true
+        → list_any p (map (hash_of keys) ys) ≡ true
     any-among [] ys all found = cc
     any-among (x ∷ xs) ys all found = grind (arith, any-among xs ys, any-same)
 
-  same-hashes : (xs ys : List (Attribute ℕ)) → are_among nat_eq xs ys ≡ true → are_among nat_eq ys xs ≡ true → distinct (map (hash_of keys) xs) ≡ distinct (map (hash_of keys) ys)
+  same-hashes : (xs ys : List (Attribute ℕ)) → are_among nat_eq xs ys ≡ true → are_among nat_eq ys xs ≡ true
+      → distinct (map (hash_of keys) xs) ≡ distinct (map (hash_of keys) ys)
   same-hashes xs ys there back = grind (arith, unique, ascends, any-distinct, any-among)
 
 -- entries that are equal have the same name, and the same hash
@@ -89,5 +94,6 @@ module _ (new e : EntryOf ℕ) (equal : is_equal nat_eq new e ≡ true) where
   same-number keys named = grind (arith, same-name, same-entry_hash, nat_tests)
 
 -- an item that is found equal is seen as such an entry
-pub told-equal : (new : EntryOf ℕ) → new.name < nowhere → (x : Stored) → option_map_or (is_equal nat_eq new) (told x) false ≡ option_map_or (is_equal nat_eq new) (as_entry (item_of x)) false
+pub told-equal : (new : EntryOf ℕ) → new.name < nowhere → (x : Stored) → option_map_or (is_equal nat_eq new) (told x) false
+    ≡ option_map_or (is_equal nat_eq new) (as_entry (item_of x)) false
 told-equal new named h = grind (arith, nat_tests)

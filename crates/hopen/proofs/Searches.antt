@@ -44,15 +44,19 @@ module _ (q : OpenNode ℕ → Bool) (items : List KeptNode) (level : ℕ) (at :
   -- the slots from the level on are those below it, or all of them where none is open
   slots-below : reverse (map opened_by (drop level items)) ≡ before s (slots_of items)
   slots-below = elim (cases_lt 0 level) [
-    | inl some ↦ (let p = placed q items level at some in let sum : level + p.up ≡ length items = omega (arith, p.sum) in sym ((words s (slots_of items) p.up p.position_is).before_is ∙ take_nearest opened_by items level p.up sum))
-    | inr none ↦ (let zero_level : level ≡ 0 = omega arith in ap (λ k. reverse (map opened_by (drop k items))) zero_level ∙ sym (no_words s (slots_of items) (absent zero_level)).before_is)
+    | inl some ↦ (let p = placed q items level at some in let sum : level + p.up ≡ length items = omega (arith, p.sum) in
+        sym ((words s (slots_of items) p.up p.position_is).before_is ∙ take_nearest opened_by items level p.up sum))
+    | inr none ↦ (let zero_level : level ≡ 0 = omega arith in ap (λ k. reverse (map opened_by (drop k items))) zero_level
+        ∙ sym (no_words s (slots_of items) (absent zero_level)).before_is)
   ]
 
   -- those up to the one before the level are those above it
   slots-above : slots_of (take (level - 1) items) ≡ after s (slots_of items)
   slots-above = elim (cases_lt 0 level) [
-    | inl some ↦ (let p = placed q items level at some in sym ((words s (slots_of items) p.up p.position_is).after_is ∙ drop_nearest opened_by items (level - 1) (suc p.up) p.sum))
-    | inr none ↦ (let zero_level : level ≡ 0 = omega arith in ap (λ k. slots_of (take (k - 1) items)) zero_level ∙ sym (no_words s (slots_of items) (absent zero_level)).after_is)
+    | inl some ↦ (let p = placed q items level at some in sym ((words s (slots_of items) p.up p.position_is).after_is
+        ∙ drop_nearest opened_by items (level - 1) (suc p.up) p.sum))
+    | inr none ↦ (let zero_level : level ≡ 0 = omega arith in ap (λ k. slots_of (take (k - 1) items)) zero_level
+        ∙ sym (no_words s (slots_of items) (absent zero_level)).after_is)
   ]
 
   pub above-level : stack_of (take (level - 1) items) ≡ after q (stack_of items)
@@ -79,7 +83,8 @@ module _ {X : Type 0} (q : X → Bool) where
       let m : suc (length ys) - 1 ≡ length ys = omega arith in
       ap (λ k. find q (take k (x ∷ y ∷ ys))) n ∙ go e (λ f. ap (λ k. find q (take k (y ∷ ys))) (sym m) ∙ before-last (y ∷ ys) z zs f)
     where
-      go : after q (x ∷ y ∷ ys) ≡ z ∷ zs → (after q (y ∷ ys) ≡ z ∷ zs → find q (take (length ys) (y ∷ ys)) ≡ find q (y ∷ ys)) → find q (x ∷ take (length ys) (y ∷ ys)) ≡ find q (x ∷ y ∷ ys)
+      go : after q (x ∷ y ∷ ys) ≡ z ∷ zs → (after q (y ∷ ys) ≡ z ∷ zs → find q (take (length ys) (y ∷ ys)) ≡ find q (y ∷ ys))
+          → find q (x ∷ take (length ys) (y ∷ ys)) ≡ find q (x ∷ y ∷ ys)
       go e f = grind arith
 
 -- where nothing is above the nearest, or where something is
@@ -91,10 +96,12 @@ module _ (q : OpenNode ℕ → Bool) (items : List KeptNode) (level : ℕ) (at :
       go [] is e = last-sought q (stack_of items) (sym is)
       go (x ∷ xs) is e = absurd (grind arith)
 
-  pub below-found : (x : OpenNode ℕ) → current (stack_of (take (level - 1) items)) ≡ Some x → find q (take (length (stack_of items) - 1) (stack_of items)) ≡ find q (stack_of items)
+  pub below-found : (x : OpenNode ℕ) → current (stack_of (take (level - 1) items)) ≡ Some x
+      → find q (take (length (stack_of items) - 1) (stack_of items)) ≡ find q (stack_of items)
   below-found x e = go (stack_of (take (level - 1) items)) (above-level q items level at) e
     where
-      go : (xs : List (OpenNode ℕ)) → xs ≡ after q (stack_of items) → current xs ≡ Some x → find q (take (length (stack_of items) - 1) (stack_of items)) ≡ find q (stack_of items)
+      go : (xs : List (OpenNode ℕ)) → xs ≡ after q (stack_of items) → current xs ≡ Some x
+          → find q (take (length (stack_of items) - 1) (stack_of items)) ≡ find q (stack_of items)
       go [] is e = absurd (grind arith)
       go (y ∷ ys) is e = before-last q (stack_of items) y ys (sym is)
 
@@ -103,7 +110,8 @@ pub furthest-level : (n : ℕ) (items : List KeptNode) (level : ℕ) → level �
     → find (λ x. is_special (tag_of x.name)) (somes (map opened_by (drop level items))) ≡ furthest_block tag_of n (stack_of items)
 furthest-level n items level at =
     sym (topmost-reverse tag_of (somes (map opened_by (drop level items))))
-    ∙ ap (topmost_special tag_of) (sym (reverse-somes (map opened_by (drop level items))) ∙ ap somes (slots-below (is_node n) items level at) ∙ before-somes (is_node n) (slots_of items))
+    ∙ ap (topmost_special tag_of) (sym (reverse-somes (map opened_by (drop level items))) ∙ ap somes (slots-below (is_node n) items level at)
+    ∙ before-somes (is_node n) (slots_of items))
 
 -- none must be closed where all may stay
 closing-all : (ys : List (Option (OpenNode ℕ))) → nat_eq (closing_in (map kind_of ys)) 0 ≡ list_all (λ x. may_stay_open (tag_of x.name)) (somes ys)
@@ -112,11 +120,13 @@ closing-all (None ∷ ys) = ap (λ k. nat_eq k 0) (zero-add (closing_in (map kin
 closing-all (Some y ∷ ys) = go (may_stay_open (tag_of y.name)) refl (closing-all ys)
   where
     go : (v : Bool) → may_stay_open (tag_of y.name) ≡ v → nat_eq (closing_in (map kind_of ys)) 0 ≡ list_all (λ x. may_stay_open (tag_of x.name)) (somes ys)
-        → nat_eq (closing (kind_of (Some y)) + closing_in (map kind_of ys)) 0 ≡ (may_stay_open (tag_of y.name) && list_all (λ x. may_stay_open (tag_of x.name)) (somes ys))
+        → nat_eq (closing (kind_of (Some y)) + closing_in (map kind_of ys)) 0 ≡ (may_stay_open (tag_of y.name) && list_all
+        (λ x. may_stay_open (tag_of x.name)) (somes ys))
     go true e rest = rw e (ap (λ k. nat_eq k 0) (zero-add (closing_in (map kind_of ys))) ∙ rest)
     go false e rest = rw e (grind (arith, nat_tests))
 
-pub all-stay : (last : LastLevels) (items : List KeptNode) → Stands last items → nat_eq last.must_close 0 ≡ list_all (λ x. may_stay_open (tag_of x.name)) (stack_of items)
+pub all-stay : (last : LastLevels) (items : List KeptNode) → Stands last items → nat_eq last.must_close 0
+    ≡ list_all (λ x. may_stay_open (tag_of x.name)) (stack_of items)
 all-stay last items s =
     let p : OpenNode ℕ → Bool = λ x. may_stay_open (tag_of x.name) in
     ap (λ k. nat_eq k 0) (s.closes ∙ ap closing_in s.kinds) ∙ closing-all (map opened_by items)

@@ -24,19 +24,23 @@ module _ (items : List Stored) (ns : List ℕ) (of : EntryOf ℕ → ℕ) (i : �
 module _ (old new : Slots) (listed : IsListed old) (n : ℕ) where
   -- this many items are left
   pub listed-take : new.keys ≡ old.keys → n ≤ length old.items.items → new.items.items ≡ take n old.items.items
-      → new.names ≡ take n old.names → (is_some old.keys ≡ true → new.hashes ≡ take n old.hashes) → new.nodes ≡ take n old.nodes → new.solid ≡ min old.solid n → IsListed new
+      → new.names ≡ take n old.names → (is_some old.keys ≡ true → new.hashes ≡ take n old.hashes) → new.nodes ≡ take n old.nodes
+      → new.solid ≡ min old.solid n → IsListed new
   listed-take keys h items names hashes nodes least = grind (arith, length-take-le, take-map, All-take, get_or-take)
 
   -- a hole is left
   pub listed-hide : new.keys ≡ old.keys → n < length old.items.items → new.items.items ≡ set old.items.items n stored.Hole
-      → new.names ≡ set old.names n none → (is_some old.keys ≡ true → new.hashes ≡ set old.hashes n none) → new.nodes ≡ set old.nodes n none → new.solid ≡ max old.solid (n + 1) → IsListed new
+      → new.names ≡ set old.names n none → (is_some old.keys ≡ true → new.hashes ≡ set old.hashes n none) → new.nodes ≡ set old.nodes n none
+      → new.solid ≡ max old.solid (n + 1) → IsListed new
   listed-hide keys h items names hashes nodes most =
       let xs = old.items.items in
       let size : length new.items.items ≡ length xs = ap length items ∙ length-set xs n stored.Hole in
-      let numbers = λ (number : EntryOf ℕ → ℕ). sym (map-set (λ i. number_by (unless_hole number) (item_of i)) xs n stored.Hole) ∙ ap (numbers_by (unless_hole number)) (sym items) in
+      let numbers = λ (number : EntryOf ℕ → ℕ). sym (map-set (λ i. number_by (unless_hole number) (item_of i)) xs n stored.Hole)
+      ∙ ap (numbers_by (unless_hole number)) (sym items) in
       record {
         names = names ∙ ap (λ ns. set ns n none) listed.names ∙ numbers (λ e. e.name);
-        hashes = λ some. let there = ap is_some (sym keys) ∙ some in hashes there ∙ ap (λ ns. set ns n none) (listed.hashes there) ∙ numbers (entry_hash old.keys) ∙ ap (λ k. numbers_by (by_hash k) new.items.items) (sym keys);
+        hashes = λ some. let there = ap is_some (sym keys) ∙ some in hashes there ∙ ap (λ ns. set ns n none) (listed.hashes there)
+            ∙ numbers (entry_hash old.keys) ∙ ap (λ k. numbers_by (by_hash k) new.items.items) (sym keys);
         nodes = nodes ∙ ap (λ ns. set ns n none) listed.nodes ∙ numbers (λ e. e.node);
         stored = subst (All IsStored) (sym items) (All-set IsStored xs n stored.Hole tt listed.stored);
         within = omega (arith, listed.within);
@@ -55,12 +59,14 @@ gone-put (y ∷ xs) item x (suc i) before there h = gone-put xs item x i (λ low
 
 module _ (old new : Slots) (listed : IsListed old) where
   -- nothing has changed
-  pub listed-same : new.keys ≡ old.keys → new.items.items ≡ old.items.items → new.names ≡ old.names → new.hashes ≡ old.hashes → new.nodes ≡ old.nodes → new.solid ≡ old.solid → IsListed new
+  pub listed-same : new.keys ≡ old.keys → new.items.items ≡ old.items.items → new.names ≡ old.names → new.hashes ≡ old.hashes → new.nodes ≡ old.nodes
+      → new.solid ≡ old.solid → IsListed new
   listed-same keys items names hashes nodes solid = grind arith
 
   -- one more
   pub listed-put : (item : Stored) → IsStored item → is_gone item ≡ false → new.keys ≡ old.keys → new.items.items ≡ old.items.items ++ item ∷ []
-      → new.names ≡ old.names ++ number_by by_name (item_of item) ∷ [] → (is_some old.keys ≡ true → new.hashes ≡ old.hashes ++ number_by (by_hash old.keys) (item_of item) ∷ [])
+      → new.names ≡ old.names ++ number_by by_name (item_of item) ∷ [] → (is_some old.keys ≡ true
+      → new.hashes ≡ old.hashes ++ number_by (by_hash old.keys) (item_of item) ∷ [])
       → new.nodes ≡ old.nodes ++ number_by by_node (item_of item) ∷ [] → new.solid ≡ old.solid → IsListed new
   listed-put item is there keys items names hashes nodes solid =
       let xs = old.items.items in
@@ -75,5 +81,6 @@ module _ (old new : Slots) (listed : IsListed old) where
         nodes = nodes ∙ ap (λ ns. ns ++ number_by by_node (item_of item) ∷ []) listed.nodes ∙ numbers by_node;
         stored = subst (All IsStored) (sym items) (All-append IsStored xs (item ∷ []) listed.stored one);
         within = omega (arith, solid, size, listed.within);
-        solid = λ i from to x. ap (λ ys. is_gone (get_or ys i x)) items ∙ gone-put xs item x i (λ low. listed.solid i (omega (arith, solid)) low x) there (omega (arith, size));
+        solid = λ i from to x. ap (λ ys. is_gone (get_or ys i x)) items ∙ gone-put xs item x i (λ low. listed.solid i (omega (arith, solid)) low x) there
+            (omega (arith, size));
       }

@@ -1,7 +1,8 @@
 -- The open nodes under other names.
 use Rattle.hopen.proofs.Names.{◌≡◌, ℕ, Bool, true, false, cond, not, ◌&&◌, ◌||◌, List, [], ◌∷◌, Option, Some, None, refl, ◌∙◌, ap, option_map, option_or, slice_get-map, find-map, OpenNode, is_node, current, in_scope, topmost_special, furthest_block, is_named, Tag, is_special, if◌then◌else◌, slice_get, drop, reverse, before-map, after-map, without-map, changed-map, put_before-map, any-map, position-map, reverse-map, below, stops, stops_in, is_of, is_of_group, spelled_open, spelled_stack, StackKnowsNoNames, Default, IsSpelling}
 
-pub scope-map : {N M : Type 0} (g : N → M) (p : OpenNode N → Bool) (q : OpenNode M → Bool) → ((x : OpenNode N) → q (spelled_open g x) ≡ p x) → (st : OpenNode N → Bool) (st' : OpenNode M → Bool)
+pub scope-map : {N M : Type 0} (g : N → M) (p : OpenNode N → Bool) (q : OpenNode M → Bool) → ((x : OpenNode N) → q (spelled_open g x) ≡ p x)
+    → (st : OpenNode N → Bool) (st' : OpenNode M → Bool)
     → ((x : OpenNode N) → st' (spelled_open g x) ≡ st x) → (xs : List (OpenNode N)) → in_scope st' q (spelled_stack g xs) ≡ in_scope st p xs
 scope-map g p q e st st' d [] = refl
 scope-map g p q e st st' d (x ∷ xs) = λ i. e x i || (not (d x i) && scope-map g p q e st st' d xs i)
@@ -12,9 +13,11 @@ module _ {N M : Type 0} (tag : N → Tag) (tag' : M → Tag) (same : N → N →
 
   topmost-map : (xs : List (OpenNode N)) → topmost_special tag' (spelled_stack g xs) ≡ option_map (spelled_open g) (topmost_special tag xs)
   topmost-map [] = refl
-  topmost-map (x ∷ xs) = (λ i. option_or (topmost-map xs i) (if is_special (s.tags x.name i) then Some (spelled_open g x) else None)) ∙ go (topmost_special tag xs) (is_special (tag x.name))
+  topmost-map (x ∷ xs) = (λ i. option_or (topmost-map xs i) (if is_special (s.tags x.name i) then Some (spelled_open g x) else None))
+      ∙ go (topmost_special tag xs) (is_special (tag x.name))
     where
-      go : (o : Option (OpenNode N)) (v : Bool) → option_or (option_map (spelled_open g) o) (cond v (Some (spelled_open g x)) None) ≡ option_map (spelled_open g) (option_or o (cond v (Some x) None))
+      go : (o : Option (OpenNode N)) (v : Bool) → option_or (option_map (spelled_open g) o) (cond v (Some (spelled_open g x)) None)
+          ≡ option_map (spelled_open g) (option_or o (cond v (Some x) None))
       go None true = refl
       go None false = refl
       go (Some y) v = refl
@@ -46,10 +49,14 @@ module _ {N M : Type 0} (tag : N → Tag) (tag' : M → Tag) (same : N → N →
     remove = λ n. without-map (spelled_open g) (is_node n) (is_node n) (λ _. refl);
     replace = λ n new. changed-map (spelled_open g) (is_node n) (is_node n) (λ _. refl) (λ _. new) (λ _. spelled_open g new) (λ _. refl);
     insert_below = λ n new. put_before-map (spelled_open g) (is_node n) (is_node n) (λ _. refl) new;
-    is_in_scope = λ scope a. scope-map g (is_named same a) (is_named same' (g a)) (λ x. s.names x.name a) (stops tag scope) (stops tag' scope) (λ x. ap (stops_in scope) (s.tags x.name));
-    node_is_in_scope = λ n. scope-map g (is_node n) (is_node n) (λ _. refl) (stops tag Default) (stops tag' Default) (λ x. ap (stops_in Default) (s.tags x.name));
+    is_in_scope = λ scope a. scope-map g (is_named same a) (is_named same' (g a)) (λ x. s.names x.name a) (stops tag scope) (stops tag' scope)
+        (λ x. ap (stops_in scope) (s.tags x.name));
+    node_is_in_scope = λ n. scope-map g (is_node n) (is_node n) (λ _. refl) (stops tag Default) (stops tag' Default)
+        (λ x. ap (stops_in Default) (s.tags x.name));
     group_is_in_scope = λ scope group.
-        scope-map g (is_of tag group) (is_of tag' group) (λ x. ap (is_of_group group) (s.tags x.name)) (stops tag scope) (stops tag' scope) (λ x. ap (stops_in scope) (s.tags x.name));
-    is_before_special = λ a. scope-map g (is_named same a) (is_named same' (g a)) (λ x. s.names x.name a) (λ x. is_special (tag x.name)) (λ x. is_special (tag' x.name)) (λ x. ap is_special (s.tags x.name));
+        scope-map g (is_of tag group) (is_of tag' group) (λ x. ap (is_of_group group) (s.tags x.name)) (stops tag scope) (stops tag' scope)
+        (λ x. ap (stops_in scope) (s.tags x.name));
+    is_before_special = λ a. scope-map g (is_named same a) (is_named same' (g a)) (λ x. s.names x.name a) (λ x. is_special (tag x.name))
+        (λ x. is_special (tag' x.name)) (λ x. ap is_special (s.tags x.name));
     furthest = furthest-map;
   }

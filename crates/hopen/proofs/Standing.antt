@@ -37,11 +37,13 @@ module _ (ys : List (Option (OpenNode ℕ))) (sets : List SetNodes) (long : leng
   pub sets-less : KeepSets (ys ++ y ∷ []) (sets ++ p ∷ []) → KeepSets ys sets
   sets-less k set m h live =
       let more : length (ys ++ y ∷ []) ≡ length ys + 1 = length-append ys (y ∷ []) in
-      sym (ap (λ l. get_or l m 0) (map-append (set_node set) sets (p ∷ [])) ∙ get_or_append_left (map (set_node set) sets) (set_node set p ∷ []) 0 m (omega (arith, length-map sets (set_node set))))
+      sym (ap (λ l. get_or l m 0) (map-append (set_node set) sets (p ∷ [])) ∙ get_or_append_left (map (set_node set) sets) (set_node set p ∷ []) 0 m
+      (omega (arith, length-map sets (set_node set))))
       ∙ k set m (omega arith) (λ e. live (sym (get_or_append_left ys (y ∷ []) None m h) ∙ e))
       ∙ nearest-alike set ys (ys ++ y ∷ []) (suc m) (λ j less. get_or_append_left ys (y ∷ []) None j (omega arith))
 
-  pub sets-more : ((set : NameSet) → y ≢ None → set_node set p ≡ nearest_in set y (nearest_up set ys (length ys))) → KeepSets ys sets → KeepSets (ys ++ y ∷ []) (sets ++ p ∷ [])
+  pub sets-more : ((set : NameSet) → y ≢ None → set_node set p ≡ nearest_in set y (nearest_up set ys (length ys))) → KeepSets ys sets
+      → KeepSets (ys ++ y ∷ []) (sets ++ p ∷ [])
   sets-more new k set m h live = go (cases_lt m (length ys))
     where
       more : length (ys ++ y ∷ []) ≡ length ys + 1
@@ -52,13 +54,16 @@ module _ (ys : List (Option (OpenNode ℕ))) (sets : List SetNodes) (long : leng
 
       go : (m < length ys) ⊎ (length ys ≤ m) → get_or (map (set_node set) (sets ++ p ∷ [])) m 0 ≡ nearest_up set (ys ++ y ∷ []) (suc m)
       go (inl less) =
-          ap (λ l. get_or l m 0) (map-append (set_node set) sets (p ∷ [])) ∙ get_or_append_left (map (set_node set) sets) (set_node set p ∷ []) 0 m (omega (arith, length-map sets (set_node set)))
+          ap (λ l. get_or l m 0) (map-append (set_node set) sets (p ∷ [])) ∙ get_or_append_left (map (set_node set) sets) (set_node set p ∷ []) 0 m
+          (omega (arith, length-map sets (set_node set)))
           ∙ k set m less (λ e. live (get_or_append_left ys (y ∷ []) None m less ∙ e)) ∙ sym (same (suc m) (omega arith))
       go (inr past) =
           let at : length ys ≡ m = omega (arith, more) in
           let here : get_or (ys ++ y ∷ []) m None ≡ y = get_or_push ys y None m at in
-          ap (λ l. get_or l m 0) (map-append (set_node set) sets (p ∷ [])) ∙ get_or_push (map (set_node set) sets) (set_node set p) 0 m (omega (arith, length-map sets (set_node set)))
-          ∙ new set (λ e. live (here ∙ e)) ∙ ap (nearest_in set y) (sym (same (length ys) (omega arith))) ∙ ap (λ n. nearest_in set y (nearest_up set (ys ++ y ∷ []) n)) at
+          ap (λ l. get_or l m 0) (map-append (set_node set) sets (p ∷ [])) ∙ get_or_push (map (set_node set) sets) (set_node set p) 0 m
+          (omega (arith, length-map sets (set_node set)))
+          ∙ new set (λ e. live (here ∙ e)) ∙ ap (nearest_in set y) (sym (same (length ys) (omega arith)))
+          ∙ ap (λ n. nearest_in set y (nearest_up set (ys ++ y ∷ []) n)) at
           ∙ ap (λ z. nearest_in set z (nearest_up set (ys ++ y ∷ []) m)) (sym here)
 
 module _ (items : List KeptNode) (x : KeptNode) where
@@ -84,7 +89,8 @@ module _ (items : List KeptNode) (x : KeptNode) where
         (transport (λ t. KeepSets (each opened_by t) (each sets_at t)) s.sets)
 
     kinds : (map kind_at items ≡ map kind_of (map opened_by items)) × (x.kind ≡ kind_of (opened_by x))
-    kinds = unpush (map kind_at items) (map kind_of (map opened_by items)) x.kind (kind_of (opened_by x)) (sym (each kind_at) ∙ s.kinds ∙ map-map-more) (long kind_at kind_of)
+    kinds = unpush (map kind_at items) (map kind_of (map opened_by items)) x.kind (kind_of (opened_by x)) (sym (each kind_at) ∙ s.kinds ∙ map-map-more)
+        (long kind_at kind_of)
       where
         map-map-more : map kind_of (map opened_by (items ++ x ∷ [])) ≡ map kind_of (map opened_by items) ++ kind_of (opened_by x) ∷ []
         map-map-more = ap (map kind_of) (map-append opened_by items (x ∷ [])) ∙ map-append kind_of (map opened_by items) (opened_by x ∷ [])
@@ -96,9 +102,11 @@ module _ (items : List KeptNode) (x : KeptNode) where
     pub stands-hole : opened_by x ≡ None → Stands last items
     stands-hole gone = record {
       names = linked-hole last.names.items (names_in (map opened_by items)) (map same_name_of items) x.same_name (long same_name_of name_in)
-          (subst (λ o. IsLinked last.names.items (names_in (map opened_by items) ++ name_in o ∷ []) (map same_name_of items ++ x.same_name ∷ [])) gone linked-names);
+          (subst (λ o. IsLinked last.names.items (names_in (map opened_by items) ++ name_in o ∷ []) (map same_name_of items ++ x.same_name ∷ [])) gone
+          linked-names);
       nodes = linked-hole last.nodes.items (nodes_in (map opened_by items)) (map same_node_of items) x.same_node (long same_node_of node_in)
-          (subst (λ o. IsLinked last.nodes.items (nodes_in (map opened_by items) ++ node_in o ∷ []) (map same_node_of items ++ x.same_node ∷ [])) gone linked-nodes);
+          (subst (λ o. IsLinked last.nodes.items (nodes_in (map opened_by items) ++ node_in o ∷ []) (map same_node_of items ++ x.same_node ∷ [])) gone
+          linked-nodes);
       sets = left-sets;
       kinds = kinds.0;
       closes = omega (arith, closes, ap closing (kinds.1 ∙ ap kind_of gone));
@@ -107,10 +115,12 @@ module _ (items : List KeptNode) (x : KeptNode) where
 
     module _ (live : opened_by x ≡ Some (open_of x.opened)) where
       names-live : IsLinked last.names.items (names_in (map opened_by items) ++ suc x.opened.name ∷ []) (map same_name_of items ++ x.same_name ∷ [])
-      names-live = subst (λ o. IsLinked last.names.items (names_in (map opened_by items) ++ name_in o ∷ []) (map same_name_of items ++ x.same_name ∷ [])) live linked-names
+      names-live = subst (λ o. IsLinked last.names.items (names_in (map opened_by items) ++ name_in o ∷ []) (map same_name_of items ++ x.same_name ∷ []))
+          live linked-names
 
       nodes-live : IsLinked last.nodes.items (nodes_in (map opened_by items) ++ suc x.opened.node ∷ []) (map same_node_of items ++ x.same_node ∷ [])
-      nodes-live = subst (λ o. IsLinked last.nodes.items (nodes_in (map opened_by items) ++ node_in o ∷ []) (map same_node_of items ++ x.same_node ∷ [])) live linked-nodes
+      nodes-live = subst (λ o. IsLinked last.nodes.items (nodes_in (map opened_by items) ++ node_in o ∷ []) (map same_node_of items ++ x.same_node ∷ []))
+          live linked-nodes
 
       -- the tables have the numbers of its node
       pub stands-in : (x.opened.name < length last.names.items) × (x.opened.node < length last.nodes.items)
@@ -123,11 +133,14 @@ module _ (items : List KeptNode) (x : KeptNode) where
       stands-counted = omega (arith, closes)
 
       -- and the slot goes
-      pub stands-less : (next : LastLevels) → next.names.items ≡ set last.names.items x.opened.name x.same_name → next.nodes.items ≡ set last.nodes.items x.opened.node x.same_node
+      pub stands-less : (next : LastLevels) → next.names.items ≡ set last.names.items x.opened.name x.same_name
+          → next.nodes.items ≡ set last.nodes.items x.opened.node x.same_node
           → next.must_close ≡ last.must_close - closing x.kind → Stands next items
       stands-less next names nodes must_close = record {
-        names = rw names (linked-less last.names.items (names_in (map opened_by items)) (map same_name_of items) x.opened.name x.same_name (long same_name_of name_in) names-live);
-        nodes = rw nodes (linked-less last.nodes.items (nodes_in (map opened_by items)) (map same_node_of items) x.opened.node x.same_node (long same_node_of node_in) nodes-live);
+        names = rw names (linked-less last.names.items (names_in (map opened_by items)) (map same_name_of items) x.opened.name x.same_name
+            (long same_name_of name_in) names-live);
+        nodes = rw nodes (linked-less last.nodes.items (nodes_in (map opened_by items)) (map same_node_of items) x.opened.node x.same_node
+            (long same_node_of node_in) nodes-live);
         sets = left-sets;
         kinds = kinds.0;
         closes = omega (arith, closes, must_close);
@@ -137,9 +150,11 @@ module _ (items : List KeptNode) (x : KeptNode) where
   module _ (last : LastLevels) (s : Stands last items) where
     more-kinds : x.kind ≡ kind_of (opened_by x) → map kind_at (items ++ x ∷ []) ≡ map kind_of (map opened_by (items ++ x ∷ []))
     more-kinds e =
-        each kind_at ∙ (λ t. s.kinds t ++ e t ∷ []) ∙ sym (ap (map kind_of) (map-append opened_by items (x ∷ [])) ∙ map-append kind_of (map opened_by items) (opened_by x ∷ []))
+        each kind_at ∙ (λ t. s.kinds t ++ e t ∷ []) ∙ sym (ap (map kind_of) (map-append opened_by items (x ∷ []))
+        ∙ map-append kind_of (map opened_by items) (opened_by x ∷ []))
 
-    more-sets : ((set : NameSet) → opened_by x ≢ None → set_node set x.sets ≡ nearest_in set (opened_by x) (nearest_up set (map opened_by items) (length (map opened_by items))))
+    more-sets : ((set : NameSet) → opened_by x ≢ None → set_node set x.sets ≡ nearest_in set (opened_by x)
+        (nearest_up set (map opened_by items) (length (map opened_by items))))
         → KeepSets (map opened_by (items ++ x ∷ [])) (map sets_at (items ++ x ∷ []))
     more-sets keeps = transport (λ t. KeepSets (sym (each opened_by) t) (sym (each sets_at) t))
         (sets-more (map opened_by items) (map sets_at items) (length-map items sets_at ∙ sym (length-map items opened_by)) (opened_by x) x.sets keeps s.sets)
@@ -147,9 +162,11 @@ module _ (items : List KeptNode) (x : KeptNode) where
     -- a hole comes
     pub stands-gap : opened_by x ≡ None → x.kind ≡ kind_of None → x.same_name ≡ 0 → x.same_node ≡ 0 → Stands last (items ++ x ∷ [])
     stands-gap gone kind same_name same_node = record {
-      names = transport (λ t. IsLinked last.names.items (sym (numbers name_in ∙ ap (λ o. names_in (map opened_by items) ++ name_in o ∷ []) gone) t) (sym (each same_name_of ∙ ap (λ n. map same_name_of items ++ n ∷ []) same_name) t))
+      names = transport (λ t. IsLinked last.names.items (sym (numbers name_in ∙ ap (λ o. names_in (map opened_by items) ++ name_in o ∷ []) gone) t)
+          (sym (each same_name_of ∙ ap (λ n. map same_name_of items ++ n ∷ []) same_name) t))
           (linked-gap last.names.items (names_in (map opened_by items)) (map same_name_of items) (long same_name_of name_in) s.names);
-      nodes = transport (λ t. IsLinked last.nodes.items (sym (numbers node_in ∙ ap (λ o. nodes_in (map opened_by items) ++ node_in o ∷ []) gone) t) (sym (each same_node_of ∙ ap (λ n. map same_node_of items ++ n ∷ []) same_node) t))
+      nodes = transport (λ t. IsLinked last.nodes.items (sym (numbers node_in ∙ ap (λ o. nodes_in (map opened_by items) ++ node_in o ∷ []) gone) t)
+          (sym (each same_node_of ∙ ap (λ n. map same_node_of items ++ n ∷ []) same_node) t))
           (linked-gap last.nodes.items (nodes_in (map opened_by items)) (map same_node_of items) (long same_node_of node_in) s.nodes);
       sets = more-sets (λ set ne. absurd (ne gone));
       kinds = more-kinds (kind ∙ ap kind_of (sym gone));
@@ -158,17 +175,23 @@ module _ (items : List KeptNode) (x : KeptNode) where
     }
 
     -- a node comes, with what the tables say
-    pub stands-more : (level : ℕ) → level ≡ suc (length items) → opened_by x ≡ Some (open_of x.opened) → x.kind ≡ kind_of (Some (open_of x.opened)) → x.opened.name < length last.names.items → x.opened.node < length last.nodes.items
+    pub stands-more : (level : ℕ) → level ≡ suc (length items) → opened_by x ≡ Some (open_of x.opened) → x.kind ≡ kind_of (Some (open_of x.opened))
+        → x.opened.name < length last.names.items → x.opened.node < length last.nodes.items
         → x.same_name ≡ get_or last.names.items x.opened.name 0 → x.same_node ≡ get_or last.nodes.items x.opened.node 0
         → ((set : NameSet) → set_node set x.sets ≡ nearest_in set (Some (open_of x.opened)) (nearest_up set (map opened_by items) (length items)))
         → (next : LastLevels) → next.names.items ≡ set last.names.items x.opened.name level → next.nodes.items ≡ set last.nodes.items x.opened.node level
         → next.must_close ≡ last.must_close + closing x.kind → Stands next (items ++ x ∷ [])
     stands-more level is live kind name_in' node_in' same_name same_node keeps next names nodes must_close = record {
-      names = rw names (transport (λ t. IsLinked (set last.names.items x.opened.name level) (sym (numbers name_in ∙ ap (λ o. names_in (map opened_by items) ++ name_in o ∷ []) live) t) (sym (each same_name_of) t))
-          (linked-more last.names.items (names_in (map opened_by items)) (map same_name_of items) x.opened.name x.same_name level (omega (arith, is, long same_name_of name_in, length-map items same_name_of)) same_name (long same_name_of name_in) name_in' s.names));
-      nodes = rw nodes (transport (λ t. IsLinked (set last.nodes.items x.opened.node level) (sym (numbers node_in ∙ ap (λ o. nodes_in (map opened_by items) ++ node_in o ∷ []) live) t) (sym (each same_node_of) t))
-          (linked-more last.nodes.items (nodes_in (map opened_by items)) (map same_node_of items) x.opened.node x.same_node level (omega (arith, is, long same_node_of node_in, length-map items same_node_of)) same_node (long same_node_of node_in) node_in' s.nodes));
-      sets = more-sets (λ set ne. keeps set ∙ ap (λ n. nearest_in set (Some (open_of x.opened)) (nearest_up set (map opened_by items) n)) (sym (length-map items opened_by)) ∙ ap (λ o. nearest_in set o (nearest_up set (map opened_by items) (length (map opened_by items)))) (sym live));
+      names = rw names (transport (λ t. IsLinked (set last.names.items x.opened.name level)
+          (sym (numbers name_in ∙ ap (λ o. names_in (map opened_by items) ++ name_in o ∷ []) live) t) (sym (each same_name_of) t))
+          (linked-more last.names.items (names_in (map opened_by items)) (map same_name_of items) x.opened.name x.same_name level
+          (omega (arith, is, long same_name_of name_in, length-map items same_name_of)) same_name (long same_name_of name_in) name_in' s.names));
+      nodes = rw nodes (transport (λ t. IsLinked (set last.nodes.items x.opened.node level)
+          (sym (numbers node_in ∙ ap (λ o. nodes_in (map opened_by items) ++ node_in o ∷ []) live) t) (sym (each same_node_of) t))
+          (linked-more last.nodes.items (nodes_in (map opened_by items)) (map same_node_of items) x.opened.node x.same_node level
+          (omega (arith, is, long same_node_of node_in, length-map items same_node_of)) same_node (long same_node_of node_in) node_in' s.nodes));
+      sets = more-sets (λ set ne. keeps set ∙ ap (λ n. nearest_in set (Some (open_of x.opened)) (nearest_up set (map opened_by items) n))
+          (sym (length-map items opened_by)) ∙ ap (λ o. nearest_in set o (nearest_up set (map opened_by items) (length (map opened_by items)))) (sym live));
       kinds = more-kinds (kind ∙ ap kind_of (sym live));
       closes = omega (arith, s.closes, ap closing_in (each kind_at), closing-more (map kind_at items) x.kind, must_close);
       fits = omega (arith, s.fits, ap length nodes, length-set last.nodes.items x.opened.node level);
@@ -182,34 +205,47 @@ module _ (items : List KeptNode) (n j : ℕ) (x : KeptNode) (next : n ≡ suc j)
   pub taken-hole : (last : LastLevels) → Stands last (take n items) → opened_by x ≡ None → Stands last (take j items)
   taken-hole last s gone = stands-hole (take j items) x last (taken last s) gone
 
-  pub taken-in : (last : LastLevels) → Stands last (take n items) → opened_by x ≡ Some (open_of x.opened) → (x.opened.name < length last.names.items) × (x.opened.node < length last.nodes.items)
+  pub taken-in : (last : LastLevels) → Stands last (take n items) → opened_by x ≡ Some (open_of x.opened)
+      → (x.opened.name < length last.names.items) × (x.opened.node < length last.nodes.items)
   taken-in last s live = stands-in (take j items) x last (taken last s) live
 
   pub taken-counted : (last : LastLevels) → Stands last (take n items) → opened_by x ≡ Some (open_of x.opened) → closing x.kind ≤ last.must_close
   taken-counted last s live = stands-counted (take j items) x last (taken last s) live
 
-  pub taken-less : (last next : LastLevels) → Stands last (take n items) → opened_by x ≡ Some (open_of x.opened) → next.names.items ≡ set last.names.items x.opened.name x.same_name
+  pub taken-less : (last next : LastLevels) → Stands last (take n items) → opened_by x ≡ Some (open_of x.opened)
+      → next.names.items ≡ set last.names.items x.opened.name x.same_name
       → next.nodes.items ≡ set last.nodes.items x.opened.node x.same_node → next.must_close ≡ last.must_close - closing x.kind → Stands next (take j items)
   taken-less last left s live names nodes must_close = stands-less (take j items) x last (taken last s) live left names nodes must_close
 
-  pub numbers-more : (names nodes : ℕ) → AreIn names nodes (map opened_by (drop n items)) → IsIn names nodes (opened_by x) → AreIn names nodes (map opened_by (drop j items))
-  numbers-more names nodes rest here = subst (λ (xs : List KeptNode). AreIn names nodes (map opened_by xs)) (sym (drop-more items n j x next within is)) (here, rest)
+  pub numbers-more : (names nodes : ℕ) → AreIn names nodes (map opened_by (drop n items)) → IsIn names nodes (opened_by x)
+      → AreIn names nodes (map opened_by (drop j items))
+  numbers-more names nodes rest here = subst (λ (xs : List KeptNode). AreIn names nodes (map opened_by xs)) (sym (drop-more items n j x next within is))
+      (here, rest)
 
-  pub numbers-less : (names nodes : ℕ) → AreIn names nodes (map opened_by (drop j items)) → IsIn names nodes (opened_by x) × AreIn names nodes (map opened_by (drop n items))
+  pub numbers-less : (names nodes : ℕ) → AreIn names nodes (map opened_by (drop j items))
+      → IsIn names nodes (opened_by x) × AreIn names nodes (map opened_by (drop n items))
   numbers-less names nodes all = subst (λ (xs : List KeptNode). AreIn names nodes (map opened_by xs)) (drop-more items n j x next within is) all
 
 -- where the same nodes are open, their numbers are in the tables
-pub numbers-alike : (n : ℕ) (xs ys : List KeptNode) (names nodes : ℕ) → map opened_by xs ≡ map opened_by ys → AreIn names nodes (map opened_by (drop n ys)) → AreIn names nodes (map opened_by (drop n xs))
+pub numbers-alike : (n : ℕ) (xs ys : List KeptNode) (names nodes : ℕ) → map opened_by xs ≡ map opened_by ys → AreIn names nodes (map opened_by (drop n ys))
+    → AreIn names nodes (map opened_by (drop n xs))
 numbers-alike n xs ys names nodes e all = subst (AreIn names nodes) (sym (drop-map opened_by n ys) ∙ ap (drop n) (sym e) ∙ drop-map opened_by n xs) all
 
 -- items that keep the same stand alike
 module _ (last : LastLevels) (xs ys : List KeptNode) (a : AreAlike xs ys) where
   pub stands-alike : Stands last ys → Stands last xs
-  stands-alike s = transport (λ t. StandsAs last (sym a.rest.opened t) (sym a.same_names t) (sym a.rest.same_nodes t) (sym a.rest.sets t) (sym a.rest.kinds t)) s
+  stands-alike s = transport (λ t. StandsAs last (sym a.rest.opened t) (sym a.same_names t) (sym a.rest.same_nodes t) (sym a.rest.sets t)
+      (sym a.rest.kinds t)) s
 
   pub alike-take : (n : ℕ) → AreAlike (take n xs) (take n ys)
   alike-take n = record {
-    rest = record { opened = part opened_by a.rest.opened; same_nodes = part same_node_of a.rest.same_nodes; sets = part sets_at a.rest.sets; kinds = part kind_at a.rest.kinds };
+    rest = record {
+      opened = part opened_by a.rest.opened;
+      same_nodes = part same_node_of a.rest.same_nodes;
+      sets = part sets_at a.rest.sets;
+      kinds =
+          part kind_at a.rest.kinds;
+    };
     same_names = part same_name_of a.same_names;
   }
     where

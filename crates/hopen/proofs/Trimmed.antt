@@ -17,7 +17,8 @@ module _ (items : List KeptNode) (some : 0 < length items) (gone : get_or (map o
 
   pub stack-trimmed : (d : KeptNode) → stack_of (take (length items - 1) items) ≡ stack_of items
   stack-trimmed d =
-      sym (ap stack_of (sym (take_all (length items) items (omega arith)) ∙ take-more items (length items) (length items - 1) (get_or items (length items - 1) d) next (omega arith) refl')
+      sym (ap stack_of (sym (take_all (length items) items (omega arith)) ∙ take-more items (length items) (length items - 1)
+      (get_or items (length items - 1) d) next (omega arith) refl')
       ∙ stack-hole (take (length items - 1) items) (get_or items (length items - 1) d) (hole-at d))
     where
       refl' : get_or items (length items - 1) d ≡ get_or items (length items - 1) (get_or items (length items - 1) d)
@@ -25,14 +26,16 @@ module _ (items : List KeptNode) (some : 0 < length items) (gone : get_or (map o
 
   pub stands-trimmed : (last : LastLevels) (d : KeptNode) → Stands last items → Stands last (take (length items - 1) items)
   stands-trimmed last d s =
-      taken-hole items (length items) (length items - 1) (get_or items (length items - 1) d) next (omega arith) (get_or_default items (length items - 1) d (get_or items (length items - 1) d) (omega arith)) last
+      taken-hole items (length items) (length items - 1) (get_or items (length items - 1) d) next (omega arith)
+      (get_or_default items (length items - 1) d (get_or items (length items - 1) d) (omega arith)) last
       (subst (Stands last) (sym (take_all (length items) items (omega arith))) s) (hole-at d)
 
 -- the last slot of a vector that ends with no hole
 pub ends-live : (items : List KeptNode) (x : KeptNode) → EndsOpen (map opened_by (items ++ x ∷ [])) → is_hole_kind x.kind ≡ false
 ends-live items x e =
     is-held x (λ gone. e (length items) (length-map (items ++ x ∷ []) opened_by ∙ length-append items (x ∷ []) ∙ add-one (length items))
-    (opened-at (items ++ x ∷ []) (length items) x (omega (arith, length-append items (x ∷ []))) ∙ ap opened_by (get_or_push items x x (length items) refl) ∙ gone))
+    (opened-at (items ++ x ∷ []) (length items) x (omega (arith, length-append items (x ∷ []))) ∙ ap opened_by (get_or_push items x x (length items) refl)
+    ∙ gone))
 
 -- some item of a vector that has one
 pub first-of : (items : List KeptNode) → 0 < length items → KeptNode

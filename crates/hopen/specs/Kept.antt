@@ -84,7 +84,8 @@ nearest_up set ys (suc n) = nearest_in set (slice_index_or ys n None) (nearest_u
 
 -- each slot that is no hole keeps that of the slots down to it
 abbrev pub KeepSets : List (Option (OpenNode ℕ)) → List SetNodes → Type 0
-KeepSets ys sets = (set : NameSet) (n : ℕ) → n < length ys → slice_index_or ys n None ≢ None → slice_index (map (set_node set) sets) n ≡ nearest_up set ys (suc n)
+KeepSets ys sets = (set : NameSet) (n : ℕ) → n < length ys → slice_index_or ys n None ≢ None
+    → slice_index (map (set_node set) sets) n ≡ nearest_up set ys (suc n)
 
 -- what a slot is
 abbrev pub kind_of : Option (OpenNode ℕ) → Kind
@@ -103,7 +104,8 @@ closing_in [] = 0
 closing_in (k ∷ kinds) = closing k + closing_in kinds
 
 -- what is kept of these slots is right, and so is what each of them keeps
-pub record StandsAs (last : LastLevels) (ys : List (Option (OpenNode ℕ))) (same_names same_nodes : List ℕ) (kept : List SetNodes) (ks : List Kind) : Type 0 where
+pub record StandsAs (last : LastLevels) (ys : List (Option (OpenNode ℕ))) (same_names same_nodes : List ℕ) (kept : List SetNodes) (ks : List Kind) :
+    Type 0 where
   pub names : IsLinked last.names.items (names_in ys) same_names
   pub nodes : IsLinked last.nodes.items (nodes_in ys) same_nodes
   pub sets : KeepSets ys kept
@@ -192,7 +194,8 @@ pub record CanPass (last : LastLevels) (items : List KeptNode) (i j : ℕ) : Typ
   pub order : i < j
   pub within : j < length items
   pub holes : AreHoles i j (names_in (map opened_by items))
-  pub upper : (x : KeptNode) → x ≡ slice_index_or items i x → (is_hole x.kind ≡ false) × (is_special (tag_of x.opened.name) ≡ false) × (slice_index last.nodes.items x.opened.node ≡ suc i)
+  pub upper : (x : KeptNode) → x ≡ slice_index_or items i x
+      → (is_hole x.kind ≡ false) × (is_special (tag_of x.opened.name) ≡ false) × (slice_index last.nodes.items x.opened.node ≡ suc i)
   pub lower : (x : KeptNode) → x ≡ slice_index_or items j x → (is_hole x.kind ≡ false) × (slice_index last.nodes.items x.opened.node ≡ suc j)
 
 -- the numbers of a slot are in tables of these lengths

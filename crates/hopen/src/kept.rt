@@ -298,7 +298,8 @@ fn close_at(last: &mut LastLevels, items: &[KeptNode], index: usize)
 fn slot_below(last: &LastLevels, sets: SetNodes, opened: Open) -> KeptNode
     requires fits { length last.now.nodes.items < 2 ^ 32 }
     requires room { HasRoom last.now opened }
-    ensures { (above : List KeptNode) → ((set : NameSet) → set_node set sets ≡ nearest_up set (map opened_by above) (length above)) → IsBelow last.now above opened result }
+    ensures { (above : List KeptNode) → ((set : NameSet) → set_node set sets ≡ nearest_up set (map opened_by above) (length above))
+        → IsBelow last.now above opened result }
 {
     // Taken apart for the prover alone (CONTRIBUTING.md, "Traps").
     let Open { node, name } = opened;

@@ -33,10 +33,11 @@ pub struct Open {
 ///
 /// A node that leaves from above others leaves a hole, so none of these moves, but for the current one where a second hole is right above
 /// it. No question searches the stack, but for `furthest_block` and `above`, which pass the slots from a node to the one that is asked for,
-/// and for questions of scope or groups that come to a node that is open twice. A push and a pop take the same time at any depth, amortized. So do `remove` and `replace` where the node is not
-/// special and open nowhere else, and has the name of the new one; `exchange` then takes a step for each slot from the node that leaves
-/// down to the other. Else these three take a step for each slot below. A slot takes 64 bytes; each of the two tables of levels takes 4
-/// bytes for each number up to the greatest one. `push`, `replace` and `exchange` alone allocate, and on an error they change nothing.
+/// and for questions of scope or groups that come to a node that is open twice. A push and a pop take the same time at any depth,
+/// amortized. So do `remove` and `replace` where the node is not special and open nowhere else, and has the name of the new one; `exchange`
+/// then takes a step for each slot from the node that leaves down to the other. Else these three take a step for each slot below. A slot
+/// takes 64 bytes; each of the two tables of levels takes 4 bytes for each number up to the greatest one. `push`, `replace` and `exchange`
+/// alone allocate, and on an error they change nothing.
 #[derive(Drop)]
 pub struct OpenStack {
     items: Vec<KeptNode>,

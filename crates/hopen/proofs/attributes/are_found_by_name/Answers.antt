@@ -16,4 +16,5 @@ returns-then-not-contains_by_name c =
 
 pub returns : goal.returns
 returns c =
-    sym c.loop-attr.invariant ∙ ap (list_all (there c.args.others.now)) (take_all c.loop-attr.attr-index c.args.attrs.now (omega arith)) ∙ seen c.args.attrs.now c.args.others.now
+    sym c.loop-attr.invariant ∙ ap (list_all (there c.args.others.now)) (take_all c.loop-attr.attr-index c.args.attrs.now (omega arith))
+    ∙ seen c.args.attrs.now c.args.others.now

@@ -17,10 +17,12 @@ law x y same = go (nat_eq x.name y.name) refl same
     go false is all = cc
 
 -- the number at a place of the names
-there-in : (names : List ℕ) (ys : List Attr) (n q : ℕ) → names ≡ map number ys → (0 < q → get_or (map number ys) (q - 1) 0 ≡ n) → 0 < q → get_or names (q - 1) 0 ≡ n
+there-in : (names : List ℕ) (ys : List Attr) (n q : ℕ) → names ≡ map number ys → (0 < q → get_or (map number ys) (q - 1) 0 ≡ n) → 0 < q
+    → get_or names (q - 1) 0 ≡ n
 there-in names ys n q are there some = ap (λ ns. get_or ns (q - 1) 0) are ∙ there some
 
-first : (c : goal.After-last-place) → Last (sought c.args.attr.now) number (number c.args.attr.now) (law c.args.attr.now) c.args.attrs.now (length c.args.attrs.now) c.last-place.result
+first : (c : goal.After-last-place) → Last (sought c.args.attr.now) number (number c.args.attr.now) (law c.args.attr.now) c.args.attrs.now
+    (length c.args.attrs.now) c.last-place.result
 first c =
     let here : c.last-place.result ≡ last_up (λ k. k == number c.args.attr.now) (map number c.args.attrs.now) (length c.args.attrs.now) =
     c.last-place.ensures ∙ (λ i. last_up (λ k. k == c.name_number.ensures i) (c.requires i) (length (c.requires i)))
@@ -38,13 +40,15 @@ loop-place-init c =
       same = found.same ∙ ap (list_any (sought c.args.attr.now)) (take_all (length c.args.attrs.now) c.args.attrs.now (omega arith));
     }
 
-next : (c : goal.After-before-place) → Last (sought c.args.attr.now) number (number c.args.attr.now) (law c.args.attr.now) c.args.attrs.now (c.loop-place.place - 1) c.before-place.result
+next : (c : goal.After-before-place) → Last (sought c.args.attr.now) number (number c.args.attr.now) (law c.args.attr.now) c.args.attrs.now
+    (c.loop-place.place - 1) c.before-place.result
 next c =
     let here : c.before-place.result ≡ last_up (λ k. k == number c.args.attr.now) (map number c.args.attrs.now) (c.loop-place.place - 1) =
     c.before-place.ensures ∙ (λ i. last_up (λ k. k == c.loop-place.invariant.there (omega arith) i) (c.requires i) (c.loop-place.place - 1))
     in
     subst (Last (sought c.args.attr.now) number (number c.args.attr.now) (law c.args.attr.now) c.args.attrs.now (c.loop-place.place - 1)) (sym here)
-    (last-found (sought c.args.attr.now) number (number c.args.attr.now) (law c.args.attr.now) c.args.attrs.now (c.loop-place.place - 1) (omega (arith, c.loop-place.invariant.within)))
+    (last-found (sought c.args.attr.now) number (number c.args.attr.now) (law c.args.attr.now) c.args.attrs.now (c.loop-place.place - 1)
+    (omega (arith, c.loop-place.invariant.within)))
 
 pub loop-place-preserved : goal.loop-place-preserved
 loop-place-preserved c =
@@ -52,7 +56,8 @@ loop-place-preserved c =
     record {
       within = omega (arith, found.within, c.loop-place.invariant.within);
       there = there-in c.args.names.now c.args.attrs.now (number c.args.attr.now) c.before-place.result c.requires found.there;
-      same = found.same ∙ any-less (sought c.args.attr.now) c.args.attrs.now c.loop-place.place c.index-attrs-place.result (omega arith) c.loop-place.invariant.within c.index-attrs-place.is
+      same = found.same ∙ any-less (sought c.args.attr.now) c.args.attrs.now c.loop-place.place c.index-attrs-place.result
+          (omega arith) c.loop-place.invariant.within c.index-attrs-place.is
           (sym c.is_same.ensures ∙ c.if-is_same.false) ∙ c.loop-place.invariant.same;
     }
 
@@ -70,7 +75,8 @@ seen x ys = sym (any-map attribute_of (sought x) (same_attribute nat_eq (attribu
 
 pub returns-then-is_same : goal.returns-then-is_same
 returns-then-is_same c =
-    sym (list_any_at (sought c.args.attr.now) c.args.attrs.now (c.loop-place.place - 1) c.index-attrs-place.result (omega (arith, c.loop-place.invariant.within))
+    sym (list_any_at (sought c.args.attr.now) c.args.attrs.now (c.loop-place.place - 1) c.index-attrs-place.result
+    (omega (arith, c.loop-place.invariant.within))
     (ap (sought c.args.attr.now) (sym c.index-attrs-place.is) ∙ sym c.is_same.ensures ∙ c.if-is_same.true)) ∙ seen c.args.attr.now c.args.attrs.now
 
 pub returns : goal.returns

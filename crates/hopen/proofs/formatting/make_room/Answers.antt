@@ -8,7 +8,8 @@ pub returns-clause-same : goal.returns-clause-same
 returns-clause-same c =
     ap (λ xs. live (items_of xs)) c.reserve.ensures.items
     ∙ elim c.if-slots-gt0.branch [
-      | then-slots-gt0 w ↦ ap (λ s. live (items_of s.items.items)) w.slots-is ∙ ap (λ xs. live (items_of xs)) w.close.ensures.items ∙ live-tail c.args.slots.now.items.items 0 c.requires.stored
+      | then-slots-gt0 w ↦ ap (λ s. live (items_of s.items.items)) w.slots-is ∙ ap (λ xs. live (items_of xs)) w.close.ensures.items
+          ∙ live-tail c.args.slots.now.items.items 0 c.requires.stored
       | else-slots-gt0 w ↦ ap (λ s. live (items_of s.items.items)) w.slots-is
     ]
 

@@ -9,7 +9,8 @@ returns-then-back-len c =
     let items = c.args.slots.now.items.items in
     let k = length items - c.args.slots.now.solid in
     let most : k ≤ length items - c.args.slots.now.solid = omega arith in
-    let nth = nth-solid k c.args.back (items_of items) (solid-end items c.args.slots.now.solid k c.requires.stored c.requires.solid most) (omega arith) (omega (arith, length-items_of items)) in
+    let nth = nth-solid k c.args.back (items_of items) (solid-end items c.args.slots.now.solid k c.requires.stored c.requires.solid most) (omega arith)
+    (omega (arith, length-items_of items)) in
     let size : c.len-len.result ≡ length items = omega arith in
     ap (λ n. Some (n - 1 - c.args.back)) size ∙ sym (ap (option_map (λ up. length items - 1 - up)) nth)
 
@@ -21,7 +22,8 @@ loop-index-init c =
     let o = nth_live c.args.back (items_of (take len items)) in
     record {
       within = omega arith;
-      found = ap (λ xs. nth_live c.args.back (items_of xs)) (sym (take_all len items (omega arith))) ∙ sym (ap (λ n. option_map (λ k. n + k) o) none ∙ none-further o);
+      found = ap (λ xs. nth_live c.args.back (items_of xs)) (sym (take_all len items (omega arith)))
+          ∙ sym (ap (λ n. option_map (λ k. n + k) o) none ∙ none-further o);
     }
 
 -- a hole
@@ -33,12 +35,14 @@ loop-index-preserved c =
     let x = c.index.result.now in
     let front = items_of (take i items) in
     let one : items_of (take c.loop-index.index items) ≡ item_of x ∷ front = taken items c.loop-index.index i x (omega arith) (omega arith) c.index.ensures in
-    let is : is_hole (item_of x) ≡ true = gone-is x (subst IsStored (sym c.index.ensures) (c.requires.stored i x (omega arith))) ∙ sym c.is_hole.ensures ∙ c.if-not-is_hole.false in
+    let is : is_hole (item_of x) ≡ true = gone-is x (subst IsStored (sym c.index.ensures) (c.requires.stored i x (omega arith))) ∙ sym c.is_hole.ensures
+    ∙ c.if-not-is_hole.false in
     let more : suc (end - c.loop-index.index) ≡ end - i = omega arith in
     record {
       within = omega arith;
       found = c.loop-index.invariant.found ∙ ap (λ xs. option_map (λ k. end - c.loop-index.index + k) (nth_live c.loop-index.left xs)) one
-          ∙ ap (option_map (λ k. end - c.loop-index.index + k)) (nth-hole c.loop-index.left (item_of x) front is) ∙ further (end - c.loop-index.index) (nth_live c.loop-index.left front)
+          ∙ ap (option_map (λ k. end - c.loop-index.index + k)) (nth-hole c.loop-index.left (item_of x) front is)
+          ∙ further (end - c.loop-index.index) (nth_live c.loop-index.left front)
           ∙ ap (λ n. option_map (λ k. n + k) (nth_live c.loop-index.left front)) more;
     }
 
@@ -46,4 +50,5 @@ pub returns : goal.returns
 returns c =
     let items = c.args.slots.now.items.items in
     let none : c.loop-index.index ≡ 0 = omega arith in
-    sym (ap (option_map (λ up. length items - 1 - up)) (c.loop-index.invariant.found ∙ ap (λ n. option_map (λ k. length items - c.loop-index.index + k) (nth_live c.loop-index.left (items_of (take n items)))) none))
+    sym (ap (option_map (λ up. length items - 1 - up)) (c.loop-index.invariant.found ∙ ap
+    (λ n. option_map (λ k. length items - c.loop-index.index + k) (nth_live c.loop-index.left (items_of (take n items)))) none))

@@ -7,7 +7,8 @@ pub returns : goal.returns
 returns c =
     dedup_is eqb c.sort_unstable.new.self.items c.dedup.new.self.items c.dedup.ensures.filtered
     ∙ sorted-distinct c.loop-attr.hashes.items c.sort_unstable.new.self.items c.sort_unstable.ensures.permutation c.sort_unstable.ensures.sorted
-    ∙ ap distinct c.loop-attr.invariant ∙ ap (λ xs. distinct (map (hash_of c.args.keys) (map attribute_of xs))) (take_all c.loop-attr.attr-index c.args.attrs.now c.loop-attr-test.false)
+    ∙ ap distinct c.loop-attr.invariant ∙ ap (λ xs. distinct (map (hash_of c.args.keys) (map attribute_of xs)))
+    (take_all c.loop-attr.attr-index c.args.attrs.now c.loop-attr-test.false)
 
 pub loop-attr-init : goal.loop-attr-init
 loop-attr-init c = c.new-hashes.ensures.items
@@ -21,5 +22,6 @@ loop-attr-preserved c =
     let i = c.loop-attr.attr-index in
     let x = get_or attrs i c.attr-item.result in
     c.in_ok-push.ensures.items ∙ (λ t. c.loop-attr.invariant t ++ (c.hash_attr.ensures ∙ ap (λ a. hash_of c.args.keys (attribute_of a)) c.attr-item.is) t ∷ [])
-    ∙ sym (ap (map (hash_of c.args.keys)) (map-append attribute_of (take i attrs) (x ∷ [])) ∙ map-append (hash_of c.args.keys) (map attribute_of (take i attrs)) (attribute_of x ∷ []))
+    ∙ sym (ap (map (hash_of c.args.keys)) (map-append attribute_of (take i attrs) (x ∷ []))
+    ∙ map-append (hash_of c.args.keys) (map attribute_of (take i attrs)) (attribute_of x ∷ []))
     ∙ ap (λ xs. map (hash_of c.args.keys) (map attribute_of xs)) (sym (take_more attrs i c.attr-item.result c.loop-attr-test.true))

@@ -11,8 +11,10 @@ enter-requires-clause-slot c = λ y is.
     let n = c.len-index.result in
     let pushed : c.deref_mut.result.now ≡ items ++ x ∷ [] = c.deref_mut.ensures.value ∙ c.in_ok-push.ensures.items in
     let long : length items ≡ n = omega arith in
-    let same : take n c.deref_mut.result.now ≡ items = ap (take n) pushed ∙ subst (λ k. take k (items ++ x ∷ []) ≡ items) long (take-append_seam items (x ∷ [])) in
-    below-same c.args.last.now c.deref.result.now (take n c.deref_mut.result.now) _ x y (c.slot_below.ensures c.deref.result.now c.sets_at_end.ensures) (same ∙ sym c.deref.ensures.value)
+    let same : take n c.deref_mut.result.now ≡ items = ap (take n) pushed ∙ subst (λ k. take k (items ++ x ∷ []) ≡ items) long
+    (take-append_seam items (x ∷ [])) in
+    below-same c.args.last.now c.deref.result.now (take n c.deref_mut.result.now) _ x y (c.slot_below.ensures c.deref.result.now c.sets_at_end.ensures)
+    (same ∙ sym c.deref.ensures.value)
     (is ∙ ap (λ xs. get_or xs n y) pushed ∙ get_or_push items x y n long)
 
 pub returns-clause-rests : goal.returns-clause-rests
@@ -34,7 +36,8 @@ returns-clause-rests c =
     let ys : map opened_by new ≡ map opened_by items ++ opened_by x ∷ [] = same ∙ map-append opened_by items (x ∷ []) in
     subst (Rests last) (sym (written_back new _ _ _ c.enter.ensures.same c.deref_mut.ensures.value c.deref_mut.ensures.len)) (record {
       stands = subst (Stands last) (take_all (n + 1) new (omega (arith, long))) c.enter.ensures.stands;
-      ends = λ k is. some≢none (open_of x.opened) (get_or (map opened_by new) k None) (ap (λ zs. get_or zs k None) ys ∙ get_or_push (map opened_by items) (opened_by x) None k (over ∙ omega (arith, is, long, length-map new opened_by)) ∙ held);
+      ends = λ k is. some≢none (open_of x.opened) (get_or (map opened_by new) k None) (ap (λ zs. get_or zs k None) ys
+          ∙ get_or_push (map opened_by items) (opened_by x) None k (over ∙ omega (arith, is, long, length-map new opened_by)) ∙ held);
       holes = omega (arith, c.requires.rests.holes, c.enter.ensures.tables.holes, ap length stack, long, before);
       levels = omega (arith, long, before, c.requires.levels);
     })
@@ -46,4 +49,6 @@ returns-clause-ok c =
     let pushed : c.deref_mut.result.now ≡ items ++ x ∷ [] = c.deref_mut.ensures.value ∙ c.in_ok-push.ensures.items in
     ap stack_of (written_back c.enter.new.items _ _ _ c.enter.ensures.same c.deref_mut.ensures.value c.deref_mut.ensures.len)
     ∙ ap (λ ys. somes (reverse ys)) (c.enter.ensures.same ∙ ap (map opened_by) pushed)
-    ∙ stack-more items x (open_of x.opened) (below-held c.args.last.now c.deref.result.now c.args.opened x (c.slot_below.ensures c.deref.result.now c.sets_at_end.ensures)) ∙ ap (λ (z : Open). open_of z ∷ stack_of items) (c.slot_below.ensures c.deref.result.now c.sets_at_end.ensures).opened
+    ∙ stack-more items x (open_of x.opened) (below-held c.args.last.now c.deref.result.now c.args.opened x
+    (c.slot_below.ensures c.deref.result.now c.sets_at_end.ensures)) ∙ ap (λ (z : Open). open_of z ∷ stack_of items)
+    (c.slot_below.ensures c.deref.result.now c.sets_at_end.ensures).opened

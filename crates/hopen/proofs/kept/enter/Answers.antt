@@ -35,11 +35,18 @@ returns c =
     let room = c.requires.room z is in
     let level : i + 1 ≡ suc (length (take i items)) = omega (arith, length-take-le i items (omega arith)) in
     let taken : take (i + 1) items ≡ take i items ++ z ∷ [] = take-more items (i + 1) i z (omega arith) within is in
-    let closes : next.must_close ≡ last.must_close + closing z.kind = omega (arith, c.set.ensures.counts.0, c.closing.ensures, ap (λ (x : KeptNode). closing x.kind) other) in
+    let closes : next.must_close ≡ last.must_close + closing z.kind = omega (
+      arith,
+      c.set.ensures.counts.0,
+      c.closing.ensures,
+      ap
+          (λ (x : KeptNode). closing x.kind) other,
+    ) in
     record {
       stands = stands-alike next (take (i + 1) c.hint.new.items) (take (i + 1) items) (alike-take next c.hint.new.items items c.hint.ensures (i + 1))
           (subst (λ (xs : List KeptNode). Stands next xs) (sym taken)
-          (stands-more (take i items) z last c.requires.stands (i + 1) level (below-held last (take i items) z.opened z below) below.kind room.0 room.1 below.same_name below.same_node
+          (stands-more (take i items) z last c.requires.stands (i + 1) level (below-held last (take i items) z.opened z below) below.kind room.0 room.1
+          below.same_name below.same_node
           below.sets next c.set.ensures.names c.set.ensures.nodes closes));
       same = c.hint.ensures.rest.opened;
       tables = record {

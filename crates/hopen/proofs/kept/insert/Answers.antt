@@ -7,13 +7,16 @@ use Rattle.hopen.proofs.kept.insert.Goals as goal
 pub returns-clause-items : goal.returns-clause-items
 returns-clause-items c =
     let put : c.insert.new.self.items ≡ insert c.args.items.now.items c.args.index c.new.result = search rules in
-    ap (map opened_by) (written_back c.rewind.new.items _ _ _ c.rewind.ensures.same c.deref_mut.ensures.value c.deref_mut.ensures.len) ∙ c.rewind.ensures.same ∙ ap (map opened_by) (c.deref_mut.ensures.value ∙ put)
+    ap (map opened_by) (written_back c.rewind.new.items _ _ _ c.rewind.ensures.same c.deref_mut.ensures.value c.deref_mut.ensures.len)
+    ∙ c.rewind.ensures.same ∙ ap (map opened_by) (c.deref_mut.ensures.value ∙ put)
     ∙ map-insert opened_by c.args.items.now.items c.args.index c.new.result
-    ∙ ap (insert (map opened_by c.args.items.now.items) c.args.index) (held c.new.result c.new.ensures.live ∙ ap (λ (z : Open). Some (open_of z)) c.new.ensures.opened)
+    ∙ ap (insert (map opened_by c.args.items.now.items) c.args.index) (held c.new.result c.new.ensures.live
+    ∙ ap (λ (z : Open). Some (open_of z)) c.new.ensures.opened)
 
 pub returns-clause-stands : goal.returns-clause-stands
 returns-clause-stands c =
-    subst (Stands c.rewind.new.last) (sym (written_back c.rewind.new.items _ _ _ c.rewind.ensures.same c.deref_mut.ensures.value c.deref_mut.ensures.len)) c.rewind.ensures.stands
+    subst (Stands c.rewind.new.last) (sym (written_back c.rewind.new.items _ _ _ c.rewind.ensures.same c.deref_mut.ensures.value c.deref_mut.ensures.len))
+    c.rewind.ensures.stands
 
 pub rewind-requires-clause-stands : goal.rewind-requires-clause-stands
 rewind-requires-clause-stands c = grind (arith, common_steps)
@@ -24,8 +27,15 @@ rewind-requires-clause-numbers c =
     let all = c.args.items.now.items in
     let names = length c.unwind.new.last.names.items in
     let nodes = length c.unwind.new.last.nodes.items in
-    let numbers : AreIn names nodes (map opened_by (drop c.args.index all)) = subst (λ (xs : List KeptNode). AreIn names nodes (map opened_by (drop c.args.index xs))) c.deref.ensures.value c.unwind.ensures.numbers in
-    let new : Some (open_of c.args.new) ≡ opened_by c.new.result = sym (held c.new.result c.new.ensures.live ∙ ap (λ (z : Open). Some (open_of z)) c.new.ensures.opened) in
+    let numbers : AreIn names nodes (map opened_by (drop c.args.index all)) = subst (λ (xs : List KeptNode). AreIn names nodes
+    (map opened_by (drop c.args.index xs))) c.deref.ensures.value c.unwind.ensures.numbers in
+    let new : Some (open_of c.args.new) ≡ opened_by c.new.result = sym (held c.new.result c.new.ensures.live
+    ∙ ap (λ (z : Open). Some (open_of z)) c.new.ensures.opened) in
     let here : IsIn names nodes (opened_by c.new.result) =
-    subst (IsIn names nodes) new (omega (arith, c.requires.new_in.0, c.unwind.ensures.tables.names), omega (arith, c.requires.new_in.1, c.unwind.ensures.tables.nodes)) in
-    subst (λ (xs : List KeptNode). AreIn names nodes (map opened_by (drop c.args.index xs))) (sym (c.deref_mut.ensures.value ∙ put)) (numbers-inserted all c.args.index c.new.result names nodes c.requires.within numbers here)
+    subst (IsIn names nodes) new (
+      omega (arith, c.requires.new_in.0, c.unwind.ensures.tables.names),
+      omega
+          (arith, c.requires.new_in.1, c.unwind.ensures.tables.nodes),
+    ) in
+    subst (λ (xs : List KeptNode). AreIn names nodes (map opened_by (drop c.args.index xs))) (sym (c.deref_mut.ensures.value ∙ put))
+    (numbers-inserted all c.args.index c.new.result names nodes c.requires.within numbers here)

@@ -4,10 +4,12 @@ use Rattle.hopen.proofs.Standing.{numbers-alike, numbers-less}
 use Rattle.hopen.proofs.kept.open_at.Goals as goal
 
 -- the numbers of the node of a slot are in the tables
-node-is-in : (items : List KeptNode) (i : ℕ) (y : KeptNode) (names nodes : ℕ) → i < length items → is_hole_kind (KeptNode.kind (get_or items i y)) ≡ false → AreIn names nodes (map opened_by (drop i items))
+node-is-in : (items : List KeptNode) (i : ℕ) (y : KeptNode) (names nodes : ℕ) → i < length items → is_hole_kind (KeptNode.kind (get_or items i y)) ≡ false
+    → AreIn names nodes (map opened_by (drop i items))
     → (Open.name (KeptNode.opened (get_or items i y)) < names) × (Open.node (KeptNode.opened (get_or items i y)) < nodes)
 node-is-in items i y names nodes h live all =
-    subst (IsIn names nodes) (held (get_or items i y) live) (numbers-less items (i + 1) i (get_or items i y) (omega arith) h (get_or_default items i y (get_or items i y) h) names nodes all).0
+    subst (IsIn names nodes) (held (get_or items i y) live) (numbers-less items (i + 1) i (get_or items i y) (omega arith) h
+    (get_or_default items i y (get_or items i y) h) names nodes all).0
 
 pub enter-requires-clause-stands : goal.enter-requires-clause-stands
 enter-requires-clause-stands c = subst (Stands c.args.last.now) (sym (take-set c.args.items.now c.args.index c.slot_below.result)) c.requires.stands
@@ -17,12 +19,14 @@ enter-requires-clause-slot c = λ y is.
     let items = c.args.items.now in
     let i = c.args.index in
     let x = c.slot_below.result in
-    below-same c.args.last.now (take i items) (take i (set items i x)) _ x y (c.slot_below.ensures (take i items) c.sets_of.ensures) (take-set items i x) (is ∙ get_or-set_same items i x y (omega arith))
+    below-same c.args.last.now (take i items) (take i (set items i x)) _ x y (c.slot_below.ensures (take i items) c.sets_of.ensures) (take-set items i x)
+    (is ∙ get_or-set_same items i x y (omega arith))
 
 pub slot_below-requires-clause-room : goal.slot_below-requires-clause-room
 slot_below-requires-clause-room c =
     let z : KeptNode = get_or c.args.items.now c.args.index c.index-items-index.result in
-    node-is-in c.args.items.now c.args.index c.index-items-index.result _ _ (omega arith) (c.requires.live z (get_or_default c.args.items.now c.args.index c.index-items-index.result z (omega arith))) c.requires.numbers
+    node-is-in c.args.items.now c.args.index c.index-items-index.result _ _ (omega arith)
+    (c.requires.live z (get_or_default c.args.items.now c.args.index c.index-items-index.result z (omega arith))) c.requires.numbers
 
 pub enter-requires-clause-room : goal.enter-requires-clause-room
 enter-requires-clause-room c = λ y is.
@@ -30,8 +34,10 @@ enter-requires-clause-room c = λ y is.
     let i = c.args.index in
     let x = c.slot_below.result in
     let z : KeptNode = get_or items i c.index-items-index.result in
-    let room = node-is-in items i c.index-items-index.result _ _ (omega arith) (c.requires.live z (get_or_default items i c.index-items-index.result z (omega arith))) c.requires.numbers in
-    subst (HasRoom c.args.last.now) (sym (ap KeptNode.opened (is ∙ get_or-set_same items i x y (omega arith)) ∙ (c.slot_below.ensures (take c.args.index c.args.items.now) c.sets_of.ensures).opened)) room
+    let room = node-is-in items i c.index-items-index.result _ _ (omega arith) (c.requires.live z
+    (get_or_default items i c.index-items-index.result z (omega arith))) c.requires.numbers in
+    subst (HasRoom c.args.last.now) (sym (ap KeptNode.opened (is ∙ get_or-set_same items i x y (omega arith))
+    ∙ (c.slot_below.ensures (take c.args.index c.args.items.now) c.sets_of.ensures).opened)) room
 
 pub returns : goal.returns
 returns c =
@@ -42,8 +48,10 @@ returns c =
     let z : KeptNode = get_or items i d in
     let within : i < length items = omega arith in
     let live : is_hole_kind z.kind ≡ false = c.requires.live z (get_or_default items i d z within) in
-    let rest = numbers-less items (i + 1) i d (omega arith) within c.index-items-index.is (length c.args.last.now.names.items) (length c.args.last.now.nodes.items) c.requires.numbers in
-    let opened : opened_by x ≡ opened_by z = below-held c.args.last.now (take i items) _ x (c.slot_below.ensures (take i items) c.sets_of.ensures) ∙ ap (λ (o : Open). Some (open_of o)) (c.slot_below.ensures (take c.args.index c.args.items.now) c.sets_of.ensures).opened ∙ sym (held z live) in
+    let rest = numbers-less items (i + 1) i d (omega arith) within c.index-items-index.is (length c.args.last.now.names.items)
+    (length c.args.last.now.nodes.items) c.requires.numbers in
+    let opened : opened_by x ≡ opened_by z = below-held c.args.last.now (take i items) _ x (c.slot_below.ensures (take i items) c.sets_of.ensures)
+    ∙ ap (λ (o : Open). Some (open_of o)) (c.slot_below.ensures (take c.args.index c.args.items.now) c.sets_of.ensures).opened ∙ sym (held z live) in
     let written : map opened_by (set items i x) ≡ map opened_by items = map-set_same opened_by items i x d opened in
     let same = c.enter.ensures.same ∙ written in
     record {

@@ -7,9 +7,14 @@ pub rewind-requires-clause-numbers : goal.rewind-requires-clause-numbers
 rewind-requires-clause-numbers c =
     let names = length c.unwind.new.last.names.items in
     let nodes = length c.unwind.new.last.nodes.items in
-    let new : Some (open_of c.args.new) ≡ opened_by c.new.result = sym (held c.new.result c.new.ensures.live ∙ ap (λ (z : Open). Some (open_of z)) c.new.ensures.opened) in
+    let new : Some (open_of c.args.new) ≡ opened_by c.new.result = sym (held c.new.result c.new.ensures.live
+    ∙ ap (λ (z : Open). Some (open_of z)) c.new.ensures.opened) in
     numbers-replaced c.args.items.now c.args.index c.new.result names nodes c.requires.within c.unwind.ensures.numbers
-    (subst (IsIn names nodes) new (omega (arith, c.requires.new_in.0, c.unwind.ensures.tables.names), omega (arith, c.requires.new_in.1, c.unwind.ensures.tables.nodes)))
+    (subst (IsIn names nodes) new (
+      omega (arith, c.requires.new_in.0, c.unwind.ensures.tables.names),
+      omega
+          (arith, c.requires.new_in.1, c.unwind.ensures.tables.nodes),
+    ))
 
 pub rewind-requires-clause-stands : goal.rewind-requires-clause-stands
 rewind-requires-clause-stands c = subst (Stands c.unwind.new.last) (sym (take-set c.args.items.now c.args.index c.new.result)) c.unwind.ensures.stands

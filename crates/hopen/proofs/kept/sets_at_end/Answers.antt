@@ -8,5 +8,6 @@ returns c =
     let z = c.index-items-len.result in
     let next : suc i ≡ length items = omega arith in
     let live : get_or (map opened_by items) i None ≢ None = c.requires.ends i (length-map items opened_by ∙ sym next) in
-    λ set. sym (get_or-map (set_node set) (map sets_at items) i z.sets 0 (omega (arith, length-map items sets_at)) ∙ ap (set_node set) (get_or-map sets_at items i z z.sets (omega arith)))
+    λ set. sym (get_or-map (set_node set) (map sets_at items) i z.sets 0 (omega (arith, length-map items sets_at))
+    ∙ ap (set_node set) (get_or-map sets_at items i z z.sets (omega arith)))
     ∙ c.requires.keep set i (omega (arith, length-map items opened_by)) live ∙ ap (nearest_up set (map opened_by items)) next

@@ -9,7 +9,8 @@ loop-index-preserved c =
     let i = c.loop-index.index in
     let x = c.index-items-index.result in
     let next : i ≡ suc (i - 1) = omega arith in
-    let gone : get_or (map opened_by items) (i - 1) None ≡ None = opened-at items (i - 1) x (omega arith) ∙ no-node (get_or items (i - 1) x) (sym c.is_hole.ensures ∙ c.if-not-is_hole.false) in
+    let gone : get_or (map opened_by items) (i - 1) None ≡ None = opened-at items (i - 1) x (omega arith)
+    ∙ no-node (get_or items (i - 1) x) (sym c.is_hole.ensures ∙ c.if-not-is_hole.false) in
     record {
       within = omega arith;
       rest = λ set. c.loop-index.invariant.rest set ∙ ap (nearest_up set (map opened_by items)) next ∙ nearest-hole set (map opened_by items) (i - 1) gone;
@@ -22,9 +23,12 @@ returns-then-not-is_hole c =
     let x = c.index-items-index.result in
     let z = c.index-items-index-then-not-is_hole.result in
     let next : suc (i - 1) ≡ i = omega arith in
-    let live : get_or (map opened_by items) (i - 1) None ≢ None = some≢none _ _ (opened-at items (i - 1) x (omega arith) ∙ held (get_or items (i - 1) x) (sym c.is_hole.ensures ∙ c.if-not-is_hole.true)) in
-    λ set. sym (get_or-map (set_node set) (map sets_at items) (i - 1) z.sets 0 (omega (arith, length-map items sets_at)) ∙ ap (set_node set) (get_or-map sets_at items (i - 1) z z.sets (omega arith)))
-    ∙ c.requires set (i - 1) (omega (arith, length-map items opened_by)) live ∙ ap (nearest_up set (map opened_by items)) next ∙ sym (c.loop-index.invariant.rest set)
+    let live : get_or (map opened_by items) (i - 1) None ≢ None = some≢none _ _ (opened-at items (i - 1) x (omega arith)
+    ∙ held (get_or items (i - 1) x) (sym c.is_hole.ensures ∙ c.if-not-is_hole.true)) in
+    λ set. sym (get_or-map (set_node set) (map sets_at items) (i - 1) z.sets 0 (omega (arith, length-map items sets_at))
+    ∙ ap (set_node set) (get_or-map sets_at items (i - 1) z z.sets (omega arith)))
+    ∙ c.requires set (i - 1) (omega (arith, length-map items opened_by)) live ∙ ap (nearest_up set (map opened_by items)) next
+    ∙ sym (c.loop-index.invariant.rest set)
 
 pub returns : goal.returns
 returns c =

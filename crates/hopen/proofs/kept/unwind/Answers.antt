@@ -9,7 +9,8 @@ close_at-requires-clause-stands c =
 pub close_at-requires-clause-numbers : goal.close_at-requires-clause-numbers
 close_at-requires-clause-numbers c =
     let next : c.loop-end.end ≡ c.loop-end.end - 1 + 1 = omega arith in
-    subst (λ n. AreIn (length c.loop-end.last.names.items) (length c.loop-end.last.nodes.items) (map opened_by (drop n c.args.items.now))) next c.loop-end.invariant.numbers
+    subst (λ n. AreIn (length c.loop-end.last.names.items) (length c.loop-end.last.nodes.items) (map opened_by (drop n c.args.items.now))) next
+    c.loop-end.invariant.numbers
 
 pub loop-end-preserved : goal.loop-end-preserved
 loop-end-preserved c = record {

@@ -9,7 +9,8 @@ rewind-requires-clause-stands c = subst (Stands c.unwind.new.last) (sym (take-se
 pub rewind-requires-clause-numbers : goal.rewind-requires-clause-numbers
 rewind-requires-clause-numbers c =
     numbers-replaced c.args.items.now c.args.index c.hole.result _ _ c.requires.within c.unwind.ensures.numbers
-    (subst (IsIn (length c.unwind.new.last.names.items) (length c.unwind.new.last.nodes.items)) (sym (no-node c.hole.result (ap is_hole_kind c.hole.ensures.hole))) tt)
+    (subst (IsIn (length c.unwind.new.last.names.items) (length c.unwind.new.last.nodes.items))
+    (sym (no-node c.hole.result (ap is_hole_kind c.hole.ensures.hole))) tt)
 
 pub returns-clause-opened : goal.returns-clause-opened
 returns-clause-opened c =

@@ -4,10 +4,13 @@ use Rattle.hopen.proofs.leaving.make_hole.Goals as goal
 
 pub is_alone-requires : goal.is_alone-requires
 is_alone-requires c =
-    is-held (get_or c.args.items.now c.args.index c.index-items-index.result) (λ e. c.requires.live (opened-at c.args.items.now c.args.index c.index-items-index.result c.requires.within ∙ e))
+    is-held (get_or c.args.items.now c.args.index c.index-items-index.result) (λ e. c.requires.live
+    (opened-at c.args.items.now c.args.index c.index-items-index.result c.requires.within ∙ e))
 
 pub leave-requires-clause-alone : goal.leave-requires-clause-alone
 leave-requires-clause-alone c = λ x is.
     let next : c.args.index + 1 ≡ suc c.args.index = omega arith in
-    let same : get_or c.args.items.now c.args.index c.index-items-index.result ≡ x = get_or_default c.args.items.now c.args.index c.index-items-index.result x c.requires.within ∙ sym is in
-    subst (λ n. IsAlone c.args.last.now x n) next (subst (λ (z : KeptNode). IsAlone c.args.last.now z (c.args.index + 1)) same (c.is_alone.ensures c.if-is_alone.true))
+    let same : get_or c.args.items.now c.args.index c.index-items-index.result ≡ x = get_or_default c.args.items.now c.args.index
+    c.index-items-index.result x c.requires.within ∙ sym is in
+    subst (λ n. IsAlone c.args.last.now x n) next (subst (λ (z : KeptNode). IsAlone c.args.last.now z (c.args.index + 1)) same
+    (c.is_alone.ensures c.if-is_alone.true))

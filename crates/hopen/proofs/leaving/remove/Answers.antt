@@ -16,7 +16,8 @@ overflow_add-last c =
 pub tidy-requires-clause-stands : goal.tidy-requires-clause-stands
 tidy-requires-clause-stands c =
     let back = with_items_is c.args.items.now c.make_hole.new.items (c.make_hole.auto.items ∙ c.deref_mut.ensures.len) in
-    let s : Stands c.make_hole.new.last (with_items c.args.items.now c.make_hole.new.items).items = subst (Stands c.make_hole.new.last) (sym back) c.make_hole.ensures.stands in
+    let s : Stands c.make_hole.new.last (with_items c.args.items.now c.make_hole.new.items).items =
+    subst (Stands c.make_hole.new.last) (sym back) c.make_hole.ensures.stands in
     record { names = s.names; nodes = s.nodes; sets = s.sets; kinds = s.kinds; closes = s.closes; fits = s.fits }
 
 pub tidy-requires-clause-holes : goal.tidy-requires-clause-holes
@@ -40,4 +41,5 @@ pub returns-clause-items : goal.returns-clause-items
 returns-clause-items c =
     let back = with_items_is c.args.items.now c.make_hole.new.items (c.make_hole.auto.items ∙ c.deref_mut.ensures.len) in
     c.tidy.ensures.same
-    ∙ ap (λ ys. somes (reverse ys)) (ap (map opened_by) back ∙ c.make_hole.ensures.opened ∙ ap (λ (xs : List KeptNode). set (map opened_by xs) c.args.index None) c.deref_mut.ensures.value)
+    ∙ ap (λ ys. somes (reverse ys)) (ap (map opened_by) back ∙ c.make_hole.ensures.opened
+    ∙ ap (λ (xs : List KeptNode). set (map opened_by xs) c.args.index None) c.deref_mut.ensures.value)

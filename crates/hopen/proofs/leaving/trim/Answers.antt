@@ -5,7 +5,8 @@ use Rattle.hopen.proofs.leaving.trim.Goals as goal
 pub overflow_sub-last : goal.overflow_sub-last
 overflow_sub-last c =
     let items = c.loop-items.items.items in
-    let h = subst (λ (xs : List KeptNode). (0 < length xs) × (get_or (map opened_by xs) (length xs - 1) None ≡ None)) c.deref.ensures.value (c.ends_in_hole.ensures.hole c.loop-items-test.true) in
+    let h = subst (λ (xs : List KeptNode). (0 < length xs) × (get_or (map opened_by xs) (length xs - 1) None ≡ None)) c.deref.ensures.value
+    (c.ends_in_hole.ensures.hole c.loop-items-test.true) in
     omega (
       arith,
       h.0,
@@ -18,15 +19,26 @@ overflow_sub-last c =
 pub loop-items-preserved : goal.loop-items-preserved
 loop-items-preserved c =
     let items = c.loop-items.items.items in
-    let h = subst (λ (xs : List KeptNode). (0 < length xs) × (get_or (map opened_by xs) (length xs - 1) None ≡ None)) c.deref.ensures.value (c.ends_in_hole.ensures.hole c.loop-items-test.true) in
+    let h = subst (λ (xs : List KeptNode). (0 < length xs) × (get_or (map opened_by xs) (length xs - 1) None ≡ None)) c.deref.ensures.value
+    (c.ends_in_hole.ensures.hole c.loop-items-test.true) in
     let d = first-of items h.0 in
     let left : c.truncate.new.self.items ≡ take (length items - 1) items = search rules in
     let same : stack_of c.truncate.new.self.items ≡ stack_of items = ap stack_of left ∙ stack-trimmed items h.0 h.1 d in
-    let s : Stands c.loop-items.last c.truncate.new.self.items = subst (Stands c.loop-items.last) (sym left) (stands-trimmed items h.0 h.1 c.loop-items.last d c.loop-items.invariant.stands) in
+    let s : Stands c.loop-items.last c.truncate.new.self.items = subst (Stands c.loop-items.last) (sym left)
+    (stands-trimmed items h.0 h.1 c.loop-items.last d c.loop-items.invariant.stands) in
     let many : length (take (length items - 1) items) ≡ length items - 1 = length-take-le (length items - 1) items (omega arith) in
     record {
       stands = record { names = s.names; nodes = s.nodes; sets = s.sets; kinds = s.kinds; closes = s.closes; fits = s.fits };
-      holes = omega (arith, h.0, ap length same, ap length left, many, c.loop-items.invariant.holes, ap length (stack-trimmed items h.0 h.1 d), length-stack (take (length items - 1) items));
+      holes = omega (
+        arith,
+        h.0,
+        ap length same,
+        ap length left,
+        many,
+        c.loop-items.invariant.holes,
+        ap length (stack-trimmed items h.0 h.1 d),
+        length-stack (take (length items - 1) items),
+      );
       same = same ∙ c.loop-items.invariant.same;
       names = c.loop-items.invariant.names;
       nodes = c.loop-items.invariant.nodes;

@@ -13,7 +13,8 @@ loop-index-preserved c =
     let is = c.loop-index.invariant in
     let within : i < length old = omega arith in
     let here : i < length items = omega (arith, is.size) in
-    let seen : is_gone (get_or items i stored.Hole) ≡ c.is_hole.result = sym (c.is_hole.ensures ∙ ap is_gone (get_or_read items i c.index.result.now here c.index.ensures stored.Hole)) in
+    let seen : is_gone (get_or items i stored.Hole) ≡ c.is_hole.result = sym (c.is_hole.ensures
+    ∙ ap is_gone (get_or_read items i c.index.result.now here c.index.ensures stored.Hole)) in
     elim c.if-not-is_hole.branch [
       | then-not-is_hole w ↦
           subst (λ n. IsTaken from n (i + 1) old c.if-not-is_hole.items.items) (sym w.end-is)

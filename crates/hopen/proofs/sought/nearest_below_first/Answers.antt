@@ -5,7 +5,8 @@ use Rattle.hopen.proofs.sought.nearest_below_first.Goals as goal
 
 pub slice_bounds-last_open-length : goal.slice_bounds-last_open-length
 slice_bounds-last_open-length c =
-    sym (length-take-le (c.level_of-level.result - 1) c.args.items.now (omega (arith, level-within (is_sought c.args.sought) c.args.items.now c.level_of-level.result c.level_of-level.ensures)))
+    sym (length-take-le (c.level_of-level.result - 1) c.args.items.now
+    (omega (arith, level-within (is_sought c.args.sought) c.args.items.now c.level_of-level.result c.level_of-level.ensures)))
 
 pub returns-then-level-eq0 : goal.returns-then-level-eq0
 returns-then-level-eq0 c =
@@ -16,7 +17,8 @@ pub bounds-items-level : goal.bounds-items-level
 bounds-items-level c = omega (arith, (placed (is_sought c.args.sought) c.args.items.now c.level_of-level.result c.level_of-level.ensures (omega arith)).sum)
 
 pub bounds-items-level-in_ok-last_open : goal.bounds-items-level-in_ok-last_open
-bounds-items-level-in_ok-last_open c = omega (arith, (placed (is_sought c.args.sought) c.args.items.now c.level_of-level.result c.level_of-level.ensures (omega arith)).sum)
+bounds-items-level-in_ok-last_open c = omega
+    (arith, (placed (is_sought c.args.sought) c.args.items.now c.level_of-level.result c.level_of-level.ensures (omega arith)).sum)
 
 pub returns-in_err-last_open : goal.returns-in_err-last_open
 returns-in_err-last_open c =

@@ -41,7 +41,8 @@ bounds-items-level-else-node-eq0 c =
 pub search-requires : goal.search-requires
 search-requires c =
     let kept = c.of-node.ensures ∙ c.sets_at_end.ensures c.args.set in
-    (level-within c.args.last.now c.args.items.now c.requires.stands c.args.set c.of-node.result kept (omega arith) c.index-level.result.now c.index-level.ensures).1
+    (level-within c.args.last.now c.args.items.now c.requires.stands c.args.set c.of-node.result kept
+    (omega arith) c.index-level.result.now c.index-level.ensures).1
 
 pub returns-then-items-level-gt0 : goal.returns-then-items-level-gt0
 returns-then-items-level-gt0 c =

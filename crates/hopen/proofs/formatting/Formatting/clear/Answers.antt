@@ -8,12 +8,14 @@ use Rattle.hopen.proofs.formatting.Formatting.clear.Goals as goal
 pub truncate-requires-clause-within : goal.truncate-requires-clause-within
 truncate-requires-clause-within c =
     let items = c.self.inside.slots.items.items in
-    let marker : c.last.result ≡ marker_place (items_of items) = c.last.ensures ∙ last-is 0 c.self.inside.slots.names ∙ ap (last_of 0) (ap reverse c.self.invariant.names ∙ numbers-back by_name items) in
+    let marker : c.last.result ≡ marker_place (items_of items) = c.last.ensures ∙ last-is 0 c.self.inside.slots.names
+    ∙ ap (last_of 0) (ap reverse c.self.invariant.names ∙ numbers-back by_name items) in
     omega (arith, place-le by_name 0 (items_of items), length-items_of items)
 
 pub returns : goal.returns
 returns c =
     let items = c.self.inside.slots.items.items in
-    let marker : c.last.result ≡ marker_place (items_of items) = c.last.ensures ∙ last-is 0 c.self.inside.slots.names ∙ ap (last_of 0) (ap reverse c.self.invariant.names ∙ numbers-back by_name items) in
+    let marker : c.last.result ≡ marker_place (items_of items) = c.last.ensures ∙ last-is 0 c.self.inside.slots.names
+    ∙ ap (last_of 0) (ap reverse c.self.invariant.names ∙ numbers-back by_name items) in
     c.trim.ensures.same ∙ ap (λ xs. live (items_of xs)) c.truncate.ensures.items ∙ ap live (sym (cleared-take items c.saturating_sub-len.result (omega arith)))
     ∙ sym (cleared-live (items_of items)) ∙ ap cleared c.self.view_is

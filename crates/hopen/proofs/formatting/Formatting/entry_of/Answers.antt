@@ -11,11 +11,17 @@ returns-then-place-eq0 c =
     let place = placed c.args.node c.node_number.result c.last-place.result c.self.inside.slots c.self.invariant c.node_number.ensures c.last-place.ensures in
     let slots = slots-are items c.self.invariant.stored in
     let none = node-none c.args.node (omega arith) (items_of items) slots (sym place ∙ c.if-place-eq0.true) in
-    sym (ap (entry_of c.args.node) (sym c.self.view_is) ∙ entry_of-live c.args.node (items_of items) slots (omega arith) ∙ entry_of-is c.args.node (items_of items)
+    sym (ap (entry_of c.args.node) (sym c.self.view_is) ∙ entry_of-live c.args.node (items_of items) slots (omega arith)
+    ∙ entry_of-is c.args.node (items_of items)
     ∙ ap (option_and_then as_entry) ((no_words (is_entry c.args.node) (items_of items) (no-position (is_entry c.args.node) (items_of items) none)).find_is))
 
 pub index-requires : goal.index-requires
-index-requires c = omega (arith, c.if-place-eq0.false, placed-within c.args.node c.node_number.result c.last-place.result c.self.inside.slots c.self.invariant c.node_number.ensures c.last-place.ensures)
+index-requires c = omega (
+  arith,
+  c.if-place-eq0.false,
+  placed-within c.args.node c.node_number.result c.last-place.result c.self.inside.slots
+      c.self.invariant c.node_number.ensures c.last-place.ensures,
+)
 
 pub returns : goal.returns
 returns c =
@@ -25,8 +31,14 @@ returns c =
     let some : 0 < c.last-place.result = omega (arith, c.if-place-eq0.false) in
     let x = c.index.result.now in
     let back = length (items_of items) - node_place c.args.node (items_of items) in
-    let at : (c.last-place.result - 1) + suc back ≡ length items = omega (arith, place-le by_node (suc (suc c.args.node)) (items_of items), length-items_of items) in
+    let at : (c.last-place.result - 1) + suc back ≡ length items = omega (
+      arith,
+      place-le by_node (suc (suc c.args.node)) (items_of items),
+      length-items_of items,
+    ) in
     c.entry.ensures ∙ told-is x (place-there (λ e. e.node) items c.args.node c.last-place.result x some (sym place) c.index.ensures)
     ∙ ap (λ y. as_entry (item_of y)) c.index.ensures ∙ ap (option_and_then as_entry) (sym (slice_get_nearest item_of items (c.last-place.result - 1) back x at))
-    ∙ ap (option_and_then as_entry) (sym ((words (is_entry c.args.node) (items_of items) back (node-at c.args.node (omega arith) (items_of items) slots (omega arith))).find_is))
-    ∙ sym (entry_of-is c.args.node (items_of items)) ∙ sym (entry_of-live c.args.node (items_of items) slots (omega arith)) ∙ ap (entry_of c.args.node) c.self.view_is
+    ∙ ap (option_and_then as_entry) (sym ((words (is_entry c.args.node) (items_of items) back
+    (node-at c.args.node (omega arith) (items_of items) slots (omega arith))).find_is))
+    ∙ sym (entry_of-is c.args.node (items_of items)) ∙ sym (entry_of-live c.args.node (items_of items) slots (omega arith))
+    ∙ ap (entry_of c.args.node) c.self.view_is

@@ -13,7 +13,8 @@ returns-then-place-last c =
     let place : c.last-place.result ≡ name_place c.args.name (items_of items) =
     c.last-place.ensures ∙ last-is c.name_number.result c.self.inside.slots.names ∙ (λ i. last_of (c.name_number.ensures i) (numbers i)) in
     let marker : c.last.result ≡ marker_place (items_of items) = c.last.ensures ∙ last-is 0 c.self.inside.slots.names ∙ ap (last_of 0) numbers in
-    sym (ap (find_entry nat_eq c.args.name) (sym c.self.view_is) ∙ find-live c.args.name (items_of items) (omega arith) ∙ find-none c.args.name (omega arith) (items_of items) (omega arith))
+    sym (ap (find_entry nat_eq c.args.name) (sym c.self.view_is) ∙ find-live c.args.name (items_of items) (omega arith)
+    ∙ find-none c.args.name (omega arith) (items_of items) (omega arith))
 
 pub index-requires : goal.index-requires
 index-requires c =
@@ -32,7 +33,12 @@ returns c =
     let marker : c.last.result ≡ marker_place (items_of items) = c.last.ensures ∙ last-is 0 c.self.inside.slots.names ∙ ap (last_of 0) numbers in
     let x = c.index.result.now in
     let back = length (items_of items) - name_place c.args.name (items_of items) in
-    let at : (c.last-place.result - 1) + suc back ≡ length items = omega (arith, place-le by_name (suc (suc c.args.name)) (items_of items), length-items_of items) in
+    let at : (c.last-place.result - 1) + suc back ≡ length items = omega (
+      arith,
+      place-le by_name (suc (suc c.args.name)) (items_of items),
+      length-items_of items,
+    ) in
     c.entry.ensures ∙ told-is x (place-there (λ e. e.name) items c.args.name c.last-place.result x (omega arith) (sym place) c.index.ensures)
     ∙ ap (λ y. as_entry (item_of y)) c.index.ensures ∙ ap (option_and_then as_entry) (sym (slice_get_nearest item_of items (c.last-place.result - 1) back x at))
-    ∙ find-at c.args.name (omega arith) (items_of items) (omega arith) ∙ sym (find-live c.args.name (items_of items) (omega arith)) ∙ ap (find_entry nat_eq c.args.name) c.self.view_is
+    ∙ find-at c.args.name (omega arith) (items_of items) (omega arith) ∙ sym (find-live c.args.name (items_of items) (omega arith))
+    ∙ ap (find_entry nat_eq c.args.name) c.self.view_is

@@ -17,5 +17,6 @@ returns c =
     let at = nth-index items c.self.invariant.stored c.args.back c.in_ok-index.index found in
     let x = c.index.result.now in
     c.entry.ensures ∙ told-is x (nth-there items c.self.invariant.stored c.args.back c.in_ok-index.index found x c.index.ensures)
-    ∙ ap (option_and_then as_entry) (sym (nth-item items c.self.invariant.stored c.args.back c.in_ok-index.index found x c.index.ensures)) ∙ ap (option_and_then as_entry) (sym (nth-get c.args.back at.0 (items_of items) at.1.0))
+    ∙ ap (option_and_then as_entry) (sym (nth-item items c.self.invariant.stored c.args.back c.in_ok-index.index found x c.index.ensures))
+    ∙ ap (option_and_then as_entry) (sym (nth-get c.args.back at.0 (items_of items) at.1.0))
     ∙ ap (entry_at c.args.back) c.self.view_is

@@ -13,7 +13,8 @@ returns-then-place-eq0-clause-more c =
     let items = c.self.inside.slots.items.items in
     let place = placed c.args.node c.node_number.result c.last-place.result c.self.inside.slots c.self.invariant c.node_number.ensures c.last-place.ensures in
     let slots = slots-are items c.self.invariant.stored in
-    sym (ap (list_any (is_entry c.args.node)) (sym c.self.view_is) ∙ any-live c.args.node (items_of items) slots (omega arith) ∙ node-none c.args.node (omega arith) (items_of items) slots (omega arith))
+    sym (ap (list_any (is_entry c.args.node)) (sym c.self.view_is) ∙ any-live c.args.node (items_of items) slots (omega arith)
+    ∙ node-none c.args.node (omega arith) (items_of items) slots (omega arith))
 
 pub returns-then-place-eq0-clause-entry : goal.returns-then-place-eq0-clause-entry
 returns-then-place-eq0-clause-entry c =
@@ -25,17 +26,33 @@ returns-then-place-eq0-clause-entry c =
     ∙ sym (without1-live c.args.node (items_of items) slots (omega arith)) ∙ ap (without (is_entry c.args.node)) c.self.view_is
 
 pub hide-requires-clause-within : goal.hide-requires-clause-within
-hide-requires-clause-within c = omega (arith, c.if-place-eq0.false, placed-within c.args.node c.node_number.result c.last-place.result c.self.inside.slots c.self.invariant c.node_number.ensures c.last-place.ensures)
+hide-requires-clause-within c = omega (
+  arith,
+  c.if-place-eq0.false,
+  placed-within c.args.node c.node_number.result c.last-place.result c.self.inside.slots
+      c.self.invariant c.node_number.ensures c.last-place.ensures,
+)
 
 pub truncate-requires-clause-within : goal.truncate-requires-clause-within
-truncate-requires-clause-within c = omega (arith, c.if-place-eq0.false, placed-within c.args.node c.node_number.result c.last-place.result c.self.inside.slots c.self.invariant c.node_number.ensures c.last-place.ensures)
+truncate-requires-clause-within c = omega (
+  arith,
+  c.if-place-eq0.false,
+  placed-within c.args.node c.node_number.result c.last-place.result
+      c.self.inside.slots c.self.invariant c.node_number.ensures c.last-place.ensures,
+)
 
 pub before-more-requires-clause-within : goal.before-more-requires-clause-within
-before-more-requires-clause-within c = omega (arith, c.last-place.ensures, up-within (λ k. k == c.node_number.result) c.self.inside.slots.nodes (length c.self.inside.slots.nodes))
+before-more-requires-clause-within c = omega (
+  arith,
+  c.last-place.ensures,
+  up-within (λ k. k == c.node_number.result) c.self.inside.slots.nodes
+      (length c.self.inside.slots.nodes),
+)
 
 pub before-more-requires-clause-number : goal.before-more-requires-clause-number
 before-more-requires-clause-number c =
-    let there = number-placed c.args.node c.node_number.result c.last-place.result 0 (omega arith) c.self.inside.slots c.self.invariant c.node_number.ensures c.last-place.ensures (omega (arith, c.if-place-eq0.false)) in
+    let there = number-placed c.args.node c.node_number.result c.last-place.result 0 (omega arith) c.self.inside.slots c.self.invariant
+    c.node_number.ensures c.last-place.ensures (omega (arith, c.if-place-eq0.false)) in
     λ is. omega (arith, there, is)
 
 -- where the last entry is, and what is left
@@ -93,7 +110,8 @@ returns-clause-entry c = c.trim.ensures.same ∙ gone c ∙ ap live (sym (words 
 
 pub returns-clause-more : goal.returns-clause-more
 returns-clause-more c =
-    before-any c.args.node c.node_number.result c.last-place.result c.before-more.result (low c) c.self.inside.slots c.self.invariant c.node_number.ensures c.last-place.ensures (some c) c.before-more.ensures
+    before-any c.args.node c.node_number.result c.last-place.result c.before-more.result
+    (low c) c.self.inside.slots c.self.invariant c.node_number.ensures c.last-place.ensures (some c) c.before-more.ensures
     ∙ ap (list_any (sought c)) (sym (drop_nearest item_of (items c) (i c) (suc (up c)) (at c)) ∙ sym (words (sought c) (view c) (up c) (first c)).after_is)
     ∙ sym (any-without (sought c) (view c)) ∙ sym (any-live c.args.node (without (sought c) (view c)) (slots-without (sought c) (view c) (slots c)) (low c))
     ∙ ap (list_any (sought c)) (without-is c ∙ sym (returns-clause-entry c))

@@ -5,4 +5,5 @@ use Rattle.hopen.proofs.formatting.Formatting.marker.Goals as goal
 
 pub returns-clause-ok : goal.returns-clause-ok
 returns-clause-ok c =
-    ap (λ xs. live (items_of xs)) c.in_ok-put.ensures.ok ∙ ap live (items_of_more c.make_room.new.slots.items.items stored.Marker) ∙ ap (λ l. marker ∷ l) (c.make_room.ensures.same ∙ c.self.view_is)
+    ap (λ xs. live (items_of xs)) c.in_ok-put.ensures.ok ∙ ap live (items_of_more c.make_room.new.slots.items.items stored.Marker)
+    ∙ ap (λ l. marker ∷ l) (c.make_room.ensures.same ∙ c.self.view_is)

@@ -30,12 +30,14 @@ move_after-requires-clause-mark c =
     let items = c.self.inside.slots.items.items in
     let place = placed c.args.from c.node_number.result c.last-index.result c.self.inside.slots c.self.invariant c.node_number.ensures c.last-index.ensures in
     let there : list_any (is_entry c.args.from) (live (items_of items)) ≡ true = ap (list_any (is_entry c.args.from)) c.self.view_is ∙ c.requires.entry in
-    mark-there items c.self.invariant.stored c.args.from c.last-index.result (omega arith) place there c.args.mark (omega arith) (ap (has_bookmark c.args.from (After c.args.mark)) c.self.view_is ∙ c.requires.mark)
+    mark-there items c.self.invariant.stored c.args.from c.last-index.result (omega arith) place there c.args.mark (omega arith)
+    (ap (has_bookmark c.args.from (After c.args.mark)) c.self.view_is ∙ c.requires.mark)
 
 pub returns : goal.returns
 returns c =
     let items = c.self.inside.slots.items.items in
     let place = placed c.args.from c.node_number.result c.last-index.result c.self.inside.slots c.self.invariant c.node_number.ensures c.last-index.ensures in
     let there : list_any (is_entry c.args.from) (live (items_of items)) ≡ true = ap (list_any (is_entry c.args.from)) c.self.view_is ∙ c.requires.entry in
-    c.move_after.ensures.items ∙ moved-is items c.self.invariant.stored c.args.from c.last-index.result (omega arith) place there c.args.mark (omega arith) c.args.to
+    c.move_after.ensures.items ∙ moved-is items c.self.invariant.stored c.args.from c.last-index.result (omega arith) place there c.args.mark
+    (omega arith) c.args.to
     ∙ ap (booked c.args.from c.args.to (After c.args.mark)) c.self.view_is

@@ -21,8 +21,10 @@ returns-in-Some-clause-ok c =
     let at : (c.len.result - 2 - c.in-Some.back) + suc (suc c.in-Some.back) ≡ length items =
     omega (arith, ap length put, length-items_of items, length-items_of old, within)
     in
-    ap (λ xs. live (items_of xs)) c.hide.ensures.items ∙ ap live (set_nearest item_of (λ _. hole) items (c.len.result - 2 - c.in-Some.back) (suc c.in-Some.back) stored.Hole stored.Hole at refl)
-    ∙ ap (λ xs. live (changed_at (suc c.in-Some.back) (λ _. hole) xs)) put ∙ pushed-live new (omega arith) (items_of old) (Some c.in-Some.back) room ∙ ap (pushed nat_eq new) (ap (λ xs. live (items_of xs)) c.hash_if_crowded.ensures.items ∙ c.make_room.ensures.same ∙ c.self.view_is)
+    ap (λ xs. live (items_of xs)) c.hide.ensures.items ∙ ap live (set_nearest item_of (λ _. hole) items (c.len.result - 2 - c.in-Some.back)
+    (suc c.in-Some.back) stored.Hole stored.Hole at refl)
+    ∙ ap (λ xs. live (changed_at (suc c.in-Some.back) (λ _. hole) xs)) put ∙ pushed-live new (omega arith) (items_of old) (Some c.in-Some.back) room
+    ∙ ap (pushed nat_eq new) (ap (λ xs. live (items_of xs)) c.hash_if_crowded.ensures.items ∙ c.make_room.ensures.same ∙ c.self.view_is)
 
 pub returns-in_default-clause-ok : goal.returns-in_default-clause-ok
 returns-in_default-clause-ok c =
@@ -33,22 +35,26 @@ returns-in_default-clause-ok c =
     let put : items_of items ≡ entry new ∷ items_of old =
     items_of_last items old (stored.Entry (record { node = c.args.node; name = c.args.name; attrs = c.args.attrs })) c.in_ok-put.ensures.ok
     in
-    ap live put ∙ pushed-live new (omega arith) (items_of old) None room ∙ ap (pushed nat_eq new) (ap (λ xs. live (items_of xs)) c.hash_if_crowded.ensures.items ∙ c.make_room.ensures.same ∙ c.self.view_is)
+    ap live put ∙ pushed-live new (omega arith) (items_of old) None room ∙ ap (pushed nat_eq new)
+    (ap (λ xs. live (items_of xs)) c.hash_if_crowded.ensures.items ∙ c.make_room.ensures.same ∙ c.self.view_is)
 
 pub returns-in_err-make_room-clause-err : goal.returns-in_err-make_room-clause-err
 returns-in_err-make_room-clause-err c = on_err c.from_residual.result (c.make_room.ensures.same ∙ c.self.view_is)
 
 pub returns-in_err-hash_if_crowded-clause-err : goal.returns-in_err-hash_if_crowded-clause-err
-returns-in_err-hash_if_crowded-clause-err c = on_err c.from_residual-in_err-hash_if_crowded.result (ap (λ xs. live (items_of xs)) c.hash_if_crowded.ensures.items ∙ c.make_room.ensures.same ∙ c.self.view_is)
+returns-in_err-hash_if_crowded-clause-err c = on_err c.from_residual-in_err-hash_if_crowded.result
+    (ap (λ xs. live (items_of xs)) c.hash_if_crowded.ensures.items ∙ c.make_room.ensures.same ∙ c.self.view_is)
 
 pub returns-in_err-hash-clause-err : goal.returns-in_err-hash-clause-err
-returns-in_err-hash-clause-err c = on_err c.from_residual-in_err-hash.result (ap (λ xs. live (items_of xs)) c.hash_if_crowded.ensures.items ∙ c.make_room.ensures.same ∙ c.self.view_is)
+returns-in_err-hash-clause-err c = on_err c.from_residual-in_err-hash.result (ap (λ xs. live (items_of xs)) c.hash_if_crowded.ensures.items
+    ∙ c.make_room.ensures.same ∙ c.self.view_is)
 
 pub giving_way-requires-clause-number : goal.giving_way-requires-clause-number
 giving_way-requires-clause-number c = c.in_ok-hash.ensures
 
 pub returns-in_err-earliest-clause-err : goal.returns-in_err-earliest-clause-err
-returns-in_err-earliest-clause-err c = on_err c.from_residual-in_err-earliest.result (ap (λ xs. live (items_of xs)) c.hash_if_crowded.ensures.items ∙ c.make_room.ensures.same ∙ c.self.view_is)
+returns-in_err-earliest-clause-err c = on_err c.from_residual-in_err-earliest.result
+    (ap (λ xs. live (items_of xs)) c.hash_if_crowded.ensures.items ∙ c.make_room.ensures.same ∙ c.self.view_is)
 
 pub put-requires-clause-stored : goal.put-requires-clause-stored
 put-requires-clause-stored c = (omega arith, omega arith)
@@ -65,7 +71,8 @@ pub put-requires-clause-node : goal.put-requires-clause-node
 put-requires-clause-node c = c.node_number.ensures ∙ unless c.args.name c.args.node (omega arith)
 
 pub returns-in_err-put-clause-err : goal.returns-in_err-put-clause-err
-returns-in_err-put-clause-err c = on_err c.from_residual-in_err-put.result (ap (λ xs. live (items_of xs)) c.in_err-put.ensures.err ∙ ap (λ xs. live (items_of xs)) c.hash_if_crowded.ensures.items ∙ c.make_room.ensures.same ∙ c.self.view_is)
+returns-in_err-put-clause-err c = on_err c.from_residual-in_err-put.result (ap (λ xs. live (items_of xs)) c.in_err-put.ensures.err
+    ∙ ap (λ xs. live (items_of xs)) c.hash_if_crowded.ensures.items ∙ c.make_room.ensures.same ∙ c.self.view_is)
 
 pub hide-requires-clause-within : goal.hide-requires-clause-within
 hide-requires-clause-within c =

@@ -10,7 +10,8 @@ returns-then-is_some c =
     let at = nth-index items c.self.invariant.stored c.args.back c.in-Some.index (sym c.in-Some.is ∙ c.slot.ensures) in
     let up : length items - 1 - c.in-Some.index ≡ at.0 = omega (arith, at.1.1) in
     ap live c.renew.ensures.items ∙ ap (λ k. live (changed_at k (for_node c.args.node) (items_of items))) up
-    ∙ sym (nth-changed (for_node c.args.node) (is_hole-for_node c.args.node) c.args.back at.0 (items_of items) at.1.0) ∙ ap (changed_at c.args.back (for_node c.args.node)) c.self.view_is
+    ∙ sym (nth-changed (for_node c.args.node) (is_hole-for_node c.args.node) c.args.back at.0 (items_of items) at.1.0)
+    ∙ ap (changed_at c.args.back (for_node c.args.node)) c.self.view_is
 
 pub returns-else-is_some : goal.returns-else-is_some
 returns-else-is_some c =
@@ -19,14 +20,17 @@ returns-else-is_some c =
     let at = nth-index items c.self.invariant.stored c.args.back c.in-Some.index found in
     let x = c.index.result.now in
     let there = nth-there items c.self.invariant.stored c.args.back c.in-Some.index found x c.index.ensures in
-    let none : is_some (told x) ≡ false = ap is_some (sym c.entry.ensures) ∙ is_some-option_map (λ e. entry_is e.now) c.entry.result ∙ sym c.is_some.ensures ∙ c.if-is_some.false in
+    let none : is_some (told x) ≡ false = ap is_some (sym c.entry.ensures) ∙ is_some-option_map (λ e. entry_is e.now) c.entry.result
+    ∙ sym c.is_some.ensures ∙ c.if-is_some.false in
     sym (ap (changed_at c.args.back (for_node c.args.node)) (sym c.self.view_is)
     ∙ nth-changed (for_node c.args.node) (is_hole-for_node c.args.node) c.args.back at.0 (items_of items) at.1.0
-    ∙ ap live (changed-marker at.0 c.args.node (items_of items) (nth-item items c.self.invariant.stored c.args.back c.in-Some.index found x c.index.ensures ∙ ap (λ i. Some i) (marker-is x there none)))
+    ∙ ap live (changed-marker at.0 c.args.node (items_of items) (nth-item items c.self.invariant.stored c.args.back c.in-Some.index found x c.index.ensures
+    ∙ ap (λ i. Some i) (marker-is x there none)))
     ∙ c.self.view_is)
 
 pub returns-in_default : goal.returns-in_default
 returns-in_default c =
     let items = c.self.inside.slots.items.items in
     let past = nth-missing items c.self.invariant.stored c.args.back (sym c.slot.ensures ∙ c.in_default.is) in
-    sym c.self.view_is ∙ sym (changed_at_past (for_node c.args.node) c.args.back (live (items_of items)) past) ∙ ap (changed_at c.args.back (for_node c.args.node)) c.self.view_is
+    sym c.self.view_is ∙ sym (changed_at_past (for_node c.args.node) c.args.back (live (items_of items)) past)
+    ∙ ap (changed_at c.args.back (for_node c.args.node)) c.self.view_is

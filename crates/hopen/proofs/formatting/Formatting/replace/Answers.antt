@@ -7,7 +7,11 @@ use Rattle.hopen.proofs.LiveEdits.{with_node-live}
 use Rattle.hopen.proofs.formatting.Formatting.replace.Goals as goal
 
 pub renew-requires-clause-within : goal.renew-requires-clause-within
-renew-requires-clause-within c = omega (arith, placed-within c.args.from c.node_number.result c.last-place.result c.self.inside.slots c.self.invariant c.node_number.ensures c.last-place.ensures)
+renew-requires-clause-within c = omega (
+  arith,
+  placed-within c.args.from c.node_number.result c.last-place.result c.self.inside.slots c.self.invariant
+      c.node_number.ensures c.last-place.ensures,
+)
 
 pub renew-requires-clause-entry : goal.renew-requires-clause-entry
 renew-requires-clause-entry c =
@@ -27,7 +31,8 @@ returns-then-place-gt0 c =
     let up = length (items_of items) - node_place c.args.from (items_of items) in
     let at : length items - 1 - (c.last-place.result - 1) ≡ up = omega (arith, length-items_of items) in
     ap live c.renew.ensures.items ∙ ap (λ k. live (changed_at k (for_node c.args.to) (items_of items))) at
-    ∙ ap live (sym ((words (is_entry c.args.from) (items_of items) up (node-at c.args.from (omega arith) (items_of items) slots (omega arith))).changed_is (for_node c.args.to)))
+    ∙ ap live (sym ((words (is_entry c.args.from) (items_of items) up (node-at c.args.from (omega arith) (items_of items) slots (omega arith))).changed_is
+    (for_node c.args.to)))
     ∙ sym (with_node-live c.args.from (items_of items) slots (omega arith) c.args.to) ∙ ap (with_node c.args.from c.args.to) c.self.view_is
 
 pub returns-else-place-gt0 : goal.returns-else-place-gt0

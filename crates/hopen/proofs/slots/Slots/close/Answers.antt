@@ -13,7 +13,11 @@ returns-clause-listed c =
     let s = c.args.self.now in
     let from = c.args.from in
     let mid = c.if-is_some.self in
-    let is : mid ≡ record s { hashes = mid.hashes } = elim c.if-is_some.branch [ then-is_some w ↦ all-but-hashes s mid _ w.self-is | else-is_some w ↦ all-but-hashes s mid _ w.self-is ] in
+    let is : mid ≡ record s { hashes = mid.hashes } = elim c.if-is_some.branch [
+      | then-is_some w ↦ all-but-hashes s mid _ w.self-is
+      | else-is_some
+          w ↦ all-but-hashes s mid _ w.self-is
+    ] in
     let hashes : is_some s.keys ≡ true → mid.hashes ≡ squeezed from s.hashes =
     elim c.if-is_some.branch [
       | then-is_some w ↦ λ some. ap (λ t. t.hashes) w.self-is ∙ w.compact.ensures

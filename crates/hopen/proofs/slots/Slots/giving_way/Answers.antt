@@ -17,16 +17,22 @@ loop-place-init c =
     let sought = is_equal nat_eq new in
     let entries = after_marker view in
     let named : c.args.name < nowhere = omega arith in
-    let numbers : reverse hashes ≡ map (number_by (by_hash c.args.self.now.keys)) view = ap reverse c.by_hash-hashes.ensures ∙ numbers-back (by_hash c.args.self.now.keys) items in
-    let at : place (by_hash c.args.self.now.keys) c.args.number view ≡ c.last-place.result = sym (c.last-place.ensures ∙ last-is c.args.number hashes ∙ ap (last_of c.args.number) numbers) in
-    let up : length (map (number_by (by_hash c.args.self.now.keys)) view) - c.last-place.result ≡ length view - c.last-place.result = ap (λ k. k - c.last-place.result) (length-map view (number_by (by_hash c.args.self.now.keys))) in
-    let skipped = skips (by_hash c.args.self.now.keys) sought c.args.number (λ e equal. same-number new e equal c.args.self.now.keys named ∙ sym c.requires.number) view 0 in
+    let numbers : reverse hashes ≡ map (number_by (by_hash c.args.self.now.keys)) view = ap reverse c.by_hash-hashes.ensures
+    ∙ numbers-back (by_hash c.args.self.now.keys) items in
+    let at : place (by_hash c.args.self.now.keys) c.args.number view ≡ c.last-place.result =
+    sym (c.last-place.ensures ∙ last-is c.args.number hashes ∙ ap (last_of c.args.number) numbers) in
+    let up : length (map (number_by (by_hash c.args.self.now.keys)) view) - c.last-place.result ≡ length view - c.last-place.result =
+    ap (λ k. k - c.last-place.result) (length-map view (number_by (by_hash c.args.self.now.keys))) in
+    let skipped = skips (by_hash c.args.self.now.keys) sought c.args.number (λ e equal. same-number new e equal c.args.self.now.keys named
+    ∙ sym c.requires.number) view 0 in
     record {
       room = omega (arith, place-le (by_hash c.args.self.now.keys) c.args.number view, length-items_of items);
       marked = c.last-marker.ensures ∙ last-is 0 hashes ∙ ap (last_of 0) numbers;
-      number = λ some. ap (λ k. get_or (map (number_by (by_hash c.args.self.now.keys)) view) k 0) (sym up) ∙ last-at c.args.number c.last-place.result (map (number_by (by_hash c.args.self.now.keys)) view) at some;
+      number = λ some. ap (λ k. get_or (map (number_by (by_hash c.args.self.now.keys)) view) k 0) (sym up)
+          ∙ last-at c.args.number c.last-place.result (map (number_by (by_hash c.args.self.now.keys)) view) at some;
       count = let same = rw at at skipped.count in omega arith;
-      first = ap (λ k. farthest sought k None (drop (length view - c.last-place.result) entries)) (sym (zero-add (length view - c.last-place.result))) ∙ rw at at (skipped.first None);
+      first = ap (λ k. farthest sought k None (drop (length view - c.last-place.result) entries)) (sym (zero-add (length view - c.last-place.result)))
+          ∙ rw at at (skipped.first None);
     }
 
 -- the number at the place
@@ -39,7 +45,8 @@ number-there of items hashes number p is some within there =
 pub before-place-requires-clause-number : goal.before-place-requires-clause-number
 before-place-requires-clause-number c =
     let there : get_or c.by_hash-hashes.result.now (c.loop-place.place - 1) 0 ≡ c.args.number =
-    number-there (by_hash c.args.self.now.keys) c.args.self.now.items.items c.by_hash-hashes.result.now c.args.number c.loop-place.place c.by_hash-hashes.ensures (omega arith) (omega (arith, c.loop-place.invariant.room)) c.loop-place.invariant.number
+    number-there (by_hash c.args.self.now.keys) c.args.self.now.items.items c.by_hash-hashes.result.now c.args.number c.loop-place.place
+    c.by_hash-hashes.ensures (omega arith) (omega (arith, c.loop-place.invariant.room)) c.loop-place.invariant.number
     in
     λ is. omega (arith, c.requires.number, there, is)
 
@@ -73,13 +80,17 @@ module _ (c : goal.After-before-place) where
       let some : 0 < p = omega arith in
       let within : p ≤ length items = omega (arith, c.loop-place.invariant.room) in
       let size : length view ≡ length items = length-items_of items in
-      let kept : length hashes ≡ length items = ap length c.by_hash-hashes.ensures ∙ length-map items (λ i. number_by (by_hash c.args.self.now.keys) (item_of i)) in
+      let kept : length hashes ≡ length items = ap length c.by_hash-hashes.ensures ∙ length-map items
+      (λ i. number_by (by_hash c.args.self.now.keys) (item_of i)) in
       let at : (p - 1) + suc (length view - p) ≡ length items = omega arith in
-      let number : get_or hashes (p - 1) 0 ≡ c.args.number = number-there (by_hash c.args.self.now.keys) items hashes c.args.number p c.by_hash-hashes.ensures some within c.loop-place.invariant.number in
+      let number : get_or hashes (p - 1) 0 ≡ c.args.number = number-there (by_hash c.args.self.now.keys) items hashes c.args.number p
+      c.by_hash-hashes.ensures some within c.loop-place.invariant.number in
       let numbers : reverse (take (p - 1) hashes) ≡ map (number_by (by_hash c.args.self.now.keys)) (drop (suc (length view - p)) view) =
-      ap (λ ns. reverse (take (p - 1) ns)) c.by_hash-hashes.ensures ∙ numbers-before (by_hash c.args.self.now.keys) items p some within ∙ ap (λ k. map (number_by (by_hash c.args.self.now.keys)) (drop (suc (k - p)) view)) (sym size)
+      ap (λ ns. reverse (take (p - 1) ns)) c.by_hash-hashes.ensures ∙ numbers-before (by_hash c.args.self.now.keys) items p some within
+      ∙ ap (λ k. map (number_by (by_hash c.args.self.now.keys)) (drop (suc (k - p)) view)) (sym size)
       in
-      steps (by_hash c.args.self.now.keys) sought c.args.number law view p c.before-place.result (item_of c.index.result.now) (omega arith) (omega (arith, c.loop-place.invariant.marked))
+      steps (by_hash c.args.self.now.keys) sought c.args.number law view p c.before-place.result (item_of c.index.result.now) (omega arith)
+      (omega (arith, c.loop-place.invariant.marked))
       (slice_get_nearest item_of items (p - 1) (length view - p) c.index.result.now at ∙ ap (λ y. Some (item_of y)) (sym c.index.ensures))
       (c.before-place.ensures ∙ before-is (get_or hashes (p - 1) 0) hashes (p - 1) (omega arith) ∙ (λ i. last_of (number i) (numbers i)))
 
@@ -117,7 +128,8 @@ loop-place-preserved c =
       marked = c.loop-place.invariant.marked;
       number = s.number;
       count = omega (arith, more c, s.count, c.loop-place.invariant.count);
-      first = ap (λ o. farthest (sought c) (length (view c) - c.before-place.result) o (drop (length (view c) - c.before-place.result) (after_marker (view c)))) (found c)
+      first = ap (λ o. farthest (sought c) (length (view c) - c.before-place.result) o (drop (length (view c) - c.before-place.result)
+          (after_marker (view c)))) (found c)
           ∙ s.first c.loop-place.earliest ∙ c.loop-place.invariant.first;
     }
 
@@ -128,7 +140,8 @@ nothing of items p h = drop_of_length-le (after_marker items) (omega (arith, len
 pub returns-then-equal-lt-MOST_EQUAL-clause-room : goal.returns-then-equal-lt-MOST_EQUAL-clause-room
 returns-then-equal-lt-MOST_EQUAL-clause-room c =
     let view = items_of c.args.self.now.items.items in
-    let count = rw (nothing (by_hash c.args.self.now.keys) view c.loop-place.place (omega (arith, c.loop-place.invariant.marked))) at c.loop-place.invariant.count in
+    let count = rw (nothing (by_hash c.args.self.now.keys) view c.loop-place.place (omega (arith, c.loop-place.invariant.marked))) at
+    c.loop-place.invariant.count in
     room-there nat_eq (record { node = 0; name = c.args.name; attrs = map attribute_of c.args.attrs.now }) view c.loop-place.equal (omega arith) (omega arith)
 
 pub returns-else-equal-lt-MOST_EQUAL-clause-within : goal.returns-else-equal-lt-MOST_EQUAL-clause-within
@@ -136,9 +149,11 @@ returns-else-equal-lt-MOST_EQUAL-clause-within c =
     let items = c.args.self.now.items.items in
     let view = items_of items in
     let sought = is_equal nat_eq (record { node = 0; name = c.args.name; attrs = map attribute_of c.args.attrs.now }) in
-    let first = rw (nothing (by_hash c.args.self.now.keys) view c.loop-place.place (omega (arith, c.loop-place.invariant.marked))) at c.loop-place.invariant.first in
+    let first = rw (nothing (by_hash c.args.self.now.keys) view c.loop-place.place (omega (arith, c.loop-place.invariant.marked))) at
+    c.loop-place.invariant.first in
     subst (λ (o : Option ℕ). IfSome o (λ k. k < length items)) (sym first)
-    (farthest-within sought 0 None (after_marker view) (length items) (omega (arith, length-after (by_hash c.args.self.now.keys) view, length-items_of items)) tt)
+    (farthest-within sought 0 None (after_marker view) (length items)
+    (omega (arith, length-after (by_hash c.args.self.now.keys) view, length-items_of items)) tt)
 
 pub returns-else-equal-lt-MOST_EQUAL-clause-room : goal.returns-else-equal-lt-MOST_EQUAL-clause-room
 returns-else-equal-lt-MOST_EQUAL-clause-room c =

@@ -4,7 +4,13 @@ use Rattle.hopen.proofs.Moved.{exchanged, exchanged-down, insert-remove}
 use Rattle.hopen.proofs.slots.Slots.lower.Goals as goal
 
 pub loop-index-init : goal.loop-index-init
-loop-index-init c = record { listed = c.requires.listed; below = omega arith; above = omega arith; moved = sym (insert-remove c.args.self.now.items.items c.args.from stored.Hole (omega arith)) }
+loop-index-init c = record {
+  listed = c.requires.listed;
+  below = omega arith;
+  above = omega arith;
+  moved =
+      sym (insert-remove c.args.self.now.items.items c.args.from stored.Hole (omega arith));
+}
 
 pub loop-index-preserved : goal.loop-index-preserved
 loop-index-preserved c =
@@ -17,6 +23,7 @@ loop-index-preserved c =
       below = omega arith;
       above = omega arith;
       moved =
-          c.swap.ensures.items ∙ ap (λ xs. exchanged xs i (i + 1) stored.Hole) (c.loop-index.invariant.moved ∙ ap (λ n. insert (remove old c.args.from) n (get_or old c.args.from stored.Hole)) next)
+          c.swap.ensures.items ∙ ap (λ xs. exchanged xs i (i + 1) stored.Hole) (c.loop-index.invariant.moved
+          ∙ ap (λ n. insert (remove old c.args.from) n (get_or old c.args.from stored.Hole)) next)
           ∙ exchanged-down (remove old c.args.from) i (get_or old c.args.from stored.Hole) stored.Hole (omega arith);
     }

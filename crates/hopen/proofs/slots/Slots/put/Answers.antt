@@ -15,24 +15,29 @@ returns-in_err-push-clause-listed c = listed-same c.args.self.now _ c.requires.l
 
 pub returns-in-Err-clause-listed : goal.returns-in-Err-clause-listed
 returns-in-Err-clause-listed c =
-    let items = take-back c.args.self.now.items.items c.push.new.self.items _ c.args.item c.len-len.result (omega arith) c.in_ok-push.ensures.items c.truncate.ensures.items in
+    let items = take-back c.args.self.now.items.items c.push.new.self.items _ c.args.item c.len-len.result
+    (omega arith) c.in_ok-push.ensures.items c.truncate.ensures.items in
     listed-same c.args.self.now _ c.requires.listed refl items c.in-Err.ensures.err refl refl refl
 
 pub returns-in-Err-clause-err : goal.returns-in-Err-clause-err
-returns-in-Err-clause-err c = take-back c.args.self.now.items.items c.push.new.self.items _ c.args.item c.len-len.result (omega arith) c.in_ok-push.ensures.items c.truncate.ensures.items
+returns-in-Err-clause-err c = take-back c.args.self.now.items.items c.push.new.self.items _ c.args.item c.len-len.result
+    (omega arith) c.in_ok-push.ensures.items c.truncate.ensures.items
 
 pub push_numbers-requires-clause-len : goal.push_numbers-requires-clause-len
 push_numbers-requires-clause-len c = sized c.args.self.now.items.items c.args.self.now.nodes _ _ c.requires.listed.nodes (omega arith)
 
 pub returns-in-Err-push_numbers-clause-listed : goal.returns-in-Err-push_numbers-clause-listed
 returns-in-Err-push_numbers-clause-listed c =
-    let items = take-back c.args.self.now.items.items c.push.new.self.items _ c.args.item c.len-len.result (omega arith) c.in_ok-push.ensures.items c.truncate-in-Err-push_numbers-2.ensures.items in
+    let items = take-back c.args.self.now.items.items c.push.new.self.items _ c.args.item c.len-len.result
+    (omega arith) c.in_ok-push.ensures.items c.truncate-in-Err-push_numbers-2.ensures.items in
     let size = sym (sized c.args.self.now.items.items c.args.self.now.names _ _ c.requires.listed.names (omega arith)) in
-    let names = take-back c.args.self.now.names c.push-2.new.self _ c.args.numbers.name c.len-len.result size c.in_default.ensures.ok c.truncate-in-Err-push_numbers.ensures in
+    let names = take-back c.args.self.now.names c.push-2.new.self _ c.args.numbers.name c.len-len.result size c.in_default.ensures.ok
+    c.truncate-in-Err-push_numbers.ensures in
     listed-same c.args.self.now _ c.requires.listed refl items names c.in-Err-push_numbers.ensures.same_hashes c.in-Err-push_numbers.ensures.same_nodes refl
 
 pub returns-in-Err-push_numbers-clause-err : goal.returns-in-Err-push_numbers-clause-err
-returns-in-Err-push_numbers-clause-err c = take-back c.args.self.now.items.items c.push.new.self.items _ c.args.item c.len-len.result (omega arith) c.in_ok-push.ensures.items c.truncate-in-Err-push_numbers-2.ensures.items
+returns-in-Err-push_numbers-clause-err c = take-back c.args.self.now.items.items c.push.new.self.items _ c.args.item c.len-len.result
+    (omega arith) c.in_ok-push.ensures.items c.truncate-in-Err-push_numbers-2.ensures.items
 
 pub truncate-requires-in-Err-push_numbers : goal.truncate-requires-in-Err-push_numbers
 truncate-requires-in-Err-push_numbers c =

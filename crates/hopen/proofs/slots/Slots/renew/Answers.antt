@@ -7,20 +7,24 @@ use Rattle.hopen.proofs.slots.Slots.renew.Goals as goal
 pub returns-clause-listed : goal.returns-clause-listed
 returns-clause-listed c =
     let items = c.args.self.now.items.items in
-    let read : c.index_mut.result.now ≡ get_or items c.args.index stored.Hole = get_or_read items c.args.index c.index_mut.result.now c.requires.within c.index_mut.ensures.value stored.Hole in
+    let read : c.index_mut.result.now ≡ get_or items c.args.index stored.Hole = get_or_read items c.args.index c.index_mut.result.now c.requires.within
+    c.index_mut.ensures.value stored.Hole in
     listed-renewed c.args.node c.args.index c.args.self.now _ c.requires.listed refl c.requires.within c.requires.entry (omega arith)
-    refl refl (c.set.ensures ∙ ap (λ n. set c.clear.new.self c.args.index n) c.node_number.ensures ∙ ap (λ ns. set ns c.args.index (suc (suc c.args.node))) c.clear.ensures) refl
+    refl refl (c.set.ensures ∙ ap (λ n. set c.clear.new.self c.args.index n) c.node_number.ensures
+    ∙ ap (λ ns. set ns c.args.index (suc (suc c.args.node))) c.clear.ensures) refl
     (ap (set items c.args.index) (c.set_node.ensures ∙ ap (renamed c.args.node) read))
 
 pub returns-clause-items : goal.returns-clause-items
 returns-clause-items c =
     let items = c.args.self.now.items.items in
-    let read : c.index_mut.result.now ≡ get_or items c.args.index stored.Hole = get_or_read items c.args.index c.index_mut.result.now c.requires.within c.index_mut.ensures.value stored.Hole in
+    let read : c.index_mut.result.now ≡ get_or items c.args.index stored.Hole = get_or_read items c.args.index c.index_mut.result.now c.requires.within
+    c.index_mut.ensures.value stored.Hole in
     ap (λ x. items_of (set items c.args.index x)) (c.set_node.ensures ∙ ap (renamed c.args.node) read)
     ∙ renewed-items c.args.node items c.args.index c.requires.within c.requires.entry
 
 pub set-requires-clause-within : goal.set-requires-clause-within
-set-requires-clause-within c = freed-within c.args.self.now.items.items c.args.self.now.nodes _ c.args.index c.requires.listed.nodes c.requires.within _ c.clear.ensures
+set-requires-clause-within c = freed-within c.args.self.now.items.items c.args.self.now.nodes _ c.args.index c.requires.listed.nodes c.requires.within _
+    c.clear.ensures
 
 pub set-requires-clause-free : goal.set-requires-clause-free
 set-requires-clause-free c = freed c.args.self.now.items.items c.args.self.now.nodes _ c.args.index c.requires.listed.nodes c.requires.within _ c.clear.ensures

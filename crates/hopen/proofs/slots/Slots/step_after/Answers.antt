@@ -9,7 +9,8 @@ lower-requires-clause-listed c =
     let items = c.args.self.now.items.items in
     let read = get_or_read items c.args.index c.index_mut.result.now c.requires.within c.index_mut.ensures.value stored.Hole in
     listed-renewed c.args.node c.args.index c.args.self.now _ c.requires.listed refl c.requires.within c.requires.entry (omega arith)
-    refl refl (c.set.ensures ∙ ap (λ n. set c.clear.new.self c.args.index n) c.node_number-2.ensures ∙ ap (λ ns. set ns c.args.index (suc (suc c.args.node))) c.clear.ensures) refl
+    refl refl (c.set.ensures ∙ ap (λ n. set c.clear.new.self c.args.index n) c.node_number-2.ensures
+    ∙ ap (λ ns. set ns c.args.index (suc (suc c.args.node))) c.clear.ensures) refl
     (ap (set items c.args.index) (c.set_node.ensures ∙ ap (renamed c.args.node) read))
 
 pub raise-requires-clause-listed : goal.raise-requires-clause-listed
@@ -17,7 +18,8 @@ raise-requires-clause-listed c =
     let items = c.args.self.now.items.items in
     let read = get_or_read items c.args.index c.index_mut.result.now c.requires.within c.index_mut.ensures.value stored.Hole in
     listed-renewed c.args.node c.args.index c.args.self.now _ c.requires.listed refl c.requires.within c.requires.entry (omega arith)
-    refl refl (c.set.ensures ∙ ap (λ n. set c.clear.new.self c.args.index n) c.node_number-2.ensures ∙ ap (λ ns. set ns c.args.index (suc (suc c.args.node))) c.clear.ensures) refl
+    refl refl (c.set.ensures ∙ ap (λ n. set c.clear.new.self c.args.index n) c.node_number-2.ensures
+    ∙ ap (λ ns. set ns c.args.index (suc (suc c.args.node))) c.clear.ensures) refl
     (ap (set items c.args.index) (c.set_node.ensures ∙ ap (renamed c.args.node) read))
 
 pub raise-requires-clause-to : goal.raise-requires-clause-to
@@ -25,32 +27,48 @@ raise-requires-clause-to c =
     let items = c.args.self.now.items.items in
     let rest = remove items c.args.index in
     let low : c.args.mark < nowhere = omega arith in
-    let placed = mark-place c.args.mark low items c.args.self.now.nodes c.args.index c.last-place.result c.requires.within c.requires.listed.stored c.requires.listed.nodes
-    (c.last-place.ensures ∙ ap (λ n. last_up (λ k. k == n) c.clear.new.self (length c.clear.new.self)) c.node_number.ensures ∙ ap (λ l. last_up (λ k. k == suc (suc c.args.mark)) l (length l)) c.clear.ensures) in
-    omega (arith, placed.above c.if-place-index.false, last_place-le (λ x. is_entry c.args.mark (item_of x)) (reverse rest), length-reverse rest, length-remove items c.args.index c.requires.within, length-set items c.args.index c.set_node.new.self)
+    let placed = mark-place c.args.mark low items c.args.self.now.nodes c.args.index c.last-place.result c.requires.within c.requires.listed.stored
+    c.requires.listed.nodes
+    (c.last-place.ensures ∙ ap (λ n. last_up (λ k. k == n) c.clear.new.self (length c.clear.new.self)) c.node_number.ensures
+    ∙ ap (λ l. last_up (λ k. k == suc (suc c.args.mark)) l (length l)) c.clear.ensures) in
+    omega (
+      arith,
+      placed.above c.if-place-index.false,
+      last_place-le (λ x. is_entry c.args.mark (item_of x)) (reverse rest),
+      length-reverse rest,
+      length-remove items c.args.index c.requires.within,
+      length-set items c.args.index c.set_node.new.self,
+    )
 
 pub returns-then-place-index-clause-items : goal.returns-then-place-index-clause-items
 returns-then-place-index-clause-items c =
     let items = c.args.self.now.items.items in
     let low : c.args.mark < nowhere = omega arith in
-    let placed = mark-place c.args.mark low items c.args.self.now.nodes c.args.index c.last-place.result c.requires.within c.requires.listed.stored c.requires.listed.nodes
-    (c.last-place.ensures ∙ ap (λ n. last_up (λ k. k == n) c.clear.new.self (length c.clear.new.self)) c.node_number.ensures ∙ ap (λ l. last_up (λ k. k == suc (suc c.args.mark)) l (length l)) c.clear.ensures) in
+    let placed = mark-place c.args.mark low items c.args.self.now.nodes c.args.index c.last-place.result c.requires.within c.requires.listed.stored
+    c.requires.listed.nodes
+    (c.last-place.ensures ∙ ap (λ n. last_up (λ k. k == n) c.clear.new.self (length c.clear.new.self)) c.node_number.ensures
+    ∙ ap (λ l. last_up (λ k. k == suc (suc c.args.mark)) l (length l)) c.clear.ensures) in
     let read = get_or_read items c.args.index c.index_mut.result.now c.requires.within c.index_mut.ensures.value stored.Hole in
     ap items_of c.lower.ensures.items
-    ∙ moved-after c.args.node c.args.mark items c.args.index c.last-place.result c.set_node.new.self c.requires.within c.requires.entry (c.set_node.ensures ∙ ap (renamed c.args.node) read) (placed.below c.if-place-index.true) c.requires.mark
+    ∙ moved-after c.args.node c.args.mark items c.args.index c.last-place.result c.set_node.new.self c.requires.within c.requires.entry
+    (c.set_node.ensures ∙ ap (renamed c.args.node) read) (placed.below c.if-place-index.true) c.requires.mark
 
 pub returns-else-place-index-clause-items : goal.returns-else-place-index-clause-items
 returns-else-place-index-clause-items c =
     let items = c.args.self.now.items.items in
     let low : c.args.mark < nowhere = omega arith in
-    let placed = mark-place c.args.mark low items c.args.self.now.nodes c.args.index c.last-place.result c.requires.within c.requires.listed.stored c.requires.listed.nodes
-    (c.last-place.ensures ∙ ap (λ n. last_up (λ k. k == n) c.clear.new.self (length c.clear.new.self)) c.node_number.ensures ∙ ap (λ l. last_up (λ k. k == suc (suc c.args.mark)) l (length l)) c.clear.ensures) in
+    let placed = mark-place c.args.mark low items c.args.self.now.nodes c.args.index c.last-place.result c.requires.within c.requires.listed.stored
+    c.requires.listed.nodes
+    (c.last-place.ensures ∙ ap (λ n. last_up (λ k. k == n) c.clear.new.self (length c.clear.new.self)) c.node_number.ensures
+    ∙ ap (λ l. last_up (λ k. k == suc (suc c.args.mark)) l (length l)) c.clear.ensures) in
     let read = get_or_read items c.args.index c.index_mut.result.now c.requires.within c.index_mut.ensures.value stored.Hole in
     ap items_of c.raise.ensures.items
-    ∙ moved-after c.args.node c.args.mark items c.args.index (c.last-place.result - 1) c.set_node.new.self c.requires.within c.requires.entry (c.set_node.ensures ∙ ap (renamed c.args.node) read) (placed.above c.if-place-index.false) c.requires.mark
+    ∙ moved-after c.args.node c.args.mark items c.args.index (c.last-place.result - 1) c.set_node.new.self c.requires.within c.requires.entry
+    (c.set_node.ensures ∙ ap (renamed c.args.node) read) (placed.above c.if-place-index.false) c.requires.mark
 
 pub set-requires-clause-within : goal.set-requires-clause-within
-set-requires-clause-within c = freed-within c.args.self.now.items.items c.args.self.now.nodes _ c.args.index c.requires.listed.nodes c.requires.within _ c.clear.ensures
+set-requires-clause-within c = freed-within c.args.self.now.items.items c.args.self.now.nodes _ c.args.index c.requires.listed.nodes c.requires.within _
+    c.clear.ensures
 
 pub set-requires-clause-free : goal.set-requires-clause-free
 set-requires-clause-free c = freed c.args.self.now.items.items c.args.self.now.nodes _ c.args.index c.requires.listed.nodes c.requires.within _ c.clear.ensures
