@@ -1,5 +1,5 @@
 -- Runs of plain characters in a tag.
-use Rattle.std.specs.Prelude.{◌≡◌, ℕ, ◌≤◌, Bool, not, ◌&&◌, ◌||◌, ◌==◌, nat_le, true, List, [], ◌++◌, length, take, Result, MatchResult}
+use Rattle.std.specs.Prelude.{◌≡◌, ℕ, ◌≤◌, Bool, not, ◌||◌, true, List, [], ◌++◌, length, take, Result, MatchResult}
 use Rattle.std.specs.List.{list_all}
 use Rattle.names.specs.declared.error.ParseError.{ParseError}
 use Rattle.names.specs.declared.placed.Placed.{Placed}
@@ -8,14 +8,10 @@ use Rattle.names.specs.declared.refusal.Refusal.TheVariants.{Memory}
 use Rattle.names.specs.Names.{Texts}
 use Rattle.names.specs.Placed.{placed}
 use Rattle.charref.specs.Reference.{Entities}
-use Rattle.htext.specs.Run.{is_plain_byte}
+use Rattle.htext.specs.Run.{is_plain_byte, is_word_byte}
 use Rattle.htag.specs.declared.walk.TagWalk.{TagWalk}
 use Rattle.htag.specs.Tag.{ends_unquoted, is_odd}
 use Rattle.htag.specs.TagWalk.{IsInTag}
-
--- a byte that only stands for itself in a tag's name, in an attribute's and in a value without quotes: a small letter, a digit, `-`, `.`, `:` or `_`
-abbrev pub is_word_byte : ℕ → Bool
-is_word_byte byte = (nat_le 97 byte && nat_le byte 122) || (nat_le 48 byte && nat_le byte 58) || byte == 45 || byte == 46 || byte == 95
 
 -- a byte of a value without quotes that neither ends it nor is a fault in it
 abbrev pub is_unquoted_byte : ℕ → Bool

@@ -3,8 +3,9 @@
 ghost use Rattle.std.specs.Prelude.{◌≡◌, ◌≤◌, ◌==◌, ◌&&◌, ◌∷◌, ◌++◌, [], true, drop, length, take, not, IfOk, OnOk, string_bytes, encode_utf8_all};
 ghost use Rattle.std.specs.List.{list_all, prefix_len};
 ghost use Rattle.std.specs.Char.{encode_utf8, to_ascii_lowercase};
-ghost use Rattle.htag.specs.Vocabulary.{error_if, null_errors, without_null, is_plain_byte, is_unquoted_byte, is_word_byte, ends_name, is_odd, IsPlainFrom, PushesWords};
+ghost use Rattle.htag.specs.Vocabulary.{error_if, null_errors, without_null, is_plain_byte, is_unquoted_byte, ends_name, is_odd, IsPlainFrom, PushesWords};
 
+use htext::word_run;
 use names::{ErrorCode, ParseError, Placed};
 use std::alloc::AllocError;
 
@@ -81,31 +82,6 @@ pub(crate) fn push_all(text: &mut String, characters: &[char]) -> Result<(), All
         text.push(*character)?;
     }
     Ok(())
-}
-
-/// Whether a byte has no meaning of its own in a name and in a value without quotes: a small letter, first of all.
-#[inline(always)]
-fn is_word(byte: u8) -> bool
-    ensures { result ≡ is_word_byte byte }
-{
-    if byte.is_ascii_lowercase() {
-        return true;
-    }
-    matches!(byte, b'-' | b'.' | b'0'..=b':' | b'_')
-}
-
-/// How many bytes are before the first one that may have a meaning in a name or in a value without quotes.
-#[inline(always)]
-pub(crate) fn word_run(bytes: &[u8]) -> usize
-    ensures counted { result ≡ prefix_len is_word_byte bytes.now }
-    ensures few { result ≤ length bytes.now }
-{
-    for (index, byte) in bytes.iter().enumerate() {
-        if !is_word(*byte) {
-            return index;
-        }
-    }
-    bytes.len()
 }
 
 /// Whether a byte is one of a value without quotes, and no fault in it.

@@ -5,11 +5,11 @@ ghost use Rattle.std.specs.List.{list_all};
 ghost use Rattle.htag.specs.Vocabulary.{Character, Grows, MAX_INPUT, is_plain_byte, IsPlainFrom, TakesPart, TakesRun, IsInTag};
 
 use crate::pending::Pending;
-use crate::push::{push_front, push_words, rest_of, word_run};
+use crate::push::{push_front, push_words, rest_of};
 use crate::tag_state::TagState;
 use crate::walk::TagWalk;
 use charref::Table;
-use htext::run_before;
+use htext::{run_before, word_run};
 use names::{Names, ParseError, Refusal};
 use std::alloc::AllocError;
 

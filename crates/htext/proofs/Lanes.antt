@@ -1,11 +1,10 @@
 -- Runs of bytes, seen a vector at a time through the mask of those that end them.
-use Rattle.htext.proofs.Names.{cases_eq, inl, inr, and_parts, nat_tests, ◌≡◌, ℕ, zero, suc, ◌+◌, ◌/◌, ◌%◌, ◌<◌, ◌≤◌, Bool, true, false, not, cond, eqb, ◌&&◌, List, [], ◌∷◌, map, length, drop, get_or, replicate, bit_and, refl, sym, ap, ◌∙◌, arith, zip2_splat, map-map, length-map, and_le_r, prefix_len-le-length, prefix_len, zip2, count_trailing_zeros}
+use Rattle.htext.proofs.Names.{cases_eq, inl, inr, and_parts, nat_tests, ◌≡◌, ℕ, zero, suc, ◌+◌, ◌/◌, ◌%◌, ◌<◌, ◌≤◌, Bool, true, false, not, cond, eqb, ◌&&◌, List, [], ◌∷◌, map, length, drop, get_or, replicate, bit_and, refl, sym, ap, ◌∙◌, arith, zip2_splat, map-map, length-map, ◌++◌, length-append, and_le_r, prefix_len-le-length, prefix_len, zip2, count_trailing_zeros}
 use Rattle.std.proofs.Common.{◌^◌, ap₂, w8, Fits}
 use Rattle.std.proofs.lemmas.Simd.{chunk-drop, length-chunk, mask_l-mod, leading_from_mask_l, trailing_mask_l, swz_l, SwzOk, SwzOk-from_below, length-swz_l, get_or-swz_l_below, length-zip2, Each1-all, Each1-weaker, Each1-zip2, Each1-get_or, Each2-splat, below_from_Fits}
 use Rattle.std.proofs.lemmas.List.{get_or-map, ext_get_or}
 use Rattle.std.proofs.lemmas.List.Folds.{prefix_len-append}
 use Rattle.std.proofs.Math.Bool.{not-not}
-use Rattle.std.proofs.lemmas.Bool.{eq-eqb, ne_eqb}
 use lib.Lanes.{chunk, mask_l, top, Each1}
 
 -- COMPARISONS, LANE BY LANE
@@ -71,30 +70,36 @@ upto_sound p (suc n) h i lt = elim (cases_eq i n) [
   | inr below ↦ upto_sound p n (and_parts (p n) (upto p n) h).1 i (omega arith)
 ]
 
-each_byte : (f : ℕ → ℕ) (p : ℕ → Bool) → upto (λ x. same (top 7 (f x)) (p x)) 256 ≡ true → (v : List ℕ) → Each1 (Fits w8) v → map (top 7) (map f v) ≡ map p v
-each_byte f p all [] fits = refl
-each_byte f p all (x ∷ xs) fits = ap₂ (λ a b. a ∷ b) (same_is _ _ (upto_sound (λ y. same (top 7 (f y)) (p y)) 256 all x fits.0.fits)) (each_byte f p all xs fits.1)
+-- two tests agree at each of the 256 bytes, which computing shows, and so they do lane by lane
+pub agree : (p q : ℕ → Bool) → upto (λ x. same (p x) (q x)) 256 ≡ true → (x : ℕ) → x < 256 → p x ≡ q x
+agree p q all x small = same_is (p x) (q x) (upto_sound (λ y. same (p y) (q y)) 256 all x small)
 
--- a mask that is computed lane by lane is that of a test, where the two agree at each of the 256 bytes
-pub masked : (f : ℕ → ℕ) (p : ℕ → Bool) (v z : List ℕ) → length v ≤ 64 → Each1 (Fits w8) v → z ≡ map f v → upto (λ x. same (top 7 (f x)) (p x)) 256 ≡ true
-    → mask_l (map (top 7) z) % 2 ^ 64 ≡ mask_l (map p v)
-masked f p v z short fits e all =
-    ap (λ l. mask_l l % 2 ^ 64) (ap (map (top 7)) e ∙ each_byte f p all v fits) ∙ mask_l-mod (map p v) 64 (omega (arith, length-map v p))
+each_byte : (p q : ℕ → Bool) → ((x : ℕ) → x < 256 → p x ≡ q x) → (v : List ℕ) → Each1 (Fits w8) v → map p v ≡ map q v
+each_byte p q agree [] fits = refl
+each_byte p q agree (x ∷ xs) fits = ap₂ (λ a b. a ∷ b) (agree x fits.0.fits) (each_byte p q agree xs fits.1)
 
--- the same where the two agree at every number
-pub masked_by : (f : ℕ → ℕ) (p : ℕ → Bool) (v z : List ℕ) → length v ≤ 64 → z ≡ map f v → ((x : ℕ) → top 7 (f x) ≡ p x)
+pub same_mask : (p q : ℕ → Bool) → upto (λ x. same (p x) (q x)) 256 ≡ true → (v : List ℕ) → Each1 (Fits w8) v → mask_l (map p v) ≡ mask_l (map q v)
+same_mask p q all v fits = ap mask_l (each_byte p q (agree p q all) v fits)
+
+-- a mask that is computed lane by lane is that of a test, where the two agree
+pub masked : (f : ℕ → ℕ) (p : ℕ → Bool) (v z : List ℕ) → length v ≤ 64 → Each1 (Fits w8) v → z ≡ map f v → ((x : ℕ) → x < 256 → top 7 (f x) ≡ p x)
     → mask_l (map (top 7) z) % 2 ^ 64 ≡ mask_l (map p v)
-masked_by f p v z short e agree = ap (λ l. mask_l l % 2 ^ 64) (ap (map (top 7)) e ∙ each v) ∙ mask_l-mod (map p v) 64 (omega (arith, length-map v p))
-  where
-    each : (xs : List ℕ) → map (top 7) (map f xs) ≡ map p xs
-    each [] = refl
-    each (x ∷ xs) = ap₂ (λ a b. a ∷ b) (agree x) (each xs)
+masked f p v z short fits e agree =
+    ap (λ l. mask_l l % 2 ^ 64) (ap (map (top 7)) e ∙ map-map (top 7) f v ∙ each_byte (λ x. top 7 (f x)) p agree v fits)
+    ∙ mask_l-mod (map p v) 64 (omega (arith, length-map v p))
 
 -- the top bit of a comparison
-pub hit_top : (x y : ℕ) → top 7 (hit x y) ≡ not (not (eqb x y))
+pub hit_top : (x y : ℕ) → top 7 (hit x y) ≡ eqb x y
 hit_top x y = grind arith
 
 -- RUNS
+
+-- a count in lanes that are there twice, by the count in these
+all_of : (n once twice : ℕ) → once ≤ n → twice ≡ cond (eqb once n) (n + once) once → twice ≡ n + n → once ≡ n
+all_of n once twice few is all = grind (arith, nat_tests)
+
+some_of : (n once twice : ℕ) → once ≤ n → twice ≡ cond (eqb once n) (n + once) once → twice < n + n → (once < n) × (twice ≡ once)
+some_of n once twice few is some = (grind (arith, nat_tests), grind (arith, nat_tests))
 
 module _ (q : ℕ → Bool) where
   abbrev pub fails : ℕ → Bool
@@ -108,17 +113,55 @@ module _ (q : ℕ → Bool) where
   all_pass [] e = refl
   all_pass (x ∷ xs) e = grind (arith, nat_tests, prefix_len-le-length (λ y. not (fails y)) xs, all_pass xs)
 
-  split : (d : List ℕ) (i n : ℕ) → prefix_len q (drop i d) ≡ cond (eqb (prefix_len q (chunk i n d)) (length (chunk i n d))) (length (chunk i n d) + prefix_len q (drop (i + n) d)) (prefix_len q (chunk i n d))
-  split d i n = ap (prefix_len q) (chunk-drop i n d) ∙ prefix_len-append q (chunk i n d) (drop (i + n) d)
+  -- all lanes pass, or the lowest bit is of the first that does not
+  all_through : (w : List ℕ) → mask_l (map fails w) ≡ 0 → prefix_len q w ≡ length w
+  all_through w none = same_run w ∙ leading_from_mask_l fails w none
 
-  pub run_through : (d : List ℕ) (i n : ℕ) → i + n ≤ length d → mask_l (map fails (chunk i n d)) ≡ 0 → prefix_len q (drop i d) ≡ n + prefix_len q (drop (i + n) d)
-  run_through d i n room none =
-      let c = chunk i n d in
-      split d i n ∙ ap (λ b. cond b (length c + prefix_len q (drop (i + n) d)) (prefix_len q c)) (eq-eqb _ _ (same_run c ∙ leading_from_mask_l fails c none))
-      ∙ ap (λ k. k + prefix_len q (drop (i + n) d)) (length-chunk i n d room)
+  first_stop : (w : List ℕ) → length w ≤ 64 → 0 < mask_l (map fails w)
+      → (prefix_len q w ≡ count_trailing_zeros 64 (mask_l (map fails w))) × (prefix_len q w < length w)
+  first_stop w short some =
+      let is = same_run w ∙ sym (trailing_mask_l fails 64 w short some) in
+      (is, grind (arith, some, prefix_len-le-length q w, same_run w, all_pass w))
 
-  pub run_stops : (d : List ℕ) (i n : ℕ) → i + n ≤ length d → n ≤ 64 → 0 < mask_l (map fails (chunk i n d)) → prefix_len q (drop i d) ≡ count_trailing_zeros 64 (mask_l (map fails (chunk i n d)))
-  run_stops d i n room short some =
-      let c = chunk i n d in
-      split d i n ∙ ap (λ b. cond b (length c + prefix_len q (drop (i + n) d)) (prefix_len q c)) (ne_eqb _ _ (λ (e : prefix_len q c ≡ length c). omega (arith, all_pass c (sym (same_run c) ∙ e))))
-      ∙ same_run c ∙ sym (trailing_mask_l fails 64 c (omega (arith, length-chunk i n d room)) some)
+  -- a run that goes through a chunk, or stops in it
+  through : (d : List ℕ) (i n : ℕ) → i + n ≤ length d → prefix_len q (chunk i n d) ≡ n → prefix_len q (drop i d) ≡ n + prefix_len q (drop (i + n) d)
+  through d i n room all =
+      ap (prefix_len q) (chunk-drop i n d) ∙ prefix_len-append q (chunk i n d) (drop (i + n) d) ∙ grind (arith, nat_tests, length-chunk i n d room)
+
+  stops : (d : List ℕ) (i n : ℕ) → i + n ≤ length d → prefix_len q (chunk i n d) < n → prefix_len q (drop i d) ≡ prefix_len q (chunk i n d)
+  stops d i n room some =
+      ap (prefix_len q) (chunk-drop i n d) ∙ prefix_len-append q (chunk i n d) (drop (i + n) d) ∙ grind (arith, nat_tests, length-chunk i n d room)
+
+  module _ (d : List ℕ) (i n : ℕ) (room : i + n ≤ length d) where
+    pub run_through : mask_l (map fails (chunk i n d)) ≡ 0 → prefix_len q (drop i d) ≡ n + prefix_len q (drop (i + n) d)
+    run_through none = through d i n room (all_through (chunk i n d) none ∙ length-chunk i n d room)
+
+    pub run_stops : n ≤ 64 → 0 < mask_l (map fails (chunk i n d)) → prefix_len q (drop i d) ≡ count_trailing_zeros 64 (mask_l (map fails (chunk i n d)))
+    run_stops short some =
+        let long = length-chunk i n d room in
+        let first = first_stop (chunk i n d) (omega (arith, long)) some in
+        stops d i n room (omega (arith, first.1, long)) ∙ first.0
+
+    -- the same where the lanes are there twice
+    abbrev both : List ℕ
+    both = chunk i n d ++ chunk i n d
+
+    long : length both ≡ n + n
+    long = omega (arith, length-append (chunk i n d) (chunk i n d), length-chunk i n d room)
+
+    once : prefix_len q (chunk i n d) ≤ n
+    once = omega (arith, prefix_len-le-length q (chunk i n d), length-chunk i n d room)
+
+    twice : prefix_len q both ≡ cond (eqb (prefix_len q (chunk i n d)) n) (n + prefix_len q (chunk i n d)) (prefix_len q (chunk i n d))
+    twice =
+        let k = prefix_len q (chunk i n d) in
+        prefix_len-append q (chunk i n d) (chunk i n d) ∙ ap (λ (l : ℕ). cond (eqb k l) (l + k) k) (length-chunk i n d room)
+
+    pub twice_through : mask_l (map fails both) ≡ 0 → prefix_len q (drop i d) ≡ n + prefix_len q (drop (i + n) d)
+    twice_through none = through d i n room (all_of n _ _ once twice (omega (arith, all_through both none, long)))
+
+    pub twice_stops : n + n ≤ 64 → 0 < mask_l (map fails both) → prefix_len q (drop i d) ≡ count_trailing_zeros 64 (mask_l (map fails both))
+    twice_stops short some =
+        let first = first_stop both (omega (arith, long)) some in
+        let here = some_of n _ _ once twice (omega (arith, first.1, long)) in
+        stops d i n room here.0 ∙ sym here.1 ∙ first.0

@@ -1,12 +1,13 @@
 -- Runs of characters that are in a text as they came.
-use Rattle.std.specs.Prelude.{◌≡◌, ℕ, ◌≤◌, Bool, true, not, ◌&&◌, ◌||◌, ◌==◌, nat_le, List, length, map, take, drop}
+use Rattle.std.specs.Prelude.{◌≡◌, ℕ, ◌≤◌, Bool, true, not, ◌&&◌, ◌||◌, ◌==◌, nat_le, bit_and, ◌/◌, List, length, get_or, map, take, drop}
 use Rattle.std.specs.List.{list_all}
 use Rattle.std.specs.Char.{is_ascii}
 use Rattle.std.specs.Str.{chars, IsUtf8}
 use Rattle.names.specs.Placed.{placed, is_alphanumeric}
 use Rattle.htext.specs.Items.{CharItem, Character}
+use Rattle.htext.specs.declared.run.Halves.{Halves}
 use Rattle.htext.specs.declared.run.RunBytes.{RunBytes}
-use Rattle.htext.specs.declared.run.RunBytes.TheVariants.{Inner, Text, Clean, Alphanumeric, Other}
+use Rattle.htext.specs.declared.run.RunBytes.TheVariants.{Inner, Text, Clean, Alphanumeric, Word, Other}
 
 -- a byte that is a character by itself, is in the text as it came but for an LF after a CR, raises no error, and is neither `<` nor `&`
 abbrev pub is_plain_byte : ℕ → Bool
@@ -33,16 +34,25 @@ is_text_byte byte = not (byte == 60 || byte == 38)
 abbrev pub is_inner_byte : ℕ → Bool
 is_inner_byte byte = is_ascii byte && is_text_byte byte && not (byte == 62)
 
+-- a small letter, a digit, `-`, `.`, `:` or `_`
+abbrev pub is_word_byte : ℕ → Bool
+is_word_byte byte = (nat_le 97 byte && nat_le byte 122) || (nat_le 48 byte && nat_le byte 58) || byte == 45 || byte == 46 || byte == 95
+
 -- the bytes of a run of each kind
 abbrev pub is_of : RunBytes → ℕ → Bool
 is_of Inner byte = is_inner_byte byte
 is_of Text byte = is_text_byte byte
 is_of Clean byte = is_clean_byte byte
 is_of Alphanumeric byte = is_alphanumeric byte
+is_of Word byte = is_word_byte byte
 is_of (Other mark) byte = not (byte == mark)
 
 abbrev pub is_not_of : RunBytes → ℕ → Bool
 is_not_of kind byte = not (is_of kind byte)
+
+-- the entries of a byte's low and high half (four bits each) share no bit
+abbrev pub shares_no_bit : Halves → ℕ → Bool
+shares_no_bit set byte = bit_and (get_or set.low (bit_and byte 15) 0) (get_or set.high (byte / 16) 0) == 0
 
 -- characters one after another, the first at the place `at`
 abbrev pub run_items : ℕ → List ℕ → List CharItem

@@ -1,11 +1,11 @@
 //! How long the run of bytes of one kind at the front of a text is, counted 16 bytes at a time.
 
-ghost use Rattle.std.specs.Prelude.{◌≡◌, ◌<◌, ◌≤◌, ◌==◌, ◌↔◌, not, map, length, drop, IsTrue};
+ghost use Rattle.std.specs.Prelude.{◌≡◌, ◌<◌, ◌≤◌, ◌==◌, ◌↔◌, ◌++◌, not, map, length, drop, IsTrue};
 ghost use Rattle.std.specs.Int.{is_in_range};
 ghost use Rattle.std.specs.List.{prefix_len};
 ghost use Rattle.std.specs.Simd.Lanes.{mask_l};
 ghost use Rattle.std.specs.Str.Lossy.{second_byte_min, second_byte_max};
-ghost use Rattle.htext.specs.Vocabulary.{is_alphanumeric, AreBad, IsBadAlone, is_inner_byte, is_clean_byte, is_of, is_not_of, is_text_byte};
+ghost use Rattle.htext.specs.Vocabulary.{is_alphanumeric, AreBad, IsBadAlone, is_inner_byte, is_clean_byte, is_of, is_not_of, is_text_byte, is_word_byte, shares_no_bit};
 
 use std::simd::prelude::*;
 
@@ -20,17 +20,40 @@ pub(crate) enum RunBytes {
     Clean,
     /// ASCII letters and digits.
     Alphanumeric,
+    /// Small ASCII letters, digits, `-`, `.`, `:` and `_`.
+    Word,
     /// All but this one.
     Other(u8),
 }
 
-/// The bytes of clean characters, by their low and high halves (four bits each). Each bit stands for some high halves: 1 for 0, 2 for
-/// 2 to 6, 4 for 7, 8 for 8 to B and D, 16 for C, and 32 for E. A byte is clean where the entries of its two halves share a bit.
-const BY_LOW: [u8; 16] = [
-    46, 46, 46, 62, 62, 62, 62, 62, 62, 63, 63, 62, 63, 62, 62, 26,
-];
+/// A set of bytes, by their low and high halves (four bits each): a byte is in it where the entries of its two halves share a bit, which
+/// stands for some high halves.
+#[derive(Clone, Copy)]
+struct Halves {
+    low: [u8; 16],
+    high: [u8; 16],
+}
 
-const BY_HIGH: [u8; 16] = [1, 0, 2, 2, 2, 2, 2, 4, 8, 8, 8, 8, 16, 8, 32, 0];
+/// The bytes of clean characters (`clean_run` says which). 1 stands for the high half 0, 2 for 2 to 6, 4 for 7, 8 for 8 to B and D, 16 for C,
+/// and 32 for E.
+const CLEAN: Halves = Halves {
+    low: [
+        46, 46, 46, 62, 62, 62, 62, 62, 62, 63, 63, 62, 63, 62, 62, 26,
+    ],
+    high: [1, 0, 2, 2, 2, 2, 2, 4, 8, 8, 8, 8, 16, 8, 32, 0],
+};
+
+/// ASCII letters and digits. 1 stands for the high half 3, 2 for 4 and 6, and 4 for 5 and 7.
+const ALPHANUMERIC: Halves = Halves {
+    low: [5, 7, 7, 7, 7, 7, 7, 7, 7, 7, 6, 2, 2, 2, 2, 2],
+    high: [0, 0, 0, 1, 2, 4, 2, 4, 0, 0, 0, 0, 0, 0, 0, 0],
+};
+
+/// Small ASCII letters, digits, `-`, `.`, `:` and `_`. 1 stands for the high half 2, 2 for 3 and 7, 4 for 5, and 8 for 6.
+const WORD: Halves = Halves {
+    low: [2, 10, 10, 10, 10, 10, 10, 10, 10, 10, 10, 8, 8, 9, 9, 12],
+    high: [0, 0, 1, 2, 0, 4, 8, 2, 0, 0, 0, 0, 0, 0, 0, 0],
+};
 
 /// Counts the bytes before the first `<`, `>`, `&` or byte of a character that is not ASCII: inside a tag, before what may end it.
 #[inline(always)]
@@ -63,6 +86,15 @@ pub fn alphanumeric_run(bytes: &[u8]) -> usize
     ensures { result ≡ prefix_len is_alphanumeric bytes.now }
 {
     run(RunBytes::Alphanumeric, bytes)
+}
+
+/// Counts the small ASCII letters, digits, `-`, `.`, `:` and `_` before the first other byte.
+#[inline(always)]
+pub fn word_run(bytes: &[u8]) -> usize
+    ensures counted { result ≡ prefix_len is_word_byte bytes.now }
+    ensures few { result ≤ length bytes.now }
+{
+    run(RunBytes::Word, bytes)
 }
 
 /// Counts the bytes before the first one that is `mark`.
@@ -119,7 +151,8 @@ fn may_follow(first: u8, second: u8) -> bool
 /// Counts the bytes at the front that may be in a run, a vector at a time.
 #[inline(always)]
 fn run(kind: RunBytes, bytes: &[u8]) -> usize
-    ensures { result ≡ prefix_len (is_of kind) bytes.now }
+    ensures counted { result ≡ prefix_len (is_of kind) bytes.now }
+    ensures few { result ≤ length bytes.now }
 {
     let mut count = 0;
     while bytes.len() - count >= 16 {
@@ -129,7 +162,34 @@ fn run(kind: RunBytes, bytes: &[u8]) -> usize
         }
         count += 16;
     }
-    count + run_by_one(kind, &bytes[count..])
+    count + short_run(kind, &bytes[count..])
+}
+
+/// The same of fewer bytes than a vector has: eight at once, if there are as many, and the others one by one.
+#[inline(always)]
+fn short_run(kind: RunBytes, bytes: &[u8]) -> usize
+    ensures counted { result ≡ prefix_len (is_of kind) bytes.now }
+    ensures few { result ≤ length bytes.now }
+{
+    if bytes.len() < 8 {
+        return run_by_one(kind, bytes);
+    }
+    let found = stops(kind, twice(u8x8::from_slice(bytes)));
+    if found != 0 {
+        return found.trailing_zeros() as usize;
+    }
+    8 + run_by_one(kind, &bytes[8..])
+}
+
+/// Eight bytes, and these again.
+#[inline(always)]
+fn twice(eight: u8x8) -> u8x16
+    ensures { result ≡ eight ++ eight }
+{
+    eight.shuffle(
+        eight,
+        [0, 1, 2, 3, 4, 5, 6, 7, 8, 9, 10, 11, 12, 13, 14, 15],
+    )
 }
 
 /// The same, a byte at a time.
@@ -157,30 +217,20 @@ fn stops(kind: RunBytes, bytes: u8x16) -> u64
             | bytes.simd_eq(u8x16::splat(b'>'))
             | bytes.simd_ge(u8x16::splat(0x80))).to_bitmask(),
         RunBytes::Text => marks.to_bitmask(),
-        RunBytes::Clean => unclean(bytes),
-        RunBytes::Alphanumeric => others_than_alphanumerics(bytes),
+        RunBytes::Clean => outside(CLEAN, bytes),
+        RunBytes::Alphanumeric => outside(ALPHANUMERIC, bytes),
+        RunBytes::Word => outside(WORD, bytes),
         RunBytes::Other(mark) => bytes.simd_eq(u8x16::splat(mark)).to_bitmask(),
     }
 }
 
-/// Which of these bytes are neither ASCII letters nor digits.
+/// Which of these bytes are outside a set.
 #[inline(always)]
-fn others_than_alphanumerics(bytes: u8x16) -> u64
-    ensures { result ≡ mask_l (map (is_not_of RunBytes.Alphanumeric) bytes) }
+fn outside(set: Halves, bytes: u8x16) -> u64
+    ensures { result ≡ mask_l (map (shares_no_bit set) bytes) }
 {
-    let small = bytes | u8x16::splat(0x20);
-    let no_letter = small.simd_lt(u8x16::splat(b'a')) | small.simd_gt(u8x16::splat(b'z'));
-    let no_digit = bytes.simd_lt(u8x16::splat(b'0')) | bytes.simd_gt(u8x16::splat(b'9'));
-    (no_letter & no_digit).to_bitmask()
-}
-
-/// Which of these bytes are not clean.
-#[inline(always)]
-fn unclean(bytes: u8x16) -> u64
-    ensures { result ≡ mask_l (map (is_not_of RunBytes.Clean) bytes) }
-{
-    let low = u8x16::from_array(BY_LOW).swizzle_dyn(bytes & u8x16::splat(15));
-    let high = u8x16::from_array(BY_HIGH).swizzle_dyn(bytes >> u8x16::splat(4));
+    let low = u8x16::from_array(set.low).swizzle_dyn(bytes & u8x16::splat(15));
+    let high = u8x16::from_array(set.high).swizzle_dyn(bytes >> u8x16::splat(4));
     (low & high).simd_eq(u8x16::splat(0)).to_bitmask()
 }
 
@@ -197,6 +247,9 @@ fn is_in_run(kind: RunBytes, byte: u8) -> bool
             b'\t' | b'\n' | 0x0C | b' '..=b'~' | 0x80..=0xBF | 0xC3..=0xEE
         ),
         RunBytes::Alphanumeric => byte.is_ascii_alphanumeric(),
+        RunBytes::Word => {
+            byte.is_ascii_lowercase() || matches!(byte, b'-' | b'.' | b'0'..=b':' | b'_')
+        }
         RunBytes::Other(mark) => byte != mark,
     }
 }

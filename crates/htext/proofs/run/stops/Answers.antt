@@ -1,7 +1,9 @@
-use Rattle.htext.proofs.Names.{refl, ◌≡◌, ℕ, List, bit_or, cond, length, map, replicate, arith, zip2_splat, zip2_splat_left, zip2_of_maps, zip2, is_not_of}
+use Rattle.htext.proofs.Names.{refl, ◌≡◌, ◌∙◌, ℕ, List, sym, bit_or, cond, length, map, replicate, arith, zip2_splat, zip2_splat_left, zip2_of_maps, zip2, is_not_of, shares_no_bit}
 use Rattle.std.proofs.Common.{leb}
-use Rattle.htext.specs.declared.run.RunBytes.TheVariants.{Inner, Text, Other}
-use Rattle.htext.proofs.Lanes.{hit, hit_top, masked, masked_by}
+use Rattle.std.proofs.Math.Bool.{not-not}
+use Rattle.htext.specs.declared.run.RunBytes.TheVariants.{Inner, Text, Clean, Alphanumeric, Word, Other}
+use Rattle.htext.specs.declared.run.TheConstants.{CLEAN, ALPHANUMERIC, WORD}
+use Rattle.htext.proofs.Lanes.{agree, hit, hit_top, masked, same_mask}
 use Rattle.htext.proofs.run.stops.Goals as goal
 
 abbrev mark : ℕ → ℕ
@@ -18,13 +20,30 @@ pub returns-in-Inner : goal.returns-in-Inner
 returns-in-Inner c =
     let v = c.args.bytes in
     let long = c.fits-bytes.0 in
-    rw c.in-Inner.is (masked (λ x. bit_or (bit_or (mark x) (hit x 62)) (at_most 128 x)) (is_not_of Inner) v _ (omega arith) c.fits-bytes.1
-    (zip2_of_maps bit_or _ _ v (zip2_of_maps bit_or _ _ v (marks v long) (zip2_splat hit v 16 62 long)) (zip2_splat_left at_most 128 16 v long)) refl)
+    let most = zip2_of_maps bit_or _ _ v (marks v long) (zip2_splat hit v 16 62 long) in
+    let all = zip2_of_maps bit_or _ _ v most (zip2_splat_left at_most 128 16 v long) in
+    rw c.in-Inner.is (masked (λ x. bit_or (bit_or (mark x) (hit x 62)) (at_most 128 x)) (is_not_of Inner) v _ (omega arith) c.fits-bytes.1 all (agree _ _ refl))
 
 pub returns-in-Text : goal.returns-in-Text
-returns-in-Text c = rw c.in-Text.is (masked mark (is_not_of Text) c.args.bytes _ (omega arith) c.fits-bytes.1 (marks c.args.bytes c.fits-bytes.0) refl)
+returns-in-Text c =
+    rw c.in-Text.is (masked mark (is_not_of Text) c.args.bytes _ (omega arith) c.fits-bytes.1 (marks c.args.bytes c.fits-bytes.0) (agree _ _ refl))
+
+pub returns-in-Clean : goal.returns-in-Clean
+returns-in-Clean c =
+    rw c.in-Clean.is (c.outside.ensures ∙ same_mask (shares_no_bit CLEAN) (is_not_of Clean) refl c.args.bytes c.fits-bytes.1)
+
+pub returns-in-Alphanumeric : goal.returns-in-Alphanumeric
+returns-in-Alphanumeric c =
+    let same = same_mask (shares_no_bit ALPHANUMERIC) (is_not_of Alphanumeric) refl c.args.bytes c.fits-bytes.1 in
+    rw c.in-Alphanumeric.is (c.outside-in-Alphanumeric.ensures ∙ same)
+
+pub returns-in-Word : goal.returns-in-Word
+returns-in-Word c =
+    rw c.in-Word.is (c.outside-in-Word.ensures ∙ same_mask (shares_no_bit WORD) (is_not_of Word) refl c.args.bytes c.fits-bytes.1)
 
 pub returns-in-Other : goal.returns-in-Other
 returns-in-Other c =
     let v = c.args.bytes in
-    rw c.in-Other.is (masked_by (λ x. hit x c.in-Other.mark) (is_not_of (Other c.in-Other.mark)) v _ (omega (arith, c.fits-bytes.0)) (zip2_splat hit v 16 c.in-Other.mark c.fits-bytes.0) (λ x. hit_top x c.in-Other.mark))
+    let mark = c.in-Other.mark in
+    rw c.in-Other.is (masked (λ x. hit x mark) (is_not_of (Other mark)) v _ (omega (arith, c.fits-bytes.0)) c.fits-bytes.1
+    (zip2_splat hit v 16 mark c.fits-bytes.0) (λ x _. hit_top x mark ∙ sym (not-not _)))
