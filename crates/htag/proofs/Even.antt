@@ -1,5 +1,5 @@
 -- What a reference is written with.
-use Rattle.htag.proofs.Vocabulary.{◌≡◌, ℕ, Bool, true, false, not, ◌||◌, ◌&&◌, eqb, List, [], ◌∷◌, ◌++◌, sym, refl, ap, ◌∙◌, subst, arith, nat_tests, codes, bytes_eq, list_all, to_ascii_lowercase, Placed, characters, lowered, all, is_alphanumeric, and_parts, and_both, Entities, Piece, IsReference, IsTable, longest_among, all-append, is_odd, all-characters}
+use Rattle.htag.proofs.Vocabulary.{◌≡◌, ℕ, Bool, true, false, not, ◌||◌, eqb, List, [], ◌∷◌, ◌++◌, sym, refl, ap, ◌∙◌, subst, arith, nat_tests, codes, bytes_eq, list_all, to_ascii_lowercase, Placed, characters, lowered, all, is_alphanumeric, and_parts, and_both, Entities, Piece, IsReference, IsTable, longest_among, all-append, is_odd, all-characters}
 use Rattle.names.specs.Placed.{is_digit}
 use Rattle.charref.specs.declared.number.Base.{Base}
 use Rattle.charref.specs.declared.number.Base.TheVariants.{Decimal, Hexadecimal}

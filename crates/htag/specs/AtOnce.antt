@@ -5,11 +5,10 @@ use Rattle.names.specs.declared.placed.Placed.{Placed}
 use Rattle.names.specs.Names.{Texts}
 use Rattle.names.specs.Placed.{begins, characters, is_greater, is_letter, is_quote, placed}
 use Rattle.charref.specs.Reference.{Entities}
-use Rattle.htext.specs.Run.{is_word_byte}
+use Rattle.htext.specs.Run.{is_unquoted_byte, is_word_byte}
 use Rattle.htag.specs.declared.at_once.PlainAttribute.{PlainAttribute}
 use Rattle.htag.specs.declared.at_once.PlainValue.{PlainValue}
 use Rattle.htag.specs.declared.walk.TagWalk.{TagWalk}
-use Rattle.htag.specs.Run.{is_unquoted_byte}
 use Rattle.htag.specs.Tag.{Part, IsPart, AreParts, parts_text, errors_after, repeated, ends_name, ends_unquoted, tag_close}
 use Rattle.htag.specs.TagWalk.{HasAttributes, names_after}
 

@@ -1,5 +1,5 @@
 -- Runs of plain characters in a tag.
-use Rattle.std.specs.Prelude.{◌≡◌, ℕ, ◌≤◌, Bool, not, ◌||◌, true, List, [], ◌++◌, length, take, Result, MatchResult}
+use Rattle.std.specs.Prelude.{◌≡◌, ℕ, ◌≤◌, true, List, [], ◌++◌, length, take, Result, MatchResult}
 use Rattle.std.specs.List.{list_all}
 use Rattle.names.specs.declared.error.ParseError.{ParseError}
 use Rattle.names.specs.declared.placed.Placed.{Placed}
@@ -10,12 +10,7 @@ use Rattle.names.specs.Placed.{placed}
 use Rattle.charref.specs.Reference.{Entities}
 use Rattle.htext.specs.Run.{is_plain_byte, is_word_byte}
 use Rattle.htag.specs.declared.walk.TagWalk.{TagWalk}
-use Rattle.htag.specs.Tag.{ends_unquoted, is_odd}
 use Rattle.htag.specs.TagWalk.{IsInTag}
-
--- a byte of a value without quotes that neither ends it nor is a fault in it
-abbrev pub is_unquoted_byte : ℕ → Bool
-is_unquoted_byte byte = not (ends_unquoted byte || is_odd byte)
 
 -- a run of plain characters, and a place in it
 pub record IsPlainFrom (from : ℕ) (run : List ℕ) : Type 0 where

@@ -2,7 +2,7 @@
 pub use Rattle.charref.specs.Reference.{Entities}
 pub use Rattle.charref.specs.declared.walk.Walk.{Walk as Handed}
 pub use Rattle.htag.specs.AtOnce.{IsAfterName, IsBareName, IsName, IsPlainAttribute, IsPlainValue, ReadsPart}
-pub use Rattle.htag.specs.Run.{IsPlainFrom, PushesWords, TakesPart, TakesRun, is_unquoted_byte}
+pub use Rattle.htag.specs.Run.{IsPlainFrom, PushesWords, TakesPart, TakesRun}
 pub use Rattle.htag.specs.Steps.{AddsToName, BeginsAttribute, EndsAttribute, EndsAttributeValue, IsBegun, KeepsTag}
 pub use Rattle.htag.specs.Tag.{Part, ends_name, is_odd, tag_close}
 pub use Rattle.htag.specs.TagWalk.{HasAttributes, IsCutTag, IsInTag, NoValue, StepsInTag, TakesInTag, WholeOrNot}

@@ -7,10 +7,10 @@ ghost use Rattle.htag.specs.Vocabulary.{HasAttributes, WholeOrNot, Part, ends_na
 
 use crate::attribute::MAX_NUMBER;
 use crate::kind::TagKind;
-use crate::push::{push_front, rest_of, unquoted_run};
+use crate::push::{push_front, rest_of};
 use crate::tag_state::TagState;
 use crate::walk::TagWalk;
-use htext::{run_before, word_run};
+use htext::{run_before, unquoted_run, word_run};
 use names::{Attr, Names, Refusal};
 
 /// The length of a tag's name at the front of a run, where it begins with a small letter and its characters stand for themselves; 0 where

@@ -1,9 +1,9 @@
 //! Characters and errors, added to what was read.
 
 ghost use Rattle.std.specs.Prelude.{◌≡◌, ◌≤◌, ◌==◌, ◌&&◌, ◌∷◌, ◌++◌, [], true, drop, length, take, not, IfOk, OnOk, string_bytes, encode_utf8_all};
-ghost use Rattle.std.specs.List.{list_all, prefix_len};
+ghost use Rattle.std.specs.List.{list_all};
 ghost use Rattle.std.specs.Char.{encode_utf8, to_ascii_lowercase};
-ghost use Rattle.htag.specs.Vocabulary.{error_if, null_errors, without_null, is_plain_byte, is_unquoted_byte, ends_name, is_odd, IsPlainFrom, PushesWords};
+ghost use Rattle.htag.specs.Vocabulary.{error_if, null_errors, without_null, is_plain_byte, ends_name, is_odd, IsPlainFrom, PushesWords};
 
 use htext::word_run;
 use names::{ErrorCode, ParseError, Placed};
@@ -82,31 +82,6 @@ pub(crate) fn push_all(text: &mut String, characters: &[char]) -> Result<(), All
         text.push(*character)?;
     }
     Ok(())
-}
-
-/// Whether a byte is one of a value without quotes, and no fault in it.
-#[inline(always)]
-fn is_unquoted(byte: u8) -> bool
-    ensures { result ≡ is_unquoted_byte byte }
-{
-    if byte.is_ascii_lowercase() {
-        return true;
-    }
-    !matches!(byte, b'"' | b'\'' | b'<' | b'=' | b'`' | b'>') && !byte.is_ascii_whitespace()
-}
-
-/// How many bytes are before the first one that ends a value without quotes, or is a fault in it.
-#[inline(always)]
-pub(crate) fn unquoted_run(bytes: &[u8]) -> usize
-    ensures counted { result ≡ prefix_len is_unquoted_byte bytes.now }
-    ensures few { result ≤ length bytes.now }
-{
-    for (index, byte) in bytes.iter().enumerate() {
-        if !is_unquoted(*byte) {
-            return index;
-        }
-    }
-    bytes.len()
 }
 
 /// What is left of a run of plain characters from this place on.

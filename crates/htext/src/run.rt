@@ -5,7 +5,7 @@ ghost use Rattle.std.specs.Int.{is_in_range};
 ghost use Rattle.std.specs.List.{prefix_len};
 ghost use Rattle.std.specs.Simd.Lanes.{mask_l};
 ghost use Rattle.std.specs.Str.Lossy.{second_byte_min, second_byte_max};
-ghost use Rattle.htext.specs.Vocabulary.{is_alphanumeric, AreBad, IsBadAlone, is_inner_byte, is_clean_byte, is_of, is_not_of, is_text_byte, is_word_byte, shares_no_bit};
+ghost use Rattle.htext.specs.Vocabulary.{is_alphanumeric, AreBad, IsBadAlone, is_inner_byte, is_clean_byte, is_of, is_not_of, is_text_byte, is_word_byte, is_unquoted_byte, shares_no_bit};
 
 use std::simd::prelude::*;
 
@@ -22,6 +22,8 @@ pub(crate) enum RunBytes {
     Alphanumeric,
     /// Small ASCII letters, digits, `-`, `.`, `:` and `_`.
     Word,
+    /// All but white space, quotes, `<`, `=`, `>` and the grave accent.
+    Unquoted,
     /// All but this one.
     Other(u8),
 }
@@ -53,6 +55,14 @@ const ALPHANUMERIC: Halves = Halves {
 const WORD: Halves = Halves {
     low: [2, 10, 10, 10, 10, 10, 10, 10, 10, 10, 10, 8, 8, 9, 9, 12],
     high: [0, 0, 1, 2, 0, 4, 8, 2, 0, 0, 0, 0, 0, 0, 0, 0],
+};
+
+/// All but white space, quotes, `<`, `=`, `>` and the grave accent. 1 stands for the high half 0, 2 for 2, 4 for 3, 8 for 6, and 16 for others.
+const UNQUOTED: Halves = Halves {
+    low: [
+        21, 31, 29, 31, 31, 31, 31, 29, 31, 30, 30, 31, 26, 26, 27, 31,
+    ],
+    high: [1, 16, 2, 4, 16, 16, 8, 16, 16, 16, 16, 16, 16, 16, 16, 16],
 };
 
 /// Counts the bytes before the first `<`, `>`, `&` or byte of a character that is not ASCII: inside a tag, before what may end it.
@@ -97,13 +107,22 @@ pub fn word_run(bytes: &[u8]) -> usize
     run(RunBytes::Word, bytes)
 }
 
+/// Counts the bytes before the first white space, quote, `<`, `=`, `>` or grave accent.
+#[inline(always)]
+pub fn unquoted_run(bytes: &[u8]) -> usize
+    ensures counted { result ≡ prefix_len is_unquoted_byte bytes.now }
+    ensures few { result ≤ length bytes.now }
+{
+    short_run(RunBytes::Unquoted, bytes)
+}
+
 /// Counts the bytes before the first one that is `mark`.
 #[inline(always)]
 pub fn run_before(mark: u8, bytes: &[u8]) -> usize
     ensures counted { result ≡ prefix_len (λ byte. not (byte == mark)) bytes.now }
     ensures few { result ≤ length bytes.now }
 {
-    run(RunBytes::Other(mark), bytes)
+    short_run(RunBytes::Other(mark), bytes)
 }
 
 /// Counts the bytes at the front that are bad parts by themselves, up to this many.
@@ -162,17 +181,17 @@ fn run(kind: RunBytes, bytes: &[u8]) -> usize
         }
         count += 16;
     }
-    count + short_run(kind, &bytes[count..])
+    count + run_by_one(kind, &bytes[count..])
 }
 
-/// The same of fewer bytes than a vector has: eight at once, if there are as many, and the others one by one.
+/// The same, quicker where there are 8 to 15 bytes, as at a value before the end of its tag: eight at once, and the others one by one.
 #[inline(always)]
 fn short_run(kind: RunBytes, bytes: &[u8]) -> usize
     ensures counted { result ≡ prefix_len (is_of kind) bytes.now }
     ensures few { result ≤ length bytes.now }
 {
-    if bytes.len() < 8 {
-        return run_by_one(kind, bytes);
+    if bytes.len() < 8 || bytes.len() >= 16 {
+        return run(kind, bytes);
     }
     let found = stops(kind, twice(u8x8::from_slice(bytes)));
     if found != 0 {
@@ -220,6 +239,7 @@ fn stops(kind: RunBytes, bytes: u8x16) -> u64
         RunBytes::Clean => outside(CLEAN, bytes),
         RunBytes::Alphanumeric => outside(ALPHANUMERIC, bytes),
         RunBytes::Word => outside(WORD, bytes),
+        RunBytes::Unquoted => outside(UNQUOTED, bytes),
         RunBytes::Other(mark) => bytes.simd_eq(u8x16::splat(mark)).to_bitmask(),
     }
 }
@@ -249,6 +269,9 @@ fn is_in_run(kind: RunBytes, byte: u8) -> bool
         RunBytes::Alphanumeric => byte.is_ascii_alphanumeric(),
         RunBytes::Word => {
             byte.is_ascii_lowercase() || matches!(byte, b'-' | b'.' | b'0'..=b':' | b'_')
+        }
+        RunBytes::Unquoted => {
+            !matches!(byte, b'"' | b'\'' | b'<' | b'=' | b'>' | b'`') && !byte.is_ascii_whitespace()
         }
         RunBytes::Other(mark) => byte != mark,
     }

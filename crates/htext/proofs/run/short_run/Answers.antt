@@ -18,4 +18,4 @@ returns-clause-counted c =
     let d = c.args.bytes.now in
     let found = c.stops-found.ensures ∙ ap (λ v. mask_l (map (is_not_of c.args.kind) v)) c.twice.ensures in
     let left = ap (prefix_len (is_of c.args.kind)) (take_all (length d - 8) (drop 8 d) (omega (arith, length-drop 8 d))) in
-    omega (arith, twice_through (is_of c.args.kind) d 0 8 (omega arith) (omega (arith, found)), c.run_by_one-2.ensures.counted, left)
+    omega (arith, twice_through (is_of c.args.kind) d 0 8 (omega arith) (omega (arith, found)), c.run_by_one.ensures.counted, left)

@@ -1,8 +1,8 @@
 use Rattle.htext.proofs.Names.{refl, ◌≡◌, ◌∙◌, ℕ, List, sym, bit_or, cond, length, map, replicate, arith, zip2_splat, zip2_splat_left, zip2_of_maps, zip2, is_not_of, shares_no_bit}
 use Rattle.std.proofs.Common.{leb}
 use Rattle.std.proofs.Math.Bool.{not-not}
-use Rattle.htext.specs.declared.run.RunBytes.TheVariants.{Inner, Text, Clean, Alphanumeric, Word, Other}
-use Rattle.htext.specs.declared.run.TheConstants.{CLEAN, ALPHANUMERIC, WORD}
+use Rattle.htext.specs.declared.run.RunBytes.TheVariants.{Inner, Text, Clean, Alphanumeric, Word, Unquoted, Other}
+use Rattle.htext.specs.declared.run.TheConstants.{CLEAN, ALPHANUMERIC, WORD, UNQUOTED}
 use Rattle.htext.proofs.Lanes.{agree, hit, hit_top, masked, same_mask}
 use Rattle.htext.proofs.run.stops.Goals as goal
 
@@ -40,6 +40,10 @@ returns-in-Alphanumeric c =
 pub returns-in-Word : goal.returns-in-Word
 returns-in-Word c =
     rw c.in-Word.is (c.outside-in-Word.ensures ∙ same_mask (shares_no_bit WORD) (is_not_of Word) refl c.args.bytes c.fits-bytes.1)
+
+pub returns-in-Unquoted : goal.returns-in-Unquoted
+returns-in-Unquoted c =
+    rw c.in-Unquoted.is (c.outside-in-Unquoted.ensures ∙ same_mask (shares_no_bit UNQUOTED) (is_not_of Unquoted) refl c.args.bytes c.fits-bytes.1)
 
 pub returns-in-Other : goal.returns-in-Other
 returns-in-Other c =
