@@ -29,6 +29,7 @@ NOTHING = b'"title": null, "links": [], "errors": {}'
 # Pages are handed over so many bytes at a time, and one page more.
 BATCH = 1 << 16
 SETTINGS = given(bad_bytes=1)
+quoted = json.JSONEncoder().encode
 
 
 class Line(NamedTuple):
@@ -104,8 +105,9 @@ def line_of(found: Found, most: int) -> Line:
     except MemoryError:
         status = "Memory"
     taken = time.perf_counter() - begun
-    begin = json.dumps({"archive": found.archive, "record": found.record, "address": found.address, "status": status, "at": at})
-    return Line(status, size, b'%s, %s, "bytes": %d, "seconds": %.6f}\n' % (begin[:-1].encode(), it, size, taken))
+    archive, address, what = map(quoted, (found.archive, found.address, status))
+    begin = f'{{"archive": {archive}, "record": {found.record}, "address": {address}, "status": {what}, "at": {"null" if at is None else at}, '
+    return Line(status, size, b'%b%b, "bytes": %d, "seconds": %.6f}\n' % (begin.encode(), it, size, taken))
 
 
 def work(link: Connection, most: int) -> None:
