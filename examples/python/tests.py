@@ -492,7 +492,8 @@ class Crawls(unittest.TestCase):
             self.assertRaises(Unread, links_of, page, -MORE)
 
     def test_said(self):
-        pages = [PAGE, b"", b"a<svg>", b"<a href=/b>" * 9, "<title>\t\f é<!--x-->\U0001f600\u2028  \x7f\"\\ </title><a href=é\x01>\ud7ff\r\n\t\x0b</a><p\0>".encode()]
+        pages = [PAGE, b"", b"a<svg>", b"<a href=/b>" * 9,
+                 "<title>\t\f é<!--x-->\U0001f600\u2028  \x7f\"\\ </title><a href=é\x01>\ud7ff\r\n\t\x0b</a><p\0>".encode()]
         for page in pages + [it for it, _, _ in cases() if CASES]:
             came = []
             for call in (said, said_by_nodes):
