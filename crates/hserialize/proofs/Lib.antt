@@ -15,6 +15,8 @@ pub mod Entering
 pub mod Walks
 pub mod Tested
 pub mod Regions
+pub mod Following
+pub mod Documents
 pub mod Parts
 pub mod PlainNames
 pub mod Sorting

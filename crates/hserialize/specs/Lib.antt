@@ -16,6 +16,7 @@ pub mod PlainRows
 pub mod PlainDocument
 pub mod PlainDocumentRows
 pub mod Testing
+pub mod DocumentTesting
 pub mod Regions
 pub mod Lines
 pub mod ErrorLines

@@ -9,6 +9,7 @@ pub use Rattle.hnodes.specs.Spelled.{spelled, spelled_attribute, spelled_what}
 pub use Rattle.hnodes.specs.Spots.{name_of, what_of, attributes_of, first_child_of, next_of, parent_of}
 pub use Rattle.hserialize.specs.Calls.{Writes, counted_by, counted_by_result, counted_unless}
 pub use Rattle.hserialize.specs.ContentTable.{takes_comments, takes_role, texts_in}
+pub use Rattle.hserialize.specs.DocumentTesting.{is_head_at, is_last_at, is_leaf_at, is_metadata_at, is_metadata_what, is_named_what, is_plain_doctype_at, is_text_alone, trees_from, ArePassed, IsDoctypePassed}
 pub use Rattle.hserialize.specs.Entries.{AreNumbered, pair_of}
 pub use Rattle.hserialize.specs.ErrorLines.{IsLine}
 pub use Rattle.hserialize.specs.Escaping.{escaped, written_char}
@@ -17,7 +18,7 @@ pub use Rattle.hserialize.specs.Lent.{what_is}
 pub use Rattle.hserialize.specs.Lines.{attribute_line, error_line, error_lines, identifiers, in_order, indented, node_lines, tree_text}
 pub use Rattle.hserialize.specs.Output.{AppendsBeginning, IsFlushed, Puts, WritesText, taken}
 pub use Rattle.hserialize.specs.Plain.{are_plain_attributes, begins_with, drops_line_feed, has_part, is_a, is_among_texts, is_button, is_form, is_name_byte, is_nested, is_plain, is_plain_comment, is_plain_name, is_plain_text}
-pub use Rattle.hserialize.specs.PlainDocument.{is_plain_document}
+pub use Rattle.hserialize.specs.PlainDocument.{are_in_html, body_on, html_on, is_metadata, is_plain_document}
 pub use Rattle.hserialize.specs.Printing.{attribute_count, lines_of}
 pub use Rattle.hserialize.specs.Regions.{are_region_content, form_after, in_region}
 pub use Rattle.hserialize.specs.Testing.{after_visit, alone, begins_at, content_among, has_plain_name, inside_is, is_phrasing, is_plain_at, is_plain_element, is_text_at, marked, standing_at_top, standing_in, standing_of, tag_at, texts_at_top, top_content, ArePlainTo}

@@ -12,6 +12,7 @@ pub mod gathered;
 mod lines;
 pub mod node_view;
 mod plain;
+mod plain_document;
 mod plain_names;
 mod plain_texts;
 mod serializer;
@@ -26,6 +27,7 @@ pub use gathered::Gathered;
 pub use lines::{error_lines, print_errors, print_tree, tree_text};
 pub use node_view::NodeView;
 pub use plain::is_plain;
+pub use plain_document::is_plain_document;
 pub use serializer::{
     serialize, serialize_in, serialize_in_to_vec, serialize_outer, serialize_outer_to_vec,
     serialize_to_vec,

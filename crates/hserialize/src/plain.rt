@@ -36,7 +36,7 @@ fn standing_of(tree: &Tree, root: NodeId, top: Content, around: Around, node: No
 }
 
 /// Whether there is a node, and it is a text.
-fn is_text(tree: &Tree, node: Option<NodeId>) -> bool
+pub(crate) fn is_text(tree: &Tree, node: Option<NodeId>) -> bool
     requires { IfSome node (λ n. n < tree.now.made) }
     ensures { result ≡ is_text_at node tree.now.trees }
 {
@@ -77,7 +77,12 @@ fn all_plain_attributes(tree: &Tree, names: &PlainNames, node: NodeId, attrs: &[
 }
 
 /// Whether the attributes of an element are plain.
-fn are_plain_attributes(tree: &Tree, names: &PlainNames, node: NodeId, attrs: &[Attr]) -> bool
+pub(crate) fn are_plain_attributes(
+    tree: &Tree,
+    names: &PlainNames,
+    node: NodeId,
+    attrs: &[Attr],
+) -> bool
     requires made { node < tree.now.made }
     requires own { attributes_of node tree.now.trees ≡ Some (map attribute_of attrs.now) }
     ensures { result ≡ are_plain_attributes (map (spelled_attribute (text_of names.now)) (map attribute_of attrs.now)) }
@@ -193,7 +198,7 @@ fn form_after(tree: &Tree, names: &PlainNames, in_form: bool, visit: Visit) -> O
 }
 
 /// Whether the children of a node are a plain list in an element of this name.
-fn is_plain_list(tree: &Tree, names: &PlainNames, root: NodeId, context: &str) -> bool
+pub(crate) fn is_plain_list(tree: &Tree, names: &PlainNames, root: NodeId, context: &str) -> bool
     requires { root < tree.now.made }
     ensures { result ≡ is_plain context.now (spelled (text_of names.now) (children_of root tree.now.trees)) }
 {

@@ -5,7 +5,7 @@ ghost use Rattle.std.specs.List.{list_all};
 ghost use Rattle.names.specs.Names.{AreNames};
 ghost use Rattle.hserialize.specs.Vocabulary.{attribute_of, has_plain_name, is_name_byte, is_plain_name, names_end, text_of, ArePlainTo};
 
-use names::{Attr, Names};
+use names::{Attr, NameId, Names};
 use std::marker::Model;
 
 /// Whether a byte may be in the name of an attribute.
@@ -87,6 +87,13 @@ impl<'a> PlainNames<'a> {
         ensures names { AreNames self.now }
     {
         self.names.are_names()
+    }
+
+    /// The text of a name.
+    pub(crate) fn text(&self, name: NameId) -> &str
+        ensures { result.now ≡ text_of self.now name }
+    {
+        self.names.text(name)
     }
 
     /// Whether the names of all these attributes, whose numbers end here, are plain.

@@ -1,0 +1,233 @@
+-- What is tested of a plain document is what its definition asks.
+use Rattle.hserialize.proofs.Names.{◌≡◌, ℕ, ◌<◌, Bool, true, false, not, cond, List, [], Some, None, refl, sym, ◌∙◌, ap, subst, arith, ◌&&◌, map, option_map, Option, tag_of, tag_named, Tag, AreCounted, What, element, doctype, comment, text, Forest, none, tree, children_of, spelled, spelled_what, spelled_attribute, Spot, spot_of, first_or, first_child_of, next_of, what_of, row, takes_role, texts_in, Inside, inside_element, inside_node, are_plain_attributes, codes}
+use Rattle.std.specs.Prelude.{IfSome, bytes_eq, is_some}
+use Rattle.std.specs.Option.{is_none}
+use Rattle.hserialize.proofs.Following.{IsFirst, first-at, first-made, children-from}
+use Rattle.hserialize.specs.ContentTable.{takes_comments}
+use Rattle.hserialize.specs.DocumentTesting.{tree_in, trees_from, past_leaves, ArePassed, IsDoctypePassed, is_plain_doctype_what, is_plain_doctype_at, is_leaf_what, is_leaf_at, is_last_text, is_text_alone, is_metadata_what, is_metadata_at, is_named_what, is_last_at, is_head_at}
+use Rattle.hserialize.specs.Plain.{are_content, begins_with_text, is_plain_text}
+use Rattle.hserialize.specs.PlainDocument.{ends, is_leaf, leaves_then, comments_then, doctype_then, element_then, is_metadata, in_head, are_metadata, are_in_html, body_on, html_on, is_plain_document}
+use Rattle.hserialize.specs.Testing.{is_text, is_text_at}
+use Rattle.hserialize.specs.Words.{is_empty}
+use Rattle.hserialize.specs.declared.content.Role.{Role}
+use Rattle.hserialize.specs.declared.content.Texts.{Texts as Allowed}
+use Rattle.hserialize.specs.declared.content.Texts.TheVariants as texts
+use Rattle.names.specs.declared.tag.Tag.TheVariants as tag
+
+-- PARTS OF A LIST
+
+pub leaves : (allowed : Allowed) (next : Forest (List ℕ) → Bool) (g : Forest (List ℕ)) → leaves_then allowed next g ≡ next (past_leaves allowed g)
+leaves allowed next none = refl
+leaves allowed next (tree n w kids rest) = go (is_leaf allowed w kids rest) (leaves allowed next rest)
+  where
+    go : (u : Bool) → leaves_then allowed next rest ≡ next (past_leaves allowed rest) → cond u (leaves_then allowed next rest) (next (tree n w kids rest)) ≡ next (cond u (past_leaves allowed rest) (tree n w kids rest))
+    go true same = same
+    go false same = refl
+
+-- without a node, or with one
+none_is : {A : Type 0} (o : Option A) (u : Bool) → is_some o ≡ not u → u ≡ is_none o
+none_is o true h = ap not (sym h)
+none_is o false h = ap not (sym h)
+
+-- AT MOST ONE TEXT
+
+abbrev is_one_text : Allowed → Forest (List ℕ) → Bool
+is_one_text allowed none = true
+is_one_text allowed (tree n (text t) kids rest) = is_plain_text allowed t && ends kids && ends rest
+is_one_text allowed (tree n w kids rest) = false
+
+and_false : (u v : Bool) → false ≡ (u && v && false)
+and_false u v = grind (arith)
+
+empty : (i : Inside) (w : What (List ℕ)) (g : Forest (List ℕ)) → are_content (inside_node (text []) i) g ≡ ends g
+empty i w none = refl
+empty i w (tree n (text t) kids rest) = grind (arith)
+empty i w (tree n v kids rest) = refl
+
+regrouped : (p q e r : Bool) → ((p && q) && e && r) ≡ (p && e && (q && r))
+regrouped p q e r = grind (arith)
+
+module _ (i : Inside) (roles : (r : Role) → takes_role i.content r ≡ false) (comments : takes_comments i.content ≡ false) where
+  after_text : (g : Forest (List ℕ)) → (not (begins_with_text g) && are_content i g) ≡ ends g
+  after_text none = refl
+  after_text (tree n (element name attrs) kids rest) = grind (arith, roles)
+  after_text (tree n (comment t) kids rest) = grind (arith, comments)
+  after_text (tree n w kids rest) = refl
+
+  one_text : (g : Forest (List ℕ)) → are_content i g ≡ is_one_text i.texts g
+  one_text none = refl
+  one_text (tree n (text t) kids rest) =
+      regrouped (is_plain_text i.texts t) (not (begins_with_text rest)) (are_content (inside_node (text t) i) kids) (are_content i rest)
+      ∙ (λ k. is_plain_text i.texts t && empty i (text t) kids k && after_text rest k)
+  one_text (tree n (element name attrs) kids rest) = grind (arith, roles)
+  one_text (tree n (comment t) kids rest) = grind (arith, comments)
+  one_text (tree n w kids rest) = refl
+
+-- what is in an element of head
+in_metadata : (t : Tag) (g : Forest (List ℕ)) → is_metadata t ≡ true → are_content (inside_element t in_head) g ≡ is_one_text (texts_in (row t).1) g
+in_metadata tag.Base g h = one_text (inside_element tag.Base in_head) (λ r. refl) refl g
+in_metadata tag.Basefont g h = one_text (inside_element tag.Basefont in_head) (λ r. refl) refl g
+in_metadata tag.Bgsound g h = one_text (inside_element tag.Bgsound in_head) (λ r. refl) refl g
+in_metadata tag.Link g h = one_text (inside_element tag.Link in_head) (λ r. refl) refl g
+in_metadata tag.Meta g h = one_text (inside_element tag.Meta in_head) (λ r. refl) refl g
+in_metadata tag.Script g h = one_text (inside_element tag.Script in_head) (λ r. refl) refl g
+in_metadata tag.Style g h = one_text (inside_element tag.Style in_head) (λ r. refl) refl g
+in_metadata tag.Title g h = one_text (inside_element tag.Title in_head) (λ r. refl) refl g
+in_metadata _ g h = absurd cc
+
+-- NODE BY NODE
+
+swapped : (a b c : Bool) → (a && b && c) ≡ ((c && a) && b)
+swapped a b c = grind (arith)
+
+grouped : (a b c : Bool) → (a && b && c) ≡ ((a && b) && c)
+grouped a b c = grind (arith)
+
+named_first : (a b c d : Bool) → (a && b && c && d) ≡ ((a && b) && c && d)
+named_first a b c d = grind (arith)
+
+metadata_first : (a b c d : Bool) → (a && b && c && d) ≡ ((a && b && c) && d)
+metadata_first a b c d = grind (arith)
+
+doctype_first : (a b c d e : Bool) → (a && b && c && d && e) ≡ cond (a && b && c && d) e false
+doctype_first a b c d e = grind (arith)
+
+module _ (spelling : ℕ → List ℕ) (f : Forest ℕ) where
+  -- as the definition has it
+  abbrev from : Option ℕ → Forest (List ℕ)
+  from o = spelled spelling (trees_from o f)
+
+  childless : (g : Forest ℕ) → is_none (first_or g None) ≡ ends (spelled spelling g)
+  childless none = refl
+  childless (tree b w kids rest) = refl
+
+  before_text : (o : Option ℕ) → is_text_at o f ≡ begins_with_text (from o)
+  before_text None = refl
+  before_text (Some n) = go (spot_of n f)
+    where
+      at : (s : Spot ℕ) (w : What ℕ) → is_text (Some w) ≡ begins_with_text (tree n (spelled_what spelling w) (spelled spelling s.children) (spelled spelling s.after))
+      at s (text t) = refl
+      at s _ = refl
+
+      go : (s : Option (Spot ℕ)) → is_text (option_map (λ (u : Spot ℕ). u.what) s) ≡ begins_with_text (spelled spelling (tree_in n s))
+      go None = refl
+      go (Some s) = at s s.what
+
+  leaf : (allowed : Allowed) (n : ℕ) (a : IsFirst n f) → is_leaf_at allowed n f ≡ is_leaf allowed (spelled_what spelling a.what) (spelled spelling a.kids) (spelled spelling a.rest)
+  leaf allowed n a =
+      (λ k. is_leaf_what allowed (a.is k) ((ap is_none a.first ∙ childless a.kids) k) ((before_text (next_of n f) ∙ ap (λ g. begins_with_text (spelled spelling g)) a.after) k))
+      ∙ go a.what
+    where
+      go : (w : What ℕ) → is_leaf_what allowed (Some w) (ends (spelled spelling a.kids)) (begins_with_text (spelled spelling a.rest)) ≡ is_leaf allowed (spelled_what spelling w) (spelled spelling a.kids) (spelled spelling a.rest)
+      go (comment t) = refl
+      go (text t) = refl
+      go _ = refl
+
+  -- past what a list begins with
+  pub past : (allowed : Allowed) (next : Forest (List ℕ) → Bool) (o to : Option ℕ) → ArePassed allowed o to f → leaves_then allowed next (from o) ≡ next (from to)
+  past allowed next o to passed = leaves allowed next (from o) ∙ ap next (passed spelling)
+
+  pub past-step : (allowed : Allowed) (n : ℕ) (a : IsFirst n f) → past_leaves allowed (from (Some n)) ≡ cond (is_leaf_at allowed n f) (past_leaves allowed (from (next_of n f))) (from (Some n))
+  past-step allowed n a =
+      ap (λ g. past_leaves allowed (spelled spelling g)) a.trees
+      ∙ (λ k. cond (sym (leaf allowed n a) k) (past_leaves allowed (spelled spelling (sym a.after k))) (spelled spelling (sym a.trees k)))
+
+  pub doctype-step : (n : ℕ) (a : IsFirst n f) → doctype_then (comments_then html_on) (from (Some n)) ≡ cond (is_plain_doctype_at n f) (comments_then html_on (from (next_of n f))) (comments_then html_on (from (Some n)))
+  doctype-step n a =
+      ap (λ g. doctype_then (comments_then html_on) (spelled spelling g)) a.trees ∙ go a.what
+      ∙ (λ k. cond (is_plain_doctype_what (sym a.is k) (sym (ap is_none a.first ∙ childless a.kids) k)) (comments_then html_on (spelled spelling (sym a.after k))) (comments_then html_on (spelled spelling (sym a.trees k))))
+    where
+      go : (w : What ℕ) → doctype_then (comments_then html_on) (spelled spelling (tree n w a.kids a.rest))
+          ≡ cond (is_plain_doctype_what (Some w) (ends (spelled spelling a.kids))) (comments_then html_on (spelled spelling a.rest)) (comments_then html_on (spelled spelling (tree n w a.kids a.rest)))
+      go (doctype x p s) = doctype_first (bytes_eq x (codes "html")) (is_empty p) (is_empty s) (ends (spelled spelling a.kids)) (comments_then html_on (spelled spelling a.rest))
+      go _ = refl
+
+  pub element-step : (x : List ℕ) (children next : Forest (List ℕ) → Bool) (n : ℕ) (a : IsFirst n f)
+      → element_then x children next (from (Some n)) ≡ (is_named_what spelling x (what_of n f) && children (spelled spelling (children_of n f)) && next (from (next_of n f)))
+  element-step x children next n a =
+      ap (λ g. element_then x children next (spelled spelling g)) a.trees ∙ go a.what
+      ∙ (λ k. is_named_what spelling x (sym a.is k) && children (spelled spelling (sym a.kids_are k)) && next (spelled spelling (sym a.after k)))
+    where
+      go : (w : What ℕ) → element_then x children next (spelled spelling (tree n w a.kids a.rest)) ≡ (is_named_what spelling x (Some w) && children (spelled spelling a.kids) && next (spelled spelling a.rest))
+      go (element name attrs) = named_first (bytes_eq (spelling name) x) (are_plain_attributes (map (spelled_attribute spelling) attrs)) (children (spelled spelling a.kids)) (next (spelled spelling a.rest))
+      go _ = refl
+
+  module _ (made : ℕ) (counted : AreCounted made f) where
+    -- body, and html
+    pub last-is : (x : List ℕ) (children : Forest (List ℕ) → Bool) (o : Option ℕ) (n : ℕ) → o ≡ Some n → IfSome o (λ n. n < made)
+        → element_then x children (comments_then ends) (from o) ≡ (is_last_at spelling x n f && children (spelled spelling (children_of n f)))
+    last-is x children o n is within =
+        let h : n < made = subst (λ o. IfSome o (λ n. n < made)) is within in
+        ap (λ o. element_then x children (comments_then ends) (from o)) is
+        ∙ element-step x children (comments_then ends) n (first-at made f counted n h)
+        ∙ swapped (is_named_what spelling x (what_of n f)) (children (spelled spelling (children_of n f))) (comments_then ends (from (next_of n f)))
+
+    -- the children of html, where this is what their comments end with
+    pub in-html : (q : ℕ) (o to : Option ℕ) → q < made → o ≡ first_child_of q f → ArePassed texts.None o to f
+        → are_in_html (spelled spelling (children_of q f)) ≡ element_then (codes "head") are_metadata (leaves_then texts.WhiteSpace body_on) (from to)
+    in-html q o to h same passed =
+        ap (λ g. are_in_html (spelled spelling g)) (sym (children-from made f counted q h) ∙ ap (λ o. trees_from o f) (sym same))
+        ∙ past texts.None (element_then (codes "head") are_metadata (leaves_then texts.WhiteSpace body_on)) o to passed
+
+    pub head-is : (n : ℕ) (o to : Option ℕ) → n < made → o ≡ next_of n f → ArePassed texts.WhiteSpace o to f
+        → element_then (codes "head") are_metadata (leaves_then texts.WhiteSpace body_on) (from (Some n)) ≡ (is_head_at spelling n f && body_on (from to))
+    head-is n o to h same passed =
+        element-step (codes "head") are_metadata (leaves_then texts.WhiteSpace body_on) n (first-at made f counted n h)
+        ∙ grouped (is_named_what spelling (codes "head") (what_of n f)) (are_metadata (spelled spelling (children_of n f))) (leaves_then texts.WhiteSpace body_on (from (next_of n f)))
+        ∙ ap (λ o. is_head_at spelling n f && leaves_then texts.WhiteSpace body_on (from o)) (sym same) ∙ ap (λ u. is_head_at spelling n f && u) (past texts.WhiteSpace body_on o to passed)
+
+    -- a document, past its comments, its doctype and its other comments
+    pub document-is : (q : ℕ) (r o p to : Option ℕ) → q < made → r ≡ first_child_of q f → ArePassed texts.None r o f → IsDoctypePassed o p f → ArePassed texts.None p to f
+        → is_plain_document (spelled spelling (children_of q f)) ≡ html_on (from to)
+    document-is q r o p to h same first between last =
+        ap (λ g. is_plain_document (spelled spelling g)) (sym (children-from made f counted q h) ∙ ap (λ o. trees_from o f) (sym same))
+        ∙ past texts.None (doctype_then (comments_then html_on)) r o first
+        ∙ between spelling
+        ∙ past texts.None html_on p to last
+
+    ended : (o : Option ℕ) → IfSome o (λ n. n < made) → ends (from o) ≡ is_none o
+    ended None h = refl
+    ended (Some n) h = ap (λ g. ends (spelled spelling g)) (first-at made f counted n h).trees
+
+    -- comments alone
+    pub comments-end : (o r to : Option ℕ) (u : Bool) → r ≡ o → ArePassed texts.None r to f → IfSome to (λ n. n < made) → is_some to ≡ not u → u ≡ comments_then ends (from o)
+    comments-end o r to u same passed within h =
+        none_is to u h ∙ sym (ap (λ o. comments_then ends (from o)) (sym same) ∙ past texts.None ends r to passed ∙ ended to within)
+
+    alone : (allowed : Allowed) (o : Option ℕ) → IfSome o (λ n. n < made) → is_text_alone allowed o f ≡ is_one_text allowed (from o)
+    alone allowed None h = refl
+    alone allowed (Some n) h =
+        let a = first-at made f counted n h in
+        (λ k. is_last_text allowed (a.is k) ((ap is_none a.first ∙ childless a.kids) k) ((ap is_none a.next ∙ childless a.rest) k)) ∙ go n a.kids a.rest a.what
+        ∙ ap (λ g. is_one_text allowed (spelled spelling g)) (sym a.trees)
+      where
+        go : (b : ℕ) (kids rest : Forest ℕ) (w : What ℕ) → is_last_text allowed (Some w) (ends (spelled spelling kids)) (ends (spelled spelling rest)) ≡ is_one_text allowed (spelled spelling (tree b w kids rest))
+        go b kids rest (text t) = refl
+        go b kids rest _ = refl
+
+    module _ (tags : (id : ℕ) → tag_of id ≡ tag_named (spelling id)) where
+      pub metadata-step : (n : ℕ) → n < made → are_metadata (from (Some n)) ≡ (is_metadata_at spelling n f && are_metadata (from (next_of n f)))
+      metadata-step n h =
+          ap (λ g. are_metadata (spelled spelling g)) a.trees ∙ go a.what (leaf texts.WhiteSpace n a)
+          ∙ (λ k. is_metadata_what spelling n f (sym a.is k) && are_metadata (spelled spelling (sym a.after k)))
+        where
+          a : IsFirst n f
+          a = first-at made f counted n h
+
+          inner : (t : Tag) → is_metadata t ≡ true → are_content (inside_element t in_head) (spelled spelling a.kids) ≡ is_text_alone (texts_in (row t).1) (first_child_of n f) f
+          inner t m =
+              in_metadata t (spelled spelling a.kids) m
+              ∙ sym (alone (texts_in (row t).1) (first_child_of n f) (first-made made f counted n h) ∙ ap (λ g. is_one_text (texts_in (row t).1) (spelled spelling g)) (children-from made f counted n h ∙ a.kids_are))
+
+          held : (u c d v : Bool) (t : Tag) → is_metadata t ≡ u → (u ≡ true → c ≡ d) → (u && v && c) ≡ (u && v && d)
+          held true c d v t e same = ap (λ x. v && x) (same refl)
+          held false c d v t e same = refl
+
+          go : (w : What ℕ) → is_leaf_at texts.WhiteSpace n f ≡ is_leaf texts.WhiteSpace (spelled_what spelling w) (spelled spelling a.kids) (spelled spelling a.rest)
+              → are_metadata (spelled spelling (tree n w a.kids a.rest)) ≡ (is_metadata_what spelling n f (Some w) && are_metadata (spelled spelling a.rest))
+          go (element name attrs) l =
+              let t = tag_named (spelling name) in
+              metadata_first (is_metadata t) (are_plain_attributes (map (spelled_attribute spelling) attrs)) (are_content (inside_element t in_head) (spelled spelling a.kids)) (are_metadata (spelled spelling a.rest))
+              ∙ ap (λ u. u && are_metadata (spelled spelling a.rest)) (held (is_metadata t) _ _ (are_plain_attributes (map (spelled_attribute spelling) attrs)) t refl (inner t))
+              ∙ ap (λ (u : Tag). (is_metadata u && are_plain_attributes (map (spelled_attribute spelling) attrs) && is_text_alone (texts_in (row u).1) (first_child_of n f) f) && are_metadata (spelled spelling a.rest)) (sym (tags name))
+          go w l = ap (λ u. u && are_metadata (spelled spelling a.rest)) (sym l)

@@ -1,0 +1,229 @@
+//! Whether a document is plain.
+
+ghost use Rattle.std.specs.Prelude.{◌≡◌, ◌<◌, IfSome, Some, map};
+ghost use Rattle.hserialize.specs.Vocabulary.{are_in_html, attribute_of, attributes_of, body_on, children_of, html_on, is_head_at, is_last_at, is_leaf_at, is_metadata, is_metadata_at, is_metadata_what, is_named_what, is_plain_doctype_at, is_plain_document, is_text_alone, spelled, text_of, trees_from, what_of, element, ArePassed, IsDoctypePassed};
+
+use crate::NodeView;
+use crate::content::Texts;
+use crate::content_rows::row;
+use crate::plain::{are_plain_attributes, is_plain_list, is_text};
+use crate::plain_names::PlainNames;
+use crate::plain_texts::{is_plain_comment, is_plain_text};
+use hnodes::{NodeId, Tree};
+use names::{Attr, NameId, Names, Tag};
+
+/// Whether a node is a plain comment, or a plain text that may be where these may, before its siblings.
+fn is_leaf(tree: &Tree, allowed: Texts, node: NodeId) -> bool
+    requires { node < tree.now.made }
+    ensures { result ≡ is_leaf_at allowed node tree.now.trees }
+{
+    let childless = tree.first_child(node).is_none();
+    match NodeView::of(tree, node) {
+        NodeView::Comment(data) => is_plain_comment(data) && childless,
+        NodeView::Text(text) => {
+            is_plain_text(allowed, text) && childless && !is_text(tree, tree.next(node))
+        }
+        _ => false,
+    }
+}
+
+/// The first node that is no plain comment and no such text, of a node and the siblings after it.
+fn past_leaves(tree: &Tree, allowed: Texts, from: Option<NodeId>) -> Option<NodeId>
+    requires { IfSome from (λ n. n < tree.now.made) }
+    ensures passed { ArePassed allowed from result tree.now.trees }
+    ensures within { IfSome result (λ n. n < tree.now.made) }
+{
+    prove!(tree.are_nodes());
+    let mut next = from;
+    while let Some(node) = next {
+        if !is_leaf(tree, allowed, node) {
+            return Some(node);
+        }
+        next = tree.next(node);
+    }
+    None
+}
+
+/// The sibling after a doctype named html without identifiers; another node itself.
+fn past_doctype(tree: &Tree, from: Option<NodeId>) -> Option<NodeId>
+    requires { IfSome from (λ n. n < tree.now.made) }
+    ensures passed { IsDoctypePassed from result tree.now.trees }
+    ensures within { IfSome result (λ n. n < tree.now.made) }
+{
+    prove!(tree.are_nodes());
+    match from {
+        Some(node) if is_plain_doctype(tree, node) => tree.next(node),
+        _ => from,
+    }
+}
+
+/// Whether a node is a doctype named html without identifiers.
+fn is_plain_doctype(tree: &Tree, node: NodeId) -> bool
+    requires { node < tree.now.made }
+    ensures { result ≡ is_plain_doctype_at node tree.now.trees }
+{
+    let childless = tree.first_child(node).is_none();
+    match NodeView::of(tree, node) {
+        NodeView::Doctype(texts) => {
+            texts.name.as_str() == "html"
+                && texts.public_id.is_empty()
+                && texts.system_id.is_empty()
+                && childless
+        }
+        _ => false,
+    }
+}
+
+/// Whether a node is an element of this name whose attributes are plain.
+fn is_named(tree: &Tree, names: &PlainNames, node: NodeId, expected: &str) -> bool
+    requires { node < tree.now.made }
+    ensures { result ≡ is_named_what (text_of names.now) expected.now (what_of node tree.now.trees) }
+{
+    match NodeView::of(tree, node) {
+        NodeView::Element(name, attrs) => {
+            names.text(name) == expected && are_plain_attributes(tree, names, node, attrs)
+        }
+        _ => false,
+    }
+}
+
+/// Whether a node is such an element, and comments alone follow it.
+fn is_last(tree: &Tree, names: &PlainNames, node: NodeId, expected: &str) -> bool
+    requires { node < tree.now.made }
+    ensures { result ≡ is_last_at (text_of names.now) expected.now node tree.now.trees }
+{
+    prove!(tree.are_nodes());
+    let after = past_leaves(tree, Texts::None, tree.next(node));
+    after.is_none() && is_named(tree, names, node, expected)
+}
+
+/// Whether there is one such text at most, from a node on.
+fn is_text_alone(tree: &Tree, allowed: Texts, node: Option<NodeId>) -> bool
+    requires { IfSome node (λ n. n < tree.now.made) }
+    ensures { result ≡ is_text_alone allowed node tree.now.trees }
+{
+    let Some(node) = node else {
+        return true;
+    };
+    let childless = tree.first_child(node).is_none();
+    let last = tree.next(node).is_none();
+    match NodeView::of(tree, node) {
+        NodeView::Text(text) => is_plain_text(allowed, text) && childless && last,
+        _ => false,
+    }
+}
+
+/// Whether an element of this name may be in the head of a plain document.
+fn is_metadata(tag: Tag) -> bool
+    ensures { result ≡ is_metadata tag }
+{
+    matches!(
+        tag,
+        Tag::Base
+            | Tag::Basefont
+            | Tag::Bgsound
+            | Tag::Link
+            | Tag::Meta
+            | Tag::Script
+            | Tag::Style
+            | Tag::Title
+    )
+}
+
+/// Whether an element may be in the head of a plain document.
+fn is_metadata_element(
+    tree: &Tree,
+    names: &PlainNames,
+    node: NodeId,
+    name: NameId,
+    attrs: &[Attr],
+) -> bool
+    requires made { node < tree.now.made }
+    requires own { attributes_of node tree.now.trees ≡ Some (map attribute_of attrs.now) }
+    ensures { result ≡ is_metadata_what (text_of names.now) node tree.now.trees (Some (element name (map attribute_of attrs.now))) }
+{
+    let tag = name.tag();
+    is_metadata(tag)
+        && are_plain_attributes(tree, names, node, attrs)
+        && is_text_alone(tree, row(tag).1.texts(), tree.first_child(node))
+}
+
+/// Whether a node may be in the head of a plain document.
+fn is_metadata_node(tree: &Tree, names: &PlainNames, node: NodeId) -> bool
+    requires { node < tree.now.made }
+    ensures { result ≡ is_metadata_at (text_of names.now) node tree.now.trees }
+{
+    match NodeView::of(tree, node) {
+        NodeView::Element(name, attrs) => is_metadata_element(tree, names, node, name, attrs),
+        _ => is_leaf(tree, Texts::WhiteSpace, node),
+    }
+}
+
+/// Whether a node is the head of a plain document.
+fn is_head(tree: &Tree, names: &PlainNames, head: NodeId) -> bool
+    requires { head < tree.now.made }
+    ensures { result ≡ is_head_at (text_of names.now) head tree.now.trees }
+{
+    if !is_named(tree, names, head, "head") {
+        return false;
+    }
+    prove!(names.are_names());
+    let mut next = tree.first_child(head);
+    while let Some(node) = next {
+        if !is_metadata_node(tree, names, node) {
+            return false;
+        }
+        next = tree.next(node);
+    }
+    true
+}
+
+/// Whether a node is the body of a plain document, and comments alone follow it.
+fn is_body_on(tree: &Tree, names: &PlainNames, node: Option<NodeId>) -> bool
+    requires { IfSome node (λ n. n < tree.now.made) }
+    ensures { result ≡ body_on (spelled (text_of names.now) (trees_from node tree.now.trees)) }
+{
+    prove!(tree.are_nodes());
+    let Some(body) = node else {
+        return false;
+    };
+    is_last(tree, names, body, "body") && is_plain_list(tree, names, body, "body")
+}
+
+/// Whether the children of a node are those of html in a plain document.
+fn is_html(tree: &Tree, names: &PlainNames, html: NodeId) -> bool
+    requires { html < tree.now.made }
+    ensures { result ≡ are_in_html (spelled (text_of names.now) (children_of html tree.now.trees)) }
+{
+    prove!(tree.are_nodes());
+    let Some(head) = past_leaves(tree, Texts::None, tree.first_child(html)) else {
+        return false;
+    };
+    let body = past_leaves(tree, Texts::WhiteSpace, tree.next(head));
+    is_head(tree, names, head) && is_body_on(tree, names, body)
+}
+
+/// Whether a node is the html of a plain document, and comments alone follow it.
+fn is_html_on(tree: &Tree, names: &PlainNames, node: Option<NodeId>) -> bool
+    requires { IfSome node (λ n. n < tree.now.made) }
+    ensures { result ≡ html_on (spelled (text_of names.now) (trees_from node tree.now.trees)) }
+{
+    prove!(tree.are_nodes());
+    let Some(html) = node else {
+        return false;
+    };
+    is_last(tree, names, html, "html") && is_html(tree, names, html)
+}
+
+/// Whether the children of a node are those of a plain document: they come back from the parser as they are. Takes no memory, and as
+/// many steps as [`is_plain`](crate::is_plain).
+pub fn is_plain_document(tree: &Tree, names: &Names, root: NodeId) -> bool
+    requires { root < tree.now.made }
+    ensures { result ≡ is_plain_document (spelled (text_of names.now) (children_of root tree.now.trees)) }
+{
+    prove!(tree.are_nodes());
+    let names = PlainNames::of(names);
+    let first = past_leaves(tree, Texts::None, tree.first_child(root));
+    let html = past_leaves(tree, Texts::None, past_doctype(tree, first));
+    is_html_on(tree, &names, html)
+}
