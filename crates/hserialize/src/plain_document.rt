@@ -23,7 +23,7 @@ fn is_leaf(tree: &Tree, allowed: Texts, node: NodeId) -> bool
         NodeView::Text(text) => {
             is_plain_text(allowed, text) && childless && !is_text(tree, tree.next(node))
         }
-        _ => false,
+        NodeView::Document | NodeView::Doctype(_) | NodeView::Element(_, _) => false,
     }
 }
 
