@@ -20,7 +20,8 @@ pub leaves : (allowed : Allowed) (next : Forest (List ℕ) → Bool) (g : Forest
 leaves allowed next none = refl
 leaves allowed next (tree n w kids rest) = go (is_leaf allowed w kids rest) (leaves allowed next rest)
   where
-    go : (u : Bool) → leaves_then allowed next rest ≡ next (past_leaves allowed rest) → cond u (leaves_then allowed next rest) (next (tree n w kids rest)) ≡ next (cond u (past_leaves allowed rest) (tree n w kids rest))
+    go : (u : Bool) → leaves_then allowed next rest ≡ next (past_leaves allowed rest) → cond u (leaves_then allowed next rest) (next (tree n w kids rest))
+        ≡ next (cond u (past_leaves allowed rest) (tree n w kids rest))
     go true same = same
     go false same = refl
 
@@ -105,7 +106,8 @@ module _ (spelling : ℕ → List ℕ) (f : Forest ℕ) where
   before_text None = refl
   before_text (Some n) = go (spot_of n f)
     where
-      at : (s : Spot ℕ) (w : What ℕ) → is_text (Some w) ≡ begins_with_text (tree n (spelled_what spelling w) (spelled spelling s.children) (spelled spelling s.after))
+      at : (s : Spot ℕ) (w : What ℕ) → is_text (Some w)
+          ≡ begins_with_text (tree n (spelled_what spelling w) (spelled spelling s.children) (spelled spelling s.after))
       at s (text t) = refl
       at s _ = refl
 
@@ -113,43 +115,55 @@ module _ (spelling : ℕ → List ℕ) (f : Forest ℕ) where
       go None = refl
       go (Some s) = at s s.what
 
-  leaf : (allowed : Allowed) (n : ℕ) (a : IsFirst n f) → is_leaf_at allowed n f ≡ is_leaf allowed (spelled_what spelling a.what) (spelled spelling a.kids) (spelled spelling a.rest)
+  leaf : (allowed : Allowed) (n : ℕ) (a : IsFirst n f) → is_leaf_at allowed n f
+      ≡ is_leaf allowed (spelled_what spelling a.what) (spelled spelling a.kids) (spelled spelling a.rest)
   leaf allowed n a =
-      (λ k. is_leaf_what allowed (a.is k) ((ap is_none a.first ∙ childless a.kids) k) ((before_text (next_of n f) ∙ ap (λ g. begins_with_text (spelled spelling g)) a.after) k))
+      (λ k. is_leaf_what allowed (a.is k) ((ap is_none a.first ∙ childless a.kids) k) ((before_text (next_of n f)
+      ∙ ap (λ g. begins_with_text (spelled spelling g)) a.after) k))
       ∙ go a.what
     where
-      go : (w : What ℕ) → is_leaf_what allowed (Some w) (ends (spelled spelling a.kids)) (begins_with_text (spelled spelling a.rest)) ≡ is_leaf allowed (spelled_what spelling w) (spelled spelling a.kids) (spelled spelling a.rest)
+      go : (w : What ℕ) → is_leaf_what allowed (Some w) (ends (spelled spelling a.kids)) (begins_with_text (spelled spelling a.rest))
+          ≡ is_leaf allowed (spelled_what spelling w) (spelled spelling a.kids) (spelled spelling a.rest)
       go (comment t) = refl
       go (text t) = refl
       go _ = refl
 
   -- past what a list begins with
-  pub past : (allowed : Allowed) (next : Forest (List ℕ) → Bool) (o to : Option ℕ) → ArePassed allowed o to f → leaves_then allowed next (from o) ≡ next (from to)
+  pub past : (allowed : Allowed) (next : Forest (List ℕ) → Bool) (o to : Option ℕ) → ArePassed allowed o to f → leaves_then allowed next (from o)
+      ≡ next (from to)
   past allowed next o to passed = leaves allowed next (from o) ∙ ap next (passed spelling)
 
-  pub past-step : (allowed : Allowed) (n : ℕ) (a : IsFirst n f) → past_leaves allowed (from (Some n)) ≡ cond (is_leaf_at allowed n f) (past_leaves allowed (from (next_of n f))) (from (Some n))
+  pub past-step : (allowed : Allowed) (n : ℕ) (a : IsFirst n f) → past_leaves allowed (from (Some n))
+      ≡ cond (is_leaf_at allowed n f) (past_leaves allowed (from (next_of n f))) (from (Some n))
   past-step allowed n a =
       ap (λ g. past_leaves allowed (spelled spelling g)) a.trees
       ∙ (λ k. cond (sym (leaf allowed n a) k) (past_leaves allowed (spelled spelling (sym a.after k))) (spelled spelling (sym a.trees k)))
 
-  pub doctype-step : (n : ℕ) (a : IsFirst n f) → doctype_then (comments_then html_on) (from (Some n)) ≡ cond (is_plain_doctype_at n f) (comments_then html_on (from (next_of n f))) (comments_then html_on (from (Some n)))
+  pub doctype-step : (n : ℕ) (a : IsFirst n f) → doctype_then (comments_then html_on) (from (Some n))
+      ≡ cond (is_plain_doctype_at n f) (comments_then html_on (from (next_of n f))) (comments_then html_on (from (Some n)))
   doctype-step n a =
       ap (λ g. doctype_then (comments_then html_on) (spelled spelling g)) a.trees ∙ go a.what
-      ∙ (λ k. cond (is_plain_doctype_what (sym a.is k) (sym (ap is_none a.first ∙ childless a.kids) k)) (comments_then html_on (spelled spelling (sym a.after k))) (comments_then html_on (spelled spelling (sym a.trees k))))
+      ∙ (λ k. cond (is_plain_doctype_what (sym a.is k) (sym (ap is_none a.first ∙ childless a.kids) k))
+      (comments_then html_on (spelled spelling (sym a.after k))) (comments_then html_on (spelled spelling (sym a.trees k))))
     where
       go : (w : What ℕ) → doctype_then (comments_then html_on) (spelled spelling (tree n w a.kids a.rest))
-          ≡ cond (is_plain_doctype_what (Some w) (ends (spelled spelling a.kids))) (comments_then html_on (spelled spelling a.rest)) (comments_then html_on (spelled spelling (tree n w a.kids a.rest)))
-      go (doctype x p s) = doctype_first (bytes_eq x (codes "html")) (is_empty p) (is_empty s) (ends (spelled spelling a.kids)) (comments_then html_on (spelled spelling a.rest))
+          ≡ cond (is_plain_doctype_what (Some w) (ends (spelled spelling a.kids))) (comments_then html_on (spelled spelling a.rest))
+          (comments_then html_on (spelled spelling (tree n w a.kids a.rest)))
+      go (doctype x p s) = doctype_first (bytes_eq x (codes "html")) (is_empty p) (is_empty s) (ends (spelled spelling a.kids))
+          (comments_then html_on (spelled spelling a.rest))
       go _ = refl
 
   pub element-step : (x : List ℕ) (children next : Forest (List ℕ) → Bool) (n : ℕ) (a : IsFirst n f)
-      → element_then x children next (from (Some n)) ≡ (is_named_what spelling x (what_of n f) && children (spelled spelling (children_of n f)) && next (from (next_of n f)))
+      → element_then x children next (from (Some n))
+      ≡ (is_named_what spelling x (what_of n f) && children (spelled spelling (children_of n f)) && next (from (next_of n f)))
   element-step x children next n a =
       ap (λ g. element_then x children next (spelled spelling g)) a.trees ∙ go a.what
       ∙ (λ k. is_named_what spelling x (sym a.is k) && children (spelled spelling (sym a.kids_are k)) && next (spelled spelling (sym a.after k)))
     where
-      go : (w : What ℕ) → element_then x children next (spelled spelling (tree n w a.kids a.rest)) ≡ (is_named_what spelling x (Some w) && children (spelled spelling a.kids) && next (spelled spelling a.rest))
-      go (element name attrs) = named_first (bytes_eq (spelling name) x) (are_plain_attributes (map (spelled_attribute spelling) attrs)) (children (spelled spelling a.kids)) (next (spelled spelling a.rest))
+      go : (w : What ℕ) → element_then x children next (spelled spelling (tree n w a.kids a.rest))
+          ≡ (is_named_what spelling x (Some w) && children (spelled spelling a.kids) && next (spelled spelling a.rest))
+      go (element name attrs) = named_first (bytes_eq (spelling name) x) (are_plain_attributes (map (spelled_attribute spelling) attrs))
+          (children (spelled spelling a.kids)) (next (spelled spelling a.rest))
       go _ = refl
 
   module _ (made : ℕ) (counted : AreCounted made f) where
@@ -173,11 +187,14 @@ module _ (spelling : ℕ → List ℕ) (f : Forest ℕ) where
         → element_then (codes "head") are_metadata (leaves_then texts.WhiteSpace body_on) (from (Some n)) ≡ (is_head_at spelling n f && body_on (from to))
     head-is n o to h same passed =
         element-step (codes "head") are_metadata (leaves_then texts.WhiteSpace body_on) n (first-at made f counted n h)
-        ∙ grouped (is_named_what spelling (codes "head") (what_of n f)) (are_metadata (spelled spelling (children_of n f))) (leaves_then texts.WhiteSpace body_on (from (next_of n f)))
-        ∙ ap (λ o. is_head_at spelling n f && leaves_then texts.WhiteSpace body_on (from o)) (sym same) ∙ ap (λ u. is_head_at spelling n f && u) (past texts.WhiteSpace body_on o to passed)
+        ∙ grouped (is_named_what spelling (codes "head") (what_of n f)) (are_metadata (spelled spelling (children_of n f)))
+        (leaves_then texts.WhiteSpace body_on (from (next_of n f)))
+        ∙ ap (λ o. is_head_at spelling n f && leaves_then texts.WhiteSpace body_on (from o)) (sym same)
+        ∙ ap (λ u. is_head_at spelling n f && u) (past texts.WhiteSpace body_on o to passed)
 
     -- a document, past its comments, its doctype and its other comments
-    pub document-is : (q : ℕ) (r o p to : Option ℕ) → q < made → r ≡ first_child_of q f → ArePassed texts.None r o f → IsDoctypePassed o p f → ArePassed texts.None p to f
+    pub document-is : (q : ℕ) (r o p to : Option ℕ) → q < made → r ≡ first_child_of q f → ArePassed texts.None r o f → IsDoctypePassed o p f
+        → ArePassed texts.None p to f
         → is_plain_document (spelled spelling (children_of q f)) ≡ html_on (from to)
     document-is q r o p to h same first between last =
         ap (λ g. is_plain_document (spelled spelling g)) (sym (children-from made f counted q h) ∙ ap (λ o. trees_from o f) (sym same))
@@ -190,7 +207,8 @@ module _ (spelling : ℕ → List ℕ) (f : Forest ℕ) where
     ended (Some n) h = ap (λ g. ends (spelled spelling g)) (first-at made f counted n h).trees
 
     -- comments alone
-    pub comments-end : (o r to : Option ℕ) (u : Bool) → r ≡ o → ArePassed texts.None r to f → IfSome to (λ n. n < made) → is_some to ≡ not u → u ≡ comments_then ends (from o)
+    pub comments-end : (o r to : Option ℕ) (u : Bool) → r ≡ o → ArePassed texts.None r to f → IfSome to (λ n. n < made) → is_some to ≡ not u → u
+        ≡ comments_then ends (from o)
     comments-end o r to u same passed within h =
         none_is to u h ∙ sym (ap (λ o. comments_then ends (from o)) (sym same) ∙ past texts.None ends r to passed ∙ ended to within)
 
@@ -201,7 +219,8 @@ module _ (spelling : ℕ → List ℕ) (f : Forest ℕ) where
         (λ k. is_last_text allowed (a.is k) ((ap is_none a.first ∙ childless a.kids) k) ((ap is_none a.next ∙ childless a.rest) k)) ∙ go n a.kids a.rest a.what
         ∙ ap (λ g. is_one_text allowed (spelled spelling g)) (sym a.trees)
       where
-        go : (b : ℕ) (kids rest : Forest ℕ) (w : What ℕ) → is_last_text allowed (Some w) (ends (spelled spelling kids)) (ends (spelled spelling rest)) ≡ is_one_text allowed (spelled spelling (tree b w kids rest))
+        go : (b : ℕ) (kids rest : Forest ℕ) (w : What ℕ) → is_last_text allowed (Some w) (ends (spelled spelling kids)) (ends (spelled spelling rest))
+            ≡ is_one_text allowed (spelled spelling (tree b w kids rest))
         go b kids rest (text t) = refl
         go b kids rest _ = refl
 
@@ -214,20 +233,26 @@ module _ (spelling : ℕ → List ℕ) (f : Forest ℕ) where
           a : IsFirst n f
           a = first-at made f counted n h
 
-          inner : (t : Tag) → is_metadata t ≡ true → are_content (inside_element t in_head) (spelled spelling a.kids) ≡ is_text_alone (texts_in (row t).1) (first_child_of n f) f
+          inner : (t : Tag) → is_metadata t ≡ true → are_content (inside_element t in_head) (spelled spelling a.kids)
+              ≡ is_text_alone (texts_in (row t).1) (first_child_of n f) f
           inner t m =
               in_metadata t (spelled spelling a.kids) m
-              ∙ sym (alone (texts_in (row t).1) (first_child_of n f) (first-made made f counted n h) ∙ ap (λ g. is_one_text (texts_in (row t).1) (spelled spelling g)) (children-from made f counted n h ∙ a.kids_are))
+              ∙ sym (alone (texts_in (row t).1) (first_child_of n f) (first-made made f counted n h)
+              ∙ ap (λ g. is_one_text (texts_in (row t).1) (spelled spelling g)) (children-from made f counted n h ∙ a.kids_are))
 
           held : (u c d v : Bool) (t : Tag) → is_metadata t ≡ u → (u ≡ true → c ≡ d) → (u && v && c) ≡ (u && v && d)
           held true c d v t e same = ap (λ x. v && x) (same refl)
           held false c d v t e same = refl
 
-          go : (w : What ℕ) → is_leaf_at texts.WhiteSpace n f ≡ is_leaf texts.WhiteSpace (spelled_what spelling w) (spelled spelling a.kids) (spelled spelling a.rest)
+          go : (w : What ℕ) → is_leaf_at texts.WhiteSpace n f
+              ≡ is_leaf texts.WhiteSpace (spelled_what spelling w) (spelled spelling a.kids) (spelled spelling a.rest)
               → are_metadata (spelled spelling (tree n w a.kids a.rest)) ≡ (is_metadata_what spelling n f (Some w) && are_metadata (spelled spelling a.rest))
           go (element name attrs) l =
               let t = tag_named (spelling name) in
-              metadata_first (is_metadata t) (are_plain_attributes (map (spelled_attribute spelling) attrs)) (are_content (inside_element t in_head) (spelled spelling a.kids)) (are_metadata (spelled spelling a.rest))
-              ∙ ap (λ u. u && are_metadata (spelled spelling a.rest)) (held (is_metadata t) _ _ (are_plain_attributes (map (spelled_attribute spelling) attrs)) t refl (inner t))
-              ∙ ap (λ (u : Tag). (is_metadata u && are_plain_attributes (map (spelled_attribute spelling) attrs) && is_text_alone (texts_in (row u).1) (first_child_of n f) f) && are_metadata (spelled spelling a.rest)) (sym (tags name))
+              metadata_first (is_metadata t) (are_plain_attributes (map (spelled_attribute spelling) attrs))
+              (are_content (inside_element t in_head) (spelled spelling a.kids)) (are_metadata (spelled spelling a.rest))
+              ∙ ap (λ u. u && are_metadata (spelled spelling a.rest))
+              (held (is_metadata t) _ _ (are_plain_attributes (map (spelled_attribute spelling) attrs)) t refl (inner t))
+              ∙ ap (λ (u : Tag). (is_metadata u && are_plain_attributes (map (spelled_attribute spelling) attrs)
+              && is_text_alone (texts_in (row u).1) (first_child_of n f) f) && are_metadata (spelled spelling a.rest)) (sym (tags name))
           go w l = ap (λ u. u && are_metadata (spelled spelling a.rest)) (sym l)

@@ -45,7 +45,8 @@ module _ (made : ℕ) (f : Forest ℕ) (counted : AreCounted made f) where
     where
       go : (g : Forest ℕ) → children_of q f ≡ g → IfSome (first_or g None) (λ c. c < made)
       go none e = tt
-      go (tree b w k R) e = was-made made f counted b (let some : 0 < times b (children_of q f) = rw (e, eq-eqb b b refl) (omega arith) in omega (arith, children-among b q f))
+      go (tree b w k R) e = was-made made f counted b
+          (let some : 0 < times b (children_of q f) = rw (e, eq-eqb b b refl) (omega arith) in omega (arith, children-among b q f))
 
   pub first-at : (n : ℕ) → n < made → IsFirst n f
   first-at n h = go (level n f (is-there made f counted n h) (at-most made f counted))
@@ -67,10 +68,12 @@ module _ (made : ℕ) (f : Forest ℕ) (counted : AreCounted made f) where
       go (inl p) = at _ (root-spot n p.what p.left p.kids p.right f (at-most made f counted n) p.is) refl
       go (inr p) =
           at _ (child-spot n p.parent p.what p.left p.kids p.right f p.one (is-there made f counted n h) p.is)
-          (siblings p.parent (join p.left (tree n p.what p.kids none)) p.right (was-made made f counted p.parent (omega (arith, p.one))) (p.is ∙ sym (join-assoc p.left (tree n p.what p.kids none) p.right)))
+          (siblings p.parent (join p.left (tree n p.what p.kids none)) p.right (was-made made f counted p.parent (omega (arith, p.one))) (p.is
+          ∙ sym (join-assoc p.left (tree n p.what p.kids none) p.right)))
 
   -- the siblings after a node are fewer
-  pub shorter : (o : Option ℕ) (n : ℕ) (p : Option ℕ) → n < made → o ≡ Some n → p ≡ next_of n f → length (roots (trees_from p f)) < length (roots (trees_from o f))
+  pub shorter : (o : Option ℕ) (n : ℕ) (p : Option ℕ) → n < made → o ≡ Some n → p ≡ next_of n f
+      → length (roots (trees_from p f)) < length (roots (trees_from o f))
   shorter o n p h is next =
       let a = first-at n h in
       let before : roots (trees_from o f) ≡ n ∷ roots a.rest = ap (λ o. roots (trees_from o f)) is ∙ ap roots a.trees in
