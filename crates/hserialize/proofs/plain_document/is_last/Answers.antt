@@ -10,7 +10,8 @@ returns-then-is_none c =
     ∙ ap (λ u. u && is_named_what (text_of c.args.names.now) c.args.expected.now (what_of c.args.node f))
     (sym c.if-is_none.true
     ∙ comments-end (text_of c.args.names.now) f c.args.tree.now.made c.are_nodes.ensures.nodes.counted
-    (next_of c.args.node f) c.next.result c.past_leaves-after.result c.is_none.result c.next.ensures.sibling c.past_leaves-after.ensures.passed c.past_leaves-after.ensures.within c.is_none.ensures)
+    (next_of c.args.node f) c.next.result c.past_leaves-after.result c.is_none.result c.next.ensures.sibling c.past_leaves-after.ensures.passed
+    c.past_leaves-after.ensures.within c.is_none.ensures)
 
 pub returns-else-is_none : goal.returns-else-is_none
 returns-else-is_none c =
@@ -19,4 +20,5 @@ returns-else-is_none c =
     ∙ ap (λ u. u && is_named_what (text_of c.args.names.now) c.args.expected.now (what_of c.args.node f))
     (sym c.if-is_none.false
     ∙ comments-end (text_of c.args.names.now) f c.args.tree.now.made c.are_nodes.ensures.nodes.counted
-    (next_of c.args.node f) c.next.result c.past_leaves-after.result c.is_none.result c.next.ensures.sibling c.past_leaves-after.ensures.passed c.past_leaves-after.ensures.within c.is_none.ensures)
+    (next_of c.args.node f) c.next.result c.past_leaves-after.result c.is_none.result c.next.ensures.sibling c.past_leaves-after.ensures.passed
+    c.past_leaves-after.ensures.within c.is_none.ensures)

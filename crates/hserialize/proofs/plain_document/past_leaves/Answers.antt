@@ -19,7 +19,8 @@ pub loop-next-smaller : goal.loop-next-smaller
 loop-next-smaller c =
     let within : c.in-Some.node < c.args.tree.now.made = subst
     (λ (o : Option ℕ). IfSome o (λ n. n < c.args.tree.now.made)) c.in-Some.is c.loop-next.invariant.within in
-    shorter c.args.tree.now.made c.args.tree.now.trees c.are_nodes.ensures.nodes.counted c.loop-next.next c.in-Some.node c.next-next.result within c.in-Some.is c.next-next.ensures.sibling
+    shorter c.args.tree.now.made c.args.tree.now.trees c.are_nodes.ensures.nodes.counted c.loop-next.next c.in-Some.node c.next-next.result within
+    c.in-Some.is c.next-next.ensures.sibling
 
 pub loop-next-preserved : goal.loop-next-preserved
 loop-next-preserved c =
