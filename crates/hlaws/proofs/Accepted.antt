@@ -1,6 +1,7 @@
--- A fragment whose tokens lead the rules to a state is accepted, with the tree of that state.
-use Rattle.hlaws.proofs.Names.{◌≡◌, ℕ, ◌≤◌, List, ◌++◌, length, map, None, Ok, refl, sym, ap, ◌∙◌, subst, IsUtf8, ParseError, Placed, raw_kind, tag_named, input_errors, Policy, read_len, refusal_of, Tok, Tokens, texts, Goes, fragment_begins, State, Steps, reads_in, text_in, ParseOptions, fragment, manner, policy, Parse, Parses, accepted, placed, text_of, in_order, order-permutes, order-sorted}
+-- A document or a fragment whose tokens lead the rules to a state is accepted, with the tree of that state.
+use Rattle.hlaws.proofs.Names.{◌≡◌, ℕ, ◌≤◌, List, ◌++◌, length, map, None, Ok, refl, sym, ap, ◌∙◌, subst, IsUtf8, ParseError, Placed, input_errors, Policy, read_len, refusal_of, Tok, Tokens, texts, Goes, State, Steps, reads_in, text_in, start_of, start_kind, ParseOptions, manner, policy, Parse, Parses, accepted, placed, text_of, in_order, order-permutes, order-sorted}
 use Rattle.std.proofs.Common.{take}
+use Rattle.hparse.specs.Parse.{ParseCase, begins}
 use Rattle.std.proofs.Math.Seq.{take-length}
 use Rattle.htext.specs.declared.BadBytes.{BadBytes}
 use Rattle.htext.specs.declared.BadBytes.TheVariants as bad
@@ -18,20 +19,20 @@ accepted-bytes how bytes utf8 within = by how.bad
 front-is : (how : Policy) (bytes : List ℕ) → refusal_of how bytes ≡ None → take (read_len how bytes) bytes ≡ bytes
 front-is how bytes e = ap (λ (n : ℕ). take n bytes) (all-read how bytes e) ∙ take-length bytes
 
-pub record IsAccepted (opts : ParseOptions) (context bytes : List ℕ) (state : State (List ℕ)) : Type 0 where
+pub record IsAccepted (opts : ParseOptions) (parse_case : ParseCase) (bytes : List ℕ) (state : State (List ℕ)) : Type 0 where
   pub parse : Parse
-  pub parses : Parses opts (fragment context) bytes (Ok parse)
+  pub parses : Parses opts parse_case bytes (Ok parse)
   pub trees : parse.trees ≡ state.site.nodes.trees
 
-pub accepts : (opts : ParseOptions) (context bytes : List ℕ) (toks : List Tok) (errors : List ParseError) (state : State (List ℕ)) → IsUtf8 bytes → length bytes ≤ opts.input
-    → Tokens opts.table (raw_kind (tag_named context)) (text_of bytes) (length bytes) toks errors → Steps texts (map placed toks) (fragment_begins texts context opts.limits) (Goes state)
-    → IsAccepted opts context bytes state
-accepts opts context bytes toks errors state utf8 within read steps =
-    let how = policy opts (fragment context) in
+pub accepts : (opts : ParseOptions) (parse_case : ParseCase) (bytes : List ℕ) (toks : List Tok) (errors : List ParseError) (state : State (List ℕ)) → IsUtf8 bytes → length bytes ≤ opts.input
+    → Tokens opts.table (start_kind (start_of parse_case)) (text_of (policy opts parse_case).bom bytes) (length bytes) toks errors → Steps texts (map placed toks) (begins opts parse_case) (Goes state)
+    → IsAccepted opts parse_case bytes state
+accepts opts parse_case bytes toks errors state utf8 within read steps =
+    let how = policy opts parse_case in
     let none : refusal_of how bytes ≡ None = accepted-bytes how bytes utf8 within in
-    let all = input_errors (reads_in (manner opts (fragment context)) bytes) ++ (errors ++ state.site.errors) in
-    let same : text_of bytes ≡ text_in (manner opts (fragment context)) bytes = ap text_of (sym (front-is how bytes none)) in
-    let taken = subst (λ (t : List Placed). Tokens opts.table (raw_kind (tag_named context)) t (length bytes) toks errors) same read in
+    let all = input_errors (reads_in (manner opts parse_case) bytes) ++ (errors ++ state.site.errors) in
+    let same : text_of how.bom bytes ≡ text_in (manner opts parse_case) bytes = ap (text_of how.bom) (sym (front-is how bytes none)) in
+    let taken = subst (λ (t : List Placed). Tokens opts.table (start_kind (start_of parse_case)) t (length bytes) toks errors) same read in
     record {
       parse = record { trees = state.site.nodes.trees; errors = in_order all };
       parses = accepted errors (in_order all) state (record { tokens = toks; read = taken; steps = steps }) (order-permutes all) (order-sorted all) none;

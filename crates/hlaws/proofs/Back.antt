@@ -1,11 +1,12 @@
 -- Plain trees come back, where what is written of them is read as their own tokens.
-use Rattle.hlaws.proofs.Names.{◌≡◌, ℕ, ◌+◌, Bool, true, false, List, [], ◌∷◌, ◌++◌, map, Some, refl, sym, ◌∙◌, ap, subst, arith, ◌⊎◌, inl, inr, ne_eqb, false≢true, Forest, none, tree, size, children_of, join-none, raw_kind, tag_named, tag_text, Tag, Tok, texts, Goes, Mode, InBody, InCaption, InCell, InTable, InTableBody, InRow, fragment_begins, rule_of, perform, PlacedToken, State, eof, Done, Rule, begun, ends, Step, goes, Steps, and, Content, Escaping, Builds, fits_mode, fits_current, is_flow_mode, numbered, AreTexts, AreRead, PlainTokens, ParseOptions, is_context, placed, taken, row, texts_in, Inside, are_content, are_content_if, in_context_of, is_form, tokens_of}
+use Rattle.hlaws.proofs.Names.{◌≡◌, ℕ, ◌+◌, Bool, true, false, List, [], ◌∷◌, ◌++◌, map, Some, refl, sym, ◌∙◌, ap, subst, arith, ◌⊎◌, inl, inr, ne_eqb, false≢true, Forest, none, tree, size, children_of, join-none, raw_kind, tag_named, tag_text, Tag, Tok, texts, Goes, Mode, InBody, InCaption, InCell, InTable, InTableBody, InRow, fragment_begins, rule_of, perform, PlacedToken, State, eof, Done, Rule, begun, ends, Step, goes, Steps, and, Content, Escaping, Builds, fits_mode, fits_current, is_flow_mode, numbered, AreTexts, AreRead, PlainTokens, ParseOptions, fragment, is_context, placed, taken, row, texts_in, Inside, are_content, are_content_if, in_context_of, is_form, tokens_of}
 use Rattle.hlaws.specs.Building.{IsQuiet}
 use Rattle.names.specs.declared.tag.Tag.TheVariants as tag
 use Rattle.hadopt.specs.Site.{stack}
 use Rattle.hmodes.specs.Erased.{erased, node}
 use Rattle.hmodes.specs.Reset.{context_mode}
 use Rattle.hmodes.specs.declared.token_kind.TokenKind.TheVariants.{Eof}
+use Rattle.htext.specs.declared.Bom.TheVariants.{Keep}
 use Rattle.hmodes.specs.Step as step
 use Rattle.hserialize.specs.declared.content.Content.TheVariants as content
 use Rattle.hserialize.specs.declared.content.Texts.TheVariants as allowed
@@ -18,7 +19,7 @@ use Rattle.hlaws.proofs.Allowed.{context_taken}
 use Rattle.hlaws.proofs.PlainBuilds.{law}
 
 -- a list under other numbers
-erased-numbered : (k : ℕ) (l : Forest (List ℕ)) → erased (numbered k l) ≡ erased l
+pub erased-numbered : (k : ℕ) (l : Forest (List ℕ)) → erased (numbered k l) ≡ erased l
 erased-numbered k none = refl
 erased-numbered k (tree b w kids rest) = let x = erased-numbered (k + 1) kids in let y = erased-numbered (k + 1 + size kids) rest in λ i. node w (x i) (y i)
 
@@ -35,7 +36,7 @@ context_ok : (t : Tag) → mode_ok (row t).1 (context_mode t) ≡ true
 context_ok tag.A = refl
 context_ok _ = refl
 
-placed_token : (toks : List Tok) → map (λ t. t.token) (map placed toks) ≡ map taken toks
+pub placed_token : (toks : List Tok) → map (λ t. t.token) (map placed toks) ≡ map taken toks
 placed_token [] = refl
 placed_token (t ∷ toks) = ap (λ ts. taken t ∷ ts) (placed_token toks)
 
@@ -57,7 +58,7 @@ flow_ends InBody h = refl
 flow_ends _ h = cc
 
 module _ (opts : ParseOptions) (escaping : Escaping) (context : List ℕ) (allowed_here : is_context context ≡ true) (l : Forest (List ℕ)) (utf8 : AreTexts l) (fits : Fits opts (written escaping (Some context) l) l)
-    (read : AreRead opts.table (raw_kind (tag_named context)) (written escaping (Some context) l) (tokens_of texts l ++ eof ∷ [])) where
+    (read : AreRead opts.table Keep (raw_kind (tag_named context)) (written escaping (Some context) l) (tokens_of texts l ++ eof ∷ [])) where
   abbrev start_state : State (List ℕ)
   start_state = fragment_begins texts context opts.limits
 
@@ -106,7 +107,7 @@ module _ (opts : ParseOptions) (escaping : Escaping) (context : List ℕ) (allow
       let whole : Steps texts (p.front ++ record { token = eof; at = e.at } ∷ []) start_state (Goes (begun b.acted)) = after b.steps (and ending_step step.none) in
       let listed : map placed read.toks ≡ p.front ++ record { token = eof; at = e.at } ∷ [] = p.is ∙ ap (λ ts. p.front ++ ts) (e.is ∙ ap (λ ts. record { token = eof; at = e.at } ∷ ts) (ended e.others e.rest)) in
       let steps = subst (λ (ts : List (PlacedToken (List ℕ))). Steps texts ts start_state (Goes (begun b.acted))) (sym listed) whole in
-      let done = accepts opts context (written escaping (Some context) l) read.toks read.errors (begun b.acted) read.utf8 fits.input read.read steps in
+      let done = accepts opts (fragment context) (written escaping (Some context) l) read.toks read.errors (begun b.acted) read.utf8 fits.input read.read steps in
       let built = ap (λ f. erased (children_of 1 f)) b.built.trees_are ∙ ap erased (join-none (numbered 2 l)) ∙ erased-numbered 2 l in
       record { allowed = allowed_here; parse = done.parse; parses = done.parses; children = ap (λ f. erased (children_of 1 f)) done.trees ∙ built }
 

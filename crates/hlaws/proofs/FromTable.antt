@@ -14,7 +14,7 @@ use Rattle.hlaws.proofs.Whole.{Good, LfSafe, TextFits, TextIn}
 
 -- TEXTS
 
-is_text : (t : List ℕ) → IsUtf8 t → is_empty t ≡ false → is_clean t ≡ true → IsText t
+pub is_text : (t : List ℕ) → IsUtf8 t → is_empty t ≡ false → is_clean t ≡ true → IsText t
 is_text t u some clean = go (chars t) refl
   where
     bytes_are : encode_utf8_all (chars t) ≡ t
@@ -34,7 +34,7 @@ spaces_ascii [] h i = omega arith
 spaces_ascii (b ∷ bs) h zero = space_small b (and_parts _ _ h).0
 spaces_ascii (b ∷ bs) h (suc i) = spaces_ascii bs (and_parts (is_ascii_whitespace b) _ h).1 i
 
-spaced : (t : List ℕ) (is : IsText t) → IsUtf8 t → list_all is_ascii_whitespace t ≡ true → list_all is_ascii_whitespace (is.one ∷ is.more) ≡ true
+pub spaced : (t : List ℕ) (is : IsText t) → IsUtf8 t → list_all is_ascii_whitespace t ≡ true → list_all is_ascii_whitespace (is.one ∷ is.more) ≡ true
 spaced t is u h =
     let same : t ≡ chars t = chars_from_encodes t t u (encodes-IsAscii t (spaces_ascii t h)) in
     sym (ap (list_all is_ascii_whitespace) (same ∙ is.spelled)) ∙ h

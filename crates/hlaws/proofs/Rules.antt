@@ -1,5 +1,5 @@
 -- The rules where the state is quiet: by the mode, and what they do with characters.
-use Rattle.hlaws.proofs.Names.{arith, nat_tests, ◌≡◌, ℕ, ◌+◌, ◌<◌, Bool, true, false, List, [], ◌∷◌, ◌++◌, map, None, refl, sym, ◌∙◌, ap, lt-leb, false≢true, list_all, nat_le, encode_utf8, ◌==◌, text, Forest, none, tree, times, text_before, LastIn, OpenNode, Listed, entry, Placed, is_space, Naming, Outcome, Goes, is_fostering, Family, Mode, InBody, InCaption, InCell, Text, InTable, InTableText, InTableBody, InRow, InColumnGroup, Comment, Start, End, rule_of, perform, Token, character, Control, State, Done, kind_of, Rule, goes_again, begun, is_flow_mode, under, EntriesOpen}
+use Rattle.hlaws.proofs.Names.{arith, nat_tests, ◌≡◌, ℕ, ◌+◌, ◌<◌, Bool, true, false, List, [], ◌∷◌, ◌++◌, map, None, refl, sym, ◌∙◌, ap, lt-leb, false≢true, list_all, nat_le, encode_utf8, ◌==◌, text, Forest, none, tree, times, text_before, LastIn, OpenNode, Listed, entry, Placed, is_space, Naming, Outcome, Goes, is_fostering, Family, Mode, InBody, InCaption, InCell, Text, InTable, InTableText, InTableBody, InRow, Comment, Start, End, rule_of, perform, Token, character, Control, State, Done, kind_of, Rule, goes_again, begun, is_flow_mode, under, EntriesOpen}
 use Rattle.hmodes.specs.Step.{Chain}
 use Rattle.std.proofs.lemmas.List.{append-nil, append_assoc}
 use Rattle.std.specs.Str.{encode_utf8_all}
@@ -133,8 +133,8 @@ module _ {N : Type 0} (n : Naming N) (z : State N) where
         go true i = by_mode at (character ch) Text Ws (state z made f (d ∷ up) items c) s e (rw (clean_not_null ch h, i) refl) p
         go false i = by_mode at (character ch) Text Char (state z made f (d ∷ up) items c) s e (rw (clean_not_null ch h, i) refl) p
 
-    pub column_puts : Puts InColumnGroup is_space
-    column_puts at ch made f c s e h p = by_mode at (character ch) InColumnGroup Ws (state z made f (d ∷ up) items c) s e (rw (space_not_null ch h, h) refl) p
+    pub space_puts : (m : Mode) → rule_of m Ws ≡ put → Puts m is_space
+    space_puts m rule at ch made f c s e h p = by_mode at (character ch) m Ws (state z made f (d ∷ up) items c) s e (rw (space_not_null ch h, h) refl) (ap (λ r. perform n at (character ch) r (state z made f (d ∷ up) items c)) rule ∙ p)
 
     -- the white space that was held
     abbrev puts : List Placed → State N → Flow N

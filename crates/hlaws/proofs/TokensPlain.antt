@@ -1,5 +1,5 @@
 -- Plain lists are read as their own tokens.
-use Rattle.hlaws.proofs.Names.{has_references, all_weaker, arith, ◌≡◌, ℕ, Bool, true, false, not, ◌&&◌, ◌||◌, List, [], ◌∷◌, ◌++◌, map, refl, sym, ◌∙◌, ap, subst, true≢false, and_parts, and_from, or_from, or_parts, false_from_ne_true, not-true, bytes_eq-Decides, encodes-chars, scalars-chars, codes, chars, IsUtf8, flat_map, list_all, list_any, Placed, RawKind, Tag, characters, raw_kind, is_refused, is_void, tag_named, tag_text, tags, Entities, IsTable, HasCore, Attribute, Standing, standing_after, is_known, Token, start, end, comment, character, Content, Role, Escaping, escaped, row, takes_role, are_plain_attributes, is_plain_comment, is_clean, is_name_byte, start_tag_text, end_tag_text}
+use Rattle.hlaws.proofs.Names.{and_right, has_references, all_weaker, arith, ◌≡◌, ℕ, Bool, true, false, not, ◌&&◌, ◌||◌, List, [], ◌∷◌, ◌++◌, map, refl, sym, ◌∙◌, ap, subst, true≢false, and_parts, and_from, or_from, or_parts, false_from_ne_true, not-true, bytes_eq-Decides, encodes-chars, scalars-chars, codes, chars, IsUtf8, flat_map, list_all, list_any, Placed, RawKind, Tag, characters, raw_kind, is_refused, is_void, tag_named, tag_text, tags, Entities, IsTable, HasCore, Attribute, Standing, standing_after, is_known, Token, start, end, comment, character, Content, Role, Escaping, escaped, row, takes_role, are_plain_attributes, is_plain_comment, is_clean, is_name_byte, start_tag_text, end_tag_text}
 use Rattle.std.proofs.Common.{bytes_eq}
 use Rattle.std.specs.Char.{is_ascii_lowercase}
 use Rattle.names.proofs.Words.{or_second}
@@ -9,6 +9,7 @@ use Rattle.hserialize.specs.declared.content.Content.TheVariants as content
 use Rattle.hserialize.specs.declared.content.Role.TheVariants as role
 use Rattle.hserialize.specs.declared.escaping.Setting.TheVariants as setting
 use Rattle.hserialize.specs.Plain.{is_plain_name}
+use Rattle.hserialize.specs.PlainDocument.{is_metadata}
 use Rattle.hserialize.specs.Written.{attribute_text}
 use Rattle.hlaws.specs.ComesBack.{AreUtf8}
 use Rattle.hlaws.proofs.NamesAsTexts.{named_back}
@@ -36,7 +37,14 @@ fits _ _ _ = false
 abbrev is_fine : Tag → Bool
 is_fine t = (list_all is_good (tag_text t) && begins_letter (tag_text t)) && (not (is_refused t) && fits (raw_kind t) (row t).1 (is_void t))
 
-all_fine : (t : Tag) → (is_nowhere (row t).0 || is_fine t) ≡ true
+-- the names of a document that are in no content
+abbrev pub of_documents : Tag → Bool
+of_documents tag.Html = true
+of_documents tag.Head = true
+of_documents tag.Body = true
+of_documents t = is_metadata t
+
+all_fine : (t : Tag) → ((is_nowhere (row t).0 && not (of_documents t)) || is_fine t) ≡ true
 all_fine tag.A = refl
 all_fine _ = refl
 
@@ -63,12 +71,11 @@ pub record IsKnownName (name : List ℕ) : Type 0 where
   pub is_name : IsElementName name
   pub fit : fits (raw_kind (tag_named name)) (row (tag_named name)).1 (is_void (tag_named name)) ≡ true
 
-pub known_name : (name : List ℕ) (c : Content) → takes_role c (row (tag_named name)).0 ≡ true → IsKnownName name
-known_name name c h =
+fine_name : (name : List ℕ) → (is_nowhere (row (tag_named name)).0 && not (of_documents (tag_named name))) ≡ false → IsKnownName name
+fine_name name some =
     let t : Tag = tag_named name in
-    let some : is_nowhere (row t).0 ≡ false = somewhere c (row t).0 h in
-    let fine : is_fine t ≡ true = or_second (is_nowhere (row t).0) (is_fine t) (all_fine t) some in
-    let proper : t ≡ tag.Other → ⊥ = λ e. let x = ap (λ (u : Tag). is_nowhere (row u).0) e in cc in
+    let fine : is_fine t ≡ true = or_second (is_nowhere (row t).0 && not (of_documents t)) (is_fine t) (all_fine t) some in
+    let proper : t ≡ tag.Other → ⊥ = λ e. let x = ap (λ (u : Tag). is_nowhere (row u).0 && not (of_documents u)) e in cc in
     let is : name ≡ tag_text t = named_back tags name t refl proper in
     let a = and_parts (list_all is_good (tag_text t) && begins_letter (tag_text t)) _ fine in
     let b = and_parts (list_all is_good (tag_text t)) (begins_letter (tag_text t)) a.0 in
@@ -77,6 +84,12 @@ known_name name c h =
       is_name = record { good = ap (list_all is_good) is ∙ b.0; letter = ap begins_letter is ∙ b.1; allowed = not-true _ d.0 };
       fit = d.1;
     }
+
+pub known_name : (name : List ℕ) (c : Content) → takes_role c (row (tag_named name)).0 ≡ true → IsKnownName name
+known_name name c h = fine_name name (ap (λ b. b && not (of_documents (tag_named name))) (somewhere c (row (tag_named name)).0 h))
+
+pub document_name : (name : List ℕ) → of_documents (tag_named name) ≡ true → IsKnownName name
+document_name name h = fine_name name (and_right (is_nowhere (row (tag_named name)).0) (not (of_documents (tag_named name))) (ap not h))
 
 -- WHAT IS READ AS DATA
 

@@ -1,8 +1,10 @@
 -- Plain lists are read as their own tokens, in every context.
-use Rattle.hlaws.proofs.Names.{arith, ◌≡◌, ℕ, Bool, true, false, not, cond, nat_lt, Option, Some, None, List, [], ◌∷◌, ◌++◌, map, length, refl, sym, ◌∙◌, ap, subst, append-nil, append_assoc, and_parts, false≢true, map-append, scalars-chars, codes, chars, IsUtf8, flat_map, Placed, RawKind, characters, raw_kind, is_void, tag_named, Entities, IsTable, HasCore, Attribute, What, Forest, none, tree, Eof, Standing, at_start, standing_after, has_references, may_end, texts, Token, start, end, comment, character, eof, Content, Role, Escaping, escaped, written_char, row, takes_role, takes_comments, Inside, inside_element, in_context_of, is_form, are_content, are_content_if, is_plain_comment, is_among_texts, is_clean, begins_with_text, has_part, tokens_of, start_tag_text, end_tag_text, AreTexts, AreRead, PlainTokens, text_of, taken}
+use Rattle.hlaws.proofs.Names.{are_plain_attributes, arith, ◌≡◌, ℕ, Bool, true, false, not, cond, nat_lt, Option, Some, None, List, [], ◌∷◌, ◌++◌, map, length, refl, sym, ◌∙◌, ap, subst, append-nil, append_assoc, and_parts, false≢true, map-append, scalars-chars, codes, chars, IsUtf8, flat_map, Placed, RawKind, characters, raw_kind, is_void, tag_named, Entities, IsTable, HasCore, Attribute, What, Forest, none, tree, Eof, Standing, at_start, standing_after, has_references, may_end, texts, Token, start, end, comment, character, eof, Content, Role, Escaping, escaped, written_char, row, takes_role, takes_comments, Inside, inside_element, in_context_of, is_form, are_content, are_content_if, is_plain_comment, is_among_texts, is_clean, begins_with_text, has_part, tokens_of, start_tag_text, end_tag_text, AreTexts, AreRead, PlainTokens, text_of, taken}
 use Rattle.std.proofs.lemmas.Str.{chars-nil, IsUtf8-nil}
 use Rattle.names.specs.declared.raw.RawKind.TheVariants as kind
 use Rattle.hnodes.specs.Forest as forest
+use Rattle.htext.specs.declared.Bom.{Bom}
+use Rattle.htext.specs.declared.Bom.TheVariants.{Keep}
 use Rattle.htoken.specs.Raw.{end_errors}
 use Rattle.htoken.specs.Tokens as cut
 use Rattle.hserialize.specs.declared.content.Content.TheVariants as content
@@ -10,8 +12,9 @@ use Rattle.hserialize.specs.declared.content.Texts.{Texts}
 use Rattle.hserialize.specs.declared.content.Texts.TheVariants as allowed
 use Rattle.hserialize.specs.declared.escaping.Setting.TheVariants as setting
 use Rattle.hserialize.specs.Written.{has_no_references, element_text, written_among}
+use Rattle.hlaws.specs.ComesBack.{AreUtf8}
 use Rattle.hlaws.proofs.Content.{three, four}
-use Rattle.hlaws.proofs.TokensText.{Spells, spells-append, spells_text, spells_utf8, clean_text, text_characters, no_part}
+use Rattle.hlaws.proofs.TokensText.{Spells, spells-append, spells_text, spells_utf8, clean_text, text_characters, begins_marked, no_part}
 use Rattle.hlaws.proofs.TokensCore.{escaped_as}
 use Rattle.hlaws.proofs.TokensCuts.{split, Cuts, Same, join, cuts_as, text_cuts}
 use Rattle.hlaws.proofs.TokensMarks.{IsElementName, after_start}
@@ -26,11 +29,11 @@ holds_text content.RawText = true
 holds_text content.ScriptText = true
 holds_text _ = false
 
-no_role : (c : Content) (r : Role) → holds_text c ≡ true → takes_role c r ≡ false
+pub no_role : (c : Content) (r : Role) → holds_text c ≡ true → takes_role c r ≡ false
 no_role content.Text r h = cc
 no_role _ r h = cc
 
-no_comment : (c : Content) → holds_text c ≡ true → takes_comments c ≡ false
+pub no_comment : (c : Content) → holds_text c ≡ true → takes_comments c ≡ false
 no_comment content.Text h = cc
 no_comment _ h = cc
 
@@ -169,12 +172,15 @@ module _ (table : Entities) (is_table : IsTable table) (core : HasCore table) (h
 
   -- A LIST
 
+  abbrev pub ReadsList : Forest (List ℕ) → Type 0
+  ReadsList l = Reads table (written_among how false l) (tokens_of texts l)
+
   -- an element, by how its text is read and whether it is void
   abbrev Element : List ℕ → List (Attribute (List ℕ)) → Forest (List ℕ) → RawKind → Bool → Type 0
   Element name attrs kids k v = Reads table (start_tag_text how name attrs ++ (cond v [] (written_among how (has_no_references k) kids ++ end_tag_text name))) (start name attrs false ∷ cond v [] (tokens_of texts kids ++ end name ∷ []))
 
   an_element : (name : List ℕ) (attrs : List (Attribute (List ℕ))) (kids : Forest (List ℕ)) (inside : Inside) (k : RawKind) (v : Bool) → raw_kind (tag_named name) ≡ k → fits k (row (tag_named name)).1 v ≡ true
-      → IsElementName name → StartTag table is_table core how name attrs → AreTexts kids → are_content (inside_element (tag_named name) inside) kids ≡ true → Reads table (written_among how false kids) (tokens_of texts kids) → Element name attrs kids k v
+      → IsElementName name → StartTag table is_table core how name attrs → AreTexts kids → (is_raw k ≡ true → are_content (inside_element (tag_named name) inside) kids ≡ true) → ReadsList kids → Element name attrs kids k v
   an_element name attrs kids inside kind.None true is_kind fit is_name s u h kids_read =
       reads-append table (start_tag_text how name attrs) [] (start name attrs false ∷ []) [] (start_tag_reads table is_table core how name attrs s is_kind) (reads-nil table)
   an_element name attrs kids inside kind.None false is_kind fit is_name s u h kids_read =
@@ -183,12 +189,12 @@ module _ (table : Entities) (is_table : IsTable table) (core : HasCore table) (h
   an_element name attrs kids inside kind.Rcdata v is_kind fit is_name s u h kids_read =
       let e = raw_fits kind.Rcdata (row (tag_named name)).1 v refl fit in
       let within : Inside = inside_element (tag_named name) inside in
-      subst (λ (w : Bool). Element name attrs kids kind.Rcdata w) (sym e.1) (rcdata_inner name kids attrs within.texts is_kind is_name s (one_text how within kids (rw e.0 refl) (rw e.0 refl) u h))
+      subst (λ (w : Bool). Element name attrs kids kind.Rcdata w) (sym e.1) (rcdata_inner name kids attrs within.texts is_kind is_name s (one_text how within kids (rw e.0 refl) (rw e.0 refl) u (h refl)))
   an_element name attrs kids inside kind.Rawtext v is_kind fit is_name s u h kids_read =
       let e = raw_fits kind.Rawtext (row (tag_named name)).1 v refl fit in
       let within : Inside = inside_element (tag_named name) inside in
       let texts_are : within.texts ≡ allowed.Raw = rw e.0 refl in
-      let o = one_text how within kids (rw e.0 refl) (ap (λ (x : Texts). is_among_texts x []) texts_are) u h in
+      let o = one_text how within kids (rw e.0 refl) (ap (λ (x : Texts). is_among_texts x []) texts_are) u (h refl) in
       let among : is_among_texts allowed.Raw o.t ≡ true = ap (λ (x : Texts). is_among_texts x o.t) (sym texts_are) ∙ o.among in
       subst (λ (w : Bool). Element name attrs kids kind.Rawtext w) (sym e.1)
       (raw_inner name kids attrs within.texts (ap is_raw is_kind) (ap has_references is_kind) is_name s o among (λ text e. ap (λ (k : RawKind). may_end k (pushed text [])) is_kind))
@@ -196,7 +202,7 @@ module _ (table : Entities) (is_table : IsTable table) (core : HasCore table) (h
       let e = raw_fits kind.Script (row (tag_named name)).1 v refl fit in
       let within : Inside = inside_element (tag_named name) inside in
       let texts_are : within.texts ≡ allowed.Script = rw e.0 refl in
-      let o = one_text how within kids (rw e.0 refl) (ap (λ (x : Texts). is_among_texts x []) texts_are) u h in
+      let o = one_text how within kids (rw e.0 refl) (ap (λ (x : Texts). is_among_texts x []) texts_are) u (h refl) in
       let among : is_among_texts allowed.Script o.t ≡ true = ap (λ (x : Texts). is_among_texts x o.t) (sym texts_are) ∙ o.among in
       let both = and_parts (not (has_part (codes "</") o.t)) (not (has_part (codes "<!--") o.t)) among in
       subst (λ (w : Bool). Element name attrs kids kind.Script w) (sym e.1)
@@ -209,32 +215,45 @@ module _ (table : Entities) (is_table : IsTable table) (core : HasCore table) (h
   again true name attrs kids rest = refl
   again false name attrs kids rest = ap (λ (x : List (Token (List ℕ))). start name attrs false ∷ x) (append_assoc kids (end name ∷ []) rest)
 
-  pub list_reads : (inside : Inside) (l : Forest (List ℕ)) → AreTexts l → are_content inside l ≡ true → Reads table (written_among how false l) (tokens_of texts l)
+  -- a node, and then others
+  pub element_then : (m : ℕ) (inside : Inside) (name : List ℕ) (attrs : List (Attribute (List ℕ))) (kids rest : Forest (List ℕ)) → IsKnownName name → AreUtf8 attrs → are_plain_attributes attrs ≡ true → AreTexts kids
+      → (is_raw (raw_kind (tag_named name)) ≡ true → are_content (inside_element (tag_named name) inside) kids ≡ true) → ReadsList kids → ReadsList rest → ReadsList (tree m (forest.element name attrs) kids rest)
+  element_then m inside name attrs kids rest known u plain us h kids_read rest_read =
+      let s = a_start_tag table is_table core how name attrs known.is_name u plain in
+      let element = an_element name attrs kids inside (raw_kind (tag_named name)) (is_void (tag_named name)) refl known.fit known.is_name s us h kids_read in
+      told table _ _ _ (again (is_void (tag_named name)) name attrs (tokens_of texts kids) (tokens_of texts rest))
+      (reads-append table (element_text how name attrs (written_among how (has_no_references (raw_kind (tag_named name))) kids)) (written_among how false rest)
+      (start name attrs false ∷ cond (is_void (tag_named name)) [] (tokens_of texts kids ++ end name ∷ [])) (tokens_of texts rest) element rest_read)
+
+  pub text_then : (m : ℕ) (t : List ℕ) (kids rest : Forest (List ℕ)) → IsUtf8 t → is_clean t ≡ true → ReadsList rest → ReadsList (tree m (forest.text t) kids rest)
+  text_then m t kids rest u clean rest_read =
+      reads-append table (escaped how setting.Text t) (written_among how false rest) (map (λ c. character c) (chars t)) (tokens_of texts rest) (text_reads table is_table core how t u clean) rest_read
+
+  pub comment_then : (m : ℕ) (t : List ℕ) (kids rest : Forest (List ℕ)) → IsUtf8 t → is_plain_comment t ≡ true → ReadsList rest → ReadsList (tree m (forest.comment t) kids rest)
+  comment_then m t kids rest u plain rest_read =
+      reads-append table ((codes "<!--" ++ t) ++ codes "-->") (written_among how false rest) (comment t ∷ []) (tokens_of texts rest) (comment_reads table is_table core how t u plain) rest_read
+
+  pub list_reads : (inside : Inside) (l : Forest (List ℕ)) → AreTexts l → are_content inside l ≡ true → ReadsList l
   list_reads inside none u h = reads-nil table
   list_reads inside (tree n (forest.element name attrs) kids rest) u h =
       let k = three inside n (forest.element name attrs) kids rest h in
       let f = four _ _ _ _ k.node in
-      let known : IsKnownName name = known_name name inside.content f.0 in
-      let s = a_start_tag table is_table core how name attrs known.is_name u.1 f.2 in
-      let element = an_element name attrs kids inside (raw_kind (tag_named name)) (is_void (tag_named name)) refl known.fit known.is_name s u.2 k.children (list_reads (inside_element (tag_named name) inside) kids u.2 k.children) in
-      told table _ _ _ (again (is_void (tag_named name)) name attrs (tokens_of texts kids) (tokens_of texts rest))
-      (reads-append table (element_text how name attrs (written_among how (has_no_references (raw_kind (tag_named name))) kids)) (written_among how false rest)
-      (start name attrs false ∷ cond (is_void (tag_named name)) [] (tokens_of texts kids ++ end name ∷ [])) (tokens_of texts rest) element (list_reads inside rest u.3 k.others))
+      element_then n inside name attrs kids rest (known_name name inside.content f.0) u.1 f.2 u.2 (λ raw. k.children) (list_reads (inside_element (tag_named name) inside) kids u.2 k.children) (list_reads inside rest u.3 k.others)
   list_reads inside (tree n (forest.text t) kids rest) u h =
       let k = three inside n (forest.text t) kids rest h in
       let node = k.node in
-      reads-append table (escaped how setting.Text t) (written_among how false rest) (map (λ c. character c) (chars t)) (tokens_of texts rest) (text_reads table is_table core how t u.0 (grind arith)) (list_reads inside rest u.2 k.others)
+      text_then n t kids rest u.0 (grind arith) (list_reads inside rest u.2 k.others)
   list_reads inside (tree n (forest.comment t) kids rest) u h =
       let k = three inside n (forest.comment t) kids rest h in
       let node = k.node in
-      reads-append table ((codes "<!--" ++ t) ++ codes "-->") (written_among how false rest) (comment t ∷ []) (tokens_of texts rest) (comment_reads table is_table core how t u.0 (grind arith)) (list_reads inside rest u.2 k.others)
+      comment_then n t kids rest u.0 (grind arith) (list_reads inside rest u.2 k.others)
   list_reads inside _ u h = absurd (false≢true h)
 
   -- CONTEXTS
 
   -- a cut of the whole text
-  whole_read : (k : RawKind) (bytes cs : List ℕ) (ts : List (Token (List ℕ))) (There : Standing → Type 0) → Spells bytes cs → Cuts table (length bytes) (at_start k) (text_of bytes) [] ts There → AreRead table k bytes (ts ++ eof ∷ [])
-  whole_read k bytes cs ts There s c = record {
+  whole_read : (bom : Bom) (k : RawKind) (bytes cs : List ℕ) (ts : List (Token (List ℕ))) (There : Standing → Type 0) → Spells bytes cs → Cuts table (length bytes) (at_start k) (text_of bom bytes) [] ts There → AreRead table bom k bytes (ts ++ eof ∷ [])
+  whole_read bom k bytes cs ts There s c = record {
     utf8 = spells_utf8 bytes cs s;
     toks = cut.tokens_of c.spans ++ Eof (length bytes) ∷ [];
     errors = cut.errors_of c.spans ++ end_errors (length bytes) (standing_after (at_start k) c.spans);
@@ -242,37 +261,41 @@ module _ (table : Entities) (is_table : IsTable table) (core : HasCore table) (h
     are = map-append taken (cut.tokens_of c.spans) (Eof (length bytes) ∷ []) ∙ ap (λ (x : List (Token (List ℕ))). x ++ eof ∷ []) c.tokens_are;
   }
 
+  -- a list that is read as data, from the beginning to the end
+  pub as_data : (bom : Bom) (l : Forest (List ℕ)) (r : ReadsList l) → begins_marked bom r.codes_are ≡ false → AreRead table bom kind.None (written_among how false l) (tokens_of texts l ++ eof ∷ [])
+  as_data bom l r m =
+      let bytes : List ℕ = written_among how false l in
+      whole_read bom kind.None bytes r.codes_are (tokens_of texts l) InData r.spells (r.cuts (length bytes) (at_start kind.None) (text_of bom bytes) [] refl (text_characters bom bytes r.codes_are r.spells m))
+
   some_inside : (o : Option Inside) (l : Forest (List ℕ)) → are_content_if o l ≡ true → (inside : Inside) × (are_content inside l ≡ true)
   some_inside None l h = absurd (false≢true h)
   some_inside (Some inside) l h = (inside, h)
 
-  raw_context : (k : RawKind) (l : Forest (List ℕ)) (which : Texts) → is_raw k ≡ true → has_references k ≡ false → OneText how which l → AreRead table k (written_among how true l) (tokens_of texts l ++ eof ∷ [])
+  raw_context : (k : RawKind) (l : Forest (List ℕ)) (which : Texts) → is_raw k ≡ true → has_references k ≡ false → OneText how which l → AreRead table Keep k (written_among how true l) (tokens_of texts l ++ eof ∷ [])
   raw_context k l which is no_refs o =
       let s : Spells (written_among how true l) (chars o.t) = subst (λ (x : List ℕ). Spells x (chars o.t)) (sym o.raw_is) (spells_text o.t o.utf8 o.clean) in
       let bytes : List ℕ = written_among how true l in
-      whole_read k bytes (chars o.t) (tokens_of texts l) (λ there. there ≡ pushed_on (at_start k) (text_of bytes)) s
-      (subst (λ (x : List (Token (List ℕ))). Cuts table (length bytes) (at_start k) (text_of bytes) [] x (λ there. there ≡ pushed_on (at_start k) (text_of bytes))) (sym o.tokens_are)
-      (raw_cuts table (length bytes) (chars o.t) (text_of bytes) [] (at_start k) is no_refs (text_characters bytes (chars o.t) s) (clean_text o.t o.utf8 o.clean) (no_end_of_none (text_of bytes) [])))
+      whole_read Keep k bytes (chars o.t) (tokens_of texts l) (λ there. there ≡ pushed_on (at_start k) (text_of Keep bytes)) s
+      (subst (λ (x : List (Token (List ℕ))). Cuts table (length bytes) (at_start k) (text_of Keep bytes) [] x (λ there. there ≡ pushed_on (at_start k) (text_of Keep bytes))) (sym o.tokens_are)
+      (raw_cuts table (length bytes) (chars o.t) (text_of Keep bytes) [] (at_start k) is no_refs (text_characters Keep bytes (chars o.t) s refl) (clean_text o.t o.utf8 o.clean) (no_end_of_none (text_of Keep bytes) [])))
 
   -- a context whose text is read raw holds one text
   context_text : (k : RawKind) (c : Content) (form : Bool) (l : Forest (List ℕ)) → is_raw k ≡ true → fits_context k c ≡ true → AreTexts l → are_content_if (in_context_of c form) l ≡ true → OneText how allowed.Any l
   context_text k c form l raw fit u h = one_text how (text_inside form) l refl refl u (text_context k c form l raw fit h)
 
   pub in_kind : (k : RawKind) (c : Content) (form : Bool) (l : Forest (List ℕ)) → fits_context k c ≡ true → AreTexts l → are_content_if (in_context_of c form) l ≡ true
-      → AreRead table k (written_among how (has_no_references k) l) (tokens_of texts l ++ eof ∷ [])
+      → AreRead table Keep k (written_among how (has_no_references k) l) (tokens_of texts l ++ eof ∷ [])
   in_kind kind.None c form l fit u h =
       let i = some_inside (in_context_of c form) l h in
-      let r = list_reads i.0 l u i.1 in
-      let bytes : List ℕ = written_among how false l in
-      whole_read kind.None bytes r.codes_are (tokens_of texts l) InData r.spells (r.cuts (length bytes) (at_start kind.None) (text_of bytes) [] refl (text_characters bytes r.codes_are r.spells))
+      as_data Keep l (list_reads i.0 l u i.1) refl
   in_kind kind.Rcdata c form l fit u h =
       let o = context_text kind.Rcdata c form l refl fit u h in
       let w = escaped_as table core how setting.Text (chars o.t) (scalars-chars o.t o.utf8) (clean_text o.t o.utf8 o.clean) in
       let bytes : List ℕ = written_among how false l in
       let s : Spells bytes w.codes_are = subst (λ (x : List ℕ). Spells x w.codes_are) (sym o.text_is) w.spells in
-      whole_read kind.Rcdata bytes w.codes_are (tokens_of texts l) (Same (at_start kind.Rcdata)) s
-      (subst (λ (x : List (Token (List ℕ))). Cuts table (length bytes) (at_start kind.Rcdata) (text_of bytes) [] x (Same (at_start kind.Rcdata))) (sym o.tokens_are)
-      (text_cuts table is_table (chars o.t) w.codes_are (text_of bytes) [] (length bytes) (at_start kind.Rcdata) refl w.are (text_characters bytes w.codes_are s)))
+      whole_read Keep kind.Rcdata bytes w.codes_are (tokens_of texts l) (Same (at_start kind.Rcdata)) s
+      (subst (λ (x : List (Token (List ℕ))). Cuts table (length bytes) (at_start kind.Rcdata) (text_of Keep bytes) [] x (Same (at_start kind.Rcdata))) (sym o.tokens_are)
+      (text_cuts table is_table (chars o.t) w.codes_are (text_of Keep bytes) [] (length bytes) (at_start kind.Rcdata) refl w.are (text_characters Keep bytes w.codes_are s refl)))
   in_kind kind.Rawtext c form l fit u h = raw_context kind.Rawtext l allowed.Any refl refl (context_text kind.Rawtext c form l refl fit u h)
   in_kind kind.Script c form l fit u h = raw_context kind.Script l allowed.Any refl refl (context_text kind.Script c form l refl fit u h)
   in_kind kind.Plaintext c form l fit u h = raw_context kind.Plaintext l allowed.Any refl refl (context_text kind.Plaintext c form l refl fit u h)

@@ -1,8 +1,7 @@
 -- The tokens of a plain list of trees build it under the current node.
-use Rattle.hlaws.proofs.Names.{◌≡◌, ℕ, suc, ◌+◌, ◌<◌, ◌≤◌, Bool, true, false, not, ◌&&◌, ◌||◌, eqb, List, [], ◌∷◌, ◌++◌, length, map, Option, Some, None, refl, sym, ◌∙◌, ap, subst, arith, inl, inr, and_parts, or_parts, and_right, eq-eqb, ne_eqb, lt-leb, false≢true, not-true, nat_le, encode_utf8, encode_utf8_all, chars, ◌==◌, list_all, Attribute, What, element, text, Forest, none, tree, size, times, graft_last, join, if_text, text_before, LastIn, OpenNode, in_scope, stops, stops_item, EntryOf, Listed, marker, entry, with_room, without_entry, entry_of, find_entry, cleared, Placed, is_space, is_void, is_heading, has_implied_end, stops_button_scope, Naming, Goes, is, is_table_context, is_body_context, is_row_context, is_fostering, Family, Start, End, Mode, InCaption, InCell, Text, InTable, InTableText, InTableBody, InRow, InColumnGroup, family_of, rule_of, perform, void, raw, void_in_text, Token, start, end, comment, character, PlacedToken, Control, State, Done, kind_of, reset_mode, Rule, begun, ends, goes_again, Step, goes, Steps, and, Content, Role, row, takes_role, takes_comments, texts_in, Inside, inside_element, is_nested, is_a, is_button, is_form, drops_line_feed, inserts_marker, is_flow_mode, fits_mode, fits_current, is_list, is_dl, takes_space, numbered, under, Thinned, same, kept, lost, EntriesOpen, EntriesLower, tokens_of}
+use Rattle.hlaws.proofs.Names.{◌≡◌, ℕ, suc, ◌+◌, ◌<◌, ◌≤◌, Bool, true, false, not, ◌&&◌, ◌||◌, List, [], ◌∷◌, ◌++◌, length, map, Option, Some, None, refl, sym, ◌∙◌, ap, subst, arith, and_parts, or_parts, and_right, eq-eqb, lt-leb, false≢true, not-true, nat_le, encode_utf8, encode_utf8_all, chars, ◌==◌, list_all, Attribute, What, element, text, Forest, none, tree, size, times, graft_last, join, if_text, text_before, LastIn, OpenNode, in_scope, stops, stops_item, EntryOf, Listed, marker, entry, with_room, without_entry, entry_of, find_entry, cleared, Placed, is_space, is_void, is_heading, has_implied_end, stops_button_scope, Naming, Goes, is, is_table_context, is_body_context, is_row_context, is_fostering, Family, Start, End, Mode, InCaption, InCell, Text, InTable, InTableText, InTableBody, InRow, InColumnGroup, family_of, rule_of, perform, void, raw, void_in_text, Token, start, end, comment, character, PlacedToken, Control, State, Done, kind_of, reset_mode, Rule, begun, ends, goes_again, Step, goes, Steps, and, Content, Role, row, takes_role, takes_comments, texts_in, Inside, inside_element, is_nested, is_a, is_button, is_form, drops_line_feed, inserts_marker, is_flow_mode, fits_mode, fits_current, is_list, is_dl, takes_space, numbered, under, Thinned, same, kept, lost, EntriesOpen, EntriesLower, tokens_of}
 use Rattle.std.proofs.lemmas.List.{append-nil, append_assoc}
 use Rattle.std.specs.Prelude.{unwrap_or}
-use Rattle.hnodes.proofs.Counts.{times-hung}
 use Rattle.hnodes.specs.Forest as forest
 use Rattle.hopen.specs.declared.scope.Scope.TheVariants as scope
 use Rattle.names.specs.declared.tag.Tag.TheVariants as tag
@@ -15,7 +14,7 @@ use Rattle.hadopt.specs.Reconstructs.{reconstructed}
 use Rattle.hmodes.specs.Body.{block, close_block, end_item}
 use Rattle.hmodes.specs.Words.{Do}
 use Rattle.hlaws.specs.Building.{closes_p, is_character, ActsAs, depth, AllLower}
-use Rattle.hlaws.proofs.Growing.{graft-new, times-numbered, under-none, under-under, under-new, text_before-new, text_before-leaf}
+use Rattle.hlaws.proofs.Growing.{graft-new, under-none, under-new, once-grown, free-grown, once-new, rest-grown, text_before-new, text_before-leaf}
 use Rattle.hlaws.proofs.Thinned.{then, thinned-room, open-thinned, open-pushed, lower-thinned, entries-more, no-entry}
 use Rattle.hlaws.proofs.Classes.{Profile, profile, plain_profile, around, class_profile, classed, void_empty, is_p}
 use Rattle.hlaws.proofs.Content.{home, has_home, stands_in, no_nowhere, phrasing_mode, parts_mode_is, rows_mode_is, cells_mode_is, columns_mode_is, comment_rule, around_fits, nested_a, nested_button, nested_form, marker_stops, list_stops, dl_stops}
@@ -66,7 +65,7 @@ keeps-then k l = record { mode = l.mode ∙ k.mode; head = l.head ∙ k.head; fo
 keeps-all : (c : Control) → Keeps c c
 keeps-all c = record { mode = refl; head = refl; form = refl; quirks = refl }
 
-abbrev begun_control : Control → Control
+abbrev pub begun_control : Control → Control
 begun_control c = record c { drop_lf = false; acknowledged = false }
 
 -- which texts are in content: white space in the parts of a table, where it may be
@@ -92,7 +91,7 @@ module _ {N : Type 0} where
   LfSafe drop (tree b (text t) kids rest) = (is : IsText t) → (drop && is.one == 10) ≡ false
   LfSafe drop _ = Unit {0}
 
-  abbrev is_text : What N → Bool
+  abbrev pub is_text : What N → Bool
   is_text (text t) = true
   is_text _ = false
 
@@ -104,6 +103,11 @@ module _ {N : Type 0} (n : Naming N) where
   Good i (tree b (text t) none rest) = GoodText i t × (begins_text rest ≡ false) × Good i rest
   Good i (tree b (forest.comment t) none rest) = (takes_comments i.content ≡ true) × Good i rest
   Good i _ = ⊥
+
+  -- the tokens of an element that is not void, and of the list after it
+  pub spelled : (b : ℕ) (x : N) (attrs : List (Attribute N)) (kids rest : Forest N) (ts : List (PlacedToken N)) → is_void (n.tag x) ≡ false → AreTokens ts (tokens_of n (tree b (element x attrs) kids rest))
+      → AreTokens ts ((start x attrs false ∷ tokens_of n kids ++ end x ∷ []) ++ tokens_of n rest)
+  spelled b x attrs kids rest ts no_void h = h ∙ (rw no_void refl) ∙ ap (λ us. start x attrs false ∷ us) (sym (append_assoc (tokens_of n kids) (end x ∷ []) (tokens_of n rest)))
 
   pub record Quiet (context : Option N) (i : Inside) (made : ℕ) (f : Forest N) (d : OpenNode N) (up : List (OpenNode N)) (items : List (Listed N)) (c : Control) : Type 0 where
     pub mode_is : reset_mode n context (d ∷ up) ≡ c.mode
@@ -152,8 +156,8 @@ module _ {N : Type 0} (n : Naming N) (laws : NameLaws n) (z : State N) where
         mode_is = q.mode_is ∙ sym k.mode;
         mode_fits = ap (fits_mode i.content) k.mode ∙ q.mode_fits;
         current_fits = q.current_fits;
-        once = times-hung d.node d.node (numbered made l) f q.once ∙ omega (arith, q.once, times-numbered d.node made l (inl low));
-        fresh = λ m h. times-hung m d.node (numbered made l) f q.once ∙ omega (arith, q.fresh m (omega arith), times-numbered m made l (inr h));
+        once = once-grown d.node made l f q.once low;
+        fresh = λ m h. free-grown d.node made m l f q.once (q.fresh m (omega arith)) h;
         lower = lower-more made (made + size l) (d ∷ up) (omega arith) q.lower;
         entries_lower = entries-more made (made + size l) items' (omega arith) (lower-thinned made t q.entries_lower);
         listed = open-thinned (d ∷ up) t q.listed;
@@ -203,7 +207,7 @@ module _ {N : Type 0} (n : Naming N) (laws : NameLaws n) (z : State N) where
   -- TEXTS
 
   -- what the characters of a text build, where each goes in by one rule
-  record CharsBuilt (made : ℕ) (f : Forest N) (d : OpenNode N) (up : List (OpenNode N)) (items : List (Listed N)) (c : Control) (s : State N) (ts : List (PlacedToken N)) : Type 0 where
+  pub record CharsBuilt (made : ℕ) (f : Forest N) (d : OpenNode N) (up : List (OpenNode N)) (items : List (Listed N)) (c : Control) (s : State N) (ts : List (PlacedToken N)) : Type 0 where
     pub control' : Control
     pub steps : Steps n ts s (Goes (state z made f (d ∷ up) items control'))
     pub keeps : Keeps c control'
@@ -243,7 +247,7 @@ module _ {N : Type 0} (n : Naming N) (laws : NameLaws n) (z : State N) where
         (puts p.at ch made (under d.node (tree k (text t) none none) g) (begun_control c) s1 is both.0 (rules.put_next n z d up items p.at ch made k t g (begun_control c) once absent))
         (subst (λ (u : List ℕ). CharsBuilt made (under d.node (tree k (text u) none none) g) d up items (begun_control c) s1 p.others) (append_assoc t (encode_utf8 ch) (encode_utf8_all chs)) others)
 
-    text_built : (made : ℕ) (f : Forest N) (once : times d.node f ≡ 1) (absent : times made f ≡ 0) (t : List ℕ) (is : IsText t) (c : Control) (ts : List (PlacedToken N)) → c.mode ≡ m → (c.drop_lf && is.one == 10) ≡ false → list_all ok (is.one ∷ is.more) ≡ true
+    pub text_built : (made : ℕ) (f : Forest N) (once : times d.node f ≡ 1) (absent : times made f ≡ 0) (t : List ℕ) (is : IsText t) (c : Control) (ts : List (PlacedToken N)) → c.mode ≡ m → (c.drop_lf && is.one == 10) ≡ false → list_all ok (is.one ∷ is.more) ≡ true
         → text_before (LastIn d.node) f ≡ None → made < z.site.nodes.limit
         → AreTokens ts (map (λ ch. character ch) (chars t))
         → CharsBuilt (made + 1) (under d.node (tree made (text t) none none) f) d up items c (state z made f (d ∷ up) items c) ts
@@ -268,7 +272,7 @@ module _ {N : Type 0} (n : Naming N) (laws : NameLaws n) (z : State N) where
 
     -- in a colgroup
     column_text : (ts : List (PlacedToken N)) → c.mode ≡ InColumnGroup → list_all is_space (is.one ∷ is.more) ≡ true → AreTokens ts (map (λ ch. character ch) (chars t)) → NodeBuilt b (text t) none made f d up items c (state z made f (d ∷ up) items c) ts
-    column_text ts columns spaces h = as_node ts (text_built d up items InColumnGroup is_space (rules.column_puts n z d up items) made f once absent t is c ts columns safe spaces none_before room h)
+    column_text ts columns spaces h = as_node ts (text_built d up items InColumnGroup is_space (rules.space_puts n z d up items InColumnGroup refl) made f once absent t is c ts columns safe spaces none_before room h)
 
   -- WHITE SPACE OF TABLES
 
@@ -349,14 +353,14 @@ module _ {N : Type 0} (n : Naming N) (laws : NameLaws n) (z : State N) where
 
   -- ELEMENTS
 
-  record Tags (x : N) (attrs : List (Attribute N)) (kids : Forest N) (ts : List (PlacedToken N)) : Type 0 where
+  pub record Tags (x : N) (attrs : List (Attribute N)) (kids : Forest N) (ts : List (PlacedToken N)) : Type 0 where
     pub at : ℕ
     pub inner : List (PlacedToken N)
     pub at_end : ℕ
     pub is : ts ≡ record { token = start x attrs false; at = at } ∷ inner ++ record { token = end x; at = at_end } ∷ []
     pub inners : AreTokens inner (tokens_of n kids)
 
-  tags : (x : N) (attrs : List (Attribute N)) (kids : Forest N) (ts : List (PlacedToken N)) → AreTokens ts (start x attrs false ∷ tokens_of n kids ++ end x ∷ []) → Tags x attrs kids ts
+  pub tags : (x : N) (attrs : List (Attribute N)) (kids : Forest N) (ts : List (PlacedToken N)) → AreTokens ts (start x attrs false ∷ tokens_of n kids ++ end x ∷ []) → Tags x attrs kids ts
   tags x attrs kids ts h =
       let p = first ts (start x attrs false) (tokens_of n kids ++ end x ∷ []) h in
       let r = parted p.others (tokens_of n kids) (end x ∷ []) p.rest in
@@ -433,7 +437,7 @@ module _ {N : Type 0} (n : Naming N) (laws : NameLaws n) (z : State N) where
     raw_closing c2 k saved =
         closes items c2.saved c2.form same (saved ∙ is_saved) (k.head ∙ heads) (k.form ∙ forms) (k.quirks ∙ quirky) (λ at m g. rules.by_mode n z at (end x) Text (End (family_of (n.tag x))) _ _ (k.mode ∙ is_text_mode) refl refl)
 
-    raw_empty : (ts : List (PlacedToken N)) → AreTokens ts (start x attrs false ∷ end x ∷ []) → NodeBuilt b (element x attrs) none made f d up items c s ts
+    pub raw_empty : (ts : List (PlacedToken N)) → AreTokens ts (start x attrs false ∷ end x ∷ []) → NodeBuilt b (element x attrs) none made f d up items c s ts
     raw_empty ts h =
         let t = tags x attrs none ts h in
         let s1 : State N = state z (made + 1) (under d.node leaf f) (node made x ∷ d ∷ up) items c1 in
@@ -441,15 +445,14 @@ module _ {N : Type 0} (n : Naming N) (laws : NameLaws n) (z : State N) where
         (record { items2 = items; control2 = c1; reached = s1; steps = subst (λ (us : List (PlacedToken N)). Steps n us s1 (Goes s1)) (sym (ended t.inner t.inners)) step.none; acts = itself s1 })
         (raw_closing c1 (keeps-all c1) refl)
 
-    raw_text : (b' : ℕ) (u : List ℕ) (is : IsText u) → (c1.drop_lf && is.one == 10) ≡ false → made + 1 < z.site.nodes.limit → (ts : List (PlacedToken N)) → AreTokens ts (start x attrs false ∷ (map (λ ch. character ch) (chars u) ++ []) ++ end x ∷ [])
+    pub raw_text : (b' : ℕ) (u : List ℕ) (is : IsText u) → (c1.drop_lf && is.one == 10) ≡ false → made + 1 < z.site.nodes.limit → (ts : List (PlacedToken N)) → AreTokens ts (start x attrs false ∷ (map (λ ch. character ch) (chars u) ++ []) ++ end x ∷ [])
         → NodeBuilt b (element x attrs) (tree b' (text u) none none) made f d up items c s ts
     raw_text b' u is safe room ts h =
         let kids : Forest N = tree b' (text u) none none in
         let t = tags x attrs kids ts h in
         let f1 : Forest N = under d.node leaf f in
-        let self : eqb made made ≡ true = eq-eqb made made refl in
-        let once1 : times made f1 ≡ 1 = times-hung made d.node leaf f once ∙ rw self (omega (arith, absent)) in
-        let absent1 : times (made + 1) f1 ≡ 0 = times-hung (made + 1) d.node leaf f once ∙ rw (ne_eqb made (made + 1) (λ e. omega arith)) (omega (arith, fresh (made + 1) (omega arith))) in
+        let once1 : times made f1 ≡ 1 = once-new d.node made (element x attrs) f once absent in
+        let absent1 : times (made + 1) f1 ≡ 0 = free-grown d.node made (made + 1) (tree b (element x attrs) none none) f once (fresh (made + 1) (omega arith)) (omega arith) in
         let inner = text_built (node made x) (d ∷ up) items Text is_clean_char (rules.raw_puts n z (node made x) (d ∷ up) items) (made + 1) f1 once1 absent1 u is c1 t.inner is_text_mode safe is.clean
         (text_before-leaf d.node made (element x attrs) f once absent) room
         (t.inners ∙ append-nil (map (λ ch. character ch) (chars u))) in
@@ -479,11 +482,11 @@ module _ {N : Type 0} (n : Naming N) (laws : NameLaws n) (z : State N) where
   marked same = refl
 
   -- a list in which one text is at most
-  data OneText (l : Forest N) : Type 0 where
+  pub data OneText (l : Forest N) : Type 0 where
     nothing_there : l ≡ none → OneText l
     one_text : (b : ℕ) (u : List ℕ) → IsText u → l ≡ tree b (text u) none none → OneText l
 
-  raw_kids : (i : Inside) (l : Forest N) → takes_comments i.content ≡ false → ((r : Role) → takes_role i.content r ≡ false) → Good n i l → OneText l
+  pub raw_kids : (i : Inside) (l : Forest N) → takes_comments i.content ≡ false → ((r : Role) → takes_role i.content r ≡ false) → Good n i l → OneText l
   raw_kids i none c r g = nothing_there refl
   raw_kids i (tree b (element x attrs) kids rest) c r g = absurd (let h = r (row (n.tag x)).0 in let k = g.0 in cc)
   raw_kids i (tree b (forest.comment t) none rest) c r g = absurd (let k = g.0 in cc)
@@ -499,7 +502,7 @@ module _ {N : Type 0} (n : Naming N) (laws : NameLaws n) (z : State N) where
   lf_none _ = tt
 
   -- a list where nothing may be
-  good-empty : (i : Inside) (l : Forest N) → i.content ≡ content.Empty → Good n i l → l ≡ none
+  pub good-empty : (i : Inside) (l : Forest N) → i.content ≡ content.Empty → Good n i l → l ≡ none
   good-empty i none e g = refl
   good-empty i (tree b (element x attrs) kids rest) e g = absurd (let h = ap (λ k. takes_role k (row (n.tag x)).0) e in let k = g.0 in cc)
   good-empty i (tree b (text t) none rest) e g = absurd (subst (λ (k : Content). TextIn k (takes_space i.texts) (g.0.is.one ∷ g.0.is.more)) e g.0.fits)
@@ -640,13 +643,12 @@ module _ {N : Type 0} (n : Naming N) (laws : NameLaws n) (z : State N) where
         unfolding inner_built
         by_law k within items1 c1 mode fits cur drop fit pp anchors forms opening closing ts h =
             let o : j.content ≡ k = ap (λ u. content_within i.content u.content) p ∙ within in
-            let one : eqb made made ≡ true = eq-eqb made made refl in
             let q1 : Quiet n z.context j (made + 1) f1 (node made x) (d ∷ up) items1 c1 = record {
               mode_is = ap (λ u. unwrap_or u.mode (reset_mode n z.context (d ∷ up))) p ∙ mode;
               mode_fits = ap (λ u. fits_mode u c1.mode) o ∙ fits;
               current_fits = ap (λ u. fits_current u (texts_in u) (n.tag x)) o ∙ cur;
-              once = times-hung made d.node (tree made (element x attrs) none none) f q.once ∙ rw one (omega (arith, absent1));
-              fresh = λ m h. times-hung m d.node (tree made (element x attrs) none none) f q.once ∙ rw (ne_eqb made m (λ e. omega arith)) (omega (arith, q.fresh m (omega arith)));
+              once = once-new d.node made (element x attrs) f q.once absent1;
+              fresh = λ m h. free-grown d.node made m (tree b (element x attrs) none none) f q.once (q.fresh m (omega arith)) h;
               lower = (omega arith, lower-more made (made + 1) (d ∷ up) (omega arith) q.lower);
               entries_lower = fit.1;
               listed = fit.0;
@@ -968,10 +970,7 @@ module _ {N : Type 0} (n : Naming N) (laws : NameLaws n) (z : State N) where
       let back = law i made1 g1 d up head.items' head.control' head.reached p.back q1 g head.acts (λ e. node_head.exact (other e)) (λ e. text_before-new d.node made w (numbered (made + 1) kids) f q.once (q.fresh made (omega arith)) ∙ unlike (other e))
       (subst (λ (v : Bool). LfSafe v rest) (sym node_head.no_drop) (lf_none rest)) (omega arith) deep p.backs in
       let count : made1 + size rest ≡ made + (1 + (size kids + size rest)) = omega arith in
-      let next : made1 ≡ made + 1 + size kids = omega arith in
-      let grown : under d.node (numbered made1 rest) g1 ≡ under d.node (numbered made (tree b w kids rest)) f =
-      under-under d.node (numbered made (tree b w kids none)) (numbered made1 rest) f
-      ∙ ap (λ k. under d.node (tree made w (numbered (made + 1) kids) (numbered k rest)) f) next in
+      let grown = rest-grown d.node made b w kids rest f in
       record {
         items' = back.items';
         control' = back.control';
@@ -1010,9 +1009,7 @@ module _ {N : Type 0} (n : Naming N) (laws : NameLaws n) (z : State N) where
 
       go : (v : Bool) → is_void (n.tag x) ≡ v → LawOf kids → LawOf rest → Built (tree b (element x attrs) kids rest) made f d up items c s ts
       go false plain law_kids law_rest =
-          let h1 : AreTokens ts (start x attrs false ∷ (tokens_of n kids ++ end x ∷ tokens_of n rest)) = h ∙ (rw plain refl) in
-          let h2 : AreTokens ts ((start x attrs false ∷ tokens_of n kids ++ end x ∷ []) ++ tokens_of n rest) = h1 ∙ ap (λ us. start x attrs false ∷ us) (sym (append_assoc (tokens_of n kids) (end x ∷ []) (tokens_of n rest))) in
-          node_and_rest b (element x attrs) kids rest law_rest i made f d up items c s ts (start x attrs false ∷ tokens_of n kids ++ end x ∷ []) q g.4 (λ e. refl) (λ e. refl) room (omega arith) h2
+          node_and_rest b (element x attrs) kids rest law_rest i made f d up items c s ts (start x attrs false ∷ tokens_of n kids ++ end x ∷ []) q g.4 (λ e. refl) (λ e. refl) room (omega arith) (spelled n b x attrs kids rest ts plain h)
           (λ front e. of_class x attrs i made f d up items c s q from g.0 (omega arith) (omega arith) b kids law_kids g.1 g.2 g.3 (omega arith) (omega arith) w k p plain front e)
       go true void_is law_kids law_rest =
           let empty : kids ≡ none = good-empty (inside_element (n.tag x) i) kids (ap (λ o. content_within i.content o.content) p ∙ ap (content_within i.content) (void_empty w k (sym (ap (λ r. r.is_void) p) ∙ void_is))) g.3 in

@@ -1,6 +1,7 @@
 -- Plain trees come back: the law, and the two laws that carry it.
 use Rattle.std.specs.Prelude.{◌≡◌, ℕ, ◌+◌, ◌≤◌, true, IsUtf8, List, [], ◌∷◌, ◌++◌, length, map, Some, Ok}
 use Rattle.charref.specs.Reference.{Entities, IsTable, HasCore}
+use Rattle.htext.specs.declared.Bom.{Bom}
 use Rattle.htext.specs.declared.Bom.TheVariants.{Keep}
 use Rattle.htext.specs.Text as input
 use Rattle.hnodes.specs.Forest as forest
@@ -35,23 +36,23 @@ AreTexts (tree b (forest.text t) kids rest) = IsUtf8 t × AreTexts kids × AreTe
 AreTexts (tree b (forest.comment t) kids rest) = IsUtf8 t × AreTexts kids × AreTexts rest
 AreTexts (tree b w kids rest) = AreTexts kids × AreTexts rest
 
--- the characters of the bytes of a fragment
-abbrev pub text_of : List ℕ → List Placed
-text_of bytes = map input.character_of (input.text Keep bytes)
+-- the characters of the bytes of an input, with or without a byte order mark at their front
+abbrev pub text_of : Bom → List ℕ → List Placed
+text_of bom bytes = map input.character_of (input.text bom bytes)
 
--- The bytes of a fragment, in text of a kind, are read as these tokens.
-pub record AreRead (table : Entities) (kind : RawKind) (bytes : List ℕ) (tokens : List (Token (List ℕ))) : Type 0 where
+-- The bytes of an input, in text of a kind, are read as these tokens.
+pub record AreRead (table : Entities) (bom : Bom) (kind : RawKind) (bytes : List ℕ) (tokens : List (Token (List ℕ))) : Type 0 where
   pub utf8 : IsUtf8 bytes
   pub toks : List Tok
   pub errors : List ParseError
-  pub read : Tokens table kind (text_of bytes) (length bytes) toks errors
+  pub read : Tokens table kind (text_of bom bytes) (length bytes) toks errors
   pub are : map taken toks ≡ tokens
 
 -- A plain list as it is written is read as its own tokens.
 abbrev pub PlainTokens : Type 0
 PlainTokens = (table : Entities) (escaping : Escaping) (context : List ℕ) (l : Forest (List ℕ)) → IsTable table → HasCore table → AreTexts l
     → is_plain context l ≡ true
-    → AreRead table (raw_kind (tag_named context)) (written escaping (Some context) l) (tokens_of texts l ++ eof ∷ [])
+    → AreRead table Keep (raw_kind (tag_named context)) (written escaping (Some context) l) (tokens_of texts l ++ eof ∷ [])
 
 -- Its tokens build it from each quiet state.
 abbrev pub PlainBuilds : Type 0

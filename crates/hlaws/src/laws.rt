@@ -1,6 +1,7 @@
-//! Laws of whole inputs: one answer and one parse, what is refused of a front, and that a plain list of trees comes back.
+//! Laws of whole inputs: one answer and one parse, what is refused of a front, and that plain lists of trees and documents come back.
 
 ghost use Rattle.hlaws.specs.ComesBack.{PlainTokens, PlainBuilds, PlainComesBack};
+ghost use Rattle.hlaws.specs.DocumentComesBack.{PlainDocumentTokens, PlainDocumentBuilds, PlainDocumentComesBack, ComesBackWithoutIdentifiers};
 ghost use Rattle.hlaws.specs.OneAnswer.{OneAnswer, OneParse};
 ghost use Rattle.hlaws.specs.Unrefused.{FrontsOfAnswered, FrontsOfParsed, RulesRefuse, ProfileRefuses};
 
@@ -18,6 +19,22 @@ pub fn plain_builds()
 /// each such context.
 pub fn plain_comes_back()
     ensures { PlainComesBack }
+{}
+
+/// A plain document, as it is written, is read as its own tokens.
+pub fn plain_document_tokens()
+    ensures { PlainDocumentTokens }
+{}
+
+/// The tokens of a plain document build it, from the state in which a document begins.
+pub fn plain_document_builds()
+    ensures { PlainDocumentBuilds }
+{}
+
+/// A plain document comes back when what is written of it is parsed. So does one whose doctype has identifiers, but without them.
+pub fn plain_document_comes_back()
+    ensures whole { PlainDocumentComesBack }
+    ensures identifiers { ComesBackWithoutIdentifiers }
 {}
 
 /// The bytes of a document have exactly one answer: its tokens and its errors in their order, or what it is refused for, with the
