@@ -56,7 +56,7 @@ enum {
     JZ_TOO_MANY_NODES = 4,
     JZ_TOO_DEEP = 5,
     JZ_MEMORY = 6,
-    JZ_BAD_CONTEXT = 8, /* no fragment may be in an element of this name; or JZ_TOKENS of a fragment, JZ_PLAIN of a document */
+    JZ_BAD_CONTEXT = 8, /* no fragment may be in an element of this name; or JZ_TOKENS or JZ_PLAIN_DOCUMENT of a fragment, JZ_PLAIN of a document */
     JZ_BAD_TABLE = 9,   /* `detail` says what is wrong (jz_detail_name) */
     JZ_BAD_QUIRKS = 10,
     JZ_BAD_LIMITS = 11,
@@ -74,7 +74,8 @@ enum {
     JZ_TREE = 1,   /* the tree, a line for each node and each attribute */
     JZ_ERRORS = 2, /* a line for each parse error: its byte and its code */
     JZ_WRITE = 3,  /* the tree as HTML */
-    JZ_PLAIN = 4   /* "plain\n" or "not plain\n": whether a fragment is plain */
+    JZ_PLAIN = 4,  /* "plain\n" or "not plain\n": whether a fragment is plain */
+    JZ_PLAIN_DOCUMENT = 5 /* the same of a document: one that is plain comes back when what JZ_WRITE gives is parsed */
 };
 
 /* A fragment that is plain comes back, as the same nodes, when what is written of it inside an element of the context's name is parsed

@@ -9,7 +9,8 @@ give the tokens or the errors as a text in memory answer the same.
 A file X.dat has records in the form of html5lib's tests of trees: a line with the name of a section, and then the section's lines. An
 empty line is between two records. A page has `#data`, `#errors`, `#document-fragment` with the name of its context if it is a fragment,
 and `#document`, its tree. A list of trees has `#written`, its HTML, `#document-fragment`, `#document`, and if it does not come back
-`#limit`, which limit of plain content it breaks, and `#back`, the tree that comes back or the refusal. In it \\r and \\0 are CR and NUL.
+`#limit`, which limit of plain content it breaks, and `#back`, the tree that comes back or the refusal. In it \\r and \\0 are CR and NUL. Without
+`#document-fragment` it is what is in a document.
 
     python3 cases.py FOLDER
 
@@ -137,24 +138,24 @@ def page(script, record):
 class Node:
     def __init__(self, number, **held):
         self.number, self.attrs, self.children = number, [], []
-        self.name, self.text, self.comment = map(held.get, ("element", "text", "comment"))
+        self.name, self.text, self.comment, self.doctype = map(held.get, ("element", "text", "comment", "doctype"))
 
 
 class Grower:
-    """A list of trees, whose root is node 1, and the calls of a script that make it."""
+    """A list of trees, whose root is node 1, or without a context the document, and the calls of a script that make it."""
 
     def __init__(self, script, context):
-        self.root, self.made, self.say = Node(1, element=context), 2, script.say
+        self.root, self.made, self.say = Node(1, element=context) if context else Node(0), 2, script.say
         self.say("tree new 1000", "ok")
-        self.say(f"tree element {context}", "ok")
+        self.say(f"tree element {context or 'x'}", "ok")
 
-    def make(self, parent, kind, text):
-        node = Node(self.made, **{kind: text})
+    def make(self, parent, kind, *texts):
+        node = Node(self.made, **{kind: texts[0]})
         self.made += 1
         if kind == "text":
-            self.say(f"tree text {parent.number} {coded(text)}", "ok")
+            self.say(f"tree text {parent.number} {coded(*texts)}", "ok")
         else:
-            self.say(f"tree {kind} {coded(text)}", "ok")
+            self.say(" ".join(["tree", kind, *map(coded, texts)]), "ok")
             self.say(f"tree append {node.number} {parent.number}", "ok")
         return node
 
@@ -163,6 +164,9 @@ class Grower:
         if line.startswith("<!-- "):
             data = line.removeprefix("<!-- ").removesuffix(" -->")
             parent.children.append(self.make(parent, "comment", data))
+        elif line.startswith("<!DOCTYPE "):
+            name, *identifiers = line[len("<!DOCTYPE ") : -1].split(" ", 1)
+            parent.children.append(self.make(parent, "doctype", name, *"".join(identifiers)[1:-1].split('" "')))
         elif line.startswith("<"):
             parent.children.append(self.make(parent, "element", line[1:-1]))
         elif line.startswith('"'):
@@ -179,7 +183,7 @@ class Grower:
         between = self.make(parent, "comment", "") if is_next else None
         parent.children.append(self.make(parent, "text", text))
         if between:
-            self.say(f"tree append {between.number} 0", "ok")
+            self.say(f"tree append {between.number} {1 - self.root.number}", "ok")
 
     def grow(self, text):
         """The root, with what the text of a tree says in it."""
@@ -208,6 +212,8 @@ def html(parent, in_values):
             written += node.text if parent.name in RAW else escaped(node.text, ANGLES)
         elif node.comment is not None:
             written += f"<!--{node.comment}-->"
+        elif node.doctype is not None:
+            written += f"<!DOCTYPE {node.doctype}>"
         else:
             attrs = "".join(f' {name}="{escaped(value, in_values)}"' for name, value in node.attrs)
             written += f"<{node.name}{attrs}>" + ("" if node.name in VOID else f"{html(node, in_values)}</{node.name}>")
@@ -215,17 +221,23 @@ def html(parent, in_values):
 
 
 def trees(script, record):
-    """A list is written so, is plain exactly if it comes back, and what comes back of both ways of writing it is what the record says."""
+    """A list is written so, and what comes back of it is what the record says."""
     it = {name: text.replace("\\r", "\r").replace("\\0", "\0") for name, text in record.items()}
-    context, tree, written = (it[name] for name in ("#document-fragment", "#document", "#written"))
-    context, written, back = context.removesuffix("\n"), written.removesuffix("\n"), it.get("#back", tree)
+    tree, written = it["#document"], it["#written"].removesuffix("\n")
+    found = come_back(script, it.get("#document-fragment", "").removesuffix("\n"), tree, it.get("#back", tree))
+    if found != written:
+        raise SystemExit(f"{written!r} is stored, and {found!r} should be written")
+
+
+def come_back(script, context, tree, back):
+    """A list is plain exactly if it comes back, and this comes back of both ways of writing it. The first of these."""
     root = Grower(script, context).grow(tree)
-    if html(root, QUOTE) != written:
-        raise SystemExit(f"{written!r} is stored, and {html(root, QUOTE)!r} should be written")
-    script.say(f"tree written 1 {context}", f'{"yes" if back == tree else "no"} "{tree}" "{written}"')
+    written = html(root, QUOTE)
+    script.say(f"tree written {root.number} {context}", f'{"yes" if back == tree else "no"} "{tree}" "{written}"')
     text, refusal = ("", back) if back.startswith("refused: ") else (back, "")
     for given in (written, html(root, QUOTE | ANGLES)):
-        script.run(["fragment", "--in", context], given, text, refusal, {})
+        script.run(["fragment", "--in", context] if context else ["tree"], given, text, refusal, {})
+    return written
 
 
 def main(folder):

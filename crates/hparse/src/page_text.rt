@@ -1,11 +1,13 @@
 //! A page as text.
 
 ghost use Rattle.std.specs.Prelude.{◌≡◌, Some, OnOk};
-ghost use Rattle.hserialize.specs.Vocabulary.{Holds, IsFlushed, WritesText, is_plain, written};
+ghost use Rattle.hserialize.specs.Vocabulary.{Holds, IsFlushed, WritesText, is_plain, is_plain_document, written};
 ghost use Rattle.hparse.specs.PageText.{page_name, page_trees};
 
 use crate::parsed::Parsed;
-use hserialize::{Escaping, Target, is_plain, serialize, serialize_in, serialize_to_vec};
+use hserialize::{
+    Escaping, Target, is_plain, is_plain_document, serialize, serialize_in, serialize_to_vec,
+};
 use names::Refusal;
 use std::alloc::Global;
 
@@ -59,5 +61,13 @@ impl Parsed {
         ensures { result ≡ is_plain context.now (page_trees self.now) }
     {
         is_plain(&self.tree, &self.names, self.root, context)
+    }
+
+    /// Whether what is in the root is a plain document (see [`is_plain_document`](hserialize::is_plain_document)): what
+    /// [`Parsed::serialize`] writes of it is read as the same document again.
+    pub fn is_plain_document(&self) -> bool
+        ensures { result ≡ is_plain_document (page_trees self.now) }
+    {
+        is_plain_document(&self.tree, &self.names, self.root)
     }
 }

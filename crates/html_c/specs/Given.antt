@@ -1,5 +1,5 @@
 -- The options of a call: the meaning of what a caller hands in, and why it is not accepted.
-use Rattle.std.specs.Prelude.{◌≡◌, ◌<◌, ◌≤◌, ◌==◌, ◌+◌, ◌*◌, ◌^◌, if◌then◌else◌, ℕ, Bool, true, false, List, [], ◌∷◌, Option, None, Some, Ok, Err}
+use Rattle.std.specs.Prelude.{◌≡◌, ◌<◌, ◌≤◌, ◌==◌, ◌||◌, not, ◌+◌, ◌*◌, ◌^◌, if◌then◌else◌, ℕ, Bool, true, false, List, [], ◌∷◌, Option, None, Some, Ok, Err}
 use Rattle.std.specs.Str.{IsUtf8}
 use Rattle.std.specs.declared.hash.DefaultHasher.{DefaultHasher}
 use Rattle.names.specs.Keys.{made_of}
@@ -27,7 +27,7 @@ use Rattle.html_c.specs.declared.fault.CallFault.TheVariants as fault
 abbrev pub task_told : ℕ → Option Task
 task_told number =
     if number == 0 then Some task.Tokens else (if number == 1 then Some task.Tree else (if number == 2 then Some task.Errors
-    else (if number == 3 then Some task.Write else (if number == 4 then Some task.Plain else None))))
+    else (if number == 3 then Some task.Write else (if number == 4 || number == 5 then Some task.Plain else None))))
 
 abbrev pub escaping_told : ℕ → Option Escaping
 escaping_told number = if number == 1 then Some One else (if number == 2 then Some Two else None)
@@ -40,11 +40,10 @@ abbrev pub context_told : List ℕ → Option (List ℕ)
 context_told [] = None
 context_told (b ∷ bs) = Some (b ∷ bs)
 
--- whether a task may be one of an input that is in this element, or of a document: tokens are those of a document, and a fragment alone is plain
-abbrev pub may_be_in : Task → Option (List ℕ) → Bool
-may_be_in task.Tokens (Some context) = false
-may_be_in task.Plain None = false
-may_be_in _ _ = true
+-- whether the task of a number may be one of an input that is in this element, or of a document: 0 and 5 are those of a document, 4 of a fragment
+abbrev pub may_be_in : ℕ → Option (List ℕ) → Bool
+may_be_in number (Some context) = not (number == 0 || number == 5)
+may_be_in number None = not (number == 4)
 
 -- no way of escaping is given
 abbrev pub NoEscaping : Given → CallFault → Type 0
@@ -121,7 +120,7 @@ HasLimits given limits = AreLimits (bounds_told given) × (limits ≡ bounds_tol
 pub record IsCommand (number : ℕ) (given : Given) (command : Command) : Type 0 where
   pub size : IsSize given.size
   pub task : task_told number ≡ Some command.task
-  pub placed : may_be_in command.task (context_told given.context.now) ≡ true
+  pub placed : may_be_in number (context_told given.context.now) ≡ true
   pub escaping : escaping_told given.escaping ≡ Some command.escaping
   pub context : name_of command.context ≡ context_told given.context.now
   pub allows : AllowsContext (context_told given.context.now)
@@ -131,7 +130,7 @@ pub record IsCommand (number : ℕ) (given : Given) (command : Command) : Type 0
 -- There is none, for this reason.
 pub data NoCommand (number : ℕ) (given : Given) (why : CallFault) : Type 0 where
   no_task : task_told number ≡ None → why ≡ fault.BadNumber → NoCommand number given why
-  misplaced : (task : Task) → task_told number ≡ Some task → may_be_in task (context_told given.context.now) ≡ false → why ≡ fault.Refused BadContext
-      → NoCommand number given why
+  misplaced : (task : Task) → task_told number ≡ Some task → may_be_in number (context_told given.context.now) ≡ false
+      → why ≡ fault.Refused BadContext → NoCommand number given why
   no_escaping : NoEscaping given why → NoCommand number given why
   unmet : Unmet given why → NoCommand number given why

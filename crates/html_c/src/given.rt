@@ -22,28 +22,34 @@ const SIZE: usize = 104;
 /// The most bytes that are fed at a time.
 const MOST_PIECE: u64 = 65_536;
 
+/// The numbers of the tasks that are not for every input.
+const TOKENS: u32 = 0;
+
+const PLAIN: u32 = 4;
+
+const PLAIN_DOCUMENT: u32 = 5;
+
 /// The task of a number.
 pub(crate) fn task_of(number: u32) -> Option<Task>
     ensures { result ≡ task_told number }
 {
     match number {
-        0 => Some(Task::Tokens),
+        TOKENS => Some(Task::Tokens),
         1 => Some(Task::Tree),
         2 => Some(Task::Errors),
         3 => Some(Task::Write),
-        4 => Some(Task::Plain),
+        PLAIN | PLAIN_DOCUMENT => Some(Task::Plain),
         _ => None,
     }
 }
 
-/// Whether the task is one for a fragment in this element, or for a document where there is none.
-fn may_be_in(task: Task, context: Option<&str>) -> bool
-    ensures { result ≡ may_be_in task (name_of context.entry) }
+/// Whether the task of a number is one for a fragment in this element, or for a document where there is none.
+fn may_be_in(number: u32, context: Option<&str>) -> bool
+    ensures { result ≡ may_be_in number (name_of context.entry) }
 {
-    match task {
-        Task::Tokens => context.is_none(),
-        Task::Plain => context.is_some(),
-        Task::Tree | Task::Errors | Task::Write => true,
+    match context {
+        Some(_) => number != TOKENS && number != PLAIN_DOCUMENT,
+        None => number != PLAIN,
     }
 }
 
@@ -135,7 +141,7 @@ impl<'a> Given<'a> {
             return Err(CallFault::BadNumber);
         };
         let context = self.context()?;
-        if !may_be_in(task, context) {
+        if !may_be_in(number, context) {
             return Err(CallFault::Refused(Refusal::BadContext));
         }
         Ok(Command {

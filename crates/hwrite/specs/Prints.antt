@@ -12,6 +12,7 @@ use Rattle.hnodes.specs.Spelled.{spelled}
 use Rattle.hnodes.specs.Spots.{name_of}
 use Rattle.hserialize.specs.Lines.{tree_text, error_lines}
 use Rattle.hserialize.specs.Plain.{is_plain}
+use Rattle.hserialize.specs.PlainDocument.{is_plain_document}
 use Rattle.hserialize.specs.Written.{written}
 use Rattle.hserialize.specs.declared.escaping.Escaping.{Escaping}
 use Rattle.hparse.specs.Answer.{Answers}
@@ -42,9 +43,9 @@ errors_text parse = error_lines parse.errors
 abbrev pub written_text : Escaping → ParseCase → Parse → List ℕ
 written_text escaping parse_case parse = written escaping (name_of (root_of parse_case) parse.trees) (children_of (root_of parse_case) parse.trees)
 
--- whether the nodes of a fragment are plain in its context; those of a document are not
+-- whether the nodes of a fragment are plain in its context, or a document is plain
 abbrev pub is_plain_in : ParseCase → Forest (List ℕ) → Bool
-is_plain_in document f = false
+is_plain_in document f = is_plain_document f
 is_plain_in (fragment context) f = is_plain context f
 
 abbrev pub plain_line : Bool → List ℕ

@@ -130,21 +130,21 @@ fn print_parsed<W: Target>(
     }
 }
 
-/// What is printed of a fragment that is plain, or is not.
+/// What is printed of a fragment or a document that is plain, or is not.
 fn plain_line(is_plain: bool) -> &'static [u8]
     ensures { result.now ≡ plain_line is_plain }
 {
     if is_plain { b"plain\n" } else { b"not plain\n" }
 }
 
-/// Whether what was parsed in an element of this name is plain there. No document is.
+/// Whether what was parsed in an element of this name is plain there, or a document is plain.
 fn is_plain_in(context: Option<&str>, parsed: &Parsed) -> bool
     ensures { result ≡ is_plain_in (case_in (name_of context.entry))
         (spelled (text_of parsed.now.names) (children_of parsed.now.root parsed.now.tree.trees)) }
 {
     match context {
         Some(name) => parsed.is_plain(name),
-        None => false,
+        None => parsed.is_plain_document(),
     }
 }
 

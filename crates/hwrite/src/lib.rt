@@ -33,9 +33,9 @@ pub use hparse::{
     is_context, parse_reader, read_into, tokens,
 };
 pub use hserialize::{
-    Escaping, Target, error_lines, is_plain, print_errors, print_tree, serialize, serialize_in,
-    serialize_in_to_vec, serialize_outer, serialize_outer_to_vec, serialize_to_vec, tree_text,
-    write_all,
+    Escaping, Target, error_lines, is_plain, is_plain_document, print_errors, print_tree,
+    serialize, serialize_in, serialize_in_to_vec, serialize_outer, serialize_outer_to_vec,
+    serialize_to_vec, tree_text, write_all,
 };
 pub use htext::{BadBytes, MAX_INPUT};
 pub use htoken::{Token, TokenSink};

@@ -5,7 +5,7 @@ ghost use Rattle.std.specs.Prelude.{◌<◌};
 use crate::hand::{Hand, PLACE, attr, attrs, name};
 use crate::words::{after, number, text, word};
 use hnodes::{DocumentType, NodeId, Place, Tree};
-use hwrite::{Escaping, is_plain, serialize_to_vec, tree_text};
+use hwrite::{Escaping, is_plain, is_plain_document, serialize_to_vec, tree_text};
 use names::{Attr, Names, Refusal};
 use std::alloc::{AllocError, Global};
 
@@ -80,7 +80,7 @@ fn make(hand: &mut Hand, line: &str) -> Result<(), Refusal> {
     let (alloc, tree) = (hand.alloc, &mut hand.tree);
     match word(line, 1) {
         "comment" => tree.create_comment(text(alloc, after(line, 2))?, PLACE)?,
-        "doctype" => tree.create_doctype(doctype(alloc, word(line, 2))?, PLACE)?,
+        "doctype" => tree.create_doctype(doctype(alloc, line)?, PLACE)?,
         _ => make_element(hand, line)?,
     };
     Ok(())
@@ -92,12 +92,12 @@ fn make_element(hand: &mut Hand, line: &str) -> Result<NodeId, Refusal> {
     hand.tree.create_element(name, Vec::new(hand.alloc), PLACE)
 }
 
-/// A doctype with this text thrice.
-fn doctype(alloc: Global, text: &str) -> Result<DocumentType, AllocError> {
+/// A doctype with these texts.
+fn doctype(alloc: Global, line: &str) -> Result<DocumentType, AllocError> {
     Ok(DocumentType {
-        name: String::from_str(alloc, text)?,
-        public_id: String::from_str(alloc, text)?,
-        system_id: String::from_str(alloc, text)?,
+        name: text(alloc, word(line, 2))?,
+        public_id: text(alloc, word(line, 3))?,
+        system_id: text(alloc, word(line, 4))?,
     })
 }
 
@@ -172,14 +172,17 @@ fn given(names: &mut Names, alloc: Global, words: &str) -> Result<Attr, AllocErr
     Ok(Attr { name, value })
 }
 
-/// Says whether what is in a node is plain in a context, its text, and its HTML.
+/// Says whether what is in a node is plain in a context, or a plain document where there is none, its text, and its HTML.
 fn say_written(hand: &mut Hand, node: NodeId, context: &str) -> Result<(), Refusal>
     requires { node < hand.old.tree.made }
 {
     let (alloc, tree, names, out) = (hand.alloc, &hand.tree, &hand.names, &mut hand.out);
     let text = tree_text(alloc, tree, names, node)?;
     let html = serialize_to_vec(alloc, tree, names, node, Escaping::One)?;
-    let plain = is_plain(tree, names, node, context);
+    let plain = match context {
+        "" => is_plain_document(tree, names, node),
+        name => is_plain(tree, names, node, name),
+    };
     out.say(if plain { "yes" } else { "no" });
     out.quoted(&text);
     out.quoted(&html);

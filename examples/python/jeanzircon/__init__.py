@@ -15,8 +15,8 @@ import sys
 from collections.abc import Iterator
 from typing import TYPE_CHECKING
 
-from ._base import (CODES, ERRORS, NO_NODE, PLAIN, TOKENS, TREE, VERSION, WRITE, Bytes, Entry, Node, Page, ParseError, Refused, Row, Settings, given,
-                    lent, whole)
+from ._base import (CODES, ERRORS, NO_NODE, PLAIN, PLAIN_DOCUMENT, TOKENS, TREE, VERSION, WRITE, Bytes, Entry, Node, Page, ParseError, Refused, Row,
+                    Settings, given, lent, whole)
 from ._engine import ENGINE
 from ._lines import Lines
 from .etree import to_etree
@@ -25,8 +25,9 @@ if TYPE_CHECKING:
     from typing_extensions import Unpack
 
 __version__ = VERSION
-__all__ = ["CODES", "ERRORS", "NO_NODE", "PLAIN", "TOKENS", "TREE", "WRITE", "Bytes", "Entry", "Lines", "Node", "Page", "ParseError", "Refused",
-           "Row", "Settings", "errors", "is_compiled", "links", "parse", "standard", "table", "text", "to_etree", "tree", "version"]
+__all__ = ["CODES", "ERRORS", "NO_NODE", "PLAIN", "PLAIN_DOCUMENT", "TOKENS", "TREE", "WRITE", "Bytes", "Entry", "Lines", "Node", "Page",
+           "ParseError", "Refused", "Row", "Settings", "errors", "is_compiled", "links", "parse", "standard", "table", "text", "to_etree", "tree",
+           "version"]
 
 
 def is_compiled() -> bool:
@@ -86,6 +87,8 @@ def text(task: int, page: Bytes, **settings: Unpack[Settings]) -> bytes:
 
     >>> text(PLAIN, b"a<b", context=b"style"), text(WRITE, b"a<b", context=b"style"), tree(b"a<b", context=b"style")[0].words
     (b'plain\\n', b'a&lt;b', ['a<b'])
+
+    PLAIN_DOCUMENT says whether a document comes back when what WRITE gives is parsed. It is asked without a context.
     """
     return ENGINE.text(whole(task, 32), lent(page), given(**settings) if settings else None)
 

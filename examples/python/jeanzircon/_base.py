@@ -12,7 +12,7 @@ NUMBER = 100  # (as JZ_VERSION_NUMBER of jeanzircon.h)
 T = TypeVar("T")
 Bytes = Union[bytes, bytearray, memoryview]
 Make = Callable[..., Any]
-TOKENS, TREE, ERRORS, WRITE, PLAIN = range(5)
+TOKENS, TREE, ERRORS, WRITE, PLAIN, PLAIN_DOCUMENT = range(6)
 NO_NODE = 0xFFFFFFFF
 NAMES = """Ok NotUtf8 OutOfProfile TooLarge TooManyNodes TooDeep Memory Read BadContext BadTable BadQuirks BadLimits Write TooShort NotText BadNumber
     Null BadSize""".split()

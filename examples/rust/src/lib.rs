@@ -41,6 +41,7 @@ pub enum Task {
     Errors,
     Write,
     Plain,
+    PlainDocument,
 }
 
 /// What becomes of bytes that are not UTF-8.
@@ -185,6 +186,11 @@ pub fn errors(input: &[u8], options: &Options) -> Result<Vec<ParseError>, Error>
 /// which stands in a root without that name, and what comes back is the text as it is (`Node::text`).
 pub fn is_plain(fragment: &[u8], options: &Options) -> Result<bool, Error> {
     Ok(text(Task::Plain, fragment, options)? == "plain\n")
+}
+
+/// Whether a document is plain: it comes back, as the same nodes, when what `Task::Write` gives is parsed. The options have no context.
+pub fn is_plain_document(page: &[u8], options: &Options) -> Result<bool, Error> {
+    Ok(text(Task::PlainDocument, page, options)? == "plain\n")
 }
 
 /// Gathers an input that comes in pieces. The library reads an input whole, so it is refused at the end and not before.

@@ -14,4 +14,4 @@ returns-in_err-piece c = fails c.from_residual-in_err-piece.result c.in_err-piec
 
 pub returns-then-not-may_be_in : goal.returns-then-not-may_be_in
 returns-then-not-may_be_in c =
-    misplaced c.in-Some.task (sym c.in-Some.ensures) (sym (ap (may_be_in c.in-Some.task) c.in_ok-context.ensures.0) ∙ sym c.may_be_in.ensures ∙ c.if-not-may_be_in.true) refl
+    misplaced c.in-Some.task (sym c.in-Some.ensures) (sym (ap (may_be_in c.args.number) c.in_ok-context.ensures.0) ∙ sym c.may_be_in.ensures ∙ c.if-not-may_be_in.true) refl
