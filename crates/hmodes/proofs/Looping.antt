@@ -1,5 +1,5 @@
 -- What holds between two rules of a token.
-use Rattle.hmodes.proofs.Vocabulary.{◌≡◌, ◌⊎◌, inl, inr, ℕ, suc, ◌<◌, false, Result, Ok, Err, sym, subst, IsErrAnd, Refusal, Memory, Gives, numbers, Outcome, Goes, after, Token, State, Done, Again, Refused, Rule, Chain, ends, refuses, goes_again, Step, goes, is_dropped, begun, finished, StepGives, ChainGives, HasBegun, Stands}
+use Rattle.hmodes.proofs.Vocabulary.{◌≡◌, ◌⊎◌, inl, inr, ℕ, suc, ◌<◌, false, Result, Ok, Err, sym, subst, IsErrAnd, Refusal, Memory, Gives, numbers, Outcome, Goes, after, Token, State, Done, Again, Refused, Rule, Chain, ends, refuses, goes_again, Step, goes, is_dropped, begun, finished, StepGives, ChainGives, HasBegun, IsReprocessed, Stands}
 use Rattle.hadopt.specs.Site as site
 use Rattle.hmodes.proofs.Between.{Orderly, numbers-all, reached-orderly, orderly-begins, again-orderly}
 use Rattle.hmodes.proofs.Ends.{left, rule-falls}
@@ -14,6 +14,15 @@ pub goes-from : (at : ℕ) (t : Token ℕ) (s : State ℕ) → HasBegun s → Go
 goes-from at t s h =
     let o = orderly-begins numbers h.0 (reached-orderly numbers numbers-all h.0 h.1) in
     record { orderly = subst (Orderly numbers) (sym h.2) o; chain = λ o c. c }
+
+-- the same after a first rule
+pub goes-from-again : (at : ℕ) (t : Token ℕ) (s : State ℕ) → IsReprocessed at t s → GoesBy at t s t s
+goes-from-again at t s (before, old, h, rule) = record { orderly = again-orderly numbers numbers-all at before t old s (goes-from at before old h).orderly rule; chain = λ o c. c }
+
+pub chain-again : (at : ℕ) (t : Token ℕ) (s : State ℕ) (u : Token ℕ) (v : State ℕ) (r : Result (Unit {0}) Refusal) (new : State ℕ) → Rule numbers at t s ≡ Again u v → ChainGives at u v r new → ChainGives at t s r new
+chain-again at t s u v (Ok x) new rule c = goes_again rule c
+chain-again at t s u v (Err e) new rule (inl m) = inl m
+chain-again at t s u v (Err e) new rule (inr c) = inr (goes_again rule c)
 
 pub goes-on : (at : ℕ) (t : Token ℕ) (s : State ℕ) (t' : Token ℕ) (s' : State ℕ) (u : Token ℕ) (v : State ℕ) → GoesBy at t s t' s' → Rule numbers at t' s' ≡ Again u v → GoesBy at t s u v
 goes-on at t s t' s' u v h rule = record { orderly = again-orderly numbers numbers-all at t' u s' v h.orderly rule; chain = λ o c. h.chain o (goes_again rule c) }

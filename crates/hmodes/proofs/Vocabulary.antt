@@ -20,7 +20,7 @@ pub use Rattle.hopen.specs.Formatting.{EntryOf, Listed, after_marker, cleared, e
 pub use Rattle.hmarkup.specs.Quirks.{QuirkLine}
 pub use Rattle.hmodes.specs.Beginning.{Limits, document_begins, fragment_begins}
 pub use Rattle.hmodes.specs.Body.{character_in_body, formatting, text}
-pub use Rattle.hmodes.specs.Building.{Building, ChainGives, HasBegun, Stands, StaysRefused, StepGives, Takes, TakesOn, TakesToken, puts_run, refused_by}
+pub use Rattle.hmodes.specs.Building.{Building, ChainGives, HasBegun, IsReprocessed, Stands, StaysRefused, StepGives, Takes, TakesOn, TakesToken, puts_run, refused_by}
 pub use Rattle.hmodes.specs.Doctypes.{conforms, doctype_node, forces_quirks}
 pub use Rattle.hmodes.specs.Families.{family_of}
 pub use Rattle.hmodes.specs.Flows.{FlowGives, StateGives, performed_for}

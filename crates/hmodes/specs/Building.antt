@@ -9,8 +9,8 @@ use Rattle.hadopt.specs.Site.{Goes}
 use Rattle.hadopt.specs.Site as site
 use Rattle.hmodes.specs.Reached.{Reached}
 use Rattle.hmodes.specs.Runs.{puts_each}
-use Rattle.hmodes.specs.State.{State, Token}
-use Rattle.hmodes.specs.Step.{Chain, Step, begun}
+use Rattle.hmodes.specs.State.{Again, State, Token}
+use Rattle.hmodes.specs.Step.{Chain, Rule, Step, begun}
 use Rattle.hmodes.specs.Tokens.{token_of, place_of}
 
 -- the state of the tree construction, the root of what is built, the parse errors that were handed over, and what was refused
@@ -38,6 +38,10 @@ pub record Stands (root : ℕ) (s : State ℕ) : Type 0 where
 -- a state in which a token has begun
 abbrev pub HasBegun : State ℕ → Type 0
 HasBegun s = (before : State ℕ) × Reached numbers before × (s ≡ begun before)
+
+-- a token and a state to which the first rule of a token leads that is to be reprocessed
+abbrev pub IsReprocessed : ℕ → Token ℕ → State ℕ → Type 0
+IsReprocessed at t new = (before : Token ℕ) × (old : State ℕ) × HasBegun old × (Rule numbers at before old ≡ Again t new)
 
 -- A call that is refused is refused from then on.
 abbrev pub refused_by : Result (Unit {0}) Refusal → Option Refusal

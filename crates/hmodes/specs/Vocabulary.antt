@@ -10,7 +10,7 @@ pub use Rattle.hmodes.specs.Beginning.{control_in, form_of, document_begins, fra
 pub use Rattle.hmodes.specs.Body.{block, close_block, close_item, end_item, in_body, after_body, after_after_body, body_ends, character_in_body, text, formatting}
 pub use Rattle.hmodes.specs.Body.{void_in_text}
 pub use Rattle.hmodes.specs.Bounds.{AreLimits, Bounds}
-pub use Rattle.hmodes.specs.Building.{Takes, TakesToken, puts_run, HasBegun, ChainGives, StepGives}
+pub use Rattle.hmodes.specs.Building.{Takes, TakesToken, puts_run, HasBegun, IsReprocessed, ChainGives, StepGives}
 pub use Rattle.hmodes.specs.Doctypes.{is_text, conforms, forces_quirks, doctype_node}
 pub use Rattle.hmodes.specs.Ended.{ended}
 pub use Rattle.hmodes.specs.Families.{family_of}

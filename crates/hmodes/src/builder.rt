@@ -295,8 +295,10 @@ impl<'q> TokenSink for Builder<'q> {
         self.take(&mut token, at)
     }
 
-    fn take_tag(&mut self, token: Token, _names: &Names) -> Result<(), Refusal> {
-        self.take_token(token)
+    #[inline(always)]
+    fn take_tag(&mut self, mut token: Token, _names: &Names) -> Result<(), Refusal> {
+        let at = token.place();
+        self.take(&mut token, at)
     }
 
     fn take_text(&mut self, ch: char, at: u64) -> Result<(), Refusal> {

@@ -16,6 +16,7 @@ use names::{Refusal, Tag};
 
 impl<'q> TreeConstruction<'q> {
     /// The "in body" insertion mode (`#parsing-main-inbody`).
+    #[inline(always)]
     pub(crate) fn in_body(&mut self, kind: TokenKind, token: &mut Token, at: u64) -> Ruling
         requires { Kept numbers self.old.site }
         ensures { Performs at (in_body kind) token.old self.old result token.new self.new }
@@ -31,6 +32,7 @@ impl<'q> TreeConstruction<'q> {
     }
 
     /// A start tag.
+    #[inline(never)]
     fn start_in_body(&mut self, family: Family, token: &mut Token, at: u64) -> Ruling
         requires { Kept numbers self.old.site }
         ensures { Performs at (in_body (Start family)) token.old self.old result token.new self.new }
@@ -77,6 +79,7 @@ impl<'q> TreeConstruction<'q> {
     }
 
     /// An end tag.
+    #[inline(never)]
     fn end_in_body(&mut self, family: Family, token: &mut Token, at: u64) -> Ruling
         requires { Kept numbers self.old.site }
         ensures { Performs at (in_body (End family)) token.old self.old result token.new self.new }

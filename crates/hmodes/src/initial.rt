@@ -30,15 +30,10 @@ fn conforms(token: &Token) -> bool
     ensures { result ≡ conforms (token_of token.now) }
 {
     match token {
-        Token::Doctype {
-            name,
-            public_id,
-            system_id,
-            ..
-        } => {
-            is_text("html", name)
-                && public_id.is_none()
-                && (system_id.is_none() || is_text(LEGACY_COMPAT, system_id))
+        Token::Doctype { doctype, .. } => {
+            is_text("html", &doctype.name)
+                && doctype.public_id.is_none()
+                && (doctype.system_id.is_none() || is_text(LEGACY_COMPAT, &doctype.system_id))
         }
         _ => false,
     }
@@ -59,15 +54,10 @@ fn take_doctype(alloc: Global, token: &mut Token) -> DocumentType
     ensures { forest.doctype (string_bytes result.name) (string_bytes result.public_id) (string_bytes result.system_id) ≡ doctype_node (token_of token.old) }
 {
     match token {
-        Token::Doctype {
-            name,
-            public_id,
-            system_id,
-            ..
-        } => DocumentType {
-            name: take_text(alloc, name),
-            public_id: take_text(alloc, public_id),
-            system_id: take_text(alloc, system_id),
+        Token::Doctype { doctype, .. } => DocumentType {
+            name: take_text(alloc, &mut doctype.name),
+            public_id: take_text(alloc, &mut doctype.public_id),
+            system_id: take_text(alloc, &mut doctype.system_id),
         },
         _ => DocumentType {
             name: String::new(alloc),
@@ -121,16 +111,10 @@ impl<'q> TreeConstruction<'q> {
         ensures { result ≡ forces_quirks (state_of self.now) (token_of token.now) }
     {
         match token {
-            Token::Doctype {
-                name,
-                public_id,
-                system_id,
-                forced,
-                ..
-            } => {
-                *forced
-                    || !is_text("html", name)
-                    || self.is_listed(public_id.as_deref(), system_id.as_deref())
+            Token::Doctype { doctype, .. } => {
+                doctype.forced
+                    || !is_text("html", &doctype.name)
+                    || self.is_listed(doctype.public_id.as_deref(), doctype.system_id.as_deref())
             }
             _ => false,
         }

@@ -1,7 +1,7 @@
 //! A token: how it begins, the rules that it goes by, and how it ends (HTML Standard, `#tree-construction`).
 
 ghost use Rattle.std.specs.Prelude.{◌≡◌, ℕ, ◌<◌, IfSome};
-ghost use Rattle.hmodes.specs.Vocabulary.{Goes, HasBegun, ChainGives, StepGives, Reached, rule_of, is_self_closing, Rule, is_dropped, begun, finished, Gives, numbers, TokenOf, state_of, token_of, Kept, FlowGives, AfterHead};
+ghost use Rattle.hmodes.specs.Vocabulary.{Goes, HasBegun, IsReprocessed, ChainGives, StepGives, Reached, rule_of, is_self_closing, Rule, is_dropped, begun, finished, Gives, numbers, TokenOf, state_of, token_of, Kept, FlowGives, AfterHead};
 ghost use Rattle.hmodes.specs.Vocabulary.{Performs};
 
 use crate::mode::Mode;
@@ -31,6 +31,19 @@ impl<'q> TreeConstruction<'q> {
         requires { HasBegun (state_of self.old) }
         ensures { ChainGives at (token_of token.old) (state_of self.old) result (state_of self.new) }
     {
+        let closing = is_self_closing(token);
+        match self.rule(token, at)? {
+            Flow::Done => self.end(closing, at),
+            Flow::Again => self.by_further_rules(token, at),
+        }
+    }
+
+    /// By the rules that follow the first.
+    #[inline(never)]
+    fn by_further_rules(&mut self, token: &mut Token, at: u64) -> Result<(), Refusal>
+        requires { IsReprocessed at (token_of token.old) (state_of self.old) }
+        ensures { ChainGives at (token_of token.old) (state_of self.old) result (state_of self.new) }
+    {
         loop {
             let closing = is_self_closing(token);
             match self.rule(token, at)? {
@@ -41,6 +54,7 @@ impl<'q> TreeConstruction<'q> {
     }
 
     /// Whether a token is the LF that is to be dropped.
+    #[inline(always)]
     fn is_dropped(&self, token: &Token) -> bool
         ensures { result ≡ is_dropped (token_of token.now) (state_of self.now) }
     {
@@ -114,6 +128,7 @@ impl<'q> TreeConstruction<'q> {
 }
 
 /// Whether a token is a start tag with its self-closing flag set (`#self-closing-flag`).
+#[inline(always)]
 fn is_self_closing(token: &Token) -> bool
     ensures { result ≡ is_self_closing (token_of token.now) }
 {

@@ -37,6 +37,7 @@ impl TokenKind {
     }
 
     /// The kind of a token.
+    #[inline(always)]
     pub(crate) fn of(token: &Token) -> TokenKind
         ensures { result ≡ kind_of numbers (token_of token.now) }
     {

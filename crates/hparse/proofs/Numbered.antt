@@ -28,7 +28,7 @@ module _ (names : Texts) (are : AreNames names) where
   attributes_spelled (a ∷ attrs) [] h = absurd h
 
   token_spelled : (t : Given) (tok : Tok) → TokenMeans names t tok → spelled_placed spell (placed_number t) ≡ placed tok
-  token_spelled (code.Doctype name public system forced at) tok h = sym (ap placed h)
+  token_spelled (code.Doctype doctype at) tok h = sym (ap placed h)
   token_spelled (code.Start name attrs closing at) tok (text, meant, is, are_meant, e) =
       (λ i. record { token = start (spells name text is i) (attributes_spelled attrs.items meant are_meant i) closing; at = at }) ∙ sym (ap placed e)
   token_spelled (code.End name at) tok (text, is, e) =

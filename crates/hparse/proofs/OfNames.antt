@@ -20,7 +20,7 @@ attributes_of_table names [] (t ∷ meant) h = absurd h
 attributes_of_table names (a ∷ attrs) [] h = absurd h
 
 token_of_table : (names : Texts) (t : Given) (tok : Tok) → TokenMeans names t tok → TokenIsOf names (token_of t)
-token_of_table names (code.Doctype name public system forced at) tok h = tt
+token_of_table names (code.Doctype doctype at) tok h = tt
 token_of_table names (code.Start name attrs closing at) tok (text, meant, is, are, e) = (within names name text is, attributes_of_table names attrs.items meant are)
 token_of_table names (code.End name at) tok (text, is, e) = within names name text is
 token_of_table names (code.Comment text at) tok h = tt

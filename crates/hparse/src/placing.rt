@@ -129,8 +129,11 @@ impl<'q> TokenSink for Placing<'q> {
     }
 
     #[inline(always)]
-    fn take_tag(&mut self, token: Token, _names: &Names) -> Result<(), Refusal> {
-        self.take_token(token)
+    fn take_tag(&mut self, token: Token, names: &Names) -> Result<(), Refusal> {
+        if self.makings.is_none() {
+            return self.builder.take_tag(token, names);
+        }
+        self.place_token(token)
     }
 
     #[inline(always)]

@@ -1,5 +1,5 @@
 -- Tags that stand whole in a run.
-use Rattle.htoken.proofs.Names.{◌≡◌, ◌≤◌, ◌<◌, ℕ, suc, ◌+◌, ◌-◌, true, false, ◌||◌, List, [], ◌∷◌, ◌++◌, length, take, drop, sym, refl, ap, ◌∙◌, subst, Result, Ok, Err, Option, Some, None, append-nil, arith, length-take-le, take-append-drop, IsUtf8-from_ascii, chars-nil, codes, is_some, slice_get, slice_index, list_all, chars, IsUtf8, ParseError, Placed, RawKind, RefusedName, Refusal, Memory, Texts, Grows, name_bytes, placed, raw_kind, refused_name, tag_named, is_plain_byte, IsCut, plain_chars, hand_one, Entities, TagWalk, IsInTag, IsWholeTag, State, Tokenizer, IsSpan, IsSpanOf, next, EndsTag, TakesFront, TakesPart, IsTag, start_tag, end_tag, tag_mark, Tok, Span, Start, End, Item, ItemToken, Event, HandedMeans, gives_item, has_refused, Reads, HasTaken, holds, Takes, take_took, IsHeld, IsLast, less, next_place, slice_range, IsBareName, bare_bytes, bare_front, bare_no_errors, bare_placed, bare_plain, bare_within, tag, MatchResult, get_or, get_or-append_seam, IsCharBoundary, Handed}
+use Rattle.htoken.proofs.Names.{◌≡◌, ◌≤◌, ◌<◌, ℕ, suc, ◌+◌, ◌-◌, true, false, ◌||◌, List, [], ◌∷◌, ◌++◌, length, take, drop, sym, refl, ap, ◌∙◌, subst, Result, Ok, Err, Option, Some, None, append-nil, arith, length-take-le, take-append-drop, IsUtf8-from_ascii, chars-nil, codes, is_some, slice_get, slice_index, list_all, chars, IsUtf8, ParseError, Placed, RawKind, RefusedName, Refusal, Memory, Texts, Grows, name_bytes, placed, raw_kind, refused_name, tag_named, is_plain_byte, IsCut, plain_chars, hand_one, Entities, TagWalk, IsInTag, IsWholeTag, State, Tokenizer, IsSpan, IsSpanOf, next, EndsTag, TakesPart, IsTag, start_tag, end_tag, tag_mark, Tok, Span, Start, End, Item, ItemToken, Event, HandedMeans, gives_item, has_refused, Reads, HasTaken, holds, Takes, take_took, IsHeld, IsLast, less, next_place, slice_range, IsBareName, bare_bytes, bare_front, bare_no_errors, bare_placed, bare_plain, bare_within, tag, MatchResult, get_or, get_or-append_seam, IsCharBoundary, Handed}
 use Rattle.std.proofs.lemmas.Str.{IsCharBoundary-before_ascii}
 use Rattle.names.specs.declared.raw.RawKind.TheVariants as kind
 use Rattle.htag.specs.declared.kind.TagKind.TheVariants as which
@@ -45,21 +45,15 @@ pub nothing_taken : {S : Type 0} (gives : S → Item → Result (Unit {0}) Refus
     → Takes gives table start text (placed at (chars [])) taken names s (Ok tt) s t
 nothing_taken gives table start text taken at names s t h = subst (λ (x : List ℕ). Takes gives table start text (placed at x) taken names s (Ok tt) s t) (sym chars-nil) (takes_nothing gives table start text taken names s t h)
 
--- and then a part of it; the same of a run of plain bytes
-module _ {S : Type 0} (gives : S → Item → Result (Unit {0}) Refusal → S → Type 0) (table : Entities) (start : RawKind) (text : List Placed) (taken : List Event) (at count : ℕ) (run : List ℕ) (before names : Texts) (old mid new : S) (t next : Tokenizer) (answer : Result ℕ Refusal) (none : count ≡ 0) (grows : Grows before names) where
-  nothing_first : (part : ℕ → List Placed) (whole : List Placed) (answer : Result ℕ Refusal) → Takes gives table start text [] taken before old (Ok tt) mid t
-      → ((fed : List Placed) (events : List Event) → HasTaken table start t before fed events → MatchResult answer (λ n. Takes gives table start fed (part n) events names mid (Ok tt) new next) (λ e. Takes gives table start fed whole events names mid (Err e) new next))
-      → MatchResult answer (λ n. Takes gives table start text (part n) taken names old (Ok tt) new next) (λ e. Takes gives table start text whole taken names old (Err e) new next)
-  nothing_first part whole (Ok n) nothing then = part_taken gives table start text [] taken before names grows old mid t (part n) (part n) refl (Ok tt) new next nothing then
-  nothing_first part whole (Err e) nothing then = part_taken gives table start text [] taken before names grows old mid t whole whole refl (Err e) new next nothing then
+-- and then a part of it
+module _ {S : Type 0} (gives : S → Item → Result (Unit {0}) Refusal → S → Type 0) (table : Entities) (start : RawKind) (text : List Placed) (taken : List Event) (at count : ℕ) (run : List ℕ) (before names : Texts) (old mid new : S) (t next : Tokenizer) (none : count ≡ 0) (grows : Grows before names)
+    (first : Takes gives table start text (placed at (chars (take count run))) taken before old (Ok tt) mid t) where
+  nothing : Takes gives table start text [] taken before old (Ok tt) mid t
+  nothing = subst (λ (x : List ℕ). Takes gives table start text (placed at x) taken before old (Ok tt) mid t) (ap (λ (n : ℕ). chars (take n run)) none ∙ chars-nil) first
 
-  pub nothing_then : Takes gives table start text (placed at (chars (take count run))) taken before old (Ok tt) mid t
-      → ((fed : List Placed) (events : List Event) → HasTaken table start t before fed events → TakesPart gives table start fed at run events names mid answer new next) → TakesPart gives table start text at run taken names old answer new next
-  nothing_then first = nothing_first (λ n. placed at (chars (take n run))) (placed at (chars run)) answer (subst (λ (x : List ℕ). Takes gives table start text (placed at x) taken before old (Ok tt) mid t) (ap (λ (n : ℕ). chars (take n run)) none ∙ chars-nil) first)
-
-  pub nothing_before : Takes gives table start text (placed at (take count run)) taken before old (Ok tt) mid t
-      → ((fed : List Placed) (events : List Event) → HasTaken table start t before fed events → TakesFront gives table start fed at run events names mid answer new next) → TakesFront gives table start text at run taken names old answer new next
-  nothing_before first = nothing_first (λ n. placed at (take n run)) (placed at run) answer (subst (λ (n : ℕ). Takes gives table start text (placed at (take n run)) taken before old (Ok tt) mid t) none first)
+  pub nothing_then : (answer : Result ℕ Refusal) → ((fed : List Placed) (events : List Event) → HasTaken table start t before fed events → TakesPart gives table start fed at run events names mid answer new next) → TakesPart gives table start text at run taken names old answer new next
+  nothing_then (Ok n) = let part = placed at (chars (take n run)) in part_taken gives table start text [] taken before names grows old mid t part part refl (Ok tt) new next nothing
+  nothing_then (Err e) = let whole = placed at (chars run) in part_taken gives table start text [] taken before names grows old mid t whole whole refl (Err e) new next nothing
 
 -- A BARE TAG IN A RUN
 

@@ -24,7 +24,8 @@ use Rattle.htoken.specs.Declaration.{IsOpened}
 use Rattle.htoken.specs.HeldFrom.{from_of}
 use Rattle.htoken.specs.Raw.{is_raw, name_ends}
 use Rattle.htoken.specs.Tag.{tag_mark}
-use Rattle.htoken.specs.Tokenizing.{Reads, holds, in_ambiguous_ampersand, IsHeld, IsIn, IsInMarkup, IsInMarkedTag, IsInReference, less, doctype_token, next_place}
+use Rattle.htoken.specs.Token.{doctype_token}
+use Rattle.htoken.specs.Tokenizing.{Reads, holds, in_ambiguous_ampersand, IsHeld, IsIn, IsInMarkup, IsInMarkedTag, IsInReference, less, next_place}
 use Rattle.htoken.proofs.Declaring.{nothing_at_end}
 use Rattle.htoken.proofs.Holding.{held_place}
 use Rattle.htoken.proofs.InData.{in_data}

@@ -1,5 +1,5 @@
 -- A character of a comment or a doctype, and the input's end in it.
-use Rattle.htoken.proofs.Names.{◌≡◌, ℕ, Bool, true, false, List, [], ◌∷◌, ◌++◌, sym, refl, ap, ◌∙◌, subst, Result, Ok, Err, Option, append_assoc, append-nil, ParseError, Placed, RawKind, Refusal, Memory, Texts, Hands, Entities, WalkEnds, Raised, State, Tokenizer, Tok, Span, Event, gives_item, Standing, next, has_refused, IsDataSpan, Reads, Takes, IsHeld, IsIn, IsLast, IsInMarkup, EndsHeld, held_ran_out, held_ended, Keeps, GivesSpan, WalkTakes, walk_ran_out, sink_refused, walk_goes_on, walk_ended, raises, Handed, HandedMeans}
+use Rattle.htoken.proofs.Names.{◌≡◌, ℕ, Bool, true, false, List, [], ◌∷◌, ◌++◌, sym, refl, ap, ◌∙◌, subst, Result, Ok, Err, Option, append_assoc, append-nil, ParseError, Placed, RawKind, Refusal, Memory, Texts, Hands, Entities, WalkEnds, Raised, State, Tokenizer, Tok, Span, Item, Event, gives_item, Standing, next, has_refused, IsDataSpan, Reads, Takes, IsHeld, IsIn, IsLast, IsInMarkup, EndsHeld, held_ran_out, held_ended, Keeps, GivesSpan, EndsDoctype, doctype_ran_out, doctype_given, doctype_token, WalkTakes, walk_ran_out, sink_refused, walk_goes_on, walk_ended, raises, Handed, HandedMeans}
 use Rattle.names.specs.declared.raw.RawKind.TheVariants as kind
 use Rattle.htoken.proofs.Going.{stays_both, ran_out, goes_on, span_ends}
 use Rattle.htoken.proofs.Handing.{span_given}
@@ -102,3 +102,11 @@ module _ {S W V : Type 0} (gives : S → ParseError → Result (Unit {0}) Refusa
         (i.opens end [] [] value (i.own ++ e.reported)
         (subst (λ (x : List Placed). IsOne end [] x value (i.own ++ e.reported)) (sym (append-nil i.body)) e.is_span)))))) k.2)
         (span_given gives gives_token names mid.raised.errors.items g.token (token value mid.at) old s answer (g.means names) g.handed)
+
+-- a doctype has ended: what is so where it was handed over is so, or memory ran out
+module _ {S : Type 0} (gives : S → Item → Result (Unit {0}) Refusal → S → Type 0) (P : Result (Unit {0}) Refusal → S → Type 0) (old : S) where
+  pub doctype_ends : (mid new : Tokenizer) (s : S) (answer : Result (Unit {0}) Refusal) → (answer ≡ Err Memory → P answer old)
+      → (GivesSpan gives (λ names token. HandedMeans names token (doctype_token mid.doctype.found mid.at)) mid old answer new s → P answer s)
+      → EndsDoctype gives mid old answer new s → P answer s
+  doctype_ends mid new s answer out given (doctype_ran_out is same) = subst (P answer) (sym same) (out is)
+  doctype_ends mid new s answer out given (doctype_given g) = given g

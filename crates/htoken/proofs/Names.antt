@@ -50,10 +50,10 @@ pub use Rattle.htoken.specs.Run.{run_tokens, run_events, replaced, IsSpread, is_
 pub use Rattle.htoken.specs.Script.{FollowsAll, level_number, is_letter_of, HasFront, level_after, mark_after, mark_by_dash, mark_by_bang, IsMark, is_dashes, is_less_bang_dash, is_read, next_word, word_after, read_back, IsWord, idle}
 pub use Rattle.htoken.specs.Spans.{IsSpan, raw_character, raw_reference, raw_end, IsSpanOf, has_references, IsRawSpan}
 pub use Rattle.htoken.specs.Standing.{next, Standing, at_start, standing_after, after_tokens}
-pub use Rattle.htoken.specs.Steps.{KeepsIf, IsFollowed, Stays, Keeps, BeginsBogus, GivesSpan, is_out, start_given, EndsTag, start_ended, end_ended, cut_ran_out, cut_given, TakesFront, TakesPart, KeepsFaults, held_in_raw, script_errors, CutsOff, BeginsTag, Holds, BeginsReference, Finds, HoldsInReference, EndsStartTag, start_ran_out, tag_ran_out}
+pub use Rattle.htoken.specs.Steps.{KeepsIf, IsFollowed, Stays, Keeps, BeginsBogus, GivesSpan, is_out, start_given, EndsTag, start_ended, end_ended, cut_ran_out, cut_given, TakesFront, TakesPart, KeepsFaults, held_in_raw, script_errors, CutsOff, EndsDoctype, doctype_ran_out, doctype_given, BeginsTag, Holds, BeginsReference, Finds, HoldsInReference, EndsStartTag, start_ran_out, tag_ran_out}
 pub use Rattle.htoken.specs.Tag.{start_tag, end_tag, unfinished, tag_mark, IsTag}
-pub use Rattle.htoken.specs.Token.{Span, Event, Tok, is_tag, Handed, Alone, WithNames, token_in, HandedMeans, Item, ItemToken, ItemError, Gives, Reports, Char, Mean, gives_item, Doctype, Start, End, Comment, TokenMeans, Eof, piece_span}
-pub use Rattle.htoken.specs.Tokenizing.{Stands, Reads, IsHeld, IsIn, after_place, next_from, next_place, HasTaken, holds, Takes, take_ran_out, take_refused, take_sink_refused, take_took, IsLast, IsBetween, less, doctype_token, EndsHeld, held_ran_out, held_ended, later_errors, IsInMarkup, in_ambiguous_ampersand, IsInMarkedTag, IsInAmbiguousAmpersand, Finishes, finish_ran_out, finish_sink_refused, finish_took, IsAfterRawLess, IsInRawName, IsInReference}
+pub use Rattle.htoken.specs.Token.{Span, Event, Tok, is_tag, Handed, Alone, WithNames, token_in, HandedMeans, Item, ItemToken, ItemError, Gives, Reports, Char, Mean, gives_item, Doctype, doctype_token, Start, End, Comment, TokenMeans, Eof, piece_span}
+pub use Rattle.htoken.specs.Tokenizing.{Stands, Reads, IsHeld, IsIn, after_place, next_from, next_place, HasTaken, holds, Takes, take_ran_out, take_refused, take_sink_refused, take_took, IsLast, IsBetween, less, EndsHeld, held_ran_out, held_ended, later_errors, IsInMarkup, in_ambiguous_ampersand, IsInMarkedTag, IsInAmbiguousAmpersand, Finishes, finish_ran_out, finish_sink_refused, finish_took, IsAfterRawLess, IsInRawName, IsInReference}
 pub use Rattle.htoken.specs.Tokens.{events_of, has_refused, tokens_in, IsRefused, AreFront, eof_of, tokens_of, spans_text, Cut, errors_in, is_refused_tag, Tokens}
 pub use Rattle.htoken.specs.declared.declaration.Opened.{Opened}
 pub use Rattle.htoken.specs.declared.declaration.Opens.{Opens}

@@ -20,9 +20,9 @@ pub use Rattle.htoken.specs.Run.{IsSpread, TakesSpread, is_not_null, replaced, r
 pub use Rattle.htoken.specs.Script.{FollowsAll, HasFront, idle, is_dashes, is_less_bang_dash, is_read, level_after, level_number, mark_after, word_after}
 pub use Rattle.htoken.specs.Spans.{has_references}
 pub use Rattle.htoken.specs.Standing.{start_kind}
-pub use Rattle.htoken.specs.Steps.{KeepsIf, BeginsBogus, BeginsReference, BeginsTag, CutsOff, EndsSpan, EndsStartTag, EndsTag, Finds, GivesSpan, Holds, HoldsInReference, IsFollowed, KeepsFaults, TakesFront, TakesPart, held_in_raw, script_errors}
+pub use Rattle.htoken.specs.Steps.{KeepsIf, BeginsBogus, BeginsReference, BeginsTag, CutsOff, EndsDoctype, EndsSpan, EndsStartTag, EndsTag, Finds, GivesSpan, Holds, HoldsInReference, IsFollowed, KeepsFaults, TakesFront, TakesPart, held_in_raw, script_errors}
 pub use Rattle.htoken.specs.Token.{Alone, Char, Comment, End, Eof, Event, Gives, Handed, HandedMeans, Reports, WithNames, gives_item, place_of}
-pub use Rattle.htoken.specs.Tokenizing.{EndsHeld, Finishes, HasTaken, IsInAmbiguousAmpersand, Reads, Takes, after_place, doctype_token, less}
+pub use Rattle.htoken.specs.Tokenizing.{EndsHeld, Finishes, HasTaken, IsInAmbiguousAmpersand, Reads, Takes, after_place, less}
 pub use Rattle.htoken.specs.declared.token.Token.{Token as Given}
 pub use Rattle.htoken.specs.declared.token.Token.TheVariants.{Char as CharToken}
 pub use Rattle.htoken.specs.declared.tokenizer.Tokenizer.{Tokenizer as Reader}

@@ -111,6 +111,7 @@ impl<'t> Tokenizer<'t> {
     }
 
     /// Tag open state: takes a start tag from a run of plain characters, as far as its attributes are plain. Returns how many bytes it took.
+    #[inline(never)]
     pub(crate) fn plain_start_tag<S: TokenSink>(
         &mut self,
         names: &mut Names,

@@ -1,7 +1,7 @@
 //! What follows `<!`, comments and doctypes (HTML Standard, `#bogus-comment-state` to `#bogus-doctype-state`).
 
 ghost use Rattle.std.specs.Prelude.{◌≡◌, ◌∷◌, List, [], true, OnOk, length, MatchResult};
-ghost use Rattle.htoken.specs.Vocabulary.{all, BeginsBogus, Character, Comment, doctype_token, Entities, error, Event, gives_item, GivesSpan, HandedMeans, is_plain_in_bogus, Kind, place, Reader, Reads, Takes, TakesNext, Texts};
+ghost use Rattle.htoken.specs.Vocabulary.{all, BeginsBogus, Character, Comment, EndsDoctype, Entities, error, Event, gives_item, GivesSpan, HandedMeans, is_plain_in_bogus, Kind, place, Reader, Reads, Takes, TakesNext, Texts};
 
 use crate::declaration::{Opened, Opens, plain_front};
 use crate::sink::TokenSink;
@@ -148,21 +148,11 @@ impl<'t> Tokenizer<'t> {
 
     /// Hands over the doctype that has ended.
     pub(crate) fn end_doctype<S: TokenSink>(&mut self, sink: &mut S) -> Result<(), Refusal>
-        ensures { GivesSpan (gives_item S.gives S.gives_token) (λ names token. HandedMeans names token (doctype_token self.old.doctype.found self.old.at))
-            self.old sink.old result self.new sink.new }
+        ensures { EndsDoctype (gives_item S.gives S.gives_token) self.old sink.old result self.new sink.new }
     {
         let walk = mem::replace(&mut self.doctype, DoctypeWalk::new(self.alloc));
-        let doctype = walk.into_doctype();
+        let doctype = Box::new(self.alloc, walk.into_doctype())?;
         let at = self.at;
-        self.end_span(
-            Token::Doctype {
-                name: doctype.name,
-                public_id: doctype.public_id,
-                system_id: doctype.system_id,
-                forced: doctype.forced,
-                at,
-            },
-            sink,
-        )
+        self.end_span(Token::Doctype { doctype, at }, sink)
     }
 }

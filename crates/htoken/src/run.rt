@@ -239,7 +239,7 @@ impl<'t> Tokenizer<'t> {
         self.take_fronts(names, &run[..count], at, sink)
     }
 
-    /// Takes a run, a front of what is left of it after another. Returns its length.
+    /// Takes a run: a start tag at its front, and then a front of what is left of it after another. Returns its length.
     fn take_fronts<S: TokenSink>(
         &mut self,
         names: &mut Names,
@@ -253,12 +253,33 @@ impl<'t> Tokenizer<'t> {
         ensures all { IfOk result (λ count. count ≡ length run.now) }
         ensures grows { Grows names.old names.new }
     {
-        let mut count = 0;
+        let mut count = self.tag_at_front(names, run, at, sink)?;
         while count < run.len() {
             let more = self.take_front(names, &run[count..], at + count as u64, sink)?;
             count += more;
         }
         Ok(count)
+    }
+
+    /// Takes a start tag at the front of a run, as far as its attributes are plain, if a `<` is held. Returns how many bytes it took.
+    #[inline(always)]
+    fn tag_at_front<S: TokenSink>(
+        &mut self,
+        names: &mut Names,
+        run: &str,
+        at: u64,
+        sink: &mut S,
+    ) -> Result<usize, Refusal>
+        requires plain { list_all is_plain_byte run.now ≡ true }
+        requires within { at + length run.now ≤ MAX_INPUT }
+        ensures takes { FeedsFront (gives_item S.gives S.gives_token) self.old names.old at run.now names.new sink.old result sink.new self.new }
+        ensures few { IfOk result (λ count. count ≤ length run.now) }
+        ensures grows { Grows names.old names.new }
+    {
+        match self.state {
+            State::Less => self.plain_start_tag(names, run, at, sink),
+            _ => Ok(0),
+        }
     }
 
     /// Takes one character or more at the front of a run, and returns how many.
@@ -280,14 +301,8 @@ impl<'t> Tokenizer<'t> {
             State::Text => self.run_of_text(run, at, sink),
             State::Comment => self.run_of_comment(names, run, at, sink),
             State::Tag => self.run_of_tag(names, run, at, sink),
-            State::Less => {
-                let count = self.plain_start_tag(names, run, at, sink)?;
-                if count > 0 {
-                    return Ok(count);
-                }
-                self.take_first(names, run, at, sink)
-            }
-            // With an arm of its own, so that the state is not asked for again.
+            // With arms of their own, so that the state is not asked for again.
+            State::Less => self.take_first(names, run, at, sink),
             State::LessSolidus(_) => self.take_first(names, run, at, sink),
             _ => self.take_first(names, run, at, sink),
         }

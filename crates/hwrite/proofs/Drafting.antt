@@ -72,7 +72,7 @@ attributes_are names [] (t ∷ ts) h = absurd h
 attributes_are names (a ∷ attrs) [] h = absurd h
 
 token_is : (names : Texts) (token : Token) (tok : Tok) → TokenMeans names token tok → tok_of names token ≡ tok
-token_is names (code.Doctype name public system forced at) tok h = sym h
+token_is names (code.Doctype doctype at) tok h = sym h
 token_is names (code.Start name attrs closing at) tok h =
     ap₂ (λ (n : List ℕ) (ts : List (List ℕ × List ℕ)). Start n ts closing at) (get_or_from_slice_get names name h.0 [] h.2) (attributes_are names attrs.items h.1 h.3) ∙ sym h.4
 token_is names (code.End name at) tok h = ap (λ (n : List ℕ). End n at) (get_or_from_slice_get names name h.0 [] h.1) ∙ sym h.2

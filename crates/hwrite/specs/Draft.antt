@@ -7,10 +7,9 @@ use Rattle.names.specs.declared.error.ParseError.{ParseError}
 use Rattle.names.specs.declared.refusal.Refusal.{Refusal}
 use Rattle.names.specs.declared.refusal.Refusal.TheVariants.{Memory}
 use Rattle.names.specs.Names.{Texts, text_of}
-use Rattle.hmarkup.specs.DoctypeWalk.{text_of as text_if_any}
 use Rattle.htoken.specs.declared.token.Token.{Token}
 use Rattle.htoken.specs.declared.token.Token.TheVariants as code
-use Rattle.htoken.specs.Token.{Handed, Alone, WithNames, Tok, Doctype, Start, End, Comment, Char, Eof}
+use Rattle.htoken.specs.Token.{Handed, Alone, WithNames, Tok, doctype_token, Start, End, Comment, Char, Eof}
 use Rattle.hwrite.specs.declared.draft.Draft.{Draft}
 use Rattle.hwrite.specs.Quoted.{escaped}
 use Rattle.hwrite.specs.TokenLines.{Line, Characters, joined, line_of, line_text}
@@ -25,7 +24,7 @@ abbrev pub attribute_of : Texts → Attr → List ℕ × List ℕ
 attribute_of names attr = (text_of names attr.name, string_bytes attr.value)
 
 abbrev pub tok_of : Texts → Token → Tok
-tok_of names (code.Doctype name public system forced at) = Doctype (text_if_any name) (text_if_any public) (text_if_any system) forced at
+tok_of names (code.Doctype doctype at) = doctype_token doctype.value at
 tok_of names (code.Start name attrs closing at) = Start (text_of names name) (map (attribute_of names) attrs.items) closing at
 tok_of names (code.End name at) = End (text_of names name) at
 tok_of names (code.Comment text at) = Comment (string_bytes text) at

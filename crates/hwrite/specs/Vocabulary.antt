@@ -11,7 +11,7 @@ pub use Rattle.hparse.specs.TokenRun.{TokensMean}
 pub use Rattle.hparse.specs.Unrefused.{IsUnrefused, IsUnrefusedText}
 pub use Rattle.hserialize.specs.Calls.{Writes, counted_unless}
 pub use Rattle.hserialize.specs.Output.{IsFlushed, WritesText}
-pub use Rattle.htoken.specs.Token.{Char, Comment, Doctype, End, Start, Tok}
+pub use Rattle.htoken.specs.Token.{Char, Comment, Doctype, End, Start, Tok, doctype_token}
 pub use Rattle.hwrite.specs.Command.{name_of}
 pub use Rattle.hwrite.specs.Context.{AllowsContext, case_in}
 pub use Rattle.hwrite.specs.Counted.{CalledOnce, failures_of, inner_of, taken_of}

@@ -4,9 +4,10 @@ ghost use Rattle.std.specs.Prelude.{◌≡◌, ◌++◌, [], codes, decimal, if�
 ghost use Rattle.std.specs.List.{flat_map};
 ghost use Rattle.std.specs.String.{string_bytes};
 ghost use Rattle.hmarkup.specs.DoctypeWalk.{text_of as text_if_any};
-ghost use Rattle.hwrite.specs.Vocabulary.{Doctype, Start, Char, attribute_of, attribute_words, quoted, quoted_or_none, line_of, line_text, table_of, text_of, tok_of};
+ghost use Rattle.hwrite.specs.Vocabulary.{doctype_token, Start, Char, attribute_of, attribute_words, quoted, quoted_or_none, line_of, line_text, table_of, text_of, tok_of};
 
 use crate::quoted::{push_escaped, push_quoted};
+use hmarkup::Doctype;
 use htoken::Token;
 use itoa::Buffer;
 use names::{Attr, NameId, Names};
@@ -50,24 +51,17 @@ fn end_line(text: &mut String, words: &str, has_words: bool) -> Result<(), Alloc
 }
 
 /// Writes the line of a doctype.
-fn push_doctype(
-    text: &mut String,
-    name: &Option<String>,
-    public_id: &Option<String>,
-    system_id: &Option<String>,
-    forced: bool,
-    at: u64,
-) -> Result<(), AllocError>
-    ensures { OnOk result (string_bytes text.new ≡ string_bytes text.old
-        ++ line_text (line_of (Doctype (text_if_any name.now) (text_if_any public_id.now) (text_if_any system_id.now) forced at))) }
+fn push_doctype(text: &mut String, doctype: &Doctype, at: u64) -> Result<(), AllocError>
+    ensures { OnOk result (string_bytes text.new
+        ≡ string_bytes text.old ++ line_text (line_of (doctype_token doctype.now at))) }
 {
     begin_line(text, at, "doctype ")?;
-    push_optional(text, name)?;
+    push_optional(text, &doctype.name)?;
     text.push(' ')?;
-    push_optional(text, public_id)?;
+    push_optional(text, &doctype.public_id)?;
     text.push(' ')?;
-    push_optional(text, system_id)?;
-    end_line(text, " quirks", forced)
+    push_optional(text, &doctype.system_id)?;
+    end_line(text, " quirks", doctype.forced)
 }
 
 /// The text of a name of this table.
@@ -150,13 +144,7 @@ pub fn push_line(text: &mut String, token: &Token, names: Option<&Names>) -> Res
         ≡ string_bytes text.old ++ line_text (line_of (tok_of (table_of names.entry) token.now))) }
 {
     match token {
-        Token::Doctype {
-            name,
-            public_id,
-            system_id,
-            forced,
-            at,
-        } => push_doctype(text, name, public_id, system_id, *forced, *at),
+        Token::Doctype { doctype, at } => push_doctype(text, doctype, *at),
         Token::Start {
             name,
             attrs,

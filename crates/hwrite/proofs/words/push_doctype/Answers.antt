@@ -12,7 +12,7 @@ whole old opened named spaced public_named public_spaced ids all name public sys
 pub returns : goal.returns
 unfolding encode_utf8
 returns c =
-    on_ok_weaker c.end_line.result
+    rw (← c.doctype.view_is) (on_ok_weaker c.end_line.result
     (whole (string_bytes c.args.text.now) (string_bytes c.begin_line.new.text) (string_bytes c.push_optional.new.text) (string_bytes c.push.new.self) (string_bytes c.push_optional-2.new.text) (string_bytes c.push-2.new.self)
-    (string_bytes c.push_optional-3.new.text) (string_bytes c.end_line.new.text) (text_of c.args.name.now) (text_of c.args.public_id.now) (text_of c.args.system_id.now) c.args.forced c.args.at
-    c.in_ok-begin_line.ensures c.in_ok-push_optional.ensures c.in_ok-push.ensures.bytes c.in_ok-push_optional-2.ensures c.in_ok-push-2.ensures.bytes c.in_ok-push_optional-3.ensures) c.end_line.ensures
+    (string_bytes c.push_optional-3.new.text) (string_bytes c.end_line.new.text) (text_of c.doctype.inside.name) (text_of c.doctype.inside.public_id) (text_of c.doctype.inside.system_id) c.doctype.inside.forced c.args.at
+    c.in_ok-begin_line.ensures c.in_ok-push_optional.ensures c.in_ok-push.ensures.bytes c.in_ok-push_optional-2.ensures c.in_ok-push-2.ensures.bytes c.in_ok-push_optional-3.ensures) c.end_line.ensures)

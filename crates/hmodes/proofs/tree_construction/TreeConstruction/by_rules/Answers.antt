@@ -1,34 +1,37 @@
 use Rattle.hmodes.proofs.Vocabulary.{sym, subst, Ok, numbers, FlowGives, Rule, state_of, token_of, Answer}
 use Rattle.hmodes.proofs.Between.{orderly-kept, orderly-head}
-use Rattle.hmodes.proofs.Looping.{goes-from, goes-on, goes-lower, goes-out, goes-wrong, wrong-chain}
+use Rattle.hmodes.proofs.Looping.{goes-from, goes-out, goes-wrong, chain-again, wrong-chain}
 use Rattle.hmodes.proofs.tree_construction.TreeConstruction.by_rules.Goals as goal
 
-pub loop-self-init : goal.loop-self-init
-loop-self-init c = goes-from c.args.at (token_of c.args.token.now) (state_of c.args.self.now) c.requires
-
 pub rule-requires-clause-kept : goal.rule-requires-clause-kept
-rule-requires-clause-kept c = orderly-kept numbers (state_of c.loop-self.self) c.loop-self.invariant.orderly
+rule-requires-clause-kept c = let s = state_of c.args.self.now in orderly-kept numbers s (goes-from c.args.at (token_of c.args.token.now) s c.requires).orderly
 
 pub rule-requires-clause-head : goal.rule-requires-clause-head
-rule-requires-clause-head c = orderly-head numbers (state_of c.loop-self.self) c.loop-self.invariant.orderly
+rule-requires-clause-head c = let s = state_of c.args.self.now in orderly-head numbers s (goes-from c.args.at (token_of c.args.token.now) s c.requires).orderly
 
 pub returns-in_err-rule : goal.returns-in_err-rule
 returns-in_err-rule c =
-    wrong-chain c.args.at (token_of c.args.token.now) (state_of c.args.self.now) c.from_residual.result c.in_err-rule.field-0.0 (state_of c.rule.new.self) c.from_residual.ensures.1
-    (goes-wrong c.args.at (token_of c.args.token.now) (state_of c.args.self.now) (token_of c.loop-self.token) (state_of c.loop-self.self) c.in_err-rule.field-0.0 c.loop-self.invariant c.in_err-rule.ensures)
+    let t = token_of c.args.token.now in
+    let s = state_of c.args.self.now in
+    wrong-chain c.args.at t s c.from_residual.result c.in_err-rule.field-0.0 (state_of c.rule.new.self) c.from_residual.ensures.1
+    (goes-wrong c.args.at t s t s c.in_err-rule.field-0.0 (goes-from c.args.at t s c.requires) c.in_err-rule.ensures)
 
 pub returns-in-Done : goal.returns-in-Done
 returns-in-Done c =
-    let rule = subst (λ (f : Answer). FlowGives (Ok f) (token_of c.rule.new.token) (state_of c.rule.new.self) (Rule numbers c.args.at (token_of c.loop-self.token) (state_of c.loop-self.self))) c.in-Done.is c.in_ok-rule.ensures in
-    goes-out c.args.at (token_of c.args.token.now) (state_of c.args.self.now) (token_of c.loop-self.token) (state_of c.loop-self.self) (state_of c.rule.new.self) c.end.result (state_of c.end.new.self) c.loop-self.invariant rule
-    (c.end.ensures (token_of c.loop-self.token) (sym c.is_self_closing-closing.ensures))
+    let t = token_of c.args.token.now in
+    let s = state_of c.args.self.now in
+    let rule = subst (λ (f : Answer). FlowGives (Ok f) (token_of c.rule.new.token) (state_of c.rule.new.self) (Rule numbers c.args.at t s)) c.in-Done.is c.in_ok-rule.ensures in
+    goes-out c.args.at t s t s (state_of c.rule.new.self) c.end.result (state_of c.end.new.self) (goes-from c.args.at t s c.requires) rule (c.end.ensures t (sym c.is_self_closing-closing.ensures))
 
-pub loop-self-smaller : goal.loop-self-smaller
-loop-self-smaller c =
-    let rule = subst (λ (f : Answer). FlowGives (Ok f) (token_of c.rule.new.token) (state_of c.rule.new.self) (Rule numbers c.args.at (token_of c.loop-self.token) (state_of c.loop-self.self))) c.in-Again.is c.in_ok-rule.ensures in
-    goes-lower c.args.at (token_of c.args.token.now) (state_of c.args.self.now) (token_of c.loop-self.token) (state_of c.loop-self.self) (token_of c.rule.new.token) (state_of c.rule.new.self) c.loop-self.invariant rule
+pub returns-in-Again : goal.returns-in-Again
+returns-in-Again c =
+    let t = token_of c.args.token.now in
+    let s = state_of c.args.self.now in
+    let rule = subst (λ (f : Answer). FlowGives (Ok f) (token_of c.rule.new.token) (state_of c.rule.new.self) (Rule numbers c.args.at t s)) c.in-Again.is c.in_ok-rule.ensures in
+    chain-again c.args.at t s _ _ _ _ rule c.by_further_rules.ensures
 
-pub loop-self-preserved : goal.loop-self-preserved
-loop-self-preserved c =
-    let rule = subst (λ (f : Answer). FlowGives (Ok f) (token_of c.rule.new.token) (state_of c.rule.new.self) (Rule numbers c.args.at (token_of c.loop-self.token) (state_of c.loop-self.self))) c.in-Again.is c.in_ok-rule.ensures in
-    goes-on c.args.at (token_of c.args.token.now) (state_of c.args.self.now) (token_of c.loop-self.token) (state_of c.loop-self.self) (token_of c.rule.new.token) (state_of c.rule.new.self) c.loop-self.invariant rule
+pub by_further_rules-requires : goal.by_further_rules-requires
+by_further_rules-requires c =
+    let t = token_of c.args.token.now in
+    let s = state_of c.args.self.now in
+    (t, s, c.requires, subst (λ (f : Answer). FlowGives (Ok f) (token_of c.rule.new.token) (state_of c.rule.new.self) (Rule numbers c.args.at t s)) c.in-Again.is c.in_ok-rule.ensures)

@@ -11,8 +11,8 @@ returns-in_err-count-in-Less-clause-takes g c =
 
 pub returns-else-count-gt0-clause-takes : goal.returns-else-count-gt0-clause-takes
 returns-else-count-gt0-clause-takes g c = λ table start before text taken grows h.
-    nothing_then (gives_item g.S.ErrorSink.gives g.S.TokenSink.gives_token) table start text taken c.args.at c.in_ok-count-in-Less.count c.args.run.now c.tag_open.new.names c.part_of_markup.new.names _ _ _ _ _ _
-    (omega (arith, c.if-count-gt0.false)) c.part_of_markup.ensures.grows (c.in_ok-count-in-Less.ensures.takes table start before text taken grows h)
+    nothing_then (gives_item g.S.ErrorSink.gives g.S.TokenSink.gives_token) table start text taken c.args.at c.in_ok-count-in-Less.count c.args.run.now c.tag_open.new.names c.part_of_markup.new.names _ _ _ _ _
+    (omega (arith, c.if-count-gt0.false)) c.part_of_markup.ensures.grows (c.in_ok-count-in-Less.ensures.takes table start before text taken grows h) _
     (λ fed events has. c.part_of_markup.ensures.takes table start c.tag_open.new.names fed events (grows_not _) has)
 
 pub returns-in-Text-clause-grows : goal.returns-in-Text-clause-grows
