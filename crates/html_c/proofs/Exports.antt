@@ -8,7 +8,7 @@ use Rattle.hwrite.specs.declared.command.Task.{Task}
 use Rattle.hwrite.specs.declared.command.Task.TheVariants as task
 use Rattle.hwrite.proofs.Tasks.{parsed_printed}
 use Rattle.html_c.specs.Exports.{GivesText, GivesNone, comes_to_none, GivesNoRows, no_rows, prints}
-use Rattle.html_c.specs.Given.{IsCommand, escaping_told}
+use Rattle.html_c.specs.Given.{IsCommand, escaping_told, may_be_in}
 use Rattle.html_c.specs.Page.{GivesErrors, GivesPage, GivesWanted, Parts, error_row, wants_told}
 use Rattle.html_c.specs.Trees.{parsed_parts}
 use Rattle.html_c.specs.declared.fault.CallFault.TheVariants as fault
@@ -46,6 +46,11 @@ module _ (input : List ℕ) (given : Given) (opts : ParseOptions) (tells : Tells
     pub no_parse : (refusal : Refusal) → ComesToParse opts context input (Err refusal) → GivesNoRows input given (fault.Refused refusal)
     no_parse refusal why = no_rows opts refusal tells (subst (λ (c : Option (List ℕ)). ComesToParse opts c input (Err refusal)) is why) refl
 
+-- the task Write is one of every input
+writes_in : (context : Option (List ℕ)) → may_be_in 3 context ≡ true
+writes_in (Some name) = refl
+writes_in None = refl
+
 module _ (input : List ℕ) (given : Given) (parsed : Parsed) (h : GivesParse input given parsed) where
   -- memory ran out for what was to be made of a parse
   pub no_memory : (refusal : Refusal) → refusal ≡ Memory → GivesNoRows input given (fault.Refused refusal)
@@ -65,7 +70,7 @@ module _ (input : List ℕ) (given : Given) (parsed : Parsed) (h : GivesParse in
       how = how;
       opts = h.opts;
       task_is = refl;
-      placed = refl;
+      placed = writes_in (context_told given.context.now);
       how_is = how_is;
       tells = h.tells;
       text_is = printed;

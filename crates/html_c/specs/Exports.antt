@@ -32,7 +32,7 @@ pub record GivesText (number : ℕ) (input : List ℕ) (given : Given) (text : L
   pub how : Escaping
   pub opts : ParseOptions
   pub task_is : task_told number ≡ Some task
-  pub placed : may_be_in task (context_told given.context.now) ≡ true
+  pub placed : may_be_in number (context_told given.context.now) ≡ true
   pub how_is : escaping_told given.escaping ≡ Some how
   pub tells : Tells given opts
   pub text_is : prints task how given opts input (Ok text)
@@ -41,7 +41,7 @@ pub record GivesText (number : ℕ) (input : List ℕ) (given : Given) (text : L
 pub data GivesNone (number : ℕ) (input : List ℕ) (given : Given) (why : CallFault) : Type 0 where
   no_command : NoCommand number given why → GivesNone number input given why
   comes_to_none : (task : Task) (how : Escaping) (opts : ParseOptions) (refusal : Refusal) → task_told number ≡ Some task
-      → may_be_in task (context_told given.context.now) ≡ true → escaping_told given.escaping ≡ Some how → Tells given opts
+      → may_be_in number (context_told given.context.now) ≡ true → escaping_told given.escaping ≡ Some how → Tells given opts
       → ComesToNone (prints task how given opts) input refusal → why ≡ fault.Refused refusal → GivesNone number input given why
 
 -- The text is written where it fits, and its length is answered; or why there is none, and nothing is written.
