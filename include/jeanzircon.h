@@ -8,7 +8,7 @@
  * opened, and it makes nothing that is to be freed. What the plain C makes is: a jz_doc by jz_free, a jz_feeder by jz_end or jz_drop,
  * texts, tables and files by free().
  * What is written. Each call writes its answer. Where all has room, jz_text and jz_table also write to `output`, jz_tree to `rows` and
- * `words`, jz_page to these and, where wanted, to `errors` and `text`; where not, or at any other status, to none of them.
+ * `words`, jz_page to these and, where wanted, to `errors`, `text` and `origins`; where not, or at any other status, to none of them.
  * Units. Lengths and places are bytes, from 0. Texts are UTF-8 and end with no NUL.
  * Errors. Every call on an input returns a status: 0, a refusal, or a fault of the call. A refusal of the input has its place.
  * Threads. Any number of threads may call at once. They may share the input, the options and the lists, which no call writes to, and no
@@ -235,28 +235,37 @@ typedef struct jz_error {
     uint32_t code; /* a jz_error_code */
 } jz_error;
 
+/* How a node came to be, as jz_page writes it. */
+typedef struct jz_origin {
+    uint64_t at;        /* the first byte of the token in whose step it was made; of a text, its first character */
+    uint32_t in_source; /* 1 where that token is its own: an element's start tag, a comment, a doctype, a text's characters; 0 of an element
+                           that was made again, or that the token implied, as html, head, body and tbody */
+    uint32_t again_of;  /* the number of the element that it was made again of: reconstructed, or by the adoption agency; or JZ_NONE */
+} jz_origin;
+
 /* What jz_page makes beside the tree: a sum of these, or 0. */
-enum { JZ_WANT_ERRORS = 1, JZ_WANT_TEXT = 2 };
+enum { JZ_WANT_ERRORS = 1, JZ_WANT_TEXT = 2, JZ_WANT_ORIGINS = 4 };
 
 /* How a call of jz_page went. A length is answered whether there was room or not; that of a part that is not wanted is 0. */
 typedef struct jz_page_answer {
     uint32_t status; /* this and the next two as in jz_answer */
     uint32_t detail;
     uint64_t at;
-    uint64_t nodes;  /* the nodes of the tree */
+    uint64_t nodes;  /* the nodes of the tree: its rows, and where they are wanted its origins */
     uint64_t words;  /* the bytes of their words */
     uint64_t errors; /* the parse errors */
     uint64_t text;   /* the bytes of the HTML */
 } jz_page_answer;
 
-/* Makes the tree of an input, and its parse errors and its HTML where they are wanted, all by one parse.
+/* Makes the tree of an input, and where they are wanted its parse errors, its HTML and how its nodes came to be, all by one parse.
  *
- * Promised: rows and words are those of jz_tree, `errors` has a row for each line of JZ_ERRORS, in the same order, and `text` is that of
- * JZ_WRITE. Where the status is not JZ_OK, nothing is written to any room; at JZ_TOO_SHORT the answer has the rooms that are needed.
- * Required, and not checked: as at jz_text, of all four rooms; `error_room` counts rows. No two of them overlap. */
+ * Promised: rows and words are those of jz_tree, `errors` has a row for each line of JZ_ERRORS, in the same order, `text` is that of
+ * JZ_WRITE, and `origins` has as many rows as `rows`, in the same order. Where the status is not JZ_OK, nothing is written to any room; at
+ * JZ_TOO_SHORT the answer has the rooms that are needed.
+ * Required, and not checked: as at jz_text, of all five rooms; `error_room` and `origin_room` count rows. No two of them overlap. */
 uint32_t jz_page(uint32_t wants, const uint8_t *input, size_t length, const jz_options *options, jz_row *rows, size_t row_room,
                  uint8_t *words, size_t word_room, jz_error *errors, size_t error_room, uint8_t *text, size_t text_room,
-                 jz_page_answer *answer);
+                 jz_origin *origins, size_t origin_room, jz_page_answer *answer);
 
 /* Writes the flat form of a table of character references to the beginning of `output`, if `room` is enough. `entities` is as in
  * jz_options. The flat form is read in far less time than JSON: make it once, and hand it in as the table of each call.
@@ -288,6 +297,8 @@ JZ_IS(jz_layout_of_page_answer, sizeof(jz_page_answer) == 48 && JZ_HAS(jz_page_a
       && JZ_HAS(jz_page_answer, words, 24, 8) && JZ_HAS(jz_page_answer, errors, 32, 8) && JZ_HAS(jz_page_answer, text, 40, 8));
 JZ_IS(jz_layout_of_row, sizeof(jz_row) == 20 && JZ_HAS(jz_row, number, 0, 4) && JZ_HAS(jz_row, kind, 4, 4)
       && JZ_HAS(jz_row, parent, 8, 4) && JZ_HAS(jz_row, first_child, 12, 4) && JZ_HAS(jz_row, next, 16, 4));
+JZ_IS(jz_layout_of_origin, sizeof(jz_origin) == 16 && JZ_HAS(jz_origin, at, 0, 8) && JZ_HAS(jz_origin, in_source, 8, 4)
+      && JZ_HAS(jz_origin, again_of, 12, 4));
 JZ_IS(jz_layout_of_error, sizeof(jz_error) == 16 && JZ_HAS(jz_error, at, 0, 8) && JZ_HAS(jz_error, code, 8, 4));
 #undef JZ_HAS
 #undef JZ_IS
@@ -365,8 +376,8 @@ static inline const char *jz_detail_name(const jz_answer *answer) { return jz_de
 
 static inline const char *jz_page_detail_name(const jz_page_answer *answer) { return jz_detail_of(answer->status, answer->detail); }
 
-/* A tree and its parse errors in the caller's memory, made by jz_parse or jz_make_page and freed by jz_free. It lends its words and errors
- * until it is freed; several threads may read it at once. Its fields are its own business, but for `root` and the last two. */
+/* A tree and its parse errors in the caller's memory, made by jz_parse, jz_parse_places or jz_make_page and freed by jz_free. It lends its
+ * words and errors until it is freed; several threads may read it at once. Its fields are its own business, but for `root` and the last two. */
 typedef struct jz_node {
     uint32_t kind, parent, first_child, next;
     size_t words, end;
@@ -378,6 +389,7 @@ typedef struct jz_doc {
     uint32_t count;
     uint32_t root; /* the document, or a fragment's root, an element without name and attributes */
     uint8_t *words;
+    uint64_t *places; /* by number; null where they were not asked for */
     jz_error *errors; /* in the order of the input */
     size_t error_count;
 } jz_doc;
@@ -484,6 +496,7 @@ static inline void jz_free(jz_doc *doc) {
     length = doc->length;
     free(doc->nodes);
     free(doc->words);
+    free(doc->places);
     free(doc->errors);
     memset(doc, 0, sizeof *doc);
     jz_give_back(length);
@@ -515,24 +528,48 @@ static inline uint32_t jz_index(jz_doc *doc, const jz_row *rows, size_t count, s
     return JZ_OK;
 }
 
+/* No place in an input. */
+#define JZ_NOWHERE ((uint64_t)-1)
+
+/* Finds the place of each node: where its own token begins, or the place of the element that it was made again of, which has a lower number. */
+static inline uint32_t jz_find_places(jz_doc *doc, const jz_row *rows, const jz_origin *origins, size_t count) {
+    uint32_t number, *again_of = (uint32_t *)malloc(doc->count * sizeof *again_of);
+    size_t i;
+    doc->places = (uint64_t *)malloc(doc->count * sizeof *doc->places);
+    if (again_of && doc->places) {
+        memset(again_of, 0xFF, doc->count * sizeof *again_of); /* JZ_NONE and JZ_NOWHERE */
+        memset(doc->places, 0xFF, doc->count * sizeof *doc->places);
+        for (i = 0; i < count; i++) {
+            again_of[rows[i].number] = origins[i].again_of;
+            if (origins[i].in_source) doc->places[rows[i].number] = origins[i].at;
+        }
+        for (number = 0; number < doc->count; number++)
+            if (again_of[number] < number) doc->places[number] = doc->places[again_of[number]];
+    }
+    number = again_of && doc->places ? JZ_OK : JZ_MEMORY;
+    free(again_of);
+    return number;
+}
+
 /* How many rows, and how many bytes of words and of text, there is room for. */
 typedef struct jz_rooms {
-    size_t rows, words, errors, text;
+    size_t rows, words, errors, text, origins;
 } jz_rooms;
 
 /* A page made by way of these rooms. */
-static inline uint32_t jz_page_in(jz_rooms rooms, const uint8_t *input, size_t length, const jz_options *options, jz_doc *doc,
+static inline uint32_t jz_page_in(jz_rooms rooms, uint32_t wants, const uint8_t *input, size_t length, const jz_options *options, jz_doc *doc,
                                   uint8_t **text, jz_page_answer *answer) {
-    uint32_t wants = JZ_WANT_ERRORS | (text ? JZ_WANT_TEXT : 0), status = JZ_MEMORY;
+    uint32_t status = JZ_MEMORY;
     jz_row *rows = (jz_row *)malloc((rooms.rows + 1) * sizeof *rows);
+    jz_origin *origins = (jz_origin *)malloc((rooms.origins + 1) * sizeof *origins);
     uint8_t *html = (uint8_t *)malloc(rooms.text + 1);
     doc->length = length;
     doc->root = options->context.length ? 1 : 0;
     doc->words = (uint8_t *)malloc(rooms.words + 1);
     doc->errors = (jz_error *)malloc((rooms.errors + 1) * sizeof *doc->errors);
-    if (rows && html && doc->words && doc->errors)
+    if (rows && origins && html && doc->words && doc->errors)
         status = jz_page(wants, input, length, options, rows, rooms.rows, doc->words, rooms.words, doc->errors, rooms.errors, html,
-                         rooms.text, answer);
+                         rooms.text, origins, rooms.origins, answer);
     if (status == JZ_OK) {
         doc->words = (uint8_t *)jz_cut(doc->words, (size_t)answer->words);
         doc->errors = (jz_error *)jz_cut(doc->errors, (size_t)answer->errors * sizeof *doc->errors);
@@ -540,11 +577,40 @@ static inline uint32_t jz_page_in(jz_rooms rooms, const uint8_t *input, size_t l
         jz_give_back(length);
         status = jz_index(doc, rows, (size_t)answer->nodes, (size_t)answer->words);
     }
+    if (status == JZ_OK && wants & JZ_WANT_ORIGINS) status = jz_find_places(doc, rows, origins, (size_t)answer->nodes);
     if (status == JZ_OK && text) *text = (uint8_t *)jz_cut(html, (size_t)answer->text);
     else free(html);
+    free(origins);
     free(rows);
     if (status != JZ_OK) jz_free(doc);
     return status == JZ_MEMORY ? jz_page_fault(answer, status) : status;
+}
+
+/* What jz_make_page makes, with what is wanted, JZ_WANT_TEXT where `text` is not null. */
+static inline uint32_t jz_make_parts(uint32_t wants, const uint8_t *input, size_t length, const jz_options *options, jz_doc *doc,
+                                     uint8_t **text, jz_page_answer *answer) {
+    jz_rooms rooms = { 64 + length / 4, 256 + length * 2, 64 + length / 4, 0, 0 };
+    uint32_t status;
+    if (doc) memset(doc, 0, sizeof *doc);
+    if (text) *text = NULL;
+    if (!answer) return JZ_NULL;
+    if (!doc || !jz_is_whole(input, options)) return jz_page_fault(answer, JZ_NULL);
+    if (text) rooms.text = 1024 + length * 6;
+    if (wants & JZ_WANT_ORIGINS) rooms.origins = rooms.rows;
+    status = jz_page_in(rooms, wants, input, length, options, doc, text, answer);
+    if (status == JZ_MEMORY) {
+        memset(&rooms, 0, sizeof rooms);
+        status = jz_page_in(rooms, wants, input, length, options, doc, text, answer);
+    }
+    if (status == JZ_TOO_SHORT) {
+        rooms.rows = (size_t)answer->nodes;
+        rooms.words = (size_t)answer->words;
+        rooms.errors = (size_t)answer->errors;
+        rooms.text = (size_t)answer->text;
+        rooms.origins = wants & JZ_WANT_ORIGINS ? rooms.rows : 0;
+        status = jz_page_in(rooms, wants, input, length, options, doc, text, answer);
+    }
+    return status;
 }
 
 /* Parses an input into a tree with its parse errors, and of the same parse makes the text of JZ_WRITE where `text` is not null, for the
@@ -552,32 +618,14 @@ static inline uint32_t jz_page_in(jz_rooms rooms, const uint8_t *input, size_t l
  * enough for nearly every page, but not where there are very many nodes or errors for the length, as in "<p><p><p>". */
 static inline uint32_t jz_make_page(const uint8_t *input, size_t length, const jz_options *options, jz_doc *doc, uint8_t **text,
                                     jz_page_answer *answer) {
-    jz_rooms rooms = { 64 + length / 4, 256 + length * 2, 64 + length / 4, 0 };
-    uint32_t status;
-    if (doc) memset(doc, 0, sizeof *doc);
-    if (text) *text = NULL;
-    if (!answer) return JZ_NULL;
-    if (!doc || !jz_is_whole(input, options)) return jz_page_fault(answer, JZ_NULL);
-    if (text) rooms.text = 1024 + length * 6;
-    status = jz_page_in(rooms, input, length, options, doc, text, answer);
-    if (status == JZ_MEMORY) {
-        memset(&rooms, 0, sizeof rooms);
-        status = jz_page_in(rooms, input, length, options, doc, text, answer);
-    }
-    if (status == JZ_TOO_SHORT) {
-        rooms.rows = (size_t)answer->nodes;
-        rooms.words = (size_t)answer->words;
-        rooms.errors = (size_t)answer->errors;
-        rooms.text = (size_t)answer->text;
-        status = jz_page_in(rooms, input, length, options, doc, text, answer);
-    }
-    return status;
+    return jz_make_parts(JZ_WANT_ERRORS | (text ? JZ_WANT_TEXT : 0), input, length, options, doc, text, answer);
 }
 
-/* Parses an input into a tree with its parse errors, and no more; in the answer `length` is that of the words. */
-static inline uint32_t jz_parse(const uint8_t *input, size_t length, const jz_options *options, jz_doc *doc, jz_answer *answer) {
+/* What jz_parse makes, with what is wanted. */
+static inline uint32_t jz_parse_for(uint32_t wants, const uint8_t *input, size_t length, const jz_options *options, jz_doc *doc,
+                                    jz_answer *answer) {
     jz_page_answer page;
-    uint32_t status = jz_make_page(input, length, options, doc, NULL, answer ? &page : NULL);
+    uint32_t status = jz_make_parts(wants, input, length, options, doc, NULL, answer ? &page : NULL);
     if (!answer) return status;
     answer->status = page.status;
     answer->detail = page.detail;
@@ -585,6 +633,16 @@ static inline uint32_t jz_parse(const uint8_t *input, size_t length, const jz_op
     answer->length = page.words;
     answer->nodes = page.nodes;
     return status;
+}
+
+/* Parses an input into a tree with its parse errors, and no more; in the answer `length` is that of the words. */
+static inline uint32_t jz_parse(const uint8_t *input, size_t length, const jz_options *options, jz_doc *doc, jz_answer *answer) {
+    return jz_parse_for(JZ_WANT_ERRORS, input, length, options, doc, answer);
+}
+
+/* The same, with the places of the nodes (jz_place), which make the parse dearer. */
+static inline uint32_t jz_parse_places(const uint8_t *input, size_t length, const jz_options *options, jz_doc *doc, jz_answer *answer) {
+    return jz_parse_for(JZ_WANT_ERRORS | JZ_WANT_ORIGINS, input, length, options, doc, answer);
 }
 
 /* The most bytes that an input has. */
@@ -670,6 +728,13 @@ static inline uint32_t jz_kind(const jz_doc *doc, uint32_t node) { return node <
 static inline uint32_t jz_parent(const jz_doc *doc, uint32_t node) { return node < doc->count ? doc->nodes[node].parent : JZ_NONE; }
 static inline uint32_t jz_first_child(const jz_doc *doc, uint32_t node) { return node < doc->count ? doc->nodes[node].first_child : JZ_NONE; }
 static inline uint32_t jz_next(const jz_doc *doc, uint32_t node) { return node < doc->count ? doc->nodes[node].next : JZ_NONE; }
+
+/* The byte of the input from which a node comes: where its start tag, its comment, its doctype or its first character begins; of an element
+ * that was made again, as where formatting elements are misnested, the start tag of the first of these. JZ_NOWHERE of what the parser added,
+ * of the root, and of each node where the tree is not of jz_parse_places. */
+static inline uint64_t jz_place(const jz_doc *doc, uint32_t node) {
+    return doc->places && node < doc->count ? doc->places[node] : JZ_NOWHERE;
+}
 
 /* The node after this one in tree order, of those inside `top`; JZ_NONE after the last. */
 static inline uint32_t jz_after(const jz_doc *doc, uint32_t node, uint32_t top) {

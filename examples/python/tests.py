@@ -103,6 +103,16 @@ def element_outline(top):
     return "".join(f"{line}\n" for line in lines)
 
 
+def begins(node, page):
+    """Whether a node is such as begins at its place in the bytes of a page, or an element without one."""
+    if node.place is None:
+        return node.kind == "element"
+    first, text = page[node.place:node.place + 2], node.data or "\ufffd"
+    if node.kind == "text":
+        return first[:1] in b"&\r" or text[0] == "\ufffd" or page[node.place:].startswith(text[0].encode())
+    return first.lower() == f"<{node.name[0]}".encode() if node.kind == "element" else first in (b"<!", b"<?", b"</")
+
+
 def top_of(page):
     """The nodes that stand in what to_etree gives."""
     return page.root if page.root.kind == "fragment" else next(page.iter("html"))
@@ -136,6 +146,19 @@ class Pages(unittest.TestCase):
         self.assertEqual((node.text(), node.children[0].text(), node.children[4].text(), node.children[4].data), ("123©4", "1", "", "d"))
         self.assertEqual([list(it) for it in node.children[:1]], [[]])
         self.assertIs(node.page, page)
+
+    def test_places(self):
+        text = b"\xef\xbb\xbf<!doctype html><p><b>x<p>y<table>z<tr><!--c--></table><IMAGE>&lt;"
+        page, begin = jz.parse(text), text.index
+        again = ("b", begin(b"<b"))
+        self.assertEqual([(it.name or it.data, it.place) for it in page],
+                         [("html", 3), ("html", None), ("head", None), ("body", None), ("p", begin(b"<p")), again, ("x", begin(b"x")), ("p", begin(b"<p>y")), again,
+                          ("y", begin(b"y<")), again, ("z", begin(b"z")), ("table", begin(b"<ta")), ("tbody", None), ("tr", begin(b"<tr")), ("c", begin(b"<!--")),
+                          again, ("img", begin(b"<IM")), ("<", begin(b"&"))])
+        self.assertEqual((page.root.place, jz.parse(b"").root.place), (None, None))
+        self.assertEqual((page, pickle.loads(pickle.dumps(page.node(7))).place), (jz.parse(text), page.node(7).place))
+        part = jz.parse(b"<td>\xff<td/>", context=b"tr", bad_bytes=1, entities=b"")
+        self.assertEqual([(it.kind, it.place) for it in (part.root, *part)], [("fragment", None), ("element", 0), ("text", 4), ("element", 5)])
 
     def test_what_is_in_what(self):
         page = jz.parse(PAGE)
@@ -221,11 +244,11 @@ class Pages(unittest.TestCase):
 
     def test_threads(self):
         page, wrong = jz.parse(PAGE * 20), []
-        wanted = page.links(), page.root.text(), [it.attributes for it in page.iter("p")], outline(page)
+        wanted = page.links(), page.root.text(), [it.attributes for it in page.iter("p")], outline(page), [it.place for it in jz.parse(PAGE * 20)]
 
         def work():
             for _ in range(20):
-                came = page.links(), page.root.text(), [it.attributes for it in page.iter("p")], outline(page)
+                came = page.links(), page.root.text(), [it.attributes for it in page.iter("p")], outline(page), [it.place for it in page]
                 wrong.append(came != wanted or jz.parse(PAGE * 20) != page)
 
         threads = [threading.Thread(target=work) for _ in range(4)]
@@ -270,6 +293,7 @@ class Stored(unittest.TestCase):
                     self.assertEqual(made.errors, jz.errors(page, **settings))
                     self.assertEqual(made.error_counts, collections.Counter(it.code for it in made.errors))
                     self.assertEqual(element_outline(jz.to_etree(made)), outline(top_of(made)))
+                    self.assertEqual([it for it in made if not begins(it, page)], [])
                 except jz.Refused as refused:
                     came = f"refused: {refused}\n"
                 self.assertEqual(came, wanted)

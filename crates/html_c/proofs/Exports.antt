@@ -1,19 +1,23 @@
 -- What a call gives, from what was given and what came of the input.
-use Rattle.html_c.proofs.Names.{◌≡◌, ℕ, Bool, true, List, [], Option, None, Some, Ok, Err, map, ap, refl, subst, sym, if◌then◌else◌, Refusal, Memory, ParseOptions, Parsed, name_of, AllowsContext, context_of, prints_of, ComesToNone, none_for_memory, Tells, context_told, ComesToParse, GivesParse, Given}
+use Rattle.html_c.proofs.Names.{◌≡◌, ℕ, Bool, true, List, [], Option, None, Some, Ok, Err, map, ap, ◌∙◌, refl, subst, sym, if◌then◌else◌, Refusal, Memory, text_of, Forest, children_of, ParseOptions, Parsed, name_of, AllowsContext, context_of, prints_of, ComesToNone, none_for_memory, Tells, context_told, ComesToParse, GivesParse, Given}
 use Rattle.std.proofs.Common.{false}
+use Rattle.hparse.specs.Parsing.{TellsPlaces, places_in}
+use Rattle.hparse.specs.declared.origins.Origin.{Origin}
 use Rattle.hserialize.specs.declared.escaping.Escaping.{Escaping}
 use Rattle.hwrite.specs.Prints.{parsed_text}
 use Rattle.hwrite.specs.declared.command.Command.{Command}
 use Rattle.hwrite.specs.declared.command.Task.{Task}
 use Rattle.hwrite.specs.declared.command.Task.TheVariants as task
+use Rattle.hwrite.proofs.Printed.{children_are}
 use Rattle.hwrite.proofs.Tasks.{parsed_printed}
-use Rattle.html_c.specs.Exports.{GivesText, GivesNone, comes_to_none, GivesNoRows, no_rows, prints}
+use Rattle.html_c.specs.Exports.{GivesText, GivesNone, case_given, comes_to_none, GivesNoRows, no_rows, prints}
 use Rattle.html_c.specs.Given.{IsCommand, escaping_told, may_be_in}
-use Rattle.html_c.specs.Page.{GivesErrors, GivesPage, GivesWanted, Parts, error_row, wants_told}
-use Rattle.html_c.specs.Trees.{parsed_parts}
+use Rattle.html_c.specs.Page.{GivesErrors, GivesPage, GivesOrigins, GivesWanted, Parts, error_row, wants_told}
+use Rattle.html_c.specs.Rows.{origins_of}
+use Rattle.html_c.specs.Trees.{parsed_parts, origins_by}
 use Rattle.html_c.specs.declared.fault.CallFault.TheVariants as fault
 use Rattle.html_c.specs.declared.page.Wants.{Wants}
-use Rattle.html_c.proofs.Trees.{some_rows}
+use Rattle.html_c.proofs.Trees.{same_origins, some_rows}
 
 -- a command's task is of an input in a context that is allowed
 pub allowed : (t : Task) (context told : Option (List ℕ)) → context ≡ told → AllowsContext told → AllowsContext (context_of t context)
@@ -40,8 +44,8 @@ module _ (input : List ℕ) (given : Given) (opts : ParseOptions) (tells : Tells
         (subst (λ (c : Option (List ℕ)). ComesToNone (prints_of command.escaping command.task c opts) input refusal) is.context why) refl
 
   module _ (context : Option (List ℕ)) (is : context ≡ context_told given.context.now) where
-    pub a_parse : (parsed : Parsed) → ComesToParse opts context input (Ok parsed) → GivesParse input given parsed
-    a_parse parsed its = record { opts = opts; tells = tells; answers = subst (λ (c : Option (List ℕ)). ComesToParse opts c input (Ok parsed)) is its }
+    pub a_parse : (places : Bool) (parsed : Parsed) → opts.places ≡ places → ComesToParse opts context input (Ok parsed) → GivesParse input given places parsed
+    a_parse places parsed asks its = record { opts = opts; tells = tells; asks = asks; answers = subst (λ (c : Option (List ℕ)). ComesToParse opts c input (Ok parsed)) is its }
 
     pub no_parse : (refusal : Refusal) → ComesToParse opts context input (Err refusal) → GivesNoRows input given (fault.Refused refusal)
     no_parse refusal why = no_rows opts refusal tells (subst (λ (c : Option (List ℕ)). ComesToParse opts c input (Err refusal)) is why) refl
@@ -51,7 +55,7 @@ writes_in : (context : Option (List ℕ)) → may_be_in 3 context ≡ true
 writes_in (Some name) = refl
 writes_in None = refl
 
-module _ (input : List ℕ) (given : Given) (parsed : Parsed) (h : GivesParse input given parsed) where
+module _ (input : List ℕ) (given : Given) (places : Bool) (parsed : Parsed) (h : GivesParse input given places parsed) where
   -- memory ran out for what was to be made of a parse
   pub no_memory : (refusal : Refusal) → refusal ≡ Memory → GivesNoRows input given (fault.Refused refusal)
   no_memory refusal is = no_rows h.opts refusal h.tells (none_for_memory is) refl
@@ -60,6 +64,24 @@ module _ (input : List ℕ) (given : Given) (parsed : Parsed) (h : GivesParse in
   errors_where false = refl
   errors_where true =
       let (parse, made, parses, told) = h.answers in record { opts = h.opts; tells = h.tells; parse = parse; parses = parses; rows_are = ap (map error_row) made.errors }
+
+  origins_where : (wants : Bool) (kept : Option (List Origin)) → h.opts.places ≡ wants → TellsPlaces h.opts (case_given given) input kept
+      → GivesWanted wants (GivesOrigins input given) (origins_by kept (children_of parsed.root parsed.tree.trees))
+  origins_where false None asks told = refl
+  origins_where false (Some list) asks (told, its) = absurd cc
+  origins_where true None asks told = absurd cc
+  origins_where true (Some list) asks (told, its) =
+      let (parse, made, parses, all) = h.answers in
+      record {
+        opts = h.opts;
+        tells = h.tells;
+        parse = parse;
+        parses = parses;
+        list = list;
+        origins = its;
+        rows_are = sym (same_origins (text_of parsed.names) list (children_of parsed.root parsed.tree.trees))
+            ∙ ap (λ (f : Forest (List ℕ)). origins_of list f) (children_are (case_given given) parsed parse made);
+      }
 
   module _ (how : Escaping) (how_is : escaping_told given.escaping ≡ Some how) where
     text_where : (wants : Bool) → prints task.Write how given h.opts input (Ok (parsed_text how task.Write None parsed))
@@ -76,14 +98,15 @@ module _ (input : List ℕ) (given : Given) (parsed : Parsed) (h : GivesParse in
       text_is = printed;
     }
 
-    pub a_page : (number : ℕ) (wants : Wants) (page : Parts) → wants_told number ≡ Some wants
+    pub a_page : (number : ℕ) (wants : Wants) (page : Parts) → wants_told number ≡ Some wants → places ≡ wants.origins
         → page ≡ parsed_parts parsed wants.errors (if wants.text then parsed_text how task.Write None parsed else []) → GivesPage number input given page
-    a_page number wants page wants_are is = rw is record {
+    a_page number wants page wants_are asks is = rw is record {
       wants = wants;
       how = how;
       wants_are = wants_are;
       how_is = how_is;
-      tree = some_rows input given parsed h;
+      tree = some_rows input given places parsed h;
       errors = errors_where wants.errors;
       text = text_where wants.text (parsed_printed how task.Write h.opts (context_told given.context.now) input parsed h.answers);
+      origins = origins_where wants.origins (places_in parsed) (h.asks ∙ asks) (let (parse, made, parses, told) = h.answers in told);
     }

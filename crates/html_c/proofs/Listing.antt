@@ -1,13 +1,16 @@
 -- The nodes of a tree, listed one after another.
-use Rattle.html_c.proofs.Names.{◌≡◌, ℕ, ◌<◌, List, [], ◌∷◌, ◌++◌, Some, refl, sym, ap, ap₂, append-nil, ◌∙◌, flat_map, text_of, Forest, none, tree, children_of, spelled, kind_in, kind_number, link_to, rows_of, words_of}
+use Rattle.html_c.proofs.Names.{◌≡◌, ℕ, ◌<◌, ◌+◌, List, [], ◌∷◌, ◌++◌, Some, refl, sym, ap, ap₂, append-nil, ◌∙◌, flat_map, length, map, text_of, Forest, none, tree, children_of, spelled, kind_in, kind_number, link_to, rows_of, words_of}
+use Rattle.std.proofs.Common.{length-append, suc}
 use Rattle.std.proofs.lemmas.Grind.{flat_map-append}
+use Rattle.std.proofs.lemmas.List.{map-append}
 use Rattle.std.specs.Option.{option_map, option_map_or}
 use Rattle.names.specs.Names.{Texts}
 use Rattle.hnodes.specs.Edits.{AreCounted}
 use Rattle.hnodes.specs.Passed.{order}
 use Rattle.hnodes.specs.Spots.{what_of}
 use Rattle.hserialize.proofs.Seen.{Seen, seen}
-use Rattle.html_c.specs.Rows.{node_words_at, row_at, row_of}
+use Rattle.html_c.specs.Rows.{node_words_at, origin_at, origins_of, row_at, row_of}
+use Rattle.hparse.specs.declared.origins.Origin.{Origin}
 use Rattle.html_c.specs.declared.answer.NodeRow.{NodeRow}
 
 -- the row of a node, and its words
@@ -44,3 +47,13 @@ pub all_listed : (names : Texts) (made : ℕ) (f : Forest ℕ) (root : ℕ) (nod
 all_listed names made f root nodes left counted h are none_left =
     let s = seen made f counted root h in let all = sym (append-nil nodes) ∙ ap (λ l. nodes ++ l) (sym none_left) ∙ are in
     (ap (flat_map (node_row f)) all ∙ rows_listed made f root root (children_of root f) s, ap (flat_map (node_bytes names f)) all ∙ words_listed made f root names root (children_of root f) s)
+
+pub all_told : (list : List Origin) (f : Forest ℕ) (nodes left : List ℕ) → nodes ++ left ≡ order f → left ≡ [] → map (origin_at list) nodes ≡ origins_of list f
+all_told list f nodes left are none_left = ap (map (origin_at list)) (sym (append-nil nodes) ∙ ap (λ l. nodes ++ l) (sym none_left) ∙ are)
+
+-- there are as many rows of origins as of nodes
+pub as_many : (list : List Origin) (p : ℕ) (f : Forest ℕ) → length (origins_of list f) ≡ length (rows_of p f)
+as_many list p none = refl
+as_many list p (tree b w kids rest) =
+    ap suc (ap length (map-append (origin_at list) (order kids) (order rest)) ∙ length-append (origins_of list kids) (origins_of list rest)
+    ∙ ap₂ (λ m n. m + n) (as_many list b kids) (as_many list p rest) ∙ sym (length-append (rows_of b kids) (rows_of p rest)))

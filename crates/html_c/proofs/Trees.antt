@@ -1,15 +1,18 @@
 -- What a reading does whose reads do not fail, and the rows of what it gives.
-use Rattle.html_c.proofs.Names.{◌≡◌, ℕ, List, [], ◌∷◌, ◌++◌, Option, Some, None, Result, Ok, Err, inl, inr, sym, subst, ap, ap₂, ◌∙◌, refl, append-nil, IsErrAnd, Refusal, Memory, text_of, Forest, none, tree, children_of, spelled, kind_in, Parsed, ParseOptions, AllowsContext, case_in, ComesToNone, none_for_memory, none_of_bytes, kind_number, link_to, rows_of, words_of, ComesToParse, GivesParse, Given}
+use Rattle.html_c.proofs.Names.{◌≡◌, ℕ, List, [], ◌∷◌, ◌++◌, Option, Some, None, Result, Ok, Err, inl, inr, sym, subst, map, ap, ap₂, ◌∙◌, refl, append-nil, Bool, IsErrAnd, Refusal, Memory, text_of, Forest, none, tree, children_of, spelled, kind_in, Parsed, ParseOptions, AllowsContext, case_in, ComesToNone, none_for_memory, none_of_bytes, kind_number, link_to, rows_of, words_of, ComesToParse, GivesParse, Given}
 use Rattle.std.specs.Prelude.{◌⊎◌}
 use Rattle.names.specs.declared.refusal.Refusal.TheVariants.{BadContext}
 use Rattle.hnodes.specs.Forest.{What, document, doctype, element, comment, text}
+use Rattle.hnodes.specs.Passed.{order}
 use Rattle.hnodes.specs.Spelled.{spelled_what}
 use Rattle.hnodes.specs.Spots.{first_or}
 use Rattle.hparse.specs.Parse.{Parses}
+use Rattle.hparse.specs.declared.origins.Origin.{Origin}
 use Rattle.hparse.specs.Parsing.{AnswersParse}
 use Rattle.hparse.specs.Reader.{ReadsInput, reading_ran_out, reading_failed, reading_stopped, read_to_end}
 use Rattle.hwrite.proofs.Printed.{children_are}
 use Rattle.html_c.specs.Exports.{GivesRows, case_given}
+use Rattle.html_c.specs.Rows.{origin_at, origins_of}
 use Rattle.html_c.specs.Trees.{parsed_rows, parsed_words}
 
 module _ {S : Type 0} (left : S → List ℕ) (opts : ParseOptions) (context : Option (List ℕ)) (unrefused : List ℕ → Type 0) (piece : ℕ) (source source' : S) where
@@ -53,8 +56,15 @@ module _ {N M : Type 0} (g : N → M) where
         next = link_to (same_first rest i);
       } ∷ (same_rows n kids i ++ same_rows p rest i))
 
-pub some_rows : (input : List ℕ) (given : Given) (parsed : Parsed) → GivesParse input given parsed → GivesRows input given (parsed_rows parsed) (parsed_words parsed)
-some_rows input given parsed h =
+  same_order : (f : Forest N) → order (spelled g f) ≡ order f
+  same_order none = refl
+  same_order (tree n w kids rest) = λ i. n ∷ (same_order kids i ++ same_order rest i)
+
+  pub same_origins : (list : List Origin) (f : Forest N) → origins_of list (spelled g f) ≡ origins_of list f
+  same_origins list f = ap (map (origin_at list)) (same_order f)
+
+pub some_rows : (input : List ℕ) (given : Given) (places : Bool) (parsed : Parsed) → GivesParse input given places parsed → GivesRows input given (parsed_rows parsed) (parsed_words parsed)
+some_rows input given places parsed h =
     let (parse, is, parses, told) = h.answers in let its = case_given given in
     record {
       opts = h.opts;

@@ -1,12 +1,16 @@
--- A tree as rows of numbers, and as the words of its nodes.
-use Rattle.std.specs.Prelude.{ℕ, List, [], ◌∷◌, ◌++◌, flat_map, Option, None, Some}
+-- A tree as rows of numbers, as the words of its nodes, and as rows of where they came from.
+use Rattle.std.specs.Prelude.{if◌then◌else◌, ℕ, List, [], ◌∷◌, ◌++◌, flat_map, map, slice_get, Option, None, Some}
 use Rattle.std.specs.Option.{option_map_or}
 use Rattle.hnodes.specs.Forest.{Attribute, What, document, doctype, element, comment, text, Forest, none, tree}
+use Rattle.hnodes.specs.Passed.{order}
 use Rattle.hnodes.specs.Spelled.{spelled_what}
 use Rattle.hnodes.specs.Spots.{first_or, parent_of, first_child_of, kind_in, kind_of, next_of}
 use Rattle.hnodes.specs.declared.node.NodeKind.{NodeKind}
 use Rattle.hnodes.specs.declared.node.NodeKind.TheVariants as kind
+use Rattle.hparse.specs.Origins.{implied}
+use Rattle.hparse.specs.declared.origins.Origin.{Origin}
 use Rattle.html_c.specs.declared.answer.NodeRow.{NodeRow}
+use Rattle.html_c.specs.declared.answer.OriginRow.{OriginRow}
 
 -- a word with what ends it
 abbrev pub ended : List ℕ → List ℕ
@@ -74,3 +78,15 @@ rows_of parent (tree n w children rest) = row_of n (Some parent) w children rest
 abbrev pub words_of : Forest (List ℕ) → List ℕ
 words_of none = []
 words_of (tree n w children rest) = node_words w ++ (words_of children ++ words_of rest)
+
+-- how a node came to be: the byte, whether the token there is its own, and the element that it was made again of
+abbrev pub origin_row : Origin → OriginRow
+origin_row origin = record { at = origin.at; in_source = if origin.in_source then 1 else 0; again_of = link_to origin.again_of }
+
+-- the row of a node by a list of how the nodes came to be, which has each at its number (no node is past it)
+abbrev pub origin_at : List Origin → ℕ → OriginRow
+origin_at list n = option_map_or origin_row (slice_get list n) (origin_row (implied 0))
+
+-- those of trees, in tree order
+abbrev pub origins_of : {N : Type 0} → List Origin → Forest N → List OriginRow
+origins_of list f = map (origin_at list) (order f)

@@ -14,9 +14,9 @@ pub use Rattle.html_c.specs.Fitted.{IsFitted, text_of, text_of as written_in}
 pub use Rattle.html_c.specs.Given.{AreSameButTables, GivesNothing, HasLimits, HasLists, IsCommand, IsPiece, IsSize, NoCommand, NoEscaping, NoSize, Tells, Unmet, bad_told, context_told, escaping_told, keys_told, may_be_in, task_told}
 pub use Rattle.html_c.specs.Page.{AnswersPage, GivesNoPage, GivesPage, all_fit, error_row, page_answer, page_fault, parts, put_parts, wants_told}
 pub use Rattle.html_c.specs.Room.{PutsAt, fault_answer, fit_status, greatest, put_over, room_answer}
-pub use Rattle.html_c.specs.Rows.{attribute_words, ended, kind_number, link_to, row_at, rows_of, words_at, words_of}
+pub use Rattle.html_c.specs.Rows.{attribute_words, ended, kind_number, link_to, origin_at, origin_row, origins_of, row_at, rows_of, words_at, words_of}
 pub use Rattle.html_c.specs.Table.{AnswersTable, ReadsTable}
-pub use Rattle.html_c.specs.Trees.{ComesToParse, GivesParse, parsed_parts, parsed_rows, parsed_words}
+pub use Rattle.html_c.specs.Trees.{ComesToParse, GivesParse, parsed_parts, parsed_origins, parsed_rows, parsed_words}
 pub use Rattle.html_c.specs.Version.{version}
 pub use Rattle.html_c.specs.declared.answer.Given.{Given as Told}
 pub use Rattle.hwrite.specs.Command.{name_of}

@@ -66,6 +66,19 @@ pub struct ErrorRow {
     pub code: u32,
 }
 
+/// How a node came to be.
+#[repr(C)]
+#[derive(Clone, Copy)]
+pub struct OriginRow {
+    /// The first byte of the token in whose step it was made; of a text, its first character.
+    pub at: u64,
+    /// 1 where that token is its own: an element's start tag, a comment, a doctype, a text's characters. 0 where it was made again, or
+    /// the token implied it.
+    pub in_source: u32,
+    /// The element that it was made again of, or 0xFFFFFFFF.
+    pub again_of: u32,
+}
+
 /// How a call for a page went. The lengths are answered whether there was room or not; that of a part that is not wanted is 0.
 #[repr(C)]
 #[derive(Clone, Copy)]
@@ -90,5 +103,6 @@ const _: () = prove!(
         && size_of::<Answer>() == 32
         && size_of::<NodeRow>() == 20
         && size_of::<ErrorRow>() == 16
+        && size_of::<OriginRow>() == 16
         && size_of::<PageAnswer>() == 48
 );

@@ -153,12 +153,12 @@ impl<'a> Given<'a> {
         })
     }
 
-    /// The lists that are given.
-    pub(crate) fn lists(&self, alloc: Global) -> Result<Lists, CallFault>
+    /// The lists that are given, for this input.
+    pub(crate) fn lists(&self, alloc: Global, input: &[u8]) -> Result<Lists, CallFault>
         requires { IsSize self.now.size }
         ensures { MatchResult result (HasLists self.now) (Unmet self.now) }
     {
-        let table = table_of(alloc, self.entities)?;
+        let table = table_of(alloc, self.entities, input)?;
         let quirks = self.quirks(alloc)?;
         Ok(Lists { table, quirks })
     }
@@ -191,12 +191,13 @@ impl<'a> Given<'a> {
         Keys::new((u128::from(self.key_high) << 64) | u128::from(self.key_low))
     }
 
-    /// The options, which lend the lists.
+    /// The options, which lend the lists, and ask for the places of nodes or not.
     pub(crate) fn options<'t>(
         &self,
         lists: &'t Lists,
         bad_bytes: BadBytes,
         limits: Limits,
+        places: bool,
     ) -> Options<'t>
         requires size { IsSize self.now.size }
         requires context { AllowsContext (context_told self.now.context.now) }
@@ -206,6 +207,7 @@ impl<'a> Given<'a> {
         requires limits { HasLimits self.now limits }
         ensures told { Tells self.now (options_of result) }
         ensures keys { result.keys ≡ keys_told self.now }
+        ensures places { result.places ≡ places }
     {
         Options {
             table: &lists.table,
@@ -213,7 +215,7 @@ impl<'a> Given<'a> {
             bad_bytes,
             limits,
             keys: self.keys(),
-            places: false,
+            places,
         }
     }
 }

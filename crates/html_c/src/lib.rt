@@ -12,6 +12,7 @@ mod given;
 mod history;
 mod input;
 pub mod laws;
+mod origins;
 mod page;
 mod room;
 mod rows;
@@ -19,7 +20,7 @@ mod table;
 mod text;
 mod tree;
 
-use crate::answer::{Answer, ErrorRow, Given, NodeRow, PageAnswer};
+use crate::answer::{Answer, ErrorRow, Given, NodeRow, OriginRow, PageAnswer};
 use crate::page::page_of;
 use crate::room::{fault_answer, page_fault, put_bytes, put_rows, put_text};
 use crate::table::table_of;
@@ -69,8 +70,9 @@ pub extern "C" fn jz_tree(
     answer.status
 }
 
-/// Makes the tree of an input, and the rows of its parse errors (1), its HTML (2) or both (3) where they are wanted, by one parse. Each
-/// part is written to the beginning of its room, where all of them fit. Returns the status, which is that of the answer.
+/// Makes the tree of an input, and where they are wanted its parse errors (1) and its HTML (2), and how its nodes came to be (4), by one
+/// parse; `wants` is the sum. Each part is written to the beginning of its room, where all of them fit. Returns the status, which is that of
+/// the answer.
 #[unsafe(no_mangle)]
 pub extern "C" fn jz_page(
     alloc: Global,
@@ -81,14 +83,15 @@ pub extern "C" fn jz_page(
     words: &mut [u8],
     errors: &mut [ErrorRow],
     text: &mut [u8],
+    origins: &mut [OriginRow],
     answer: &mut PageAnswer,
 ) -> u32
-    ensures answers { AnswersPage wants input.now given.now (parts rows.old words.old errors.old text.old)
-        (parts rows.new words.new errors.new text.new) answer.new }
+    ensures answers { AnswersPage wants input.now given.now (parts rows.old words.old errors.old text.old origins.old)
+        (parts rows.new words.new errors.new text.new origins.new) answer.new }
     ensures status { result ≡ answer.new.status }
 {
     *answer = match page_of(alloc, wants, input, given, text.len()) {
-        Ok(page) => page.put(rows, words, errors, text),
+        Ok(page) => page.put(rows, words, errors, text, origins),
         Err(fault) => page_fault(fault),
     };
     answer.status
@@ -106,7 +109,7 @@ pub extern "C" fn jz_table(
     ensures answers { AnswersTable entities.now output.old output.new answer.new }
     ensures status { result ≡ answer.new.status }
 {
-    *answer = match table_of(alloc, entities) {
+    *answer = match table_of(alloc, entities, &[]) {
         Ok(table) => put_bytes(table.as_flat(), output),
         Err(fault) => fault_answer(fault),
     };

@@ -1,13 +1,14 @@
-//! A page: the tree of an input, its parse errors as rows, and its HTML, by one parse.
+//! A page: the tree of an input, its parse errors and where its nodes came from as rows, and its HTML, by one parse.
 
 ghost use Rattle.std.specs.Prelude.{◌≡◌, ◌≤◌, if◌then◌else◌, ℕ, List, [], true, length, map, None, IfOk, MatchResult};
 ghost use Rattle.html_c.specs.Vocabulary.{Memory, parsed_text, IsFitted, all_fit, error_row, page_answer, parts, put_parts, wants_told, GivesNoPage, GivesNothing, GivesPage, parsed_parts, put_over};
 ghost use Rattle.html_c.specs.Parts.{parts_of};
 ghost use Rattle.hwrite.specs.declared.command.Task.TheVariants as task;
 
-use crate::answer::{ErrorRow, Given, NodeRow, PageAnswer};
+use crate::answer::{ErrorRow, Given, NodeRow, OriginRow, PageAnswer};
 use crate::fault::CallFault;
 use crate::fitted::Fitted;
+use crate::origins::put_origins;
 use crate::room::{put_at, status};
 use crate::rows::Rows;
 use crate::tree::parse_of;
@@ -21,6 +22,7 @@ use std::alloc::Global;
 pub(crate) struct Wants {
     pub(crate) errors: bool,
     pub(crate) text: bool,
+    pub(crate) origins: bool,
 }
 
 /// A page whose parts are counted, with as much of its text as has room.
@@ -35,10 +37,11 @@ pub(crate) struct Page {
 fn wants_of(number: u32) -> Option<Wants>
     ensures { result ≡ wants_told number }
 {
-    if number < 4 {
+    if number < 8 {
         Some(Wants {
             errors: number % 2 == 1,
-            text: number >= 2,
+            text: number / 2 % 2 == 1,
+            origins: number >= 4,
         })
     } else {
         None
@@ -132,7 +135,7 @@ pub(crate) fn page_of(
         return Err(CallFault::BadNumber);
     };
     let escaping = given.escaping()?;
-    let parsed = parse_of(alloc, input, given)?;
+    let parsed = parse_of(alloc, input, given, wants.origins)?;
     Ok(page_in(alloc, wants, escaping, parsed, room)?)
 }
 
@@ -148,15 +151,33 @@ impl Page {
         }
     }
 
+    /// How many rows of origins it has: as many as nodes, if they were asked for.
+    fn origin_count(&self) -> usize
+        ensures { result ≡ length (parts_of self.now).origins }
+    {
+        match &self.tree.parsed.places {
+            Some(_) => self.tree.nodes,
+            None => 0,
+        }
+    }
+
     /// Whether all parts fit their rooms.
-    fn fits(&self, rows: &[NodeRow], words: &[u8], errors: &[ErrorRow], text: &[u8]) -> bool
+    fn fits(
+        &self,
+        rows: &[NodeRow],
+        words: &[u8],
+        errors: &[ErrorRow],
+        text: &[u8],
+        origins: &[OriginRow],
+    ) -> bool
         requires { self.now.text.room ≡ length text.now }
-        ensures { result ≡ all_fit (parts_of self.now) (parts rows.now words.now errors.now text.now) }
+        ensures { result ≡ all_fit (parts_of self.now) (parts rows.now words.now errors.now text.now origins.now) }
     {
         self.tree.nodes <= rows.len()
             && self.tree.words <= words.len()
             && self.errors().len() <= errors.len()
             && self.text.fits(text)
+            && self.origin_count() <= origins.len()
     }
 
     /// How long the parts are, which fit or do not.
@@ -181,15 +202,18 @@ impl Page {
         words: &mut [u8],
         errors: &mut [ErrorRow],
         text: &mut [u8],
+        origins: &mut [OriginRow],
     ) -> PageAnswer
         requires { self.now.text.room ≡ length text.old }
-        ensures put { parts rows.new words.new errors.new text.new ≡ put_parts (parts_of self.now) (parts rows.old words.old errors.old text.old) }
-        ensures answer { result ≡ page_answer (all_fit (parts_of self.now) (parts rows.old words.old errors.old text.old)) (parts_of self.now) }
+        ensures put { parts rows.new words.new errors.new text.new origins.new
+            ≡ put_parts (parts_of self.now) (parts rows.old words.old errors.old text.old origins.old) }
+        ensures answer { result ≡ page_answer (all_fit (parts_of self.now) (parts rows.old words.old errors.old text.old origins.old)) (parts_of self.now) }
     {
-        let fits = self.fits(rows, words, errors, text);
+        let fits = self.fits(rows, words, errors, text, origins);
         self.tree.put(fits, rows, words);
         put_errors(fits, self.errors(), errors);
         self.text.put(fits, text);
+        put_origins(fits, &self.tree.parsed, origins);
         self.answer(fits)
     }
 }

@@ -1,6 +1,6 @@
 //! A tree as rows of numbers and as the bytes of its words, which are counted, and written where there is room.
 
-ghost use Rattle.std.specs.Prelude.{◌≡◌, ◌<◌, ◌≤◌, ◌⊎◌, true, length, flat_map, map, IfErr, IfSome, MatchResult};
+ghost use Rattle.std.specs.Prelude.{◌≡◌, ◌<◌, ◌≤◌, ◌⊎◌, true, length, flat_map, map, IfErr, MatchResult};
 ghost use Rattle.names.specs.Names.{text_of};
 ghost use Rattle.html_c.specs.Vocabulary.{Memory, PutsAt, greatest, attribute_of, spelled_attribute, what_of, attribute_words, ended, kind_number, link_to, parsed_rows, parsed_words, put_over, row_at, words_at};
 
@@ -30,8 +30,8 @@ fn put_attributes(names: &Names, attrs: &[Attr], room: &mut [u8], at: usize) -> 
 {
     let mut at = at;
     for attr in attrs {
-        let end = put_word(names.text(attr.name), room, at);
-        at = put_word(&attr.value, room, end);
+        let end = put_word(names.text(attr.name()), room, at);
+        at = put_word(attr.value(), room, end);
     }
     at
 }
@@ -64,19 +64,12 @@ fn kind_number(kind: NodeKind) -> u32
     kind as u32
 }
 
-/// The number of a link to a node of a tree, or to none.
-fn link_to(tree: &Tree, node: Option<NodeId>) -> u32
-    requires { IfSome node (λ n. n < tree.now.made) }
+/// The number of a link to a node, or to none.
+pub(crate) fn link_to(node: Option<NodeId>) -> u32
     ensures { result ≡ link_to node }
 {
-    // So the number of each node fits.
-    let made = tree.made() as usize;
     match node {
-        Some(node) => {
-            let number = node.index();
-            prove!(number < made);
-            number as u32
-        }
+        Some(node) => node.index() as u32,
         None => u32::MAX,
     }
 }
@@ -87,11 +80,11 @@ fn row_at(tree: &Tree, node: NodeId) -> NodeRow
     ensures { result ≡ row_at node tree.now.trees }
 {
     NodeRow {
-        number: link_to(tree, Some(node)),
+        number: link_to(Some(node)),
         kind: kind_number(tree.kind(node)),
-        parent: link_to(tree, tree.parent(node)),
-        first_child: link_to(tree, tree.first_child(node)),
-        next: link_to(tree, tree.next(node)),
+        parent: link_to(tree.parent(node)),
+        first_child: link_to(tree.first_child(node)),
+        next: link_to(tree.next(node)),
     }
 }
 

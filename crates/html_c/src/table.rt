@@ -31,23 +31,23 @@ fn form_of(bytes: &[u8]) -> Form
     }
 }
 
-/// The table that these bytes say.
-pub(crate) fn table_of(alloc: Global, bytes: &[u8]) -> Result<Table, CallFault>
+/// The table that these bytes say, for the look-ups of a text.
+pub(crate) fn table_of(alloc: Global, bytes: &[u8], text: &[u8]) -> Result<Table, CallFault>
     ensures { ReadsTable bytes.now result }
 {
     match form_of(bytes) {
         Form::Core => Ok(Table::core(alloc)?),
-        Form::Flat => flat_table(alloc, bytes),
+        Form::Flat => flat_table(alloc, bytes, text),
         Form::Json => json_table(alloc, bytes),
     }
 }
 
 /// The table of a flat form.
-fn flat_table(alloc: Global, bytes: &[u8]) -> Result<Table, CallFault>
+fn flat_table(alloc: Global, bytes: &[u8], text: &[u8]) -> Result<Table, CallFault>
     requires { form_of bytes.now ≡ form.Flat }
     ensures { ReadsTable bytes.now result }
 {
-    let table = Table::from_flat(alloc, bytes)?;
+    let table = Table::for_text(alloc, bytes, text)?;
     // So no other table has this form.
     let _form = table.as_flat();
     Ok(table)

@@ -27,7 +27,7 @@ pub(crate) fn text_of(
 {
     given.check_size()?;
     let command = given.command(number)?;
-    let lists = given.lists(alloc)?;
+    let lists = given.lists(alloc, input)?;
     let text = text_with(alloc, command, input, given, &lists, room);
     drop(lists);
     text
@@ -50,7 +50,7 @@ fn text_with(
 {
     let bad_bytes = given.bad_bytes()?;
     let limits = given.limits()?;
-    let options = given.options(lists, bad_bytes, limits);
+    let options = given.options(lists, bad_bytes, limits, false);
     Ok(text_in(alloc, command, input, &options, room)?)
 }
 

@@ -19,19 +19,24 @@ pub(crate) fn rows_of(alloc: Global, input: &[u8], given: &Given) -> Result<Rows
         (GivesNothing given.now.size (GivesNoRows input.now given.now)) }
 {
     given.check_size()?;
-    let parsed = parse_of(alloc, input, given)?;
+    let parsed = parse_of(alloc, input, given, false)?;
     Ok(Rows::of(parsed)?)
 }
 
-/// What an input is parsed as.
-pub(crate) fn parse_of(alloc: Global, input: &[u8], given: &Given) -> Result<Parsed, CallFault>
+/// What an input is parsed as, with the places of its nodes where they are asked for.
+pub(crate) fn parse_of(
+    alloc: Global,
+    input: &[u8],
+    given: &Given,
+    places: bool,
+) -> Result<Parsed, CallFault>
     requires { IsSize given.now.size }
-    ensures { MatchResult result (GivesParse input.now given.now) (GivesNoRows input.now given.now) }
+    ensures { MatchResult result (GivesParse input.now given.now places) (GivesNoRows input.now given.now) }
 {
     let context = given.context()?;
     let piece = given.piece()?;
-    let lists = given.lists(alloc)?;
-    let parsed = parse_with(alloc, context, piece, input, given, &lists);
+    let lists = given.lists(alloc, input)?;
+    let parsed = parse_with(alloc, context, piece, input, given, &lists, places);
     drop(lists);
     parsed
 }
@@ -44,17 +49,18 @@ fn parse_with(
     input: &[u8],
     given: &Given,
     lists: &Lists,
+    places: bool,
 ) -> Result<Parsed, CallFault>
     requires size { IsSize given.now.size }
     requires context { name_of context ≡ context_told given.now.context.now }
     requires allowed { AllowsContext (context_told given.now.context.now) }
     requires piece { (piece ≡ given.now.piece) × IsPiece piece }
     requires lists { HasLists given.now lists.now }
-    ensures { MatchResult result (GivesParse input.now given.now) (GivesNoRows input.now given.now) }
+    ensures { MatchResult result (GivesParse input.now given.now places) (GivesNoRows input.now given.now) }
 {
     let bad_bytes = given.bad_bytes()?;
     let limits = given.limits()?;
-    let options = given.options(lists, bad_bytes, limits);
+    let options = given.options(lists, bad_bytes, limits, places);
     Ok(parsed(alloc, context, piece, input, &options)?)
 }
 

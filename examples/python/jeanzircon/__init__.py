@@ -58,8 +58,8 @@ def parse(page: Bytes, **settings: Unpack[Settings]) -> Page:
     >>> page = parse(b"<td>one<td/>two", context=b"tr")
     >>> page.root.children, page.errors
     ([<element td>, <element td>], [ParseError(at=7, code='non-void-html-element-start-tag-with-trailing-solidus')])
-    >>> page.html
-    b'<td>one</td><td>two</td>'
+    >>> page.html, [it.place for it in page]
+    (b'<td>one</td><td>two</td>', [0, 4, 7, 12])
     """
     return ENGINE.parse(lent(page), given(**settings) if settings else None)
 

@@ -153,6 +153,13 @@ class Node:
         raise NotImplementedError
 
     @property
+    def place(self) -> int | None:
+        """The byte of the page from which it comes: where its start tag, its comment, its doctype or its first character begins; of an element that
+        was made again, as where formatting elements are misnested, the start tag of the first of these. None of what the parser added, as a html,
+        head, body or tbody that the page leaves out, and of the root. All of a page are found by a parse of its own, when one is first asked for."""
+        raise NotImplementedError
+
+    @property
     def attributes(self) -> dict[str, str]:
         """Those of an element, in their order, made anew at each call; get asks for one."""
         raise NotImplementedError

@@ -46,8 +46,8 @@ class PageAnswer(ctypes.Structure):
     _fields_ = [("status", NUMBER), ("detail", NUMBER), *((name, LONG) for name in ("at", "nodes", "words", "errors", "text"))]
 
 
-# A jz_row, and a jz_error.
-ROW, ERROR_ROW = struct.Struct("=5I"), _lazy.ERROR_ROW
+# A jz_row, a jz_error and a jz_origin.
+ROW, ERROR_ROW, ORIGIN_ROW = struct.Struct("=5I"), _lazy.ERROR_ROW, _lazy.ORIGIN_ROW
 
 
 def opened() -> ctypes.CDLL:
@@ -67,7 +67,7 @@ def declared(library: ctypes.CDLL) -> ctypes.CDLL:
     """The library with the types of its functions, as jeanzircon.h has them."""
     output, answer = ctypes.POINTER(ctypes.c_char), ctypes.POINTER(Answer)
     lent: list[Any] = [BYTES, SIZE, ctypes.POINTER(Options)]
-    rooms: list[Any] = [output, SIZE] * 4
+    rooms: list[Any] = [output, SIZE] * 5
     library.jz_version.argtypes = []
     library.jz_text.argtypes = [NUMBER, *lent, output, SIZE, answer]
     library.jz_page.argtypes = [NUMBER, *lent, *rooms, ctypes.POINTER(PageAnswer)]
@@ -157,22 +157,22 @@ def text(task: int, page: bytes, given: Given | None) -> bytes:
 
 
 def page_of(wants: int, page: bytes, given: Given | None) -> list[bytes]:
-    """What one parse gives, as the library writes it: rows and words, and errors (1) and HTML (2) where they are wanted."""
+    """What one parse gives, as the library writes it: rows and words, and errors (1), HTML (2) and origins (4) where they are wanted."""
     answer, lent, few, room = PageAnswer(), options(given, page), len(page) // 16 + 64, len(page) * 2 + 1024
-    rooms, sizes = [few, room, few * (wants & 1), room * (wants >> 1)], (ROW.size, 1, ERROR_ROW.size, 1)
+    rooms, sizes = [few, room, few * (wants & 1), room * (wants >> 1 & 1), few * (wants >> 2)], (ROW.size, 1, ERROR_ROW.size, 1, ORIGIN_ROW.size)
     while True:
         buffers = [block(count * size + 1) for count, size in zip(rooms, sizes)]
         LIBRARY.jz_page(wants, page, len(page), lent, *(it for pair in zip(map(LENT.from_buffer, buffers), rooms) for it in pair), answer)
-        rooms = [answer.nodes, answer.words, answer.errors, answer.text]
+        rooms = [answer.nodes, answer.words, answer.errors, answer.text, answer.nodes * (wants >> 2)]
         if answered(answer):
             return [bytes(memoryview(it)[:count * size]) for it, count, size in zip(buffers, rooms, sizes)]
 
 
 def parse(page: bytes, given: Given | None) -> _lazy.Page:
-    rows, words, errors, _ = page_of(1, page, given)
+    rows, words, errors, *_ = page_of(1, page, given)
     return _lazy.Page(page, given, rows, words, errors)
 
 
 def links(page: bytes, given: Given | None) -> list[tuple[str, str]]:
-    rows, words, errors, _ = page_of(0, page, given)
+    rows, words, errors, *_ = page_of(0, page, given)
     return _lazy.Page(page, given, rows, words, errors).links()

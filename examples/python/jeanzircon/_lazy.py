@@ -14,7 +14,7 @@ from ._base import CODES, NO_NODE, Given, Make, ParseError, Row
 T = TypeVar("T")
 DOCUMENT, DOCTYPE, ELEMENT, COMMENT, TEXT = range(5)
 KINDS = "document", "doctype", "element", "comment", "text"
-ERROR_ROW = struct.Struct("=QI4x")
+ERROR_ROW, ORIGIN_ROW = struct.Struct("=QI4x"), struct.Struct("=QII")
 
 
 class Node(_base.Node):
@@ -52,6 +52,10 @@ class Node(_base.Node):
     @property
     def data(self) -> str | None:
         return self.words[0] if self.row.kind in (TEXT, COMMENT) else None
+
+    @property
+    def place(self) -> int | None:
+        return self._page._origins().get(self._number)
 
     @property
     def attributes(self) -> dict[str, str]:
@@ -106,7 +110,7 @@ class Node(_base.Node):
 
 class Page(_base.Page):
     """The rows, the words and the errors of a tree. Where a number has its row is found when a node around another is first asked for."""
-    __slots__ = "_bytes", "_lent", "_rows", "_parts", "_errors", "_places"
+    __slots__ = "_bytes", "_lent", "_rows", "_parts", "_errors", "_places", "_found"
 
     def __init__(self, page: bytes, given: Given | None, rows: bytes, words: bytes, errors: bytes) -> None:
         self._bytes, self._lent, self._errors = page, given, errors
@@ -114,6 +118,7 @@ class Page(_base.Page):
         self._parts = words.split(b"\xfe")
         self._parts.pop()
         self._places: dict[int, int] | None = None
+        self._found: dict[int, int | None] | None = None
 
     @property
     def _input(self) -> bytes:
@@ -151,6 +156,17 @@ class Page(_base.Page):
             # (whole before another thread sees it)
             self._places = {**dict(zip(self._rows[::5].tolist(), range(len(self._parts)))), self._root: -1}
         return self._places[number]
+
+    def _origins(self) -> dict[int, int | None]:
+        """The byte from which each node comes, by its number. What is made again of an element has a higher number."""
+        if self._found is None:
+            from ._ctypes import page_of
+            rows, _, _, _, origins = page_of(4, self._bytes, self._lent)
+            found: dict[int, int | None] = {}
+            for number, (at, in_source, again_of) in sorted(zip(memoryview(rows).cast("I")[::5].tolist(), ORIGIN_ROW.iter_unpack(origins))):
+                found[number] = at if in_source else found.get(again_of)
+            self._found = found
+        return self._found
 
     def _at(self, number: int) -> Node | None:
         return None if number == NO_NODE else Node(self, number, self._place(number))

@@ -2,6 +2,8 @@
  * library works. What is called here is called by jeanzircon/__init__.py alone, which has prepared what it hands in. */
 #include "module.h"
 
+static State *state_in(PyObject *module) { return (State *)PyModule_GetState(module); }
+
 PyObject *string(jz_bytes bytes) { return PyUnicode_DecodeUTF8((const char *)bytes.bytes, (Py_ssize_t)bytes.length, "strict"); }
 
 /* Puts a name in the place of another. */
@@ -95,18 +97,35 @@ typedef struct {
     jz_answer answer;
 } Call;
 
-static int read_call(PyObject *module, PyObject *input, PyObject *given, Call *call) {
-    call->state = (State *)PyModule_GetState(module);
+static int read_call(State *state, PyObject *input, PyObject *given, Call *call) {
+    call->state = state;
     call->input = input;
     call->given = given;
     return lent(input, &call->bytes) && options_of(call->state, given, call->bytes, &call->options);
+}
+
+/* Finds the places of a page's nodes, by another parse of its input. Those that another thread has found meanwhile are kept. */
+int find_places(State *state, Page *page) {
+    Call call;
+    jz_doc doc;
+    if (!read_call(state, page->input, page->given, &call)) return 0;
+    Py_BEGIN_ALLOW_THREADS
+    jz_parse_places(call.bytes.bytes, call.bytes.length, &call.options, &doc, &call.answer);
+    Py_END_ALLOW_THREADS
+    if (call.answer.status != JZ_OK) return refuse(state, &call.answer) != NULL;
+    if (!page->doc.places) {
+        page->doc.places = doc.places;
+        doc.places = NULL;
+    }
+    jz_free(&doc);
+    return 1;
 }
 
 static PyObject *module_parse(PyObject *module, PyObject *args) {
     PyObject *input, *given;
     Call call;
     jz_doc doc;
-    if (!PyArg_ParseTuple(args, "OO", &input, &given) || !read_call(module, input, given, &call)) return NULL;
+    if (!PyArg_ParseTuple(args, "OO", &input, &given) || !read_call(state_in(module), input, given, &call)) return NULL;
     Py_BEGIN_ALLOW_THREADS
     jz_parse(call.bytes.bytes, call.bytes.length, &call.options, &doc, &call.answer);
     Py_END_ALLOW_THREADS
@@ -121,7 +140,7 @@ static PyObject *module_links(PyObject *module, PyObject *args) {
     PyObject *list;
     jz_doc doc;
     int is_found = 0;
-    if (!PyArg_ParseTuple(args, "OO", &input, &given) || !read_call(module, input, given, &call)) return NULL;
+    if (!PyArg_ParseTuple(args, "OO", &input, &given) || !read_call(state_in(module), input, given, &call)) return NULL;
     Py_BEGIN_ALLOW_THREADS
     if (jz_parse(call.bytes.bytes, call.bytes.length, &call.options, &doc, &call.answer) == JZ_OK)
         is_found = find_links(&doc, (size_t)call.answer.length, &found);
@@ -138,7 +157,7 @@ static PyObject *module_said(PyObject *module, PyObject *args) {
     Py_ssize_t room;
     Call call;
     jz_doc doc;
-    if (!PyArg_ParseTuple(args, "OOn", &input, &given, &room) || !read_call(module, input, given, &call)) return NULL;
+    if (!PyArg_ParseTuple(args, "OOn", &input, &given, &room) || !read_call(state_in(module), input, given, &call)) return NULL;
     Py_BEGIN_ALLOW_THREADS
     jz_parse(call.bytes.bytes, call.bytes.length, &call.options, &doc, &call.answer);
     Py_END_ALLOW_THREADS
@@ -160,7 +179,7 @@ static PyObject *module_text(PyObject *module, PyObject *args) {
     unsigned int task;
     uint8_t *text;
     Call call;
-    if (!PyArg_ParseTuple(args, "IOO", &task, &input, &given) || !read_call(module, input, given, &call)) return NULL;
+    if (!PyArg_ParseTuple(args, "IOO", &task, &input, &given) || !read_call(state_in(module), input, given, &call)) return NULL;
     Py_BEGIN_ALLOW_THREADS
     jz_make_text(task, call.bytes.bytes, call.bytes.length, &call.options, &text, &call.answer);
     Py_END_ALLOW_THREADS
@@ -175,11 +194,11 @@ static PyObject *module_table(PyObject *module, PyObject *entities) {
     Py_BEGIN_ALLOW_THREADS
     jz_make_table(bytes.bytes, bytes.length, &table, &answer);
     Py_END_ALLOW_THREADS
-    return written((State *)PyModule_GetState(module), table, &answer);
+    return written(state_in(module), table, &answer);
 }
 
 static PyObject *module_standard(PyObject *module, PyObject *none) {
-    const jz_options *it = &((State *)PyModule_GetState(module))->standard;
+    const jz_options *it = &state_in(module)->standard;
     (void)none;
     return Py_BuildValue("(y#y#)", it->entities.bytes, (Py_ssize_t)it->entities.length, it->quirks.bytes, (Py_ssize_t)it->quirks.length);
 }
@@ -227,7 +246,7 @@ static int make_texts(State *state) {
 
 static int module_exec(PyObject *module) {
     static const jz_options standard = JZ_STANDARD;
-    State *state = (State *)PyModule_GetState(module);
+    State *state = state_in(module);
     PyObject *base = PyImport_ImportModule("jeanzircon._base");
     int is_made = base && make_types(module, state, base) && make_texts(state);
     Py_XDECREF(base);
@@ -240,7 +259,7 @@ static int module_exec(PyObject *module) {
 }
 
 static int module_traverse(PyObject *module, visitproc visit, void *arg) {
-    State *state = (State *)PyModule_GetState(module);
+    State *state = state_in(module);
     Py_VISIT(state->page);
     Py_VISIT(state->node);
     Py_VISIT(state->walk);
@@ -251,7 +270,7 @@ static int module_traverse(PyObject *module, visitproc visit, void *arg) {
 }
 
 static int module_clear(PyObject *module) {
-    State *state = (State *)PyModule_GetState(module);
+    State *state = state_in(module);
     int i;
     Py_CLEAR(state->page);
     Py_CLEAR(state->node);

@@ -1,5 +1,6 @@
 /* What the files of the module share: its state, a page, a node, and strings. Python's stable interface of 3.10 is used, and the header of
- * the library. A page never changes once it is made, so threads may share it. */
+ * the library. A page never changes once it is made, but that its places are put into it, once and under Python's lock, so threads may
+ * share it. */
 #ifndef JEANZIRCON_MODULE_H
 #define JEANZIRCON_MODULE_H
 
@@ -46,6 +47,7 @@ static inline State *state_of(PyObject *self) { return (State *)PyType_GetModule
 PyObject *string(jz_bytes bytes);
 PyObject *name(State *state, jz_bytes bytes);
 PyObject *kind_of(const State *state, const jz_doc *doc, uint32_t number);
+int find_places(State *state, Page *page);
 
 /* --- links.c */
 typedef struct {

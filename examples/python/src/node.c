@@ -55,6 +55,14 @@ static PyObject *node_data(PyObject *self, void *none) {
     return it.bytes ? string(it) : Py_NewRef(Py_None);
 }
 
+static PyObject *node_place(PyObject *self, void *none) {
+    uint64_t place;
+    (void)none;
+    if (!DOC(self)->places && !find_places(state_of(self), ((Node *)self)->page)) return NULL;
+    place = jz_place(DOC(self), NUMBER(self));
+    return place == JZ_NOWHERE ? Py_NewRef(Py_None) : PyLong_FromUnsignedLongLong(place);
+}
+
 static PyObject *node_parent(PyObject *self, void *none) {
     (void)none;
     return new_node(state_of(self), ((Node *)self)->page, jz_parent(DOC(self), NUMBER(self)));
@@ -240,6 +248,7 @@ static PyGetSetDef gets[] = { { "page", node_page, NULL, NULL, NULL },
                               { "kind", node_kind, NULL, NULL, NULL },
                               { "name", node_name, NULL, NULL, NULL },
                               { "data", node_data, NULL, NULL, NULL },
+                              { "place", node_place, NULL, NULL, NULL },
                               { "attributes", node_attributes, NULL, NULL, NULL },
                               { "parent", node_parent, NULL, NULL, NULL },
                               { "next", node_next, NULL, NULL, NULL },

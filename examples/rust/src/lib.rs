@@ -236,22 +236,27 @@ impl Page {
 
 const WANT_ERRORS: u32 = 1;
 const WANT_HTML: u32 = 2;
+const WANT_ORIGINS: u32 = 4;
 
-/// The tree of an input, and its errors and its HTML where they are wanted.
+/// The tree of an input, and its errors, its HTML and where its nodes come from where they are wanted.
 fn parsed(wants: u32, input: &[u8], options: &Options) -> Result<Page, Error> {
     let (given, mut answer) = (options.raw(input), raw::PageAnswer::default());
     let few = input.len() / 4 + 64;
-    let mut rooms = [few, input.len() * 2 + 256, 0, 0];
+    let mut rooms = [few, input.len() * 2 + 256, 0, 0, 0];
     if wants & WANT_ERRORS != 0 {
         rooms[2] = few;
     }
     if wants & WANT_HTML != 0 {
         rooms[3] = text_room(Task::Write, input);
     }
+    if wants & WANT_ORIGINS != 0 {
+        rooms[4] = few;
+    }
     loop {
         let mut rows = with_room::<raw::Row>(rooms[0]);
         let mut errors = with_room::<ParseError>(rooms[2]);
         let [mut words, mut html] = [1, 3].map(|it| with_room::<u8>(rooms[it]));
+        let mut origins = with_room::<raw::Origin>(rooms[4]);
         // SAFETY: the memory is Rust's and does not overlap, and lives through the call.
         unsafe {
             raw::jz_page(
@@ -267,10 +272,19 @@ fn parsed(wants: u32, input: &[u8], options: &Options) -> Result<Page, Error> {
                 errors.capacity(),
                 html.as_mut_ptr(),
                 html.capacity(),
+                origins.as_mut_ptr(),
+                origins.capacity(),
                 &mut answer,
             )
         };
-        let needed = [answer.nodes, answer.words, answer.errors, answer.text];
+        let origin_count = answer.nodes * u64::from(wants / WANT_ORIGINS);
+        let needed = [
+            answer.nodes,
+            answer.words,
+            answer.errors,
+            answer.text,
+            origin_count,
+        ];
         let needed = needed.map(|it| it as usize);
         match answer.status {
             0 => {
@@ -280,12 +294,13 @@ fn parsed(wants: u32, input: &[u8], options: &Options) -> Result<Page, Error> {
                     words.set_len(needed[1]);
                     errors.set_len(needed[2]);
                     html.set_len(needed[3]);
+                    origins.set_len(needed[4]);
                 }
                 words.shrink_to_fit();
                 errors.shrink_to_fit();
                 html.shrink_to_fit();
                 return Ok(Page {
-                    tree: Tree::of(rows, words, !options.context.is_empty()),
+                    tree: Tree::of(rows, words, &origins, !options.context.is_empty()),
                     errors,
                     html: utf8(html),
                 });

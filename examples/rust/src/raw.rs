@@ -66,6 +66,14 @@ pub struct Row {
     pub next: u32,
 }
 
+#[repr(C)]
+#[derive(Clone, Copy, Debug, Default, PartialEq, Eq)]
+pub struct Origin {
+    pub at: u64,
+    pub in_source: u32,
+    pub again_of: u32,
+}
+
 /// The place of the first byte of this value.
 pub fn find(byte: u8, bytes: &[u8]) -> Option<usize> {
     // SAFETY: the bytes can be read to their end.
@@ -101,6 +109,8 @@ extern "C" {
         error_room: usize,
         text: *mut u8,
         text_room: usize,
+        origins: *mut Origin,
+        origin_room: usize,
         answer: *mut PageAnswer,
     ) -> u32;
 

@@ -1,6 +1,6 @@
 //! The tree of an input, which lends its nodes and their words.
 
-use crate::{parsed, raw, Error, Options};
+use crate::{parsed, raw, Error, Options, WANT_ORIGINS};
 use std::hash::{Hash, Hasher};
 use std::{fmt, iter, ptr, str};
 
@@ -30,6 +30,8 @@ pub struct Tree {
     /// Those inside the root.
     spots: Vec<Spot>,
     words: Vec<u8>,
+    /// The bytes from which they come, where that was asked for.
+    begins: Vec<Option<u64>>,
 }
 
 impl Tree {
@@ -38,9 +40,20 @@ impl Tree {
         Ok(parsed(0, input, options)?.tree)
     }
 
-    /// Of the library's rows, whose links are numbers, and their words.
-    pub(crate) fn of(rows: Vec<raw::Row>, words: Vec<u8>, is_fragment: bool) -> Tree {
+    /// Parses an input, and keeps where its nodes come from (`Node::place`), which makes the parse dearer.
+    pub fn parse_places(input: &[u8], options: &Options) -> Result<Tree, Error> {
+        Ok(parsed(WANT_ORIGINS, input, options)?.tree)
+    }
+
+    /// Of the library's rows, whose links are numbers, their words, and how they came to be where that was asked for.
+    pub(crate) fn of(
+        rows: Vec<raw::Row>,
+        words: Vec<u8>,
+        origins: &[raw::Origin],
+        is_fragment: bool,
+    ) -> Tree {
         let places = places(&rows);
+        let begins = begins(&places, origins);
         let mut at = 0;
         let spot = |row: raw::Row| {
             let start = at;
@@ -61,7 +74,12 @@ impl Tree {
             parent: NONE,
             past: spots.len() as u32 + 1,
         };
-        Tree { root, spots, words }
+        Tree {
+            root,
+            spots,
+            words,
+            begins,
+        }
     }
 
     /// The document, or the root element of a fragment.
@@ -81,6 +99,21 @@ fn places(rows: &[raw::Row]) -> Vec<u32> {
         places[row.number as usize] = place;
     }
     places
+}
+
+/// The bytes from which nodes come, in tree order. An element that was made again of another has a higher number than that.
+fn begins(places: &[u32], origins: &[raw::Origin]) -> Vec<Option<u64>> {
+    let mut begins = vec![None; origins.len()];
+    let of = |number: u32| (*places.get(number as usize)? as usize).checked_sub(1);
+    for at in (0..places.len() as u32).filter_map(of) {
+        if let Some(origin) = origins.get(at) {
+            begins[at] = match origin.in_source {
+                0 => of(origin.again_of).and_then(|it| begins[it]),
+                _ => Some(origin.at),
+            };
+        }
+    }
+    begins
 }
 
 /// What is inside a node without a next one ends where its parent's ends.
@@ -199,6 +232,14 @@ impl<'a> Node<'a> {
     pub fn next(self) -> Option<Node<'a>> {
         let next = self.at(self.spot().past)?;
         (next.spot().parent == self.spot().parent).then_some(next)
+    }
+
+    /// The byte of the input from which it comes: where its start tag, its comment, its doctype or its first character begins; of an
+    /// element that was made again, as where formatting elements are misnested, the start tag of the first of these. None of what the
+    /// parser added, of the root, and of each node of a tree that is not of `Tree::parse_places`.
+    pub fn place(self) -> Option<u64> {
+        let begins = &self.tree.begins;
+        *begins.get((self.place as usize).checked_sub(1)?)?
     }
 
     /// The words of a node of one of these kinds; of any other none.

@@ -68,6 +68,23 @@ fn links_between_nodes_agree() {
 }
 
 #[test]
+fn nodes_tell_where_they_come_from() {
+    let input = b"<!doctype html><p><b>x<p>y<table><tr>";
+    let places = |tree: &Tree| {
+        let nodes = tree.root().descendants();
+        nodes.map(|it| it.place()).collect::<Vec<_>>()
+    };
+    let tree = Tree::parse_places(input, &Options::default()).unwrap();
+    let wanted = [0, 99, 99, 99, 15, 18, 21, 22, 18, 25, 26, 99, 33];
+    let wanted = wanted.map(|it| (it != 99).then_some(it));
+    assert_eq!(places(&tree), wanted);
+    assert_eq!(tree.root().place(), None);
+    let without = Tree::parse(input, &Options::default()).unwrap();
+    assert!(places(&without).iter().all(Option::is_none));
+    assert_eq!(format!("{tree:?}"), format!("{without:?}"));
+}
+
+#[test]
 fn links_in_links_have_the_texts_inside_them() {
     let page = b"<a href=1>a<object>b<a href=2>c</a></object>d</a>e<a href=3></a><a href=4>f<object><a href=5>g";
     let tree = Tree::parse(page, &Options::default()).unwrap();

@@ -1,4 +1,4 @@
-use Rattle.html_c.proofs.Names.{sym, ◌∙◌, parts_of, no_size, of_size}
+use Rattle.html_c.proofs.Names.{refl, sym, ◌∙◌, parts_of, no_size, of_size}
 use Rattle.html_c.specs.Page.{no_tree, unescaped}
 use Rattle.html_c.specs.declared.fault.CallFault.TheVariants as fault
 use Rattle.html_c.proofs.Exports.{a_page, no_memory}
@@ -21,9 +21,9 @@ returns-in_err-parsed-clause-says c =
 pub returns-in_err-page_in-clause-says : goal.returns-in_err-page_in-clause-says
 returns-in_err-page_in-clause-says c =
     fails c.from_residual-in_err-page_in.result (fault.Refused c.in_err-page_in.field-0.0) _ _ c.from_residual-in_err-page_in.ensures.1
-    (of_size c.in_ok-check_size.ensures (no_tree (no_memory c.args.input.now c.args.given.now c.in_ok-parsed.parsed c.in_ok-parsed.ensures c.in_err-page_in.field-0.0 c.in_err-page_in.ensures.made)))
+    (of_size c.in_ok-check_size.ensures (no_tree (no_memory c.args.input.now c.args.given.now c.in-Some.wants.origins c.in_ok-parsed.parsed c.in_ok-parsed.ensures c.in_err-page_in.field-0.0 c.in_err-page_in.ensures.made)))
 
 pub returns-clause-says : goal.returns-clause-says
 returns-clause-says c =
-    a_page c.args.input.now c.args.given.now c.in_ok-parsed.parsed c.in_ok-parsed.ensures c.in_ok-escaping.escaping c.in_ok-escaping.ensures c.args.number c.in-Some.wants (parts_of c.in_ok-page_in.field-0)
-    (sym c.wants_of.ensures ∙ c.in-Some.is) c.in_ok-page_in.ensures.made
+    a_page c.args.input.now c.args.given.now c.in-Some.wants.origins c.in_ok-parsed.parsed c.in_ok-parsed.ensures c.in_ok-escaping.escaping c.in_ok-escaping.ensures c.args.number c.in-Some.wants (parts_of c.in_ok-page_in.field-0)
+    (sym c.wants_of.ensures ∙ c.in-Some.is) refl c.in_ok-page_in.ensures.made

@@ -26,4 +26,4 @@ returns-in_err-parsed c =
 
 pub returns : goal.returns
 returns c =
-    a_parse c.args.input.now c.args.given.now (options_of c.options-options.result) c.options-options.ensures.told (name_of c.args.context) c.requires.context c.in_ok-parsed.field-0 c.in_ok-parsed.ensures
+    a_parse c.args.input.now c.args.given.now (options_of c.options-options.result) c.options-options.ensures.told (name_of c.args.context) c.requires.context c.args.places c.in_ok-parsed.field-0 c.options-options.ensures.places c.in_ok-parsed.ensures

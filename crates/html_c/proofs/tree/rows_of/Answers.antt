@@ -1,4 +1,5 @@
 use Rattle.html_c.proofs.Names.{no_size, of_size}
+use Rattle.std.proofs.Common.{false}
 use Rattle.html_c.specs.declared.fault.CallFault.TheVariants as fault
 use Rattle.html_c.proofs.Exports.{no_memory}
 use Rattle.html_c.proofs.Outcomes.{fails}
@@ -16,7 +17,7 @@ returns-in_err-parsed c =
 pub returns-in_err-of : goal.returns-in_err-of
 returns-in_err-of c =
     fails c.from_residual-in_err-of.result (fault.Refused c.in_err-of.field-0.0) _ _ c.from_residual-in_err-of.ensures.1
-    (of_size c.in_ok-check_size.ensures (no_memory c.args.input.now c.args.given.now c.in_ok-parsed.parsed c.in_ok-parsed.ensures c.in_err-of.field-0.0 c.in_err-of.ensures.counted))
+    (of_size c.in_ok-check_size.ensures (no_memory c.args.input.now c.args.given.now false c.in_ok-parsed.parsed c.in_ok-parsed.ensures c.in_err-of.field-0.0 c.in_err-of.ensures.counted))
 
 pub returns : goal.returns
-returns c = rw c.in_ok-of.ensures.counted (some_rows c.args.input.now c.args.given.now c.in_ok-parsed.parsed c.in_ok-parsed.ensures)
+returns c = rw c.in_ok-of.ensures.counted (some_rows c.args.input.now c.args.given.now false c.in_ok-parsed.parsed c.in_ok-parsed.ensures)
