@@ -103,8 +103,8 @@ impl<'a> TokenSink for Links<'a> {
             && name.tag() == Tag::A
         {
             for attr in attrs {
-                if names.text(attr.name) == "href" {
-                    return self.print(&attr.value);
+                if names.text(attr.name()) == "href" {
+                    return self.print(attr.value());
                 }
             }
         }
