@@ -5,9 +5,11 @@ use names::{Refusal, Tag};
 use std::alloc::Global;
 use std::test::Fail;
 
-/// Whether the core table has the five entries, and an empty one does not.
+/// Whether the core table has the five entries, also read from its flat form, and an empty one does not.
 fn is_core_alone(alloc: Global) -> Result<bool, Refusal> {
-    Ok(Table::core(alloc)?.has_core() && !Table::read(alloc, "{}")?.has_core())
+    let core = Table::core(alloc)?;
+    let again = Table::from_flat(alloc, core.as_flat())?;
+    Ok(core.has_core() && again.has_core() && !Table::read(alloc, "{}")?.has_core())
 }
 
 #[test]

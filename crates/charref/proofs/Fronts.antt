@@ -1,6 +1,8 @@
 -- The names and keys that bytes begin with.
 use Rattle.charref.proofs.Names.{arith, ◌≡◌, ℕ, zero, suc, ◌+◌, ◌<◌, ◌⊎◌, inl, inr, Bool, true, false, true≢false, nat_eq, ◌||◌, bytes_eq, codes, List, [], ◌∷◌, ◌++◌, length, take, slice_get, get_or, Some, slice_get-get_or, refl, sym, ◌∙◌, subst, and_parts, and_from, agree_below_at, nat_tests, append-nil, take_more, ap, list_all, slice_index, is_alphanumeric, ALPHANUMERICS, is_key, is_key_name, is_empty_list, passes, is_count, IsCounted, HasNoCounted}
 use Rattle.std.proofs.Math.Bool.{or-true}
+use Rattle.std.specs.List.{prefix_len}
+use Rattle.std.specs.Prelude.{cond}
 use Rattle.std.proofs.lemmas.List.{length-take-le}
 use Rattle.std.proofs.lemmas.List.Folds.{list_all_more}
 use Rattle.charref.specs.Front.{is_semicolon}
@@ -12,6 +14,14 @@ told byte within = agree_below_at (λ b. nat_eq (slice_index ALPHANUMERICS b) 1)
 -- a run, byte by byte
 pub run_more : (test : ℕ → Bool) (bytes : List ℕ) (n : ℕ) → n < length bytes → list_all test (take n bytes) ≡ true → test (get_or bytes n 0) ≡ true → list_all test (take (n + 1) bytes) ≡ true
 run_more test bytes n less run one = list_all_more test bytes n 0 less ∙ and_from _ _ run one
+
+-- where a counted run stops
+pub run_stops : (test : ℕ → Bool) (bytes : List ℕ) → passes test (slice_get bytes (prefix_len test bytes)) ≡ false
+run_stops test [] = refl
+run_stops test (c ∷ cs) = by (test c) refl (run_stops test cs) where
+  by : (b : Bool) → test c ≡ b → passes test (slice_get cs (prefix_len test cs)) ≡ false → passes test (slice_get (c ∷ cs) (cond b (1 + prefix_len test cs) 0)) ≡ false
+  by true e more = let next : 1 + prefix_len test cs ≡ suc (prefix_len test cs) = omega arith in rw next more
+  by false e more = e
 
 -- a byte that was read
 pub byte_at : (bytes : List ℕ) (n b : ℕ) → n < length bytes → b ≡ get_or bytes n 0 → slice_get bytes n ≡ Some b

@@ -23,3 +23,4 @@ pub mod Fronts
 pub mod Orders
 pub mod Forms
 pub mod ReadingFlat
+pub mod Begins

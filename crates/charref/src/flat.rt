@@ -8,7 +8,7 @@ ghost use Rattle.charref.specs.Flat.{flat_of, IsReadable, IsRefusedFlat};
 ghost use Rattle.charref.specs.Pieces.{characters_of};
 
 use crate::entries::{Entity, entities_of};
-use crate::key::begin_with;
+use crate::key::{AT_ONCE, begin_at_once, begin_with};
 use crate::reference::Characters;
 use names::Refusal;
 use std::alloc::Global;
@@ -80,9 +80,15 @@ impl Flat {
         requires { at < length self.now }
         ensures { (e : Entry) × (slice_get self.now at ≡ Some e) × (result ≡ starts_with nat_eq bytes.now (drop 1 e.key)) }
     {
-        match self.key(at) {
-            [_, name @ ..] => begin_with(bytes, name),
-            [] => true,
+        let entity = &self.entities[at];
+        if entity.start >= entity.end {
+            return true;
         }
+        let name = &self.text[entity.start + 1..];
+        let count = entity.end - entity.start - 1;
+        if count <= AT_ONCE && name.len() >= AT_ONCE && bytes.len() >= AT_ONCE {
+            return begin_at_once(bytes, name, count);
+        }
+        begin_with(bytes, &name[..count])
     }
 }

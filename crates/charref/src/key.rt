@@ -3,6 +3,9 @@
 ghost use Rattle.std.specs.Prelude.{◌≡◌, ◌≤◌, ℕ, List, true, false, length, nat_eq, take, slice_get, MatchOption};
 ghost use Rattle.charref.specs.Vocabulary.{list_all, starts_with, nat_cmp, is_lt, slice_cmp, is_alphanumeric, is_key, is_key_name, passes, is_count, is_semicolon, IsCounted, HasNoCounted};
 
+use htext::alphanumeric_run;
+use std::simd::prelude::*;
+
 /// 1 for each letter and digit of ASCII. A table, since keys are short and are read by the thousand.
 const ALPHANUMERICS: [u8; 256] = [
     0, 0, 0, 0, 0, 0, 0, 0, 0, 0, 0, 0, 0, 0, 0, 0, 0, 0, 0, 0, 0, 0, 0, 0, 0, 0, 0, 0, 0, 0, 0, 0,
@@ -51,12 +54,7 @@ pub(crate) fn alphanumerics(bytes: &[u8]) -> usize
     ensures all { list_all is_alphanumeric (take result bytes.now) ≡ true }
     ensures stops { passes is_alphanumeric (slice_get bytes.now result) ≡ false }
 {
-    for (index, byte) in bytes.iter().enumerate() {
-        if !is_alphanumeric(*byte) {
-            return index;
-        }
-    }
-    bytes.len()
+    alphanumeric_run(bytes)
 }
 
 /// Whether the byte at this place, if there is one, can be a count of characters: it is no byte of a key.
@@ -119,9 +117,44 @@ pub(crate) fn is_before(a: &[u8], b: &[u8]) -> bool
     false
 }
 
-/// Whether these bytes begin with a name; by hand, since a key is too short for the groups that `starts_with` compares.
+/// How many bytes are compared at once.
+pub(crate) const AT_ONCE: usize = 16;
+
+/// Whether these bytes begin with this many bytes of a name: 16 are compared at once.
 #[inline(always)]
+pub(crate) fn begin_at_once(bytes: &[u8], name: &[u8], count: usize) -> bool
+    requires bytes { AT_ONCE ≤ length bytes.now }
+    requires name { AT_ONCE ≤ length name.now }
+    requires few { count ≤ AT_ONCE }
+    ensures { result ≡ starts_with nat_eq bytes.now (take count name.now) }
+{
+    let differ = u8x16::from_slice(bytes)
+        .simd_ne(u8x16::from_slice(name))
+        .to_bitmask();
+    differ == 0 || differ.trailing_zeros() as usize >= count
+}
+
+/// Whether these bytes begin with a name.
+#[inline(never)]
 pub(crate) fn begin_with(bytes: &[u8], name: &[u8]) -> bool
+    ensures { result ≡ starts_with nat_eq bytes.now name.now }
+{
+    if bytes.len() < name.len() {
+        return false;
+    }
+    let mut count = 0;
+    while name.len() - count >= AT_ONCE {
+        if !begin_at_once(&bytes[count..], &name[count..], AT_ONCE) {
+            return false;
+        }
+        count += AT_ONCE;
+    }
+    begin_by_one(&bytes[count..], &name[count..])
+}
+
+/// The same, a byte at a time.
+#[inline(always)]
+fn begin_by_one(bytes: &[u8], name: &[u8]) -> bool
     ensures { result ≡ starts_with nat_eq bytes.now name.now }
 {
     if bytes.len() < name.len() {

@@ -2,7 +2,7 @@
 //! `&notin;`. Stored are the look-ups that have read them, by the first two letters of their names.
 
 ghost use Rattle.std.specs.Prelude.{◌≡◌, ◌+◌, ◌<◌, length, get_or, slice_get, Some, IfOk, IfSome};
-ghost use Rattle.charref.specs.Vocabulary.{All, AreEnds, Entry, IsOpenKey, IsOpenKeyOf, IsRange, IsSortedTable};
+ghost use Rattle.charref.specs.Vocabulary.{All, AreEnds, Entities, Entry, IsOpenKey, IsOpenKeyOf, IsRange, IsSortedTable};
 
 use crate::flat::Flat;
 use crate::key::begin_with;
@@ -79,6 +79,16 @@ fn open_key(flat: &Flat, place: usize, ends: &[usize]) -> OpenKey
 }
 
 impl OpenKeys {
+    /// No keys, among which none is found.
+    pub(crate) fn none(alloc: Global) -> OpenKeys
+        ensures { (table : Entities) → All (IsOpenKey table) result.read.items }
+    {
+        OpenKeys {
+            read: Vec::new(alloc),
+            counts: Vec::new(alloc),
+        }
+    }
+
     /// The keys of a table.
     pub(crate) fn new(alloc: Global, flat: &Flat) -> Result<OpenKeys, AllocError>
         requires { IsSortedTable flat.now }
@@ -90,10 +100,7 @@ impl OpenKeys {
             first -= 1;
             ends[first] = end_of(flat, first, &ends);
         }
-        let mut keys = OpenKeys {
-            read: Vec::new(alloc),
-            counts: Vec::new(alloc),
-        };
+        let mut keys = OpenKeys::none(alloc);
         for place in 0..flat.len() {
             if ends[place] > place + 1 {
                 keys.read.push(open_key(flat, place, &ends))?;

@@ -133,6 +133,6 @@ impl Table {
         ensures err { IfErr result (λ e. IsRefusedWith (entities_of (members_view members.now.entries)) e) }
     {
         let flat = flat_of(alloc, members)?;
-        Table::of_flat(alloc, flat)
+        Table::of_flat(alloc, flat, true)
     }
 }

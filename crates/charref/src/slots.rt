@@ -85,6 +85,13 @@ pub(crate) fn is_whole(flat: &Flat, place: usize, bytes: &[u8]) -> bool
 }
 
 impl Slots {
+    /// No slots, in which nothing is found.
+    pub(crate) fn none(alloc: Global) -> Slots {
+        Slots {
+            places: Vec::new(alloc),
+        }
+    }
+
     /// The slots of a table.
     pub(crate) fn new(alloc: Global, flat: &Flat) -> Result<Slots, AllocError> {
         let mut slots = Slots {

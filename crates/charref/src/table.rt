@@ -61,6 +61,12 @@ pub struct Match {
     pub characters: Characters,
 }
 
+/// A text of more bytes than this, or with more `&` than that, is looked up in a table with all its indices: for fewer look-ups they take
+/// longer to make than they save.
+const SHORT_TEXT: usize = 65_536;
+
+const FEW_REFERENCES: usize = 256;
+
 /// The flat form of [`Table::core`].
 const CORE: &[u8] =
     b"\x01&amp;\x01&\0\0\0&gt;\x01>\0\0\0&lt;\x01<\0\0\0&nbsp;\x01\xA0\0\0\0&quot;\x01\"\0\0\0";
@@ -71,7 +77,7 @@ impl Table {
         ensures ok { IfOk result (λ table. table ≡ core) }
         ensures err { IfErr result (λ e. e ≡ Refusal.Memory) }
     {
-        Table::of_flat(alloc, Vec::from_slice(alloc, CORE)?)
+        Table::of_flat(alloc, Vec::from_slice(alloc, CORE)?, true)
     }
 
     /// Reads a table from its flat form ([`Table::as_flat`]), without an allocation for each entry. The error is `Memory`, or
@@ -81,17 +87,36 @@ impl Table {
         ensures ok { IfOk result (λ table. flat_of table ≡ bytes.now) }
         ensures err { IfErr result (λ e. IsRefusedFlat bytes.now e) }
     {
-        Table::of_flat(alloc, Vec::from_slice(alloc, bytes)?)
+        Table::of_flat(alloc, Vec::from_slice(alloc, bytes)?, true)
     }
 
-    /// The same, of bytes that it owns.
-    pub(crate) fn of_flat(alloc: Global, bytes: Vec<u8>) -> Result<Table, Refusal>
+    /// The same, for one text: it is read in less time where the text is short and has few `&`.
+    pub fn for_text(alloc: Global, bytes: &[u8], text: &[u8]) -> Result<Table, Refusal>
+        ensures readable { IfOk result (λ table. IsReadable table) }
+        ensures ok { IfOk result (λ table. flat_of table ≡ bytes.now) }
+        ensures err { IfErr result (λ e. IsRefusedFlat bytes.now e) }
+    {
+        let indexed = text.len() > SHORT_TEXT
+            || text.iter().filter(|byte| **byte == b'&').count() > FEW_REFERENCES;
+        Table::of_flat(alloc, Vec::from_slice(alloc, bytes)?, indexed)
+    }
+
+    /// The same, of bytes that it owns. A table that is not `indexed` looks up every key byte by byte.
+    pub(crate) fn of_flat(alloc: Global, bytes: Vec<u8>, indexed: bool) -> Result<Table, Refusal>
         ensures readable { IfOk result (λ table. IsReadable table) }
         ensures ok { IfOk result (λ table. flat_of table ≡ bytes.items) }
         ensures err { IfErr result (λ e. IsRefusedFlat bytes.items e) }
     {
         let flat = Flat::read(alloc, bytes)?;
         let starts = starts_of(alloc, &flat)?;
+        if !indexed {
+            return Ok(Table {
+                flat,
+                starts,
+                slots: Slots::none(alloc),
+                open_keys: OpenKeys::none(alloc),
+            });
+        }
         let slots = Slots::new(alloc, &flat)?;
         let open_keys = OpenKeys::new(alloc, &flat)?;
         Ok(Table {

@@ -13,13 +13,16 @@ use names::{ErrorCode, ParseError, Refusal};
 use std::alloc::{AllocError, Global};
 use std::marker::Model;
 
-/// The contents of a doctype. A name or an identifier that is present may be empty.
+/// A DOCTYPE token (`#tokenization`). What is missing is `None`; what is present may be empty.
 #[derive(Drop)]
 pub struct Doctype {
+    /// The name, its ASCII letters in lower case.
     pub name: Option<String>,
+    /// The public identifier.
     pub public_id: Option<String>,
+    /// The system identifier.
     pub system_id: Option<String>,
-    /// Whether the doctype forces quirks mode.
+    /// The force-quirks flag.
     pub forced: bool,
 }
 

@@ -79,5 +79,5 @@ fn has_hidden(attrs: &[Attr]) -> bool
 fn is_hidden_type(attr: &Attr) -> bool
     ensures { result ≡ is_hidden numbers (attribute_of attr.now) }
 {
-    attr.name == NameId::type_attribute() && attr.value.eq_ignore_ascii_case("hidden")
+    attr.name() == NameId::type_attribute() && attr.value().eq_ignore_ascii_case("hidden")
 }

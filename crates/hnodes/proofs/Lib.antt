@@ -36,6 +36,7 @@ pub mod Respots
 pub mod Placed
 pub mod Runs
 pub mod Siblings
+pub mod Sizes
 pub mod WaysUp
 pub mod TreeOrder
 pub mod TextOrder

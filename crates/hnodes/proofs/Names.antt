@@ -1,5 +1,4 @@
 -- The names of other crates and of specs/ that several proofs cite, in one place.
-pub use Rattle.arrayvec.specs.ArrayString.{ArrayString}
 pub use Rattle.hnodes.specs.Clean.{are_clean}
 pub use Rattle.hnodes.specs.Differing.{names_differ, names_end}
 pub use Rattle.hnodes.specs.Edits.{Nodes, AreNodes, graft_last, move_all, with_text, with_attribute, AreCounted, place_node, graft, make, IsPlace, graft_before, before_place, if_text, text_before, with_char, char_into}

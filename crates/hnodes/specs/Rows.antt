@@ -9,7 +9,7 @@ use Rattle.hnodes.specs.declared.node.NodeData.{NodeData}
 use Rattle.hnodes.specs.declared.node.NodeData.TheVariants as content
 
 abbrev pub attribute_of : Attr → Attribute ℕ
-attribute_of a = (a.name, string_bytes a.value)
+attribute_of a = (a.name, a.value)
 
 abbrev pub doctype_texts : DoctypeOf → List ℕ × List ℕ × List ℕ
 doctype_texts d = (string_bytes d.name, string_bytes d.public_id, string_bytes d.system_id)
@@ -22,7 +22,7 @@ content_is (content.Wide name attrs) = element name attrs.value
 content_is (content.Shared name attrs) = element name attrs
 content_is (content.Comment t) = comment (string_bytes t)
 content_is (content.Text t) = text (string_bytes t)
-content_is (content.Short t) = text t.bytes
+content_is (content.Short t) = text t
 
 abbrev pub row_of : Node → Row ℕ
 row_of n = record { what = content_is n.content; parent = n.parent; first = n.first; last = n.last; previous = n.previous; next = n.next }

@@ -49,7 +49,7 @@ pub fn name_number(name: NameId) -> usize
 pub(crate) fn has_name(attrs: &[Attr], name: NameId) -> bool
     ensures { result ≡ list_any (λ a. nat_eq a.name name) attrs.now }
 {
-    attrs.iter().any(|attr| attr.name == name)
+    attrs.iter().any(|attr| attr.name() == name)
 }
 
 /// Adds the numbers of the names of attributes to those of the first of them.
@@ -59,7 +59,7 @@ fn index_more(names: &mut Chains, attrs: &[Attr]) -> Result<(), AllocError>
     ensures first { names.new ≡ numbers_of (take (length names.new) attrs.now) }
 {
     for index in names.len()..attrs.len() {
-        names.push(name_number(attrs[index].name))?;
+        names.push(name_number(attrs[index].name()))?;
     }
     Ok(())
 }
@@ -78,7 +78,7 @@ pub(crate) fn few_differ(attrs: &[Attr]) -> bool
     ensures { result ≡ names_differ nat_eq (map attribute_of attrs.now) }
 {
     for (index, attr) in attrs.iter().enumerate() {
-        if has_name(&attrs[index + 1..], attr.name) {
+        if has_name(&attrs[index + 1..], attr.name()) {
             return false;
         }
     }
@@ -91,7 +91,7 @@ pub(crate) fn many_differ(attrs: &[Attr], alloc: Global) -> Result<bool, AllocEr
 {
     let mut names = Vec::new(alloc);
     for attr in attrs {
-        names.push(attr.name.index())?;
+        names.push(attr.name().index())?;
     }
     names.sort_unstable();
     Ok(names.is_sorted_by(|name, next| name < next))
@@ -118,7 +118,7 @@ pub fn is_clean(text: &str) -> bool
 pub(crate) fn are_clean(attrs: &[Attr]) -> bool
     ensures { result ≡ are_clean (map attribute_of attrs.now) }
 {
-    attrs.iter().all(|attr| is_clean(&attr.value))
+    attrs.iter().all(|attr| is_clean(attr.value()))
 }
 
 /// One more than the number of a name.
@@ -134,7 +134,7 @@ pub(crate) fn names_end(attrs: &[Attr]) -> usize
 {
     let mut end = 0;
     for attr in attrs {
-        end = end.max(past(attr.name));
+        end = end.max(past(attr.name()));
     }
     end
 }
@@ -202,7 +202,7 @@ impl Indexed {
         ensures ok { OnOk result (self.new ≡ self.old ++ attribute_of attr ∷ []) }
         ensures err { OnErr result (self.new ≡ self.old) }
     {
-        let differ = self.differ_from(attr.name);
+        let differ = self.differ_from(attr.name());
         self.attrs.push(attr)?;
         self.differ = differ;
         Ok(())

@@ -19,8 +19,8 @@ impl Tree {
         ensures { option_map (λ value. value.now) result ≡ value_of (nat_eq name) at self.now.trees }
     {
         for attr in self.attrs(at)? {
-            if attr.name == name {
-                return Some(&attr.value);
+            if attr.name() == name {
+                return Some(attr.value());
             }
         }
         None

@@ -1,12 +1,11 @@
 //! Nodes and their numbers.
 
-ghost use Rattle.std.specs.Prelude.{◌≡◌, Some, None, OnOk, OnErr, IfOk, ◌++◌, ◌<◌, map};
+ghost use Rattle.std.specs.Prelude.{◌≡◌, Some, None, OnOk, OnErr, IfOk, ◌++◌, ◌<◌, map, string_bytes};
 ghost use Rattle.hnodes.specs.Vocabulary.{alone, attribute_of, content_is, element, row_of, text, with_attribute, with_char, with_text};
 
 use crate::attributes::{FEW_ATTRIBUTES, Indexed};
 use crate::shared::Attributes;
-use arrayvec::ArrayString;
-use names::{Attr, NameId};
+use names::{Attr, NameId, ShortText};
 use std::alloc::{AllocError, Global};
 use std::marker::Model;
 
@@ -63,7 +62,7 @@ pub struct DocumentType {
 }
 
 /// A text of at most this many bytes is kept in its node.
-const SHORT: usize = 16;
+const SHORT: usize = 30;
 
 /// What a node is.
 #[derive(Drop)]
@@ -78,7 +77,7 @@ pub(crate) enum NodeData {
     Comment(String),
     Text(String),
     /// A text of at most `SHORT` bytes.
-    Short(ArrayString<SHORT>),
+    Short(ShortText<SHORT>),
 }
 
 /// A link to a node, or none, in four bytes.
@@ -182,36 +181,24 @@ pub(crate) fn add_text(content: &mut NodeData, more: &str, alloc: Global) -> Res
     match content {
         NodeData::Text(text) => text.push_str(more)?,
         NodeData::Short(text) => {
-            let start = *text;
-            put_joined(content, start, more, alloc)?
+            if !text.push_str(more) {
+                *content = NodeData::Text(long_text(text.as_str(), more, alloc)?);
+            }
         }
         _ => {}
     }
     Ok(())
 }
 
-/// Puts a short text and what follows it into a node. What is too long to be short is allocated once, with room for 64 bytes or
-/// more. On an error the node stays as it was.
+/// A text and what follows it, with room for more.
 #[inline(never)]
-fn put_joined(
-    content: &mut NodeData,
-    start: ArrayString<SHORT>,
-    more: &str,
-    alloc: Global,
-) -> Result<(), AllocError>
-    ensures ok { OnOk result (content_is content.new ≡ text (start.bytes ++ more.now)) }
-    ensures err { OnErr result (content_is content.new ≡ content_is content.old) }
+fn long_text(start: &str, more: &str, alloc: Global) -> Result<String, AllocError>
+    ensures { IfOk result (λ long. string_bytes long ≡ start.now ++ more.now) }
 {
-    let mut short = start;
-    if short.try_push_str(more).is_ok() {
-        *content = NodeData::Short(short);
-        return Ok(());
-    }
     let mut long = String::with_capacity(alloc, more.len().saturating_add(SHORT).max(4 * SHORT))?;
-    long.push_str(&short)?;
+    long.push_str(start)?;
     long.push_str(more)?;
-    *content = NodeData::Text(long);
-    Ok(())
+    Ok(long)
 }
 
 /// A text.
@@ -219,9 +206,9 @@ fn put_joined(
 pub(crate) fn text(run: &str, alloc: Global) -> Result<NodeData, AllocError>
     ensures { IfOk result (λ content. content_is content ≡ text run.now) }
 {
-    Ok(match ArrayString::from(run) {
-        Ok(text) => NodeData::Short(text),
-        Err(_) => NodeData::Text(String::from_str(alloc, run)?),
+    Ok(match ShortText::of(run) {
+        Some(text) => NodeData::Short(text),
+        None => NodeData::Text(String::from_str(alloc, run)?),
     })
 }
 

@@ -28,7 +28,7 @@ const SHORT_VALUE: usize = 64;
 fn look_at(attrs: &[Attr], alloc: Global) -> Result<Option<Found>, AllocError>
     ensures { IfOk result (λ found. IfSome found (λ f. IsFound f (map attribute_of attrs.now))) }
 {
-    let is_short = attrs.iter().all(|attr| attr.value.len() <= SHORT_VALUE);
+    let is_short = attrs.iter().all(|attr| attr.value().len() <= SHORT_VALUE);
     if is_short && attrs.len() <= FEW_ATTRIBUTES {
         return Ok(None);
     }

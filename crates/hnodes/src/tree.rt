@@ -403,7 +403,7 @@ impl Tree {
         ensures err { OnErr result (self.new ≡ self.old) }
     {
         self.widen(at)?;
-        if self.has_attr(at, attr.name) {
+        if self.has_attr(at, attr.name()) {
             return Ok(());
         }
         self.push_attr(at, attr)
@@ -531,7 +531,7 @@ impl Tree {
     {
         match self.content(at) {
             NodeData::Text(text) => Some(text),
-            NodeData::Short(text) => Some(text),
+            NodeData::Short(text) => Some(text.as_str()),
             NodeData::Comment(text) => Some(text),
             _ => None,
         }
@@ -544,7 +544,7 @@ impl Tree {
     {
         match self.content(at) {
             NodeData::Text(text) => text,
-            NodeData::Short(text) => text,
+            NodeData::Short(text) => text.as_str(),
             _ => "",
         }
     }

@@ -1,6 +1,6 @@
 //! Walks over the nodes of a tree.
 
-ghost use Rattle.std.specs.Prelude.{◌≡◌, ◌<◌, ◌∷◌, ℕ, List, Some, IfOk, IfSome, IsTrue, length, string_bytes};
+ghost use Rattle.std.specs.Prelude.{◌≡◌, ◌<◌, ◌≤◌, ◌∷◌, ℕ, List, Some, IfOk, IfSome, IsTrue, length, string_bytes};
 ghost use Rattle.std.specs.Iterator.{YieldsFirst, at_most};
 ghost use Rattle.std.specs.List.{All};
 ghost use Rattle.hnodes.specs.Vocabulary.{after_each, ancestors_of, children_of, inside_from, is_among, order, roots, siblings_from, texts, way_up, AreNodes};
@@ -53,6 +53,7 @@ impl Tree {
     pub fn descendants(&self, at: NodeId) -> Descendants
         requires { at < self.now.made }
         ensures order { result ≡ order (children_of at self.now.trees) }
+        ensures few { length result ≤ self.now.made }
         ensures within { All (λ n. n < self.now.made) result }
         ensures nodes { AreNodes self.now }
     {

@@ -11,7 +11,7 @@ use std::alloc::{AllocError, Global};
 fn is_same(x: &Attr, y: &Attr) -> bool
     ensures { result ≡ same_attribute nat_eq (attribute_of x.now) (attribute_of y.now) }
 {
-    x.name == y.name && x.value == y.value
+    x.name() == y.name() && x.value() == y.value()
 }
 
 fn contains(attrs: &[Attr], attr: &Attr) -> bool
@@ -31,7 +31,7 @@ fn contains_by_name(names: &Chains, attrs: &[Attr], attr: &Attr) -> bool
     requires { names.now ≡ numbers_of attrs.now }
     ensures { result ≡ list_any (same_attribute nat_eq (attribute_of attr.now)) (map attribute_of attrs.now) }
 {
-    let mut place = names.last(name_number(attr.name));
+    let mut place = names.last(name_number(attr.name()));
     while place > 0 {
         if is_same(attr, &attrs[place - 1]) {
             return true;

@@ -23,8 +23,8 @@ fn feed_name(keys: Keys, name: NameId) -> DefaultHasher
 fn hash_attr(keys: Keys, attr: &Attr) -> u64
     ensures { result ≡ hash_of keys (attribute_of attr.now) }
 {
-    let mut hasher = feed_name(keys, attr.name);
-    hasher.write(attr.value.as_bytes());
+    let mut hasher = feed_name(keys, attr.name());
+    hasher.write(attr.value().as_bytes());
     hasher.finish()
 }
 

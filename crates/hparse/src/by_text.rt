@@ -69,6 +69,6 @@ impl<'a> Iterator for AttributeTexts<'a> {
     fn next(&mut self) -> Option<(&'a str, &'a str)> {
         let (attr, rest) = self.attrs.split_first()?;
         self.attrs = rest;
-        Some((self.names.text(attr.name), &attr.value))
+        Some((self.names.text(attr.name()), attr.value()))
     }
 }

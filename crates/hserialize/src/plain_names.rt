@@ -111,5 +111,5 @@ fn have_plain_names(names: &Names, attrs: &[Attr]) -> bool
 {
     attrs
         .iter()
-        .all(|attr| is_plain_name(names.text(attr.name)))
+        .all(|attr| is_plain_name(names.text(attr.name())))
 }

@@ -42,7 +42,7 @@ fn put_start_tag<W: Target>(
 {
     put_before(out, b"<", names.text(name))?;
     for attr in attrs {
-        put_attribute(out, escaping, names.text(attr.name), &attr.value)?;
+        put_attribute(out, escaping, names.text(attr.name()), attr.value())?;
     }
     put(out, b">")
 }

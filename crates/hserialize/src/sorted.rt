@@ -28,7 +28,7 @@ fn enter<'a>(entries: &mut Vec<NamedAttr<'a>>, names: &'a Names, attrs: &'a [Att
     entries.clear();
     for attr in attrs {
         let place = entries.len();
-        add(entries, (names.text(attr.name), place, &attr.value));
+        add(entries, (names.text(attr.name()), place, attr.value()));
     }
 }
 

@@ -27,7 +27,7 @@ module _ (before after : Texts) (grows : Grows before after) (are : AreNames aft
   }
 
   -- it is the first of its name
-  pub first_ends : (value : Attr) → first ≡ true → value.name ≡ id → string_bytes value.value ≡ a.value → new.attrs.items ≡ old.attrs.items ++ value ∷ []
+  pub first_ends : (value : Attr) → first ≡ true → value.name ≡ id → value.value ≡ a.value → new.attrs.items ≡ old.attrs.items ++ value ∷ []
       → HasAttributes after new (parts ++ part ∷ []) × (repeated (names_after [] parts) part.attribute ≡ [])
   first_ends value one name is_value attrs =
       let none : is_known (names_after [] parts) (a.name) ≡ false = known ∙ ap not one in (

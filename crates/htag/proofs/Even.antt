@@ -32,10 +32,10 @@ quiet_held table in_value _ _ (IsHeld.in_number base value sign digits text is i
     ap (all is_quiet) is ∙ all-append is_quiet sign digits (quiet_sign base sign is_sign) (quiet_digits base digits are)
 
 -- no character of a reference is a fault in a value
-abbrev not_odd : ℕ → Bool
+abbrev pub not_odd : ℕ → Bool
 not_odd c = not (is_odd c)
 
-even_of : (text : List Placed) → all not_odd text ≡ true → is_even text
+pub even_of : (text : List Placed) → all not_odd text ≡ true → is_even text
 even_of [] h = refl
 even_of (p ∷ ps) h =
     let parts = and_parts (not_odd p.ch) (all not_odd ps) h in

@@ -1,7 +1,7 @@
 -- What a walk has read stays read: where more is known of what follows, and where names are added.
-use Rattle.htag.proofs.Vocabulary.{◌≡◌, Bool, true, List, [], ◌++◌, sym, ap, ◌∙◌, append-nil, append_assoc, ParseError, Placed, Texts, Grows, begins, Entities, TagState, TagWalk, Part, parts_text, attributes_after, ends_name, names_after, HasAttributes, IsPast, IsInTag}
+use Rattle.htag.proofs.Vocabulary.{◌≡◌, Bool, true, List, [], ◌++◌, sym, ap, ◌∙◌, subst, append_assoc, ParseError, Placed, Texts, Grows, begins, Entities, TagState, TagWalk, Part, AreParts, parts_text, attributes_after, ends_name, names_after, string_bytes, HasAttributes, HasPhase, IsPast, IsInTag}
 use Rattle.htag.specs.declared.tag_state.TagState.TheVariants as phase
-use Rattle.htag.proofs.Parts.{begins-more}
+use Rattle.htag.proofs.Parts.{begins-more, holds_same}
 use Rattle.htag.proofs.Naming.{numbers_kept, attrs_kept}
 
 past_more : (ph : TagState) (a b : Bool) → (a ≡ true → b ≡ true) → IsPast ph a → IsPast ph b
@@ -15,8 +15,8 @@ past_more (phase.Quoted mark) a b f h = f h
 past_more phase.Unquoted a b f h = f h
 past_more phase.AfterQuoted a b f h = f h
 
-pub looks_ahead : (table : Entities) (names : Texts) (walk : TagWalk) (body : List Placed) (errors : List ParseError) → IsInTag table names walk body [] errors → (ahead : List Placed) → IsInTag table names walk body ahead errors
-looks_ahead table names walk body errors h ahead = record {
+pub looks_further : (table : Entities) (names : Texts) (walk : TagWalk) (body ahead : List Placed) (errors : List ParseError) → IsInTag table names walk body ahead errors → (more : List Placed) → IsInTag table names walk body (ahead ++ more) errors
+looks_further table names walk body ahead errors h more = record {
   name = h.name;
   parts = h.parts;
   held = h.held;
@@ -25,16 +25,40 @@ looks_ahead table names walk body errors h ahead = record {
   first = h.first;
   passes = h.passes;
   name_is = h.name_is;
-  are_parts = λ end more. h.are_parts end (ahead ++ more);
+  are_parts = λ end others. subst (λ (x : List Placed). AreParts table end h.parts (h.held ++ x)) (sym (append_assoc ahead more others)) (h.are_parts end (more ++ others));
   errors_are = h.errors_are;
   has_attributes = h.has_attributes;
   past = past_more walk.phase _ _ further h.past;
   has_phase = h.has_phase;
 } where
-  further : begins ends_name (parts_text h.parts ++ (h.held ++ [])) ≡ true → begins ends_name (parts_text h.parts ++ (h.held ++ ahead)) ≡ true
+  further : begins ends_name (parts_text h.parts ++ (h.held ++ ahead)) ≡ true → begins ends_name (parts_text h.parts ++ (h.held ++ (ahead ++ more))) ≡ true
   further e =
-      ap (begins ends_name) (sym (append_assoc (parts_text h.parts) h.held ahead))
-      ∙ begins-more ends_name (parts_text h.parts ++ h.held) ahead (ap (λ (x : List Placed). begins ends_name (parts_text h.parts ++ x)) (sym (append-nil h.held)) ∙ e)
+      ap (λ (x : List Placed). begins ends_name (parts_text h.parts ++ x)) (sym (append_assoc h.held ahead more)) ∙ ap (begins ends_name) (sym (append_assoc (parts_text h.parts) (h.held ++ ahead) more))
+      ∙ begins-more ends_name (parts_text h.parts ++ (h.held ++ ahead)) more e
+
+pub looks_ahead : (table : Entities) (names : Texts) (walk : TagWalk) (body : List Placed) (errors : List ParseError) → IsInTag table names walk body [] errors → (ahead : List Placed) → IsInTag table names walk body ahead errors
+looks_ahead table names walk body errors h ahead = looks_further table names walk body [] errors h ahead
+
+-- before an attribute no other value matters
+pub other_value : (table : Entities) (names : Texts) (walk new : TagWalk) (body ahead : List Placed) (errors : List ParseError) → IsInTag table names walk body ahead errors → walk.phase ≡ phase.BeforeAttribute → new.phase ≡ walk.phase → new.name ≡ walk.name → new.seen ≡ walk.seen → new.attrs ≡ walk.attrs → new.any ≡ walk.any
+    → IsInTag table names new body ahead errors
+other_value table names walk new body ahead errors h before same named seen attrs any =
+    let none = subst (λ (x : TagState). HasPhase x table walk h.parts h.held h.own) before h.has_phase in
+    record {
+      name = h.name;
+      parts = h.parts;
+      held = h.held;
+      own = h.own;
+      body_is = h.body_is;
+      first = h.first;
+      passes = h.passes;
+      name_is = ap string_bytes named ∙ h.name_is;
+      are_parts = h.are_parts;
+      errors_are = h.errors_are;
+      has_attributes = holds_same names walk new h.parts seen attrs any h.has_attributes;
+      past = subst (λ (x : TagState). IsPast x (begins ends_name (parts_text h.parts ++ (h.held ++ ahead)))) (sym same) h.past;
+      has_phase = subst (λ (x : TagState). HasPhase x table new h.parts h.held h.own) (sym (same ∙ before)) none;
+    }
 
 pub attributes_grow : (old new : Texts) → Grows old new → (walk : TagWalk) (parts : List Part) → HasAttributes old walk parts → HasAttributes new walk parts
 attributes_grow old new grows walk parts h = record {

@@ -7,23 +7,27 @@ use Rattle.htag.specs.Steps.{IsBegun}
 use Rattle.htag.proofs.Parts.{begins-more, holds_same}
 
 -- a tag has begun, and this is its name so far
-pub begun_in_tag : (kind : TagKind) (walk : TagWalk) → IsBegun kind walk → (table : Entities) (names : Texts) (letters : List Placed) → begins is_letter letters ≡ true → all is_letter letters ≡ true → string_bytes walk.name ≡ name_bytes letters
-    → IsInTag table names walk letters [] []
-begun_in_tag kind walk b table names letters first are named = record {
-  name = letters;
+pub name_begun : (kind : TagKind) (walk : TagWalk) → IsBegun kind walk → (table : Entities) (names : Texts) (text : List Placed) → begins is_letter text ≡ true → all (λ c. not (ends_name c)) text ≡ true → null_errors text ≡ [] → string_bytes walk.name ≡ name_bytes text
+    → IsInTag table names walk text [] []
+name_begun kind walk b table names text first stay no_null named = record {
+  name = text;
   parts = [];
   held = [];
   own = [];
-  body_is = sym (append-nil letters);
+  body_is = sym (append-nil text);
   first = first;
-  passes = letters_pass letters are;
+  passes = stay;
   name_is = named;
   are_parts = λ end more. tt;
-  errors_are = sym (no_null letters are) ∙ sym (append-nil (null_errors letters)) ∙ sym (append-nil (null_errors letters ++ []));
+  errors_are = sym no_null ∙ sym (append-nil (null_errors text)) ∙ sym (append-nil (null_errors text ++ []));
   has_attributes = record { numbers = []; seen = b.seen; named = tt; attributes = subst (λ (x : List Attr). AttrsMean names x []) (sym b.none) tt; any = b.not_any };
   past = subst (λ (x : TagState). IsPast x false) (sym b.in_name) tt;
   has_phase = subst (λ (x : TagState). HasPhase x table walk [] [] []) (sym b.in_name) (refl, refl, refl);
-} where
+}
+
+pub begun_in_tag : (kind : TagKind) (walk : TagWalk) → IsBegun kind walk → (table : Entities) (names : Texts) (letters : List Placed) → begins is_letter letters ≡ true → all is_letter letters ≡ true → string_bytes walk.name ≡ name_bytes letters
+    → IsInTag table names walk letters [] []
+begun_in_tag kind walk b table names letters first are named = name_begun kind walk b table names letters first (letters_pass letters are) (no_null letters are) named where
   letters_pass : (xs : List Placed) → all is_letter xs ≡ true → all (λ c. not (ends_name c)) xs ≡ true
   letters_pass [] h = refl
   letters_pass (x ∷ xs) h =
@@ -40,7 +44,7 @@ begun_in_tag kind walk b table names letters first are named = record {
       let other : eqb x.ch 0 ≡ false = grind (arith, nat_tests) in
       rw other (no_null xs parts.1)
 
-module _ (table : Entities) (names : Texts) (walk : TagWalk) (body fed : List Placed) (errors : List ParseError) (h : IsInTag table names walk body fed errors) (in_name : walk.phase ≡ phase.Name) where
+module _ (table : Entities) (names : Texts) (walk : TagWalk) (body ahead : List Placed) (errors : List ParseError) (h : IsInTag table names walk body ahead errors) (in_name : walk.phase ≡ phase.Name) where
   nothing : (h.parts ≡ []) × (h.held ≡ []) × (h.own ≡ [])
   nothing = subst (λ (x : TagState). HasPhase x table walk h.parts h.held h.own) in_name h.has_phase
 
@@ -51,9 +55,9 @@ module _ (table : Entities) (names : Texts) (walk : TagWalk) (body fed : List Pl
   plain = h.errors_are ∙ ap (λ (x : List Part). tag_errors h.name x ++ h.own) nothing.0 ∙ ap (λ (x : List ParseError). (null_errors h.name ++ []) ++ x) nothing.2 ∙ append-nil (null_errors h.name ++ []) ∙ append-nil (null_errors h.name)
 
   -- it goes on
-  pub name_grows : (new : TagWalk) (later : List ParseError) → new.phase ≡ walk.phase → new.seen ≡ walk.seen → new.attrs ≡ walk.attrs → new.any ≡ walk.any → string_bytes new.name ≡ string_bytes walk.name ++ name_bytes fed
+  pub name_grows : (fed : List Placed) (new : TagWalk) (later : List ParseError) → new.phase ≡ walk.phase → new.seen ≡ walk.seen → new.attrs ≡ walk.attrs → new.any ≡ walk.any → string_bytes new.name ≡ string_bytes walk.name ++ name_bytes fed
       → later ≡ errors ++ null_errors fed → all (λ c. not (ends_name c)) fed ≡ true → IsInTag table names new (body ++ fed) [] later
-  name_grows new later same seen attrs any named later_is stay = record {
+  name_grows fed new later same seen attrs any named later_is stay = record {
     name = h.name ++ fed;
     parts = [];
     held = [];
@@ -70,7 +74,7 @@ module _ (table : Entities) (names : Texts) (walk : TagWalk) (body fed : List Pl
   }
 
   -- it ends before white space, `/` or `>`
-  pub name_ends : (new : TagWalk) → new.name ≡ walk.name → new.seen ≡ walk.seen → new.attrs ≡ walk.attrs → new.any ≡ walk.any → new.phase ≡ phase.BeforeAttribute → begins ends_name fed ≡ true → IsInTag table names new body fed errors
+  pub name_ends : (new : TagWalk) → new.name ≡ walk.name → new.seen ≡ walk.seen → new.attrs ≡ walk.attrs → new.any ≡ walk.any → new.phase ≡ phase.BeforeAttribute → begins ends_name ahead ≡ true → IsInTag table names new body ahead errors
   name_ends new named seen attrs any next ends = record {
     name = h.name;
     parts = [];
@@ -83,6 +87,6 @@ module _ (table : Entities) (names : Texts) (walk : TagWalk) (body fed : List Pl
     are_parts = λ end more. tt;
     errors_are = plain ∙ sym (append-nil (null_errors h.name)) ∙ sym (append-nil (null_errors h.name ++ []));
     has_attributes = subst (HasAttributes names new) nothing.0 (holds_same names walk new h.parts seen attrs any h.has_attributes);
-    past = subst (λ (x : TagState). IsPast x (begins ends_name fed)) (sym next) ends;
+    past = subst (λ (x : TagState). IsPast x (begins ends_name ahead)) (sym next) ends;
     has_phase = subst (λ (x : TagState). HasPhase x table new [] [] []) (sym next) (refl, refl);
   }

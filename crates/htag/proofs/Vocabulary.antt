@@ -6,9 +6,7 @@ pub use Rattle.charref.specs.Reference.{Entities, Piece, IsReference, ampersand,
 pub use Rattle.charref.specs.declared.reference.Reference.{Reference}
 pub use Rattle.hmarkup.proofs.Marks.{and_parts, and_both, eqb_self}
 pub use Rattle.hmarkup.proofs.Parts.{name_bytes-append}
-pub use Rattle.htag.specs.AtOnce.{HasReadParts}
 pub use Rattle.htag.specs.Attributes.{AttrsMean}
-pub use Rattle.htag.specs.Run.{TakesPart}
 pub use Rattle.htag.specs.Seen.{HasSeen, has_number}
 pub use Rattle.htag.specs.Steps.{KeepsTag, EndsAttribute, attribute_of}
 pub use Rattle.htag.specs.Tag.{is_odd, AreParts, parts_text, tag_errors, ends_name, ends_attribute_name, ends_unquoted, attribute_name_errors, name_errors_here, Part, attributes_after, Attribute, IsPart, errors_after, has_attribute, named_by, kept, repeated, tag_close, attribute_part, value_errors, unquoted_errors, is_known}
@@ -20,7 +18,7 @@ pub use Rattle.htag.specs.declared.seen.Seen.{Seen}
 pub use Rattle.htag.specs.declared.tag_state.TagState.{TagState}
 pub use Rattle.htag.specs.declared.value.ValueWalk.{ValueWalk}
 pub use Rattle.htag.specs.declared.walk.TagWalk.{TagWalk}
-pub use Rattle.htext.proofs.Runs.{all_placed, placed_part, plain_drop}
+pub use Rattle.htext.proofs.Runs.{all_placed}
 pub use Rattle.htext.specs.Run.{is_plain_byte, is_unquoted_byte, is_word_byte}
 pub use Rattle.names.proofs.Handing.{grows_not, grows_on}
 pub use Rattle.names.proofs.Words.{all_weaker, all-characters}

@@ -1,6 +1,7 @@
--- Runs of plain characters in a tag.
-use Rattle.std.specs.Prelude.{◌≡◌, ℕ, ◌≤◌, true, List, [], ◌++◌, length, take, Result, MatchResult}
+-- Runs of clean characters in a tag.
+use Rattle.std.specs.Prelude.{◌≡◌, ℕ, ◌+◌, ◌≤◌, Bool, true, false, List, ◌++◌, length, take, drop, Result, MatchResult}
 use Rattle.std.specs.List.{list_all}
+use Rattle.std.specs.Str.{chars}
 use Rattle.names.specs.declared.error.ParseError.{ParseError}
 use Rattle.names.specs.declared.placed.Placed.{Placed}
 use Rattle.names.specs.declared.refusal.Refusal.{Refusal}
@@ -8,30 +9,34 @@ use Rattle.names.specs.declared.refusal.Refusal.TheVariants.{Memory}
 use Rattle.names.specs.Names.{Texts}
 use Rattle.names.specs.Placed.{placed}
 use Rattle.charref.specs.Reference.{Entities}
-use Rattle.htext.specs.Run.{is_plain_byte, is_word_byte}
+use Rattle.htext.specs.Run.{is_word_byte}
 use Rattle.htag.specs.declared.walk.TagWalk.{TagWalk}
-use Rattle.htag.specs.TagWalk.{IsInTag}
+use Rattle.htag.specs.TagWalk.{IsInTag, IsWholeTag, WholeOrNot}
 
--- a run of plain characters, and a place in it
-pub record IsPlainFrom (from : ℕ) (run : List ℕ) : Type 0 where
-  pub plain : list_all is_plain_byte run ≡ true
-  pub within : from ≤ length run
+-- words of this length at the front of a run are put after this text
+pub record PushesWords (old run : List ℕ) (count : ℕ) (new : List ℕ) : Type 0 where
+  pub few : count ≤ length run
+  pub words : list_all is_word_byte (take count run) ≡ true
+  pub bytes : new ≡ old ++ take count run
 
--- words of this length at the front of a rest of a run are put after this text
-pub record PushesWords (old rest : List ℕ) (count : ℕ) (new : List ℕ) : Type 0 where
-  pub few : count ≤ length rest
-  pub words : list_all is_word_byte (take count rest) ≡ true
-  pub bytes : new ≡ old ++ take count rest
+-- what comes next in a run after this many bytes of it, the first of which is at `at`
+abbrev pub next_at : ℕ → List ℕ → ℕ → List Placed
+next_at at run count = placed (at + count) (take 1 (chars (drop count run)))
 
--- The tag goes on with the bytes of the run between these two places, the first byte of the run at this one, which changes neither names nor errors.
-pub record TakesPart (old : TagWalk) (run : List ℕ) (at from to : ℕ) (new : TagWalk) : Type 0 where
-  pub few : to ≤ length run
-  pub kind_is : new.kind ≡ old.kind
-  pub takes : (table : Entities) (names : Texts) (body : List Placed) (errors : List ParseError)
-      → IsInTag table names old (body ++ placed at (take from run)) [] errors → IsInTag table names new (body ++ placed at (take to run)) [] errors
+-- What taking characters of this run does, the first of which is at this place, after a text of a tag: the tag goes on with as many bytes of
+-- them as the answer says, or it may have ended; or the tag goes on, and what comes next is known to.
+abbrev pub TakesWhole : Entities → Texts → List Placed → ℕ → List ℕ → Result ℕ Refusal → TagWalk → List ParseError → Type 0
+TakesWhole table names body at run answer walk errors =
+    MatchResult answer (λ count. IsInTag table names walk (body ++ placed at (chars (take count run))) (next_at at run count) errors) (λ e. e ≡ Memory)
 
--- What taking a front of this run does, the first of whose characters is at this place, after a text of a tag: the tag goes on
--- with as many of them as the answer says.
-abbrev pub TakesRun : Entities → Texts → List Placed → ℕ → List ℕ → Result ℕ Refusal → TagWalk → List ParseError → Type 0
+abbrev pub EndsOrNot : Bool → Entities → Texts → TagWalk → List Placed → List Placed → List ParseError → Type 0
+EndsOrNot true table names walk body ahead errors = IsWholeTag table names walk body errors
+EndsOrNot false table names walk body ahead errors = IsInTag table names walk body ahead errors
+
+abbrev pub TakesFront : Entities → Texts → List Placed → ℕ → List ℕ → Result (ℕ × Bool) Refusal → TagWalk → List ParseError → Type 0
+TakesFront table names body at run answer walk errors =
+    MatchResult answer (λ it. EndsOrNot it.1 table names walk (body ++ placed at (chars (take it.0 run))) (next_at at run it.0) errors) (λ e. e ≡ Memory)
+
+abbrev pub TakesRun : Entities → Texts → List Placed → ℕ → List ℕ → Result (ℕ × Bool) Refusal → TagWalk → List ParseError → Type 0
 TakesRun table names body at run answer walk errors =
-    MatchResult answer (λ count. IsInTag table names walk (body ++ placed at (take count run)) [] errors) (λ e. e ≡ Memory)
+    MatchResult answer (λ it. WholeOrNot it.1 table names walk (body ++ placed at (chars (take it.0 run))) errors) (λ e. e ≡ Memory)

@@ -28,13 +28,16 @@ pub record IsBegun (kind : TagKind) (walk : TagWalk) : Type 0 where
 abbrev pub attribute_of : TagWalk → Attribute
 attribute_of walk = record { name = string_bytes walk.attribute; value = string_bytes walk.value.text; at = walk.place }
 
--- An attribute has been read to its end: it is kept, or reported as a duplicate.
-pub record EndsAttribute (before after : Texts) (old : TagWalk) (errors : List ParseError) (new : TagWalk) (later : List ParseError) : Type 0 where
+-- An attribute has been read to its end: this one is kept, or reported as a duplicate.
+pub record EndsAs (it : Attribute) (before after : Texts) (old : TagWalk) (errors : List ParseError) (new : TagWalk) (later : List ParseError) : Type 0 where
   pub kind_is : new.kind ≡ old.kind
   pub phase_is : new.phase ≡ phase.BeforeAttribute
   pub name_is : new.name ≡ old.name
-  pub ends : (parts : List Part) (part : Part) → part.attribute ≡ Some (attribute_of old) → HasAttributes before old parts
+  pub ends : (parts : List Part) (part : Part) → part.attribute ≡ Some it → HasAttributes before old parts
       → HasAttributes after new (parts ++ part ∷ []) × (later ≡ errors ++ repeated (names_after [] parts) part.attribute)
+
+abbrev pub EndsAttribute : Texts → Texts → TagWalk → List ParseError → TagWalk → List ParseError → Type 0
+EndsAttribute before after old = EndsAs (attribute_of old) before after old
 
 -- The value of an attribute has been read to its end, and the attribute with it: this value, and these errors in between.
 pub record EndsAttributeValue (before after : Texts) (old : TagWalk) (errors : List ParseError) (new : TagWalk) (later : List ParseError) : Type 0 where

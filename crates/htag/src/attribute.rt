@@ -1,7 +1,7 @@
 //! An attribute of a tag.
 
-ghost use Rattle.std.specs.Prelude.{◌≡◌, ◌∷◌, ◌++◌, List, [], OnOk, MatchResult};
-ghost use Rattle.htag.specs.Vocabulary.{Character, Texts, Grows, Entities, EndsAttribute, EndsAttributeValue, BeginsAttribute, AddsToName, IsInTag, StepsInTag, TakesInTag, Memory};
+ghost use Rattle.std.specs.Prelude.{◌≡◌, ◌∷◌, ◌++◌, List, [], slice_get, Some, IfErr, IfOk, OnOk, MatchResult};
+ghost use Rattle.htag.specs.Vocabulary.{AreNames, Attribute, EndsAs, Character, Texts, Grows, Entities, EndsAttribute, EndsAttributeValue, BeginsAttribute, AddsToName, IsInTag, StepsInTag, TakesInTag, Memory};
 
 use crate::push::{Errors, ends_name, keep_if, keep_null, push_lowered};
 use crate::tag_state::TagState;
@@ -9,10 +9,9 @@ use crate::walk::TagWalk;
 use charref::Table;
 use names::{Attr, ErrorCode, Names, ParseError, Placed, Refusal};
 use std::alloc::AllocError;
-use std::mem;
 
 /// The most names that numbers of 32 bits tell apart.
-pub(crate) const MAX_NUMBER: usize = 4_294_967_295;
+const MAX_NUMBER: usize = 4_294_967_295;
 
 impl<'t> TagWalk<'t> {
     /// Begins an attribute with the first character of its name.
@@ -220,7 +219,7 @@ impl<'t> TagWalk<'t> {
         self.end_attribute(names, errors)
     }
 
-    /// An attribute has been read: keeps the first one of its name, as leaving the attribute name state says (`#attribute-name-state`).
+    /// An attribute has been read: keeps the first one of its name.
     #[inline(never)]
     pub(crate) fn end_attribute(
         &mut self,
@@ -230,16 +229,29 @@ impl<'t> TagWalk<'t> {
         ensures ended { MatchResult result (λ _. EndsAttribute names.old names.new self.old errors.old.items self.new errors.new.items) (λ e. e ≡ Memory) }
         ensures grows { Grows names.old names.new }
     {
-        let id = names.intern(self.alloc, &self.attribute)?;
-        let number = id.index();
+        let name = names.intern(self.alloc, &self.attribute)?;
+        let attr = Attr::new(name, &self.value.text, self.alloc)?;
+        self.keep(attr, errors)
+    }
+
+    /// Keeps an attribute that begins at `place`, if it is the first of its name, as leaving the attribute name state says
+    /// (`#attribute-name-state`).
+    #[inline(always)]
+    pub(crate) fn keep(&mut self, attr: Attr, errors: &mut Errors) -> Result<(), Refusal>
+        ensures keeps { (before after : Texts) (it : Attribute) → Grows before after → AreNames after → slice_get after attr.name ≡ Some it.name
+            → attr.value ≡ it.value → it.at ≡ self.old.place
+            → OnOk result (EndsAs it before after self.old errors.old.items self.new errors.new.items) }
+        ensures memory { IfErr result (λ e. e ≡ Memory) }
+        ensures kind { OnOk result (self.new.kind ≡ self.old.kind) }
+    {
+        let number = attr.name().index();
         if number >= MAX_NUMBER {
             return Err(Refusal::Memory);
         }
         self.phase = TagState::BeforeAttribute;
         self.any = true;
         if self.seen.add(number)? {
-            let value = mem::replace(&mut self.value.text, String::new(self.alloc));
-            self.attrs.push(Attr { name: id, value })?;
+            self.attrs.push(attr)?;
         } else {
             errors.push(ParseError {
                 code: ErrorCode::DuplicateAttribute,

@@ -8,6 +8,7 @@ mod kind;
 mod pending;
 mod piece;
 mod push;
+mod quiet;
 mod run;
 mod seen;
 mod stamp;
@@ -16,6 +17,6 @@ mod tag_state;
 mod value;
 mod walk;
 
-pub use at_once::bare_name;
+pub use at_once::{bare_name, is_bare, tag_name};
 pub use kind::TagKind;
 pub use walk::TagWalk;

@@ -1,7 +1,7 @@
 //! The pieces of a value: characters and references (HTML Standard, `#attribute-value-(double-quoted)-state` to
 //! `#attribute-value-(unquoted)-state` and `#character-reference-state` to `#numeric-character-reference-end-state`).
 
-ghost use Rattle.std.specs.Prelude.{◌≡◌, ◌∷◌, ◌++◌, ◌-◌, ℕ, [], true, false, OnOk, string_bytes, length, drop, encode_utf8_all, Bool, ◌==◌, MatchBool};
+ghost use Rattle.std.specs.Prelude.{◌≡◌, ◌∷◌, ◌++◌, ◌-◌, ℕ, [], true, false, OnOk, string_bytes, length, drop, encode_utf8_all};
 ghost use Rattle.htag.specs.Vocabulary.{Entities, Handed, plain_piece, NoValue, TakesInValue, EndsValue, TellsReference, pieces_errors, AddsPlain, GivesBack};
 
 use crate::pending::Pending;
@@ -46,13 +46,6 @@ impl<'t> ValueWalk<'t> {
             Pending::Reference(walk) => self.in_reference(walk, table, quoted, next, errors),
             Pending::Run => self.in_run(table, quoted, next, errors),
         }
-    }
-
-    /// Whether no reference is being read.
-    pub fn is_between(&self) -> bool
-        ensures { MatchBool result (self.now.reading ≡ Pending.Nothing) (Unit {0}) }
-    {
-        matches!(self.reading, Pending::Nothing)
     }
 
     /// The value ends.

@@ -1,9 +1,8 @@
 //! Characters and errors, added to what was read.
 
-ghost use Rattle.std.specs.Prelude.{◌≡◌, ◌≤◌, ◌==◌, ◌&&◌, ◌∷◌, ◌++◌, [], true, drop, length, take, not, IfOk, OnOk, string_bytes, encode_utf8_all};
-ghost use Rattle.std.specs.List.{list_all};
+ghost use Rattle.std.specs.Prelude.{◌≡◌, ◌==◌, ◌&&◌, ◌∷◌, ◌++◌, [], not, IfOk, OnOk, string_bytes, encode_utf8_all};
 ghost use Rattle.std.specs.Char.{encode_utf8, to_ascii_lowercase};
-ghost use Rattle.htag.specs.Vocabulary.{error_if, null_errors, without_null, is_plain_byte, ends_name, is_odd, IsPlainFrom, PushesWords};
+ghost use Rattle.htag.specs.Vocabulary.{error_if, null_errors, without_null, ends_name, is_odd, PushesWords};
 
 use htext::word_run;
 use names::{ErrorCode, ParseError, Placed};
@@ -84,35 +83,12 @@ pub(crate) fn push_all(text: &mut String, characters: &[char]) -> Result<(), All
     Ok(())
 }
 
-/// What is left of a run of plain characters from this place on.
+/// The words at the front of a run; returns their length.
 #[inline(always)]
-pub(crate) fn rest_of(run: &str, from: usize) -> &str
-    requires plain { list_all is_plain_byte run.now ≡ true }
-    requires within { from ≤ length run.now }
-    ensures value { result.now ≡ drop from run.now }
-    ensures plain { list_all is_plain_byte result.now ≡ true }
+pub(crate) fn push_words(text: &mut String, run: &str) -> Result<usize, AllocError>
+    ensures { IfOk result (λ count. PushesWords (string_bytes text.old) run.now count (string_bytes text.new)) }
 {
-    &run[from..]
-}
-
-/// This many characters at the front of a run of plain ones.
-#[inline(always)]
-pub(crate) fn push_front(text: &mut String, run: &str, count: usize) -> Result<(), AllocError>
-    requires plain { list_all is_plain_byte run.now ≡ true }
-    requires within { count ≤ length run.now }
-    ensures { OnOk result (string_bytes text.new ≡ string_bytes text.old ++ take count run.now) }
-{
-    text.push_str(&run[..count])
-}
-
-/// The words at the front of what is left of a run of plain characters from this place on; returns their length.
-#[inline(always)]
-pub(crate) fn push_words(text: &mut String, run: &str, from: usize) -> Result<usize, AllocError>
-    requires { IsPlainFrom from run.now }
-    ensures { IfOk result (λ count. PushesWords (string_bytes text.old) (drop from run.now) count (string_bytes text.new)) }
-{
-    let rest = rest_of(run, from);
-    let count = word_run(rest.as_bytes());
-    push_front(text, rest, count)?;
+    let count = word_run(run.as_bytes());
+    text.push_str(&run[..count])?;
     Ok(count)
 }

@@ -29,6 +29,7 @@ impl Seen {
     }
 
     /// Adds a name; returns whether the tag had none of this number.
+    #[inline(always)]
     pub fn add(&mut self, number: usize) -> Result<bool, AllocError>
         requires { number < 2 ^ 63 }
         ensures { IfOk result (λ first. (numbers : List ℕ) → HasSeen self.old numbers

@@ -1,7 +1,7 @@
 //! A walk through a tag.
 
-ghost use Rattle.std.specs.Prelude.{◌≡◌, ◌∷◌, ◌++◌, List, [], true, false, OnOk, IfOk, IfErr, MatchResult, string_bytes};
-ghost use Rattle.htag.specs.Vocabulary.{Character, Texts, Grows, all, begins, is_letter, name_bytes, Entities, Start, End, IsBegun, NoValue, IsInTag, TakesInTag, IsCutTag, Memory};
+ghost use Rattle.std.specs.Prelude.{◌≡◌, ◌∷◌, ◌++◌, ℕ, List, [], length, true, false, OnOk, IfOk, IfErr, MatchResult, string_bytes};
+ghost use Rattle.htag.specs.Vocabulary.{Character, Texts, Grows, all, begins, is_letter, name_bytes, Entities, Start, End, IsBegun, NoValue, IsInTag, TakesInTag, IsCutTag, IsName, Memory, placed};
 
 use crate::kind::TagKind;
 use crate::push::push_lowered;
@@ -69,6 +69,19 @@ impl<'t> TagWalk<'t> {
         self.name.clear();
         push_lowered(&mut self.name, ch)?;
         self.begin_parts(kind);
+        Ok(())
+    }
+
+    /// Begins a start tag with this front of its name, the characters of which stand for themselves.
+    #[inline(always)]
+    pub fn begin_start(&mut self, name: &str) -> Result<(), AllocError>
+        ensures kind { OnOk result (self.new.kind ≡ Start) }
+        ensures begun { OnOk result ((table : Entities) (names : Texts) (at : ℕ) → IsName name.now (length name.now)
+            → IsInTag table names self.new (placed at name.now) [] []) }
+    {
+        self.name.clear();
+        self.name.push_str(name)?;
+        self.begin_parts(TagKind::Start);
         Ok(())
     }
 
@@ -172,7 +185,8 @@ impl<'t> TagWalk<'t> {
         Ok(attrs)
     }
 
-    pub(crate) fn begin_parts(&mut self, kind: TagKind)
+    #[inline(always)]
+    fn begin_parts(&mut self, kind: TagKind)
         ensures begun { IsBegun kind self.new }
         ensures name { self.new.name ≡ self.old.name }
     {

@@ -74,17 +74,19 @@ both_pass : (first second third : ℕ → Bool) → ((c : ℕ) → first c ≡ t
 both_pass first second third joined [] f s = refl
 both_pass first second third joined (c ∷ cs) f s = grind (arith, joined c, both_pass first second third joined cs)
 
-of_long : (byte : ℕ) → 128 ≤ byte → is_text_byte byte ≡ true
-of_long byte l = grind (arith, nat_tests)
+-- a test that all bytes of characters outside ASCII pass
+module _ (test : ℕ → Bool) (of_long : (byte : ℕ) → 128 ≤ byte → test byte ≡ true) where
+  all_bytes : (c : ℕ) → test c ≡ true → list_all test (encode_utf8 c) ≡ true
+  all_bytes c h = elim (cases_lt c 128) [ inl one ↦ ap (list_all test) (encode_ascii c one) ∙ and_from _ _ h refl | inr above ↦ long_bytes test of_long c above ]
 
-text_bytes : (c : ℕ) → is_text_byte c ≡ true → list_all is_text_byte (encode_utf8 c) ≡ true
-text_bytes c h = grind (arith, nat_tests, encode_ascii c, long_bytes is_text_byte of_long c)
+  first_fails : (c : ℕ) → test c ≡ false → BeginsOutside test (encode_utf8 c)
+  first_fails c h = elim (cases_lt c 128) [
+    | inl one ↦ (c, [], encode_ascii c one, h)
+    | inr above ↦ (let no : test c ≡ true = of_long c above in absurd cc)
+  ]
 
-mark_bytes : (c : ℕ) → is_text_byte c ≡ false → BeginsOutside is_text_byte (encode_utf8 c)
-mark_bytes c h = elim (cases_lt c 128) [
-  | inl one ↦ (c, [], encode_ascii c one, h)
-  | inr above ↦ (let no : is_text_byte c ≡ true = of_long c above in absurd cc)
-]
+  pub front_of_test : (bytes : List ℕ) → IsUtf8 bytes → IsCut (prefix_len test bytes) bytes × (list_all test (chars (take (prefix_len test bytes) bytes)) ≡ true)
+  front_of_test bytes u = front test test all_bytes first_fails bytes u
 
 inner_bytes : (c : ℕ) → is_inner_byte c ≡ true → list_all is_inner_byte (encode_utf8 c) ≡ true
 inner_bytes c h = let one : c < 128 = grind (arith, nat_tests) in ap (list_all is_inner_byte) (encode_ascii c one) ∙ and_from _ _ h refl
@@ -105,7 +107,7 @@ module _ (run : List ℕ) (utf8 : IsUtf8 run) (clean : list_all is_clean (chars 
   pub text_front : IsCut (prefix_len is_text_byte run) run × (list_all is_plain (chars (take (prefix_len is_text_byte run) run)) ≡ true)
   text_front =
       let n : ℕ = prefix_len is_text_byte run in
-      let (cut, text) = front is_text_byte is_text_byte text_bytes mark_bytes run utf8 in
+      let (cut, text) = front_of_test is_text_byte (λ byte l. grind (arith, l, nat_tests)) run utf8 in
       (cut, both_pass is_clean is_text_byte is_plain plain_of_text (chars (take n run)) (clean_rest n run cut clean).0 text)
 
   pub inner_front : IsCut (prefix_len is_inner_byte run) run × (list_all is_plain_byte (take (prefix_len is_inner_byte run) run) ≡ true)

@@ -7,7 +7,7 @@ use Rattle.names.specs.Placed.{placed, is_alphanumeric, is_quote, is_space}
 use Rattle.htext.specs.Items.{CharItem, Character}
 use Rattle.htext.specs.declared.run.Halves.{Halves}
 use Rattle.htext.specs.declared.run.RunBytes.{RunBytes}
-use Rattle.htext.specs.declared.run.RunBytes.TheVariants.{Inner, Text, Clean, Alphanumeric, Word, Unquoted, Other}
+use Rattle.htext.specs.declared.run.RunBytes.TheVariants.{Inner, Text, Clean, Alphanumeric, Word, Unquoted, Quoted}
 
 -- a byte that is a character by itself, is in the text as it came but for an LF after a CR, raises no error, and is neither `<` nor `&`
 abbrev pub is_plain_byte : ℕ → Bool
@@ -38,9 +38,13 @@ is_inner_byte byte = is_ascii byte && is_text_byte byte && not (byte == 62)
 abbrev pub is_word_byte : ℕ → Bool
 is_word_byte byte = (nat_le 97 byte && nat_le byte 122) || (nat_le 48 byte && nat_le byte 58) || byte == 45 || byte == 46 || byte == 95
 
--- a byte that is neither white space nor a quote, `<`, `=`, `>` or the grave accent
+-- a byte that is neither white space nor a quote, `&`, `<`, `=`, `>` or the grave accent
 abbrev pub is_unquoted_byte : ℕ → Bool
-is_unquoted_byte byte = not (is_space byte || is_quote byte || byte == 60 || byte == 61 || byte == 62 || byte == 96)
+is_unquoted_byte byte = not (is_space byte || is_quote byte || byte == 38 || byte == 60 || byte == 61 || byte == 62 || byte == 96)
+
+-- a byte that is neither this one nor `&`
+abbrev pub is_quoted_byte : ℕ → ℕ → Bool
+is_quoted_byte mark byte = not (byte == mark || byte == 38)
 
 -- the bytes of a run of each kind
 abbrev pub is_of : RunBytes → ℕ → Bool
@@ -50,7 +54,7 @@ is_of Clean byte = is_clean_byte byte
 is_of Alphanumeric byte = is_alphanumeric byte
 is_of Word byte = is_word_byte byte
 is_of Unquoted byte = is_unquoted_byte byte
-is_of (Other mark) byte = not (byte == mark)
+is_of (Quoted mark) byte = is_quoted_byte mark byte
 
 abbrev pub is_not_of : RunBytes → ℕ → Bool
 is_not_of kind byte = not (is_of kind byte)

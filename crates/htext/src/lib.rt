@@ -11,7 +11,7 @@ pub mod sink;
 
 pub use decoder::{Decoder, MAX_INPUT};
 pub use run::{
-    alphanumeric_run, clean_run, inner_run, run_before, text_run, unquoted_run, word_run,
+    alphanumeric_run, clean_run, inner_run, quoted_run, text_run, unquoted_run, word_run,
 };
 pub use sink::CharSink;
 

@@ -1,11 +1,11 @@
 //! How long the run of bytes of one kind at the front of a text is, counted 16 bytes at a time.
 
-ghost use Rattle.std.specs.Prelude.{◌≡◌, ◌<◌, ◌≤◌, ◌==◌, ◌↔◌, ◌++◌, not, map, length, drop, IsTrue};
+ghost use Rattle.std.specs.Prelude.{◌≡◌, ◌<◌, ◌≤◌, ◌↔◌, ◌++◌, map, length, drop, IsTrue};
 ghost use Rattle.std.specs.Int.{is_in_range};
 ghost use Rattle.std.specs.List.{prefix_len};
 ghost use Rattle.std.specs.Simd.Lanes.{mask_l};
 ghost use Rattle.std.specs.Str.Lossy.{second_byte_min, second_byte_max};
-ghost use Rattle.htext.specs.Vocabulary.{is_alphanumeric, AreBad, IsBadAlone, is_inner_byte, is_clean_byte, is_of, is_not_of, is_text_byte, is_word_byte, is_unquoted_byte, shares_no_bit};
+ghost use Rattle.htext.specs.Vocabulary.{is_alphanumeric, AreBad, IsBadAlone, is_inner_byte, is_clean_byte, is_of, is_not_of, is_quoted_byte, is_text_byte, is_word_byte, is_unquoted_byte, shares_no_bit};
 
 use std::simd::prelude::*;
 
@@ -22,10 +22,10 @@ pub(crate) enum RunBytes {
     Alphanumeric,
     /// Small ASCII letters, digits, `-`, `.`, `:` and `_`.
     Word,
-    /// All but white space, quotes, `<`, `=`, `>` and the grave accent.
+    /// All but white space, quotes, `&`, `<`, `=`, `>` and the grave accent.
     Unquoted,
-    /// All but this one.
-    Other(u8),
+    /// All but this one and `&`.
+    Quoted(u8),
 }
 
 /// A set of bytes, by their low and high halves (four bits each): a byte is in it where the entries of its two halves share a bit, which
@@ -57,10 +57,10 @@ const WORD: Halves = Halves {
     high: [0, 0, 1, 2, 0, 4, 8, 2, 0, 0, 0, 0, 0, 0, 0, 0],
 };
 
-/// All but white space, quotes, `<`, `=`, `>` and the grave accent. 1 stands for the high half 0, 2 for 2, 4 for 3, 8 for 6, and 16 for others.
+/// All but white space, quotes, `&`, `<`, `=`, `>` and the grave accent. 1 stands for the high half 0, 2 for 2, 4 for 3, 8 for 6, and 16 for others.
 const UNQUOTED: Halves = Halves {
     low: [
-        21, 31, 29, 31, 31, 31, 31, 29, 31, 30, 30, 31, 26, 26, 27, 31,
+        21, 31, 29, 31, 31, 31, 29, 29, 31, 30, 30, 31, 26, 26, 27, 31,
     ],
     high: [1, 16, 2, 4, 16, 16, 8, 16, 16, 16, 16, 16, 16, 16, 16, 16],
 };
@@ -107,7 +107,7 @@ pub fn word_run(bytes: &[u8]) -> usize
     run(RunBytes::Word, bytes)
 }
 
-/// Counts the bytes before the first white space, quote, `<`, `=`, `>` or grave accent.
+/// Counts the bytes before the first white space, quote, `&`, `<`, `=`, `>` or grave accent.
 #[inline(always)]
 pub fn unquoted_run(bytes: &[u8]) -> usize
     ensures counted { result ≡ prefix_len is_unquoted_byte bytes.now }
@@ -116,13 +116,13 @@ pub fn unquoted_run(bytes: &[u8]) -> usize
     short_run(RunBytes::Unquoted, bytes)
 }
 
-/// Counts the bytes before the first one that is `mark`.
+/// Counts the bytes before the first `mark` or `&`.
 #[inline(always)]
-pub fn run_before(mark: u8, bytes: &[u8]) -> usize
-    ensures counted { result ≡ prefix_len (λ byte. not (byte == mark)) bytes.now }
+pub fn quoted_run(mark: u8, bytes: &[u8]) -> usize
+    ensures counted { result ≡ prefix_len (is_quoted_byte mark) bytes.now }
     ensures few { result ≤ length bytes.now }
 {
-    short_run(RunBytes::Other(mark), bytes)
+    short_run(RunBytes::Quoted(mark), bytes)
 }
 
 /// Counts the bytes at the front that are bad parts by themselves, up to this many.
@@ -240,7 +240,9 @@ fn stops(kind: RunBytes, bytes: u8x16) -> u64
         RunBytes::Alphanumeric => outside(ALPHANUMERIC, bytes),
         RunBytes::Word => outside(WORD, bytes),
         RunBytes::Unquoted => outside(UNQUOTED, bytes),
-        RunBytes::Other(mark) => bytes.simd_eq(u8x16::splat(mark)).to_bitmask(),
+        RunBytes::Quoted(mark) => {
+            (bytes.simd_eq(u8x16::splat(mark)) | bytes.simd_eq(u8x16::splat(b'&'))).to_bitmask()
+        }
     }
 }
 
@@ -271,8 +273,9 @@ fn is_in_run(kind: RunBytes, byte: u8) -> bool
             byte.is_ascii_lowercase() || matches!(byte, b'-' | b'.' | b'0'..=b':' | b'_')
         }
         RunBytes::Unquoted => {
-            !matches!(byte, b'"' | b'\'' | b'<' | b'=' | b'>' | b'`') && !byte.is_ascii_whitespace()
+            !matches!(byte, b'"' | b'&' | b'\'' | b'<' | b'=' | b'>' | b'`')
+                && !byte.is_ascii_whitespace()
         }
-        RunBytes::Other(mark) => byte != mark,
+        RunBytes::Quoted(mark) => byte != mark && byte != b'&',
     }
 }

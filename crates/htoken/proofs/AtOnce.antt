@@ -1,27 +1,24 @@
 -- Tags that stand whole in a run.
-use Rattle.htoken.proofs.Names.{◌≡◌, ◌≤◌, ◌<◌, ℕ, suc, ◌+◌, ◌-◌, true, false, ◌||◌, List, [], ◌∷◌, ◌++◌, length, take, drop, sym, refl, ap, ◌∙◌, subst, Result, Ok, Err, Option, Some, None, append-nil, arith, length-take-le, take-append-drop, IsUtf8-from_ascii, chars-nil, codes, is_some, slice_get, slice_index, list_all, chars, IsUtf8, ParseError, Placed, RawKind, RefusedName, Refusal, Memory, Texts, Grows, name_bytes, placed, raw_kind, refused_name, tag_named, is_plain_byte, IsCut, plain_chars, hand_one, Entities, TagWalk, IsInTag, IsWholeTag, State, Tokenizer, IsSpan, IsSpanOf, next, EndsTag, TakesPart, IsTag, start_tag, end_tag, tag_mark, Tok, Span, Start, End, Item, ItemToken, Event, HandedMeans, gives_item, has_refused, Reads, HasTaken, holds, Takes, take_took, IsHeld, IsLast, less, next_place, slice_range, IsBareName, bare_bytes, bare_front, bare_no_errors, bare_placed, bare_plain, bare_within, tag, MatchResult, get_or, get_or-append_seam, IsCharBoundary, Handed}
+use Rattle.htoken.proofs.Names.{◌≡◌, ◌≤◌, ◌<◌, ℕ, suc, ◌+◌, ◌-◌, true, false, ◌||◌, List, [], ◌∷◌, ◌++◌, length, take, drop, sym, refl, ap, ◌∙◌, subst, Result, Ok, Err, Option, Some, None, append-nil, arith, length-take-le, take-append-drop, IsUtf8-from_ascii, chars-nil, codes, is_some, slice_get, slice_index, list_all, chars, IsUtf8, ParseError, Placed, RawKind, RefusedName, Refusal, Memory, Texts, Grows, name_bytes, placed, raw_kind, refused_name, tag_named, is_plain_byte, IsCut, plain_chars, hand_one, Entities, TagWalk, IsInTag, IsWholeTag, State, Tokenizer, IsSpan, IsSpanOf, next, EndsTag, TakesPart, IsTag, start_tag, end_tag, tag_mark, Tok, Span, Start, End, Item, ItemToken, Event, HandedMeans, gives_item, has_refused, Reads, HasTaken, holds, Takes, take_took, IsHeld, IsLast, less, next_place, slice_range, IsBareName, bare_bytes, bare_front, bare_no_errors, bare_placed, bare_plain, bare_within, tag, MatchResult, get_or, get_or-append_seam, IsCharBoundary, Handed, IsName, IsIn, named_plain, named_within}
 use Rattle.std.proofs.lemmas.Str.{IsCharBoundary-before_ascii}
 use Rattle.names.specs.declared.raw.RawKind.TheVariants as kind
 use Rattle.htag.specs.declared.kind.TagKind.TheVariants as which
 use Rattle.htoken.specs.declared.state.State.TheVariants as state
-use Rattle.htoken.proofs.Fronts.{each_ascii, part_taken, plain_ascii, takes_nothing}
+use Rattle.htag.proofs.Ascii.{ascii_cut}
+use Rattle.htoken.proofs.Fronts.{part_taken, plain_ascii, takes_nothing}
 use Rattle.htoken.proofs.Going.{spans_end}
 use Rattle.htoken.proofs.Handing.{span_given}
 use Rattle.htoken.proofs.InData.{between_data}
 use Rattle.htoken.proofs.InRun.{next_run}
 use Rattle.htoken.proofs.InTag.{tag_handed}
-use Rattle.htoken.proofs.InText.{ascii_chars}
+use Rattle.htoken.specs.Steps.{BeginsNamed}
 use Rattle.htoken.proofs.Reading.{held_in, kind_in, ran_out_before, reads_as, reads_held}
 
 -- A FRONT OF PLAIN BYTES
 
 module _ (n : ℕ) (run : List ℕ) (within : n ≤ length run) (plain : list_all is_plain_byte (take n run) ≡ true) (u : IsUtf8 run) where
   pub plain_cut : IsCut n run
-  plain_cut = record {
-    within = within;
-    front = IsUtf8-from_ascii (take n run) (each_ascii (take n run) (plain_ascii (take n run) plain));
-    back = (ascii_chars (take n run) (drop n run) (plain_ascii (take n run) plain) (subst IsUtf8 (sym (take-append-drop n run)) u)).0;
-  }
+  plain_cut = ascii_cut n run within (plain_ascii (take n run) plain) u
 
   pub plain_taken : chars (take n run) ≡ take n run
   plain_taken = plain_chars (take n run) plain plain_cut.front
@@ -98,12 +95,19 @@ module _ (run rest : List ℕ) (size : ℕ) (u : IsUtf8 run) (run_is : run ≡ 4
       let two : at + size + 2 ≡ at + (size + 2) = omega arith in
       two ∙ plain_next (size + 2) run end_within end_plain u text at (omega arith) room
 
+-- another name
+pub name_cut : (run : List ℕ) (size : ℕ) → IsUtf8 run → IsName run size → IsCut size run
+name_cut run size u named = plain_cut size run (named_within [] run size named) (named_plain [] run size named) u
+
 -- WHAT IS AFTER A `<`
 
 module _ (table : Entities) (start : RawKind) (t : Tokenizer) (names : Texts) (text : List Placed) (taken : List Event) (h : Reads table start t names text [] taken) where
   -- memory ran out, and nothing was handed over
   pub memory_out : {S : Type 0} (gives : S → Item → Result (Unit {0}) Refusal → S → Type 0) (fed : List Placed) (s : S) (new : Tokenizer) → Takes gives table start text fed taken names s (Err Memory) s new
   memory_out gives fed s new = ran_out_before gives table start text fed names taken t h new s
+
+  pub memory_part : {S : Type 0} (gives : S → Item → Result (Unit {0}) Refusal → S → Type 0) (at : ℕ) (run : List ℕ) (s : S) (new : Tokenizer) (answer : Result ℕ Refusal) → answer ≡ Err Memory → TakesPart gives table start text at run taken names s answer s new
+  memory_part gives at run s new answer is = subst (λ (x : Result ℕ Refusal). TakesPart gives table start text at run taken names s x s new) (sym is) (memory_out gives (placed at (chars run)) s new)
 
   module _ (after_less : t.state ≡ state.Less) where
     held_less : (h.held ≡ less t ∷ []) × (t.raised.errors.items ≡ [])
@@ -133,36 +137,26 @@ module _ (table : Entities) (start : RawKind) (t : Tokenizer) (names : Texts) (t
           (ap (λ (x : Tokenizer). x.state) then) (ap (λ (x : Tokenizer). x.raised.errors.items) then ∙ held_less.1) (between_data _ new to_data)
           (span_given gives gives_token names [] token tok old s answer means (hand_one (gives_item gives gives_token) old s (ItemToken token) answer given))
 
-    -- A START TAG, as far as it is plain
+    -- A START TAG, of which this is the name so far
 
-    fits_data : (end : ℕ) (more : List Placed) (span : Span) → IsTag table end more span → IsSpan table end h.here more span
-    fits_data end more span is = subst (λ (k : RawKind). IsSpanOf k table end h.here more span) (sym here_data) (tag is)
-
-    held_then : (fed : List Placed) → less t ∷ fed ≡ h.held ++ fed
-    held_then fed = ap (λ (x : List Placed). x ++ fed) (sym held_less.0)
-
-    -- another walk through tags changes nothing
-    pub any_walk : (walk : TagWalk) → HasTaken table start (record t { tag = walk }) names text taken
-    any_walk walk = holds (reads_as h (record t { tag = walk }) names [] taken refl refl h.next_is h.stands refl h.name_is h.is_in (subst (λ (s : State). IsHeld s table names h.here (record t { tag = walk }) h.held []) (sym after_less) held_less))
-
-    module _ {S : Type 0} (gives : S → ParseError → Result (Unit {0}) Refusal → S → Type 0) (gives_token : S → Handed → Result (Unit {0}) Refusal → S → Type 0) (fed : List Placed) (place : ℕ) (next_is : place ≡ next_place (text ++ fed)) (walk : TagWalk) (is_start : walk.kind ≡ which.Start) where
-      pub plain_ends : (read : Texts) → Grows read names → IsWholeTag table read walk fed [] → (new : Tokenizer) (old s : S) (answer : Result (Unit {0}) Refusal) → EndsTag (gives_item gives gives_token) (record t { next = place; tag = walk }) names old answer new s
-          → Takes (gives_item gives gives_token) table start text fed taken names old answer s new
-      unfolding less_ahead reads_as
-      plain_ends read later whole =
-          tag_handed gives gives_token table start text fed names taken (record t { next = place }) (less_ahead fed place next_is) [] fed (held_then fed) (λ end more span e is. fits_data end more span is) (record t { next = place; tag = walk })
-          (record { kind_is = refl; last_is = refl; at_is = refl; stays = (refl, refl, refl) }) (sym (ap tag_mark is_start)) read later (subst (IsWholeTag table read walk fed) (sym held_less.1) whole)
-
-      pub plain_goes_on : IsInTag table names walk fed [] [] → (s : S) → Takes (gives_item gives gives_token) table start text fed taken names s (Ok tt) s (record t { next = place; tag = walk; state = state.Tag })
-      plain_goes_on inside s =
-          take_took [] refl ([], tt, (refl, refl)) (holds (reads_held h (record t { next = place; tag = walk; state = state.Tag }) fed refl refl next_is (λ end more. h.stands end (fed ++ more)) refl refl tt (record {
-            opening = [];
-            body = fed;
-            held_is = sym (held_then fed);
-            opens = sym (ap tag_mark is_start);
-            in_tag = subst (IsInTag table names walk fed []) (sym held_less.1) inside;
-            fits = λ end more others span e is. fits_data end more span is;
-          })))
+    pub name_begins : {S : Type 0} (gives : S → Item → Result (Unit {0}) Refusal → S → Type 0) (run : List ℕ) (at size count : ℕ) → IsUtf8 run → at + length run ≤ 0xFFFFFFFFFFFFFFFF → (new : Tokenizer) → (count ≡ size) × BeginsNamed t run at size new
+        → (s : S) → Takes gives table start text (placed at (chars (take count run))) taken names s (Ok tt) s new
+    name_begins gives run at size count u room new (size_is, begun) s =
+        let named = begun.named in
+        let fed : List Placed = placed at (chars (take size run)) in
+        let within = named_within [] run size named in
+        let plain = named_plain [] run size named in
+        let some : 0 < size = omega (arith, named.count_is) in
+        let then = begun.then in
+        subst (λ (n : ℕ). Takes gives table start text (placed at (chars (take n run))) taken names s (Ok tt) s new) (sym size_is) (take_took [] refl ([], tt, (refl, refl)) (holds (reads_held h new fed (ap (λ (x : Tokenizer). x.refused) then) (ap (λ (x : Tokenizer). x.table) then) (ap (λ (x : Tokenizer). x.next) then ∙ plain_next size run within plain u text at some room) (λ end more. h.stands end (fed ++ more))
+        (ap (λ (x : Tokenizer). x.kind) then) (ap (λ (x : Tokenizer). x.last) then) (subst (λ (x : State). IsIn x h.here.kind) (sym (ap (λ (x : Tokenizer). x.state) then)) tt) (subst (λ (x : State). IsHeld x table names h.here new (h.held ++ fed) []) (sym (ap (λ (x : Tokenizer). x.state) then)) (record {
+          opening = [];
+          body = fed;
+          held_is = ap (λ (x : List Placed). x ++ fed) held_less.0 ∙ ap (λ (a : ℕ). record { ch = 60; at = a } ∷ fed) (sym (ap (λ (x : Tokenizer). x.at) then));
+          opens = sym (ap tag_mark begun.kind_is);
+          in_tag = subst (IsInTag table names new.tag fed []) (sym (ap (λ (x : Tokenizer). x.raised.errors.items) then ∙ held_less.1)) (subst (λ (x : List ℕ). IsInTag table names new.tag (placed at x) [] []) (sym (plain_taken size run within plain u)) (begun.begun table names at));
+          fits = λ end more others span e is. subst (λ (k : RawKind). IsSpanOf k table end h.here more span) (sym here_data) (tag is);
+        })))))
 
     -- A BARE TAG
 

@@ -2,11 +2,12 @@
 use Rattle.htoken.proofs.Names.{◌≡◌, ◌≤◌, ◌<◌, ℕ, zero, suc, ◌+◌, ◌-◌, Bool, true, false, eqb, ◌&&◌, ◌||◌, List, [], ◌∷◌, ◌++◌, map, length, take, drop, reverse, sym, refl, ap, ◌∙◌, subst, arith, append_assoc, append-nil, Result, Ok, Err, Option, slice_index, list_all, prefix_len, is_ascii, len_utf8, encode_utf8, chars, IsUtf8, and_from, nat_tests, get_or-drop, length-append, length-drop, length-take-le, take-append-drop, take_all, take_at, drop_at, chars-IsAscii, encode_ascii, len_utf8_ascii, IsUtf8-from_ascii, prefix_len-le-length, prefix_len_stops, drop-length, UnknownNamedCharacterReference, ParseError, Placed, RawKind, Refusal, Texts, all, begins, past, is_alphanumeric, placed, error_if, Reference, IsRead, errors_of, characters_of, Entities, Piece, IsReference, IsTable, alone, ampersand, is_plain_byte, is_text_byte, IsCut, list_all-append, all_placed, cut_more, State, Tokenizer, all_at, bare_errors, first_placed, IsBare, IsFront, IsWhole, known_errors, piece_events, HandsEvents, has_references, Standing, run_events, Item, Event, Gives, Reports, Char, AreFront, after_place, holds, later_errors, next_place, IsBetween, IsLast, Reads, Stands, Takes, take_sink_refused, take_took, backwards, reverse-append, IsAscii-take, IsAscii-drop, get_or-append_seam, counted, take_more, and_parts, all-characters, characters_placed}
 use Rattle.htoken.specs.declared.state.State.TheVariants as state
 use Rattle.htoken.proofs.AfterRun.{later_same}
-use Rattle.htoken.proofs.Fronts.{each_ascii, takes_both}
+use Rattle.htag.proofs.Ascii.{ascii_chars, ascii_placed, each_ascii}
+use Rattle.htoken.proofs.Fronts.{takes_both}
 use Rattle.htoken.proofs.Going.{next_place-snoc}
 use Rattle.htoken.proofs.InReference.{same_between}
 use Rattle.htoken.proofs.InRun.{next_last}
-use Rattle.htoken.proofs.InText.{text_events, all_ascii, ascii_chars, ascii_placed, length_left, unknown_is}
+use Rattle.htoken.proofs.InText.{text_events, all_ascii, length_left, unknown_is}
 use Rattle.htoken.proofs.Reading.{held_in, reads_front, reads_text}
 use Rattle.htoken.proofs.Pending.{later_told}
 use Rattle.htoken.proofs.Referring.{run_errors, stands_piece}

@@ -1,6 +1,7 @@
 -- A run of characters, a part after another.
 use Rattle.htoken.proofs.Names.{◌≡◌, ◌≤◌, ◌<◌, ℕ, zero, suc, ◌+◌, List, [], ◌∷◌, ◌++◌, length, take, drop, sym, refl, ap, ◌∙◌, subst, Result, Ok, Err, append_assoc, append-nil, arith, true, slice_index, MatchResult, list_all, chars, IsAscii, nat_tests, length-take-le, take_all, IsCharBoundary-from_drop, IsUtf8-from_ascii, Placed, RawKind, Refusal, Texts, Grows, grows_on, placed, text_kept, is_plain_byte, IsCut, plain_chars, plain_drop, placed_cut, placed_more, Entities, Token, Tokenizer, Tok, Item, ItemToken, ItemError, Event, Gives, Reports, TokenMeans, Alone, WithNames, token_in, Handed, HandedMeans, Mean, tokens_in, IsRefused, AreFront, HandsEvents, TakesFront, TakesPart, HasTaken, Takes, take_ran_out, take_refused, take_sink_refused, take_took, IfOk, IsCharBoundary, placed_part, placed_rest, attrs_kept, and_parts, all_weaker, is_ascii}
 use Rattle.std.proofs.lemmas.Result.{IfOk-weaker}
+use Rattle.htag.proofs.Ascii.{each_ascii}
 use Rattle.htoken.specs.declared.token.Token.TheVariants as code
 use Rattle.htoken.proofs.Handing.{HandsEvents-append}
 
@@ -38,11 +39,6 @@ first_of at [] bytes c some is same = absurd (omega (arith, some))
 first_of at (x ∷ xs) bytes c some is same = ap (λ (n : ℕ). record { ch = n; at = at } ∷ []) (is ∙ ap (λ (bs : List ℕ). slice_index bs 0) same)
 
 -- a run of plain bytes may be cut anywhere
-pub each_ascii : (xs : List ℕ) → list_all is_ascii xs ≡ true → IsAscii xs
-each_ascii [] h i = omega arith
-each_ascii (x ∷ xs) h zero = let k = and_parts (is_ascii x) (list_all is_ascii xs) h in grind (arith, k.0, nat_tests)
-each_ascii (x ∷ xs) h (suc i) = each_ascii xs (and_parts (is_ascii x) (list_all is_ascii xs) h).1 i
-
 pub plain_ascii : (xs : List ℕ) → list_all is_plain_byte xs ≡ true → list_all is_ascii xs ≡ true
 plain_ascii xs h = all_weaker is_plain_byte is_ascii (λ x plain. grind (arith, plain, nat_tests)) xs h
 

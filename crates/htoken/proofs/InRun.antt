@@ -1,9 +1,9 @@
 -- A run of plain characters, taken as a whole.
-use Rattle.htoken.proofs.Names.{◌≡◌, ◌≤◌, ◌<◌, ℕ, zero, suc, ◌+◌, Bool, true, false, List, [], ◌∷◌, ◌++◌, length, take, sym, refl, ap, ◌∙◌, subst, arith, drop, Result, Ok, Err, Option, append_assoc, append-nil, nat_tests, list_all, ◌||◌, length-take-le, len_utf8, encode_utf8, chars, string_bytes, ParseError, Placed, RawKind, Refusal, Memory, Texts, Grows, all, placed, is_clean, is_plain_byte, is_plain, IsCut, all_placed, plain_take, Entities, and_parts, HasReadOf, IsCommentOf, TakesRun, IsInTag, State, Tokenizer, Item, Event, Comment, Standing, is_script, FollowsAll, IsDataSpan, HandsEvents, run_events, replaced, tag_mark, after_place, next_from, next_place, less, Stands, Reads, holds, Takes, take_sink_refused, take_took, IsHeld, IsIn, IsLast, IsBetween, IsInMarkup, IsInMarkedTag, ◌==◌, one_long, last_char, run_ran_out, run_refused, run_goes_on, all_weaker, IsUtf8, run_plain, Hands, gives_item, run_tokens, plain_chars, Handed}
+use Rattle.htoken.proofs.Names.{◌≡◌, ◌≤◌, ◌<◌, ℕ, zero, suc, ◌+◌, Bool, true, false, List, [], ◌∷◌, ◌++◌, length, take, sym, refl, ap, ◌∙◌, subst, arith, drop, Result, Ok, Err, Option, append_assoc, append-nil, nat_tests, list_all, ◌||◌, length-take-le, len_utf8, encode_utf8, chars, string_bytes, ParseError, Placed, RawKind, Refusal, Memory, Texts, Grows, all, placed, is_clean, is_plain_byte, is_plain, IsCut, all_placed, plain_take, Entities, and_parts, HasReadOf, IsCommentOf, TakesRun, IsInTag, State, Tokenizer, Item, Event, Comment, Standing, is_script, FollowsAll, IsDataSpan, HandsEvents, run_events, replaced, tag_mark, after_place, next_from, next_place, less, Stands, Reads, holds, Takes, take_sink_refused, take_took, IsHeld, IsIn, IsLast, IsBetween, IsInMarkup, IsInMarkedTag, ◌==◌, one_long, last_char, run_ran_out, run_refused, run_goes_on, all_weaker, IsUtf8, run_plain, Hands, gives_item, run_tokens, plain_chars, Handed, Keeps, EndsTag, IsWholeTag, names_grow, tag_ahead}
 use Rattle.htoken.specs.declared.state.State.TheVariants as state
 use Rattle.htoken.proofs.InMarkup.{keeps, kept, refused}
 use Rattle.htoken.proofs.InRaw.{after_characters}
-use Rattle.htoken.proofs.InTag.{reads_kept}
+use Rattle.htoken.proofs.InTag.{last_kept, reads_kept, tag_handed}
 use Rattle.htoken.proofs.Plain.{is_itself, plain_stands}
 use Rattle.htoken.proofs.Referring.{all_imp}
 use Rattle.htoken.proofs.Running.{run_given}
@@ -191,6 +191,30 @@ module _ {S : Type 0} (gives : S → Item → Result (Unit {0}) Refusal → S �
           in_tag = subst (λ (x : Entities). IsInTag x later new.tag (i.body ++ run) [] new.raised.errors.items) h.table_is more;
           fits = λ end rest others span e is. i.fits end rest (run ++ others) span (e ∙ append_assoc h.held run others) is;
         }) s
+
+-- it ends
+module _ {S : Type 0} (gives : S → ParseError → Result (Unit {0}) Refusal → S → Type 0) (gives_token : S → Handed → Result (Unit {0}) Refusal → S → Type 0) (table : Entities) (start : RawKind) (names later : Texts) (grows : Grows names later) (text : List Placed) (taken : List Event) (t : Tokenizer)
+    (h : Reads table start t names text [] taken) (in_tag : t.state ≡ state.Tag) (run : List Placed) (place : ℕ) (next : place ≡ next_place (text ++ run)) where
+  abbrev tag : IsInMarkedTag table names h.here t h.held []
+  tag = held_in h state.Tag in_tag
+
+  ahead : Reads table start (record t { next = place }) later text run taken
+  ahead = reads_as h (record t { next = place }) later run taken refl refl next (λ end more. h.stands end (run ++ more)) refl (last_kept names later t.last h.here.name grows h.name_is) h.is_in
+      (subst (λ (s : State). IsHeld s table later h.here (record t { next = place }) h.held run) (sym in_tag) (record {
+        opening = tag.opening;
+        body = tag.body;
+        held_is = tag.held_is;
+        opens = tag.opens;
+        in_tag = tag_ahead table later t.tag tag.body t.raised.errors.items (names_grow names later grows table t.tag tag.body [] t.raised.errors.items tag.in_tag) run;
+        fits = λ end rest more span e is. tag.fits end rest (run ++ more) span e is;
+      }))
+
+  pub tag_finishes : (mid : Tokenizer) → Keeps (record t { next = place }) mid → mid.tag.kind ≡ t.tag.kind → (read : Texts) → Grows read later → IsWholeTag t.table.now read mid.tag (tag.body ++ run) mid.raised.errors.items
+      → (new : Tokenizer) (old s : S) (answer : Result (Unit {0}) Refusal) → EndsTag (gives_item gives gives_token) mid later old answer new s → Takes (gives_item gives gives_token) table start text run taken later old answer s new
+  unfolding ahead reads_as
+  tag_finishes mid keep kind read then w new old s answer ended =
+      tag_handed gives gives_token table start text run later taken (record t { next = place }) ahead tag.opening (tag.body ++ run) (sym (ap (λ (x : List Placed). x ++ run) tag.held_is ∙ ap (λ (x : List Placed). less t ∷ x) (append_assoc tag.opening tag.body run)))
+      (λ end more span e is. tag.fits end more run span e is) mid keep (tag.opens ∙ ap tag_mark (sym kind)) read then (subst (λ (x : Entities). IsWholeTag x read mid.tag (tag.body ++ run) mid.raised.errors.items) h.table_is w) new old s answer ended
 
 -- A RUN OF BYTES WHERE NOTHING IS HELD, of which the sink has taken what it took
 

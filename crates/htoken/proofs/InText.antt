@@ -1,7 +1,8 @@
 -- The text at the front of a run, and what ends it.
 use Rattle.htoken.proofs.Names.{◌≡◌, ◌≤◌, ◌<◌, ℕ, zero, suc, ◌+◌, true, false, eqb, ◌||◌, List, [], ◌∷◌, ◌++◌, map, length, take, drop, sym, refl, ap, ◌∙◌, subst, arith, Result, Ok, Err, Option, append_assoc, append-nil, and_from, drop-length, length-append, length-take-le, take_all, take_at, drop_at, nat_tests, chars-IsAscii, chars-nil, encode_ascii, len_utf8_ascii, IsUtf8-from_ascii, IsUtf8-past_char, chars_past_char, list_all, prefix_len, is_ascii, encode_utf8, len_utf8, chars, IsUtf8, string_bytes, UnknownNamedCharacterReference, ParseError, Placed, RawKind, Refusal, Texts, all, begins, past, is_alphanumeric, placed, error_if, is_clean, is_plain, is_text_byte, IsCut, all_placed, cut_more, placed_cut, placed_more, Entities, Piece, IsReference, named, kept, unknown, decimal, hexadecimal, no_digits, alone, ampersand, backwards, Script, Spread, State, Tokenizer, bare_errors, first_placed, IsBare, IsFront, RefusesFront, spread_ran_out, spread_refused, Tok, Span, Item, Event, Gives, Reports, Char, piece_span, HandsEvents, is_script, run_events, FollowsAll, has_references, Standing, next, tokens_in, errors_in, eof_of, AreFront, Stands, Reads, holds, Takes, take_ran_out, take_took, take_sink_refused, IsLast, IsBetween, next_place, text_front, chars_cut, has_characters, spread_events, IsTakenFront, and_parts, length-drop, all_weaker, map-append, drop-drop, Hands, gives_item, run_tokens, Handed}
 use Rattle.htoken.specs.declared.state.State.TheVariants as state
-use Rattle.htoken.proofs.Fronts.{each_ascii, takes_both}
+use Rattle.htag.proofs.Ascii.{ascii_chars, ascii_placed, each_ascii}
+use Rattle.htoken.proofs.Fronts.{takes_both}
 use Rattle.htoken.proofs.Cutting.{stands_on, tokens_in-append, errors_in-append}
 use Rattle.htoken.proofs.Handing.{HandsEvents-append, reports_given}
 use Rattle.htoken.proofs.Running.{run_given}
@@ -14,29 +15,8 @@ use Rattle.htoken.proofs.Scripting.{all_followed}
 use Rattle.htoken.proofs.Pending.{stands_told, stands_same, no_tokens_told, errors_told}
 use Rattle.htoken.proofs.Referring.{all_imp, alphanumeric_itself, reference_is}
 
--- ASCII CHARACTERS
-
--- each is a byte, which is a character
-pub ascii_chars : (xs ys : List ℕ) → list_all is_ascii xs ≡ true → IsUtf8 (xs ++ ys) → IsUtf8 ys × (chars (xs ++ ys) ≡ xs ++ chars ys)
-ascii_chars [] ys a u = (u, refl)
-ascii_chars (x ∷ xs) ys a u =
-    let k = and_parts (is_ascii x) (list_all is_ascii xs) a in
-    let small : x < 128 = grind (arith, nat_tests) in
-    let is : x ∷ (xs ++ ys) ≡ encode_utf8 x ++ (xs ++ ys) = ap (λ (e : List ℕ). e ++ (xs ++ ys)) (sym (encode_ascii x small)) in
-    let more = ascii_chars xs ys k.1 (IsUtf8-past_char (x ∷ (xs ++ ys)) (xs ++ ys) x u is) in
-    (more.0, chars_past_char (x ∷ (xs ++ ys)) (xs ++ ys) x u is ∙ ap (λ (cs : List ℕ). x ∷ cs) more.1)
-
 pub all_ascii : (xs : List ℕ) → list_all is_alphanumeric xs ≡ true → list_all is_ascii xs ≡ true
 all_ascii xs h = all_weaker is_alphanumeric is_ascii (λ c letter. grind (arith, letter, nat_tests)) xs h
-
-pub ascii_placed : (at : ℕ) (xs ys : List ℕ) → list_all is_ascii xs ≡ true → placed at (xs ++ ys) ≡ placed at xs ++ placed (at + length xs) ys
-ascii_placed at [] ys h = let same : at ≡ at + 0 = omega arith in ap (λ (n : ℕ). placed n ys) same
-ascii_placed at (x ∷ xs) ys h =
-    let k = and_parts (is_ascii x) (list_all is_ascii xs) h in
-    let small : x < 128 = grind (arith, nat_tests) in
-    let end : (at + len_utf8 x) + length xs ≡ at + length (x ∷ xs) = omega (arith, len_utf8_ascii x small) in
-    ap (λ (ps : List Placed). record { ch = x; at = at } ∷ ps) (ascii_placed (at + len_utf8 x) xs ys k.1)
-    ∙ ap (λ (n : ℕ). record { ch = x; at = at } ∷ (placed (at + len_utf8 x) xs ++ placed n ys)) end
 
 -- an `&`, letters and digits after it, and an ASCII character after these
 module _ (letters others : List ℕ) (next : ℕ) (plain : list_all is_alphanumeric letters ≡ true) (ascii : is_ascii next ≡ true) (u : IsUtf8 (38 ∷ letters ++ next ∷ others)) where

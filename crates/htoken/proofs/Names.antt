@@ -20,12 +20,13 @@ pub use Rattle.hmarkup.specs.Doctype.{IsDoctype, nameless}
 pub use Rattle.hmarkup.specs.DoctypeWalk.{HasReadDoctype}
 pub use Rattle.hmarkup.specs.Walk.{Ends as WalkEnds, TakesRun, Takes as WalkTakes, ran_out as walk_ran_out, sink_refused, goes_on as walk_goes_on, ended as walk_ended, run_ran_out, run_refused, run_goes_on}
 pub use Rattle.hmarkup.specs.declared.comment.CommentKind.TheVariants.{Bogus}
-pub use Rattle.htag.proofs.AtOnce.{bare_bytes, bare_front, bare_no_errors, bare_placed, bare_plain, bare_within}
-pub use Rattle.htag.proofs.InRun.{characters_placed, prefix_all}
+pub use Rattle.htag.proofs.AtOnce.{named_alone, named_plain, named_within, bare_bytes, bare_front, bare_no_errors, bare_placed, bare_plain, bare_within}
+pub use Rattle.htag.proofs.Ascii.{ascii_chars, ascii_cut, ascii_placed, ascii_taken, each_ascii, edge_of}
+pub use Rattle.htag.proofs.InRun.{begins_with, characters_placed, prefix_all}
 pub use Rattle.htag.proofs.Keeping.{looks_ahead as tag_ahead, attributes_grow, names_grow}
 pub use Rattle.htag.proofs.Naming.{attrs_kept}
 pub use Rattle.htag.proofs.Parts.{begins_stops}
-pub use Rattle.htag.specs.AtOnce.{IsBareName}
+pub use Rattle.htag.specs.AtOnce.{IsBareName, IsName}
 pub use Rattle.htag.specs.Attributes.{AttrsMean}
 pub use Rattle.htag.specs.Tag.{ends_name, parts_text, space, solidus, bare, unquoted, quoted, unclosed, IsTagFront, attributes_after, tag_errors, end_tag_errors}
 pub use Rattle.htag.specs.TagWalk.{IsInTag, IsWholeTag, IsCutTag, HasAttributes}

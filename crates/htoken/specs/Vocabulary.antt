@@ -3,7 +3,7 @@ pub use Rattle.charref.specs.Pieces.{characters_of}
 pub use Rattle.charref.specs.Reference.{Entities, IsTable}
 pub use Rattle.hmarkup.specs.Comment.{is_only_data, is_plain_in_bogus}
 pub use Rattle.hmarkup.specs.CommentWalk.{backwards}
-pub use Rattle.htag.specs.AtOnce.{IsBareName}
+pub use Rattle.htag.specs.AtOnce.{IsBareName, IsName}
 pub use Rattle.htag.specs.Tag.{ends_name}
 pub use Rattle.htag.specs.TagWalk.{IsInTag}
 pub use Rattle.htext.specs.Run.{IsCut, is_clean, is_plain_byte, is_text_byte}
@@ -20,7 +20,7 @@ pub use Rattle.htoken.specs.Run.{IsSpread, TakesSpread, is_not_null, replaced, r
 pub use Rattle.htoken.specs.Script.{FollowsAll, HasFront, idle, is_dashes, is_less_bang_dash, is_read, level_after, level_number, mark_after, word_after}
 pub use Rattle.htoken.specs.Spans.{has_references}
 pub use Rattle.htoken.specs.Standing.{start_kind}
-pub use Rattle.htoken.specs.Steps.{KeepsIf, BeginsBogus, BeginsReference, BeginsTag, CutsOff, EndsDoctype, EndsSpan, EndsStartTag, EndsTag, Finds, GivesSpan, Holds, HoldsInReference, IsFollowed, KeepsFaults, TakesFront, TakesPart, held_in_raw, script_errors}
+pub use Rattle.htoken.specs.Steps.{KeepsIf, BeginsBogus, BeginsNamed, BeginsReference, BeginsTag, CutsOff, EndsDoctype, EndsSpan, EndsStartTag, EndsTag, Finds, GivesSpan, Holds, HoldsInReference, IsFollowed, KeepsFaults, TakesFront, TakesPart, held_in_raw, script_errors}
 pub use Rattle.htoken.specs.Token.{Alone, Char, Comment, End, Eof, Event, Gives, Handed, HandedMeans, Reports, WithNames, gives_item, place_of}
 pub use Rattle.htoken.specs.Tokenizing.{EndsHeld, Finishes, HasTaken, IsInAmbiguousAmpersand, Reads, Takes, after_place, less}
 pub use Rattle.htoken.specs.declared.token.Token.{Token as Given}

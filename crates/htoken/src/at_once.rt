@@ -1,15 +1,15 @@
-//! Tags that stand whole in one run of the input (HTML Standard, `#tag-open-state` to `#tag-name-state`).
+//! Tags without attributes that stand whole in one run of the input (HTML Standard, `#tag-open-state` to `#tag-name-state`).
 
-ghost use Rattle.std.specs.Prelude.{◌≡◌, ◌≤◌, ◌<◌, ◌+◌, List, true, IfOk, length, drop, slice_index, None};
-ghost use Rattle.std.specs.List.{list_all};
-ghost use Rattle.htoken.specs.Vocabulary.{FeedsFront, FeedsPart, gives_item, Grows, is_plain_byte, IsBareName, IsCut, MAX_INPUT, raw_kind, refused_name};
+ghost use Rattle.std.specs.Prelude.{◌≡◌, ◌≤◌, ◌<◌, ◌+◌, true, IfOk, length, drop, slice_index, None};
+ghost use Rattle.htoken.specs.Vocabulary.{BeginsNamed, FeedsPart, gives_item, Grows, IsBareName, IsName, IsCut, MAX_INPUT, raw_kind, refused_name};
 
 use crate::sink::TokenSink;
 use crate::state::State;
 use crate::token::Token;
 use crate::tokenizer::Tokenizer;
-use htag::bare_name;
+use htag::{bare_name, is_bare, tag_name};
 use names::{Names, RawKind, Refusal, Tag};
+use std::alloc::AllocError;
 
 /// Whether data comes after a start tag of this name, which is in the profile.
 #[inline(always)]
@@ -20,8 +20,8 @@ fn leads_to_data(tag: Tag) -> bool
 }
 
 impl<'t> Tokenizer<'t> {
-    /// Tag open state (`#tag-open-state`): takes the rest of a tag without attributes, if the run begins with a whole one. Returns its
-    /// length, or 0.
+    /// Tag open state (`#tag-open-state`): takes the rest of a tag without attributes, if the run begins with a whole one, or the name of another
+    /// start tag. Returns the length, or 0.
     #[inline(always)]
     pub(crate) fn tag_open<S: TokenSink>(
         &mut self,
@@ -44,9 +44,10 @@ impl<'t> Tokenizer<'t> {
                 size => self.bare_end_tag(size, names, run, at, sink),
             };
         }
-        match bare_name(bytes) {
+        match tag_name(bytes) {
             0 => Ok(0),
-            size => self.bare_start_tag(size, names, run, at, sink),
+            size if is_bare(bytes, size) => self.bare_start_tag(size, names, run, at, sink),
+            size => Ok(self.begin_start_tag(size, run, at)?),
         }
     }
 
@@ -110,32 +111,17 @@ impl<'t> Tokenizer<'t> {
         Ok(size + 1)
     }
 
-    /// Tag open state: takes a start tag from a run of plain characters, as far as its attributes are plain. Returns how many bytes it took.
-    #[inline(never)]
-    pub(crate) fn plain_start_tag<S: TokenSink>(
-        &mut self,
-        names: &mut Names,
-        run: &str,
-        at: u64,
-        sink: &mut S,
-    ) -> Result<usize, Refusal>
+    /// Begins a start tag with its name, which has this length.
+    #[inline(always)]
+    fn begin_start_tag(&mut self, size: usize, run: &str, at: u64) -> Result<usize, AllocError>
         requires less { self.old.state ≡ State.Less }
-        requires plain { list_all is_plain_byte run.now ≡ true }
+        requires named { IsName run.now size }
         requires within { at + length run.now ≤ MAX_INPUT }
-        ensures takes { FeedsFront (gives_item S.gives S.gives_token) self.old names.old at run.now names.new sink.old result sink.new self.new }
-        ensures few { IfOk result (λ count. count ≤ length run.now) }
-        ensures grows { Grows names.old names.new }
+        ensures { IfOk result (λ count. (count ≡ size) × BeginsNamed self.old run.now at size self.new) }
     {
-        let (count, ended) = self.tag.take_plain(names, run)?;
-        if count == 0 {
-            return Ok(0);
-        }
-        self.next = at + count as u64;
-        if ended {
-            self.end_tag(names, sink)?;
-            return Ok(count);
-        }
+        self.tag.begin_start(&run[..size])?;
+        self.next = at + size as u64;
         self.state = State::Tag;
-        Ok(count)
+        Ok(size)
     }
 }

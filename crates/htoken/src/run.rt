@@ -184,8 +184,9 @@ impl<'t> Tokenizer<'t> {
         Ok(())
     }
 
-    /// Takes a part of a run: where nothing is held, the text at its front and what ends that; after a `<`, a whole tag without attributes; and
-    /// where something else is held, what is ASCII up to what may end it, or else one character. Returns the length.
+    /// Takes a part of a run: where nothing is held, the text at its front and what ends that; after a `<`, a whole tag without attributes, or one
+    /// character; in a tag, all up to its end; and where something else is held, what is ASCII up to what may end it, or one character. Returns
+    /// the length.
     #[inline(always)]
     fn take_part<S: TokenSink>(
         &mut self,
@@ -203,15 +204,65 @@ impl<'t> Tokenizer<'t> {
     {
         match self.state {
             State::Text => self.part_of_text(run, at, sink),
+            State::Tag => self.part_of_tag(names, run, at, sink),
             State::Less => {
                 let count = self.tag_open(names, run, at, sink)?;
                 if count > 0 {
                     return Ok(count);
                 }
-                self.part_of_markup(names, run, at, sink)
+                self.one_of_run(names, run, at, sink)
             }
+            // With an arm of its own, so that the state is not asked for again.
+            State::LessSolidus(_) => self.one_of_run(names, run, at, sink),
             _ => self.part_of_markup(names, run, at, sink),
         }
+    }
+
+    /// Takes the characters of a tag at the front of a run, up to its end. Returns the length.
+    #[inline(always)]
+    fn part_of_tag<S: TokenSink>(
+        &mut self,
+        names: &mut Names,
+        run: &str,
+        at: u64,
+        sink: &mut S,
+    ) -> Result<usize, Refusal>
+        requires tag { self.old.state ≡ State.Tag }
+        requires some { 0 < length run.now }
+        requires clean { list_all is_clean (chars run.now) ≡ true }
+        requires within { at + length run.now ≤ MAX_INPUT }
+        ensures takes { FeedsPart (gives_item S.gives S.gives_token) self.old names.old at run.now names.new sink.old result sink.new self.new }
+        ensures few { IfOk result (λ count. (0 < count) × IsCut count run.now) }
+        ensures grows { Grows names.old names.new }
+    {
+        let (count, ended) = self
+            .tag
+            .take_run(self.table, names, run, at, &mut self.raised.errors)?;
+        self.next = after(at + last_start(&run[..count]) as u64);
+        if ended {
+            self.end_tag(names, sink)?;
+            return Ok(count);
+        }
+        Ok(count)
+    }
+
+    /// Takes the first character of a run. Returns its length.
+    #[inline(always)]
+    fn one_of_run<S: TokenSink>(
+        &mut self,
+        names: &mut Names,
+        run: &str,
+        at: u64,
+        sink: &mut S,
+    ) -> Result<usize, Refusal>
+        requires some { 0 < length run.now }
+        ensures takes { FeedsPart (gives_item S.gives S.gives_token) self.old names.old at run.now names.new sink.old result sink.new self.new }
+        ensures few { IfOk result (λ count. (0 < count) × IsCut count run.now) }
+        ensures grows { Grows names.old names.new }
+    {
+        let ch = run.chars().next().unwrap();
+        self.take(names, ch, at, sink)?;
+        Ok(ch.len_utf8())
     }
 
     /// Takes what is ASCII up to the next `<` or `&`, or past the next `>`, or else one character. Returns the length.
@@ -232,14 +283,12 @@ impl<'t> Tokenizer<'t> {
     {
         let count = inner_part(run);
         if count == 0 {
-            let ch = run.chars().next().unwrap();
-            self.take(names, ch, at, sink)?;
-            return Ok(ch.len_utf8());
+            return self.one_of_run(names, run, at, sink);
         }
         self.take_fronts(names, &run[..count], at, sink)
     }
 
-    /// Takes a run: a start tag at its front, and then a front of what is left of it after another. Returns its length.
+    /// Takes a run, a front of what is left of it after another. Returns its length.
     fn take_fronts<S: TokenSink>(
         &mut self,
         names: &mut Names,
@@ -253,33 +302,12 @@ impl<'t> Tokenizer<'t> {
         ensures all { IfOk result (λ count. count ≡ length run.now) }
         ensures grows { Grows names.old names.new }
     {
-        let mut count = self.tag_at_front(names, run, at, sink)?;
+        let mut count = 0;
         while count < run.len() {
             let more = self.take_front(names, &run[count..], at + count as u64, sink)?;
             count += more;
         }
         Ok(count)
-    }
-
-    /// Takes a start tag at the front of a run, as far as its attributes are plain, if a `<` is held. Returns how many bytes it took.
-    #[inline(always)]
-    fn tag_at_front<S: TokenSink>(
-        &mut self,
-        names: &mut Names,
-        run: &str,
-        at: u64,
-        sink: &mut S,
-    ) -> Result<usize, Refusal>
-        requires plain { list_all is_plain_byte run.now ≡ true }
-        requires within { at + length run.now ≤ MAX_INPUT }
-        ensures takes { FeedsFront (gives_item S.gives S.gives_token) self.old names.old at run.now names.new sink.old result sink.new self.new }
-        ensures few { IfOk result (λ count. count ≤ length run.now) }
-        ensures grows { Grows names.old names.new }
-    {
-        match self.state {
-            State::Less => self.plain_start_tag(names, run, at, sink),
-            _ => Ok(0),
-        }
     }
 
     /// Takes one character or more at the front of a run, and returns how many.
@@ -300,10 +328,6 @@ impl<'t> Tokenizer<'t> {
         match self.state {
             State::Text => self.run_of_text(run, at, sink),
             State::Comment => self.run_of_comment(names, run, at, sink),
-            State::Tag => self.run_of_tag(names, run, at, sink),
-            // With arms of their own, so that the state is not asked for again.
-            State::Less => self.take_first(names, run, at, sink),
-            State::LessSolidus(_) => self.take_first(names, run, at, sink),
             _ => self.take_first(names, run, at, sink),
         }
     }
@@ -381,35 +405,5 @@ impl<'t> Tokenizer<'t> {
         self.next = at + count as u64;
         self.comment.take_run(&run[..count], at, &mut self.raised)?;
         Ok(count)
-    }
-
-    /// Takes the characters at the front of a run with which the tag goes on, and the one after them.
-    fn run_of_tag<S: TokenSink>(
-        &mut self,
-        names: &mut Names,
-        run: &str,
-        at: u64,
-        sink: &mut S,
-    ) -> Result<usize, Refusal>
-        requires tag { self.old.state ≡ State.Tag }
-        requires some { 0 < length run.now }
-        requires plain { list_all is_plain_byte run.now ≡ true }
-        requires within { at + length run.now ≤ MAX_INPUT }
-        ensures takes { FeedsFront (gives_item S.gives S.gives_token) self.old names.old at run.now names.new sink.old result sink.new self.new }
-        ensures few { IfOk result (λ count. (0 < count) × (count ≤ length run.now)) }
-        ensures grows { Grows names.old names.new }
-    {
-        let count = self
-            .tag
-            .take_run(self.table, names, run, at, &mut self.raised.errors)?;
-        if count == run.len() {
-            self.next = at + count as u64;
-            return Ok(count);
-        }
-        let rest = &run[count..];
-        let end = at + count as u64;
-        self.next = after(end);
-        self.in_tag(names, char::from(rest.as_bytes()[0]), end, sink)?;
-        Ok(count + 1)
     }
 }

@@ -21,7 +21,7 @@ table_of (Some names) = names.now
 
 -- an attribute and a token with their names as texts
 abbrev pub attribute_of : Texts → Attr → List ℕ × List ℕ
-attribute_of names attr = (text_of names attr.name, string_bytes attr.value)
+attribute_of names attr = (text_of names attr.name, attr.value)
 
 abbrev pub tok_of : Texts → Token → Tok
 tok_of names (code.Doctype doctype at) = doctype_token doctype.value at

@@ -80,9 +80,9 @@ fn push_attribute(text: &mut String, attr: &Attr, names: Option<&Names>) -> Resu
         ≡ string_bytes text.old ++ attribute_words (attribute_of (table_of names.entry) attr.now)) }
 {
     text.push(' ')?;
-    push_quoted(text, name_text(names, attr.name))?;
+    push_quoted(text, name_text(names, attr.name()))?;
     text.push('=')?;
-    push_quoted(text, &attr.value)
+    push_quoted(text, attr.value())
 }
 
 /// Writes the attributes of a start tag.

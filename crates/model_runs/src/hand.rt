@@ -59,7 +59,7 @@ pub fn attr(
 ) -> Result<Attr, AllocError> {
     let name = name(names, alloc, number)?;
     let value = format!(in alloc; "{value}")?;
-    Ok(Attr { name, value })
+    Attr::new(name, &value, alloc)
 }
 
 /// So many attributes, in one order or, every other time, in the other.

@@ -168,8 +168,7 @@ fn say_nodes(hand: &mut Hand, node: NodeId, which: &str) -> Result<(), Refusal>
 fn given(names: &mut Names, alloc: Global, words: &str) -> Result<Attr, AllocError> {
     let (name, value) = words.split_once('=').unwrap_or((words, ""));
     let name = names.intern(alloc, &text(alloc, name)?)?;
-    let value = text(alloc, value)?;
-    Ok(Attr { name, value })
+    Attr::new(name, &text(alloc, value)?, alloc)
 }
 
 /// Says whether what is in a node is plain in a context, or a plain document where there is none, its text, and its HTML.

@@ -11,4 +11,6 @@ pub mod Rows
 pub mod Spelling
 pub mod RefusalText
 pub mod CodeRows
+pub mod Attr
+pub mod AttrView
 pub mod Keys

@@ -25,7 +25,7 @@ first : (c : goal.After-last-place) → Last (sought c.args.attr.now) number (nu
     (length c.args.attrs.now) c.last-place.result
 first c =
     let here : c.last-place.result ≡ last_up (λ k. k == number c.args.attr.now) (map number c.args.attrs.now) (length c.args.attrs.now) =
-    c.last-place.ensures ∙ (λ i. last_up (λ k. k == c.name_number.ensures i) (c.requires i) (length (c.requires i)))
+    c.last-place.ensures ∙ (λ i. last_up (λ k. k == (c.name_number.ensures ∙ ap (λ n. suc (suc n)) c.name.ensures) i) (c.requires i) (length (c.requires i)))
     ∙ ap (last_up (λ k. k == number c.args.attr.now) (map number c.args.attrs.now)) (length-map c.args.attrs.now number)
     in
     subst (Last (sought c.args.attr.now) number (number c.args.attr.now) (law c.args.attr.now) c.args.attrs.now (length c.args.attrs.now)) (sym here)

@@ -19,13 +19,13 @@ returns-in_err-put_attribute g c =
     passed_on _ _ _ _ c.from_residual-in_err-put_attribute.ensures.1
     (part_failed _ _ _ _ _ _ _ c.loop-attr.invariant
     (next-text (spelled_attribute (text_of c.args.names.now)) (attribute_text c.args.escaping) c.args.attrs.now c.loop-attr.attr-index c.attr-item.result _ (codes ">") c.loop-attr-test.true c.attr-item.is
-    (λ i. (c.text-in-loop-attr.ensures.text i, c.deref.ensures i))) c.in_err-put_attribute.ensures)
+    (λ i. ((c.text-in-loop-attr.ensures.text ∙ ap (text_of c.args.names.now) c.name.ensures) i, c.value.ensures i))) c.in_err-put_attribute.ensures)
 
 pub loop-attr-preserved : goal.loop-attr-preserved
 loop-attr-preserved g c =
     part_put _ _ _ _ _ _ _ c.loop-attr.invariant
     (next-text (spelled_attribute (text_of c.args.names.now)) (attribute_text c.args.escaping) c.args.attrs.now c.loop-attr.attr-index c.attr-item.result _ (codes ">") c.loop-attr-test.true c.attr-item.is
-    (λ i. (c.text-in-loop-attr.ensures.text i, c.deref.ensures i))) c.in_ok-put_attribute.ensures
+    (λ i. ((c.text-in-loop-attr.ensures.text ∙ ap (text_of c.args.names.now) c.name.ensures) i, c.value.ensures i))) c.in_ok-put_attribute.ensures
 
 pub returns : goal.returns
 returns g c =

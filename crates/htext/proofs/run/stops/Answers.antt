@@ -1,9 +1,10 @@
-use Rattle.htext.proofs.Names.{refl, ◌≡◌, ◌∙◌, ℕ, List, sym, bit_or, cond, length, map, replicate, arith, zip2_splat, zip2_splat_left, zip2_of_maps, zip2, is_not_of, shares_no_bit}
+use Rattle.htext.proofs.Names.{refl, ◌≡◌, ◌∙◌, ℕ, Bool, true, false, not, eqb, List, sym, bit_or, cond, length, map, replicate, arith, zip2_splat, zip2_splat_left, zip2_of_maps, zip2, is_not_of, shares_no_bit}
 use Rattle.std.proofs.Common.{leb}
-use Rattle.std.proofs.Math.Bool.{not-not}
-use Rattle.htext.specs.declared.run.RunBytes.TheVariants.{Inner, Text, Clean, Alphanumeric, Word, Unquoted, Other}
+use Rattle.std.specs.Prelude.{◌||◌}
+use lib.Lanes.{top}
+use Rattle.htext.specs.declared.run.RunBytes.TheVariants.{Inner, Text, Clean, Alphanumeric, Word, Unquoted, Quoted}
 use Rattle.htext.specs.declared.run.TheConstants.{CLEAN, ALPHANUMERIC, WORD, UNQUOTED}
-use Rattle.htext.proofs.Lanes.{agree, hit, hit_top, masked, same_mask}
+use Rattle.htext.proofs.Lanes.{agree, hit, masked, same_mask}
 use Rattle.htext.proofs.run.stops.Goals as goal
 
 abbrev mark : ℕ → ℕ
@@ -15,6 +16,13 @@ marks v long = zip2_of_maps bit_or _ _ v (zip2_splat hit v 16 60 long) (zip2_spl
 -- the comparison of two lanes
 abbrev at_most : ℕ → ℕ → ℕ
 at_most a b = cond (leb a b) 255 0
+
+-- one of two is met
+either : (b c : Bool) → top 7 (bit_or (cond b 255 0) (cond c 255 0)) ≡ not (not (b || c))
+either true true = refl
+either true false = refl
+either false true = refl
+either false false = refl
 
 pub returns-in-Inner : goal.returns-in-Inner
 returns-in-Inner c =
@@ -45,9 +53,10 @@ pub returns-in-Unquoted : goal.returns-in-Unquoted
 returns-in-Unquoted c =
     rw c.in-Unquoted.is (c.outside-in-Unquoted.ensures ∙ same_mask (shares_no_bit UNQUOTED) (is_not_of Unquoted) refl c.args.bytes c.fits-bytes.1)
 
-pub returns-in-Other : goal.returns-in-Other
-returns-in-Other c =
+pub returns-in-Quoted : goal.returns-in-Quoted
+returns-in-Quoted c =
     let v = c.args.bytes in
-    let mark = c.in-Other.mark in
-    rw c.in-Other.is (masked (λ x. hit x mark) (is_not_of (Other mark)) v _ (omega (arith, c.fits-bytes.0)) c.fits-bytes.1
-    (zip2_splat hit v 16 mark c.fits-bytes.0) (λ x _. hit_top x mark ∙ sym (not-not _)))
+    let long = c.fits-bytes.0 in
+    let quote = c.in-Quoted.mark in
+    let both = zip2_of_maps bit_or _ _ v (zip2_splat hit v 16 quote long) (zip2_splat hit v 16 38 long) in
+    rw c.in-Quoted.is (masked (λ x. bit_or (hit x quote) (hit x 38)) (is_not_of (Quoted quote)) v _ (omega arith) c.fits-bytes.1 both (λ x _. either (eqb x quote) (eqb x 38)))

@@ -1,10 +1,28 @@
-use Rattle.charref.proofs.Names.{◌≡◌, ◌-◌, nat_eq, length, take, drop, ap, ◌∙◌, arith, length-drop, starts_with, Entry}
-use Rattle.std.proofs.lemmas.List.{take_all}
+use Rattle.charref.proofs.Names.{◌≡◌, ℕ, List, ◌+◌, ◌-◌, length, take, drop, nat_eq, subst, arith, starts_with, entry}
+use Rattle.charref.proofs.Begins.{opens_any, opens_named}
+use Rattle.charref.proofs.Ranges.{entry_in}
 use Rattle.charref.proofs.flat.Flat.opens.Goals as goal
 
-pub returns-in-len1-up : goal.returns-in-len1-up
-returns-in-len1-up c =
-    let e : Entry = c.key.ensures.0 in
-    let key = c.key.result.now in
-    let name : take (length key - 1) (drop 1 key) ≡ drop 1 e.key = take_all _ _ (omega (arith, length-drop 1 key)) ∙ ap (drop 1) c.key.ensures.2 in
-    (e, c.key.ensures.1, c.begin_with.ensures ∙ ap (starts_with nat_eq c.args.bytes.now) name)
+pub returns-then-entity : goal.returns-then-entity
+returns-then-entity c =
+    let text = c.self.inside.text.items in
+    let e = c.index-entity.result.now in
+    (entry text e, entry_in text c.self.inside.entities.items c.args.self.now c.args.at e c.self.view_is c.requires c.index-entity.ensures, opens_any text c.args.bytes.now e.start e.end (omega (arith, c.if-entity.true)))
+
+pub returns-then-bytes-ge-AT_ONCE : goal.returns-then-bytes-ge-AT_ONCE
+returns-then-bytes-ge-AT_ONCE c =
+    let text = c.self.inside.text.items in
+    let e = c.index-entity.result.now in (
+      entry text e,
+      entry_in text c.self.inside.entities.items c.args.self.now c.args.at e c.self.view_is c.requires c.index-entity.ensures,
+      opens_named text c.args.bytes.now e.start e.end _ (omega (arith, c.if-entity.false)) (subst (λ (x : List ℕ). c.begin_at_once.result ≡ starts_with nat_eq c.args.bytes.now (take (e.end - e.start - 1) (take (length x - (e.start + 1)) (drop (e.start + 1) x)))) c.deref.ensures.value c.begin_at_once.ensures),
+    )
+
+pub returns : goal.returns
+returns c =
+    let text = c.self.inside.text.items in
+    let e = c.index-entity.result.now in (
+      entry text e,
+      entry_in text c.self.inside.entities.items c.args.self.now c.args.at e c.self.view_is c.requires c.index-entity.ensures,
+      opens_named text c.args.bytes.now e.start e.end _ (omega (arith, c.if-entity.false)) (subst (λ (x : List ℕ). c.begin_with.result ≡ starts_with nat_eq c.args.bytes.now (take (e.end - e.start - 1) (take (length x - (e.start + 1)) (drop (e.start + 1) x)))) c.deref.ensures.value c.begin_with.ensures),
+    )

@@ -1,4 +1,5 @@
-use Rattle.hnodes.proofs.Names.{sym, subst, List, ℕ, ◌<◌, All}
+use Rattle.hnodes.proofs.Names.{sym, subst, ap, arith, length, children_of, List, ℕ, ◌<◌, All}
+use Rattle.hnodes.proofs.Sizes.{inside-few, order-long}
 use Rattle.hnodes.proofs.TreeOrder.{begins, first-inside}
 use Rattle.hnodes.proofs.TextOrder.{within-order}
 use Rattle.hnodes.proofs.tree.Tree.descendants.Goals as goal
@@ -12,3 +13,8 @@ returns-clause-order c = rw c.first_child-next.ensures.child (begins c.args.self
 pub returns-clause-within : goal.returns-clause-within
 returns-clause-within c =
     subst (λ (ns : List ℕ). All (λ n. n < c.args.self.now.made) ns) (sym (returns-clause-order c)) (within-order c.args.self.now.made c.args.self.now.trees c.first_child-next.ensures.nodes.counted c.args.at c.requires)
+
+pub returns-clause-few : goal.returns-clause-few
+returns-clause-few c =
+    let few = inside-few c.args.self.now.made c.args.self.now.trees c.first_child-next.ensures.nodes.counted c.args.at c.requires in
+    omega (arith, ap length (returns-clause-order c), order-long (children_of c.args.at c.args.self.now.trees), few)

@@ -1,29 +1,17 @@
-use Rattle.htag.proofs.Vocabulary.{ℕ, List, sym, refl, ap, ◌∙◌, Some, append-nil, ◌++◌, string_bytes, ParseError, attribute_of}
-use Rattle.htag.proofs.Ending.{first_ends, repeated_ends}
+use Rattle.htag.proofs.Vocabulary.{ℕ, List, refl, ap, ◌∙◌, Some, slice_get, attribute_of, Attr}
+use Rattle.std.proofs.Common.{Result, Ok, Err}
+use Rattle.std.specs.Prelude.{MatchResult, IfErr, OnOk}
 use Rattle.htag.proofs.walk.TagWalk.end_attribute.Goals as goal
 
-pub returns-in_ok-push-clause-ended : goal.returns-in_ok-push-clause-ended
-returns-in_ok-push-clause-ended c =
-    let seen = (rw c.index-number.ensures at c.in_ok-add.ensures) in
-    record {
-      kind_is = refl;
-      phase_is = refl;
-      name_is = refl;
-      ends = λ parts part is h.
-          let e = first_ends c.args.names.now c.intern.new.self c.in_ok-id.ensures.grows c.in_ok-id.ensures.names c.args.self.now _ (attribute_of c.args.self.now) c.in_ok-id.id (c.in_ok-id.ensures.number ∙ ap (λ (x : List ℕ). Some x) c.deref.ensures) _ seen refl parts part is h
-          (record { name = c.in_ok-id.id; value = c.replace-value.result }) c.if-branch.true refl (ap string_bytes c.replace-value.ensures.value) c.in_ok-push.ensures.items in
-          (e.0, sym (ap (λ (x : List ParseError). c.args.errors.now.items ++ x) e.1 ∙ append-nil c.args.errors.now.items));
-    }
+either : {T E : Type 0} (P : Type 0) (Q : E → Type 0) (r : Result T E) → IfErr r Q → OnOk r P → MatchResult r (λ _. P) Q
+either P Q (Ok t) q p = p
+either P Q (Err e) q p = q
 
-pub returns-in_ok-push-2-clause-ended : goal.returns-in_ok-push-2-clause-ended
-returns-in_ok-push-2-clause-ended c =
-    let seen = (rw c.index-number.ensures at c.in_ok-add.ensures) in
-    record {
-      kind_is = refl;
-      phase_is = refl;
-      name_is = refl;
-      ends = λ parts part is h.
-          let e = repeated_ends c.args.names.now c.intern.new.self c.in_ok-id.ensures.grows c.in_ok-id.ensures.names c.args.self.now _ (attribute_of c.args.self.now) c.in_ok-id.id (c.in_ok-id.ensures.number ∙ ap (λ (x : List ℕ). Some x) c.deref.ensures) _ seen refl parts part is h
-          c.if-branch.false refl in
-          (e.0, c.in_ok-push-2.ensures.items ∙ ap (λ (x : List ParseError). c.args.errors.now.items ++ x) (sym e.1));
-    }
+pub returns-clause-ended : goal.returns-clause-ended
+returns-clause-ended c =
+    either _ _ c.keep.result c.keep.ensures.memory
+    (c.keep.ensures.keeps c.args.names.now c.intern.new.self (attribute_of c.args.self.now) c.in_ok-name.ensures.grows c.in_ok-name.ensures.names
+    (ap (slice_get c.intern.new.self) (ap (λ (a : Attr). a.name) c.in_ok-attr.ensures) ∙ c.in_ok-name.ensures.number ∙ ap (λ (x : List ℕ). Some x) c.deref.ensures) (ap (λ (a : Attr). a.value) c.in_ok-attr.ensures ∙ c.deref-2.ensures) refl)
+
+pub returns-clause-grows : goal.returns-clause-grows
+returns-clause-grows c = c.in_ok-name.ensures.grows

@@ -10,5 +10,5 @@ returns-then-next-eq62-clause-takes c = λ table names body h.
 pub returns-clause-takes : goal.returns-clause-takes
 returns-clause-takes c = λ table names body h.
     let stays : ends_name c.args.next.ch ≡ false = grind (arith, nat_tests) in
-    name_grows _ _ _ body _ _ h c.requires _ _ refl refl refl refl (c.in_ok-push_lowered.ensures ∙ ap (λ (x : List ℕ). string_bytes c.args.self.now.name ++ x) (sym (append-nil _))) c.in_ok-keep_null.ensures
+    name_grows _ _ _ body _ _ h c.requires _ _ _ refl refl refl refl (c.in_ok-push_lowered.ensures ∙ ap (λ (x : List ℕ). string_bytes c.args.self.now.name ++ x) (sym (append-nil _))) c.in_ok-keep_null.ensures
     (and_both _ true (ap not stays) refl)

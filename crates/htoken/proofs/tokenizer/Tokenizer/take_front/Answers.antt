@@ -7,11 +7,5 @@ returns-in-Text-clause-takes g c = c.run_of_text.ensures.takes c.args.names.now
 pub returns-in-Text-clause-few : goal.returns-in-Text-clause-few
 returns-in-Text-clause-few g c = all_is_few c.args.run.now c.requires.some _ c.run_of_text.ensures.all
 
-pub returns-in-LessSolidus-clause-few : goal.returns-in-LessSolidus-clause-few
-returns-in-LessSolidus-clause-few g c = one_is_few c.args.run.now c.requires.some _ c.take_first-in-LessSolidus.ensures.one
-
 pub returns-in_default-clause-few : goal.returns-in_default-clause-few
-returns-in_default-clause-few g c = one_is_few c.args.run.now c.requires.some _ c.take_first-in_default.ensures.one
-
-pub returns-in-Less-clause-few : goal.returns-in-Less-clause-few
-returns-in-Less-clause-few g c = one_is_few c.args.run.now c.requires.some _ c.take_first.ensures.one
+returns-in_default-clause-few g c = one_is_few c.args.run.now c.requires.some _ c.take_first.ensures.one

@@ -1,15 +1,14 @@
 use Rattle.htoken.proofs.Names.{arith, ◌∙◌, ap, length, list_all, length-drop, grows_not, grows_on, is_plain_byte, plain_drop, gives_item, err_is}
-use Rattle.htoken.proofs.Fronts.{plain_boundary, more_taken, more_refused}
+use Rattle.htoken.proofs.Fronts.{plain_boundary, more_taken, more_refused, takes_nothing}
+use Rattle.htoken.proofs.Taking.{taken_kept}
 use Rattle.htoken.proofs.tokenizer.Tokenizer.take_fronts.Goals as goal
-
-pub returns-in_err-count-clause-takes : goal.returns-in_err-count-clause-takes
-returns-in_err-count-clause-takes g c = rw (err_is c.from_residual.result _ c.from_residual.ensures.1) (λ table start before text taken grows h. c.in_err-count.ensures.takes table start before text taken grows h)
 
 pub loop-count-init : goal.loop-count-init
 loop-count-init g c = record {
-  takes = λ table start before text taken grows h. c.in_ok-count.ensures.takes table start before text taken grows h;
-  within = c.in_ok-count.ensures.few;
-  grows = c.tag_at_front.ensures.grows;
+  takes = λ table start before text taken grows h.
+      takes_nothing (gives_item g.S.ErrorSink.gives g.S.TokenSink.gives_token) table start text taken c.args.names.now c.args.sink.now c.args.self.now (taken_kept table start c.args.self.now before c.args.names.now text taken grows h);
+  within = omega arith;
+  grows = grows_not _;
 }
 
 pub take_front-requires-clause-plain : goal.take_front-requires-clause-plain
@@ -27,7 +26,7 @@ loop-count-preserved g c = record {
 
 pub returns-in_err-more-clause-takes : goal.returns-in_err-more-clause-takes
 returns-in_err-more-clause-takes g c =
-    rw (err_is c.from_residual-in_err-more.result _ c.from_residual-in_err-more.ensures.1) (λ table start before text taken grows h.
+    rw (err_is c.from_residual.result _ c.from_residual.ensures.1) (λ table start before text taken grows h.
     more_refused (gives_item g.S.ErrorSink.gives g.S.TokenSink.gives_token) table start text c.args.at c.loop-count.count c.args.run.now c.requires.plain c.loop-count.invariant.within taken c.loop-count.names c.take_front.new.names c.take_front.ensures.grows
     c.args.sink.now c.loop-count.sink c.loop-count.self _ c.range_from.ensures.value c.in_err-more.field-0.0 c.take_front.new.sink c.take_front.new.self (c.loop-count.invariant.takes table start before text taken grows h)
     (λ fed events has. c.in_err-more.ensures.takes table start c.loop-count.names fed events (grows_not _) has))

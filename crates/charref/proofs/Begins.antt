@@ -1,0 +1,84 @@
+-- Whether bytes begin with a name, seen 16 at a time through the mask of those that differ.
+use Rattle.charref.proofs.Names.{◌≡◌, ℕ, zero, suc, ◌+◌, ◌-◌, ◌≤◌, ◌<◌, Bool, true, false, not, cond, ◌&&◌, nat_eq, nat_le, List, [], ◌∷◌, map, length, take, drop, refl, sym, ap, ◌∙◌, arith, starts_with, nat_tests, take_rest, drop-drop}
+use Rattle.std.proofs.Common.{w8, ◌^◌, ◌%◌}
+use Rattle.std.specs.List.{prefix_len, slice_range}
+use Rattle.std.proofs.lemmas.Simd.{first_set_mask_l, length-zip2, tops_compared, mask_l-mod, length-chunk}
+use lib.Count.{count_trailing_zeros}
+use lib.Lanes.{zip2, mask_l, top}
+
+abbrev pub differs : ℕ → ℕ → Bool
+differs a b = not (nat_eq a b)
+
+-- a name of at most as many bytes as there are lanes
+starts_lanes : (k n : ℕ) (xs ys : List ℕ) → n ≤ k → k ≤ length xs → k ≤ length ys
+    → starts_with nat_eq xs (take n ys) ≡ nat_le n (prefix_len (λ b. not b) (zip2 differs (take k xs) (take k ys)))
+starts_lanes k zero xs ys few long_x long_y = grind (arith, nat_tests)
+starts_lanes zero (suc n) xs ys few long_x long_y = absurd (omega arith)
+starts_lanes (suc k) (suc n) [] ys few long_x long_y = absurd (omega arith)
+starts_lanes (suc k) (suc n) (x ∷ xs) [] few long_x long_y = absurd (omega arith)
+starts_lanes (suc k) (suc n) (x ∷ xs) (y ∷ ys) few long_x long_y =
+    grind (arith, nat_tests, starts_lanes k n xs ys (omega arith) (omega arith) (omega arith))
+
+as_it_is : (bs : List Bool) → map (λ (b : Bool). b) bs ≡ bs
+as_it_is [] = refl
+as_it_is (b ∷ bs) = ap (λ (x : List Bool). b ∷ x) (as_it_is bs)
+
+-- the mask of the lanes that differ, as it is computed
+abbrev pub mask_of : List ℕ → List ℕ → ℕ
+mask_of xs ys = mask_l (map (top 7) (zip2 (λ a b. cond (differs a b) 255 0) (take 16 xs) (take 16 ys))) % 2 ^ 64
+
+module _ (n : ℕ) (xs ys : List ℕ) (few : n ≤ 16) (long_x : 16 ≤ length xs) (long_y : 16 ≤ length ys) where
+  abbrev lanes : List Bool
+  lanes = zip2 differs (take 16 xs) (take 16 ys)
+
+  long : length lanes ≡ 16
+  long = length-zip2 differs (take 16 xs) (take 16 ys) (length-chunk 0 16 xs long_x ∙ sym (length-chunk 0 16 ys long_y)) ∙ length-chunk 0 16 xs long_x
+
+  mask_is : mask_of xs ys ≡ mask_l (map (λ (b : Bool). b) lanes)
+  mask_is =
+      ap (λ (bs : List Bool). mask_l bs % 2 ^ 64) (tops_compared w8 differs (take 16 xs) (take 16 ys)) ∙ mask_l-mod lanes 64 (omega (arith, long)) ∙ ap mask_l (sym (as_it_is lanes))
+
+  alike : cond (nat_eq (mask_of xs ys) 0) 16 (count_trailing_zeros 64 (mask_of xs ys)) ≡ prefix_len (λ b. not b) lanes
+  alike = ap (λ (m : ℕ). cond (nat_eq m 0) 16 (count_trailing_zeros 64 m)) mask_is ∙ first_set_mask_l (λ (b : Bool). b) lanes 16 long (omega arith)
+
+  starts : starts_with nat_eq xs (take n ys) ≡ nat_le n (cond (nat_eq (mask_of xs ys) 0) 16 (count_trailing_zeros 64 (mask_of xs ys)))
+  starts = starts_lanes 16 n xs ys few long_x long_y ∙ ap (nat_le n) (sym alike)
+
+  pub all_alike : mask_of xs ys ≡ 0 → starts_with nat_eq xs (take n ys) ≡ true
+  all_alike none = starts ∙ ap (λ (m : ℕ). nat_le n (cond (nat_eq m 0) 16 (count_trailing_zeros 64 m))) none ∙ grind (arith, nat_tests, few)
+
+  pub first_differs : nat_eq (mask_of xs ys) 0 ≡ false → starts_with nat_eq xs (take n ys) ≡ nat_le n (count_trailing_zeros 64 (mask_of xs ys))
+  first_differs some = starts ∙ ap (λ (b : Bool). nat_le n (cond b 16 (count_trailing_zeros 64 (mask_of xs ys)))) some
+
+-- a name is begun with where its front is, and then its rest
+pub starts_both : (n : ℕ) (xs ys : List ℕ) → starts_with nat_eq xs ys ≡ (starts_with nat_eq xs (take n ys) && starts_with nat_eq (drop n xs) (drop n ys))
+starts_both zero xs ys = refl
+starts_both (suc n) xs [] = refl
+starts_both (suc n) [] (y ∷ ys) = refl
+starts_both (suc n) (x ∷ xs) (y ∷ ys) = ap (λ (b : Bool). nat_eq y x && b) (starts_both n xs ys) ∙ grind arith
+
+-- the same of what is left of both, as a slice has it
+pub begun_at : (r : Bool) (n : ℕ) (xs ys : List ℕ) → r ≡ starts_with nat_eq (take (length xs - n) (drop n xs)) (take 16 (take (length ys - n) (drop n ys)))
+    → starts_with nat_eq (drop n xs) (take 16 (drop n ys)) ≡ r
+begun_at r n xs ys e =
+    sym (e ∙ ap (λ (x : List ℕ). starts_with nat_eq x (take 16 (take (length ys - n) (drop n ys)))) (take_rest xs n) ∙ ap (λ (y : List ℕ). starts_with nat_eq (drop n xs) (take 16 y)) (take_rest ys n))
+
+-- THE KEY OF AN ENTRY, IN THE TEXT THAT GOES ON AFTER IT
+
+first_off : (k : ℕ) (xs : List ℕ) → drop 1 (take (suc k) xs) ≡ take k (drop 1 xs)
+first_off zero [] = refl
+first_off (suc k) [] = refl
+first_off k (x ∷ xs) = refl
+
+pub opens_any : (text bytes : List ℕ) (start end : ℕ) → end ≤ start → true ≡ starts_with nat_eq bytes (drop 1 (slice_range text start end))
+opens_any text bytes start end same =
+    let none : end - start ≡ 0 = omega (arith, same) in
+    ap (λ (n : ℕ). starts_with nat_eq bytes (drop 1 (take n (drop start text)))) (sym none)
+
+pub opens_named : (text bytes : List ℕ) (start end : ℕ) (r : Bool) → start < end
+    → r ≡ starts_with nat_eq bytes (take (end - start - 1) (take (length text - (start + 1)) (drop (start + 1) text))) → r ≡ starts_with nat_eq bytes (drop 1 (slice_range text start end))
+opens_named text bytes start end r some e =
+    let k : ℕ = end - start - 1 in
+    let long : end - start ≡ suc k = omega (arith, some) in
+    let name : drop 1 (slice_range text start end) ≡ take k (drop (start + 1) text) = ap (λ (n : ℕ). drop 1 (take n (drop start text))) long ∙ first_off k (drop start text) ∙ ap (take k) (drop-drop 1 start text) in
+    e ∙ ap (λ (x : List ℕ). starts_with nat_eq bytes (take k x)) (take_rest text (start + 1)) ∙ ap (starts_with nat_eq bytes) (sym name)

@@ -1,0 +1,358 @@
+-- An attribute that stands whole in a run.
+use Rattle.htag.proofs.Vocabulary.{◌≡◌, ◌≤◌, ◌<◌, ℕ, ◌+◌, ◌-◌, Bool, true, false, not, ◌||◌, ◌&&◌, eqb, List, [], ◌∷◌, ◌++◌, length, take, drop, sym, refl, ap, ◌∙◌, subst, append_assoc, append-nil, arith, nat_tests, and_parts, Some, get_or, length-drop, length-take-le, take-append-drop, take_all, string_bytes, flat_map, list_all, len_utf8, ParseError, Placed, MissingWhitespaceBetweenAttributes, UnexpectedEqualsSignBeforeAttributeName, Texts, all, begins, stops, characters, error_if, is_equals, is_greater, is_quote, is_space, name_bytes, past, place, placed, all_weaker, all_placed, Entities, Piece, TagState, TagWalk, AreValue, pieces_text, value_bytes, HasPhase, IsInTag, IsPast, is_unquoted_byte, is_word_byte, Attribute, AreParts, IsPart, Part, attribute_name_errors, attribute_part, ends_attribute_name, ends_name, ends_unquoted, is_odd, name_errors_here, names_after, parts_text, repeated, tag_errors, unquoted_errors, value_errors}
+use Rattle.std.proofs.Math.Seq.{get_or-append_seam, drop-length}
+use Rattle.std.proofs.lemmas.Bool.{and_from}
+use Rattle.std.proofs.lemmas.List.{length-append, take_at, drop_at, drop-drop}
+use Rattle.std.proofs.lemmas.List.Folds.{list_all-append}
+use Rattle.std.proofs.lemmas.Str.{chars-append, chars-nil, chars-IsAscii, encodes-chars, IsCharBoundary-before_ascii, IsCharBoundary-from_drop, IsUtf8-take, IsUtf8-drop}
+use Rattle.std.specs.Char.{is_ascii}
+use Rattle.std.specs.List.{slice_range}
+use Rattle.std.specs.Str.{chars, IsCharBoundary, IsUtf8}
+use Rattle.htext.specs.Run.{is_clean, IsCut}
+use Rattle.htext.proofs.Clean.{clean_rest}
+use Rattle.htext.proofs.Parts.{placed-append as placed_text}
+use Rattle.htext.proofs.Wide.{has_characters}
+use Rattle.htag.specs.AtOnce.{IsPlainAttribute, IsQuietFront, IsWritten}
+use Rattle.htag.specs.Run.{next_at}
+use Rattle.htag.specs.Steps.{EndsAs}
+use Rattle.htag.specs.declared.at_once.PlainAttribute.{PlainAttribute}
+use Rattle.htag.specs.declared.tag_state.TagState.TheVariants as phase
+use Rattle.htag.specs.Tag.{IsAttributeName}
+use Rattle.htag.proofs.Ascii.{ascii_chars, ascii_placed, cut_at, each_ascii}
+use Rattle.htag.proofs.Even.{even_of, not_odd}
+use Rattle.htag.proofs.Going.{held_in, past_is}
+use Rattle.htag.proofs.InRun.{next_then, word_ascii, word_bytes, word_errors, word_in_attribute, word_in_name, word_no_equals}
+use Rattle.htag.proofs.Parts.{AreParts-snoc, begins-more, holds_same, parts_text-snoc}
+use Rattle.htag.proofs.Phases.{part_errors}
+use Rattle.htag.proofs.QuietValues.{all_chars}
+
+-- what follows begins with this character
+follows : (test : ℕ → Bool) (c : ℕ) (rest : List Placed) → test c ≡ true → characters (take 1 rest) ≡ c ∷ [] → stops test rest ≡ true
+follows test c [] passes is = absurd cc
+follows test c (p ∷ ps) passes is = let same : p.ch ≡ c = cc in ap test same ∙ passes
+
+none_follows : (c : ℕ) (rest : List Placed) → (eqb c 47 || is_greater c) ≡ true → characters (take 1 rest) ≡ c ∷ [] → begins is_equals (past is_space rest) ≡ false
+none_follows c [] ends is = absurd cc
+none_follows c (p ∷ ps) ends is =
+    let same : p.ch ≡ c = cc in
+    let ends_here : (eqb p.ch 47 || is_greater p.ch) ≡ true = ap (λ (n : ℕ). eqb n 47 || is_greater n) same ∙ ends in
+    let space : is_space p.ch ≡ false = grind (arith, ends_here, nat_tests) in
+    let equals : is_equals p.ch ≡ false = grind (arith, ends_here, nat_tests) in
+    rw space equals
+
+ends_attribute : (c : ℕ) → (eqb c 47 || is_greater c) ≡ true → ends_attribute_name c ≡ true
+ends_attribute c h = grind (arith, h, nat_tests)
+
+unquoted_begins : (c : ℕ) → is_unquoted_byte c ≡ true → not (ends_unquoted c || is_quote c) ≡ true
+unquoted_begins c h = grind (arith, h, nat_tests)
+
+unquoted_goes_on : (c : ℕ) → is_unquoted_byte c ≡ true → not (ends_unquoted c) ≡ true
+unquoted_goes_on c h = grind (arith, h, nat_tests)
+
+first_passes : (test other : ℕ → Bool) → ((c : ℕ) → test c ≡ true → other c ≡ true) → (at : ℕ) (xs : List ℕ) → 0 < length xs → list_all test xs ≡ true → begins other (placed at xs) ≡ true
+first_passes test other weaker at [] some h = absurd (omega (arith, some))
+first_passes test other weaker at (x ∷ xs) some h = weaker x (and_parts (test x) (list_all test xs) h).0
+
+unquoted_long : (byte : ℕ) → 128 ≤ byte → is_unquoted_byte byte ≡ true
+unquoted_long byte l = grind (arith, l, nat_tests)
+
+unquoted_even : (c : ℕ) → is_unquoted_byte c ≡ true → not_odd c ≡ true
+unquoted_even c h = grind (arith, h, nat_tests)
+
+-- pieces without errors and without characters that are faults
+no_text : {X : Type 0} (xs ys : List X) → xs ++ ys ≡ [] → (xs ≡ []) × (ys ≡ [])
+no_text [] ys e = (refl, e)
+no_text (x ∷ xs) ys e = absurd cc
+
+all_both : (test : ℕ → Bool) (xs ys : List Placed) → all test (xs ++ ys) ≡ true → (all test xs ≡ true) × (all test ys ≡ true)
+all_both test [] ys h = (refl, h)
+all_both test (x ∷ xs) ys h =
+    let k = and_parts (test x.ch) (all test (xs ++ ys)) h in
+    let l = all_both test xs ys k.1 in
+    (and_from (test x.ch) (all test xs) k.0 l.0, l.1)
+
+even_quiet : (pieces : List Piece) → value_errors pieces ≡ [] → all not_odd (pieces_text pieces) ≡ true → unquoted_errors pieces ≡ []
+even_quiet [] none even = refl
+even_quiet (p ∷ ps) none even =
+    let errors = no_text p.errors (value_errors ps) none in
+    let texts = all_both not_odd p.text (pieces_text ps) even in
+    ap (λ (x : List ParseError). (x ++ p.errors) ++ unquoted_errors ps) (even_of p.text texts.0) ∙ ap (λ (x : List ParseError). x ++ unquoted_errors ps) errors.0 ∙ even_quiet ps errors.1 texts.1
+
+module _ (run : List ℕ) (found : PlainAttribute) (found_is : IsPlainAttribute run found) (u : IsUtf8 run) where
+  abbrev name : List ℕ
+  name = take found.name run
+
+  abbrev before : List ℕ
+  before = found_is.value.before
+
+  abbrev pub value : List ℕ
+  value = found_is.value.value
+
+  abbrev after : List ℕ
+  after = found_is.value.after
+
+  abbrev next : ℕ
+  next = found_is.value.next
+
+  abbrev far : List ℕ
+  far = found_is.value.after ++ found_is.value.next ∷ found_is.value.others
+
+  abbrev pub from : ℕ
+  from = found.name + found.value.before
+
+  abbrev pub to : ℕ
+  to = found.name + found.value.before + found.value.value
+
+  abbrev pub end : ℕ
+  end = found.name + found.value.before + found.value.value + found.value.after
+
+  -- all but the value is ASCII
+  name_ascii : list_all is_ascii (take found.name run) ≡ true
+  name_ascii = all_weaker is_word_byte is_ascii word_ascii (take found.name run) found_is.words
+
+  outside : (list_all is_ascii found_is.value.before ≡ true) × (list_all is_ascii found_is.value.after ≡ true) × (is_ascii found_is.value.next ≡ true)
+  outside = by found_is.value.written where
+    by : IsWritten before value after next → (list_all is_ascii before ≡ true) × (list_all is_ascii after ≡ true) × (is_ascii next ≡ true)
+    by (IsWritten.quoted mark quote b inside a ends) =
+        let small : is_ascii mark ≡ true = grind (arith, quote, nat_tests) in
+        let one : list_all is_ascii (mark ∷ []) ≡ true = and_from (is_ascii mark) true small refl in
+        let last : is_ascii next ≡ true = grind (arith, ends, nat_tests) in
+        (ap (list_all is_ascii) b ∙ one, ap (list_all is_ascii) a ∙ one, last)
+    by (IsWritten.unquoted b long inside a ends) =
+        let last : is_ascii next ≡ true = grind (arith, ends, nat_tests) in
+        (ap (list_all is_ascii) b, ap (list_all is_ascii) a, last)
+    by (IsWritten.missing b none a ends) =
+        let last : is_ascii next ≡ true = grind (arith, ends, nat_tests) in
+        (ap (list_all is_ascii) b, ap (list_all is_ascii) a, last)
+
+  -- what is left after each part
+  whole : run ≡ name ++ (before ++ (value ++ far))
+  whole = sym (take-append-drop found.name run) ∙ ap (λ (x : List ℕ). name ++ x) found_is.value.run_is
+
+  past_name : IsUtf8 (before ++ (value ++ far))
+  past_name = (ascii_chars name (before ++ (value ++ far)) name_ascii (subst IsUtf8 whole u)).0
+
+  past_sign : IsUtf8 (value ++ far)
+  past_sign = (ascii_chars before (value ++ far) outside.0 past_name).0
+
+  long : length run ≡ end + length (next ∷ found_is.value.others)
+  long = omega (arith, ap length whole, length-append name (before ++ (value ++ far)), length-append before (value ++ far), length-append value far, length-append after (next ∷ found_is.value.others), length-take-le found.name run found_is.within, found_is.value.before_is, found_is.value.value_is, found_is.value.after_is)
+
+  left_value : drop (found.name + found.value.before) run ≡ value ++ far
+  left_value = sym (drop-drop found.value.before found.name run) ∙ ap (drop found.value.before) found_is.value.run_is ∙ drop_at before (value ++ far) found.value.before (sym found_is.value.before_is)
+
+  left_far : drop (found.name + found.value.before + found.value.value) run ≡ far
+  left_far = sym (drop-drop found.value.value from run) ∙ ap (drop found.value.value) left_value ∙ drop_at value far found.value.value (sym found_is.value.value_is)
+
+  left_next : drop (found.name + found.value.before + found.value.value + found.value.after) run ≡ found_is.value.next ∷ found_is.value.others
+  left_next = sym (drop-drop found.value.after to run) ∙ ap (drop found.value.after) left_far ∙ drop_at after (next ∷ found_is.value.others) found.value.after (sym found_is.value.after_is)
+
+  far_head : (x : ℕ) × (xs : List ℕ) × (far ≡ x ∷ xs) × (x < 128)
+  far_head = by after outside.1 where
+    by : (ys : List ℕ) → list_all is_ascii ys ≡ true → (x : ℕ) × (xs : List ℕ) × (ys ++ next ∷ found_is.value.others ≡ x ∷ xs) × (x < 128)
+    by [] h = let last = outside.2 in (next, found_is.value.others, refl, grind (arith, last, nat_tests))
+    by (y ∷ ys) h = let k = and_parts (is_ascii y) (list_all is_ascii ys) h in (y, ys ++ next ∷ found_is.value.others, refl, grind (arith, k.0, nat_tests))
+
+  value_edge : IsCharBoundary (value ++ far) (length value)
+  value_edge =
+      let (x, xs, is, small) = far_head in
+      let all : value ++ far ≡ value ++ x ∷ xs = ap (λ (y : List ℕ). value ++ y) is in
+      IsCharBoundary-before_ascii (value ++ far) (length value) (omega (arith, ap length all, length-append value (x ∷ xs))) (omega (arith, small, ap (λ (y : List ℕ). get_or y (length value) 0) all, get_or-append_seam value x xs 0))
+
+  pub value_utf8 : IsUtf8 found_is.value.value
+  value_utf8 = subst IsUtf8 (take_at value far (length value) refl) (IsUtf8-take (value ++ far) (length value) past_sign value_edge)
+
+  far_utf8 : IsUtf8 far
+  far_utf8 = subst IsUtf8 (drop_at value far (length value) refl) (IsUtf8-drop (value ++ far) (length value) past_sign value_edge)
+
+  next_utf8 : IsUtf8 (found_is.value.next ∷ found_is.value.others)
+  next_utf8 = (ascii_chars after (next ∷ found_is.value.others) outside.1 far_utf8).0
+
+  pub name_edge : IsCharBoundary run found.name
+  name_edge = IsCharBoundary-from_drop run found.name found_is.within (subst IsUtf8 (sym found_is.value.run_is) past_name)
+
+  pub from_edge : IsCharBoundary run (found.name + found.value.before)
+  from_edge = IsCharBoundary-from_drop run from (omega (arith, long)) (subst IsUtf8 (sym left_value) past_sign)
+
+  pub to_edge : IsCharBoundary run (found.name + found.value.before + found.value.value)
+  to_edge = IsCharBoundary-from_drop run to (omega (arith, long)) (subst IsUtf8 (sym left_far) far_utf8)
+
+  pub end_cut : IsCut (found.name + found.value.before + found.value.value + found.value.after) run
+  end_cut = cut_at end run u (IsCharBoundary-from_drop run end (omega (arith, long)) (subst IsUtf8 (sym left_next) next_utf8))
+
+  pub written_is : slice_range run (found.name + found.value.before) (found.name + found.value.before + found.value.value) ≡ found_is.value.value
+  written_is =
+      let size : to - from ≡ found.value.value = omega arith in
+      ap (λ (n : ℕ). take n (drop from run)) size ∙ ap (take found.value.value) left_value ∙ take_at value far found.value.value (sym found_is.value.value_is)
+
+  pub written_clean : list_all is_clean (chars run) ≡ true → list_all is_clean (chars found_is.value.value) ≡ true
+  written_clean clean =
+      (and_parts (list_all is_clean (chars value)) (list_all is_clean (chars far))
+      (sym (ap (list_all is_clean) (chars-append value far value_utf8) ∙ list_all-append is_clean (chars value) (chars far)) ∙ ap (λ (x : List ℕ). list_all is_clean (chars x)) (sym left_value) ∙ (clean_rest from run (cut_at from run u from_edge) clean).1)).0
+
+  taken : take (found.name + found.value.before + found.value.value + found.value.after) run ≡ name ++ (before ++ (value ++ after))
+  taken =
+      let all : run ≡ (name ++ (before ++ (value ++ after))) ++ next ∷ found_is.value.others =
+      whole ∙ ap (λ (x : List ℕ). name ++ (before ++ x)) (sym (append_assoc value after (next ∷ found_is.value.others))) ∙ ap (λ (x : List ℕ). name ++ x) (sym (append_assoc before (value ++ after) (next ∷ found_is.value.others)))
+      ∙ sym (append_assoc name (before ++ (value ++ after)) (next ∷ found_is.value.others)) in
+      ap (take end) all ∙ take_at (name ++ (before ++ (value ++ after))) (next ∷ found_is.value.others) end
+      (omega (arith, length-append name (before ++ (value ++ after)), length-append before (value ++ after), length-append value after, length-take-le found.name run found_is.within, found_is.value.before_is, found_is.value.value_is, found_is.value.after_is))
+
+  taken_chars : chars (take (found.name + found.value.before + found.value.value + found.value.after) run) ≡ name ++ (before ++ (chars value ++ after))
+  taken_chars =
+      let a = ascii_chars name (before ++ (value ++ after)) name_ascii (subst IsUtf8 taken end_cut.front) in
+      let b = ascii_chars before (value ++ after) outside.0 a.0 in
+      ap chars taken ∙ a.1 ∙ ap (λ (x : List ℕ). name ++ x) (b.1 ∙ ap (λ (x : List ℕ). before ++ x) (chars-append value after value_utf8 ∙ ap (λ (x : List ℕ). chars value ++ x) (chars-IsAscii after (each_ascii after outside.1))))
+
+  module _ (at : ℕ) where
+    abbrev after_name : ℕ
+    after_name = at + length name
+
+    abbrev in_value : ℕ
+    in_value = at + length name + length before
+
+    abbrev text : List Placed
+    text = placed (at + length name + length before) (chars value)
+
+    abbrev close : List Placed
+    close = placed (at + length name + length before + length value) after
+
+    front_placed : placed at (chars (take end run)) ≡ placed at name ++ (placed after_name before ++ (text ++ close))
+    front_placed = ap (placed at) taken_chars ∙ ascii_placed at name (before ++ (chars value ++ after)) name_ascii ∙ ap (λ (x : List Placed). placed at name ++ x) (ascii_placed after_name before (chars value ++ after) outside.0
+        ∙ ap (λ (x : List Placed). placed after_name before ++ x) (placed_text in_value (chars value) after ∙ ap (λ (n : ℕ). text ++ placed (in_value + n) after) (ap length (encodes-chars value value_utf8))))
+
+    next_is : next_at at run end ≡ record { ch = next; at = at + end } ∷ []
+    next_is =
+        let one : list_all is_ascii (next ∷ []) ≡ true = and_from (is_ascii next) true outside.2 refl in
+        ap (λ (x : List ℕ). placed (at + end) (take 1 (chars x))) left_next ∙ ap (λ (x : List ℕ). placed (at + end) (take 1 x)) (ascii_chars (next ∷ []) found_is.value.others one next_utf8).1
+
+    -- THE NAME
+
+    name_some : 0 < length name
+    name_some = omega (arith, found_is.some, length-take-le found.name run found_is.within)
+
+    name_quiet : attribute_name_errors (placed at name) ≡ []
+    name_quiet = by name found_is.words where
+      by : (xs : List ℕ) → list_all is_word_byte xs ≡ true → attribute_name_errors (placed at xs) ≡ []
+      by [] words = refl
+      by (x ∷ xs) words =
+          ap (λ (b : Bool). error_if b UnexpectedEqualsSignBeforeAttributeName at ++ flat_map name_errors_here (placed at (x ∷ xs))) (word_no_equals x (and_parts (is_word_byte x) (list_all is_word_byte xs) words).0) ∙ word_errors at (x ∷ xs) words
+
+    name_rest : all (λ c. not (ends_attribute_name c)) (drop 1 (placed at name)) ≡ true
+    name_rest = by name found_is.words where
+      by : (xs : List ℕ) → list_all is_word_byte xs ≡ true → all (λ c. not (ends_attribute_name c)) (drop 1 (placed at xs)) ≡ true
+      by [] words = refl
+      by (x ∷ xs) words = all_placed (λ c. not (ends_attribute_name c)) (at + len_utf8 x) xs (all_weaker is_word_byte (λ c. not (ends_attribute_name c)) word_in_attribute xs (and_parts (is_word_byte x) (list_all is_word_byte xs) words).1)
+
+    name_place : place 0 (placed at name) ≡ at
+    name_place = by name name_some where
+      by : (xs : List ℕ) → 0 < length xs → place 0 (placed at xs) ≡ at
+      by [] e = absurd (omega (arith, e))
+      by (x ∷ xs) e = refl
+
+    is_name : (rest : List Placed) → stops ends_attribute_name rest ≡ true → IsAttributeName (placed at name) rest
+    is_name rest stop = record { first = first_passes is_word_byte (λ c. not (ends_name c)) word_in_name at name name_some found_is.words; runs = record { passes_none = name_rest; stops_after = stop } }
+
+    -- THE PART, with this value
+
+    module _ (table : Entities) (bytes : List ℕ) (quiet : IsQuietFront table found_is.value.value (length found_is.value.value) [] bytes) (plain : found.value.plain ≡ true → bytes ≡ found_is.value.value) where
+      abbrev pieces : List Piece
+      pieces = (quiet.reads (at + length name + length before)).pieces
+
+      text_is : text ≡ pieces_text pieces
+      text_is = ap (λ (x : List ℕ). placed in_value (chars x)) (sym (take_all (length value) value (omega arith))) ∙ (quiet.reads in_value).text_is
+
+      are : AreValue table pieces
+      are = subst (AreValue table) (append-nil pieces) ((quiet.reads in_value).are [] tt (sym (ap (λ (x : List ℕ). placed (in_value + length value) (chars x)) (drop-length value) ∙ ap (placed (in_value + length value)) chars-nil)))
+
+      value_is : bytes ≡ value_bytes pieces
+      value_is = (quiet.reads in_value).bytes
+
+      none : value_errors pieces ≡ []
+      none = (quiet.reads in_value).quiet
+
+      abbrev pub attribute : Attribute
+      attribute = record { name = take found.name run; value = bytes; at = at }
+
+      abbrev pub part : Part
+      part = record { text = placed at (chars (take (found.name + found.value.before + found.value.value + found.value.after) run)); attribute = Some attribute; errors = [] }
+
+      -- by what follows the name
+      part_is : (others : List Placed) (given : List ℕ) (errors : List ParseError) → placed after_name before ++ (text ++ close) ≡ others → bytes ≡ given → errors ≡ [] → part ≡ attribute_part (placed at name) others given errors
+      part_is others given errors others_are same quiet_too =
+          ap (λ (x : List Placed). record { text = x; attribute = Some attribute; errors = [] }) (front_placed ∙ ap (λ (x : List Placed). placed at name ++ x) others_are)
+          ∙ ap (λ (x : List ℕ). record { text = placed at name ++ others; attribute = Some (record { name = x; value = bytes; at = at }); errors = [] }) (sym (word_bytes at name found_is.words))
+          ∙ ap (λ (x : List ℕ). record { text = placed at name ++ others; attribute = Some (record { name = name_bytes (placed at name); value = x; at = at }); errors = [] }) same
+          ∙ ap (λ (n : ℕ). record { text = placed at name ++ others; attribute = Some (record { name = name_bytes (placed at name); value = given; at = n }); errors = [] }) (sym name_place)
+          ∙ ap (λ (x : List ParseError). record { text = placed at name ++ others; attribute = Some (record { name = name_bytes (placed at name); value = given; at = place 0 (placed at name) }); errors = x })
+          (sym (ap (λ (x : List ParseError). x ++ errors) name_quiet ∙ quiet_too))
+
+      part_here : IsWritten before value after next → (last : ℕ) (rest : List Placed) → characters (take 1 rest) ≡ next ∷ [] → IsPart table last rest part
+      part_here (IsWritten.quoted mark quote before_is inside after_is ends) last rest follow =
+          let sign : List Placed = record { ch = 61; at = after_name } ∷ [] in
+          let opens : List Placed = record { ch = mark; at = after_name + 1 } ∷ [] in
+          let closes : List Placed = record { ch = mark; at = in_value + length value } ∷ [] in
+          IsPart.quoted (placed at name) sign opens closes pieces mark (is_name sign refl) refl refl quote
+          (ap (all (λ c. not (eqb c mark))) (sym text_is) ∙ all_placed (λ c. not (eqb c mark)) in_value (chars value) (all_chars (λ c. not (eqb c mark)) (λ byte l. grind (arith, l, quote, nat_tests)) value value_utf8 inside)) are refl
+          (part_is (sign ++ opens ++ pieces_text pieces ++ closes) (value_bytes pieces) (value_errors pieces ++ error_if (not (stops ends_name rest)) MissingWhitespaceBetweenAttributes (place last rest))
+          (ap (λ (x : List ℕ). placed after_name x ++ (text ++ close)) before_is ∙ ap (λ (x : List ℕ). sign ++ (opens ++ (text ++ placed (in_value + length value) x))) after_is ∙ ap (λ (x : List Placed). sign ++ (opens ++ (x ++ closes))) text_is)
+          value_is
+          (ap (λ (x : List ParseError). x ++ error_if (not (stops ends_name rest)) MissingWhitespaceBetweenAttributes (place last rest)) none
+          ∙ ap (λ (b : Bool). error_if (not b) MissingWhitespaceBetweenAttributes (place last rest)) (follows ends_name next rest ends follow)))
+      part_here (IsWritten.unquoted before_is some inside after_is ends) last rest follow =
+          let sign : List Placed = record { ch = 61; at = after_name } ∷ [] in
+          let passes : list_all is_unquoted_byte (chars value) ≡ true = all_chars is_unquoted_byte unquoted_long value value_utf8 inside in
+          let one : false ≡ eqb (length value) 0 = grind (arith, some, nat_tests) in
+          let begun = has_characters value value_utf8 one in
+          IsPart.unquoted (placed at name) sign pieces (is_name sign refl) refl
+          (ap (begins (λ c. not (ends_unquoted c || is_quote c))) (sym text_is) ∙ first_passes is_unquoted_byte (λ c. not (ends_unquoted c || is_quote c)) unquoted_begins in_value (chars value) (grind (arith, begun, nat_tests)) passes)
+          (record {
+            passes_none = ap (all (λ c. not (ends_unquoted c))) (sym text_is) ∙ all_placed (λ c. not (ends_unquoted c)) in_value (chars value) (all_weaker is_unquoted_byte (λ c. not (ends_unquoted c)) unquoted_goes_on (chars value) passes);
+            stops_after = follows ends_unquoted next rest ends follow;
+          })
+          are
+          (part_is (sign ++ pieces_text pieces) (value_bytes pieces) (unquoted_errors pieces)
+          (ap (λ (x : List ℕ). placed after_name x ++ (text ++ close)) before_is ∙ ap (λ (x : List ℕ). sign ++ (text ++ placed (in_value + length value) x)) after_is ∙ ap (λ (x : List Placed). sign ++ x) (append-nil text ∙ text_is))
+          value_is
+          (even_quiet pieces none (ap (all not_odd) (sym text_is) ∙ all_placed not_odd in_value (chars value) (all_weaker is_unquoted_byte not_odd unquoted_even (chars value) passes))))
+      part_here (IsWritten.missing before_is no_value after_is ends) last rest follow =
+          let given : bytes ≡ [] = plain (found_is.value.bare (found_is.value.before_is ∙ ap length before_is)) ∙ no_value in
+          IsPart.bare (placed at name) (is_name rest (follows ends_attribute_name next rest (ends_attribute next ends) follow)) (none_follows next rest ends follow)
+          (part_is [] [] []
+          (ap (λ (x : List ℕ). placed after_name x ++ (text ++ close)) before_is ∙ ap (λ (x : List ℕ). text ++ placed (in_value + length value) x) after_is ∙ append-nil text ∙ ap (λ (x : List ℕ). placed in_value (chars x)) no_value ∙ ap (placed in_value) chars-nil)
+          given refl)
+
+      -- it has been taken
+      pub whole_taken : (names later_names : Texts) (walk mid new : TagWalk) (body : List Placed) (errors later : List ParseError) → IsInTag table names walk body (next_at at run 0) errors → walk.phase ≡ phase.BeforeAttribute
+          → mid.name ≡ walk.name → mid.seen ≡ walk.seen → mid.attrs ≡ walk.attrs → mid.any ≡ walk.any → EndsAs attribute names later_names mid errors new later
+          → IsInTag table later_names new (body ++ placed at (chars (take end run))) (next_at at run end) later
+      whole_taken names later_names walk mid new body errors later h before_it name_same seen attrs any ends =
+          let nothing = held_in table names walk body (next_at at run 0) errors h phase.BeforeAttribute before_it in
+          let gone = past_is table names walk body (next_at at run 0) errors h phase.BeforeAttribute before_it in
+          let ended = ends.ends h.parts part refl (holds_same names walk mid h.parts seen attrs any h.has_attributes) in
+          let ahead : part.text ≡ next_at at run 0 ++ drop 1 part.text = next_then at end run end_cut (omega (arith, found_is.some)) in
+          record {
+            name = h.name;
+            parts = h.parts ++ part ∷ [];
+            held = [];
+            own = [];
+            body_is = ap (λ (x : List Placed). x ++ part.text) (h.body_is ∙ ap (λ (x : List Placed). h.name ++ (parts_text h.parts ++ x)) nothing.0 ∙ ap (λ (x : List Placed). h.name ++ x) (append-nil (parts_text h.parts)))
+                ∙ append_assoc h.name (parts_text h.parts) part.text ∙ ap (λ (x : List Placed). h.name ++ x) (sym (parts_text-snoc h.parts part) ∙ sym (append-nil (parts_text (h.parts ++ part ∷ []))));
+            first = h.first;
+            passes = h.passes;
+            name_is = ap string_bytes (ends.name_is ∙ name_same) ∙ h.name_is;
+            are_parts = λ last more.
+                let rest : List Placed = next_at at run end ++ more in
+                AreParts-snoc table last h.parts part rest
+                (subst (AreParts table last h.parts) (ap (λ (x : List Placed). x ++ (next_at at run 0 ++ (drop 1 part.text ++ rest))) nothing.0 ∙ sym (append_assoc (next_at at run 0) (drop 1 part.text) rest) ∙ ap (λ (x : List Placed). x ++ rest) (sym ahead))
+                (h.are_parts last (drop 1 part.text ++ rest)))
+                (part_here found_is.value.written last rest (ap (λ (x : List Placed). characters (take 1 (x ++ more))) next_is));
+            errors_are = part_errors h.name h.parts h.own errors h.errors_are part [] later (sym (append-nil h.own ∙ nothing.1)) (ended.1 ∙ ap (λ (x : List ParseError). x ++ repeated (names_after [] h.parts) part.attribute) (sym (append-nil errors)))
+                ∙ sym (append-nil (tag_errors h.name (h.parts ++ part ∷ [])));
+            has_attributes = ended.0;
+            past = subst (λ (x : TagState). IsPast x (begins ends_name (parts_text (h.parts ++ part ∷ []) ++ next_at at run end))) (sym ends.phase_is)
+                (ap (λ (x : List Placed). begins ends_name (x ++ next_at at run end)) (parts_text-snoc h.parts part ∙ ap (λ (x : List Placed). parts_text h.parts ++ x) ahead ∙ sym (append_assoc (parts_text h.parts) (next_at at run 0) (drop 1 part.text)))
+                ∙ ap (begins ends_name) (append_assoc (parts_text h.parts ++ next_at at run 0) (drop 1 part.text) (next_at at run end))
+                ∙ begins-more ends_name (parts_text h.parts ++ next_at at run 0) (drop 1 part.text ++ next_at at run end) (ap (λ (x : List Placed). begins ends_name (parts_text h.parts ++ (x ++ next_at at run 0))) (sym nothing.0) ∙ gone));
+            has_phase = subst (λ (x : TagState). HasPhase x table new (h.parts ++ part ∷ []) [] []) (sym ends.phase_is) (refl, refl);
+          }
