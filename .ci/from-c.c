@@ -32,7 +32,7 @@ void *__real_realloc(void *block, size_t size);
 void __real_free(void *block);
 uint32_t __real_jz_text(uint32_t, const uint8_t *, size_t, const jz_options *, uint8_t *, size_t, jz_answer *);
 uint32_t __real_jz_page(uint32_t, const uint8_t *, size_t, const jz_options *, jz_row *, size_t, uint8_t *, size_t, jz_error *, size_t,
-                        uint8_t *, size_t, jz_page_answer *);
+                        uint8_t *, size_t, jz_origin *, size_t, jz_page_answer *);
 uint32_t __real_jz_table(const uint8_t *, size_t, uint8_t *, size_t, jz_answer *);
 
 /* `left` allocations are given before all are refused, `only` is the one that is refused, and -1 of either refuses none. */
@@ -69,9 +69,10 @@ uint32_t __wrap_jz_text(uint32_t task, const uint8_t *page, size_t length, const
 
 uint32_t __wrap_jz_page(uint32_t wants, const uint8_t *page, size_t length, const jz_options *options, jz_row *rows, size_t row_room,
                         uint8_t *words, size_t word_room, jz_error *errors, size_t error_room, uint8_t *text, size_t text_room,
-                        jz_page_answer *answer) {
+                        jz_origin *origins, size_t origin_room, jz_page_answer *answer) {
     parses++;
-    return __real_jz_page(wants, page, length, options, rows, row_room, words, word_room, errors, error_room, text, text_room, answer);
+    return __real_jz_page(wants, page, length, options, rows, row_room, words, word_room, errors, error_room, text, text_room, origins,
+                          origin_room, answer);
 }
 
 uint32_t __wrap_jz_table(const uint8_t *entities, size_t length, uint8_t *output, size_t room, jz_answer *answer) {
@@ -79,11 +80,13 @@ uint32_t __wrap_jz_table(const uint8_t *entities, size_t length, uint8_t *output
     return __real_jz_table(entities, length, output, room, answer);
 }
 
-/* The tasks of jz_text, and after them what the other functions make. A page has its words and its HTML one after another. */
-enum { ROOM = 1 << 16, ROWS = 1 << 12, ERRORS = 1 << 10, TASKS = 5, TREE = 5, PAGE = 6, TABLE = 7, ALL = 8 };
+/* The tasks of jz_text, and after them what the other functions make. A page has its words and its HTML one after another, and origins too,
+ * and what is PLACED is a tree with errors and places. */
+enum { ROOM = 1 << 16, ROWS = 1 << 12, ERRORS = 1 << 10, TASKS = 5, TREE = 5, PAGE = 6, PLACED = 7, TABLE = 8, ALL = 9 };
 static uint8_t text[ROOM], plain[ROOM], input[ROOM];
 static jz_row rows[ROWS], plain_rows[ROWS];
 static jz_error errors[ERRORS], plain_errors[ERRORS];
+static jz_origin origins[ROWS], plain_origins[ROWS];
 static jz_options options = JZ_DEFAULTS;
 static const uint8_t entities[] = "{\"&copy;\": {\"codepoints\": [169], \"characters\": \"\\u00a9\"}}";
 
@@ -97,15 +100,21 @@ static void set_context(uint32_t task) { options.context = jz_lent((const uint8_
 
 enum { PART = ROOM / 2 };
 
+/* A page with wants of which each has room. */
+static uint32_t call_page(uint32_t wants, size_t length, const jz_options *given, jz_page_answer *page) {
+    return jz_page(wants, input, length, given, rows, ROWS, text, PART, errors, ERRORS, text + PART, PART, origins, ROWS, page);
+}
+
 static uint32_t call(uint32_t task, size_t length, jz_answer *answer) {
     jz_page_answer page;
     memset(text, 'x', sizeof text);
     memset(rows, 'x', sizeof rows);
     memset(errors, 'x', sizeof errors);
+    memset(origins, 'x', sizeof origins);
     if (task < TASKS) return jz_text(task, input, length, &options, text, sizeof text, answer);
     if (task == TREE) return jz_tree(input, length, &options, rows, ROWS, text, sizeof text, answer);
     if (task == TABLE) return jz_table(entities, sizeof entities - 1, text, sizeof text, answer);
-    answer->status = jz_page(3, input, length, &options, rows, ROWS, text, PART, errors, ERRORS, text + PART, PART, &page);
+    answer->status = call_page(task == PAGE ? 7 : 5, length, &options, &page);
     check(answer->status == page.status, "the status of a page");
     return answer->status;
 }
@@ -118,6 +127,8 @@ static int is_untouched(void) {
         if (((uint8_t *)rows)[i] != 'x') return 0;
     for (size_t i = 0; i < sizeof errors; i++)
         if (((uint8_t *)errors)[i] != 'x') return 0;
+    for (size_t i = 0; i < sizeof origins; i++)
+        if (((uint8_t *)origins)[i] != 'x') return 0;
     return 1;
 }
 
@@ -135,9 +146,9 @@ static uint32_t make(uint32_t task, const void *page, size_t length, made *it) {
     if (task < TASKS) return jz_make_text(task, bytes, length, &options, &it->bytes, &it->answer);
     if (task == TABLE) return jz_make_table(entities, sizeof entities - 1, &it->bytes, &it->answer);
     uint32_t status;
-    if (task == TREE) {
+    if (task != PAGE) {
         it->html = NULL;
-        status = jz_parse(bytes, length, &options, &it->doc, &it->answer);
+        status = (task == TREE ? jz_parse : jz_parse_places)(bytes, length, &options, &it->doc, &it->answer);
     } else {
         status = jz_make_page(bytes, length, &options, &it->doc, &it->html, &it->page);
         jz_answer told = { it->page.status, it->page.detail, it->page.at, it->page.words, it->page.nodes };
@@ -147,7 +158,7 @@ static uint32_t make(uint32_t task, const void *page, size_t length, made *it) {
     return status;
 }
 
-static int is_tree(uint32_t task) { return task == TREE || task == PAGE; }
+static int is_tree(uint32_t task) { return task == TREE || task == PAGE || task == PLACED; }
 
 static void give_back(uint32_t task, made *it) {
     if (!is_tree(task)) free(it->bytes);
@@ -158,7 +169,7 @@ static void give_back(uint32_t task, made *it) {
 }
 
 static int is_empty(const jz_doc *doc) {
-    return !doc->nodes && !doc->words && !doc->errors && !doc->count && !doc->root && !doc->error_count;
+    return !doc->nodes && !doc->words && !doc->places && !doc->errors && !doc->count && !doc->root && !doc->error_count;
 }
 
 /* Whether these are the same errors, whatever lies between their fields. */
@@ -168,9 +179,20 @@ static int are_same(const jz_error *some, const jz_error *others, size_t count) 
     return 1;
 }
 
+/* Whether the places of a tree are those of the origins that the call wrote. */
+static int are_placed(const jz_doc *doc, size_t count) {
+    for (size_t i = 0; i < count; i++) {
+        const jz_origin *origin = &plain_origins[i];
+        uint64_t place = jz_place(doc, plain_rows[i].number);
+        if (place != (origin->in_source ? origin->at : origin->again_of == JZ_NONE ? JZ_NOWHERE : jz_place(doc, origin->again_of))) return 0;
+    }
+    return doc->places && jz_place(doc, doc->root) == JZ_NOWHERE && jz_place(doc, doc->count) == JZ_NOWHERE;
+}
+
 /* Whether it is what the call wrote, which is in `plain`. */
 static int is_whole(uint32_t task, const made *it) {
     if (memcmp(it->bytes, plain, (size_t)it->answer.length)) return 0;
+    if (task == PLACED && !are_placed(&it->doc, (size_t)it->answer.nodes)) return 0;
     return task != PAGE
         || (it->doc.error_count == it->page.errors && are_same(it->doc.errors, plain_errors, it->doc.error_count)
             && !memcmp(it->html, plain + PART, it->page.text));
@@ -209,6 +231,7 @@ static void check_refused(uint32_t task, size_t length) {
     memcpy(plain, text, sizeof text);
     memcpy(plain_rows, rows, sizeof rows);
     memcpy(plain_errors, errors, sizeof errors);
+    memcpy(plain_origins, origins, sizeof origins);
     for (long at = 0; at <= all; at++) {
         long before = alive;
         left = at;
@@ -217,7 +240,7 @@ static void check_refused(uint32_t task, size_t length) {
         check(alive == before && status == answer.status
                   && (status == JZ_MEMORY ? at < all && is_untouched()
                                           : status == wanted && !memcmp(text, plain, ROOM) && !memcmp(rows, plain_rows, sizeof rows)
-                                                && are_same(errors, plain_errors, ERRORS)),
+                                                && are_same(errors, plain_errors, ERRORS) && !memcmp(origins, plain_origins, sizeof origins)),
               "a call where memory is refused");
     }
 }
@@ -230,14 +253,15 @@ static void check_errors(size_t length) {
     set_context(JZ_ERRORS);
     call(JZ_ERRORS, length, &lines);
     memcpy(plain, text, sizeof text);
-    jz_page(1, input, length, &options, rows, ROWS, text, PART, errors, 0, text, 0, &page);
+    jz_page(1, input, length, &options, rows, ROWS, text, PART, errors, 0, text, 0, origins, 0, &page);
     check(page.status == JZ_TOO_SHORT && page.errors > 60 && page.errors < ERRORS && !page.text, "the number of errors");
     for (size_t room = page.errors + 1; room + 2 > page.errors; room--) {
         int fits = room >= page.errors;
         memset(errors, 'x', sizeof errors);
         memset(rows, 'x', sizeof rows);
         memset(text, 'x', sizeof text);
-        uint32_t status = jz_page(1, input, length, &options, rows, ROWS, text, PART, errors, room, text + PART, 0, &page);
+        memset(origins, 'x', sizeof origins);
+        uint32_t status = jz_page(1, input, length, &options, rows, ROWS, text, PART, errors, room, text + PART, 0, origins, 0, &page);
         check(status == (fits ? JZ_OK : JZ_TOO_SHORT) && (fits || is_untouched()), "errors with so much room");
         if (room == page.errors) memcpy(plain_errors, errors, sizeof errors);
         if (room >= page.errors) check(*(uint8_t *)&errors[page.errors] == 'x', "what comes after the errors");
@@ -246,6 +270,34 @@ static void check_errors(size_t length) {
         at += (size_t)sprintf((char *)text + at, "%llu %s\n", (unsigned long long)plain_errors[i].at, jz_error_name(plain_errors[i].code));
     check(plain[at] == 'x' && !memcmp(text, plain, at), "errors as lines");
     check(!strcmp(jz_error_name(JZ_ERROR_EOF_IN_TAG), "eof-in-tag") && !strcmp(jz_error_name(JZ_ERROR_COUNT), "?"), "the name of a code");
+}
+
+/* As many origins as nodes are written, where they are wanted and there is room for each. A token of a node's own begins where its markup
+ * does, and what there is of other wants changes nothing. */
+static void check_origins(size_t length) {
+    jz_page_answer page;
+    size_t counts[3] = { 0, 0, 0 };
+    set_context(TREE);
+    memset(plain_origins, 'x', sizeof plain_origins);
+    check(jz_page(JZ_WANT_ORIGINS, input, length, &options, rows, ROWS, text, PART, errors, 0, text, 0, plain_origins, ROWS, &page) == JZ_OK,
+          "origins alone");
+    for (size_t i = 0; i < page.nodes; i++) {
+        const jz_origin *it = &plain_origins[i];
+        uint8_t first = input[it->at];
+        counts[it->in_source ? 0 : it->again_of == JZ_NONE ? 1 : 2]++;
+        check(it->at < length && (!it->in_source || rows[i].kind == JZ_TEXT_NODE || first == '<'), "where a node begins");
+    }
+    check(counts[0] > 100 && counts[1] > 10 && counts[2] > 10, "nodes of their own, implied and made again");
+    for (uint32_t wants = 0; wants < 10; wants++)
+        for (size_t room = page.nodes; room + 2 > page.nodes; room--) {
+            int is_known = wants < 8, has_any = is_known && wants & JZ_WANT_ORIGINS, fits = room == page.nodes || !has_any;
+            jz_page_answer told;
+            memset(origins, 'x', sizeof origins);
+            uint32_t status = jz_page(wants, input, length, &options, rows, ROWS, text, PART, errors, ERRORS, text + PART, PART, origins, room, &told);
+            check(status == (!is_known ? JZ_BAD_NUMBER : fits ? JZ_OK : JZ_TOO_SHORT) && told.status == status, "a page with so many origins");
+            check(told.nodes == (is_known ? page.nodes : 0), "how many origins there are");
+            check(fits && has_any ? !memcmp(origins, plain_origins, sizeof origins) : *(uint8_t *)origins == 'x', "origins where they are wanted");
+        }
 }
 
 /* The bytes at the end of a page of memory, after which none can be read. */
@@ -267,7 +319,7 @@ static void check_sizes(size_t length) {
         for (uint32_t task = 0; task <= TASKS; task++) {
             memset(text, 'x', 64);
             check(jz_text(task, input, length, given, text, 64, &answer) == JZ_BAD_SIZE && !answer.length && *text == 'x', "a text by short options");
-            jz_page(task, input, length, given, rows, ROWS, text, PART, errors, ERRORS, text + PART, PART, &page);
+            call_page(task, length, given, &page);
             check(page.status == JZ_BAD_SIZE && !page.nodes && !page.text && *text == 'x', "a page by short options");
         }
         check(jz_tree(input, length, given, rows, ROWS, text, sizeof text, &answer) == JZ_BAD_SIZE && !answer.nodes, "a tree by short options");
@@ -477,8 +529,8 @@ static void check_parses(void) {
     give_back(JZ_ERRORS, &it);
     options.bad_bytes = 0;
     for (length = 0; length + 8 < 4096; length += 8) memcpy(page + length, "<b><div>", 8);
-    static const uint32_t tasks[] = { JZ_TREE, TREE, PAGE };
-    for (int i = 0; i < 3; i++) {
+    static const uint32_t tasks[] = { JZ_TREE, TREE, PAGE, PLACED };
+    for (int i = 0; i < 4; i++) {
         uint32_t task = tasks[i];
         parses = 0;
         check(make(task, page, length, &it) == JZ_OK && parses <= 2, "the parses of a page with long texts or many nodes");
@@ -644,9 +696,10 @@ static void check_counted(void) {
         jz_page_answer all;
         jz_row row;
         jz_error error;
+        jz_origin origin;
         status = jz_text(JZ_ERRORS, page, at, &options, text, 0, &answer) == JZ_TOO_SHORT && !getrusage(RUSAGE_SELF, &most);
         parse = most.ru_maxrss - before;
-        status &= jz_page(JZ_WANT_ERRORS, page, at, &options, &row, 0, text, 0, &error, 0, text, 0, &all) == JZ_TOO_SHORT;
+        status &= jz_page(JZ_WANT_ERRORS, page, at, &options, &row, 0, text, 0, &error, 0, text, 0, &origin, 0, &all) == JZ_TOO_SHORT;
         status &= all.words > half * (half / 4 - 64) && !getrusage(RUSAGE_SELF, &most);
         dprintf(1, "a tree with %ld MB of words: its parse takes %ld KB, its rooms %ld. ", (long)all.words >> 20, parse, most.ru_maxrss - before);
         _exit(!status || most.ru_maxrss - before > 3 * parse);
@@ -716,6 +769,7 @@ int main(int count, char **words) {
         check_rooms(task, "\xff", 1);
     }
     check_errors(length);
+    check_origins(length);
     check_sizes(length);
     set_context(TREE);
     check_pieces(input, length);

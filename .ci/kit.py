@@ -1,12 +1,15 @@
-"""The crates of crates.txt, the words with which the kit's `rattle` reads one of them over the libraries that stand built in crates/*/out/rlib,
-a script as a module, and its usage."""
+"""What the scripts share: usage, counts of checks, files, runs, scripts as modules; the crates of crates.txt, and the words with which the kit's
+`rattle` reads one of them over the libraries that stand built in crates/*/out/rlib."""
 import importlib.machinery
 import importlib.util
 import os
+import re
 import subprocess
 import sys
 
 ROOT = os.path.dirname(os.path.dirname(os.path.realpath(__file__)))
+# How many checks passed, and how many failed.
+counts = {True: 0, False: 0}
 
 
 def usage():
@@ -14,10 +17,86 @@ def usage():
     os.execv(f"{ROOT}/tools/usage", ["usage", sys.argv[0], *sys.argv[1:]])
 
 
+def says(is_right, line):
+    """Counts a check, and prints a line of it."""
+    counts[bool(is_right)] += 1
+    print(line if is_right else f"{line}: FAILED", flush=True)
+
+
+def check(what, came, wanted):
+    """Counts a check. Of those that fail the first twenty are told."""
+    is_right = came == wanted
+    if is_right or counts[False] >= 20:
+        counts[is_right] += 1
+    else:
+        says(False, f"{what}: {came!r:.500} in place of {wanted!r:.500}")
+
+
+def ended():
+    """Prints the last line, 'N passed, M failed'; returns the status."""
+    print(f"{counts[True]} passed, {counts[False]} failed")
+    return 1 if counts[False] else 0
+
+
+def run(check_all, are_known=lambda words: not words):
+    """Runs a script of checks on its words, whose last line says how many passed."""
+    words = sys.argv[1:]
+    if not are_known(words):
+        usage()
+    check_all(*words)
+    sys.exit(ended())
+
+
+def are_files(words):
+    return all(map(os.path.isfile, words))
+
+
+def read(path):
+    with open(path, "rb") as file:
+        return file.read()
+
+
+def text(path):
+    return read(path).decode()
+
+
+def write(path, content):
+    """Writes a text or bytes into a file, whose folder need not be there; returns its path."""
+    os.makedirs(os.path.dirname(path) or ".", exist_ok=True)
+    with open(path, "wb") as file:
+        file.write(content.encode() if isinstance(content, str) else content)
+    return path
+
+
+def ran(words, **how):
+    """The status of a run and what it writes, also on standard error where it fails; 127 where there is no such program, None where it is late."""
+    try:
+        it = subprocess.run(words, capture_output=True, **how)
+    except subprocess.TimeoutExpired as late:
+        return None, f"not in {late.timeout} s"
+    except OSError as error:
+        return 127, str(error)
+    return it.returncode, (it.stdout + it.stderr if it.returncode else it.stdout).decode()
+
+
+def instructions(program, words, profile="/dev/null"):
+    """The instructions that a program takes for these words (valgrind's callgrind, which no load changes)."""
+    words = ["valgrind", "--tool=callgrind", f"--callgrind-out-file={profile}", program, *words]
+    said = subprocess.run(words, stdin=subprocess.DEVNULL, stdout=subprocess.DEVNULL, stderr=subprocess.PIPE, text=True, check=False).stderr
+    return int(re.search(r"Collected : (\d+)", said)[1])
+
+
+def loaded(path):
+    """A script as a module, which has the script's name."""
+    name = os.path.splitext(os.path.basename(path))[0].replace("-", "_")
+    module = importlib.util.module_from_spec(importlib.util.spec_from_loader(name, importlib.machinery.SourceFileLoader(name, path)))
+    module.__spec__.loader.exec_module(module)
+    return module
+
+
 def uses():
     """What each crate of crates.txt uses, in its order, and the names of the static libraries among them."""
-    with open(f"{ROOT}/crates.txt") as file:
-        lines = [line.partition("#")[0].partition(":") for line in file]
+    lines = [line.partition("#")[0].partition(":") for line in text(f"{ROOT}/crates.txt").splitlines()]
     heads = [(front.split(), rest.split()) for front, _, rest in lines if front.strip()]
     return {head[0]: libraries for head, libraries in heads}, {head[0] for head, _ in heads if "staticlib" in head}
 
@@ -32,33 +111,18 @@ def kit():
     return os.path.dirname(subprocess.run(["rt", "doc"], capture_output=True, text=True, check=True).stdout.strip())
 
 
-def words(crate):
+def words(crate, proves=True):
     """How `rattle` is called for a crate in its folder, or None where a library that it uses is not built."""
     used, static = uses()
     place, rlibs = kit(), {it: f"{ROOT}/crates/{it}/out/rlib" for it in below(crate, used)}
     if not all(os.path.isdir(f"{folder}/{it}.rlib") for it, folder in rlibs.items()):
         return None
     top = "main" if os.path.isfile(f"{ROOT}/crates/{crate}/src/main.rt") else "lib"
-    found = ["--crate-name", crate, f"src/{top}.rt", "--links", f"{crate}=", "--jobs", "1"]
+    found = ["--crate-name", crate, f"src/{top}.rt", "--links", f"{crate}="]
     found += ["--crate-type", "staticlib"] if crate in static else []
     for it in ["std", *used[crate]]:
         found += ["--extern", f"{it}={rlibs.get(it, f'{place}/rlibs')}/{it}.rlib"]
     for folder in [f"{place}/rlibs", *rlibs.values()]:
         found += ["-L", f"dependency={folder}"]
-    return [*found, "--antt-project", f"{place}/rattle/logic/antt-project.json", "--logic-built", f"{place}/logic_built"]
-
-
-def unproved(words):
-    """These words without those that a build over a checked crate does not take."""
-    for flag in ("--logic-built", "--jobs"):
-        at = words.index(flag)
-        words = [*words[:at], *words[at + 2 :]]
-    return words
-
-
-def loaded(path):
-    """A script as a module, which has the script's name."""
-    name = os.path.splitext(os.path.basename(path))[0].replace("-", "_")
-    module = importlib.util.module_from_spec(importlib.util.spec_from_loader(name, importlib.machinery.SourceFileLoader(name, path)))
-    module.__spec__.loader.exec_module(module)
-    return module
+    found += ["--jobs", "1", "--logic-built", f"{place}/logic_built"] if proves else []
+    return [*found, "--antt-project", f"{place}/rattle/logic/antt-project.json"]

@@ -1,8 +1,8 @@
-/* What .ci/peers measures in C: bytes to a tree by jz_parse, or by gumbo, in processor milliseconds, or lines of a WARC file, as jeanzircon.crawl
- * writes them.
+/* What .ci/peers measures in C: bytes to a tree by jz_parse, or by gumbo, in processor milliseconds, or what jeanzircon.crawl tells of the pages of
+ * a WARC file.
  *
  *   peers parse|gumbo ROUNDS FILE..     the least of some rounds, for all files together
- *   peers crawl ARCHIVE                 the lines, on standard output; the archive is not packed */
+ *   peers crawl ARCHIVE                 status, title, links and errors of each page, on standard output; the archive is not packed */
 #define _GNU_SOURCE
 #include <time.h>
 #include "jeanzircon_data.h"
@@ -67,74 +67,31 @@ static int time_all(const jz_options *standard, int is_gumbo, int rounds, char *
     return 0;
 }
 
-static void quoted(jz_bytes bytes) {
-    size_t i;
-    putchar_unlocked('"');
-    for (i = 0; i < bytes.length; i++) {
-        uint8_t it = bytes.bytes[i];
-        if (it < ' ') printf("\\u%04x", it);
-        else {
-            if (it == '"' || it == '\\') putchar_unlocked('\\');
-            putchar_unlocked(it);
-        }
-    }
-    putchar_unlocked('"');
-}
+static void print(jz_bytes it) { fwrite_unlocked(it.bytes, 1, it.length, stdout); }
 
-static void text_of(const jz_doc *doc, uint32_t top) {
-    static uint8_t *all;
-    static size_t room;
-    size_t length = 0;
+static void print_texts(const jz_doc *doc, uint32_t top) {
     uint32_t node;
-    for (node = top; node != JZ_NONE; node = jz_after(doc, node, top)) {
-        jz_bytes it = jz_kind(doc, node) == JZ_TEXT_NODE ? jz_data(doc, node) : jz_lent((const uint8_t *)"", 0);
-        if (length + it.length > room) all = (uint8_t *)realloc(all, room = 2 * (length + it.length));
-        if (it.length) memcpy(all + length, it.bytes, it.length);
-        length += it.length;
-    }
-    quoted(jz_lent(all, length));
+    for (node = top; node != JZ_NONE; node = jz_after(doc, node, top))
+        if (jz_kind(doc, node) == JZ_TEXT_NODE) print(jz_data(doc, node));
+    putchar_unlocked('\n');
 }
 
-static void line_of(const jz_doc *doc) {
+static void print_page(const jz_options *standard, const char *address, const uint8_t *bytes, size_t length) {
     size_t counts[JZ_ERROR_COUNT] = { 0 }, i;
-    const char *before = "";
-    uint32_t node = doc->root;
-    while (node != JZ_NONE && !jz_is(jz_name(doc, node), "title")) node = jz_after(doc, node, doc->root);
-    printf("\"title\": ");
-    text_of(doc, node);
-    printf(", \"links\": [");
-    for (node = doc->root; node != JZ_NONE; node = jz_after(doc, node, doc->root)) {
-        jz_bytes href = jz_is(jz_name(doc, node), "a") ? jz_attribute(doc, node, "href") : jz_lent(NULL, 0);
-        if (!href.bytes) continue;
-        printf("%s[", before);
-        quoted(href);
-        printf(", ");
-        text_of(doc, node);
-        printf("]");
-        before = ", ";
-    }
-    printf("], \"errors\": {");
-    for (i = 0; i < doc->error_count; i++) counts[doc->errors[i].code]++;
-    for (before = "", i = 0; i < JZ_ERROR_COUNT; i++) {
-        if (!counts[i]) continue;
-        printf("%s\"%s\": %lu", before, jz_error_name((uint32_t)i), (unsigned long)counts[i]);
-        before = ", ";
-    }
-    printf("}");
-}
-
-static void page_of(const jz_options *standard, long number, const char *address, const uint8_t *bytes, size_t length) {
-    double begun = now();
     jz_options options = options_for(standard, bytes, length);
     jz_answer answer;
     jz_doc doc;
+    uint32_t node;
     options.bad_bytes = 1;
-    jz_parse(bytes, length, &options, &doc, &answer);
-    printf("{\"record\": %ld, \"address\": ", number);
-    quoted(jz_lent((const uint8_t *)address, strlen(address)));
-    printf(", \"status\": \"%s\", \"at\": %lu, ", jz_status_name(answer.status), (unsigned long)answer.at);
-    if (answer.status == JZ_OK) line_of(&doc);
-    printf(", \"bytes\": %lu, \"seconds\": %.6f}\n", (unsigned long)length, (now() - begun) / 1e3);
+    printf("%s: %s\n", address, jz_status_name(jz_parse(bytes, length, &options, &doc, &answer)));
+    for (node = answer.status == JZ_OK ? doc.root : JZ_NONE; node != JZ_NONE; node = jz_after(&doc, node, doc.root)) {
+        jz_bytes href = jz_is(jz_name(&doc, node), "a") ? jz_attribute(&doc, node, "href") : jz_lent(NULL, 0);
+        if (href.bytes) print(href);
+        if (href.bytes || jz_is(jz_name(&doc, node), "title")) print_texts(&doc, node);
+    }
+    for (i = 0; i < doc.error_count; i++) counts[doc.errors[i].code]++;
+    for (i = 0; i < JZ_ERROR_COUNT; i++)
+        if (counts[i]) printf("%s %lu\n", jz_error_name((uint32_t)i), (unsigned long)counts[i]);
     jz_free(&doc);
 }
 
@@ -143,7 +100,6 @@ static int crawl(const jz_options *standard, const char *name) {
     char *line = NULL, address[4096];
     uint8_t *block = NULL, *body;
     size_t room = 0, length;
-    long number = 0;
     while (file && getline(&line, &room, file) > 0) {
         if (strncmp(line, "WARC/", 5)) continue;
         for (length = 0; getline(&line, &room, file) > 2;) {
@@ -152,7 +108,7 @@ static int crawl(const jz_options *standard, const char *name) {
         }
         block = (uint8_t *)realloc(block, length + 1);
         if (fread(block, 1, length, file) != length || !(body = (uint8_t *)memmem(block, length, "\r\n\r\n", 4))) return 1;
-        page_of(standard, ++number, address, body + 4, length - (size_t)(body + 4 - block));
+        print_page(standard, address, body + 4, length - (size_t)(body + 4 - block));
     }
     return !file;
 }

@@ -9,20 +9,18 @@ give the tokens or the errors as a text in memory answer the same.
 A file X.dat has records in the form of html5lib's tests of trees: a line with the name of a section, and then the section's lines. An
 empty line is between two records. A page has `#data`, `#errors`, `#document-fragment` with the name of its context if it is a fragment,
 and `#document`, its tree. A list of trees has `#written`, its HTML, `#document-fragment`, `#document`, and if it does not come back
-`#limit`, which limit of plain content it breaks, and `#back`, the tree that comes back or the refusal. In it \\r and \\0 are CR and NUL. Without
-`#document-fragment` it is what is in a document.
+`#limit`, which limit of plain content it breaks, and `#back`, the tree that comes back or the refusal. In it \\r and \\0 are CR and NUL.
 
-    python3 cases.py FOLDER
-
-writes FOLDER/NAME.in, a script, and FOLDER/NAME.out, its answers, for each file."""
+    python3 cases.py FOLDER     writes for each file FOLDER/NAME.in, a script, and FOLDER/NAME.out, its answers"""
 import glob
 import json
 import os
+import re
 import sys
 
 DATA = os.path.join(os.path.dirname(os.path.realpath(__file__)), "..", "..", "data", "cases")
 MOST = {"--nodes": 16_777_216, "--open": 1_048_576, "limit": 1_073_741_824}
-SECTIONS = {"#data", "#errors", "#document-fragment", "#document", "#written", "#limit", "#back"}
+SECTION = re.compile(r"^(#(?:data|errors|document-fragment|document|written|limit|back))\n", re.M)
 # frame and keygen are void too, and not in the profile.
 VOID = set("area base basefont bgsound br col embed hr img input link meta param source track wbr".split())
 # What has its text as it is, since its text has no references.
@@ -104,35 +102,26 @@ def of_lines(path):
 
 def records(path):
     """The records of a file, each as its sections."""
-    found = []
-    with open(path, encoding="utf-8", newline="\n") as file:
-        for line in file:
-            if line.rstrip("\n") in ("#data", "#written"):
-                found.append({})
-            if line.rstrip("\n") in SECTIONS:
-                section = line.rstrip("\n")
-                found[-1][section] = ""
-            else:
-                found[-1][section] += line
-    for record in found[:-1]:
-        last = list(record)[-1]
-        if f"\n{record[last]}".endswith("\n\n"):
-            record[last] = record[last].removesuffix("\n")
-    return found
+    with open(path, encoding="utf-8", newline="") as file:
+        for record in re.split(r"\n(?=#(?:data|written)\n)", file.read()):
+            parts = SECTION.split(record)
+            yield dict(zip(parts[1::2], parts[2::2]))
 
 
 def of_records(path):
     script = Script()
     for record in records(path):
-        (page if "#data" in record else trees)(script, record)
+        context = record.get("#document-fragment", "").removesuffix("\n")
+        if "#written" in record:
+            trees(script, context, record)
+            continue
+        for command, section in {"tree": "#document", "errors": "#errors"}.items():
+            script.run([command, *words_of(context)], record["#data"].removesuffix("\n"), record[section], "", {})
     return script
 
 
-def page(script, record):
-    data, context = record["#data"].removesuffix("\n"), record.get("#document-fragment")
-    words = [] if context is None else ["--in", context.removesuffix("\n")]
-    script.run(["tree", *words], data, record["#document"], "", {})
-    script.run(["errors", *words], data, record["#errors"], "", {})
+def words_of(context):
+    return ["--in", context] if context else []
 
 
 class Node:
@@ -220,11 +209,11 @@ def html(parent, in_values):
     return written
 
 
-def trees(script, record):
+def trees(script, context, record):
     """A list is written so, and what comes back of it is what the record says."""
     it = {name: text.replace("\\r", "\r").replace("\\0", "\0") for name, text in record.items()}
     tree, written = it["#document"], it["#written"].removesuffix("\n")
-    found = come_back(script, it.get("#document-fragment", "").removesuffix("\n"), tree, it.get("#back", tree))
+    found = come_back(script, context, tree, it.get("#back", tree))
     if found != written:
         raise SystemExit(f"{written!r} is stored, and {found!r} should be written")
 
@@ -236,7 +225,7 @@ def come_back(script, context, tree, back):
     script.say(f"tree written {root.number} {context}", f'{"yes" if back == tree else "no"} "{tree}" "{written}"')
     text, refusal = ("", back) if back.startswith("refused: ") else (back, "")
     for given in (written, html(root, QUOTE | ANGLES)):
-        script.run(["fragment", "--in", context] if context else ["tree"], given, text, refusal, {})
+        script.run(["fragment" if context else "tree", *words_of(context)], given, text, refusal, {})
     return written
 
 

@@ -7,6 +7,7 @@ outside, with what comes back of each by the Standard's rules of tree constructi
 writes FOLDER/whole-documents.in, a script, and FOLDER/whole-documents.out, its answers."""
 import random
 import sys
+import types
 
 import cases
 
@@ -90,9 +91,11 @@ class Parts:
         self.first, self.middle, self.last = some(comment, 1), apart(some(space_or_comment)), some(comment, 1)
         self.attrs = attributes()
 
-    def tree(self):
-        html = element("html", *self.first, self.head, *self.middle, self.body, *self.last, attrs=self.attrs)
-        return "".join(lines([*self.before, *self.doctype, *self.between, html, *self.after], "| "))
+    def tree(self, changes):
+        """The text of the tree, with some parts in place of its own."""
+        it = types.SimpleNamespace(**{**vars(self), **changes})
+        html = element("html", *it.first, it.head, *it.middle, it.body, *it.last, attrs=it.attrs)
+        return "".join(lines([*it.before, *it.doctype, *it.between, html, *it.after], "| "))
 
 
 def lines(nodes, before):
@@ -121,75 +124,40 @@ def told(attrs, attr):
     return attrs if any(it.split("=")[0] == attr.split("=")[0] for it in attrs) else sorted([*attrs, attr])
 
 
-# What stands where it may not, and what comes of it: each changes the parts, and then their tree is that before the second change.
-def space_before_head(parts):
-    kept, parts.first = parts.first, with_one(parts.first, space())
-    return lambda: setattr(parts, "first", kept)
+def space_after(part):
+    """White space among what stands after the body, or after html, comes to the end of the body."""
+    def change(it):
+        text = space()
+        return {part: with_one(getattr(it, part), text)}, {"body": [*it.body[:2], with_text(it.body[2], text)]}
+    return change
 
 
-def space_before_html(parts):
-    kept, parts.before = parts.before, with_one(parts.before, space())
-    return lambda: setattr(parts, "before", kept)
-
-
-def space_after_body(parts):
-    kept, text = parts.last, space()
-    parts.last = with_one(parts.last, text)
-    return lambda: (setattr(parts, "last", kept), setattr(parts, "body", [*parts.body[:2], with_text(parts.body[2], text)]))
-
-
-def space_after_html(parts):
-    kept, text = parts.after, space()
-    parts.after = with_one(parts.after, text)
-    return lambda: (setattr(parts, "after", kept), setattr(parts, "body", [*parts.body[:2], with_text(parts.body[2], text)]))
-
-
-def second_doctype(parts):
-    kept, parts.doctype = parts.between, ["<!DOCTYPE html>"]
-    parts.between = with_one(parts.between, "<!DOCTYPE html>")
-    return lambda: setattr(parts, "between", kept)
-
-
-def identifiers(parts):
-    parts.doctype = ['<!DOCTYPE html "-//W3C//DTD XHTML 1.0 Strict//EN" "x">']
-    return lambda: setattr(parts, "doctype", ["<!DOCTYPE html>"])
-
-
-def second_html(parts):
-    kept, parts.after = parts.after, with_one(parts.after, element("html", attrs=['lang="x"']))
-    return lambda: (setattr(parts, "after", kept), setattr(parts, "attrs", told(parts.attrs, 'lang="x"')))
-
-
-def second_body(parts):
-    kept, parts.last = parts.last, [element("body", attrs=['id="x"']), *parts.last]
-    return lambda: (setattr(parts, "last", kept), setattr(parts, "body", [parts.body[0], told(parts.body[1], 'id="x"'), parts.body[2]]))
-
-
-def two_spaces(parts):
-    parts.middle = ['" "', '"\n"']
-    return lambda: setattr(parts, "middle", ['" \n"'])
-
-
-def carriage_return(parts):
-    parts.last = ["<!-- a\rb -->"]
-    return lambda: setattr(parts, "last", ["<!-- a\nb -->"])
-
-
-CHANGES = [space_before_head, space_before_html, space_after_body, space_after_html, second_doctype, identifiers, second_html, second_body]
-CHANGES += [two_spaces, carriage_return]
+DOCTYPE = "<!DOCTYPE html>"
+IDENTIFIERS = '<!DOCTYPE html "-//W3C//DTD XHTML 1.0 Strict//EN" "x">'
+# What stands where it may not, and what comes of it: the parts that are changed in the tree that is written, and in the one that comes back.
+CHANGES = [
+    lambda it: ({"first": with_one(it.first, space())}, {}),
+    lambda it: ({"before": with_one(it.before, space())}, {}),
+    space_after("last"),
+    space_after("after"),
+    lambda it: ({"doctype": [DOCTYPE], "between": with_one(it.between, DOCTYPE)}, {"doctype": [DOCTYPE]}),
+    lambda it: ({"doctype": [IDENTIFIERS]}, {"doctype": [DOCTYPE]}),
+    lambda it: ({"after": with_one(it.after, element("html", attrs=['lang="x"']))}, {"attrs": told(it.attrs, 'lang="x"')}),
+    lambda it: ({"last": [element("body", attrs=['id="x"']), *it.last]}, {"body": [it.body[0], told(it.body[1], 'id="x"'), it.body[2]]}),
+    lambda it: ({"middle": ['" "', '"\n"']}, {"middle": ['" \n"']}),
+    lambda it: ({"last": ["<!-- a\rb -->"]}, {"last": ["<!-- a\nb -->"]}),
+]
 
 
 def main(folder):
     script = cases.Script()
     for _ in range(PLAIN):
-        tree = Parts().tree()
+        tree = Parts().tree({})
         cases.come_back(script, "", tree, tree)
     for count in range(OUTSIDE):
         parts = Parts()
-        undo = CHANGES[count % len(CHANGES)](parts)
-        tree = parts.tree()
-        undo()
-        cases.come_back(script, "", tree, parts.tree())
+        written, back = map(parts.tree, CHANGES[count % len(CHANGES)](parts))
+        cases.come_back(script, "", written, back)
     script.write(folder, "whole-documents")
 
 
