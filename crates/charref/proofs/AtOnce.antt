@@ -1,13 +1,13 @@
 -- What the bytes after an `&` settle of it.
-use Rattle.charref.proofs.Names.{arith, ◌≡◌, inl, inr, ℕ, zero, suc, ◌+◌, ◌-◌, ◌≤◌, ◌<◌, min, true, false, true≢false, not, nat_eq, List, [], ◌∷◌, ◌++◌, length, take, drop, slice_get, get_or, Option, Some, None, refl, sym, ap, ◌∙◌, subst, length-append, append_assoc, and_parts, and_from, nat_tests, take_more, length-map, is_ascii, starts_with, list_all, some_same, Placed, placed, characters, all, is_alphanumeric, is_empty, Reference, Characters, Search, Alphanumeric, Walk, Entry, Entities, IsTable, Piece, longest, is_key, is_key_name, ends_in_semicolon, code_at, IsAfterKey, IsOpenKey, OpenKey, IsSortedTable, IsRange, IsOver, GoesOn, HasNone, HasRead, key_bytes, IsOpen, IsRead, characters_of, errors_of, unknown_of, HasTaken, IsOpenKeyOf, HasWalked, Settles, SettlesNothing}
+use Rattle.charref.proofs.Names.{arith, ◌≡◌, inl, inr, ℕ, zero, suc, ◌+◌, ◌-◌, ◌≤◌, ◌<◌, min, true, false, true≢false, not, nat_eq, List, [], ◌∷◌, ◌++◌, length, take, drop, slice_get, get_or, Option, Some, None, refl, sym, ap, ◌∙◌, subst, length-append, append_assoc, and_parts, and_from, nat_tests, take_more, length-map, is_ascii, starts_with, list_all, some_same, Placed, placed, characters, all, is_alphanumeric, is_empty, Reference, Characters, Search, Alphanumeric, Walk, Entry, Entities, IsTable, Piece, longest, is_key, is_key_name, ends_in_semicolon, code_at, IsAfterKey, IsOpenKey, OpenKey, IsSortedTable, IsRange, IsOver, EntryGoesOn, HasNone, SearchHasRead, key_bytes, IsOpenReference, IsRead, characters_of, errors_of, unknown_of, WalkHasTaken, IsOpenKeyOf, HasWalked, Settles, SettlesNothing}
 use Rattle.std.proofs.Common.{take-take, take-append-drop}
 use Rattle.std.proofs.lemmas.List.{length-take, length-take-le, get_or-take}
-use Rattle.charref.specs.Table.{code_of}
+use Rattle.charref.specs.Table.{character_code}
 use Rattle.std.proofs.lemmas.Bool.{cases_lt}
 use Rattle.std.proofs.lemmas.List.Folds.{list_all_at}
 use Rattle.std.specs.Option.{IsNone, MatchOption}
 use Rattle.std.specs.Char.{len_utf8}
-use Rattle.charref.specs.Walk.{Takes}
+use Rattle.charref.specs.Walk.{TakesCharacter}
 use Rattle.charref.specs.AtOnce.{HasWhole}
 use Rattle.charref.proofs.Keys.{longest-whole, longest-over, no_longer}
 use Rattle.charref.proofs.Core.{once}
@@ -36,17 +36,17 @@ last_placed at (x ∷ xs) byte =
 pub more_bytes : (bytes : List ℕ) (k : ℕ) → k < length bytes → (at : ℕ) (last : Last at (take k bytes) (get_or bytes k 0)) → placed at (take (k + 1) bytes) ≡ placed at (take k bytes) ++ last.p ∷ []
 more_bytes bytes k within at last = ap (placed at) (take_more bytes k 0 within) ∙ last.is
 
-pub walked_nothing : (walk : Walk) (table : Entities) (bytes : List ℕ) → HasTaken walk table false [] → HasWalked walk table bytes 0
+pub walked_nothing : (walk : Walk) (table : Entities) (bytes : List ℕ) → WalkHasTaken walk table false [] → HasWalked walk table bytes 0
 walked_nothing walk table bytes taken = record { few = omega arith; ascii = refl; taken = λ at. taken }
 
 module _ (table : Entities) (bytes : List ℕ) (k : ℕ) (walk next : Walk) (within : k < length bytes) (ascii : is_ascii (get_or bytes k 0) ≡ true) (before : HasWalked walk table bytes k) where
   abbrev takes : Option Reference → Type 0
-  takes answer = (text : List Placed) (p : Placed) → HasTaken walk table false text → p.ch ≡ get_or bytes k 0 → Takes table false (text ++ p ∷ []) answer next
+  takes answer = (text : List Placed) (p : Placed) → WalkHasTaken walk table false text → p.ch ≡ get_or bytes k 0 → TakesCharacter table false (text ++ p ∷ []) answer next
 
-  taken_more : (answer : Option Reference) → takes answer → (at : ℕ) → Takes table false (placed at (take (k + 1) bytes)) answer next
+  taken_more : (answer : Option Reference) → takes answer → (at : ℕ) → TakesCharacter table false (placed at (take (k + 1) bytes)) answer next
   taken_more answer take-next at =
       let last : Last at (take k bytes) (get_or bytes k 0) = last_placed at (take k bytes) (get_or bytes k 0) in
-      subst (λ text. Takes table false text answer next) (sym (more_bytes bytes k within at last)) (take-next (placed at (take k bytes)) last.p (before.taken at) last.ch)
+      subst (λ text. TakesCharacter table false text answer next) (sym (more_bytes bytes k within at last)) (take-next (placed at (take k bytes)) last.p (before.taken at) last.ch)
 
   pub walked_more : takes None → HasWalked next table bytes (k + 1)
   walked_more take-next = record { few = omega arith; ascii = run_more is_ascii bytes k within before.ascii ascii; taken = taken_more None take-next }
@@ -66,7 +66,7 @@ some_more [] some = absurd (true≢false some)
 some_more (p ∷ ps) some = omega arith
 
 -- what may become a longer reference is settled by none of its characters
-unsettled : (table : Entities) (amp : Placed) (text rest : List Placed) (found : Reference) → amp.ch ≡ 38 → IsOpen table amp (text ++ rest) → ((after : List Placed) → IsRead table false text after found) → ⊥
+unsettled : (table : Entities) (amp : Placed) (text rest : List Placed) (found : Reference) → amp.ch ≡ 38 → IsOpenReference table amp (text ++ rest) → ((after : List Placed) → IsRead table false text after found) → ⊥
 unsettled table amp text rest found is open' reads =
     let n : ℕ = length text - found.left in
     let more : List Placed = open'.more in
@@ -95,7 +95,7 @@ nothing_settled walk table bytes count is_table walked stops n found settles =
     let more = front_placed 0 n (take count bytes) in
     let amp : Placed = record { ch = 38; at = 0 } in
     let text-is : placed 0 (take count bytes) ≡ placed 0 (take n bytes) ++ more.0 = more.1 ∙ ap (λ xs. placed 0 xs ++ more.0) (take-take n count bytes few) in
-    unsettled table amp (placed 0 (take n bytes)) more.0 found refl (subst (IsOpen table amp) text-is (open_taken walk table (placed 0 (take count bytes)) amp is_table (walked.taken 0) refl)) (settles.read 0)
+    unsettled table amp (placed 0 (take n bytes)) more.0 found refl (subst (IsOpenReference table amp) text-is (open_taken walk table (placed 0 (take count bytes)) amp is_table (walked.taken 0) refl)) (settles.read 0)
   where
     past : count < n → ⊥
     past within =
@@ -107,7 +107,7 @@ nothing_settled walk table bytes count is_table walked stops n found settles =
 none_over : (table : Entities) (bytes : List ℕ) (low high : ℕ) → IsRange table bytes low high → low ≡ high → HasNone table bytes
 none_over table bytes low high range over = record { none = λ k e at opens. (let parts : (low ≤ k) × (k < high) = within low high k (sym (range.exact k e at) ∙ opens) in absurd (omega arith)) }
 
-pub no_first : (table : Entities) (bytes : List ℕ) (byte : ℕ) (search : Search) → IsSortedTable table → Some byte ≡ slice_get bytes 0 → is_alphanumeric byte ≡ true → HasRead search table (38 ∷ byte ∷ []) → search.low ≡ search.high
+pub no_first : (table : Entities) (bytes : List ℕ) (byte : ℕ) (search : Search) → IsSortedTable table → Some byte ≡ slice_get bytes 0 → is_alphanumeric byte ≡ true → SearchHasRead search table (38 ∷ byte ∷ []) → search.low ≡ search.high
     → Settles table bytes 1 (unknown_of 1 Alphanumeric)
 no_first table [] byte search sorted first letter read over = absurd (cc)
 no_first table (b ∷ bs) byte search sorted first letter read over = record {
@@ -154,7 +154,7 @@ closed_over table text is_table closed = record {
 
 -- so what it stands for comes, whatever follows
 abbrev whole : Characters → Reference
-whole cs = record { characters = cs; left = 0; missing_semicolon = false; fault = None; in_run = false }
+whole cs = record { characters = cs; left = 0; missing_semicolon = false; fault = None; is_ambiguous = false }
 
 read_closed : (table : Entities) (text after : List Placed) (k : ℕ) (e : Entry) (cs : Characters) → IsTable table → slice_get table k ≡ Some e → e.key ≡ key_bytes text → ends_in_semicolon e.key ≡ true → characters_of cs ≡ e.stands_for
     → IsRead table false text after (whole cs)
@@ -162,7 +162,7 @@ read_closed table text after k e cs is_table at is closed stands =
     let found : longest table (key_bytes text) ≡ Some e = longest-whole table (key_bytes text) k e (record { here = λ j f q same. once table is_table.distinct j k f e q at (same ∙ sym is) }) at is in
     let over : IsOver table (key_bytes text) = closed_over table text is_table (subst (λ bs. ends_in_semicolon bs ≡ true) is closed) in
     let none : 0 ≡ length text - (length e.key - 1) = (let size : length e.key ≡ length (key_bytes text) = ap length is in let count : length (characters text) ≡ length text = length-map text (λ p. p.ch) in omega arith) in
-    subst (λ b. IsRead table false text after (record { characters = cs; left = 0; missing_semicolon = not b; fault = None; in_run = false })) closed
+    subst (λ b. IsRead table false text after (record { characters = cs; left = 0; missing_semicolon = not b; fault = None; is_ambiguous = false })) closed
     (read_named table false text after is_table e found (longest-over table (key_bytes text) (characters after) over) cs 0 stands none refl)
 
 -- it is ASCII
@@ -216,7 +216,7 @@ some_placed at (x ∷ xs) some = refl
 -- the next byte settles the key, where it does after the text of the key
 pub key_settles_before : (table : Entities) (bytes : List ℕ) (count : ℕ) (key : OpenKey) (found : Reference) → IsTable table → IsOpenKeyOf table bytes key → count ≡ key.search.depth - 1 → count < length bytes
     → is_ascii (get_or bytes count 0) ≡ true
-    → ((text : List Placed) (p : Placed) → HasRead key.search table (key_bytes text) → is_empty text ≡ false → all is_alphanumeric text ≡ true → p.ch ≡ get_or bytes count 0 → (after : List Placed) → IsRead table false (text ++ p ∷ []) after found)
+    → ((text : List Placed) (p : Placed) → SearchHasRead key.search table (key_bytes text) → is_empty text ≡ false → all is_alphanumeric text ≡ true → p.ch ≡ get_or bytes count 0 → (after : List Placed) → IsRead table false (text ++ p ∷ []) after found)
     → Settles table bytes (count + 1) found
 key_settles_before table bytes count key found is_table has size within ascii reads =
     let front : IsAfterKey table key.search = has.is.read in
@@ -228,17 +228,17 @@ key_settles_before table bytes count key found is_table has size within ascii re
       ascii = run_more is_ascii bytes count within at-front.ascii ascii;
       read = λ at after. let text : List Placed = placed at (take count bytes) in
           let last : Last at (take count bytes) (get_or bytes count 0) = last_placed at (take count bytes) (get_or bytes count 0) in
-          let goes : GoesOn table (key_bytes text) = subst (GoesOn table) (at-front.is at) front.goes_on in
+          let goes : EntryGoesOn table (key_bytes text) = subst (EntryGoesOn table) (at-front.is at) front.goes_on in
           subst (λ t. IsRead table false t after found) (sym (more_bytes bytes count within at last))
-          (reads text last.p (subst (HasRead key.search table) (at-front.is at) front.read) (some_placed at (take count bytes) (let few : length (take count bytes) ≡ count = length-take-le count bytes (omega arith) in let more : 0 < count = at-front.some in omega arith)) (front_of table text is_table goes) last.ch after);
+          (reads text last.p (subst (SearchHasRead key.search table) (at-front.is at) front.read) (some_placed at (take count bytes) (let few : length (take count bytes) ≡ count = length-take-le count bytes (omega arith) in let more : 0 < count = at-front.some in omega arith)) (front_of table text is_table goes) last.ch after);
     }
 
 -- no key goes on with a byte that is not marked
-pub none_unmarked : (table : Entities) (key : OpenKey) (byte : ℕ) (text : List Placed) → IsOpenKey table key → HasRead key.search table (key_bytes text) → get_or key.goes_on (byte + 1) false ≡ false → HasNone table (key_bytes text ++ byte ∷ [])
+pub none_unmarked : (table : Entities) (key : OpenKey) (byte : ℕ) (text : List Placed) → IsOpenKey table key → SearchHasRead key.search table (key_bytes text) → get_or key.goes_on (byte + 1) false ≡ false → HasNone table (key_bytes text ++ byte ∷ [])
 none_unmarked table key byte text is read unmarked = record {
   none = λ k e at opens.
       let parts = opens_more e.key (key_bytes text) byte opens in
       let range : (key.search.low ≤ k) × (k < key.search.high) = within key.search.low key.search.high k (sym (read.range.exact k e at) ∙ parts.0) in
-      let code : code_at e.key key.search.depth ≡ byte + 1 = ap (code_at e.key) read.depth ∙ ap code_of parts.1 in
+      let code : code_at e.key key.search.depth ≡ byte + 1 = ap (code_at e.key) read.depth ∙ ap character_code parts.1 in
       true≢false (sym (is.marked.at k e at range.0 range.1) ∙ ap (λ n. get_or key.goes_on n false) code ∙ unmarked);
 }

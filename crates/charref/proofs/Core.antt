@@ -1,5 +1,5 @@
 -- One key and its characters, looked up.
-use Rattle.charref.proofs.Names.{◌≡◌, ◌⊎◌, inl, inr, ℕ, zero, suc, Bool, true, false, true≢false, cond, nat_eq, nat_lt, bytes_eq, List, [], ◌∷◌, map, length, slice_get, Option, Some, None, refl, sym, ap, ◌∙◌, subst, bytes_eq-Decides, slice_get_within, get_or_from_slice_get, slice_get-get_or, starts_with, some_same, Entry, Entities, IsTable, longest, longer, core, IsReadable}
+use Rattle.charref.proofs.Names.{◌≡◌, ◌⊎◌, inl, inr, ℕ, zero, suc, Bool, true, false, true≢false, cond, nat_eq, nat_lt, bytes_eq, List, [], ◌∷◌, map, length, slice_get, Option, Some, None, refl, sym, ap, ◌∙◌, subst, bytes_eq-Decides, slice_get_within, get_or_from_slice_get, slice_get-get_or, starts_with, some_same, Entry, Entities, IsTable, longest, longer_entry, core, IsReadable}
 use Rattle.std.specs.List.Sorted.{IsStrictlySortedBy}
 use Rattle.std.specs.List.{IsDistinct}
 use Rattle.std.proofs.Common.{Contains}
@@ -8,7 +8,7 @@ use Rattle.charref.proofs.Keys.{below_each, whole, longest-whole}
 use Rattle.charref.proofs.Members.{readable_from_parts}
 
 -- the longest key is the first entry's, or that of the others
-first_or_later : (x : Entry) (b : Bool) (o : Option Entry) (e : Entry) → cond b (longer x o) o ≡ Some e → ((b ≡ true) × (x ≡ e)) ⊎ (o ≡ Some e)
+first_or_later : (x : Entry) (b : Bool) (o : Option Entry) (e : Entry) → cond b (longer_entry x o) o ≡ Some e → ((b ≡ true) × (x ≡ e)) ⊎ (o ≡ Some e)
 first_or_later x false o e h = inr h
 first_or_later x true None e h = inl (refl, some_same x e h)
 first_or_later x true (Some f) e h = elim (cases_Bool (nat_lt (length f.key) (length x.key))) [

@@ -7,7 +7,7 @@ use Rattle.std.proofs.lemmas.List.{get_or-set_other}
 use Rattle.std.proofs.lemmas.Option.{slice_get_past}
 use Rattle.std.specs.Cmp.{both_ways}
 use Rattle.names.proofs.Handing.{slice_get-append}
-use Rattle.charref.specs.Table.{code_of}
+use Rattle.charref.specs.Table.{character_code}
 use Rattle.charref.proofs.Keys.{begins_itself, begins_later, begins_between, begins_on, in_order, longest-whole, no_longer, whole}
 use Rattle.charref.proofs.Naming.{rest_of_key}
 use Rattle.charref.proofs.Ranges.{inside, within, only_first}
@@ -98,14 +98,14 @@ first_marked table search marks after marked = record {
   at = λ k f at low high.
       let same : after.entry ≡ f = some_same after.entry f (sym after.stands ∙ ap (slice_get table) (omega arith) ∙ at) in
       let depth : search.depth ≡ length f.key = after.read.depth ∙ ap (λ (y : Entry). length y.key) same in
-      ap (λ n. get_or marks n false) (ap code_of (slice_get_past f.key search.depth (omega arith))) ∙ marked;
+      ap (λ n. get_or marks n false) (ap character_code (slice_get_past f.key search.depth (omega arith))) ∙ marked;
 }
 
 -- a key that begins with a longer one has its code
 same_code : (key front : List ℕ) (depth : ℕ) → starts_with nat_eq key front ≡ true → depth < length front → code_at key depth ≡ code_at front depth
 same_code key front depth opens less =
     let at : slice_get front depth ≡ Some (get_or front depth 0) = slice_get-get_or front depth 0 less in
-    ap code_of (ap (λ xs. slice_get xs depth) (rest_of_key key front opens) ∙ slice_get-append front (drop (length front) key) depth (get_or front depth 0) at ∙ sym at)
+    ap character_code (ap (λ xs. slice_get xs depth) (rest_of_key key front opens) ∙ slice_get-append front (drop (length front) key) depth (get_or front depth 0) at ∙ sym at)
 
 -- what is marked for the keys that begin with the one here
 pub marked_more : (table : Entities) (search : Search) (place code next : ℕ) (f : Entry) (marks : List Bool) → IsSortedTable table → IsAfterKey table search → AreMarked table search place marks

@@ -1,5 +1,5 @@
 -- A name with one character more.
-use Rattle.charref.proofs.Names.{arith, ◌≡◌, ℕ, ◌+◌, ◌≤◌, ◌<◌, Bool, true, false, true≢false, not, ◌&&◌, ◌||◌, ◌==◌, cond, nat_eq, bytes_eq, codes, List, [], ◌∷◌, ◌++◌, length, slice_get, Some, refl, sym, ap, ◌∙◌, subst, length-append, append-nil, map-append, length-map, bytes_eq-Decides, and_parts, and_from, nat_tests, starts_with, Placed, characters, all, is_empty, is_alphanumeric, is_equals, Alphanumeric, Semicolon, Equals, Other, Search, Entry, Entities, IsTable, longest, is_key, is_key_name, is_empty_list, ends_in_semicolon, is_kept, best_entry, is_whole, IsOver, GoesOn, HasNone, HasRead, key_bytes, IsSettled, last_of, is_letter_or_digit}
+use Rattle.charref.proofs.Names.{arith, ◌≡◌, ℕ, ◌+◌, ◌≤◌, ◌<◌, Bool, true, false, true≢false, not, ◌&&◌, ◌||◌, ◌==◌, cond, nat_eq, bytes_eq, codes, List, [], ◌∷◌, ◌++◌, length, slice_get, Some, refl, sym, ap, ◌∙◌, subst, length-append, append-nil, map-append, length-map, bytes_eq-Decides, and_parts, and_from, nat_tests, starts_with, Placed, characters, all, is_empty, is_alphanumeric, is_equals, Alphanumeric, Semicolon, Equals, Other, Search, Entry, Entities, IsTable, longest, is_key, is_key_name, is_empty_list, ends_in_semicolon, is_kept_as_text, best_entry, is_whole, IsOver, EntryGoesOn, HasNone, SearchHasRead, key_bytes, IsSettled, last_of, is_letter_or_digit}
 use Rattle.std.proofs.Math.Bool.{and-false}
 use Rattle.charref.specs.Table.{is_as_long}
 use Rattle.charref.proofs.Keys.{no_longer, longest-over, longest-more, begins_itself, whole}
@@ -95,7 +95,7 @@ key_front (x ∷ xs) text h p less =
     let size : length (characters text) ≡ length text = length-map text (λ q. q.ch) in
     name_front xs text (and_parts _ _ h).1 (and_parts _ _ p).1 (omega arith)
 
-pub front_of : (table : Entities) (text : List Placed) → IsTable table → GoesOn table (key_bytes text) → all is_alphanumeric text ≡ true
+pub front_of : (table : Entities) (text : List Placed) → IsTable table → EntryGoesOn table (key_bytes text) → all is_alphanumeric text ≡ true
 front_of table text is_table goes = key_front goes.entry.key text (is_key_of table goes.place goes.entry is_table goes.stands) goes.opens goes.is_longer
 
 -- a name that doesn't end in a letter or digit ends in `;`
@@ -112,7 +112,7 @@ name_last c (q ∷ qs) p h other = elim (follows (characters (qs ++ p ∷ [])) (
     empty (r ∷ rs) h = cc
 
 -- what was read is settled: no key begins with the next character
-module _ (table : Entities) (in_value : Bool) (text after : List Placed) (p : Placed) (search : Search) (read : HasRead search table (key_bytes text)) (none : HasNone table (key_bytes text ++ p.ch ∷ [])) where
+module _ (table : Entities) (in_value : Bool) (text after : List Placed) (p : Placed) (search : Search) (read : SearchHasRead search table (key_bytes text)) (none : HasNone table (key_bytes text ++ p.ch ∷ [])) where
   pub best_before : best_entry table search.best ≡ longest table (key_bytes (text ++ p ∷ []))
   best_before =
       read.best ∙ sym (longest-more table (key_bytes text) p.ch (λ k e h is. none.none k e h (subst (λ bs. starts_with nat_eq e.key bs ≡ true) is (begins_itself e.key))))
@@ -130,7 +130,7 @@ module _ (table : Entities) (in_value : Bool) (text after : List Placed) (p : Pl
   }
 
 -- or keys do, but none goes on, and no key waits
-module _ (table : Entities) (in_value : Bool) (text after : List Placed) (p : Placed) (is_table : IsTable table) (next : Search) (read : HasRead next table (key_bytes text ++ p.ch ∷ [])) (over : IsOver table (key_bytes text ++ p.ch ∷ []))
+module _ (table : Entities) (in_value : Bool) (text after : List Placed) (p : Placed) (is_table : IsTable table) (next : Search) (read : SearchHasRead next table (key_bytes text ++ p.ch ∷ [])) (over : IsOver table (key_bytes text ++ p.ch ∷ []))
     (waits : (in_value && is_alphanumeric p.ch && is_whole table next) ≡ false) where
   pub best_after : best_entry table next.best ≡ longest table (key_bytes (text ++ p ∷ []))
   best_after = read.best ∙ ap (longest table) (sym (key_bytes-more text p))
@@ -157,7 +157,7 @@ module _ (table : Entities) (in_value : Bool) (text after : List Placed) (p : Pl
     not_kept = λ e found size. by in_value (is_alphanumeric p.ch) refl refl e found size (as_long e found size);
   }
     where
-      by : (b a : Bool) → in_value ≡ b → is_alphanumeric p.ch ≡ a → (e : Entry) → longest table (key_bytes (text ++ p ∷ [])) ≡ Some e → length e.key ≡ length (text ++ p ∷ []) + 1 → is_whole table next ≡ true → is_kept in_value e.key after ≡ false
+      by : (b a : Bool) → in_value ≡ b → is_alphanumeric p.ch ≡ a → (e : Entry) → longest table (key_bytes (text ++ p ∷ [])) ≡ Some e → length e.key ≡ length (text ++ p ∷ []) + 1 → is_whole table next ≡ true → is_kept_as_text in_value e.key after ≡ false
       by false a is letter e found size long = rw is refl
       by true true is letter e found size long = absurd (true≢false (sym (and_from _ _ (and_from _ _ is letter) long) ∙ waits))
       by true false is letter e found size long = rw (is, semicolon_of e found size letter) refl

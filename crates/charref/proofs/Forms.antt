@@ -1,5 +1,5 @@
 -- A flat form is of one table only.
-use Rattle.charref.proofs.Names.{arith, ◌≡◌, ℕ, ◌≤◌, ◌<◌, Bool, true, not, ◌&&◌, ◌||◌, nat_lt, nat_le, nat_eq, ◌==◌, List, [], ◌∷◌, ◌++◌, length, Result, Ok, Err, inl, inr, refl, sym, ap, ◌∙◌, subst, append_assoc, and_parts, and_from, nat_tests, append-nil, list_all, flat_map, is_alphanumeric, Refusal, TableFault, Memory, Entry, Entities, is_key, is_key_name, is_character, IsRefusedWith, is_one_or_two, flat_character, flat_characters, flat_entry, flat_of, IsReadable, is_count, is_entry}
+use Rattle.charref.proofs.Names.{arith, ◌≡◌, ℕ, ◌≤◌, ◌<◌, Bool, true, not, ◌&&◌, ◌||◌, nat_lt, nat_le, nat_eq, ◌==◌, List, [], ◌∷◌, ◌++◌, length, Result, Ok, Err, inl, inr, refl, sym, ap, ◌∙◌, subst, append_assoc, and_parts, and_from, nat_tests, append-nil, list_all, flat_map, is_alphanumeric, Refusal, TableFault, Memory, Entry, Entities, is_key, is_key_name, is_character, IsRefusedWith, is_one_or_two, flat_character, flat_characters, flat_entry, flat_of, IsReadable, is_count, is_table_entry}
 use Rattle.std.proofs.Common.{◌^◌, IfOk, IfErr}
 use Rattle.std.proofs.lemmas.Nat.{from_le_bytes-to_le_bytes_4}
 use Rattle.std.proofs.lemmas.List.Concat.{flat_map-append}
@@ -82,7 +82,7 @@ same_key (x ∷ xs) (y ∷ ys) r s c d p q m n is =
 pub entry_split : (e : Entry) (r : List ℕ) → flat_entry e ++ r ≡ e.key ++ length e.stands_for ∷ (flat_map flat_character e.stands_for ++ r)
 entry_split e r = append_assoc e.key (flat_characters e.stands_for) r
 
-pub same_entries : (e f : Entry) (r s : List ℕ) → is_entry e ≡ true → is_entry f ≡ true → flat_entry e ++ r ≡ flat_entry f ++ s → (e ≡ f) × (r ≡ s)
+pub same_entries : (e f : Entry) (r s : List ℕ) → is_table_entry e ≡ true → is_table_entry f ≡ true → flat_entry e ++ r ≡ flat_entry f ++ s → (e ≡ f) × (r ≡ s)
 same_entries e f r s p q is =
     let e-ones : is_one_or_two e.stands_for ≡ true = (and_parts (is_key e.key) _ p).1 in
     let f-ones : is_one_or_two f.stands_for ≡ true = (and_parts (is_key f.key) _ q).1 in
@@ -96,17 +96,17 @@ same_entries e f r s p q is =
 
 -- TABLES
 
-all_entries : (table : Entities) → list_all (λ e. is_key e.key) table ≡ true → list_all (λ e. is_one_or_two e.stands_for) table ≡ true → list_all is_entry table ≡ true
+all_entries : (table : Entities) → list_all (λ e. is_key e.key) table ≡ true → list_all (λ e. is_one_or_two e.stands_for) table ≡ true → list_all is_table_entry table ≡ true
 all_entries [] p q = refl
 all_entries (e ∷ es) p q =
     let keys : (is_key e.key ≡ true) × (list_all (λ e. is_key e.key) es ≡ true) = and_parts (is_key e.key) _ p in
     let ones : (is_one_or_two e.stands_for ≡ true) × (list_all (λ e. is_one_or_two e.stands_for) es ≡ true) = and_parts (is_one_or_two e.stands_for) _ q in
-    and_from (is_entry e) _ (and_from _ _ keys.0 ones.0) (all_entries es keys.1 ones.1)
+    and_from (is_table_entry e) _ (and_from _ _ keys.0 ones.0) (all_entries es keys.1 ones.1)
 
-pub are_entries : (table : Entities) → IsReadable table → list_all is_entry table ≡ true
+pub are_entries : (table : Entities) → IsReadable table → list_all is_table_entry table ≡ true
 are_entries table readable = all_entries table readable.sorted.is_table.keys readable.characters
 
-some_bytes : (e : Entry) (r : List ℕ) → is_entry e ≡ true → [] ≡ flat_entry e ++ r → ⊥
+some_bytes : (e : Entry) (r : List ℕ) → is_table_entry e ≡ true → [] ≡ flat_entry e ++ r → ⊥
 some_bytes e r is none = by e.key (none ∙ entry_split e r)
   where
     by : (key : List ℕ) → [] ≡ key ++ length e.stands_for ∷ (flat_map flat_character e.stands_for ++ r) → ⊥
@@ -118,9 +118,9 @@ pub record Rest (done whole : Entities) (rest : List ℕ) : Type 0 where
   pub more : Entities
   pub is : whole ≡ done ++ more
   pub flat : flat_map flat_entry more ≡ rest
-  pub entries : list_all is_entry more ≡ true
+  pub entries : list_all is_table_entry more ≡ true
 
-pub rest_of : (done whole : Entities) (rest : List ℕ) → list_all is_entry done ≡ true → list_all is_entry whole ≡ true → flat_map flat_entry whole ≡ flat_map flat_entry done ++ rest → Rest done whole rest
+pub rest_of : (done whole : Entities) (rest : List ℕ) → list_all is_table_entry done ≡ true → list_all is_table_entry whole ≡ true → flat_map flat_entry whole ≡ flat_map flat_entry done ++ rest → Rest done whole rest
 rest_of [] whole rest p q is = record { more = whole; is = refl; flat = is; entries = q }
 rest_of (e ∷ es) [] rest p q is = absurd (some_bytes e (flat_map flat_entry es ++ rest) (and_parts _ _ p).0 (is ∙ append_assoc (flat_entry e) (flat_map flat_entry es) rest))
 rest_of (e ∷ es) (f ∷ fs) rest p q is =
@@ -129,7 +129,7 @@ rest_of (e ∷ es) (f ∷ fs) rest p q is =
     let later : Rest es fs rest = rest_of es fs rest (and_parts _ _ p).1 (and_parts _ _ q).1 both.1 in
     record { more = later.more; is = (λ i. both.0 i ∷ later.is i); flat = later.flat; entries = later.entries }
 
-pub no_more : (more : Entities) → list_all is_entry more ≡ true → flat_map flat_entry more ≡ [] → more ≡ []
+pub no_more : (more : Entities) → list_all is_table_entry more ≡ true → flat_map flat_entry more ≡ [] → more ≡ []
 no_more [] p is = refl
 no_more (e ∷ es) p is = absurd (some_bytes e (flat_map flat_entry es) (and_parts _ _ p).0 (sym is))
 

@@ -1,5 +1,5 @@
 -- The names and keys that bytes begin with.
-use Rattle.charref.proofs.Names.{arith, ◌≡◌, ℕ, zero, suc, ◌+◌, ◌<◌, ◌⊎◌, inl, inr, Bool, true, false, true≢false, nat_eq, ◌||◌, bytes_eq, codes, List, [], ◌∷◌, ◌++◌, length, take, slice_get, get_or, Some, slice_get-get_or, refl, sym, ◌∙◌, subst, and_parts, and_from, agree_below_at, nat_tests, append-nil, take_more, ap, list_all, slice_index, is_alphanumeric, ALPHANUMERICS, is_key, is_key_name, is_empty_list, passes, is_count, IsCounted, HasNoCounted}
+use Rattle.charref.proofs.Names.{arith, ◌≡◌, ℕ, zero, suc, ◌+◌, ◌<◌, ◌⊎◌, inl, inr, Bool, true, false, true≢false, nat_eq, ◌||◌, bytes_eq, codes, List, [], ◌∷◌, ◌++◌, length, take, slice_get, get_or, Some, slice_get-get_or, refl, sym, ◌∙◌, subst, and_parts, and_from, agree_below_at, nat_tests, append-nil, take_more, ap, list_all, slice_index, is_alphanumeric, ALPHANUMERICS, is_key, is_key_name, is_empty_list, passes_byte, is_count, IsCounted, HasNoCounted}
 use Rattle.std.proofs.Math.Bool.{or-true}
 use Rattle.std.specs.List.{prefix_len}
 use Rattle.std.specs.Prelude.{cond}
@@ -16,10 +16,10 @@ pub run_more : (test : ℕ → Bool) (bytes : List ℕ) (n : ℕ) → n < length
 run_more test bytes n less run one = list_all_more test bytes n 0 less ∙ and_from _ _ run one
 
 -- where a counted run stops
-pub run_stops : (test : ℕ → Bool) (bytes : List ℕ) → passes test (slice_get bytes (prefix_len test bytes)) ≡ false
+pub run_stops : (test : ℕ → Bool) (bytes : List ℕ) → passes_byte test (slice_get bytes (prefix_len test bytes)) ≡ false
 run_stops test [] = refl
 run_stops test (c ∷ cs) = by (test c) refl (run_stops test cs) where
-  by : (b : Bool) → test c ≡ b → passes test (slice_get cs (prefix_len test cs)) ≡ false → passes test (slice_get (c ∷ cs) (cond b (1 + prefix_len test cs) 0)) ≡ false
+  by : (b : Bool) → test c ≡ b → passes_byte test (slice_get cs (prefix_len test cs)) ≡ false → passes_byte test (slice_get (c ∷ cs) (cond b (1 + prefix_len test cs) 0)) ≡ false
   by true e more = let next : 1 + prefix_len test cs ≡ suc (prefix_len test cs) = omega arith in rw next more
   by false e more = e
 
@@ -27,7 +27,7 @@ run_stops test (c ∷ cs) = by (test c) refl (run_stops test cs) where
 pub byte_at : (bytes : List ℕ) (n b : ℕ) → n < length bytes → b ≡ get_or bytes n 0 → slice_get bytes n ≡ Some b
 byte_at bytes n b l is = slice_get-get_or bytes n 0 l ∙ ap (λ (x : ℕ). Some x) (sym is)
 
-pub passes_at : (test : ℕ → Bool) (bytes : List ℕ) (n : ℕ) → passes test (slice_get bytes n) ≡ true → (n < length bytes) × (test (get_or bytes n 0) ≡ true)
+pub passes_at : (test : ℕ → Bool) (bytes : List ℕ) (n : ℕ) → passes_byte test (slice_get bytes n) ≡ true → (n < length bytes) × (test (get_or bytes n 0) ≡ true)
 passes_at test [] n h = absurd (true≢false (sym h))
 passes_at test (b ∷ bs) zero h = (omega arith, h)
 passes_at test (b ∷ bs) (suc n) h = let more = passes_at test bs n h in (omega (arith, more.0), more.1)
@@ -35,14 +35,14 @@ passes_at test (b ∷ bs) (suc n) h = let more = passes_at test bs n h in (omega
 -- where a name ends
 pub record Ends (bytes : List ℕ) (end : ℕ) : Type 0 where
   pub some : 0 < end
-  pub by : (passes is_count (slice_get bytes end) ≡ true) ⊎ ((passes is_semicolon (slice_get bytes end) ≡ true) × (passes is_count (slice_get bytes (suc end)) ≡ true))
+  pub by : (passes_byte is_count (slice_get bytes end) ≡ true) ⊎ ((passes_byte is_semicolon (slice_get bytes end) ≡ true) × (passes_byte is_count (slice_get bytes (suc end)) ≡ true))
 
 no_letter : (count : ℕ) → is_count count ≡ true → is_alphanumeric count ≡ true → ⊥
 no_letter count h g = grind (arith, nat_tests)
 
 -- a name that a count ends is the run of letters and digits, and a `;` if one comes after it
 name_ends : (key rest : List ℕ) (count end : ℕ) → is_key_name key ≡ true → is_count count ≡ true → list_all is_alphanumeric (take end (key ++ count ∷ rest)) ≡ true
-    → passes is_alphanumeric (slice_get (key ++ count ∷ rest) end) ≡ false → Ends (key ++ count ∷ rest) end
+    → passes_byte is_alphanumeric (slice_get (key ++ count ∷ rest) end) ≡ false → Ends (key ++ count ∷ rest) end
 name_ends [] rest count end is counts run stop = absurd (true≢false (sym is))
 name_ends (c ∷ cs) rest count zero is counts run stop = absurd (true≢false (sym (and_parts (is_alphanumeric c) _ is).0 ∙ stop))
 name_ends (c ∷ cs) rest count (suc end) is counts run stop = elim (follows cs (and_parts (is_alphanumeric c) _ is).1) [
@@ -62,9 +62,9 @@ name_ends (c ∷ cs) rest count (suc end) is counts run stop = elim (follows cs 
     closed zero run = record { some = omega arith; by = inr (refl, counts) }
     closed (suc n) run = absurd (true≢false (sym (and_parts (is_alphanumeric 59) (list_all is_alphanumeric (take n (count ∷ rest))) run).0))
 
-pub no_name : (bytes : List ℕ) (end : ℕ) → list_all is_alphanumeric (take end bytes) ≡ true → passes is_alphanumeric (slice_get bytes end) ≡ false → (Ends bytes end → ⊥) → HasNoCounted is_key_name bytes
+pub no_name : (bytes : List ℕ) (end : ℕ) → list_all is_alphanumeric (take end bytes) ≡ true → passes_byte is_alphanumeric (slice_get bytes end) ≡ false → (Ends bytes end → ⊥) → HasNoCounted is_key_name bytes
 no_name bytes end run stop none key rest count is counts same =
-    none (subst (λ bs. Ends bs end) (sym same) (name_ends key rest count end is counts (subst (λ bs. list_all is_alphanumeric (take end bs) ≡ true) same run) (subst (λ bs. passes is_alphanumeric (slice_get bs end) ≡ false) same stop)))
+    none (subst (λ bs. Ends bs end) (sym same) (name_ends key rest count end is counts (subst (λ bs. list_all is_alphanumeric (take end bs) ≡ true) same run) (subst (λ bs. passes_byte is_alphanumeric (slice_get bs end) ≡ false) same stop)))
 
 -- a run of letters and digits is a name, and so it is with a `;`
 run_name : (run tail : List ℕ) → 0 < length run → list_all is_alphanumeric run ≡ true → (is_empty_list tail || bytes_eq tail (codes ";")) ≡ true → is_key_name (run ++ tail) ≡ true
@@ -74,14 +74,14 @@ run_name (c ∷ d ∷ ds) tail some run last =
     let others : is_key_name (d ∷ ds ++ tail) ≡ true = run_name (d ∷ ds) tail (omega arith) (and_parts (is_alphanumeric c) _ run).1 last in
     and_from (is_alphanumeric c) _ (and_parts (is_alphanumeric c) _ run).0 (ap (λ b. bytes_eq (d ∷ ds ++ tail) (codes ";") || b) others ∙ or-true (bytes_eq (d ∷ ds ++ tail) (codes ";")))
 
-pub run_counted : (bytes : List ℕ) (end : ℕ) → 0 < end → list_all is_alphanumeric (take end bytes) ≡ true → passes is_count (slice_get bytes end) ≡ true → IsCounted is_key_name bytes end
+pub run_counted : (bytes : List ℕ) (end : ℕ) → 0 < end → list_all is_alphanumeric (take end bytes) ≡ true → passes_byte is_count (slice_get bytes end) ≡ true → IsCounted is_key_name bytes end
 run_counted bytes end some run counted =
     let within : end < length bytes = (passes_at is_count bytes end counted).0 in
     let size : length (take end bytes) ≡ end = length-take-le end bytes (omega arith) in
     record { within = within; passing = subst (λ xs. is_key_name xs ≡ true) (append-nil (take end bytes)) (run_name (take end bytes) [] (omega arith) run refl); counted = counted }
 
-pub closed_counted : (bytes : List ℕ) (end : ℕ) → 0 < end → list_all is_alphanumeric (take end bytes) ≡ true → passes is_semicolon (slice_get bytes end) ≡ true
-    → passes is_count (slice_get bytes (end + 1)) ≡ true → IsCounted is_key_name bytes (end + 1)
+pub closed_counted : (bytes : List ℕ) (end : ℕ) → 0 < end → list_all is_alphanumeric (take end bytes) ≡ true → passes_byte is_semicolon (slice_get bytes end) ≡ true
+    → passes_byte is_count (slice_get bytes (end + 1)) ≡ true → IsCounted is_key_name bytes (end + 1)
 closed_counted bytes end some run close counted =
     let within : end < length bytes = (passes_at is_semicolon bytes end close).0 in
     let size : length (take end bytes) ≡ end = length-take-le end bytes (omega arith) in

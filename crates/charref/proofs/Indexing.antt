@@ -1,5 +1,5 @@
 -- The index of the bytes after the `&`.
-use Rattle.charref.proofs.Names.{arith, ◌≡◌, inl, inr, ℕ, ◌+◌, ◌≤◌, ◌<◌, Bool, true, false, nat_lt, ◌&&◌, List, [], ◌∷◌, ◌++◌, length, slice_get, get_or, Option, Some, None, nat_le, refl, sym, ap, ◌∙◌, subst, length-append, and_from, and_parts, nat_tests, slice_get_within, slice_get-get_or, get_or_from_slice_get, Search, Entry, Entities, code_at, IsSortedTable, IsRange, IsRising, IsStart, IsIndex, HasRead}
+use Rattle.charref.proofs.Names.{arith, ◌≡◌, inl, inr, ℕ, ◌+◌, ◌≤◌, ◌<◌, Bool, true, false, nat_lt, ◌&&◌, List, [], ◌∷◌, ◌++◌, length, slice_get, get_or, Option, Some, None, nat_le, refl, sym, ap, ◌∙◌, subst, length-append, and_from, and_parts, nat_tests, slice_get_within, slice_get-get_or, get_or_from_slice_get, Search, Entry, Entities, code_at, IsSortedTable, IsRange, IsRising, IsStart, IsIndex, SearchHasRead}
 use Rattle.std.proofs.Common.{IfSome}
 use Rattle.std.proofs.lemmas.List.{get_or_append_left, get_or-append-add}
 use Rattle.std.proofs.lemmas.Bool.{cases_lt}
@@ -85,7 +85,7 @@ place_within : (best : Option ℕ) (count : ℕ) → IfSome best (λ k. k < coun
 place_within None count h = refl
 place_within (Some k) count h = grind (arith, nat_tests)
 
-pub search_within : (table : Entities) (search : Search) (bytes : List ℕ) → HasRead search table bytes → is_search_within search (length table) ≡ true
+pub search_within : (table : Entities) (search : Search) (bytes : List ℕ) → SearchHasRead search table bytes → is_search_within search (length table) ≡ true
 search_within table search bytes read =
     let ordered : search.low ≤ search.high = read.range.ordered in
     let within : search.high ≤ length table = read.range.within in
@@ -104,10 +104,10 @@ is_within search count h =
     (grind (arith, ends.0, nat_tests), grind (arith, ends.1, nat_tests), place_there search.best count parts.1)
 
 -- what the first character after the `&` narrows a search to
-pub read_first : (table flat : Entities) (search : Search) (ch : ℕ) (r : Option Search) → flat ≡ table → search.depth ≡ 1 → IfSome r (λ next. HasRead next flat (38 ∷ ch ∷ []))
-    → IfSome r (λ next. (bytes : List ℕ) → HasRead search table (38 ∷ bytes) → HasRead next table (38 ∷ bytes ++ ch ∷ []))
+pub read_first : (table flat : Entities) (search : Search) (ch : ℕ) (r : Option Search) → flat ≡ table → search.depth ≡ 1 → IfSome r (λ next. SearchHasRead next flat (38 ∷ ch ∷ []))
+    → IfSome r (λ next. (bytes : List ℕ) → SearchHasRead search table (38 ∷ bytes) → SearchHasRead next table (38 ∷ bytes ++ ch ∷ []))
 read_first table flat search ch None same one h = tt
 read_first table flat search ch (Some next) same one h = λ bytes read. by bytes (sym one ∙ read.depth) where
-  by : (bytes : List ℕ) → 1 ≡ length (38 ∷ bytes) → HasRead next table (38 ∷ bytes ++ ch ∷ [])
-  by [] e = subst (λ (t : Entities). HasRead next t (38 ∷ ch ∷ [])) same h
+  by : (bytes : List ℕ) → 1 ≡ length (38 ∷ bytes) → SearchHasRead next table (38 ∷ bytes ++ ch ∷ [])
+  by [] e = subst (λ (t : Entities). SearchHasRead next t (38 ∷ ch ∷ [])) same h
   by (b ∷ bs) e = absurd (omega (arith, e))

@@ -1,5 +1,5 @@
 -- Keys and the texts of characters, read from the left.
-use Rattle.charref.proofs.Names.{arith, ◌≡◌, ℕ, zero, suc, ◌+◌, ◌≤◌, ◌<◌, Bool, true, false, ◌||◌, nat_eq, bytes_eq, codes, List, [], ◌∷◌, ◌++◌, length, take, drop, get_or, None, encode_utf8_all, refl, sym, ap, ◌∙◌, subst, append_assoc, take_more, append-nil, nat_tests, is_alphanumeric, Value, is_key_name, is_empty_list, codepoints}
+use Rattle.charref.proofs.Names.{arith, ◌≡◌, ℕ, zero, suc, ◌+◌, ◌≤◌, ◌<◌, Bool, true, false, ◌||◌, nat_eq, bytes_eq, codes, List, [], ◌∷◌, ◌++◌, length, drop, get_or, None, encode_utf8_all, refl, sym, ap, ◌∙◌, subst, append_assoc, nat_tests, is_alphanumeric, Value, is_key_name, is_empty_list, codepoints}
 use Rattle.std.specs.Char.{encode_utf8}
 use Rattle.std.proofs.Math.Seq.{drop-cons}
 use Rattle.serde_json.specs.View.{items_view}
@@ -33,8 +33,3 @@ codepoints-none (v ∷ w ∷ x ∷ vs) h = refl
 pub encode_utf8_all-append : (cs ds : List ℕ) → encode_utf8_all (cs ++ ds) ≡ encode_utf8_all cs ++ encode_utf8_all ds
 encode_utf8_all-append [] ds = refl
 encode_utf8_all-append (c ∷ cs) ds = rw (encode_utf8_all-append cs ds) (sym (append_assoc (encode_utf8 c) (encode_utf8_all cs) (encode_utf8_all ds)))
-
--- one character more
-pub encode_utf8_all-more : (cs : List ℕ) (i c : ℕ) → i < length cs → c ≡ get_or cs i c → encode_utf8_all (take (i + 1) cs) ≡ encode_utf8_all (take i cs) ++ encode_utf8 c
-encode_utf8_all-more cs i c lt is =
-    ap encode_utf8_all (take_more cs i c lt) ∙ ap (λ b. encode_utf8_all (take i cs ++ b ∷ [])) (sym is) ∙ encode_utf8_all-append (take i cs) (c ∷ []) ∙ ap (λ t. encode_utf8_all (take i cs) ++ t) (append-nil (encode_utf8 c))

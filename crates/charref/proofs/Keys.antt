@@ -1,5 +1,5 @@
 -- Keys that begin with some bytes, in a list whose keys are in order.
-use Rattle.charref.proofs.Names.{arith, ◌≡◌, ℕ, zero, suc, ◌+◌, ◌≤◌, ◌<◌, ◌⊎◌, inl, inr, Bool, true, false, true≢false, ◌&&◌, nat_eq, nat_lt, cond, List, [], ◌∷◌, ◌++◌, map, length, slice_get, Option, Some, None, Less, Equal, Greater, refl, sym, ap, ◌∙◌, subst, length-append, and_parts, and_from, nat_tests, slice_cmp, nat_cmp, starts_with, AllByRecursion, Entry, Entities, longest, longer, code_at, IsOver}
+use Rattle.charref.proofs.Names.{arith, ◌≡◌, ℕ, zero, suc, ◌+◌, ◌≤◌, ◌<◌, ◌⊎◌, inl, inr, Bool, true, false, true≢false, ◌&&◌, nat_eq, nat_lt, cond, List, [], ◌∷◌, ◌++◌, map, length, slice_get, Option, Some, None, Less, Equal, Greater, refl, sym, ap, ◌∙◌, subst, length-append, and_parts, and_from, nat_tests, slice_cmp, nat_cmp, starts_with, AllByRecursion, Entry, Entities, longest, longer_entry, code_at, IsOver}
 use Rattle.std.proofs.Math.Bool.{and_assoc}
 use Rattle.std.proofs.lemmas.Bool.{cases_lt}
 use Rattle.std.specs.List.Sorted.{IsStrictlySortedBy}
@@ -150,7 +150,7 @@ shorter : Option Entry → ℕ → Type 0
 shorter None n = Unit {0}
 shorter (Some e) n = length e.key < n
 
-longer_shorter : (x : Entry) (found : Option Entry) (n : ℕ) → length x.key < n → shorter found n → shorter (longer x found) n
+longer_shorter : (x : Entry) (found : Option Entry) (n : ℕ) → length x.key < n → shorter found n → shorter (longer_entry x found) n
 unfolding shorter
 longer_shorter x None n h g = h
 longer_shorter x (Some e) n h g = by (nat_lt (length e.key) (length x.key))
@@ -164,14 +164,14 @@ unfolding shorter
 longest-shorter [] text none = tt
 longest-shorter (x ∷ xs) text none = by (starts_with nat_eq text x.key) refl (longest-shorter xs text (λ k e h. none (suc k) e h))
   where
-    by : (b : Bool) → starts_with nat_eq text x.key ≡ b → shorter (longest xs text) (length text) → shorter (cond b (longer x (longest xs text)) (longest xs text)) (length text)
+    by : (b : Bool) → starts_with nat_eq text x.key ≡ b → shorter (longest xs text) (length text) → shorter (cond b (longer_entry x (longest xs text)) (longest xs text)) (length text)
     by false p others = others
     by true p others =
         let le : length x.key ≤ length text = no_longer text x.key p in
         let ne : length x.key ≡ length text → ⊥ = λ (e : length x.key ≡ length text). none zero x refl (whole text x.key p e) in
         longer_shorter x (longest xs text) (length text) (omega (arith, ne)) others
 
-longer_wins : (x : Entry) (found : Option Entry) → shorter found (length x.key) → longer x found ≡ Some x
+longer_wins : (x : Entry) (found : Option Entry) → shorter found (length x.key) → longer_entry x found ≡ Some x
 unfolding shorter
 longer_wins x None h = refl
 longer_wins x (Some e) h = let test : nat_lt (length e.key) (length x.key) ≡ true = grind (arith, nat_tests) in rw test
@@ -183,13 +183,13 @@ longest-whole (x ∷ xs) text zero e only h is =
     let key-is : text ≡ x.key = sym is ∙ ap (λ (y : Entry). y.key) (sym same) in
     let begins : starts_with nat_eq text x.key ≡ true = subst (λ t. starts_with nat_eq text t ≡ true) key-is (begins_itself text) in
     let others : shorter (longest xs text) (length text) = longest-shorter xs text (λ j f g fs. absurd (let z : suc j ≡ 0 = only.here (suc j) f g fs in omega arith)) in
-    let wins : longer x (longest xs text) ≡ Some x = longer_wins x (longest xs text) (subst (λ t. shorter (longest xs text) (length t)) key-is others) in
+    let wins : longer_entry x (longest xs text) ≡ Some x = longer_wins x (longest xs text) (subst (λ t. shorter (longest xs text) (length t)) key-is others) in
     rw (begins, wins) (ap Some same)
 longest-whole (x ∷ xs) text (suc k) e only h is =
     let found : longest xs text ≡ Some e = longest-whole xs text k e (record { here = λ j f g fs. let z : suc j ≡ suc k = only.here (suc j) f g fs in omega arith }) h is in
     rw found (by (starts_with nat_eq text x.key) refl)
   where
-    by : (b : Bool) → starts_with nat_eq text x.key ≡ b → cond b (longer x (Some e)) (Some e) ≡ Some e
+    by : (b : Bool) → starts_with nat_eq text x.key ≡ b → cond b (longer_entry x (Some e)) (Some e) ≡ Some e
     by false p = refl
     by true p =
         let le : length x.key ≤ length text = no_longer text x.key p in

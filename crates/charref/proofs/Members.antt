@@ -1,5 +1,5 @@
 -- The members of an object, one after another.
-use Rattle.charref.proofs.Names.{◌≡◌, inl, ℕ, Bool, true, false, true≢false, not, ◌&&◌, cond, bytes_eq, List, [], ◌∷◌, ◌++◌, map, Option, Some, None, option_map, encode_utf8_all, Result, Ok, Err, string_bytes, Less, refl, sym, ap, ◌∙◌, subst, append_assoc, and_parts, and_from, list_all, AllByRecursion, slice_cmp, nat_cmp, TableFault, view, members_view, Value, Entry, Entities, is_key, is_empty_list, is_character, codepoints, entry_of, entities_of, IsRefusedWith, Refusal, Memory, is_one_or_two, IsReadable}
+use Rattle.charref.proofs.Names.{◌≡◌, inl, ℕ, Bool, true, false, true≢false, not, ◌&&◌, cond, bytes_eq, List, [], ◌∷◌, ◌++◌, map, Option, Some, None, option_map, encode_utf8_all, Result, Ok, Err, string_bytes, Less, refl, sym, ap, ◌∙◌, subst, append_assoc, and_parts, and_from, list_all, AllByRecursion, slice_cmp, nat_cmp, TableFault, view, members_view, Value, Entry, Entities, is_key, is_empty_list, is_character, codepoints, entry_of_json, entities_of, IsRefusedWith, Refusal, Memory, is_one_or_two, IsReadable}
 use Rattle.std.specs.List.Sorted.{IsStrictlySortedBy}
 use Rattle.std.specs.List.{IsDistinct}
 use Rattle.std.proofs.Common.{option_and_then, String, Global}
@@ -11,7 +11,7 @@ use Rattle.std.specs.Ordering.{eq_by_cmp}
 use Rattle.names.specs.declared.refusal.TableFault.TheVariants.{Key, Characters}
 use Rattle.serde_json.specs.Data.{Data, Items, no_items, item}
 use Rattle.serde_json.specs.Find.{as_number, as_u64}
-use Rattle.charref.specs.Reading.{codepoint, fields, entry_of_characters, entry_of_fields, and_then}
+use Rattle.charref.specs.Reading.{codepoint, fields, entry_of_characters, entry_of_fields, and_entry}
 
 abbrev pub Pair : Type 0
 Pair = String Global × Value
@@ -19,21 +19,21 @@ Pair = String Global × Value
 -- the entries before the others
 abbrev pub followed_by : Entities → Result Entities TableFault → Result Entities TableFault
 followed_by [] others = others
-followed_by (entry ∷ entries) others = and_then (Ok entry) (followed_by entries others)
+followed_by (entry ∷ entries) others = and_entry (Ok entry) (followed_by entries others)
 
 -- an entry more, before what follows
 pub followed_by-append : (es ds : Entities) (others : Result Entities TableFault) → followed_by (es ++ ds) others ≡ followed_by es (followed_by ds others)
 followed_by-append [] ds others = refl
-followed_by-append (e ∷ es) ds others = ap (and_then (Ok e)) (followed_by-append es ds others)
+followed_by-append (e ∷ es) ds others = ap (and_entry (Ok e)) (followed_by-append es ds others)
 
 -- a fault stays one behind the entries before it
 pub followed_by-Err : (es : Entities) (cause : TableFault) → followed_by es (Err cause) ≡ Err cause
 followed_by-Err [] cause = refl
-followed_by-Err (e ∷ es) cause = ap (and_then (Ok e)) (followed_by-Err es cause)
+followed_by-Err (e ∷ es) cause = ap (and_entry (Ok e)) (followed_by-Err es cause)
 
 pub followed_by-nothing : (es : Entities) → followed_by es (Ok []) ≡ Ok es
 followed_by-nothing [] = refl
-followed_by-nothing (e ∷ es) = ap (and_then (Ok e)) (followed_by-nothing es)
+followed_by-nothing (e ∷ es) = ap (and_entry (Ok e)) (followed_by-nothing es)
 
 -- The members up to these have been read, and gave these entries.
 pub record HasReadMembers (all rest : List Pair) (table : Entities) : Type 0 where
@@ -44,17 +44,17 @@ pub record HasReadMembers (all rest : List Pair) (table : Entities) : Type 0 whe
 pub read_no_members : (all : List Pair) → HasReadMembers all all []
 read_no_members all = record { done = []; are = refl; so_far = λ more. refl }
 
-pub read_member : (all left : List Pair) (pair : Pair) (table : Entities) (e : Entry) → HasReadMembers all (pair ∷ left) table → entry_of (string_bytes pair.0) (view pair.1) ≡ Ok e → HasReadMembers all left (table ++ e ∷ [])
+pub read_member : (all left : List Pair) (pair : Pair) (table : Entities) (e : Entry) → HasReadMembers all (pair ∷ left) table → entry_of_json (string_bytes pair.0) (view pair.1) ≡ Ok e → HasReadMembers all left (table ++ e ∷ [])
 read_member all left pair table e was is = record {
   done = was.done ++ pair ∷ [];
   are = was.are ∙ sym (append_assoc was.done (pair ∷ []) left);
   so_far = λ more. ap (λ (ms : List Pair). entities_of (members_view ms)) (append_assoc was.done (pair ∷ []) more) ∙ was.so_far (pair ∷ more)
-      ∙ ap (λ r. followed_by table (and_then r (entities_of (members_view more)))) is ∙ sym (followed_by-append table (e ∷ []) (entities_of (members_view more)));
+      ∙ ap (λ r. followed_by table (and_entry r (entities_of (members_view more)))) is ∙ sym (followed_by-append table (e ∷ []) (entities_of (members_view more)));
 }
 
-pub read_fault : (all left : List Pair) (pair : Pair) (table : Entities) (cause : TableFault) → HasReadMembers all (pair ∷ left) table → entry_of (string_bytes pair.0) (view pair.1) ≡ Err cause → entities_of (members_view all) ≡ Err cause
+pub read_fault : (all left : List Pair) (pair : Pair) (table : Entities) (cause : TableFault) → HasReadMembers all (pair ∷ left) table → entry_of_json (string_bytes pair.0) (view pair.1) ≡ Err cause → entities_of (members_view all) ≡ Err cause
 read_fault all left pair table cause was is =
-    ap (λ (ms : List Pair). entities_of (members_view ms)) was.are ∙ was.so_far (pair ∷ left) ∙ ap (λ r. followed_by table (and_then r (entities_of (members_view left)))) is ∙ followed_by-Err table cause
+    ap (λ (ms : List Pair). entities_of (members_view ms)) was.are ∙ was.so_far (pair ∷ left) ∙ ap (λ r. followed_by table (and_entry r (entities_of (members_view left)))) is ∙ followed_by-Err table cause
 
 pub read_all : (all : List Pair) (table : Entities) → HasReadMembers all [] table → entities_of (members_view all) ≡ Ok table
 read_all all table was = ap (λ (ms : List Pair). entities_of (members_view ms)) was.are ∙ was.so_far [] ∙ followed_by-nothing table
@@ -64,10 +64,10 @@ pub memory_refuses : {A : Type 0} (r : Result A TableFault) (refusal : Refusal) 
 memory_refuses (Ok x) refusal is = is
 memory_refuses (Err cause) refusal is = inl is
 
-pub read_refused : (all left : List Pair) (pair : Pair) (table : Entities) (refusal : Refusal) → HasReadMembers all (pair ∷ left) table → IsRefusedWith (entry_of (string_bytes pair.0) (view pair.1)) refusal → IsRefusedWith (entities_of (members_view all)) refusal
-read_refused all left pair table refusal was refused = by (entry_of (string_bytes pair.0) (view pair.1)) refl refused
+pub read_refused : (all left : List Pair) (pair : Pair) (table : Entities) (refusal : Refusal) → HasReadMembers all (pair ∷ left) table → IsRefusedWith (entry_of_json (string_bytes pair.0) (view pair.1)) refusal → IsRefusedWith (entities_of (members_view all)) refusal
+read_refused all left pair table refusal was refused = by (entry_of_json (string_bytes pair.0) (view pair.1)) refl refused
   where
-    by : (r : Result Entry TableFault) → entry_of (string_bytes pair.0) (view pair.1) ≡ r → IsRefusedWith r refusal → IsRefusedWith (entities_of (members_view all)) refusal
+    by : (r : Result Entry TableFault) → entry_of_json (string_bytes pair.0) (view pair.1) ≡ r → IsRefusedWith r refusal → IsRefusedWith (entities_of (members_view all)) refusal
     by (Ok e) is memory = memory_refuses (entities_of (members_view all)) refusal memory
     by (Err cause) is refused = subst (λ (r : Result Entities TableFault). IsRefusedWith r refusal) (sym (read_fault all left pair table cause was is)) refused
 
@@ -122,7 +122,7 @@ of_fields : (key : List ℕ) (o : Option (Items × List ℕ)) (e : Entry) → en
 of_fields key None e h = absurd (cc)
 of_fields key (Some pair) e h = of_characters key pair.1 (codepoints pair.0) e h (λ cs is. codepoints-some pair.0 cs is)
 
-pub entry_read : (key : List ℕ) (value : Data) (e : Entry) → entry_of key value ≡ Ok e → IsReadAs key e
+pub entry_read : (key : List ℕ) (value : Data) (e : Entry) → entry_of_json key value ≡ Ok e → IsReadAs key e
 entry_read key value e h = by (is_key key) refl h
   where
     by : (b : Bool) → is_key key ≡ b → cond b (entry_of_fields key (fields value)) (Err Key) ≡ Ok e → IsReadAs key e
@@ -137,9 +137,9 @@ record AreRead (keys : List (List ℕ)) (table : Entities) : Type 0 where
 
 entities_read : (all : List Pair) (table : Entities) → entities_of (members_view all) ≡ Ok table → AreRead (map string_bytes (keys_of all)) table
 entities_read [] table h = let is : [] ≡ table = cc in subst (λ t. AreRead [] t) is (record { same_keys = refl; are_keys = refl; ones = refl })
-entities_read (p ∷ all) table h = by (entry_of (string_bytes p.0) (view p.1)) (entities_of (members_view all)) refl refl h (entities_read all)
+entities_read (p ∷ all) table h = by (entry_of_json (string_bytes p.0) (view p.1)) (entities_of (members_view all)) refl refl h (entities_read all)
   where
-    by : (r : Result Entry TableFault) (others : Result Entities TableFault) → entry_of (string_bytes p.0) (view p.1) ≡ r → entities_of (members_view all) ≡ others → and_then r others ≡ Ok table
+    by : (r : Result Entry TableFault) (others : Result Entities TableFault) → entry_of_json (string_bytes p.0) (view p.1) ≡ r → entities_of (members_view all) ≡ others → and_entry r others ≡ Ok table
         → ((more : Entities) → entities_of (members_view all) ≡ Ok more → AreRead (map string_bytes (keys_of all)) more) → AreRead (map string_bytes (keys_of (p ∷ all))) table
     by (Err cause) others first rest h later = absurd (cc)
     by (Ok e) (Err cause) first rest h later = absurd (cc)

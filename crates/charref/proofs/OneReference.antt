@@ -1,5 +1,5 @@
 -- A text has one reference at most at its front: the one that a function with a case for each production reads.
-use Rattle.charref.proofs.Names.{arith, ◌≡◌, ◌⊎◌, inl, inr, ℕ, ◌-◌, Bool, true, false, not, ◌&&◌, ◌||◌, ◌==◌, cond, List, [], ◌∷◌, ◌++◌, length, take, drop, Option, Some, None, refl, sym, ap, ◌∙◌, subst, append_assoc, codes, and_parts, false≢true, nat_tests, length-map, to_ascii_lowercase, begins-append, Placed, UnknownNamedCharacterReference, AbsenceOfDigitsInNumericCharacterReference, characters, begins, stops, all, past, is_digit, is_alphanumeric, error, error_if, Entry, Entities, Piece, longest, is_kept, is_hex_digit, begins_number, is_semicolon_if_any, named_piece, IsReference, named, kept, unknown, decimal, hexadecimal, no_digits, alone}
+use Rattle.charref.proofs.Names.{arith, ◌≡◌, ◌⊎◌, inl, inr, ℕ, ◌-◌, Bool, true, false, not, ◌&&◌, ◌||◌, ◌==◌, cond, List, [], ◌∷◌, ◌++◌, length, take, drop, Option, Some, None, refl, sym, ap, ◌∙◌, subst, append_assoc, codes, and_parts, false≢true, nat_tests, length-map, to_ascii_lowercase, begins-append, Placed, UnknownNamedCharacterReference, AbsenceOfDigitsInNumericCharacterReference, characters, begins, stops, all, past, is_digit, is_alphanumeric, error, error_if, Entry, Entities, Piece, longest, is_kept_as_text, is_hex_digit, begins_number, is_semicolon_if_any, named_piece, IsReference, named, kept, unknown, decimal, hexadecimal, no_digits, alone}
 use Rattle.std.proofs.Math.Bool.{or-true}
 use Rattle.std.proofs.Math.Seq.{drop-append_seam, take-append_seam}
 use Rattle.std.proofs.lemmas.Bool.{not-true, not-false}
@@ -56,7 +56,7 @@ read_kept amp text entry false = (named_piece (amp ∷ take (length entry.key - 
 
 abbrev read_name : Bool → Placed → List Placed → Option Entry → Read
 read_name in_value amp text None = (ampersand amp (error_if (begins (λ c. c == 59) (past is_alphanumeric text)) UnknownNamedCharacterReference amp.at), text)
-read_name in_value amp text (Some entry) = read_kept amp text entry (is_kept in_value entry.key (drop (length entry.key - 1) text))
+read_name in_value amp text (Some entry) = read_kept amp text entry (is_kept_as_text in_value entry.key (drop (length entry.key - 1) text))
 
 abbrev read_by : Entities → Bool → Placed → List Placed → Bool → Bool → Bool → Bool → Read
 read_by table in_value amp text true hash number digit = read_name in_value amp text (longest table (characters (amp ∷ text)))
@@ -140,13 +140,13 @@ module _ (table : Entities) (in_value : Bool) (rest : List Placed) where
       ∙ number_is 16 (a ∷ q ∷ x ∷ []) is_hex_digit digits close rest r s
   hexadecimal_is (a ∷ q ∷ x ∷ y ∷ ys) digits close o d r s = absurd cc
 
-  named_is : (amp : Placed) (name : List Placed) (entry : Entry) → begins is_alphanumeric name ≡ true → longest table (characters (amp ∷ name ++ rest)) ≡ Some entry → characters (amp ∷ name) ≡ entry.key → is_kept in_value entry.key rest ≡ false
+  named_is : (amp : Placed) (name : List Placed) (entry : Entry) → begins is_alphanumeric name ≡ true → longest table (characters (amp ∷ name ++ rest)) ≡ Some entry → characters (amp ∷ name) ≡ entry.key → is_kept_as_text in_value entry.key rest ≡ false
       → read table in_value (amp ∷ name ++ rest) ≡ (named_piece (amp ∷ name) entry, rest)
   named_is amp name entry b l k kept' =
       let d = past_key name rest amp entry.key k in
       by_name table in_value amp (name ++ rest) (begins-append is_alphanumeric name rest b)
       ∙ ap (λ (o : Option Entry). read_name in_value amp (name ++ rest) o) l
-      ∙ ap (λ (r : List Placed). read_kept amp (name ++ rest) entry (is_kept in_value entry.key r)) d.0
+      ∙ ap (λ (r : List Placed). read_kept amp (name ++ rest) entry (is_kept_as_text in_value entry.key r)) d.0
       ∙ ap (λ (v : Bool). read_kept amp (name ++ rest) entry v) kept'
       ∙ ap (λ (t : List Placed). (named_piece (amp ∷ t) entry, drop (length entry.key - 1) (name ++ rest))) d.1
       ∙ ap (λ (t : List Placed). (named_piece (amp ∷ name) entry, t)) d.0

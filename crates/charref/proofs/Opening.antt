@@ -1,5 +1,5 @@
 -- A walk outside of a value goes on only while what it has taken may become a reference.
-use Rattle.charref.proofs.Names.{arith, ◌≡◌, ℕ, ◌<◌, true, false, List, [], ◌∷◌, ◌++◌, map, length, drop, Some, refl, sym, ap, ◌∙◌, append_assoc, append-nil, map-append, and_parts, slice_get_within, get_or_from_slice_get, Placed, characters, all, is_empty, is_alphanumeric, Base, Decimal, Hexadecimal, ReferenceState, NumberSign, Number, Walk, Entry, Entities, IsTable, longest, named, named_piece, GoesOn, key_bytes, IsSign, IsHeld, in_name, after_sign, after_x, in_number, IsOpen, IsRead, number_of, HasTaken}
+use Rattle.charref.proofs.Names.{arith, ◌≡◌, ℕ, ◌<◌, true, false, List, [], ◌∷◌, ◌++◌, map, length, drop, Some, refl, sym, ap, ◌∙◌, append_assoc, append-nil, map-append, and_parts, slice_get_within, get_or_from_slice_get, Placed, characters, all, is_empty, is_alphanumeric, Base, Decimal, Hexadecimal, ReferenceState, NumberSign, Number, Walk, Entry, Entities, IsTable, longest, named, named_piece, EntryGoesOn, key_bytes, IsSign, IsHeldReference, in_name, after_sign, after_x, in_number, IsOpenReference, IsRead, number_reference, WalkHasTaken}
 use Rattle.charref.proofs.Core.{has_found}
 use Rattle.charref.proofs.Naming.{rest_of_key}
 use Rattle.std.proofs.lemmas.List.{take_all}
@@ -9,7 +9,7 @@ at_once : ℕ → Placed
 at_once c = record { ch = c; at = 0 }
 
 -- what is open after one character more is open before it
-open_before : (table : Entities) (amp : Placed) (text : List Placed) (p : Placed) → IsOpen table amp (text ++ p ∷ []) → IsOpen table amp text
+open_before : (table : Entities) (amp : Placed) (text : List Placed) (p : Placed) → IsOpenReference table amp (text ++ p ∷ []) → IsOpenReference table amp text
 open_before table amp text p open' = record {
   more = p ∷ open'.more;
   rest = open'.rest;
@@ -19,10 +19,10 @@ open_before table amp text p open' = record {
   is_reference = open'.is_reference;
 }
 
-open_number : (table : Entities) (amp : Placed) (base : Base) (value : ℕ) (text : List Placed) → amp.ch ≡ 38 → IsHeld table false (Number base value) text → IsOpen table amp text
+open_number : (table : Entities) (amp : Placed) (base : Base) (value : ℕ) (text : List Placed) → amp.ch ≡ 38 → IsHeldReference table false (Number base value) text → IsOpenReference table amp text
 unfolding at_once
 open_number table amp base value text is held =
-    let read : IsRead table false (text ++ at_once 59 ∷ []) [] (number_of value 0 false) = number_closed table false base value text [] (at_once 59) held refl in
+    let read : IsRead table false (text ++ at_once 59 ∷ []) [] (number_reference value 0 false) = number_closed table false base value text [] (at_once 59) held refl in
     record {
       more = at_once 59 ∷ [];
       rest = _;
@@ -32,7 +32,7 @@ open_number table amp base value text is held =
       is_reference = read.reads amp is;
     }
 
-open_sign : (table : Entities) (amp : Placed) (base : Base) (text : List Placed) → amp.ch ≡ 38 → IsSign base text → IsOpen table amp text
+open_sign : (table : Entities) (amp : Placed) (base : Base) (text : List Placed) → amp.ch ≡ 38 → IsSign base text → IsOpenReference table amp text
 unfolding at_once
 open_sign table amp Decimal text is sign = open_before table amp text (at_once 49) (open_number table amp Decimal 1 (text ++ at_once 49 ∷ []) is (first_digit table false Decimal text (at_once 49) 1 sign refl refl (omega arith)))
 open_sign table amp Hexadecimal text is sign = open_before table amp text (at_once 49) (open_number table amp Hexadecimal 1 (text ++ at_once 49 ∷ []) is (first_digit table false Hexadecimal text (at_once 49) 1 sign refl refl (omega arith)))
@@ -47,7 +47,7 @@ some_more : (cs ds : List ℕ) → length ds < length (ds ++ cs) → is_empty (m
 some_more [] ds h = absurd (let e : ds ++ [] ≡ ds = append-nil ds in let s : length (ds ++ []) ≡ length ds = ap length e in omega arith)
 some_more (c ∷ cs) ds h = refl
 
-open_key : (table : Entities) (amp q : Placed) (qs : List Placed) → IsTable table → amp.ch ≡ 38 → is_alphanumeric q.ch ≡ true → GoesOn table (key_bytes (q ∷ qs)) → IsOpen table amp (q ∷ qs)
+open_key : (table : Entities) (amp q : Placed) (qs : List Placed) → IsTable table → amp.ch ≡ 38 → is_alphanumeric q.ch ≡ true → EntryGoesOn table (key_bytes (q ∷ qs)) → IsOpenReference table amp (q ∷ qs)
 open_key table amp q qs is_table is letter goes =
     let e : Entry = goes.entry in
     let text : List Placed = q ∷ qs in
@@ -68,20 +68,20 @@ open_key table amp q qs is_table is letter goes =
           (ap (λ (xs : List Placed). longest table (characters (amp ∷ xs))) (append-nil (text ++ map at_once extra)) ∙ ap (longest table) whole-is ∙ found) whole-is refl refl;
     }
 
-open_name : (table : Entities) (amp : Placed) (text : List Placed) → IsTable table → amp.ch ≡ 38 → all is_alphanumeric text ≡ true → (is_empty text ≡ false → GoesOn table (key_bytes text)) → IsOpen table amp text
+open_name : (table : Entities) (amp : Placed) (text : List Placed) → IsTable table → amp.ch ≡ 38 → all is_alphanumeric text ≡ true → (is_empty text ≡ false → EntryGoesOn table (key_bytes text)) → IsOpenReference table amp text
 unfolding at_once
 open_name table amp [] is_table is run goes = open_before table amp [] (at_once 35) (open_held (one_number_sign table false (at_once 35) refl))
   where
-    open_held : IsHeld table false NumberSign (at_once 35 ∷ []) → IsOpen table amp (at_once 35 ∷ [])
+    open_held : IsHeldReference table false NumberSign (at_once 35 ∷ []) → IsOpenReference table amp (at_once 35 ∷ [])
     open_held (after_sign text sign) = open_sign table amp Decimal text is sign
 open_name table amp (q ∷ qs) is_table is run goes = open_key table amp q qs is_table is (and_parts _ _ run).0 (goes refl)
 
-open_held : (table : Entities) (amp : Placed) (state : ReferenceState) (text : List Placed) → IsTable table → amp.ch ≡ 38 → IsHeld table false state text → IsOpen table amp text
+open_held : (table : Entities) (amp : Placed) (state : ReferenceState) (text : List Placed) → IsTable table → amp.ch ≡ 38 → IsHeldReference table false state text → IsOpenReference table amp text
 open_held table amp _ _ is_table is (in_name search text read run goes) = open_name table amp text is_table is run (goes refl)
 open_held table amp _ _ is_table is (after_sign text sign) = open_sign table amp Decimal text is sign
 open_held table amp _ _ is_table is (after_x text sign) = open_sign table amp Hexadecimal text is sign
 open_held table amp _ _ is_table is (in_number base value sign digits text text-is signs opens run value-is) =
     open_number table amp base value text is (in_number base value sign digits text text-is signs opens run value-is)
 
-pub open_taken : (walk : Walk) (table : Entities) (text : List Placed) (amp : Placed) → IsTable table → HasTaken walk table false text → amp.ch ≡ 38 → IsOpen table amp text
+pub open_taken : (walk : Walk) (table : Entities) (text : List Placed) (amp : Placed) → IsTable table → WalkHasTaken walk table false text → amp.ch ≡ 38 → IsOpenReference table amp text
 open_taken walk table text amp is_table taken is = open_held table amp walk.state text is_table is taken.held

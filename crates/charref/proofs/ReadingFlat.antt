@@ -1,5 +1,5 @@
 -- Reading a flat form, entry by entry.
-use Rattle.charref.proofs.Names.{arith, ◌≡◌, ℕ, suc, ◌+◌, ◌-◌, ◌*◌, ◌≤◌, ◌<◌, Bool, true, false, true≢false, ◌&&◌, nat_le, List, [], ◌∷◌, ◌++◌, map, length, take, drop, slice_get, get_or, is_lt, Less, refl, sym, ap, ◌∙◌, subst, append_assoc, and_parts, and_from, nat_tests, append-nil, take-append-drop, take_rest, drop-drop, length-drop, map-append, slice_cmp, list_all, flat_map, Entity, Characters, characters_of, Entry, Entities, is_key, is_character, key_at, entry, entries, is_one_or_two, flat_character, flat_characters, flat_entry, flat_of, IsReadable, passes, is_count, BeginsWith, BeginsWithNone, IsCounted, HasNoCounted, IsEntryAt, is_entry}
+use Rattle.charref.proofs.Names.{arith, ◌≡◌, ℕ, suc, ◌+◌, ◌-◌, ◌*◌, ◌≤◌, ◌<◌, Bool, true, false, true≢false, ◌&&◌, nat_le, List, [], ◌∷◌, ◌++◌, map, length, take, drop, slice_get, get_or, is_lt, Less, refl, sym, ap, ◌∙◌, subst, append_assoc, and_parts, and_from, nat_tests, append-nil, take-append-drop, take_rest, drop-drop, length-drop, map-append, slice_cmp, list_all, flat_map, Entity, Characters, characters_of, Entry, Entities, is_key, is_character, key_at, entry, entries, is_one_or_two, flat_character, flat_characters, flat_entry, flat_of, IsReadable, passes_byte, is_count, BeginsWith, BeginsWithNone, IsCounted, HasNoCounted, IsEntryAt, is_table_entry}
 use Rattle.std.specs.List.Sorted.{IsStrictlySortedBy}
 use Rattle.std.proofs.Common.{nat_cmp, Ordering}
 use Rattle.std.proofs.lemmas.List.{drop_all, drop_more}
@@ -32,14 +32,14 @@ no_second bytes two none (c ∷ d ∷ e ∷ es) rest is same = (let many : get_o
 
 -- ENTRIES
 
-counted_at : (bytes : List ℕ) (n : ℕ) → passes is_count (slice_get bytes n) ≡ true → (c : ℕ) × (r : List ℕ) × (drop n bytes ≡ c ∷ r) × (is_count c ≡ true)
+counted_at : (bytes : List ℕ) (n : ℕ) → passes_byte is_count (slice_get bytes n) ≡ true → (c : ℕ) × (r : List ℕ) × (drop n bytes ≡ c ∷ r) × (is_count c ≡ true)
 counted_at bytes n h = let at = passes_at is_count bytes n h in (get_or bytes n 0, drop (suc n) bytes, drop-cons bytes n 0 at.0, at.1)
 
-pub no_entry_key : (bytes : List ℕ) → HasNoCounted is_key bytes → BeginsWithNone is_entry flat_entry bytes
+pub no_entry_key : (bytes : List ℕ) → HasNoCounted is_key bytes → BeginsWithNone is_table_entry flat_entry bytes
 no_entry_key bytes none e rest is same =
     none e.key (flat_map flat_character e.stands_for ++ rest) (length e.stands_for) (and_parts (is_key e.key) _ is).0 (counted e.stands_for (and_parts (is_key e.key) _ is).1) (same ∙ entry_split e rest)
 
-pub no_entry_characters : (bytes : List ℕ) (n : ℕ) → IsCounted is_key bytes n → BeginsWithNone is_one_or_two flat_characters (drop n bytes) → BeginsWithNone is_entry flat_entry bytes
+pub no_entry_characters : (bytes : List ℕ) (n : ℕ) → IsCounted is_key bytes n → BeginsWithNone is_one_or_two flat_characters (drop n bytes) → BeginsWithNone is_table_entry flat_entry bytes
 no_entry_characters bytes n key none e rest is same =
     let at : (c : ℕ) × (r : List ℕ) × (drop n bytes ≡ c ∷ r) × (is_count c ≡ true) = counted_at bytes n key.counted in
     let parts : (take n bytes ≡ e.key) × (at.0 ∷ at.1 ≡ length e.stands_for ∷ (flat_map flat_character e.stands_for ++ rest)) =
@@ -97,7 +97,7 @@ begun text some first = record {
 all_more : {A : Type 0} (test : A → Bool) (xs : List A) (x : A) → list_all test xs ≡ true → test x ≡ true → list_all test (xs ++ x ∷ []) ≡ true
 all_more test xs x p q = list_all-append test xs (x ∷ []) ∙ and_from (list_all test xs) _ p (and_from (test x) true q refl)
 
-readable_more : (table : Entities) (e : Entry) → IsReadable table → is_entry e ≡ true → slice_cmp nat_cmp (last_key (map (λ e. e.key) table)) e.key ≡ Less → IsReadable (table ++ e ∷ [])
+readable_more : (table : Entities) (e : Entry) → IsReadable table → is_table_entry e ≡ true → slice_cmp nat_cmp (last_key (map (λ e. e.key) table)) e.key ≡ Less → IsReadable (table ++ e ∷ [])
 readable_more table e was is below =
     let ones : is_one_or_two e.stands_for ≡ true = (and_parts (is_key e.key) _ is).1 in
     readable_from_parts (table ++ e ∷ []) (all_more (λ (e : Entry). is_key e.key) table e was.sorted.is_table.keys (and_parts (is_key e.key) _ is).0)
@@ -138,15 +138,15 @@ HasNoTable bytes = (table : Entities) → IsReadable table → flat_of table ≡
 others : (text : List ℕ) (es : List Entity) (last : List ℕ) (start : ℕ) (table : Entities) → HasReadTo text es last start → IsReadable table → flat_of table ≡ text → Rest (entries text es) table (drop start text)
 others text es last start table was readable is = rest_of (entries text es) table (drop start text) (are_entries (entries text es) was.readable) (are_entries table readable) (tail_of 1 _ _ (is ∙ was.is))
 
-pub no_entry : (text : List ℕ) (es : List Entity) (last : List ℕ) (start : ℕ) → HasReadTo text es last start → start < length text → BeginsWithNone is_entry flat_entry (drop start text) → HasNoTable text
+pub no_entry : (text : List ℕ) (es : List Entity) (last : List ℕ) (start : ℕ) → HasReadTo text es last start → start < length text → BeginsWithNone is_table_entry flat_entry (drop start text) → HasNoTable text
 no_entry text es last start was some none table readable is = by rest.more rest.flat rest.entries
   where
     rest : Rest (entries text es) table (drop start text)
     rest = others text es last start table was readable is
 
-    by : (more : Entities) → flat_map flat_entry more ≡ drop start text → list_all is_entry more ≡ true → ⊥
+    by : (more : Entities) → flat_map flat_entry more ≡ drop start text → list_all is_table_entry more ≡ true → ⊥
     by [] flat are = (let size : length (drop start text) ≡ length text - start = length-drop start text in let no : 0 ≡ length (drop start text) = ap length flat in omega arith)
-    by (e ∷ more) flat are = none e (flat_map flat_entry more) (and_parts (is_entry e) (list_all is_entry more) are).0 (sym flat)
+    by (e ∷ more) flat are = none e (flat_map flat_entry more) (and_parts (is_table_entry e) (list_all is_table_entry more) are).0 (sym flat)
 
 below_first : (key : List ℕ) → is_key key ≡ true → slice_cmp nat_cmp [] key ≡ Less
 below_first [] is = absurd (true≢false (sym is))
@@ -166,10 +166,10 @@ no_order text es last start d end was at before table readable is = by rest.more
     some none = (let size : length (drop start text) ≡ length text - start = length-drop start text in let no : 0 ≡ length (drop start text) = ap length (none ∙ sym at.is) in
         let first : start < end = at.some in let last : end ≤ length text = at.within in omega arith)
 
-    by : (more : Entities) → table ≡ entries text es ++ more → flat_map flat_entry more ≡ drop start text → list_all is_entry more ≡ true → ⊥
+    by : (more : Entities) → table ≡ entries text es ++ more → flat_map flat_entry more ≡ drop start text → list_all is_table_entry more ≡ true → ⊥
     by [] whole flat are = some (flat ∙ at.is)
     by (f ∷ more) whole flat are =
-        let same : (f ≡ e) × (flat_map flat_entry more ≡ drop end text) = same_entries f e (flat_map flat_entry more) (drop end text) (and_parts (is_entry f) (list_all is_entry more) are).0 at.passing (flat ∙ at.is) in
+        let same : (f ≡ e) × (flat_map flat_entry more ≡ drop end text) = same_entries f e (flat_map flat_entry more) (drop end text) (and_parts (is_table_entry f) (list_all is_table_entry more) are).0 at.passing (flat ∙ at.is) in
         let keys : map (λ (e : Entry). e.key) table ≡ map (λ e. e.key) (entries text es) ++ e.key ∷ map (λ e. e.key) more =
         ap (map (λ (e : Entry). e.key)) whole ∙ map-append (λ (e : Entry). e.key) (entries text es) (f ∷ more) ∙ ap (λ (x : Entry). map (λ e. e.key) (entries text es) ++ x.key ∷ map (λ e. e.key) more) same.0 in
         let below : slice_cmp nat_cmp (last_key (map (λ e. e.key) (entries text es))) e.key ≡ Less =

@@ -1,5 +1,5 @@
 -- A search, byte by byte.
-use Rattle.charref.proofs.Names.{arith, ◌≡◌, ℕ, ◌+◌, ◌-◌, ◌≤◌, ◌<◌, ◌==◌, true, false, true≢false, nat_eq, cond, List, [], ◌∷◌, ◌++◌, length, slice_get, Option, Some, None, refl, sym, ap, ◌∙◌, subst, length-append, and_parts, nat_tests, slice_get_within, starts_with, list_all, some_same, Search, Entry, Entities, longest, longer, is_key, best_entry, IsSortedTable, IsRange, IsRising, IsParted, IsOver, GoesOn, HasRead}
+use Rattle.charref.proofs.Names.{arith, ◌≡◌, ℕ, ◌+◌, ◌-◌, ◌≤◌, ◌<◌, ◌==◌, true, false, true≢false, nat_eq, cond, List, [], ◌∷◌, ◌++◌, length, slice_get, Option, Some, None, refl, sym, ap, ◌∙◌, subst, length-append, and_parts, nat_tests, slice_get_within, starts_with, list_all, some_same, Search, Entry, Entities, longest, longer_entry, is_key, best_entry, IsSortedTable, IsRange, IsRising, IsParted, IsOver, EntryGoesOn, SearchHasRead}
 use Rattle.charref.proofs.Keys.{whole, no_longer, begins_itself, longest-whole, longest-more, longest-over}
 use Rattle.charref.proofs.Naming.{is_key_of}
 use Rattle.charref.proofs.Ranges.{range_rises, rises_later, range_more, range_over, only_first, within, inside}
@@ -9,11 +9,11 @@ longest-nothing : (table : Entities) → list_all (λ e. is_key e.key) table ≡
 longest-nothing [] keys = refl
 longest-nothing (x ∷ xs) keys = by x.key (and_parts _ _ keys).0 (longest-nothing xs (and_parts _ _ keys).1)
   where
-    by : (key : List ℕ) → is_key key ≡ true → longest xs [] ≡ None → cond (starts_with nat_eq [] key) (longer x (longest xs [])) (longest xs []) ≡ None
+    by : (key : List ℕ) → is_key key ≡ true → longest xs [] ≡ None → cond (starts_with nat_eq [] key) (longer_entry x (longest xs [])) (longest xs []) ≡ None
     by [] is others = absurd (true≢false (sym is))
     by (c ∷ cs) is others = others
 
-pub read_nothing : (table : Entities) (high : ℕ) → IsSortedTable table → high ≡ length table → HasRead (record { depth = 0; low = 0; high = high; best = None }) table []
+pub read_nothing : (table : Entities) (high : ℕ) → IsSortedTable table → high ≡ length table → SearchHasRead (record { depth = 0; low = 0; high = high; best = None }) table []
 read_nothing table high sorted all = record {
   depth = refl;
   range = record { ordered = omega arith; within = omega arith; exact = λ k e p. sym (inside 0 high k (omega arith) (let w : k < length table = slice_get_within table k e p in omega arith)) };
@@ -35,7 +35,7 @@ longest-ampersand (x ∷ xs) keys =
     let test : starts_with nat_eq (38 ∷ []) x.key ≡ false = (begins_with_ampersand x.key (and_parts _ _ keys).0).1 in
     rw test (longest-ampersand xs (and_parts _ _ keys).1)
 
-pub read_ampersand : (table : Entities) (high : ℕ) → IsSortedTable table → high ≡ length table → HasRead (record { depth = 1; low = 0; high = high; best = None }) table (38 ∷ [])
+pub read_ampersand : (table : Entities) (high : ℕ) → IsSortedTable table → high ≡ length table → SearchHasRead (record { depth = 1; low = 0; high = high; best = None }) table (38 ∷ [])
 read_ampersand table high sorted all = record {
   depth = refl;
   range = record {
@@ -48,7 +48,7 @@ read_ampersand table high sorted all = record {
 }
 
 -- The range of one byte more, by the two places that part the range.
-pub range_narrowed : (table : Entities) (search : Search) (bytes : List ℕ) (byte from to : ℕ) → IsSortedTable table → HasRead search table bytes
+pub range_narrowed : (table : Entities) (search : Search) (bytes : List ℕ) (byte from to : ℕ) → IsSortedTable table → SearchHasRead search table bytes
     → search.low ≤ from → from ≤ to → to ≤ search.high
     → (IsRising table search.low search.high search.depth → IsParted table search.low from search.high search.depth (byte + 1))
     → (IsRising table from search.high search.depth → IsParted table from to search.high search.depth (byte + 1 + 1)) → IsRange table (bytes ++ byte ∷ []) from to
@@ -60,13 +60,13 @@ range_narrowed table search bytes byte from to sorted was after ordered before f
     range_more table bytes byte search.low search.high from to was.range after ordered before one (subst (λ n. IsParted table from to search.high n (byte + 2)) was.depth (subst (λ n. IsParted table from to search.high search.depth n) next two))
 
 -- One byte more, by its range.
-module _ (table : Entities) (search : Search) (bytes : List ℕ) (byte from to : ℕ) (sorted : IsSortedTable table) (was : HasRead search table bytes)
+module _ (table : Entities) (search : Search) (bytes : List ℕ) (byte from to : ℕ) (sorted : IsSortedTable table) (was : SearchHasRead search table bytes)
     (range : IsRange table (bytes ++ byte ∷ []) from to) where
   deeper : search.depth + 1 ≡ length (bytes ++ byte ∷ [])
   deeper = let more : length (bytes ++ byte ∷ []) ≡ length bytes + 1 = length-append bytes (byte ∷ []) in let was-depth : search.depth ≡ length bytes = was.depth in omega arith
 
   -- the first of the range is what was read
-  pub read_key : (e : Entry) → from < to → slice_get table from ≡ Some e → length e.key ≡ search.depth + 1 → HasRead (record { depth = search.depth + 1; low = from; high = to; best = Some from }) table (bytes ++ byte ∷ [])
+  pub read_key : (e : Entry) → from < to → slice_get table from ≡ Some e → length e.key ≡ search.depth + 1 → SearchHasRead (record { depth = search.depth + 1; low = from; high = to; best = Some from }) table (bytes ++ byte ∷ [])
   read_key e open' got size =
       let begins : starts_with nat_eq e.key (bytes ++ byte ∷ []) ≡ true = range.exact from e got ∙ inside from to from (omega arith) open' in
       let is : e.key ≡ bytes ++ byte ∷ [] = sym (whole e.key (bytes ++ byte ∷ []) begins (sym (size ∙ deeper))) in
@@ -78,7 +78,7 @@ module _ (table : Entities) (search : Search) (bytes : List ℕ) (byte from to :
       }
 
   -- or it is not
-  pub read_no_key : ((e : Entry) → slice_get table from ≡ Some e → from < to → length e.key ≡ search.depth + 1 → ⊥) → HasRead (record { depth = search.depth + 1; low = from; high = to; best = search.best }) table (bytes ++ byte ∷ [])
+  pub read_no_key : ((e : Entry) → slice_get table from ≡ Some e → from < to → length e.key ≡ search.depth + 1 → ⊥) → SearchHasRead (record { depth = search.depth + 1; low = from; high = to; best = search.best }) table (bytes ++ byte ∷ [])
   read_no_key other = record {
     depth = deeper;
     range = range;
@@ -92,11 +92,11 @@ module _ (table : Entities) (search : Search) (bytes : List ℕ) (byte from to :
   }
 
 -- What was read, where no key goes on, decides.
-pub read_over : (table : Entities) (search : Search) (bytes rest text : List ℕ) → HasRead search table bytes → search.low ≡ search.high → text ≡ bytes ++ rest → best_entry table search.best ≡ longest table text
+pub read_over : (table : Entities) (search : Search) (bytes rest text : List ℕ) → SearchHasRead search table bytes → search.low ≡ search.high → text ≡ bytes ++ rest → best_entry table search.best ≡ longest table text
 read_over table search bytes rest text read none is = read.best ∙ sym (longest-over table bytes rest (range_over table bytes search.low search.high read.range none)) ∙ ap (longest table) (sym is)
 
 -- The last key of the range is longer than what was read where any is.
-pub last_longer : (table : Entities) (search : Search) (bytes : List ℕ) (e : Entry) → HasRead search table bytes → search.low < search.high → slice_get table (search.high - 1) ≡ Some e → search.depth < length e.key → GoesOn table bytes
+pub last_longer : (table : Entities) (search : Search) (bytes : List ℕ) (e : Entry) → SearchHasRead search table bytes → search.low < search.high → slice_get table (search.high - 1) ≡ Some e → search.depth < length e.key → EntryGoesOn table bytes
 last_longer table search bytes e read open' got size = record {
   place = search.high - 1;
   entry = e;
@@ -105,7 +105,7 @@ last_longer table search bytes e read open' got size = record {
   is_longer = (let d : search.depth ≡ length bytes = read.depth in omega arith);
 }
 
-pub last_over : (table : Entities) (search : Search) (bytes : List ℕ) (e : Entry) → IsSortedTable table → HasRead search table bytes → search.low < search.high → slice_get table (search.high - 1) ≡ Some e → length e.key ≤ search.depth → IsOver table bytes
+pub last_over : (table : Entities) (search : Search) (bytes : List ℕ) (e : Entry) → IsSortedTable table → SearchHasRead search table bytes → search.low < search.high → slice_get table (search.high - 1) ≡ Some e → length e.key ≤ search.depth → IsOver table bytes
 last_over table search bytes e sorted read open' got size =
     let begins : starts_with nat_eq e.key bytes ≡ true = read.range.exact (search.high - 1) e got ∙ inside search.low search.high (search.high - 1) (omega arith) (omega arith) in
     let depth : search.depth ≡ length bytes = read.depth in
@@ -121,7 +121,7 @@ last_over table search bytes e sorted read open' got size =
           omega arith;
     }
 
-pub none_over : (table : Entities) (search : Search) (bytes : List ℕ) → HasRead search table bytes → search.high ≤ search.low → IsOver table bytes
+pub none_over : (table : Entities) (search : Search) (bytes : List ℕ) → SearchHasRead search table bytes → search.high ≤ search.low → IsOver table bytes
 none_over table search bytes read none = range_over table bytes search.low search.high read.range (let o : search.low ≤ search.high = read.range.ordered in omega arith)
 
 -- the entry at the place of the longest key

@@ -1,5 +1,5 @@
 -- Each text that begins with `&` begins with a reference.
-use Rattle.charref.proofs.Names.{arith, ◌≡◌, inl, inr, ℕ, zero, suc, ◌-◌, ◌≤◌, Bool, true, false, not, ◌&&◌, ◌||◌, ◌==◌, cond, List, [], ◌∷◌, ◌++◌, length, take, drop, Option, Some, None, refl, sym, ap, ◌∙◌, subst, append_assoc, and_parts, false≢true, nat_tests, take-append-drop, to_ascii_lowercase, Placed, characters, begins, is_digit, is_alphanumeric, Entry, Entities, IsTable, longest, is_kept, is_hex_digit, begins_number, is_semicolon_if_any, named, kept, unknown, decimal, hexadecimal, no_digits, alone}
+use Rattle.charref.proofs.Names.{arith, ◌≡◌, inl, inr, ℕ, zero, suc, ◌-◌, ◌≤◌, Bool, true, false, not, ◌&&◌, ◌||◌, ◌==◌, cond, List, [], ◌∷◌, ◌++◌, length, take, drop, Option, Some, None, refl, sym, ap, ◌∙◌, subst, append_assoc, and_parts, false≢true, nat_tests, take-append-drop, to_ascii_lowercase, Placed, characters, begins, is_digit, is_alphanumeric, Entry, Entities, IsTable, longest, is_kept_as_text, is_hex_digit, begins_number, is_semicolon_if_any, named, kept, unknown, decimal, hexadecimal, no_digits, alone}
 use Rattle.std.proofs.lemmas.Bool.{or_cases}
 use Rattle.names.specs.Placed.{RunsTo}
 use Rattle.charref.specs.Open.{HasReference}
@@ -106,7 +106,7 @@ module _ (table : Entities) (in_value : Bool) (is_table : IsTable table) (amp : 
   sign_by (q ∷ qs) true sign e = number_by q qs (begins is_digit qs) sign refl e
 
   -- names
-  named_here : (text : List Placed) (entry : Entry) → begins is_alphanumeric text ≡ true → longest table (characters (amp ∷ text)) ≡ Some entry → is_kept in_value entry.key (drop (length entry.key - 1) text) ≡ false
+  named_here : (text : List Placed) (entry : Entry) → begins is_alphanumeric text ≡ true → longest table (characters (amp ∷ text)) ≡ Some entry → is_kept_as_text in_value entry.key (drop (length entry.key - 1) text) ≡ false
       → HasReference table in_value (amp ∷ text)
   named_here text entry letter found kept' =
       let n : ℕ = length entry.key - 1 in
@@ -123,14 +123,14 @@ module _ (table : Entities) (in_value : Bool) (is_table : IsTable table) (amp : 
             (ap (λ (xs : List Placed). longest table (characters (amp ∷ xs))) (take-append-drop n text) ∙ found) (sym key_is) kept' refl;
       }
 
-  kept_by : (text : List Placed) (entry : Entry) (b : Bool) → begins is_alphanumeric text ≡ true → longest table (characters (amp ∷ text)) ≡ Some entry → is_kept in_value entry.key (drop (length entry.key - 1) text) ≡ b
+  kept_by : (text : List Placed) (entry : Entry) (b : Bool) → begins is_alphanumeric text ≡ true → longest table (characters (amp ∷ text)) ≡ Some entry → is_kept_as_text in_value entry.key (drop (length entry.key - 1) text) ≡ b
       → HasReference table in_value (amp ∷ text)
   kept_by text entry true letter found e = record { piece = _; rest = text; text_is = refl; is_reference = kept amp entry is letter found e refl }
   kept_by text entry false letter found e = named_here text entry letter found e
 
   name_by : (text : List Placed) (found : Option Entry) → begins is_alphanumeric text ≡ true → longest table (characters (amp ∷ text)) ≡ found → HasReference table in_value (amp ∷ text)
   name_by text None letter e = record { piece = _; rest = text; text_is = refl; is_reference = unknown amp is letter e refl }
-  name_by text (Some entry) letter e = kept_by text entry (is_kept in_value entry.key (drop (length entry.key - 1) text)) letter e refl
+  name_by text (Some entry) letter e = kept_by text entry (is_kept_as_text in_value entry.key (drop (length entry.key - 1) text)) letter e refl
 
   some_by : (text : List Placed) (letter sign : Bool) → begins is_alphanumeric text ≡ letter → begins (λ c. c == 35) text ≡ sign → HasReference table in_value (amp ∷ text)
   some_by text true sign e f = name_by text (longest table (characters (amp ∷ text))) e refl

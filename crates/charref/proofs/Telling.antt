@@ -1,5 +1,5 @@
 -- A reference that was reported, as the definition has it.
-use Rattle.charref.proofs.Names.{arith, ◌≡◌, ◌⊎◌, inl, inr, ℕ, suc, ◌+◌, ◌-◌, ◌≤◌, ◌<◌, Bool, true, false, true≢false, not, ◌&&◌, ◌||◌, ◌==◌, cond, nat_eq, nat_lt, List, [], ◌∷◌, ◌++◌, length, take, drop, slice_get, Some, None, refl, sym, ap, ◌∙◌, subst, append_assoc, length-append, append-nil, map-append, length-map, take-append-drop, and_parts, nat_tests, starts_with, begins-append, Placed, MissingSemicolonAfterCharacterReference, UnknownNamedCharacterReference, characters, begins, all, is_empty, past, is_alphanumeric, is_equals, error_if, Alphanumeric, Semicolon, Equals, Other, Reference, Characters, One, Entry, Entities, IsTable, longest, ends_in_semicolon, is_kept, IsReference, named, kept, unknown, key_bytes, IsSettled, last_of, is_kept_before, IsRead, characters_of, errors_of, unknown_of}
+use Rattle.charref.proofs.Names.{arith, ◌≡◌, ◌⊎◌, inl, inr, ℕ, suc, ◌+◌, ◌-◌, ◌≤◌, ◌<◌, Bool, true, false, true≢false, not, ◌&&◌, ◌||◌, ◌==◌, cond, nat_eq, nat_lt, List, [], ◌∷◌, ◌++◌, length, take, drop, slice_get, Some, None, refl, sym, ap, ◌∙◌, subst, append_assoc, length-append, append-nil, map-append, length-map, take-append-drop, and_parts, nat_tests, starts_with, begins-append, Placed, MissingSemicolonAfterCharacterReference, UnknownNamedCharacterReference, characters, begins, all, is_empty, past, is_alphanumeric, is_equals, error_if, Alphanumeric, Semicolon, Equals, Other, Reference, Characters, One, Entry, Entities, IsTable, longest, ends_in_semicolon, is_kept_as_text, IsReference, named, kept, unknown, key_bytes, IsSettled, last_of, is_kept_before, IsRead, characters_of, errors_of, unknown_of}
 use Rattle.std.proofs.Math.Bool.{or-true, and-false}
 use Rattle.std.proofs.lemmas.Bool.{cases_order}
 use Rattle.std.proofs.lemmas.List.{drop_all, drop-append-le}
@@ -21,7 +21,7 @@ begins_or (p ∷ ps) h = ap (λ b. is_equals p.ch || b) h ∙ or-true (is_equals
 
 -- an `&` that is text: all that was read is left
 read_run : (table : Entities) (in_value : Bool) (text after : List Placed) (found : Reference) → found.left ≡ length text
-    → (found.in_run ≡ true → all is_alphanumeric text ≡ true)
+    → (found.is_ambiguous ≡ true → all is_alphanumeric text ≡ true)
     → ((amp : Placed) → amp.ch ≡ 38 → IsReference table in_value (text ++ after) (record { text = amp ∷ []; gives = characters_of found.characters; errors = errors_of found amp.at after }))
     → IsRead table in_value text after found
 read_run table in_value text after found left run reads =
@@ -32,13 +32,13 @@ read_run table in_value text after found left run reads =
       reads = λ amp is. rw none (reads amp is);
     }
 
-pub no_run : {A : Type 0} (in_run : Bool) → in_run ≡ false → in_run ≡ true → A
-no_run in_run quiet told = absurd (true≢false (sym told ∙ quiet))
+pub no_run : {A : Type 0} (is_ambiguous : Bool) → is_ambiguous ≡ false → is_ambiguous ≡ true → A
+no_run is_ambiguous quiet told = absurd (true≢false (sym told ∙ quiet))
 
-pub read_text : (table : Entities) (in_value : Bool) (text after : List Placed) (found : Reference) → found.left ≡ length text → found.in_run ≡ false
+pub read_text : (table : Entities) (in_value : Bool) (text after : List Placed) (found : Reference) → found.left ≡ length text → found.is_ambiguous ≡ false
     → ((amp : Placed) → amp.ch ≡ 38 → IsReference table in_value (text ++ after) (record { text = amp ∷ []; gives = characters_of found.characters; errors = errors_of found amp.at after }))
     → IsRead table in_value text after found
-read_text table in_value text after found left quiet reads = read_run table in_value text after found left (no_run found.in_run quiet) reads
+read_text table in_value text after found left quiet reads = read_run table in_value text after found left (no_run found.is_ambiguous quiet) reads
 
 module _ (table : Entities) (in_value : Bool) (text after : List Placed) (is_table : IsTable table) (e : Entry)
     (found : longest table (key_bytes text) ≡ Some e) (same : longest table (key_bytes text ++ characters after) ≡ longest table (key_bytes text)) where
@@ -81,8 +81,8 @@ module _ (table : Entities) (in_value : Bool) (text after : List Placed) (is_tab
   no_more : (xs : List ParseError) → xs ++ [] ++ [] ≡ xs
   no_more xs = append-nil (xs ++ []) ∙ append-nil xs
 
-  pub read_named : (cs : Characters) (left : ℕ) → characters_of cs ≡ e.stands_for → left ≡ length text - (length e.key - 1) → is_kept in_value e.key (drop (length e.key - 1) text ++ after) ≡ false
-      → IsRead table in_value text after (record { characters = cs; left = left; missing_semicolon = not (ends_in_semicolon e.key); fault = None; in_run = false })
+  pub read_named : (cs : Characters) (left : ℕ) → characters_of cs ≡ e.stands_for → left ≡ length text - (length e.key - 1) → is_kept_as_text in_value e.key (drop (length e.key - 1) text ++ after) ≡ false
+      → IsRead table in_value text after (record { characters = cs; left = left; missing_semicolon = not (ends_in_semicolon e.key); fault = None; is_ambiguous = false })
   read_named cs left stands left-is free =
       let size : length e.key ≤ length text + 1 = most in
       let two : 2 ≤ length e.key = least in
@@ -96,12 +96,12 @@ module _ (table : Entities) (in_value : Bool) (text after : List Placed) (is_tab
             (λ i. record { text = amp ∷ take (length e.key - 1) text; gives = stands i; errors = no_more (error_if (not (ends_in_semicolon e.key)) MissingSemicolonAfterCharacterReference amp.at) i }));
       }
 
-  pub read_kept : (left : ℕ) → left ≡ length text → is_kept in_value e.key (drop (length e.key - 1) text ++ after) ≡ true
-      → IsRead table in_value text after (record { characters = One 38; left = left; missing_semicolon = false; fault = None; in_run = false })
+  pub read_kept : (left : ℕ) → left ≡ length text → is_kept_as_text in_value e.key (drop (length e.key - 1) text ++ after) ≡ true
+      → IsRead table in_value text after (record { characters = One 38; left = left; missing_semicolon = false; fault = None; is_ambiguous = false })
   read_kept left left-is keeps =
       read_text table in_value text after _ left-is refl (λ amp is.
       kept amp e is text_opens (always amp is (text ++ after) refl)
-      (let size : length e.key ≤ length text + 1 = most in ap (is_kept in_value e.key) (drop-append-le (length e.key - 1) text after (omega arith)) ∙ keeps) refl)
+      (let size : length e.key ≤ length text + 1 = most in ap (is_kept_as_text in_value e.key) (drop-append-le (length e.key - 1) text after (omega arith)) ∙ keeps) refl)
 
 last_follows : (c : ℕ) → (is_equals c || is_alphanumeric c) ≡ goes_on_name (last_of c)
 last_follows c = choose (is_alphanumeric c) (nat_eq c 59) (is_equals c) refl refl
@@ -115,13 +115,13 @@ last_follows c = choose (is_alphanumeric c) (nat_eq c 59) (is_equals c) refl ref
 
 -- whether a key is kept, by what is left after it and the last character
 is_kept_at : (in_value : Bool) (front : List Placed) (p : Placed) (after : List Placed) (key : List ℕ) (n left : ℕ) → all is_alphanumeric front ≡ true → n ≤ length front + 1 → left ≡ length (front ++ p ∷ []) - n
-    → (left ≡ 0 → is_kept in_value key after ≡ false) → is_kept in_value key (drop n (front ++ p ∷ []) ++ after) ≡ is_kept_before in_value (ends_in_semicolon key) left (last_of p.ch)
+    → (left ≡ 0 → is_kept_as_text in_value key after ≡ false) → is_kept_as_text in_value key (drop n (front ++ p ∷ []) ++ after) ≡ is_kept_before in_value (ends_in_semicolon key) left (last_of p.ch)
 is_kept_at in_value front p after key n left run most left-is whole = by (cases_order n (length front))
   where
     size : length (front ++ p ∷ []) ≡ length front + 1
     size = length-append front (p ∷ [])
 
-    by : (n ≡ length front) ⊎ ((n < length front) ⊎ (length front < n)) → is_kept in_value key (drop n (front ++ p ∷ []) ++ after) ≡ is_kept_before in_value (ends_in_semicolon key) left (last_of p.ch)
+    by : (n ≡ length front) ⊎ ((n < length front) ⊎ (length front < n)) → is_kept_as_text in_value key (drop n (front ++ p ∷ []) ++ after) ≡ is_kept_before in_value (ends_in_semicolon key) left (last_of p.ch)
     by (inr (inl less)) =
         let many : nat_lt 1 left ≡ true = (let h : 1 < left = omega (arith, size) in grind (arith, nat_tests)) in
         let begins-is : begins (λ c. is_equals c || is_alphanumeric c) (drop n (front ++ p ∷ []) ++ after) ≡ true =
@@ -160,10 +160,10 @@ run_opens : (front : List Placed) (p : Placed) (after : List Placed) → all is_
 run_opens [] p after run first = first refl
 run_opens (q ∷ qs) p after run first = (and_parts _ _ run).0
 
-unknown_run : (left : ℕ) (front : List Placed) (p : Placed) → all is_alphanumeric front ≡ true → (unknown_of left (last_of p.ch)).in_run ≡ true → all is_alphanumeric (front ++ p ∷ []) ≡ true
+unknown_run : (left : ℕ) (front : List Placed) (p : Placed) → all is_alphanumeric front ≡ true → (unknown_of left (last_of p.ch)).is_ambiguous ≡ true → all is_alphanumeric (front ++ p ∷ []) ≡ true
 unknown_run left front p run = by (is_alphanumeric p.ch) (nat_eq p.ch 59) (is_equals p.ch) refl
   where
-    by : (a b d : Bool) → is_alphanumeric p.ch ≡ a → (unknown_of left (cond a Alphanumeric (cond b Semicolon (cond d Equals Other)))).in_run ≡ true → all is_alphanumeric (front ++ p ∷ []) ≡ true
+    by : (a b d : Bool) → is_alphanumeric p.ch ≡ a → (unknown_of left (cond a Alphanumeric (cond b Semicolon (cond d Equals Other)))).is_ambiguous ≡ true → all is_alphanumeric (front ++ p ∷ []) ≡ true
     by true b d is told = all-append is_alphanumeric front (p ∷ []) run (rw is refl)
     by false true d is told = cc
     by false false true is told = cc
@@ -180,7 +180,7 @@ read_unknown table in_value front p after left run first left-is none settled =
 -- a key: it is kept, or its characters come
 pub kept_by : (table : Entities) (in_value : Bool) (front : List Placed) (p : Placed) (after : List Placed) (e : Entry) (left : ℕ) → IsTable table → all is_alphanumeric front ≡ true → longest table (key_bytes (front ++ p ∷ [])) ≡ Some e
     → IsSettled table in_value (front ++ p ∷ []) after → left ≡ length (front ++ p ∷ []) - (length e.key - 1)
-    → is_kept in_value e.key (drop (length e.key - 1) (front ++ p ∷ []) ++ after) ≡ is_kept_before in_value (ends_in_semicolon e.key) left (last_of p.ch)
+    → is_kept_as_text in_value e.key (drop (length e.key - 1) (front ++ p ∷ []) ++ after) ≡ is_kept_before in_value (ends_in_semicolon e.key) left (last_of p.ch)
 kept_by table in_value front p after e left is_table run found settled left-is =
     let text : List Placed = front ++ p ∷ [] in
     let size : length (front ++ p ∷ []) ≡ length front + 1 = length-append front (p ∷ []) in

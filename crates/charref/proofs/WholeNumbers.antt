@@ -1,5 +1,5 @@
 -- A numeric reference that stands whole in a run of the input, outside a value.
-use Rattle.charref.proofs.Names.{arith, ◌≡◌, ℕ, ◌+◌, ◌*◌, ◌≤◌, ◌<◌, min, Bool, true, false, nat_eq, List, [], ◌∷◌, ◌++◌, length, take, slice_get, get_or, Some, inl, inr, ◌⊎◌, refl, sym, ap, ◌∙◌, subst, nat_tests, is_ascii, list_all, some_same, Placed, placed, Base, Decimal, Hexadecimal, Reference, Number, Entities, digit_value, is_digit_of, radix, IsHeld, IsSign, number_sign, IsRead, number_of, Settles}
+use Rattle.charref.proofs.Names.{arith, ◌≡◌, ℕ, ◌+◌, ◌*◌, ◌≤◌, ◌<◌, min, Bool, true, false, nat_eq, List, [], ◌∷◌, ◌++◌, length, take, slice_get, get_or, Some, inl, inr, ◌⊎◌, refl, sym, ap, ◌∙◌, subst, nat_tests, is_ascii, list_all, some_same, Placed, placed, Base, Decimal, Hexadecimal, Reference, Number, Entities, digit_value, is_digit_of, radix, IsHeldReference, IsSign, number_sign, IsRead, number_reference, Settles}
 use Rattle.std.proofs.Math.Nat.{zero-mul}
 use Rattle.charref.specs.AtOnce.{HasSign}
 use Rattle.charref.proofs.Numbers.{two_signs, first_digit, next_digit, number_closed}
@@ -41,7 +41,7 @@ pub record HasDigits (base : Base) (bytes : List ℕ) (start count value : ℕ) 
   pub small : value ≤ 0x110000
   pub ascii : list_all is_ascii (take count bytes) ≡ true
   pub none : count ≡ start → value ≡ 0
-  pub some : start < count → (table : Entities) (at : ℕ) → IsHeld table false (Number base value) (placed at (take count bytes))
+  pub some : start < count → (table : Entities) (at : ℕ) → IsHeldReference table false (Number base value) (placed at (take count bytes))
 
 pub one_digit_more : (base : Base) (bytes : List ℕ) (start count value byte d next : ℕ) → HasSign base bytes start → HasDigits base bytes start count value → count < length bytes → byte ≡ get_or bytes count 0
     → is_digit_of base byte ≡ true → d ≡ digit_value byte → d < 16 → next ≡ min (value * radix base + d) 0x110000 → HasDigits base bytes start (count + 1) next
@@ -54,11 +54,11 @@ one_digit_more base bytes start count value byte d next sign before within is di
       ascii = run_more is_ascii bytes count within before.ascii (ap is_ascii (sym is) ∙ digit_ascii base byte digit);
       none = λ same. absurd (omega arith);
       some = λ less table at. let last : Last at (take count bytes) (get_or bytes count 0) = last_placed at (take count bytes) (get_or bytes count 0) in
-          subst (IsHeld table false (Number base next)) (sym (more_bytes bytes count within at last))
+          subst (IsHeldReference table false (Number base next)) (sym (more_bytes bytes count within at last))
           (held table at last.p (last.ch ∙ sym is) (nat_eq count start) refl);
     }
   where
-    held : (table : Entities) (at : ℕ) (p : Placed) → p.ch ≡ byte → (b : Bool) → nat_eq count start ≡ b → IsHeld table false (Number base next) (placed at (take count bytes) ++ p ∷ [])
+    held : (table : Entities) (at : ℕ) (p : Placed) → p.ch ≡ byte → (b : Bool) → nat_eq count start ≡ b → IsHeldReference table false (Number base next) (placed at (take count bytes) ++ p ∷ [])
     held table at p ch true test =
         let same : count ≡ start = grind (arith, nat_tests) in
         let first : next ≡ min (0 * radix base + d) 0x110000 = next-is ∙ ap (λ v. min (v * radix base + d) 0x110000) (before.none same) in
@@ -71,7 +71,7 @@ one_digit_more base bytes start count value byte d next sign before within is di
 
 -- and their `;`
 pub number_settles : (base : Base) (bytes : List ℕ) (start count value : ℕ) (found : Reference) → HasDigits base bytes start count value → start < count → count < length bytes → get_or bytes count 0 ≡ 59
-    → found ≡ number_of value 0 false → (table : Entities) → Settles table bytes (count + 1) found
+    → found ≡ number_reference value 0 false → (table : Entities) → Settles table bytes (count + 1) found
 number_settles base bytes start count value found digits some within semicolon is table = record {
   some = omega arith;
   few = omega arith;

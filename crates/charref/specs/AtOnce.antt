@@ -12,7 +12,7 @@ use Rattle.charref.specs.Reference.{Entry, Entities, IsTable, ends_in_semicolon}
 use Rattle.charref.specs.Held.{IsSign}
 use Rattle.charref.specs.Pieces.{IsRead}
 use Rattle.charref.specs.Table.{IsOpenKey}
-use Rattle.charref.specs.Walk.{HasTaken}
+use Rattle.charref.specs.Walk.{WalkHasTaken}
 
 -- The first `count` of these bytes, all ASCII, are what stands before the digits of a number.
 pub record HasSign (base : Base) (bytes : List ℕ) (count : ℕ) : Type 0 where
@@ -35,7 +35,7 @@ SettlesNothing table bytes = (count : ℕ) (found : Reference) → Settles table
 pub record HasWalked (walk : Walk) (table : Entities) (bytes : List ℕ) (count : ℕ) : Type 0 where
   pub few : count ≤ length bytes
   pub ascii : list_all is_ascii (take count bytes) ≡ true
-  pub taken : (at : ℕ) → HasTaken walk table false (placed at (take count bytes))
+  pub taken : (at : ℕ) → WalkHasTaken walk table false (placed at (take count bytes))
 
 -- An open key, with all of which, after its `&`, these bytes begin.
 pub record IsOpenKeyOf (table : Entities) (bytes : List ℕ) (key : OpenKey) : Type 0 where

@@ -15,9 +15,9 @@ pub record BeginsWith (form bytes : List ℕ) (count : ℕ) : Type 0 where
   pub is : bytes ≡ form ++ drop count bytes
 
 -- whether there is a byte, and it passes
-abbrev pub passes : (ℕ → Bool) → Option ℕ → Bool
-passes test None = false
-passes test (Some byte) = test byte
+abbrev pub passes_byte : (ℕ → Bool) → Option ℕ → Bool
+passes_byte test None = false
+passes_byte test (Some byte) = test byte
 
 abbrev pub is_count : ℕ → Bool
 is_count byte = nat_le byte 2
@@ -29,18 +29,18 @@ is_semicolon byte = byte == 59
 pub record IsCounted (test : List ℕ → Bool) (bytes : List ℕ) (size : ℕ) : Type 0 where
   pub within : size < length bytes
   pub passing : test (take size bytes) ≡ true
-  pub counted : passes is_count (slice_get bytes size) ≡ true
+  pub counted : passes_byte is_count (slice_get bytes size) ≡ true
 
 -- No first bytes do.
 abbrev pub HasNoCounted : (List ℕ → Bool) → List ℕ → Type 0
 HasNoCounted test bytes = (key rest : List ℕ) (count : ℕ) → test key ≡ true → is_count count ≡ true → bytes ≡ key ++ count ∷ rest → ⊥
 
-abbrev pub is_entry : Entry → Bool
-is_entry e = is_key e.key && is_one_or_two e.stands_for
+abbrev pub is_table_entry : Entry → Bool
+is_table_entry e = is_key e.key && is_one_or_two e.stands_for
 
 -- An entry stands in the text from this place up to that.
 pub record IsEntryAt (text : List ℕ) (start : ℕ) (entity : Entity) (end : ℕ) : Type 0 where
-  pub passing : is_entry (entry text entity) ≡ true
+  pub passing : is_table_entry (entry text entity) ≡ true
   pub inside : is_inside text entity ≡ true
   pub some : start < end
   pub within : end ≤ length text

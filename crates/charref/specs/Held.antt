@@ -9,7 +9,7 @@ use Rattle.charref.specs.declared.reference_state.ReferenceState.{ReferenceState
 use Rattle.charref.specs.declared.reference_state.ReferenceState.TheVariants.{Name, NumberSign, HexadecimalSign, Number}
 use Rattle.charref.specs.Reference.{Entities, number_from}
 use Rattle.charref.specs.Number.{is_digit_of, radix}
-use Rattle.charref.specs.Table.{GoesOn, HasRead, is_search_within}
+use Rattle.charref.specs.Table.{EntryGoesOn, SearchHasRead, is_search_within}
 
 -- whether a state's search stays within a table with this many entries, and its number within what is stored
 abbrev pub is_within : ReferenceState → ℕ → Bool
@@ -26,8 +26,8 @@ is_number HexadecimalSign = false
 is_number (Number base value) = true
 
 -- what of the text taken may be read again: nothing of a number, which is a reference whatever follows
-abbrev pub kept : ReferenceState → List Placed → List Placed
-kept state text = if is_number state then [] else text
+abbrev pub held_characters : ReferenceState → List Placed → List Placed
+held_characters state text = if is_number state then [] else text
 
 -- the bytes of a key that begins with `&` and this text
 abbrev pub key_bytes : List Placed → List ℕ
@@ -40,11 +40,11 @@ pub data IsSign : Base → List Placed → Type 0 where
   capital_x : (p q : Placed) → p.ch ≡ 35 → q.ch ≡ 88 → IsSign Hexadecimal (p ∷ q ∷ [])
 
 -- The text is what a walk in this state has taken. In a value, a whole key waits for the next character.
-pub data IsHeld (table : Entities) (in_value : Bool) : ReferenceState → List Placed → Type 0 where
-  in_name : (search : Search) (text : List Placed) → HasRead search table (key_bytes text) → all is_alphanumeric text ≡ true
-      → (in_value ≡ false → is_empty text ≡ false → GoesOn table (key_bytes text)) → IsHeld table in_value (Name search) text
-  after_sign : (text : List Placed) → IsSign Decimal text → IsHeld table in_value NumberSign text
-  after_x : (text : List Placed) → IsSign Hexadecimal text → IsHeld table in_value HexadecimalSign text
+pub data IsHeldReference (table : Entities) (in_value : Bool) : ReferenceState → List Placed → Type 0 where
+  in_name : (search : Search) (text : List Placed) → SearchHasRead search table (key_bytes text) → all is_alphanumeric text ≡ true
+      → (in_value ≡ false → is_empty text ≡ false → EntryGoesOn table (key_bytes text)) → IsHeldReference table in_value (Name search) text
+  after_sign : (text : List Placed) → IsSign Decimal text → IsHeldReference table in_value NumberSign text
+  after_x : (text : List Placed) → IsSign Hexadecimal text → IsHeldReference table in_value HexadecimalSign text
   in_number : (base : Base) (value : ℕ) (sign digits text : List Placed) → text ≡ sign ++ digits → IsSign base sign
       → begins (is_digit_of base) digits ≡ true → all (is_digit_of base) digits ≡ true
-      → value ≡ min (number_from 0 (radix base) digits) 0x110000 → IsHeld table in_value (Number base value) text
+      → value ≡ min (number_from 0 (radix base) digits) 0x110000 → IsHeldReference table in_value (Number base value) text

@@ -4,7 +4,7 @@ use Rattle.names.specs.declared.placed.Placed.{Placed}
 use Rattle.names.specs.Placed.{characters, is_alphanumeric, is_equals}
 use Rattle.charref.specs.declared.last.Last.{Last}
 use Rattle.charref.specs.declared.last.Last.TheVariants.{Alphanumeric, Semicolon, Equals, Other}
-use Rattle.charref.specs.Reference.{Entry, Entities, longest, is_kept}
+use Rattle.charref.specs.Reference.{Entry, Entities, longest, is_kept_as_text}
 use Rattle.charref.specs.Held.{key_bytes}
 
 abbrev pub last_of : ℕ → Last
@@ -13,7 +13,7 @@ last_of c = if is_alphanumeric c then Alphanumeric else (if c == 59 then Semicol
 -- What follows this text doesn't change its longest key, nor keeps a key that is all of it as text.
 pub record IsSettled (table : Entities) (in_value : Bool) (text after : List Placed) : Type 0 where
   pub same : longest table (key_bytes text ++ characters after) ≡ longest table (key_bytes text)
-  pub not_kept : (e : Entry) → longest table (key_bytes text) ≡ Some e → length e.key ≡ length text + 1 → is_kept in_value e.key after ≡ false
+  pub not_kept : (e : Entry) → longest table (key_bytes text) ≡ Some e → length e.key ≡ length text + 1 → is_kept_as_text in_value e.key after ≡ false
 
 abbrev pub is_letter_or_digit : Last → Bool
 is_letter_or_digit Alphanumeric = true

@@ -5,7 +5,7 @@ use Rattle.names.specs.Placed.{is_empty}
 use Rattle.charref.specs.Reference.{Entities, Piece, IsReference}
 
 -- Outside a value, some longer text that begins with the `&` and this text is one reference.
-pub record IsOpen (table : Entities) (amp : Placed) (text : List Placed) : Type 0 where
+pub record IsOpenReference (table : Entities) (amp : Placed) (text : List Placed) : Type 0 where
   pub more : List Placed
   pub rest : List Placed
   pub piece : Piece

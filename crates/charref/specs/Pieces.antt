@@ -20,24 +20,30 @@ abbrev pub errors_of : Reference → ℕ → List Placed → List ParseError
 errors_of found at after =
     error_if found.missing_semicolon MissingSemicolonAfterCharacterReference at
     ++ map (λ code. error code at) (option_to_list found.fault)
-    ++ error_if (found.in_run && begins (λ c. c == 59) (past is_alphanumeric after)) UnknownNamedCharacterReference at
+    ++ error_if (found.is_ambiguous && begins (λ c. c == 59) (past is_alphanumeric after)) UnknownNamedCharacterReference at
 
 -- This reference is at the `&` before `text` and `after`, and leaves the last `left` characters of the text to be read again.
 pub record IsRead (table : Entities) (in_value : Bool) (text after : List Placed) (found : Reference) : Type 0 where
   pub within : found.left ≤ length text
   -- in a run, only alphanumerics were read, and all of them are read again
-  pub run : found.in_run ≡ true → (found.left ≡ length text) × (all is_alphanumeric text ≡ true)
+  pub run : found.is_ambiguous ≡ true → (found.left ≡ length text) × (all is_alphanumeric text ≡ true)
   pub reads : (amp : Placed) → amp.ch ≡ 38 → IsReference table in_value (drop (length text - found.left) text ++ after)
       (record { text = amp ∷ take (length text - found.left) text; gives = characters_of found.characters; errors = errors_of found amp.at after })
 
 -- an `&` that is text because no key matches
 abbrev pub unknown_of : ℕ → Last → Reference
-unknown_of left Alphanumeric = record { characters = One 38; left = left; missing_semicolon = false; fault = None; in_run = true }
-unknown_of left Semicolon = record { characters = One 38; left = left; missing_semicolon = false; fault = Some UnknownNamedCharacterReference; in_run = false }
-unknown_of left Equals = record { characters = One 38; left = left; missing_semicolon = false; fault = None; in_run = false }
-unknown_of left Other = record { characters = One 38; left = left; missing_semicolon = false; fault = None; in_run = false }
+unknown_of left Alphanumeric = record { characters = One 38; left = left; missing_semicolon = false; fault = None; is_ambiguous = true }
+unknown_of left Semicolon = record {
+  characters = One 38;
+  left = left;
+  missing_semicolon = false;
+  fault = Some UnknownNamedCharacterReference;
+  is_ambiguous = false;
+}
+unknown_of left Equals = record { characters = One 38; left = left; missing_semicolon = false; fault = None; is_ambiguous = false }
+unknown_of left Other = record { characters = One 38; left = left; missing_semicolon = false; fault = None; is_ambiguous = false }
 
 -- a numeric reference
-abbrev pub number_of : ℕ → ℕ → Bool → Reference
-number_of value left missing =
-    record { characters = One (numbered value); left = left; missing_semicolon = missing; fault = number_fault value; in_run = false }
+abbrev pub number_reference : ℕ → ℕ → Bool → Reference
+number_reference value left missing =
+    record { characters = One (numbered value); left = left; missing_semicolon = missing; fault = number_fault value; is_ambiguous = false }

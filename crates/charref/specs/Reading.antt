@@ -39,18 +39,18 @@ abbrev pub entry_of_fields : List ℕ → Option (Items × List ℕ) → Result 
 entry_of_fields key None = Err Shape
 entry_of_fields key (Some pair) = entry_of_characters key pair.1 (codepoints pair.0)
 
-abbrev pub entry_of : List ℕ → Data → Result Entry TableFault
-entry_of key value = if is_key key then entry_of_fields key (fields value) else Err Key
+abbrev pub entry_of_json : List ℕ → Data → Result Entry TableFault
+entry_of_json key value = if is_key key then entry_of_fields key (fields value) else Err Key
 
 -- an entry and those after it, or the first fault
-abbrev pub and_then : Result Entry TableFault → Result Entities TableFault → Result Entities TableFault
-and_then (Err cause) others = Err cause
-and_then (Ok entry) (Err cause) = Err cause
-and_then (Ok entry) (Ok entries) = Ok (entry ∷ entries)
+abbrev pub and_entry : Result Entry TableFault → Result Entities TableFault → Result Entities TableFault
+and_entry (Err cause) others = Err cause
+and_entry (Ok entry) (Err cause) = Err cause
+and_entry (Ok entry) (Ok entries) = Ok (entry ∷ entries)
 
 abbrev pub entities_of : Members → Result Entities TableFault
 entities_of no_members = Ok []
-entities_of (member key value ms) = and_then (entry_of key value) (entities_of ms)
+entities_of (member key value ms) = and_entry (entry_of_json key value) (entities_of ms)
 
 abbrev pub table_of_members : Option Members → Result Entities TableFault
 table_of_members None = Err Shape
@@ -61,8 +61,8 @@ table_of_value None = Err Json
 table_of_value (Some d) = table_of_members (as_object d)
 
 -- the table of a text, which is read as JSON first
-abbrev pub table_of : List ℕ → Result Entities TableFault
-table_of text = table_of_value (json.read text)
+abbrev pub table_of_json : List ℕ → Result Entities TableFault
+table_of_json text = table_of_value (json.read text)
 
 -- a refusal says that memory ran out, or gives the first fault
 abbrev pub IsRefusedWith : {A : Type 0} → Result A TableFault → Refusal → Type 0

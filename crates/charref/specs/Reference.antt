@@ -49,13 +49,13 @@ abbrev pub HasCore : Entities → Type 0
 HasCore table = AllByRecursion (Contains table) core
 
 -- the entry with the longest of all keys that the text begins with
-abbrev pub longer : Entry → Option Entry → Option Entry
-longer entry None = Some entry
-longer entry (Some other) = if nat_lt (length other.key) (length entry.key) then Some entry else Some other
+abbrev pub longer_entry : Entry → Option Entry → Option Entry
+longer_entry entry None = Some entry
+longer_entry entry (Some other) = if nat_lt (length other.key) (length entry.key) then Some entry else Some other
 
 abbrev pub longest : Entities → List ℕ → Option Entry
 longest [] text = None
-longest (entry ∷ entries) text = if starts_with nat_eq text entry.key then longer entry (longest entries text) else longest entries text
+longest (entry ∷ entries) text = if starts_with nat_eq text entry.key then longer_entry entry (longest entries text) else longest entries text
 
 -- a piece of a text: its characters, the characters that it gives, and its errors
 pub record Piece : Type 0 where
@@ -71,8 +71,8 @@ ends_in_semicolon (c ∷ []) = c == 59
 ends_in_semicolon (c ∷ d ∷ cs) = ends_in_semicolon (d ∷ cs)
 
 -- the rule for attribute values: without `;`, and before `=` or an alphanumeric, a key is no reference there (#named-character-reference-state)
-abbrev pub is_kept : Bool → List ℕ → List Placed → Bool
-is_kept in_value key after = in_value && not (ends_in_semicolon key) && begins (λ c. is_equals c || is_alphanumeric c) after
+abbrev pub is_kept_as_text : Bool → List ℕ → List Placed → Bool
+is_kept_as_text in_value key after = in_value && not (ends_in_semicolon key) && begins (λ c. is_equals c || is_alphanumeric c) after
 
 -- NUMBERS
 
@@ -159,10 +159,10 @@ pub data IsReference (table : Entities) (in_value : Bool) (rest : List Placed) (
   -- a key: the longest one that is here (#named-character-reference-state)
   named : (amp : Placed) (name : List Placed) (entry : Entry) → amp.ch ≡ 38 → begins is_alphanumeric name ≡ true
       → longest table (characters (amp ∷ name ++ rest)) ≡ Some entry → characters (amp ∷ name) ≡ entry.key
-      → is_kept in_value entry.key rest ≡ false → piece ≡ named_piece (amp ∷ name) entry → IsReference table in_value rest piece
+      → is_kept_as_text in_value entry.key rest ≡ false → piece ≡ named_piece (amp ∷ name) entry → IsReference table in_value rest piece
   -- a key that the rule for values keeps as text: its `&`
   kept : (amp : Placed) (entry : Entry) → amp.ch ≡ 38 → begins is_alphanumeric rest ≡ true
-      → longest table (characters (amp ∷ rest)) ≡ Some entry → is_kept in_value entry.key (drop (length entry.key - 1) rest) ≡ true
+      → longest table (characters (amp ∷ rest)) ≡ Some entry → is_kept_as_text in_value entry.key (drop (length entry.key - 1) rest) ≡ true
       → piece ≡ ampersand amp [] → IsReference table in_value rest piece
   -- no key: an ambiguous ampersand (#ambiguous-ampersand-state)
   unknown : (amp : Placed) → amp.ch ≡ 38 → begins is_alphanumeric rest ≡ true → longest table (characters (amp ∷ rest)) ≡ None

@@ -31,12 +31,12 @@ pub record IsSortedTable (table : Entities) : Type 0 where
   pub sorted : IsStrictlySortedBy (slice_cmp nat_cmp) (map (λ e. e.key) table)
 
 -- the byte of a key at a depth, plus 1; 0 past its end
-abbrev pub code_of : Option ℕ → ℕ
-code_of None = 0
-code_of (Some byte) = byte + 1
+abbrev pub character_code : Option ℕ → ℕ
+character_code None = 0
+character_code (Some byte) = byte + 1
 
 abbrev pub code_at : List ℕ → ℕ → ℕ
-code_at key depth = code_of (slice_get key depth)
+code_at key depth = character_code (slice_get key depth)
 
 -- The entries whose keys begin with these bytes are from `low` up to `high`.
 pub record IsRange (table : Entities) (bytes : List ℕ) (low high : ℕ) : Type 0 where
@@ -75,7 +75,7 @@ best_entry table None = None
 best_entry table (Some k) = slice_get table k
 
 -- A search of the table has read these bytes.
-pub record HasRead (search : Search) (table : Entities) (bytes : List ℕ) : Type 0 where
+pub record SearchHasRead (search : Search) (table : Entities) (bytes : List ℕ) : Type 0 where
   pub depth : search.depth ≡ length bytes
   pub range : IsRange table bytes search.low search.high
   pub within : IfSome search.best (λ k. k < length table)
@@ -85,7 +85,7 @@ pub record HasRead (search : Search) (table : Entities) (bytes : List ℕ) : Typ
 pub record IsOver (table : Entities) (bytes : List ℕ) : Type 0 where
   pub no_more : (k : ℕ) (e : Entry) → slice_get table k ≡ Some e → starts_with nat_eq e.key bytes ≡ true → length e.key ≤ length bytes
 
-pub record GoesOn (table : Entities) (bytes : List ℕ) : Type 0 where
+pub record EntryGoesOn (table : Entities) (bytes : List ℕ) : Type 0 where
   pub place : ℕ
   pub entry : Entry
   pub stands : slice_get table place ≡ Some entry
@@ -96,8 +96,8 @@ pub record GoesOn (table : Entities) (bytes : List ℕ) : Type 0 where
 pub record IsAfterKey (table : Entities) (search : Search) : Type 0 where
   pub entry : Entry
   pub stands : slice_get table search.low ≡ Some entry
-  pub read : HasRead search table entry.key
-  pub goes_on : GoesOn table entry.key
+  pub read : SearchHasRead search table entry.key
+  pub goes_on : EntryGoesOn table entry.key
 
 -- Of each key from where the search begins up to `high` the code right after what the search has read is marked (`code_at`): the key's
 -- next byte plus one, or 0 where the key ends there.

@@ -80,12 +80,12 @@ fn whole_place(table: &Table, search: Search, bytes: &[u8]) -> Option<usize>
 /// Whether the key at this place ends in a `;`, and these bytes begin with all of it after its `&`; out of line, since what calls it
 /// is large.
 #[inline(never)]
-fn is_whole_by_itself(flat: &Flat, place: usize, bytes: &[u8]) -> bool
+fn is_whole_by_itself(flat: &Flat, index: usize, bytes: &[u8]) -> bool
     requires table { IsTable flat.now }
-    requires within { place < length flat.now }
-    ensures { IsTrue result → HasWhole flat.now bytes.now place }
+    requires within { index < length flat.now }
+    ensures { IsTrue result → HasWhole flat.now bytes.now index }
 {
-    is_whole(flat, place, bytes)
+    is_whole(flat, index, bytes)
 }
 
 /// What is at an `&` before these bytes, and how many of them settle it: a number, a key without a `;`, or what the steps of a walk
@@ -128,18 +128,18 @@ fn settled_by_key(table: &Table, bytes: &[u8]) -> Option<(Reference, usize)>
 
 /// The reference that the key at this place is, which ends in a `;`, and how many bytes of it come after the `&`.
 #[inline(always)]
-fn whole_key(table: &Table, place: usize) -> (Reference, usize)
-    requires { place < length table.now }
-    ensures { (bytes : List ℕ) → HasWhole table.now bytes place → Settles table.now bytes result.1 result.0 }
+fn whole_key(table: &Table, index: usize) -> (Reference, usize)
+    requires { index < length table.now }
+    ensures { (bytes : List ℕ) → HasWhole table.now bytes index → Settles table.now bytes result.1 result.0 }
 {
     let found = Reference {
-        characters: table.flat.characters(place),
+        characters: table.flat.characters(index),
         left: 0,
         missing_semicolon: false,
         fault: None,
-        in_run: false,
+        is_ambiguous: false,
     };
-    (found, table.flat.key(place).len() - 1)
+    (found, table.flat.key(index).len() - 1)
 }
 
 /// What is at the `&` before these bytes, and how many of them settle it, by the steps of a walk.

@@ -1,7 +1,7 @@
 //! The entries of a table, and how they are written to its flat form and read from it.
 
 ghost use Rattle.std.specs.Prelude.{◌≡◌, ◌+◌, ◌*◌, ◌≤◌, Some, None, length, drop, ◌++◌, OnOk, if◌then◌else◌, true, IfOk, IfErr, MatchOption};
-ghost use Rattle.charref.specs.Vocabulary.{is_character, list_all, characters_of, entries, is_inside, is_one_or_two, flat_character, flat_characters, flat_entry, flat_of, IsReadable, IsRefusedFlat, BeginsWith, BeginsWithNone, is_entry, IsEntryAt};
+ghost use Rattle.charref.specs.Vocabulary.{is_character, list_all, characters_of, entries, is_inside, is_one_or_two, flat_character, flat_characters, flat_entry, flat_of, IsReadable, IsRefusedFlat, BeginsWith, BeginsWithNone, is_table_entry, IsEntryAt};
 
 use crate::key::{is_before, key_at_front};
 use crate::reference::Characters;
@@ -85,7 +85,7 @@ fn characters_at_front(bytes: &[u8]) -> Option<Characters>
 #[inline(always)]
 fn entity_at(text: &[u8], start: usize) -> Option<(Entity, usize)>
     requires { start ≤ length text.now }
-    ensures { MatchOption result (BeginsWithNone is_entry flat_entry (drop start text.now)) (λ it. IsEntryAt text.now start it.0 it.1) }
+    ensures { MatchOption result (BeginsWithNone is_table_entry flat_entry (drop start text.now)) (λ it. IsEntryAt text.now start it.0 it.1) }
 {
     let rest = &text[start..];
     let size = key_at_front(rest)?;

@@ -3,7 +3,7 @@
 ghost use Rattle.std.specs.Prelude.{◌≡◌, ◌<◌, drop, length, nat_eq, slice_get, true, Some, IfOk, IfErr};
 ghost use Rattle.std.specs.List.{list_all, starts_with};
 ghost use Rattle.charref.specs.Reference.{Entry, Entities};
-ghost use Rattle.charref.specs.Table.{entry, entries, is_inside};
+ghost use Rattle.charref.specs.Table.{entries, is_inside};
 ghost use Rattle.charref.specs.Flat.{flat_of, IsReadable, IsRefusedFlat};
 ghost use Rattle.charref.specs.Pieces.{characters_of};
 
@@ -57,30 +57,30 @@ impl Flat {
 
     /// The key of an entry.
     #[inline(always)]
-    pub(crate) fn key(&self, at: usize) -> &[u8]
-        requires { at < length self.now }
-        ensures { (e : Entry) × (slice_get self.now at ≡ Some e) × (result.now ≡ e.key) }
+    pub(crate) fn key(&self, index: usize) -> &[u8]
+        requires { index < length self.now }
+        ensures { (e : Entry) × (slice_get self.now index ≡ Some e) × (result.now ≡ e.key) }
     {
-        let entity = &self.entities[at];
+        let entity = &self.entities[index];
         &self.text[entity.start..entity.end]
     }
 
     /// The characters that the key of an entry stands for.
     #[inline(always)]
-    pub(crate) fn characters(&self, at: usize) -> Characters
-        requires { at < length self.now }
-        ensures { (e : Entry) × (slice_get self.now at ≡ Some e) × (characters_of result ≡ e.stands_for) }
+    pub(crate) fn characters(&self, index: usize) -> Characters
+        requires { index < length self.now }
+        ensures { (e : Entry) × (slice_get self.now index ≡ Some e) × (characters_of result ≡ e.stands_for) }
     {
-        self.entities[at].characters
+        self.entities[index].characters
     }
 
     /// Whether these bytes begin with all of the key of an entry after its `&`.
     #[inline(always)]
-    pub(crate) fn opens(&self, at: usize, bytes: &[u8]) -> bool
-        requires { at < length self.now }
-        ensures { (e : Entry) × (slice_get self.now at ≡ Some e) × (result ≡ starts_with nat_eq bytes.now (drop 1 e.key)) }
+    pub(crate) fn opens(&self, index: usize, bytes: &[u8]) -> bool
+        requires { index < length self.now }
+        ensures { (e : Entry) × (slice_get self.now index ≡ Some e) × (result ≡ starts_with nat_eq bytes.now (drop 1 e.key)) }
     {
-        let entity = &self.entities[at];
+        let entity = &self.entities[index];
         if entity.start >= entity.end {
             return true;
         }

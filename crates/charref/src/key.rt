@@ -1,7 +1,7 @@
 //! The keys of a table.
 
-ghost use Rattle.std.specs.Prelude.{◌≡◌, ◌≤◌, ℕ, List, true, false, length, nat_eq, take, slice_get, MatchOption};
-ghost use Rattle.charref.specs.Vocabulary.{list_all, starts_with, nat_cmp, is_lt, slice_cmp, is_alphanumeric, is_key, is_key_name, passes, is_count, is_semicolon, IsCounted, HasNoCounted};
+ghost use Rattle.std.specs.Prelude.{◌≡◌, ◌≤◌, true, false, length, nat_eq, take, slice_get, MatchOption};
+ghost use Rattle.charref.specs.Vocabulary.{list_all, starts_with, nat_cmp, is_lt, slice_cmp, is_alphanumeric, is_key, is_key_name, passes_byte, is_count, is_semicolon, IsCounted, HasNoCounted};
 
 use htext::alphanumeric_run;
 use std::simd::prelude::*;
@@ -52,24 +52,24 @@ pub(crate) fn is_key(key: &[u8]) -> bool
 pub(crate) fn alphanumerics(bytes: &[u8]) -> usize
     ensures few { result ≤ length bytes.now }
     ensures all { list_all is_alphanumeric (take result bytes.now) ≡ true }
-    ensures stops { passes is_alphanumeric (slice_get bytes.now result) ≡ false }
+    ensures stops { passes_byte is_alphanumeric (slice_get bytes.now result) ≡ false }
 {
     alphanumeric_run(bytes)
 }
 
 /// Whether the byte at this place, if there is one, can be a count of characters: it is no byte of a key.
 #[inline(always)]
-fn is_count(bytes: &[u8], at: usize) -> bool
-    ensures { result ≡ passes is_count (slice_get bytes.now at) }
+fn is_count(bytes: &[u8], index: usize) -> bool
+    ensures { result ≡ passes_byte is_count (slice_get bytes.now index) }
 {
-    matches!(bytes.get(at), Some(0..=2))
+    matches!(bytes.get(index), Some(0..=2))
 }
 
 #[inline(always)]
-fn is_semicolon(bytes: &[u8], at: usize) -> bool
-    ensures { result ≡ passes is_semicolon (slice_get bytes.now at) }
+fn is_semicolon(bytes: &[u8], index: usize) -> bool
+    ensures { result ≡ passes_byte is_semicolon (slice_get bytes.now index) }
 {
-    matches!(bytes.get(at), Some(b';'))
+    matches!(bytes.get(index), Some(b';'))
 }
 
 /// The length of the name that these bytes begin with, if a count comes after it.

@@ -1,7 +1,7 @@
 //! Laws: each text that begins with `&` has exactly one reference at its front, and a flat form is of one table.
 
 ghost use Rattle.std.specs.Prelude.{◌≡◌, ◌∷◌, ◌++◌, Bool, false, List};
-ghost use Rattle.charref.specs.Vocabulary.{Placed, Entities, IsTable, Piece, IsReference, IsOpen, HasReference, WalkOf, HasTaken, flat_of, IsReadable};
+ghost use Rattle.charref.specs.Vocabulary.{Placed, Entities, IsTable, Piece, IsReference, IsOpenReference, HasReference, WalkOf, WalkHasTaken, flat_of, IsReadable};
 
 /// A law: at each `&` is a reference, or an `&` that is text.
 pub fn some_reference()
@@ -20,7 +20,7 @@ pub fn one_reference()
 /// So text that is held back for a walk may still become a reference.
 pub fn goes_on_in_a_reference()
     ensures { (walk : WalkOf) (table : Entities) (text : List Placed) (amp : Placed) → IsTable table
-        → HasTaken walk table false text → amp.ch ≡ 38 → IsOpen table amp text }
+        → WalkHasTaken walk table false text → amp.ch ≡ 38 → IsOpenReference table amp text }
 {}
 
 /// A law: no two tables have the same flat form.

@@ -40,14 +40,14 @@ fn pair_number(first: u8, second: u8) -> usize {
 
 /// Where the keys that begin with the key at this place end, by where those that begin with each later key do. Over a table this
 /// compares no more bytes than all its keys have, twice: each key is found to begin with one other, the longest that it begins with.
-fn end_of(flat: &Flat, place: usize, ends: &[usize]) -> usize
+fn end_of(flat: &Flat, index: usize, ends: &[usize]) -> usize
     requires sorted { IsSortedTable flat.now }
-    requires within { place < length flat.now }
-    requires later { AreEnds flat.now (place + 1) ends.now }
-    ensures { (e : Entry) → slice_get flat.now place ≡ Some e → IsRange flat.now e.key place result }
+    requires within { index < length flat.now }
+    requires later { AreEnds flat.now (index + 1) ends.now }
+    ensures { (e : Entry) → slice_get flat.now index ≡ Some e → IsRange flat.now e.key index result }
 {
-    let key = flat.key(place);
-    let mut end = place + 1;
+    let key = flat.key(index);
+    let mut end = index + 1;
     while end < flat.len() && begin_with(flat.key(end), key) {
         end = ends[end];
     }
@@ -55,22 +55,22 @@ fn end_of(flat: &Flat, place: usize, ends: &[usize]) -> usize
 }
 
 /// The key at this place as an open key: a longer key begins with it. Keys that begin with a longer one go on with its code.
-fn open_key(flat: &Flat, place: usize, ends: &[usize]) -> OpenKey
+fn open_key(flat: &Flat, index: usize, ends: &[usize]) -> OpenKey
     requires sorted { IsSortedTable flat.now }
-    requires within { place < length flat.now }
+    requires within { index < length flat.now }
     requires ends { AreEnds flat.now 0 ends.now }
-    requires longer { place + 1 < get_or ends.now place 0 }
+    requires longer { index + 1 < get_or ends.now index 0 }
     ensures { IsOpenKey flat.now result }
 {
     let search = Search {
-        depth: flat.key(place).len(),
-        low: place,
-        high: ends[place],
-        best: Some(place),
+        depth: flat.key(index).len(),
+        low: index,
+        high: ends[index],
+        best: Some(index),
     };
     let mut goes_on = [false; CODES];
     goes_on[0] = true;
-    let mut next = place + 1;
+    let mut next = index + 1;
     while next < search.high {
         goes_on[usize::from(code_at(flat.key(next), search.depth))] = true;
         next = ends[next];

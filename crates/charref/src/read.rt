@@ -1,7 +1,7 @@
 //! Reading a table from JSON text.
 
-ghost use Rattle.std.specs.Prelude.{◌≡◌, ◌⊎◌, ℕ, List, [], ◌∷◌, ◌++◌, Ok, Err, Some, IfOk, IfErr, OnOk, option_map, option_and_then, bytes_eq, codes, string_bytes, encode_utf8_all};
-ghost use Rattle.charref.specs.Vocabulary.{get, as_str, as_array, TableFault, view, items_view, members_view, IsMemory, Entry, Entities, codepoint, codepoints, fields, entry_of, entry_of_characters, entities_of, table_of, table_of_members, IsRefusedWith, characters_of, flat_entry, flat_of, IsStrictlySortedBy, keys_of, string_cmp};
+ghost use Rattle.std.specs.Prelude.{◌≡◌, ℕ, List, ◌++◌, Ok, Err, Some, IfOk, IfErr, option_map};
+ghost use Rattle.charref.specs.Vocabulary.{get, as_str, as_array, TableFault, view, items_view, members_view, IsMemory, Entry, Entities, codepoint, codepoints, fields, entry_of_json, entry_of_characters, entities_of, table_of_json, IsRefusedWith, characters_of, flat_entry, flat_of, IsStrictlySortedBy, keys_of, string_cmp};
 
 use crate::entries::{add_flat, character};
 use crate::key::is_key;
@@ -9,7 +9,7 @@ use crate::reference::Characters;
 use crate::table::Table;
 use names::{Refusal, TableFault};
 use serde_json::{Error, Map, Value};
-use std::alloc::{AllocError, Global};
+use std::alloc::Global;
 
 /// The character with this number, if it is written in digits alone and is a character other than NUL.
 fn codepoint(value: &Value) -> Option<char>
@@ -76,8 +76,8 @@ fn characters_with(room: &mut String, list: &[Value], text: &str) -> Result<Char
 
 /// The characters that a key stands for, by its value.
 fn characters_of(room: &mut String, key: &str, value: &Value) -> Result<Characters, Refusal>
-    ensures ok { IfOk result (λ characters. entry_of key.now (view value.now) ≡ Ok (record { key = key.now; stands_for = characters_of characters })) }
-    ensures err { IfErr result (λ e. IsRefusedWith (entry_of key.now (view value.now)) e) }
+    ensures ok { IfOk result (λ characters. entry_of_json key.now (view value.now) ≡ Ok (record { key = key.now; stands_for = characters_of characters })) }
+    ensures err { IfErr result (λ e. IsRefusedWith (entry_of_json key.now (view value.now)) e) }
 {
     if !is_key(key.as_bytes()) {
         return Err(fault(TableFault::Key));
@@ -90,8 +90,8 @@ fn characters_of(room: &mut String, key: &str, value: &Value) -> Result<Characte
 
 /// Appends the entry of a key and its value to a flat form.
 fn add_entry(flat: &mut Vec<u8>, room: &mut String, key: &str, value: &Value) -> Result<(), Refusal>
-    ensures ok { IfOk result (λ _. (e : Entry) × (entry_of key.now (view value.now) ≡ Ok e) × (flat.new.items ≡ flat.old.items ++ flat_entry e)) }
-    ensures err { IfErr result (λ e. IsRefusedWith (entry_of key.now (view value.now)) e) }
+    ensures ok { IfOk result (λ _. (e : Entry) × (entry_of_json key.now (view value.now) ≡ Ok e) × (flat.new.items ≡ flat.old.items ++ flat_entry e)) }
+    ensures err { IfErr result (λ e. IsRefusedWith (entry_of_json key.now (view value.now)) e) }
 {
     let characters = characters_of(room, key, value)?;
     Ok(add_flat(flat, key.as_bytes(), characters)?)
@@ -117,8 +117,8 @@ impl Table {
     /// fields are ignored. The error is `Memory`, or `BadTable` with the first cause found: in the text as JSON, in the
     /// whole, and then entry by entry in the order of the keys' bytes.
     pub fn read(alloc: Global, text: &str) -> Result<Table, Refusal>
-        ensures ok { IfOk result (λ table. table_of text.now ≡ Ok table) }
-        ensures err { IfErr result (λ e. IsRefusedWith (table_of text.now) e) }
+        ensures ok { IfOk result (λ table. table_of_json text.now ≡ Ok table) }
+        ensures err { IfErr result (λ e. IsRefusedWith (table_of_json text.now) e) }
     {
         let value = Value::from_str(alloc, text).map_err(json_fault)?;
         let Some(members) = value.as_object() else {

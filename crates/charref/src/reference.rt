@@ -16,7 +16,7 @@ pub enum Characters {
 /// What is at an `&`: a reference, or an `&` that is text.
 ///
 /// Its parse errors are placed at the `&`: missing-semicolon-after-character-reference if `missing_semicolon` is set, and
-/// then `fault`. If `in_run` is set, no key matches, all characters taken are alphanumerics to be read again, and their run may
+/// then `fault`. If `is_ambiguous` is set, no key matches, all characters taken are alphanumerics to be read again, and their run may
 /// go on (`#ambiguous-ampersand-state`): the error is unknown-named-character-reference if a `;` follows that run.
 #[derive(Clone, Copy)]
 pub struct Reference {
@@ -25,7 +25,7 @@ pub struct Reference {
     pub left: usize,
     pub missing_semicolon: bool,
     pub fault: Option<ErrorCode>,
-    pub in_run: bool,
+    pub is_ambiguous: bool,
 }
 
 impl Characters {

@@ -1,7 +1,7 @@
 //! Looking up a key, byte by byte.
 
 ghost use Rattle.std.specs.Prelude.{◌≡◌, ◌↔◌, ℕ, ◌+◌, ◌-◌, ◌≤◌, ◌<◌, [], ◌∷◌, ◌++◌, ◌||◌, ◌==◌, List, true, false, None, length, IsTrue, IsNone, IfSome};
-ghost use Rattle.charref.specs.Vocabulary.{is_alphanumeric, longest, code_at, best_entry, IsSortedTable, IsRange, IsRising, IsParted, IsIndex, IsOver, GoesOn, HasNone, HasRead, is_whole, is_search_within};
+ghost use Rattle.charref.specs.Vocabulary.{is_alphanumeric, longest, code_at, best_entry, IsSortedTable, IsRange, IsRising, IsParted, IsIndex, IsOver, EntryGoesOn, HasNone, SearchHasRead, is_whole, is_search_within};
 
 use crate::flat::Flat;
 
@@ -61,7 +61,7 @@ impl Search {
     /// A look-up that has read nothing.
     pub(crate) fn new(flat: &Flat) -> Search
         requires sorted { IsSortedTable flat.now }
-        ensures read { HasRead result flat.now [] }
+        ensures read { SearchHasRead result flat.now [] }
         ensures within { (result.low ≡ 0) × (result.high ≡ length flat.now) }
         ensures best { result.best ≡ None }
         ensures depth { result.depth ≡ 0 }
@@ -77,7 +77,7 @@ impl Search {
     /// A look-up that has read an `&`: every key begins with it, and no key is it alone.
     pub(crate) fn after_ampersand(flat: &Flat) -> Search
         requires sorted { IsSortedTable flat.now }
-        ensures read { HasRead result flat.now (38 ∷ []) }
+        ensures read { SearchHasRead result flat.now (38 ∷ []) }
         ensures within { is_search_within result (length flat.now) ≡ true }
     {
         Search {
@@ -94,7 +94,7 @@ impl Search {
         requires sorted { IsSortedTable flat.now }
         requires index { IsIndex flat.now starts.now 130 }
         ensures within { IfSome result (λ next. is_search_within next (length flat.now) ≡ true) }
-        ensures read { IfSome result (λ next. HasRead next flat.now (38 ∷ ch ∷ [])) }
+        ensures read { IfSome result (λ next. SearchHasRead next flat.now (38 ∷ ch ∷ [])) }
         ensures none { IsNone result → HasNone flat.now (38 ∷ ch ∷ []) }
     {
         if !ch.is_ascii() {
@@ -117,8 +117,8 @@ impl Search {
         requires sorted { IsSortedTable flat.now }
         requires within { (low ≤ high) × (high ≤ length flat.now) }
         requires room { self.now.depth < usize.MAX }
-        ensures read { (bytes : List ℕ) (byte : ℕ) → HasRead self.now flat.now bytes
-            → IsRange flat.now (bytes ++ byte ∷ []) low high → HasRead result flat.now (bytes ++ byte ∷ []) }
+        ensures read { (bytes : List ℕ) (byte : ℕ) → SearchHasRead self.now flat.now bytes
+            → IsRange flat.now (bytes ++ byte ∷ []) low high → SearchHasRead result flat.now (bytes ++ byte ∷ []) }
         ensures within { (result.low ≡ low) × (result.high ≡ high) }
         ensures depth { result.depth ≡ self.now.depth + 1 }
         ensures best { IfSome self.now.best (λ k. k < length flat.now) → IfSome result.best (λ k. k < length flat.now) }
@@ -142,8 +142,8 @@ impl Search {
         requires sorted { IsSortedTable flat.now }
         requires within { (self.old.low ≤ self.old.high) × (self.old.high ≤ length flat.now) }
         requires room { self.old.depth < usize.MAX }
-        ensures read { (bytes : List ℕ) → HasRead self.old flat.now bytes
-            → HasRead self.new flat.now (bytes ++ byte ∷ []) }
+        ensures read { (bytes : List ℕ) → SearchHasRead self.old flat.now bytes
+            → SearchHasRead self.new flat.now (bytes ++ byte ∷ []) }
         ensures within { (self.new.low ≤ self.new.high) × (self.new.high ≤ length flat.now) }
         ensures depth { self.new.depth ≡ self.old.depth + 1 }
         ensures best { IfSome self.old.best (λ k. k < length flat.now) → IfSome self.new.best (λ k. k < length flat.now) }
@@ -159,9 +159,9 @@ impl Search {
     pub(crate) fn goes_on(&self, flat: &Flat) -> bool
         requires sorted { IsSortedTable flat.now }
         requires within { (self.now.low ≤ self.now.high) × (self.now.high ≤ length flat.now) }
-        ensures open { (bytes : List ℕ) → HasRead self.now flat.now bytes → result ≡ true
-            → GoesOn flat.now bytes }
-        ensures over { (bytes : List ℕ) → HasRead self.now flat.now bytes → result ≡ false
+        ensures open { (bytes : List ℕ) → SearchHasRead self.now flat.now bytes → result ≡ true
+            → EntryGoesOn flat.now bytes }
+        ensures over { (bytes : List ℕ) → SearchHasRead self.now flat.now bytes → result ≡ false
             → IsOver flat.now bytes }
         ensures room { result ≡ true → self.now.depth < usize.MAX }
     {
@@ -173,9 +173,9 @@ impl Search {
         requires sorted { IsSortedTable flat.now }
         requires within { is_search_within self.now (length flat.now) ≡ true }
         ensures within { IfSome result (λ next. is_search_within next (length flat.now) ≡ true) }
-        ensures read { IfSome result (λ next. (bytes : List ℕ) → HasRead self.now flat.now bytes
-            → HasRead next flat.now (bytes ++ ch ∷ [])) }
-        ensures none { IsNone result → (bytes : List ℕ) → HasRead self.now flat.now (38 ∷ bytes)
+        ensures read { IfSome result (λ next. (bytes : List ℕ) → SearchHasRead self.now flat.now bytes
+            → SearchHasRead next flat.now (bytes ++ ch ∷ [])) }
+        ensures none { IsNone result → (bytes : List ℕ) → SearchHasRead self.now flat.now (38 ∷ bytes)
             → HasNone flat.now (38 ∷ bytes ++ ch ∷ []) }
     {
         if is_in_names(ch) && self.goes_on(flat) {

@@ -76,12 +76,12 @@ fn semicolon_from(bytes: &[u8], start: usize) -> usize {
 
 /// Whether the key at this place ends in a `;`, and these bytes begin with all of it after its `&`.
 #[inline(always)]
-pub(crate) fn is_whole(flat: &Flat, place: usize, bytes: &[u8]) -> bool
+pub(crate) fn is_whole(flat: &Flat, index: usize, bytes: &[u8]) -> bool
     requires table { IsTable flat.now }
-    requires within { place < length flat.now }
-    ensures { IsTrue result → HasWhole flat.now bytes.now place }
+    requires within { index < length flat.now }
+    ensures { IsTrue result → HasWhole flat.now bytes.now index }
 {
-    ends_in_semicolon(flat.key(place)) && flat.opens(place, bytes)
+    ends_in_semicolon(flat.key(index)) && flat.opens(index, bytes)
 }
 
 impl Slots {
@@ -116,11 +116,11 @@ impl Slots {
     }
 
     /// Puts a place into the first free slot for this hash, if one is near.
-    fn put(&mut self, hash: u32, place: u16) {
+    fn put(&mut self, hash: u32, index: u16) {
         for tried in 0..SLOTS_TRIED {
             let slot = self.slot(hash, tried);
             if slot < self.places.len() && self.places[slot] == 0 {
-                self.places[slot] = place;
+                self.places[slot] = index;
                 return;
             }
         }

@@ -1,7 +1,7 @@
 //! The steps of a walk.
 
 ghost use Rattle.std.specs.Prelude.{◌≡◌, ◌+◌, [], ◌∷◌, ◌++◌, Bool, true, false, ◌&&◌, ℕ, List, length, Some, IfSome, IsSome, IsNone, MatchOption, ◌<◌, ◌≤◌};
-ghost use Rattle.charref.specs.Vocabulary.{Placed, all, is_empty, is_alphanumeric, Entities, IsTable, longest, ends_in_semicolon, best_entry, is_search_within, is_whole, HasRead, HasNone, key_bytes, is_number, IsHeld, IsSign, last_of, is_letter_or_digit, IsSettled, IsRead, unknown_of, number_of, HasTaken, Takes, NextIs, LeavesLast, StaysNumber, is_next_within};
+ghost use Rattle.charref.specs.Vocabulary.{Placed, all, is_empty, is_alphanumeric, Entities, IsTable, longest, ends_in_semicolon, best_entry, is_search_within, is_whole, SearchHasRead, HasNone, key_bytes, is_number, IsHeldReference, IsSign, last_of, is_letter_or_digit, IsSettled, IsRead, unknown_of, number_reference, WalkHasTaken, TakesCharacter, NextIs, LeavesLast, StaysNumber, is_next_within};
 
 use crate::flat::Flat;
 use crate::last::{Last, is_kept};
@@ -24,7 +24,7 @@ impl<'t> Walk<'t> {
     /// A walk that starts right after an `&`, in an attribute value or not.
     pub fn new(table: &'t Table, in_value: bool) -> Walk<'t>
         ensures table { IsTable table.now }
-        ensures taken { HasTaken result table.now in_value [] }
+        ensures taken { WalkHasTaken result table.now in_value [] }
     {
         Walk {
             table,
@@ -39,7 +39,7 @@ impl<'t> Walk<'t> {
     pub fn take(&mut self, ch: char) -> Option<Reference>
         ensures ended { IsSome result → self.new ≡ self.old }
         ensures taken { (table : Entities) (in_value : Bool) (text : List Placed) (p : Placed)
-            → HasTaken self.old table in_value text → p.ch ≡ ch → Takes table in_value (text ++ p ∷ []) result self.new }
+            → WalkHasTaken self.old table in_value text → p.ch ≡ ch → TakesCharacter table in_value (text ++ p ∷ []) result self.new }
         ensures number { is_number self.old.state ≡ true → MatchOption result (is_number self.new.state ≡ true) LeavesLast }
     {
         if let ReferenceState::Name(search) = self.state
@@ -69,7 +69,7 @@ impl<'t> Walk<'t> {
     fn step(&self, ch: char) -> Next
         ensures within { is_next_within result (length self.now.table.now) ≡ true }
         ensures next { (table : Entities) (in_value : Bool) (text : List Placed) (p : Placed)
-            → HasTaken self.now table in_value text → p.ch ≡ ch → NextIs table in_value (text ++ p ∷ []) result }
+            → WalkHasTaken self.now table in_value text → p.ch ≡ ch → NextIs table in_value (text ++ p ∷ []) result }
         ensures number { is_number self.now.state ≡ true → StaysNumber result }
     {
         match self.state {
@@ -83,7 +83,7 @@ impl<'t> Walk<'t> {
     /// What is at the `&` if the text ends after the characters taken.
     pub fn end(&self) -> Reference
         ensures read { (table : Entities) (in_value : Bool) (text : List Placed)
-            → HasTaken self.now table in_value text → IsRead table in_value text [] result }
+            → WalkHasTaken self.now table in_value text → IsRead table in_value text [] result }
         ensures number { is_number self.now.state ≡ true → result.left ≡ 0 }
     {
         match self.state {
@@ -96,21 +96,27 @@ impl<'t> Walk<'t> {
 }
 
 /// An `&` that is text, where `left` characters were read after it.
-fn as_text(left: usize, fault: Option<ErrorCode>, in_run: bool) -> Reference
-    ensures { result ≡ record { characters = Characters.One 38; left = left; missing_semicolon = false; fault = fault; in_run = in_run } }
+fn as_text(left: usize, fault: Option<ErrorCode>, is_ambiguous: bool) -> Reference
+    ensures { result ≡ record { characters = Characters.One 38; left = left; missing_semicolon = false; fault = fault; is_ambiguous = is_ambiguous } }
 {
     Reference {
         characters: Characters::One('&'),
         left,
         missing_semicolon: false,
         fault,
-        in_run,
+        is_ambiguous,
     }
 }
 
 /// An `&` that is text because no digit follows `#` or `#x`.
 fn no_digits(left: usize) -> Reference
-    ensures { result ≡ record { characters = Characters.One 38; left = left; missing_semicolon = false; fault = Some ErrorCode.AbsenceOfDigitsInNumericCharacterReference; in_run = false } }
+    ensures { result ≡ record {
+      characters = Characters.One 38;
+      left = left;
+      missing_semicolon = false;
+      fault = Some ErrorCode.AbsenceOfDigitsInNumericCharacterReference;
+      is_ambiguous = false;
+    } }
 {
     as_text(
         left,
@@ -166,20 +172,20 @@ pub(crate) fn decided(
         left,
         missing_semicolon: !semicolon,
         fault: None,
-        in_run: false,
+        is_ambiguous: false,
     }
 }
 
 /// A numeric reference: the numeric character reference end state (`#numeric-character-reference-end-state`).
 pub(crate) fn number(value: u32, left: usize, missing_semicolon: bool) -> Reference
-    ensures { result ≡ number_of value left missing_semicolon }
+    ensures { result ≡ number_reference value left missing_semicolon }
 {
     Reference {
         characters: Characters::One(numbered(value)),
         left,
         missing_semicolon,
         fault: number_fault(value),
-        in_run: false,
+        is_ambiguous: false,
     }
 }
 
@@ -218,7 +224,7 @@ fn after_digits(base: Base, value: u32, ch: char) -> Next
     requires { value ≤ TOO_GREAT }
     ensures within { (count : ℕ) → is_next_within result count ≡ true }
     ensures next { (table : Entities) (in_value : Bool) (text : List Placed) (p : Placed)
-        → IsHeld table in_value (ReferenceState.Number base value) text → p.ch ≡ ch → NextIs table in_value (text ++ p ∷ []) result }
+        → IsHeldReference table in_value (ReferenceState.Number base value) text → p.ch ≡ ch → NextIs table in_value (text ++ p ∷ []) result }
     ensures number { StaysNumber result }
 {
     match base.digit(ch) {
@@ -243,9 +249,9 @@ fn waits(in_value: bool, last: Last, search: Search, flat: &Flat) -> bool
 fn extended(table: &Table, search: Search, ch: char) -> Option<Search>
     requires { is_search_within search (length table.now) ≡ true }
     ensures within { IfSome result (λ next. is_search_within next (length table.now) ≡ true) }
-    ensures read { IfSome result (λ next. (bytes : List ℕ) → HasRead search table.now (38 ∷ bytes)
-        → HasRead next table.now (38 ∷ bytes ++ ch ∷ [])) }
-    ensures none { IsNone result → (bytes : List ℕ) → HasRead search table.now (38 ∷ bytes)
+    ensures read { IfSome result (λ next. (bytes : List ℕ) → SearchHasRead search table.now (38 ∷ bytes)
+        → SearchHasRead next table.now (38 ∷ bytes ++ ch ∷ [])) }
+    ensures none { IsNone result → (bytes : List ℕ) → SearchHasRead search table.now (38 ∷ bytes)
         → HasNone table.now (38 ∷ bytes ++ ch ∷ []) }
 {
     if search.depth == 1 {
@@ -260,8 +266,8 @@ fn extended(table: &Table, search: Search, ch: char) -> Option<Search>
 pub(crate) fn longer(table: &Table, search: Search, ch: char) -> Option<Search>
     requires { is_search_within search (length table.now) ≡ true }
     ensures within { IfSome result (λ next. is_search_within next (length table.now) ≡ true) }
-    ensures held { IfSome result (λ next. (in_value : Bool) (text : List Placed) (p : Placed) → HasRead search table.now (key_bytes text)
-        → p.ch ≡ ch → IsHeld table.now in_value (ReferenceState.Name next) (text ++ p ∷ [])) }
+    ensures held { IfSome result (λ next. (in_value : Bool) (text : List Placed) (p : Placed) → SearchHasRead search table.now (key_bytes text)
+        → p.ch ≡ ch → IsHeldReference table.now in_value (ReferenceState.Name next) (text ++ p ∷ [])) }
 {
     let next = extended(table, search, ch)?;
     if next.goes_on(&table.flat) {
@@ -277,7 +283,7 @@ pub(crate) fn longer(table: &Table, search: Search, ch: char) -> Option<Search>
 fn after_name(table: &Table, in_value: bool, search: Search, ch: char) -> Next
     requires { is_search_within search (length table.now) ≡ true }
     ensures within { is_next_within result (length table.now) ≡ true }
-    ensures next { (text : List Placed) (p : Placed) → HasRead search table.now (key_bytes text)
+    ensures next { (text : List Placed) (p : Placed) → SearchHasRead search table.now (key_bytes text)
         → all is_alphanumeric text ≡ true → p.ch ≡ ch → NextIs table.now in_value (text ++ p ∷ []) result }
 {
     let last = Last::of(ch);
@@ -302,7 +308,7 @@ fn after_name(table: &Table, in_value: bool, search: Search, ch: char) -> Next
 /// The beginning of a name, at the end of the text.
 fn name_at_end(table: &Table, in_value: bool, search: Search) -> Reference
     requires { is_search_within search (length table.now) ≡ true }
-    ensures { (text : List Placed) → HasRead search table.now (key_bytes text) → all is_alphanumeric text ≡ true
+    ensures { (text : List Placed) → SearchHasRead search table.now (key_bytes text) → all is_alphanumeric text ≡ true
         → IsRead table.now in_value text [] result }
 {
     if search.depth <= 1 {

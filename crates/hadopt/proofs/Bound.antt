@@ -1,5 +1,5 @@
 -- One use of the adoption agency makes at most 32 nodes: three in the inner loop and one more in each of eight turns.
-use Rattle.hadopt.proofs.Names.{◌≡◌, ℕ, zero, suc, ◌+◌, ◌-◌, ◌*◌, ◌≤◌, ◌<◌, Bool, true, false, not, List, [], ◌∷◌, Option, None, refl, subst, arith, ◌⊎◌, inl, inr, le-leb, cond_both, option_map_or, ◌==◌, element, OpenNode, is_node, is_open, above, current, in_scope, furthest_block, stops, is_named, Default, InPlace, before, EntryOf, Listed, marker, entry, entry_of, find_entry, without_entry, TreeInBody, is_special, Naming, Outcome, Goes, and_then, SiteOf, stack, trees, graft, place_in, with_trees, error_unless, current_is, closed, other_end, without_implied, Turn, Next, Ended, next_turn, InnerLoop, formatting_replaced, inner_turn, inner_loop, after_inner_loop, with_furthest_block, popped_with, with_formatting_element, outer_turn, outer_loop, is_unlisted, adopted}
+use Rattle.hadopt.proofs.Names.{◌≡◌, ℕ, zero, suc, ◌+◌, ◌-◌, ◌*◌, ◌≤◌, ◌<◌, Bool, true, false, not, List, [], ◌∷◌, Option, None, refl, subst, arith, ◌⊎◌, inl, inr, le-leb, cond_both, option_map_or, ◌==◌, element, OpenNode, is_node, is_open, above, current, in_scope, furthest_block, stops_in_scope, is_named, Default, InPlace, before, EntryOf, Listed, marker, entry, entry_of, find_entry, without_entry, TreeInBody, is_special, Naming, Outcome, Goes, and_then, SiteOf, stack, trees, graft, place_in, with_trees, error_unless, current_is, closed, other_end, without_implied, Turn, Next, Ended, next_turn, InnerLoop, formatting_replaced, inner_turn, inner_loop, after_inner_loop, with_furthest_block, popped_with, with_formatting_element, outer_turn, outer_loop, is_unlisted, adopted}
 use Rattle.std.proofs.lemmas.Bool.{cases_lt, not-true}
 use Rattle.hadopt.proofs.Choices.{or-both}
 use Rattle.hadopt.proofs.Climbing.{OnGoes, goes-then, goes-map, made-goes, turn-goes}
@@ -63,7 +63,7 @@ module _ {N : Type 0} (n : Naming N) (at : ℕ) where
 
   with-within : (f : EntryOf N) (s : SiteOf N) → IsWithin nodes_after (s.nodes.made + 4) (with_formatting_element n at f s)
   with-within f s = cond_both (not (is_open f.node (stack s))) _ _ (IsWithin nodes_after (s.nodes.made + 4)) (λ _. omega arith)
-      (λ _. cond_both (not (in_scope (stops n.tag Default) (is_node f.node) (stack s))) _ _ (IsWithin nodes_after (s.nodes.made + 4)) (λ _. omega arith) (λ _. block (error_unless (current_is (is_node f.node) s) TreeInBody at s) (unless-made (current_is (is_node f.node) s) s)))
+      (λ _. cond_both (not (in_scope (stops_in_scope n.tag Default) (is_node f.node) (stack s))) _ _ (IsWithin nodes_after (s.nodes.made + 4)) (λ _. omega arith) (λ _. block (error_unless (current_is (is_node f.node) s) TreeInBody at s) (unless-made (current_is (is_node f.node) s) s)))
     where
       block : (t : SiteOf N) → t.nodes.made ≡ s.nodes.made → IsWithin nodes_after (s.nodes.made + 4) (option_map_or (with_furthest_block n at f t) (furthest_block n.tag f.node (stack t)) (Goes (Ended (popped_with f t))))
       block t same = or-both (IsWithin nodes_after (s.nodes.made + 4)) _ (furthest_block n.tag f.node (stack t)) _ (λ _. omega (arith, same)) (λ b _. rw (← same) (by-within f t b))

@@ -1,5 +1,5 @@
 -- The inner loop of the adoption agency: the open nodes are in the document's tree or in that of the last node.
-use Rattle.hadopt.proofs.Names.{◌≡◌, ◌≢◌, ℕ, suc, ◌+◌, ◌<◌, ◌≤◌, Bool, true, false, not, leb, List, [], ◌∷◌, ◌++◌, Some, refl, sym, ◌∙◌, subst, arith, ◌⊎◌, inl, inr, find, eq-eqb, ne_eqb, ◌==◌, What, element, Forest, none, tree, times, join, tree_at, AreCounted, graft_last, make, LastIn, without, OpenNode, is_node, EntryOf, Listed, marker, entry, entries, is_of_node, entry_of, without_entry, for_node, with_node, Table, TooManyNodes, cond_both, some_same, SiteOf, Attribute, Place, graft, with_trees, with_stack, length, added, pushed, inserted, at-most, is-there, not-there, deep-there, times-new, counted-new, counted-graft, deep, deep-lower, deep-is, deep-self, deep-new, deep-newest, graft-deep, graft-apart, graft-below, Naming, Outcome, Goes, Refused, and_then, stack, trees, with_items, made, InnerLoop, entries_for, left, node_replaced, inner_turn, inner_loop, Each, Pairs}
+use Rattle.hadopt.proofs.Names.{◌≡◌, ◌≢◌, ℕ, suc, ◌+◌, ◌<◌, ◌≤◌, Bool, true, false, not, leb, List, [], ◌∷◌, ◌++◌, Some, refl, sym, ◌∙◌, subst, arith, ◌⊎◌, inl, inr, find, eq-eqb, ne_eqb, ◌==◌, What, element, Forest, none, tree, times, join, tree_at, AreCounted, graft_last, make, LastIn, without, OpenNode, is_node, EntryOf, Listed, marker, entry, entries, is_of_node, entry_of, without_entry, for_node, with_node, Table, TooManyNodes, cond_both, some_same, SiteOf, Attribute, Place, graft, with_trees, with_stack, length, added, with_open, inserted, at-most, is-there, not-there, deep-there, times-new, counted-new, counted-graft, deep, deep-lower, deep-is, deep-self, deep-new, deep-newest, graft-deep, graft-apart, graft-below, Naming, Outcome, Goes, Refused, and_then, stack, trees, with_items, made, InnerLoop, entries_for, left, node_replaced, inner_turn, inner_loop, Each, Pairs}
 use Rattle.hadopt.proofs.Choices.{or-both, by_zero}
 use Rattle.hadopt.proofs.Lists.{each-map, pairs-map, Among, empty, skip, keep, each-among, pairs-among, among-without, Front, front-next, front-pairs, front-map, front-each, front-without, front-changed, each-changed, pairs-changed}
 
@@ -27,7 +27,7 @@ made-goes P at w s f h = cond_both (leb s.nodes.limit s.nodes.made) (Refused (To
 pub inserted-goes : {N : Type 0} (P : SiteOf N → Type 0) (at : ℕ) (name : N) (attrs : List (Attribute N)) (p : Place) (s : SiteOf N)
     → P (with_stack (record { node = s.nodes.made; name = name } ∷ stack s) (with_trees (graft s.nodes.made p (make (element name attrs) s.nodes).trees) (record s { nodes = make (element name attrs) s.nodes }))) → OnGoes P (inserted at name attrs p s)
 inserted-goes P at name attrs p s h =
-    let opens = pushed at (record { node = s.nodes.made; name = name }) in
+    let opens = with_open at (record { node = s.nodes.made; name = name }) in
     goes-then (λ t. OnGoes P (opens t)) P (added at (element name attrs) p s) opens
     (made-goes (λ t. OnGoes P (opens t)) at (element name attrs) s (λ t. Goes (with_trees (graft s.nodes.made p (trees t)) t)) (cond_both (leb s.open_nodes.limit (length (stack s))) _ _ (OnGoes P) (λ _. tt) (λ _. h)))
     (λ t k. k)

@@ -1,5 +1,5 @@
 -- What is inserted keeps what the open nodes need.
-use Rattle.hadopt.proofs.Names.{◌≡◌, ◌≢◌, ℕ, zero, suc, ◌+◌, ◌<◌, Bool, true, false, leb, cond, List, [], ◌∷◌, Option, Some, None, cond_both, refl, sym, ◌∙◌, subst, arith, inl, inr, find, reverse, is_some, is_none, length, ◌&&◌, encode_utf8, option_map_or, Attribute, What, document, element, text, Forest, times, change_what, parent_of, AreCounted, place_node, graft, make, char_into, with_char, text_before, Place, LastIn, Before, before, changed_at, OpenNode, current, above, is_named, InPlace, EntryOf, Listed, marker, entry, for_node, entry_at, Table, TooManyNodes, NotBefore, below-document, in-document, at-most, not-there, deep-there, times-new, counted-new, deep, deep-is, deep-self, deep-new, deep-newest, graft-apart, Naming, Goes, Refused, SiteOf, stack, trees, with_trees, with_stack, from_top, node_of, is_fostering, beside, foster_place, place, added, inserted, put, with_missing, stops_going_back, renewed, renewed_each, reconstructed, InnerLoop, PlaceStands}
+use Rattle.hadopt.proofs.Names.{◌≡◌, ◌≢◌, ℕ, zero, suc, ◌+◌, ◌<◌, Bool, true, false, leb, cond, List, [], ◌∷◌, Option, Some, None, cond_both, refl, sym, ◌∙◌, subst, arith, inl, inr, find, reverse, is_some, is_none, length, ◌&&◌, encode_utf8, option_map_or, Attribute, What, document, element, text, Forest, times, change_what, parent_of, AreCounted, place_node, graft, make, char_into, with_char, text_before, Place, LastIn, Before, before, changed_at, OpenNode, current, above, is_named, InPlace, EntryOf, Listed, marker, entry, for_node, entry_at, Table, TooManyNodes, NotBefore, below-document, in-document, at-most, not-there, deep-there, times-new, counted-new, deep, deep-is, deep-self, deep-new, deep-newest, graft-apart, Naming, Goes, Refused, SiteOf, stack, trees, with_trees, with_stack, from_top, open_node, is_fostering, beside, foster_place, place, added, inserted, put, with_missing, stops_going_back, renewed, renewed_each, reconstructed, InnerLoop, PlaceStands}
 use Rattle.std.specs.Prelude.{slice_get}
 use Rattle.hnodes.specs.Attributes.{is_present}
 use Rattle.hnodes.specs.Spots.{attributes_of}
@@ -87,14 +87,14 @@ module _ {N : Type 0} (n : Naming N) where
     abbrev pub FitsHere : Place → Type 0
     FitsHere p = Fits n (stack s) loose p
 
-    pub first-fits : FitsHere (LastIn (node_of (from_top 0 s)))
+    pub first-fits : FitsHere (LastIn (open_node (from_top 0 s)))
     first-fits = go (stack s) refl
       where
-        go : (l : List (OpenNode N)) → stack s ≡ l → FitsHere (LastIn (node_of (slice_get (reverse l) 0)))
+        go : (l : List (OpenNode N)) → stack s ≡ l → FitsHere (LastIn (open_node (slice_get (reverse l) 0)))
         go [] e = document-fits n count (stack s) loose loose-climbs
         go (x ∷ xs) e = let l = last-behind (λ y. Unit {0}) x xs (x ∷ xs) here in rw (l.1) (under-fits n count (stack s) loose loose-climbs l.0 (rw e l.2))
 
-    pub here-fits : FitsHere (LastIn (node_of (current (stack s))))
+    pub here-fits : FitsHere (LastIn (open_node (current (stack s))))
     here-fits = current-fits n count (stack s) loose loose-climbs (stack s) (among-all (stack s))
 
     pub root-fits : FitsHere (LastIn 0)

@@ -1,11 +1,11 @@
 -- What is kept, as it is stated and as the proofs use it.
-use Rattle.hadopt.proofs.Names.{◌≡◌, refl, sym, ◌∙◌, at-most, below-document, in-document, deep-is, Naming, numbers, texts, number_of, tag_text, Table, eqb-true, SiteOf, stack, trees, TellsTables, Kept}
+use Rattle.hadopt.proofs.Names.{◌≡◌, refl, sym, ◌∙◌, at-most, below-document, in-document, deep-is, Naming, numbers, texts, number_of, tag_text, Table, eqb-true, SiteOf, stack, trees, TellsTables, IsSound}
 use Rattle.std.proofs.lemmas.Slice.Eq.{bytes_eq-Decides}
 use Rattle.hadopt.proofs.Lists.{each-map, pairs-map}
 use Rattle.hadopt.proofs.Settling.{Well}
 
 module _ {N : Type 0} (n : Naming N) where
-  pub to-well : (s : SiteOf N) → Kept n s → Well n s
+  pub to-well : (s : SiteOf N) → IsSound n s → Well n s
   to-well s h = record {
     counted = h.counted;
     each = each-map _ _ (λ x p. below-document s.nodes.made (trees s) h.counted x.node p) (stack s) h.open_stands.stand;
@@ -13,7 +13,7 @@ module _ {N : Type 0} (n : Naming N) where
     plain = h.plain;
   }
 
-  pub from-well : (s : SiteOf N) → Well n s → Kept n s
+  pub from-well : (s : SiteOf N) → Well n s → IsSound n s
   from-well s h = record {
     counted = h.counted;
     open_stands = record {

@@ -1,5 +1,5 @@
 -- What a turn of the adoption agency's outer loop keeps, and what its steps ask.
-use Rattle.hadopt.proofs.Names.{◌≡◌, ◌≢◌, ℕ, ◌<◌, Bool, true, false, List, [], ◌∷◌, Some, None, nat_eq, refl, subst, arith, Ok, Err, drop, ◌⊎◌, inl, inr, sym, ◌∙◌, ap, Result, IfOk, IfSome, Refusal, list_any, eq-eqb, cond_both, some_same, or-true, ne_eqb, OpenNode, is_node, is_open, in_scope, furthest_block, above, below, current, before, InPlace, Forest, AreCounted, place_node, at-most, deep-there, is-there, deep, deep-is, deep-self, place_in, stops, Default, EntryOf, Listed, marker, entry, is_entry, find_entry, tag_of, ErrorCode, numbers, Goes, SiteOf, stack, trees, with_stack, error_unless, InnerLoop, inner_loop, outer_turn, outer_loop, is_unlisted, adopted, most_turns, Gives, Each, Kept, AreDifferent, WithFurthestBlock, option_map_or, TreeInBody, current_is, Ended, popped_with, with_furthest_block, with_formatting_element, with_error, cond}
+use Rattle.hadopt.proofs.Names.{◌≡◌, ◌≢◌, ℕ, ◌<◌, Bool, true, false, List, [], ◌∷◌, Some, None, nat_eq, refl, subst, arith, Ok, Err, drop, ◌⊎◌, inl, inr, sym, ◌∙◌, ap, Result, IfOk, IfSome, Refusal, list_any, eq-eqb, cond_both, some_same, or-true, ne_eqb, OpenNode, is_node, is_open, in_scope, furthest_block, above, below, current, before, InPlace, Forest, AreCounted, place_node, at-most, deep-there, is-there, deep, deep-is, deep-self, place_in, stops_in_scope, Default, EntryOf, Listed, marker, entry, is_entry, find_entry, tag_of, ErrorCode, numbers, Goes, SiteOf, stack, trees, with_stack, error_unless, InnerLoop, inner_loop, outer_turn, outer_loop, is_unlisted, adopted, most_turns, Gives, Each, IsSound, AreDifferent, WithFurthestBlock, option_map_or, TreeInBody, current_is, Ended, popped_with, with_furthest_block, with_formatting_element, with_error, cond}
 use Rattle.hadopt.proofs.Choices.{by_test}
 use Rattle.hopen.specs.Stack.{topmost_special}
 use Rattle.hadopt.proofs.Lists.{each-map, each-both, pairs-map, Among, skip, keep, among-after, each-among, front-among}
@@ -44,10 +44,10 @@ unless-stack true code at s = refl
 unless-stack false code at s = refl
 
 -- where the furthest block is found, the way up can begin, and where it goes on, it can be settled
-module _ (s : SiteOf ℕ) (f : ℕ) (b : OpenNode ℕ) (h : Well numbers s) (scope : in_scope (stops tag_of Default) (is_node f) (stack s) ≡ true)
+module _ (s : SiteOf ℕ) (f : ℕ) (b : OpenNode ℕ) (h : Well numbers s) (scope : in_scope (stops_in_scope tag_of Default) (is_node f) (stack s) ≡ true)
     (has : list_any (is_entry f) s.items ≡ true) (under : list_any (is_node b.node) (before (is_node f) (stack s)) ≡ true) where
   is_open_now : is_open f (stack s) ≡ true
-  is_open_now = scope-open (stops tag_of Default) f (stack s) scope
+  is_open_now = scope-open (stops_in_scope tag_of Default) f (stack s) scope
 
   abbrev way : List (OpenNode ℕ)
   way = before (is_node f) (above b.node (stack s))
@@ -112,7 +112,7 @@ module _ (s : SiteOf ℕ) (f : ℕ) (b : OpenNode ℕ) (h : Well numbers s) (sco
   furthest-block-there = record { begun = b-stands.1; block_in = low b b-stands.0; different = different; after = after-there }
 
 -- .. also after the error that the formatting element is not the current node
-pub blocked-stands : (at : ℕ) (s t : SiteOf ℕ) (f : ℕ) (block : OpenNode ℕ) → Goes (with_error TreeInBody at s) ≡ Goes t → Kept numbers s → in_scope (stops tag_of Default) (is_node f) (stack s) ≡ true → list_any (is_entry f) s.items ≡ true
+pub blocked-stands : (at : ℕ) (s t : SiteOf ℕ) (f : ℕ) (block : OpenNode ℕ) → Goes (with_error TreeInBody at s) ≡ Goes t → IsSound numbers s → in_scope (stops_in_scope tag_of Default) (is_node f) (stack s) ≡ true → list_any (is_entry f) s.items ≡ true
     → furthest_block tag_of f (stack s) ≡ Some block → WithFurthestBlock f block.node t
 blocked-stands at s t f block told k scope e b =
     let same : with_error TreeInBody at s ≡ t = cc in
@@ -124,17 +124,17 @@ blocked-current : (f : ℕ) (block : OpenNode ℕ) (xs : List (OpenNode ℕ)) �
 blocked-current f block [] b = refl
 blocked-current f block (x ∷ up) b = by_test (is_node f x) (λ v. topmost_special tag_of (cond v [] (x ∷ before (is_node f) up)) ≡ Some block → v ≡ false) (λ _ k. cc) (λ _ _. refl) b
 
-pub outer-turn-keeps : (at name : ℕ) (s t : SiteOf ℕ) (turn : code.Turn) → Kept numbers s → outer_turn numbers at name s ≡ Goes (turn_of turn t) → Kept numbers t
+pub outer-turn-keeps : (at name : ℕ) (s t : SiteOf ℕ) (turn : code.Turn) → IsSound numbers s → outer_turn numbers at name s ≡ Goes (turn_of turn t) → IsSound numbers t
 outer-turn-keeps at name s t turn.Next k is = from-well numbers t (subst (OnGoes (WellAfter numbers numbers-tell at)) is (outer-turn-well numbers numbers-tell at name s (to-well numbers s k)))
 outer-turn-keeps at name s t turn.Ended k is = from-well numbers t (subst (OnGoes (WellAfter numbers numbers-tell at)) is (outer-turn-well numbers numbers-tell at name s (to-well numbers s k)))
 
 -- a turn with a formatting element in scope, which is an error unless it is the current node
-module _ (at : ℕ) (f : EntryOf ℕ) (s t : SiteOf ℕ) (scope : in_scope (stops tag_of Default) (is_node f.node) (stack s) ≡ true) where
+module _ (at : ℕ) (f : EntryOf ℕ) (s t : SiteOf ℕ) (scope : in_scope (stops_in_scope tag_of Default) (is_node f.node) (stack s) ≡ true) where
   abbrev told : SiteOf ℕ
   told = error_unless (current_is (is_node f.node) s) TreeInBody at s
 
   in-scope-turn : with_formatting_element numbers at f s ≡ option_map_or (with_furthest_block numbers at f told) (furthest_block tag_of f.node (stack s)) (Goes (Ended (popped_with f told)))
-  in-scope-turn = rw (scope-open (stops tag_of Default) f.node (stack s) scope, scope)
+  in-scope-turn = rw (scope-open (stops_in_scope tag_of Default) f.node (stack s) scope, scope)
       (ap (λ l. option_map_or (with_furthest_block numbers at f told) (furthest_block tag_of f.node l) (Goes (Ended (popped_with f told)))) (unless-stack (current_is (is_node f.node) s) TreeInBody at s))
 
   pub blocked-turn : (block : OpenNode ℕ) → Goes (with_error TreeInBody at s) ≡ Goes t → furthest_block tag_of f.node (stack s) ≡ Some block → with_formatting_element numbers at f s ≡ with_furthest_block numbers at f t block
@@ -148,7 +148,7 @@ module _ (at : ℕ) (f : EntryOf ℕ) (s t : SiteOf ℕ) (scope : in_scope (stop
       let same : told ≡ t = cc in
       in-scope-turn ∙ ap (λ o. option_map_or (with_furthest_block numbers at f told) o (Goes (Ended (popped_with f told)))) b ∙ ap (λ u. Goes (Ended (popped_with f u))) same
 
-pub turn-keeps : (at name : ℕ) (s new : SiteOf ℕ) (r : Result code.Turn Refusal) → Kept numbers s → TurnGives r new (outer_turn numbers at name s) → IfOk r (λ t. Kept numbers new)
+pub turn-keeps : (at name : ℕ) (s new : SiteOf ℕ) (r : Result code.Turn Refusal) → IsSound numbers s → TurnGives r new (outer_turn numbers at name s) → IfOk r (λ t. IsSound numbers new)
 turn-keeps at name s new (Ok t) k is = outer-turn-keeps at name s new t k is
 turn-keeps at name s new (Err e) k is = tt
 

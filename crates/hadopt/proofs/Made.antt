@@ -1,5 +1,5 @@
 -- Open nodes that were made.
-use Rattle.hadopt.proofs.Names.{◌≡◌, ℕ, zero, suc, ◌+◌, ◌<◌, ◌≤◌, Bool, true, List, [], ◌∷◌, ◌++◌, Option, Some, None, cond_both, some_same, refl, sym, subst, arith, drop, take, find, slice_get, reverse, reverse_onto, option_map, IfSome, OnOk, OnErr, Result, Nodes, make, What, open_of, OpenNode, OpenNodes, current, Refusal, past, Each, AreMade}
+use Rattle.hadopt.proofs.Names.{◌≡◌, ℕ, zero, suc, ◌+◌, ◌<◌, ◌≤◌, Bool, true, List, [], ◌∷◌, ◌++◌, Option, Some, None, cond_both, some_same, refl, sym, subst, arith, drop, take, find, slice_get, reverse, reverse_onto, option_map, IfSome, OnOk, OnErr, Result, Nodes, make, What, open_of, OpenNode, OpenNodes, current, Refusal, popped_past, Each, AreMade}
 use Rattle.std.specs.Prelude.{Ok, Err}
 use Rattle.hopen.specs.declared.stack.Open.{Open}
 use Rattle.hadopt.proofs.Lists.{each-map}
@@ -46,7 +46,7 @@ within k None h = tt
 within k (Some x) h = h.1
 
 -- the current node goes, if it passes
-pub past-step : (test : OpenNode ℕ → Bool) (stack : List (OpenNode ℕ)) (x : OpenNode ℕ) → current stack ≡ Some x → test x ≡ true → past test (drop 1 stack) ≡ past test stack
+pub past-step : (test : OpenNode ℕ → Bool) (stack : List (OpenNode ℕ)) (x : OpenNode ℕ) → current stack ≡ Some x → test x ≡ true → popped_past test (drop 1 stack) ≡ popped_past test stack
 past-step test [] x is passes = cc
 past-step test (y ∷ up) x is passes =
     let same : y ≡ x = cc in

@@ -1,20 +1,20 @@
 -- The names of other crates and of specs/ that several proofs cite, in one place.
 pub use Rattle.hadopt.specs.Adopts.{InnerLoop, inner_loop, entries_for, inner_turn, node_replaced, adopted, outer_loop, left, is_unlisted, outer_turn, Ended, next_turn, with_formatting_element, after_inner_loop, with_furthest_block, popped_with, formatting_replaced, most_turns, Turn, Next}
 pub use Rattle.hadopt.specs.AfterInnerLoop.{WithFurthestBlock}
-pub use Rattle.hadopt.specs.Closes.{other_end, closed, past, without_implied, popped_to}
+pub use Rattle.hadopt.specs.Closes.{other_end, closed, popped_past, without_implied, popped_to}
 pub use Rattle.hadopt.specs.Gives.{Gives}
 pub use Rattle.hadopt.specs.InnerLoops.{AreDifferent}
-pub use Rattle.hadopt.specs.Inserts.{made, inserted, pushed, put, added, put_each, with_missing, listed}
-pub use Rattle.hadopt.specs.Kept.{Each, Kept, Pairs, PlaceStands, TellsTables}
+pub use Rattle.hadopt.specs.Inserts.{made, inserted, with_open, put, added, put_each, with_missing, listed}
+pub use Rattle.hadopt.specs.Soundness.{Each, IsSound, Pairs, PlaceStands, TellsTables}
 pub use Rattle.hadopt.specs.Made.{AreMade}
 pub use Rattle.hadopt.specs.Meets.{inner_loop_of}
 pub use Rattle.hadopt.specs.Naming.{numbers, Naming, texts}
 pub use Rattle.hadopt.specs.Passings.{passes}
 pub use Rattle.hadopt.specs.Places.{place_in, is_fostering, foster_place, place, beside}
 pub use Rattle.hadopt.specs.Reconstructs.{stops_going_back, reconstructed, renewed_each, renewed}
-pub use Rattle.hadopt.specs.Site.{SiteOf, stack, Goes, Refused, trees, with_items, with_again, and_then, Outcome, with_stack, with_trees, node_of, error_unless, with_error, from_top, current_is}
-pub use Rattle.hadopt.specs.Spelled.{Agree}
-pub use Rattle.hnodes.specs.Nearest.{before, without, put_before, after, changed, changed_at}
+pub use Rattle.hadopt.specs.Site.{SiteOf, stack, Goes, Refused, trees, with_items, with_again, and_then, Outcome, with_stack, with_trees, open_node, error_unless, with_error, from_top, current_is}
+pub use Rattle.hadopt.specs.Mapped.{Agree}
+pub use Rattle.hnodes.specs.Nearest.{before, without, item_put_before, after, changed, changed_at}
 pub use Rattle.hopen.specs.Formatting.{Listed, EntryOf, marker, entry, without_entry, entry_of, find_entry, for_node, entries, is_entry, entry_at, with_node, is_of_node, after_marker}
 pub use Rattle.hopen.specs.Items.{entry_is}
 pub use Rattle.hopen.specs.declared.bookmark.Bookmark.{Bookmark}
@@ -29,7 +29,7 @@ pub use Rattle.hnodes.specs.Spots.{parent_of}
 pub use Rattle.hnodes.specs.declared.node.Place.{Place}
 pub use Rattle.hnodes.specs.declared.node.Place.TheVariants.{LastIn, Before}
 pub use Rattle.hopen.specs.Opens.{open_of}
-pub use Rattle.hopen.specs.Scopes.{is_named, stops}
+pub use Rattle.hopen.specs.Scopes.{is_named, stops_in_scope}
 pub use Rattle.hopen.specs.Stack.{is_node, OpenNode, current, above, is_open, in_scope, furthest_block, OpenNodes, below}
 pub use Rattle.hopen.specs.declared.scope.Scope.TheVariants.{Default}
 pub use Rattle.names.proofs.Words.{some_same}

@@ -93,8 +93,8 @@ text-gives (Err e) at bytes place s new utf8 nodes is ok full (inl many) =
     inr (go (chars bytes) (encodes-chars bytes utf8) why.0 why.1 (le-leb s.nodes.limit s.nodes.made why.2) ∙ ap Refused (sym many))
   where
     go : (cs : List ℕ) → encode_utf8_all cs ≡ bytes → 0 < length bytes → text_before place (trees s) ≡ None → leb s.nodes.limit s.nodes.made ≡ true → put_each (placed at cs) place s ≡ Refused (TooManyNodes at)
-    go [] spelled some none_there no_room = absurd (let none_left : length bytes ≡ 0 = ap length (sym spelled) in omega arith)
-    go (c ∷ cs) spelled some none_there no_room = each-refused place (record { ch = c; at = at }) (placed (at + len_utf8 c) cs) s none_there no_room
+    go [] mapped some none_there no_room = absurd (let none_left : length bytes ≡ 0 = ap length (sym mapped) in omega arith)
+    go (c ∷ cs) mapped some none_there no_room = each-refused place (record { ch = c; at = at }) (placed (at + len_utf8 c) cs) s none_there no_room
 
 -- no node is lost
 chars-more : (cs : List ℕ) (place : Place) (t : Nodes ℕ) → t.made ≤ (add_chars cs place t).made

@@ -1,5 +1,5 @@
 -- The steps of the adoption agency after its inner loop: the last node goes to its place, and the new element to its own.
-use Rattle.hadopt.proofs.Names.{◌≡◌, ◌≢◌, ℕ, ◌+◌, ◌<◌, ◌≤◌, false, List, [], ◌∷◌, cond_both, sym, ◌∙◌, subst, arith, ◌⊎◌, inl, inr, find, is_some, ne_eqb, ◌&&◌, option_map_or, What, Forest, none, tree, times, join, tree_at, AreCounted, graft, graft_last, move_all, place_node, parent_of, Place, LastIn, Before, after, OpenNode, is_node, current, is_named, Table, NotBefore, at-most, is-there, not-there, deep-there, counted-new, counted-graft, deep, deep-lower, deep-is, deep-self, deep-new, deep-newest, graft-deep, graft-apart, graft-below, Naming, SiteOf, stack, trees, with_trees, node_of, is_fostering, beside, foster_place, place_in, InnerLoop, Each, Pairs}
+use Rattle.hadopt.proofs.Names.{◌≡◌, ◌≢◌, ℕ, ◌+◌, ◌<◌, ◌≤◌, false, List, [], ◌∷◌, cond_both, sym, ◌∙◌, subst, arith, ◌⊎◌, inl, inr, find, is_some, ne_eqb, ◌&&◌, option_map_or, What, Forest, none, tree, times, join, tree_at, AreCounted, graft, graft_last, move_all, place_node, parent_of, Place, LastIn, Before, after, OpenNode, is_node, current, is_named, Table, NotBefore, at-most, is-there, not-there, deep-there, counted-new, counted-graft, deep, deep-lower, deep-is, deep-self, deep-new, deep-newest, graft-deep, graft-apart, graft-below, Naming, SiteOf, stack, trees, with_trees, open_node, is_fostering, beside, foster_place, place_in, InnerLoop, Each, Pairs}
 use Rattle.hnodes.specs.Forest.{children_of}
 use Rattle.hnodes.proofs.Forests.{children-apart}
 use Rattle.hnodes.proofs.Counted.{document-out, counted-move}
@@ -47,7 +47,7 @@ module _ {N : Type 0} (n : Naming N) where
         let b = each-member _ z rest m h.behind in
         record { to_document = b.0; outside = b.1; under = not-document z b.0 b.1 (member-among z rest (stack c.site) (front-among _ rest (stack c.site) h.front) m); front = member-front z m }
 
-    pub current-fits : (up : List (OpenNode N)) → Among up rest → Fits rest c (LastIn (node_of (current up)))
+    pub current-fits : (up : List (OpenNode N)) → Among up rest → Fits rest c (LastIn (open_node (current up)))
     current-fits [] a = document-fits
     current-fits (z ∷ up) a = under-fits z (member-among z (z ∷ up) rest a first)
 

@@ -1,5 +1,5 @@
 -- The adoption agency keeps what the open nodes need: a turn of its outer loop, and all turns.
-use Rattle.hadopt.proofs.Names.{◌≡◌, ◌≢◌, ℕ, zero, suc, ◌<◌, Bool, true, false, not, cond, List, [], ◌∷◌, cond_both, Outcome, refl, sym, ◌∙◌, ap, subst, arith, inl, find, drop, eqb-true, ◌&&◌, list_any, option_map_or, What, element, Forest, graft, make, before, without, put_before, OpenNode, is_node, is_open, current, above, below, in_scope, furthest_block, is_named, stops, Default, Bookmark, InPlace, After, EntryOf, Listed, marker, entry, is_entry, find_entry, without_entry, for_node, Table, ErrorCode, TreeInBody, is_special, has_implied_end, deep-there, deep, Naming, Goes, SiteOf, stack, trees, with_trees, with_items, with_stack, with_error, error_unless, current_is, place_in, past, popped_to, without_implied, closed, other_end, Turn, Next, Ended, next_turn, InnerLoop, formatting_replaced, popped_with, inner_loop, after_inner_loop, with_furthest_block, with_formatting_element, outer_turn, outer_loop, is_unlisted, adopted, Each, Pairs, TellsTables}
+use Rattle.hadopt.proofs.Names.{◌≡◌, ◌≢◌, ℕ, zero, suc, ◌<◌, Bool, true, false, not, cond, List, [], ◌∷◌, cond_both, Outcome, refl, sym, ◌∙◌, ap, subst, arith, inl, find, drop, eqb-true, ◌&&◌, list_any, option_map_or, What, element, Forest, graft, make, before, without, item_put_before, OpenNode, is_node, is_open, current, above, below, in_scope, furthest_block, is_named, stops_in_scope, Default, Bookmark, InPlace, After, EntryOf, Listed, marker, entry, is_entry, find_entry, without_entry, for_node, Table, ErrorCode, TreeInBody, is_special, has_implied_end, deep-there, deep, Naming, Goes, SiteOf, stack, trees, with_trees, with_items, with_stack, with_error, error_unless, current_is, place_in, popped_past, popped_to, without_implied, closed, other_end, Turn, Next, Ended, next_turn, InnerLoop, formatting_replaced, popped_with, inner_loop, after_inner_loop, with_furthest_block, with_formatting_element, outer_turn, outer_loop, is_unlisted, adopted, Each, Pairs, TellsTables}
 use Rattle.std.specs.Prelude.{◌||◌}
 use Rattle.std.proofs.lemmas.Bool.{not-false}
 use Rattle.hadopt.proofs.Choices.{by_test, or-both}
@@ -11,16 +11,16 @@ use Rattle.hadopt.proofs.Searching.{any-after, any-each, pairs-after, scope-fron
 use Rattle.hadopt.proofs.Settling.{Well, StandsAt, place-fits, placed-well, block-stands, ended, ended-sound, ended-out, ended-below, ended-above, ended-stands, ended-new, above-apart, block-apart}
 
 module _ {X : Type 0} where
-  pub put-none : (p : X → Bool) (new : X) (xs : List X) → list_any p xs ≡ false → put_before p new xs ≡ xs
+  pub put-none : (p : X → Bool) (new : X) (xs : List X) → list_any p xs ≡ false → item_put_before p new xs ≡ xs
   put-none p new [] h = refl
-  put-none p new (x ∷ xs) h = by_test (p x) (λ v. (v || list_any p xs) ≡ false → cond v (new ∷ x ∷ xs) (x ∷ put_before p new xs) ≡ x ∷ xs) (λ _ k. cc)
+  put-none p new (x ∷ xs) h = by_test (p x) (λ v. (v || list_any p xs) ≡ false → cond v (new ∷ x ∷ xs) (x ∷ item_put_before p new xs) ≡ x ∷ xs) (λ _ k. cc)
       (λ _ k. ap (λ l. x ∷ l) (put-none p new xs k)) h
 
-  pub each-put-any : (P : X → Type 0) (p : X → Bool) (new : X) (xs : List X) → P new → Each P xs → Each P (put_before p new xs)
+  pub each-put-any : (P : X → Type 0) (p : X → Bool) (new : X) (xs : List X) → P new → Each P xs → Each P (item_put_before p new xs)
   each-put-any P p new [] n e = tt
   each-put-any P p new (x ∷ xs) n e = cond_both (p x) (new ∷ x ∷ xs) _ (Each P) (λ _. (n, e)) (λ _. (e.0, each-put-any P p new xs n e.1))
 
-  pub among-past : (p : X → Bool) (xs : List X) → Among (past p xs) xs
+  pub among-past : (p : X → Bool) (xs : List X) → Among (popped_past p xs) xs
   among-past p [] = empty
   among-past p (x ∷ xs) = cond_both (p x) _ (x ∷ xs) (λ l. Among l (x ∷ xs)) (λ _. skip (among-past p xs)) (λ _. among-all (x ∷ xs))
 
@@ -50,7 +50,7 @@ module _ {N : Type 0} (n : Naming N) where
   pub plain-booked : (old new : ℕ) (b : Bookmark) (items : List (Listed N)) → PlainEntries n items → PlainEntries n (booked old new b items)
   plain-booked old new InPlace items h = plain-with_node n old new items h
   plain-booked old new (After k) items h = or-both (PlainEntries n) _ (find (is_entry old) items) items (λ _. h)
-      (λ i e. from-items (put_before (is_entry k) (for_node new i) (without (is_entry old) items))
+      (λ i e. from-items (item_put_before (is_entry k) (for_node new i) (without (is_entry old) items))
       (each-put-any PlainItem (is_entry k) (for_node new i) (without (is_entry old) items) (plain-for new i (find-each PlainItem (is_entry old) items i (to-items items h) e))
       (each-among PlainItem (without (is_entry old) items) items (among-without (is_entry old) items) (to-items items h))))
 
@@ -111,7 +111,7 @@ module _ {N : Type 0} (n : Naming N) where
     new-stands = (ended-new count (trees s) h.counted block stands.0 stands.1 w, omega (arith, (deep-there count (trees s) h.counted block 0 stands.0).0))
 
     open-well : (v : Bool) → list_any (is_node block) left_open ≡ v
-        → Each (λ x. (0 < deep x.node 0 f') × (0 < x.node)) (put_before (is_node block) new left_open) × Pairs (λ a b. deep b.node a.node f' ≡ 0) (put_before (is_node block) new left_open)
+        → Each (λ x. (0 < deep x.node 0 f') × (0 < x.node)) (item_put_before (is_node block) new left_open) × Pairs (λ a b. deep b.node a.node f' ≡ 0) (item_put_before (is_node block) new left_open)
     open-well false e = rw (put-none (is_node block) new left_open e) (each-map _ _ (λ x p. p.0) left_open each', order')
     open-well true e =
         let a = at-nearest (is_node block) left_open e in
@@ -147,9 +147,9 @@ module _ {N : Type 0} (n : Naming N) (tells : TellsTables n) (at : ℕ) where
       (formatting_replaced-well n block fe c.bookmark s (placed-well n block (r ∷ up) c h place fits) (block-stands n block (r ∷ up) c h place fits))
 
   -- no stop is a table
-  pub not-table : (x : OpenNode N) → stops n.tag Default x ≡ false → Plain n x.name
+  pub not-table : (x : OpenNode N) → stops_in_scope n.tag Default x ≡ false → Plain n x.name
   not-table x h = by_test (n.same x.name (n.known Table)) (λ v. v ≡ false)
-      (λ e. let is : n.tag x.name ≡ Table = tells x.name e in let stop : stops n.tag Default x ≡ true = ap stops_scope is in let clash = sym h ∙ stop in cc)
+      (λ e. let is : n.tag x.name ≡ Table = tells x.name e in let stop : stops_in_scope n.tag Default x ≡ true = ap stops_scope is in let clash = sym h ∙ stop in cc)
       (λ _. refl)
 
   abbrev pub WellAfter : Turn (SiteOf N) → Type 0
@@ -161,12 +161,12 @@ module _ {N : Type 0} (n : Naming N) (tells : TellsTables n) (at : ℕ) where
   open-stands k s h there = let x = any-each _ (is_node k) (stack s) h.each there in subst (λ (j : ℕ). StandsAt n j s) (eqb-true x.0.node k x.2) x.1
 
   -- Where the furthest block is found, the way up can begin.
-  module _ (f : ℕ) (s : SiteOf N) (h : Well n s) (b : OpenNode N) (under : list_any (is_node b.node) (before (is_node f) (stack s)) ≡ true) (scope : in_scope (stops n.tag Default) (is_node f) (stack s) ≡ true) where
+  module _ (f : ℕ) (s : SiteOf N) (h : Well n s) (b : OpenNode N) (under : list_any (is_node b.node) (before (is_node f) (stack s)) ≡ true) (scope : in_scope (stops_in_scope n.tag Default) (is_node f) (stack s) ≡ true) where
     abbrev pub start : InnerLoop N
     start = record { last_node = b.node; bookmark = InPlace; site = s }
 
     pub all : (list_any (is_node f) (above b.node (stack s)) ≡ true) × (above f (above b.node (stack s)) ≡ above f (stack s)) × (list_any (is_node b.node) (stack s) ≡ true)
-    all = any-after (is_node f) (is_node b.node) (stack s) under (scope-open (stops n.tag Default) f (stack s) scope)
+    all = any-after (is_node f) (is_node b.node) (stack s) under (scope-open (stops_in_scope n.tag Default) f (stack s) scope)
 
     pub begins : Climbing n b.node (above b.node (stack s)) start
     begins =
@@ -180,7 +180,7 @@ module _ {N : Type 0} (n : Naming N) (tells : TellsTables n) (at : ℕ) where
           each = each-map _ _ (λ x p. (inl p.0, p.1)) (stack s) h.each;
           behind = each-both _ _ _ (λ x p q. (p.0, subst (λ (k : ℕ). deep x.node k (trees s) ≡ 0) out_is q)) (above b.node (stack s)) (each-among _ (above b.node (stack s)) (stack s) (among-after (is_node b.node) (stack s)) h.each) out.2;
           order = h.order;
-          front = scope-front (λ x. Plain n x.name) (stops n.tag Default) (is_node f) (is_node b.node) (in_scope (stops n.tag Default) (is_node f)) (stack s) (λ x ys. refl) not-table scope under;
+          front = scope-front (λ x. Plain n x.name) (stops_in_scope n.tag Default) (is_node f) (is_node b.node) (in_scope (stops_in_scope n.tag Default) (is_node f)) (stack s) (λ x ys. refl) not-table scope under;
           block_in = (inl b_stands.0, b_stands.1);
           plain = h.plain;
         }
@@ -188,7 +188,7 @@ module _ {N : Type 0} (n : Naming N) (tells : TellsTables n) (at : ℕ) where
     pub inner-climbs : (a : At (is_node f) (above b.node (stack s))) → OnGoes (Climbing n b.node (a.at ∷ a.up)) (inner_loop n at b.node 0 (before (is_node f) (above b.node (stack s))) start)
     inner-climbs a = inner-loop-climbs n at b.node (before (is_node f) (above b.node (stack s))) (a.at ∷ a.up) 0 start (subst (λ (l : List (OpenNode N)). Climbing n b.node l start) a.is begins)
 
-  by-well : (fe : EntryOf N) (s : SiteOf N) (h : Well n s) (b : OpenNode N) → list_any (is_node b.node) (before (is_node fe.node) (stack s)) ≡ true → in_scope (stops n.tag Default) (is_node fe.node) (stack s) ≡ true
+  by-well : (fe : EntryOf N) (s : SiteOf N) (h : Well n s) (b : OpenNode N) → list_any (is_node b.node) (before (is_node fe.node) (stack s)) ≡ true → in_scope (stops_in_scope n.tag Default) (is_node fe.node) (stack s) ≡ true
       → OnGoes WellAfter (with_furthest_block n at fe s b)
   by-well fe s h b under scope =
       let all_there = all fe.node s h b under scope in
@@ -204,13 +204,13 @@ module _ {N : Type 0} (n : Naming N) (tells : TellsTables n) (at : ℕ) where
   with-well : (fe : EntryOf N) (s : SiteOf N) → Well n s → OnGoes WellAfter (with_formatting_element n at fe s)
   with-well fe s h = cond_both (not (is_open fe.node (stack s))) _ _ (OnGoes WellAfter)
       (λ _. listed-as n (with_error TreeInBody at s) (without_entry fe.node s.items) (plain-without n fe.node s.items h.plain) (erred n s TreeInBody at h))
-      (λ _. cond_both (not (in_scope (stops n.tag Default) (is_node fe.node) (stack s))) _ _ (OnGoes WellAfter) (λ _. erred n s TreeInBody at h)
+      (λ _. cond_both (not (in_scope (stops_in_scope n.tag Default) (is_node fe.node) (stack s))) _ _ (OnGoes WellAfter) (λ _. erred n s TreeInBody at h)
       (λ j. by_test (current_is (is_node fe.node) s) (λ z. OnGoes WellAfter (under (error_unless z TreeInBody at s))) (λ _. goes s h (not-false _ j)) (λ _. goes (with_error TreeInBody at s) (erred n s TreeInBody at h) (not-false _ j))))
     where
       under : SiteOf N → Outcome (Turn (SiteOf N))
       under t = option_map_or (with_furthest_block n at fe t) (furthest_block n.tag fe.node (stack t)) (Goes (Ended (popped_with fe t)))
 
-      goes : (t : SiteOf N) → Well n t → in_scope (stops n.tag Default) (is_node fe.node) (stack t) ≡ true → OnGoes WellAfter (under t)
+      goes : (t : SiteOf N) → Well n t → in_scope (stops_in_scope n.tag Default) (is_node fe.node) (stack t) ≡ true → OnGoes WellAfter (under t)
       goes t k y = or-both (OnGoes WellAfter) (with_furthest_block n at fe t) (furthest_block n.tag fe.node (stack t)) _ (λ _. popped-well fe t k) (λ b e. by-well fe t k b (special-there n.tag (below fe.node (stack t)) b e) y)
 
   pub outer-turn-well : (name : N) (s : SiteOf N) → Well n s → OnGoes WellAfter (outer_turn n at name s)

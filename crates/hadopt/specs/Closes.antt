@@ -33,9 +33,9 @@ is_row_context _ = false
 
 module _ {X : Type 0} where
   -- what is left when the nearest members go as long as they pass
-  abbrev pub past : (X → Bool) → List X → List X
-  past passes [] = []
-  past passes (x ∷ rest) = if passes x then past passes rest else x ∷ rest
+  abbrev pub popped_past : (X → Bool) → List X → List X
+  popped_past passes [] = []
+  popped_past passes (x ∷ rest) = if passes x then popped_past passes rest else x ∷ rest
 
 module _ {N : Type 0} where
   -- nodes are popped up to and with the nearest that is sought
@@ -49,11 +49,11 @@ module _ {N : Type 0} (n : Naming N) where
 
   -- Generate implied end tags, except for what is kept (#generate-implied-end-tags).
   abbrev pub without_implied : (OpenNode N → Bool) → SiteOf N → SiteOf N
-  without_implied kept s = with_stack (past (λ x. has_implied_end (n.tag x.name) && not (kept x)) (stack s)) s
+  without_implied kept s = with_stack (popped_past (λ x. has_implied_end (n.tag x.name) && not (kept x)) (stack s)) s
 
   -- Clear the stack back to what stops it.
   abbrev pub popped_while_not : (Tag → Bool) → SiteOf N → SiteOf N
-  popped_while_not stop s = with_stack (past (λ x. not (stop (n.tag x.name))) (stack s)) s
+  popped_while_not stop s = with_stack (popped_past (λ x. not (stop (n.tag x.name))) (stack s)) s
 
   -- implied end tags except for what is sought, an error unless that is current, and nodes are popped up to and with it
   abbrev pub closed : (at : ℕ) → (OpenNode N → Bool) → SiteOf N → SiteOf N

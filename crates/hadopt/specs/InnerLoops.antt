@@ -1,6 +1,6 @@
 -- What the inner loop of the adoption agency asks of the open nodes.
 use Rattle.std.specs.Prelude.{◌≡◌, ℕ, ◌<◌, ◌==◌, false}
-use Rattle.hadopt.specs.Kept.{Each, Pairs}
+use Rattle.hadopt.specs.Soundness.{Each, Pairs}
 use Rattle.hadopt.specs.Site.{SiteOf, stack}
 
 -- open nodes were made, and no two are the same

@@ -10,7 +10,7 @@ use Rattle.hopen.specs.Formatting.{pushed as entry_pushed}
 use Rattle.names.specs.declared.placed.Placed.{Placed}
 use Rattle.names.specs.declared.refusal.Refusal.TheVariants.{TooManyNodes, TooDeep}
 use Rattle.hadopt.specs.Naming.{Naming}
-use Rattle.hadopt.specs.Site.{Outcome, Goes, Refused, and_then, SiteOf, stack, trees, with_trees, with_stack, with_items, node_of}
+use Rattle.hadopt.specs.Site.{Outcome, Goes, Refused, and_then, SiteOf, stack, trees, with_trees, with_stack, with_items, open_node}
 
 module _ {N : Type 0} (at : ℕ) where
   -- a new node, loose: create an element for a token (#create-an-element-for-the-token), a comment or a doctype
@@ -24,15 +24,15 @@ module _ {N : Type 0} (at : ℕ) where
   added what place s = and_then (made what s) (λ t. Goes (with_trees (graft s.nodes.made place (trees t)) t))
 
   -- a node becomes the current one
-  abbrev pub pushed : OpenNode N → SiteOf N → Outcome (SiteOf N)
-  pushed x s =
+  abbrev pub with_open : OpenNode N → SiteOf N → Outcome (SiteOf N)
+  with_open x s =
       if nat_le s.open_nodes.limit (length (stack s)) then Refused (TooDeep at)
       else Goes (with_stack (x ∷ stack s) s)
 
   -- insert an HTML element (#insert-an-html-element): a new one at a place, which becomes the current node
   abbrev pub inserted : N → List (Attribute N) → Place → SiteOf N → Outcome (SiteOf N)
   inserted name attrs place s =
-      and_then (added (element name attrs) place s) (pushed (record { node = s.nodes.made; name = name }))
+      and_then (added (element name attrs) place s) (with_open (record { node = s.nodes.made; name = name }))
 
   -- insert a character (#insert-a-character)
   abbrev pub put : ℕ → Place → SiteOf N → Outcome (SiteOf N)
@@ -51,7 +51,7 @@ module _ {N : Type 0} (n : Naming N) where
   -- that it was made for.
   abbrev pub listed : N → List (Attribute N) → SiteOf N → SiteOf N
   listed name attrs s =
-      with_items (entry_pushed n.same (record { node = node_of (current (stack s)); name = name; attrs = attrs }) s.items) s
+      with_items (entry_pushed n.same (record { node = open_node (current (stack s)); name = name; attrs = attrs }) s.items) s
 
   -- those of the attributes that a node lacks
   abbrev pub with_missing : ℕ → List (Attribute N) → Forest N → Forest N

@@ -8,8 +8,8 @@ pub mod Closes
 pub mod Passings
 pub mod Reconstructs
 pub mod Adopts
-pub mod Spelled
-pub mod Kept
+pub mod Mapped
+pub mod Soundness
 pub mod Made
 pub mod Meets
 pub mod InnerLoops

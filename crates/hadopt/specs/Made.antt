@@ -1,7 +1,7 @@
 -- What the code knows of the open nodes in every state.
 use Rattle.std.specs.Prelude.{ℕ, ◌<◌, List}
 use Rattle.hopen.specs.Stack.{OpenNode}
-use Rattle.hadopt.specs.Kept.{Each}
+use Rattle.hadopt.specs.Soundness.{Each}
 
 -- each open node was made, and none is the document
 abbrev pub AreMade : ℕ → List (OpenNode ℕ) → Type 0

@@ -5,7 +5,7 @@ ghost use Rattle.std.specs.Option.{option_map};
 ghost use Rattle.hadopt.specs.Vocabulary.{most_kept, node_replaced, inner_turn, inner_loop, after_inner_loop, with_furthest_block, with_formatting_element, outer_turn, outer_loop, is_unlisted, AfterInnerLoop};
 ghost use Rattle.hadopt.specs.Vocabulary.{WithFurthestBlock, AreDifferent, inner_loop_of, InnerLoopGives, TurnGives, IsPlace, graft, place_node, element, IsOutside};
 ghost use Rattle.hadopt.specs.Vocabulary.{attribute_of, Place, without, open_of, is_node, is_open, Gives, made, Goes, stack, trees, with_stack, with_trees, before, furthest_block, entry_is, numbers, and_then};
-ghost use Rattle.hadopt.specs.Vocabulary.{adopted, Kept, changed, put_before, EntryOf, InPlace, move_all, above, is_in_scope, stops_node, tag_of, Default};
+ghost use Rattle.hadopt.specs.Vocabulary.{adopted, IsSound, changed, item_put_before, EntryOf, InPlace, move_all, above, is_in_scope, stops_node, tag_of, Default};
 
 use crate::listing::copy;
 use crate::site::Site;
@@ -242,9 +242,9 @@ impl Site {
     /// marker. Only a turn with a furthest block copies the entry. The formatting element is above that block, so it is not the current
     /// node, which is an error (step 4.6).
     fn outer_turn(&mut self, subject: NameId, at: u64) -> Result<Turn, Refusal>
-        requires { Kept numbers self.old }
+        requires { IsSound numbers self.old }
         ensures done { TurnGives result self.new (outer_turn numbers at subject self.old) }
-        ensures kept { IfOk result (λ _. Kept numbers self.new) }
+        ensures kept { IfOk result (λ _. IsSound numbers self.new) }
         ensures few { self.new.nodes.made ≤ self.old.nodes.made + 4 }
     {
         let Some(entry) = self.list.find(subject) else {
@@ -277,9 +277,9 @@ impl Site {
 
     /// Steps 3, 4.1 and 4.2: up to `most` turns.
     fn outer_loop(&mut self, most: usize, subject: NameId, at: u64) -> Result<(), Refusal>
-        requires { Kept numbers self.old }
+        requires { IsSound numbers self.old }
         ensures done { Gives result self.new (outer_loop numbers at most subject self.old) }
-        ensures kept { IfOk result (λ _. Kept numbers self.new) }
+        ensures kept { IfOk result (λ _. IsSound numbers self.new) }
         ensures few { self.new.nodes.made ≤ self.old.nodes.made + most * 4 }
     {
         let mut left = most;
@@ -294,9 +294,9 @@ impl Site {
 
     /// The adoption agency for a subject, the name of a tag (step 1). It makes at most 32 elements, also where it is refused.
     pub fn adopt(&mut self, subject: NameId, at: u64) -> Result<(), Refusal>
-        requires { Kept numbers self.old }
+        requires { IsSound numbers self.old }
         ensures done { Gives result self.new (adopted numbers at subject self.old) }
-        ensures kept { IfOk result (λ _. Kept numbers self.new) }
+        ensures kept { IfOk result (λ _. IsSound numbers self.new) }
         ensures few { self.new.nodes.made ≤ self.old.nodes.made + 32 }
     {
         // Step 2
@@ -387,7 +387,7 @@ impl Site {
         requires new_in { new.node < self.old.nodes.made }
         requires leaving { is_open leaving (stack self.old) ≡ true }
         ensures done { Gives result self.new
-            (Goes (with_stack (put_before (is_node above) (open_of new) (without (is_node leaving) (stack self.old))) self.old)) }
+            (Goes (with_stack (item_put_before (is_node above) (open_of new) (without (is_node leaving) (stack self.old))) self.old)) }
         ensures nodes { self.new.nodes ≡ self.old.nodes }
     {
         self.stack.exchange(leaving, above, new)?;

@@ -2,14 +2,13 @@
 
 ghost use Rattle.std.specs.Prelude.{◌≡◌, ◌<◌, ◌∷◌, false, map, nat_eq, IfOk, string_bytes};
 ghost use Rattle.std.specs.Str.{chars};
-ghost use Rattle.hadopt.specs.Vocabulary.{IsPlace, graft, place_node, IsOutside, attribute_of, LastIn, open_of, Gives, Kept, PlaceStands, numbers, Goes, and_then, stack, trees, with_trees, comment, doctype, placed};
-ghost use Rattle.hadopt.specs.Vocabulary.{number_of, added, pushed, inserted, put, put_each, listed, with_missing, OpenStands};
+ghost use Rattle.hadopt.specs.Vocabulary.{IsPlace, graft, place_node, IsOutside, attribute_of, LastIn, open_of, Gives, IsSound, PlaceStands, numbers, Goes, and_then, stack, trees, with_trees, comment, doctype, placed};
+ghost use Rattle.hadopt.specs.Vocabulary.{number_of, added, with_open, inserted, put, put_each, listed, with_missing, OpenStands};
 
 use crate::site::Site;
 use hnodes::{Attributes, DocumentType, NodeId, Place};
 use hopen::Open;
 use names::{Attr, NameId, Refusal, Tag};
-use std::alloc::AllocError;
 
 impl Site {
     /// Inserts an HTML element (`#insert-an-html-element`): puts a new one at a place and makes it the current node. `at` is the byte
@@ -25,7 +24,7 @@ impl Site {
         requires { IsPlace place self.old.nodes }
         ensures done { Gives result self.new (inserted at name (map attribute_of attrs.items) place self.old) }
         ensures number { IfOk result (λ n. n ≡ self.old.nodes.made) }
-        ensures kept { Kept numbers self.old → PlaceStands place (trees self.old) → IfOk result (λ _. Kept numbers self.new) }
+        ensures kept { IsSound numbers self.old → PlaceStands place (trees self.old) → IfOk result (λ _. IsSound numbers self.new) }
     {
         let node = self.create(name, attrs, at)?;
         self.enter(node, name, place, at)?;
@@ -33,6 +32,7 @@ impl Site {
     }
 
     /// Inserts a new element that shares its attributes, and makes it the current node.
+    #[inline(always)]
     pub(crate) fn insert_sharing(
         &mut self,
         name: NameId,
@@ -56,7 +56,7 @@ impl Site {
         requires node_in { node < self.old.nodes.made }
         requires place { IsPlace place self.old.nodes }
         requires not_inside { IsOutside (place_node place) node (trees self.old) }
-        ensures { Gives result self.new (pushed at (record { node = node; name = name }) (with_trees (graft node place (trees self.old)) self.old)) }
+        ensures { Gives result self.new (with_open at (record { node = node; name = name }) (with_trees (graft node place (trees self.old)) self.old)) }
     {
         self.graft(node, place);
         self.push(Open { node, name }, at)
@@ -75,8 +75,8 @@ impl Site {
         ensures done { Gives result self.new (and_then (inserted at name (map attribute_of attrs.items) place self.old)
             (λ t. Goes (listed numbers name (map attribute_of attrs.items) t))) }
         ensures number { IfOk result (λ n. n ≡ self.old.nodes.made) }
-        ensures kept { Kept numbers self.old → PlaceStands place (trees self.old) → nat_eq name (number_of Tag.Table) ≡ false
-            → IfOk result (λ _. Kept numbers self.new) }
+        ensures kept { IsSound numbers self.old → PlaceStands place (trees self.old) → nat_eq name (number_of Tag.Table) ≡ false
+            → IfOk result (λ _. IsSound numbers self.new) }
     {
         let attrs = Attributes::new(attrs, self.alloc)?;
         let new = self.insert_sharing(name, attrs.share()?, place, at)?;
@@ -88,7 +88,7 @@ impl Site {
     pub fn insert_comment(&mut self, text: String, place: Place, at: u64) -> Result<NodeId, Refusal>
         requires { IsPlace place self.old.nodes }
         ensures done { Gives result self.new (added at (comment (string_bytes text)) place self.old) }
-        ensures kept { Kept numbers self.old → PlaceStands place (trees self.old) → IfOk result (λ _. Kept numbers self.new) }
+        ensures kept { IsSound numbers self.old → PlaceStands place (trees self.old) → IfOk result (λ _. IsSound numbers self.new) }
     {
         let node = self.tree.create_comment(text, at)?;
         self.tree.insert(node, place);
@@ -99,7 +99,7 @@ impl Site {
     pub fn insert_doctype(&mut self, texts: DocumentType, at: u64) -> Result<NodeId, Refusal>
         ensures done { Gives result self.new (added at (doctype (string_bytes texts.name) (string_bytes texts.public_id) (string_bytes texts.system_id))
             (LastIn 0) self.old) }
-        ensures kept { Kept numbers self.old → IfOk result (λ _. Kept numbers self.new) }
+        ensures kept { IsSound numbers self.old → IfOk result (λ _. IsSound numbers self.new) }
     {
         let document = self.tree.document();
         let node = self.tree.create_doctype(texts, at)?;
@@ -112,7 +112,7 @@ impl Site {
     pub fn put(&mut self, c: char, place: Place, at: u64) -> Result<(), Refusal>
         requires { IsPlace place self.old.nodes }
         ensures done { Gives result self.new (put at c place self.old) }
-        ensures kept { Kept numbers self.old → PlaceStands place (trees self.old) → IfOk result (λ _. Kept numbers self.new) }
+        ensures kept { IsSound numbers self.old → PlaceStands place (trees self.old) → IfOk result (λ _. IsSound numbers self.new) }
     {
         self.tree.put_char(c, place, at)
     }
@@ -122,7 +122,7 @@ impl Site {
     pub fn put_text(&mut self, text: &str, place: Place, at: u64) -> Result<(), Refusal>
         requires { IsPlace place self.old.nodes }
         ensures done { Gives result self.new (put_each (placed at (chars text.now)) place self.old) }
-        ensures kept { Kept numbers self.old → PlaceStands place (trees self.old) → IfOk result (λ _. Kept numbers self.new) }
+        ensures kept { IsSound numbers self.old → PlaceStands place (trees self.old) → IfOk result (λ _. IsSound numbers self.new) }
     {
         prove!(self.tree.are_nodes());
         self.tree.put_text(text, place, at)
@@ -132,7 +132,7 @@ impl Site {
     pub fn add_missing(&mut self, node: NodeId, attrs: Vec<Attr>) -> Result<(), Refusal>
         requires { node < self.old.nodes.made }
         ensures done { Gives result self.new (Goes (with_trees (with_missing numbers node (map attribute_of attrs.items) (trees self.old)) self.old)) }
-        ensures kept { Kept numbers self.old → IfOk result (λ _. Kept numbers self.new) }
+        ensures kept { IsSound numbers self.old → IfOk result (λ _. IsSound numbers self.new) }
     {
         for attr in attrs {
             self.tree.add_missing_attr(node, attr)?;
@@ -145,8 +145,8 @@ impl Site {
     pub fn push(&mut self, opened: Open, at: u64) -> Result<(), Refusal>
         requires begun { 0 < opened.node }
         requires made { opened.node < self.old.nodes.made }
-        ensures done { Gives result self.new (pushed at (open_of opened) self.old) }
-        ensures kept { Kept numbers self.old → OpenStands (trees self.old) (open_of opened ∷ stack self.old) → IfOk result (λ _. Kept numbers self.new) }
+        ensures done { Gives result self.new (with_open at (open_of opened) self.old) }
+        ensures kept { IsSound numbers self.old → OpenStands (trees self.old) (open_of opened ∷ stack self.old) → IfOk result (λ _. IsSound numbers self.new) }
     {
         self.stack.push(opened, at)
     }

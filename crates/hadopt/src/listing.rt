@@ -3,7 +3,7 @@
 ghost use Rattle.std.specs.Prelude.{◌≡◌, IfOk, ◌∷◌, IsTrue};
 ghost use Rattle.std.specs.List.{list_any};
 ghost use Rattle.std.specs.Option.{option_map};
-ghost use Rattle.hadopt.specs.Vocabulary.{Gives, Kept, numbers, Goes, entry_is, with_items, marker, cleared, is_entry, without_entry, booked, has_bookmark};
+ghost use Rattle.hadopt.specs.Vocabulary.{Gives, IsSound, numbers, Goes, entry_is, with_items, marker, cleared, is_entry, without_entry, booked, has_bookmark};
 
 use crate::site::Site;
 use hnodes::NodeId;
@@ -25,7 +25,7 @@ impl Site {
     /// Pushes a marker.
     pub fn marker(&mut self) -> Result<(), Refusal>
         ensures done { Gives result self.new (Goes (with_items (marker ∷ self.old.items) self.old)) }
-        ensures kept { Kept numbers self.old → IfOk result (λ _. Kept numbers self.new) }
+        ensures kept { IsSound numbers self.old → IfOk result (λ _. IsSound numbers self.new) }
     {
         self.list.marker()?;
         Ok(())
@@ -35,7 +35,7 @@ impl Site {
     /// (`#clear-the-list-of-active-formatting-elements-up-to-the-last-marker`).
     pub fn clear_to_marker(&mut self)
         ensures site { self.new ≡ with_items (cleared self.old.items) self.old }
-        ensures kept { Kept numbers self.old → Kept numbers self.new }
+        ensures kept { IsSound numbers self.old → IsSound numbers self.new }
     {
         self.list.clear();
     }
@@ -44,7 +44,7 @@ impl Site {
     #[inline(always)]
     pub fn remove_entry(&mut self, node: NodeId)
         ensures site { self.new ≡ with_items (without_entry node self.old.items) self.old }
-        ensures kept { Kept numbers self.old → Kept numbers self.new }
+        ensures kept { IsSound numbers self.old → IsSound numbers self.new }
     {
         self.list.remove(node);
     }

@@ -2,7 +2,7 @@
 
 ghost use Rattle.std.specs.Prelude.{◌≡◌, ◌<◌, IfSome, false, ◌&&◌};
 ghost use Rattle.std.specs.Option.{option_map, option_map_or};
-ghost use Rattle.hadopt.specs.Vocabulary.{IsPlace, LastIn, open_of, tag_of, Kept, PlaceStands, numbers, is_fostering, stack, trees, from_top, current, beside, foster_place, place_in, place, node_of};
+ghost use Rattle.hadopt.specs.Vocabulary.{IsPlace, LastIn, open_of, tag_of, IsSound, PlaceStands, numbers, is_fostering, stack, trees, from_top, current, beside, foster_place, place_in, place, open_node};
 
 use crate::site::Site;
 use hnodes::Place;
@@ -25,7 +25,7 @@ impl Site {
     pub fn place(&self) -> Place
         ensures place { result ≡ place numbers self.now }
         ensures within { IsPlace result self.now.nodes }
-        ensures stands { Kept numbers self.now → PlaceStands result (trees self.now) }
+        ensures stands { IsSound numbers self.now → PlaceStands result (trees self.now) }
     {
         self.place_in(self.stack.current())
     }
@@ -33,18 +33,18 @@ impl Site {
     /// The place at the end of the current node, or of the document if no node is open.
     #[inline(always)]
     pub fn place_in_current(&self) -> Place
-        ensures place { result ≡ LastIn (node_of (current (stack self.now))) }
+        ensures place { result ≡ LastIn (open_node (current (stack self.now))) }
         ensures within { IsPlace result self.now.nodes }
-        ensures stands { Kept numbers self.now → PlaceStands result (trees self.now) }
+        ensures stands { IsSound numbers self.now → PlaceStands result (trees self.now) }
     {
         self.last_in(self.stack.current())
     }
 
     /// The place at the end of the first open node, or of the document if no node is open.
     pub fn place_in_first(&self) -> Place
-        ensures place { result ≡ LastIn (node_of (from_top 0 self.now)) }
+        ensures place { result ≡ LastIn (open_node (from_top 0 self.now)) }
         ensures within { IsPlace result self.now.nodes }
-        ensures stands { Kept numbers self.now → PlaceStands result (trees self.now) }
+        ensures stands { IsSound numbers self.now → PlaceStands result (trees self.now) }
     {
         self.last_in(self.stack.from_top(0))
     }
@@ -53,7 +53,7 @@ impl Site {
     pub fn place_in_document(&self) -> Place
         ensures place { result ≡ LastIn 0 }
         ensures within { IsPlace result self.now.nodes }
-        ensures stands { Kept numbers self.now → PlaceStands result (trees self.now) }
+        ensures stands { IsSound numbers self.now → PlaceStands result (trees self.now) }
     {
         Place::LastIn(self.tree.document())
     }
@@ -104,7 +104,7 @@ impl Site {
     /// The place at the end of an open node, or of the document if there is none.
     fn last_in(&self, target: Option<Open>) -> Place
         requires { IfSome target (λ x. x.node < self.now.nodes.made) }
-        ensures place { result ≡ LastIn (node_of (option_map open_of target)) }
+        ensures place { result ≡ LastIn (open_node (option_map open_of target)) }
         ensures within { IsPlace result self.now.nodes }
     {
         match target {

@@ -2,7 +2,7 @@
 //! `#parsing-main-intable`, `#parsing-main-intbody` and `#parsing-main-intr`).
 
 ghost use Rattle.std.specs.Prelude.{◌≡◌, IfOk, nat_eq, drop};
-ghost use Rattle.hadopt.specs.Vocabulary.{closed, closed_p, other_end, past, popped_to, passes, is_named, Gives, Kept, numbers, Goes, without, open_of, is_of, is_node, tag_of, stack, with_stack};
+ghost use Rattle.hadopt.specs.Vocabulary.{closed, closed_p, other_end, popped_past, popped_to, passes, is_named, Gives, IsSound, numbers, Goes, without, open_of, is_of, is_node, tag_of, stack, with_stack};
 
 use crate::site::Site;
 use hnodes::NodeId;
@@ -25,6 +25,7 @@ pub enum Passing {
 
 impl Passing {
     /// Whether a node is popped.
+    #[inline(always)]
     fn is(&self, node: Open) -> bool
         ensures { result ≡ passes self.now (open_of node) }
     {
@@ -40,8 +41,9 @@ impl Passing {
 }
 
 /// Pops nodes as long as they pass.
+#[inline(always)]
 fn pop_past(stack: &mut OpenStack, passing: Passing)
-    ensures { stack.new ≡ record stack.old { stack = past (passes passing) stack.old.stack } }
+    ensures { stack.new ≡ record stack.old { stack = popped_past (passes passing) stack.old.stack } }
 {
     while let Some(top) = stack.current() {
         if !passing.is(top) {
@@ -53,9 +55,10 @@ fn pop_past(stack: &mut OpenStack, passing: Passing)
 
 impl Site {
     /// Pops nodes up to the first that does not pass.
+    #[inline(always)]
     pub fn pop_past(&mut self, passing: Passing)
-        ensures site { self.new ≡ with_stack (past (passes passing) (stack self.old)) self.old }
-        ensures kept { Kept numbers self.old → Kept numbers self.new }
+        ensures site { self.new ≡ with_stack (popped_past (passes passing) (stack self.old)) self.old }
+        ensures kept { IsSound numbers self.old → IsSound numbers self.new }
     {
         pop_past(&mut self.stack, passing);
     }
@@ -63,7 +66,7 @@ impl Site {
     /// Pops the current node, if there is one.
     pub fn pop(&mut self)
         ensures site { self.new ≡ with_stack (drop 1 (stack self.old)) self.old }
-        ensures kept { Kept numbers self.old → Kept numbers self.new }
+        ensures kept { IsSound numbers self.old → IsSound numbers self.new }
     {
         self.stack.pop();
     }
@@ -71,7 +74,7 @@ impl Site {
     /// Pops nodes up to and including the nearest one with a name; all of them if there is none.
     pub fn pop_to(&mut self, name: NameId)
         ensures site { self.new ≡ popped_to (is_named nat_eq name) self.old }
-        ensures kept { Kept numbers self.old → Kept numbers self.new }
+        ensures kept { IsSound numbers self.old → IsSound numbers self.new }
     {
         self.stack.pop_to(name);
     }
@@ -79,7 +82,7 @@ impl Site {
     /// Pops nodes up to and including the nearest one of a group; all of them if there is none.
     pub fn pop_to_group(&mut self, group: Group)
         ensures site { self.new ≡ popped_to (is_of tag_of group) self.old }
-        ensures kept { Kept numbers self.old → Kept numbers self.new }
+        ensures kept { IsSound numbers self.old → IsSound numbers self.new }
     {
         self.stack.pop_to_group(group);
     }
@@ -94,7 +97,7 @@ impl Site {
     /// Removes a node from the stack, if it is open.
     pub fn leave(&mut self, node: NodeId)
         ensures site { self.new ≡ with_stack (without (is_node node) (stack self.old)) self.old }
-        ensures kept { Kept numbers self.old → Kept numbers self.new }
+        ensures kept { IsSound numbers self.old → IsSound numbers self.new }
     {
         self.stack.remove(node);
     }
@@ -103,7 +106,7 @@ impl Site {
     /// it is the current node, and nodes are popped up to and including it.
     pub fn close(&mut self, name: NameId, at: u64) -> Result<(), Refusal>
         ensures done { Gives result self.new (Goes (closed numbers at (is_named nat_eq name) self.old)) }
-        ensures kept { Kept numbers self.old → IfOk result (λ _. Kept numbers self.new) }
+        ensures kept { IsSound numbers self.old → IfOk result (λ _. IsSound numbers self.new) }
         ensures nodes { self.new.nodes ≡ self.old.nodes }
     {
         self.pop_past(Passing::Implied(Some(name)));
@@ -116,7 +119,7 @@ impl Site {
     /// Closes a p element (`#close-a-p-element`).
     pub fn close_p(&mut self, at: u64) -> Result<(), Refusal>
         ensures done { Gives result self.new (Goes (closed_p numbers at self.old)) }
-        ensures kept { Kept numbers self.old → IfOk result (λ _. Kept numbers self.new) }
+        ensures kept { IsSound numbers self.old → IfOk result (λ _. IsSound numbers self.new) }
     {
         self.close(Tag::P.number(), at)
     }
@@ -124,7 +127,7 @@ impl Site {
     /// Any other end tag: closes the nearest element of the name, or ignores the tag where a special one comes before it.
     pub fn other_end(&mut self, name: NameId, at: u64) -> Result<(), Refusal>
         ensures done { Gives result self.new (Goes (other_end numbers at name self.old)) }
-        ensures kept { Kept numbers self.old → IfOk result (λ _. Kept numbers self.new) }
+        ensures kept { IsSound numbers self.old → IfOk result (λ _. IsSound numbers self.new) }
         ensures nodes { self.new.nodes ≡ self.old.nodes }
     {
         if !self.stack.before_special(name) {

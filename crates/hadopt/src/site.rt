@@ -1,7 +1,7 @@
 //! The site that the tree rules edit: nodes, open elements, formatting elements, foster parenting, parse errors.
 
 ghost use Rattle.std.specs.Prelude.{◌≡◌, ◌<◌, IfOk, OnOk, false, []};
-ghost use Rattle.hadopt.specs.Vocabulary.{document, none, tree, Gives, Kept, numbers, Goes, with_error, with_again, error_unless};
+ghost use Rattle.hadopt.specs.Vocabulary.{document, none, tree, Gives, IsSound, numbers, Goes, with_error, with_again, error_unless};
 
 use hnodes::{NodeId, Tree};
 use hopen::{Formatting, OpenStack};
@@ -59,7 +59,7 @@ impl Site {
           errors = [];
           again = [];
         }) }
-        ensures kept { IfOk result (λ s. Kept numbers s) }
+        ensures kept { IfOk result (λ s. IsSound numbers s) }
     {
         Ok(Site {
             tree: Tree::new(alloc, most_nodes)?,
@@ -75,7 +75,7 @@ impl Site {
     /// Switches foster parenting on or off.
     pub fn set_foster(&mut self, on: bool)
         ensures site { self.new ≡ record self.old { foster = on } }
-        ensures kept { Kept numbers self.old → Kept numbers self.new }
+        ensures kept { IsSound numbers self.old → IsSound numbers self.new }
     {
         self.foster = on;
     }
@@ -90,7 +90,7 @@ impl Site {
     /// Adds a parse error. `at` is the byte offset of the token.
     pub fn error(&mut self, code: ErrorCode, at: u64) -> Result<(), Refusal>
         ensures done { Gives result self.new (Goes (with_error code at self.old)) }
-        ensures kept { Kept numbers self.old → IfOk result (λ _. Kept numbers self.new) }
+        ensures kept { IsSound numbers self.old → IfOk result (λ _. IsSound numbers self.new) }
         ensures nodes { self.new.nodes ≡ self.old.nodes }
     {
         self.errors.push(ParseError { code, at })?;

@@ -1,7 +1,7 @@
 -- A document or a fragment whose tokens lead the rules to a state is accepted, with the tree of that state.
-use Rattle.hlaws.proofs.Names.{◌≡◌, ℕ, ◌≤◌, List, ◌++◌, length, map, None, Ok, refl, sym, ap, ◌∙◌, subst, IsUtf8, ParseError, Placed, input_errors, Policy, read_len, refusal_of, Tok, Tokens, texts, Goes, State, Steps, reads_in, text_in, start_of, start_kind, ParseOptions, manner, policy, Parse, Parses, accepted, placed, text_of, in_order, order-permutes, order-sorted}
+use Rattle.hlaws.proofs.Names.{◌≡◌, ℕ, ◌≤◌, List, ◌++◌, length, map, None, Ok, refl, sym, ap, ◌∙◌, subst, IsUtf8, ParseError, Placed, input_errors, Policy, read_len, refusal_of, Tok, Tokens, texts, Goes, State, Steps, reads_in, input_text, start_of, start_kind, ParseOptions, manner, policy, Parse, Parses, accepted, token_placed, decoded_text, in_order, order-permutes, order-sorted}
 use Rattle.std.proofs.Common.{take}
-use Rattle.hparse.specs.Parse.{ParseCase, begins}
+use Rattle.hparse.specs.Parse.{ParseCase, first_state}
 use Rattle.std.proofs.Math.Seq.{take-length}
 use Rattle.htext.specs.declared.BadBytes.{BadBytes}
 use Rattle.htext.specs.declared.BadBytes.TheVariants as bad
@@ -25,13 +25,13 @@ pub record IsAccepted (opts : ParseOptions) (parse_case : ParseCase) (bytes : Li
   pub trees : parse.trees ≡ state.site.nodes.trees
 
 pub accepts : (opts : ParseOptions) (parse_case : ParseCase) (bytes : List ℕ) (toks : List Tok) (errors : List ParseError) (state : State (List ℕ)) → IsUtf8 bytes → length bytes ≤ opts.input
-    → Tokens opts.table (start_kind (start_of parse_case)) (text_of (policy opts parse_case).bom bytes) (length bytes) toks errors → Steps texts (map placed toks) (begins opts parse_case) (Goes state)
+    → Tokens opts.table (start_kind (start_of parse_case)) (decoded_text (policy opts parse_case).bom bytes) (length bytes) toks errors → Steps texts (map token_placed toks) (first_state opts parse_case) (Goes state)
     → IsAccepted opts parse_case bytes state
 accepts opts parse_case bytes toks errors state utf8 within read steps =
     let how = policy opts parse_case in
     let none : refusal_of how bytes ≡ None = accepted-bytes how bytes utf8 within in
     let all = input_errors (reads_in (manner opts parse_case) bytes) ++ (errors ++ state.site.errors) in
-    let same : text_of how.bom bytes ≡ text_in (manner opts parse_case) bytes = ap (text_of how.bom) (sym (front-is how bytes none)) in
+    let same : decoded_text how.bom bytes ≡ input_text (manner opts parse_case) bytes = ap (decoded_text how.bom) (sym (front-is how bytes none)) in
     let taken = subst (λ (t : List Placed). Tokens opts.table (start_kind (start_of parse_case)) t (length bytes) toks errors) same read in
     record {
       parse = record { trees = state.site.nodes.trees; errors = in_order all };

@@ -1,5 +1,5 @@
 -- Plain trees come back, where what is written of them is read as their own tokens.
-use Rattle.hlaws.proofs.Names.{◌≡◌, ℕ, ◌+◌, Bool, true, false, List, [], ◌∷◌, ◌++◌, map, Some, refl, sym, ◌∙◌, ap, subst, arith, ◌⊎◌, inl, inr, ne_eqb, false≢true, Forest, none, tree, size, children_of, join-none, raw_kind, tag_named, tag_text, Tag, Tok, texts, Goes, Mode, InBody, InCaption, InCell, InTable, InTableBody, InRow, fragment_begins, rule_of, perform, PlacedToken, State, eof, Done, Rule, begun, ends, Step, goes, Steps, and, Content, Escaping, Builds, fits_mode, fits_current, is_flow_mode, numbered, AreTexts, AreRead, PlainTokens, ParseOptions, fragment, is_context, placed, taken, row, texts_in, Inside, are_content, are_content_if, in_context_of, is_form, tokens_of}
+use Rattle.hlaws.proofs.Names.{◌≡◌, ℕ, ◌+◌, Bool, true, false, List, [], ◌∷◌, ◌++◌, map, Some, refl, sym, ◌∙◌, ap, subst, arith, ◌⊎◌, inl, inr, ne_eqb, false≢true, Forest, none, tree, size, children_of, join-none, raw_kind, tag_named, tag_text, Tag, Tok, texts, Goes, Mode, InBody, InCaption, InCell, InTable, InTableBody, InRow, fragment_begins, rule_of, perform, PlacedToken, State, eof, Done, Rule, step_begun, ends, Step, goes, Steps, and, Content, Escaping, BuildsForest, fits_mode, fits_current, is_flow_mode, numbered_forest, AreTexts, AreRead, PlainTokens, ParseOptions, fragment, is_context, token_placed, token_taken, row, texts_in, Inside, are_content, are_content_if, in_context_of, is_form, plain_tokens}
 use Rattle.hlaws.specs.Building.{IsQuiet}
 use Rattle.names.specs.declared.tag.Tag.TheVariants as tag
 use Rattle.hadopt.specs.Site.{stack}
@@ -10,7 +10,7 @@ use Rattle.htext.specs.declared.Bom.TheVariants.{Keep}
 use Rattle.hmodes.specs.Step as step
 use Rattle.hserialize.specs.declared.content.Content.TheVariants as content
 use Rattle.hserialize.specs.declared.content.Texts.TheVariants as allowed
-use Rattle.hlaws.specs.ComesBack.{Fits, Gives, PlainComesBack}
+use Rattle.hlaws.specs.ComesBack.{FitsForest, GivesForest, PlainComesBack}
 use Rattle.hserialize.specs.Written.{written}
 use Rattle.hlaws.proofs.TokenLists.{AreTokens, parted, first, after, ended}
 use Rattle.hlaws.proofs.Content.{parts_mode_is, rows_mode_is, cells_mode_is}
@@ -19,7 +19,7 @@ use Rattle.hlaws.proofs.Allowed.{context_taken}
 use Rattle.hlaws.proofs.PlainBuilds.{law}
 
 -- a list under other numbers
-pub erased-numbered : (k : ℕ) (l : Forest (List ℕ)) → erased (numbered k l) ≡ erased l
+pub erased-numbered : (k : ℕ) (l : Forest (List ℕ)) → erased (numbered_forest k l) ≡ erased l
 erased-numbered k none = refl
 erased-numbered k (tree b w kids rest) = let x = erased-numbered (k + 1) kids in let y = erased-numbered (k + 1 + size kids) rest in λ i. node w (x i) (y i)
 
@@ -36,9 +36,9 @@ context_ok : (t : Tag) → mode_ok (row t).1 (context_mode t) ≡ true
 context_ok tag.A = refl
 context_ok _ = refl
 
-pub placed_token : (toks : List Tok) → map (λ t. t.token) (map placed toks) ≡ map taken toks
+pub placed_token : (toks : List Tok) → map (λ t. t.token) (map token_placed toks) ≡ map token_taken toks
 placed_token [] = refl
-placed_token (t ∷ toks) = ap (λ ts. taken t ∷ ts) (placed_token toks)
+placed_token (t ∷ toks) = ap (λ ts. token_taken t ∷ ts) (placed_token toks)
 
 abbrev ends_body : Mode → Bool
 ends_body InBody = true
@@ -57,8 +57,8 @@ flow_ends : (m : Mode) → is_flow_mode m ≡ true → ends_body m ≡ true
 flow_ends InBody h = refl
 flow_ends _ h = cc
 
-module _ (opts : ParseOptions) (escaping : Escaping) (context : List ℕ) (allowed_here : is_context context ≡ true) (l : Forest (List ℕ)) (utf8 : AreTexts l) (fits : Fits opts (written escaping (Some context) l) l)
-    (read : AreRead opts.table Keep (raw_kind (tag_named context)) (written escaping (Some context) l) (tokens_of texts l ++ eof ∷ [])) where
+module _ (opts : ParseOptions) (escaping : Escaping) (context : List ℕ) (allowed_here : is_context context ≡ true) (l : Forest (List ℕ)) (utf8 : AreTexts l) (fits : FitsForest opts (written escaping (Some context) l) l)
+    (read : AreRead opts.table Keep (raw_kind (tag_named context)) (written escaping (Some context) l) (plain_tokens texts l ++ eof ∷ [])) where
   abbrev start_state : State (List ℕ)
   start_state = fragment_begins texts context opts.limits
 
@@ -88,33 +88,33 @@ module _ (opts : ParseOptions) (escaping : Escaping) (context : List ℕ) (allow
   }
 
   -- the end of the input
-  at_end : (at : ℕ) (acted : State (List ℕ)) → stack acted.site ≡ stack start_state.site → ends_body acted.control.mode ≡ true → Rule texts at eof (begun acted) ≡ Done (begun acted)
-  at_end at acted opened m = ap (λ r. perform texts at eof r (begun acted)) (eof_rule acted.control.mode m) ∙ rw opened refl
+  at_end : (at : ℕ) (acted : State (List ℕ)) → stack acted.site ≡ stack start_state.site → ends_body acted.control.mode ≡ true → Rule texts at eof (step_begun acted) ≡ Done (step_begun acted)
+  at_end at acted opened m = ap (λ r. perform texts at eof r (step_begun acted)) (eof_rule acted.control.mode m) ∙ rw opened refl
 
   from_inside : (inside : Inside) → fits_mode inside.content mode ≡ true → fits_current inside.content inside.texts (tag_named (tag_text tag.Html)) ≡ true → (inside.texts ≡ texts_in inside.content) ⊎ (inside.texts ≡ allowed.None)
-      → inside.in_form ≡ is_form (tag_named context) → ends_body mode ≡ true → are_content inside l ≡ true → Gives opts context (written escaping (Some context) l) l
+      → inside.in_form ≡ is_form (tag_named context) → ends_body mode ≡ true → are_content inside l ≡ true → GivesForest opts context (written escaping (Some context) l) l
   unfolding begins
   from_inside inside m cur t form ending plain =
       let q = begins inside m cur t form in
-      let tokens_are : AreTokens (map placed read.toks) (tokens_of texts l ++ eof ∷ []) = placed_token read.toks ∙ read.are in
-      let p = parted (map placed read.toks) (tokens_of texts l) (eof ∷ []) tokens_are in
+      let tokens_are : AreTokens (map token_placed read.toks) (plain_tokens texts l ++ eof ∷ []) = placed_token read.toks ∙ read.are in
+      let p = parted (map token_placed read.toks) (plain_tokens texts l) (eof ∷ []) tokens_are in
       let e = first p.back eof [] p.backs in
-      let b : Builds texts l 1 p.front start_state = law inside l start_state p.front q utf8 plain
+      let b : BuildsForest texts l 1 p.front start_state = law inside l start_state p.front q utf8 plain
       (record { text = λ h. refl; line_feed = λ h. absurd cc })
       (record { nodes = let n = fits.nodes in omega arith; open_nodes = let o = fits.open_nodes in omega arith }) p.fronts in
       let opened : stack b.acted.site ≡ stack start_state.site = ap (λ o. o.stack) b.built.open_same in
-      let ending_step : Step texts e.at eof b.reached (Goes (begun b.acted)) = goes refl (b.acts e.at eof (Goes (begun b.acted)) refl (ends (at_end e.at b.acted opened (ap ends_body b.built.mode ∙ ending)))) in
-      let whole : Steps texts (p.front ++ record { token = eof; at = e.at } ∷ []) start_state (Goes (begun b.acted)) = after b.steps (and ending_step step.none) in
-      let listed : map placed read.toks ≡ p.front ++ record { token = eof; at = e.at } ∷ [] = p.is ∙ ap (λ ts. p.front ++ ts) (e.is ∙ ap (λ ts. record { token = eof; at = e.at } ∷ ts) (ended e.others e.rest)) in
-      let steps = subst (λ (ts : List (PlacedToken (List ℕ))). Steps texts ts start_state (Goes (begun b.acted))) (sym listed) whole in
-      let done = accepts opts (fragment context) (written escaping (Some context) l) read.toks read.errors (begun b.acted) read.utf8 fits.input read.read steps in
-      let built = ap (λ f. erased (children_of 1 f)) b.built.trees_are ∙ ap erased (join-none (numbered 2 l)) ∙ erased-numbered 2 l in
+      let ending_step : Step texts e.at eof b.reached (Goes (step_begun b.acted)) = goes refl (b.acts e.at eof (Goes (step_begun b.acted)) refl (ends (at_end e.at b.acted opened (ap ends_body b.built.mode ∙ ending)))) in
+      let whole : Steps texts (p.front ++ record { token = eof; at = e.at } ∷ []) start_state (Goes (step_begun b.acted)) = after b.steps (and ending_step step.none) in
+      let listed : map token_placed read.toks ≡ p.front ++ record { token = eof; at = e.at } ∷ [] = p.is ∙ ap (λ ts. p.front ++ ts) (e.is ∙ ap (λ ts. record { token = eof; at = e.at } ∷ ts) (ended e.others e.rest)) in
+      let steps = subst (λ (ts : List (PlacedToken (List ℕ))). Steps texts ts start_state (Goes (step_begun b.acted))) (sym listed) whole in
+      let done = accepts opts (fragment context) (written escaping (Some context) l) read.toks read.errors (step_begun b.acted) read.utf8 fits.input read.read steps in
+      let built = ap (λ f. erased (children_of 1 f)) b.built.trees_are ∙ ap erased (join-none (numbered_forest 2 l)) ∙ erased-numbered 2 l in
       record { allowed = allowed_here; parse = done.parse; parses = done.parses; children = ap (λ f. erased (children_of 1 f)) done.trees ∙ built }
 
-  comes : (k : Content) → (row (tag_named context)).1 ≡ k → are_content_if (in_context_of k (is_form (tag_named context))) l ≡ true → Gives opts context (written escaping (Some context) l) l
+  comes : (k : Content) → (row (tag_named context)).1 ≡ k → are_content_if (in_context_of k (is_form (tag_named context))) l ≡ true → GivesForest opts context (written escaping (Some context) l) l
   comes k e h = go k (ap (λ c. mode_ok c mode) (sym e) ∙ context_ok (tag_named context)) h
     where
-      go : (k : Content) → mode_ok k mode ≡ true → are_content_if (in_context_of k (is_form (tag_named context))) l ≡ true → Gives opts context (written escaping (Some context) l) l
+      go : (k : Content) → mode_ok k mode ≡ true → are_content_if (in_context_of k (is_form (tag_named context))) l ≡ true → GivesForest opts context (written escaping (Some context) l) l
       go content.TableParts m h = from_inside _ m refl (inr refl) refl (ap ends_body (parts_mode_is mode m)) h
       go content.TableRows m h = from_inside _ m refl (inr refl) refl (ap ends_body (rows_mode_is mode m)) h
       go content.Cells m h = from_inside _ m refl (inr refl) refl (ap ends_body (cells_mode_is mode m)) h

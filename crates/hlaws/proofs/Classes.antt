@@ -99,9 +99,9 @@ class_profile family.Cell k = record (plain_profile family.Cell role.Cell conten
 class_profile family.Hr k = a_void family.Hr role.Flow
 class_profile family.Br k = a_void family.Br role.Phrasing
 class_profile family.Input k = a_void family.Input role.Phrasing
-class_profile family.Area k = a_void family.Area role.Phrasing
-class_profile family.Param k = a_void family.Param role.Phrasing
-class_profile family.Link k = a_void family.Link role.Phrasing
+class_profile family.PhrasingVoid k = a_void family.PhrasingVoid role.Phrasing
+class_profile family.MediaVoid k = a_void family.MediaVoid role.Phrasing
+class_profile family.HeadVoid k = a_void family.HeadVoid role.Phrasing
 class_profile family.Col k = a_void family.Col role.Column
 class_profile w k = a_void w role.Nowhere
 

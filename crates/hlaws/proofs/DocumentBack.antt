@@ -1,5 +1,5 @@
 -- Plain documents come back, as their tokens are read and build them, and documents with identifiers without them.
-use Rattle.hlaws.proofs.Names.{◌≡◌, ℕ, false, ◌∙◌, sym, ap, subst, arith, suc, ◌+◌, ◌≤◌, List, ◌++◌, length, map, None, codes, refl, What, Forest, tree, none, size, Escaping, AreTexts, placed}
+use Rattle.hlaws.proofs.Names.{◌≡◌, ℕ, false, ◌∙◌, sym, ap, subst, arith, suc, ◌+◌, ◌≤◌, List, ◌++◌, length, map, None, codes, refl, What, Forest, tree, none, size, Escaping, AreTexts, token_placed}
 use Rattle.hnodes.specs.Forest as forest
 use Rattle.hmodes.specs.Erased.{erased, node, no_tree}
 use Rattle.hparse.specs.Parse.{document}
@@ -15,7 +15,7 @@ use Rattle.hlaws.proofs.Back.{erased-numbered, placed_token}
 pub comes_back : PlainDocumentTokens → PlainDocumentBuilds → PlainDocumentComesBack
 comes_back tokens builds opts escaping l is_table core utf8 plain within fits =
     let read = tokens opts.table escaping l is_table core utf8 plain in
-    let b = builds opts.quirks opts.limits l (map placed read.toks) utf8 plain fits (placed_token read.toks ∙ read.are) in
+    let b = builds opts.quirks opts.limits l (map token_placed read.toks) utf8 plain fits (placed_token read.toks ∙ read.are) in
     let done = accepts opts document (written escaping None l) read.toks read.errors b.reached read.utf8 within read.read b.steps in
     record {
       parse = done.parse;

@@ -1,5 +1,5 @@
 -- The tokens of a plain document build it: its parts in their order, each in the insertion mode that takes it.
-use Rattle.hlaws.proofs.Names.{◌≡◌, ℕ, suc, ◌+◌, ◌<◌, ◌≤◌, Bool, true, false, ◌&&◌, cond, List, [], ◌∷◌, ◌++◌, length, map, None, Some, refl, sym, ◌∙◌, ap, subst, arith, inl, and_parts, ne_eqb, lt-leb, false≢true, nat_le, bytes_eq, bytes_eq-Decides, codes, chars, Attribute, What, element, text, Forest, none, tree, size, times, join, graft_last, if_text, text_before, LastIn, OpenNode, is_space, is_void, tag_named, Tag, texts, Goes, Start, End, Comment, Mode, InBody, Text, family_of, rule_of, perform, void, raw, Token, start, end, comment, character, eof, PlacedToken, Control, State, Done, Rule, begun, ends, goes_again, Step, goes, Steps, and, Inside, inside_element, are_content, tokens_of, numbered, under, AreTexts, Thinned, same}
+use Rattle.hlaws.proofs.Names.{◌≡◌, ℕ, suc, ◌+◌, ◌<◌, ◌≤◌, Bool, true, false, ◌&&◌, cond, List, [], ◌∷◌, ◌++◌, length, map, None, Some, refl, sym, ◌∙◌, ap, subst, arith, inl, and_parts, ne_eqb, lt-leb, false≢true, nat_le, bytes_eq, bytes_eq-Decides, codes, chars, Attribute, What, element, text, Forest, none, tree, size, times, join, graft_last, if_text, text_before, LastIn, OpenNode, is_space, is_void, tag_named, Tag, texts, Goes, Start, End, Comment, Mode, InBody, Text, family_of, rule_of, perform, void, raw, Token, start, end, comment, character, eof, PlacedToken, Control, State, Done, Rule, step_begun, ends, goes_again, Step, goes, Steps, and, Inside, inside_element, are_content, plain_tokens, numbered_forest, under, AreTexts, Thinned, same}
 use Rattle.hnodes.specs.Forest as forest
 use Rattle.hopen.specs.Formatting.{Listed}
 use Rattle.hadopt.specs.Inserts.{added}
@@ -8,7 +8,7 @@ use Rattle.hmodes.specs.Beginning.{Limits, document_begins}
 use Rattle.hmodes.specs.Doctypes.{forces_quirks}
 use Rattle.hmodes.specs.Head.{in_head as head_rule}
 use Rattle.hmodes.specs.Perform.{flow_of}
-use Rattle.hmodes.specs.Rules.{code_of}
+use Rattle.hmodes.specs.Rules.{mode_error}
 use Rattle.hmodes.specs.State.{Again, kind_of, is_self_closing}
 use Rattle.hmodes.specs.Step.{Chain, is_dropped, finished}
 use Rattle.hmodes.specs.Step as step
@@ -21,11 +21,11 @@ use Rattle.names.specs.declared.tag.Tag.TheVariants as tag
 use Rattle.hserialize.specs.Plain.{is_plain, is_plain_text, is_plain_comment, are_plain_attributes}
 use Rattle.hserialize.specs.Words.{is_empty}
 use Rattle.hserialize.specs.PlainDocument as plain
-use Rattle.hserialize.specs.PlainDocument.{is_leaf, leaves_then, comments_then, doctype_then, element_then, is_metadata, in_head, are_metadata, body_on, are_in_html, html_on, is_plain_document}
+use Rattle.hserialize.specs.PlainDocument.{is_leaf, leaves_then, comments_then, doctype_then, element_then, is_metadata, inside_head, are_metadata, body_on, are_in_html, html_on, is_plain_document}
 use Rattle.hserialize.specs.declared.content.Content.TheVariants as content
 use Rattle.hserialize.specs.declared.content.Texts.{Texts}
 use Rattle.hserialize.specs.declared.content.Texts.TheVariants as allowed
-use Rattle.hlaws.specs.Building.{ActsAs, depth, is_flow_mode, is_character}
+use Rattle.hlaws.specs.Building.{ActsAs, depth, is_flow_mode, is_character_token}
 use Rattle.hlaws.proofs.Content.{four}
 use Rattle.hlaws.specs.DocumentComesBack.{PlainDocumentBuilds}
 use Rattle.hlaws.proofs.FromTable.{good, lf_safe, is_text as text_is, spaced}
@@ -55,7 +55,7 @@ record Spot (made : ℕ) (f : Forest Name) (d : ℕ) : Type 0 where
   pub free : (m : ℕ) → made ≤ m → times m f ≡ 0
   pub low : d < made
 
-spot-grown : (made : ℕ) (f l : Forest Name) (d : ℕ) → Spot made f d → Spot (made + size l) (under d (numbered made l) f) d
+spot-grown : (made : ℕ) (f l : Forest Name) (d : ℕ) → Spot made f d → Spot (made + size l) (under d (numbered_forest made l) f) d
 spot-grown made f l d q = record {
   once = once-grown d made l f q.once q.low;
   free = λ m h. free-grown d made m l f q.once (q.free m (omega arith)) h;
@@ -73,7 +73,7 @@ spot-new made f w d q = record {
 record Adds (l : Forest Name) (made : ℕ) (f : Forest Name) (d : ℕ) (s : State Name) (There : Stage) (ts : List (PlacedToken Name)) : Type 0 where
   pub reached : State Name
   pub steps : Steps texts ts s (Goes reached)
-  pub there : There (made + size l) (under d (numbered made l) f) reached
+  pub there : There (made + size l) (under d (numbered_forest made l) f) reached
 
 -- what is true of the state throughout
 record Stands (limits : Limits) (m : Mode) (z : State Name) (c : Control) : Type 0 where
@@ -126,7 +126,7 @@ module _ (limits : Limits) where
   abbrev At : Forest Name → (d k : ℕ) → (Here There : Stage) → Type 0
   At l d k Here There = (made : ℕ) (f : Forest Name) (s : State Name) (ts : List (PlacedToken Name)) → Spot made f d → Here made f s
       → (begins_text l ≡ true → text_before (LastIn d) f ≡ None)
-      → made + size l ≤ limits.nodes → k + depth l ≤ limits.depth → AreTokens ts (tokens_of texts l) → Adds l made f d s There ts
+      → made + size l ≤ limits.nodes → k + depth l ≤ limits.depth → AreTokens ts (plain_tokens texts l) → Adds l made f d s There ts
 
   abbrev Law : (Forest Name → Bool) → (d k : ℕ) → (Here There : Stage) → Type 0
   Law test d k Here There = (l : Forest Name) → AreTexts l → test l ≡ true → At l d k Here There
@@ -147,27 +147,27 @@ module _ (limits : Limits) where
   node_then : {Mid There : Stage} (b : ℕ) (w : What Name) (kids rest : Forest Name) (d k : ℕ) → At rest d k Mid There
       → (made : ℕ) (f : Forest Name) (s : State Name) (ts : List (PlacedToken Name)) (us : List (Token Name)) → Spot made f d
       → (begins_text rest ≡ true → is_text w ≡ false) → made + (1 + (size kids + size rest)) ≤ limits.nodes → k + depth rest ≤ limits.depth
-      → AreTokens ts (us ++ tokens_of texts rest)
+      → AreTokens ts (us ++ plain_tokens texts rest)
       → ((front : List (PlacedToken Name)) → AreTokens front us → Adds (tree b w kids none) made f d s Mid front)
       → Adds (tree b w kids rest) made f d s There ts
   node_then {Mid} {There} b w kids rest d k law made f s ts us q unlike room deep h node_law =
-      let p = parted ts us (tokens_of texts rest) h in
+      let p = parted ts us (plain_tokens texts rest) h in
       let head = node_law p.front p.fronts in
       let one : Forest Name = tree b w kids none in
       let made1 : ℕ = made + (1 + (size kids + 0)) in
-      let back = law made1 (under d (numbered made one) f) head.reached p.back (spot-grown made f one d q) head.there
-      (λ e. text_before-new d made w (numbered (made + 1) kids) f q.once (q.free made (omega arith)) ∙ no_text_there made w (unlike e)) (omega arith) deep
+      let back = law made1 (under d (numbered_forest made one) f) head.reached p.back (spot-grown made f one d q) head.there
+      (λ e. text_before-new d made w (numbered_forest (made + 1) kids) f q.once (q.free made (omega arith)) ∙ no_text_there made w (unlike e)) (omega arith) deep
       p.backs in
       let count : made1 + size rest ≡ made + (1 + (size kids + size rest)) = omega arith in
       let grown = rest-grown d made b w kids rest f in
       record {
         reached = back.reached;
         steps = subst (λ (v : List (PlacedToken Name)). Steps texts v s (Goes back.reached)) (sym p.is) (after head.steps back.steps);
-        there = subst (λ (m : ℕ). There m (under d (numbered made (tree b w kids rest)) f) back.reached) count
+        there = subst (λ (m : ℕ). There m (under d (numbered_forest made (tree b w kids rest)) f) back.reached) count
             (subst (λ (g : Forest Name). There (made1 + size rest) g back.reached) grown back.there);
       }
 
-  ends_add : {Here : Stage} (d k : ℕ) → Law plain.ends d k Here Here
+  ends_add : {Here : Stage} (d k : ℕ) → Law plain.ends_document d k Here Here
   ends_add {Here} d k none u h = λ made f s ts q here no_text room deep tokens. record {
     reached = s;
     steps = subst (λ (v : List (PlacedToken Name)). Steps texts v s (Goes s)) (sym (ended ts tokens)) step.none;
@@ -209,16 +209,16 @@ module _ (limits : Limits) where
 
   -- what a token leads to
   abbrev Leads : Token Name → (at : ℕ) → State Name → Stage → ℕ → Forest Name → Type 0
-  Leads t at s There made f = (s' : State Name) × Chain texts at t (begun s) (Goes s') × There made f s'
+  Leads t at s There made f = (s' : State Name) × Chain texts at t (step_begun s) (Goes s') × There made f s'
 
-  not_dropped : (t : Token Name) (s : State Name) → is_character t ≡ false → is_dropped t s ≡ false
+  not_dropped : (t : Token Name) (s : State Name) → is_character_token t ≡ false → is_dropped t s ≡ false
   not_dropped (character ch) s h = cc
   not_dropped _ s h = refl
 
   -- one token alone
   one_token : {There : Stage} (t : Token Name) (l : Forest Name) (made : ℕ) (f : Forest Name) (d : ℕ) (s : State Name) (ts : List (PlacedToken Name))
-      → is_character t ≡ false → AreTokens ts (t ∷ [])
-      → ((at : ℕ) → Leads t at s There (made + size l) (under d (numbered made l) f)) → Adds l made f d s There ts
+      → is_character_token t ≡ false → AreTokens ts (t ∷ [])
+      → ((at : ℕ) → Leads t at s There (made + size l) (under d (numbered_forest made l) f)) → Adds l made f d s There ts
   one_token t l made f d s ts other tokens leads =
       let p = first ts t [] tokens in
       let o = leads p.at in
@@ -256,7 +256,7 @@ module _ (limits : Limits) where
 
   -- a token that is done with by the rule of the mode
   by_rule : (t : Token Name) (k : TokenKind) (m m' : Mode) (opened left : Open) (g : Control → Control) (at made made' : ℕ) (f f' : Forest Name)
-      (s : State Name) → kind_of texts t ≡ k → is_character t ≡ false → is_self_closing t ≡ false
+      (s : State Name) → kind_of texts t ≡ k → is_character_token t ≡ false → is_self_closing t ≡ false
       → Becomes m m' g → (here : ActsIn limits m opened made f s)
       → perform texts at t (rule_of m k) (state here.z made f opened [] (begun_control here.c))
       ≡ Done (state here.z made' f' left [] (g (begun_control here.c)))
@@ -351,29 +351,29 @@ module _ (limits : Limits) where
 
       one_adds : (made : ℕ) (f : Forest Name) (s : State Name) (ts : List (PlacedToken Name)) → Spot made f d → Here made f s
           → made + (1 + size kids) ≤ limits.nodes → k + suc (depth kids) ≤ limits.depth
-          → AreTokens ts (start x attrs false ∷ tokens_of texts kids ++ end x ∷ []) → Adds (tree b (element x attrs) kids none) made f d s Mid ts
+          → AreTokens ts (start x attrs false ∷ plain_tokens texts kids ++ end x ∷ []) → Adds (tree b (element x attrs) kids none) made f d s Mid ts
       one_adds made f s ts q here room deep tokens =
           let t = whole.tags texts text_laws s x attrs kids ts tokens in
           let f1 : Forest Name = under d (tree made (element x attrs) none none) f in
           let o = opening attrs t.at made f s q here (omega arith) (omega arith) in
           let i = kids_law made q.low kids u.2 f4.2 (made + 1) f1 o.0 t.inner (spot-new made f (element x attrs) d q) o.2
           (λ e. text_before-leaf d made (element x attrs) f q.once (q.free made (omega arith))) (omega arith) (omega arith) t.inners in
-          let z = closing made t.at_end (made + 1 + size kids) (under made (numbered (made + 1) kids) f1) i.reached i.there in
-          let grown : under made (numbered (made + 1) kids) f1 ≡ under d (tree made (element x attrs) (numbered (made + 1) kids) none) f =
-          under-new d made (element x attrs) none (numbered (made + 1) kids) f (q.free made (omega arith)) in
+          let z = closing made t.at_end (made + 1 + size kids) (under made (numbered_forest (made + 1) kids) f1) i.reached i.there in
+          let grown : under made (numbered_forest (made + 1) kids) f1 ≡ under d (tree made (element x attrs) (numbered_forest (made + 1) kids) none) f =
+          under-new d made (element x attrs) none (numbered_forest (made + 1) kids) f (q.free made (omega arith)) in
           let count : made + 1 + size kids ≡ made + (1 + (size kids + 0)) = omega arith in
           record {
             reached = z.0;
             steps = subst (λ (v : List (PlacedToken Name)). Steps texts v s (Goes z.0)) (sym t.is)
                 (and (goes refl o.1) (after i.steps (and (goes refl z.1) step.none)));
-            there = subst (λ (m : ℕ). Mid m (under d (tree made (element x attrs) (numbered (made + 1) kids) none) f) z.0) count
+            there = subst (λ (m : ℕ). Mid m (under d (tree made (element x attrs) (numbered_forest (made + 1) kids) none) f) z.0) count
                 (subst (λ (g : Forest Name). Mid (made + 1 + size kids) g z.0) grown z.2);
           }
 
       at_x : At (tree b (element x attrs) kids rest) d k Here There
       at_x made f s ts q here no_text room deep tokens =
-          node_then b (element x attrs) kids rest d k (law rest u.3 f4.3) made f s ts (start x attrs false ∷ tokens_of texts kids ++ end x ∷ []) q (λ e. refl)
-          room (omega arith) (whole.spelled texts b x attrs kids rest ts no_void tokens)
+          node_then b (element x attrs) kids rest d k (law rest u.3 f4.3) made f s ts (start x attrs false ∷ plain_tokens texts kids ++ end x ∷ []) q (λ e. refl)
+          room (omega arith) (whole.mapped texts b x attrs kids rest ts no_void tokens)
           (λ front e. one_adds made f s front q here (omega arith) (omega arith) e)
   element_adds x children next d k no_void opening kids_law closing law _ u h = absurd (false≢true h)
 
@@ -404,8 +404,8 @@ module _ (limits : Limits) where
 
   -- what "in head" does with an element of a plain head
   data Metadata (t : Tag) : Type 0 where
-    a_void : is_void t ≡ true → head_rule (Start (family_of t)) ≡ void → (inside_element t in_head).content ≡ content.Empty → Metadata t
-    a_raw : is_void t ≡ false → head_rule (Start (family_of t)) ≡ raw → holds_text (inside_element t in_head).content ≡ true → Metadata t
+    a_void : is_void t ≡ true → head_rule (Start (family_of t)) ≡ void → (inside_element t inside_head).content ≡ content.Empty → Metadata t
+    a_raw : is_void t ≡ false → head_rule (Start (family_of t)) ≡ raw → holds_text (inside_element t inside_head).content ≡ true → Metadata t
 
   metadata : (t : Tag) → is_metadata t ≡ true → Metadata t
   metadata tag.Base h = a_void refl refl refl
@@ -438,7 +438,7 @@ module _ (limits : Limits) where
           there = record {
             z = here.z;
             c = k.control';
-            is = n.exact no_text ∙ ap (λ l. state here.z (made + (1 + (size kids + 0))) (under e (numbered made (tree b w kids none)) f) in_the_head l
+            is = n.exact no_text ∙ ap (λ l. state here.z (made + (1 + (size kids + 0))) (under e (numbered_forest made (tree b w kids none)) f) in_the_head l
                 k.control') (emptied k.thinned);
             stands = still here.stands (k.keeps.mode ∙ here.stands.mode) k.keeps.form;
             no_drop = n.no_drop;
@@ -471,7 +471,7 @@ module _ (limits : Limits) where
           (ap (λ r. perform texts at (start x attrs false) r now) rule ∙ simp (full, high, grown) refl))
 
       raw_adds : (kids : Forest Name) → head_rule (Start (family_of (tag_named x))) ≡ raw → OneText texts text_laws here.z kids
-          → made + (1 + size kids) ≤ limits.nodes → (ts : List (PlacedToken Name)) → AreTokens ts (start x attrs false ∷ tokens_of texts kids ++ end x ∷ [])
+          → made + (1 + size kids) ≤ limits.nodes → (ts : List (PlacedToken Name)) → AreTokens ts (start x attrs false ∷ plain_tokens texts kids ++ end x ∷ [])
           → Adds (tree b (element x attrs) kids none) made f e s InTheHead ts
       raw_adds kids rule content room_in ts tokens = go content
         where
@@ -488,7 +488,7 @@ module _ (limits : Limits) where
               (built_in_head b (element x attrs) none made f s ts here refl
               (whole.raw_empty texts text_laws here.z b x attrs made f (head_node e) (html_node h ∷ []) [] here.c c1
               (state here.z made f in_the_head [] here.c) q.once q.free (λ at t o e chain. chain) opening refl refl refl refl refl ts
-              (subst (λ (v : Forest Name). AreTokens ts (start x attrs false ∷ tokens_of texts v ++ end x ∷ [])) is tokens)))
+              (subst (λ (v : Forest Name). AreTokens ts (start x attrs false ∷ plain_tokens texts v ++ end x ∷ [])) is tokens)))
           go (one_text b' t i is) =
               let sized : size kids ≡ 1 = ap size is in
               subst (λ (v : Forest Name). Adds (tree b (element x attrs) v none) made f e s InTheHead ts) (sym is)
@@ -496,7 +496,7 @@ module _ (limits : Limits) where
               (whole.raw_text texts text_laws here.z b x attrs made f (head_node e) (html_node h ∷ []) [] here.c c1
               (state here.z made f in_the_head [] here.c) q.once q.free (λ at t o e chain. chain) opening refl refl refl refl refl b' t i refl
               (let y = here.stands.nodes in omega (arith, room_in, sized)) ts
-              (subst (λ (v : Forest Name). AreTokens ts (start x attrs false ∷ tokens_of texts v ++ end x ∷ [])) is tokens)))
+              (subst (λ (v : Forest Name). AreTokens ts (start x attrs false ∷ plain_tokens texts v ++ end x ∷ [])) is tokens)))
 
     head_leaf : LeafLaw allowed.WhiteSpace e InTheHead
     head_leaf = spaces InHead (head_node e) (html_node h ∷ []) (λ z at made t f c. refl) refl
@@ -506,7 +506,7 @@ module _ (limits : Limits) where
     metadata_adds (tree b (element x attrs) kids rest) u is = by_class (metadata_adds rest u.3 f4.3) (metadata (tag_named x) f4.0)
       where
         inside : Inside
-        inside = inside_element (tag_named x) in_head
+        inside = inside_element (tag_named x) inside_head
 
         f4 : (is_metadata (tag_named x) ≡ true) × (are_plain_attributes attrs ≡ true) × (are_content inside kids ≡ true) × (are_metadata rest ≡ true)
         f4 = four _ _ _ _ is
@@ -522,8 +522,8 @@ module _ (limits : Limits) where
             (λ y. refl) room (omega arith) (tokens ∙ rw v refl)
             (λ front k. void_adds b x attrs made f s q here (omega arith) (omega arith) rule front k))
         by_class others (a_raw v rule holds) = λ made f s ts q here no_text room deep tokens.
-            node_then b (element x attrs) kids rest e 2 others made f s ts (start x attrs false ∷ tokens_of texts kids ++ end x ∷ []) q (λ y. refl) room
-            (omega arith) (whole.spelled texts b x attrs kids rest ts v tokens)
+            node_then b (element x attrs) kids rest e 2 others made f s ts (start x attrs false ∷ plain_tokens texts kids ++ end x ∷ []) q (λ y. refl) room
+            (omega arith) (whole.mapped texts b x attrs kids rest ts v tokens)
             (λ front k. raw_adds b x attrs made f s q here (omega arith) (omega arith) kids rule
             (whole.raw_kids texts text_laws here.z inside kids (no_comment inside.content holds) (λ r. no_role inside.content r holds) g) (omega arith)
             front k)
@@ -565,7 +565,7 @@ module _ (limits : Limits) where
           z = here.z;
           c = k.control';
           acts = subst (λ (l' : List (Listed Name)). ActsAs texts k.reached
-              (state here.z (made + size l) (under b (numbered made l) f) (body_node b ∷ html_node h ∷ []) l' k.control')) (emptied k.thinned) k.acts;
+              (state here.z (made + size l) (under b (numbered_forest made l) f) (body_node b ∷ html_node h ∷ []) l' k.control')) (emptied k.thinned) k.acts;
           stands = still here.stands (k.keeps.mode ∙ here.stands.mode) k.keeps.form;
         };
       }
@@ -580,13 +580,13 @@ module _ (limits : Limits) where
   Last = Some_of (In limits AfterAfterBody)
 
   body_on_adds : (h : ℕ) → Law body_on h 1 (In limits AfterHead (html_node h ∷ [])) (AfterBodyIn h)
-  body_on_adds h = element_adds (codes "body") (is_plain (codes "body")) (comments_then plain.ends) h 1 refl
+  body_on_adds h = element_adds (codes "body") (is_plain (codes "body")) (comments_then plain.ends_document) h 1 refl
       (opens (codes "body") AfterHead InBody (html_node h ∷ []) h (λ e. to_mode InBody) (λ e c k. (refl, refl, refl))
       (λ z attrs at made f c full high grown. simp (full, high, grown) refl))
       (body_adds h)
       (λ b at made f s here. let k = closes (codes "body") InBody AfterBody (body_node b ∷ html_node h ∷ []) (body_node b ∷ html_node h ∷ [])
       (λ z at made f c w. refl) at made f s here in (k.0, k.1, (b, k.2)))
-      (leaves_add allowed.None plain.ends h 1 (some_leaf allowed.None h _
+      (leaves_add allowed.None plain.ends_document h 1 (some_leaf allowed.None h _
       (λ b. comments AfterBody (body_node b ∷ html_node h ∷ []) h (λ z at made t f c. refl))) (ends_add h 1))
 
   in_html_adds : (h : ℕ) → Law are_in_html h 1 (In limits BeforeHead (html_node h ∷ [])) (AfterBodyIn h)
@@ -600,12 +600,12 @@ module _ (limits : Limits) where
       (leaves_add allowed.WhiteSpace body_on h 1 (spaces AfterHead (html_node h) [] (λ z at made t f c. refl) refl) (body_on_adds h)))
 
   html_on_adds : (Here : Stage) → Opens (codes "html") 0 0 Here (λ h. In limits BeforeHead (html_node h ∷ [])) → Law html_on 0 0 Here Last
-  html_on_adds Here opening = element_adds (codes "html") are_in_html (comments_then plain.ends) 0 0 refl opening (λ h low. in_html_adds h)
+  html_on_adds Here opening = element_adds (codes "html") are_in_html (comments_then plain.ends_document) 0 0 refl opening (λ h low. in_html_adds h)
       (λ h at made f s here.
       let opened : Open = body_node here.0 ∷ html_node h ∷ [] in
       let k = closes (codes "html") AfterBody AfterAfterBody opened opened (λ z at made f c w. rw w refl) at made f s
       (itself here.1) in (k.0, k.1, (opened, k.2)))
-      (leaves_add allowed.None plain.ends 0 0 (some_leaf allowed.None 0 _ (λ opened. comments AfterAfterBody opened 0 (λ z at made t f c. refl)))
+      (leaves_add allowed.None plain.ends_document 0 0 (some_leaf allowed.None 0 _ (λ opened. comments AfterAfterBody opened 0 (λ z at made t f c. refl)))
       (ends_add 0 0))
 
   -- the start tag in "before html", and in "initial", where a doctype is missing
@@ -616,7 +616,7 @@ module _ (limits : Limits) where
   html_opens_first : Opens (codes "html") 0 0 (In limits Initial []) (λ h. In limits BeforeHead (html_node h ∷ []))
   html_opens_first attrs at made f s q here room deep =
       let t : Token Name = start (codes "html") attrs false in
-      let z1 : State Name = record here.z { site = with_error (code_of Initial) at here.z.site } in
+      let z1 : State Name = record here.z { site = with_error (mode_error Initial) at here.z.site } in
       let c1 : Control = record (begun_control here.c) { quirks = true; mode = BeforeHtml } in
       let s0 : State Name = state here.z made f [] [] (begun_control here.c) in
       let s1 : State Name = state z1 made f [] [] c1 in
@@ -630,7 +630,7 @@ module _ (limits : Limits) where
         no_drop =
             refl;
       }) room deep in
-      (o.0, subst (λ (v : State Name). Chain texts at t (begun v) (Goes o.0)) (sym here.is) (goes_again missing o.1), o.2)
+      (o.0, subst (λ (v : State Name). Chain texts at t (step_begun v) (Goes o.0)) (sym here.is) (goes_again missing o.1), o.2)
 
   -- DOCUMENTS
 
@@ -670,7 +670,7 @@ module _ (limits : Limits) where
 -- the law
 pub law : PlainDocumentBuilds
 law quirks limits l ts u is fits tokens =
-    let p = parted ts (tokens_of texts l) (eof ∷ []) tokens in
+    let p = parted ts (plain_tokens texts l) (eof ∷ []) tokens in
     let e = first p.back eof [] p.backs in
     let s : State Name = document_begins quirks limits in
     let alone : Forest Name = tree 0 forest.document none none in
@@ -680,7 +680,7 @@ law quirks limits l ts u is fits tokens =
     (λ e. refl) (let n = fits.nodes in omega arith) (let o = fits.open_nodes in omega arith) p.fronts in
     let here = a.there.1 in
     let opened : Open = a.there.0 in
-    let g : Forest Name = under 0 (numbered 1 l) alone in
+    let g : Forest Name = under 0 (numbered_forest 1 l) alone in
     let s1 : State Name = state here.z (1 + size l) g opened [] (begun_control here.c) in
     let done : Rule texts e.at eof s1 ≡ Done s1 = ap (λ o. perform texts e.at eof (rule_of o Eof) s1) here.stands.mode in
     let one : Step texts e.at eof a.reached (Goes s1) = subst (λ (v : State Name). Step texts e.at eof v (Goes s1)) (sym here.is) (goes refl (ends done)) in

@@ -24,7 +24,7 @@ is_text t u some clean = go (chars t) refl
     go [] e = absurd (let z : [] ≡ t = sym (ap encode_utf8_all e) ∙ bytes_are in let y = ap is_empty z in cc)
     go (c ∷ cs) e =
         let b : encode_utf8_all (c ∷ cs) ≡ t = sym (ap encode_utf8_all e) ∙ bytes_are in
-        record { one = c; more = cs; spelled = e; bytes = b; clean = ap (list_all is_clean_char) (sym e) ∙ clean_text t u clean }
+        record { one = c; more = cs; mapped = e; bytes = b; clean = ap (list_all is_clean_char) (sym e) ∙ clean_text t u clean }
 
 space_small : (b : ℕ) → is_ascii_whitespace b ≡ true → b < 128
 space_small b h = grind (arith, nat_tests)
@@ -37,7 +37,7 @@ spaces_ascii (b ∷ bs) h (suc i) = spaces_ascii bs (and_parts (is_ascii_whitesp
 pub spaced : (t : List ℕ) (is : IsText t) → IsUtf8 t → list_all is_ascii_whitespace t ≡ true → list_all is_ascii_whitespace (is.one ∷ is.more) ≡ true
 spaced t is u h =
     let same : t ≡ chars t = chars_from_encodes t t u (encodes-IsAscii t (spaces_ascii t h)) in
-    sym (ap (list_all is_ascii_whitespace) (same ∙ is.spelled)) ∙ h
+    sym (ap (list_all is_ascii_whitespace) (same ∙ is.mapped)) ∙ h
 
 first_line_feed : (t : List ℕ) (is : IsText t) → begins_with (codes "\n") t ≡ false → (is.one == 10) ≡ false
 first_line_feed t is h = false_from_ne_true _ (λ e.

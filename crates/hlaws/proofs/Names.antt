@@ -8,10 +8,10 @@ pub use Rattle.htoken.proofs.OneCut.{one_list_of_tokens, no_tokens_of_refused, o
 pub use Rattle.htoken.proofs.SomeCut.{some_answer}
 pub use Rattle.htoken.specs.SomeCut.{HasAnswer, gives, refuses}
 pub use Rattle.hopen.specs.Formatting.{Listed, marker, entry, entry_of, find_entry, without_entry, cleared, EntryOf, with_room}
-pub use Rattle.hlaws.specs.Building.{Builds, fits_mode, fits_current, is_flow_mode, numbered, is_list, is_dl, takes_space, under, EntriesOpen, Thinned, same, kept, lost, EntriesLower}
-pub use Rattle.hlaws.specs.ComesBack.{text_of, AreTexts, AreRead, PlainTokens}
+pub use Rattle.hlaws.specs.Building.{BuildsForest, fits_mode, fits_current, is_flow_mode, numbered_forest, is_list, is_dl, takes_space, under, EntriesOpen, Thinned, same, kept, lost, EntriesLower}
+pub use Rattle.hlaws.specs.ComesBack.{decoded_text, AreTexts, AreRead, PlainTokens}
 pub use Rattle.hlaws.specs.OneAnswer.{ExactlyOne}
-pub use Rattle.hlaws.specs.PlainTokens.{tokens_of}
+pub use Rattle.hlaws.specs.PlainTokens.{plain_tokens}
 pub use Rattle.hmodes.specs.Beginning.{fragment_begins}
 pub use Rattle.hmodes.specs.Body.{void_in_text}
 pub use Rattle.hmodes.specs.Families.{family_of}
@@ -20,7 +20,7 @@ pub use Rattle.hmodes.specs.Programs.{void, raw}
 pub use Rattle.hmodes.specs.Reset.{open_mode, reset_mode}
 pub use Rattle.hmodes.specs.Rules.{rule_of}
 pub use Rattle.hmodes.specs.State.{State, PlacedToken, eof, Done, Token, start, end, character, Control, kind_of, comment}
-pub use Rattle.hmodes.specs.Step.{Steps, Rule, begun, ends, Step, goes, and, goes_again}
+pub use Rattle.hmodes.specs.Step.{Steps, Rule, step_begun, ends, Step, goes, and, goes_again}
 pub use Rattle.hmodes.specs.declared.family.Family.{Family}
 pub use Rattle.hmodes.specs.declared.mode.Mode.{Mode}
 pub use Rattle.hmodes.specs.declared.mode.Mode.TheVariants.{InBody, InCaption, InCell, InTable, InTableBody, InRow, InColumnGroup, Text, InTableText}
@@ -30,13 +30,13 @@ pub use Rattle.hnodes.specs.Clean.{is_clean}
 pub use Rattle.hnodes.specs.Edits.{graft_last, if_text, text_before}
 pub use Rattle.hnodes.specs.Forest.{Forest, none, tree, size, children_of, element, text, What, times, join, Attribute}
 pub use Rattle.hnodes.specs.declared.node.Place.TheVariants.{LastIn}
-pub use Rattle.hopen.specs.Scopes.{stops_item, stops}
+pub use Rattle.hopen.specs.Scopes.{stops_item, stops_in_scope}
 pub use Rattle.hopen.specs.Stack.{OpenNode, in_scope}
 pub use Rattle.hparse.proofs.Sorting.{in_order, order-permutes, order-sorted}
 pub use Rattle.hparse.specs.Answer.{error_cmp}
-pub use Rattle.hparse.specs.Input.{reads_in, text_in}
+pub use Rattle.hparse.specs.Input.{reads_in, input_text}
 pub use Rattle.hparse.specs.Parse.{ParseOptions, fragment, manner, policy, Parse, Parses, accepted, is_context, start_of, refused_token, refused_tag}
-pub use Rattle.hparse.specs.Taken.{placed, taken}
+pub use Rattle.hparse.specs.Taken.{token_placed, token_taken}
 pub use Rattle.hserialize.specs.ContentTable.{row, texts_in, takes_role, takes_comments}
 pub use Rattle.hserialize.specs.Plain.{are_content_if, in_context_of, is_form, Inside, are_content, is_a, is_button, drops_line_feed, is_nested, inside_element, inside_node, is_plain_node, are_plain_attributes, is_plain_text, is_plain_comment, is_among_texts, begins_with, begins_with_text, begins_with_line_feed, has_part, is_name_byte}
 pub use Rattle.hserialize.specs.declared.content.Content.{Content}

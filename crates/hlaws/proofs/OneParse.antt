@@ -1,5 +1,5 @@
 -- The bytes of a document or of a fragment have exactly one tree and list of errors, or refusal.
-use Rattle.hlaws.proofs.Names.{◌≡◌, ℕ, false, List, [], ◌∷◌, ◌++◌, length, map, Option, None, Some, Result, Ok, Err, refl, sym, ap, ◌∙◌, subst, append-nil, IsPermutation, map-append, ParseError, Placed, RawKind, RefusedName, Refusal, OutOfProfile, input_errors, read_len, refusal_of, Tok, Span, Gives, at_start, start_kind, spans_text, Cut, has_refused, Tokens, AreFront, eof_of, texts, Outcome, Goes, Refused, PlacedToken, State, Step, Steps, and, HasAnswer, gives, refuses, one_list_of_tokens, no_tokens_of_refused, one_refusal, some_answer, reads_in, text_in, ParseOptions, fragment, Parse, Parses, manner, policy, start_of, refused_token, refused_tag, accepted, placed, ExactlyOne, in_order, order-permutes, order-sorted}
+use Rattle.hlaws.proofs.Names.{◌≡◌, ℕ, false, List, [], ◌∷◌, ◌++◌, length, map, Option, None, Some, Result, Ok, Err, refl, sym, ap, ◌∙◌, subst, append-nil, IsPermutation, map-append, ParseError, Placed, RawKind, RefusedName, Refusal, OutOfProfile, input_errors, read_len, refusal_of, Tok, Span, Gives, at_start, start_kind, spans_text, Cut, has_refused, Tokens, AreFront, eof_of, texts, Outcome, Goes, Refused, PlacedToken, State, Step, Steps, and, HasAnswer, gives, refuses, one_list_of_tokens, no_tokens_of_refused, one_refusal, some_answer, reads_in, input_text, ParseOptions, fragment, Parse, Parses, manner, policy, start_of, refused_token, refused_tag, accepted, token_placed, ExactlyOne, in_order, order-permutes, order-sorted}
 use Rattle.htoken.specs.Tokens.{IsRefused, tokens_in, tokens_of}
 use Rattle.hmodes.specs.Reached.{Reached, after}
 use Rattle.hmodes.specs.Reached as reached
@@ -8,7 +8,7 @@ use Rattle.hmodes.proofs.Between.{texts-all, reached-orderly}
 use Rattle.hmodes.proofs.Ends.{some-step}
 use Rattle.hmodes.proofs.Single.{step-one}
 use Rattle.htoken.proofs.OneFront.{one_front, one_front_of_refused}
-use Rattle.hparse.specs.Parse.{ParseCase, document, begins, refused_bytes}
+use Rattle.hparse.specs.Parse.{ParseCase, document, first_state, refused_bytes}
 use Rattle.hlaws.specs.OneAnswer.{OneParse}
 use Rattle.hlaws.proofs.OneInput.{all-read, one-list}
 
@@ -38,7 +38,7 @@ some-steps (t ∷ ts) s h = by (some-step texts texts-all.img t.at t.token s (re
     by (Goes u, first) rest = let others = rest u first in (others.0, and first others.1)
     by (Refused r, first) rest = (Refused r, refused first)
 
-reached-first : (opts : ParseOptions) (parse_case : ParseCase) → Reached texts (begins opts parse_case)
+reached-first : (opts : ParseOptions) (parse_case : ParseCase) → Reached texts (first_state opts parse_case)
 reached-first opts document = reached.document opts.quirks opts.limits
 reached-first opts (fragment context) = reached.fragment context opts.limits
 
@@ -52,19 +52,19 @@ module _ (opts : ParseOptions) (parse_case : ParseCase) (bytes : List ℕ) where
   kind = start_kind (start_of parse_case)
 
   abbrev text : List Placed
-  text = text_in (manner opts parse_case) bytes
+  text = input_text (manner opts parse_case) bytes
 
   abbrev end : ℕ
   end = read_len (policy opts parse_case) bytes
 
   abbrev Leads : List Tok → Outcome (State (List ℕ)) → Type 0
-  Leads tokens o = Steps texts (map placed tokens) (begins opts parse_case) o
+  Leads tokens o = Steps texts (map token_placed tokens) (first_state opts parse_case) o
 
   -- what a front of tokens is refused for they are refused for
   refused-whole : (tokens front others : List Tok) (r : Refusal) → tokens ≡ front ++ others → Leads front (Refused r) → Leads tokens (Refused r)
   refused-whole tokens front others r are h =
-      subst (λ (ts : List (PlacedToken (List ℕ))). Steps texts ts (begins opts parse_case) (Refused r)) (sym (ap (map placed) are ∙ map-append placed front others))
-      (refused-more (map placed front) (map placed others) (begins opts parse_case) r h)
+      subst (λ (ts : List (PlacedToken (List ℕ))). Steps texts ts (first_state opts parse_case) (Refused r)) (sym (ap (map token_placed) are ∙ map-append token_placed front others))
+      (refused-more (map token_placed front) (map token_placed others) (first_state opts parse_case) r h)
 
   led : (tokens tokens' : List Tok) (o : Outcome (State (List ℕ))) → tokens ≡ tokens' → Leads tokens o → Leads tokens' o
   led tokens tokens' o same h = subst (λ (ts : List Tok). Leads ts o) same h
@@ -98,7 +98,7 @@ module _ (opts : ParseOptions) (parse_case : ParseCase) (bytes : List ℕ) where
   only answer tokens decided x h = record {
     one = x;
     is = h;
-    other = λ y k. let a = decided y k in let b = decided x h in a.is ∙ ap answer (steps-one (map placed tokens) (begins opts parse_case) a.outcome b.outcome a.leads b.leads) ∙ sym b.is;
+    other = λ y k. let a = decided y k in let b = decided x h in a.is ∙ ap answer (steps-one (map token_placed tokens) (first_state opts parse_case) a.outcome b.outcome a.leads b.leads) ∙ sym b.is;
   }
 
   -- the text is refused for a start tag
@@ -164,8 +164,8 @@ module _ (opts : ParseOptions) (parse_case : ParseCase) (bytes : List ℕ) where
             (accepted errors (in_order all) state (record { tokens = tokens; read = end_read; steps = steps }) (order-permutes all) (order-sorted all) e)
 
   exactly-one : HasAnswer opts.table kind text end → ExactlyOne (Parses opts parse_case bytes)
-  exactly-one (refuses tokens name at out) = exactly-refused tokens name at out (some-steps (map placed tokens) (begins opts parse_case) (reached-first opts parse_case))
-  exactly-one (gives tokens errors read) = exactly-tokens tokens errors read (some-steps (map placed tokens) (begins opts parse_case) (reached-first opts parse_case))
+  exactly-one (refuses tokens name at out) = exactly-refused tokens name at out (some-steps (map token_placed tokens) (first_state opts parse_case) (reached-first opts parse_case))
+  exactly-one (gives tokens errors read) = exactly-tokens tokens errors read (some-steps (map token_placed tokens) (first_state opts parse_case) (reached-first opts parse_case))
 
 pub one-parse : OneParse
-one-parse opts parse_case bytes is_table = exactly-one opts parse_case bytes (some_answer opts.table (start_kind (start_of parse_case)) (text_in (manner opts parse_case) bytes) (read_len (policy opts parse_case) bytes) is_table)
+one-parse opts parse_case bytes is_table = exactly-one opts parse_case bytes (some_answer opts.table (start_kind (start_of parse_case)) (input_text (manner opts parse_case) bytes) (read_len (policy opts parse_case) bytes) is_table)

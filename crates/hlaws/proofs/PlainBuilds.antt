@@ -1,5 +1,5 @@
 -- The tokens of a plain list build it from each quiet state.
-use Rattle.hlaws.proofs.Names.{◌≡◌, ℕ, suc, ◌+◌, ◌≤◌, Bool, true, false, not, List, ◌∷◌, length, refl, sym, ap, subst, arith, Forest, size, texts, State, Builds, begins_with_line_feed}
+use Rattle.hlaws.proofs.Names.{◌≡◌, ℕ, suc, ◌+◌, ◌≤◌, Bool, true, false, not, List, ◌∷◌, length, refl, sym, ap, subst, arith, Forest, size, texts, State, BuildsForest, begins_with_line_feed}
 use Rattle.hadopt.specs.Site.{trees}
 use Rattle.hlaws.specs.Building as spec
 use Rattle.hlaws.specs.ComesBack.{PlainBuilds}
@@ -13,7 +13,7 @@ dropping false l h = lf_safe false l refl
 dropping true l h = lf_safe true l (ap not (h refl))
 
 pub law : PlainBuilds
-law inside l s ts q utf8 plain well room h = subst (λ (v : State (List ℕ)). Builds texts l q.current.node ts v) (sym same) at_literal
+law inside l s ts q utf8 plain well room h = subst (λ (v : State (List ℕ)). BuildsForest texts l q.current.node ts v) (sym same) at_literal
   where
     literal : State (List ℕ)
     literal = state s s.site.nodes.made (trees s.site) (q.current ∷ q.up) s.site.items s.control
@@ -44,10 +44,10 @@ law inside l s ts q utf8 plain well room h = subst (λ (v : State (List ℕ)). B
     built = builds texts text_laws s l inside s.site.nodes.made (trees s.site) q.current q.up s.site.items s.control literal ts
         quiet (good inside l q.texts_fit utf8 plain) (λ at t o e chain. chain) (λ e. refl) well.text (dropping s.control.drop_lf l well.line_feed) room.nodes deep h
 
-    at_literal : Builds texts l q.current.node ts literal
+    at_literal : BuildsForest texts l q.current.node ts literal
     at_literal = record {
       reached = built.reached;
-      acted = state s (s.site.nodes.made + size l) (spec.under q.current.node (spec.numbered s.site.nodes.made l) (trees s.site)) (q.current ∷ q.up) built.items' built.control';
+      acted = state s (s.site.nodes.made + size l) (spec.under q.current.node (spec.numbered_forest s.site.nodes.made l) (trees s.site)) (q.current ∷ q.up) built.items' built.control';
       steps = built.steps;
       acts = built.acts;
       built = record {

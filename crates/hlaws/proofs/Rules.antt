@@ -1,5 +1,5 @@
 -- The rules where the state is quiet: by the mode, and what they do with characters.
-use Rattle.hlaws.proofs.Names.{arith, nat_tests, ◌≡◌, ℕ, ◌+◌, ◌<◌, Bool, true, false, List, [], ◌∷◌, ◌++◌, map, None, refl, sym, ◌∙◌, ap, lt-leb, false≢true, list_all, nat_le, encode_utf8, ◌==◌, text, Forest, none, tree, times, text_before, LastIn, OpenNode, Listed, entry, Placed, is_space, Naming, Outcome, Goes, is_fostering, Family, Mode, InBody, InCaption, InCell, Text, InTable, InTableText, InTableBody, InRow, Comment, Start, End, rule_of, perform, Token, character, Control, State, Done, kind_of, Rule, goes_again, begun, is_flow_mode, under, EntriesOpen}
+use Rattle.hlaws.proofs.Names.{arith, nat_tests, ◌≡◌, ℕ, ◌+◌, ◌<◌, Bool, true, false, List, [], ◌∷◌, ◌++◌, map, None, refl, sym, ◌∙◌, ap, lt-leb, false≢true, list_all, nat_le, encode_utf8, ◌==◌, text, Forest, none, tree, times, text_before, LastIn, OpenNode, Listed, entry, Placed, is_space, Naming, Outcome, Goes, is_fostering, Family, Mode, InBody, InCaption, InCell, Text, InTable, InTableText, InTableBody, InRow, Comment, Start, End, rule_of, perform, Token, character, Control, State, Done, kind_of, Rule, goes_again, step_begun, is_flow_mode, under, EntriesOpen}
 use Rattle.hmodes.specs.Step.{Chain}
 use Rattle.std.proofs.lemmas.List.{append-nil, append_assoc}
 use Rattle.std.specs.Str.{encode_utf8_all}
@@ -169,7 +169,7 @@ module _ {N : Type 0} (n : Naming N) (z : State N) where
   -- so the state takes the token as the one in which the white space is
   pub acts : (d : OpenNode N) (up : List (OpenNode N)) (items : List (Listed N)) (at : ℕ) (t : Token N) (p : Placed) (ps : List Placed) (made : ℕ) (f : Forest N) (c : Control) (o : Outcome (State N)) → is_other (kind_of n t) ≡ true → c.mode ≡ InTableText → c.pending ≡ p ∷ ps
       → list_all (λ p. is_space p.ch) (p ∷ ps) ≡ true → times d.node f ≡ 1 → times made f ≡ 0 → made < z.site.nodes.limit → text_before (LastIn d.node) f ≡ None
-      → Chain n at t (begun (state z (made + 1) (under d.node (tree made (text (encode_utf8_all (map (λ p. p.ch) (p ∷ ps)))) none none) f) (d ∷ up) items (record c { pending = []; mode = c.saved }))) o
-      → Chain n at t (begun (state z made f (d ∷ up) items c)) o
+      → Chain n at t (step_begun (state z (made + 1) (under d.node (tree made (text (encode_utf8_all (map (λ p. p.ch) (p ∷ ps)))) none none) f) (d ∷ up) items (record c { pending = []; mode = c.saved }))) o
+      → Chain n at t (step_begun (state z made f (d ∷ up) items c)) o
   acts d up items at t p ps made f c o other m waiting spaces once absent room none_before chain =
       goes_again (flush d up items at t p ps made f (record c { drop_lf = false; acknowledged = false }) other m waiting spaces once absent room none_before) chain

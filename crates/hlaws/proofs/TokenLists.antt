@@ -48,7 +48,7 @@ module _ {N : Type 0} where
 pub record IsText (t : List ℕ) : Type 0 where
   pub one : ℕ
   pub more : List ℕ
-  pub spelled : chars t ≡ one ∷ more
+  pub mapped : chars t ≡ one ∷ more
   pub bytes : encode_utf8_all (one ∷ more) ≡ t
   pub clean : list_all is_clean_char (one ∷ more) ≡ true
 

@@ -1,5 +1,5 @@
 -- Texts that are cut into spans, one after another, and the characters among them.
-use Rattle.hlaws.proofs.Names.{false≢true, has_references, arith, ◌≡◌, ℕ, Bool, true, false, not, cond, ◌&&◌, ◌||◌, Some, List, [], ◌∷◌, ◌++◌, map, refl, sym, ◌∙◌, ap, subst, append-nil, append_assoc, and_right, or_from, flat_map-append, map-append, ◌==◌, first_is, Placed, RawKind, characters, begins, is_alphanumeric, Entities, Piece, IsTable, longest, named_piece, ends_in_semicolon, Span, piece_span, Standing, next, standing_after, IsSpan, IsSpanOf, raw_character, is_raw_end, is_end_tag_of, plain_piece, Cut, spans_text, has_refused, Token, character, taken}
+use Rattle.hlaws.proofs.Names.{false≢true, has_references, arith, ◌≡◌, ℕ, Bool, true, false, not, cond, ◌&&◌, ◌||◌, Some, List, [], ◌∷◌, ◌++◌, map, refl, sym, ◌∙◌, ap, subst, append-nil, append_assoc, and_right, or_from, flat_map-append, map-append, ◌==◌, first_is, Placed, RawKind, characters, begins, is_alphanumeric, Entities, Piece, IsTable, longest, named_piece, ends_in_semicolon, Span, piece_span, Standing, next, standing_after, IsSpan, IsSpanOf, raw_character, is_raw_end, is_end_tag_of, plain_piece, Cut, spans_text, has_refused, Token, character, token_taken}
 use Rattle.std.specs.Prelude.{Option, None}
 use Rattle.names.specs.declared.raw.RawKind.TheVariants as kind
 use Rattle.charref.specs.Reference.{IsReference, named}
@@ -41,7 +41,7 @@ pub record Cuts (table : Entities) (end : ℕ) (here : Standing) (text rest : Li
   pub spans : List Span
   pub text_is : spans_text spans ≡ text
   pub cut : Cut table end here spans rest
-  pub tokens_are : map taken (tokens_of spans) ≡ tokens
+  pub tokens_are : map token_taken (tokens_of spans) ≡ tokens
   pub in_profile : has_refused (tokens_of spans) ≡ false
   pub leads : There (standing_after here spans)
 
@@ -63,7 +63,7 @@ module _ (table : Entities) (end : ℕ) where
     spans = a.spans ++ b.spans;
     text_is = flat_map-append (λ (s : Span). s.text) a.spans b.spans ∙ (λ i. a.text_is i ++ b.text_is i);
     cut = cut-append here a.spans b.spans rest (subst (λ (z : List Placed). Cut table end here a.spans (z ++ rest)) (sym b.text_is) a.cut) b.cut;
-    tokens_are = ap (map taken) (flat_map-append (λ (s : Span). s.tokens) a.spans b.spans) ∙ map-append taken (tokens_of a.spans) (tokens_of b.spans) ∙ (λ i. a.tokens_are i ++ b.tokens_are i);
+    tokens_are = ap (map token_taken) (flat_map-append (λ (s : Span). s.tokens) a.spans b.spans) ∙ map-append token_taken (tokens_of a.spans) (tokens_of b.spans) ∙ (λ i. a.tokens_are i ++ b.tokens_are i);
     in_profile = ap has_refused (flat_map-append (λ (s : Span). s.tokens) a.spans b.spans) ∙ list_any-append is_refused_tag (tokens_of a.spans) (tokens_of b.spans)
         ∙ ap (λ (x : Bool). x || has_refused (tokens_of b.spans)) a.in_profile ∙ b.in_profile;
     leads = subst Then (sym (standing-append here a.spans b.spans)) b.leads;
@@ -72,13 +72,13 @@ module _ (table : Entities) (end : ℕ) where
   pub cuts_none : (here : Standing) (rest : List Placed) (There : Standing → Type 0) → There here → Cuts table end here [] rest [] There
   cuts_none here rest There h = record { spans = []; text_is = refl; cut = tt; tokens_are = refl; in_profile = refl; leads = h }
 
-  pub one : (here : Standing) (rest : List Placed) (span : Span) (ts : List (Token (List ℕ))) (There : Standing → Type 0) → IsSpan table end here rest span → map taken span.tokens ≡ ts → has_refused span.tokens ≡ false → There (next here span)
+  pub one : (here : Standing) (rest : List Placed) (span : Span) (ts : List (Token (List ℕ))) (There : Standing → Type 0) → IsSpan table end here rest span → map token_taken span.tokens ≡ ts → has_refused span.tokens ≡ false → There (next here span)
       → Cuts table end here span.text rest ts There
   one here rest span ts There is tokens allowed leads = record {
     spans = span ∷ [];
     text_is = append-nil span.text;
     cut = (is, tt);
-    tokens_are = ap (map taken) (append-nil span.tokens) ∙ tokens;
+    tokens_are = ap (map token_taken) (append-nil span.tokens) ∙ tokens;
     in_profile = ap has_refused (append-nil span.tokens) ∙ allowed;
     leads = leads;
   }

@@ -1,5 +1,5 @@
 -- Plain documents are read as their own tokens.
-use Rattle.hlaws.proofs.Names.{begins_with, ◌||◌, tokens_of, append-nil, all-characters, is_space, inside_element, ◌≡◌, ℕ, Bool, true, false, not, ◌&&◌, cond, List, [], ◌∷◌, ◌++◌, map, Some, None, refl, sym, ◌∙◌, ap, subst, arith, and_parts, false≢true, bytes_eq-Decides, codes, list_all, to_ascii_lowercase, Placed, characters, name_bytes, raw_kind, tag_named, Entities, IsTable, HasCore, What, Forest, none, tree, texts, Token, Standing, IsSpanOf, Span, RawKind, Escaping, AreTexts, is_plain_comment, first_is}
+use Rattle.hlaws.proofs.Names.{begins_with, ◌||◌, plain_tokens, append-nil, all-characters, is_space, inside_element, ◌≡◌, ℕ, Bool, true, false, not, ◌&&◌, cond, List, [], ◌∷◌, ◌++◌, map, Some, None, refl, sym, ◌∙◌, ap, subst, arith, and_parts, false≢true, bytes_eq-Decides, codes, list_all, to_ascii_lowercase, Placed, characters, name_bytes, raw_kind, tag_named, Entities, IsTable, HasCore, What, Forest, none, tree, texts, Token, Standing, IsSpanOf, Span, RawKind, Escaping, AreTexts, is_plain_comment, first_is}
 use Rattle.names.specs.declared.raw.RawKind.TheVariants as kind
 use Rattle.names.specs.Placed.{null_errors, is_greater, lowered}
 use Rattle.names.specs.declared.tag.Tag.{Tag}
@@ -11,7 +11,7 @@ use Rattle.hmarkup.specs.Doctype.{IsDoctype}
 use Rattle.htoken.specs.Data as data_span
 use Rattle.hmodes.specs.State.{doctype}
 use Rattle.hserialize.specs.Plain.{is_plain}
-use Rattle.hserialize.specs.PlainDocument.{ends, is_leaf, leaves_then, comments_then, doctype_then, element_then, is_metadata, in_head, are_metadata, body_on, are_in_html, html_on, is_plain_document}
+use Rattle.hserialize.specs.PlainDocument.{ends_document, is_leaf, leaves_then, comments_then, doctype_then, element_then, is_metadata, inside_head, are_metadata, body_on, are_in_html, html_on, is_plain_document}
 use Rattle.hserialize.specs.declared.content.Texts.{Texts}
 use Rattle.hserialize.specs.declared.content.Texts.TheVariants as allowed
 use Rattle.hserialize.specs.Written.{written_among}
@@ -49,7 +49,7 @@ doctype_cuts table end_at here text rest is_data e =
         let name : List Placed = n ∷ ame in
         let close : List Placed = c ∷ lose in
         let html : name_bytes name ≡ codes "html" = name_bytes_are name (codes "html") named refl in
-        let found : production.Found = production.named (name_bytes name) production.nothing in
+        let found : production.Found = production.with_name (name_bytes name) production.nothing in
         let is_doctype : IsDoctype end_at rest ((s ∷ []) ++ (name ++ close)) found (null_errors name) = record {
           space = s ∷ [];
           after = name ++ close;
@@ -96,13 +96,13 @@ metadata_name _ h = h
 
 module _ (table : Entities) (is_table : IsTable table) (core : HasCore table) (how : Escaping) where
   abbrev ReadsList : Forest (List ℕ) → Type 0
-  ReadsList l = Reads table (written_among how false l) (tokens_of texts l)
+  ReadsList l = Reads table (written_among how false l) (plain_tokens texts l)
 
   -- lists that pass a test
   abbrev AreAllRead : (Forest (List ℕ) → Bool) → Type 0
   AreAllRead test = (l : Forest (List ℕ)) → AreTexts l → test l ≡ true → ReadsList l
 
-  ends_read : AreAllRead ends
+  ends_read : AreAllRead ends_document
   ends_read none u h = reads-nil table
   ends_read (tree m w kids rest) u h = absurd (false≢true h)
 
@@ -127,7 +127,7 @@ module _ (table : Entities) (is_table : IsTable table) (core : HasCore table) (h
       let named : name ≡ codes "html" = (bytes_eq-Decides name (codes "html")).0 (grind arith) in
       let others : ReadsList rest = law rest u.1 (grind arith) in
       subst (λ (x : List ℕ). ReadsList (tree m (forest.doctype x public_id system_id) kids rest)) (sym named)
-      (reads-append table (codes "<!DOCTYPE html>") (written_among how false rest) (html_doctype ∷ []) (tokens_of texts rest)
+      (reads-append table (codes "<!DOCTYPE html>") (written_among how false rest) (html_doctype ∷ []) (plain_tokens texts rest)
       (record {
         codes_are = codes "<!DOCTYPE html>";
         spells = spells_ascii (codes "<!DOCTYPE html>") refl;
@@ -142,7 +142,7 @@ module _ (table : Entities) (is_table : IsTable table) (core : HasCore table) (h
       let f = four _ _ _ _ h in
       let named : name ≡ x = (bytes_eq-Decides name x).0 f.0 in
       subst (λ (y : List ℕ). ReadsList (tree m (forest.element y attrs) kids rest)) (sym named)
-      (whole.element_then table is_table core how m in_head x attrs kids rest known u.1 f.1 u.2 (λ raw. absurd (let z = ap is_raw as_data in cc))
+      (whole.element_then table is_table core how m inside_head x attrs kids rest known u.1 f.1 u.2 (λ raw. absurd (let z = ap is_raw as_data in cc))
       (law_kids kids u.2 f.2) (law rest u.3 f.3))
   element_read x children next known as_data law_kids law _ u h = absurd (false≢true h)
 
@@ -150,8 +150,8 @@ module _ (table : Entities) (is_table : IsTable table) (core : HasCore table) (h
   metadata_read none u h = reads-nil table
   metadata_read (tree m (forest.element name attrs) kids rest) u h =
       let f = four _ _ _ _ h in
-      whole.element_then table is_table core how m in_head name attrs kids rest (document_name name (metadata_name (tag_named name) f.0)) u.1 f.1 u.2
-      (λ raw. f.2) (whole.list_reads table is_table core how (inside_element (tag_named name) in_head) kids u.2 f.2) (metadata_read rest u.3 f.3)
+      whole.element_then table is_table core how m inside_head name attrs kids rest (document_name name (metadata_name (tag_named name) f.0)) u.1 f.1 u.2
+      (λ raw. f.2) (whole.list_reads table is_table core how (inside_element (tag_named name) inside_head) kids u.2 f.2) (metadata_read rest u.3 f.3)
   metadata_read (tree m (forest.comment t) kids rest) u h = let b =
       and_parts _ _ h in leaf_read allowed.WhiteSpace m (forest.comment t) kids rest u b.0 (metadata_read rest u.2 b.1)
   metadata_read (tree m (forest.text t) kids rest) u h = let b =
@@ -159,13 +159,13 @@ module _ (table : Entities) (is_table : IsTable table) (core : HasCore table) (h
   metadata_read _ u h = absurd (false≢true h)
 
   document_read : AreAllRead is_plain_document
-  document_read = leaves_read allowed.None _ (doctype_read _ (leaves_read allowed.None _ (named (codes "html") are_in_html (comments_then ends) refl refl
+  document_read = leaves_read allowed.None _ (doctype_read _ (leaves_read allowed.None _ (named (codes "html") are_in_html (comments_then ends_document) refl refl
       (leaves_read allowed.None _ (named (codes "head") are_metadata (leaves_then allowed.WhiteSpace body_on) refl refl metadata_read
-      (leaves_read allowed.WhiteSpace _ (named (codes "body") (is_plain (codes "body")) (comments_then ends) refl refl
+      (leaves_read allowed.WhiteSpace _ (named (codes "body") (is_plain (codes "body")) (comments_then ends_document) refl refl
       (λ l u h. whole.list_reads table is_table core how _ l u h) comments_read)))) comments_read)))
     where
-      comments_read : AreAllRead (comments_then ends)
-      comments_read = leaves_read allowed.None ends ends_read
+      comments_read : AreAllRead (comments_then ends_document)
+      comments_read = leaves_read allowed.None ends_document ends_read
 
       named : (x : List ℕ) (children next : Forest (List ℕ) → Bool) → of_documents (tag_named x) ≡ true → raw_kind (tag_named x) ≡ kind.None
           → AreAllRead children → AreAllRead next → AreAllRead (element_then x children next)

@@ -1,5 +1,5 @@
 -- Tags and comments, whole.
-use Rattle.hlaws.proofs.Names.{◌≡◌, ℕ, Bool, true, false, not, ◌&&◌, ◌||◌, nat_eq, Some, List, [], ◌∷◌, ◌++◌, map, refl, sym, ◌∙◌, ap, subst, arith, append-nil, append_assoc, and_right, or_from, or_parts, nat_tests, map-append, codes, encode_utf8_all, list_all, all-characters, all_weaker, first_is, Placed, RawKind, characters, place, begins, spells, all, is_letter, without_null, name_bytes, raw_kind, is_refused, tag_named, Entities, IsTable, Attribute, Span, Standing, next, parts_text, attributes_after, ends_name, IsSpanOf, has_refused, start, end, comment, taken, begins_with, has_part}
+use Rattle.hlaws.proofs.Names.{◌≡◌, ℕ, Bool, true, false, not, ◌&&◌, ◌||◌, nat_eq, Some, List, [], ◌∷◌, ◌++◌, map, refl, sym, ◌∙◌, ap, subst, arith, append-nil, append_assoc, and_right, or_from, or_parts, nat_tests, map-append, codes, encode_utf8_all, list_all, all-characters, all_weaker, first_is, Placed, RawKind, characters, place, begins, spells, all, is_letter, without_null, name_bytes, raw_kind, is_refused, tag_named, Entities, IsTable, Attribute, Span, Standing, next, parts_text, attributes_after, ends_name, IsSpanOf, has_refused, start, end, comment, token_taken, begins_with, has_part}
 use Rattle.names.specs.declared.raw.RawKind.TheVariants as kind
 use Rattle.names.specs.Placed.{stops, before, Avoids, text_bytes}
 use Rattle.hmarkup.specs.Comment.{IsComment, closed, closes_comment, closes_at_once}
@@ -77,7 +77,7 @@ module _ (table : Entities) (end_at : ℕ) where
     pub span : Span
     pub is_tag : IsTag table end_at rest span
     pub text_is : span.text ≡ text
-    pub tokens_are : map taken span.tokens ≡ end name ∷ []
+    pub tokens_are : map token_taken span.tokens ≡ end name ∷ []
     pub in_profile : has_refused span.tokens ≡ false
     pub leads : (here : Standing) → next here span ≡ after_end here
 
@@ -171,10 +171,10 @@ comment_cuts table end_at cs t text rest here is_data is e =
     let not_at_once : closes_at_once body ≡ false =
     or_from _ _ (spells_is (codes ">") body ∙ ap (begins_with (codes ">")) whole ∙ no_arrow cs is.arrow_not) (spells_is (codes "->") body ∙ ap (begins_with (codes "->")) whole ∙ no_dash_arrow cs is.dash_not) in
     let contents_are : text_bytes q.back ≡ t = ap encode_utf8_all (bytes_of_text q.back cs q.backs is.clean) ∙ is.bytes_are in
-    let is_comment : IsComment end_at rest body (text_bytes q.back) (text_of_comment.errors_after [] body) = closed q.back s.back refl not_at_once inner_is s.backs refl refl in
-    let span : Span = comment_span end_at q.front body (text_bytes q.back) (text_of_comment.errors_after [] body) in
+    let is_comment : IsComment end_at rest body (text_bytes q.back) (text_of_comment.comment_errors_after [] body) = closed q.back s.back refl not_at_once inner_is s.backs refl refl in
+    let span : Span = comment_span end_at q.front body (text_bytes q.back) (text_of_comment.comment_errors_after [] body) in
     cuts_as table end_at here span.text text rest (comment t ∷ []) (λ there. there.kind ≡ kind.None)
     (sym (s.is ∙ ap (λ (x : List Placed). x ++ s.back) q.is ∙ append_assoc q.front q.back s.back))
     (one table end_at here rest span (comment t ∷ []) (λ there. there.kind ≡ kind.None)
-    (subst (λ (k : RawKind). IsSpanOf k table end_at here rest span) (sym is_data) (production.comment q.front body (text_bytes q.back) (text_of_comment.errors_after [] body) q.fronts is_comment refl))
+    (subst (λ (k : RawKind). IsSpanOf k table end_at here rest span) (sym is_data) (production.comment q.front body (text_bytes q.back) (text_of_comment.comment_errors_after [] body) q.fronts is_comment refl))
     (ap (λ (x : List ℕ). comment x ∷ []) contents_are) refl refl)

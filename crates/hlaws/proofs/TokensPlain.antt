@@ -167,11 +167,11 @@ module _ (table : Entities) (is_table : IsTable table) (core : HasCore table) (h
       let good = good_attribute a.0 (grind arith) in
       let value = escaped_as table core how setting.Value (chars a.1) (scalars-chars a.1 u.1) (clean_text a.1 u.1 clean) in
       let more = attributes_read others u.2 (grind arith) in
-      let name_spelled : Spells a.0 a.0 = spells_ascii a.0 (goods_ascii a.0 good.0) in
+      let name_mapped : Spells a.0 a.0 = spells_ascii a.0 (goods_ascii a.0 good.0) in
       let one : Spells (attribute_text how a) (attribute_codes a.0 value.codes_are) =
       spells-append (((codes " " ++ a.0) ++ codes "=\"") ++ escaped how setting.Value a.1) (((codes " " ++ a.0) ++ codes "=\"") ++ value.codes_are) (codes "\"") (codes "\"")
       (spells-append ((codes " " ++ a.0) ++ codes "=\"") ((codes " " ++ a.0) ++ codes "=\"") (escaped how setting.Value a.1) value.codes_are
-      (spells-append (codes " " ++ a.0) (codes " " ++ a.0) (codes "=\"") (codes "=\"") (spells-append (codes " ") (codes " ") a.0 a.0 (spells_ascii (codes " ") refl) name_spelled) (spells_ascii (codes "=\"") refl))
+      (spells-append (codes " " ++ a.0) (codes " " ++ a.0) (codes "=\"") (codes "=\"") (spells-append (codes " ") (codes " ") a.0 a.0 (spells_ascii (codes " ") refl) name_mapped) (spells_ascii (codes "=\"") refl))
       value.spells) (spells_ascii (codes "\"") refl) in
       record {
         codes_are = attribute_codes a.0 value.codes_are ++ more.codes_are;
@@ -189,23 +189,23 @@ module _ (table : Entities) (is_table : IsTable table) (core : HasCore table) (h
   pub a_start_tag : (name : List ℕ) (attrs : List (Attribute (List ℕ))) → IsElementName name → AreUtf8 attrs → are_plain_attributes attrs ≡ true → StartTag name attrs
   a_start_tag name attrs is_name u h =
       let read = attributes_read attrs u h in
-      let name_spelled : Spells name name = spells_ascii name (goods_ascii name is_name.good) in
+      let name_mapped : Spells name name = spells_ascii name (goods_ascii name is_name.good) in
       record {
         codes_are = ((codes "<" ++ name) ++ read.codes_are) ++ codes ">";
         spells = spells-append ((codes "<" ++ name) ++ flat_map (attribute_text how) attrs) ((codes "<" ++ name) ++ read.codes_are) (codes ">") (codes ">")
-            (spells-append (codes "<" ++ name) (codes "<" ++ name) (flat_map (attribute_text how) attrs) read.codes_are (spells-append (codes "<") (codes "<") name name (spells_ascii (codes "<") refl) name_spelled) read.spells)
+            (spells-append (codes "<" ++ name) (codes "<" ++ name) (flat_map (attribute_text how) attrs) read.codes_are (spells-append (codes "<") (codes "<") name name (spells_ascii (codes "<") refl) name_mapped) read.spells)
             (spells_ascii (codes ">") refl);
         cuts = λ end_at here text rest k e. start_tag_cuts table is_table end_at name attrs read.codes_are text rest here k is_name read.are (are_new attrs h) e;
       }
 
-  pub end_spelled : (name : List ℕ) → IsElementName name → Spells (end_tag_text name) ((codes "</" ++ name) ++ codes ">")
-  end_spelled name is_name =
+  pub end_mapped : (name : List ℕ) → IsElementName name → Spells (end_tag_text name) ((codes "</" ++ name) ++ codes ">")
+  end_mapped name is_name =
       spells-append (codes "</" ++ name) (codes "</" ++ name) (codes ">") (codes ">") (spells-append (codes "</") (codes "</") name name (spells_ascii (codes "</") refl) (spells_ascii name (goods_ascii name is_name.good))) (spells_ascii (codes ">") refl)
 
   pub end_tag_reads : (name : List ℕ) → IsElementName name → Reads table (end_tag_text name) (end name ∷ [])
   end_tag_reads name is_name = record {
     codes_are = (codes "</" ++ name) ++ codes ">";
-    spells = end_spelled name is_name;
+    spells = end_mapped name is_name;
     cuts = λ end_at here text rest k e. end_tag_cuts table end_at name text rest here k is_name e;
   }
 

@@ -5,7 +5,7 @@ use Rattle.names.specs.Placed.{error_if, stops}
 use Rattle.htag.specs.Value.{plain, pieces_text, AreValue, value_bytes}
 use Rattle.htag.specs.Value as piece
 use Rattle.names.specs.declared.error.ErrorCode.TheVariants.{MissingWhitespaceBetweenAttributes}
-use Rattle.htag.specs.Tag.{Part, attribute_part, value_errors, is_sign, space, quoted, AreParts, kept}
+use Rattle.htag.specs.Tag.{Part, attribute_part, value_errors, is_sign, space, quoted, AreParts, kept_attribute}
 use Rattle.hserialize.specs.declared.escaping.Setting.TheVariants as setting
 use Rattle.hlaws.proofs.TokensText.{is_written_ascii, tail_of}
 use Rattle.hlaws.proofs.TokensCore.{Way, by_name, by_itself, AreWritten, entry_of}
@@ -170,7 +170,7 @@ module _ (table : Entities) (is_table : IsTable table) where
               then.are,
             ),
           );
-          attributes_are = (λ i. kept names (Some (record { name = name_is i; value = value_is i; at = place 0 name })) ++ attributes_after (name_is i ∷ names) then.parts)
+          attributes_are = (λ i. kept_attribute names (Some (record { name = name_is i; value = value_is i; at = place 0 name })) ++ attributes_after (name_is i ∷ names) then.parts)
               ∙ ap (λ (b : Bool). cond b [] ((a.0, a.1) ∷ []) ++ attributes_after (a.0 ∷ names) then.parts) new ∙ ap (λ (x : List (Attribute (List ℕ))). (a.0, a.1) ∷ x) then.attributes_are;
         }
     an_attribute _ name _ quote value close back text rest es names a others is e-sp e-name e-sign e-quote e-value e-close t new then = absurd cc

@@ -1,5 +1,5 @@
 -- Plain lists are read as their own tokens, in every context.
-use Rattle.hlaws.proofs.Names.{are_plain_attributes, arith, ◌≡◌, ℕ, Bool, true, false, not, cond, nat_lt, Option, Some, None, List, [], ◌∷◌, ◌++◌, map, length, refl, sym, ◌∙◌, ap, subst, append-nil, append_assoc, and_parts, false≢true, map-append, scalars-chars, codes, chars, IsUtf8, flat_map, Placed, RawKind, characters, raw_kind, is_void, tag_named, Entities, IsTable, HasCore, Attribute, What, Forest, none, tree, Eof, Standing, at_start, standing_after, has_references, may_end, texts, Token, start, end, comment, character, eof, Content, Role, Escaping, escaped, written_char, row, takes_role, takes_comments, Inside, inside_element, in_context_of, is_form, are_content, are_content_if, is_plain_comment, is_among_texts, is_clean, begins_with_text, has_part, tokens_of, start_tag_text, end_tag_text, AreTexts, AreRead, PlainTokens, text_of, taken}
+use Rattle.hlaws.proofs.Names.{are_plain_attributes, arith, ◌≡◌, ℕ, Bool, true, false, not, cond, nat_lt, Option, Some, None, List, [], ◌∷◌, ◌++◌, map, length, refl, sym, ◌∙◌, ap, subst, append-nil, append_assoc, and_parts, false≢true, map-append, scalars-chars, codes, chars, IsUtf8, flat_map, Placed, RawKind, characters, raw_kind, is_void, tag_named, Entities, IsTable, HasCore, Attribute, What, Forest, none, tree, Eof, Standing, at_start, standing_after, has_references, may_end, texts, Token, start, end, comment, character, eof, Content, Role, Escaping, escaped, written_char, row, takes_role, takes_comments, Inside, inside_element, in_context_of, is_form, are_content, are_content_if, is_plain_comment, is_among_texts, is_clean, begins_with_text, has_part, plain_tokens, start_tag_text, end_tag_text, AreTexts, AreRead, PlainTokens, decoded_text, token_taken}
 use Rattle.std.proofs.lemmas.Str.{chars-nil, IsUtf8-nil}
 use Rattle.names.specs.declared.raw.RawKind.TheVariants as kind
 use Rattle.hnodes.specs.Forest as forest
@@ -19,7 +19,7 @@ use Rattle.hlaws.proofs.TokensCore.{escaped_as}
 use Rattle.hlaws.proofs.TokensCuts.{split, Cuts, Same, join, cuts_as, text_cuts}
 use Rattle.hlaws.proofs.TokensMarks.{IsElementName, after_start}
 use Rattle.hlaws.proofs.TokensRaw.{is_raw, raw_cuts, raw_end_cuts, pushed_on, pushed, no_end_in, no_end_of_none, level_zero}
-use Rattle.hlaws.proofs.TokensPlain.{fits, fits_context, all_contexts, IsKnownName, known_name, InData, Reads, led, told, reads-nil, reads-append, StartTag, a_start_tag, end_spelled, end_tag_reads, start_tag_reads, text_reads, comment_reads}
+use Rattle.hlaws.proofs.TokensPlain.{fits, fits_context, all_contexts, IsKnownName, known_name, InData, Reads, led, told, reads-nil, reads-append, StartTag, a_start_tag, end_mapped, end_tag_reads, start_tag_reads, text_reads, comment_reads}
 
 -- ONE TEXT AT MOST
 
@@ -68,13 +68,13 @@ pub record OneText (how : Escaping) (which : Texts) (l : Forest (List ℕ)) : Ty
   pub among : is_among_texts which t ≡ true
   pub raw_is : written_among how true l ≡ t
   pub text_is : written_among how false l ≡ escaped how setting.Text t
-  pub tokens_are : tokens_of texts l ≡ map (λ c. character c) (chars t)
+  pub tokens_are : plain_tokens texts l ≡ map (λ c. character c) (chars t)
 
 -- only texts are there
 begins_so : (m : ℕ) (inside : Inside) (w : What (List ℕ)) (kids rest : Forest (List ℕ)) → holds_text inside.content ≡ true → are_content inside (tree m w kids rest) ≡ true → begins_with_text (tree m w kids rest) ≡ true
 begins_so m inside (forest.element name attrs) kids rest h p =
-    let taken : takes_role inside.content (row (tag_named name)).0 ≡ true = (four _ _ _ _ (three inside m (forest.element name attrs) kids rest p).node).0 in
-    absurd (false≢true (sym (no_role inside.content (row (tag_named name)).0 h) ∙ taken))
+    let token_taken : takes_role inside.content (row (tag_named name)).0 ≡ true = (four _ _ _ _ (three inside m (forest.element name attrs) kids rest p).node).0 in
+    absurd (false≢true (sym (no_role inside.content (row (tag_named name)).0 h) ∙ token_taken))
 begins_so m inside (forest.text t) kids rest h p = refl
 begins_so m inside (forest.comment t) kids rest h p =
     absurd (false≢true (sym (no_comment inside.content h) ∙ (and_parts (takes_comments inside.content) (is_plain_comment t) (three inside m (forest.comment t) kids rest p).node).0))
@@ -126,7 +126,7 @@ module _ (table : Entities) (is_table : IsTable table) (core : HasCore table) (h
   raw_element name attrs bytes cs ts is_name s spells inner = record {
     codes_are = s.codes_are ++ (cs ++ ((codes "</" ++ name) ++ codes ">"));
     spells = spells-append (start_tag_text how name attrs) s.codes_are (bytes ++ end_tag_text name) (cs ++ ((codes "</" ++ name) ++ codes ">")) s.spells
-        (spells-append bytes cs (end_tag_text name) ((codes "</" ++ name) ++ codes ">") spells (end_spelled table is_table core how name is_name));
+        (spells-append bytes cs (end_tag_text name) ((codes "</" ++ name) ++ codes ">") spells (end_mapped table is_table core how name is_name));
     cuts = λ end_at here text rest k e.
         let a = split text s.codes_are (cs ++ ((codes "</" ++ name) ++ codes ">")) e in
         let b = split a.back cs ((codes "</" ++ name) ++ codes ">") a.backs in
@@ -143,10 +143,10 @@ module _ (table : Entities) (is_table : IsTable table) (core : HasCore table) (h
 
   -- its text, with references
   rcdata_inner : (name : List ℕ) (l : Forest (List ℕ)) (attrs : List (Attribute (List ℕ))) (which : Texts) → raw_kind (tag_named name) ≡ kind.Rcdata → IsElementName name → StartTag table is_table core how name attrs → OneText how which l
-      → Reads table (start_tag_text how name attrs ++ (written_among how false l ++ end_tag_text name)) (start name attrs false ∷ (tokens_of texts l ++ end name ∷ []))
+      → Reads table (start_tag_text how name attrs ++ (written_among how false l ++ end_tag_text name)) (start name attrs false ∷ (plain_tokens texts l ++ end name ∷ []))
   rcdata_inner name l attrs which is is_name s o =
       let w = escaped_as table core how setting.Text (chars o.t) (scalars-chars o.t o.utf8) (clean_text o.t o.utf8 o.clean) in
-      raw_element name attrs (written_among how false l) w.codes_are (tokens_of texts l) is_name s (subst (λ (x : List ℕ). Spells x w.codes_are) (sym o.text_is) w.spells)
+      raw_element name attrs (written_among how false l) w.codes_are (plain_tokens texts l) is_name s (subst (λ (x : List ℕ). Spells x w.codes_are) (sym o.text_is) w.spells)
       (λ end_at text rest more e f. subst (λ (x : List (Token (List ℕ))). Cuts table end_at (after_start name) text rest x (EndsRaw name)) (sym o.tokens_are)
       (led table end_at (after_start name) text rest (map (λ c. character c) (chars o.t)) (Same (after_start name)) (EndsRaw name)
       (λ there same. record {
@@ -158,9 +158,9 @@ module _ (table : Entities) (is_table : IsTable table) (core : HasCore table) (h
   -- and without
   raw_inner : (name : List ℕ) (l : Forest (List ℕ)) (attrs : List (Attribute (List ℕ))) (which : Texts) → is_raw (raw_kind (tag_named name)) ≡ true → has_references (raw_kind (tag_named name)) ≡ false → IsElementName name → StartTag table is_table core how name attrs
       → (o : OneText how which l) → not (has_part (codes "</") o.t) ≡ true → ((text : List Placed) → characters text ≡ chars o.t → may_end (raw_kind (tag_named name)) (pushed text []) ≡ true)
-      → Reads table (start_tag_text how name attrs ++ (written_among how true l ++ end_tag_text name)) (start name attrs false ∷ (tokens_of texts l ++ end name ∷ []))
+      → Reads table (start_tag_text how name attrs ++ (written_among how true l ++ end_tag_text name)) (start name attrs false ∷ (plain_tokens texts l ++ end name ∷ []))
   raw_inner name l attrs which is no_refs is_name s o no_close may =
-      raw_element name attrs (written_among how true l) (chars o.t) (tokens_of texts l) is_name s (subst (λ (x : List ℕ). Spells x (chars o.t)) (sym o.raw_is) (spells_text o.t o.utf8 o.clean))
+      raw_element name attrs (written_among how true l) (chars o.t) (plain_tokens texts l) is_name s (subst (λ (x : List ℕ). Spells x (chars o.t)) (sym o.raw_is) (spells_text o.t o.utf8 o.clean))
       (λ end_at text rest more e f. subst (λ (x : List (Token (List ℕ))). Cuts table end_at (after_start name) text rest x (EndsRaw name)) (sym o.tokens_are)
       (led table end_at (after_start name) text rest (map (λ c. character c) (chars o.t)) (λ there. there ≡ pushed_on (after_start name) text) (EndsRaw name)
       (λ there same. record {
@@ -173,19 +173,19 @@ module _ (table : Entities) (is_table : IsTable table) (core : HasCore table) (h
   -- A LIST
 
   abbrev pub ReadsList : Forest (List ℕ) → Type 0
-  ReadsList l = Reads table (written_among how false l) (tokens_of texts l)
+  ReadsList l = Reads table (written_among how false l) (plain_tokens texts l)
 
   -- an element, by how its text is read and whether it is void
   abbrev Element : List ℕ → List (Attribute (List ℕ)) → Forest (List ℕ) → RawKind → Bool → Type 0
-  Element name attrs kids k v = Reads table (start_tag_text how name attrs ++ (cond v [] (written_among how (has_no_references k) kids ++ end_tag_text name))) (start name attrs false ∷ cond v [] (tokens_of texts kids ++ end name ∷ []))
+  Element name attrs kids k v = Reads table (start_tag_text how name attrs ++ (cond v [] (written_among how (has_no_references k) kids ++ end_tag_text name))) (start name attrs false ∷ cond v [] (plain_tokens texts kids ++ end name ∷ []))
 
   an_element : (name : List ℕ) (attrs : List (Attribute (List ℕ))) (kids : Forest (List ℕ)) (inside : Inside) (k : RawKind) (v : Bool) → raw_kind (tag_named name) ≡ k → fits k (row (tag_named name)).1 v ≡ true
       → IsElementName name → StartTag table is_table core how name attrs → AreTexts kids → (is_raw k ≡ true → are_content (inside_element (tag_named name) inside) kids ≡ true) → ReadsList kids → Element name attrs kids k v
   an_element name attrs kids inside kind.None true is_kind fit is_name s u h kids_read =
       reads-append table (start_tag_text how name attrs) [] (start name attrs false ∷ []) [] (start_tag_reads table is_table core how name attrs s is_kind) (reads-nil table)
   an_element name attrs kids inside kind.None false is_kind fit is_name s u h kids_read =
-      reads-append table (start_tag_text how name attrs) (written_among how false kids ++ end_tag_text name) (start name attrs false ∷ []) (tokens_of texts kids ++ end name ∷ []) (start_tag_reads table is_table core how name attrs s is_kind)
-      (reads-append table (written_among how false kids) (end_tag_text name) (tokens_of texts kids) (end name ∷ []) kids_read (end_tag_reads table is_table core how name is_name))
+      reads-append table (start_tag_text how name attrs) (written_among how false kids ++ end_tag_text name) (start name attrs false ∷ []) (plain_tokens texts kids ++ end name ∷ []) (start_tag_reads table is_table core how name attrs s is_kind)
+      (reads-append table (written_among how false kids) (end_tag_text name) (plain_tokens texts kids) (end name ∷ []) kids_read (end_tag_reads table is_table core how name is_name))
   an_element name attrs kids inside kind.Rcdata v is_kind fit is_name s u h kids_read =
       let e = raw_fits kind.Rcdata (row (tag_named name)).1 v refl fit in
       let within : Inside = inside_element (tag_named name) inside in
@@ -221,17 +221,17 @@ module _ (table : Entities) (is_table : IsTable table) (core : HasCore table) (h
   element_then m inside name attrs kids rest known u plain us h kids_read rest_read =
       let s = a_start_tag table is_table core how name attrs known.is_name u plain in
       let element = an_element name attrs kids inside (raw_kind (tag_named name)) (is_void (tag_named name)) refl known.fit known.is_name s us h kids_read in
-      told table _ _ _ (again (is_void (tag_named name)) name attrs (tokens_of texts kids) (tokens_of texts rest))
+      told table _ _ _ (again (is_void (tag_named name)) name attrs (plain_tokens texts kids) (plain_tokens texts rest))
       (reads-append table (element_text how name attrs (written_among how (has_no_references (raw_kind (tag_named name))) kids)) (written_among how false rest)
-      (start name attrs false ∷ cond (is_void (tag_named name)) [] (tokens_of texts kids ++ end name ∷ [])) (tokens_of texts rest) element rest_read)
+      (start name attrs false ∷ cond (is_void (tag_named name)) [] (plain_tokens texts kids ++ end name ∷ [])) (plain_tokens texts rest) element rest_read)
 
   pub text_then : (m : ℕ) (t : List ℕ) (kids rest : Forest (List ℕ)) → IsUtf8 t → is_clean t ≡ true → ReadsList rest → ReadsList (tree m (forest.text t) kids rest)
   text_then m t kids rest u clean rest_read =
-      reads-append table (escaped how setting.Text t) (written_among how false rest) (map (λ c. character c) (chars t)) (tokens_of texts rest) (text_reads table is_table core how t u clean) rest_read
+      reads-append table (escaped how setting.Text t) (written_among how false rest) (map (λ c. character c) (chars t)) (plain_tokens texts rest) (text_reads table is_table core how t u clean) rest_read
 
   pub comment_then : (m : ℕ) (t : List ℕ) (kids rest : Forest (List ℕ)) → IsUtf8 t → is_plain_comment t ≡ true → ReadsList rest → ReadsList (tree m (forest.comment t) kids rest)
   comment_then m t kids rest u plain rest_read =
-      reads-append table ((codes "<!--" ++ t) ++ codes "-->") (written_among how false rest) (comment t ∷ []) (tokens_of texts rest) (comment_reads table is_table core how t u plain) rest_read
+      reads-append table ((codes "<!--" ++ t) ++ codes "-->") (written_among how false rest) (comment t ∷ []) (plain_tokens texts rest) (comment_reads table is_table core how t u plain) rest_read
 
   pub list_reads : (inside : Inside) (l : Forest (List ℕ)) → AreTexts l → are_content inside l ≡ true → ReadsList l
   list_reads inside none u h = reads-nil table
@@ -252,39 +252,39 @@ module _ (table : Entities) (is_table : IsTable table) (core : HasCore table) (h
   -- CONTEXTS
 
   -- a cut of the whole text
-  whole_read : (bom : Bom) (k : RawKind) (bytes cs : List ℕ) (ts : List (Token (List ℕ))) (There : Standing → Type 0) → Spells bytes cs → Cuts table (length bytes) (at_start k) (text_of bom bytes) [] ts There → AreRead table bom k bytes (ts ++ eof ∷ [])
+  whole_read : (bom : Bom) (k : RawKind) (bytes cs : List ℕ) (ts : List (Token (List ℕ))) (There : Standing → Type 0) → Spells bytes cs → Cuts table (length bytes) (at_start k) (decoded_text bom bytes) [] ts There → AreRead table bom k bytes (ts ++ eof ∷ [])
   whole_read bom k bytes cs ts There s c = record {
     utf8 = spells_utf8 bytes cs s;
     toks = cut.tokens_of c.spans ++ Eof (length bytes) ∷ [];
-    errors = cut.errors_of c.spans ++ end_errors (length bytes) (standing_after (at_start k) c.spans);
+    errors = cut.span_errors c.spans ++ end_errors (length bytes) (standing_after (at_start k) c.spans);
     read = record { spans = c.spans; text_is = sym c.text_is; cut = c.cut; tokens_are = refl; errors_are = refl; in_profile = c.in_profile };
-    are = map-append taken (cut.tokens_of c.spans) (Eof (length bytes) ∷ []) ∙ ap (λ (x : List (Token (List ℕ))). x ++ eof ∷ []) c.tokens_are;
+    are = map-append token_taken (cut.tokens_of c.spans) (Eof (length bytes) ∷ []) ∙ ap (λ (x : List (Token (List ℕ))). x ++ eof ∷ []) c.tokens_are;
   }
 
   -- a list that is read as data, from the beginning to the end
-  pub as_data : (bom : Bom) (l : Forest (List ℕ)) (r : ReadsList l) → begins_marked bom r.codes_are ≡ false → AreRead table bom kind.None (written_among how false l) (tokens_of texts l ++ eof ∷ [])
+  pub as_data : (bom : Bom) (l : Forest (List ℕ)) (r : ReadsList l) → begins_marked bom r.codes_are ≡ false → AreRead table bom kind.None (written_among how false l) (plain_tokens texts l ++ eof ∷ [])
   as_data bom l r m =
       let bytes : List ℕ = written_among how false l in
-      whole_read bom kind.None bytes r.codes_are (tokens_of texts l) InData r.spells (r.cuts (length bytes) (at_start kind.None) (text_of bom bytes) [] refl (text_characters bom bytes r.codes_are r.spells m))
+      whole_read bom kind.None bytes r.codes_are (plain_tokens texts l) InData r.spells (r.cuts (length bytes) (at_start kind.None) (decoded_text bom bytes) [] refl (text_characters bom bytes r.codes_are r.spells m))
 
   some_inside : (o : Option Inside) (l : Forest (List ℕ)) → are_content_if o l ≡ true → (inside : Inside) × (are_content inside l ≡ true)
   some_inside None l h = absurd (false≢true h)
   some_inside (Some inside) l h = (inside, h)
 
-  raw_context : (k : RawKind) (l : Forest (List ℕ)) (which : Texts) → is_raw k ≡ true → has_references k ≡ false → OneText how which l → AreRead table Keep k (written_among how true l) (tokens_of texts l ++ eof ∷ [])
+  raw_context : (k : RawKind) (l : Forest (List ℕ)) (which : Texts) → is_raw k ≡ true → has_references k ≡ false → OneText how which l → AreRead table Keep k (written_among how true l) (plain_tokens texts l ++ eof ∷ [])
   raw_context k l which is no_refs o =
       let s : Spells (written_among how true l) (chars o.t) = subst (λ (x : List ℕ). Spells x (chars o.t)) (sym o.raw_is) (spells_text o.t o.utf8 o.clean) in
       let bytes : List ℕ = written_among how true l in
-      whole_read Keep k bytes (chars o.t) (tokens_of texts l) (λ there. there ≡ pushed_on (at_start k) (text_of Keep bytes)) s
-      (subst (λ (x : List (Token (List ℕ))). Cuts table (length bytes) (at_start k) (text_of Keep bytes) [] x (λ there. there ≡ pushed_on (at_start k) (text_of Keep bytes))) (sym o.tokens_are)
-      (raw_cuts table (length bytes) (chars o.t) (text_of Keep bytes) [] (at_start k) is no_refs (text_characters Keep bytes (chars o.t) s refl) (clean_text o.t o.utf8 o.clean) (no_end_of_none (text_of Keep bytes) [])))
+      whole_read Keep k bytes (chars o.t) (plain_tokens texts l) (λ there. there ≡ pushed_on (at_start k) (decoded_text Keep bytes)) s
+      (subst (λ (x : List (Token (List ℕ))). Cuts table (length bytes) (at_start k) (decoded_text Keep bytes) [] x (λ there. there ≡ pushed_on (at_start k) (decoded_text Keep bytes))) (sym o.tokens_are)
+      (raw_cuts table (length bytes) (chars o.t) (decoded_text Keep bytes) [] (at_start k) is no_refs (text_characters Keep bytes (chars o.t) s refl) (clean_text o.t o.utf8 o.clean) (no_end_of_none (decoded_text Keep bytes) [])))
 
   -- a context whose text is read raw holds one text
   context_text : (k : RawKind) (c : Content) (form : Bool) (l : Forest (List ℕ)) → is_raw k ≡ true → fits_context k c ≡ true → AreTexts l → are_content_if (in_context_of c form) l ≡ true → OneText how allowed.Any l
   context_text k c form l raw fit u h = one_text how (text_inside form) l refl refl u (text_context k c form l raw fit h)
 
   pub in_kind : (k : RawKind) (c : Content) (form : Bool) (l : Forest (List ℕ)) → fits_context k c ≡ true → AreTexts l → are_content_if (in_context_of c form) l ≡ true
-      → AreRead table Keep k (written_among how (has_no_references k) l) (tokens_of texts l ++ eof ∷ [])
+      → AreRead table Keep k (written_among how (has_no_references k) l) (plain_tokens texts l ++ eof ∷ [])
   in_kind kind.None c form l fit u h =
       let i = some_inside (in_context_of c form) l h in
       as_data Keep l (list_reads i.0 l u i.1) refl
@@ -293,9 +293,9 @@ module _ (table : Entities) (is_table : IsTable table) (core : HasCore table) (h
       let w = escaped_as table core how setting.Text (chars o.t) (scalars-chars o.t o.utf8) (clean_text o.t o.utf8 o.clean) in
       let bytes : List ℕ = written_among how false l in
       let s : Spells bytes w.codes_are = subst (λ (x : List ℕ). Spells x w.codes_are) (sym o.text_is) w.spells in
-      whole_read Keep kind.Rcdata bytes w.codes_are (tokens_of texts l) (Same (at_start kind.Rcdata)) s
-      (subst (λ (x : List (Token (List ℕ))). Cuts table (length bytes) (at_start kind.Rcdata) (text_of Keep bytes) [] x (Same (at_start kind.Rcdata))) (sym o.tokens_are)
-      (text_cuts table is_table (chars o.t) w.codes_are (text_of Keep bytes) [] (length bytes) (at_start kind.Rcdata) refl w.are (text_characters Keep bytes w.codes_are s refl)))
+      whole_read Keep kind.Rcdata bytes w.codes_are (plain_tokens texts l) (Same (at_start kind.Rcdata)) s
+      (subst (λ (x : List (Token (List ℕ))). Cuts table (length bytes) (at_start kind.Rcdata) (decoded_text Keep bytes) [] x (Same (at_start kind.Rcdata))) (sym o.tokens_are)
+      (text_cuts table is_table (chars o.t) w.codes_are (decoded_text Keep bytes) [] (length bytes) (at_start kind.Rcdata) refl w.are (text_characters Keep bytes w.codes_are s refl)))
   in_kind kind.Rawtext c form l fit u h = raw_context kind.Rawtext l allowed.Any refl refl (context_text kind.Rawtext c form l refl fit u h)
   in_kind kind.Script c form l fit u h = raw_context kind.Script l allowed.Any refl refl (context_text kind.Script c form l refl fit u h)
   in_kind kind.Plaintext c form l fit u h = raw_context kind.Plaintext l allowed.Any refl refl (context_text kind.Plaintext c form l refl fit u h)

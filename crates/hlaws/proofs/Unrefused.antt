@@ -1,5 +1,5 @@
 -- Settled spans are the first of each text that begins so, whether it is refused or not.
-use Rattle.hlaws.proofs.Names.{◌≡◌, ℕ, true, false, List, [], ◌∷◌, ◌++◌, map, sym, refl, ap, ◌∙◌, subst, append_assoc, append-nil, map-append, flat_map-append, ParseError, Placed, RawKind, character_of, read_len, Entities, Tok, Span, Eof, Standing, at_start, next, standing_after, start_kind, IsSpan, spans_text, Cut, has_refused, Tokens, eof_of, text_in, manner, policy, start_of, accepted, refused_tag}
+use Rattle.hlaws.proofs.Names.{◌≡◌, ℕ, true, false, List, [], ◌∷◌, ◌++◌, map, sym, refl, ap, ◌∙◌, subst, append_assoc, append-nil, map-append, flat_map-append, ParseError, Placed, RawKind, character_of, read_len, Entities, Tok, Span, Eof, Standing, at_start, next, standing_after, start_kind, IsSpan, spans_text, Cut, has_refused, Tokens, eof_of, input_text, manner, policy, start_of, accepted, refused_tag}
 use Rattle.htext.proofs.Texts.{goes_on}
 use Rattle.htoken.specs.Tokens.{tokens_of}
 use Rattle.htoken.specs.Settled.{AreSettled}
@@ -8,7 +8,7 @@ use Rattle.htoken.proofs.OneSpan.{some_span}
 use Rattle.hparse.specs.Answer.{accepted as taken}
 use Rattle.hparse.specs.Input.{Manner, how_of, settled_in}
 use Rattle.hparse.specs.Into.{as_document}
-use Rattle.hparse.specs.Parse.{begins}
+use Rattle.hparse.specs.Parse.{first_state}
 use Rattle.hparse.specs.Unrefused.{AreSettledIn, settled_text}
 use Rattle.hparse.proofs.Unrefused.{leads_on}
 use Rattle.hlaws.specs.Unrefused.{FrontsOfAnswered, FrontsOfParsed, RulesRefuse, ProfileRefuses}
@@ -16,7 +16,7 @@ use Rattle.hlaws.proofs.OneInput.{never-both}
 use Rattle.hlaws.proofs.OneParse.{refused-front}
 
 -- the text of more bytes
-later : (m : Manner) (bytes more : List ℕ) → (after : List Placed) × (text_in m (bytes ++ more) ≡ settled_text m bytes ++ after)
+later : (m : Manner) (bytes more : List ℕ) → (after : List Placed) × (input_text m (bytes ++ more) ≡ settled_text m bytes ++ after)
 later m bytes more =
     let how = how_of m in
     let k = goes_on true how.bom how.bad how.limit bytes more in
@@ -60,7 +60,7 @@ fronts_of_parsed opts parse_case bytes more parse (accepted errors sorted state 
     λ spans s. settled_first opts.table (start_kind (start_of parse_case)) (settled_text m bytes) l.0 spans s _ _ builds.tokens errors l.1 builds.read in
     record {
       text = record { undecided = λ refusal stays. never-both refusal _ (stays more) whole; in_profile = λ spans s. (firsts spans s).in_profile };
-      steps = λ spans s. let k = firsts spans s in leads_on builds.tokens (tokens_of spans) k.others (begins opts parse_case) state k.tokens_are builds.steps;
+      steps = λ spans s. let k = firsts spans s in leads_on builds.tokens (tokens_of spans) k.others (first_state opts parse_case) state k.tokens_are builds.steps;
     }
 
 pub rules_refuse : RulesRefuse

@@ -1,5 +1,5 @@
 -- The tokens of a plain list of trees build it under the current node.
-use Rattle.hlaws.proofs.Names.{◌≡◌, ℕ, suc, ◌+◌, ◌<◌, ◌≤◌, Bool, true, false, not, ◌&&◌, ◌||◌, List, [], ◌∷◌, ◌++◌, length, map, Option, Some, None, refl, sym, ◌∙◌, ap, subst, arith, and_parts, or_parts, and_right, eq-eqb, lt-leb, false≢true, not-true, nat_le, encode_utf8, encode_utf8_all, chars, ◌==◌, list_all, Attribute, What, element, text, Forest, none, tree, size, times, graft_last, join, if_text, text_before, LastIn, OpenNode, in_scope, stops, stops_item, EntryOf, Listed, marker, entry, with_room, without_entry, entry_of, find_entry, cleared, Placed, is_space, is_void, is_heading, has_implied_end, stops_button_scope, Naming, Goes, is, is_table_context, is_body_context, is_row_context, is_fostering, Family, Start, End, Mode, InCaption, InCell, Text, InTable, InTableText, InTableBody, InRow, InColumnGroup, family_of, rule_of, perform, void, raw, void_in_text, Token, start, end, comment, character, PlacedToken, Control, State, Done, kind_of, reset_mode, Rule, begun, ends, goes_again, Step, goes, Steps, and, Content, Role, row, takes_role, takes_comments, texts_in, Inside, inside_element, is_nested, is_a, is_button, is_form, drops_line_feed, inserts_marker, is_flow_mode, fits_mode, fits_current, is_list, is_dl, takes_space, numbered, under, Thinned, same, kept, lost, EntriesOpen, EntriesLower, tokens_of}
+use Rattle.hlaws.proofs.Names.{◌≡◌, ℕ, suc, ◌+◌, ◌<◌, ◌≤◌, Bool, true, false, not, ◌&&◌, ◌||◌, List, [], ◌∷◌, ◌++◌, length, map, Option, Some, None, refl, sym, ◌∙◌, ap, subst, arith, and_parts, or_parts, and_right, eq-eqb, lt-leb, false≢true, not-true, nat_le, encode_utf8, encode_utf8_all, chars, ◌==◌, list_all, Attribute, What, element, text, Forest, none, tree, size, times, graft_last, join, if_text, text_before, LastIn, OpenNode, in_scope, stops_in_scope, stops_item, EntryOf, Listed, marker, entry, with_room, without_entry, entry_of, find_entry, cleared, Placed, is_space, is_void, is_heading, has_implied_end, stops_button_scope, Naming, Goes, is, is_table_context, is_body_context, is_row_context, is_fostering, Family, Start, End, Mode, InCaption, InCell, Text, InTable, InTableText, InTableBody, InRow, InColumnGroup, family_of, rule_of, perform, void, raw, void_in_text, Token, start, end, comment, character, PlacedToken, Control, State, Done, kind_of, reset_mode, Rule, step_begun, ends, goes_again, Step, goes, Steps, and, Content, Role, row, takes_role, takes_comments, texts_in, Inside, inside_element, is_nested, is_a, is_button, is_form, drops_line_feed, inserts_marker, is_flow_mode, fits_mode, fits_current, is_list, is_dl, takes_space, numbered_forest, under, Thinned, same, kept, lost, EntriesOpen, EntriesLower, plain_tokens}
 use Rattle.std.proofs.lemmas.List.{append-nil, append_assoc}
 use Rattle.std.specs.Prelude.{unwrap_or}
 use Rattle.hnodes.specs.Forest as forest
@@ -13,7 +13,7 @@ use Rattle.hserialize.specs.Plain.{content_within}
 use Rattle.hadopt.specs.Reconstructs.{reconstructed}
 use Rattle.hmodes.specs.Body.{block, close_block, end_item}
 use Rattle.hmodes.specs.Words.{Do}
-use Rattle.hlaws.specs.Building.{closes_p, is_character, ActsAs, depth, AllLower}
+use Rattle.hlaws.specs.Building.{closes_p, is_character_token, ActsAs, depth, AllLower}
 use Rattle.hlaws.proofs.Growing.{graft-new, under-none, under-new, once-grown, free-grown, once-new, rest-grown, text_before-new, text_before-leaf}
 use Rattle.hlaws.proofs.Thinned.{then, thinned-room, open-thinned, open-pushed, lower-thinned, entries-more, no-entry}
 use Rattle.hlaws.proofs.Classes.{Profile, profile, plain_profile, around, class_profile, classed, void_empty, is_p}
@@ -105,9 +105,9 @@ module _ {N : Type 0} (n : Naming N) where
   Good i _ = ⊥
 
   -- the tokens of an element that is not void, and of the list after it
-  pub spelled : (b : ℕ) (x : N) (attrs : List (Attribute N)) (kids rest : Forest N) (ts : List (PlacedToken N)) → is_void (n.tag x) ≡ false → AreTokens ts (tokens_of n (tree b (element x attrs) kids rest))
-      → AreTokens ts ((start x attrs false ∷ tokens_of n kids ++ end x ∷ []) ++ tokens_of n rest)
-  spelled b x attrs kids rest ts no_void h = h ∙ (rw no_void refl) ∙ ap (λ us. start x attrs false ∷ us) (sym (append_assoc (tokens_of n kids) (end x ∷ []) (tokens_of n rest)))
+  pub mapped : (b : ℕ) (x : N) (attrs : List (Attribute N)) (kids rest : Forest N) (ts : List (PlacedToken N)) → is_void (n.tag x) ≡ false → AreTokens ts (plain_tokens n (tree b (element x attrs) kids rest))
+      → AreTokens ts ((start x attrs false ∷ plain_tokens n kids ++ end x ∷ []) ++ plain_tokens n rest)
+  mapped b x attrs kids rest ts no_void h = h ∙ (rw no_void refl) ∙ ap (λ us. start x attrs false ∷ us) (sym (append_assoc (plain_tokens n kids) (end x ∷ []) (plain_tokens n rest)))
 
   pub record Quiet (context : Option N) (i : Inside) (made : ℕ) (f : Forest N) (d : OpenNode N) (up : List (OpenNode N)) (items : List (Listed N)) (c : Control) : Type 0 where
     pub mode_is : reset_mode n context (d ∷ up) ≡ c.mode
@@ -118,8 +118,8 @@ module _ {N : Type 0} (n : Naming N) where
     pub lower : AllLower made (d ∷ up)
     pub entries_lower : EntriesLower made items
     pub listed : EntriesOpen (d ∷ up) items
-    pub no_p : closes_p i.content ≡ true → in_scope (stops n.tag scope.Button) (is n tag.P) (d ∷ up) ≡ false
-    pub no_button : i.in_button ≡ false → in_scope (stops n.tag scope.Default) (is n tag.Button) (d ∷ up) ≡ false
+    pub no_p : closes_p i.content ≡ true → in_scope (stops_in_scope n.tag scope.Button) (is n tag.P) (d ∷ up) ≡ false
+    pub no_button : i.in_button ≡ false → in_scope (stops_in_scope n.tag scope.Default) (is n tag.Button) (d ∷ up) ≡ false
     pub no_a : i.in_a ≡ false → (y : N) → is_a (n.tag y) ≡ true → find_entry n.same y items ≡ None
     pub no_form : i.in_form ≡ false → c.form ≡ None
 
@@ -138,7 +138,7 @@ module _ {N : Type 0} (n : Naming N) (laws : NameLaws n) (z : State N) where
     pub control' : Control
     pub reached : State N
     pub steps : Steps n ts s (Goes reached)
-    pub acts : ActsAs n reached (state z (made + size l) (under d.node (numbered made l) f) (d ∷ up) items' control')
+    pub acts : ActsAs n reached (state z (made + size l) (under d.node (numbered_forest made l) f) (d ∷ up) items' control')
     pub thinned : Thinned items items'
     pub keeps : Keeps c control'
 
@@ -146,10 +146,10 @@ module _ {N : Type 0} (n : Naming N) (laws : NameLaws n) (z : State N) where
   pub record NodeBuilt (b : ℕ) (w : What N) (kids : Forest N) (made : ℕ) (f : Forest N) (d : OpenNode N) (up : List (OpenNode N)) (items : List (Listed N)) (c : Control) (s : State N) (ts : List (PlacedToken N)) : Type 0 where
     pub built : Built (tree b w kids none) made f d up items c s ts
     pub no_drop : built.control'.drop_lf ≡ false
-    pub exact : is_text w ≡ false → built.reached ≡ state z (made + (1 + (size kids + 0))) (under d.node (numbered made (tree b w kids none)) f) (d ∷ up) built.items' built.control'
+    pub exact : is_text w ≡ false → built.reached ≡ state z (made + (1 + (size kids + 0))) (under d.node (numbered_forest made (tree b w kids none)) f) (d ∷ up) built.items' built.control'
 
   later : (i : Inside) (l : Forest N) (made : ℕ) (f : Forest N) (d : OpenNode N) (up : List (OpenNode N)) (items items' : List (Listed N)) (c c' : Control)
-      → Quiet n z.context i made f d up items c → Thinned items items' → Keeps c c' → Quiet n z.context i (made + size l) (under d.node (numbered made l) f) d up items' c'
+      → Quiet n z.context i made f d up items c → Thinned items items' → Keeps c c' → Quiet n z.context i (made + size l) (under d.node (numbered_forest made l) f) d up items' c'
   later i l made f d up items items' c c' q t k =
       let low : d.node < made = q.lower.0 in
       record {
@@ -169,10 +169,10 @@ module _ {N : Type 0} (n : Naming N) (laws : NameLaws n) (z : State N) where
 
   -- TOKENS FROM A STATE THAT ACTS AS ANOTHER
 
-  start_step : (at : ℕ) (x : N) (attrs : List (Attribute N)) (s q s' : State N) → ActsAs n s q → Rule n at (start x attrs false) (begun q) ≡ Done s' → Step n at (start x attrs false) s (Goes s')
+  start_step : (at : ℕ) (x : N) (attrs : List (Attribute N)) (s q s' : State N) → ActsAs n s q → Rule n at (start x attrs false) (step_begun q) ≡ Done s' → Step n at (start x attrs false) s (Goes s')
   start_step at x attrs s q s' acts rule = goes refl (acts at (start x attrs false) (Goes s') refl (ends rule))
 
-  char_step : (at ch : ℕ) (s s' : State N) → (s.control.drop_lf && ch == 10) ≡ false → Rule n at (character ch) (begun s) ≡ Done s' → Step n at (character ch) s (Goes s')
+  char_step : (at ch : ℕ) (s s' : State N) → (s.control.drop_lf && ch == 10) ≡ false → Rule n at (character ch) (step_begun s) ≡ Done s' → Step n at (character ch) s (Goes s')
   char_step at ch s s' stays rule = goes stays (ends rule)
 
   pub itself : (s : State N) → ActsAs n s s
@@ -180,9 +180,9 @@ module _ {N : Type 0} (n : Naming N) (laws : NameLaws n) (z : State N) where
 
   -- a node after which the state stands as the law says
   as_it_stands : (b : ℕ) (w : What N) (kids : Forest N) (made : ℕ) (f : Forest N) (d : OpenNode N) (up : List (OpenNode N)) (items items' : List (Listed N)) (c c' : Control) (s : State N) (ts us : List (PlacedToken N)) → ts ≡ us
-      → Steps n us s (Goes (state z (made + (1 + (size kids + 0))) (under d.node (numbered made (tree b w kids none)) f) (d ∷ up) items' c')) → Thinned items items' → Keeps c c' → c'.drop_lf ≡ false → NodeBuilt b w kids made f d up items c s ts
+      → Steps n us s (Goes (state z (made + (1 + (size kids + 0))) (under d.node (numbered_forest made (tree b w kids none)) f) (d ∷ up) items' c')) → Thinned items items' → Keeps c c' → c'.drop_lf ≡ false → NodeBuilt b w kids made f d up items c s ts
   as_it_stands b w kids made f d up items items' c c' s ts us is steps t k drop =
-      let s1 : State N = state z (made + (1 + (size kids + 0))) (under d.node (numbered made (tree b w kids none)) f) (d ∷ up) items' c' in
+      let s1 : State N = state z (made + (1 + (size kids + 0))) (under d.node (numbered_forest made (tree b w kids none)) f) (d ∷ up) items' c' in
       record {
         built = record { items' = items'; control' = c'; reached = s1; steps = subst (λ (us : List (PlacedToken N)). Steps n us s (Goes s1)) (sym is) steps; acts = itself s1; thinned = t; keeps = k };
         no_drop = drop;
@@ -217,7 +217,7 @@ module _ {N : Type 0} (n : Naming N) (laws : NameLaws n) (z : State N) where
   module _ (d : OpenNode N) (up : List (OpenNode N)) (items : List (Listed N)) (m : Mode) (ok : ℕ → Bool) (puts : rules.Puts n z d up items m ok) where
     -- one character goes in, and then the others
     then_chars : (made : ℕ) (f : Forest N) (c : Control) (at ch : ℕ) (s s1 : State N) (ts others : List (PlacedToken N)) → ts ≡ record { token = character ch; at = at } ∷ others → (s.control.drop_lf && ch == 10) ≡ false
-        → Rule n at (character ch) (begun s) ≡ Done s1 → CharsBuilt made f d up items (begun_control c) s1 others → CharsBuilt made f d up items c s ts
+        → Rule n at (character ch) (step_begun s) ≡ Done s1 → CharsBuilt made f d up items (begun_control c) s1 others → CharsBuilt made f d up items c s ts
     then_chars made f c at ch s s1 ts others is safe rule k = record {
       control' = k.control';
       steps = subst (λ (us : List (PlacedToken N)). Steps n us s (Goes (state z made f (d ∷ up) items k.control'))) (sym is) (and (char_step at ch s s1 safe rule) k.steps);
@@ -252,7 +252,7 @@ module _ {N : Type 0} (n : Naming N) (laws : NameLaws n) (z : State N) where
         → AreTokens ts (map (λ ch. character ch) (chars t))
         → CharsBuilt (made + 1) (under d.node (tree made (text t) none none) f) d up items c (state z made f (d ∷ up) items c) ts
     text_built made f once absent t is c ts mode safe oks none_before room h =
-        let p = first ts (character is.one) (map (λ ch. character ch) is.more) (h ∙ ap (map (λ ch. character ch)) is.spelled) in
+        let p = first ts (character is.one) (map (λ ch. character ch) is.more) (h ∙ ap (map (λ ch. character ch)) is.mapped) in
         let both = and_parts (ok is.one) (list_all ok is.more) oks in
         let s : State N = state z made f (d ∷ up) items c in
         let s1 : State N = state z (made + 1) (under d.node (tree made (text (encode_utf8 is.one)) none none) f) (d ∷ up) items (begun_control c) in
@@ -299,7 +299,7 @@ module _ {N : Type 0} (n : Naming N) (laws : NameLaws n) (z : State N) where
         let c1 : Control = record (begun_control c) { pending = c.pending ++ new ∷ [] } in
         let s : State N = state z made f (d ∷ up) items c in
         let s1 : State N = state z made f (d ∷ up) items c1 in
-        let rule : Rule n p.at (character ch) (begun s) ≡ Done s1 = rules.held n z p.at made f d up items (begun_control c) ch m both.0 in
+        let rule : Rule n p.at (character ch) (step_begun s) ≡ Done s1 = rules.held n z p.at made f d up items (begun_control c) ch m both.0 in
         let one : Step n p.at (character ch) s (Goes s1) = char_step p.at ch s s1 (rw drop refl) rule in
         let others = held_chars chs c1 p.others m refl both.1 p.rest in
         record {
@@ -310,7 +310,7 @@ module _ {N : Type 0} (n : Naming N) (laws : NameLaws n) (z : State N) where
           characters = ap (λ l. ch ∷ l) others.characters;
         }
 
-  other_kind : (t : Token N) → is_character t ≡ false → rules.is_other (kind_of n t) ≡ true
+  other_kind : (t : Token N) → is_character_token t ≡ false → rules.is_other (kind_of n t) ≡ true
   other_kind (character ch) h = cc
   other_kind _ h = refl
 
@@ -318,7 +318,7 @@ module _ {N : Type 0} (n : Naming N) (laws : NameLaws n) (z : State N) where
       → text_before (LastIn d.node) f ≡ None → (c.drop_lf && is.one == 10) ≡ false → made < z.site.nodes.limit → rules.is_parts_mode c.mode ≡ true → is_fostering (n.tag d.name) ≡ true → list_all is_space (is.one ∷ is.more) ≡ true
       → (ts : List (PlacedToken N)) → AreTokens ts (map (λ ch. character ch) (chars t)) → NodeBuilt b (text t) none made f d up items c (state z made f (d ∷ up) items c) ts
   parts_text b t is made f d up items c once absent none_before safe room parts fosters spaces ts h =
-      let p = first ts (character is.one) (map (λ ch. character ch) is.more) (h ∙ ap (map (λ ch. character ch)) is.spelled) in
+      let p = first ts (character is.one) (map (λ ch. character ch) is.more) (h ∙ ap (map (λ ch. character ch)) is.mapped) in
       let both = and_parts (is_space is.one) (list_all is_space is.more) spaces in
       let new : Placed = record { ch = is.one; at = p.at } in
       let c0 : Control = record (begun_control c) { pending = []; saved = c.mode; mode = InTableText } in
@@ -358,12 +358,12 @@ module _ {N : Type 0} (n : Naming N) (laws : NameLaws n) (z : State N) where
     pub inner : List (PlacedToken N)
     pub at_end : ℕ
     pub is : ts ≡ record { token = start x attrs false; at = at } ∷ inner ++ record { token = end x; at = at_end } ∷ []
-    pub inners : AreTokens inner (tokens_of n kids)
+    pub inners : AreTokens inner (plain_tokens n kids)
 
-  pub tags : (x : N) (attrs : List (Attribute N)) (kids : Forest N) (ts : List (PlacedToken N)) → AreTokens ts (start x attrs false ∷ tokens_of n kids ++ end x ∷ []) → Tags x attrs kids ts
+  pub tags : (x : N) (attrs : List (Attribute N)) (kids : Forest N) (ts : List (PlacedToken N)) → AreTokens ts (start x attrs false ∷ plain_tokens n kids ++ end x ∷ []) → Tags x attrs kids ts
   tags x attrs kids ts h =
-      let p = first ts (start x attrs false) (tokens_of n kids ++ end x ∷ []) h in
-      let r = parted p.others (tokens_of n kids) (end x ∷ []) p.rest in
+      let p = first ts (start x attrs false) (plain_tokens n kids ++ end x ∷ []) h in
+      let r = parted p.others (plain_tokens n kids) (end x ∷ []) p.rest in
       let e = first r.back (end x) [] r.backs in
       record {
         at = p.at;
@@ -397,21 +397,21 @@ module _ {N : Type 0} (n : Naming N) (laws : NameLaws n) (z : State N) where
       pub control2 : Control
       pub reached : State N
       pub steps : Steps n ts (state z (made + 1) (under d.node (tree made (element x attrs) none none) f) (node made x ∷ d ∷ up) items1 c1) (Goes reached)
-      pub acts : ActsAs n reached (state z (made + (1 + (size kids + 0))) (under d.node (numbered made (tree b (element x attrs) kids none)) f) (node made x ∷ d ∷ up) items2 control2)
+      pub acts : ActsAs n reached (state z (made + (1 + (size kids + 0))) (under d.node (numbered_forest made (tree b (element x attrs) kids none)) f) (node made x ∷ d ∷ up) items2 control2)
 
     finish : (ts : List (PlacedToken N)) (t : Tags x attrs kids ts) (inner : Inner t.inner) → Closing x made d up items c inner.items2 inner.control2 → NodeBuilt b (element x attrs) kids made f d up items c s ts
     finish ts t inner close =
         let s1 : State N = state z (made + 1) (under d.node (tree made (element x attrs) none none) f) (node made x ∷ d ∷ up) items1 c1 in
-        let s3 : State N = state z (made + (1 + (size kids + 0))) (under d.node (numbered made (tree b (element x attrs) kids none)) f) (d ∷ up) close.items3 close.control3 in
+        let s3 : State N = state z (made + (1 + (size kids + 0))) (under d.node (numbered_forest made (tree b (element x attrs) kids none)) f) (d ∷ up) close.items3 close.control3 in
         let one : Step n t.at (start x attrs false) s (Goes s1) = start_step t.at x attrs s (state z made f (d ∷ up) items c) s1 from (opening t.at) in
-        let three : Step n t.at_end (end x) inner.reached (Goes s3) = goes refl (inner.acts t.at_end (end x) (Goes s3) refl (ends (close.rule t.at_end (made + (1 + (size kids + 0))) (under d.node (numbered made (tree b (element x attrs) kids none)) f)))) in
+        let three : Step n t.at_end (end x) inner.reached (Goes s3) = goes refl (inner.acts t.at_end (end x) (Goes s3) refl (ends (close.rule t.at_end (made + (1 + (size kids + 0))) (under d.node (numbered_forest made (tree b (element x attrs) kids none)) f)))) in
         let all : Steps n (record { token = start x attrs false; at = t.at } ∷ t.inner ++ record { token = end x; at = t.at_end } ∷ []) s (Goes s3) = and one (after inner.steps (and three step.none)) in
         as_it_stands b (element x attrs) kids made f d up items close.items3 c close.control3 s ts _ t.is all close.thins close.keeps close.no_drop
 
     -- children that are built by the law
     inner_built : (ts : List (PlacedToken N)) → Built kids (made + 1) (under d.node (tree made (element x attrs) none none) f) (node made x) (d ∷ up) items1 c1 (state z (made + 1) (under d.node (tree made (element x attrs) none none) f) (node made x ∷ d ∷ up) items1 c1) ts → Inner ts
     inner_built ts k =
-        let grown : under made (numbered (made + 1) kids) (under d.node (tree made (element x attrs) none none) f) ≡ under d.node (tree made (element x attrs) (numbered (made + 1) kids) none) f = under-new d.node made (element x attrs) none (numbered (made + 1) kids) f absent in
+        let grown : under made (numbered_forest (made + 1) kids) (under d.node (tree made (element x attrs) none none) f) ≡ under d.node (tree made (element x attrs) (numbered_forest (made + 1) kids) none) f = under-new d.node made (element x attrs) none (numbered_forest (made + 1) kids) f absent in
         let count : made + 1 + size kids ≡ made + (1 + (size kids + 0)) = omega arith in
         record {
           items2 = k.items';
@@ -419,7 +419,7 @@ module _ {N : Type 0} (n : Naming N) (laws : NameLaws n) (z : State N) where
           reached = k.reached;
           steps = k.steps;
           acts = subst (λ (g : Forest N). ActsAs n k.reached (state z (made + (1 + (size kids + 0))) g (node made x ∷ d ∷ up) k.items' k.control')) grown
-              (subst (λ (m : ℕ). ActsAs n k.reached (state z m (under made (numbered (made + 1) kids) (under d.node (tree made (element x attrs) none none) f)) (node made x ∷ d ∷ up) k.items' k.control')) count k.acts);
+              (subst (λ (m : ℕ). ActsAs n k.reached (state z m (under made (numbered_forest (made + 1) kids) (under d.node (tree made (element x attrs) none none) f)) (node made x ∷ d ∷ up) k.items' k.control')) count k.acts);
         }
 
   -- a text that is read raw
@@ -476,7 +476,7 @@ module _ {N : Type 0} (n : Naming N) (laws : NameLaws n) (z : State N) where
   LawOf l = (i : Inside) (made : ℕ) (f : Forest N) (d : OpenNode N) (up : List (OpenNode N)) (items : List (Listed N)) (c : Control) (s : State N) (ts : List (PlacedToken N))
       → Quiet n z.context i made f d up items c → Good n i l → ActsAs n s (state z made f (d ∷ up) items c) → (begins_text l ≡ true → s ≡ state z made f (d ∷ up) items c)
       → (begins_text l ≡ true → text_before (LastIn d.node) f ≡ None) → LfSafe c.drop_lf l → made + size l ≤ z.site.nodes.limit → suc (length up) + depth l ≤ z.site.open_nodes.limit
-      → AreTokens ts (tokens_of n l) → Built l made f d up items c s ts
+      → AreTokens ts (plain_tokens n l) → Built l made f d up items c s ts
 
   marked : {xs ys : List (Listed N)} → Thinned (marker ∷ xs) ys → ys ≡ marker ∷ xs
   marked same = refl
@@ -550,7 +550,7 @@ module _ {N : Type 0} (n : Naming N) (laws : NameLaws n) (z : State N) where
       phrasing_flows e = phrasing_mode i.content c.mode (ap (takes_role i.content) (sym e) ∙ role_is) q.mode_fits
 
       -- a flow element is in flow, no p is open in button scope, and the current node is no heading
-      in_flow : r.role ≡ role.Flow → (is_flow_mode c.mode ≡ true) × (in_scope (stops n.tag scope.Button) (is n tag.P) (d ∷ up) ≡ false) × (is_heading (n.tag d.name) ≡ false)
+      in_flow : r.role ≡ role.Flow → (is_flow_mode c.mode ≡ true) × (in_scope (stops_in_scope n.tag scope.Button) (is n tag.P) (d ∷ up) ≡ false) × (is_heading (n.tag d.name) ≡ false)
       in_flow e =
           let k : i.content ≡ content.Flow = stands_in i.content role.Flow refl (ap (takes_role i.content) (sym e) ∙ role_is) in
           (mode_in n q content.Flow k, q.no_p (ap closes_p k), not-true (is_heading (n.tag d.name)) (current_in n q content.Flow k))
@@ -575,25 +575,25 @@ module _ {N : Type 0} (n : Naming N) (laws : NameLaws n) (z : State N) where
       Node ts = NodeBuilt b (element x attrs) kids made f d up items c s ts
 
       abbrev Spells : List (PlacedToken N) → Type 0
-      Spells ts = AreTokens ts (start x attrs false ∷ tokens_of n kids ++ end x ∷ [])
+      Spells ts = AreTokens ts (start x attrs false ∷ plain_tokens n kids ++ end x ∷ [])
 
       -- no p is open inside it
       abbrev NoP : Type 0
-      NoP = in_scope (stops n.tag scope.Button) (is n tag.P) (node made x ∷ d ∷ up) ≡ false
+      NoP = in_scope (stops_in_scope n.tag scope.Button) (is n tag.P) (node made x ∷ d ∷ up) ≡ false
 
-      p_below : is_p (n.tag x) ≡ false → in_scope (stops n.tag scope.Button) (is n tag.P) (d ∷ up) ≡ false → NoP
+      p_below : is_p (n.tag x) ≡ false → in_scope (stops_in_scope n.tag scope.Button) (is n tag.P) (d ∷ up) ≡ false → NoP
       p_below p h = grind (arith, laws.knows_p x)
 
       p_stopped : is_p (n.tag x) ≡ false → stops_button_scope (n.tag x) ≡ true → NoP
       p_stopped p h = rw (laws.knows_p x, p, h) refl
 
       -- a marker hides a button, as it stops the search for one
-      no_button_in : j.in_button ≡ false → in_scope (stops n.tag scope.Default) (is n tag.Button) (node made x ∷ d ∷ up) ≡ false
+      no_button_in : j.in_button ≡ false → in_scope (stops_in_scope n.tag scope.Default) (is n tag.Button) (node made x ∷ d ∷ up) ≡ false
       no_button_in h = go (inserts_marker (n.tag x)) refl h
         where
-          go : (m : Bool) → inserts_marker (n.tag x) ≡ m → ((not m && i.in_button) || is_button (n.tag x)) ≡ false → in_scope (stops n.tag scope.Default) (is n tag.Button) (node made x ∷ d ∷ up) ≡ false
+          go : (m : Bool) → inserts_marker (n.tag x) ≡ m → ((not m && i.in_button) || is_button (n.tag x)) ≡ false → in_scope (stops_in_scope n.tag scope.Default) (is n tag.Button) (node made x ∷ d ∷ up) ≡ false
           go true e k = rw (laws.button x, (or_parts false (is_button (n.tag x)) k).1, marker_stops (n.tag x) e) refl
-          go false e k = let m = or_parts i.in_button (is_button (n.tag x)) k in rw (laws.button x, m.1, q.no_button m.0) (and_right (not (stops n.tag scope.Default (node made x))) false refl)
+          go false e k = let m = or_parts i.in_button (is_button (n.tag x)) k in rw (laws.button x, m.1, q.no_button m.0) (and_right (not (stops_in_scope n.tag scope.Default (node made x))) false refl)
 
       -- what is asked of the list inside the element
       abbrev EntriesFit : List (Listed N) → Type 0
@@ -755,12 +755,12 @@ module _ {N : Type 0} (n : Naming N) (laws : NameLaws n) (z : State N) where
           go : OneText kids → Node ts
           go (nothing_there e) =
               subst (λ (v : Forest N). NodeBuilt b (element x attrs) v made f d up items c s ts) (sym e)
-              (raw_empty b x attrs made f d up items c (raw_control drops) s q.once q.fresh from opens refl refl refl refl refl ts (subst (λ (v : Forest N). AreTokens ts (start x attrs false ∷ tokens_of n v ++ end x ∷ [])) e h))
+              (raw_empty b x attrs made f d up items c (raw_control drops) s q.once q.fresh from opens refl refl refl refl refl ts (subst (λ (v : Forest N). AreTokens ts (start x attrs false ∷ plain_tokens n v ++ end x ∷ [])) e h))
           go (one_text b' u is e) =
               let sized : size kids ≡ 1 = ap size e in
               subst (λ (v : Forest N). NodeBuilt b (element x attrs) v made f d up items c s ts) (sym e)
               (raw_text b x attrs made f d up items c (raw_control drops) s q.once q.fresh from opens refl refl refl refl refl b' u is (subst (λ (v : Forest N). LfSafe drops v) e safe is) (omega (arith, room_in, sized)) ts
-              (subst (λ (v : Forest N). AreTokens ts (start x attrs false ∷ tokens_of n v ++ end x ∷ [])) e h))
+              (subst (λ (v : Forest N). AreTokens ts (start x attrs false ∷ plain_tokens n v ++ end x ∷ [])) e h))
 
       a_raw_element : (w : Family) (k : Content) → IsFlowRule (Start w) raw → profile (n.tag x) ≡ plain_profile w role.Phrasing k → content_within i.content k ≡ k → takes_comments k ≡ false → ((r : Role) → takes_role k r ≡ false) → (ts : List (PlacedToken N)) → Spells ts → Node ts
       a_raw_element w k rule p within no_comments no_elements = a_raw w k false p within no_comments no_elements (flow_start _ p raw _ (phrasing_flows _ p refl) rule (λ at. simp (full, high, grown) refl))
@@ -920,9 +920,9 @@ module _ {N : Type 0} (n : Naming N) (laws : NameLaws n) (z : State N) where
       of_void : (w : Family) (k : Content) → profile (n.tag x) ≡ class_profile w k → is_void (n.tag x) ≡ true → (ts : List (PlacedToken N)) → Void ts
       of_void family.Br k p void_is = in_phrasing _ p void_in_text (refl, refl, refl) refl in_text
       of_void family.Input k p void_is = in_phrasing _ p void_in_text (refl, refl, refl) refl in_text
-      of_void family.Area k p void_is = in_phrasing _ p void_in_text (refl, refl, refl) refl in_text
-      of_void family.Param k p void_is = in_phrasing _ p void (refl, refl, refl) refl plain_void
-      of_void family.Link k p void_is = in_phrasing _ p void (refl, refl, refl) refl plain_void
+      of_void family.PhrasingVoid k p void_is = in_phrasing _ p void_in_text (refl, refl, refl) refl in_text
+      of_void family.MediaVoid k p void_is = in_phrasing _ p void (refl, refl, refl) refl plain_void
+      of_void family.HeadVoid k p void_is = in_phrasing _ p void (refl, refl, refl) refl plain_void
       of_void family.Col k p void_is = void_built (mode_start _ p InColumnGroup _ (columns_mode_is c.mode (mode_in n q _ (stands _ p refl))) (λ at. simp (full, high, grown) refl))
       of_void family.Hr k p void_is =
           let flow = in_flow _ p refl in
@@ -958,16 +958,16 @@ module _ {N : Type 0} (n : Naming N) (laws : NameLaws n) (z : State N) where
 
   node_and_rest : (b : ℕ) (w : What N) (kids rest : Forest N) → LawOf rest → (i : Inside) (made : ℕ) (f : Forest N) (d : OpenNode N) (up : List (OpenNode N)) (items : List (Listed N)) (c : Control) (s : State N) (ts : List (PlacedToken N)) (us : List (Token N))
       → Quiet n z.context i made f d up items c → Good n i rest → (begins_text rest ≡ true → is_text w ≡ false) → (is_text w ≡ false → if_text made (Some w) ≡ None) → made + (1 + (size kids + size rest)) ≤ z.site.nodes.limit → suc (length up) + depth rest ≤ z.site.open_nodes.limit
-      → AreTokens ts (us ++ tokens_of n rest) → ((front : List (PlacedToken N)) → AreTokens front us → NodeBuilt b w kids made f d up items c s front)
+      → AreTokens ts (us ++ plain_tokens n rest) → ((front : List (PlacedToken N)) → AreTokens front us → NodeBuilt b w kids made f d up items c s front)
       → Built (tree b w kids rest) made f d up items c s ts
   node_and_rest b w kids rest law i made f d up items c s ts us q g other unlike room deep h node_law =
-      let p = parted ts us (tokens_of n rest) h in
+      let p = parted ts us (plain_tokens n rest) h in
       let node_head = node_law p.front p.fronts in
       let head = node_head.built in
-      let g1 : Forest N = under d.node (numbered made (tree b w kids none)) f in
+      let g1 : Forest N = under d.node (numbered_forest made (tree b w kids none)) f in
       let made1 : ℕ = made + (1 + (size kids + 0)) in
       let q1 : Quiet n z.context i made1 g1 d up head.items' head.control' = later i (tree b w kids none) made f d up items head.items' c head.control' q head.thinned head.keeps in
-      let back = law i made1 g1 d up head.items' head.control' head.reached p.back q1 g head.acts (λ e. node_head.exact (other e)) (λ e. text_before-new d.node made w (numbered (made + 1) kids) f q.once (q.fresh made (omega arith)) ∙ unlike (other e))
+      let back = law i made1 g1 d up head.items' head.control' head.reached p.back q1 g head.acts (λ e. node_head.exact (other e)) (λ e. text_before-new d.node made w (numbered_forest (made + 1) kids) f q.once (q.fresh made (omega arith)) ∙ unlike (other e))
       (subst (λ (v : Bool). LfSafe v rest) (sym node_head.no_drop) (lf_none rest)) (omega arith) deep p.backs in
       let count : made1 + size rest ≡ made + (1 + (size kids + size rest)) = omega arith in
       let grown = rest-grown d.node made b w kids rest f in
@@ -976,7 +976,7 @@ module _ {N : Type 0} (n : Naming N) (laws : NameLaws n) (z : State N) where
         control' = back.control';
         reached = back.reached;
         steps = subst (λ (v : List (PlacedToken N)). Steps n v s (Goes back.reached)) (sym p.is) (after head.steps back.steps);
-        acts = subst (λ (k : ℕ). ActsAs n back.reached (state z k (under d.node (numbered made (tree b w kids rest)) f) (d ∷ up) back.items' back.control')) count
+        acts = subst (λ (k : ℕ). ActsAs n back.reached (state z k (under d.node (numbered_forest made (tree b w kids rest)) f) (d ∷ up) back.items' back.control')) count
             (subst (λ (v : Forest N). ActsAs n back.reached (state z (made1 + size rest) v (d ∷ up) back.items' back.control')) grown back.acts);
         thinned = then head.thinned back.thinned;
         keeps = keeps-then head.keeps back.keeps;
@@ -1009,11 +1009,11 @@ module _ {N : Type 0} (n : Naming N) (laws : NameLaws n) (z : State N) where
 
       go : (v : Bool) → is_void (n.tag x) ≡ v → LawOf kids → LawOf rest → Built (tree b (element x attrs) kids rest) made f d up items c s ts
       go false plain law_kids law_rest =
-          node_and_rest b (element x attrs) kids rest law_rest i made f d up items c s ts (start x attrs false ∷ tokens_of n kids ++ end x ∷ []) q g.4 (λ e. refl) (λ e. refl) room (omega arith) (spelled n b x attrs kids rest ts plain h)
+          node_and_rest b (element x attrs) kids rest law_rest i made f d up items c s ts (start x attrs false ∷ plain_tokens n kids ++ end x ∷ []) q g.4 (λ e. refl) (λ e. refl) room (omega arith) (mapped n b x attrs kids rest ts plain h)
           (λ front e. of_class x attrs i made f d up items c s q from g.0 (omega arith) (omega arith) b kids law_kids g.1 g.2 g.3 (omega arith) (omega arith) w k p plain front e)
       go true void_is law_kids law_rest =
           let empty : kids ≡ none = good-empty (inside_element (n.tag x) i) kids (ap (λ o. content_within i.content o.content) p ∙ ap (content_within i.content) (void_empty w k (sym (ap (λ r. r.is_void) p) ∙ void_is))) g.3 in
-          let h1 : AreTokens ts (start x attrs false ∷ tokens_of n rest) = h ∙ (rw void_is refl) in
+          let h1 : AreTokens ts (start x attrs false ∷ plain_tokens n rest) = h ∙ (rw void_is refl) in
           let sized : size kids ≡ 0 = ap size empty in
           subst (λ (k : Forest N). Built (tree b (element x attrs) k rest) made f d up items c s ts) (sym empty)
           (node_and_rest b (element x attrs) none rest law_rest i made f d up items c s ts (start x attrs false ∷ []) q g.4 (λ e. refl) (λ e. refl) (omega arith) (omega arith) h1

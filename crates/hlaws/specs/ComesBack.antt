@@ -15,12 +15,12 @@ use Rattle.htoken.specs.Token.{Tok}
 use Rattle.htoken.specs.Tokens.{Tokens}
 use Rattle.hadopt.specs.Naming.{texts}
 use Rattle.hparse.specs.Parse.{ParseOptions, fragment, is_context, root_of, Parse, Parses}
-use Rattle.hparse.specs.Taken.{taken}
+use Rattle.hparse.specs.Taken.{token_taken}
 use Rattle.hmodes.specs.Erased.{erased}
 use Rattle.hmodes.specs.State.{Token, PlacedToken, State, eof}
-use Rattle.hlaws.specs.Building.{IsQuiet, Builds, BeginsWell, HasRoom, depth}
+use Rattle.hlaws.specs.Building.{IsQuiet, BuildsForest, BeginsWell, HasTreeRoom, depth}
 use Rattle.hserialize.specs.Plain.{Inside, are_content, is_plain}
-use Rattle.hlaws.specs.PlainTokens.{tokens_of}
+use Rattle.hlaws.specs.PlainTokens.{plain_tokens}
 use Rattle.hserialize.specs.Written.{written}
 use Rattle.hserialize.specs.declared.escaping.Escaping.{Escaping}
 
@@ -37,37 +37,37 @@ AreTexts (tree b (forest.comment t) kids rest) = IsUtf8 t × AreTexts kids × Ar
 AreTexts (tree b w kids rest) = AreTexts kids × AreTexts rest
 
 -- the characters of the bytes of an input, with or without a byte order mark at their front
-abbrev pub text_of : Bom → List ℕ → List Placed
-text_of bom bytes = map input.character_of (input.text bom bytes)
+abbrev pub decoded_text : Bom → List ℕ → List Placed
+decoded_text bom bytes = map input.character_of (input.text bom bytes)
 
 -- The bytes of an input, in text of a kind, are read as these tokens.
 pub record AreRead (table : Entities) (bom : Bom) (kind : RawKind) (bytes : List ℕ) (tokens : List (Token (List ℕ))) : Type 0 where
   pub utf8 : IsUtf8 bytes
   pub toks : List Tok
   pub errors : List ParseError
-  pub read : Tokens table kind (text_of bom bytes) (length bytes) toks errors
-  pub are : map taken toks ≡ tokens
+  pub read : Tokens table kind (decoded_text bom bytes) (length bytes) toks errors
+  pub are : map token_taken toks ≡ tokens
 
 -- A plain list as it is written is read as its own tokens.
 abbrev pub PlainTokens : Type 0
 PlainTokens = (table : Entities) (escaping : Escaping) (context : List ℕ) (l : Forest (List ℕ)) → IsTable table → HasCore table → AreTexts l
     → is_plain context l ≡ true
-    → AreRead table Keep (raw_kind (tag_named context)) (written escaping (Some context) l) (tokens_of texts l ++ eof ∷ [])
+    → AreRead table Keep (raw_kind (tag_named context)) (written escaping (Some context) l) (plain_tokens texts l ++ eof ∷ [])
 
 -- Its tokens build it from each quiet state.
 abbrev pub PlainBuilds : Type 0
 PlainBuilds = (inside : Inside) (l : Forest (List ℕ)) (s : State (List ℕ)) (ts : List (PlacedToken (List ℕ))) (q : IsQuiet texts inside s) → AreTexts l
     → are_content inside l ≡ true
-    → BeginsWell texts l q.current.node s → HasRoom texts l s → map (λ t. t.token) ts ≡ tokens_of texts l → Builds texts l q.current.node ts s
+    → BeginsWell texts l q.current.node s → HasTreeRoom texts l s → map (λ t. t.token) ts ≡ plain_tokens texts l → BuildsForest texts l q.current.node ts s
 
 -- the list as it is written fits the limits: besides its nodes there are the document and the root, which is open
-pub record Fits (opts : ParseOptions) (bytes : List ℕ) (l : Forest (List ℕ)) : Type 0 where
+pub record FitsForest (opts : ParseOptions) (bytes : List ℕ) (l : Forest (List ℕ)) : Type 0 where
   pub input : length bytes ≤ opts.input
   pub nodes : size l + 2 ≤ opts.limits.nodes
   pub open_nodes : depth l + 1 ≤ opts.limits.depth
 
 -- A parser takes fragments in this context, and accepts these bytes as one: the root's children are the list.
-pub record Gives (opts : ParseOptions) (context bytes : List ℕ) (l : Forest (List ℕ)) : Type 0 where
+pub record GivesForest (opts : ParseOptions) (context bytes : List ℕ) (l : Forest (List ℕ)) : Type 0 where
   pub allowed : is_context context ≡ true
   pub parse : Parse
   pub parses : Parses opts (fragment context) bytes (Ok parse)
@@ -77,4 +77,4 @@ pub record Gives (opts : ParseOptions) (context bytes : List ℕ) (l : Forest (L
 abbrev pub PlainComesBack : Type 0
 PlainComesBack = (opts : ParseOptions) (escaping : Escaping) (context : List ℕ) (l : Forest (List ℕ)) → IsTable opts.table → HasCore opts.table → AreTexts l
     → is_plain context l ≡ true
-    → Fits opts (written escaping (Some context) l) l → Gives opts context (written escaping (Some context) l) l
+    → FitsForest opts (written escaping (Some context) l) l → GivesForest opts context (written escaping (Some context) l) l

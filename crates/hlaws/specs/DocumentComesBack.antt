@@ -16,14 +16,14 @@ use Rattle.hparse.specs.Parse.{ParseOptions, document, Parse, Parses}
 use Rattle.hserialize.specs.PlainDocument.{is_plain_document}
 use Rattle.hserialize.specs.Written.{written}
 use Rattle.hserialize.specs.declared.escaping.Escaping.{Escaping}
-use Rattle.hlaws.specs.Building.{numbered, depth}
+use Rattle.hlaws.specs.Building.{numbered_forest, depth}
 use Rattle.hlaws.specs.ComesBack.{AreTexts, AreRead}
-use Rattle.hlaws.specs.PlainTokens.{tokens_of}
+use Rattle.hlaws.specs.PlainTokens.{plain_tokens}
 
 -- A plain document as it is written is read as its own tokens.
 abbrev pub PlainDocumentTokens : Type 0
 PlainDocumentTokens = (table : Entities) (escaping : Escaping) (l : Forest (List ℕ)) → IsTable table → HasCore table → AreTexts l
-    → is_plain_document l ≡ true → AreRead table Drop kind.None (written escaping None l) (tokens_of texts l ++ eof ∷ [])
+    → is_plain_document l ≡ true → AreRead table Drop kind.None (written escaping None l) (plain_tokens texts l ++ eof ∷ [])
 
 -- the nodes and the open elements that these children of a document need, besides it, are within the limits
 pub record FitsDocument (limits : Limits) (l : Forest (List ℕ)) : Type 0 where
@@ -34,12 +34,12 @@ pub record FitsDocument (limits : Limits) (l : Forest (List ℕ)) : Type 0 where
 pub record BuildsDocument (l : Forest (List ℕ)) (ts : List (PlacedToken (List ℕ))) (s : State (List ℕ)) : Type 0 where
   pub reached : State (List ℕ)
   pub steps : Steps texts ts s (Goes reached)
-  pub trees_are : trees reached.site ≡ tree 0 forest.document (numbered 1 l) none
+  pub trees_are : trees reached.site ≡ tree 0 forest.document (numbered_forest 1 l) none
 
 -- Its tokens build it.
 abbrev pub PlainDocumentBuilds : Type 0
 PlainDocumentBuilds = (quirks : List QuirkLine) (limits : Limits) (l : Forest (List ℕ)) (ts : List (PlacedToken (List ℕ))) → AreTexts l
-    → is_plain_document l ≡ true → FitsDocument limits l → map (λ t. t.token) ts ≡ tokens_of texts l ++ eof ∷ []
+    → is_plain_document l ≡ true → FitsDocument limits l → map (λ t. t.token) ts ≡ plain_tokens texts l ++ eof ∷ []
     → BuildsDocument l ts (document_begins quirks limits)
 
 -- A parser accepts these bytes as a document: what is built is this document and nothing else.

@@ -16,9 +16,9 @@ use Rattle.hmodes.specs.State.{State}
 use Rattle.hmodes.specs.Step.{Steps}
 use Rattle.hparse.specs.Answer.{Answers, of_document}
 use Rattle.hparse.specs.Into.{as_document}
-use Rattle.hparse.specs.Parse.{ParseOptions, ParseCase, Parse, Parses, begins, manner}
+use Rattle.hparse.specs.Parse.{ParseOptions, ParseCase, Parse, Parses, first_state, manner}
 use Rattle.hparse.specs.Reader.{IsRefusedFrom}
-use Rattle.hparse.specs.Taken.{placed}
+use Rattle.hparse.specs.Taken.{token_placed}
 use Rattle.hparse.specs.Unrefused.{AreSettledIn, IsUnrefusedText, IsUnrefused}
 
 -- No run refuses a front of what is accepted, as a document's tokens or as a tree.
@@ -33,7 +33,7 @@ FrontsOfParsed = (opts : ParseOptions) (parse_case : ParseCase) (bytes more : Li
 -- Settled spans, none out of the profile, lead to this.
 abbrev pub SettledLead : ParseOptions → ParseCase → List Span → Outcome (State (List ℕ)) → Type 0
 SettledLead opts parse_case spans outcome = (has_refused (tokens_of spans) ≡ false)
-    × Steps texts (map placed (tokens_of spans)) (begins opts parse_case) outcome
+    × Steps texts (map token_placed (tokens_of spans)) (first_state opts parse_case) outcome
 
 -- What the rules refuse of settled spans is refused whatever follows, and so is a settled start tag that the profile leaves out.
 abbrev pub RulesRefuse : Type 0

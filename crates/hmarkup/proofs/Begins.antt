@@ -1,5 +1,5 @@
 -- Each comment at the front of a text begins with what was read of it, and its errors begin with those reported.
-use Rattle.hmarkup.proofs.Names.{◌≡◌, ℕ, ◌≤◌, true, false, eqb, List, [], ◌∷◌, ◌++◌, length, sym, refl, ap, ◌∙◌, codes, arith, append_assoc, append-nil, map-append, false≢true, eqb-true, and_parts, or_left, or_right, encode_utf8, ParseError, Placed, characters, spells, is_front, null_errors, without_null, CommentKind, Comment, Bogus, closes_comment, closes_at_once, closes_bogus, errors_here, errors_after, IsComment, closed_at_once, closed_with_bang, unclosed, IsBogus, closed_bogus, unclosed_bogus, Begins, BeginsSpans, IsOpen, IsOneSpan, Progress, IsInComment, IsInBogus, HasReadOf, IsSpan, backwards}
+use Rattle.hmarkup.proofs.Names.{◌≡◌, ℕ, ◌≤◌, true, false, eqb, List, [], ◌∷◌, ◌++◌, length, sym, refl, ap, ◌∙◌, codes, arith, append_assoc, append-nil, map-append, false≢true, eqb-true, and_parts, or_left, or_right, encode_utf8, ParseError, Placed, characters, spells, is_front, null_errors, without_null, CommentKind, Comment, Bogus, closes_comment, closes_at_once, closes_bogus, errors_here, comment_errors_after, IsComment, closed_at_once, closed_with_bang, unclosed, IsBogus, closed_bogus, unclosed_bogus, BeginsMarkup, BeginsSpans, IsOpenMarkup, IsOneSpan, Progress, IsInComment, IsInBogus, HasReadOf, IsCommentSpan, backwards}
 use Rattle.hmarkup.specs.Comment.{closed}
 use Rattle.hmarkup.proofs.Marks.{not_past, spells-characters, first_is, null_errors-append}
 use Rattle.hmarkup.proofs.Fronts.{IsFront, front_of, front_more}
@@ -40,7 +40,7 @@ not_ended_bogus w text errs h rest span d es (closed_bogus inner close t b c dat
     (spells-characters (codes ">") close more c) (some_of close 62 [] more c))
 not_ended_bogus w text errs h rest span d es (unclosed_bogus r b data_is errors_are) more e = r
 
-pub open_of : (kind : CommentKind) (w : Progress) (text : List Placed) (errs : List ParseError) → HasReadOf kind w text errs → IsOpen (IsSpan kind) text
+pub open_of : (kind : CommentKind) (w : Progress) (text : List Placed) (errs : List ParseError) → HasReadOf kind w text errs → IsOpenMarkup (IsCommentSpan kind) text
 open_of Comment w text errs h = λ end rest d es s. not_ended w text errs h end rest text d es s [] (sym (append-nil text))
 open_of Bogus w text errs h = λ end rest d es s. not_ended_bogus w text errs h rest text d es s [] (sym (append-nil text))
 
@@ -55,17 +55,17 @@ bogus_errors rest span d es (closed_bogus inner close t b c data_is errors_are) 
 bogus_errors rest span d es (unclosed_bogus r b data_is errors_are) = errors_are
 
 -- the comment's errors begin with those of the characters read
-begins_with : (text after rest span : List Placed) (errs : List ParseError) (end : ℕ) (d : List ℕ) (es : List ParseError) → errs ≡ errors_after [] text → IsFront text after rest span → IsComment end rest span d es
-    → Begins text after rest span errs es
+begins_with : (text after rest span : List Placed) (errs : List ParseError) (end : ℕ) (d : List ℕ) (es : List ParseError) → errs ≡ comment_errors_after [] text → IsFront text after rest span → IsComment end rest span d es
+    → BeginsMarkup text after rest span errs es
 begins_with text after rest span errs end d es e front s =
     let told = told_of end rest span d es s in
     record {
       more = front.more;
-      later = errors_after (backwards [] text) front.more ++ told.last;
+      later = comment_errors_after (backwards [] text) front.more ++ told.last;
       span_is = front.span_is;
       after_is = front.after_is;
-      all_are = told.errors_are ∙ ap (λ (x : List Placed). errors_after [] x ++ told.last) front.span_is ∙ ap (λ (x : List ParseError). x ++ told.last) (errors-append [] text front.more)
-          ∙ append_assoc (errors_after [] text) (errors_after (backwards [] text) front.more) told.last ∙ ap (λ (x : List ParseError). x ++ (errors_after (backwards [] text) front.more ++ told.last)) (sym e);
+      all_are = told.errors_are ∙ ap (λ (x : List Placed). comment_errors_after [] x ++ told.last) front.span_is ∙ ap (λ (x : List ParseError). x ++ told.last) (errors-append [] text front.more)
+          ∙ append_assoc (comment_errors_after [] text) (comment_errors_after (backwards [] text) front.more) told.last ∙ ap (λ (x : List ParseError). x ++ (comment_errors_after (backwards [] text) front.more ++ told.last)) (sym e);
     }
 
 -- so far, and after one more character
@@ -73,11 +73,11 @@ begins_comment : (w : Progress) (text : List Placed) (errs : List ParseError) �
 begins_comment w text errs h end after rest span d all s e =
     begins_with text after rest span errs end d all h.errors_are (front_of text after rest span e (not_ended w text errs h end rest span d all s)) s
 
-pub begins_more : (w : Progress) (text : List Placed) (errs now : List ParseError) (p : Placed) → IsInComment w text errs → now ≡ errors_after [] (text ++ p ∷ []) → BeginsSpans IsComment (text ++ p ∷ []) now
+pub begins_more : (w : Progress) (text : List Placed) (errs now : List ParseError) (p : Placed) → IsInComment w text errs → now ≡ comment_errors_after [] (text ++ p ∷ []) → BeginsSpans IsComment (text ++ p ∷ []) now
 begins_more w text errs now p h n end after rest span d all s e =
     begins_with (text ++ p ∷ []) after rest span now end d all n (front_more text p after rest span (not_ended w text errs h end rest span d all s) e) s
 
-pub begins_bogus : (w : Progress) (text : List Placed) (errs : List ParseError) → IsInBogus w text errs → BeginsSpans (IsSpan Bogus) text errs
+pub begins_bogus : (w : Progress) (text : List Placed) (errs : List ParseError) → IsInBogus w text errs → BeginsSpans (IsCommentSpan Bogus) text errs
 begins_bogus w text errs h end after rest span d all s e =
     let front : IsFront text after rest span = front_of text after rest span e (not_ended_bogus w text errs h rest span d all s) in
     record {
@@ -88,7 +88,7 @@ begins_bogus w text errs h end after rest span d all s e =
       all_are = bogus_errors rest span d all s ∙ ap null_errors front.span_is ∙ null_errors-append text front.more ∙ ap (λ (x : List ParseError). x ++ null_errors front.more) (sym h.errors_are);
     }
 
-pub begins_of : (kind : CommentKind) (w : Progress) (text : List Placed) (errs : List ParseError) → HasReadOf kind w text errs → BeginsSpans (IsSpan kind) text errs
+pub begins_of : (kind : CommentKind) (w : Progress) (text : List Placed) (errs : List ParseError) → HasReadOf kind w text errs → BeginsSpans (IsCommentSpan kind) text errs
 begins_of Comment w text errs h = begins_comment w text errs h
 begins_of Bogus w text errs h = begins_bogus w text errs h
 
@@ -101,7 +101,7 @@ begins_whole Spans one text value errs given end after rest span other all s e =
 
 -- a bogus comment, after one more character that does not end it
 pub bogus_more : (w : Progress) (text : List Placed) (errs : List ParseError) (ch at : ℕ) → IsInBogus w text errs → eqb ch 62 ≡ false
-    → BeginsSpans (IsSpan Bogus) (text ++ record { ch = ch; at = at } ∷ []) (errs ++ errors_here false (record { ch = ch; at = at }))
+    → BeginsSpans (IsCommentSpan Bogus) (text ++ record { ch = ch; at = at } ∷ []) (errs ++ errors_here false (record { ch = ch; at = at }))
 bogus_more w text errs ch at h other =
     let then : Progress = record { kind = w.kind; ending = w.ending; opening = w.opening; «data» = w.data ++ encode_utf8 (without_null ch) } in
     begins_bogus then (text ++ record { ch = ch; at = at } ∷ []) (errs ++ errors_here false (record { ch = ch; at = at }))

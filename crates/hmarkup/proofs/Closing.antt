@@ -1,5 +1,5 @@
 -- What a walk has read, and the characters that close it.
-use Rattle.hmarkup.proofs.Names.{◌≡◌, ◌<◌, ℕ, arith, true, false, eqb, List, [], ◌∷◌, ◌++◌, sym, refl, ap, ◌∙◌, subst, codes, None, append_assoc, ParseError, Placed, characters, is_quote, CommentKind, Comment, Bogus, Letters, DoctypeState, Ending, Plain, Dashes, errors_here, IsComment, Progress, HasReadOf, IsInComment, IsSpan, is_whole, Found, IsDoctype, next_letter, step, Reading, Fits, HasReadDoctype, next, next_ending}
+use Rattle.hmarkup.proofs.Names.{◌≡◌, ◌<◌, ℕ, arith, true, false, eqb, List, [], ◌∷◌, ◌++◌, sym, refl, ap, ◌∙◌, subst, codes, None, append_assoc, ParseError, Placed, characters, is_quote, CommentKind, Comment, Bogus, Letters, DoctypeState, Ending, Plain, Dashes, errors_here, IsComment, Progress, HasReadOf, IsInComment, IsCommentSpan, is_whole, Found, IsDoctype, next_letter, step, Reading, FitsState, HasReadDoctype, next_progress, next_ending}
 use Rattle.std.proofs.lemmas.Bool.{ne_eqb}
 use Rattle.hmarkup.specs.declared.doctype_state.DoctypeState.TheVariants as phase
 use Rattle.hmarkup.specs.CommentWalk.{closing_mark}
@@ -17,11 +17,11 @@ two_dashes Plain = refl
 two_dashes _ = refl
 
 -- what completes a longer text completes the text, with the characters between them in front
-closed_sooner : {V : Type 0} (IsSpan : ℕ → List Placed → List Placed → V → List ParseError → Type 0) (text front closing : List Placed) → ClosedBy IsSpan (text ++ front) closing → ClosedBy IsSpan text (front ++ closing)
-closed_sooner IsSpan text front closing k = record {
+closed_sooner : {V : Type 0} (IsCommentSpan : ℕ → List Placed → List Placed → V → List ParseError → Type 0) (text front closing : List Placed) → ClosedBy IsCommentSpan (text ++ front) closing → ClosedBy IsCommentSpan text (front ++ closing)
+closed_sooner IsCommentSpan text front closing k = record {
   value = k.value;
   errors = k.errors;
-  is_span = λ end rest. subst (λ (x : List Placed). IsSpan end rest x k.value k.errors) (append_assoc text front closing) (k.is_span end rest);
+  is_span = λ end rest. subst (λ (x : List Placed). IsCommentSpan end rest x k.value k.errors) (append_assoc text front closing) (k.is_span end rest);
 }
 
 module _ (w : Progress) (text : List Placed) (errs : List ParseError) (h : IsInComment w text errs) (a b c : Placed) (a_is : a.ch ≡ 45) (b_is : b.ch ≡ 45) (c_is : c.ch ≡ 62) where
@@ -29,15 +29,15 @@ module _ (w : Progress) (text : List Placed) (errs : List ParseError) (h : IsInC
   errors_a = errs ++ errors_here (is_whole w.opening) a
 
   abbrev errors_b : List ParseError
-  errors_b = errors_a ++ errors_here (is_whole (next w a.ch).opening) b
+  errors_b = errors_a ++ errors_here (is_whole (next_progress w a.ch).opening) b
 
-  after_a : IsInComment (next w a.ch) (text ++ a ∷ []) errors_a
+  after_a : IsInComment (next_progress w a.ch) (text ++ a ∷ []) errors_a
   after_a = kept_other w text errs a.ch a.at (is_whole w.opening) refl h (ap (λ (n : ℕ). eqb n 62) a_is)
 
-  after_b : IsInComment (next (next w a.ch) b.ch) ((text ++ a ∷ []) ++ b ∷ []) errors_b
-  after_b = kept_other (next w a.ch) (text ++ a ∷ []) errors_a b.ch b.at (is_whole (next w a.ch).opening) refl after_a (ap (λ (n : ℕ). eqb n 62) b_is)
+  after_b : IsInComment (next_progress (next_progress w a.ch) b.ch) ((text ++ a ∷ []) ++ b ∷ []) errors_b
+  after_b = kept_other (next_progress w a.ch) (text ++ a ∷ []) errors_a b.ch b.at (is_whole (next_progress w a.ch).opening) refl after_a (ap (λ (n : ℕ). eqb n 62) b_is)
 
-  has_dashes : (next (next w a.ch) b.ch).ending ≡ Dashes
+  has_dashes : (next_progress (next_progress w a.ch) b.ch).ending ≡ Dashes
   has_dashes = ap (λ (n : ℕ). next_ending (next_ending w.ending n) b.ch) a_is ∙ ap (λ (n : ℕ). next_ending (next_ending w.ending 45) n) b_is ∙ two_dashes w.ending
 
   closed_by_dashes : ClosedBy IsComment text (a ∷ b ∷ c ∷ [])
@@ -47,10 +47,10 @@ module _ (w : Progress) (text : List Placed) (errs : List ParseError) (h : IsInC
       (record {
         value = _;
         errors = _;
-        is_span = closed_now (next (next w a.ch) b.ch) ((text ++ a ∷ []) ++ b ∷ []) errors_b c.ch c.at (is_whole (next (next w a.ch) b.ch).opening) refl after_b c_is has_dashes;
+        is_span = closed_now (next_progress (next_progress w a.ch) b.ch) ((text ++ a ∷ []) ++ b ∷ []) errors_b c.ch c.at (is_whole (next_progress (next_progress w a.ch) b.ch).opening) refl after_b c_is has_dashes;
       }))
 
-pub closed_span : (kind : CommentKind) (w : Progress) (text closing : List Placed) (errs : List ParseError) → HasReadOf kind w text errs → characters closing ≡ closing_mark kind → ClosedBy (IsSpan kind) text closing
+pub closed_span : (kind : CommentKind) (w : Progress) (text closing : List Placed) (errs : List ParseError) → HasReadOf kind w text errs → characters closing ≡ closing_mark kind → ClosedBy (IsCommentSpan kind) text closing
 closed_span Comment w text (a ∷ b ∷ c ∷ []) errs h is =
     let a_is : a.ch ≡ 45 = cc in
     let b_is : b.ch ≡ 45 = cc in
@@ -66,7 +66,7 @@ no_quote mark h = quote_is mark h (λ n. eqb 62 n ≡ false) refl refl
 no_letter : (letters : Letters) → letters.read < 6 → eqb 62 (next_letter letters) ≡ false
 no_letter letters fits = let far = next_is_letter letters fits in ne_eqb 62 (next_letter letters) (λ e. absurd (omega (arith, e)))
 
-ends_doctype : (phase : DoctypeState) (known : Found) (at : ℕ) → Fits phase known → (step phase (record { ch = 62; at = at })).next ≡ None
+ends_doctype : (phase : DoctypeState) (known : Found) (at : ℕ) → FitsState phase known → (step phase (record { ch = 62; at = at })).next ≡ None
 ends_doctype (phase.Keyword letters first) known at fits = simp (no_letter letters fits)
 ends_doctype (phase.Quoted which mark) known at fits = simp (no_quote mark fits.0)
 ends_doctype _ known at fits = refl

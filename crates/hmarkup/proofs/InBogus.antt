@@ -1,5 +1,5 @@
 -- A bogus comment that has not ended, and one more character or the end.
-use Rattle.hmarkup.proofs.Names.{nat_tests, and_parts, arith, ◌≡◌, ℕ, Bool, true, false, ◌&&◌, eqb, List, [], ◌∷◌, ◌++◌, sym, refl, ap, ◌∙◌, append-nil, encode_utf8, ParseError, Placed, all, before, Avoids, null_errors, text_bytes, without_null, Bogus, errors_here, closes_bogus, IsBogus, closed_bogus, unclosed_bogus, Progress, begun, IsInBogus}
+use Rattle.hmarkup.proofs.Names.{nat_tests, and_parts, arith, ◌≡◌, ℕ, Bool, true, false, ◌&&◌, eqb, List, [], ◌∷◌, ◌++◌, sym, refl, ap, ◌∙◌, append-nil, encode_utf8, ParseError, Placed, all, before, Avoids, null_errors, text_bytes, without_null, Bogus, errors_here, closes_bogus, IsBogus, closed_bogus, unclosed_bogus, Progress, comment_begun, IsInBogus}
 use Rattle.hmarkup.specs.Comment.{is_plain_in_bogus}
 use Rattle.hmarkup.proofs.Marks.{Avoids-more, Avoids-append, before-avoids, text_bytes-append, null_errors-append}
 
@@ -42,5 +42,5 @@ plain_errors : (text : List Placed) → all is_plain_in_bogus text ≡ true → 
 plain_errors [] h = refl
 plain_errors (p ∷ ps) h = let null : eqb p.ch 0 ≡ false = grind (arith, nat_tests) in rw null (plain_errors ps (and_parts _ _ h).1)
 
-pub plain_read : (text : List Placed) → all is_plain_in_bogus text ≡ true → IsInBogus (begun Bogus (text_bytes text)) text []
+pub plain_read : (text : List Placed) → all is_plain_in_bogus text ≡ true → IsInBogus (comment_begun Bogus (text_bytes text)) text []
 plain_read text h = record { kind_is = refl; no_close = plain_avoids text h; data_is = refl; errors_are = sym (plain_errors text h) }

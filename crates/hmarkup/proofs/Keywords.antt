@@ -6,8 +6,8 @@ use Rattle.std.proofs.lemmas.List.{drop_more}
 use Rattle.names.proofs.Words.{not_second}
 use Rattle.names.specs.Placed.{lowered}
 use Rattle.hmarkup.specs.Doctype.{is_keyword, keyword, FollowsKeyword}
-use Rattle.hmarkup.specs.DoctypeSteps.{begun, ends}
-use Rattle.hmarkup.specs.DoctypeWalk.{left}
+use Rattle.hmarkup.specs.DoctypeSteps.{identifier_begun, ends_doctype}
+use Rattle.hmarkup.specs.DoctypeWalk.{letters_left}
 use Rattle.hmarkup.proofs.Marks.{eqb_self}
 use Rattle.hmarkup.proofs.Characters.{lower_is_far, far_not_space, far_not_greater, far_not_null, no_null_error}
 use Rattle.hmarkup.proofs.Spaces.{past_space, at_once, with_space, with_none, any_space}
@@ -17,13 +17,13 @@ use Rattle.hmarkup.proofs.Stepping.{ends_by, skips_by, ended, Goes, Stepped, pas
 -- keywords, a letter at a time
 pub left_after : Option Letters → List ℕ
 left_after None = []
-left_after (Some letters) = left letters
+left_after (Some letters) = letters_left letters
 
 six : (which : Identifier) → length (keyword which) ≡ 6
 six Public = refl
 six System = refl
 
-pub left_is : (letters : Letters) → letters.read < 6 → left letters ≡ next_letter letters ∷ left_after (letters_after letters)
+pub left_is : (letters : Letters) → letters.read < 6 → letters_left letters ≡ next_letter letters ∷ left_after (letters_after letters)
 unfolding left_after
 left_is letters fits =
     drop_more (keyword letters.which) letters.read 0 (omega (arith, six letters.which)) ∙ ap (λ (x : List ℕ). next_letter letters ∷ x) (sym (by (nat_lt letters.read 5) refl))
@@ -68,7 +68,7 @@ letter_not_space p c h l = far_not_space p.ch (lower_is_far p.ch c h l)
 
 -- the first letter of a keyword, if it is one
 abbrev pub first_by : Bool → Bool → Option Letters
-first_by a b = if a then Some (begun Public) else (if b then Some (begun System) else None)
+first_by a b = if a then Some (identifier_begun Public) else (if b then Some (identifier_begun System) else None)
 
 -- a text that begins with a word in either case
 record Worded (p : Placed) (ps : List Placed) (c : ℕ) (cs : List ℕ) (after : List Placed) : Type 0 where
@@ -88,28 +88,28 @@ worded p ps (x ∷ xs) after c cs t w =
 abbrev unread : Identifier → Letters
 unread which = record { which = which; read = 0 }
 
-first_is : (which : Identifier) (c : ℕ) → to_ascii_lowercase c ≡ next_letter (unread which) → first_letter c ≡ Some (begun which)
+first_is : (which : Identifier) (c : ℕ) → to_ascii_lowercase c ≡ next_letter (unread which) → first_letter c ≡ Some (identifier_begun which)
 first_is Public c l = ap (λ (n : ℕ). first_by (eqb n 112) (eqb n 115)) l
 first_is System c l = ap (λ (n : ℕ). first_by (eqb n 112) (eqb n 115)) l
 
-first_back : (c : ℕ) (letters : Letters) → first_letter c ≡ Some letters → (letters ≡ begun letters.which) × (to_ascii_lowercase c ≡ next_letter (unread letters.which))
+first_back : (c : ℕ) (letters : Letters) → first_letter c ≡ Some letters → (letters ≡ identifier_begun letters.which) × (to_ascii_lowercase c ≡ next_letter (unread letters.which))
 first_back c letters e = by (eqb (to_ascii_lowercase c) 112) (eqb (to_ascii_lowercase c) 115) refl refl e
   where
-    by : (a b : Bool) → eqb (to_ascii_lowercase c) 112 ≡ a → eqb (to_ascii_lowercase c) 115 ≡ b → first_by a b ≡ Some letters → (letters ≡ begun letters.which) × (to_ascii_lowercase c ≡ next_letter (unread letters.which))
-    by true b ea eb e = let is : begun Public ≡ letters = cc in subst (λ (l : Letters). (l ≡ begun l.which) × (to_ascii_lowercase c ≡ next_letter (unread l.which))) is (refl, eqb-true _ _ ea)
-    by false true ea eb e = let is : begun System ≡ letters = cc in subst (λ (l : Letters). (l ≡ begun l.which) × (to_ascii_lowercase c ≡ next_letter (unread l.which))) is (refl, eqb-true _ _ eb)
+    by : (a b : Bool) → eqb (to_ascii_lowercase c) 112 ≡ a → eqb (to_ascii_lowercase c) 115 ≡ b → first_by a b ≡ Some letters → (letters ≡ identifier_begun letters.which) × (to_ascii_lowercase c ≡ next_letter (unread letters.which))
+    by true b ea eb e = let is : identifier_begun Public ≡ letters = cc in subst (λ (l : Letters). (l ≡ identifier_begun l.which) × (to_ascii_lowercase c ≡ next_letter (unread l.which))) is (refl, eqb-true _ _ ea)
+    by false true ea eb e = let is : identifier_begun System ≡ letters = cc in subst (λ (l : Letters). (l ≡ identifier_begun l.which) × (to_ascii_lowercase c ≡ next_letter (unread l.which))) is (refl, eqb-true _ _ eb)
     by false false ea eb e = absurd cc
 
 first_none : (p : Placed) (ps : List Placed) → first_letter p.ch ≡ None → is_keyword (p ∷ ps) ≡ false
 first_none p ps e = grind (arith, nat_tests)
 
-keyword_rest : (which : Identifier) (p : Placed) (ps : List Placed) → to_ascii_lowercase p.ch ≡ next_letter (unread which) → is_keyword (p ∷ ps) ≡ spells_in_any_case (left (begun which)) ps
+keyword_rest : (which : Identifier) (p : Placed) (ps : List Placed) → to_ascii_lowercase p.ch ≡ next_letter (unread which) → is_keyword (p ∷ ps) ≡ spells_in_any_case (letters_left (identifier_begun which)) ps
 keyword_rest Public p ps l = grind (arith, nat_tests)
 keyword_rest System p ps l = grind (arith, nat_tests)
 
 -- what begins with a keyword
 module _ (which : Identifier) (p : Placed) (ps word after : List Placed) (t : p ∷ ps ≡ word ++ after) (w : lowered word ≡ keyword which) where
-  begins_word : Worded p ps (next_letter (unread which)) (left (begun which)) after
+  begins_word : Worded p ps (next_letter (unread which)) (letters_left (identifier_begun which)) after
   unfolding left_after
   begins_word = worded p ps word after _ _ t (w ∙ left_is (unread which) (omega arith))
 
@@ -150,17 +150,17 @@ module _ (known : Found) (end : ℕ) (rest : List Placed) (p : Placed) (ps : Lis
       let k = name_ended errors eg h in
       record { later = []; errors_are = k.2 ∙ sym (plain_errors p (greater_error p eg) None []); goes = (k.0, k.1, refl) }
   from_name_core errors false letters eg el (name_ends h) = ends_by known end rest p ps found errors _ false eg h
-  from_name_core errors false None eg el (name_skips h) = skips_by known end rest p ps found errors _ _ true ends ends false false eg (first_none p ps el) h
+  from_name_core errors false None eg el (name_skips h) = skips_by known end rest p ps found errors _ _ true ends_doctype ends_doctype false false eg (first_none p ps el) h
   from_name_core errors false (Some letters) eg el (name_skips h) =
       let k = skips_at (force known) end rest found p ps errors _ _ h in
       let (is, l) = first_back p.ch letters el in
       let n : null_errors (p ∷ []) ≡ [] = letter_error p _ l (next_is_letter (unread letters.which) (omega arith)) in
       passed _ known end rest p ps found errors n
-      (fails k.3.0 (ap (λ (x : Letters). spells_in_any_case (left x) ps) is ∙ sym (keyword_rest letters.which p ps l) ∙ k.2) k.3.2 (k.3.1 ∙ plain_errors p n (Some (error InvalidCharacterSequenceAfterDoctypeName p.at)) k.3.0))
+      (fails k.3.0 (ap (λ (x : Letters). spells_in_any_case (letters_left x) ps) is ∙ sym (keyword_rest letters.which p ps l) ∙ k.2) k.3.2 (k.3.1 ∙ plain_errors p n (Some (error InvalidCharacterSequenceAfterDoctypeName p.at)) k.3.0))
   from_name_core errors false letters eg el (names_identifier which word after t w k) =
       let v = begins_word which p ps word after t w in
-      let is : letters ≡ Some (begun which) = sym el ∙ first_is which p.ch v.letter in
-      rw is (keyword_goes (unread which) p.at errors (Some (begun which)) v.more after (refl, omega arith) v.text_is v.others k (letter_error p _ v.letter (next_is_letter (unread which) (omega arith))))
+      let is : letters ≡ Some (identifier_begun which) = sym el ∙ first_is which p.ch v.letter in
+      rw is (keyword_goes (unread which) p.at errors (Some (identifier_begun which)) v.more after (refl, omega arith) v.text_is v.others k (letter_error p _ v.letter (next_is_letter (unread which) (omega arith))))
 
   pub from_after_name : (errors : List ParseError) (s g : Bool) → is_space p.ch ≡ s → is_greater p.ch ≡ g → FollowsName known end rest (p ∷ ps) found errors
       → Stepped (after_name s g (first_letter p.ch) p.at) known end rest p ps found errors
@@ -186,7 +186,7 @@ module _ (known : Found) (end : ℕ) (rest : List Placed) (p : Placed) (ps : Lis
       subst (λ (x : List ParseError). AfterName known end rest (p ∷ ps) found x) (sym (plain_errors p (letter_error p _ l far) None later))
       (by letters.which l far (subst (λ (x : Letters). IsInKeyword x p.at known end rest ps found later) is h))
     where
-      by : (which : Identifier) → to_ascii_lowercase p.ch ≡ next_letter (unread which) → 97 ≤ next_letter (unread which) → IsInKeyword (begun which) p.at known end rest ps found later → AfterName known end rest (p ∷ ps) found later
+      by : (which : Identifier) → to_ascii_lowercase p.ch ≡ next_letter (unread which) → 97 ≤ next_letter (unread which) → IsInKeyword (identifier_begun which) p.at known end rest ps found later → AfterName known end rest (p ∷ ps) found later
       by which l far (whole word after t w k) =
           names_identifier which (p ∷ word) after (ap (λ (x : List Placed). p ∷ x) t) (ap (λ (c : ℕ). c ∷ lowered word) l ∙ ap (λ (x : List ℕ). next_letter (unread which) ∷ x) w ∙ sym (left_is (unread which) (omega arith))) k
       by which l far (fails more sp h e) = skips_letter later more _ l far (keyword_rest which p ps l ∙ sp) h e
@@ -234,7 +234,7 @@ module _ (known : Found) (end : ℕ) (rest : List Placed) (p : Placed) (ps : Lis
       record { later = k.0; errors_are = e ∙ ap (λ (x : List ParseError). error InvalidCharacterSequenceAfterDoctypeName first ∷ x) k.1; goes = k.2 }
 
   -- backwards
-  word_more : (letters : Letters) (word : List Placed) → letters.read < 6 → to_ascii_lowercase p.ch ≡ next_letter letters → lowered word ≡ left_after (letters_after letters) → lowered (p ∷ word) ≡ left letters
+  word_more : (letters : Letters) (word : List Placed) → letters.read < 6 → to_ascii_lowercase p.ch ≡ next_letter letters → lowered word ≡ left_after (letters_after letters) → lowered (p ∷ word) ≡ letters_left letters
   word_more letters word fits l w = ap (λ (c : ℕ). c ∷ lowered word) l ∙ ap (λ (x : List ℕ). next_letter letters ∷ x) w ∙ sym (left_is letters fits)
 
   keyword_on : (letters : Letters) (first : ℕ) (later : List ParseError) (next : Option Letters) → letters.read < 6 → letters_after letters ≡ next → GoesOnAs letters.which next → to_ascii_lowercase p.ch ≡ next_letter letters
@@ -247,11 +247,11 @@ module _ (known : Found) (end : ℕ) (rest : List Placed) (p : Placed) (ps : Lis
   keyword_on letters first later (Some next) fits o w l (fails more sp h e) =
       let far : 97 ≤ next_letter letters = next_is_letter letters fits in
       let n : null_errors (p ∷ []) ≡ [] = letter_error p _ l far in
-      let all_no : spells_in_any_case (next_letter letters ∷ left next) (p ∷ ps) ≡ false = and_right (eqb (to_ascii_lowercase p.ch) (next_letter letters)) (spells_in_any_case (left next) ps) sp in
+      let all_no : spells_in_any_case (next_letter letters ∷ letters_left next) (p ∷ ps) ≡ false = and_right (eqb (to_ascii_lowercase p.ch) (next_letter letters)) (spells_in_any_case (letters_left next) ps) sp in
       fails more (ap (λ (x : List ℕ). spells_in_any_case x (p ∷ ps)) (left_is letters fits ∙ ap (λ (x : Option Letters). next_letter letters ∷ left_after x) o) ∙ all_no)
       (subst (λ (x : List ParseError). IsSkipped (force known) end rest (p ∷ ps) found x) (ap (λ (x : List ParseError). x ++ more) n) (skipped_more (force known) end rest found p ps more h (letter_not_greater p _ l far))) e
 
-  other_no : (letters : Letters) → letters.read < 6 → eqb (to_ascii_lowercase p.ch) (next_letter letters) ≡ false → spells_in_any_case (left letters) (p ∷ ps) ≡ false
+  other_no : (letters : Letters) → letters.read < 6 → eqb (to_ascii_lowercase p.ch) (next_letter letters) ≡ false → spells_in_any_case (letters_left letters) (p ∷ ps) ≡ false
   other_no letters fits em = ap (λ (x : List ℕ). spells_in_any_case x (p ∷ ps)) (left_is letters fits) ∙ and_left (eqb (to_ascii_lowercase p.ch) (next_letter letters)) (spells_in_any_case (left_after (letters_after letters)) ps) em
 
   pub to_keyword : (letters : Letters) (first : ℕ) (later : List ParseError) → letters.read < 6 → (m g : Bool) → eqb (to_ascii_lowercase p.ch) (next_letter letters) ≡ m → is_greater p.ch ≡ g

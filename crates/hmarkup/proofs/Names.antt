@@ -1,12 +1,12 @@
 -- The names of other crates and of specs/ that several proofs cite, in one place.
-pub use Rattle.hmarkup.specs.Comment.{closes_comment, closes_at_once, closes_bogus, errors_here, errors_after, IsComment, closed_at_once, closed_with_bang, unclosed, IsBogus, closed_bogus, unclosed_bogus, is_ending}
-pub use Rattle.hmarkup.specs.CommentWalk.{Progress, IsInComment, IsInBogus, HasReadOf, IsSpan, backwards, is_whole, begun, holds_nothing}
-pub use Rattle.hmarkup.specs.Doctype.{closed, Found, IsDoctype, force, IsEnd, cut_off, IsSkipped, AfterName, name_ends, name_skips, names_identifier, FollowsName, named, AfterSpace, AfterOpening, begins_name, nameless, unfinished, identified, IsInside, quoted, abrupt, AfterSystemIdentifier, system_ends, system_skips, AfterPublicIdentifier, public_ends, public_skips, second, Follows, AfterKeyword, identifier, missing, keyword_skips, keyword_cut_off, Stands}
+pub use Rattle.hmarkup.specs.Comment.{closes_comment, closes_at_once, closes_bogus, errors_here, comment_errors_after, IsComment, closed_at_once, closed_with_bang, unclosed, IsBogus, closed_bogus, unclosed_bogus, is_ending}
+pub use Rattle.hmarkup.specs.CommentWalk.{Progress, IsInComment, IsInBogus, HasReadOf, IsCommentSpan, backwards, is_whole, comment_begun, holds_nothing}
+pub use Rattle.hmarkup.specs.Doctype.{closed, Found, IsDoctype, force, IsEnd, cut_off, IsSkipped, AfterName, name_ends, name_skips, names_identifier, FollowsName, with_name, AfterSpace, AfterOpening, begins_name, nameless, unfinished, identified, IsInside, quoted, abrupt, AfterSystemIdentifier, system_ends, system_skips, AfterPublicIdentifier, public_ends, public_skips, second, Follows, AfterKeyword, identifier, missing, keyword_skips, keyword_cut_off, Stands}
 pub use Rattle.hmarkup.specs.DoctypeSteps.{next_letter, step, after_name, begins_keyword, first_letter, goes_on_with, in_keyword, letters_after, step_errors, found_by, before_name, in_name, fault_errors, end_fault, found_at_end, after_keyword, follows, in_quotes, after_public, after_system, in_skipped}
-pub use Rattle.hmarkup.specs.DoctypeWalk.{Reading, Fits, HasReadDoctype, IsInKeyword, whole, fails, identifier_of, GoesOn}
+pub use Rattle.hmarkup.specs.DoctypeWalk.{Reading, FitsState, HasReadDoctype, IsInKeyword, whole, fails, identifier_of, DoctypeGoesOn}
 pub use Rattle.hmarkup.specs.Quirks.{lines, AreQuirkLines}
-pub use Rattle.hmarkup.specs.Steps.{next, next_ending, decided}
-pub use Rattle.hmarkup.specs.Walk.{Begins, BeginsSpans, IsOpen, IsOneSpan, Ends, Takes, ran_out, sink_refused, goes_on, ended, run_ran_out, run_goes_on}
+pub use Rattle.hmarkup.specs.Steps.{next_progress, next_ending, decided}
+pub use Rattle.hmarkup.specs.Walk.{BeginsMarkup, BeginsSpans, IsOpenMarkup, IsOneSpan, EndsMarkup, TakesMarkup, ran_out, sink_refused, goes_on, ended, run_ran_out, run_goes_on}
 pub use Rattle.hmarkup.specs.declared.comment.CommentKind.{CommentKind}
 pub use Rattle.hmarkup.specs.declared.comment.CommentKind.TheVariants.{Comment, Bogus}
 pub use Rattle.hmarkup.specs.declared.doctype_state.DoctypeState.{DoctypeState}

@@ -1,7 +1,7 @@
 -- The name of a doctype: each character.
-use Rattle.hmarkup.proofs.Names.{◌≡◌, ℕ, Bool, true, false, not, ◌||◌, if◌then◌else◌, List, [], ◌∷◌, ◌++◌, sym, refl, ap, ◌∙◌, subst, Option, Some, None, append_assoc, is_some, false≢true, and_from, and_parts, not-true, or_from, or_left, or_right, ParseError, MissingDoctypeName, MissingWhitespaceBeforeDoctypeName, Placed, characters, begins, all, is_space, is_greater, error, null_errors, name_bytes, Found, name_ends, named, AfterSpace, AfterName, FollowsName, AfterOpening, begins_name, nameless, unfinished, before_name, in_name, step_errors, fault_errors, found_by}
+use Rattle.hmarkup.proofs.Names.{◌≡◌, ℕ, Bool, true, false, not, ◌||◌, if◌then◌else◌, List, [], ◌∷◌, ◌++◌, sym, refl, ap, ◌∙◌, subst, Option, Some, None, append_assoc, is_some, false≢true, and_from, and_parts, not-true, or_from, or_left, or_right, ParseError, MissingDoctypeName, MissingWhitespaceBeforeDoctypeName, Placed, characters, begins, all, is_space, is_greater, error, null_errors, name_bytes, Found, name_ends, with_name, AfterSpace, AfterName, FollowsName, AfterOpening, begins_name, nameless, unfinished, before_name, in_name, step_errors, fault_errors, found_by}
 use Rattle.names.specs.Placed.{stops}
-use Rattle.hmarkup.specs.Doctype.{IsName}
+use Rattle.hmarkup.specs.Doctype.{IsDoctypeName}
 use Rattle.hmarkup.proofs.Marks.{null_errors-append}
 use Rattle.hmarkup.proofs.Characters.{greater_not_space}
 use Rattle.hmarkup.proofs.Parts.{named-cons, named_not}
@@ -13,8 +13,8 @@ use Rattle.hmarkup.proofs.Keywords.{name_not_space, name_ended}
 module _ (known : Found) (end : ℕ) (rest : List Placed) (p : Placed) (ps : List Placed) (found : Found) where
   -- one more character of the name, from its parts
   name_more : (errors : List ParseError) (name after : List Placed) (later : List ParseError) → p ∷ ps ≡ name ++ after → all (λ c. not (is_space c || is_greater c)) name ≡ true
-      → stops (λ c. is_space c || is_greater c) (after ++ rest) ≡ true → FollowsName (named (name_bytes name) known) end rest after found later → errors ≡ null_errors name ++ later
-      → (is_space p.ch || is_greater p.ch) ≡ false → (more : List ParseError) × (errors ≡ null_errors (p ∷ []) ++ more) × IsName (named (name_bytes (p ∷ [])) known) end rest ps found more
+      → stops (λ c. is_space c || is_greater c) (after ++ rest) ≡ true → FollowsName (with_name (name_bytes name) known) end rest after found later → errors ≡ null_errors name ++ later
+      → (is_space p.ch || is_greater p.ch) ≡ false → (more : List ParseError) × (errors ≡ null_errors (p ∷ []) ++ more) × IsDoctypeName (with_name (name_bytes (p ∷ [])) known) end rest ps found more
   name_more errors [] [] later t a s f e is = absurd cc
   name_more errors [] (q ∷ qs) later t a s f e is = absurd (false≢true (sym is ∙ ap (begins (λ c. is_space c || is_greater c)) t ∙ s))
   name_more errors (n ∷ ns) after later t a s f e is =
@@ -27,19 +27,19 @@ module _ (known : Found) (end : ℕ) (rest : List Placed) (p : Placed) (ps : Lis
           later = later;
           text_is = cc;
           runs = record { passes_none = (and_parts (not (is_space n.ch || is_greater n.ch)) (all (λ c. not (is_space c || is_greater c)) ns) a).1; stops_after = s };
-          follows = subst (λ (x : Placed). FollowsName (named (name_bytes ns) (named (name_bytes (x ∷ [])) known)) end rest after found later) head
+          follows = subst (λ (x : Placed). FollowsName (with_name (name_bytes ns) (with_name (name_bytes (x ∷ [])) known)) end rest after found later) head
               (subst (λ (x : Found). FollowsName x end rest after found later) (named-cons n ns known) f);
           errors_are = refl;
         },
       )
 
-  name_goes : (errors : List ParseError) → IsName known end rest (p ∷ ps) found errors → (is_space p.ch || is_greater p.ch) ≡ false
-      → (more : List ParseError) × (errors ≡ null_errors (p ∷ []) ++ more) × IsName (named (name_bytes (p ∷ [])) known) end rest ps found more
+  name_goes : (errors : List ParseError) → IsDoctypeName known end rest (p ∷ ps) found errors → (is_space p.ch || is_greater p.ch) ≡ false
+      → (more : List ParseError) × (errors ≡ null_errors (p ∷ []) ++ more) × IsDoctypeName (with_name (name_bytes (p ∷ [])) known) end rest ps found more
   name_goes errors h is = name_more errors h.name h.after h.later h.text_is h.runs.passes_none h.runs.stops_after h.follows h.errors_are is
 
   -- or what is after it
   name_over : (errors : List ParseError) (name after : List Placed) (later : List ParseError) → p ∷ ps ≡ name ++ after → all (λ c. not (is_space c || is_greater c)) name ≡ true
-      → FollowsName (named (name_bytes name) known) end rest after found later → errors ≡ null_errors name ++ later
+      → FollowsName (with_name (name_bytes name) known) end rest after found later → errors ≡ null_errors name ++ later
       → (is_space p.ch || is_greater p.ch) ≡ true → is_some known.name ≡ true → FollowsName known end rest (p ∷ ps) found errors
   name_over errors [] after later t a f e is begun =
       subst (λ (x : List ParseError). FollowsName known end rest (p ∷ ps) found x) (sym e)
@@ -48,10 +48,10 @@ module _ (known : Found) (end : ℕ) (rest : List Placed) (p : Placed) (ps : Lis
       absurd (false≢true (sym (not-true (is_space n.ch || is_greater n.ch) (and_parts (not (is_space n.ch || is_greater n.ch)) (all (λ c. not (is_space c || is_greater c)) ns) a).0)
       ∙ ap (begins (λ c. is_space c || is_greater c)) (sym t) ∙ is))
 
-  name_stops : (errors : List ParseError) → IsName known end rest (p ∷ ps) found errors → (is_space p.ch || is_greater p.ch) ≡ true → is_some known.name ≡ true → FollowsName known end rest (p ∷ ps) found errors
+  name_stops : (errors : List ParseError) → IsDoctypeName known end rest (p ∷ ps) found errors → (is_space p.ch || is_greater p.ch) ≡ true → is_some known.name ≡ true → FollowsName known end rest (p ∷ ps) found errors
   name_stops errors h is begun = name_over errors h.name h.after h.later h.text_is h.runs.passes_none h.follows h.errors_are is begun
 
-  pub from_name : (errors : List ParseError) (s g : Bool) → is_space p.ch ≡ s → is_greater p.ch ≡ g → is_some known.name ≡ true → IsName known end rest (p ∷ ps) found errors
+  pub from_name : (errors : List ParseError) (s g : Bool) → is_space p.ch ≡ s → is_greater p.ch ≡ g → is_some known.name ≡ true → IsDoctypeName known end rest (p ∷ ps) found errors
       → Stepped (in_name s g) known end rest p ps found errors
   from_name errors true g es eg begun h =
       let k : FollowsName known end rest (p ∷ ps) found errors = name_stops errors h (or_left (is_space p.ch) (is_greater p.ch) es) begun in
@@ -65,7 +65,7 @@ module _ (known : Found) (end : ℕ) (rest : List Placed) (p : Placed) (ps : Lis
       record { later = k.0; errors_are = k.1; goes = k.2 }
 
   -- backwards
-  over_name : (errors : List ParseError) → is_some known.name ≡ true → (is_space p.ch || is_greater p.ch) ≡ true → FollowsName known end rest (p ∷ ps) found errors → IsName known end rest (p ∷ ps) found errors
+  over_name : (errors : List ParseError) → is_some known.name ≡ true → (is_space p.ch || is_greater p.ch) ≡ true → FollowsName known end rest (p ∷ ps) found errors → IsDoctypeName known end rest (p ∷ ps) found errors
   over_name errors begun is h = record {
     name = [];
     after = p ∷ ps;
@@ -76,7 +76,7 @@ module _ (known : Found) (end : ℕ) (rest : List Placed) (p : Placed) (ps : Lis
     errors_are = refl;
   }
 
-  longer_name : (later : List ParseError) → is_space p.ch ≡ false → is_greater p.ch ≡ false → IsName (named (name_bytes (p ∷ [])) known) end rest ps found later → IsName known end rest (p ∷ ps) found (null_errors (p ∷ []) ++ later)
+  longer_name : (later : List ParseError) → is_space p.ch ≡ false → is_greater p.ch ≡ false → IsDoctypeName (with_name (name_bytes (p ∷ [])) known) end rest ps found later → IsDoctypeName known end rest (p ∷ ps) found (null_errors (p ∷ []) ++ later)
   longer_name later es eg h = record {
     name = p ∷ h.name;
     after = h.after;
@@ -89,7 +89,7 @@ module _ (known : Found) (end : ℕ) (rest : List Placed) (p : Placed) (ps : Lis
   }
 
   pub to_name : (later : List ParseError) (s g : Bool) → is_space p.ch ≡ s → is_greater p.ch ≡ g → is_some known.name ≡ true → Goes (in_name s g).next (found_by (in_name s g) p known) end rest ps found later
-      → IsName known end rest (p ∷ ps) found (step_errors (in_name s g) p ++ later)
+      → IsDoctypeName known end rest (p ∷ ps) found (step_errors (in_name s g) p ++ later)
   to_name later true g es eg begun h = over_name _ begun (or_left (is_space p.ch) (is_greater p.ch) es)
       (subst (λ (x : List ParseError). FollowsName known end rest (p ∷ ps) found x) (sym (plain_errors p (space_error p es) None later))
       (with_space (λ spaced. AfterName known) false end rest found later p ps es (any_space (AfterName known) false true end rest ps found later h)))

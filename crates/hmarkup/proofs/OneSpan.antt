@@ -1,5 +1,5 @@
 -- A text begins with at most one bogus comment, and at most one span of each kind.
-use Rattle.hmarkup.proofs.Names.{◌≡◌, ℕ, List, [], ◌∷◌, ◌++◌, length, take, drop, sym, refl, ap, ◌∙◌, codes, append_assoc, append-nil, arith, length-append, ◌+◌, drop_at, drop_all, ParseError, Placed, characters, before, Avoids, null_errors, text_bytes, CommentKind, Comment, Bogus, closes_bogus, IsBogus, closed_bogus, unclosed_bogus, IsOneSpan, IsSpan}
+use Rattle.hmarkup.proofs.Names.{◌≡◌, ℕ, List, [], ◌∷◌, ◌++◌, length, take, drop, sym, refl, ap, ◌∙◌, codes, append_assoc, append-nil, arith, length-append, ◌+◌, drop_at, drop_all, ParseError, Placed, characters, before, Avoids, null_errors, text_bytes, CommentKind, Comment, Bogus, closes_bogus, IsBogus, closed_bogus, unclosed_bogus, IsOneSpan, IsCommentSpan}
 use Rattle.hmarkup.proofs.Marks.{before-avoids, before-here, avoids-before, spells-characters}
 use Rattle.hmarkup.proofs.Fronts.{same_front}
 use Rattle.hmarkup.proofs.Unique.{one_comment}
@@ -44,7 +44,7 @@ told_bogus rest text d es (unclosed_bogus r b data_is errors_are) =
       errors_are = errors_are;
     }
 
-one_bogus : IsOneSpan (IsSpan Bogus)
+one_bogus : IsOneSpan (IsCommentSpan Bogus)
 one_bogus end rest rest' text text' d d' es es' h k e =
     let a : IsToldBogus rest text d es = told_bogus rest text d es h in
     let b : IsToldBogus rest' text' d' es' = told_bogus rest' text' d' es' k in
@@ -53,6 +53,6 @@ one_bogus end rest rest' text text' d d' es es' h k e =
     (a.size_is ∙ ap (λ (x : List Placed). length x + length (take 1 (drop (length x) (text ++ rest)))) same ∙ ap (λ (x : List Placed). length b.inner + length (take 1 (drop (length b.inner) x))) e ∙ sym b.size_is) in
     (front.0, front.1, a.bytes_are ∙ ap text_bytes same ∙ sym b.bytes_are, a.errors_are ∙ ap null_errors same ∙ sym b.errors_are)
 
-pub one_of : (kind : CommentKind) → IsOneSpan (IsSpan kind)
+pub one_of : (kind : CommentKind) → IsOneSpan (IsCommentSpan kind)
 one_of Comment = one_comment
 one_of Bogus = one_bogus

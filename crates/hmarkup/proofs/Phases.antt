@@ -1,5 +1,5 @@
 -- Each character of a doctype, and its end, in each phase.
-use Rattle.hmarkup.proofs.Names.{if◌then◌else◌, is_greater, length-append, is_space, Step, length, ◌≡◌, ◌<◌, ℕ, arith, eqb, Bool, true, false, List, [], ◌∷◌, ◌++◌, sym, refl, ap, ◌∙◌, subst, Option, Some, None, is_some, to_ascii_lowercase, false≢true, ParseError, EofInDoctype, InvalidCharacterSequenceAfterDoctypeName, Placed, spells_in_any_case, is_quote, error, null_errors, text_bytes, name_bytes, Identifier, Public, System, Letters, DoctypeState, Found, IsEnd, cut_off, force, named, IsInside, quoted, abrupt, AfterSystemIdentifier, system_ends, system_skips, AfterPublicIdentifier, public_ends, public_skips, second, Follows, AfterKeyword, identifier, missing, keyword_skips, keyword_cut_off, AfterName, name_ends, name_skips, names_identifier, FollowsName, AfterOpening, begins_name, nameless, unfinished, first_letter, begins_keyword, goes_on_with, follows, step, step_errors, found_by, fault_errors, end_fault, found_at_end, letters_after, GoesOn, Fits, identifier_of, IsInKeyword, whole, fails}
+use Rattle.hmarkup.proofs.Names.{if◌then◌else◌, is_greater, length-append, is_space, Step, length, ◌≡◌, ◌<◌, ℕ, arith, eqb, Bool, true, false, List, [], ◌∷◌, ◌++◌, sym, refl, ap, ◌∙◌, subst, Option, Some, None, is_some, to_ascii_lowercase, false≢true, ParseError, EofInDoctype, InvalidCharacterSequenceAfterDoctypeName, Placed, spells_in_any_case, is_quote, error, null_errors, text_bytes, name_bytes, Identifier, Public, System, Letters, DoctypeState, Found, IsEnd, cut_off, force, with_name, IsInside, quoted, abrupt, AfterSystemIdentifier, system_ends, system_skips, AfterPublicIdentifier, public_ends, public_skips, second, Follows, AfterKeyword, identifier, missing, keyword_skips, keyword_cut_off, AfterName, name_ends, name_skips, names_identifier, FollowsName, AfterOpening, begins_name, nameless, unfinished, first_letter, begins_keyword, goes_on_with, follows, step, step_errors, found_by, fault_errors, end_fault, found_at_end, letters_after, DoctypeGoesOn, FitsState, identifier_of, IsInKeyword, whole, fails}
 use Rattle.hmarkup.specs.declared.doctype_state.DoctypeState.TheVariants as phase
 use Rattle.std.proofs.lemmas.List.{length-map}
 use Rattle.hmarkup.specs.Doctype.{unclosed}
@@ -14,7 +14,7 @@ use Rattle.hmarkup.proofs.Quoting.{from_inside, to_inside, from_after_keyword, t
 
 module _ (known : Found) (end : ℕ) (rest : List Placed) (p : Placed) (ps : List Placed) (found : Found) where
   -- what a character leaves of a doctype
-  pub from_phase : (phase : DoctypeState) (errors : List ParseError) → Fits phase known → GoesOn phase known end rest (p ∷ ps) found errors → Stepped (step phase p) known end rest p ps found errors
+  pub from_phase : (phase : DoctypeState) (errors : List ParseError) → FitsState phase known → DoctypeGoesOn phase known end rest (p ∷ ps) found errors → Stepped (step phase p) known end rest p ps found errors
   from_phase (phase.BeforeName spaced) errors fits h = from_before known end rest p ps found errors spaced _ _ refl refl h
   from_phase phase.Name errors fits h = from_name known end rest p ps found errors _ _ refl refl fits h
   from_phase phase.AfterName errors fits h = from_after_name known end rest p ps found errors _ _ refl refl h
@@ -26,8 +26,8 @@ module _ (known : Found) (end : ℕ) (rest : List Placed) (p : Placed) (ps : Lis
   from_phase phase.Skipped errors fits h = from_skipped known end rest p ps found errors _ refl h
 
   -- and back
-  pub to_phase : (phase : DoctypeState) (later : List ParseError) → Fits phase known → Goes (step phase p).next (found_by (step phase p) p known) end rest ps found later
-      → GoesOn phase known end rest (p ∷ ps) found (step_errors (step phase p) p ++ later)
+  pub to_phase : (phase : DoctypeState) (later : List ParseError) → FitsState phase known → Goes (step phase p).next (found_by (step phase p) p known) end rest ps found later
+      → DoctypeGoesOn phase known end rest (p ∷ ps) found (step_errors (step phase p) p ++ later)
   to_phase (phase.BeforeName spaced) later fits h = to_before known end rest p ps found later spaced _ _ refl refl h
   to_phase phase.Name later fits h = to_name known end rest p ps found later _ _ refl refl fits h
   to_phase phase.AfterName later fits h = to_after_name known end rest p ps found later _ _ refl refl h
@@ -41,7 +41,7 @@ module _ (known : Found) (end : ℕ) (rest : List Placed) (p : Placed) (ps : Lis
 -- a name or an identifier stays begun
 abbrev pub FitsNext : Option DoctypeState → Found → Type 0
 FitsNext None known = Unit {0}
-FitsNext (Some phase) known = Fits phase known
+FitsNext (Some phase) known = FitsState phase known
 
 abbrev AreLeft : Option Letters → Type 0
 AreLeft None = Unit {0}
@@ -70,11 +70,11 @@ module _ (known : Found) (p : Placed) where
   fits_goes_on which None first same = tt
   fits_goes_on which (Some letters) first same = same.1
 
-  fits_follows : (which : Identifier) → Fits (follows which) known
+  fits_follows : (which : Identifier) → FitsState (follows which) known
   fits_follows Public = tt
   fits_follows System = tt
 
-  pub fits_next : (phase : DoctypeState) → Fits phase known → FitsNext (step phase p).next (found_by (step phase p) p known)
+  pub fits_next : (phase : DoctypeState) → FitsState phase known → FitsNext (step phase p).next (found_by (step phase p) p known)
   fits_next phase.AfterName fits = fits_if (is_space p.ch) _ _ (λ _. tt) (fits_if (is_greater p.ch) _ _ (λ _. tt) (fits_letters _ (first_left p.ch)))
   fits_next (phase.Keyword letters first) fits = fits_if _ _ _ (λ _. fits_goes_on letters.which (letters_after letters) first (goes_on_as letters)) (fits_if (is_greater p.ch) _ _ (λ _. tt) tt)
   fits_next (phase.AfterKeyword which spaced) fits =
@@ -132,14 +132,14 @@ module _ (known : Found) (end : ℕ) (rest : List Placed) (found : Found) (error
   system_at_end (system_skips h) = absurd (skips_not_at_end _ _ known end rest found errors h)
 
 name_at_end : (known : Found) (end : ℕ) (rest : List Placed) (found : Found) (errors : List ParseError) → is_some known.name ≡ true → (name after : List Placed) (later : List ParseError) → [] ≡ name ++ after
-    → FollowsName (named (name_bytes name) known) end rest after found later → errors ≡ null_errors name ++ later → (rest ≡ []) × (found ≡ force known) × (errors ≡ error EofInDoctype end ∷ [])
+    → FollowsName (with_name (name_bytes name) known) end rest after found later → errors ≡ null_errors name ++ later → (rest ≡ []) × (found ≡ force known) × (errors ≡ error EofInDoctype end ∷ [])
 name_at_end known end rest found errors begun (x ∷ xs) after later t f e = absurd cc
 name_at_end known end rest found errors begun [] after later t f e =
-    let at_end : FollowsName (named [] known) end rest [] found later = subst (λ (x : List Placed). FollowsName (named [] known) end rest x found later) (sym t) f in
-    let k = after_name_at_end (named [] known) end rest found later (at_once (λ spaced. AfterName (named [] known)) false end rest found later [] at_end refl) in
+    let at_end : FollowsName (with_name [] known) end rest [] found later = subst (λ (x : List Placed). FollowsName (with_name [] known) end rest x found later) (sym t) f in
+    let k = after_name_at_end (with_name [] known) end rest found later (at_once (λ spaced. AfterName (with_name [] known)) false end rest found later [] at_end refl) in
     (k.0, k.1 ∙ ap force (named_not known begun), e ∙ k.2)
 
-pub end_of : (phase : DoctypeState) (known : Found) (end : ℕ) (rest : List Placed) (found : Found) (errors : List ParseError) → Fits phase known → GoesOn phase known end rest [] found errors → AtEnd phase known end rest found errors
+pub end_of : (phase : DoctypeState) (known : Found) (end : ℕ) (rest : List Placed) (found : Found) (errors : List ParseError) → FitsState phase known → DoctypeGoesOn phase known end rest [] found errors → AtEnd phase known end rest found errors
 end_of (phase.BeforeName spaced) known end rest found errors fits h = opening_at_end known end rest found errors spaced (at_once (AfterOpening known) spaced end rest found errors [] h refl)
 end_of phase.Name known end rest found errors fits h = name_at_end known end rest found errors fits h.name h.after h.later h.text_is h.follows h.errors_are
 end_of phase.AfterName known end rest found errors fits h = after_name_at_end known end rest found errors (at_once (λ spaced. AfterName known) false end rest found errors [] h refl)
@@ -154,7 +154,7 @@ end_of phase.Skipped known end rest found errors fits h = skipped_at_end known e
 cut_off_here : (known : Found) (end : ℕ) → IsEnd known end [] [] (force known) (error EofInDoctype end ∷ [])
 cut_off_here known end = cut_off refl refl refl refl
 
-pub ends_in : (phase : DoctypeState) (known : Found) (end : ℕ) → Fits phase known → GoesOn phase known end [] [] (found_at_end phase known) (fault_errors (end_fault phase end))
+pub ends_in : (phase : DoctypeState) (known : Found) (end : ℕ) → FitsState phase known → DoctypeGoesOn phase known end [] [] (found_at_end phase known) (fault_errors (end_fault phase end))
 ends_in (phase.BeforeName spaced) known end fits = with_none (AfterOpening known) spaced end [] _ _ [] (unfinished refl refl refl refl)
 ends_in phase.Name known end fits = record {
   name = [];
@@ -162,7 +162,7 @@ ends_in phase.Name known end fits = record {
   later = error EofInDoctype end ∷ [];
   text_is = refl;
   runs = record { passes_none = refl; stops_after = refl };
-  follows = with_none (λ spaced. AfterName (named [] known)) false end [] _ _ [] (name_ends (cut_off refl refl (ap force (sym (named_not known fits))) refl));
+  follows = with_none (λ spaced. AfterName (with_name [] known)) false end [] _ _ [] (name_ends (cut_off refl refl (ap force (sym (named_not known fits))) refl));
   errors_are = refl;
 }
 ends_in phase.AfterName known end fits = with_none (λ spaced. AfterName known) false end [] _ _ [] (name_ends (cut_off_here known end))

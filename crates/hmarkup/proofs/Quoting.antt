@@ -1,5 +1,5 @@
 -- The identifiers of a doctype, and what is before them: each character.
-use Rattle.hmarkup.proofs.Names.{Step, ◌≡◌, ℕ, Bool, true, false, not, ◌||◌, eqb, if◌then◌else◌, List, [], ◌∷◌, ◌++◌, sym, refl, ap, ◌∙◌, subst, codes, Some, None, append_assoc, is_some, false≢true, eqb-true, and_from, and_parts, ParseError, ErrorCode, EofInDoctype, MissingWhitespaceBetweenDoctypePublicAndSystemIdentifiers, Placed, characters, place, begins, all, is_space, is_greater, is_quote, error, error_if, null_errors, text_bytes, Identifier, Public, System, Found, Stands, force, identified, AfterSpace, IsInside, quoted, abrupt, AfterPublicIdentifier, public_ends, public_skips, second, Follows, AfterKeyword, identifier, missing, keyword_skips, keyword_cut_off, after_keyword, after_public, follows, in_quotes, step_errors, fault_errors, found_by, GoesOn, identifier_of}
+use Rattle.hmarkup.proofs.Names.{Step, ◌≡◌, ℕ, Bool, true, false, not, ◌||◌, eqb, if◌then◌else◌, List, [], ◌∷◌, ◌++◌, sym, refl, ap, ◌∙◌, subst, codes, Some, None, append_assoc, is_some, false≢true, eqb-true, and_from, and_parts, ParseError, ErrorCode, EofInDoctype, MissingWhitespaceBetweenDoctypePublicAndSystemIdentifiers, Placed, characters, place, begins, all, is_space, is_greater, is_quote, error, error_if, null_errors, text_bytes, Identifier, Public, System, Found, Stands, force, identified, AfterSpace, IsInside, quoted, abrupt, AfterPublicIdentifier, public_ends, public_skips, second, Follows, AfterKeyword, identifier, missing, keyword_skips, keyword_cut_off, after_keyword, after_public, follows, in_quotes, step_errors, fault_errors, found_by, DoctypeGoesOn, identifier_of}
 use Rattle.hmarkup.specs.Doctype.{no_space_after_keyword, no_identifier, no_quote, abrupt_identifier, unclosed, IsIdentifier, FollowsSystem}
 use Rattle.hmarkup.specs.DoctypeSteps.{faulty}
 use Rattle.hmarkup.specs.declared.doctype_state.Keeps.TheVariants as keeps
@@ -48,11 +48,11 @@ module _ (which : Identifier) (code : ErrorCode) (After : Found → Stands) (kno
     errors_are = plain_errors p (quote_error p m) (if spaced then None else Some (error code p.at)) later ∙ ap (λ (x : List ParseError). x ++ later) (sym (fault_if spaced code p.at));
   }
 
-goes_follows : (which : Identifier) (known : Found) (end : ℕ) (rest text : List Placed) (found : Found) (errors : List ParseError) → Follows which known end rest text found errors → GoesOn (follows which) known end rest text found errors
+goes_follows : (which : Identifier) (known : Found) (end : ℕ) (rest text : List Placed) (found : Found) (errors : List ParseError) → Follows which known end rest text found errors → DoctypeGoesOn (follows which) known end rest text found errors
 goes_follows Public known end rest text found errors h = h
 goes_follows System known end rest text found errors h = h
 
-follows_goes : (which : Identifier) (known : Found) (end : ℕ) (rest text : List Placed) (found : Found) (errors : List ParseError) → GoesOn (follows which) known end rest text found errors → Follows which known end rest text found errors
+follows_goes : (which : Identifier) (known : Found) (end : ℕ) (rest text : List Placed) (found : Found) (errors : List ParseError) → DoctypeGoesOn (follows which) known end rest text found errors → Follows which known end rest text found errors
 follows_goes Public known end rest text found errors h = h
 follows_goes System known end rest text found errors h = h
 

@@ -1,5 +1,5 @@
 -- What a walk has read of a doctype, at one more character and at the end.
-use Rattle.hmarkup.proofs.Names.{◌≡◌, ℕ, false, List, [], ◌∷◌, ◌++◌, sym, refl, ap, ◌∙◌, subst, Option, Some, None, append_assoc, append-nil, append_cancel_left, ParseError, Placed, DoctypeState, Step, Begins, BeginsSpans, IsOpen, IsOneSpan, Found, IsDoctype, step, step_errors, found_by, fault_errors, end_fault, found_at_end, Reading, GoesOn, Fits, HasReadDoctype}
+use Rattle.hmarkup.proofs.Names.{◌≡◌, ℕ, false, List, [], ◌∷◌, ◌++◌, sym, refl, ap, ◌∙◌, subst, Option, Some, None, append_assoc, append-nil, append_cancel_left, ParseError, Placed, DoctypeState, Step, BeginsMarkup, BeginsSpans, IsOpenMarkup, IsOneSpan, Found, IsDoctype, step, step_errors, found_by, fault_errors, end_fault, found_at_end, Reading, DoctypeGoesOn, FitsState, HasReadDoctype}
 use Rattle.hmarkup.specs.declared.doctype_state.DoctypeState.TheVariants as phase
 use Rattle.hmarkup.specs.Doctype.{nothing}
 use Rattle.hmarkup.specs.DoctypeWalk.{GoesOnAfter}
@@ -16,7 +16,7 @@ read_nothing = record {
 
 -- a doctype begins with the text and goes on there
 record Past (text : List Placed) (errors : List ParseError) (next : Option DoctypeState) (known : Found) (end : ℕ) (after rest span : List Placed) (found : Found) (all : List ParseError) : Type 0 where
-  begins : Begins text after rest span errors all
+  begins : BeginsMarkup text after rest span errors all
   goes : Goes next known end rest begins.more found begins.later
 
 module _ (w : Reading) (text : List Placed) (errs : List ParseError) (p : Placed) (h : HasReadDoctype w text errs) where
@@ -32,7 +32,7 @@ module _ (w : Reading) (text : List Placed) (errs : List ParseError) (p : Placed
       rw (append_assoc text (p ∷ []) more, append_assoc errs (step_errors its p) later) (h.goes_on end rest (p ∷ more) found (step_errors its p ++ later) (to_phase w.found end rest p more found w.phase later h.fits g))
 
   past_of : (end : ℕ) (after rest span : List Placed) (found : Found) (all : List ParseError) (more : List Placed) (later : List ParseError) → span ≡ text ++ more → p ∷ after ≡ more ++ rest → all ≡ errs ++ later
-      → GoesOn w.phase w.found end rest more found later → Past (text ++ p ∷ []) now its.next (found_by its p w.found) end after rest span found all
+      → DoctypeGoesOn w.phase w.found end rest more found later → Past (text ++ p ∷ []) now its.next (found_by its p w.found) end after rest span found all
   past_of end after rest span found all [] later s a e g =
       let k = end_of w.phase w.found end rest found later h.fits g in
       let none : rest ≡ [] = k.0 in
@@ -40,7 +40,7 @@ module _ (w : Reading) (text : List Placed) (errs : List ParseError) (p : Placed
   past_of end after rest span found all (q ∷ qs) later s a e g =
       let head : q ≡ p = cc in
       let tail : after ≡ qs ++ rest = cc in
-      let k : Stepped its w.found end rest p qs found later = from_phase w.found end rest p qs found w.phase later h.fits (subst (λ (x : Placed). GoesOn w.phase w.found end rest (x ∷ qs) found later) head g) in
+      let k : Stepped its w.found end rest p qs found later = from_phase w.found end rest p qs found w.phase later h.fits (subst (λ (x : Placed). DoctypeGoesOn w.phase w.found end rest (x ∷ qs) found later) head g) in
       record {
         begins = record {
           more = qs;
@@ -86,25 +86,25 @@ read_to_end w text errs end h =
 pub doctype_begins : (w : Reading) (text : List Placed) (errs : List ParseError) → HasReadDoctype w text errs → BeginsSpans IsDoctype text errs
 doctype_begins w text errs h end after rest span found all d e = (h.no_other end after rest span found all d e).begins
 
-pub doctype_open : (w : Reading) (text : List Placed) (errs : List ParseError) → HasReadDoctype w text errs → IsOpen IsDoctype text
+pub doctype_open : (w : Reading) (text : List Placed) (errs : List ParseError) → HasReadDoctype w text errs → IsOpenMarkup IsDoctype text
 doctype_open w text errs h end rest found errors d =
     let g : GoesOnAfter w text errs end rest rest text found errors = h.no_other end rest rest text found errors d refl in
     let none : g.begins.more ≡ [] = append_cancel_left text g.begins.more [] (sym g.begins.span_is ∙ sym (append-nil text)) in
-    (end_of w.phase w.found end rest found g.begins.later h.fits (subst (λ (x : List Placed). GoesOn w.phase w.found end rest x found g.begins.later) none g.goes_on)).0
+    (end_of w.phase w.found end rest found g.begins.later h.fits (subst (λ (x : List Placed). DoctypeGoesOn w.phase w.found end rest x found g.begins.later) none g.goes_on)).0
 
 -- one doctype at most
 abbrev Same : List Placed → List Placed → List Placed → List Placed → Found → Found → List ParseError → List ParseError → Type 0
 Same text text' rest rest' found found' errors errors' = (text ≡ text') × (rest ≡ rest') × (found ≡ found') × (errors ≡ errors')
 
 same_goes : (next : Option DoctypeState) (known : Found) (end : ℕ) (rest rest' : List Placed) (ps qs : List Placed) (found found' : Found) (later later' : List ParseError) → FitsNext next known
-    → ((phase : DoctypeState) → Fits phase known → GoesOn phase known end rest ps found later → GoesOn phase known end rest' qs found' later' → Same ps qs rest rest' found found' later later')
+    → ((phase : DoctypeState) → FitsState phase known → DoctypeGoesOn phase known end rest ps found later → DoctypeGoesOn phase known end rest' qs found' later' → Same ps qs rest rest' found found' later later')
     → ps ++ rest ≡ qs ++ rest' → Goes next known end rest ps found later → Goes next known end rest' qs found' later' → Same ps qs rest rest' found found' later later'
 same_goes None known end rest rest' ps qs found found' later later' fits one e (t, f, l) (t', f', l') =
     (t ∙ sym t', sym (ap (λ (x : List Placed). x ++ rest) t) ∙ e ∙ ap (λ (x : List Placed). x ++ rest') t', f ∙ sym f', l ∙ sym l')
 same_goes (Some phase) known end rest rest' ps qs found found' later later' fits one e g g' = one phase fits g g'
 
-one_from : (text text' : List Placed) (phase : DoctypeState) (known : Found) (end : ℕ) (rest rest' : List Placed) (found found' : Found) (errors errors' : List ParseError) → Fits phase known
-    → text ++ rest ≡ text' ++ rest' → GoesOn phase known end rest text found errors → GoesOn phase known end rest' text' found' errors' → Same text text' rest rest' found found' errors errors'
+one_from : (text text' : List Placed) (phase : DoctypeState) (known : Found) (end : ℕ) (rest rest' : List Placed) (found found' : Found) (errors errors' : List ParseError) → FitsState phase known
+    → text ++ rest ≡ text' ++ rest' → DoctypeGoesOn phase known end rest text found errors → DoctypeGoesOn phase known end rest' text' found' errors' → Same text text' rest rest' found found' errors errors'
 one_from [] [] phase known end rest rest' found found' errors errors' fits e g g' =
     let k = end_of phase known end rest found errors fits g in
     let k' = end_of phase known end rest' found' errors' fits g' in
@@ -119,7 +119,7 @@ one_from (p ∷ ps) (q ∷ qs) phase known end rest rest' found found' errors er
     let head : q ≡ p = cc in
     let tail : ps ++ rest ≡ qs ++ rest' = cc in
     let a : Stepped (step phase p) known end rest p ps found errors = from_phase known end rest p ps found phase errors fits g in
-    let b : Stepped (step phase p) known end rest' p qs found' errors' = from_phase known end rest' p qs found' phase errors' fits (subst (λ (x : Placed). GoesOn phase known end rest' (x ∷ qs) found' errors') head g') in
+    let b : Stepped (step phase p) known end rest' p qs found' errors' = from_phase known end rest' p qs found' phase errors' fits (subst (λ (x : Placed). DoctypeGoesOn phase known end rest' (x ∷ qs) found' errors') head g') in
     let k = same_goes (step phase p).next (found_by (step phase p) p known) end rest rest' ps qs found found' a.later b.later (fits_next known p phase fits)
     (λ next fits g g'. one_from ps qs next (found_by (step phase p) p known) end rest rest' found found' a.later b.later fits tail g g') tail a.goes b.goes in (
       ap (λ (x : List Placed). p ∷ x) k.0 ∙ ap (λ (x : Placed). x ∷ qs) (sym head),

@@ -1,11 +1,11 @@
 -- A run of characters that are only data in a comment.
-use Rattle.hmarkup.proofs.Names.{◌≡◌, ℕ, ◌+◌, Bool, true, false, eqb, List, [], ◌∷◌, ◌++◌, length, sym, refl, ap, ◌∙◌, subst, append_assoc, append-nil, arith, encode_utf8, list_all, IsUtf8, chars, and_parts, nat_tests, ParseError, NestedComment, Placed, all, placed, error_if, text_bytes, without_null, CommentKind, errors_here, Progress, begun, IsInComment, IsInBogus, is_whole, next}
+use Rattle.hmarkup.proofs.Names.{◌≡◌, ℕ, ◌+◌, Bool, true, false, eqb, List, [], ◌∷◌, ◌++◌, length, sym, refl, ap, ◌∙◌, subst, append_assoc, append-nil, arith, encode_utf8, list_all, IsUtf8, chars, and_parts, nat_tests, ParseError, NestedComment, Placed, all, placed, error_if, text_bytes, without_null, CommentKind, errors_here, Progress, comment_begun, IsInComment, IsInBogus, is_whole, next_progress}
 use Rattle.std.proofs.Common.{encode_utf8_all}
 use Rattle.std.specs.Char.{len_utf8}
 use Rattle.std.proofs.lemmas.List.Folds.{list_all-append}
 use Rattle.std.proofs.lemmas.Str.{encode_ascii, encodes-chars}
 use Rattle.hmarkup.specs.Comment.{is_only_data}
-use Rattle.hmarkup.specs.Steps.{next_run, ending_text}
+use Rattle.hmarkup.specs.Steps.{next_run, held_ending_text}
 use Rattle.hmarkup.proofs.InBogus.{bogus_kept}
 use Rattle.hmarkup.proofs.Walking.{kept_other}
 
@@ -38,24 +38,24 @@ data_error : (nested : Bool) (p : Placed) → is_only_data p.ch ≡ true → err
 data_error true p h = simp (no_greater p.ch h, no_null p.ch h)
 data_error false p h = simp (no_null p.ch h)
 
-next_data : (w : Progress) (c : ℕ) → is_only_data c ≡ true → next w c ≡ next_run w (encode_utf8 (without_null c))
+next_data : (w : Progress) (c : ℕ) → is_only_data c ≡ true → next_progress w c ≡ next_run w (encode_utf8 (without_null c))
 next_data w c h = grind (arith, nat_tests)
 
 first_data : (w : Progress) (text : List Placed) (errs : List ParseError) (p : Placed) → is_only_data p.ch ≡ true → IsInComment w text errs
     → IsInComment (next_run w (encode_utf8 (without_null p.ch))) (text ++ p ∷ []) (errs ++ error_if (is_whole w.opening) NestedComment p.at)
 first_data w text errs p h k =
     subst (λ (x : Progress). IsInComment x (text ++ p ∷ []) (errs ++ error_if (is_whole w.opening) NestedComment p.at)) (next_data w p.ch h)
-    (subst (λ (x : List ParseError). IsInComment (next w p.ch) (text ++ p ∷ []) (errs ++ x)) (data_error (is_whole w.opening) p h)
+    (subst (λ (x : List ParseError). IsInComment (next_progress w p.ch) (text ++ p ∷ []) (errs ++ x)) (data_error (is_whole w.opening) p h)
     (kept_other w text errs p.ch p.at (is_whole w.opening) refl k (no_greater p.ch h)))
 
 -- what a run does to a comment in which no mark has begun, and to any other
-more_data : (kind : CommentKind) («data» : List ℕ) (text : List Placed) (errs : List ParseError) (run : List Placed) → all is_only_data run ≡ true → IsInComment (begun kind «data») text errs
-    → IsInComment (begun kind («data» ++ text_bytes run)) (text ++ run) errs
+more_data : (kind : CommentKind) («data» : List ℕ) (text : List Placed) (errs : List ParseError) (run : List Placed) → all is_only_data run ≡ true → IsInComment (comment_begun kind «data») text errs
+    → IsInComment (comment_begun kind («data» ++ text_bytes run)) (text ++ run) errs
 more_data kind «data» text errs [] h k = rw (append-nil «data», append-nil text) k
 more_data kind «data» text errs (p ∷ ps) h k =
     let parts = and_parts _ _ h in
-    let one : IsInComment (begun kind («data» ++ encode_utf8 (without_null p.ch))) (text ++ p ∷ []) errs =
-    rw append-nil at (first_data (begun kind «data») text errs p parts.0 k) in
+    let one : IsInComment (comment_begun kind («data» ++ encode_utf8 (without_null p.ch))) (text ++ p ∷ []) errs =
+    rw append-nil at (first_data (comment_begun kind «data») text errs p parts.0 k) in
     rw (← append_assoc text (p ∷ []) ps, ← append_assoc «data» (encode_utf8 (without_null p.ch)) (text_bytes ps))
     (more_data kind («data» ++ encode_utf8 (without_null p.ch)) (text ++ p ∷ []) errs ps parts.1 one)
 
@@ -63,7 +63,7 @@ run_data : (w : Progress) (text : List Placed) (errs : List ParseError) (p : Pla
     → IsInComment (next_run w (text_bytes (p ∷ ps))) (text ++ p ∷ ps) (errs ++ error_if (is_whole w.opening) NestedComment p.at)
 run_data w text errs p ps h k =
     let parts = and_parts _ _ h in
-    let held : List ℕ = ending_text w.ending in
+    let held : List ℕ = held_ending_text w.ending in
     let first : List ℕ = encode_utf8 (without_null p.ch) in
     let one = first_data w text errs p parts.0 k in
     rw (← append_assoc text (p ∷ []) ps, ← append_assoc held first (text_bytes ps), ← append_assoc w.data (held ++ first) (text_bytes ps))

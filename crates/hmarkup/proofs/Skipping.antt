@@ -2,7 +2,7 @@
 use Rattle.hmarkup.proofs.Names.{◌≡◌, ℕ, Bool, true, false, List, [], ◌∷◌, ◌++◌, sym, refl, ◌∙◌, subst, None, ParseError, UnexpectedCharacterAfterDoctypeSystemIdentifier, Placed, begins, is_space, is_greater, Found, AfterSpace, IsSkipped, AfterSystemIdentifier, system_ends, system_skips, in_skipped, after_system, step_errors, found_by}
 use Rattle.hmarkup.proofs.Spaces.{past_space, at_once, with_space, with_none, any_space}
 use Rattle.hmarkup.proofs.Endings.{end_not_space, skipped_ends, skipped_goes, skipped_none, skipped_more, skips_from, skips_not_space}
-use Rattle.hmarkup.specs.DoctypeSteps.{ends}
+use Rattle.hmarkup.specs.DoctypeSteps.{ends_doctype}
 use Rattle.hmarkup.proofs.Stepping.{ends_by, skips_by, ended, Goes, Stepped, passed, plain_errors, space_error, greater_error}
 
 module _ (known : Found) (end : ℕ) (rest : List Placed) (p : Placed) (ps : List Placed) (found : Found) where
@@ -27,7 +27,7 @@ module _ (known : Found) (end : ℕ) (rest : List Placed) (p : Placed) (ps : Lis
 
   from_system_core : (errors : List ParseError) (g : Bool) → is_greater p.ch ≡ g → AfterSystemIdentifier known end rest (p ∷ ps) found errors → Stepped (after_system false g p.at) known end rest p ps found errors
   from_system_core errors g eg (system_ends h) = ends_by known end rest p ps found errors _ g eg h
-  from_system_core errors g eg (system_skips h) = skips_by known end rest p ps found errors _ _ false ends ends g false eg refl h
+  from_system_core errors g eg (system_skips h) = skips_by known end rest p ps found errors _ _ false ends_doctype ends_doctype g false eg refl h
 
   pub from_system : (errors : List ParseError) (s g : Bool) → is_space p.ch ≡ s → is_greater p.ch ≡ g → AfterSpace (λ spaced. AfterSystemIdentifier known) false end rest (p ∷ ps) found errors → Stepped (after_system s g p.at) known end rest p ps found errors
   from_system errors true g es eg h = passed _ known end rest p ps found errors (space_error p es) (any_space (AfterSystemIdentifier known) true false end rest ps found errors (past_space (λ spaced. AfterSystemIdentifier known) false end rest found errors p ps h es (λ b text. system_not_space b text errors)))

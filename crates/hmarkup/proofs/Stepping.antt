@@ -1,14 +1,14 @@
 -- A character of a doctype: what goes on after it.
-use Rattle.hmarkup.proofs.Names.{codes, false≢true, characters, IsEnd, closed, force, sym, ◌≡◌, ℕ, Bool, true, false, not, if◌then◌else◌, List, [], ◌∷◌, ◌++◌, refl, ap, ◌∙◌, Option, Some, None, append-nil, ParseError, ErrorCode, Placed, is_space, is_greater, is_quote, error, error_if, null_errors, DoctypeState, Step, Found, Stands, found_by, step_errors, fault_errors, GoesOn}
+use Rattle.hmarkup.proofs.Names.{codes, false≢true, characters, IsEnd, closed, force, sym, ◌≡◌, ℕ, Bool, true, false, not, if◌then◌else◌, List, [], ◌∷◌, ◌++◌, refl, ap, ◌∙◌, Option, Some, None, append-nil, ParseError, ErrorCode, Placed, is_space, is_greater, is_quote, error, error_if, null_errors, DoctypeState, Step, Found, Stands, found_by, step_errors, fault_errors, DoctypeGoesOn}
 use Rattle.hmarkup.specs.Doctype.{Skips}
-use Rattle.hmarkup.specs.DoctypeSteps.{goes_to, ends, refuses, skips}
+use Rattle.hmarkup.specs.DoctypeSteps.{goes_to, ends_doctype, refuses, skips}
 use Rattle.hmarkup.proofs.Endings.{end_at, only_greater, greater_spells, skips_at}
 use Rattle.hmarkup.proofs.Characters.{space_not_null, greater_not_null, quote_not_null, no_null_error}
 
 -- what is after the character: the rest of the doctype, or nothing
 abbrev pub Goes : Option DoctypeState → Found → Stands
 Goes None known end rest text found errors = (text ≡ []) × (found ≡ known) × (errors ≡ [])
-Goes (Some phase) known end rest text found errors = GoesOn phase known end rest text found errors
+Goes (Some phase) known end rest text found errors = DoctypeGoesOn phase known end rest text found errors
 
 pub record Stepped (step : Step) (known : Found) (end : ℕ) (rest : List Placed) (p : Placed) (ps : List Placed) (found : Found) (errors : List ParseError) : Type 0 where
   pub later : List ParseError
@@ -20,7 +20,7 @@ pub plain_errors : (p : Placed) → null_errors (p ∷ []) ≡ [] → (fault : O
 plain_errors p n fault later = ap (λ (x : List ParseError). (fault_errors fault ++ x) ++ later) n ∙ ap (λ (x : List ParseError). x ++ later) (append-nil (fault_errors fault))
 
 -- which is passed over where the step says no more than how the doctype goes on
-pub passed : (next : DoctypeState) (known : Found) (end : ℕ) (rest : List Placed) (p : Placed) (ps : List Placed) (found : Found) (errors : List ParseError) → null_errors (p ∷ []) ≡ [] → GoesOn next known end rest ps found errors
+pub passed : (next : DoctypeState) (known : Found) (end : ℕ) (rest : List Placed) (p : Placed) (ps : List Placed) (found : Found) (errors : List ParseError) → null_errors (p ∷ []) ≡ [] → DoctypeGoesOn next known end rest ps found errors
     → Stepped (goes_to next) known end rest p ps found errors
 passed next known end rest p ps found errors n g = record { later = errors; errors_are = sym (plain_errors p n None errors); goes = g }
 
@@ -40,7 +40,7 @@ fault_if false code at = refl
 
 -- at an end, at a `>` that is an error, and at the beginning of a skipped rest: by the tests that the phase makes
 module _ (known : Found) (end : ℕ) (rest : List Placed) (p : Placed) (ps : List Placed) (found : Found) (errors : List ParseError) where
-  pub ends_by : (other : Step) (g : Bool) → is_greater p.ch ≡ g → IsEnd known end rest (p ∷ ps) found errors → Stepped (if g then ends else other) known end rest p ps found errors
+  pub ends_by : (other : Step) (g : Bool) → is_greater p.ch ≡ g → IsEnd known end rest (p ∷ ps) found errors → Stepped (if g then ends_doctype else other) known end rest p ps found errors
   ends_by other true eg h =
       let k = end_at known end rest p ps found errors h in
       record { later = []; errors_are = k.3 ∙ sym (plain_errors p (greater_error p eg) None []); goes = (k.1, k.2, refl) }
@@ -58,7 +58,7 @@ module _ (known : Found) (end : ℕ) (rest : List Placed) (p : Placed) (ps : Lis
   skips_by test code forced closes other false false eg eq h = let k = skips_at _ end rest found p ps errors test code h in record { later = k.3.0; errors_are = k.3.1; goes = k.3.2 }
 
   -- backwards
-  pub ended : is_greater p.ch ≡ true → Goes None known end rest ps found errors → IsEnd known end rest (p ∷ ps) found (step_errors ends p ++ errors)
+  pub ended : is_greater p.ch ≡ true → Goes None known end rest ps found errors → IsEnd known end rest (p ∷ ps) found (step_errors ends_doctype p ++ errors)
   ended eg (t, f, e) = closed (ap (λ (x : List Placed). characters (p ∷ x)) t ∙ greater_spells p eg) f (plain_errors p (greater_error p eg) None errors ∙ e)
 
   pub refused_at : (code : ErrorCode) → is_greater p.ch ≡ true → errors ≡ [] → step_errors (refuses code p.at) p ++ errors ≡ error code p.at ∷ []

@@ -1,5 +1,5 @@
 -- A text begins with at most one comment.
-use Rattle.hmarkup.proofs.Names.{nat_tests, ◌≡◌, ℕ, ◌≤◌, ◌+◌, Bool, true, false, eqb, List, [], ◌∷◌, ◌++◌, length, sym, refl, ap, ◌∙◌, subst, codes, arith, length-append, append_assoc, append-nil, if◌then◌else◌, drop, false≢true, eqb-true, and_parts, or_left, or_right, drop_at, drop_all, map-append, ParseError, AbruptClosingOfEmptyComment, EofInComment, IncorrectlyClosedComment, Placed, characters, place, spells, is_front, before, Avoids, error, text_bytes, closes_comment, closes_at_once, is_ending, errors_after, IsComment, closed_at_once, closed_with_bang, unclosed, IsOneSpan}
+use Rattle.hmarkup.proofs.Names.{nat_tests, ◌≡◌, ℕ, ◌≤◌, ◌+◌, Bool, true, false, eqb, List, [], ◌∷◌, ◌++◌, length, sym, refl, ap, ◌∙◌, subst, codes, arith, length-append, append_assoc, append-nil, if◌then◌else◌, drop, false≢true, eqb-true, and_parts, or_left, or_right, drop_at, drop_all, map-append, ParseError, AbruptClosingOfEmptyComment, EofInComment, IncorrectlyClosedComment, Placed, characters, place, spells, is_front, before, Avoids, error, text_bytes, closes_comment, closes_at_once, is_ending, comment_errors_after, IsComment, closed_at_once, closed_with_bang, unclosed, IsOneSpan}
 use Rattle.std.proofs.lemmas.List.{length-map}
 use Rattle.hmarkup.specs.Comment.{closed}
 use Rattle.hmarkup.proofs.Marks.{before-avoids, before-here, avoids-before, spells-long, spells-characters, first_is}
@@ -37,7 +37,7 @@ told end whole =
 pub record IsTold (end : ℕ) (rest text : List Placed) (bytes : List ℕ) (errors : List ParseError) : Type 0 where
   pub last : List ParseError
   pub told_is : told end (text ++ rest) ≡ record { size = length text; bytes = bytes; last = last }
-  pub errors_are : errors ≡ errors_after [] text ++ last
+  pub errors_are : errors ≡ comment_errors_after [] text ++ last
 
 -- no mark comes into a text when more follows a closing mark
 closes-long : (xs ys : List Placed) → 4 ≤ length xs → closes_comment xs ≡ false → closes_comment (xs ++ ys) ≡ false
@@ -101,7 +101,7 @@ told_of end rest text d es (closed inner close t s b c data_is errors_are) =
       told_is = ap (λ (x : List Placed). told end (x ++ rest)) t
           ∙ told_closed end inner close rest (omega (arith, size)) (sym (ap closes_at_once t) ∙ s) (b ∙ ap (before closes_comment) t) at_close
           ∙ rw arrow (told_is_same _ _ _ _ _ _ long (sym data_is) refl);
-      errors_are = errors_are ∙ sym (append-nil (errors_after [] text));
+      errors_are = errors_are ∙ sym (append-nil (comment_errors_after [] text));
     }
 told_of end rest text d es (closed_with_bang inner dashes close t s b c1 c data_is errors_are) =
     let t' : text ≡ inner ++ (dashes ++ close) = t ∙ append_assoc inner dashes close in
@@ -142,5 +142,5 @@ one_comment end rest rest' text text' d d' es es' h k e =
       front.0,
       front.1,
       ap (λ (t : Told). t.bytes) same,
-      a.errors_are ∙ ap (λ (x : List Placed). errors_after [] x ++ a.last) front.0 ∙ ap (λ (x : List ParseError). errors_after [] text' ++ x) (ap (λ (t : Told). t.last) same) ∙ sym b.errors_are,
+      a.errors_are ∙ ap (λ (x : List Placed). comment_errors_after [] x ++ a.last) front.0 ∙ ap (λ (x : List ParseError). comment_errors_after [] text' ++ x) (ap (λ (t : Told). t.last) same) ∙ sym b.errors_are,
     )

@@ -1,5 +1,5 @@
 -- A comment that has not ended, and one more character or the end.
-use Rattle.hmarkup.proofs.Names.{nat_tests, ◌≡◌, ℕ, ◌≤◌, Bool, true, false, eqb, List, [], ◌∷◌, ◌++◌, map, length, sym, refl, ap, ◌∙◌, subst, append_assoc, append-nil, arith, length-append, false≢true, ParseError, AbruptClosingOfEmptyComment, EofInComment, IncorrectlyClosedComment, Placed, error, before, Avoids, text_bytes, without_null, Comment, Dashes, Bang, closes_comment, closes_at_once, is_ending, errors_here, errors_after, IsComment, closed_at_once, closed_with_bang, unclosed, Progress, begun, holds_nothing, IsInComment, backwards, is_whole, next, decided}
+use Rattle.hmarkup.proofs.Names.{nat_tests, ◌≡◌, ℕ, ◌≤◌, Bool, true, false, eqb, List, [], ◌∷◌, ◌++◌, map, length, sym, refl, ap, ◌∙◌, subst, append_assoc, append-nil, arith, length-append, false≢true, ParseError, AbruptClosingOfEmptyComment, EofInComment, IncorrectlyClosedComment, Placed, error, before, Avoids, text_bytes, without_null, Comment, Dashes, Bang, closes_comment, closes_at_once, is_ending, errors_here, comment_errors_after, IsComment, closed_at_once, closed_with_bang, unclosed, Progress, comment_begun, holds_nothing, IsInComment, backwards, is_whole, next_progress, decided}
 use Rattle.std.proofs.lemmas.Str.{length-le-encodes}
 use Rattle.hmarkup.specs.declared.tail.Opening.{Opening}
 use Rattle.hmarkup.specs.Comment.{ends_with_opening, closed}
@@ -9,7 +9,7 @@ use Rattle.hmarkup.proofs.Marks.{Avoids-more, Avoids-append, before-avoids, text
 use Rattle.hmarkup.proofs.Moving.{moves, closes, closes-more, ending-more, dashes_close, bang_closes, dash_held, held_at_end, held_long}
 
 -- nothing was read
-pub comment_begins : IsInComment (begun Comment []) [] []
+pub comment_begins : IsInComment (comment_begun Comment []) [] []
 comment_begins = record {
   kind_is = refl;
   inner = [];
@@ -38,10 +38,10 @@ pub backwards-snoc : (seen xs : List Placed) (p : Placed) → backwards seen (xs
 backwards-snoc seen [] p = refl
 backwards-snoc seen (x ∷ xs) p = backwards-snoc (x ∷ seen) xs p
 
-pub errors-append : (seen xs ys : List Placed) → errors_after seen (xs ++ ys) ≡ errors_after seen xs ++ errors_after (backwards seen xs) ys
+pub errors-append : (seen xs ys : List Placed) → comment_errors_after seen (xs ++ ys) ≡ comment_errors_after seen xs ++ comment_errors_after (backwards seen xs) ys
 errors-append seen [] ys = refl
 errors-append seen (x ∷ xs) ys = ap (λ (es : List ParseError). errors_here (ends_with_opening seen) x ++ es) (errors-append (x ∷ seen) xs ys)
-    ∙ sym (append_assoc (errors_here (ends_with_opening seen) x) (errors_after (x ∷ seen) xs) (errors_after (backwards (x ∷ seen) xs) ys))
+    ∙ sym (append_assoc (errors_here (ends_with_opening seen) x) (comment_errors_after (x ∷ seen) xs) (comment_errors_after (backwards (x ∷ seen) xs) ys))
 
 -- data
 pub data-none : (xs : List Placed) → length (text_bytes xs) ≡ 0 → xs ≡ []
@@ -86,14 +86,14 @@ module _ (w : Progress) (text : List Placed) (errs : List ParseError) (ch at : �
   abbrev errors_now : List ParseError
   errors_now = errs ++ errors_here nested p
 
-  pub errors_now_are : errors_now ≡ errors_after [] now
+  pub errors_now_are : errors_now ≡ comment_errors_after [] now
   errors_now_are = ap (λ (es : List ParseError). es ++ errors_here nested p) h.errors_are
-      ∙ ap (λ (b : Bool). errors_after [] text ++ errors_here b p) (nested_is ∙ sym h.opening.whole)
-      ∙ ap (λ (es : List ParseError). errors_after [] text ++ es) (sym (append-nil (errors_here (ends_with_opening (backwards [] text)) p)))
+      ∙ ap (λ (b : Bool). comment_errors_after [] text ++ errors_here b p) (nested_is ∙ sym h.opening.whole)
+      ∙ ap (λ (es : List ParseError). comment_errors_after [] text ++ es) (sym (append-nil (errors_here (ends_with_opening (backwards [] text)) p)))
       ∙ sym (errors-append [] text (p ∷ []))
 
   -- the comment goes on
-  pub kept : closes_at_once now ≡ false → (closes w.ending ≡ true → eqb ch 62 ≡ false) → IsInComment (next w ch) now errors_now
+  pub kept : closes_at_once now ≡ false → (closes w.ending ≡ true → eqb ch 62 ≡ false) → IsInComment (next_progress w ch) now errors_now
   kept starts unclosed' =
       let m = moves w.ending h.held ch at unclosed' h.is_held in
       record {
@@ -142,14 +142,14 @@ module _ (w : Progress) (text : List Placed) (errs : List ParseError) (ch at : �
       (sym (append_assoc errs (errors_here nested p) (error AbruptClosingOfEmptyComment at ∷ [])) ∙ ap (λ (es : List ParseError). es ++ error AbruptClosingOfEmptyComment at ∷ []) errors_now_are)
 
   -- it goes on at a `>` after data
-  pub kept_past : closes w.ending ≡ false → (length w.data ≡ 0 → ⊥) → IsInComment (next w ch) now errors_now
+  pub kept_past : closes w.ending ≡ false → (length w.data ≡ 0 → ⊥) → IsInComment (next_progress w ch) now errors_now
   kept_past e some =
       kept
       (ap (λ (x : List Placed). closes_at_once (x ++ p ∷ [])) h.text_is
       ∙ once-past h.inner h.held p (λ z. some (ap length h.data_is ∙ none_of h.inner z)) h.no_ending (sym (ap closes_at_once h.text_is) ∙ h.not_at_once))
       (λ k. absurd (false≢true (sym e ∙ k)))
 
-  pub kept_other : eqb ch 62 ≡ false → IsInComment (next w ch) now errors_now
+  pub kept_other : eqb ch 62 ≡ false → IsInComment (next_progress w ch) now errors_now
   kept_other e = kept (once-other text p e h.not_at_once) (λ _. e)
 
 -- no closing mark is in it

@@ -26,9 +26,9 @@ abbrev pub ends_with_opening : List Placed → Bool
 ends_with_opening seen = spells (codes "--!<") seen
 
 -- the errors of the characters of a text; `seen` is the characters before it, the last one first
-abbrev pub errors_after : List Placed → List Placed → List ParseError
-errors_after seen [] = []
-errors_after seen (p ∷ ps) = errors_here (ends_with_opening seen) p ++ errors_after (p ∷ seen) ps
+abbrev pub comment_errors_after : List Placed → List Placed → List ParseError
+comment_errors_after seen [] = []
+comment_errors_after seen (p ∷ ps) = errors_here (ends_with_opening seen) p ++ comment_errors_after (p ∷ seen) ps
 
 -- a character that is always plain data: it is part of no mark, and is not an error
 abbrev pub is_only_data : ℕ → Bool
@@ -38,18 +38,19 @@ is_only_data c = not ((c == 45 || c == 33) || (c == 60 || (c == 62 || c == 0)))
 pub data IsComment (end : ℕ) (rest text : List Placed) («data» : List ℕ) (errors : List ParseError) : Type 0 where
   -- `>` or `->` right at the start (#comment-start-state, #comment-start-dash-state)
   closed_at_once : (dash close : List Placed) → text ≡ dash ++ close → is_front dash (codes "-") ≡ true → characters close ≡ codes ">"
-      → «data» ≡ [] → errors ≡ errors_after [] text ++ error AbruptClosingOfEmptyComment (place end close) ∷ [] → IsComment end rest text «data» errors
+      → «data» ≡ [] → errors ≡ comment_errors_after [] text ++ error AbruptClosingOfEmptyComment (place end close) ∷ [] → IsComment end rest text «data» errors
   -- up to the earliest closing mark (#comment-end-state, #comment-end-bang-state)
   closed : (inner close : List Placed) → text ≡ inner ++ close → closes_at_once text ≡ false → inner ≡ before closes_comment text
       → characters close ≡ codes "-->"
-      → «data» ≡ text_bytes inner → errors ≡ errors_after [] text → IsComment end rest text «data» errors
+      → «data» ≡ text_bytes inner → errors ≡ comment_errors_after [] text → IsComment end rest text «data» errors
   closed_with_bang : (inner dashes close : List Placed) → text ≡ inner ++ dashes ++ close → closes_at_once text ≡ false → inner ≡ before closes_comment text
       → characters dashes ≡ codes "--!" → characters close ≡ codes ">"
-      → «data» ≡ text_bytes inner → errors ≡ errors_after [] text ++ error IncorrectlyClosedComment (place end close) ∷ []
+      → «data» ≡ text_bytes inner → errors ≡ comment_errors_after [] text ++ error IncorrectlyClosedComment (place end close) ∷ []
       → IsComment end rest text «data» errors
   -- no closing mark before the end of input: the longest of `--!`, `--` and `-` that the text ends with is dropped
   unclosed : rest ≡ [] → closes_at_once text ≡ false → text ≡ before closes_comment text
-      → «data» ≡ text_bytes (before is_ending text) → errors ≡ errors_after [] text ++ error EofInComment end ∷ [] → IsComment end rest text «data» errors
+      → «data» ≡ text_bytes (before is_ending text) → errors ≡ comment_errors_after [] text ++ error EofInComment end ∷ []
+      → IsComment end rest text «data» errors
 
 -- the mark that closes a bogus comment
 abbrev pub closes_bogus : List Placed → Bool

@@ -9,7 +9,7 @@ use Rattle.hmarkup.specs.declared.tail.Ending.{Ending}
 use Rattle.hmarkup.specs.declared.tail.Ending.TheVariants.{Plain, Dash, Dashes, Bang}
 use Rattle.hmarkup.specs.declared.tail.Opening.{Opening}
 use Rattle.hmarkup.specs.declared.tail.Opening.TheVariants.{Outside, Less, LessBang, LessBangDash, Whole}
-use Rattle.hmarkup.specs.Comment.{closes_comment, closes_at_once, closes_bogus, is_ending, errors_after, IsComment, IsBogus}
+use Rattle.hmarkup.specs.Comment.{closes_comment, closes_at_once, closes_bogus, is_ending, comment_errors_after, IsComment, IsBogus}
 
 -- a walk as contracts see it
 pub record Progress : Type 0 where
@@ -19,15 +19,15 @@ pub record Progress : Type 0 where
   pub «data» : List ℕ
 
 -- a walk with this data, none of which may begin a closing mark
-abbrev pub begun : CommentKind → List ℕ → Progress
-begun kind «data» = record { kind = kind; ending = Plain; opening = Outside; «data» = «data» }
+abbrev pub comment_begun : CommentKind → List ℕ → Progress
+comment_begun kind «data» = record { kind = kind; ending = Plain; opening = Outside; «data» = «data» }
 
 -- the last characters of the text: those that may begin a closing mark
-pub data IsHeld : Ending → List Placed → Type 0 where
-  holds_nothing : IsHeld Plain []
-  holds_dash : (a : ℕ) → IsHeld Dash (record { ch = 45; at = a } ∷ [])
-  holds_dashes : (a b : ℕ) → IsHeld Dashes (record { ch = 45; at = a } ∷ record { ch = 45; at = b } ∷ [])
-  holds_bang : (a b c : ℕ) → IsHeld Bang (record { ch = 45; at = a } ∷ record { ch = 45; at = b } ∷ record { ch = 33; at = c } ∷ [])
+pub data IsHeldEnding : Ending → List Placed → Type 0 where
+  holds_nothing : IsHeldEnding Plain []
+  holds_dash : (a : ℕ) → IsHeldEnding Dash (record { ch = 45; at = a } ∷ [])
+  holds_dashes : (a b : ℕ) → IsHeldEnding Dashes (record { ch = 45; at = a } ∷ record { ch = 45; at = b } ∷ [])
+  holds_bang : (a b c : ℕ) → IsHeldEnding Bang (record { ch = 45; at = a } ∷ record { ch = 45; at = b } ∷ record { ch = 33; at = c } ∷ [])
 
 -- the characters of `seen` and then of a text, the last one first
 abbrev pub backwards : List Placed → List Placed → List Placed
@@ -64,13 +64,13 @@ pub record IsInComment (walk : Progress) (text : List Placed) (errors : List Par
   pub inner : List Placed
   pub held : List Placed
   pub text_is : text ≡ inner ++ held
-  pub is_held : IsHeld walk.ending held
+  pub is_held : IsHeldEnding walk.ending held
   pub not_at_once : closes_at_once text ≡ false
   pub no_close : Avoids closes_comment inner held
   pub no_ending : Avoids is_ending inner held
   pub opening : IsOpening walk.opening (backwards [] text)
   pub data_is : walk.data ≡ text_bytes inner
-  pub errors_are : errors ≡ errors_after [] text
+  pub errors_are : errors ≡ comment_errors_after [] text
 
 -- The same for a bogus comment.
 pub record IsInBogus (walk : Progress) (text : List Placed) (errors : List ParseError) : Type 0 where
@@ -85,9 +85,9 @@ HasReadOf Comment = IsInComment
 HasReadOf Bogus = IsInBogus
 
 -- what a comment of this kind is
-abbrev pub IsSpan : CommentKind → ℕ → List Placed → List Placed → List ℕ → List ParseError → Type 0
-IsSpan Comment = IsComment
-IsSpan Bogus = λ end. IsBogus
+abbrev pub IsCommentSpan : CommentKind → ℕ → List Placed → List Placed → List ℕ → List ParseError → Type 0
+IsCommentSpan Comment = IsComment
+IsCommentSpan Bogus = λ end. IsBogus
 
 -- characters that complete a comment of this kind, whatever was read of it
 abbrev pub closing_mark : CommentKind → List ℕ

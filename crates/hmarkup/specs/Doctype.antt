@@ -31,16 +31,16 @@ abbrev pub Stands : Type 1
 Stands = ℕ → List Placed → List Placed → Found → List ParseError → Type 0
 
 -- bytes appended to those that are there
-abbrev pub longer : Option (List ℕ) → List ℕ → List ℕ
-longer None bytes = bytes
-longer (Some before) bytes = before ++ bytes
+abbrev pub lengthened : Option (List ℕ) → List ℕ → List ℕ
+lengthened None bytes = bytes
+lengthened (Some before) bytes = before ++ bytes
 
-abbrev pub named : List ℕ → Found → Found
-named bytes known = record { name = Some (longer known.name bytes); public = known.public; system = known.system; forced = known.forced }
+abbrev pub with_name : List ℕ → Found → Found
+with_name bytes known = record { name = Some (lengthened known.name bytes); public = known.public; system = known.system; forced = known.forced }
 
 abbrev pub identified : Identifier → List ℕ → Found → Found
-identified Public bytes known = record { name = known.name; public = Some (longer known.public bytes); system = known.system; forced = known.forced }
-identified System bytes known = record { name = known.name; public = known.public; system = Some (longer known.system bytes); forced = known.forced }
+identified Public bytes known = record { name = known.name; public = Some (lengthened known.public bytes); system = known.system; forced = known.forced }
+identified System bytes known = record { name = known.name; public = known.public; system = Some (lengthened known.system bytes); forced = known.forced }
 
 abbrev pub force : Found → Found
 force known = record { name = known.name; public = known.public; system = known.system; forced = true }
@@ -179,18 +179,18 @@ abbrev pub FollowsName : Found → Stands
 FollowsName known = AfterSpace (λ spaced. AfterName known) false
 
 -- A name, up to white space, `>` or the end, and what follows it (#doctype-name-state).
-pub record IsName (known : Found) (end : ℕ) (rest text : List Placed) (found : Found) (errors : List ParseError) : Type 0 where
+pub record IsDoctypeName (known : Found) (end : ℕ) (rest text : List Placed) (found : Found) (errors : List ParseError) : Type 0 where
   pub name : List Placed
   pub after : List Placed
   pub later : List ParseError
   pub text_is : text ≡ name ++ after
   pub runs : RunsTo (λ c. is_space c || is_greater c) name (after ++ rest)
-  pub follows : FollowsName (named (name_bytes name) known) end rest after found later
+  pub follows : FollowsName (with_name (name_bytes name) known) end rest after found later
   pub errors_are : errors ≡ null_errors name ++ later
 
 -- what follows `<!DOCTYPE` and white space (#doctype-state, #before-doctype-name-state)
 pub data AfterOpening (known : Found) (spaced : Bool) (end : ℕ) (rest text : List Placed) (found : Found) (errors : List ParseError) : Type 0 where
-  begins_name : (later : List ParseError) → begins (λ c. not (is_space c || is_greater c)) text ≡ true → IsName known end rest text found later
+  begins_name : (later : List ParseError) → begins (λ c. not (is_space c || is_greater c)) text ≡ true → IsDoctypeName known end rest text found later
       → errors ≡ error_if (not spaced) MissingWhitespaceBeforeDoctypeName (place end text) ++ later → AfterOpening known spaced end rest text found errors
   nameless : characters text ≡ codes ">" → found ≡ force known → errors ≡ error MissingDoctypeName (place end text) ∷ []
       → AfterOpening known spaced end rest text found errors

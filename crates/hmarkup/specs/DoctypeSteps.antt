@@ -16,14 +16,15 @@ use Rattle.hmarkup.specs.declared.doctype_state.DoctypeState.TheVariants as phas
 use Rattle.hmarkup.specs.declared.doctype_state.Keeps.{Keeps}
 use Rattle.hmarkup.specs.declared.doctype_state.Keeps.TheVariants as keeps
 use Rattle.hmarkup.specs.declared.doctype_state.Step.{Step}
-use Rattle.hmarkup.specs.Doctype.{Found, keyword, named, identified, force, no_space_after_keyword, no_identifier, no_quote, abrupt_identifier}
+use Rattle.hmarkup.specs.Doctype.{Found, keyword, with_name, identified, force, no_space_after_keyword, no_identifier, no_quote, abrupt_identifier}
 
 -- keywords, letter for letter: each has six
-abbrev pub begun : Identifier → Letters
-begun which = record { which = which; read = 1 }
+abbrev pub identifier_begun : Identifier → Letters
+identifier_begun which = record { which = which; read = 1 }
 
 abbrev pub first_letter : ℕ → Option Letters
-first_letter c = if to_ascii_lowercase c == 112 then Some (begun Public) else (if to_ascii_lowercase c == 115 then Some (begun System) else None)
+first_letter c = if to_ascii_lowercase c == 112 then Some (identifier_begun Public)
+    else (if to_ascii_lowercase c == 115 then Some (identifier_begun System) else None)
 
 abbrev pub next_letter : Letters → ℕ
 next_letter letters = get_or (keyword letters.which) letters.read 0
@@ -35,8 +36,8 @@ letters_after letters = if nat_lt letters.read 5 then Some (record { which = let
 abbrev pub goes_to : DoctypeState → Step
 goes_to next = record { fault = None; keeps = keeps.Nothing; forces = false; next = Some next }
 
-abbrev pub ends : Step
-ends = record { fault = None; keeps = keeps.Nothing; forces = false; next = None }
+abbrev pub ends_doctype : Step
+ends_doctype = record { fault = None; keeps = keeps.Nothing; forces = false; next = None }
 
 abbrev pub refuses : ErrorCode → ℕ → Step
 refuses code at = record { fault = Some (error code at); keeps = keeps.Nothing; forces = true; next = None }
@@ -45,7 +46,7 @@ abbrev pub skips : ErrorCode → ℕ → Bool → Step
 skips code at forced = record { fault = Some (error code at); keeps = keeps.Nothing; forces = forced; next = Some phase.Skipped }
 
 abbrev pub faulty : Keeps → Bool → ErrorCode → ℕ → DoctypeState → Step
-faulty kept spaced code at next = record { fault = if spaced then None else Some (error code at); keeps = kept; forces = false; next = Some next }
+faulty kept_found spaced code at next = record { fault = if spaced then None else Some (error code at); keeps = kept_found; forces = false; next = Some next }
 
 -- The step of each phase, by the character's class.
 abbrev pub before_name : Bool → Bool → Bool → ℕ → Step
@@ -57,7 +58,7 @@ before_name spaced space greater at =
 abbrev pub in_name : Bool → Bool → Step
 in_name space greater =
     if space then goes_to phase.AfterName
-    else (if greater then ends
+    else (if greater then ends_doctype
     else record { fault = None; keeps = keeps.Name; forces = false; next = Some phase.Name })
 
 abbrev pub begins_keyword : Option Letters → ℕ → Step
@@ -65,7 +66,7 @@ begins_keyword (Some letters) at = goes_to (phase.Keyword letters at)
 begins_keyword None at = skips InvalidCharacterSequenceAfterDoctypeName at true
 
 abbrev pub after_name : Bool → Bool → Option Letters → ℕ → Step
-after_name space greater letters at = if space then goes_to phase.AfterName else (if greater then ends else begins_keyword letters at)
+after_name space greater letters at = if space then goes_to phase.AfterName else (if greater then ends_doctype else begins_keyword letters at)
 
 abbrev pub goes_on_with : Identifier → Option Letters → ℕ → Step
 goes_on_with which (Some letters) first = goes_to (phase.Keyword letters first)
@@ -97,18 +98,18 @@ in_quotes which mark closes greater at =
 abbrev pub after_public : Bool → Bool → Bool → Bool → ℕ → ℕ → Step
 after_public spaced space greater quote ch at =
     if space then goes_to (phase.AfterPublic true)
-    else (if greater then ends
+    else (if greater then ends_doctype
     else (if quote then faulty (keeps.Quote System) spaced MissingWhitespaceBetweenDoctypePublicAndSystemIdentifiers at (phase.Quoted System ch)
     else skips (no_quote System) at true))
 
 abbrev pub after_system : Bool → Bool → ℕ → Step
 after_system space greater at =
     if space then goes_to phase.AfterSystem
-    else (if greater then ends
+    else (if greater then ends_doctype
     else skips UnexpectedCharacterAfterDoctypeSystemIdentifier at false)
 
 abbrev pub in_skipped : Bool → Step
-in_skipped greater = if greater then ends else goes_to phase.Skipped
+in_skipped greater = if greater then ends_doctype else goes_to phase.Skipped
 
 abbrev pub step : DoctypeState → Placed → Step
 step (phase.BeforeName spaced) p = before_name spaced (is_space p.ch) (is_greater p.ch) p.at
@@ -122,14 +123,14 @@ step phase.AfterSystem p = after_system (is_space p.ch) (is_greater p.ch) p.at
 step phase.Skipped p = in_skipped (is_greater p.ch)
 
 -- the contents after the character
-abbrev pub kept : Keeps → Placed → Found → Found
-kept keeps.Nothing p known = known
-kept keeps.Name p known = named (name_bytes (p ∷ [])) known
-kept (keeps.Quote which) p known = identified which [] known
-kept (keeps.Inside which) p known = identified which (text_bytes (p ∷ [])) known
+abbrev pub kept_found : Keeps → Placed → Found → Found
+kept_found keeps.Nothing p known = known
+kept_found keeps.Name p known = with_name (name_bytes (p ∷ [])) known
+kept_found (keeps.Quote which) p known = identified which [] known
+kept_found (keeps.Inside which) p known = identified which (text_bytes (p ∷ [])) known
 
 abbrev pub found_by : Step → Placed → Found → Found
-found_by step p known = if step.forces then force (kept step.keeps p known) else kept step.keeps p known
+found_by step p known = if step.forces then force (kept_found step.keeps p known) else kept_found step.keeps p known
 
 -- the errors of the character
 abbrev pub fault_errors : Option ParseError → List ParseError

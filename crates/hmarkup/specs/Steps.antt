@@ -22,11 +22,11 @@ bang_after _ = Plain
 abbrev pub next_ending : Ending → ℕ → Ending
 next_ending ending c = if c == 45 then dash_after ending else (if c == 33 then bang_after ending else Plain)
 
-abbrev pub ending_text : Ending → List ℕ
-ending_text Plain = []
-ending_text Dash = codes "-"
-ending_text Dashes = codes "--"
-ending_text Bang = codes "--!"
+abbrev pub held_ending_text : Ending → List ℕ
+held_ending_text Plain = []
+held_ending_text Dash = codes "-"
+held_ending_text Dashes = codes "--"
+held_ending_text Bang = codes "--!"
 
 -- the bytes that the character shows to be data
 abbrev pub decided_by_dash : Ending → List ℕ
@@ -43,10 +43,11 @@ decided_by_bang Bang = codes "--!!"
 
 -- the same for any character: without the character itself, unless it is `-` or `!`; and with it
 abbrev pub decided_text : Ending → ℕ → List ℕ
-decided_text ending c = if c == 45 then decided_by_dash ending else (if c == 33 then decided_by_bang ending else ending_text ending)
+decided_text ending c = if c == 45 then decided_by_dash ending else (if c == 33 then decided_by_bang ending else held_ending_text ending)
 
 abbrev pub decided : Ending → ℕ → List ℕ
-decided ending c = if c == 45 then decided_by_dash ending else (if c == 33 then decided_by_bang ending else ending_text ending ++ encode_utf8 (without_null c))
+decided ending c = if c == 45 then decided_by_dash ending
+    else (if c == 33 then decided_by_bang ending else held_ending_text ending ++ encode_utf8 (without_null c))
 
 -- how much of an inner `<!--` the text then ends with
 abbrev pub opening_by_bang : Opening → Opening
@@ -61,8 +62,8 @@ opening_by_dash _ = Outside
 abbrev pub next_opening : Opening → ℕ → Opening
 next_opening opening c = if c == 45 then opening_by_dash opening else (if c == 33 then opening_by_bang opening else (if c == 60 then Less else Outside))
 
-abbrev pub next : Progress → ℕ → Progress
-next walk c = record {
+abbrev pub next_progress : Progress → ℕ → Progress
+next_progress walk c = record {
   kind = walk.kind;
   ending = next_ending walk.ending c;
   opening = next_opening walk.opening c;
@@ -71,4 +72,4 @@ next walk c = record {
 
 -- the walk after a run of plain data, given in UTF-8
 abbrev pub next_run : Progress → List ℕ → Progress
-next_run walk run = record { kind = walk.kind; ending = Plain; opening = Outside; «data» = walk.data ++ (ending_text walk.ending ++ run) }
+next_run walk run = record { kind = walk.kind; ending = Plain; opening = Outside; «data» = walk.data ++ (held_ending_text walk.ending ++ run) }

@@ -1,13 +1,12 @@
 //! Reads a comment or a bogus comment (HTML Standard, `#bogus-comment-state` and `#comment-start-state` to `#comment-end-bang-state`), one
 //! character at a time.
 
-ghost use Rattle.std.specs.Prelude.{◌≡◌, ◌++◌, ℕ, List, [], true, IfOk, OnOk, string_bytes};
-ghost use Rattle.std.specs.Char.{encode_utf8};
+ghost use Rattle.std.specs.Prelude.{◌≡◌, ℕ, List, [], true, IfOk, OnOk, string_bytes};
 ghost use Rattle.std.specs.List.{list_all};
 ghost use Rattle.std.specs.Str.{chars};
 ghost use Rattle.hmarkup.specs.Vocabulary.{Error, Placed, all, characters, placed, Hands, Kind, Comment, Bogus, errors_here, is_only_data, is_plain_in_bogus, BeginsSpans};
-ghost use Rattle.hmarkup.specs.Vocabulary.{IsOpen, ClosedBy, HasSpan, IsOneSpan, Takes, TakesRun, Ends, Progress, begun, HasReadOf, IsInComment, IsInBogus, IsSpan};
-ghost use Rattle.hmarkup.specs.Vocabulary.{closing_mark, next, next_run};
+ghost use Rattle.hmarkup.specs.Vocabulary.{IsOpenMarkup, ClosedBy, HasMarkupSpan, IsOneSpan, TakesMarkup, TakesRun, EndsMarkup, Progress, comment_begun, HasReadOf, IsInComment, IsInBogus, IsCommentSpan};
+ghost use Rattle.hmarkup.specs.Vocabulary.{closing_mark, next_progress, next_run};
 
 use crate::sink::ErrorSink;
 use crate::tail::{Ending, Opening};
@@ -57,7 +56,7 @@ fn report<S: ErrorSink>(nested: bool, ch: char, at: u64, errors: &mut S) -> Resu
 impl CommentWalk {
     /// A walk with this data so far, none of which may begin a closing mark.
     fn with(kind: CommentKind, text: String) -> CommentWalk
-        ensures { result ≡ begun kind (string_bytes text) }
+        ensures { result ≡ comment_begun kind (string_bytes text) }
     {
         CommentWalk {
             kind,
@@ -99,7 +98,8 @@ impl CommentWalk {
         errors: &mut S,
     ) -> Result<bool, Refusal>
         ensures { (kind : Kind) (text : List Placed) (raised : List Error) → HasReadOf kind self.old text raised
-            → Takes S.gives (HasReadOf kind) (IsSpan kind) text raised (record { ch = ch; at = at }) errors.old result self.new self.new.data errors.new }
+            → TakesMarkup S.gives (HasReadOf kind) (IsCommentSpan kind) text raised (record { ch = ch; at = at }) errors.old
+            result self.new self.new.data errors.new }
     {
         match self.kind {
             CommentKind::Comment => self.take_in_comment(ch, at, errors),
@@ -115,7 +115,8 @@ impl CommentWalk {
         errors: &mut S,
     ) -> Result<bool, Refusal>
         ensures { (text : List Placed) (raised : List Error) → IsInBogus self.old text raised
-            → Takes S.gives IsInBogus (IsSpan Bogus) text raised (record { ch = ch; at = at }) errors.old result self.new self.new.data errors.new }
+            → TakesMarkup S.gives IsInBogus (IsCommentSpan Bogus) text raised (record { ch = ch; at = at }) errors.old
+            result self.new self.new.data errors.new }
     {
         if ch == '>' {
             return Ok(true);
@@ -133,7 +134,8 @@ impl CommentWalk {
         errors: &mut S,
     ) -> Result<bool, Refusal>
         ensures { (text : List Placed) (raised : List Error) → IsInComment self.old text raised
-            → Takes S.gives IsInComment (IsSpan Comment) text raised (record { ch = ch; at = at }) errors.old result self.new self.new.data errors.new }
+            → TakesMarkup S.gives IsInComment (IsCommentSpan Comment) text raised (record { ch = ch; at = at }) errors.old
+            result self.new self.new.data errors.new }
     {
         report(self.opening.is_whole(), ch, at, errors)?;
         if ch == '>' {
@@ -164,7 +166,7 @@ impl CommentWalk {
     ) -> Result<(), Refusal>
         requires { list_all is_only_data run.now ≡ true }
         ensures { (text : List Placed) (raised : List Error) → IsInComment self.old text raised
-            → TakesRun S.gives IsInComment (IsSpan Comment) text raised (placed at (chars run.now)) errors.old result self.new errors.new }
+            → TakesRun S.gives IsInComment (IsCommentSpan Comment) text raised (placed at (chars run.now)) errors.old result self.new errors.new }
     {
         if run.is_empty() {
             return Ok(());
@@ -189,7 +191,7 @@ impl CommentWalk {
 
     /// Keeps a character that does not end the comment.
     fn keep(&mut self, ch: char) -> Result<(), AllocError>
-        ensures { OnOk result (self.new ≡ next self.old ch) }
+        ensures { OnOk result (self.new ≡ next_progress self.old ch) }
     {
         let may_close = ch == '-' || ch == '!';
         if may_close || self.ending != Ending::Plain {
@@ -213,7 +215,7 @@ impl CommentWalk {
     ) -> Result<(), Refusal>
         requires { list_all is_only_data run.now ≡ true }
         ensures { (kind : Kind) (text : List Placed) (raised : List Error) → HasReadOf kind self.old text raised
-            → TakesRun S.gives (HasReadOf kind) (IsSpan kind) text raised (placed at (chars run.now)) errors.old result self.new errors.new }
+            → TakesRun S.gives (HasReadOf kind) (IsCommentSpan kind) text raised (placed at (chars run.now)) errors.old result self.new errors.new }
     {
         match self.kind {
             CommentKind::Comment => self.take_run_in_comment(run, at, errors),
@@ -224,7 +226,7 @@ impl CommentWalk {
     /// Tells the walk that the input ends here, at byte offset `end`. An error is the sink's refusal.
     pub fn end<S: ErrorSink>(&self, end: u64, errors: &mut S) -> Result<(), Refusal>
         ensures { (kind : Kind) (text : List Placed) (raised : List Error) → HasReadOf kind self.now text raised
-            → Ends S.gives (IsSpan kind) text raised end self.now.data errors.old result errors.new }
+            → EndsMarkup S.gives (IsCommentSpan kind) text raised end self.now.data errors.old result errors.new }
     {
         match self.kind {
             CommentKind::Comment => tell(ErrorCode::EofInComment, end, errors),
@@ -244,22 +246,23 @@ impl CommentWalk {
 /// those reported so far. The comment cannot end there unless the input does.
 pub fn goes_on_in_a_span()
     ensures begins { (kind : Kind) (walk : Progress) (text : List Placed) (errors : List Error) → HasReadOf kind walk text errors
-        → BeginsSpans (IsSpan kind) text errors }
-    ensures is_open { (kind : Kind) (walk : Progress) (text : List Placed) (errors : List Error) → HasReadOf kind walk text errors → IsOpen (IsSpan kind) text }
+        → BeginsSpans (IsCommentSpan kind) text errors }
+    ensures is_open { (kind : Kind) (walk : Progress) (text : List Placed) (errors : List Error) → HasReadOf kind walk text errors
+        → IsOpenMarkup (IsCommentSpan kind) text }
 {}
 
 /// What a walk has read can always be completed: with `-->` after it, or `>` for a bogus comment, it is a whole comment.
 pub fn closing_mark_ends_a_span()
     ensures { (kind : Kind) (walk : Progress) (text closing : List Placed) (errors : List Error) → HasReadOf kind walk text errors
-        → characters closing ≡ closing_mark kind → ClosedBy (IsSpan kind) text closing }
+        → characters closing ≡ closing_mark kind → ClosedBy (IsCommentSpan kind) text closing }
 {}
 
 /// Every text begins with a comment, which may extend to the end of the text.
 pub fn some_span()
-    ensures { (kind : Kind) (end : ℕ) (text : List Placed) → HasSpan (IsSpan kind) end text }
+    ensures { (kind : Kind) (end : ℕ) (text : List Placed) → HasMarkupSpan (IsCommentSpan kind) end text }
 {}
 
 /// A text begins with at most one comment.
 pub fn one_span()
-    ensures { (kind : Kind) → IsOneSpan (IsSpan kind) }
+    ensures { (kind : Kind) → IsOneSpan (IsCommentSpan kind) }
 {}

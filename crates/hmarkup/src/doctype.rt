@@ -2,8 +2,8 @@
 
 ghost use Rattle.std.specs.Prelude.{◌≡◌, ◌++◌, ◌∷◌, ℕ, [], List, Option, Some, OnOk, codes};
 ghost use Rattle.std.specs.Char.{encode_utf8};
-ghost use Rattle.hmarkup.specs.Vocabulary.{Error, Placed, characters, null_errors, without_null, Hands, IsDoctype, force, longer, fault_errors, found_by, Reading};
-ghost use Rattle.hmarkup.specs.Vocabulary.{HasReadDoctype, text_of, BeginsSpans, IsOpen, ClosedBy, HasSpan, IsOneSpan, Takes, Ends};
+ghost use Rattle.hmarkup.specs.Vocabulary.{Error, Placed, characters, null_errors, without_null, Hands, IsDoctype, force, lengthened, fault_errors, found_by, Reading};
+ghost use Rattle.hmarkup.specs.Vocabulary.{HasReadDoctype, optional_text, BeginsSpans, IsOpenMarkup, ClosedBy, HasMarkupSpan, IsOneSpan, TakesMarkup, EndsMarkup};
 
 use crate::doctype_state::{DoctypeState, Keeps, Step};
 use crate::keyword::Identifier;
@@ -28,11 +28,11 @@ pub struct Doctype {
 
 impl Model for Doctype {
     ghost use Rattle.hmarkup.specs.Doctype.{Found};
-    ghost use Rattle.hmarkup.specs.DoctypeWalk.{text_of};
+    ghost use Rattle.hmarkup.specs.DoctypeWalk.{optional_text};
 
     ghost Value = { Found };
 
-    ghost view = { λ d. record { name = text_of d.name; public = text_of d.public_id; system = text_of d.system_id; forced = d.forced } };
+    ghost view = { λ d. record { name = optional_text d.name; public = optional_text d.public_id; system = optional_text d.system_id; forced = d.forced } };
 }
 
 /// Reads a doctype after its `<!DOCTYPE`, one character at a time. Errors go to the sink as they are found, in the order of
@@ -45,7 +45,7 @@ pub struct DoctypeWalk {
 }
 
 impl Model for DoctypeWalk {
-    ghost use Rattle.hmarkup.specs.DoctypeWalk.{Reading, text_of};
+    ghost use Rattle.hmarkup.specs.DoctypeWalk.{Reading, optional_text};
 
     ghost Value = { Reading };
 
@@ -69,14 +69,14 @@ fn report<S: ErrorSink>(
 
 /// Appends a character, with U+FFFD in place of NUL; a missing text begins with it.
 fn add(part: &mut Option<String>, ch: char, alloc: Global) -> Result<(), AllocError>
-    ensures { OnOk result (text_of part.new ≡ Some (longer (text_of part.old) (encode_utf8 (without_null ch)))) }
+    ensures { OnOk result (optional_text part.new ≡ Some (lengthened (optional_text part.old) (encode_utf8 (without_null ch)))) }
 {
     push(part.get_or_insert(String::new(alloc)), ch)
 }
 
 /// Makes a missing text empty.
 fn begin(part: &mut Option<String>, alloc: Global) -> Result<(), AllocError>
-    ensures { OnOk result (text_of part.new ≡ Some (longer (text_of part.old) [])) }
+    ensures { OnOk result (optional_text part.new ≡ Some (lengthened (optional_text part.old) [])) }
 {
     part.get_or_insert(String::new(alloc));
     Ok(())
@@ -132,7 +132,7 @@ impl DoctypeWalk {
         errors: &mut S,
     ) -> Result<bool, Refusal>
         ensures { (text : List Placed) (raised : List Error) → HasReadDoctype self.old text raised
-            → Takes S.gives HasReadDoctype IsDoctype text raised (record { ch = ch; at = at }) errors.old result self.new self.new.found errors.new }
+            → TakesMarkup S.gives HasReadDoctype IsDoctype text raised (record { ch = ch; at = at }) errors.old result self.new self.new.found errors.new }
     {
         let step = self.phase.step(ch, at);
         report(step.fault, ch, at, errors)?;
@@ -148,7 +148,7 @@ impl DoctypeWalk {
     /// Tells the walk that the input ends here, at byte offset `end`. An error is the sink's refusal.
     pub fn end<S: ErrorSink>(&mut self, end: u64, errors: &mut S) -> Result<(), Refusal>
         ensures { (text : List Placed) (raised : List Error) → HasReadDoctype self.old text raised
-            → Ends S.gives IsDoctype text raised end self.new.found errors.old result errors.new }
+            → EndsMarkup S.gives IsDoctype text raised end self.new.found errors.old result errors.new }
     {
         let Some(fault) = self.phase.end_fault(end) else {
             return Ok(());
@@ -169,7 +169,7 @@ impl DoctypeWalk {
 /// those reported so far. The doctype cannot end there unless the input does.
 pub fn goes_on_in_a_doctype()
     ensures begins { (walk : Reading) (text : List Placed) (errors : List Error) → HasReadDoctype walk text errors → BeginsSpans IsDoctype text errors }
-    ensures is_open { (walk : Reading) (text : List Placed) (errors : List Error) → HasReadDoctype walk text errors → IsOpen IsDoctype text }
+    ensures is_open { (walk : Reading) (text : List Placed) (errors : List Error) → HasReadDoctype walk text errors → IsOpenMarkup IsDoctype text }
 {}
 
 /// What a walk has read can always be completed: with `>` after it, it is a whole doctype, even inside quotes.
@@ -180,7 +180,7 @@ pub fn greater_ends_a_doctype()
 
 /// Every text begins with a doctype, which may extend to the end of the text.
 pub fn some_doctype()
-    ensures { (end : ℕ) (text : List Placed) → HasSpan IsDoctype end text }
+    ensures { (end : ℕ) (text : List Placed) → HasMarkupSpan IsDoctype end text }
 {}
 
 /// A text begins with at most one doctype.

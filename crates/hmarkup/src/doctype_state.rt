@@ -2,7 +2,7 @@
 
 ghost use Rattle.std.specs.Prelude.{◌≡◌, ◌==◌};
 ghost use Rattle.std.specs.Char.{to_ascii_lowercase};
-ghost use Rattle.hmarkup.specs.Vocabulary.{is_space, is_greater, is_quote, goes_to, ends, faulty, refuses, skips, step, before_name, in_name, after_name};
+ghost use Rattle.hmarkup.specs.Vocabulary.{is_space, is_greater, is_quote, goes_to, ends_doctype, faulty, refuses, skips, step, before_name, in_name, after_name};
 ghost use Rattle.hmarkup.specs.Vocabulary.{in_keyword, after_keyword, in_quotes, after_public, after_system, first_letter, next_letter, end_fault};
 
 use crate::keyword::{Identifier, Letters};
@@ -73,7 +73,7 @@ impl Step {
 
     /// The doctype ends.
     fn end() -> Step
-        ensures { result ≡ ends }
+        ensures { result ≡ ends_doctype }
     {
         Step {
             fault: None,

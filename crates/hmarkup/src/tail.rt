@@ -2,7 +2,7 @@
 //! `#comment-start-state` to `#comment-end-bang-state`).
 
 ghost use Rattle.std.specs.Prelude.{◌≡◌};
-ghost use Rattle.hmarkup.specs.Vocabulary.{next_opening, next_ending, decided_text, ending_text, is_whole};
+ghost use Rattle.hmarkup.specs.Vocabulary.{next_opening, next_ending, decided_text, held_ending_text, is_whole};
 
 /// The part of a closing mark that the text ends with: nothing, `-`, `--` or `--!`.
 #[derive(Clone, Copy, PartialEq, Eq)]
@@ -61,7 +61,7 @@ impl Ending {
 
     /// The characters of the ending.
     pub fn text(self) -> &'static str
-        ensures { result.now ≡ ending_text self }
+        ensures { result.now ≡ held_ending_text self }
     {
         match self {
             Ending::Plain => "",

@@ -1,5 +1,5 @@
 -- Characters that are put after the formatting elements were reconstructed: the first of them reconstructs these.
-use Rattle.hmodes.proofs.Vocabulary.{◌≡◌, ◌≢◌, inl, inr, ℕ, Bool, true, false, List, ◌∷◌, Option, None, Result, Ok, Err, refl, sym, ◌∙◌, ap, subst, ◌&&◌, ◌==◌, if◌then◌else◌, MatchOption, false≢true, is_space, characters, Hands, Placed, Refusal, run_tokens, Gives, put_each, numbers, reconstructed, Outcome, Goes, SiteOf, and_then, OnGoes, perform, flow_of, with_site, rule_of, State, Token, character, flow_then, Rule, Chain, ends, refuses, goes_again, Step, drops, goes, is_dropped, begun, put, Building, TakesToken, TakesOn, StaysRefused, StepGives, refused_by, AreSome, before_text, puts_in, put_all, Mode, Alone}
+use Rattle.hmodes.proofs.Vocabulary.{◌≡◌, ◌≢◌, inl, inr, ℕ, Bool, true, false, List, ◌∷◌, Option, None, Result, Ok, Err, refl, sym, ◌∙◌, ap, subst, ◌&&◌, ◌==◌, if◌then◌else◌, MatchOption, false≢true, is_space, characters, Hands, Placed, Refusal, run_tokens, Gives, put_each, numbers, reconstructed, Outcome, Goes, SiteOf, and_then, OnGoes, perform, flow_of, with_site, rule_of, State, Token, character, flow_then, Rule, Chain, ends, refuses, goes_again, Step, drops, goes, is_dropped, step_begun, put, Building, TakesToken, BuilderTakesOn, BuilderStaysRefused, StepGives, refused_by, AreSome, before_text, puts_in, put_all, Mode, Alone}
 use Rattle.htoken.specs.declared.token.Token.TheVariants as code
 use Rattle.hadopt.specs.Site as site
 use Rattle.hmodes.specs.declared.mode.Mode.TheVariants as mode
@@ -24,10 +24,10 @@ chain-same at t s s' o same (ends rule) = ends (same ∙ rule)
 chain-same at t s s' o same (refuses rule) = refuses (same ∙ rule)
 chain-same at t s s' o same (goes_again rule rest) = goes_again (same ∙ rule) rest
 
-step-same : (at : ℕ) (t : Token ℕ) (s s' : State ℕ) (o : Outcome (State ℕ)) → is_dropped t s ≡ false → is_dropped t s' ≡ false → Rule numbers at t (begun s') ≡ Rule numbers at t (begun s)
+step-same : (at : ℕ) (t : Token ℕ) (s s' : State ℕ) (o : Outcome (State ℕ)) → is_dropped t s ≡ false → is_dropped t s' ≡ false → Rule numbers at t (step_begun s') ≡ Rule numbers at t (step_begun s)
     → Step numbers at t s o → Step numbers at t s' o
 step-same at t s s' o kept kept' same (drops is) = absurd (false≢true (sym kept ∙ is))
-step-same at t s s' o kept kept' same (goes isnt rest) = goes kept' (chain-same at t (begun s) (begun s') o same rest)
+step-same at t s s' o kept kept' same (goes isnt rest) = goes kept' (chain-same at t (step_begun s) (step_begun s') o same rest)
 
 gives-same : (at : ℕ) (t : Token ℕ) (s s' new : State ℕ) (answer : Result (Unit {0}) Refusal) → ((o : Outcome (State ℕ)) → Step numbers at t s o → Step numbers at t s' o)
     → StepGives at t s answer new → StepGives at t s' answer new
@@ -56,13 +56,13 @@ module _ (at c : ℕ) (s : State ℕ) where
 
 module _ (b : Building) (free : b.refused ≡ None) (off : b.state.site.foster ≡ false) (keeps_lf : b.state.control.drop_lf ≡ false) (puts : puts_in b.state.control.mode ≡ true) (p : Placed) (some : (p.ch == 0) ≡ false) where
   abbrev begin : State ℕ
-  begin = begun b.state
+  begin = step_begun b.state
 
   abbrev after : SiteOf ℕ → Result (Unit {0}) Refusal → Building
-  after x answer = record { state = with_site x begin; root = b.root; told = b.told; refused = refused_by answer }
+  after x answer = record { state = with_site x begin; root = b.root; tokenizer_errors = b.tokenizer_errors; refused = refused_by answer }
 
-  taking : (answer : Result (Unit {0}) Refusal) (new : Building) → TakesOn p.at (character p.ch) b answer new → TakesToken b (Alone (code.Char p.ch p.at)) answer new
-  taking answer new t = subst (λ (r : Option Refusal). MatchOption r (TakesOn p.at (character p.ch) b answer new) (λ q. StaysRefused q b answer new)) (sym free) t
+  taking : (answer : Result (Unit {0}) Refusal) (new : Building) → BuilderTakesOn p.at (character p.ch) b answer new → TakesToken b (Alone (code.Char p.ch p.at)) answer new
+  taking answer new t = subst (λ (r : Option Refusal). MatchOption r (BuilderTakesOn p.at (character p.ch) b answer new) (λ q. BuilderStaysRefused q b answer new)) (sym free) t
 
   kept : is_dropped (character p.ch) b.state ≡ false
   kept = ap (λ (d : Bool). d && (p.ch == 10)) keeps_lf
@@ -75,7 +75,7 @@ module _ (b : Building) (free : b.refused ≡ None) (off : b.state.site.foster �
 
   -- one that is refused
   wrong : (e : Refusal) (x : SiteOf ℕ) (ps : List Placed) → StepGives p.at (character p.ch) b.state (Err e) (with_site x begin) → Hands TakesToken b (run_tokens (p ∷ ps)) (Err e) (after x (Err e))
-  wrong e x ps step = (Err e, after x (Err e), taking (Err e) (after x (Err e)) (record { step = step; told = refl; root = refl; refused = refl }), (refl, refl))
+  wrong e x ps step = (Err e, after x (Err e), taking (Err e) (after x (Err e)) (record { step = step; tokenizer_errors = refl; root = refl; refused = refl }), (refl, refl))
 
   -- the building with the formatting elements
   abbrev now : SiteOf ℕ → Building
@@ -85,7 +85,7 @@ module _ (b : Building) (free : b.refused ≡ None) (off : b.state.site.foster �
     begins : (y.foster ≡ b.state.site.foster) × (puts_now b.state.control.mode y ≡ true)
     begins = subst (OnGoes (λ t. (t.foster ≡ b.state.site.foster) × (puts_now b.state.control.mode t ≡ true))) is (text-begins p.at b.state.control.mode b.state.site puts)
 
-    same : Rule numbers p.at (character p.ch) begin ≡ Rule numbers p.at (character p.ch) (begun (now y).state)
+    same : Rule numbers p.at (character p.ch) begin ≡ Rule numbers p.at (character p.ch) (step_begun (now y).state)
     same = rule-is (Goes y) is ∙ sym (rule_puts p.at p.ch (with_site y begin) some begins.1)
 
     from-now : (answer : Result (Unit {0}) Refusal) (mid : Building) → TakesToken (now y) (Alone (code.Char p.ch p.at)) answer mid → TakesToken b (Alone (code.Char p.ch p.at)) answer mid
@@ -93,7 +93,7 @@ module _ (b : Building) (free : b.refused ≡ None) (off : b.state.site.foster �
         let on = taken p.at (character p.ch) (now y) mid answer free given in
         taking answer mid (record {
           step = gives-same p.at (character p.ch) (now y).state b.state mid.state answer (λ o. step-same p.at (character p.ch) (now y).state b.state o refl kept same) on.step;
-          told = on.told;
+          tokenizer_errors = on.tokenizer_errors;
           root = on.root;
           refused = on.refused;
         })

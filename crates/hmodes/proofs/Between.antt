@@ -1,5 +1,5 @@
 -- What holds of the state between two rules.
-use Rattle.hmodes.proofs.Vocabulary.{cond_both, ◌≡◌, ℕ, zero, suc, ◌+◌, ◌<◌, eqb, ltb, if◌then◌else◌, false, not, List, [], ◌∷◌, Some, refl, subst, arith, ◌&&◌, lt-leb, ne_eqb, element, tree, PlacedToken, Steps, IfSome, QuirkLine, NonVoidHtmlElementStartTagWithTrailingSolidus, deep-there, Naming, numbers, texts, Outcome, Goes, stack, trees, with_error, TellsTables, Kept, OnGoes, from-well, numbers-tell, texts-tell, Well, Mode, AfterHead, Limits, document_begins, fragment_begins, Reached, fragment, after, Token, State, Flow, Done, Again, Refused, is_self_closing, kind_of, TokenKind, Rule, Chain, Step, ends, refuses, goes_again, drops, goes, begun, finished}
+use Rattle.hmodes.proofs.Vocabulary.{cond_both, ◌≡◌, ℕ, zero, suc, ◌+◌, ◌<◌, eqb, ltb, if◌then◌else◌, false, not, List, [], ◌∷◌, Some, refl, subst, arith, ◌&&◌, lt-leb, ne_eqb, element, tree, PlacedToken, Steps, IfSome, QuirkLine, NonVoidHtmlElementStartTagWithTrailingSolidus, deep-there, Naming, numbers, texts, Outcome, Goes, stack, trees, with_error, TellsTables, IsSound, OnGoes, from-well, numbers-tell, texts-tell, Well, Mode, AfterHead, Limits, document_begins, fragment_begins, Reached, fragment, after, Token, State, Flow, Done, Again, Refused, is_self_closing, kind_of, TokenKind, Rule, Chain, Step, ends, refuses, goes_again, drops, goes, step_begun, finished}
 use Rattle.hmodes.proofs.Every.{by_option}
 use Rattle.names.specs.declared.tag.Tag.TheVariants as tag
 use Rattle.hmodes.specs.Reached.{document}
@@ -65,7 +65,7 @@ module _ {N : Type 0} (n : Naming N) where
   out-of s f is = subst (λ (m : Mode). Facts m s.control.saved s.control.head (stack s.site) (trees s.site)) is f
 
   -- what a rule asks
-  pub orderly-kept : (s : State N) → Orderly s → Kept n s.site
+  pub orderly-kept : (s : State N) → Orderly s → IsSound n s.site
   orderly-kept s o = from-well n s.site o.well
 
   pub orderly-head : (s : State N) → Orderly s → s.control.mode ≡ AfterHead → IfSome s.control.head (λ k. (0 < k) × (k < s.site.nodes.made))
@@ -85,7 +85,7 @@ module _ {N : Type 0} (n : Naming N) where
       }
 
   -- where a token begins and ends
-  pub orderly-begins : (s : State N) → Orderly s → Orderly (begun s)
+  pub orderly-begins : (s : State N) → Orderly s → Orderly (step_begun s)
   orderly-begins s o = record { well = record { counted = o.well.counted; each = o.well.each; order = o.well.order; plain = o.well.plain }; head = o.head; sound = o.sound }
 
   pub orderly-finishes : (at : ℕ) (t : Token N) (s : State N) → Orderly s → Orderly (finished at t s)
@@ -118,7 +118,7 @@ module _ {N : Type 0} (n : Naming N) where
 
     pub step-orderly : (at : ℕ) (t : Token N) (s : State N) (o : Outcome (State N)) → Orderly s → Step n at t s o → OnGoes Orderly o
     step-orderly at t s o g (drops is) = orderly-begins s g
-    step-orderly at t s o g (goes isnt rest) = chain-orderly at t (begun s) o (orderly-begins s g) rest
+    step-orderly at t s o g (goes isnt rest) = chain-orderly at t (step_begun s) o (orderly-begins s g) rest
 
     -- so it holds in each state that tokens lead to
     pub reached-orderly : (s : State N) → Reached n s → Orderly s
@@ -131,5 +131,5 @@ module _ {N : Type 0} (n : Naming N) where
   steps-reach [] s s' r step.none = r
   steps-reach (t ∷ ts) s s' r (step.and {s' = u} one rest) = steps-reach ts u s' (after r one) rest
 
-  pub steps-kept : Tells n → (ts : List (PlacedToken N)) (s s' : State N) → Reached n s → Steps n ts s (Goes s') → Kept n s'.site
+  pub steps-kept : Tells n → (ts : List (PlacedToken N)) (s s' : State N) → Reached n s → Steps n ts s (Goes s') → IsSound n s'.site
   steps-kept tells ts s s' r run = orderly-kept s' (reached-orderly tells s' (steps-reach ts s s' r run))

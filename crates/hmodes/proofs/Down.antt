@@ -121,7 +121,7 @@ goes_down l w b (fostered p) = goes_down l w b p
 goes_down l w b (each_pending p) = goes_down None Any b p
 goes_down (Some l) w b again = lower l.0 l.1 w
 goes_down None w b again = false
-goes_down (Some l) w b (again_as tag.Img) = is_start l.0 && lower (Start family.Area) l.1 w
+goes_down (Some l) w b (again_as tag.Img) = is_start l.0 && lower (Start family.PhrasingVoid) l.1 w
 goes_down l w b (again_as x) = false
 goes_down l w b (to m) = not (is_texty m) || b
 goes_down l w b save_mode = is_plain w
@@ -231,11 +231,11 @@ module _ {N : Type 0} (n : Naming N) (tells : n.tag (n.known tag.Img) ≡ tag.Im
   lower-is k r Plain m e h = omega (arith, leb-true (level k m) 30 (level-plain k m h), ltb-true 30 r e)
   lower-is k r Any m e h = never e
 
-  renamed-kind : (t : Token N) (k : TokenKind) → kind_of n t ≡ k → is_start k ≡ true → kind_of n (renamed (n.known tag.Img) t) ≡ Start family.Area
+  renamed-kind : (t : Token N) (k : TokenKind) → kind_of n t ≡ k → is_start k ≡ true → kind_of n (renamed (n.known tag.Img) t) ≡ Start family.PhrasingVoid
   renamed-kind (start x attrs closing) k e i = rw tells refl
   renamed-kind (character c) k e i = not-start (c == 0) (is_space c) (subst (λ (j : TokenKind). is_start j ≡ true) (sym e) i)
     where
-      not-start : (u v : Bool) → is_start (cond u Nul (cond v Ws Char)) ≡ true → kind_of n (renamed (n.known tag.Img) (character c)) ≡ Start family.Area
+      not-start : (u v : Bool) → is_start (cond u Nul (cond v Ws Char)) ≡ true → kind_of n (renamed (n.known tag.Img) (character c)) ≡ Start family.PhrasingVoid
       not-start true v e = cc
       not-start false true e = cc
       not-start false false e = cc
@@ -264,8 +264,8 @@ module _ {N : Type 0} (n : Naming N) (tells : n.tag (n.known tag.Img) ≡ tag.Im
   perform-down (Some l) w b again calm at t o s h = (h.sound, rw o (lower-is l.0 l.1 w s.control.mode calm h.mode))
   perform-down None w b again calm at t o s h = never calm
   perform-down (Some l) w b (again_as tag.Img) calm at t o s h =
-      let parts = both (is_start l.0) (lower (Start family.Area) l.1 w) calm in
-      (h.sound, rw (renamed-kind t l.0 o parts.0) (lower-is (Start family.Area) l.1 w s.control.mode parts.1 h.mode))
+      let parts = both (is_start l.0) (lower (Start family.PhrasingVoid) l.1 w) calm in
+      (h.sound, rw (renamed-kind t l.0 o parts.0) (lower-is (Start family.PhrasingVoid) l.1 w s.control.mode parts.1 h.mode))
   perform-down l w b (again_as x) calm at t o s h = never calm
   perform-down l w b (to m) calm at t o s h = go (is_texty m) b calm h.saved refl
     where

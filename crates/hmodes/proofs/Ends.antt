@@ -1,5 +1,5 @@
 -- The rules that process a token end: a number that falls with each.
-use Rattle.hmodes.proofs.Vocabulary.{by_test, cond_both, ◌≡◌, ℕ, zero, suc, ◌+◌, ◌<◌, ◌≤◌, Bool, true, false, cond, if◌then◌else◌, List, [], ◌∷◌, Option, Some, leb, length, drop, refl, sym, ◌∙◌, ap, subst, arith, eqb-true, leb-true, not, ◌&&◌, ◌||◌, ◌==◌, stops, OpenNode, in_scope, is, Naming, Outcome, Goes, stack, with_error, Mode, Text, InTable, InTableText, InColumnGroup, InTableBody, InRow, TokenKind, Nul, Ws, Char, Start, ◌▸◌, pop_to, reset, again, Token, State, Flow, Done, Again, Refused, kind_of, perform, with_site, rule_of, code_of, Rule, Chain, Step, ends, refuses, goes_again, drops, goes, is_dropped, begun, finished, in_table, in_table_text}
+use Rattle.hmodes.proofs.Vocabulary.{by_test, cond_both, ◌≡◌, ℕ, zero, suc, ◌+◌, ◌<◌, ◌≤◌, Bool, true, false, cond, if◌then◌else◌, List, [], ◌∷◌, Option, Some, leb, length, drop, refl, sym, ◌∙◌, ap, subst, arith, eqb-true, leb-true, not, ◌&&◌, ◌||◌, ◌==◌, stops_in_scope, OpenNode, in_scope, is, Naming, Outcome, Goes, stack, with_error, Mode, Text, InTable, InTableText, InColumnGroup, InTableBody, InRow, TokenKind, Nul, Ws, Char, Start, ◌▸◌, pop_to, reset, again, Token, State, Flow, Done, Again, Refused, kind_of, perform, with_site, rule_of, mode_error, Rule, Chain, Step, ends, refuses, goes_again, drops, goes, is_dropped, step_begun, finished, in_table, in_table_text}
 use Rattle.hnodes.specs.Nearest.{after}
 use Rattle.hopen.specs.declared.scope.Scope.TheVariants as scope
 use Rattle.names.specs.declared.tag.Tag.TheVariants as tag
@@ -100,12 +100,12 @@ module _ {N : Type 0} (n : Naming N) where
       go _ is e low = never e
 
   -- the start tag of a table that closes the open one
-  closes : (at : ℕ) (t t' : Token N) (s s' : State N) → is_texty s'.control.mode ≡ false → (q : Bool) → in_scope (stops n.tag scope.Table) (is n tag.Table) (stack s.site) ≡ q
-      → cond q (perform n at t (pop_to tag.Table ▸ reset ▸ again) (with_site (with_error (code_of InTable) at s.site) s)) (Done (with_site (with_error (code_of InTable) at s.site) s)) ≡ Again t' s'
+  closes : (at : ℕ) (t t' : Token N) (s s' : State N) → is_texty s'.control.mode ≡ false → (q : Bool) → in_scope (stops_in_scope n.tag scope.Table) (is n tag.Table) (stack s.site) ≡ q
+      → cond q (perform n at t (pop_to tag.Table ▸ reset ▸ again) (with_site (with_error (mode_error InTable) at s.site) s)) (Done (with_site (with_error (mode_error InTable) at s.site) s)) ≡ Again t' s'
       → weight_of t' s' < 31 + (length (stack s.site) + length (stack s.site))
   closes at t t' s s' plain false e rule = cc
   closes at t t' s s' plain true e rule =
-      let few = pops (stops n.tag scope.Table) (is n tag.Table) (stack s.site) e in
+      let few = pops (stops_in_scope n.tag scope.Table) (is n tag.Table) (stack s.site) e in
       let same : length (after (is n tag.Table) (stack s.site)) ≡ length (stack s'.site) = ap (λ (f : Flow N). count f) rule in
       omega (arith, few, same, weight-most (kind_of n t') s'.control.mode (length (stack s'.site)) plain)
     where
@@ -130,7 +130,7 @@ module _ {N : Type 0} (n : Naming N) where
   tabular-falls : (at : ℕ) (t t' : Token N) (s s' : State N) → is_texty s'.control.mode ≡ false → is_tabular (kind_of n t) s.control.mode ≡ true → Rule n at t s ≡ Again t' s' → weight_of t' s' < weight_of t s
   tabular-falls at t t' s s' plain e rule = go (kind_of n t) s.control.mode refl refl (is-tabular (kind_of n t) s.control.mode e) rule
     where
-      scoped : in_scope (stops n.tag scope.Table) (is n tag.Table) (stack s.site) ≡ in_scope (stops n.tag scope.Table) (is n tag.Table) (stack s.site)
+      scoped : in_scope (stops_in_scope n.tag scope.Table) (is n tag.Table) (stack s.site) ≡ in_scope (stops_in_scope n.tag scope.Table) (is n tag.Table) (stack s.site)
       scoped = refl
 
       closing : (k : TokenKind) (m : Mode) → kind_of n t ≡ k → s.control.mode ≡ m
@@ -203,4 +203,4 @@ module _ {N : Type 0} (n : Naming N) where
 
     -- so a token has a result
     pub some-step : (at : ℕ) (t : Token N) (s : State N) → Sound s.control → (o : Outcome (State N)) × Step n at t s o
-    some-step at t s sound = by_test (is_dropped t s) (λ v. (o : Outcome (State N)) × Step n at t s o) (λ e. (Goes (begun s), drops e)) (λ e. let c = some-chain (left at t (begun s) + 1) at t (begun s) (omega arith) sound in (c.0, goes e c.1))
+    some-step at t s sound = by_test (is_dropped t s) (λ v. (o : Outcome (State N)) × Step n at t s o) (λ e. (Goes (step_begun s), drops e)) (λ e. let c = some-chain (left at t (step_begun s) + 1) at t (step_begun s) (omega arith) sound in (c.0, goes e c.1))

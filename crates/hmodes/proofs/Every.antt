@@ -31,10 +31,10 @@ at f last h (x ∷ xs) zero all = (both (f x) (list_all f xs) all).0
 at f last h (x ∷ xs) (suc k) all = at f last h xs k (both (f x) (list_all f xs) all).1
 
 abbrev families : List Family
-families = family.Html ∷ family.Head ∷ family.Body ∷ family.Br ∷ family.Base ∷ family.Link ∷ family.Title ∷ family.Noframes ∷ family.Style ∷
+families = family.Html ∷ family.Head ∷ family.Body ∷ family.Br ∷ family.Base ∷ family.HeadVoid ∷ family.Title ∷ family.Noframes ∷ family.Style ∷
     family.Script ∷ family.Noscript ∷ family.Block ∷ family.P ∷ family.Heading ∷ family.Pre ∷ family.Form ∷ family.Li ∷ family.Dd ∷
-    family.Plaintext ∷ family.Button ∷ family.A ∷ family.Formatting ∷ family.Nobr ∷ family.Object ∷ family.Table ∷ family.Area ∷ family.Input ∷
-    family.Param ∷ family.Hr ∷ family.Image ∷ family.Textarea ∷ family.Xmp ∷ family.Iframe ∷ family.Rb ∷ family.Rp ∷ family.Caption ∷
+    family.Plaintext ∷ family.Button ∷ family.A ∷ family.Formatting ∷ family.Nobr ∷ family.Object ∷ family.Table ∷ family.PhrasingVoid ∷ family.Input ∷
+    family.MediaVoid ∷ family.Hr ∷ family.Image ∷ family.Textarea ∷ family.Xmp ∷ family.Iframe ∷ family.Rb ∷ family.Rp ∷ family.Caption ∷
     family.Colgroup ∷ family.Col ∷ family.TableSection ∷ family.Row ∷ family.Cell ∷ family.Template ∷ []
 
 abbrev pub all_families : (Family → Bool) → Bool
@@ -49,7 +49,7 @@ each-family f all family.Head = at-family f 1 all
 each-family f all family.Body = at-family f 2 all
 each-family f all family.Br = at-family f 3 all
 each-family f all family.Base = at-family f 4 all
-each-family f all family.Link = at-family f 5 all
+each-family f all family.HeadVoid = at-family f 5 all
 each-family f all family.Title = at-family f 6 all
 each-family f all family.Noframes = at-family f 7 all
 each-family f all family.Style = at-family f 8 all
@@ -69,9 +69,9 @@ each-family f all family.Formatting = at-family f 21 all
 each-family f all family.Nobr = at-family f 22 all
 each-family f all family.Object = at-family f 23 all
 each-family f all family.Table = at-family f 24 all
-each-family f all family.Area = at-family f 25 all
+each-family f all family.PhrasingVoid = at-family f 25 all
 each-family f all family.Input = at-family f 26 all
-each-family f all family.Param = at-family f 27 all
+each-family f all family.MediaVoid = at-family f 27 all
 each-family f all family.Hr = at-family f 28 all
 each-family f all family.Image = at-family f 29 all
 each-family f all family.Textarea = at-family f 30 all

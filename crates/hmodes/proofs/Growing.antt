@@ -1,5 +1,5 @@
 -- Nodes are made and never taken away: no token leads to fewer.
-use Rattle.hmodes.proofs.Vocabulary.{cond_both, ℕ, zero, suc, ◌≤◌, Bool, true, false, not, cond, leb, List, [], ◌∷◌, Option, Some, None, subst, length, drop, arith, ◌&&◌, is_none, option_map_or, TreeInBody, NonVoidHtmlElementStartTagWithTrailingSolidus, Placed, TooManyNodes, TooDeep, char_into, text_before, What, Attribute, element, Place, LastIn, before, stops, is_named, OpenNode, is_node, is_open, current, above, in_scope, furthest_block, Default, EntryOf, entry_at, find_entry, without_entry, Turn, Next, Ended, next_turn, InnerLoop, most_turns, inner_turn, inner_loop, after_inner_loop, with_furthest_block, popped_with, with_formatting_element, outer_turn, outer_loop, is_unlisted, adopted, is, closed, without_implied, made, added, pushed, inserted, Naming, place, renewed, renewed_each, stops_going_back, Outcome, Goes, SiteOf, and_then, stack, trees, with_stack, with_items, with_error, error_unless, current_is, from_top, node_of, OnGoes, goes-then, doctype_node, perform, with_foster, with_control, each_of, flow_of, forgotten, current_node, adopted_listed, head_pushed, answer_of, rule_of, Token, character, State, Flow, Done, Again, Refused, kind_of, flow_then, flow_map, token_name, token_attrs, token_text, token_char, is_self_closing, Chain, ends, refuses, goes_again, Step, drops, goes, begun, finished, Do, ◌▸◌, when, unless, choose, fostered, each_pending, insert, insert_named, insert_root, insert_root_named, insert_comment, comment_in_document, comment_in_first, insert_doctype, push_head, reconstruct, close_p, adopt, adopt_listed}
+use Rattle.hmodes.proofs.Vocabulary.{cond_both, ℕ, zero, suc, ◌≤◌, Bool, true, false, not, cond, leb, List, [], ◌∷◌, Option, Some, None, subst, length, drop, arith, ◌&&◌, is_none, option_map_or, TreeInBody, NonVoidHtmlElementStartTagWithTrailingSolidus, Placed, TooManyNodes, TooDeep, char_into, text_before, What, Attribute, element, Place, LastIn, before, stops_in_scope, is_named, OpenNode, is_node, is_open, current, above, in_scope, furthest_block, Default, EntryOf, entry_at, find_entry, without_entry, Turn, Next, Ended, next_turn, InnerLoop, most_turns, inner_turn, inner_loop, after_inner_loop, with_furthest_block, popped_with, with_formatting_element, outer_turn, outer_loop, is_unlisted, adopted, is, closed, without_implied, made, added, with_open, inserted, Naming, place, renewed, renewed_each, stops_going_back, Outcome, Goes, SiteOf, and_then, stack, trees, with_stack, with_items, with_error, error_unless, current_is, from_top, open_node, OnGoes, goes-then, doctype_node, perform, with_foster, with_control, each_of, flow_of, forgotten, current_node, adopted_listed, head_pushed, answer_of, rule_of, Token, character, State, Flow, Done, Again, Refused, kind_of, flow_then, flow_map, token_name, token_attrs, token_text, token_char, is_self_closing, Chain, ends, refuses, goes_again, Step, drops, goes, step_begun, finished, Do, ◌▸◌, when, unless, choose, fostered, each_pending, insert, insert_named, insert_root, insert_root_named, insert_comment, comment_in_document, comment_in_first, insert_doctype, push_head, reconstruct, close_p, adopt, adopt_listed}
 use Rattle.hmodes.proofs.Every.{by_option}
 use Rattle.hadopt.proofs.Climbing.{made-goes, inserted-goes, turn-goes}
 use Rattle.hadopt.specs.Adopts.{formatting_replaced}
@@ -28,7 +28,7 @@ module _ {N : Type 0} (k : ℕ) where
   then : (o : Outcome (SiteOf N)) (f : SiteOf N → Outcome (SiteOf N)) → Keeps o → ((s : SiteOf N) → Holds s → Keeps (f s)) → Keeps (and_then o f)
   then = goes-then Holds Holds
 
-  pushed-holds : (at : ℕ) (x : OpenNode N) (s : SiteOf N) → Holds s → Keeps (pushed at x s)
+  pushed-holds : (at : ℕ) (x : OpenNode N) (s : SiteOf N) → Holds s → Keeps (with_open at x s)
   pushed-holds at x s h = cond_both (leb s.open_nodes.limit (length (stack s))) (site.Refused (TooDeep at)) (Goes (with_stack (x ∷ stack s) s)) Keeps (λ _. tt) (λ _. h)
 
   added-holds : (at : ℕ) (w : What N) (p : Place) (s : SiteOf N) → Holds s → Keeps (added at w p s)
@@ -88,7 +88,7 @@ module _ {N : Type 0} (k : ℕ) where
         (λ c g. goes-then Holds HoldsAfter (after_inner_loop n at f block.node (current (above f.node (stack s))) c) _ (ended-holds f block.node (current (above f.node (stack s))) c g) (λ t m. m))
 
     with-holds : (f : EntryOf N) (s : SiteOf N) → Holds s → OnGoes HoldsAfter (with_formatting_element n at f s)
-    with-holds f s h = go (is_open f.node (stack s)) (in_scope (stops n.tag Default) (is_node f.node) (stack s)) (current_is (is_node f.node) s)
+    with-holds f s h = go (is_open f.node (stack s)) (in_scope (stops_in_scope n.tag Default) (is_node f.node) (stack s)) (current_is (is_node f.node) s)
       where
         under : (t : SiteOf N) → Holds t → (o : Option (OpenNode N)) → OnGoes HoldsAfter (option_map_or (with_furthest_block n at f t) o (Goes (Ended (popped_with f t))))
         under t g None = g
@@ -162,7 +162,7 @@ module _ {N : Type 0} (k : ℕ) where
     perform-holds (insert_root_named x) at t s h = on-site s _ (inserted-holds at (n.known x) [] (LastIn 0) s.site h)
     perform-holds insert_comment at t s h = on-site s _ (added-holds at (forest.comment (token_text t)) (LastIn (current_node s.site)) s.site h)
     perform-holds comment_in_document at t s h = on-site s _ (added-holds at (forest.comment (token_text t)) (LastIn 0) s.site h)
-    perform-holds comment_in_first at t s h = on-site s _ (added-holds at (forest.comment (token_text t)) (LastIn (node_of (from_top 0 s.site))) s.site h)
+    perform-holds comment_in_first at t s h = on-site s _ (added-holds at (forest.comment (token_text t)) (LastIn (open_node (from_top 0 s.site))) s.site h)
     perform-holds insert_doctype at t s h = on-site s _ (added-holds at (doctype_node t) (LastIn 0) s.site h)
     perform-holds word.put at t s h = on-site s _ (put-holds at (token_char t) (place n s.site) s.site h)
     perform-holds push_head at t s h = on-site s _ (head-holds n at s.control.head s.site h)
@@ -185,4 +185,4 @@ module _ {N : Type 0} (k : ℕ) where
     -- a token leads to no fewer nodes
     pub step-holds : (at : ℕ) (t : Token N) (s s' : State N) → Holds s.site → Step n at t s (Goes s') → Holds s'.site
     step-holds at t s s' h (drops is) = h
-    step-holds at t s s' h (goes isnt rest) = chain-holds at t (begun s) (Goes s') h rest
+    step-holds at t s s' h (goes isnt rest) = chain-holds at t (step_begun s) (Goes s') h rest

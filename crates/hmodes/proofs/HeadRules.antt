@@ -1,5 +1,5 @@
 -- Every rule keeps what its mode knows of the head.
-use Rattle.hmodes.proofs.Vocabulary.{Forest, by_test, Mode, InTableText, kind_of, rule_of, Rule, in_table_text, ◌≡◌, ◌≢◌, ℕ, ◌<◌, Bool, true, false, cond, leb, List, [], ◌∷◌, Option, Some, None, refl, sym, ◌∙◌, ap, subst, arith, drop, length, ◌&&◌, eq-eqb, ne_eqb, Attribute, element, LastIn, OpenNode, Refusal, TooDeep, Naming, Goes, SiteOf, stack, trees, with_stack, with_error, from_top, node_of, place, inserted, Each, Pairs, TellsTables, deep, deep-there, OnGoes, Well, erred, inserted-well, place-fits, BeforeHead, InHead, InHeadNoscript, AfterHead, InBody, Text, TokenKind, Nul, Ws, Char, Comment, Doctype, Start, End, Eof, Do, ◌▸◌, nothing, again, error, to, save_mode, to_saved, head_pointer, insert, insert_named, insert_comment, put, pop, push_head, remove_head, add_missing_to_first, Token, State, Flow, Done, Again, Refused, flow_then, token_name, token_attrs, token_text, token_char, void, raw, html_again, code_of, before_head, head_unwritten, in_head, head_ends, in_head_noscript, noscript_ends, after_head, body_unwritten, late, text, perform, with_site, flow_of, current_node, head_pushed, removed}
+use Rattle.hmodes.proofs.Vocabulary.{Forest, by_test, Mode, InTableText, kind_of, rule_of, Rule, in_table_text, ◌≡◌, ◌≢◌, ℕ, ◌<◌, Bool, true, false, cond, leb, List, [], ◌∷◌, Option, Some, None, refl, sym, ◌∙◌, ap, subst, arith, drop, length, ◌&&◌, eq-eqb, ne_eqb, Attribute, element, LastIn, OpenNode, Refusal, TooDeep, Naming, Goes, SiteOf, stack, trees, with_stack, with_error, from_top, open_node, place, inserted, Each, Pairs, TellsTables, deep, deep-there, OnGoes, Well, erred, inserted-well, place-fits, BeforeHead, InHead, InHeadNoscript, AfterHead, InBody, Text, TokenKind, Nul, Ws, Char, Comment, Doctype, Start, End, Eof, Do, ◌▸◌, nothing, again, error, to, save_mode, to_saved, head_pointer, insert, insert_named, insert_comment, put, pop, push_head, remove_head, add_missing_to_first, Token, State, Flow, Done, Again, Refused, flow_then, token_name, token_attrs, token_text, token_char, void, raw, html_again, mode_error, before_head, head_unwritten, in_head, head_ends, in_head_noscript, noscript_ends, after_head, body_unwritten, late, text, perform, with_site, flow_of, current_node, head_pushed, removed}
 use Rattle.hnodes.specs.Forest as forest
 use Rattle.names.specs.declared.tag.Tag.TheVariants as tag
 use Rattle.hadopt.specs.Site as site
@@ -37,7 +37,7 @@ module _ (P : Do → Type 0) (quietly : (p : Do) → quiet p ≡ true → P p) w
   in-head-cases v r noscript close end Doctype = quietly (error InHead) refl
   in-head-cases v r noscript close end (Start family.Html) = quietly html_again refl
   in-head-cases v r noscript close end (Start family.Base) = v
-  in-head-cases v r noscript close end (Start family.Link) = v
+  in-head-cases v r noscript close end (Start family.HeadVoid) = v
   in-head-cases v r noscript close end (Start family.Title) = r
   in-head-cases v r noscript close end (Start family.Noframes) = r
   in-head-cases v r noscript close end (Start family.Style) = r
@@ -57,7 +57,7 @@ module _ (P : Do → Type 0) (quietly : (p : Do) → quiet p ≡ true → P p) w
   noscript-cases v r close end (End family.Noscript) = close
   noscript-cases v r close end Ws = quietly put refl
   noscript-cases v r close end Comment = quietly insert_comment refl
-  noscript-cases v r close end (Start family.Link) = v
+  noscript-cases v r close end (Start family.HeadVoid) = v
   noscript-cases v r close end (Start family.Noframes) = r
   noscript-cases v r close end (Start family.Style) = r
   noscript-cases v r close end (End family.Br) = end
@@ -81,7 +81,7 @@ module _ (P : Do → Type 0) (quietly : (p : Do) → quiet p ≡ true → P p) w
   after-head-cases body v r unwritten (Start family.Html) = quietly html_again refl
   after-head-cases body v r unwritten (Start family.Body) = body
   after-head-cases body v r unwritten (Start family.Base) = v
-  after-head-cases body v r unwritten (Start family.Link) = v
+  after-head-cases body v r unwritten (Start family.HeadVoid) = v
   after-head-cases body v r unwritten (Start family.Noframes) = r
   after-head-cases body v r unwritten (Start family.Script) = r
   after-head-cases body v r unwritten (Start family.Style) = r
@@ -113,10 +113,10 @@ module _ {N : Type 0} (n : Naming N) (tells : TellsTables n) (at : ℕ) (t : Tok
       quiet-then n s (perform n at t p s) (perform n at t q) (perform-quiet p parts.0 s w) (perform-well n tells false p (quiet-tame p parts.0) at t (λ e. cc) s w) (λ u k. perform-quiet q parts.1 u k)
   perform-quiet nothing e s w = record { mode = refl; saved = refl; head = refl; open_now = refl; steady = steady-same n s.site s.site refl }
   perform-quiet put e s w = on-quiet n s _ (put-steady n at (token_char t) (place n s.site) s.site w)
-  perform-quiet (error m) e s w = record { mode = refl; saved = refl; head = refl; open_now = refl; steady = steady-same n s.site (with_error (code_of m) at s.site) refl }
+  perform-quiet (error m) e s w = record { mode = refl; saved = refl; head = refl; open_now = refl; steady = steady-same n s.site (with_error (mode_error m) at s.site) refl }
   perform-quiet insert_comment e s w = on-quiet n s _ (added-steady n (forest.comment (token_text t)) (LastIn (current_node s.site)) s.site w at)
   perform-quiet add_missing_to_first e s w =
-      let k = missing-steady n (node_of (from_top 0 s.site)) (token_attrs t) s.site in
+      let k = missing-steady n (open_node (from_top 0 s.site)) (token_attrs t) s.site in
       record { mode = refl; saved = refl; head = refl; open_now = refl; steady = k }
   perform-quiet _ e s w = never e
 
@@ -197,18 +197,18 @@ module _ {N : Type 0} (n : Naming N) (tells : TellsTables n) (at : ℕ) (t : Tok
   module _ (s : State N) (is : s.control.mode ≡ AfterHead) (w : Well n s.site) (o : OutOf s.control.head (stack s.site) (trees s.site)) where
     -- after the head is pushed
     after-push : (P : Flow N → Type 0) (g : State N → Flow N) → ((r : Refusal) → P (Refused r))
-        → ((x : SiteOf N) → Well n x → trees x ≡ trees s.site → stack x ≡ with_head s.control.head (stack s.site) → P (g (with_site x s))) → P (flow_then (perform n at t push_head (with_site (with_error (code_of AfterHead) at s.site) s)) g)
+        → ((x : SiteOf N) → Well n x → trees x ≡ trees s.site → stack x ≡ with_head s.control.head (stack s.site) → P (g (with_site x s))) → P (flow_then (perform n at t push_head (with_site (with_error (mode_error AfterHead) at s.site) s)) g)
     after-push P g none k = go s.control.head refl
       where
-        go : (hp : Option ℕ) → s.control.head ≡ hp → P (flow_then (flow_of (with_site (with_error (code_of AfterHead) at s.site) s) (head_pushed n at hp (with_error (code_of AfterHead) at s.site))) g)
-        go None e = k (with_error (code_of AfterHead) at s.site) (erred n s.site (code_of AfterHead) at w) refl (rw e refl)
+        go : (hp : Option ℕ) → s.control.head ≡ hp → P (flow_then (flow_of (with_site (with_error (mode_error AfterHead) at s.site) s) (head_pushed n at hp (with_error (mode_error AfterHead) at s.site))) g)
+        go None e = k (with_error (mode_error AfterHead) at s.site) (erred n s.site (mode_error AfterHead) at w) refl (rw e refl)
         go (Some h) e = deepens (leb s.site.open_nodes.limit (length (stack s.site)))
           where
-            deepens : (v : Bool) → P (flow_then (flow_of (with_site (with_error (code_of AfterHead) at s.site) s) (cond v (site.Refused (TooDeep at)) (Goes (with_stack (record { node = h; name = n.known tag.Head } ∷ stack s.site) (with_error (code_of AfterHead) at s.site))))) g)
+            deepens : (v : Bool) → P (flow_then (flow_of (with_site (with_error (mode_error AfterHead) at s.site) s) (cond v (site.Refused (TooDeep at)) (Goes (with_stack (record { node = h; name = n.known tag.Head } ∷ stack s.site) (with_error (mode_error AfterHead) at s.site))))) g)
             deepens true = none (TooDeep at)
             deepens false =
                 let q = o h e in
-                k (with_stack (record { node = h; name = n.known tag.Head } ∷ stack s.site) (with_error (code_of AfterHead) at s.site)) (record { counted = w.counted; each = (q.0, w.each); order = (q.1, w.order); plain = w.plain }) refl (rw e refl)
+                k (with_stack (record { node = h; name = n.known tag.Head } ∷ stack s.site) (with_error (mode_error AfterHead) at s.site)) (record { counted = w.counted; each = (q.0, w.each); order = (q.1, w.order); plain = w.plain }) refl (rw e refl)
 
     steady-after : (x y : SiteOf N) → trees x ≡ trees s.site → Steady n x y → Steady n s.site y
     steady-after x y e k = steady-then n s.site x y (steady-same n s.site x (sym e)) k

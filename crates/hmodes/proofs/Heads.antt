@@ -1,5 +1,5 @@
 -- The modes of the head keep what they know of it.
-use Rattle.hmodes.proofs.Vocabulary.{cond_both, ◌≡◌, ◌≢◌, ℕ, ◌+◌, ◌<◌, Bool, true, false, cond, leb, List, [], ◌∷◌, Option, Some, None, refl, sym, ◌∙◌, subst, arith, length, is_none, ◌&&◌, encode_utf8, is_present, Attribute, What, element, Forest, tree, join, change_what, graft, make, char_into, with_char, with_attribute, add_attribute, text_before, attributes_of, Place, OpenNode, TooManyNodes, TooDeep, Naming, Goes, SiteOf, and_then, stack, trees, with_stack, with_trees, added, inserted, pushed, with_missing, deep, deep-is, at-most, not-there, deep-there, counted-new, OnGoes, Well}
+use Rattle.hmodes.proofs.Vocabulary.{cond_both, ◌≡◌, ◌≢◌, ℕ, ◌+◌, ◌<◌, Bool, true, false, cond, leb, List, [], ◌∷◌, Option, Some, None, refl, sym, ◌∙◌, subst, arith, length, is_none, ◌&&◌, encode_utf8, is_present, Attribute, What, element, Forest, tree, join, change_what, graft, make, char_into, with_char, with_attribute, add_attribute, text_before, attributes_of, Place, OpenNode, TooManyNodes, TooDeep, Naming, Goes, SiteOf, and_then, stack, trees, with_stack, with_trees, added, inserted, with_open, with_missing, deep, deep-is, at-most, not-there, deep-there, counted-new, OnGoes, Well}
 use Rattle.hnodes.specs.Forest.{text, none}
 use Rattle.hadopt.specs.Site.{Refused}
 use Rattle.hadopt.specs.Inserts.{put}
@@ -50,7 +50,7 @@ module _ {N : Type 0} (n : Naming N) where
       deepens true = tt
       deepens false = (record { out = (grown-steady (element name attrs) p s h).out; stays = (grown-steady (element name attrs) p s h).stays }, (record { node = s.nodes.made; name = name }, refl, refl))
 
-      go : (u : Bool) → OnGoes (Deeper s) (and_then (and_then (cond u (Refused (TooManyNodes at)) (Goes (record s { nodes = make (element name attrs) s.nodes }))) (λ t. Goes (with_trees (graft s.nodes.made p (trees t)) t))) (pushed at (record { node = s.nodes.made; name = name })))
+      go : (u : Bool) → OnGoes (Deeper s) (and_then (and_then (cond u (Refused (TooManyNodes at)) (Goes (record s { nodes = make (element name attrs) s.nodes }))) (λ t. Goes (with_trees (graft s.nodes.made p (trees t)) t))) (with_open at (record { node = s.nodes.made; name = name })))
       go true = tt
       go false = deepens (leb s.open_nodes.limit (length (stack s)))
 

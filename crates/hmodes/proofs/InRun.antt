@@ -1,5 +1,5 @@
 -- Characters of a run, each of which is put where the first one is.
-use Rattle.hmodes.proofs.Vocabulary.{◌≡◌, ◌⊎◌, inl, inr, ℕ, Bool, true, false, List, [], ◌∷◌, Option, Some, None, Result, Ok, Err, refl, sym, ◌∙◌, ap, subst, ◌&&◌, ◌==◌, nat_le, is_none, if◌then◌else◌, MatchOption, characters, Hands, Placed, Refusal, Memory, TooManyNodes, run_tokens, Nodes, add_char, text_before, Place, Gives, numbers, Outcome, Goes, SiteOf, flow_of, with_site, AreSome, State, Token, character, Rule, Chain, ends, refuses, Step, goes, begun, token_of, place_of, Building, Takes, TakesToken, TakesOn, StaysRefused, Stands, refused_by, Alone, Handed, token_in}
+use Rattle.hmodes.proofs.Vocabulary.{◌≡◌, ◌⊎◌, inl, inr, ℕ, Bool, true, false, List, [], ◌∷◌, Option, Some, None, Result, Ok, Err, refl, sym, ◌∙◌, ap, subst, ◌&&◌, ◌==◌, nat_le, is_none, if◌then◌else◌, MatchOption, characters, Hands, Placed, Refusal, Memory, TooManyNodes, run_tokens, Nodes, add_char, text_before, Place, Gives, numbers, Outcome, Goes, SiteOf, flow_of, with_site, AreSome, State, Token, character, Rule, Chain, ends, refuses, Step, goes, step_begun, token_of, token_at, Building, TakesTokenAt, TakesToken, BuilderTakesOn, BuilderStaysRefused, BuilderStands, refused_by, Alone, Handed, token_in}
 use Rattle.htoken.specs.declared.token.Token.TheVariants as code
 use Rattle.hadopt.specs.Site as site
 use Rattle.hadopt.specs.Inserts as inserts
@@ -17,7 +17,7 @@ goes-not x r e = absurd cc
 -- In a state in which no LF is dropped, nothing is reconstructed or foster parented. What is put makes other nodes, and nothing else.
 module _ (b : Building) (free : b.refused ≡ None) (off : b.state.site.foster ≡ false) (keeps_lf : b.state.control.drop_lf ≡ false) (puts : puts_now b.state.control.mode b.state.site ≡ true) where
   abbrev begin : State ℕ
-  begin = begun b.state
+  begin = step_begun b.state
 
   abbrev to : Place
   to = here b.state.site
@@ -29,7 +29,7 @@ module _ (b : Building) (free : b.refused ≡ None) (off : b.state.site.foster �
   with_nodes v = with_site (site_with v) begin
 
   abbrev after_put : SiteOf ℕ → Option Refusal → Building
-  after_put x refused = record { state = with_site x begin; root = b.root; told = b.told; refused = refused }
+  after_put x refused = record { state = with_site x begin; root = b.root; tokenizer_errors = b.tokenizer_errors; refused = refused }
 
   rule_with : (at c : ℕ) (v : Nodes ℕ) → (c == 0) ≡ false → Rule numbers at (character c) (with_nodes v) ≡ flow_of (with_nodes v) (inserts.put at c to (site_with v))
   rule_with at c v some =
@@ -38,9 +38,9 @@ module _ (b : Building) (free : b.refused ≡ None) (off : b.state.site.foster �
 
   -- a building whose next token begins in this state
   record Before (v : Nodes ℕ) (old : Building) : Type 0 where
-    begins : begun old.state ≡ with_nodes v
+    begins : step_begun old.state ≡ with_nodes v
     lf : old.state.control.drop_lf ≡ false
-    told : old.told ≡ b.told
+    tokenizer_errors : old.tokenizer_errors ≡ b.tokenizer_errors
     root : old.root ≡ b.root
     refused : old.refused ≡ None
 
@@ -57,26 +57,26 @@ module _ (b : Building) (free : b.refused ≡ None) (off : b.state.site.foster �
       goes (ap (λ (d : Bool). d && (c == 10)) h.lf)
       (subst (λ (s : State ℕ). Chain numbers at (character c) s (site.Refused r)) (sym h.begins) (refuses (rule_with at c v some ∙ ap (flow_of (with_nodes v)) e)))
 
-  takes : (p : Placed) (old : Building) (answer : Result (Unit {0}) Refusal) (new : Building) → old.refused ≡ None → TakesOn p.at (character p.ch) old answer new → TakesToken old (Alone (code.Char p.ch p.at)) answer new
-  takes p old answer new none t = subst (λ (r : Option Refusal). MatchOption r (TakesOn p.at (character p.ch) old answer new) (λ q. StaysRefused q old answer new)) (sym none) t
+  takes : (p : Placed) (old : Building) (answer : Result (Unit {0}) Refusal) (new : Building) → old.refused ≡ None → BuilderTakesOn p.at (character p.ch) old answer new → TakesToken old (Alone (code.Char p.ch p.at)) answer new
+  takes p old answer new none t = subst (λ (r : Option Refusal). MatchOption r (BuilderTakesOn p.at (character p.ch) old answer new) (λ q. BuilderStaysRefused q old answer new)) (sym none) t
 
   -- the first character, or each after another
   took : (p : Placed) (v : Nodes ℕ) (old : Building) → Before v old → (p.ch == 0) ≡ false → (x : SiteOf ℕ) → inserts.put p.at p.ch to (site_with v) ≡ Goes x → TakesToken old (Alone (code.Char p.ch p.at)) (Ok tt) (after_put x None)
   took p v old h some x e =
-      takes p old (Ok tt) (after_put x None) h.refused (record { step = step_with p.at p.ch v old h some (Goes x) e; told = sym h.told; root = sym h.root; refused = refl })
+      takes p old (Ok tt) (after_put x None) h.refused (record { step = step_with p.at p.ch v old h some (Goes x) e; tokenizer_errors = sym h.tokenizer_errors; root = sym h.root; refused = refl })
 
   wrong : (p : Placed) (v : Nodes ℕ) (old : Building) → Before v old → (p.ch == 0) ≡ false → (x : SiteOf ℕ) (r : Refusal) → (r ≡ Memory) ⊎ (inserts.put p.at p.ch to (site_with v) ≡ site.Refused r)
       → TakesToken old (Alone (code.Char p.ch p.at)) (Err r) (after_put x (Some r))
-  wrong p v old h some x r (inl m) = takes p old (Err r) (after_put x (Some r)) h.refused (record { step = inl m; told = sym h.told; root = sym h.root; refused = refl })
+  wrong p v old h some x r (inl m) = takes p old (Err r) (after_put x (Some r)) h.refused (record { step = inl m; tokenizer_errors = sym h.tokenizer_errors; root = sym h.root; refused = refl })
   wrong p v old h some x r (inr e) =
-      takes p old (Err r) (after_put x (Some r)) h.refused (record { step = inr (step_with p.at p.ch v old h some (site.Refused r) e); told = sym h.told; root = sym h.root; refused = refl })
+      takes p old (Err r) (after_put x (Some r)) h.refused (record { step = inr (step_with p.at p.ch v old h some (site.Refused r) e); tokenizer_errors = sym h.tokenizer_errors; root = sym h.root; refused = refl })
 
   -- the state after a character is such a state
   later : (v : Nodes ℕ) → Before v (after_put (site_with v) None)
-  later v = record { begins = refl; lf = refl; told = refl; root = refl; refused = refl }
+  later v = record { begins = refl; lf = refl; tokenizer_errors = refl; root = refl; refused = refl }
 
   whole : Before b.state.site.nodes b
-  whole = record { begins = refl; lf = keeps_lf; told = refl; root = refl; refused = free }
+  whole = record { begins = refl; lf = keeps_lf; tokenizer_errors = refl; root = refl; refused = free }
 
   -- whether a character is refused: a text is to be made, and there are as many nodes as may be
   abbrev is_full : Nodes ℕ → Bool
@@ -131,16 +131,16 @@ module _ (b : Building) (free : b.refused ≡ None) (off : b.state.site.foster �
     run_put p ps some (Err r) (inr e) = wrong_first r p ps b.state.site.nodes b whole some.0 (wrong_rest r ps some.1) e
 
 -- what comes of a token where nothing was refused before
-pub taken : (at : ℕ) (t : Token ℕ) (old new : Building) (answer : Result (Unit {0}) Refusal) → old.refused ≡ None → Takes at t old answer new → TakesOn at t old answer new
-taken at t old new answer none given = subst (λ (q : Option Refusal). MatchOption q (TakesOn at t old answer new) (λ why. StaysRefused why old answer new)) none given
+pub taken : (at : ℕ) (t : Token ℕ) (old new : Building) (answer : Result (Unit {0}) Refusal) → old.refused ≡ None → TakesTokenAt at t old answer new → BuilderTakesOn at t old answer new
+taken at t old new answer none given = subst (λ (q : Option Refusal). MatchOption q (BuilderTakesOn at t old answer new) (λ why. BuilderStaysRefused why old answer new)) none given
 
 -- the building after a token, and after tokens
-pub stands-on : (at : ℕ) (t : Token ℕ) (old new : Building) → Stands old.root old.state → TakesOn at t old (Ok tt) new → Stands new.root new.state
-stands-on at t old new s on = subst (λ (r : ℕ). Stands r new.state) (sym on.root) (stands-after old.root at t old.state new.state s on.step)
+pub stands-on : (at : ℕ) (t : Token ℕ) (old new : Building) → BuilderStands old.root old.state → BuilderTakesOn at t old (Ok tt) new → BuilderStands new.root new.state
+stands-on at t old new s on = subst (λ (r : ℕ). BuilderStands r new.state) (sym on.root) (stands-after old.root at t old.state new.state s on.step)
 
-pub stands-run : (ts : List Handed) (old new : Building) → Stands old.root old.state → old.refused ≡ None → Hands TakesToken old ts (Ok tt) new → Stands new.root new.state
-stands-run [] old new s none h = subst (λ (b : Building). Stands b.root b.state) h.1 s
+pub stands-run : (ts : List Handed) (old new : Building) → BuilderStands old.root old.state → old.refused ≡ None → Hands TakesToken old ts (Ok tt) new → BuilderStands new.root new.state
+stands-run [] old new s none h = subst (λ (b : Building). BuilderStands b.root b.state) h.1 s
 stands-run (t ∷ ts) old new s none (Err e, mid, given, rest) = let never = rest.0 in absurd cc
 stands-run (t ∷ ts) old new s none (Ok u, mid, given, rest) =
-    let on = taken (place_of (token_in t)) (token_of (token_in t)) old mid (Ok u) none given in
-    stands-run ts mid new (stands-on (place_of (token_in t)) (token_of (token_in t)) old mid s on) on.refused rest
+    let on = taken (token_at (token_in t)) (token_of (token_in t)) old mid (Ok u) none given in
+    stands-run ts mid new (stands-on (token_at (token_in t)) (token_of (token_in t)) old mid s on) on.refused rest

@@ -1,5 +1,5 @@
 -- What holds between two rules of a token.
-use Rattle.hmodes.proofs.Vocabulary.{◌≡◌, ◌⊎◌, inl, inr, ℕ, suc, ◌<◌, false, Result, Ok, Err, sym, subst, IsErrAnd, Refusal, Memory, Gives, numbers, Outcome, Goes, after, Token, State, Done, Again, Refused, Rule, Chain, ends, refuses, goes_again, Step, goes, is_dropped, begun, finished, StepGives, ChainGives, HasBegun, IsReprocessed, Stands}
+use Rattle.hmodes.proofs.Vocabulary.{◌≡◌, ◌⊎◌, inl, inr, ℕ, suc, ◌<◌, false, Result, Ok, Err, sym, subst, IsErrAnd, Refusal, Memory, Gives, numbers, Outcome, Goes, after, Token, State, Done, Again, Refused, Rule, Chain, ends, refuses, goes_again, Step, goes, is_dropped, step_begun, finished, StepGives, ChainGives, HasBegun, IsReprocessed, BuilderStands}
 use Rattle.hadopt.specs.Site as site
 use Rattle.hmodes.proofs.Between.{Orderly, numbers-all, reached-orderly, orderly-begins, again-orderly}
 use Rattle.hmodes.proofs.Ends.{left, rule-falls}
@@ -40,13 +40,13 @@ goes-wrong at t s t' s' e h (inl m) = inl m
 goes-wrong at t s t' s' e h (inr rule) = inr (h.chain (site.Refused e) (refuses rule))
 
 -- a token from its beginning
-pub step-of : (at : ℕ) (t : Token ℕ) (s : State ℕ) (r : Result (Unit {0}) Refusal) (new : State ℕ) → is_dropped t s ≡ false → ChainGives at t (begun s) r new → StepGives at t s r new
+pub step-of : (at : ℕ) (t : Token ℕ) (s : State ℕ) (r : Result (Unit {0}) Refusal) (new : State ℕ) → is_dropped t s ≡ false → ChainGives at t (step_begun s) r new → StepGives at t s r new
 step-of at t s (Ok x) new e c = goes e c
 step-of at t s (Err x) new e (inl m) = inl m
 step-of at t s (Err x) new e (inr c) = inr (goes e c)
 
 -- what a step leads to
-pub stands-after : (root at : ℕ) (t : Token ℕ) (s new : State ℕ) → Stands root s → Step numbers at t s (Goes new) → Stands root new
+pub stands-after : (root at : ℕ) (t : Token ℕ) (s new : State ℕ) → BuilderStands root s → Step numbers at t s (Goes new) → BuilderStands root new
 stands-after root at t s new h one = record { reached = after h.reached one; made = step-holds (suc root) numbers at t s new h.made one }
 
 -- what a call hands on that was refused

@@ -1,5 +1,5 @@
 -- Programs that never have the token go again, save no mode and adopt nothing: what refuses them is a limit.
-use Rattle.hmodes.proofs.Vocabulary.{cond_both, ◌≡◌, inl, inr, ℕ, zero, suc, Bool, true, false, leb, List, [], ◌∷◌, Option, Some, None, refl, ◌∙◌, length, is_none, ◌&&◌, option_map_or, Attribute, What, element, graft, make, add_char, text_before, Place, LastIn, before, changed_at, OpenNode, EntryOf, entry_at, for_node, Placed, TooManyNodes, TooDeep, Naming, Outcome, Goes, SiteOf, and_then, stack, trees, with_trees, with_stack, with_items, with_again, from_top, node_of, place, made, added, inserted, pushed, stops_going_back, renewed, renewed_each, Do, ◌▸◌, when, unless, choose, fostered, each_pending, again, again_as, save_mode, insert, insert_named, insert_root, insert_root_named, insert_comment, comment_in_document, comment_in_first, insert_doctype, put, push_head, reconstruct, adopt, adopt_listed, Token, character, State, Flow, Done, Again, Refused, flow_then, flow_map, token_name, token_attrs, token_text, token_char, doctype_node, answer_of, perform, with_foster, with_control, each_of, flow_of, head_pushed, current_node, IsLimit}
+use Rattle.hmodes.proofs.Vocabulary.{cond_both, ◌≡◌, inl, inr, ℕ, zero, suc, Bool, true, false, leb, List, [], ◌∷◌, Option, Some, None, refl, ◌∙◌, length, is_none, ◌&&◌, option_map_or, Attribute, What, element, graft, make, add_char, text_before, Place, LastIn, before, changed_at, OpenNode, EntryOf, entry_at, for_node, Placed, TooManyNodes, TooDeep, Naming, Outcome, Goes, SiteOf, and_then, stack, trees, with_trees, with_stack, with_items, with_again, from_top, open_node, place, made, added, inserted, with_open, stops_going_back, renewed, renewed_each, Do, ◌▸◌, when, unless, choose, fostered, each_pending, again, again_as, save_mode, insert, insert_named, insert_root, insert_root_named, insert_comment, comment_in_document, comment_in_first, insert_doctype, put, push_head, reconstruct, adopt, adopt_listed, Token, character, State, Flow, Done, Again, Refused, flow_then, flow_map, token_name, token_attrs, token_text, token_char, doctype_node, answer_of, perform, with_foster, with_control, each_of, flow_of, head_pushed, current_node, IsLimit}
 use Rattle.hnodes.specs.Forest as forest
 use Rattle.names.specs.declared.tag.Tag.TheVariants as tag
 use Rattle.hadopt.specs.Site as site
@@ -36,12 +36,12 @@ module _ {N : Type 0} where
   limited-added : (at : ℕ) (w : What N) (p : Place) (s : SiteOf N) → Limited (added at w p s)
   limited-added at w p s = limited-then (made at w s) (λ t. Goes (with_trees (graft s.nodes.made p (trees t)) t)) (limited-made at w s) (λ t. tt)
 
-  limited-pushed : (at : ℕ) (x : OpenNode N) (s : SiteOf N) → Limited (pushed at x s)
+  limited-pushed : (at : ℕ) (x : OpenNode N) (s : SiteOf N) → Limited (with_open at x s)
   limited-pushed at x s = cond_both (leb s.open_nodes.limit (length (stack s))) (site.Refused (TooDeep at)) (Goes (with_stack (x ∷ stack s) s)) Limited (λ _. (at, inr refl)) (λ _. tt)
 
   pub limited-inserted : (at : ℕ) (name : N) (attrs : List (Attribute N)) (p : Place) (s : SiteOf N) → Limited (inserted at name attrs p s)
   limited-inserted at name attrs p s =
-      limited-then (added at (element name attrs) p s) (pushed at (record { node = s.nodes.made; name = name })) (limited-added at (element name attrs) p s) (limited-pushed at (record { node = s.nodes.made; name = name }))
+      limited-then (added at (element name attrs) p s) (with_open at (record { node = s.nodes.made; name = name })) (limited-added at (element name attrs) p s) (limited-pushed at (record { node = s.nodes.made; name = name }))
 
   limited-put : (at c : ℕ) (p : Place) (s : SiteOf N) → Limited (inserts.put at c p s)
   limited-put at c p s = cond_both (is_none (text_before p (trees s)) && leb s.nodes.limit s.nodes.made) (site.Refused (TooManyNodes at)) (Goes (record s { nodes = add_char c p s.nodes })) Limited (λ _. (at, inl refl)) (λ _. tt)
@@ -113,7 +113,7 @@ module _ {N : Type 0} (n : Naming N) where
   perform-mild (insert_root_named x) mild at t s = mild-flow s _ (limited-inserted at (n.known x) [] (LastIn 0) s.site)
   perform-mild insert_comment mild at t s = mild-flow s _ (limited-added at (forest.comment (token_text t)) (LastIn (current_node s.site)) s.site)
   perform-mild comment_in_document mild at t s = mild-flow s _ (limited-added at (forest.comment (token_text t)) (LastIn 0) s.site)
-  perform-mild comment_in_first mild at t s = mild-flow s _ (limited-added at (forest.comment (token_text t)) (LastIn (node_of (from_top 0 s.site))) s.site)
+  perform-mild comment_in_first mild at t s = mild-flow s _ (limited-added at (forest.comment (token_text t)) (LastIn (open_node (from_top 0 s.site))) s.site)
   perform-mild insert_doctype mild at t s = mild-flow s _ (limited-added at (doctype_node t) (LastIn 0) s.site)
   perform-mild put mild at t s = mild-flow s _ (limited-put at (token_char t) (place n s.site) s.site)
   perform-mild push_head mild at t s = mild-flow s _ (limited-head n at s.control.head s.site)

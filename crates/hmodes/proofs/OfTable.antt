@@ -1,5 +1,5 @@
--- What is spelled alike by a table and by one with a text more has the names of the table.
-use Rattle.hmodes.proofs.Vocabulary.{◌≡◌, ℕ, ◌<◌, false, List, [], ◌∷◌, map, length, Some, refl, sym, ap, ap₂, subst, arith, Attribute, What, document, element, Forest, tree, spelled_attribute, spelled_what, spelled, QuirkLine, Naming, numbers, texts, Outcome, Goes, trees, Limits, document_begins, fragment_begins, spelled_token, spelled_placed, spelled_state, Token, start, end, PlacedToken, State, Steps, none, and, refused, numbers-agree}
+-- What is mapped alike by a table and by one with a text more has the names of the table.
+use Rattle.hmodes.proofs.Vocabulary.{◌≡◌, ℕ, ◌<◌, false, List, [], ◌∷◌, map, length, Some, refl, sym, ap, ap₂, subst, arith, Attribute, What, document, element, Forest, tree, mapped_attribute, mapped_what, mapped, QuirkLine, Naming, numbers, texts, Outcome, Goes, trees, Limits, document_begins, fragment_begins, mapped_token, mapped_placed, mapped_state, Token, start, end, PlacedToken, State, Steps, none, and, refused, numbers-agree}
 use Rattle.hnodes.specs.Forest.{none}
 use Rattle.hnodes.specs.Named.{AttributesAreOf, NodeIsOf, AreOf}
 use Rattle.names.specs.Names.{Texts, AreNames, IsOf}
@@ -10,7 +10,7 @@ use Rattle.names.proofs.Longer.{longer, longer-names, known-within, spelled-alik
 use Rattle.hadopt.specs.Site as site
 use Rattle.hmodes.specs.OfTable.{TokenIsOf, TokensAreOf}
 use Rattle.hmodes.specs.Step as step
-use Rattle.hmodes.proofs.Names.{steps_spelled}
+use Rattle.hmodes.proofs.Names.{steps_mapped}
 use Rattle.hmodes.proofs.Single.{step-one}
 
 -- tokens have one result at most
@@ -32,55 +32,55 @@ module _ (names : Texts) where
   abbrev long : ℕ → List ℕ
   long = spelling (longer names)
 
-  attributes-alike : (attrs : List (Attribute ℕ)) → AttributesAreOf names attrs → map (spelled_attribute short) attrs ≡ map (spelled_attribute long) attrs
+  attributes-alike : (attrs : List (Attribute ℕ)) → AttributesAreOf names attrs → map (mapped_attribute short) attrs ≡ map (mapped_attribute long) attrs
   attributes-alike [] h = refl
   attributes-alike (a ∷ attrs) h = ap₂ (λ (x : List ℕ) (xs : List (Attribute (List ℕ))). (x, a.1) ∷ xs) (spelled-alike names a.0 h.0) (attributes-alike attrs h.1)
 
-  token-alike : (t : Token ℕ) → TokenIsOf names t → spelled_token short t ≡ spelled_token long t
+  token-alike : (t : Token ℕ) → TokenIsOf names t → mapped_token short t ≡ mapped_token long t
   token-alike (start name attrs closing) h = ap₂ (λ (x : List ℕ) (xs : List (Attribute (List ℕ))). start x xs closing) (spelled-alike names name h.0) (attributes-alike attrs h.1)
   token-alike (end name) h = ap (λ (x : List ℕ). end x) (spelled-alike names name h)
   token-alike _ h = refl
 
-  tokens-alike : (ts : List (PlacedToken ℕ)) → TokensAreOf names ts → map (spelled_placed short) ts ≡ map (spelled_placed long) ts
+  tokens-alike : (ts : List (PlacedToken ℕ)) → TokensAreOf names ts → map (mapped_placed short) ts ≡ map (mapped_placed long) ts
   tokens-alike [] h = refl
   tokens-alike (t ∷ ts) h =
       ap₂ (λ (x : Token (List ℕ)) (xs : List (PlacedToken (List ℕ))). record { token = x; at = t.at } ∷ xs) (token-alike t.token h.0) (tokens-alike ts h.1)
 
-  attributes-of : (attrs : List (Attribute ℕ)) → map (spelled_attribute short) attrs ≡ map (spelled_attribute long) attrs → AttributesAreOf names attrs
+  attributes-of : (attrs : List (Attribute ℕ)) → map (mapped_attribute short) attrs ≡ map (mapped_attribute long) attrs → AttributesAreOf names attrs
   attributes-of [] e = tt
   attributes-of (a ∷ attrs) e =
-      let pair : spelled_attribute short a ≡ spelled_attribute long a = cc in
+      let pair : mapped_attribute short a ≡ mapped_attribute long a = cc in
       let first = ap (λ (p : Attribute (List ℕ)). p.0) pair in
-      let rest : map (spelled_attribute short) attrs ≡ map (spelled_attribute long) attrs = cc in
+      let rest : map (mapped_attribute short) attrs ≡ map (mapped_attribute long) attrs = cc in
       (alike-within names a.0 first, attributes-of attrs rest)
 
-  node-of : (w : What ℕ) → spelled_what short w ≡ spelled_what long w → NodeIsOf names w
+  node-of : (w : What ℕ) → mapped_what short w ≡ mapped_what long w → NodeIsOf names w
   node-of (element x attrs) e =
       let name : short x ≡ long x = cc in
-      let rest : map (spelled_attribute short) attrs ≡ map (spelled_attribute long) attrs = cc in
+      let rest : map (mapped_attribute short) attrs ≡ map (mapped_attribute long) attrs = cc in
       (alike-within names x name, attributes-of attrs rest)
   node-of _ e = tt
 
-  trees-of : (f : Forest ℕ) → spelled short f ≡ spelled long f → AreOf names f
+  trees-of : (f : Forest ℕ) → mapped short f ≡ mapped long f → AreOf names f
   trees-of none e = tt
   trees-of (tree b w kids rest) e =
-      let what : spelled_what short w ≡ spelled_what long w = cc in
-      let inside : spelled short kids ≡ spelled long kids = cc in
-      let after : spelled short rest ≡ spelled long rest = cc in
+      let what : mapped_what short w ≡ mapped_what long w = cc in
+      let inside : mapped short kids ≡ mapped long kids = cc in
+      let after : mapped short rest ≡ mapped long rest = cc in
       (node-of w what, trees-of kids inside, trees-of rest after)
 
   module _ (h : AreNames names) where
-    steps-of : (ts : List (PlacedToken ℕ)) (s s' : State ℕ) → TokensAreOf names ts → spelled_state short s ≡ spelled_state long s → Steps numbers ts s (Goes s') → AreOf names (trees s'.site)
+    steps-of : (ts : List (PlacedToken ℕ)) (s s' : State ℕ) → TokensAreOf names ts → mapped_state short s ≡ mapped_state long s → Steps numbers ts s (Goes s') → AreOf names (trees s'.site)
     steps-of ts s s' of begins run =
-        let one = (steps_spelled numbers texts short (numbers-agree names h)).steps ts s (Goes s') run in
-        let other = (steps_spelled numbers texts long (numbers-agree (longer names) (longer-names names h))).steps ts s (Goes s') run in
-        let moved = subst (λ (x : State (List ℕ)). Steps texts (map (spelled_placed short) ts) x (Goes (spelled_state long s'))) (sym begins)
-        (subst (λ (us : List (PlacedToken (List ℕ))). Steps texts us (spelled_state long s) (Goes (spelled_state long s'))) (sym (tokens-alike ts of)) other) in
-        let same : Goes (spelled_state short s') ≡ Goes (spelled_state long s') = steps-one texts (map (spelled_placed short) ts) (spelled_state short s) (Goes (spelled_state short s')) (Goes (spelled_state long s')) one moved in
+        let one = (steps_mapped numbers texts short (numbers-agree names h)).steps ts s (Goes s') run in
+        let other = (steps_mapped numbers texts long (numbers-agree (longer names) (longer-names names h))).steps ts s (Goes s') run in
+        let moved = subst (λ (x : State (List ℕ)). Steps texts (map (mapped_placed short) ts) x (Goes (mapped_state long s'))) (sym begins)
+        (subst (λ (us : List (PlacedToken (List ℕ))). Steps texts us (mapped_state long s) (Goes (mapped_state long s'))) (sym (tokens-alike ts of)) other) in
+        let same : Goes (mapped_state short s') ≡ Goes (mapped_state long s') = steps-one texts (map (mapped_placed short) ts) (mapped_state short s) (Goes (mapped_state short s')) (Goes (mapped_state long s')) one moved in
         trees-of (trees s'.site) (goes-trees same)
       where
-        goes-trees : Goes (spelled_state short s') ≡ Goes (spelled_state long s') → spelled short (trees s'.site) ≡ spelled long (trees s'.site)
-        goes-trees e = let states : spelled_state short s' ≡ spelled_state long s' = cc in ap (λ (x : State (List ℕ)). trees x.site) states
+        goes-trees : Goes (mapped_state short s') ≡ Goes (mapped_state long s') → mapped short (trees s'.site) ≡ mapped long (trees s'.site)
+        goes-trees e = let states : mapped_state short s' ≡ mapped_state long s' = cc in ap (λ (x : State (List ℕ)). trees x.site) states
 
     pub document-of : (quirks : List QuirkLine) (limits : Limits) (ts : List (PlacedToken ℕ)) (s : State ℕ) → TokensAreOf names ts → Steps numbers ts (document_begins quirks limits) (Goes s) → AreOf names (trees s.site)
     document-of quirks limits ts s of run = steps-of ts (document_begins quirks limits) s of refl run
@@ -91,7 +91,7 @@ module _ (names : Texts) where
     pub fragment-of : (context : ℕ) (limits : Limits) (ts : List (PlacedToken ℕ)) (s : State ℕ) → IsOf names context → TokensAreOf names ts → Steps numbers ts (fragment_begins numbers context limits) (Goes s) → AreOf names (trees s.site)
     fragment-of context limits ts s within of run = steps-of ts (fragment_begins numbers context limits) s of begins run
       where
-        begins : spelled_state short (fragment_begins numbers context limits) ≡ spelled_state long (fragment_begins numbers context limits)
+        begins : mapped_state short (fragment_begins numbers context limits) ≡ mapped_state long (fragment_begins numbers context limits)
         begins = λ i. record {
           site = record {
             nodes = record { limit = limits.nodes; made = 2; trees = tree 0 document (tree 1 (element (spelled-alike names (number_of tag.Html) html-within i) []) none none) none };

@@ -1,5 +1,5 @@
 -- A character that is put as it is.
-use Rattle.hmodes.proofs.Vocabulary.{◌≡◌, ℕ, Bool, true, false, List, [], ◌∷◌, length, refl, ◌∙◌, ap, ◌==◌, if◌then◌else◌, false≢true, eqb-true, is_space, Nodes, Place, LastIn, before, is_open, current, Listed, marker, entry, numbers, SiteOf, stack, node_of, place, stops_going_back, renewed_each, character_in_body, perform, flow_of, rule_of, State, character, flow_then, Rule, put, Mode}
+use Rattle.hmodes.proofs.Vocabulary.{◌≡◌, ℕ, Bool, true, false, List, [], ◌∷◌, length, refl, ◌∙◌, ap, ◌==◌, if◌then◌else◌, false≢true, eqb-true, is_space, Nodes, Place, LastIn, before, is_open, current, Listed, marker, entry, numbers, SiteOf, stack, open_node, place, stops_going_back, renewed_each, character_in_body, perform, flow_of, rule_of, State, character, flow_then, Rule, put, Mode}
 use Rattle.hadopt.specs.Inserts as inserts
 use Rattle.hmodes.specs.declared.token_kind.TokenKind.TheVariants.{Ws, Char, Nul}
 use Rattle.hmodes.specs.declared.mode.Mode.TheVariants as mode
@@ -18,7 +18,7 @@ puts_now _ x = false
 
 -- the place of a character: the end of the current node
 abbrev pub here : SiteOf ℕ → Place
-here x = LastIn (node_of (current (stack x)))
+here x = LastIn (open_node (current (stack x)))
 
 in_body : (at c : ℕ) (s : State ℕ) → is_reconstructed s.site ≡ true → perform numbers at (character c) character_in_body s ≡ flow_of s (inserts.put at c (place numbers s.site) s.site)
 in_body at c s h =

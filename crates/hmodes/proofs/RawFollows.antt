@@ -1,5 +1,5 @@
 -- A start tag of a raw kind leads to the mode "text", by a test on the programs of each mode.
-use Rattle.hmodes.proofs.Vocabulary.{cond_both, ◌≡◌, ◌≢◌, ◌⊎◌, inl, inr, ℕ, ◌<◌, Bool, true, false, not, cond, leb, List, ◌∷◌, Option, Some, None, refl, sym, ◌∙◌, ap, subst, arith, length, ◌&&◌, ◌||◌, IfSome, ne_eqb, Attribute, OpenNode, current, TooManyNodes, TooDeep, Tag, Naming, Outcome, Goes, SiteOf, and_then, stack, trees, with_stack, with_trees, with_error, OnGoes, Family, Mode, AfterHead, Text, InTableText, family_of, Do, Start, Char, ◌▸◌, choose, fostered, each_pending, again, to, to_saved, save_mode, insert, put, drop_lf, push_head, remove_head, pending_is_ws, raw, after_head, late, perform, with_foster, with_site, inserted_here, flow_of, head_pushed, removed, rule_of, code_of, NonVoidHtmlElementStartTagWithTrailingSolidus, Token, start, Control, State, Flow, Done, Again, Refused, flow_then, flow_map, Rule, Chain, ends, refuses, goes_again, drops, goes, begun, finished, is_ended, IsLimit, Inserts, at_once, in_first, in_second, in_fostered, RulesInsert, by_rule, by_next, IsInText, ComesToText, RawFollows, Place, element, graft, make, place, inserted, pushed, in_table_text, other_in_table}
+use Rattle.hmodes.proofs.Vocabulary.{cond_both, ◌≡◌, ◌≢◌, ◌⊎◌, inl, inr, ℕ, ◌<◌, Bool, true, false, not, cond, leb, List, ◌∷◌, Option, Some, None, refl, sym, ◌∙◌, ap, subst, arith, length, ◌&&◌, ◌||◌, IfSome, ne_eqb, Attribute, OpenNode, current, TooManyNodes, TooDeep, Tag, Naming, Outcome, Goes, SiteOf, and_then, stack, trees, with_stack, with_trees, with_error, OnGoes, Family, Mode, AfterHead, Text, InTableText, family_of, Do, Start, Char, ◌▸◌, choose, fostered, each_pending, again, to, to_saved, save_mode, insert, put, drop_lf, push_head, remove_head, pending_is_ws, raw, after_head, late, perform, with_foster, with_site, inserted_here, flow_of, head_pushed, removed, rule_of, mode_error, NonVoidHtmlElementStartTagWithTrailingSolidus, Token, start, Control, State, Flow, Done, Again, Refused, flow_then, flow_map, Rule, Chain, ends, refuses, goes_again, drops, goes, step_begun, finished, is_ended, IsLimit, Inserts, at_once, in_first, in_second, in_fostered, RulesInsert, by_rule, by_next, IsInText, ComesToText, RawFollows, Place, element, graft, make, place, inserted, with_open, in_table_text, other_in_table}
 use Rattle.names.specs.Sets.{raw_kind}
 use Rattle.names.specs.declared.tag.Tag.TheVariants as tag
 use Rattle.hadopt.specs.Site as site
@@ -206,7 +206,7 @@ module _ {N : Type 0} (n : Naming N) (at : ℕ) (name : N) (attrs : List (Attrib
 
       go : (u : Bool) → OnGoes (λ z. stack z ≡ record { node = x.nodes.made; name = name } ∷ stack x)
           (and_then (and_then (cond u (site.Refused (TooManyNodes at)) (Goes (record x { nodes = make (element name attrs) x.nodes }))) (λ t. Goes (with_trees (graft x.nodes.made p (trees t)) t)))
-          (pushed at (record { node = x.nodes.made; name = name })))
+          (with_open at (record { node = x.nodes.made; name = name })))
       go true = tt
       go false = top (leb x.open_nodes.limit (length (stack x))) (with_trees (graft x.nodes.made p (make (element name attrs) x.nodes).trees) (record x { nodes = make (element name attrs) x.nodes })) refl
 
@@ -236,7 +236,7 @@ module _ {N : Type 0} (n : Naming N) (at : ℕ) (name : N) (attrs : List (Attrib
   late-leads s0 s below on_way = go (head_pushed n at s.control.head erred.site) refl (pushed-same s.control.head) (perform-mild n push_head refl at tag_token erred)
     where
       erred : State N
-      erred = with_site (with_error (code_of AfterHead) at s.site) s
+      erred = with_site (with_error (mode_error AfterHead) at s.site) s
 
       pushed-same : (head : Option ℕ) → OnGoes (λ x. x.nodes ≡ s.site.nodes) (head_pushed n at head erred.site)
       pushed-same None = refl
@@ -311,7 +311,7 @@ module _ {N : Type 0} (n : Naming N) (tells : Tells n) where
   raw-follows s reached out at name attrs closing o ended (drops is) = cc
   raw-follows s reached out at name attrs closing o ended (goes isnt rest) =
       let g = reached-orderly n tells s reached in
-      chain-leads n tells at name attrs closing ended (start name attrs closing) (begun s) (begun s) o refl (orderly-begins n s g) (record { mode = out; saved = λ i. outside s g i }) (λ v w. w) rest
+      chain-leads n tells at name attrs closing ended (start name attrs closing) (step_begun s) (step_begun s) o refl (orderly-begins n s g) (record { mode = out; saved = λ i. outside s g i }) (λ v w. w) rest
     where
       outside : (s : State N) → Orderly n s → s.control.mode ≡ InTableText → s.control.saved ≢ Text
       outside s g i e = let late = g.sound (ap is_texty i) in let clash = sym late ∙ ap is_texty e in cc

@@ -42,10 +42,10 @@ tells-some tag.Tr h a b = refl
 tells-some _ h a b = absurd (false≢true h)
 
 -- an open node below the first one determines the mode
-pub reset-told : (context : Option ℕ) (s : List (OpenNode ℕ)) (x : OpenNode ℕ) → find tells (take (length s - 1) s) ≡ Some x → reset_mode numbers context s ≡ unwrap_or (open_mode (tag_of x.name)) InBody
-reset-told context [] x h = absurd cc
-reset-told context (y ∷ []) x h = absurd cc
-reset-told context (y ∷ (z ∷ s)) x h = go (tells y) refl (simp unary_clauses at h) (λ k. reset-told context (z ∷ s) x (simp unary_clauses k))
+pub reset-tokenizer_errors : (context : Option ℕ) (s : List (OpenNode ℕ)) (x : OpenNode ℕ) → find tells (take (length s - 1) s) ≡ Some x → reset_mode numbers context s ≡ unwrap_or (open_mode (tag_of x.name)) InBody
+reset-tokenizer_errors context [] x h = absurd cc
+reset-tokenizer_errors context (y ∷ []) x h = absurd cc
+reset-tokenizer_errors context (y ∷ (z ∷ s)) x h = go (tells y) refl (simp unary_clauses at h) (λ k. reset-tokenizer_errors context (z ∷ s) x (simp unary_clauses k))
   where
     go : (v : Bool) → tells y ≡ v → cond v (Some y) (find tells (take (length s) (z ∷ s))) ≡ Some x
         → (find tells (take (length s) (z ∷ s)) ≡ Some x → reset_mode numbers context (z ∷ s) ≡ unwrap_or (open_mode (tag_of x.name)) InBody)

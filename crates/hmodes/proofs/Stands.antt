@@ -1,5 +1,5 @@
 -- Every rule keeps what the open nodes need: they are in the document's tree, each outside of those below it.
-use Rattle.hmodes.proofs.Vocabulary.{by_test, cond_both, ◌≡◌, ℕ, ◌<◌, Bool, true, false, not, cond, leb, List, [], ◌∷◌, Option, Some, None, refl, subst, length, filter, ◌&&◌, ◌||◌, ◌==◌, nat_le, option_map_or, list_any, element, LastIn, is_node, EntryOf, Listed, entry, cleared, find_entry, without_entry, with_room, without_earliest, is_equal, after_marker, most_equal, Placed, Tag, is_space, TooDeep, Naming, Outcome, Goes, SiteOf, stack, trees, with_stack, with_error, from_top, node_of, place, listed, is, adopted, Each, TellsTables, deep, OnGoes, goes-then, Plain, PlainEntries, plain-without, Well, among-past, among-drop, fewer, listed-as, erred, closed-well, other-well, adopted-well, missing-well, first-fits, here-fits, root-fits, place-fits, added-well, inserted-well, put-well, reconstructed-well, Mode, AfterHead, family_of, TokenKind, Nul, Ws, Char, Start, Do, ◌▸◌, when, unless, choose, fostered, each_pending, error, insert, insert_named, insert_root, insert_root_named, insert_comment, comment_in_document, comment_in_first, insert_doctype, put, add_missing_to_first, add_missing_to_second, pop, pop_to, pop_to_name, pop_to_group, implied, implied_except, implied_except_name, clear_to_table, clear_to_body, clear_to_row, push_head, remove_head, remove_form, reconstruct, push_to_list, clear_to_marker, close_p, adopt, adopt_listed, other_end, Token, character, start, State, Flow, Done, Again, Refused, kind_of, flow_then, flow_map, token_name, token_attrs, token_text, token_char, answer_of, doctype_node, perform, with_foster, with_control, with_site, each_of, flow_of, removed, forgotten, current_node, adopted_listed, head_pushed, rule_of, code_of, Rule, in_head, after_head, late}
+use Rattle.hmodes.proofs.Vocabulary.{by_test, cond_both, ◌≡◌, ℕ, ◌<◌, Bool, true, false, not, cond, leb, List, [], ◌∷◌, Option, Some, None, refl, subst, length, filter, ◌&&◌, ◌||◌, ◌==◌, nat_le, option_map_or, list_any, element, LastIn, is_node, EntryOf, Listed, entry, cleared, find_entry, without_entry, with_room, without_earliest, is_equal, after_marker, most_equal, Placed, Tag, is_space, TooDeep, Naming, Outcome, Goes, SiteOf, stack, trees, with_stack, with_error, from_top, open_node, place, listed, is, adopted, Each, TellsTables, deep, OnGoes, goes-then, Plain, PlainEntries, plain-without, Well, among-past, among-drop, fewer, listed-as, erred, closed-well, other-well, adopted-well, missing-well, first-fits, here-fits, root-fits, place-fits, added-well, inserted-well, put-well, reconstructed-well, Mode, AfterHead, family_of, TokenKind, Nul, Ws, Char, Start, Do, ◌▸◌, when, unless, choose, fostered, each_pending, error, insert, insert_named, insert_root, insert_root_named, insert_comment, comment_in_document, comment_in_first, insert_doctype, put, add_missing_to_first, add_missing_to_second, pop, pop_to, pop_to_name, pop_to_group, implied, implied_except, implied_except_name, clear_to_table, clear_to_body, clear_to_row, push_head, remove_head, remove_form, reconstruct, push_to_list, clear_to_marker, close_p, adopt, adopt_listed, other_end, Token, character, start, State, Flow, Done, Again, Refused, kind_of, flow_then, flow_map, token_name, token_attrs, token_text, token_char, answer_of, doctype_node, perform, with_foster, with_control, with_site, each_of, flow_of, removed, forgotten, current_node, adopted_listed, head_pushed, rule_of, mode_error, Rule, in_head, after_head, late}
 use Rattle.hnodes.specs.Forest as forest
 use Rattle.hopen.specs.Formatting as list
 use Rattle.names.specs.declared.tag.Tag.TheVariants as tag
@@ -104,11 +104,11 @@ module _ {N : Type 0} (n : Naming N) where
     perform-well v (insert_root_named x) calm at t name s h = on-site s _ (inserted-well n at (n.known x) [] (LastIn 0) s.site h (root-fits n (element (n.known x) []) s.site h))
     perform-well v insert_comment calm at t name s h = on-site s _ (added-well n (forest.comment (token_text t)) s.site h (LastIn (current_node s.site)) (here-fits n (forest.comment (token_text t)) s.site h) at)
     perform-well v comment_in_document calm at t name s h = on-site s _ (added-well n (forest.comment (token_text t)) s.site h (LastIn 0) (root-fits n (forest.comment (token_text t)) s.site h) at)
-    perform-well v comment_in_first calm at t name s h = on-site s _ (added-well n (forest.comment (token_text t)) s.site h (LastIn (node_of (from_top 0 s.site))) (first-fits n (forest.comment (token_text t)) s.site h) at)
+    perform-well v comment_in_first calm at t name s h = on-site s _ (added-well n (forest.comment (token_text t)) s.site h (LastIn (open_node (from_top 0 s.site))) (first-fits n (forest.comment (token_text t)) s.site h) at)
     perform-well v insert_doctype calm at t name s h = on-site s _ (added-well n (doctype_node t) s.site h (LastIn 0) (root-fits n (doctype_node t) s.site h) at)
     perform-well v put calm at t name s h = on-site s _ (put-well n at (token_char t) (place n s.site) s.site h (place-fits n _ s.site h))
-    perform-well v add_missing_to_first calm at t name s h = missing-well n (node_of (from_top 0 s.site)) (token_attrs t) s.site h
-    perform-well v add_missing_to_second calm at t name s h = missing-well n (node_of (from_top 1 s.site)) (token_attrs t) s.site h
+    perform-well v add_missing_to_first calm at t name s h = missing-well n (open_node (from_top 0 s.site)) (token_attrs t) s.site h
+    perform-well v add_missing_to_second calm at t name s h = missing-well n (open_node (from_top 1 s.site)) (token_attrs t) s.site h
     perform-well v pop calm at t name s h = fewer n s.site _ (among-drop (stack s.site)) h
     perform-well v (pop_to x) calm at t name s h = fewer n s.site _ (among-after _ (stack s.site)) h
     perform-well v pop_to_name calm at t name s h = fewer n s.site _ (among-after _ (stack s.site)) h
@@ -135,7 +135,7 @@ module _ {N : Type 0} (n : Naming N) where
 -- what is late in the head
 abbrev is_late : TokenKind → Bool
 is_late (Start family.Base) = true
-is_late (Start family.Link) = true
+is_late (Start family.HeadVoid) = true
 is_late (Start family.Noframes) = true
 is_late (Start family.Script) = true
 is_late (Start family.Style) = true
@@ -179,14 +179,14 @@ module _ {N : Type 0} (n : Naming N) (tells : TellsTables n) where
 
   late-well : (p : Do) → tame false p ≡ true → (at : ℕ) (t : Token N) (s : State N) → HeadOut s → Well n s.site → FlowWell n (perform n at t (late p) s)
   late-well p calm at t s out h =
-      well-then n (perform n at t push_head (with_site (with_error (code_of AfterHead) at s.site) s)) (perform n at t (p ▸ remove_head))
-      (on-site n (with_site (with_error (code_of AfterHead) at s.site) s) _ (head-pushed-well at s.control.head (with_error (code_of AfterHead) at s.site) (λ h' e. let o = out h' e in record { stands = o.stands; out = o.out }) (erred n s.site (code_of AfterHead) at h)))
+      well-then n (perform n at t push_head (with_site (with_error (mode_error AfterHead) at s.site) s)) (perform n at t (p ▸ remove_head))
+      (on-site n (with_site (with_error (mode_error AfterHead) at s.site) s) _ (head-pushed-well at s.control.head (with_error (mode_error AfterHead) at s.site) (λ h' e. let o = out h' e in record { stands = o.stands; out = o.out }) (erred n s.site (mode_error AfterHead) at h)))
       (λ u m. perform-well n tells false (p ▸ remove_head) (rw calm refl) at t (λ e. cc) u m)
 
   -- what is late is late by name
   late-rule : (k : TokenKind) → is_late k ≡ true → (at : ℕ) (t : Token N) (s : State N) → HeadOut s → Well n s.site → FlowWell n (perform n at t (after_head k) s)
   late-rule (Start family.Base) e = late-well (in_head (Start family.Base)) refl
-  late-rule (Start family.Link) e = late-well (in_head (Start family.Link)) refl
+  late-rule (Start family.HeadVoid) e = late-well (in_head (Start family.HeadVoid)) refl
   late-rule (Start family.Noframes) e = late-well (in_head (Start family.Noframes)) refl
   late-rule (Start family.Script) e = late-well (in_head (Start family.Script)) refl
   late-rule (Start family.Style) e = late-well (in_head (Start family.Style)) refl

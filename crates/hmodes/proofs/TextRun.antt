@@ -1,5 +1,5 @@
 -- Characters that are put as they are.
-use Rattle.hmodes.proofs.Vocabulary.{◌≡◌, ℕ, zero, suc, Bool, true, false, List, [], ◌∷◌, ◌++◌, ◌+◌, ◌-◌, length, Option, Some, None, Result, Ok, Err, refl, sym, ap, ◌∙◌, arith, subst, list_all, ◌&&◌, ◌==◌, not, is_none, result_err, and_parts, false≢true, nat_tests, placed, characters, Placed, one_more, one_refused, len_utf8, encode_utf8, repeat, chars, IsUtf8, IsUtf8-nil, IsUtf8-encode, IsUtf8-append, chars-nil, chars_past_char, AreNodes, IsPlace, Hands, Refusal, Place, run_tokens, replaced, StartsAt, IsSpread, Gives, put_each, Outcome, SiteOf, with_site, State, Token, begun, Building, Stands, Takes, TakesToken, puts_run, refused_by, AreSome, puts_in, puts_each, put_all, Alone, Handed}
+use Rattle.hmodes.proofs.Vocabulary.{◌≡◌, ℕ, zero, suc, Bool, true, false, List, [], ◌∷◌, ◌++◌, ◌+◌, ◌-◌, length, Option, Some, None, Result, Ok, Err, refl, sym, ap, ◌∙◌, arith, subst, list_all, ◌&&◌, ◌==◌, not, is_none, result_err, and_parts, false≢true, nat_tests, placed, characters, Placed, one_more, one_refused, len_utf8, encode_utf8, repeat, chars, IsUtf8, IsUtf8-nil, IsUtf8-encode, IsUtf8-append, chars-nil, chars_past_char, AreNodes, IsPlace, Hands, Refusal, Place, run_tokens, replacement_run, StartsAt, IsTextWithReferences, Gives, put_each, Outcome, SiteOf, with_site, State, Token, step_begun, Building, BuilderStands, TakesTokenAt, TakesToken, puts_run, refused_by, AreSome, puts_in, puts_each, put_all, Alone, Handed}
 use Rattle.std.proofs.lemmas.List.{length-append}
 use Rattle.names.proofs.Handing.{Continues-all}
 use Rattle.htext.specs.Run.{is_clean}
@@ -33,28 +33,28 @@ off-of false false false h = absurd cc
 
 -- the building after characters were put, once a token has begun in it
 abbrev pub after_put : Building → SiteOf ℕ → Result (Unit {0}) Refusal → Building
-after_put b x answer = record { state = with_site x (begun b.state); root = b.root; told = b.told; refused = refused_by answer }
+after_put b x answer = record { state = with_site x (step_begun b.state); root = b.root; tokenizer_errors = b.tokenizer_errors; refused = refused_by answer }
 
 -- a run that is put as a whole is taken character by character, wherever all but the first are
-pub run_taken : (b : Building) → b.refused ≡ None → puts_each b.state ≡ true → (at : ℕ) (run : List ℕ) (text : List Placed) → IsSpread text run at → false ≡ (length (chars run) == 0)
+pub run_taken : (b : Building) → b.refused ≡ None → puts_each b.state ≡ true → (at : ℕ) (run : List ℕ) (text : List Placed) → IsTextWithReferences text run at → false ≡ (length (chars run) == 0)
     → AreSome (chars run) → (answer : Result (Unit {0}) Refusal) (x : SiteOf ℕ) → Gives answer x (put_all at text b.state) → Hands TakesToken b (run_tokens text) answer (after_put b x answer)
-run_taken b free puts at run [] spread has some answer x g = absurd (false≢true (has ∙ ap (λ (cs : List ℕ). length cs == 0) (sym spread.characters_are)))
-run_taken b free puts at run (p ∷ ps) spread has some answer x g =
+run_taken b free puts at run [] with_references has some answer x g = absurd (false≢true (has ∙ ap (λ (cs : List ℕ). length cs == 0) (sym with_references.characters_are)))
+run_taken b free puts at run (p ∷ ps) with_references has some answer x g =
     let facts = off-of b.state.site.foster b.state.control.drop_lf (puts_in b.state.control.mode) puts in
-    let all : AreSome (characters (p ∷ ps)) = subst AreSome (sym spread.characters_are) some in
-    begun_put b free facts.0 facts.1 facts.2 p all.0 ps answer x all (subst (λ (n : ℕ). Gives answer x (put_all n (p ∷ ps) b.state)) (sym spread.starts) g)
+    let all : AreSome (characters (p ∷ ps)) = subst AreSome (sym with_references.characters_are) some in
+    begun_put b free facts.0 facts.1 facts.2 p all.0 ps answer x all (subst (λ (n : ℕ). Gives answer x (put_all n (p ∷ ps) b.state)) (sym with_references.starts) g)
 
 -- the characters of a run one after another are such a text
-pub is_spread : (at : ℕ) (run : List ℕ) → IsSpread (placed at (chars run)) run at
-is_spread at run = record { characters_are = characters_placed at (chars run); starts = by (chars run) }
+pub is_with_references : (at : ℕ) (run : List ℕ) → IsTextWithReferences (placed at (chars run)) run at
+is_with_references at run = record { characters_are = characters_placed at (chars run); starts = by (chars run) }
   where
     by : (cs : List ℕ) → StartsAt (placed at cs) at
     by [] = tt
     by (c ∷ cs) = refl
 
 -- and the same is put for each
-pub spread_put : (text : List Placed) (run : List ℕ) (at : ℕ) (to : Place) (s : SiteOf ℕ) → IsSpread text run at → AreNodes s.nodes → IsPlace to s.nodes → put_each (placed at (chars run)) to s ≡ put_each text to s
-spread_put text run at to s spread nodes here = by (chars run) text spread.characters_are spread.starts
+pub with_references_put : (text : List Placed) (run : List ℕ) (at : ℕ) (to : Place) (s : SiteOf ℕ) → IsTextWithReferences text run at → AreNodes s.nodes → IsPlace to s.nodes → put_each (placed at (chars run)) to s ≡ put_each text to s
+with_references_put text run at to s with_references nodes here = by (chars run) text with_references.characters_are with_references.starts
   where
     by : (cs : List ℕ) (text : List Placed) → characters text ≡ cs → StartsAt text at → put_each (placed at cs) to s ≡ put_each text to s
     by [] [] is first = refl
@@ -68,7 +68,7 @@ pub bad_bytes : 0xEF ∷ 0xBF ∷ 0xBD ∷ [] ≡ encode_utf8 0xFFFD
 unfolding encode_utf8
 bad_bytes = refl
 
-bad_chars : (n at : ℕ) → IsUtf8 (repeat n (encode_utf8 0xFFFD)) × (chars (repeat n (encode_utf8 0xFFFD)) ≡ characters (replaced at n))
+bad_chars : (n at : ℕ) → IsUtf8 (repeat n (encode_utf8 0xFFFD)) × (chars (repeat n (encode_utf8 0xFFFD)) ≡ characters (replacement_run at n))
 bad_chars zero at = (IsUtf8-nil, chars-nil)
 bad_chars (suc n) at =
     let more = bad_chars n (at + 1) in
@@ -76,17 +76,17 @@ bad_chars (suc n) at =
     (all, chars_past_char (repeat (suc n) (encode_utf8 0xFFFD)) (repeat n (encode_utf8 0xFFFD)) 0xFFFD all refl ∙ ap (λ (cs : List ℕ). 0xFFFD ∷ cs) more.1)
 
 module _ (at : ℕ) (run : List ℕ) where
-  pub bad_spread : (n : ℕ) → run ≡ repeat n (encode_utf8 0xFFFD) → IsSpread (replaced at n) run at
-  bad_spread n is = record { characters_are = sym (ap chars is ∙ (bad_chars n at).1); starts = by n }
+  pub bad_with_references : (n : ℕ) → run ≡ repeat n (encode_utf8 0xFFFD) → IsTextWithReferences (replacement_run at n) run at
+  bad_with_references n is = record { characters_are = sym (ap chars is ∙ (bad_chars n at).1); starts = by n }
     where
-      by : (n : ℕ) → StartsAt (replaced at n) at
+      by : (n : ℕ) → StartsAt (replacement_run at n) at
       by zero = tt
       by (suc n) = refl
 
   pub bad_some : (n : ℕ) → run ≡ repeat n (encode_utf8 0xFFFD) → AreSome (chars run)
-  bad_some n is = subst AreSome (bad_spread n is).characters_are (by n at)
+  bad_some n is = subst AreSome (bad_with_references n is).characters_are (by n at)
     where
-      by : (n at : ℕ) → AreSome (characters (replaced at n))
+      by : (n at : ℕ) → AreSome (characters (replacement_run at n))
       by zero at = tt
       by (suc n) at = (refl, by n (at + 1))
 
@@ -100,30 +100,30 @@ ok-of (Ok u) h = refl
 ok-of (Err e) h = absurd cc
 
 -- what a call leaves that begins a token, puts characters, and keeps what was refused
-pub left_is : (b old : Building) (s t : State ℕ) (x : SiteOf ℕ) (refused : Option Refusal) (answer : Result (Unit {0}) Refusal) → old ≡ b → s ≡ begun old.state → t ≡ with_site x s
-    → refused ≡ result_err answer → ◌≡◌ {A = Building} (record { state = t; root = old.root; told = old.told; refused = refused }) (after_put b x answer)
+pub left_is : (b old : Building) (s t : State ℕ) (x : SiteOf ℕ) (refused : Option Refusal) (answer : Result (Unit {0}) Refusal) → old ≡ b → s ≡ step_begun old.state → t ≡ with_site x s
+    → refused ≡ result_err answer → ◌≡◌ {A = Building} (record { state = t; root = old.root; tokenizer_errors = old.tokenizer_errors; refused = refused }) (after_put b x answer)
 left_is b old s t x refused answer is begins rest errs = λ i. record {
-  state = (rest ∙ ap (with_site x) (begins ∙ ap (λ (o : Building). begun o.state) is)) i;
+  state = (rest ∙ ap (with_site x) (begins ∙ ap (λ (o : Building). step_begun o.state) is)) i;
   root = (is i).root;
-  told = (is i).told;
+  tokenizer_errors = (is i).tokenizer_errors;
   refused = (errs ∙ err_is answer) i;
 }
 
 -- the site that characters are put in is that of the building
-pub gives-of : (b old : Building) (s : State ℕ) (x : SiteOf ℕ) (answer : Result (Unit {0}) Refusal) (f : State ℕ → Outcome (SiteOf ℕ)) → old ≡ b → s ≡ begun old.state → Gives answer x (f s)
-    → Gives answer x (f (begun b.state))
-gives-of b old s x answer f is begins g = subst (λ (t : State ℕ). Gives answer x (f t)) (begins ∙ ap (λ (o : Building). begun o.state) is) g
+pub gives-of : (b old : Building) (s : State ℕ) (x : SiteOf ℕ) (answer : Result (Unit {0}) Refusal) (f : State ℕ → Outcome (SiteOf ℕ)) → old ≡ b → s ≡ step_begun old.state → Gives answer x (f s)
+    → Gives answer x (f (step_begun b.state))
+gives-of b old s x answer f is begins g = subst (λ (t : State ℕ). Gives answer x (f t)) (begins ∙ ap (λ (o : Building). step_begun o.state) is) g
 
 -- what an unrefused building is after tokens, or after one
-pub stands_by_run : (ts : List Handed) (old new : Building) (answer : Result (Unit {0}) Refusal) → (old.refused ≡ None → Stands old.root old.state) → old.refused ≡ None → result_err answer ≡ None → Hands TakesToken old ts answer new
-    → Stands new.root new.state
+pub stands_by_run : (ts : List Handed) (old new : Building) (answer : Result (Unit {0}) Refusal) → (old.refused ≡ None → BuilderStands old.root old.state) → old.refused ≡ None → result_err answer ≡ None → Hands TakesToken old ts answer new
+    → BuilderStands new.root new.state
 stands_by_run ts old new answer stands free none h =
     stands-run ts old new (stands free) free (subst (λ (a : Result (Unit {0}) Refusal). Hands TakesToken old ts a new) (ok-of answer none) h)
 
-pub stands_by_token : (at : ℕ) (t : Token ℕ) (old new : Building) (answer : Result (Unit {0}) Refusal) → (old.refused ≡ None → Stands old.root old.state) → old.refused ≡ None → result_err answer ≡ None → Takes at t old answer new
-    → Stands new.root new.state
+pub stands_by_token : (at : ℕ) (t : Token ℕ) (old new : Building) (answer : Result (Unit {0}) Refusal) → (old.refused ≡ None → BuilderStands old.root old.state) → old.refused ≡ None → result_err answer ≡ None → TakesTokenAt at t old answer new
+    → BuilderStands new.root new.state
 stands_by_token at t old new answer stands free none h =
-    stands-on at t old new (stands free) (taken at t old new (Ok tt) free (subst (λ (a : Result (Unit {0}) Refusal). Takes at t old a new) (ok-of answer none) h))
+    stands-on at t old new (stands free) (taken at t old new (Ok tt) free (subst (λ (a : Result (Unit {0}) Refusal). TakesTokenAt at t old a new) (ok-of answer none) h))
 
 -- what the test of a run says
 pub run_parts : (run : List ℕ) (b : Building) → puts_run run b ≡ true → (false ≡ (length run == 0)) × (b.refused ≡ None) × (puts_each b.state ≡ true)

@@ -9,18 +9,18 @@ pub use Rattle.hadopt.proofs.Turning.{adopted-well, among-drop, among-past, clos
 pub use Rattle.hadopt.specs.Adopts.{Ended, InnerLoop, Next, Turn, adopted, after_inner_loop, entries_for, inner_loop, inner_turn, is_unlisted, left, most_turns, next_turn, node_replaced, outer_loop, outer_turn, popped_with, with_formatting_element, with_furthest_block}
 pub use Rattle.hadopt.specs.Closes.{closed, is, is_body_context, is_row_context, is_table_context, popped_while_not, without_implied}
 pub use Rattle.hadopt.specs.Gives.{Gives}
-pub use Rattle.hadopt.specs.Inserts.{added, inserted, listed, made, pushed, put_each, with_missing}
-pub use Rattle.hadopt.specs.Kept.{Each, Kept, Pairs, TellsTables}
+pub use Rattle.hadopt.specs.Inserts.{added, inserted, listed, made, with_open, put_each, with_missing}
+pub use Rattle.hadopt.specs.Soundness.{Each, IsSound, Pairs, TellsTables}
 pub use Rattle.hadopt.specs.Naming.{Naming, numbers, texts}
 pub use Rattle.hadopt.specs.Places.{is_fostering, place}
 pub use Rattle.hadopt.specs.Reconstructs.{reconstructed, renewed, renewed_each, stops_going_back}
-pub use Rattle.hadopt.specs.Site.{Goes, Outcome, SiteOf, and_then, current_is, error_unless, from_top, node_of, stack, trees, with_error, with_items, with_again, with_stack, with_trees}
+pub use Rattle.hadopt.specs.Site.{Goes, Outcome, SiteOf, and_then, current_is, error_unless, from_top, open_node, stack, trees, with_error, with_items, with_again, with_stack, with_trees}
 pub use Rattle.hnodes.specs.Nearest.{before, changed_at}
 pub use Rattle.hopen.specs.Formatting.{EntryOf, Listed, after_marker, cleared, entry, entry_at, entry_of, find_entry, for_node, is_equal, marker, most_equal, with_room, without_earliest, without_entry}
 pub use Rattle.hmarkup.specs.Quirks.{QuirkLine}
 pub use Rattle.hmodes.specs.Beginning.{Limits, document_begins, fragment_begins}
 pub use Rattle.hmodes.specs.Body.{character_in_body, formatting, text}
-pub use Rattle.hmodes.specs.Building.{Building, ChainGives, HasBegun, IsReprocessed, Stands, StaysRefused, StepGives, Takes, TakesOn, TakesToken, puts_run, refused_by}
+pub use Rattle.hmodes.specs.Building.{Building, ChainGives, HasBegun, IsReprocessed, BuilderStands, BuilderStaysRefused, StepGives, TakesTokenAt, BuilderTakesOn, TakesToken, puts_run, refused_by}
 pub use Rattle.hmodes.specs.Doctypes.{conforms, doctype_node, forces_quirks}
 pub use Rattle.hmodes.specs.Families.{family_of}
 pub use Rattle.hmodes.specs.Flows.{FlowGives, StateGives, performed_for}
@@ -31,14 +31,14 @@ pub use Rattle.hmodes.specs.Questions.{answer_of, has, is_hidden, is_token_name}
 pub use Rattle.hmodes.specs.RawFollows.{ComesToText, Inserts, IsInText, IsLimit, RawFollows, RulesInsert, at_once, by_next, by_rule, in_first, in_fostered, in_second, is_ended}
 pub use Rattle.hmodes.specs.Reached.{Reached, after, fragment}
 pub use Rattle.hmodes.specs.Reset.{context_mode, open_mode, reset_mode, root_mode}
-pub use Rattle.hmodes.specs.Rules.{code_of, rule_of}
+pub use Rattle.hmodes.specs.Rules.{mode_error, rule_of}
 pub use Rattle.hmodes.specs.Runs.{AreSome, before_text, char_rule, is_for_text, put_all, puts_each, puts_in, takes_char}
-pub use Rattle.hmodes.specs.Spelled.{StepsKnowNoNames, spelled_flow, spelled_placed, spelled_state, spelled_token}
+pub use Rattle.hmodes.specs.Mapped.{StepsKnowNoNames, mapped_flow, mapped_placed, mapped_state, mapped_token}
 pub use Rattle.hmodes.specs.State.{Again, Control, Done, Flow, PlacedToken, Refused, State, Token, character, comment, doctype, end, eof, flow_map, flow_then, is_self_closing, kind_of, renamed, start, token_attrs, token_char, token_name, token_text}
 pub use Rattle.hmodes.specs.States.{state_of}
-pub use Rattle.hmodes.specs.Step.{Chain, Rule, Step, Steps, and, begun, drops, ends, finished, goes, goes_again, is_dropped, none, refused, refuses}
+pub use Rattle.hmodes.specs.Step.{Chain, Rule, Step, Steps, and, step_begun, drops, ends, finished, goes, goes_again, is_dropped, none, refused, refuses}
 pub use Rattle.hmodes.specs.Table.{in_table, in_table_text, other_in_table}
-pub use Rattle.hmodes.specs.Tokens.{place_of, token_of}
+pub use Rattle.hmodes.specs.Tokens.{token_at, token_of}
 pub use Rattle.hmodes.specs.Words.{Char, Comment, Do, Doctype, End, Eof, Nul, Start, Test, TokenKind, Ws, add_missing_to_first, add_missing_to_second, adopt, adopt_listed, again, again_as, all_may_stay_open, choose, clear_to_body, clear_to_marker, clear_to_row, clear_to_table, close_p, comment_in_document, comment_in_first, current_is_form, current_is_fostering, current_is_group, current_is_name, doctype_conforms, drop_lf, each_pending, error, form_is_set, form_pointer, fostered, has_form_in_scope, has_group_in, has_in, has_name_in, head_pointer, implied, implied_except, implied_except_name, input_is_hidden, insert, insert_comment, insert_doctype, insert_named, insert_root, insert_root_named, is_fragment, is_in_quirks, item_is_near, judge_quirks, name_is_listed, nothing, other_end, pend, pending_is_ws, pop, pop_to, pop_to_group, pop_to_name, push_head, push_to_list, put, reconstruct, remove_form, remove_head, reset, save_mode, second_is_body, to, to_saved, unless, when, ◌▸◌}
 pub use Rattle.hmodes.specs.declared.family.Family.{Family}
 pub use Rattle.hmodes.specs.declared.mode.Mode.{Mode}
@@ -49,15 +49,15 @@ pub use Rattle.hnodes.proofs.Deep.{deep, deep-is}
 pub use Rattle.hnodes.specs.Attributes.{is_present}
 pub use Rattle.hnodes.specs.Edits.{AreNodes, IsPlace, Nodes, add_attribute, add_char, char_into, graft, make, text_before, with_attribute, with_char}
 pub use Rattle.hnodes.specs.Forest.{Attribute, Forest, What, change_what, document, element, join, tree}
-pub use Rattle.hnodes.specs.Spelled.{spelled, spelled_attribute, spelled_what}
+pub use Rattle.hnodes.specs.Mapped.{mapped, mapped_attribute, mapped_what}
 pub use Rattle.hnodes.specs.Spots.{attributes_of}
 pub use Rattle.hnodes.specs.declared.node.Place.{Place}
 pub use Rattle.hnodes.specs.declared.node.Place.TheVariants.{LastIn}
-pub use Rattle.hopen.specs.Scopes.{is_named, is_of, is_of_group, stops, stops_in, stops_item, tells_mode}
+pub use Rattle.hopen.specs.Scopes.{is_named, is_of, is_of_group, stops_in_scope, stops_in, stops_item, tells_mode}
 pub use Rattle.hopen.specs.Stack.{OpenNode, above, current, furthest_block, in_scope, is_node, is_open}
 pub use Rattle.hopen.specs.declared.scope.Scope.TheVariants.{Default}
 pub use Rattle.htext.proofs.Wide.{has_characters, none_left, one_more, one_refused}
-pub use Rattle.htoken.specs.Run.{IsSpread, StartsAt, replaced, run_tokens}
+pub use Rattle.htoken.specs.Run.{IsTextWithReferences, StartsAt, replacement_run, run_tokens}
 pub use Rattle.htoken.specs.Token.{Alone, Handed, token_in}
 pub use Rattle.htoken.specs.declared.token.Token.{Token as Given}
 pub use Rattle.names.specs.Placed.{characters, is_space, placed}

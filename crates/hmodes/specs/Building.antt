@@ -10,14 +10,14 @@ use Rattle.hadopt.specs.Site as site
 use Rattle.hmodes.specs.Reached.{Reached}
 use Rattle.hmodes.specs.Runs.{puts_each}
 use Rattle.hmodes.specs.State.{Again, State, Token}
-use Rattle.hmodes.specs.Step.{Chain, Rule, Step, begun}
-use Rattle.hmodes.specs.Tokens.{token_of, place_of}
+use Rattle.hmodes.specs.Step.{Chain, Rule, Step, step_begun}
+use Rattle.hmodes.specs.Tokens.{token_of, token_at}
 
 -- the state of the tree construction, the root of what is built, the parse errors that were handed over, and what was refused
 pub record Building : Type 0 where
   pub state : State ℕ
   pub root : ℕ  -- the document, or a fragment's root element
-  pub told : List ParseError
+  pub tokenizer_errors : List ParseError
   pub refused : Option Refusal
 
 -- The call that answers this, and leaves this state, does what comes of a token; or memory ran out.
@@ -31,13 +31,13 @@ ChainGives at t old (Ok _) new = Chain numbers at t old (Goes new)
 ChainGives at t old (Err e) new = (e ≡ Memory) ⊎ Chain numbers at t old (site.Refused e)
 
 -- what a builder that has refused nothing is: tokens led to its state, and the root of what is built was made
-pub record Stands (root : ℕ) (s : State ℕ) : Type 0 where
+pub record BuilderStands (root : ℕ) (s : State ℕ) : Type 0 where
   pub reached : Reached numbers s
   pub made : root < s.site.nodes.made
 
 -- a state in which a token has begun
 abbrev pub HasBegun : State ℕ → Type 0
-HasBegun s = (before : State ℕ) × Reached numbers before × (s ≡ begun before)
+HasBegun s = (before : State ℕ) × Reached numbers before × (s ≡ step_begun before)
 
 -- a token and a state to which the first rule of a token leads that is to be reprocessed
 abbrev pub IsReprocessed : ℕ → Token ℕ → State ℕ → Type 0
@@ -53,27 +53,27 @@ abbrev pub puts_run : List ℕ → Building → Bool
 puts_run run b = not (length run == 0) && is_none b.refused && puts_each b.state
 
 -- What is refused stays so, and nothing changes.
-pub record StaysRefused (r : Refusal) (old : Building) (answer : Result (Unit {0}) Refusal) (new : Building) : Type 0 where
+pub record BuilderStaysRefused (r : Refusal) (old : Building) (answer : Result (Unit {0}) Refusal) (new : Building) : Type 0 where
   pub same : answer ≡ Err r
   pub kept : new ≡ old
 
 -- A token is taken.
-pub record TakesOn (at : ℕ) (t : Token ℕ) (old : Building) (answer : Result (Unit {0}) Refusal) (new : Building) : Type 0 where
+pub record BuilderTakesOn (at : ℕ) (t : Token ℕ) (old : Building) (answer : Result (Unit {0}) Refusal) (new : Building) : Type 0 where
   pub step : StepGives at t old.state answer new.state
-  pub told : new.told ≡ old.told
+  pub tokenizer_errors : new.tokenizer_errors ≡ old.tokenizer_errors
   pub root : new.root ≡ old.root
   pub refused : new.refused ≡ refused_by answer
 
-abbrev pub Takes : ℕ → Token ℕ → Building → Result (Unit {0}) Refusal → Building → Type 0
-Takes at t old answer new = MatchOption old.refused (TakesOn at t old answer new) (λ r. StaysRefused r old answer new)
+abbrev pub TakesTokenAt : ℕ → Token ℕ → Building → Result (Unit {0}) Refusal → Building → Type 0
+TakesTokenAt at t old answer new = MatchOption old.refused (BuilderTakesOn at t old answer new) (λ r. BuilderStaysRefused r old answer new)
 
 abbrev pub TakesToken : Building → Handed → Result (Unit {0}) Refusal → Building → Type 0
-TakesToken old handed answer new = Takes (place_of (token_in handed)) (token_of (token_in handed)) old answer new
+TakesToken old handed answer new = TakesTokenAt (token_at (token_in handed)) (token_of (token_in handed)) old answer new
 
 -- A parse error is taken: one error more is reported; or memory ran out.
-abbrev pub Tells : ParseError → Building → Result (Unit {0}) Refusal → Building → Type 0
-Tells e old (Ok _) new = new ≡ record old { told = old.told ++ e ∷ [] }
-Tells e old (Err r) new = (r ≡ Memory) × (new ≡ record old { refused = Some Memory })
+abbrev pub TakesParseError : ParseError → Building → Result (Unit {0}) Refusal → Building → Type 0
+TakesParseError e old (Ok _) new = new ≡ record old { tokenizer_errors = old.tokenizer_errors ++ e ∷ [] }
+TakesParseError e old (Err r) new = (r ≡ Memory) × (new ≡ record old { refused = Some Memory })
 
 abbrev pub TakesError : Building → ParseError → Result (Unit {0}) Refusal → Building → Type 0
-TakesError old e answer new = MatchOption old.refused (Tells e old answer new) (λ r. StaysRefused r old answer new)
+TakesError old e answer new = MatchOption old.refused (TakesParseError e old answer new) (λ r. BuilderStaysRefused r old answer new)

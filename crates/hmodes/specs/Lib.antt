@@ -17,7 +17,7 @@ pub mod Questions
 pub mod Perform
 pub mod Step
 pub mod Uses
-pub mod Spelled
+pub mod Mapped
 pub mod Stand
 pub mod Beginning
 pub mod Reached

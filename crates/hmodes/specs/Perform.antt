@@ -7,12 +7,12 @@ use Rattle.hnodes.specs.declared.node.Place.TheVariants.{LastIn}
 use Rattle.hnodes.specs.Nearest.{without}
 use Rattle.hopen.specs.Stack.{OpenNode, is_node, current}
 use Rattle.hopen.specs.Scopes.{is_of}
-use Rattle.hopen.specs.Formatting.{find_entry, without_entry, pushed, cleared}
+use Rattle.hopen.specs.Formatting.{find_entry, without_entry, cleared}
 use Rattle.hopen.specs.Formatting as list
 use Rattle.names.specs.declared.tag.Tag.TheVariants as tag
 use Rattle.names.specs.declared.placed.Placed.{Placed}
 use Rattle.hadopt.specs.Naming.{Naming}
-use Rattle.hadopt.specs.Site.{Outcome, Goes, SiteOf, and_then, stack, trees, with_trees, with_stack, with_items, with_error, from_top, node_of}
+use Rattle.hadopt.specs.Site.{Outcome, Goes, SiteOf, and_then, stack, trees, with_trees, with_stack, with_items, with_error, from_top, open_node}
 use Rattle.hadopt.specs.Site as site
 use Rattle.hadopt.specs.Places.{place}
 use Rattle.hadopt.specs.Inserts.{added, inserted, listed, with_missing}
@@ -29,7 +29,7 @@ use Rattle.hmodes.specs.Words.{implied_except_name, clear_to_table, clear_to_bod
 use Rattle.hmodes.specs.Words.{push_to_list, marker, clear_to_marker, close_p, adopt, adopt_listed, other_end}
 use Rattle.hmodes.specs.State.{Token, character, Control, State, Flow, Done, Again, Refused, flow_then, flow_map, token_name, token_attrs, token_text}
 use Rattle.hmodes.specs.State.{token_char, renamed}
-use Rattle.hmodes.specs.Rules.{code_of}
+use Rattle.hmodes.specs.Rules.{mode_error}
 use Rattle.hmodes.specs.Reset.{reset_mode}
 use Rattle.hmodes.specs.Doctypes.{forces_quirks, doctype_node}
 use Rattle.hmodes.specs.Questions.{answer_of, is_token_name}
@@ -73,7 +73,7 @@ module _ {N : Type 0} where
   forgotten node x = with_items (without_entry node x.items) (removed (Some node) x)
 
   abbrev pub current_node : SiteOf N → ℕ
-  current_node x = node_of (current (stack x))
+  current_node x = open_node (current (stack x))
 
 module _ {N : Type 0} (n : Naming N) where
   -- an element at the appropriate place
@@ -82,7 +82,7 @@ module _ {N : Type 0} (n : Naming N) where
 
   -- the attributes that an open node lacks
   abbrev pub completed : Option (OpenNode N) → List (Attribute N) → SiteOf N → SiteOf N
-  completed node attrs x = with_trees (with_missing n (node_of node) attrs (trees x)) x
+  completed node attrs x = with_trees (with_missing n (open_node node) attrs (trees x)) x
 
   abbrev pub adopted_listed : ℕ → N → SiteOf N → Outcome (SiteOf N)
   adopted_listed at name x =
@@ -91,7 +91,7 @@ module _ {N : Type 0} (n : Naming N) where
   -- the head pointer's node is open again
   abbrev pub head_pushed : ℕ → Option ℕ → SiteOf N → Outcome (SiteOf N)
   head_pushed at None x = Goes x
-  head_pushed at (Some node) x = inserts.pushed at (record { node = node; name = n.known tag.Head }) x
+  head_pushed at (Some node) x = inserts.with_open at (record { node = node; name = n.known tag.Head }) x
 
   abbrev pub perform : ℕ → Token N → Do → State N → Flow N
   perform at t nothing s = Done s
@@ -104,7 +104,7 @@ module _ {N : Type 0} (n : Naming N) where
       each_of (λ c. perform c.at (character c.ch) p) s.control.pending (with_control (record s.control { pending = [] }) s)
   perform at t again s = Again t s
   perform at t (again_as x) s = Again (renamed (n.known x) t) s
-  perform at t (error m) s = site_becomes (with_error (code_of m) at) s
+  perform at t (error m) s = site_becomes (with_error (mode_error m) at) s
   perform at t (to m) s = control_becomes (λ c. record c { mode = m }) s
   perform at t save_mode s = control_becomes (λ c. record c { saved = c.mode }) s
   perform at t to_saved s = control_becomes (λ c. record c { mode = c.saved }) s
@@ -124,7 +124,7 @@ module _ {N : Type 0} (n : Naming N) where
   perform at t (insert_root_named x) s = on_site (inserted at (n.known x) [] (LastIn 0)) s
   perform at t insert_comment s = on_site (added at (forest.comment (token_text t)) (LastIn (current_node s.site))) s
   perform at t comment_in_document s = on_site (added at (forest.comment (token_text t)) (LastIn 0)) s
-  perform at t comment_in_first s = on_site (added at (forest.comment (token_text t)) (LastIn (node_of (from_top 0 s.site)))) s
+  perform at t comment_in_first s = on_site (added at (forest.comment (token_text t)) (LastIn (open_node (from_top 0 s.site)))) s
   perform at t insert_doctype s = on_site (added at (doctype_node t) (LastIn 0)) s
   perform at t put s = on_site (inserts.put at (token_char t) (place n s.site)) s
   perform at t add_missing_to_first s = site_becomes (completed (from_top 0 s.site) (token_attrs t)) s

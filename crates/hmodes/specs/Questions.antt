@@ -5,7 +5,7 @@ use Rattle.std.specs.Option.{option_map_or}
 use Rattle.std.specs.Str.{str_eq_ignore_ascii_case}
 use Rattle.hnodes.specs.Forest.{Attribute}
 use Rattle.hopen.specs.Stack.{OpenNode, is_node, in_scope}
-use Rattle.hopen.specs.Scopes.{stops, stops_item, is_named, is_of}
+use Rattle.hopen.specs.Scopes.{stops_in_scope, stops_item, is_named, is_of}
 use Rattle.hopen.specs.declared.scope.Scope.{Scope}
 use Rattle.hopen.specs.declared.scope.Scope.TheVariants.{Default}
 use Rattle.hopen.specs.Formatting.{find_entry}
@@ -25,7 +25,7 @@ use Rattle.hmodes.specs.Doctypes.{conforms}
 
 module _ {N : Type 0} (n : Naming N) where
   abbrev pub has : Scope → (OpenNode N → Bool) → State N → Bool
-  has scope sought s = in_scope (stops n.tag scope) sought (stack s.site)
+  has scope sought s = in_scope (stops_in_scope n.tag scope) sought (stack s.site)
 
   abbrev pub is_token_name : Token N → OpenNode N → Bool
   is_token_name t = is_named n.same (token_name n t)

@@ -15,7 +15,7 @@ use Rattle.hmodes.specs.Perform.{perform, with_foster, inserted_here}
 use Rattle.hmodes.specs.Rules.{rule_of}
 use Rattle.hmodes.specs.State.{Token, start, State, Done, Again, kind_of}
 use Rattle.hmodes.specs.Reached.{Reached}
-use Rattle.hmodes.specs.Step.{Rule, Step, begun}
+use Rattle.hmodes.specs.Step.{Rule, Step, step_begun}
 use Rattle.hmodes.specs.Words.{Do, ◌▸◌, fostered, insert}
 
 -- the kinds that an end tag ends; a plaintext has none, and is in the body
@@ -62,4 +62,4 @@ module _ {N : Type 0} (n : Naming N) (at : ℕ) (name : N) (attrs : List (Attrib
 abbrev pub RawFollows : {N : Type 0} → Naming N → Type 0
 RawFollows {N} n = (s : State N) → Reached n s → s.control.mode ≢ Text
     → (at : ℕ) (name : N) (attrs : List (Attribute N)) (closing : Bool) (o : Outcome (State N))
-    → is_ended (raw_kind (n.tag name)) ≡ true → Step n at (start name attrs closing) s o → ComesToText n at name attrs closing (begun s) o
+    → is_ended (raw_kind (n.tag name)) ≡ true → Step n at (start name attrs closing) s o → ComesToText n at name attrs closing (step_begun s) o

@@ -4,7 +4,7 @@ use Rattle.std.specs.String.{string_bytes}
 use Rattle.hnodes.specs.Rows.{attribute_of}
 use Rattle.htoken.specs.declared.token.Token.{Token as Given}
 use Rattle.htoken.specs.declared.token.Token.TheVariants as given
-pub use Rattle.htoken.specs.Token.{place_of}
+pub use Rattle.htoken.specs.Token.{token_at}
 use Rattle.hmodes.specs.State.{Token, doctype, start, end, comment, character, eof}
 
 abbrev pub token_of : Given → Token ℕ

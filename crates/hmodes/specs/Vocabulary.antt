@@ -1,16 +1,16 @@
 -- The words of the contracts, in one place.
 pub use Rattle.hadopt.specs.Gives.{Gives}
-pub use Rattle.hadopt.specs.Kept.{Kept}
+pub use Rattle.hadopt.specs.Soundness.{IsSound}
 pub use Rattle.hadopt.specs.Naming.{numbers, texts}
 pub use Rattle.hadopt.specs.Site.{from_top, stack, Goes}
-pub use Rattle.hadopt.specs.Spelled.{Agree}
-pub use Rattle.hmarkup.specs.DoctypeWalk.{text_of}
+pub use Rattle.hadopt.specs.Mapped.{Agree}
+pub use Rattle.hmarkup.specs.DoctypeWalk.{optional_text}
 pub use Rattle.hmarkup.specs.Quirks.{list_matches}
 pub use Rattle.hmodes.specs.Beginning.{control_in, form_of, document_begins, fragment_begins, fragment_site}
 pub use Rattle.hmodes.specs.Body.{block, close_block, close_item, end_item, in_body, after_body, after_after_body, body_ends, character_in_body, text, formatting}
 pub use Rattle.hmodes.specs.Body.{void_in_text}
 pub use Rattle.hmodes.specs.Bounds.{AreLimits, Bounds}
-pub use Rattle.hmodes.specs.Building.{Takes, TakesToken, puts_run, HasBegun, IsReprocessed, ChainGives, StepGives}
+pub use Rattle.hmodes.specs.Building.{TakesTokenAt, TakesToken, puts_run, HasBegun, IsReprocessed, ChainGives, StepGives}
 pub use Rattle.hmodes.specs.Doctypes.{is_text, conforms, forces_quirks, doctype_node}
 pub use Rattle.hmodes.specs.Ended.{ended}
 pub use Rattle.hmodes.specs.Families.{family_of}
@@ -25,14 +25,14 @@ pub use Rattle.hmodes.specs.Questions.{is_hidden, answer_of}
 pub use Rattle.hmodes.specs.RawFollows.{RawFollows}
 pub use Rattle.hmodes.specs.Reached.{HasOneStep, Reached}
 pub use Rattle.hmodes.specs.Reset.{context_mode, open_mode, root_mode, reset_mode}
-pub use Rattle.hmodes.specs.Rules.{rule_of, code_of}
+pub use Rattle.hmodes.specs.Rules.{rule_of, mode_error}
 pub use Rattle.hmodes.specs.Runs.{AreSome, puts_each, takes_char, before_text, put_all, char_rule}
-pub use Rattle.hmodes.specs.Spelled.{StepsKnowNoNames}
+pub use Rattle.hmodes.specs.Mapped.{StepsKnowNoNames}
 pub use Rattle.hmodes.specs.Stand.{OpenNodesStand}
 pub use Rattle.hmodes.specs.State.{character, Token, State, is_self_closing, Token as TokenOf, Done as DoneOf, token_attrs, token_name, token_text, token_char}
 pub use Rattle.hmodes.specs.State.{renamed, character_kind, kind_of, State as StateOf, Flow as FlowOf, eof}
 pub use Rattle.hmodes.specs.States.{state_of}
-pub use Rattle.hmodes.specs.Step.{Rule, is_dropped, begun, finished}
+pub use Rattle.hmodes.specs.Step.{Rule, is_dropped, step_begun, finished}
 pub use Rattle.hmodes.specs.Table.{in_caption, close_caption, in_column_group, in_cell, close_cell, in_row, close_row, in_table, character_in_table}
 pub use Rattle.hmodes.specs.Table.{in_table_body, section_ends, in_table_text, other_in_table}
 pub use Rattle.hmodes.specs.Tokens.{token_of}
@@ -45,7 +45,7 @@ pub use Rattle.hmodes.specs.declared.mode.Mode.TheVariants.{InBody, AfterBody, A
 pub use Rattle.hnodes.specs.Rows.{attribute_of}
 pub use Rattle.htext.specs.Run.{is_clean}
 pub use Rattle.htext.specs.declared.decoder.TheConstants.{MAX_INPUT}
-pub use Rattle.htoken.specs.Run.{run_tokens, IsSpread}
+pub use Rattle.htoken.specs.Run.{run_tokens, IsTextWithReferences}
 pub use Rattle.names.specs.Names.{Texts, AreNames}
 pub use Rattle.names.specs.Placed.{placed, is_space}
 pub use Rattle.names.specs.Sink.{Hands}

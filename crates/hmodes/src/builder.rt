@@ -5,7 +5,7 @@ ghost use Rattle.std.specs.List.{list_all};
 ghost use Rattle.std.specs.Option.{option_map};
 ghost use Rattle.std.specs.Result.{result_err};
 ghost use Rattle.std.specs.Str.{chars};
-ghost use Rattle.hmodes.specs.Vocabulary.{Refused, Memory, numbers, document_begins, fragment_begins, token_of, Takes, TakesToken, puts_run, AreSome, puts_each, takes_char, is_clean, MAX_INPUT, run_tokens, IsSpread, placed};
+ghost use Rattle.hmodes.specs.Vocabulary.{Refused, Memory, numbers, document_begins, fragment_begins, token_of, TakesTokenAt, TakesToken, puts_run, AreSome, puts_each, takes_char, is_clean, MAX_INPUT, run_tokens, IsTextWithReferences, placed};
 ghost use Rattle.hmodes.specs.Vocabulary.{Placed, Hands};
 
 use crate::limits::Limits;
@@ -22,7 +22,7 @@ use std::marker::Model;
 pub struct Builder<'q> {
     state: TreeConstruction<'q>,
     root: NodeId,
-    told: Vec<ParseError>,
+    tokenizer_errors: Vec<ParseError>,
     refused: Option<Refusal>,
 }
 
@@ -32,11 +32,11 @@ impl<'q> Drop for Builder<'q> {
         let Builder {
             state,
             root: _,
-            told,
+            tokenizer_errors,
             refused: _,
         } = self;
         drop(state);
-        drop(told);
+        drop(tokenizer_errors);
     }
 }
 
@@ -45,15 +45,15 @@ impl<'q> Model for Builder<'q> {
     ghost use Rattle.std.specs.Coded.{codes};
     ghost use Rattle.hnodes.specs.Coding.{coded_forest};
     ghost use Rattle.hmodes.specs.States.{state_of};
-    ghost use Rattle.hmodes.specs.Building.{Building, Stands};
+    ghost use Rattle.hmodes.specs.Building.{Building, BuilderStands};
 
     ghost Value = { Building };
 
     ghost coded = { Prim.hlevel (codes, coded_forest) };
 
-    ghost view = { λ b. record { state = state_of b.state; root = b.root; told = b.told.items; refused = b.refused } };
+    ghost view = { λ b. record { state = state_of b.state; root = b.root; tokenizer_errors = b.tokenizer_errors.items; refused = b.refused } };
 
-    ghost invariant = { λ b. b.refused ≡ None → Stands b.root (state_of b.state) };
+    ghost invariant = { λ b. b.refused ≡ None → BuilderStands b.root (state_of b.state) };
 }
 
 /// What was built: the tree, the document or a fragment's root element, and the parse errors: those of the rules in the order in
@@ -76,14 +76,14 @@ impl<'q> Builder<'q> {
         limits: Limits,
     ) -> Result<Builder<'q>, Refusal>
         ensures { MatchResult result
-            (λ b. b ≡ record { state = document_begins quirks.now limits.tree; root = 0; told = []; refused = None }) (λ e. e ≡ Memory) }
+            (λ b. b ≡ record { state = document_begins quirks.now limits.tree; root = 0; tokenizer_errors = []; refused = None }) (λ e. e ≡ Memory) }
     {
         let state = TreeConstruction::document(alloc, keys, quirks, limits)?;
         let root = state.site.tree().document();
         Ok(Builder {
             state,
             root,
-            told: Vec::new(alloc),
+            tokenizer_errors: Vec::new(alloc),
             refused: None,
         })
     }
@@ -95,14 +95,14 @@ impl<'q> Builder<'q> {
         context: NameId,
         limits: Limits,
     ) -> Result<Builder<'q>, Refusal>
-        ensures { MatchResult result (λ b. b ≡ record { state = fragment_begins numbers context limits.tree; root = 1; told = []; refused = None })
+        ensures { MatchResult result (λ b. b ≡ record { state = fragment_begins numbers context limits.tree; root = 1; tokenizer_errors = []; refused = None })
             (λ e. e ≡ Memory) }
     {
         let (state, root) = TreeConstruction::fragment(alloc, keys, context, limits)?;
         Ok(Builder {
             state,
             root,
-            told: Vec::new(alloc),
+            tokenizer_errors: Vec::new(alloc),
             refused: None,
         })
     }
@@ -133,7 +133,7 @@ impl<'q> Builder<'q> {
     pub fn finish(self) -> Result<Built, Refusal>
         ensures tree { IfOk result (λ built. built.tree ≡ self.entry.state.site.nodes) }
         ensures root { IfOk result (λ built. (built.root ≡ self.entry.root) × (built.root < built.tree.made)) }
-        ensures errors { IfOk result (λ built. built.errors.items ≡ self.entry.state.site.errors ++ self.entry.told) }
+        ensures errors { IfOk result (λ built. built.errors.items ≡ self.entry.state.site.errors ++ self.entry.tokenizer_errors) }
         ensures made_again { IfOk result (λ built. built.again.items ≡ self.entry.state.site.again) }
         ensures again { (refusal : Refused) → self.entry.refused ≡ Some refusal → result ≡ Err refusal }
         ensures memory { self.entry.refused ≡ None → IfErr result (λ refusal. refusal ≡ Memory) }
@@ -141,17 +141,17 @@ impl<'q> Builder<'q> {
         let Builder {
             state,
             root,
-            told,
+            tokenizer_errors,
             refused,
         } = self;
         if let Err(refusal) = again(refused) {
             drop(state);
-            drop(told);
+            drop(tokenizer_errors);
             return Err(refusal);
         }
         let TreeConstruction { site, .. } = state;
         let (tree, raised, again) = site.into_parts();
-        let errors = joined(raised, told)?;
+        let errors = joined(raised, tokenizer_errors)?;
         Ok(Built {
             tree,
             root,
@@ -185,7 +185,7 @@ impl<'q> Builder<'q> {
     fn puts_run(&self, run: &str) -> bool
         ensures { result ≡ puts_run run.now self.now }
     {
-        !run.is_empty() && self.may_spread()
+        !run.is_empty() && self.may_take_with_references()
     }
 
     /// Whether a character is not NUL, nothing was refused, and the rules put or keep it at once.
@@ -201,7 +201,7 @@ impl<'q> Builder<'q> {
     fn put_run(&mut self, run: &str, at: u64) -> Result<(), Refusal>
         requires some { AreSome (chars run.now) }
         requires puts { puts_run run.now self.old ≡ true }
-        ensures { (text : List Placed) → IsSpread text run.now at → Hands TakesToken self.old (run_tokens text) result self.new }
+        ensures { (text : List Placed) → IsTextWithReferences text run.now at → Hands TakesToken self.old (run_tokens text) result self.new }
     {
         self.state.begin();
         let answer = self.state.put_run(run, at);
@@ -212,7 +212,7 @@ impl<'q> Builder<'q> {
     /// Takes a token, whose first byte is at this place.
     #[inline(always)]
     fn take(&mut self, token: &mut Token, at: u64) -> Result<(), Refusal>
-        ensures { Takes at (token_of token.old) self.old result self.new }
+        ensures { TakesTokenAt at (token_of token.old) self.old result self.new }
     {
         again(self.refused)?;
         let answer = self.state.step(token, at);
@@ -277,7 +277,7 @@ impl<'q> ErrorSink for Builder<'q> {
 
     fn take_error(&mut self, error: ParseError) -> Result<(), Refusal> {
         again(self.refused)?;
-        if self.told.push(error).is_err() {
+        if self.tokenizer_errors.push(error).is_err() {
             self.refused = Some(Refusal::Memory);
             return Err(Refusal::Memory);
         }
@@ -320,13 +320,13 @@ impl<'q> TokenSink for Builder<'q> {
     }
 
     #[inline(always)]
-    fn may_spread(&self) -> bool
+    fn may_take_with_references(&self) -> bool
         ensures { result ≡ (is_none self.now.refused && puts_each self.now.state) }
     {
         self.refused.is_none() && self.state.puts_each()
     }
 
-    fn take_spread(&mut self, run: &str, at: u64) -> Result<bool, Refusal> {
+    fn take_with_references(&mut self, run: &str, at: u64) -> Result<bool, Refusal> {
         if !self.puts_run(run) {
             return Ok(false);
         }

@@ -1,6 +1,6 @@
 //! The "in body" insertion mode (HTML Standard, `#parsing-main-inbody`).
 
-ghost use Rattle.hmodes.specs.Vocabulary.{in_body, body_ends, character_in_body, End, ◌▸◌, choose, error, to, insert, reconstruct, has_in, InBody, AfterBody, Kept, numbers, ended, StateGives, perform, character, state_of, Start, other_end, Performs, AlwaysPerforms, Does};
+ghost use Rattle.hmodes.specs.Vocabulary.{in_body, body_ends, character_in_body, End, ◌▸◌, choose, error, to, insert, reconstruct, has_in, InBody, AfterBody, IsSound, numbers, ended, StateGives, perform, character, state_of, Start, other_end, Performs, AlwaysPerforms, Does};
 ghost use Rattle.hmodes.specs.declared.family.Family.TheVariants as family;
 ghost use Rattle.hopen.specs.declared.scope.Scope.TheVariants as scope;
 ghost use Rattle.names.specs.declared.tag.Tag.TheVariants as tag;
@@ -18,7 +18,7 @@ impl<'q> TreeConstruction<'q> {
     /// The "in body" insertion mode (`#parsing-main-inbody`).
     #[inline(always)]
     pub(crate) fn in_body(&mut self, kind: TokenKind, token: &mut Token, at: u64) -> Ruling
-        requires { Kept numbers self.old.site }
+        requires { IsSound numbers self.old.site }
         ensures { Performs at (in_body kind) token.old self.old result token.new self.new }
     {
         match kind {
@@ -34,13 +34,13 @@ impl<'q> TreeConstruction<'q> {
     /// A start tag.
     #[inline(never)]
     fn start_in_body(&mut self, family: Family, token: &mut Token, at: u64) -> Ruling
-        requires { Kept numbers self.old.site }
+        requires { IsSound numbers self.old.site }
         ensures { Performs at (in_body (Start family)) token.old self.old result token.new self.new }
     {
         match family {
             Family::Html => self.html_again(token, at),
             Family::Base
-            | Family::Link
+            | Family::HeadVoid
             | Family::Noframes
             | Family::Script
             | Family::Style
@@ -58,8 +58,8 @@ impl<'q> TreeConstruction<'q> {
             Family::Nobr => self.nobr(token, at),
             Family::Object => self.object(token, at),
             Family::Table => self.table(token, at),
-            Family::Area | Family::Br | Family::Input => self.void_in_text(token, at),
-            Family::Param => done(self.void(token, at)),
+            Family::PhrasingVoid | Family::Br | Family::Input => self.void_in_text(token, at),
+            Family::MediaVoid => done(self.void(token, at)),
             Family::Hr => self.hr(token, at),
             Family::Image => self.image(token, at),
             Family::Textarea => self.textarea(token, at),
@@ -81,7 +81,7 @@ impl<'q> TreeConstruction<'q> {
     /// An end tag.
     #[inline(never)]
     fn end_in_body(&mut self, family: Family, token: &mut Token, at: u64) -> Ruling
-        requires { Kept numbers self.old.site }
+        requires { IsSound numbers self.old.site }
         ensures { Performs at (in_body (End family)) token.old self.old result token.new self.new }
     {
         match family {

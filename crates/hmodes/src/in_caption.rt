@@ -1,6 +1,6 @@
 //! The insertion modes of captions and column groups (HTML Standard, `#parsing-main-incaption` and `#parsing-main-incolgroup`).
 
-ghost use Rattle.hmodes.specs.Vocabulary.{in_caption, close_caption, in_column_group, Kept, numbers, ended, Performs, AlwaysPerforms};
+ghost use Rattle.hmodes.specs.Vocabulary.{in_caption, close_caption, in_column_group, IsSound, numbers, ended, Performs, AlwaysPerforms};
 
 use crate::family::Family;
 use crate::mode::Mode;
@@ -13,7 +13,7 @@ use names::Tag;
 impl<'q> TreeConstruction<'q> {
     /// The "in caption" insertion mode (`#parsing-main-incaption`).
     pub(crate) fn in_caption(&mut self, kind: TokenKind, token: &mut Token, at: u64) -> Ruling
-        requires { Kept numbers self.old.site }
+        requires { IsSound numbers self.old.site }
         ensures { Performs at (in_caption kind) token.old self.old result token.new self.new }
     {
         match kind {

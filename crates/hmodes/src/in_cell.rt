@@ -1,6 +1,6 @@
 //! The "in cell" insertion mode (HTML Standard, `#parsing-main-intd`).
 
-ghost use Rattle.hmodes.specs.Vocabulary.{in_cell, close_cell, Kept, numbers, ◌▸◌, unless, error, again, current_is_group, InCell, Performs, AlwaysPerforms, Does};
+ghost use Rattle.hmodes.specs.Vocabulary.{in_cell, close_cell, IsSound, numbers, ◌▸◌, unless, error, again, current_is_group, InCell, Performs, AlwaysPerforms, Does};
 ghost use Rattle.hopen.specs.declared.scope.Group.TheVariants as group;
 
 use crate::family::Family;
@@ -16,7 +16,7 @@ use names::Refusal;
 impl<'q> TreeConstruction<'q> {
     /// The "in cell" insertion mode (`#parsing-main-intd`).
     pub(crate) fn in_cell(&mut self, kind: TokenKind, token: &mut Token, at: u64) -> Ruling
-        requires { Kept numbers self.old.site }
+        requires { IsSound numbers self.old.site }
         ensures { Performs at (in_cell kind) token.old self.old result token.new self.new }
     {
         match kind {

@@ -20,7 +20,7 @@ impl<'q> TreeConstruction<'q> {
             TokenKind::Ws => self.put(token, at),
             TokenKind::Comment => self.insert_comment(token, at),
             TokenKind::Start(Family::Html) => self.html_again(token, at),
-            TokenKind::Start(Family::Base | Family::Link) => done(self.void(token, at)),
+            TokenKind::Start(Family::Base | Family::HeadVoid) => done(self.void(token, at)),
             TokenKind::Start(Family::Title | Family::Noframes | Family::Style | Family::Script) => {
                 done(self.raw(token, at))
             }
@@ -69,7 +69,7 @@ impl<'q> TreeConstruction<'q> {
             TokenKind::End(Family::Noscript) => self.pop_and_go(Mode::InHead, Flow::Done),
             TokenKind::Ws => self.put(token, at),
             TokenKind::Comment => self.insert_comment(token, at),
-            TokenKind::Start(Family::Link) => done(self.void(token, at)),
+            TokenKind::Start(Family::HeadVoid) => done(self.void(token, at)),
             TokenKind::Start(Family::Noframes | Family::Style) => done(self.raw(token, at)),
             TokenKind::End(Family::Br) => self.noscript_ends(at),
             TokenKind::Doctype
@@ -99,7 +99,7 @@ impl<'q> TreeConstruction<'q> {
             TokenKind::Comment => self.insert_comment(token, at),
             TokenKind::Start(Family::Html) => self.html_again(token, at),
             TokenKind::Start(Family::Body) => self.insert_and_go(Mode::InBody, token, at),
-            TokenKind::Start(Family::Base | Family::Link) => self.late_void(token, at),
+            TokenKind::Start(Family::Base | Family::HeadVoid) => self.late_void(token, at),
             TokenKind::Start(Family::Noframes | Family::Script | Family::Style | Family::Title) => {
                 self.late_raw(token, at)
             }

@@ -1,6 +1,6 @@
 //! The "in row" insertion mode (HTML Standard, `#parsing-main-intr`).
 
-ghost use Rattle.hmodes.specs.Vocabulary.{in_row, close_row, Kept, numbers, ended, Performs, AlwaysPerforms};
+ghost use Rattle.hmodes.specs.Vocabulary.{in_row, close_row, IsSound, numbers, ended, Performs, AlwaysPerforms};
 
 use crate::family::Family;
 use crate::mode::Mode;
@@ -15,7 +15,7 @@ use names::Tag;
 impl<'q> TreeConstruction<'q> {
     /// The "in row" insertion mode (`#parsing-main-intr`).
     pub(crate) fn in_row(&mut self, kind: TokenKind, token: &mut Token, at: u64) -> Ruling
-        requires { Kept numbers self.old.site }
+        requires { IsSound numbers self.old.site }
         ensures { Performs at (in_row kind) token.old self.old result token.new self.new }
     {
         match kind {

@@ -1,7 +1,7 @@
 //! The "in table" insertion mode (HTML Standard, `#parsing-main-intable`).
 
 ghost use Rattle.std.specs.Prelude.{◌≡◌};
-ghost use Rattle.hmodes.specs.Vocabulary.{DoneOf, in_table, character_in_table, Kept, numbers, performed, state_of, ◌▸◌, unless, error, other_in_table, Start, End, to, insert, pop, pop_to, form_pointer, form_is_set, InTable, reset, clear_to_table, Performs};
+ghost use Rattle.hmodes.specs.Vocabulary.{DoneOf, in_table, character_in_table, IsSound, numbers, performed, state_of, ◌▸◌, unless, error, other_in_table, Start, End, to, insert, pop, pop_to, form_pointer, form_is_set, InTable, reset, clear_to_table, Performs};
 ghost use Rattle.hmodes.specs.declared.family.Family.TheVariants as family;
 ghost use Rattle.names.specs.declared.tag.Tag.TheVariants as tag;
 
@@ -18,7 +18,7 @@ use names::Tag;
 impl<'q> TreeConstruction<'q> {
     /// The "in table" insertion mode (`#parsing-main-intable`).
     pub(crate) fn in_table(&mut self, kind: TokenKind, token: &mut Token, at: u64) -> Ruling
-        requires { Kept numbers self.old.site }
+        requires { IsSound numbers self.old.site }
         ensures { Performs at (in_table kind) token.old self.old result token.new self.new }
     {
         match kind {
@@ -35,7 +35,7 @@ impl<'q> TreeConstruction<'q> {
 
     /// A start tag in a table.
     fn start_in_table(&mut self, family: Family, token: &mut Token, at: u64) -> Ruling
-        requires { Kept numbers self.old.site }
+        requires { IsSound numbers self.old.site }
         ensures { Performs at (in_table (Start family)) token.old self.old result token.new self.new }
     {
         match family {
@@ -75,7 +75,7 @@ impl<'q> TreeConstruction<'q> {
 
     /// An end tag in a table.
     fn end_in_table(&mut self, family: Family, token: &mut Token, at: u64) -> Ruling
-        requires { Kept numbers self.old.site }
+        requires { IsSound numbers self.old.site }
         ensures { Performs at (in_table (End family)) token.old self.old result token.new self.new }
     {
         match family {
@@ -101,7 +101,7 @@ impl<'q> TreeConstruction<'q> {
 
     /// Anything else in a table: by the rules of the body, with foster parenting on (`#foster-parent`).
     pub(crate) fn other_in_table(&mut self, kind: TokenKind, token: &mut Token, at: u64) -> Ruling
-        requires { Kept numbers self.old.site }
+        requires { IsSound numbers self.old.site }
         ensures { Performs at (other_in_table kind) token.old self.old result token.new self.new }
     {
         self.error(Mode::InTable, at)?;
@@ -118,7 +118,7 @@ impl<'q> TreeConstruction<'q> {
         token: &mut Token,
         at: u64,
     ) -> Ruling
-        requires { Kept numbers self.old.site }
+        requires { IsSound numbers self.old.site }
         ensures { Performs at (character_in_table kind) token.old self.old result token.new self.new }
     {
         if !self.site.current_fosters() {
@@ -148,7 +148,7 @@ impl<'q> TreeConstruction<'q> {
 
     /// The start tag input in a table.
     pub(crate) fn input_in_table(&mut self, token: &mut Token, at: u64) -> Ruling
-        requires { Kept numbers self.old.site }
+        requires { IsSound numbers self.old.site }
         ensures { Performs at (in_table (Start family.Input)) token.old self.old result token.new self.new }
     {
         if !is_hidden(token) {

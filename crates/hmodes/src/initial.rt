@@ -2,7 +2,7 @@
 
 ghost use Rattle.std.specs.Prelude.{◌≡◌, [], string_bytes, option_map, unwrap_or};
 ghost use Rattle.std.specs.Option.{option_map_or};
-ghost use Rattle.hmodes.specs.Vocabulary.{text_of, list_matches, is_text, conforms, forces_quirks, doctype_node, initial, state_of, token_of, Performs};
+ghost use Rattle.hmodes.specs.Vocabulary.{optional_text, list_matches, is_text, conforms, forces_quirks, doctype_node, initial, state_of, token_of, Performs};
 ghost use Rattle.hnodes.specs.Forest as forest;
 
 use crate::mode::Mode;
@@ -17,7 +17,7 @@ const LEGACY_COMPAT: &str = "about:legacy-compat";
 
 /// Whether a name or an identifier is there and is this text.
 fn is_text(text: &str, found: &Option<String>) -> bool
-    ensures { result ≡ is_text text.now (text_of found.now) }
+    ensures { result ≡ is_text text.now (optional_text found.now) }
 {
     match found {
         Some(found) => text == found.as_str(),
@@ -41,7 +41,7 @@ fn conforms(token: &Token) -> bool
 
 /// Takes a text out, an empty one where there is none.
 fn take_text(alloc: Global, text: &mut Option<String>) -> String
-    ensures { string_bytes result ≡ unwrap_or (text_of text.old) [] }
+    ensures { string_bytes result ≡ unwrap_or (optional_text text.old) [] }
 {
     match text.take() {
         Some(text) => text,

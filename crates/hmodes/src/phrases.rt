@@ -2,7 +2,7 @@
 
 ghost use Rattle.std.specs.Prelude.{◌≡◌};
 ghost use Rattle.std.specs.Option.{option_map_or};
-ghost use Rattle.hmodes.specs.Vocabulary.{Kept, numbers, StateGives, perform, with_site, state_of, token_of, ◌▸◌, when, error, insert, reconstruct, has_in, InBody, forgotten, formatting, void_in_text, push_to_list, adopt};
+ghost use Rattle.hmodes.specs.Vocabulary.{IsSound, numbers, StateGives, perform, with_site, state_of, token_of, ◌▸◌, when, error, insert, reconstruct, has_in, InBody, forgotten, formatting, void_in_text, push_to_list, adopt};
 ghost use Rattle.hmodes.specs.Vocabulary.{adopt_listed, name_is_listed, unless, implied_except, current_is, Does, Performs, AlwaysPerforms, DoesFor, in_body, Start, End};
 ghost use Rattle.hmodes.specs.declared.family.Family.TheVariants as family;
 ghost use Rattle.hopen.specs.declared.scope.Scope.TheVariants as scope;
@@ -40,7 +40,7 @@ impl<'q> TreeConstruction<'q> {
 
     /// The adoption agency runs.
     fn run_adoption(&mut self, name: NameId, at: u64) -> Result<(), Refusal>
-        requires { Kept numbers self.old.site }
+        requires { IsSound numbers self.old.site }
         ensures { DoesFor name at adopt self.old result self.new }
     {
         self.site.adopt(name, at)
@@ -58,7 +58,7 @@ impl<'q> TreeConstruction<'q> {
 
     /// The adoption agency runs for a listed element of the name, which leaves then.
     fn adopt_listed(&mut self, name: NameId, at: u64) -> Result<(), Refusal>
-        requires { Kept numbers self.old.site }
+        requires { IsSound numbers self.old.site }
         ensures { DoesFor name at (error InBody ▸ adopt_listed) self.old result self.new }
     {
         self.error(Mode::InBody, at)?;
@@ -70,7 +70,7 @@ impl<'q> TreeConstruction<'q> {
 
     /// A listed element of the name is closed.
     fn close_listed(&mut self, name: NameId, at: u64) -> Result<(), Refusal>
-        requires { Kept numbers self.old.site }
+        requires { IsSound numbers self.old.site }
         ensures { DoesFor name at (when name_is_listed (error InBody ▸ adopt_listed)) self.old result self.new }
     {
         if self.site.find(name).is_none() {
@@ -81,7 +81,7 @@ impl<'q> TreeConstruction<'q> {
 
     /// The start tag a.
     pub(crate) fn anchor(&mut self, token: &mut Token, at: u64) -> Ruling
-        requires { Kept numbers self.old.site }
+        requires { IsSound numbers self.old.site }
         ensures { Performs at (in_body (Start family.A)) token.old self.old result token.new self.new }
     {
         self.close_listed(token_name(token), at)?;
@@ -90,7 +90,7 @@ impl<'q> TreeConstruction<'q> {
 
     /// The adoption agency runs for a nobr that is open.
     fn adopt_nobr(&mut self, name: NameId, at: u64) -> Result<(), Refusal>
-        requires { Kept numbers self.old.site }
+        requires { IsSound numbers self.old.site }
         ensures { DoesFor name at (error InBody ▸ adopt ▸ reconstruct) self.old result self.new }
     {
         self.error(Mode::InBody, at)?;
@@ -100,7 +100,7 @@ impl<'q> TreeConstruction<'q> {
 
     /// A nobr in scope is closed.
     fn close_nobr(&mut self, name: NameId, at: u64) -> Result<(), Refusal>
-        requires { Kept numbers self.old.site }
+        requires { IsSound numbers self.old.site }
         ensures { DoesFor name at (when (has_in scope.Default tag.Nobr) (error InBody ▸ adopt ▸ reconstruct)) self.old result self.new }
     {
         if !self.site.in_scope(Scope::Default, Tag::Nobr.number()) {
@@ -111,7 +111,7 @@ impl<'q> TreeConstruction<'q> {
 
     /// The start tag nobr.
     pub(crate) fn nobr(&mut self, token: &mut Token, at: u64) -> Ruling
-        requires { Kept numbers self.old.site }
+        requires { IsSound numbers self.old.site }
         ensures { Performs at (in_body (Start family.Nobr)) token.old self.old result token.new self.new }
     {
         self.site.reconstruct(at)?;
@@ -121,7 +121,7 @@ impl<'q> TreeConstruction<'q> {
 
     /// The end tag of a formatting element.
     pub(crate) fn adopt(&mut self, token: &Token, at: u64) -> Ruling
-        requires { Kept numbers self.old.site }
+        requires { IsSound numbers self.old.site }
         ensures { Performs at adopt token.now self.old result token.now self.new }
     {
         done(self.run_adoption(token_name(token), at))

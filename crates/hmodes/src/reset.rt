@@ -2,7 +2,7 @@
 
 ghost use Rattle.std.specs.Prelude.{◌≡◌};
 ghost use Rattle.std.specs.Option.{option_map_or};
-ghost use Rattle.hmodes.specs.Vocabulary.{numbers, from_top, tag_of, InBody, context_mode, stack, open_mode, root_mode, reset_mode};
+ghost use Rattle.hmodes.specs.Vocabulary.{numbers, from_top, InBody, context_mode, stack, open_mode, root_mode, reset_mode};
 
 use crate::mode::Mode;
 use crate::tree_construction::TreeConstruction;

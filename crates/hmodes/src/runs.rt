@@ -1,7 +1,7 @@
 //! Characters of text, one alone or a run.
 
 ghost use Rattle.std.specs.Prelude.{◌≡◌, List};
-ghost use Rattle.hmodes.specs.Vocabulary.{Gives, numbers, StateGives, perform, with_site, character, state_of, Placed, IsSpread, puts_each, before_text, put_all, takes_char, char_rule};
+ghost use Rattle.hmodes.specs.Vocabulary.{Gives, numbers, StateGives, perform, with_site, character, state_of, Placed, IsTextWithReferences, puts_each, before_text, put_all, takes_char, char_rule};
 
 use crate::mode::Mode;
 use crate::tree_construction::TreeConstruction;
@@ -38,7 +38,7 @@ impl<'q> TreeConstruction<'q> {
     /// Puts the characters of a run at the current node, after the formatting elements: the same wherever all but the first are.
     #[inline(always)]
     pub(crate) fn put_run(&mut self, run: &str, at: u64) -> Result<(), Refusal>
-        ensures gives { (text : List Placed) → IsSpread text run.now at → Gives result self.new.site (put_all at text (state_of self.old)) }
+        ensures gives { (text : List Placed) → IsTextWithReferences text run.now at → Gives result self.new.site (put_all at text (state_of self.old)) }
         ensures rest { state_of self.new ≡ with_site self.new.site (state_of self.old) }
     {
         self.begin_text(at)?;

@@ -1,7 +1,7 @@
 //! A token: how it begins, the rules that it goes by, and how it ends (HTML Standard, `#tree-construction`).
 
 ghost use Rattle.std.specs.Prelude.{◌≡◌, ℕ, ◌<◌, IfSome};
-ghost use Rattle.hmodes.specs.Vocabulary.{Goes, HasBegun, IsReprocessed, ChainGives, StepGives, Reached, rule_of, is_self_closing, Rule, is_dropped, begun, finished, Gives, numbers, TokenOf, state_of, token_of, Kept, FlowGives, AfterHead};
+ghost use Rattle.hmodes.specs.Vocabulary.{Goes, HasBegun, IsReprocessed, ChainGives, StepGives, Reached, rule_of, is_self_closing, Rule, is_dropped, step_begun, finished, Gives, numbers, TokenOf, state_of, token_of, IsSound, FlowGives, AfterHead};
 ghost use Rattle.hmodes.specs.Vocabulary.{Performs};
 
 use crate::mode::Mode;
@@ -67,7 +67,7 @@ impl<'q> TreeConstruction<'q> {
     /// A token begins.
     #[inline(always)]
     pub(crate) fn begin(&mut self)
-        ensures { state_of self.new ≡ begun (state_of self.old) }
+        ensures { state_of self.new ≡ step_begun (state_of self.old) }
     {
         self.control.drop_lf = false;
         self.control.acknowledged = false;
@@ -87,7 +87,7 @@ impl<'q> TreeConstruction<'q> {
     /// One rule for a token: of the mode that holds, which is "in body" for most tokens.
     #[inline(always)]
     pub(crate) fn rule(&mut self, token: &mut Token, at: u64) -> Ruling
-        requires kept { Kept numbers self.old.site }
+        requires kept { IsSound numbers self.old.site }
         requires head { self.old.control.mode ≡ AfterHead → IfSome self.old.control.head (λ k. (0 < k) × (k < self.old.site.nodes.made)) }
         ensures { FlowGives result (token_of token.new) (state_of self.new) (Rule numbers at (token_of token.old) (state_of self.old)) }
     {
@@ -101,7 +101,7 @@ impl<'q> TreeConstruction<'q> {
     /// The rule for a kind of token of the mode that holds.
     #[inline(never)]
     fn rule_of_mode(&mut self, kind: TokenKind, token: &mut Token, at: u64) -> Ruling
-        requires kept { Kept numbers self.old.site }
+        requires kept { IsSound numbers self.old.site }
         requires head { self.old.control.mode ≡ AfterHead → IfSome self.old.control.head (λ k. (0 < k) × (k < self.old.site.nodes.made)) }
         ensures { Performs at (rule_of self.old.control.mode kind) token.old self.old result token.new self.new }
     {

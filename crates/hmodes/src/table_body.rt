@@ -1,6 +1,6 @@
 //! The "in table body" insertion mode (HTML Standard, `#parsing-main-intbody`).
 
-ghost use Rattle.hmodes.specs.Vocabulary.{in_table_body, section_ends, Kept, numbers, Performs, AlwaysPerforms, Start, End};
+ghost use Rattle.hmodes.specs.Vocabulary.{in_table_body, section_ends, IsSound, numbers, Performs, AlwaysPerforms, Start, End};
 ghost use Rattle.hmodes.specs.declared.family.Family.TheVariants as family;
 
 use crate::family::Family;
@@ -16,7 +16,7 @@ use names::Tag;
 impl<'q> TreeConstruction<'q> {
     /// The "in table body" insertion mode (`#parsing-main-intbody`).
     pub(crate) fn in_table_body(&mut self, kind: TokenKind, token: &mut Token, at: u64) -> Ruling
-        requires { Kept numbers self.old.site }
+        requires { IsSound numbers self.old.site }
         ensures { Performs at (in_table_body kind) token.old self.old result token.new self.new }
     {
         match kind {

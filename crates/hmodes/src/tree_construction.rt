@@ -1,7 +1,7 @@
 //! The state that the rules of all insertion modes work on, how a rule ends, and the codes of its errors.
 
 ghost use Rattle.std.specs.Prelude.{◌≡◌, ℕ};
-ghost use Rattle.hmodes.specs.Vocabulary.{FlowGives, StateGives, TokenOf, code_of, StateOf, FlowOf};
+ghost use Rattle.hmodes.specs.Vocabulary.{FlowGives, StateGives, TokenOf, mode_error, StateOf, FlowOf};
 
 use crate::control::Control;
 use crate::mode::Mode;
@@ -43,7 +43,7 @@ pub(crate) fn done(last: Result<(), Refusal>) -> Ruling
 impl Mode {
     /// The code of the errors of its rules.
     pub(crate) fn code(self) -> ErrorCode
-        ensures { result ≡ code_of self }
+        ensures { result ≡ mode_error self }
     {
         match self {
             Mode::Initial => ErrorCode::TreeInitial,

@@ -2,7 +2,7 @@
 //! `#parsing-main-inhtml`).
 
 ghost use Rattle.std.specs.Prelude.{IfOk, [], ◌≡◌};
-ghost use Rattle.hmodes.specs.Vocabulary.{current_node, on_site, site_becomes, inserted_here, completed, html_again, answer_of, eof, Kept, numbers, from_top, StateGives, perform, void, raw, close_p_in_scope, character};
+ghost use Rattle.hmodes.specs.Vocabulary.{current_node, on_site, site_becomes, inserted_here, completed, html_again, answer_of, eof, IsSound, numbers, from_top, StateGives, perform, void, raw, close_p_in_scope, character};
 ghost use Rattle.hmodes.specs.Vocabulary.{token_attrs, state_of, token_of, InBody, error, insert, put, unless, current_is_name, pop_to_name, implied, clear_to_marker, ◌▸◌, second_is_body, current_is_form, has_form_in_scope};
 ghost use Rattle.hmodes.specs.Vocabulary.{insert_comment, comment_in_document, comment_in_first, implied_except_name, Performs, AlwaysPerforms, Does, DoesFor};
 
@@ -19,7 +19,7 @@ impl<'q> TreeConstruction<'q> {
     /// One more parse error, by the rules of a mode.
     pub(crate) fn error(&mut self, mode: Mode, at: u64) -> Result<(), Refusal>
         ensures done { Does at (error mode) self.old result self.new }
-        ensures kept { Kept numbers self.old.site → IfOk result (λ _. Kept numbers self.new.site) }
+        ensures kept { IsSound numbers self.old.site → IfOk result (λ _. IsSound numbers self.new.site) }
     {
         self.site.error(mode.code(), at)
     }
@@ -34,7 +34,7 @@ impl<'q> TreeConstruction<'q> {
     /// An HTML element for a start tag at the appropriate place (`#insert-an-html-element`).
     pub(crate) fn insert(&mut self, token: &mut Token, at: u64) -> Result<(), Refusal>
         ensures done { StateGives result (state_of self.new) (perform numbers at (token_of token.old) insert (state_of self.old)) }
-        ensures kept { Kept numbers self.old.site → IfOk result (λ _. Kept numbers self.new.site) }
+        ensures kept { IsSound numbers self.old.site → IfOk result (λ _. IsSound numbers self.new.site) }
     {
         let name = token_name(token);
         let attrs = take_attrs(self.alloc, token);
@@ -46,7 +46,7 @@ impl<'q> TreeConstruction<'q> {
     /// An element of a name, without attributes.
     pub(crate) fn insert_named(&mut self, name: NameId, at: u64) -> Result<(), Refusal>
         ensures done { StateGives result (state_of self.new) (on_site (inserted_here numbers at name []) (state_of self.old)) }
-        ensures kept { Kept numbers self.old.site → IfOk result (λ _. Kept numbers self.new.site) }
+        ensures kept { IsSound numbers self.old.site → IfOk result (λ _. IsSound numbers self.new.site) }
     {
         let place = self.site.place();
         self.site

@@ -1,6 +1,6 @@
 -- Attributes whose names differ, and their names in ascending order.
 use Rattle.std.proofs.lemmas.Bool.{and_parts, not-true, false_from_ne_true, false≢true, ltb-true}
-use Rattle.hnodes.proofs.Names.{◌≡◌, ℕ, ◌+◌, ◌-◌, ◌<◌, ◌≤◌, Bool, true, false, not, eqb, nat_eq, List, [], ◌∷◌, ◌++◌, length, length-drop, map, get_or, refl, sym, ◌∙◌, ap, subst, arith, drop, take, Vec, Global, lt-ltb, take_all, map-append, list_any-append, list_any, IsTrue, Attr, names_differ, Attribute, names_of, numbers_of, attribute_of}
+use Rattle.hnodes.proofs.Names.{◌≡◌, ℕ, ◌+◌, ◌-◌, ◌<◌, ◌≤◌, Bool, true, false, not, eqb, nat_eq, List, [], ◌∷◌, ◌++◌, length, length-drop, map, get_or, refl, sym, ◌∙◌, ap, subst, arith, drop, take, Vec, Global, lt-ltb, take_all, map-append, list_any-append, list_any, IsTrue, Attr, names_differ, Attribute, names_of, attr_numbers, attribute_of}
 use Rattle.std.proofs.Common.{◌↔◌, drop-cons, add-one}
 use Rattle.std.proofs.lemmas.List.{drop_all, take-append-le}
 use Rattle.std.proofs.lemmas.List.Sorted.{IsPermutation-sym}
@@ -10,7 +10,7 @@ use Rattle.std.specs.List.{AllByRecursion, IsAllAdjacentAnswer, IsDistinct}
 use Rattle.std.specs.List.Sorted.{IsNonDecreasing, IsPermutation, IsStrictlyIncreasing}
 use Rattle.std.specs.Ordering.{nat_cmp}
 use Rattle.std.specs.Prelude.{◌&&◌, ◌||◌, ltb}
-use Rattle.hnodes.specs.Numbered.{AreNumbered, attributes_in}
+use Rattle.hnodes.specs.Numbered.{AreNumbered, inside_attributes}
 use Rattle.hnodes.specs.declared.attributes.Indexed.TheInside.{Inside}
 use Rattle.hnodes.proofs.Indexed.{searched-is, within}
 
@@ -88,10 +88,10 @@ pub none-left : (attrs : List Attr) (i : ℕ) → length attrs ≤ i → differ_
 none-left attrs i h before = ap (λ (l : List Attr). names_differ nat_eq (map attribute_of l)) (sym (drop_all i attrs h)) ∙ before
 
 -- an attribute more, which the index does not have yet
-pub pushed : (x : Inside) (old : List (Attribute ℕ)) (new : Vec Attr Global) (a : Attr) (u : Bool) → AreNumbered x → attributes_in x ≡ old → new.items ≡ x.attrs.items ++ a ∷ []
+pub pushed : (x : Inside) (old : List (Attribute ℕ)) (new : Vec Attr Global) (a : Attr) (u : Bool) → AreNumbered x → inside_attributes x ≡ old → new.items ≡ x.attrs.items ++ a ∷ []
     → u ≡ (names_differ nat_eq old && not (list_any (λ b. nat_eq b.0 a.name) old)) → AreNumbered (record x { attrs = new; differ = u })
 pushed x old new a u h view is test = record {
-  first = h.first ∙ ap numbers_of (sym (take-append-le (length x.names) x.attrs.items (a ∷ []) (within x.names x.attrs.items h.first)) ∙ ap (take (length x.names)) (sym is));
+  first = h.first ∙ ap attr_numbers (sym (take-append-le (length x.names) x.attrs.items (a ∷ []) (within x.names x.attrs.items h.first)) ∙ ap (take (length x.names)) (sym is));
   differ = test ∙ sym (differ-last old (attribute_of a))
       ∙ ap (names_differ nat_eq) (ap (λ l. l ++ attribute_of a ∷ []) (sym view) ∙ sym (map-append attribute_of x.attrs.items (a ∷ [])) ∙ ap (map attribute_of) (sym is));
 }

@@ -1,6 +1,6 @@
 -- A number is taken out of a list that keeps where its groups are, or comes in where nothing is.
 use Rattle.hnodes.proofs.Groups.{group-less, in-group}
-use Rattle.hnodes.proofs.ChainNames.{◌≡◌, ◌≢◌, ℕ, suc, ◌<◌, ◌≤◌, Bool, List, length, get_or, set, refl, sym, ◌∙◌, ap, subst, add-one, arith, get_or-set_same, get_or-set_other, length-set, none, last_up, numbers_of, is_in, IsChained, IsNext, FitsAt, Link, group_of, in_group_of}
+use Rattle.hnodes.proofs.IndexNames.{◌≡◌, ◌≢◌, ℕ, suc, ◌<◌, ◌≤◌, Bool, List, length, get_or, set, refl, sym, ◌∙◌, ap, subst, add-one, arith, get_or-set_same, get_or-set_other, length-set, none, last_up, numbers_of, is_in_group, IsIndexed, IsNext, FitsAt, Link, group_of, in_group_of}
 use Rattle.hnodes.proofs.LastUp.{up-sought, up-other, up-within, up-alike}
 use Rattle.hnodes.proofs.Relinked.{nth, Differ, next-same, differ-set, not-in, length-numbers, number-at, before-at}
 
@@ -10,7 +10,7 @@ up-set s xs i n = up-alike s xs (set xs i n) i (λ j h. ap s (let ne : j ≢ i =
 
 -- a number that is to be taken out
 pub record Out (last : List ℕ) (links : List Link) (i next : ℕ) : Type 0 where
-  pub chained : IsChained last links
+  pub indexed : IsIndexed last links
   pub within : i < length links
   pub some : get_or (numbers_of links) i 0 ≢ none
   pub next_is : IsNext (in_group_of (length last) (get_or (numbers_of links) i 0)) (numbers_of links) i next
@@ -31,10 +31,10 @@ module _ (last : List ℕ) (links : List Link) (i next : ℕ) (o : Out last link
   pub out-group : group_of (nth links i).number (length last) < length last
   out-group =
       let some : 0 < length links = omega (arith, o.within) in
-      group-less _ (length last) (o.chained.wide some)
+      group-less _ (length last) (o.indexed.wide some)
 
   out-kept : (nth links i).before ≡ last_up (in_group_of (length last) (nth links i).number) (numbers_of links) i
-  out-kept = sym (before-at links i) ∙ o.chained.kept i out-within-numbers o.some ∙ ap (λ n. last_up (in_group_of (length last) n) (numbers_of links) i) (number-at links i)
+  out-kept = sym (before-at links i) ∙ o.indexed.kept i out-within-numbers o.some ∙ ap (λ n. last_up (in_group_of (length last) n) (numbers_of links) i) (number-at links i)
 
   pub out-before : (nth links i).before ≡ last_up (in_group_of (length last) (nth links i).number) (set (numbers_of links) i none) (suc i)
   out-before =
@@ -55,7 +55,7 @@ module _ (last : List ℕ) (links : List Link) (i next : ℕ) (o : Out last link
 
 -- a link that is to be put in
 pub record In (last : List ℕ) (links : List Link) (i : ℕ) (x : Link) : Type 0 where
-  pub chained : IsChained last links
+  pub indexed : IsIndexed last links
   pub within : i < length links
   pub free : get_or (numbers_of links) i 0 ≡ none
   pub some : x.number ≢ none
@@ -68,12 +68,12 @@ module _ (last : List ℕ) (links : List Link) (i : ℕ) (x : Link) (o : In last
   pub in-differ : Differ (length last) (group_of x.number (length last)) i x.hint (numbers_of links) (set (numbers_of links) i x.number)
   in-differ =
       differ-set (length last) (group_of x.number (length last)) i x.hint (numbers_of links) x.number in-within-numbers
-      (λ h ne. not-in (length last) (group_of x.number (length last)) h x.number ne refl ∙ sym (ap (λ n. is_in (length last) h n) o.free)) o.fits.next
+      (λ h ne. not-in (length last) (group_of x.number (length last)) h x.number ne refl ∙ sym (ap (λ n. is_in_group (length last) h n) o.free)) o.fits.next
 
   pub in-group-less : group_of x.number (length last) < length last
   in-group-less =
       let some : 0 < length links = omega (arith, o.within) in
-      group-less _ (length last) (o.chained.wide some)
+      group-less _ (length last) (o.indexed.wide some)
 
   in-kept : x.before ≡ last_up (in_group_of (length last) x.number) (numbers_of links) i
   in-kept =

@@ -1,9 +1,9 @@
 -- A node that was just made is outside of every place.
-use Rattle.hnodes.proofs.Names.{◌≡◌, ◌≢◌, ℕ, suc, ◌<◌, [], ◌∷◌, ◌++◌, length, Option, Some, None, refl, sym, ◌∙◌, ap, subst, arith, IsSome, eq-eqb, ne_eqb, lt-leb, What, Forest, none, tree, times, join, tree_at, IsOutside, spot_of, spot_below, either_of, parent_of, Nodes, make, IsPlace, place_node, Place, LastIn, Before, alone, whole, row_of, look_in, nodes_of, IsTree, Node, Inside}
+use Rattle.hnodes.proofs.Names.{◌≡◌, ◌≢◌, ℕ, suc, ◌<◌, [], ◌∷◌, ◌++◌, length, Option, Some, None, refl, sym, ◌∙◌, ap, subst, arith, IsSome, eq-eqb, ne_eqb, lt-leb, What, Forest, none, tree, times, join, tree_at, IsOutside, spot_of, spot_below, either_of, parent_of, Nodes, make, IsPlace, place_node, Place, LastIn, Before, row_alone, row_of, nodes_in, AreTree, Holds, IsGrown, IsKept, Node, NodeData, Store, Inside}
 use Rattle.hnodes.proofs.Forests.{tree_at-absent}
 use Rattle.hnodes.proofs.Inside.{tree_at-joined, tree_at-among}
-use Rattle.hnodes.proofs.Opened.{Opened, opened}
-use Rattle.hnodes.proofs.Makes.{made_view}
+use Rattle.hnodes.proofs.Opened.{Opened, grew, stayed, stayed_view}
+use Rattle.hnodes.proofs.Makes.{made_stands, made_view}
 
 either-assoc : {A : Type 0} (x y z : Option A) → either_of x (either_of y z) ≡ either_of (either_of x y) z
 either-assoc None y z = refl
@@ -37,12 +37,6 @@ made-outside t v w o k h =
     let absent : times v.made v.trees ≡ 0 = o.stands.once v.made ∙ rw (o.made, lt-leb (suc v.made) v.made (omega arith)) refl in
     ap (times k) (tree_at-join v.made v.trees (tree v.made w none none) absent) ∙ rw (eq-eqb v.made v.made refl, ne_eqb v.made k (λ e. omega arith)) refl
 
-pub add-outside : (t : Inside) (x : Node) (w : What ℕ) (n : ℕ) → row_of x ≡ alone w → IsTree t → n ≡ length t.nodes.items
-    → (k : ℕ) → k < n → IsOutside k n (whole (length (t.nodes.items ++ x ∷ [])) (look_in (t.nodes.items ++ x ∷ [])))
-add-outside t x w n r s same k h =
-    subst (λ (m : ℕ). IsOutside k m (whole (length (t.nodes.items ++ x ∷ [])) (look_in (t.nodes.items ++ x ∷ [])))) (sym same)
-    (subst (λ (u : Nodes ℕ). IsOutside k (length t.nodes.items) u.trees) (sym (made_view t x w r s)) (made-outside t (nodes_of t) w (opened t (nodes_of t) refl s) k (omega arith)))
-
 -- the new one is in no node that was there
 pub made-apart : (t : Inside) (v : Nodes ℕ) (w : What ℕ) → Opened t v → (k : ℕ) → k < v.made → IsOutside v.made k (make w v).trees
 made-apart t v w o k h =
@@ -50,8 +44,27 @@ made-apart t v w o k h =
     let alone : times v.made (tree_at k (tree v.made w none none)) ≡ 0 = rw (ne_eqb v.made k (λ e. omega arith)) refl in
     omega (arith, tree_at-joined v.made k v.trees (tree v.made w none none), tree_at-among v.made k v.trees)
 
-pub add-apart : (t : Inside) (x : Node) (w : What ℕ) (n : ℕ) → row_of x ≡ alone w → IsTree t → n ≡ length t.nodes.items
-    → (k : ℕ) → k < n → IsOutside n k (whole (length (t.nodes.items ++ x ∷ [])) (look_in (t.nodes.items ++ x ∷ [])))
-add-apart t x w n r s same k h =
-    subst (λ (m : ℕ). IsOutside m k (whole (length (t.nodes.items ++ x ∷ [])) (look_in (t.nodes.items ++ x ∷ [])))) (sym same)
-    (subst (λ (u : Nodes ℕ). IsOutside (length t.nodes.items) k u.trees) (sym (made_view t x w r s)) (made-apart t (nodes_of t) w (opened t (nodes_of t) refl s) k (omega arith)))
+-- a loose node more, that holds w over a store that grew
+module _ (t : Inside) (v : Nodes ℕ) (s : Store) (d : NodeData) (x : Node) (w : What ℕ) (o : Opened t v) (more : IsGrown t.store s) (held : Holds s d w)
+    (is : x ≡ record { content = d; parent = None; first = None; last = None; previous = None; next = None }) where
+  row : row_of s x ≡ row_alone w
+  row = ap (row_of s) is ∙ ap row_alone held.1
+
+  grown : AreTree s t.nodes.items t.limit
+  grown = stayed t v s t.nodes.items o (grew t v s o more)
+
+  pub added : v.made < v.limit → AreTree s (t.nodes.items ++ x ∷ []) t.limit
+  added h = made_stands s t.nodes.items x w t.limit row grown (subst (λ (m : Node). IsKept s m.content) (sym is) held.0) (omega (arith, h, o.made, o.limit))
+
+  pub added_view : nodes_in s (t.nodes.items ++ x ∷ []) t.limit ≡ make w v
+  added_view = made_view s t.nodes.items x w t.limit row grown ∙ ap (make w) (stayed_view t v s t.nodes.items o (grew t v s o more))
+
+  -- what is so of the value is so of the vector
+  so : (P : ℕ → Nodes ℕ → Type 0) (n : ℕ) → n ≡ length t.nodes.items → P v.made (make w v) → P n (nodes_in s (t.nodes.items ++ x ∷ []) t.limit)
+  so P n same h = subst (λ (u : Nodes ℕ). P n u) (sym added_view) (subst (λ (m : ℕ). P m (make w v)) (sym (same ∙ o.made)) h)
+
+  pub added_outside : (n : ℕ) → n ≡ length t.nodes.items → (k : ℕ) → k < n → IsOutside k n (nodes_in s (t.nodes.items ++ x ∷ []) t.limit).trees
+  added_outside n same = so (λ m u. (k : ℕ) → k < m → IsOutside k m u.trees) n same (made-outside t v w o)
+
+  pub added_apart : (n : ℕ) → n ≡ length t.nodes.items → (k : ℕ) → k < n → IsOutside n k (nodes_in s (t.nodes.items ++ x ∷ []) t.limit).trees
+  added_apart n same = so (λ m u. (k : ℕ) → k < m → IsOutside m k u.trees) n same (made-apart t v w o)

@@ -1,5 +1,5 @@
 -- A node leaves its place and is put at another.
-use Rattle.hnodes.proofs.Names.{◌≡◌, ◌≢◌, ℕ, ◌+◌, ◌<◌, ◌≤◌, Option, Some, None, refl, sym, ◌∙◌, ap, subst, arith, ◌⊎◌, inl, inr, eq-eqb, What, Forest, none, tree, size, times, join, tree_at, cut, change_children, children_of, IsOutside, first_or, last_or, graft_last, graft_before, Row, Look, Linked, Loose, StandsIn, standing, hooked, detached, last_in, parent_in, previous_in, next_in}
+use Rattle.hnodes.proofs.Names.{◌≡◌, ◌≢◌, ℕ, ◌+◌, ◌<◌, ◌≤◌, Option, Some, None, refl, sym, ◌∙◌, ap, subst, arith, ◌⊎◌, inl, inr, eq-eqb, What, Forest, none, tree, size, times, join, tree_at, cut, change_children, children_of, IsOutside, first_or, last_or, graft_last, graft_before, Row, Look, Linked, Loose, RowsStandIn, standing, hooked, detached, last_in, parent_in, previous_in, next_in}
 use Rattle.hnodes.proofs.Forests.{some_inj, without, join-none, times-join, size-join, times-cut, size-cut, roots-cut, roots-change_children, times-changed, size-changed, change-const}
 use Rattle.hnodes.proofs.Levels.{level, Here, Below}
 use Rattle.hnodes.proofs.Loose.{Holds, Loose-holds}
@@ -23,12 +23,12 @@ module _ {N : Type 0} where
 
   -- node n was detached from a forest in which it is, and q is outside of it
   pub record Cut (count : ℕ) (look mid : Look N) (f : Forest N) (n q : ℕ) : Type 0 where
-    pub stands : StandsIn count look f
+    pub stands : RowsStandIn count look f
     pub one : times n f ≡ 1
     pub other : times q (cut n f) ≡ 1
     pub is : (b : ℕ) → mid b ≡ detached n look b
 
-  pub cut_of : (count : ℕ) (look mid : Look N) (f : Forest N) (n q : ℕ) → StandsIn count look f → n < count → q < count → IsOutside q n f → ((b : ℕ) → mid b ≡ detached n look b) → Cut count look mid f n q
+  pub cut_of : (count : ℕ) (look mid : Look N) (f : Forest N) (n q : ℕ) → RowsStandIn count look f → n < count → q < count → IsOutside q n f → ((b : ℕ) → mid b ≡ detached n look b) → Cut count look mid f n q
   cut_of count look mid f n q s h hq apart is =
       record { stands = s; one = one-of count look f n s h; other = omega (arith, times-cut q n f, one-of count look f q s hq); is = is }
 
@@ -43,7 +43,7 @@ module _ {N : Type 0} where
 
   -- it comes between two runs of q's children
   pub StandsIn-graft : (count : ℕ) (look mid new : Look N) (f L R : Forest N) (n q : ℕ) → Cut count look mid f n q → children_of q (cut n f) ≡ join L R
-      → ((b : ℕ) → new b ≡ hooked n q (last_or None L) (first_or R None) mid b) → StandsIn count new (change_children q (λ _. join L (join (tree_at n f) R)) (cut n f))
+      → ((b : ℕ) → new b ≡ hooked n q (last_or None L) (first_or R None) mid b) → RowsStandIn count new (change_children q (λ _. join L (join (tree_at n f) R)) (cut n f))
   StandsIn-graft count look mid new f L R n q c kids is = record {
     rows =
         let r = root n f c.one (once-of count look f c.stands) in
@@ -73,13 +73,13 @@ module _ {N : Type 0} where
   pub append-within : (count : ℕ) (look mid : Look N) (f : Forest N) (n q : ℕ) → Cut count look mid f n q → (k : ℕ) → last_in (mid q) ≡ Some k → k < count
   append-within count look mid f n q c k e = cut-there count look mid f n q c k ((ends-among mid (cut n f) q c.other (cut-stands count look mid f n q c).0).1 k e)
 
-  pub StandsIn-append : (count : ℕ) (look mid new : Look N) (f : Forest N) (n q : ℕ) → Cut count look mid f n q → ((b : ℕ) → new b ≡ hooked n q (last_in (mid q)) None mid b) → StandsIn count new (graft_last n q f)
+  pub StandsIn-append : (count : ℕ) (look mid new : Look N) (f : Forest N) (n q : ℕ) → Cut count look mid f n q → ((b : ℕ) → new b ≡ hooked n q (last_in (mid q)) None mid b) → RowsStandIn count new (graft_last n q f)
   StandsIn-append count look mid new f n q c is =
       let holds : Holds mid q (children_of q (cut n f)) = Loose-holds mid q (cut n f) c.other (cut-stands count look mid f n q c).0 in
       let last : last_in (mid q) ≡ last_or None (children_of q (cut n f)) = ap last_in holds.is ∙ holds.last in
       let g = StandsIn-graft count look mid new f (children_of q (cut n f)) none n q c (sym (join-none (children_of q (cut n f)))) (λ b. is b ∙ ap (λ x. hooked n q x None mid b) last) in
       rw (change-const q (λ kids. join kids (tree_at n f)) (cut n f) c.other)
-      (subst (λ (t : Forest N). StandsIn count new (change_children q (λ _. join (children_of q (cut n f)) t) (cut n f))) (join-none (tree_at n f)) g)
+      (subst (λ (t : Forest N). RowsStandIn count new (change_children q (λ _. join (children_of q (cut n f)) t) (cut n f))) (join-none (tree_at n f)) g)
 
   -- Right before a node.
 
@@ -104,13 +104,13 @@ module _ {N : Type 0} where
       go o u e = grind arith
 
   pub StandsIn-before : (count : ℕ) (look mid new : Look N) (f : Forest N) (n s q : ℕ) → Cut count look mid f n s → parent_in (mid s) ≡ Some q → ((b : ℕ) → new b ≡ hooked n q (previous_in (mid s)) (Some s) mid b)
-      → StandsIn count new (graft_before n s f)
+      → RowsStandIn count new (graft_before n s f)
   StandsIn-before count look mid new f n s q c up_is is = go (level s (cut n f) c.other (cut-once count look mid f n s c))
     where
       rows : Loose mid (cut n f)
       rows = (cut-stands count look mid f n s c).0
 
-      go : Here s (cut n f) ⊎ Below s (cut n f) → StandsIn count new (graft_before n s f)
+      go : Here s (cut n f) ⊎ Below s (cut n f) → RowsStandIn count new (graft_before n s f)
       go (inl p) = absurd (let no : None ≡ Some q = sym (ap parent_in (here-row mid s (cut n f) p rows)) ∙ up_is in cc)
       go (inr p) =
           let row = below-row mid s (cut n f) p rows in

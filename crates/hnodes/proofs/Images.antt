@@ -1,5 +1,5 @@
 -- A list and its image, where a test of the image is a test of the list.
-use Rattle.hnodes.proofs.ChainNames.{arith, ◌≡◌, ℕ, ◌+◌, zero, suc, Bool, cond, not, ◌&&◌, ◌||◌, List, [], ◌∷◌, map, Option, Some, None, refl, list_any, list_all, length-map, before, after, without, changed, put_before, changed_at}
+use Rattle.hnodes.proofs.IndexNames.{arith, ◌≡◌, ℕ, ◌+◌, zero, suc, Bool, cond, not, ◌&&◌, ◌||◌, List, [], ◌∷◌, map, Option, Some, None, refl, list_any, list_all, length-map, before, after, without, changed, item_put_before, changed_at}
 use Rattle.std.specs.Prelude.{if◌then◌else◌, filter, find, nat_lt, position}
 use Rattle.std.specs.List.{prefix_len}
 use Rattle.std.specs.Option.{option_map}
@@ -21,7 +21,7 @@ module _ {X Y : Type 0} (h : X → Y) (p : X → Bool) (q : Y → Bool) (e : (x 
   changed-map f f' c [] = refl
   changed-map f f' c (x ∷ xs) = grind (arith, e x, c x, changed-map f f' c xs)
 
-  pub put_before-map : (new : X) (xs : List X) → put_before q (h new) (map h xs) ≡ map h (put_before p new xs)
+  pub put_before-map : (new : X) (xs : List X) → item_put_before q (h new) (map h xs) ≡ map h (item_put_before p new xs)
   put_before-map new [] = refl
   put_before-map new (x ∷ xs) = grind (arith, e x, put_before-map new xs)
 

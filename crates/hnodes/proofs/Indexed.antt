@@ -1,11 +1,11 @@
 -- Where a number is last in a list of numbers, and whether an attribute of a name is there.
 use Rattle.std.proofs.lemmas.Bool.Decides.{nat_tests}
-use Rattle.hnodes.proofs.Names.{◌≡◌, ℕ, zero, suc, ◌-◌, ◌<◌, ◌≤◌, Bool, true, cond, ltb, nat_eq, List, [], ◌∷◌, length, length-drop, map, take, drop, refl, sym, ◌∙◌, ap, arith, lt-ltb, map-append, take_all, list_any-append, list_any, Attr, Attribute, numbers_of, attribute_of}
+use Rattle.hnodes.proofs.Names.{◌≡◌, ℕ, zero, suc, ◌-◌, ◌<◌, ◌≤◌, Bool, true, cond, ltb, nat_eq, List, [], ◌∷◌, length, length-drop, map, take, drop, refl, sym, ◌∙◌, ap, arith, lt-ltb, map-append, take_all, list_any-append, list_any, Attr, Attribute, attr_numbers, attribute_of}
 use Rattle.std.proofs.Common.{◌==◌, ◌||◌}
 use Rattle.std.proofs.Math.Dec.{eqb-suc-suc}
 use Rattle.std.proofs.lemmas.Bool.{le-ltb}
 use Rattle.std.proofs.lemmas.List.{length-map, length-take, take-append-drop}
-use Rattle.hnodes.specs.Chains.{last_up}
+use Rattle.hnodes.specs.IndexedList.{last_up}
 
 module _ (s : ℕ → Bool) where
   -- where it is with a number more at the front, which is sought or not
@@ -24,7 +24,7 @@ module _ (s : ℕ → Bool) where
       go : (v : Bool) (n : ℕ) → ltb 0 n ≡ list_any s xs → ltb 0 (up v n) ≡ (v || list_any s xs)
       go v n e = grind (arith, nat_tests)
 
-any-named : (name : ℕ) (attrs : List Attr) → list_any (λ k. k == suc (suc name)) (numbers_of attrs) ≡ list_any (λ a. nat_eq a.0 name) (map attribute_of attrs)
+any-named : (name : ℕ) (attrs : List Attr) → list_any (λ k. k == suc (suc name)) (attr_numbers attrs) ≡ list_any (λ a. nat_eq a.0 name) (map attribute_of attrs)
 any-named name [] = refl
 any-named name (a ∷ attrs) =
     λ i. (eqb-suc-suc (suc a.name) (suc name) ∙ eqb-suc-suc a.name name) i || any-named name attrs i
@@ -35,16 +35,16 @@ searched-is name [] = refl
 searched-is name (a ∷ attrs) = ap (λ b. nat_eq a.name name || b) (searched-is name attrs)
 
 -- a number is somewhere where an attribute of its name is there
-pub named-is : (names : List ℕ) (attrs : List Attr) (number name : ℕ) → names ≡ numbers_of attrs → number ≡ suc (suc name)
+pub named-is : (names : List ℕ) (attrs : List Attr) (number name : ℕ) → names ≡ attr_numbers attrs → number ≡ suc (suc name)
     → ltb 0 (last_up (λ k. k == number) names (length names)) ≡ list_any (λ a. nat_eq a.0 name) (map attribute_of attrs)
-named-is names attrs number name same is = (λ i. ltb 0 (last_up (λ k. k == is i) (same i) (length (same i)))) ∙ last-any (λ k. k == suc (suc name)) (numbers_of attrs) ∙ any-named name attrs
+named-is names attrs number name same is = (λ i. ltb 0 (last_up (λ k. k == is i) (same i) (length (same i)))) ∙ last-any (λ k. k == suc (suc name)) (attr_numbers attrs) ∙ any-named name attrs
 
 -- no more are indexed than there are
-pub within : (names : List ℕ) (attrs : List Attr) → names ≡ numbers_of (take (length names) attrs) → length names ≤ length attrs
+pub within : (names : List ℕ) (attrs : List Attr) → names ≡ attr_numbers (take (length names) attrs) → length names ≤ length attrs
 within names attrs first = omega (arith, ap length first, length-map (take (length names) attrs) (λ (a : Attr). suc (suc a.name)), length-take (length names) attrs)
 
 -- an attribute of a name is among the first or the rest
-found-is : (names : List ℕ) (attrs : List Attr) (number name : ℕ) → names ≡ numbers_of (take (length names) attrs) → number ≡ suc (suc name)
+found-is : (names : List ℕ) (attrs : List Attr) (number name : ℕ) → names ≡ attr_numbers (take (length names) attrs) → number ≡ suc (suc name)
     → (ltb 0 (last_up (λ k. k == number) names (length names)) || list_any (λ (a : Attr). nat_eq a.name name) (take (length attrs - length names) (drop (length names) attrs)))
     ≡ list_any (λ a. nat_eq a.0 name) (map attribute_of attrs)
 found-is names attrs number name first is =
@@ -59,13 +59,13 @@ found-is names attrs number name first is =
     rest : List Attr
     rest = drop (length names) attrs
 
-pub found_first : (names : List ℕ) (attrs : List Attr) (number name last : ℕ) → names ≡ numbers_of (take (length names) attrs) → number ≡ suc (suc name) → last ≡ last_up (λ k. k == number) names (length names) → 0 < last
+pub found_first : (names : List ℕ) (attrs : List Attr) (number name last : ℕ) → names ≡ attr_numbers (take (length names) attrs) → number ≡ suc (suc name) → last ≡ last_up (λ k. k == number) names (length names) → 0 < last
     → ltb 0 last ≡ list_any (λ a. nat_eq a.0 name) (map attribute_of attrs)
 found_first names attrs number name last first is at some =
     let yes : ltb 0 last ≡ true = lt-ltb 0 last some in
     yes ∙ (λ i. (sym yes ∙ ap (ltb 0) at) i || list_any (λ (a : Attr). nat_eq a.name name) (take (length attrs - length names) (drop (length names) attrs))) ∙ found-is names attrs number name first is
 
-pub found_rest : (names : List ℕ) (attrs lent : List Attr) (number name last len : ℕ) (u : Bool) → names ≡ numbers_of (take (length names) attrs) → number ≡ suc (suc name) → last ≡ last_up (λ k. k == number) names (length names) → last ≤ 0
+pub found_rest : (names : List ℕ) (attrs lent : List Attr) (number name last len : ℕ) (u : Bool) → names ≡ attr_numbers (take (length names) attrs) → number ≡ suc (suc name) → last ≡ last_up (λ k. k == number) names (length names) → last ≤ 0
     → lent ≡ attrs → len ≡ length names → u ≡ list_any (λ (a : Attr). nat_eq a.name name) (take (length lent - len) (drop len lent)) → u ≡ list_any (λ a. nat_eq a.0 name) (map attribute_of attrs)
 found_rest names attrs lent number name last len u first is at none same long test =
     test ∙ (λ i. list_any (λ (a : Attr). nat_eq a.name name) (take (length (same i) - long i) (drop (long i) (same i))))

@@ -1,5 +1,5 @@
 -- Where a number that is sought is last among the first of a list.
-use Rattle.hnodes.proofs.ChainNames.{◌≡◌, ℕ, zero, suc, ◌-◌, ◌<◌, ◌≤◌, Bool, true, false, cond, List, get_or, inl, inr, refl, sym, ◌∙◌, ap, arith, cases_Bool, cases_lt, last_up}
+use Rattle.hnodes.proofs.IndexNames.{◌≡◌, ℕ, zero, suc, ◌-◌, ◌<◌, ◌≤◌, Bool, true, false, cond, List, get_or, inl, inr, refl, sym, ◌∙◌, ap, arith, cases_Bool, cases_lt, last_up}
 
 module _ (s : ℕ → Bool) (xs : List ℕ) where
   -- the next number is sought, or it is not

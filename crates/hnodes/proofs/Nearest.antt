@@ -1,6 +1,6 @@
 -- A vector whose last member is the nearest, and what an edit of it is in the words on lists.
 use Rattle.std.proofs.lemmas.Bool.Decides.{nat_tests}
-use Rattle.hnodes.proofs.ChainNames.{◌≡◌, ℕ, zero, suc, ◌+◌, ◌<◌, ◌≤◌, Bool, true, false, cond, not, List, [], ◌∷◌, ◌++◌, Some, None, length, get_or, set, take, drop, map, refl, sym, ◌∙◌, ap, arith, position, position_or_len, list_any, map-append, length-map, length-drop, get_or-map, before, after, without, changed, put_before, changed_at}
+use Rattle.hnodes.proofs.IndexNames.{◌≡◌, ℕ, zero, suc, ◌+◌, ◌<◌, ◌≤◌, Bool, true, false, cond, not, List, [], ◌∷◌, ◌++◌, Some, None, length, get_or, set, take, drop, map, refl, sym, ◌∙◌, ap, arith, position, position_or_len, list_any, map-append, length-map, length-drop, get_or-map, before, after, without, changed, item_put_before, changed_at}
 use Rattle.std.proofs.Common.{ltb, reverse}
 use Rattle.std.specs.List.{find, insert, remove, remove_range, slice_get}
 use Rattle.std.specs.Option.{is_some, IfSome}
@@ -16,7 +16,7 @@ module _ {Y : Type 0} (sought : Y → Bool) where
     pub after_is : after sought ys ≡ drop (suc up) ys
     pub without_is : without sought ys ≡ take up ys ++ drop (suc up) ys
     pub changed_is : (g : Y → Y) → changed sought g ys ≡ changed_at up g ys
-    pub put_is : (y : Y) → put_before sought y ys ≡ take up ys ++ y ∷ drop up ys
+    pub put_is : (y : Y) → item_put_before sought y ys ≡ take up ys ++ y ∷ drop up ys
     pub find_is : find sought ys ≡ slice_get ys up
 
   words_at : (ys : List Y) (up : ℕ) → position_or_len sought ys ≡ up → up < length ys → Words ys up
@@ -56,7 +56,7 @@ module _ {Y : Type 0} (sought : Y → Bool) where
     pub after_is : after sought ys ≡ []
     pub without_is : without sought ys ≡ ys
     pub changed_is : (g : Y → Y) → changed sought g ys ≡ ys
-    pub put_is : (y : Y) → put_before sought y ys ≡ ys
+    pub put_is : (y : Y) → item_put_before sought y ys ≡ ys
     pub find_is : find sought ys ≡ None
 
   no_words_at : (ys : List Y) → length ys ≤ position_or_len sought ys → NoWords ys
@@ -156,7 +156,7 @@ module _ {X Y : Type 0} (f : X → Y) where
         → reverse (map f (set items i y)) ≡ changed sought g (reverse (map f items))
     change_nearest g items i up d y s h e = set_nearest g items i up d y h e ∙ sym ((words sought (reverse (map f items)) up s).changed_is g)
 
-    pub insert_nearest : (items : List X) (i up : ℕ) (y : X) → position sought (reverse (map f items)) ≡ Some up → i + suc up ≡ length items → reverse (map f (insert items (i + 1) y)) ≡ put_before sought (f y) (reverse (map f items))
+    pub insert_nearest : (items : List X) (i up : ℕ) (y : X) → position sought (reverse (map f items)) ≡ Some up → i + suc up ≡ length items → reverse (map f (insert items (i + 1) y)) ≡ item_put_before sought (f y) (reverse (map f items))
     insert_nearest items i up y s h =
         reverse_around (take (i + 1) items) (drop (i + 1) items) y
         ∙ rw (← take_nearest items (i + 1) up (omega arith), ← drop_nearest items (i + 1) up (omega arith)) (sym ((words sought (reverse (map f items)) up s).put_is (f y)))

@@ -1,9 +1,9 @@
 -- What the vector says of the value of a tree, and what is left to show after an edit.
-use Rattle.hnodes.proofs.Names.{◌≡◌, ℕ, zero, suc, true, ltb, cond, is_none, ◌++◌, ◌<◌, ◌≤◌, List, [], ◌∷◌, Option, Some, None, length, refl, sym, ◌∙◌, ap, subst, arith, Forest, What, document, tree, none, roots, change_what, Nodes, AreNodes, Row, Look, Loose, StandsIn, standing, loose, is_loose, whole, parent_in, previous_in, next_in, with_what, look_in, IsWithin, IsChanged, IsUnchanged, nodes_of, IsTree, Node, Inside}
-use Rattle.hnodes.proofs.Rows.{changed}
-use Rattle.hnodes.proofs.Contents.{unchanged}
-use Rattle.hnodes.specs.Rows.{row_of}
-use Rattle.std.proofs.Common.{get_or, set}
+use Rattle.hnodes.proofs.Names.{◌≡◌, ℕ, zero, suc, true, ltb, cond, is_none, ◌++◌, ◌<◌, ◌≤◌, List, [], ◌∷◌, Option, Some, None, length, refl, sym, ◌∙◌, ap, subst, arith, Forest, What, document, tree, none, roots, change_what, Nodes, AreNodes, Row, Look, Loose, RowsStandIn, standing, loose, is_loose, parent_in, previous_in, next_in, with_what, at_row, look_in, row_of, content_is, get_or, set, eqb, Bool, option_map, nodes_in, inside_nodes, AreKept, AreTree, Holds, IsAmong, IsGrown, IsKept, IsTree, Node, NodeData, Store, Inside}
+use Rattle.std.specs.List.{HoldsAt}
+use Rattle.std.proofs.lemmas.List.{length-set}
+use Rattle.hnodes.proofs.Stored.{grown-holds}
+use Rattle.hnodes.proofs.Rows.{kept-at, kept-grown, kept-set, look_in-at, look_in-grown, look_in-set}
 use Rattle.hnodes.proofs.Forests.{some_inj}
 use Rattle.hnodes.proofs.Within.{one-of, once-of, there, links-among}
 use Rattle.hnodes.proofs.Whats.{StandsIn-same, StandsIn-what, document-what}
@@ -13,33 +13,38 @@ use Rattle.hnodes.proofs.Makes.{whole-stands}
 pub record Opened (t : Inside) (v : Nodes ℕ) : Type 0 where
   pub made : length t.nodes.items ≡ v.made
   pub limit : t.limit ≡ v.limit
-  pub stands : StandsIn (length t.nodes.items) (look_in t.nodes.items) v.trees
-  pub begun : standing (look_in t.nodes.items 0) ≡ Some (document, None)
+  pub stands : RowsStandIn (length t.nodes.items) (look_in t.store t.nodes.items) v.trees
+  pub begun : standing (look_in t.store t.nodes.items 0) ≡ Some (document, None)
   pub fits : length t.nodes.items ≤ t.limit
+  pub kept : AreKept t.store t.nodes.items
 
-pub opened : (t : Inside) (v : Nodes ℕ) → nodes_of t ≡ v → IsTree t → Opened t v
+pub opened : (t : Inside) (v : Nodes ℕ) → inside_nodes t ≡ v → IsTree t → Opened t v
 opened t v e s = record {
   made = ap (λ (u : Nodes ℕ). u.made) e;
   limit = ap (λ (u : Nodes ℕ). u.limit) e;
-  stands = subst (λ (f : Forest ℕ). StandsIn (length t.nodes.items) (look_in t.nodes.items) f) (sym (whole-stands (length t.nodes.items) (look_in t.nodes.items) s.0.0 s.0.1) ∙ ap (λ (u : Nodes ℕ). u.trees) e) s.0.1;
-  begun = s.1;
-  fits = s.2;
+  stands = subst (λ (f : Forest ℕ). RowsStandIn (length t.nodes.items) (look_in t.store t.nodes.items) f) (sym (whole-stands (length t.nodes.items) (look_in t.store t.nodes.items) s.forest.0 s.forest.1) ∙ ap (λ (u : Nodes ℕ). u.trees) e) s.forest.1;
+  begun = s.begun;
+  fits = s.fits;
+  kept = s.kept;
 }
 
 -- a node's parent and siblings are there
-pub linked : (t : Inside) (v : Nodes ℕ) (n : ℕ) → Opened t v → n < v.made
-    → IsWithin (length t.nodes.items) (parent_in (look_in t.nodes.items n)) × IsWithin (length t.nodes.items) (previous_in (look_in t.nodes.items n)) × IsWithin (length t.nodes.items) (next_in (look_in t.nodes.items n))
-linked t v n o h =
-    let look = look_in t.nodes.items in
-    let count = length t.nodes.items in
-    let m = links-among look v.trees n (one-of count look v.trees n o.stands (omega (arith, o.made))) (once-of count look v.trees o.stands) o.stands.rows in
-    ((λ k e. there count look v.trees k o.stands (m.0 k e)), (λ k e. there count look v.trees k o.stands (m.1 k e)), (λ k e. there count look v.trees k o.stands (m.2 k e)))
+pub linked : (t : Inside) (v : Nodes ℕ) (n : ℕ) → Opened t v → n < v.made → HoldsAt (IsAmong (length t.nodes.items)) t.nodes.items n
+linked t v n o h d =
+    let look : Look ℕ = look_in t.store t.nodes.items in
+    let count : ℕ = length t.nodes.items in
+    let seen : look n ≡ Some (row_of t.store (get_or t.nodes.items n d)) = look_in-at t.store t.nodes.items n d (omega (arith, o.made)) in
+    let m = links-among look v.trees n (one-of count look v.trees n o.stands (omega (arith, o.made))) (once-of count look v.trees o.stands) o.stands.rows in (
+      (λ k e. there count look v.trees k o.stands (m.0 k (ap parent_in seen ∙ e))),
+      (λ k e. there count look v.trees k o.stands (m.1 k (ap previous_in seen ∙ e))),
+      (λ k e. there count look v.trees k o.stands (m.2 k (ap next_in seen ∙ e))),
+    )
 
 -- the document is made
 pub begun_made : (t : Inside) (v : Nodes ℕ) → Opened t v → 0 < v.made
 begun_made t v o = let h = go t.nodes.items o.begun in omega (arith, o.made)
   where
-    go : (xs : List Node) → standing (look_in xs 0) ≡ Some (document, None) → 0 < length xs
+    go : (xs : List Node) → standing (look_in t.store xs 0) ≡ Some (document, None) → 0 < length xs
     go [] e = cc
     go (x ∷ xs) e = omega arith
 
@@ -68,46 +73,86 @@ module _ {N : Type 0} where
 pub are_nodes : (t : Inside) (v : Nodes ℕ) → Opened t v → AreNodes v
 are_nodes t v o =
     let count = length t.nodes.items in
-    let first = loose-begins (look_in t.nodes.items) count (let h = begun_made t v o in omega (arith, o.made)) (document-loose (look_in t.nodes.items 0) o.begun) in
+    let first = loose-begins (look_in t.store t.nodes.items) count (let h = begun_made t v o in omega (arith, o.made)) (document-loose (look_in t.store t.nodes.items 0) o.begun) in
     record {
       counted = record {
         once = λ n. (o.stands.once n ∙ ap (λ m. cond (ltb n m) 1 0) o.made);
-        begins = begins (look_in t.nodes.items) v.trees first.0 (o.stands.loose_ones ∙ first.1) o.stands.rows o.begun;
+        begins = begins (look_in t.store t.nodes.items) v.trees first.0 (o.stands.loose_ones ∙ first.1) o.stands.rows o.begun;
       };
       fits = omega (arith, o.made, o.limit, o.fits);
     }
 
--- another forest is in as many nodes
-pub edited : (t : Inside) (v : Nodes ℕ) (new : List Node) (g : Forest ℕ) → Opened t v → length new ≡ length t.nodes.items → StandsIn (length t.nodes.items) (look_in new) g → standing (look_in new 0) ≡ standing (look_in t.nodes.items 0)
-    → ((f : Forest ℕ) × StandsIn (length new) (look_in new) f) × (standing (look_in new 0) ≡ Some (document, None)) × (length new ≤ t.limit)
-edited t v new g o same s d = ((g, rw same s), d ∙ o.begun, rw same o.fits)
+-- The nodes and the store as a call leaves them: all is kept, and what is seen is a change of what was seen.
+pub record Edited (t : Inside) (s : Store) (new : List Node) (g : Look ℕ → Look ℕ) : Type 0 where
+  pub kept : AreKept s new
+  pub same : length new ≡ length t.nodes.items
+  pub rows : (n : ℕ) → look_in s new n ≡ g (look_in t.store t.nodes.items) n
 
-pub edited_view : (t : Inside) (v : Nodes ℕ) (new : List Node) (g : Forest ℕ) → Opened t v → length new ≡ length t.nodes.items → StandsIn (length t.nodes.items) (look_in new) g
-    → record { limit = t.limit; made = length new; trees = whole (length new) (look_in new) } ≡ record v { trees = g }
-edited_view t v new g o same s = rw (same, whole-stands (length t.nodes.items) (look_in new) g s, o.made, o.limit) refl
+module _ (t : Inside) (v : Nodes ℕ) (s : Store) (new : List Node) where
+  -- another forest is in as many nodes
+  pub edited : (f : Forest ℕ) → Opened t v → AreKept s new → length new ≡ length t.nodes.items → RowsStandIn (length t.nodes.items) (look_in s new) f
+      → standing (look_in s new 0) ≡ standing (look_in t.store t.nodes.items 0) → AreTree s new t.limit
+  edited f o kept same is d = record { kept = kept; forest = (f, rw same is); begun = d ∙ o.begun; fits = rw same o.fits }
 
--- a call of which nothing is seen
-module _ (t : Inside) (v : Nodes ℕ) (new : List Node) where
-  pub stayed : Opened t v → IsUnchanged t.nodes.items new → ((f : Forest ℕ) × StandsIn (length new) (look_in new) f) × (standing (look_in new 0) ≡ Some (document, None)) × (length new ≤ t.limit)
-  stayed o is = edited t v new v.trees o is.0 (StandsIn-same (length t.nodes.items) (look_in t.nodes.items) (look_in new) v.trees o.stands is.1) (ap standing (is.1 0))
+  pub edited_view : (f : Forest ℕ) → Opened t v → length new ≡ length t.nodes.items → RowsStandIn (length t.nodes.items) (look_in s new) f → nodes_in s new t.limit ≡ record v { trees = f }
+  edited_view f o same is = rw (same, whole-stands (length t.nodes.items) (look_in s new) f is, o.made, o.limit) refl
 
-  pub stayed_view : Opened t v → IsUnchanged t.nodes.items new → record { limit = t.limit; made = length new; trees = whole (length new) (look_in new) } ≡ v
-  stayed_view o is = edited_view t v new v.trees o is.0 (StandsIn-same (length t.nodes.items) (look_in t.nodes.items) (look_in new) v.trees o.stands is.1)
+  -- a call of which nothing is seen
+  stays : Opened t v → Edited t s new (λ look. look) → RowsStandIn (length t.nodes.items) (look_in s new) v.trees
+  stays o is = StandsIn-same (length t.nodes.items) (look_in t.store t.nodes.items) (look_in s new) v.trees o.stands is.rows
 
--- A call that changes what node n is.
-module _ (t : Inside) (v : Nodes ℕ) (new : List Node) (n : ℕ) (g : What ℕ → What ℕ) where
-  pub became : Opened t v → g document ≡ document → IsChanged n (with_what g) t.nodes.items new
-      → ((f : Forest ℕ) × StandsIn (length new) (look_in new) f) × (standing (look_in new 0) ≡ Some (document, None)) × (length new ≤ t.limit)
-  became o same is =
-      ((change_what n g v.trees, rw is.0 (StandsIn-what n g (length t.nodes.items) (look_in t.nodes.items) (look_in new) v.trees o.stands is.1)), document-what n g (look_in t.nodes.items) (look_in new) same is.1 0 o.begun, rw is.0 o.fits)
+  pub stayed : Opened t v → Edited t s new (λ look. look) → AreTree s new t.limit
+  stayed o is = edited v.trees o is.kept is.same (stays o is) (ap standing (is.rows 0))
 
-  pub became_view : Opened t v → IsChanged n (with_what g) t.nodes.items new → record { limit = t.limit; made = length new; trees = whole (length new) (look_in new) } ≡ record v { trees = change_what n g v.trees }
-  became_view o is = edited_view t v new (change_what n g v.trees) o is.0 (StandsIn-what n g (length t.nodes.items) (look_in t.nodes.items) (look_in new) v.trees o.stands is.1)
+  pub stayed_view : Opened t v → Edited t s new (λ look. look) → nodes_in s new t.limit ≡ v
+  stayed_view o is = edited_view v.trees o is.same (stays o is)
+
+  -- a call that changes what node n is
+  becomes : (n : ℕ) (g : What ℕ → What ℕ) → Opened t v → Edited t s new (at_row n (with_what g)) → RowsStandIn (length t.nodes.items) (look_in s new) (change_what n g v.trees)
+  becomes n g o is = StandsIn-what n g (length t.nodes.items) (look_in t.store t.nodes.items) (look_in s new) v.trees o.stands is.rows
+
+  pub became : (n : ℕ) (g : What ℕ → What ℕ) → Opened t v → g document ≡ document → Edited t s new (at_row n (with_what g)) → AreTree s new t.limit
+  became n g o same is = record {
+    kept = is.kept;
+    forest = (change_what n g v.trees, rw is.same (becomes n g o is));
+    begun = document-what n g (look_in t.store t.nodes.items) (look_in s new) same is.rows 0 o.begun;
+    fits = rw is.same o.fits;
+  }
+
+  pub became_view : (n : ℕ) (g : What ℕ → What ℕ) → Opened t v → Edited t s new (at_row n (with_what g)) → nodes_in s new t.limit ≡ record v { trees = change_what n g v.trees }
+  became_view n g o is = edited_view (change_what n g v.trees) o is.same (becomes n g o is)
+
+-- more is in the store
+pub grew : (t : Inside) (v : Nodes ℕ) (s : Store) → Opened t v → IsGrown t.store s → Edited t s t.nodes.items (λ look. look)
+grew t v s o g = record { kept = kept-grown t.store s t.nodes.items g o.kept; same = refl; rows = look_in-grown t.store s t.nodes.items g o.kept }
 
 -- a write into what a node is, that shows or does not
-module _ (t : Inside) (v : Nodes ℕ) (n j : ℕ) (x y : Node) (o : Opened t v) (made : n < v.made) (same : j ≡ n) (is : x ≡ get_or t.nodes.items j x) where
-  pub written : (g : What ℕ → What ℕ) → row_of y ≡ with_what g (row_of x) → IsChanged n (with_what g) t.nodes.items (set t.nodes.items j y)
-  written g r = changed t.nodes.items j n x y (with_what g) same (omega (arith, o.made)) is r
+module _ (t : Inside) (v : Nodes ℕ) (s : Store) (n j : ℕ) (x : Node) (c : NodeData) (o : Opened t v) (more : IsGrown t.store s) (made : n < v.made) (same : j ≡ n) (is : x ≡ get_or t.nodes.items j x) where
+  there_is : n < length t.nodes.items
+  there_is = omega (arith, o.made)
 
-  pub unwritten : row_of y ≡ row_of x → IsUnchanged t.nodes.items (set t.nodes.items j y)
-  unwritten r = unchanged t.nodes.items j n x y same (omega (arith, o.made)) is r
+  read : x ≡ get_or t.nodes.items n x
+  read = is ∙ ap (λ m. get_or t.nodes.items m x) same
+
+  pub kept_there : IsKept t.store x.content
+  kept_there = kept-at t.store t.nodes.items n j x same there_is is o.kept
+
+  pub written : (g : What ℕ → What ℕ) → Holds s c (g (content_is t.store x.content)) → Edited t s (set t.nodes.items j (record x { content = c })) (at_row n (with_what g))
+  written g h =
+      let e = grew t v s o more in
+      record {
+        kept = kept-set s t.nodes.items j (record x { content = c }) e.kept h.0;
+        same = length-set t.nodes.items j (record x { content = c });
+        rows = λ k. rw same (
+            look_in-set s t.nodes.items n x (record x { content = c }) (with_what g) there_is read (ap (λ w. record (row_of s x) { what = w }) (h.1 ∙ ap g (sym (grown-holds t.store s x.content more kept_there).1))) k
+            ∙ ap (λ r. cond (eqb k n) (option_map (with_what g) r) r) (e.rows k)
+            );
+      }
+
+  pub unwritten : Holds s c (content_is t.store x.content) → Edited t s (set t.nodes.items j (record x { content = c })) (λ look. look)
+  unwritten h =
+      let w = written (λ (m : What ℕ). m) h in
+      record { kept = w.kept; same = w.same; rows = λ k. w.rows k ∙ go (eqb k n) (look_in t.store t.nodes.items k) }
+    where
+      go : (b : Bool) (r : Option (Row ℕ)) → cond b (option_map (λ m. m) r) r ≡ r
+      go b r = grind arith

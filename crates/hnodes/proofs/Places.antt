@@ -1,7 +1,5 @@
 -- The place of the nearest that is sought, and the searches of std.
-use Rattle.hnodes.proofs.ChainNames.{◌≡◌, ℕ, suc, ◌+◌, ◌-◌, ◌<◌, ◌≤◌, Bool, not, List, [], ◌∷◌, Some, None, length, refl, arith, list_all, position, position_or_len, lt-ltb, le-ltb, last_place}
-use Rattle.std.specs.Prelude.{nat_eq}
-use Rattle.std.proofs.Math.Dec.{eqb-suc-zero}
+use Rattle.hnodes.proofs.IndexNames.{◌≡◌, ℕ, suc, ◌+◌, ◌-◌, ◌<◌, ◌≤◌, Bool, List, [], ◌∷◌, Some, None, length, refl, arith, position, position_or_len, lt-ltb, le-ltb, last_place}
 
 module _ {X : Type 0} (sought : X → Bool) where
   pub last_place-le : (xs : List X) → last_place sought xs ≤ length xs
@@ -23,8 +21,3 @@ module _ {X : Type 0} (sought : X → Bool) where
       let up : position_or_len sought xs ≡ length xs - 1 - i = omega (arith, place-position xs) in
       let within : position_or_len sought xs < length xs = omega (arith, place-position xs) in
       rw (lt-ltb (position_or_len sought xs) (length xs) within, up) refl
-
--- all members pass where there is no place of one that does not
-pub all-places : {X : Type 0} (passes : X → Bool) (xs : List X) → nat_eq (last_place (λ x. not (passes x)) xs) 0 ≡ list_all passes xs
-all-places passes [] = refl
-all-places passes (x ∷ xs) = grind (arith, all-places passes xs, eqb-suc-zero)

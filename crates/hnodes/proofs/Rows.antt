@@ -1,41 +1,87 @@
 -- What the rows say after a write, and after a push.
-use Rattle.hnodes.proofs.Names.{◌≡◌, ◌≢◌, ℕ, zero, suc, ◌<◌, List, [], ◌∷◌, ◌++◌, Some, length, get_or, set, refl, sym, ◌∙◌, ap, arith, option_map, Row, at_row, row_of, look_in, IsChanged, Node}
-use Rattle.std.proofs.lemmas.List.{length-set}
+use Rattle.hnodes.proofs.Names.{◌≡◌, ◌≢◌, ℕ, zero, suc, ◌<◌, List, [], ◌∷◌, ◌++◌, Some, length, get_or, set, refl, sym, ◌∙◌, ap, subst, arith, option_map, Row, at_row, row_of, look_in, contents_of, AreKept, IsAmong, IsChanged, IsGrown, IsKept, Node, NodeData, Store}
+use Rattle.std.specs.List.{HoldsAt}
+use Rattle.std.proofs.Math.Seq.{map-set, map-set_same}
+use Rattle.std.proofs.lemmas.List.{length-map, map-append}
+use Rattle.std.proofs.lemmas.List.Elements.{All-append, All-set}
+use Rattle.hnodes.proofs.Stored.{grown-holds}
 
-look_in-other : (xs : List Node) (k : ℕ) (y : Node) (n : ℕ) → n ≢ k → look_in (set xs k y) n ≡ look_in xs n
-look_in-other [] k y n h = refl
-look_in-other (z ∷ zs) zero y zero h = absurd (h refl)
-look_in-other (z ∷ zs) zero y (suc n) h = refl
-look_in-other (z ∷ zs) (suc k) y zero h = refl
-look_in-other (z ∷ zs) (suc k) y (suc n) h = look_in-other zs k y n (λ e. h (ap suc e))
+-- what holds at a place holds of the node that was read there
+pub read_at : (P : Node → Type 0) (xs : List Node) (k j : ℕ) (x : Node) → j ≡ k → x ≡ get_or xs j x → HoldsAt P xs k → P x
+read_at P xs k j x same e h = subst P (sym (e ∙ ap (λ (m : ℕ). get_or xs m x) same)) (h x)
 
-look_in-same : (xs : List Node) (k : ℕ) (x y : Node) (f : Row ℕ → Row ℕ) → k < length xs → x ≡ get_or xs k x → row_of y ≡ f (row_of x) → look_in (set xs k y) k ≡ option_map f (look_in xs k)
-look_in-same [] k x y f h e r = absurd (omega arith)
-look_in-same (z ∷ zs) zero x y f h e r = ap (λ m. Some m) (r ∙ ap (λ m. f (row_of m)) e)
-look_in-same (z ∷ zs) (suc k) x y f h e r = look_in-same zs k x y f (omega arith) e r
+pub neighbours : (count : ℕ) (xs : List Node) (k j : ℕ) (x : Node) → j ≡ k → x ≡ get_or xs j x → HoldsAt (IsAmong count) xs k → IsAmong count x
+neighbours count = read_at (IsAmong count)
 
-look_in-set : (xs : List Node) (k : ℕ) (x y : Node) (f : Row ℕ → Row ℕ) → k < length xs → x ≡ get_or xs k x → row_of y ≡ f (row_of x) → (n : ℕ) → look_in (set xs k y) n ≡ at_row k f (look_in xs) n
-look_in-set xs k x y f h e r n = grind (arith, look_in-same, look_in-other)
+module _ (s : Store) where
+  look_in-other : (xs : List Node) (k : ℕ) (y : Node) (n : ℕ) → n ≢ k → look_in s (set xs k y) n ≡ look_in s xs n
+  look_in-other [] k y n h = refl
+  look_in-other (z ∷ zs) zero y zero h = absurd (h refl)
+  look_in-other (z ∷ zs) zero y (suc n) h = refl
+  look_in-other (z ∷ zs) (suc k) y zero h = refl
+  look_in-other (z ∷ zs) (suc k) y (suc n) h = look_in-other zs k y n (λ e. h (ap suc e))
 
--- one field of a node is written
-pub changed : (xs : List Node) (j k : ℕ) (x y : Node) (f : Row ℕ → Row ℕ) → j ≡ k → k < length xs → x ≡ get_or xs j x → row_of y ≡ f (row_of x) → IsChanged k f xs (set xs j y)
-changed xs j k x y f same h e r =
-    (length-set xs j y, rw same (look_in-set xs k x y f h (e ∙ ap (λ m. get_or xs m x) same) r))
+  look_in-same : (xs : List Node) (k : ℕ) (x y : Node) (f : Row ℕ → Row ℕ) → k < length xs → x ≡ get_or xs k x → row_of s y ≡ f (row_of s x) → look_in s (set xs k y) k ≡ option_map f (look_in s xs k)
+  look_in-same [] k x y f h e r = absurd (omega arith)
+  look_in-same (z ∷ zs) zero x y f h e r = ap (λ m. Some m) (r ∙ ap (λ m. f (row_of s m)) e)
+  look_in-same (z ∷ zs) (suc k) x y f h e r = look_in-same zs k x y f (omega arith) e r
 
-pub look_in-at : (xs : List Node) (k : ℕ) (x : Node) → k < length xs → look_in xs k ≡ Some (row_of (get_or xs k x))
-look_in-at [] k x h = absurd (omega arith)
-look_in-at (z ∷ zs) zero x h = refl
-look_in-at (z ∷ zs) (suc k) x h = look_in-at zs k x (omega arith)
+  pub look_in-set : (xs : List Node) (k : ℕ) (x y : Node) (f : Row ℕ → Row ℕ) → k < length xs → x ≡ get_or xs k x → row_of s y ≡ f (row_of s x) → (n : ℕ) → look_in s (set xs k y) n ≡ at_row k f (look_in s xs) n
+  look_in-set xs k x y f h e r n = grind (arith, look_in-same, look_in-other)
 
-pub look_in-before : (xs : List Node) (y : Node) (n : ℕ) → n < length xs → look_in (xs ++ y ∷ []) n ≡ look_in xs n
-look_in-before [] y n h = absurd (omega arith)
-look_in-before (x ∷ xs) y zero h = refl
-look_in-before (x ∷ xs) y (suc n) h = look_in-before xs y n (omega arith)
+  pub look_in-at : (xs : List Node) (k : ℕ) (x : Node) → k < length xs → look_in s xs k ≡ Some (row_of s (get_or xs k x))
+  look_in-at [] k x h = absurd (omega arith)
+  look_in-at (z ∷ zs) zero x h = refl
+  look_in-at (z ∷ zs) (suc k) x h = look_in-at zs k x (omega arith)
 
-pub look_in-last : (xs : List Node) (y : Node) → look_in (xs ++ y ∷ []) (length xs) ≡ Some (row_of y)
-look_in-last [] y = refl
-look_in-last (x ∷ xs) y = look_in-last xs y
+  pub look_in-before : (xs : List Node) (y : Node) (n : ℕ) → n < length xs → look_in s (xs ++ y ∷ []) n ≡ look_in s xs n
+  look_in-before [] y n h = absurd (omega arith)
+  look_in-before (x ∷ xs) y zero h = refl
+  look_in-before (x ∷ xs) y (suc n) h = look_in-before xs y n (omega arith)
 
--- the row of a node that was read
-pub row_seen : (xs : List Node) (k j : ℕ) (x : Node) → j ≡ k → k < length xs → x ≡ get_or xs j x → look_in xs k ≡ Some (row_of x)
-row_seen xs k j x same h g = look_in-at xs k x h ∙ ap (λ m. Some (row_of m)) (ap (λ (m : ℕ). get_or xs m x) (sym same) ∙ sym g)
+  pub look_in-last : (xs : List Node) (y : Node) → look_in s (xs ++ y ∷ []) (length xs) ≡ Some (row_of s y)
+  look_in-last [] y = refl
+  look_in-last (x ∷ xs) y = look_in-last xs y
+
+  -- the row of a node that was read
+  pub row_seen : (xs : List Node) (k j : ℕ) (x : Node) → j ≡ k → k < length xs → x ≡ get_or xs j x → look_in s xs k ≡ Some (row_of s x)
+  row_seen xs k j x same h g = look_in-at xs k x h ∙ ap (λ m. Some (row_of s m)) (ap (λ (m : ℕ). get_or xs m x) (sym same) ∙ sym g)
+
+  pub kept-at : (xs : List Node) (k j : ℕ) (x : Node) → j ≡ k → k < length xs → x ≡ get_or xs j x → AreKept s xs → IsKept s x.content
+  kept-at xs k j x same h g are = read_at (λ (m : Node). IsKept s m.content) xs k j x same g (λ d. go d xs k h are)
+    where
+      go : (d : Node) (xs : List Node) (k : ℕ) → k < length xs → AreKept s xs → IsKept s (get_or xs k d).content
+      go d [] k h are = absurd (omega arith)
+      go d (z ∷ zs) zero h are = are 0 z.content (omega arith)
+      go d (z ∷ zs) (suc k) h are = go d zs k (omega arith) (λ i o e. are (suc i) o (omega arith))
+
+  pub kept-push : (xs : List Node) (y : Node) → AreKept s xs → IsKept s y.content → AreKept s (xs ++ y ∷ [])
+  kept-push xs y are is = subst (λ (cs : List NodeData). (k : ℕ) (d : NodeData) → k < length cs → IsKept s (get_or cs k d)) (sym (map-append _ xs (y ∷ [])))
+      (All-append (IsKept s) (contents_of xs) (y.content ∷ []) are go)
+    where
+      go : (k : ℕ) (d : NodeData) → k < 1 → IsKept s (get_or (y.content ∷ []) k d)
+      go zero d h = is
+      go (suc k) d h = absurd (omega arith)
+
+  pub kept-set : (xs : List Node) (j : ℕ) (y : Node) → AreKept s xs → IsKept s y.content → AreKept s (set xs j y)
+  kept-set xs j y are is = subst (λ (cs : List NodeData). (k : ℕ) (d : NodeData) → k < length cs → IsKept s (get_or cs k d)) (sym (map-set (λ (m : Node). m.content) xs j y))
+      (All-set (IsKept s) (contents_of xs) j y.content is are)
+
+-- one link of a node is written
+pub changed : (xs : List Node) (j k : ℕ) (x y : Node) (f : Row ℕ → Row ℕ) → j ≡ k → k < length xs → x ≡ get_or xs j x → y.content ≡ x.content → ((s : Store) → row_of s y ≡ f (row_of s x)) → IsChanged k f xs (set xs j y)
+changed xs j k x y f same h e c r = record {
+  contents = map-set_same (λ (m : Node). m.content) xs j y x (c ∙ ap (λ (m : Node). m.content) e);
+  rows = λ s. rw same (look_in-set s xs k x y f h (e ∙ ap (λ m. get_or xs m x) same) (r s));
+}
+
+pub as_many : (a b : List Node) → contents_of b ≡ contents_of a → length b ≡ length a
+as_many a b e = sym (length-map b (λ x. x.content)) ∙ ap length e ∙ length-map a (λ x. x.content)
+
+pub kept-grown : (old new : Store) (xs : List Node) → IsGrown old new → AreKept old xs → AreKept new xs
+kept-grown old new xs g are k d h = (grown-holds old new _ g (are k d h)).0
+
+-- what is added to a store changes no row
+pub look_in-grown : (old new : Store) (xs : List Node) → IsGrown old new → AreKept old xs → (n : ℕ) → look_in new xs n ≡ look_in old xs n
+look_in-grown old new [] g are n = refl
+look_in-grown old new (x ∷ xs) g are zero = ap (λ w. Some (record (row_of old x) { what = w })) (grown-holds old new x.content g (are 0 x.content (omega arith))).1
+look_in-grown old new (x ∷ xs) g are (suc n) = look_in-grown old new xs g (λ i d e. are (suc i) d (omega arith)) n

@@ -54,13 +54,13 @@ module _ {N : Type 0} where
 
   pub put-joins : (bytes : List ℕ) (place : Place) (t : Nodes N) (n : ℕ) → IsUtf8 bytes → text_before place t.trees ≡ Some n → record t { trees = change_what n (with_text bytes) t.trees } ≡ add_chars (chars bytes) place t
   put-joins bytes place t n utf8 is =
-      let spelled = encodes-chars bytes utf8 in
-      sym (run-joins (chars bytes) place t n (is-text_before place t.trees n is) ∙ (λ i. record t { trees = change_what n (with_text (spelled i)) t.trees }))
+      let mapped = encodes-chars bytes utf8 in
+      sym (run-joins (chars bytes) place t n (is-text_before place t.trees n is) ∙ (λ i. record t { trees = change_what n (with_text (mapped i)) t.trees }))
 
   pub put-makes : (bytes : List ℕ) (place : Place) (t : Nodes N) → IsUtf8 bytes → 0 < length bytes → AreNodes t → IsPlace place t → text_before place t.trees ≡ None
       → record t { made = t.made + 1; trees = graft t.made place (join t.trees (tree t.made (text bytes) none none)) } ≡ add_chars (chars bytes) place t
   put-makes bytes place t utf8 some nodes at no_text = go (chars bytes) (encodes-chars bytes utf8)
     where
       go : (cs : List ℕ) → encode_utf8_all cs ≡ bytes → record t { made = t.made + 1; trees = graft t.made place (join t.trees (tree t.made (text bytes) none none)) } ≡ add_chars cs place t
-      go [] spelled = absurd (let none_there : length bytes ≡ 0 = ap length (sym spelled) in omega arith)
-      go (c ∷ cs) spelled = sym (run-makes c cs place t nodes at no_text ∙ (λ i. record t { made = t.made + 1; trees = graft t.made place (join t.trees (tree t.made (text (spelled i)) none none)) }))
+      go [] mapped = absurd (let none_there : length bytes ≡ 0 = ap length (sym mapped) in omega arith)
+      go (c ∷ cs) mapped = sym (run-makes c cs place t nodes at no_text ∙ (λ i. record t { made = t.made + 1; trees = graft t.made place (join t.trees (tree t.made (text (mapped i)) none none)) }))

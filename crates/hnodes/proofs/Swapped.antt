@@ -1,6 +1,6 @@
 -- What numbers keep where they move to a neighbouring place.
 use Rattle.hnodes.proofs.Groups.{in-group}
-use Rattle.hnodes.proofs.ChainNames.{◌≡◌, ◌≢◌, ℕ, suc, ◌+◌, ◌-◌, ◌<◌, ◌≤◌, Bool, true, false, List, length, get_or, set, ◌⊎◌, inl, inr, refl, sym, ◌∙◌, ap, subst, add-one, arith, cases_lt, false≢true, get_or-set_same, get_or-set_other, length-set, set_comm, none, last_up, is_in, IsNext, FitsAt, Link, group_of, in_group_of}
+use Rattle.hnodes.proofs.IndexNames.{◌≡◌, ◌≢◌, ℕ, suc, ◌+◌, ◌-◌, ◌<◌, ◌≤◌, Bool, true, false, List, length, get_or, set, ◌⊎◌, inl, inr, refl, sym, ◌∙◌, ap, subst, add-one, arith, cases_lt, false≢true, get_or-set_same, get_or-set_other, length-set, set_comm, none, last_up, is_in_group, IsNext, FitsAt, Link, group_of, in_group_of}
 use Rattle.std.proofs.lemmas.List.{set-set}
 use Rattle.hnodes.proofs.LastUp.{up-sought, up-other, up-alike}
 use Rattle.hnodes.proofs.Relinked.{next-same, not-in}
@@ -83,9 +83,9 @@ module _ (w i : ℕ) (xs ys1 ys2 ys3 : List ℕ) (first second : Link) (e1 : ys1
       let sought : s (get_or ys3 i 0) ≡ true = ap s at3 ∙ in-group w (group_of second.number w) second.number some refl in
       let up : last_up s ys3 (i + 1 + 1) ≡ i + 1 = up-down s ys3 i second.hint (ap s free-upper) ∙ ap (λ k. last_up s ys3 k) (add-one i) ∙ up-sought s ys3 i sought ∙ sym (add-one i) in
       record {
-        before = sym up ∙ ap (λ k. last_up (is_in w k) ys3 (i + 1 + 1)) (sym group);
+        before = sym up ∙ ap (λ k. last_up (is_in_group w k) ys3 (i + 1 + 1)) (sym group);
         next =
-            subst (λ (k : ℕ). IsNext (is_in w k) ys3 (i + 1) second.hint) (sym group)
+            subst (λ (k : ℕ). IsNext (is_in_group w k) ys3 (i + 1) second.hint) (sym group)
             (next-same s ys2 ys3 (i + 1) second.hint (len3 ∙ sym len2) (λ j a. same-past2 j (λ e. omega arith)) f.next);
       }
 

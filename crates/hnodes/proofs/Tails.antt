@@ -1,5 +1,5 @@
 -- Lists whose tail is written anew.
-use Rattle.hnodes.proofs.ChainNames.{arith, ◌≡◌, ℕ, ◌+◌, ◌≤◌, Bool, List, [], ◌∷◌, ◌++◌, length, map, take, refl, sym, ◌∙◌, ap, take-append-le, length-take-le, filter}
+use Rattle.hnodes.proofs.IndexNames.{arith, ◌≡◌, ℕ, ◌+◌, ◌≤◌, Bool, List, [], ◌∷◌, ◌++◌, length, map, take, refl, sym, ◌∙◌, ap, take-append-le, length-take-le, filter}
 use Rattle.std.proofs.Math.Seq.{take-append-add, take-take}
 
 -- what is left of a list whose tail begins anew

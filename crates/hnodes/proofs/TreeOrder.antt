@@ -1,6 +1,6 @@
 -- A walk in tree order.
 use Rattle.hnodes.proofs.Families.{first-is, first_child-is, spot-children, children-among}
-use Rattle.hnodes.proofs.Names.{◌≡◌, ℕ, ◌<◌, Bool, true, false, eqb, cond, not, List, [], ◌∷◌, ◌++◌, length, Some, None, refl, sym, ◌∙◌, ap, subst, arith, drop, option_and_then, ◌⊎◌, inl, inr, eq-eqb, append_assoc, append-nil, IfSome, IsTrue, option_map, What, Forest, none, tree, times, join, children_of, Spot, spot_of, first_or, first_child_of, next_of, parent_of, what_of, AreCounted, above, ancestors_of, way_up, order, after_each, is_among}
+use Rattle.hnodes.proofs.Names.{◌≡◌, ℕ, ◌<◌, Bool, true, false, eqb, cond, not, List, [], ◌∷◌, ◌++◌, length, Some, None, refl, sym, ◌∙◌, ap, subst, arith, drop, option_and_then, ◌⊎◌, inl, inr, eq-eqb, append_assoc, append-nil, IfSome, IsTrue, option_map, What, Forest, none, tree, times, join, children_of, Spot, spot_of, first_or, first_child_of, next_of, parent_of, what_of, AreCounted, path_above, ancestors_of, way_up, order, after_each, is_among}
 use Rattle.hnodes.specs.Passed.{trees_after, inside_from}
 use Rattle.hnodes.proofs.Forests.{some_inj, times-join, join-assoc}
 use Rattle.hnodes.proofs.Levels.{level, Here, Below}
@@ -12,7 +12,7 @@ pub differ : (a b : ℕ) → true ≡ not (eqb a b) → eqb a b ≡ false
 differ a b e = grind arith
 
 module _ {N : Type 0} where
-  above-other : (n : ℕ) (up ups : List ℕ) (g : Forest N) → is_among n up ≡ false → above n up g ≡ Some ups → is_among n ups ≡ false
+  above-other : (n : ℕ) (up ups : List ℕ) (g : Forest N) → is_among n up ≡ false → path_above n up g ≡ Some ups → is_among n ups ≡ false
   above-other n up ups none h e = cc
   above-other n up ups (tree b w kids rest) h e = grind (arith, above-other n (b ∷ up) ups kids, above-other n up ups rest)
 
@@ -101,15 +101,15 @@ module _ {N : Type 0} where
             up : ancestors_of n f ≡ p.parent ∷ ancestors_of p.parent f
             up = (entered p.parent n p.what p.left p.kids p.right low p.is).up
 
-            above : IsTrue (is_among top (ancestors_of n f))
-            above = subst (λ (u : Bool). IsTrue (cond u true (is_among top (ancestors_of n f)))) other inside
+            path_above : IsTrue (is_among top (ancestors_of n f))
+            path_above = subst (λ (u : Bool). IsTrue (cond u true (is_among top (ancestors_of n f)))) other inside
 
             rest : (R : Forest N) → children_of p.parent f ≡ join p.left (tree n p.what p.kids R) → first_or R None ≡ Some m → trees_after (spot_of n f) ≡ R → Goal
             rest none e j t = absurd (let no : None ≡ Some m = j in cc)
             rest (tree b w k R) e j t =
                 let a = entered p.parent b w (join p.left (tree n p.what p.kids none)) k R low (e ∙ sym (join-assoc p.left (tree n p.what p.kids none) (tree b w k R))) in
                 subst (λ (x : ℕ). (after_each top (way_up (Some n) f) f ≡ inside_from top (Some x) f) × IsInside made top f x) (some_inj j)
-                (rw other (λ i. order (t i) ++ after_each top (up i) f) ∙ sym a.is, (a.made_is, subst (λ (xs : List ℕ). IsTrue (is_among top xs)) (up ∙ sym a.up) above))
+                (rw other (λ i. order (t i) ++ after_each top (up i) f) ∙ sym a.is, (a.made_is, subst (λ (xs : List ℕ). IsTrue (is_among top xs)) (up ∙ sym a.up) path_above))
 
     -- no sibling
     pub climbs : (n : ℕ) → n < made → next_of n f ≡ None → eqb n top ≡ false → after_each top (way_up (Some n) f) f ≡ after_each top (way_up (parent_of n f) f) f

@@ -1,5 +1,5 @@
 -- The walk down a group to where a number is.
-use Rattle.hnodes.proofs.ChainNames.{◌≡◌, ◌≢◌, ℕ, zero, suc, ◌<◌, ◌≤◌, ◌-◌, Bool, true, eqb, List, length, get_or, refl, sym, ◌∙◌, ap, subst, arith, eqb-true, eq-eqb, ne_eqb, get_or-map, get_or_default, length-map, none, last_up, number_of, before_of, numbers_of, befores_of, is_in, Keep, IsChained, Link, group_of, in_group_of}
+use Rattle.hnodes.proofs.IndexNames.{◌≡◌, ◌≢◌, ℕ, zero, suc, ◌<◌, ◌≤◌, ◌-◌, Bool, true, eqb, List, length, get_or, refl, sym, ◌∙◌, ap, subst, arith, eqb-true, eq-eqb, ne_eqb, get_or-map, get_or_default, length-map, none, last_up, link_number, before_of, numbers_of, befores_of, is_in_group, Keep, IsIndexed, Link, group_of, in_group_of}
 use Rattle.hnodes.proofs.Groups.{group-less, nearest, in-group, group-of}
 use Rattle.hnodes.proofs.LastUp.{up-sought, up-other, up-within, up-found}
 
@@ -45,7 +45,7 @@ pub record IsAt (links : List Link) (place : ℕ) (x : Link) : Type 0 where
 
 module _ {links : List Link} {place : ℕ} {x : Link} (at : IsAt links place x) where
   pub number-at : get_or (numbers_of links) (place - 1) 0 ≡ x.number
-  number-at = get_or-map number_of links (place - 1) x 0 (omega (arith, at.some, at.within)) ∙ ap number_of (sym at.is)
+  number-at = get_or-map link_number links (place - 1) x 0 (omega (arith, at.some, at.within)) ∙ ap link_number (sym at.is)
 
   before-at : get_or (befores_of links) (place - 1) 0 ≡ x.before
   before-at = get_or-map before_of links (place - 1) x 0 (omega (arith, at.some, at.within)) ∙ ap before_of (sym at.is)
@@ -55,8 +55,8 @@ module _ {links : List Link} {number place : ℕ} {x : Link} (some : number ≢ 
   kept-at : x.before ≡ nearest links w.width (group_of number w.width) (place - 1)
   kept-at =
       let in_group = group-of w.width (group_of number w.width) (get_or (numbers_of links) (place - 1) 0) (w.group at.some) in
-      sym (before-at at) ∙ w.kept (place - 1) (omega (arith, at.some, at.within, length-map links number_of)) in_group.0
-      ∙ ap (λ g. last_up (is_in w.width g) (numbers_of links) (place - 1)) in_group.1
+      sym (before-at at) ∙ w.kept (place - 1) (omega (arith, at.some, at.within, length-map links link_number)) in_group.0
+      ∙ ap (λ g. last_up (is_in_group w.width g) (numbers_of links) (place - 1)) in_group.1
 
   pub walk-le : x.before ≤ place - 1
   walk-le = omega (arith, kept-at, up-within (in_group_of w.width number) (numbers_of links) (place - 1))
@@ -82,7 +82,7 @@ module _ {links : List Link} {number place : ℕ} {x : Link} (some : number ≢ 
       ∙ walk-down
 
 -- the walk from a place of a list on
-pub walk-from : {last : List ℕ} {links : List Link} {place : ℕ} {x : Link} → IsChained last links → IsAt links place x → x.number ≢ none → Walks links x.number place
+pub walk-from : {last : List ℕ} {links : List Link} {place : ℕ} {x : Link} → IsIndexed last links → IsAt links place x → x.number ≢ none → Walks links x.number place
 walk-from {last} {links} {place} {x} c at some = record {
   width = length last;
   kept = c.kept;
@@ -90,14 +90,14 @@ walk-from {last} {links} {place} {x} c at some = record {
 }
 
 -- the walk from the last place of a group
-module _ {last : List ℕ} {links : List Link} (c : IsChained last links) (number place : ℕ) (some : number ≢ none) (wide : 0 < length last) (is : place ≡ get_or last (group_of number (length last)) place) where
+module _ {last : List ℕ} {links : List Link} (c : IsIndexed last links) (number place : ℕ) (some : number ≢ none) (wide : 0 < length last) (is : place ≡ get_or last (group_of number (length last)) place) where
   last-at : place ≡ nearest links (length last) (group_of number (length last)) (length (numbers_of links))
   last-at =
       let within = group-less number (length last) wide in
       is ∙ get_or_default last (group_of number (length last)) place 0 within ∙ c.says (group_of number (length last)) within
 
   pub last-le : place ≤ length links
-  last-le = omega (arith, last-at, up-within (in_group_of (length last) number) (numbers_of links) (length (numbers_of links)), length-map links number_of)
+  last-le = omega (arith, last-at, up-within (in_group_of (length last) number) (numbers_of links) (length (numbers_of links)), length-map links link_number)
 
   pub last-walks : Walks links number place
   last-walks = walks-up links (length last) number place (length (numbers_of links)) c.kept last-at

@@ -1,28 +1,28 @@
 -- From a node to its parent, and so on.
-use Rattle.hnodes.proofs.Names.{◌≡◌, ℕ, ◌<◌, List, [], ◌∷◌, Some, None, refl, sym, ◌∙◌, ap, arith, option_and_then, unwrap_or, ◌⊎◌, inl, inr, eqb-true, eq-eqb, What, Forest, none, tree, times, join, children_of, Spot, parent_of, AreCounted, above, ancestors_of, way_up}
+use Rattle.hnodes.proofs.Names.{◌≡◌, ℕ, ◌<◌, List, [], ◌∷◌, Some, None, refl, sym, ◌∙◌, ap, arith, option_and_then, unwrap_or, ◌⊎◌, inl, inr, eqb-true, eq-eqb, What, Forest, none, tree, times, join, children_of, Spot, parent_of, AreCounted, path_above, ancestors_of, way_up}
 use Rattle.hnodes.proofs.Levels.{level, Here, Below}
 use Rattle.hnodes.proofs.Counted.{at-most, is-there}
 use Rattle.hnodes.proofs.ChildSpots.{of_root, of_kids, of_rest, child, left-apart, child-spot, root-spot}
 
 module _ {N : Type 0} where
-  above-absent : (n : ℕ) (up : List ℕ) (f : Forest N) → times n f ≡ 0 → above n up f ≡ None
+  above-absent : (n : ℕ) (up : List ℕ) (f : Forest N) → times n f ≡ 0 → path_above n up f ≡ None
   above-absent n up none h = refl
   above-absent n up (tree b w kids rest) h = grind (arith, above-absent n (b ∷ up) kids, above-absent n up rest)
 
-  above-row : (n : ℕ) (w : What N) (up : List ℕ) (L k R : Forest N) → times n L ≡ 0 → above n up (join L (tree n w k R)) ≡ Some up
+  above-row : (n : ℕ) (w : What N) (up : List ℕ) (L k R : Forest N) → times n L ≡ 0 → path_above n up (join L (tree n w k R)) ≡ Some up
   above-row n w up none k R h = rw (eq-eqb n n refl) refl
   above-row n w up (tree b v kids rest) k R h = grind (arith, above-row n w up rest k R, above-absent)
 
   module _ (n q : ℕ) (w : What N) where
     -- what a child is inside of: its parent, and what that is inside of
     abbrev Stacked : List ℕ → Forest N → Type 0
-    Stacked up f = (ups : List ℕ) × (above q up f ≡ Some ups) × (above n up f ≡ Some (q ∷ ups))
+    Stacked up f = (ups : List ℕ) × (path_above q up f ≡ Some ups) × (path_above n up f ≡ Some (q ∷ ups))
 
     stacked : (up : List ℕ) (L k R f : Forest N) → times q f ≡ 1 → times n f ≡ 1 → children_of q f ≡ join L (tree n w k R) → Stacked up f
     stacked up L k R none one once is = absurd (omega arith)
     stacked up L k R (tree b v kids rest) one once is = elim (child n q w L k R b v kids rest one once is) [
       | of_root i j o y same z ↦
-          let inside : above n (b ∷ up) kids ≡ Some (b ∷ up) = ap (above n (b ∷ up)) same ∙ above-row n w (b ∷ up) L k R (left-apart n q w L k R (ap (times n) (sym same) ∙ o)) in
+          let inside : path_above n (b ∷ up) kids ≡ Some (b ∷ up) = ap (path_above n (b ∷ up)) same ∙ above-row n w (b ∷ up) L k R (left-apart n q w L k R (ap (times n) (sym same) ∙ o)) in
           (up, rw i refl, rw (j, inside) (ap (λ m. Some (m ∷ up)) (eqb-true b q i)))
       | of_kids i j o y a same z ↦ let s = stacked (b ∷ up) L k R kids a o same in (s.0, rw (i, s.1) refl, rw (j, s.2) refl)
       | of_rest i t j o y a same ↦ let s = stacked up L k R rest a y same in (s.0, rw (i, above-absent q (b ∷ up) kids t) s.1, rw (j, above-absent n (b ∷ up) kids o) s.2)
@@ -34,7 +34,7 @@ module _ {N : Type 0} where
     where
       go : Here n f ⊎ Below n f → ancestors_of n f ≡ way_up (parent_of n f) f
       go (inl p) =
-          let root : above n [] f ≡ Some [] = ap (above n []) p.is ∙ above-row n p.what [] p.left p.kids p.right (left-apart n n p.what p.left p.kids p.right (ap (times n) (sym p.is) ∙ is-there made f counted n h)) in
+          let root : path_above n [] f ≡ Some [] = ap (path_above n []) p.is ∙ above-row n p.what [] p.left p.kids p.right (left-apart n n p.what p.left p.kids p.right (ap (times n) (sym p.is) ∙ is-there made f counted n h)) in
           ap (λ o. unwrap_or o []) root ∙ ap (λ o. way_up (option_and_then (λ (s : Spot N). s.parent) o) f) (sym (root-spot n p.what p.left p.kids p.right f (at-most made f counted n) p.is))
       go (inr p) =
           let one = is-there made f counted n h in

@@ -1,9 +1,9 @@
 -- A node becomes something else, and is where it was.
-use Rattle.hnodes.proofs.Names.{◌≡◌, ℕ, Bool, true, false, eqb, cond, ◌∷◌, Option, Some, None, refl, sym, ◌∙◌, ap, arith, What, document, Forest, none, tree, roots, size, times, change_what, first_or, last_or, Row, Look, Linked, Loose, StandsIn, standing, is_loose, at_row, with_what}
+use Rattle.hnodes.proofs.Names.{◌≡◌, ℕ, Bool, true, false, eqb, cond, ◌∷◌, Option, Some, None, refl, sym, ◌∙◌, ap, arith, What, document, Forest, none, tree, roots, size, times, change_what, first_or, last_or, Row, Look, Linked, Loose, RowsStandIn, standing, is_loose, at_row, with_what}
 use Rattle.hnodes.proofs.Linked.{Loose-agree}
 use Rattle.hnodes.proofs.Roots.{loose-same}
 
-pub StandsIn-same : {N : Type 0} (count : ℕ) (look new : Look N) (f : Forest N) → StandsIn count look f → ((b : ℕ) → new b ≡ look b) → StandsIn count new f
+pub StandsIn-same : {N : Type 0} (count : ℕ) (look new : Look N) (f : Forest N) → RowsStandIn count look f → ((b : ℕ) → new b ≡ look b) → RowsStandIn count new f
 StandsIn-same count look new f s same = record {
   rows = Loose-agree look new f (λ b h. same b) s.rows;
   loose_ones = s.loose_ones ∙ sym (loose-same look new count (λ b h. ap is_loose (same b)));
@@ -54,7 +54,7 @@ module _ {N : Type 0} (n : ℕ) (g : What N → What N) where
   loose-what : (look new : Look N) → ((b : ℕ) → new b ≡ at_row n (with_what g) look b) → (b : ℕ) → is_loose (new b) ≡ is_loose (look b)
   loose-what look new is b = grind arith
 
-  pub StandsIn-what : (count : ℕ) (look new : Look N) (f : Forest N) → StandsIn count look f → ((b : ℕ) → new b ≡ at_row n (with_what g) look b) → StandsIn count new (change_what n g f)
+  pub StandsIn-what : (count : ℕ) (look new : Look N) (f : Forest N) → RowsStandIn count look f → ((b : ℕ) → new b ≡ at_row n (with_what g) look b) → RowsStandIn count new (change_what n g f)
   StandsIn-what count look new f s is = record {
     rows = Loose-what look new is f s.rows;
     loose_ones = roots-what f ∙ s.loose_ones ∙ sym (loose-same look new count (λ b h. loose-what look new is b));

@@ -1,5 +1,5 @@
 -- Links are to nodes that are there.
-use Rattle.hnodes.proofs.Names.{◌≡◌, ℕ, suc, ◌<◌, ◌≤◌, ltb, cond, Some, None, refl, sym, ◌∙◌, ap, subst, arith, ◌⊎◌, inl, inr, le-leb, Forest, times, children_of, Look, Loose, StandsIn, parent_in, previous_in, next_in, first_in, last_in}
+use Rattle.hnodes.proofs.Names.{◌≡◌, ℕ, suc, ◌<◌, ◌≤◌, ltb, cond, Some, None, refl, sym, ◌∙◌, ap, subst, arith, ◌⊎◌, inl, inr, le-leb, Forest, times, children_of, Look, Loose, RowsStandIn, parent_in, previous_in, next_in, first_in, last_in}
 use Rattle.hnodes.proofs.Forests.{some_inj, times-emptied}
 use Rattle.hnodes.proofs.Linked.{last-among, first-among}
 use Rattle.hnodes.proofs.Levels.{level, Here, Below}
@@ -13,13 +13,13 @@ pub test_under : (n count : ℕ) → 0 < cond (ltb n count) 1 0 → n < count
 test_under n count h = grind arith
 
 module _ {N : Type 0} where
-  pub one-of : (count : ℕ) (look : Look N) (f : Forest N) (n : ℕ) → StandsIn count look f → n < count → times n f ≡ 1
+  pub one-of : (count : ℕ) (look : Look N) (f : Forest N) (n : ℕ) → RowsStandIn count look f → n < count → times n f ≡ 1
   one-of count look f n s h = s.once n ∙ rw (le-leb (suc n) count (omega arith)) refl
 
-  pub once-of : (count : ℕ) (look : Look N) (f : Forest N) (s : StandsIn count look f) (b : ℕ) → times b f ≤ 1
+  pub once-of : (count : ℕ) (look : Look N) (f : Forest N) (s : RowsStandIn count look f) (b : ℕ) → times b f ≤ 1
   once-of count look f s b = grind arith
 
-  pub there : (count : ℕ) (look : Look N) (f : Forest N) (k : ℕ) → StandsIn count look f → 0 < times k f → k < count
+  pub there : (count : ℕ) (look : Look N) (f : Forest N) (k : ℕ) → RowsStandIn count look f → 0 < times k f → k < count
   there count look f k s h = test_under k count (subst (λ (m : ℕ). 0 < m) (s.once k) h)
 
   -- the parent and the siblings of a node

@@ -6,10 +6,11 @@ pub mod Attributes
 pub mod Differing
 pub mod Clean
 pub mod Makes
-pub mod Spelled
+pub mod Mapped
 pub mod Links
 pub mod Raw
 pub mod Coding
+pub mod Store
 pub mod Rows
 pub mod Numbered
 pub mod Shared
@@ -18,7 +19,7 @@ pub mod Worked
 pub mod Named
 pub mod Elements
 pub mod Vocabulary
-pub mod Chains
-pub mod ChainLinks
+pub mod IndexedList
+pub mod IndexLinks
 pub mod Nearest
 pub mod Places

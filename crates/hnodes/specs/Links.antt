@@ -30,8 +30,8 @@ module _ {N : Type 0} where
   }
 
   -- the row of a node that stands for itself, without children
-  abbrev pub alone : What N → Row N
-  alone w = record { what = w; parent = None; first = None; last = None; previous = None; next = None }
+  abbrev pub row_alone : What N → Row N
+  row_alone w = record { what = w; parent = None; first = None; last = None; previous = None; next = None }
 
   -- the trees are in what is seen, linked one to the next, below a parent, after one sibling and before another
   abbrev pub Linked : Look N → (parent before : Option ℕ) → Forest N → (after : Option ℕ) → Type 0
@@ -99,7 +99,7 @@ module _ {N : Type 0} where
   whole count look = seen_each count look (loose count look)
 
   -- a forest is in what is seen of this many nodes, and holds each of them once
-  pub record StandsIn (count : ℕ) (look : Look N) (f : Forest N) : Type 0 where
+  pub record RowsStandIn (count : ℕ) (look : Look N) (f : Forest N) : Type 0 where
     pub rows : Loose look f
     pub loose_ones : roots f ≡ loose count look
     pub all : size f ≡ count

@@ -24,9 +24,9 @@ module _ {X : Type 0} where
   changed sought f (x ∷ rest) = if sought x then f x ∷ rest else x ∷ changed sought f rest
 
   -- one more, right before the nearest member that is sought
-  abbrev pub put_before : (X → Bool) → X → List X → List X
-  put_before sought new [] = []
-  put_before sought new (x ∷ rest) = if sought x then new ∷ x ∷ rest else x ∷ put_before sought new rest
+  abbrev pub item_put_before : (X → Bool) → X → List X → List X
+  item_put_before sought new [] = []
+  item_put_before sought new (x ∷ rest) = if sought x then new ∷ x ∷ rest else x ∷ item_put_before sought new rest
 
   -- the member that has this many before it becomes f of it
   abbrev pub changed_at : ℕ → (X → X) → List X → List X

@@ -9,13 +9,13 @@ use Rattle.hnodes.specs.declared.attributes.Indexed.TheInside.{Inside}
 abbrev pub names_of : List Attr → List ℕ
 names_of attrs = map (λ a. a.name) attrs
 
-abbrev pub numbers_of : List Attr → List ℕ
-numbers_of attrs = map (λ a. suc (suc a.name)) attrs
+abbrev pub attr_numbers : List Attr → List ℕ
+attr_numbers attrs = map (λ a. suc (suc a.name)) attrs
 
-abbrev pub attributes_in : Inside → List (Attribute ℕ)
-attributes_in x = map attribute_of x.attrs.items
+abbrev pub inside_attributes : Inside → List (Attribute ℕ)
+inside_attributes x = map attribute_of x.attrs.items
 
 -- the numbers are those of the first attributes
 pub record AreNumbered (x : Inside) : Type 0 where
-  pub first : x.names ≡ numbers_of (take (length x.names) x.attrs.items)
-  pub differ : x.differ ≡ names_differ nat_eq (attributes_in x)
+  pub first : x.names ≡ attr_numbers (take (length x.names) x.attrs.items)
+  pub differ : x.differ ≡ names_differ nat_eq (inside_attributes x)

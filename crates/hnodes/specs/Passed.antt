@@ -15,14 +15,14 @@ module _ {N : Type 0} where
   siblings_from (Some n) f = n ∷ following (spot_of n f)
 
   -- the nodes that node n is inside of, the nearest first, below those of up
-  abbrev pub above : ℕ → (up : List ℕ) → Forest N → Option (List ℕ)
-  above n up none = None
-  above n up (tree b w kids rest) =
-      if eqb b n then Some up else either_of (above n (b ∷ up) kids) (above n up rest)
+  abbrev pub path_above : ℕ → (up : List ℕ) → Forest N → Option (List ℕ)
+  path_above n up none = None
+  path_above n up (tree b w kids rest) =
+      if eqb b n then Some up else either_of (path_above n (b ∷ up) kids) (path_above n up rest)
 
   -- all of them
   abbrev pub ancestors_of : ℕ → Forest N → List ℕ
-  ancestors_of n f = unwrap_or (above n [] f) []
+  ancestors_of n f = unwrap_or (path_above n [] f) []
 
   -- a node and those that it is inside of
   abbrev pub way_up : Option ℕ → Forest N → List ℕ
@@ -56,9 +56,9 @@ module _ {N : Type 0} where
   own_text w = []
 
   -- the characters of all texts in tree order, one after another
-  abbrev pub texts : Forest N → List ℕ
-  texts none = []
-  texts (tree b w kids rest) = own_text w ++ (texts kids ++ texts rest)
+  abbrev pub forest_texts : Forest N → List ℕ
+  forest_texts none = []
+  forest_texts (tree b w kids rest) = own_text w ++ (forest_texts kids ++ forest_texts rest)
 
 -- whether a number is in a list
 abbrev pub is_among : ℕ → List ℕ → Bool

@@ -20,7 +20,7 @@ abbrev pub listed_in : Inside → List (Attribute ℕ)
 listed_in x = map attribute_of x.attrs.items
 
 abbrev pub IsListed : Inside → Type 0
-IsListed x = IfSome x.found (λ found. IsFound found (listed_in x))
+IsListed x = IfSome x.found (λ found. IsFound found.value (listed_in x))
 
 abbrev pub shared_in : Handle → List (Attribute ℕ)
 shared_in x = option_map_or (λ list. rc_value list) x.list []

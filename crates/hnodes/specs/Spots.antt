@@ -86,17 +86,17 @@ module _ {N : Type 0} where
   doctype_in (doctype n p s) = Some (n, p, s)
   doctype_in w = None
 
-  abbrev pub kind_of : ℕ → Forest N → Option NodeKind
-  kind_of n f = option_map kind_in (what_of n f)
+  abbrev pub node_kind : ℕ → Forest N → Option NodeKind
+  node_kind n f = option_map kind_in (what_of n f)
 
-  abbrev pub name_of : ℕ → Forest N → Option N
-  name_of n f = option_and_then name_in (what_of n f)
+  abbrev pub node_name : ℕ → Forest N → Option N
+  node_name n f = option_and_then name_in (what_of n f)
 
   abbrev pub attributes_of : ℕ → Forest N → Option (List (Attribute N))
   attributes_of n f = option_and_then attributes_in (what_of n f)
 
-  abbrev pub text_of : ℕ → Forest N → Option (List ℕ)
-  text_of n f = option_and_then text_in (what_of n f)
+  abbrev pub text_of_node : ℕ → Forest N → Option (List ℕ)
+  text_of_node n f = option_and_then text_in (what_of n f)
 
   abbrev pub doctype_of : ℕ → Forest N → Option (List ℕ × List ℕ × List ℕ)
   doctype_of n f = option_and_then doctype_in (what_of n f)

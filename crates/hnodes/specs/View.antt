@@ -1,15 +1,25 @@
 -- The nodes that a vector stands for.
-use Rattle.std.specs.Prelude.{◌≡◌, ℕ, ◌≤◌, Some, None, length}
+use Rattle.std.specs.Prelude.{◌≡◌, ℕ, ◌≤◌, List, Some, None, length}
 use Rattle.hnodes.specs.Forest.{Forest, document}
 use Rattle.hnodes.specs.Edits.{Nodes}
-use Rattle.hnodes.specs.Links.{StandsIn, standing, whole}
-use Rattle.hnodes.specs.Rows.{look_in}
+use Rattle.hnodes.specs.Links.{RowsStandIn, standing, whole}
+use Rattle.hnodes.specs.Rows.{look_in, AreKept}
+use Rattle.hnodes.specs.declared.node.Node.{Node}
+use Rattle.hnodes.specs.declared.store.Store.{Store}
 use Rattle.hnodes.specs.declared.tree.Tree.TheInside.{Inside}
 
-abbrev pub nodes_of : Inside → Nodes ℕ
-nodes_of t = record { limit = t.limit; made = length t.nodes.items; trees = whole (length t.nodes.items) (look_in t.nodes.items) }
+abbrev pub nodes_in : Store → List Node → (limit : ℕ) → Nodes ℕ
+nodes_in s xs limit = record { limit = limit; made = length xs; trees = whole (length xs) (look_in s xs) }
 
--- a forest is there, the first node is the document, and there are no more nodes than may be
+abbrev pub inside_nodes : Inside → Nodes ℕ
+inside_nodes t = nodes_in t.store t.nodes.items t.limit
+
+-- the store has what the nodes keep there, a forest is there, the first node is the document, and there are no more nodes than may be
+pub record AreTree (s : Store) (xs : List Node) (limit : ℕ) : Type 0 where
+  pub kept : AreKept s xs
+  pub forest : (f : Forest ℕ) × RowsStandIn (length xs) (look_in s xs) f
+  pub begun : standing (look_in s xs 0) ≡ Some (document, None)
+  pub fits : length xs ≤ limit
+
 abbrev pub IsTree : Inside → Type 0
-IsTree t = ((f : Forest ℕ) × StandsIn (length t.nodes.items) (look_in t.nodes.items) f) × (standing (look_in t.nodes.items 0) ≡ Some (document, None))
-    × (length t.nodes.items ≤ t.limit)
+IsTree t = AreTree t.store t.nodes.items t.limit

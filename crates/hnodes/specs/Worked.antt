@@ -4,7 +4,7 @@ use Rattle.std.specs.Char.{encode_utf8}
 use Rattle.hnodes.specs.Forest.{Forest, none, tree, document, element, text, children_of}
 use Rattle.hnodes.specs.Spots.{parent_of, first_child_of, next_of, previous_of}
 use Rattle.hnodes.specs.Edits.{Nodes, graft_last, graft_before, move_all, add_char, add_chars, text_before}
-use Rattle.hnodes.specs.Passed.{siblings_from, ancestors_of, order, inside_from, texts}
+use Rattle.hnodes.specs.Passed.{siblings_from, ancestors_of, order, inside_from, forest_texts}
 use Rattle.hnodes.specs.declared.node.Place.TheVariants.{LastIn, Before}
 
 -- an element of one name, and a text of one byte
@@ -111,5 +111,5 @@ from_the_middle = refl
 not_past_the_top : inside_from 1 (Some 3) forest ≡ 3 ∷ 4 ∷ []
 not_past_the_top = refl
 
-texts_joined : texts (children_of 0 (graft_last 6 3 (tree 0 document (t 2 97 (e 3 (t 4 98 none) (t 5 99 none))) (e 6 none none)))) ≡ 97 ∷ 98 ∷ 99 ∷ []
+texts_joined : forest_texts (children_of 0 (graft_last 6 3 (tree 0 document (t 2 97 (e 3 (t 4 98 none) (t 5 99 none))) (e 6 none none)))) ≡ 97 ∷ 98 ∷ 99 ∷ []
 texts_joined = refl

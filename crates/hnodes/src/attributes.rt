@@ -2,13 +2,12 @@
 
 ghost use Rattle.std.specs.Prelude.{◌≡◌, ◌&&◌, ◌++◌, ◌∷◌, [], suc, length, map, nat_eq, not, take, OnOk, OnErr, IfOk};
 ghost use Rattle.std.specs.List.{list_any};
-ghost use Rattle.hnodes.specs.Vocabulary.{are_clean, attribute_of, is_clean, names_differ, names_end, numbers_of};
+ghost use Rattle.hnodes.specs.Vocabulary.{are_clean, attribute_of, is_clean, names_differ, names_end, attr_numbers};
 
-use crate::chains::Chains;
+use crate::indexed_list::IndexedList;
 use names::{Attr, NameId};
 use std::alloc::{AllocError, Global};
 use std::marker::Model;
-use std::mem;
 
 /// So many attributes are looked at one by one; the names of more are numbered or sorted.
 pub const FEW_ATTRIBUTES: usize = 16;
@@ -18,7 +17,7 @@ pub const FEW_ATTRIBUTES: usize = 16;
 #[derive(Drop)]
 pub(crate) struct Indexed {
     attrs: Vec<Attr>,
-    names: Chains,
+    names: IndexedList,
     differ: bool,
 }
 
@@ -31,9 +30,9 @@ impl Model for Indexed {
 
     ghost coded = { coded_list (coded× coded_ℕ (coded_list coded_ℕ)) };
 
-    ghost use Rattle.hnodes.specs.Numbered.{attributes_in, AreNumbered};
+    ghost use Rattle.hnodes.specs.Numbered.{inside_attributes, AreNumbered};
 
-    ghost view = { attributes_in };
+    ghost view = { inside_attributes };
 
     ghost invariant = { AreNumbered };
 }
@@ -53,10 +52,10 @@ pub(crate) fn has_name(attrs: &[Attr], name: NameId) -> bool
 }
 
 /// Adds the numbers of the names of attributes to those of the first of them.
-fn index_more(names: &mut Chains, attrs: &[Attr]) -> Result<(), AllocError>
-    requires { names.old ≡ numbers_of (take (length names.old) attrs.now) }
-    ensures all { OnOk result (names.new ≡ numbers_of attrs.now) }
-    ensures first { names.new ≡ numbers_of (take (length names.new) attrs.now) }
+fn index_more(names: &mut IndexedList, attrs: &[Attr]) -> Result<(), AllocError>
+    requires { names.old ≡ attr_numbers (take (length names.old) attrs.now) }
+    ensures all { OnOk result (names.new ≡ attr_numbers attrs.now) }
+    ensures first { names.new ≡ attr_numbers (take (length names.new) attrs.now) }
 {
     for index in names.len()..attrs.len() {
         names.push(name_number(attrs[index].name()))?;
@@ -65,10 +64,10 @@ fn index_more(names: &mut Chains, attrs: &[Attr]) -> Result<(), AllocError>
 }
 
 /// The numbers of the names of attributes, in order, by which those of a name are found.
-pub fn index_attrs(attrs: &[Attr], alloc: Global) -> Result<Chains, AllocError>
-    ensures { IfOk result (λ names. names ≡ numbers_of attrs.now) }
+pub fn index_attrs(attrs: &[Attr], alloc: Global) -> Result<IndexedList, AllocError>
+    ensures { IfOk result (λ names. names ≡ attr_numbers attrs.now) }
 {
-    let mut names = Chains::new(alloc);
+    let mut names = IndexedList::new(alloc);
     index_more(&mut names, attrs)?;
     Ok(names)
 }
@@ -140,26 +139,16 @@ pub(crate) fn names_end(attrs: &[Attr]) -> usize
 }
 
 impl Indexed {
-    /// No attributes.
-    pub(crate) fn new(alloc: Global) -> Self
-        ensures { result ≡ [] }
+    /// These attributes.
+    pub(crate) fn of(attrs: Vec<Attr>, alloc: Global) -> Result<Self, AllocError>
+        ensures { IfOk result (λ indexed. indexed ≡ map attribute_of attrs.items) }
     {
-        Indexed {
-            attrs: Vec::new(alloc),
-            names: Chains::new(alloc),
-            differ: true,
-        }
-    }
-
-    /// Takes attributes in place of its own. On an error they stay where they are.
-    pub(crate) fn take(&mut self, attrs: &mut Vec<Attr>, alloc: Global) -> Result<(), AllocError>
-        ensures ok { OnOk result (self.new ≡ map attribute_of attrs.old.items) }
-        ensures err { OnErr result (attrs.new.items ≡ attrs.old.items) }
-    {
-        self.differ = many_differ(attrs, alloc)?;
-        self.names = Chains::new(alloc);
-        self.attrs = mem::replace(attrs, Vec::new(alloc));
-        Ok(())
+        let differ = differ(&attrs, alloc)?;
+        Ok(Indexed {
+            attrs,
+            names: IndexedList::new(alloc),
+            differ,
+        })
     }
 
     /// The attributes.

@@ -11,25 +11,27 @@ use names::{Attr, NameId};
 
 impl Tree {
     /// The attributes of an element.
-    pub fn attrs(&self, at: NodeId) -> Option<&[Attr]>
-        requires { at < self.now.made }
-        ensures { option_map (λ attrs. map attribute_of attrs.now) result ≡ attributes_of at self.now.trees }
+    pub fn attrs(&self, node: NodeId) -> Option<&[Attr]>
+        requires { node < self.now.made }
+        ensures { option_map (λ attrs. map attribute_of attrs.now) result ≡ attributes_of node self.now.trees }
     {
-        match self.content(at) {
-            NodeData::Element(_, attrs) => Some(attrs),
+        let (content, store) = self.content(node);
+        match content {
+            NodeData::Element(_, run) => Some(store.attrs(*run)),
             NodeData::Wide(_, indexed) => Some(indexed.attrs()),
-            NodeData::Shared(_, attrs) => Some(attrs.as_slice()),
+            NodeData::Shared(_, attrs) => Some(attrs.attrs()),
             _ => None,
         }
     }
 
     /// Whether no two attributes of an element have one name; true for another node. Takes constant time.
-    pub fn attrs_differ(&self, at: NodeId) -> bool
-        requires { at < self.now.made }
-        ensures { result ≡ option_map_or (names_differ nat_eq) (attributes_of at self.now.trees) true }
+    pub fn attrs_differ(&self, node: NodeId) -> bool
+        requires { node < self.now.made }
+        ensures { result ≡ option_map_or (names_differ nat_eq) (attributes_of node self.now.trees) true }
     {
-        match self.content(at) {
-            NodeData::Element(_, attrs) => few_differ(attrs),
+        let (content, store) = self.content(node);
+        match content {
+            NodeData::Element(_, run) => few_differ(store.attrs(*run)),
             NodeData::Wide(_, indexed) => indexed.differ(),
             NodeData::Shared(_, attrs) => attrs.differ(),
             _ => true,
@@ -37,12 +39,13 @@ impl Tree {
     }
 
     /// Whether no value of an element's attributes has NUL or CR; true for another node. Takes constant time where they are shared.
-    pub fn attrs_clean(&self, at: NodeId) -> bool
-        requires { at < self.now.made }
-        ensures { result ≡ option_map_or are_clean (attributes_of at self.now.trees) true }
+    pub fn attrs_clean(&self, node: NodeId) -> bool
+        requires { node < self.now.made }
+        ensures { result ≡ option_map_or are_clean (attributes_of node self.now.trees) true }
     {
-        match self.content(at) {
-            NodeData::Element(_, attrs) => are_clean(attrs),
+        let (content, store) = self.content(node);
+        match content {
+            NodeData::Element(_, run) => are_clean(store.attrs(*run)),
             NodeData::Wide(_, indexed) => are_clean(indexed.attrs()),
             NodeData::Shared(_, attrs) => attrs.clean(),
             _ => true,
@@ -51,12 +54,13 @@ impl Tree {
 
     /// One more than the greatest number among the names of an element's attributes; 0 without any. Takes constant time where they are
     /// shared.
-    pub fn attr_names_end(&self, at: NodeId) -> usize
-        requires { at < self.now.made }
-        ensures { result ≡ option_map_or names_end (attributes_of at self.now.trees) 0 }
+    pub fn attr_names_end(&self, node: NodeId) -> usize
+        requires { node < self.now.made }
+        ensures { result ≡ option_map_or names_end (attributes_of node self.now.trees) 0 }
     {
-        match self.content(at) {
-            NodeData::Element(_, attrs) => names_end(attrs),
+        let (content, store) = self.content(node);
+        match content {
+            NodeData::Element(_, run) => names_end(store.attrs(*run)),
             NodeData::Wide(_, indexed) => names_end(indexed.attrs()),
             NodeData::Shared(_, attrs) => attrs.names_end(),
             _ => 0,
@@ -64,14 +68,15 @@ impl Tree {
     }
 
     /// Whether an element has an attribute of a name.
-    pub(crate) fn has_attr(&self, at: NodeId, name: NameId) -> bool
-        requires { at < self.now.made }
-        ensures { result ≡ is_present nat_eq name (attributes_of at self.now.trees) }
+    pub(crate) fn has_attr(&self, node: NodeId, name: NameId) -> bool
+        requires { node < self.now.made }
+        ensures { result ≡ is_present nat_eq name (attributes_of node self.now.trees) }
     {
-        match self.content(at) {
-            NodeData::Element(_, attrs) => has_name(attrs, name),
+        let (content, store) = self.content(node);
+        match content {
+            NodeData::Element(_, run) => has_name(store.attrs(*run), name),
             NodeData::Wide(_, indexed) => indexed.has(name),
-            NodeData::Shared(_, attrs) => has_name(attrs.as_slice(), name),
+            NodeData::Shared(_, attrs) => has_name(attrs.attrs(), name),
             _ => false,
         }
     }

@@ -4,7 +4,7 @@ ghost use Rattle.std.specs.Prelude.{◌≡◌, ◌<◌, ◌↔◌, ℕ, List, So
 ghost use Rattle.std.specs.Iterator.{YieldsFirst, at_most};
 ghost use Rattle.std.specs.List.{All};
 ghost use Rattle.std.specs.Option.{option_map};
-ghost use Rattle.hnodes.specs.Vocabulary.{children_of, elements_among, is_element, kind_of, name_of, roots, siblings_from, value_of, AreNodes};
+ghost use Rattle.hnodes.specs.Vocabulary.{children_of, elements_among, is_element, node_kind, node_name, roots, siblings_from, value_of, AreNodes};
 ghost use Rattle.names.specs.Tags.{tag_of};
 
 use crate::node::{NodeId, NodeKind};
@@ -14,11 +14,11 @@ use std::marker::Model;
 
 impl Tree {
     /// The value of an element's attribute of this name.
-    pub fn attr(&self, at: NodeId, name: NameId) -> Option<&str>
-        requires { at < self.now.made }
-        ensures { option_map (λ value. value.now) result ≡ value_of (nat_eq name) at self.now.trees }
+    pub fn attr(&self, node: NodeId, name: NameId) -> Option<&str>
+        requires { node < self.now.made }
+        ensures { option_map (λ value. value.now) result ≡ value_of (nat_eq name) node self.now.trees }
     {
-        for attr in self.attrs(at)? {
+        for attr in self.attrs(node)? {
             if attr.name() == name {
                 return Some(attr.value());
             }
@@ -27,43 +27,43 @@ impl Tree {
     }
 
     /// Whether a node is an element of this known name; for `Tag::Other`, of any name that is not known.
-    pub fn is(&self, at: NodeId, tag: Tag) -> bool
-        requires { at < self.now.made }
-        ensures { IsTrue result ↔ (option_map tag_of (name_of at self.now.trees) ≡ Some tag) }
+    pub fn is(&self, node: NodeId, tag: Tag) -> bool
+        requires { node < self.now.made }
+        ensures { IsTrue result ↔ (option_map tag_of (node_name node self.now.trees) ≡ Some tag) }
     {
-        match self.name(at) {
+        match self.name(node) {
             Some(name) => name.tag() == tag,
             None => false,
         }
     }
 
     /// Whether a node is a text.
-    pub fn is_text(&self, at: NodeId) -> bool
-        requires { at < self.now.made }
-        ensures { IsTrue result ↔ (kind_of at self.now.trees ≡ Some NodeKind.Text) }
+    pub fn is_text(&self, node: NodeId) -> bool
+        requires { node < self.now.made }
+        ensures { IsTrue result ↔ (node_kind node self.now.trees ≡ Some NodeKind.Text) }
     {
-        self.kind(at) == NodeKind::Text
+        self.kind(node) == NodeKind::Text
     }
 
     /// The children of a node that are elements, in their order.
-    pub fn child_elements(&self, at: NodeId) -> ChildElements
-        requires { at < self.now.made }
-        ensures order { result ≡ elements_among (roots (children_of at self.now.trees)) self.now.trees }
+    pub fn child_elements(&self, node: NodeId) -> ChildElements
+        requires { node < self.now.made }
+        ensures order { result ≡ elements_among (roots (children_of node self.now.trees)) self.now.trees }
         ensures within { All (λ n. n < self.now.made) result }
         ensures nodes { AreNodes self.now }
     {
-        let next = self.element_from(self.first_child(at));
+        let next = self.element_from(self.first_child(node));
         ChildElements { tree: self, next }
     }
 
     /// The first child of a node that is an element.
-    pub fn first_element_child(&self, at: NodeId) -> Option<NodeId>
-        requires { at < self.now.made }
-        ensures child { result ≡ slice_get (elements_among (roots (children_of at self.now.trees)) self.now.trees) 0 }
+    pub fn first_element_child(&self, node: NodeId) -> Option<NodeId>
+        requires { node < self.now.made }
+        ensures child { result ≡ slice_get (elements_among (roots (children_of node self.now.trees)) self.now.trees) 0 }
         ensures within { IfSome result (λ n. n < self.now.made) }
         ensures nodes { AreNodes self.now }
     {
-        let first = self.first_child(at);
+        let first = self.first_child(node);
         self.element_from(first)
     }
 

@@ -1,7 +1,7 @@
 //! Laws of the tree: its edits, and what is asked of its nodes, are the same under any names that the numbers stand for.
 
 ghost use Rattle.std.specs.Prelude.{ℕ, List};
-ghost use Rattle.hnodes.specs.Spelled.{EditsKnowNoNames, QuestionsKnowNoNames};
+ghost use Rattle.hnodes.specs.Mapped.{EditsKnowNoNames, QuestionsKnowNoNames};
 
 /// Each edit is the same under any names that the numbers stand for.
 pub fn edits_know_no_names()

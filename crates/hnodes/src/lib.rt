@@ -3,19 +3,20 @@
 
 pub mod attributes;
 mod attrs;
-pub mod chains;
 mod elements;
+pub mod indexed_list;
 mod laws;
 mod links;
 mod node;
 mod relink;
 mod shared;
+mod store;
 mod tree;
 mod walks;
 
 pub use attributes::{FEW_ATTRIBUTES, index_attrs, is_clean, name_number};
-pub use chains::{Chains, NONE};
 pub use elements::ChildElements;
+pub use indexed_list::{IndexedList, NONE};
 pub use laws::{edits_know_no_names, questions_know_no_names};
 pub use node::{DocumentType, NodeId, NodeKind, Place};
 pub use shared::Attributes;

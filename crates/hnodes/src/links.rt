@@ -1,7 +1,8 @@
 //! The links between nodes of a vector.
 
-ghost use Rattle.std.specs.Prelude.{◌≡◌, ◌<◌, ◌≤◌, length};
-ghost use Rattle.hnodes.specs.Vocabulary.{after_link, before_link, detached, hooked, next_in, parent_in, previous_in, with_place, look_in, IsChanged, IsSeenAs, IsWithin};
+ghost use Rattle.std.specs.Prelude.{◌<◌, ◌≤◌, length};
+ghost use Rattle.std.specs.List.{HoldsAt};
+ghost use Rattle.hnodes.specs.Vocabulary.{after_link, before_link, detached, hooked, with_place, IsAmong, IsChanged, IsSeenAs, IsWithin};
 
 use crate::node::{Node, NodeId, NodeLink};
 
@@ -49,9 +50,7 @@ fn link_before(nodes: &mut Vec<Node>, parent: NodeId, after: NodeLink, to: NodeL
 /// Takes a node from its parent and its siblings.
 pub(crate) fn detach(nodes: &mut Vec<Node>, child: NodeId)
     requires child_in { child < length nodes.old.items }
-    requires parent_in { IsWithin (length nodes.old.items) (parent_in (look_in nodes.old.items child)) }
-    requires previous_in { IsWithin (length nodes.old.items) (previous_in (look_in nodes.old.items child)) }
-    requires next_in { IsWithin (length nodes.old.items) (next_in (look_in nodes.old.items child)) }
+    requires neighbours { HoldsAt (IsAmong (length nodes.old.items)) nodes.old.items child }
     ensures { IsSeenAs (detached child) nodes.old.items nodes.new.items }
 {
     let node = &nodes[child.number as usize];

@@ -1,13 +1,15 @@
 //! Nodes and their numbers.
 
-ghost use Rattle.std.specs.Prelude.{◌≡◌, Some, None, OnOk, OnErr, IfOk, ◌++◌, ◌<◌, map, string_bytes};
-ghost use Rattle.hnodes.specs.Vocabulary.{alone, attribute_of, content_is, element, row_of, text, with_attribute, with_char, with_text};
+ghost use Rattle.std.specs.Prelude.{◌≡◌, Some, None, OnOk, OnErr, IfOk, ◌++◌, ◌∷◌, [], ◌<◌, map, string_bytes};
+ghost use Rattle.hnodes.specs.Vocabulary.{attribute_of, comment, content_is, element, given_is, text, with_attribute, with_text, Holds, IsGrown, IsKept, Store};
 
 use crate::attributes::{FEW_ATTRIBUTES, Indexed};
-use crate::shared::Attributes;
-use names::{Attr, NameId, ShortText};
+use crate::shared::{Attributes, Listed};
+use crate::store::{Run, Store};
+use names::{Attr, NameId};
 use std::alloc::{AllocError, Global};
 use std::marker::Model;
+use std::rc::Rc;
 
 /// The number of a node of one tree, in the order in which its nodes were made. The document is the first, 0.
 #[derive(Clone, Copy, Debug, PartialEq, Eq, PartialOrd, Ord, Hash)]
@@ -61,23 +63,25 @@ pub struct DocumentType {
     pub system_id: String,
 }
 
-/// A text of at most this many bytes is kept in its node.
-const SHORT: usize = 30;
-
 /// What a node is.
 #[derive(Drop)]
 pub(crate) enum NodeData {
     Document,
     Doctype(Box<DocumentType>),
-    Element(NameId, Vec<Attr>),
-    /// An element that had more than `FEW_ATTRIBUTES` when it was made, or when it got others.
+    /// An element, whose attributes are in the store.
+    Element(NameId, Run),
+    /// An element that had more than `FEW_ATTRIBUTES` when it was made, or that got others.
     Wide(NameId, Box<Indexed>),
     /// An element that was made with attributes that others may have too.
-    Shared(NameId, Attributes),
-    Comment(String),
-    Text(String),
-    /// A text of at most `SHORT` bytes.
-    Short(ShortText<SHORT>),
+    Shared(NameId, Rc<Listed>),
+    /// A comment, whose data are in the store.
+    Comment(Run),
+    /// A comment whose data do not fit there.
+    LongComment(Box<String>),
+    /// A text in the store.
+    Text(Run),
+    /// A text that went on when others were in the store after it.
+    Long(Box<String>),
 }
 
 /// A link to a node, or none, in four bytes.
@@ -142,12 +146,12 @@ pub(crate) struct Node {
     pub(crate) next: NodeLink,
 }
 
-const _: () = prove!(std::mem::size_of::<Node>() == 56);
+const _: () = prove!(std::mem::size_of::<Node>() == 40);
 
 impl Node {
     /// A loose node without children.
     pub(crate) fn loose(content: NodeData) -> Self
-        ensures { row_of result ≡ alone (content_is content) }
+        ensures { result ≡ record { content = content; parent = None; first = None; last = None; previous = None; next = None } }
     {
         Node {
             content,
@@ -160,109 +164,178 @@ impl Node {
     }
 }
 
-/// Adds a character at the end of a text.
-pub(crate) fn add_char(content: &mut NodeData, c: char, alloc: Global) -> Result<(), AllocError>
-    ensures ok { OnOk result (content_is content.new ≡ with_char c (content_is content.old)) }
-    ensures err { OnErr result (content_is content.new ≡ content_is content.old) }
-{
-    if let NodeData::Text(text) = content {
-        return text.push(c);
-    }
-    let mut buffer = [0; 4];
-    add_text(content, c.encode_utf8(&mut buffer), alloc)
+/// What a new node is to hold.
+#[derive(Drop)]
+pub(crate) enum Given<'a> {
+    Doctype(DocumentType),
+    Element(NameId, Vec<Attr>),
+    Sharing(NameId, Attributes),
+    Comment(String),
+    Text(&'a str),
 }
 
-/// Adds a text at the end of a text.
+/// What a node holds that is given this.
 #[inline(always)]
-pub(crate) fn add_text(content: &mut NodeData, more: &str, alloc: Global) -> Result<(), AllocError>
-    ensures ok { OnOk result (content_is content.new ≡ with_text more.now (content_is content.old)) }
-    ensures err { OnErr result (content_is content.new ≡ content_is content.old) }
+pub(crate) fn content(
+    given: Given,
+    store: &mut Store,
+    alloc: Global,
+) -> Result<NodeData, AllocError>
+    ensures content { IfOk result (λ c. Holds store.new c (given_is given.entry)) }
+    ensures grown { IsGrown store.old store.new }
 {
-    match content {
-        NodeData::Text(text) => text.push_str(more)?,
-        NodeData::Short(text) => {
-            if !text.push_str(more) {
-                *content = NodeData::Text(long_text(text.as_str(), more, alloc)?);
-            }
-        }
-        _ => {}
+    match given {
+        Given::Doctype(texts) => Ok(NodeData::Doctype(Box::new(alloc, texts)?)),
+        Given::Element(name, attrs) => element(name, attrs, store, alloc),
+        Given::Sharing(name, attrs) => Ok(sharing(name, attrs)),
+        Given::Comment(text) => comment(text, store, alloc),
+        Given::Text(run) => text(run, store, alloc),
     }
-    Ok(())
-}
-
-/// A text and what follows it, with room for more.
-#[inline(never)]
-fn long_text(start: &str, more: &str, alloc: Global) -> Result<String, AllocError>
-    ensures { IfOk result (λ long. string_bytes long ≡ start.now ++ more.now) }
-{
-    let mut long = String::with_capacity(alloc, more.len().saturating_add(SHORT).max(4 * SHORT))?;
-    long.push_str(start)?;
-    long.push_str(more)?;
-    Ok(long)
-}
-
-/// A text.
-#[inline(always)]
-pub(crate) fn text(run: &str, alloc: Global) -> Result<NodeData, AllocError>
-    ensures { IfOk result (λ content. content_is content ≡ text run.now) }
-{
-    Ok(match ShortText::of(run) {
-        Some(text) => NodeData::Short(text),
-        None => NodeData::Text(String::from_str(alloc, run)?),
-    })
-}
-
-/// Adds an attribute at the end of an element's. One that shares its attributes gets its own.
-pub(crate) fn add_attr(content: &mut NodeData, attr: Attr, alloc: Global) -> Result<(), AllocError>
-    ensures ok { OnOk result (content_is content.new ≡ with_attribute (attribute_of attr) (content_is content.old)) }
-    ensures err { OnErr result (content_is content.new ≡ content_is content.old) }
-{
-    match content {
-        NodeData::Element(_, attrs) => attrs.push(attr)?,
-        NodeData::Wide(_, indexed) => indexed.push(attr)?,
-        NodeData::Shared(name, attrs) => {
-            let name = *name;
-            let own = attrs.with(attr, alloc)?;
-            *content = element(name, own, alloc)?;
-        }
-        _ => {}
-    }
-    Ok(())
 }
 
 /// An element with these attributes.
 #[inline(always)]
-pub(crate) fn element(name: NameId, attrs: Vec<Attr>, alloc: Global) -> Result<NodeData, AllocError>
-    ensures { IfOk result (λ content. content_is content ≡ element name (map attribute_of attrs.items)) }
+fn element(
+    name: NameId,
+    attrs: Vec<Attr>,
+    store: &mut Store,
+    alloc: Global,
+) -> Result<NodeData, AllocError>
+    ensures content { IfOk result (λ c. Holds store.new c (element name (map attribute_of attrs.items))) }
+    ensures grown { IsGrown store.old store.new }
 {
-    let mut content = NodeData::Element(name, attrs);
-    widen_content(&mut content, alloc)?;
-    Ok(content)
+    if attrs.is_empty() {
+        return Ok(NodeData::Element(name, Run::empty()));
+    }
+    let mut attrs = attrs;
+    if attrs.len() <= FEW_ATTRIBUTES {
+        if let Some(run) = store.add_attrs(&mut attrs)? {
+            return Ok(NodeData::Element(name, run));
+        }
+    }
+    wide(name, attrs, alloc)
 }
 
-/// Makes an element with more than a few attributes wide.
-#[inline(always)]
-fn widen_content(content: &mut NodeData, alloc: Global) -> Result<(), AllocError>
-    ensures { content_is content.new ≡ content_is content.old }
+/// An element with an index of its attributes.
+#[inline(never)]
+fn wide(name: NameId, attrs: Vec<Attr>, alloc: Global) -> Result<NodeData, AllocError>
+    ensures { IfOk result (λ c. (store : Store) → Holds store c (element name (map attribute_of attrs.items))) }
 {
-    let NodeData::Element(name, attrs) = content else {
-        return Ok(());
-    };
-    if attrs.len() <= FEW_ATTRIBUTES {
-        return Ok(());
+    let indexed = Indexed::of(attrs, alloc)?;
+    Ok(NodeData::Wide(name, Box::new(alloc, indexed)?))
+}
+
+/// An element that shares its attributes.
+#[inline(always)]
+fn sharing(name: NameId, attrs: Attributes) -> NodeData
+    ensures { (store : Store) → Holds store result (element name attrs) }
+{
+    match attrs.into_list() {
+        Some(list) => NodeData::Shared(name, list),
+        None => NodeData::Element(name, Run::empty()),
     }
-    let name = *name;
-    let mut indexed = Box::new(alloc, Indexed::new(alloc))?;
-    indexed.take(attrs, alloc)?;
-    *content = NodeData::Wide(name, indexed);
+}
+
+/// A comment.
+fn comment(text: String, store: &mut Store, alloc: Global) -> Result<NodeData, AllocError>
+    ensures content { IfOk result (λ c. Holds store.new c (comment (string_bytes text))) }
+    ensures grown { IsGrown store.old store.new }
+{
+    match store.add_text(&text)? {
+        Some(run) => Ok(NodeData::Comment(run)),
+        None => Ok(NodeData::LongComment(Box::new(alloc, text)?)),
+    }
+}
+
+/// A text.
+#[inline(always)]
+fn text(run: &str, store: &mut Store, alloc: Global) -> Result<NodeData, AllocError>
+    ensures content { IfOk result (λ c. Holds store.new c (text run.now)) }
+    ensures grown { IsGrown store.old store.new }
+{
+    match store.add_text(run)? {
+        Some(run) => Ok(NodeData::Text(run)),
+        None => long_text("", run, alloc),
+    }
+}
+
+/// A text of two parts.
+#[inline(never)]
+fn long_text(start: &str, more: &str, alloc: Global) -> Result<NodeData, AllocError>
+    ensures { IfOk result (λ c. (store : Store) → Holds store c (text (start.now ++ more.now))) }
+{
+    let mut long = String::with_capacity(alloc, start.len().saturating_add(more.len()))?;
+    long.push_str(start)?;
+    long.push_str(more)?;
+    Ok(NodeData::Long(Box::new(alloc, long)?))
+}
+
+/// Adds a text at the end of a text. One that is not the last of the store moves into a string of its own.
+#[inline(always)]
+pub(crate) fn add_text(
+    content: &mut NodeData,
+    more: &str,
+    store: &mut Store,
+    alloc: Global,
+) -> Result<(), AllocError>
+    requires { IsKept store.old content.old }
+    ensures ok { OnOk result (Holds store.new content.new (with_text more.now (content_is store.old content.old))) }
+    ensures err { OnErr result (Holds store.new content.new (content_is store.old content.old)) }
+    ensures grown { IsGrown store.old store.new }
+{
+    match content {
+        NodeData::Text(run) => match store.lengthen(*run, more)? {
+            Some(longer) => *run = longer,
+            None => *content = long_text(store.text(*run), more, alloc)?,
+        },
+        NodeData::Long(text) => text.push_str(more)?,
+        _ => {}
+    }
     Ok(())
 }
 
-/// The same, with an index of all their names.
-pub(crate) fn index_content(content: &mut NodeData, alloc: Global) -> Result<(), AllocError>
-    ensures { content_is content.new ≡ content_is content.old }
+/// Adds an attribute at the end of an element's, which get a list of their own.
+pub(crate) fn add_attr(
+    content: &mut NodeData,
+    attr: Attr,
+    store: &Store,
+    alloc: Global,
+) -> Result<(), AllocError>
+    requires { IsKept store.now content.old }
+    ensures ok { OnOk result (Holds store.now content.new (with_attribute (attribute_of attr) (content_is store.now content.old))) }
+    ensures err { OnErr result (Holds store.now content.new (content_is store.now content.old)) }
 {
-    widen_content(content, alloc)?;
+    match content {
+        NodeData::Element(name, run) => {
+            let name = *name;
+            *content = wide(name, with(store.attrs(*run), attr, alloc)?, alloc)?;
+        }
+        NodeData::Wide(_, indexed) => indexed.push(attr)?,
+        NodeData::Shared(name, list) => {
+            let name = *name;
+            *content = wide(name, with(list.attrs(), attr, alloc)?, alloc)?;
+        }
+        _ => {}
+    }
+    Ok(())
+}
+
+/// Copies of attributes, and one more.
+fn with(attrs: &[Attr], attr: Attr, alloc: Global) -> Result<Vec<Attr>, AllocError>
+    ensures { IfOk result (λ own. map attribute_of own.items ≡ map attribute_of attrs.now ++ attribute_of attr ∷ []) }
+{
+    let mut own = Vec::with_capacity(alloc, attrs.len())?;
+    for attr in attrs {
+        own.push(attr.copy(alloc)?)?;
+    }
+    own.push(attr)?;
+    Ok(own)
+}
+
+/// Takes the names of an element's attributes into its index, if it has one.
+pub(crate) fn index_content(content: &mut NodeData) -> Result<(), AllocError>
+    ensures { (store : Store) → IsKept store content.old → Holds store content.new (content_is store content.old) }
+{
     if let NodeData::Wide(_, indexed) = content {
         indexed.index()?;
     }

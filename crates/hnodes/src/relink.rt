@@ -1,16 +1,16 @@
 //! Edits of one place of a list of numbers, or of two neighbours.
 
 ghost use Rattle.std.specs.Prelude.{◌≡◌, ◌≢◌, ℕ, ◌<◌, ◌≤◌, ◌+◌, ◌==◌, if◌then◌else◌, length, slice_index, slice_set};
-ghost use Rattle.hnodes.specs.Chains.{none};
-ghost use Rattle.hnodes.specs.ChainLinks.{AreChains, FitsAt, IsNext, befores_of, in_group_of, numbers_of};
+ghost use Rattle.hnodes.specs.IndexedList.{none};
+ghost use Rattle.hnodes.specs.IndexLinks.{AreIndexed, FitsAt, IsNext, befores_of, in_group_of, numbers_of};
 
-use crate::chains::{Chains, Link, NONE, group_of, hint_at};
+use crate::indexed_list::{IndexedList, Link, NONE, group_of, hint_at};
 
 /// What a number at an index keeps: the nearest place before it where its group is, and the next one as a hint; 0 is none.
 ///
 /// It walks down the group from its last place.
 fn link_at(last: &[u32], links: &[Link], index: usize, number: u64) -> Link
-    requires chains { AreChains last.now links.now }
+    requires are_indexed { AreIndexed last.now links.now }
     requires within { index < length links.now }
     ensures number { result.number ≡ number }
     ensures fit { FitsAt (length last.now) (numbers_of links.now) index result }
@@ -30,7 +30,7 @@ fn link_at(last: &[u32], links: &[Link], index: usize, number: u64) -> Link
 
 /// The next place of the group of a number after its index; 0 is none. It takes constant time where the hint is right.
 fn above(last: &[u32], links: &[Link], index: usize) -> u32
-    requires chains { AreChains last.now links.now }
+    requires are_indexed { AreIndexed last.now links.now }
     requires within { index < length links.now }
     requires number { slice_index (numbers_of links.now) index ≢ none }
     ensures { IsNext (in_group_of (length last.now) (slice_index (numbers_of links.now) index)) (numbers_of links.now) index result }
@@ -62,10 +62,10 @@ fn keep(last: &mut [u32], links: &mut [Link], group: usize, next: u32, place: u3
 
 /// Takes out the number at an index. The hint of the link that it gives is right.
 fn take_out(last: &mut [u32], links: &mut [Link], index: usize) -> Link
-    requires chains { AreChains last.old links.old }
+    requires are_indexed { AreIndexed last.old links.old }
     requires within { index < length links.old }
     requires number { slice_index (numbers_of links.old) index ≢ none }
-    ensures chains { AreChains last.new links.new }
+    ensures are_indexed { AreIndexed last.new links.new }
     ensures numbers { numbers_of links.new ≡ slice_set (numbers_of links.old) index none }
     ensures number { result.number ≡ slice_index (numbers_of links.old) index }
     ensures fit { FitsAt (length last.new) (numbers_of links.new) index result }
@@ -89,12 +89,12 @@ fn take_out(last: &mut [u32], links: &mut [Link], index: usize) -> Link
 
 /// Puts a link at an index where nothing is, where it keeps the place before it, and its hint is right.
 fn put_in(last: &mut [u32], links: &mut [Link], index: usize, link: Link)
-    requires chains { AreChains last.old links.old }
+    requires are_indexed { AreIndexed last.old links.old }
     requires within { index < length links.old }
     requires free { slice_index (numbers_of links.old) index ≡ none }
     requires number { link.number ≢ none }
     requires fit { FitsAt (length last.old) (numbers_of links.old) index link }
-    ensures chains { AreChains last.new links.new }
+    ensures are_indexed { AreIndexed last.new links.new }
     ensures numbers { numbers_of links.new ≡ slice_set (numbers_of links.old) index link.number }
 {
     let place = index as u32 + 1;
@@ -106,11 +106,11 @@ fn put_in(last: &mut [u32], links: &mut [Link], index: usize, link: Link)
 
 /// Exchanges two numbers. If they are of one group, the one that moves up keeps the place of the other one.
 fn exchange(last: &mut [u32], links: &mut [Link], index: usize)
-    requires chains { AreChains last.old links.old }
+    requires are_indexed { AreIndexed last.old links.old }
     requires within { index + 1 < length links.old }
     requires first { slice_index (numbers_of links.old) index ≢ none }
     requires second { slice_index (numbers_of links.old) (index + 1) ≢ none }
-    ensures chains { AreChains last.new links.new }
+    ensures are_indexed { AreIndexed last.new links.new }
     ensures numbers { let old = numbers_of links.old in
         numbers_of links.new ≡ slice_set (slice_set old index (slice_index old (index + 1))) (index + 1) (slice_index old index) }
 {
@@ -133,9 +133,9 @@ fn exchange(last: &mut [u32], links: &mut [Link], index: usize)
 
 /// Exchanges what is at an index and at the next one.
 fn swap_at(last: &mut [u32], links: &mut [Link], index: usize)
-    requires chains { AreChains last.old links.old }
+    requires are_indexed { AreIndexed last.old links.old }
     requires within { index + 1 < length links.old }
-    ensures chains { AreChains last.new links.new }
+    ensures are_indexed { AreIndexed last.new links.new }
     ensures numbers { let old = numbers_of links.old in
         numbers_of links.new ≡ slice_set (slice_set old index (slice_index old (index + 1))) (index + 1) (slice_index old index) }
 {
@@ -155,7 +155,7 @@ fn swap_at(last: &mut [u32], links: &mut [Link], index: usize)
     }
 }
 
-impl Chains {
+impl IndexedList {
     /// Puts `NONE` at an index.
     pub fn clear(&mut self, index: usize)
         requires { index < length self.old }

@@ -1,6 +1,8 @@
 //! Attributes that are stored once, for all elements and entries that have them.
 
-ghost use Rattle.std.specs.Prelude.{◌≡◌, ◌++◌, ◌∷◌, [], IfOk, IfSome, map, nat_eq};
+ghost use Rattle.std.specs.Prelude.{◌≡◌, [], IfOk, IfSome, map, nat_eq};
+ghost use Rattle.std.specs.Option.{option_map_or};
+ghost use Rattle.std.specs.Rc.{rc_value};
 ghost use Rattle.hnodes.specs.Shared.{IsFound};
 ghost use Rattle.hnodes.specs.Vocabulary.{are_clean, attribute_of, names_differ, names_end};
 
@@ -25,25 +27,26 @@ struct Found {
 const SHORT_VALUE: usize = 64;
 
 /// What is found of attributes, unless there are only a few with short values: those are looked at in constant time.
-fn look_at(attrs: &[Attr], alloc: Global) -> Result<Option<Found>, AllocError>
-    ensures { IfOk result (λ found. IfSome found (λ f. IsFound f (map attribute_of attrs.now))) }
+fn look_at(attrs: &[Attr], alloc: Global) -> Result<Option<Box<Found>>, AllocError>
+    ensures { IfOk result (λ found. IfSome found (λ f. IsFound f.value (map attribute_of attrs.now))) }
 {
     let is_short = attrs.iter().all(|attr| attr.value().len() <= SHORT_VALUE);
     if is_short && attrs.len() <= FEW_ATTRIBUTES {
         return Ok(None);
     }
-    Ok(Some(Found {
+    let found = Found {
         differ: differ(attrs, alloc)?,
         clean: are_clean(attrs),
         names_end: names_end(attrs),
-    }))
+    };
+    Ok(Some(Box::new(alloc, found)?))
 }
 
 /// Attributes, and what is found of them.
 #[derive(Debug, Drop)]
-struct Listed {
+pub(crate) struct Listed {
     attrs: Vec<Attr>,
-    found: Option<Found>,
+    found: Option<Box<Found>>,
 }
 
 impl Model for Listed {
@@ -72,14 +75,14 @@ impl Listed {
     }
 
     /// The attributes.
-    fn attrs(&self) -> &[Attr]
+    pub(crate) fn attrs(&self) -> &[Attr]
         ensures { map attribute_of result.now ≡ self.now }
     {
         &self.attrs
     }
 
     /// Whether their names differ.
-    fn differ(&self) -> bool
+    pub(crate) fn differ(&self) -> bool
         ensures { result ≡ names_differ nat_eq self.now }
     {
         match &self.found {
@@ -89,7 +92,7 @@ impl Listed {
     }
 
     /// Whether their values are clean.
-    fn clean(&self) -> bool
+    pub(crate) fn clean(&self) -> bool
         ensures { result ≡ are_clean self.now }
     {
         match &self.found {
@@ -99,7 +102,7 @@ impl Listed {
     }
 
     /// One more than the greatest number among their names.
-    fn names_end(&self) -> usize
+    pub(crate) fn names_end(&self) -> usize
         ensures { result ≡ names_end self.now }
     {
         match &self.found {
@@ -163,46 +166,10 @@ impl Attributes {
         }
     }
 
-    /// Whether their names differ.
-    pub(crate) fn differ(&self) -> bool
-        ensures { result ≡ names_differ nat_eq self.now }
+    /// The list itself; none of no attributes.
+    pub(crate) fn into_list(self) -> Option<Rc<Listed>>
+        ensures { option_map_or (λ list. rc_value list) result [] ≡ self }
     {
-        match &self.list {
-            Some(list) => list.differ(),
-            None => true,
-        }
-    }
-
-    /// Whether their values are clean.
-    pub(crate) fn clean(&self) -> bool
-        ensures { result ≡ are_clean self.now }
-    {
-        match &self.list {
-            Some(list) => list.clean(),
-            None => true,
-        }
-    }
-
-    /// One more than the greatest number among their names; 0 without any.
-    pub(crate) fn names_end(&self) -> usize
-        ensures { result ≡ names_end self.now }
-    {
-        match &self.list {
-            Some(list) => list.names_end(),
-            None => 0,
-        }
-    }
-
-    /// Copies of the attributes, and one more.
-    pub(crate) fn with(&self, attr: Attr, alloc: Global) -> Result<Vec<Attr>, AllocError>
-        ensures { IfOk result (λ own. map attribute_of own.items ≡ self.now ++ attribute_of attr ∷ []) }
-    {
-        let attrs = self.as_slice();
-        let mut own = Vec::with_capacity(alloc, attrs.len())?;
-        for attr in attrs {
-            own.push(attr.copy(alloc)?)?;
-        }
-        own.push(attr)?;
-        Ok(own)
+        self.list
     }
 }

@@ -2,32 +2,34 @@
 
 ghost use Rattle.std.specs.Prelude.{◌≡◌, ◌<◌, ◌≤◌, ◌↔◌, ◌⊎◌, ℕ, Some, None, OnOk, OnErr, IfOk, IfErr, IfSome, IsSome, IsFalse, IsTrue, map, string_bytes};
 ghost use Rattle.std.specs.Prelude.{length, leb, ltb, nat_eq, true, if◌then◌else◌};
-ghost use Rattle.std.specs.Option.{option_map, option_map_or};
+ghost use Rattle.std.specs.Option.{option_map};
 ghost use Rattle.std.specs.Str.{chars};
 ghost use Rattle.hnodes.specs.Vocabulary.{add_attribute, add_char, add_chars, add_missing, change_what, graft, graft_before, graft_last, make, move_all};
-ghost use Rattle.hnodes.specs.Vocabulary.{attribute_of, attributes_of, comment, content_is, doctype, doctype_of, doctype_texts, document, element, first_child_of};
-ghost use Rattle.hnodes.specs.Vocabulary.{is_present, kind_of, last_child_of, name_of, names_differ, next_of, none, own_text as own_text_of, parent_of, place_node};
-ghost use Rattle.hnodes.specs.Vocabulary.{previous_of, text, text_before, text_of, tree, what_of, with_char, with_text, AreNodes, IsOutside, IsPlace, Makes};
+ghost use Rattle.hnodes.specs.Vocabulary.{attribute_of, comment, content_is, doctype, doctype_of, doctype_texts, document, element, first_child_of, given_is};
+ghost use Rattle.hnodes.specs.Vocabulary.{node_kind, last_child_of, node_name, next_of, none, own_text as own_text_of, parent_of, place_node};
+ghost use Rattle.hnodes.specs.Vocabulary.{previous_of, text, text_before, text_of_node, tree, what_of, with_text, AreNodes, IsKept, IsOutside, IsPlace, Makes};
 ghost use Rattle.hnodes.specs.Vocabulary.{Memory, Place, TooManyNodes};
 
 use crate::links::{detach, hook};
 use crate::node::{
-    self, DocumentType, Node, NodeData, NodeId, NodeKind, NodeLink, Place, add_attr, add_char,
+    self, DocumentType, Given, Node, NodeData, NodeId, NodeKind, NodeLink, Place, add_attr,
     add_text, index_content,
 };
 use crate::shared::Attributes;
+use crate::store::Store;
 use names::{Attr, NameId, Refusal};
 use std::alloc::{AllocError, Global};
 use std::marker::Model;
 
-/// The tree of a document, and the loose nodes: those that were made and are not in it yet. Each node takes 56 bytes, besides what
-/// its attributes and its longer texts hold. Making a node and moving one take amortized constant time. No call recurses, nor does
-/// the drop, and the moves and the questions allocate nothing.
+/// The tree of a document, and the loose nodes: those that were made and are not in it yet. Each node takes 40 bytes, and what it
+/// holds of the store: its text, or its attributes. Making a node and moving one take amortized constant time. No call recurses, nor
+/// does the drop, and the moves and the questions allocate nothing.
 ///
 /// A [`Place`] is where a node goes in the tree. `at`, in a call that returns a [`Refusal`], is the byte offset from 0 of the
 /// token that the call is made for, which the refusal reports. A [`NodeId`] is a node, wherever it is.
 pub struct Tree {
     nodes: Vec<Node>,
+    store: Store,
     limit: u32,
     alloc: Global,
 }
@@ -37,10 +39,12 @@ impl Drop for Tree {
     fn drop(self) {
         let Tree {
             nodes,
+            store,
             limit: _,
             alloc: _,
         } = self;
         drop(nodes);
+        drop(store);
     }
 }
 
@@ -52,9 +56,9 @@ impl Model for Tree {
 
     ghost coded = { coded_nodes };
 
-    ghost use Rattle.hnodes.specs.View.{nodes_of, IsTree};
+    ghost use Rattle.hnodes.specs.View.{inside_nodes, IsTree};
 
-    ghost view = { nodes_of };
+    ghost view = { inside_nodes };
 
     ghost invariant = { IsTree };
 }
@@ -69,6 +73,7 @@ impl Tree {
         nodes.push(Node::loose(NodeData::Document))?;
         Ok(Tree {
             nodes,
+            store: Store::new(alloc),
             limit,
             alloc,
         })
@@ -134,9 +139,7 @@ impl Tree {
     ) -> Result<NodeId, Refusal>
         ensures { Makes (element name (map attribute_of attrs.items)) at self.old self.new result }
     {
-        self.room(at)?;
-        let content = node::element(name, attrs, self.alloc)?;
-        self.add(content)
+        self.make(Given::Element(name, attrs), at)
     }
 
     /// Makes an element that shares its attributes, loose.
@@ -149,25 +152,21 @@ impl Tree {
     ) -> Result<NodeId, Refusal>
         ensures { Makes (element name attrs) at self.old self.new result }
     {
-        self.room(at)?;
-        self.add(NodeData::Shared(name, attrs))
+        self.make(Given::Sharing(name, attrs), at)
     }
 
     /// Makes a comment, loose.
     pub fn create_comment(&mut self, text: String, at: u64) -> Result<NodeId, Refusal>
         ensures { Makes (comment (string_bytes text)) at self.old self.new result }
     {
-        self.room(at)?;
-        self.add(NodeData::Comment(text))
+        self.make(Given::Comment(text), at)
     }
 
     /// Makes a doctype, loose.
     pub fn create_doctype(&mut self, texts: DocumentType, at: u64) -> Result<NodeId, Refusal>
         ensures { Makes (doctype (string_bytes texts.name) (string_bytes texts.public_id) (string_bytes texts.system_id)) at self.old self.new result }
     {
-        self.room(at)?;
-        let texts = Box::new(self.alloc, texts)?;
-        self.add(NodeData::Doctype(texts))
+        self.make(Given::Doctype(texts), at)
     }
 
     /// Makes a text, loose.
@@ -175,9 +174,7 @@ impl Tree {
     fn create_run(&mut self, run: &str, at: u64) -> Result<NodeId, Refusal>
         ensures { Makes (text run.now) at self.old self.new result }
     {
-        self.room(at)?;
-        let content = node::text(run, self.alloc)?;
-        self.add(content)
+        self.make(Given::Text(run), at)
     }
 
     /// Refuses where no further node may be made.
@@ -192,9 +189,18 @@ impl Tree {
 
     /// Makes a node, loose.
     #[inline(always)]
-    fn add(&mut self, content: NodeData) -> Result<NodeId, Refusal>
+    fn make(&mut self, given: Given, at: u64) -> Result<NodeId, Refusal>
+        ensures { Makes (given_is given.entry) at self.old self.new result }
+    {
+        self.room(at)?;
+        self.add(given)
+    }
+
+    /// Makes a node, loose.
+    #[inline(always)]
+    fn add(&mut self, given: Given) -> Result<NodeId, Refusal>
         requires { self.old.made < self.old.limit }
-        ensures ok { OnOk result (self.new ≡ make (content_is content) self.old) }
+        ensures ok { OnOk result (self.new ≡ make (given_is given.entry) self.old) }
         ensures number { IfOk result (λ n. (n ≡ self.old.made) × (0 < n)) }
         ensures outside { IfOk result (λ n. (k : ℕ) → k < n → IsOutside k n self.new.trees) }
         ensures apart { IfOk result (λ n. (k : ℕ) → k < n → IsOutside n k self.new.trees) }
@@ -203,6 +209,7 @@ impl Tree {
         ensures err { OnErr result (self.new ≡ self.old) }
     {
         let number = self.nodes.len() as u32;
+        let content = node::content(given, &mut self.store, self.alloc)?;
         self.nodes.push(Node::loose(content))?;
         Ok(NodeId { number })
     }
@@ -287,12 +294,13 @@ impl Tree {
     {
         // A copy for the first of two calls.
         let here = place;
+        let mut buffer = [0; 4];
+        let text = c.encode_utf8(&mut buffer);
         match self.text_before(here) {
-            Some(text) => self.lengthen(text, c),
+            Some(before) => self.join(before, text),
             None => {
-                let mut buffer = [0; 4];
-                let text = self.create_run(c.encode_utf8(&mut buffer), at)?;
-                self.insert(text, place);
+                let node = self.create_run(text, at)?;
+                self.insert(node, place);
                 Ok(())
             }
         }
@@ -325,28 +333,18 @@ impl Tree {
     }
 
     /// Adds a text at the end of a text.
-    fn join(&mut self, at: NodeId, text: &str) -> Result<(), Refusal>
-        requires { at < self.old.made }
-        ensures ok { OnOk result (self.new ≡ record self.old { trees = change_what at (with_text text.now) self.old.trees }) }
+    fn join(&mut self, node: NodeId, text: &str) -> Result<(), Refusal>
+        requires { node < self.old.made }
+        ensures ok { OnOk result (self.new ≡ record self.old { trees = change_what node (with_text text.now) self.old.trees }) }
         ensures memory { IfErr result (λ e. e ≡ Memory) }
         ensures err { OnErr result (self.new ≡ self.old) }
     {
         add_text(
-            &mut self.nodes[at.number as usize].content,
+            &mut self.nodes[node.number as usize].content,
             text,
+            &mut self.store,
             self.alloc,
         )?;
-        Ok(())
-    }
-
-    /// Adds a character at the end of a text.
-    fn lengthen(&mut self, at: NodeId, c: char) -> Result<(), Refusal>
-        requires { at < self.old.made }
-        ensures ok { OnOk result (self.new ≡ record self.old { trees = change_what at (with_char c) self.old.trees }) }
-        ensures memory { IfErr result (λ e. e ≡ Memory) }
-        ensures err { OnErr result (self.new ≡ self.old) }
-    {
-        add_char(&mut self.nodes[at.number as usize].content, c, self.alloc)?;
         Ok(())
     }
 
@@ -369,26 +367,27 @@ impl Tree {
 
     /// Adds an attribute after an element's others; does nothing to another node. The caller sees to it that the element has no
     /// attribute of this name yet. Takes amortized constant time.
-    pub fn add_attr(&mut self, at: NodeId, attr: Attr) -> Result<(), Refusal>
-        requires { at < self.old.made }
-        ensures ok { OnOk result (self.new ≡ record self.old { trees = add_attribute at (attribute_of attr) self.old.trees }) }
+    pub fn add_attr(&mut self, node: NodeId, attr: Attr) -> Result<(), Refusal>
+        requires { node < self.old.made }
+        ensures ok { OnOk result (self.new ≡ record self.old { trees = add_attribute node (attribute_of attr) self.old.trees }) }
         ensures memory { IfErr result (λ e. e ≡ Memory) }
         ensures err { OnErr result (self.new ≡ self.old) }
     {
-        self.widen(at)?;
-        self.push_attr(at, attr)
+        self.widen(node)?;
+        self.push_attr(node, attr)
     }
 
     /// Adds an attribute after an element's others.
-    fn push_attr(&mut self, at: NodeId, attr: Attr) -> Result<(), Refusal>
-        requires { at < self.old.made }
-        ensures ok { OnOk result (self.new ≡ record self.old { trees = add_attribute at (attribute_of attr) self.old.trees }) }
+    fn push_attr(&mut self, node: NodeId, attr: Attr) -> Result<(), Refusal>
+        requires { node < self.old.made }
+        ensures ok { OnOk result (self.new ≡ record self.old { trees = add_attribute node (attribute_of attr) self.old.trees }) }
         ensures memory { IfErr result (λ e. e ≡ Memory) }
         ensures err { OnErr result (self.new ≡ self.old) }
     {
         add_attr(
-            &mut self.nodes[at.number as usize].content,
+            &mut self.nodes[node.number as usize].content,
             attr,
+            &self.store,
             self.alloc,
         )?;
         Ok(())
@@ -396,26 +395,26 @@ impl Tree {
 
     /// Adds an attribute after an element's others, unless it has one of this name; does nothing to another node. Takes amortized
     /// constant time, however many attributes there are.
-    pub fn add_missing_attr(&mut self, at: NodeId, attr: Attr) -> Result<(), Refusal>
-        requires { at < self.old.made }
-        ensures ok { OnOk result (self.new ≡ record self.old { trees = add_missing nat_eq at (attribute_of attr) self.old.trees }) }
+    pub fn add_missing_attr(&mut self, node: NodeId, attr: Attr) -> Result<(), Refusal>
+        requires { node < self.old.made }
+        ensures ok { OnOk result (self.new ≡ record self.old { trees = add_missing nat_eq node (attribute_of attr) self.old.trees }) }
         ensures memory { IfErr result (λ e. e ≡ Memory) }
         ensures err { OnErr result (self.new ≡ self.old) }
     {
-        self.widen(at)?;
-        if self.has_attr(at, attr.name()) {
+        self.widen(node)?;
+        if self.has_attr(node, attr.name()) {
             return Ok(());
         }
-        self.push_attr(at, attr)
+        self.push_attr(node, attr)
     }
 
     /// Makes an index of the attributes of an element with more than a few.
-    fn widen(&mut self, at: NodeId) -> Result<(), Refusal>
-        requires { at < self.old.made }
+    fn widen(&mut self, node: NodeId) -> Result<(), Refusal>
+        requires { node < self.old.made }
         ensures same { self.new ≡ self.old }
         ensures memory { IfErr result (λ e. e ≡ Memory) }
     {
-        index_content(&mut self.nodes[at.number as usize].content, self.alloc)?;
+        index_content(&mut self.nodes[node.number as usize].content)?;
         Ok(())
     }
 
@@ -436,87 +435,89 @@ impl Tree {
     }
 
     /// The parent of a node.
-    pub fn parent(&self, at: NodeId) -> Option<NodeId>
-        requires { at < self.now.made }
-        ensures parent { result ≡ parent_of at self.now.trees }
+    pub fn parent(&self, node: NodeId) -> Option<NodeId>
+        requires { node < self.now.made }
+        ensures parent { result ≡ parent_of node self.now.trees }
         ensures within { IfSome result (λ n. n < self.now.made) }
         ensures nodes { AreNodes self.now }
     {
-        self.nodes[at.number as usize].parent.get()
+        self.nodes[node.number as usize].parent.get()
     }
 
     /// The first child of a node.
-    pub fn first_child(&self, at: NodeId) -> Option<NodeId>
-        requires { at < self.now.made }
-        ensures child { result ≡ first_child_of at self.now.trees }
+    pub fn first_child(&self, node: NodeId) -> Option<NodeId>
+        requires { node < self.now.made }
+        ensures child { result ≡ first_child_of node self.now.trees }
         ensures within { IfSome result (λ n. n < self.now.made) }
         ensures nodes { AreNodes self.now }
     {
-        self.nodes[at.number as usize].first.get()
+        self.nodes[node.number as usize].first.get()
     }
 
     /// The last child of a node.
-    pub fn last_child(&self, at: NodeId) -> Option<NodeId>
-        requires { at < self.now.made }
-        ensures child { result ≡ last_child_of at self.now.trees }
+    pub fn last_child(&self, node: NodeId) -> Option<NodeId>
+        requires { node < self.now.made }
+        ensures child { result ≡ last_child_of node self.now.trees }
         ensures within { IfSome result (λ n. n < self.now.made) }
         ensures nodes { AreNodes self.now }
     {
-        self.nodes[at.number as usize].last.get()
+        self.nodes[node.number as usize].last.get()
     }
 
     /// The sibling after a node, which is `next_sibling` elsewhere.
-    pub fn next(&self, at: NodeId) -> Option<NodeId>
-        requires { at < self.now.made }
-        ensures sibling { result ≡ next_of at self.now.trees }
+    pub fn next(&self, node: NodeId) -> Option<NodeId>
+        requires { node < self.now.made }
+        ensures sibling { result ≡ next_of node self.now.trees }
         ensures within { IfSome result (λ n. n < self.now.made) }
         ensures nodes { AreNodes self.now }
     {
-        self.nodes[at.number as usize].next.get()
+        self.nodes[node.number as usize].next.get()
     }
 
     /// The sibling before a node, which is `previous_sibling` elsewhere.
-    pub fn previous(&self, at: NodeId) -> Option<NodeId>
-        requires { at < self.now.made }
-        ensures sibling { result ≡ previous_of at self.now.trees }
+    pub fn previous(&self, node: NodeId) -> Option<NodeId>
+        requires { node < self.now.made }
+        ensures sibling { result ≡ previous_of node self.now.trees }
         ensures within { IfSome result (λ n. n < self.now.made) }
         ensures nodes { AreNodes self.now }
     {
-        self.nodes[at.number as usize].previous.get()
+        self.nodes[node.number as usize].previous.get()
     }
 
-    /// What a node holds.
+    /// What a node holds, and the store that has its text or its attributes.
     #[inline(always)]
-    pub(crate) fn content(&self, at: NodeId) -> &NodeData
-        requires { at < self.now.made }
-        ensures { Some (content_is result.now) ≡ what_of at self.now.trees }
+    pub(crate) fn content(&self, node: NodeId) -> (&NodeData, &Store)
+        requires { node < self.now.made }
+        ensures kept { IsKept result.1.now result.0.now }
+        ensures what { Some (content_is result.1.now result.0.now) ≡ what_of node self.now.trees }
     {
-        &self.nodes[at.number as usize].content
+        (&self.nodes[node.number as usize].content, &self.store)
     }
 
     /// The kind of a node.
-    pub fn kind(&self, at: NodeId) -> NodeKind
-        requires { at < self.now.made }
-        ensures { Some result ≡ kind_of at self.now.trees }
+    pub fn kind(&self, node: NodeId) -> NodeKind
+        requires { node < self.now.made }
+        ensures { Some result ≡ node_kind node self.now.trees }
     {
-        match self.content(at) {
+        match self.content(node).0 {
             NodeData::Document => NodeKind::Document,
             NodeData::Doctype(_) => NodeKind::Doctype,
             NodeData::Element(_, _) => NodeKind::Element,
             NodeData::Wide(_, _) => NodeKind::Element,
             NodeData::Shared(_, _) => NodeKind::Element,
             NodeData::Comment(_) => NodeKind::Comment,
+            NodeData::LongComment(_) => NodeKind::Comment,
             NodeData::Text(_) => NodeKind::Text,
-            NodeData::Short(_) => NodeKind::Text,
+            NodeData::Long(_) => NodeKind::Text,
         }
     }
 
     /// The name of an element.
-    pub fn name(&self, at: NodeId) -> Option<NameId>
-        requires { at < self.now.made }
-        ensures { result ≡ name_of at self.now.trees }
+    pub fn name(&self, node: NodeId) -> Option<NameId>
+        requires { node < self.now.made }
+        ensures { result ≡ node_name node self.now.trees }
     {
-        match self.content(at) {
+        match self.content(node).0 {
             NodeData::Element(name, _) => Some(*name),
             NodeData::Wide(name, _) => Some(*name),
             NodeData::Shared(name, _) => Some(*name),
@@ -525,36 +526,39 @@ impl Tree {
     }
 
     /// The characters of a text, or the data of a comment.
-    pub fn text(&self, at: NodeId) -> Option<&str>
-        requires { at < self.now.made }
-        ensures { option_map (λ text. text.now) result ≡ text_of at self.now.trees }
+    pub fn text(&self, node: NodeId) -> Option<&str>
+        requires { node < self.now.made }
+        ensures { option_map (λ text. text.now) result ≡ text_of_node node self.now.trees }
     {
-        match self.content(at) {
-            NodeData::Text(text) => Some(text),
-            NodeData::Short(text) => Some(text.as_str()),
-            NodeData::Comment(text) => Some(text),
+        let (content, store) = self.content(node);
+        match content {
+            NodeData::Text(run) => Some(store.text(*run)),
+            NodeData::Long(text) => Some(text),
+            NodeData::Comment(run) => Some(store.text(*run)),
+            NodeData::LongComment(data) => Some(data),
             _ => None,
         }
     }
 
     /// The characters of a text; nothing of another node.
-    pub(crate) fn own_text(&self, at: NodeId) -> &str
-        requires { at < self.now.made }
-        ensures { Some result.now ≡ option_map own_text_of (what_of at self.now.trees) }
+    pub(crate) fn own_text(&self, node: NodeId) -> &str
+        requires { node < self.now.made }
+        ensures { Some result.now ≡ option_map own_text_of (what_of node self.now.trees) }
     {
-        match self.content(at) {
-            NodeData::Text(text) => text,
-            NodeData::Short(text) => text.as_str(),
+        let (content, store) = self.content(node);
+        match content {
+            NodeData::Text(run) => store.text(*run),
+            NodeData::Long(text) => text,
             _ => "",
         }
     }
 
     /// The name and the identifiers of a doctype.
-    pub fn doctype(&self, at: NodeId) -> Option<&DocumentType>
-        requires { at < self.now.made }
-        ensures { option_map (λ texts. doctype_texts texts.now) result ≡ doctype_of at self.now.trees }
+    pub fn doctype(&self, node: NodeId) -> Option<&DocumentType>
+        requires { node < self.now.made }
+        ensures { option_map (λ texts. doctype_texts texts.now) result ≡ doctype_of node self.now.trees }
     {
-        match self.content(at) {
+        match self.content(node).0 {
             NodeData::Doctype(texts) => Some(texts),
             _ => None,
         }

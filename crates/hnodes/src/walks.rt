@@ -3,7 +3,7 @@
 ghost use Rattle.std.specs.Prelude.{◌≡◌, ◌<◌, ◌≤◌, ◌∷◌, ℕ, List, Some, IfOk, IfSome, IsTrue, length, string_bytes};
 ghost use Rattle.std.specs.Iterator.{YieldsFirst, at_most};
 ghost use Rattle.std.specs.List.{All};
-ghost use Rattle.hnodes.specs.Vocabulary.{after_each, ancestors_of, children_of, inside_from, is_among, order, roots, siblings_from, texts, way_up, AreNodes};
+ghost use Rattle.hnodes.specs.Vocabulary.{after_each, ancestors_of, children_of, inside_from, is_among, order, roots, siblings_from, forest_texts, way_up, AreNodes};
 
 use crate::node::NodeId;
 use crate::tree::Tree;
@@ -27,40 +27,40 @@ impl<'a> Model for Children<'a> {
 
 impl Tree {
     /// The children of a node, in their order.
-    pub fn children(&self, at: NodeId) -> Children
-        requires { at < self.now.made }
-        ensures order { result ≡ roots (children_of at self.now.trees) }
+    pub fn children(&self, node: NodeId) -> Children
+        requires { node < self.now.made }
+        ensures order { result ≡ roots (children_of node self.now.trees) }
         ensures within { All (λ n. n < self.now.made) result }
         ensures nodes { AreNodes self.now }
     {
-        let next = self.first_child(at);
+        let next = self.first_child(node);
         Children { tree: self, next }
     }
 
     /// The ancestors of a node: its parent, the parent of that, and so on to the root.
-    pub fn ancestors(&self, at: NodeId) -> Ancestors
-        requires { at < self.now.made }
-        ensures { result ≡ ancestors_of at self.now.trees }
+    pub fn ancestors(&self, node: NodeId) -> Ancestors
+        requires { node < self.now.made }
+        ensures { result ≡ ancestors_of node self.now.trees }
     {
         Ancestors {
             tree: self,
-            next: self.parent(at),
+            next: self.parent(node),
         }
     }
 
     /// The descendants of a node in tree order: its first child, what is inside that, then the next child, and so on. The whole
     /// walk takes as many steps as there are descendants, up to a constant factor.
-    pub fn descendants(&self, at: NodeId) -> Descendants
-        requires { at < self.now.made }
-        ensures order { result ≡ order (children_of at self.now.trees) }
+    pub fn descendants(&self, node: NodeId) -> Descendants
+        requires { node < self.now.made }
+        ensures order { result ≡ order (children_of node self.now.trees) }
         ensures few { length result ≤ self.now.made }
         ensures within { All (λ n. n < self.now.made) result }
         ensures nodes { AreNodes self.now }
     {
-        let next = self.first_child(at);
+        let next = self.first_child(node);
         Descendants {
             tree: self,
-            top: at,
+            top: node,
             next,
         }
     }
@@ -69,7 +69,7 @@ impl Tree {
     /// and bytes in their texts.
     pub fn text_content(&self, alloc: Global, at: NodeId) -> Result<String, AllocError>
         requires { at < self.now.made }
-        ensures { IfOk result (λ t. string_bytes t ≡ texts (children_of at self.now.trees)) }
+        ensures { IfOk result (λ t. string_bytes t ≡ forest_texts (children_of at self.now.trees)) }
     {
         let mut all = String::new(alloc);
         for node in self.descendants(at) {
@@ -79,26 +79,26 @@ impl Tree {
     }
 
     /// The node after another in tree order, of those inside `top`.
-    fn next_inside(&self, at: NodeId, top: NodeId) -> Option<NodeId>
-        requires made { at < self.now.made }
-        requires inside { IsTrue (is_among top (ancestors_of at self.now.trees)) }
-        ensures next { inside_from top (Some at) self.now.trees ≡ at ∷ inside_from top result self.now.trees }
+    fn next_inside(&self, node: NodeId, top: NodeId) -> Option<NodeId>
+        requires made { node < self.now.made }
+        requires inside { IsTrue (is_among top (ancestors_of node self.now.trees)) }
+        ensures next { inside_from top (Some node) self.now.trees ≡ node ∷ inside_from top result self.now.trees }
         ensures inside { IfSome result (λ n. (n < self.now.made) × IsTrue (is_among top (ancestors_of n self.now.trees))) }
     {
-        match self.first_child(at) {
+        match self.first_child(node) {
             Some(child) => Some(child),
-            None => self.next_outside(at, top),
+            None => self.next_outside(node, top),
         }
     }
 
     /// The first node in tree order after another and all those inside it, of those inside `top`.
-    fn next_outside(&self, at: NodeId, top: NodeId) -> Option<NodeId>
-        requires made { at < self.now.made }
-        requires inside { IsTrue (is_among top (way_up (Some at) self.now.trees)) }
-        ensures next { after_each top (way_up (Some at) self.now.trees) self.now.trees ≡ inside_from top result self.now.trees }
+    fn next_outside(&self, node: NodeId, top: NodeId) -> Option<NodeId>
+        requires made { node < self.now.made }
+        requires inside { IsTrue (is_among top (way_up (Some node) self.now.trees)) }
+        ensures next { after_each top (way_up (Some node) self.now.trees) self.now.trees ≡ inside_from top result self.now.trees }
         ensures inside { IfSome result (λ n. (n < self.now.made) × IsTrue (is_among top (ancestors_of n self.now.trees))) }
     {
-        let mut above = at;
+        let mut above = node;
         while above != top {
             if let Some(next) = self.next(above) {
                 return Some(next);

@@ -1,6 +1,6 @@
 -- Only the entries with its hash can be equal to an entry.
-use Rattle.hopen.proofs.Names.{add-zero, reverse, take, ◌≡◌, ℕ, zero, suc, ◌+◌, ◌-◌, ◌<◌, ◌≤◌, eqb, Bool, true, false, cond, List, [], ◌∷◌, Option, Some, length, map, filter, drop, get_or, refl, sym, ◌∙◌, ap, arith, if◌then◌else◌, slice_get, option_map_or, eqb-suc-zero, drop-map, take-map, get_or-reverse, length-map, EntryOf, Listed, marker, entry, as_entry, after_marker, number_by, item_of, items_of, Stored, drop_nearest, last_place-le, nat_tests, drop-nil, drop-drop, get_or-drop, length-drop}
-use Rattle.hopen.proofs.Chained.{last_of}
+use Rattle.hopen.proofs.Names.{add-zero, reverse, take, ◌≡◌, ℕ, zero, suc, ◌+◌, ◌-◌, ◌<◌, ◌≤◌, eqb, Bool, true, false, cond, List, [], ◌∷◌, Option, Some, length, map, filter, drop, get_or, refl, sym, ◌∙◌, ap, arith, if◌then◌else◌, slice_get, option_map_or, eqb-suc-zero, drop-map, take-map, get_or-reverse, length-map, EntryOf, Listed, marker, entry, as_entry, after_marker, number_by, item_of, listed_items, Stored, drop_nearest, last_place-le, nat_tests, drop-nil, drop-drop, get_or-drop, length-drop}
+use Rattle.hopen.proofs.IndexSteps.{last_of}
 use Rattle.hopen.proofs.Earliest.{farthest}
 use Rattle.hopen.proofs.ItemLists.{length-items_of}
 use Rattle.hopen.proofs.Listed.{number as numbered, numbers-back, numbers-seen, place, place-le}
@@ -112,10 +112,10 @@ module _ (of : EntryOf ℕ → ℕ) where
 
 -- the number at a place of a vector, and those before it
 module _ (of : EntryOf ℕ → ℕ) (items : List Stored) (p : ℕ) (some : 0 < p) (within : p ≤ length items) where
-  pub number-at : get_or (map (numbered of) items) (p - 1) 0 ≡ get_or (map (number_by of) (items_of items)) (length items - p) 0
+  pub number-at : get_or (map (numbered of) items) (p - 1) 0 ≡ get_or (map (number_by of) (listed_items items)) (length items - p) 0
   number-at = grind (arith, length-map, length-items_of, numbers-seen, get_or-reverse)
 
-  pub numbers-before : reverse (take (p - 1) (map (numbered of) items)) ≡ map (number_by of) (drop (suc (length items - p)) (items_of items))
+  pub numbers-before : reverse (take (p - 1) (map (numbered of) items)) ≡ map (number_by of) (drop (suc (length items - p)) (listed_items items))
   numbers-before =
       ap reverse (take-map (numbered of) (p - 1) items) ∙ numbers-back of (take (p - 1) items)
       ∙ ap (map (number_by of)) (sym (drop_nearest item_of items (p - 1) (suc (length items - p)) (omega arith)))

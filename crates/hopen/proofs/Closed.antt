@@ -1,5 +1,5 @@
 -- The holes of a list taken out, and the numbers of what is left.
-use Rattle.hopen.proofs.Names.{◌≡◌, ℕ, ◌+◌, ◌<◌, ◌≤◌, ◌==◌, Bool, true, false, not, cond, eqb, is_some, List, [], ◌∷◌, ◌++◌, length, get_or, take, drop, set, map, filter, refl, sym, ◌∙◌, ap, arith, subst, All, swap, not-true, append-nil, append_assoc, drop-map, drop-set-lt, length-append, length-take-le, map-append, take-map, swap_is, All-append, All-drop, All-get_or, All-head, All-tail, All-take, filter-append, entry_hash, none, EntryOf, IsStored, is_gone, item_of, IsListed, by_hash, by_name, by_node, number_by, numbers_by, unless_hole, Stored, Slots, nat_tests, between, drop_more, get_or-append_right, take-set-le, take_more, between_more, length-swap, swapped_from_swap, All-filter, filter_passes}
+use Rattle.hopen.proofs.Names.{◌≡◌, ℕ, ◌+◌, ◌<◌, ◌≤◌, ◌==◌, Bool, true, false, not, cond, eqb, is_some, List, [], ◌∷◌, ◌++◌, length, get_or, take, drop, set, map, filter, refl, sym, ◌∙◌, ap, arith, subst, All, swap, not-true, append-nil, append_assoc, drop-map, drop-set-lt, length-append, length-take-le, map-append, take-map, swap_is, All-append, All-drop, All-get_or, All-head, All-tail, All-take, filter-append, entry_hash, none, EntryOf, IsStored, is_gone, item_of, AreSlotsListed, by_hash, by_name, by_node, number_by, numbers_by, unless_hole, Stored, Slots, nat_tests, between, drop_more, get_or-append_right, take-set-le, take_more, between_more, length-swap, swapped_from_swap, All-filter, filter_passes}
 use Rattle.hopen.specs.declared.entry.Slot.TheVariants as stored
 use Rattle.hopen.proofs.Moved.{NoHoleFrom}
 
@@ -34,11 +34,11 @@ solid-closed : (items : List Stored) (from : ℕ) → from ≤ length items → 
 solid-closed items from h k above l x = grind (arith, length-take-le, length-append, not-true, get_or-append_right, All-get_or, filter_passes)
 
 -- what is kept of the list
-pub listed-closed : (from : ℕ) (old new : Slots) → IsListed old → new.keys ≡ old.keys → from ≤ length old.items.items
+pub listed-closed : (from : ℕ) (old new : Slots) → AreSlotsListed old → new.keys ≡ old.keys → from ≤ length old.items.items
     → new.names ≡ take from old.names ++ filter (λ n. not (n == none)) (drop from old.names)
     → (is_some old.keys ≡ true → new.hashes ≡ take from old.hashes ++ filter (λ n. not (n == none)) (drop from old.hashes))
     → new.nodes ≡ take from old.nodes ++ filter (λ n. not (n == none)) (drop from old.nodes)
-    → new.solid ≡ from → new.items.items ≡ closed old.items.items from → IsListed new
+    → new.solid ≡ from → new.items.items ≡ closed old.items.items from → AreSlotsListed new
 listed-closed from old new listed keys h names hashes nodes solid items =
     let xs = old.items.items in
     let kept = filter stays (drop from xs) in

@@ -1,5 +1,5 @@
 -- The earliest of the entries after the last marker that are sought, by how many items come after it.
-use Rattle.hopen.proofs.Names.{◌≡◌, ℕ, suc, ◌+◌, ◌<◌, ◌≤◌, Bool, true, false, not, ◌&&◌, List, [], ◌∷◌, Option, Some, None, length, refl, ◌∙◌, ap, filter, arith, if◌then◌else◌, IfSome, list_any, remove, option_map, option_map_or, EntryOf, Listed, marker, entry, after_marker, without_earliest, most_equal, is_equal, with_room, le-leb, lt-leb}
+use Rattle.hopen.proofs.Names.{◌≡◌, ℕ, suc, ◌+◌, ◌<◌, ◌≤◌, Bool, true, false, not, ◌&&◌, List, [], ◌∷◌, Option, Some, None, length, refl, ◌∙◌, ap, filter, arith, if◌then◌else◌, IfSome, find, find_entry, list_any, remove, option_map, option_map_or, EntryOf, Listed, marker, entry, after_marker, without_earliest, most_equal, is_equal, with_room, le-leb, lt-leb}
 
 module _ {N : Type 0} (sought : EntryOf N → Bool) where
   -- the farthest entry that is sought, where this many items come after the first of them; if none is, what was found before
@@ -53,6 +53,15 @@ module _ {N : Type 0} (sought : EntryOf N → Bool) where
       go true false any rest = ap (λ o. option_map_or (remove (entry e ∷ items)) o (entry e ∷ items)) (farthest-none 1 (Some 0) (after_marker items) any)
       go true true any rest = farther (farthest 1 (Some 0) (after_marker items)) (farthest-some 1 (Some 0) (after_marker items) any) rest
       go false w any rest = farther (farthest 1 None (after_marker items)) refl rest
+
+-- where no entry has the name of a new one, none is equal to it
+module _ {N : Type 0} (same : N → N → Bool) (new : EntryOf N) where
+  none-equal : (es : List (EntryOf N)) → find (λ e. same new.name e.name) es ≡ None → filter (is_equal same new) es ≡ []
+  none-equal [] none = refl
+  none-equal (e ∷ es) none = grind (arith, none-equal es)
+
+  pub room-unmet : (items : List (Listed N)) → find_entry same new.name items ≡ None → items ≡ with_room same new items
+  room-unmet items none = rw (none-equal (after_marker items) none) refl
 
 -- the list without what gives way to a new entry, where this many are equal to it
 module _ {N : Type 0} (same : N → N → Bool) (new : EntryOf N) (items : List (Listed N)) (equal : ℕ)

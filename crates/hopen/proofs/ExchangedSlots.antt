@@ -1,5 +1,5 @@
 -- Slots of a stack that change places, leave and come, in the words on what they hold.
-use Rattle.hopen.proofs.Names.{◌≡◌, ◌≢◌, ℕ, zero, suc, ◌+◌, ◌-◌, ◌<◌, ◌≤◌, Bool, List, [], ◌∷◌, ◌++◌, Option, Some, None, length, map, reverse, take, drop, insert, get_or, set, inl, inr, refl, sym, ◌∙◌, ap, arith, cases_eq, cases_lt, append_assoc, drop-drop, drop-set-lt, get_or-set_other, get_or-set_same, length-append, length-insert, length-map, length-reverse, length-set, length-take-le, map-id, reverse-append, set-get_or, set-set, set_split, take-append-drop, position, insert_nearest, exchanged, holds_one, last_place, last_place-le, opened_by, put_before, slots_of, somes, stack_of, EndsOpen, KeptNode, OpenNode}
+use Rattle.hopen.proofs.Names.{◌≡◌, ◌≢◌, ℕ, zero, suc, ◌+◌, ◌-◌, ◌<◌, ◌≤◌, Bool, List, [], ◌∷◌, ◌++◌, Option, Some, None, length, map, reverse, take, drop, insert, get_or, set, inl, inr, refl, sym, ◌∙◌, ap, arith, cases_eq, cases_lt, append_assoc, drop-drop, drop-set-lt, get_or-set_other, get_or-set_same, length-append, length-insert, length-map, length-reverse, length-set, length-take-le, map-id, reverse-append, set-get_or, set-set, set_split, take-append-drop, position, insert_nearest, exchanged, holds_one, last_place, last_place-le, opened_by, item_put_before, slots_of, somes, stack_of, EndsOpen, KeptNode, OpenNode}
 use Rattle.hopen.proofs.Held.{some≢none}
 use Rattle.hopen.proofs.OpenLevels.{IsPlaced}
 use Rattle.hopen.proofs.SlotEdits.{length-gone}
@@ -62,7 +62,7 @@ module _ {X : Type 0} where
 
   -- what is not nearer than the place of one that is sought
   put-at : (s : X → Bool) (n : X) (xs : List X) (y : X) (us vs : List X) → last_place s (xs ++ y ∷ us) ≡ suc (length us)
-      → put_before s n (xs ++ y ∷ vs) ≡ xs ++ n ∷ y ∷ vs
+      → item_put_before s n (xs ++ y ∷ vs) ≡ xs ++ n ∷ y ∷ vs
   put-at s n [] y us vs e = grind (arith, last_place-le s us)
   put-at s n (x ∷ xs) y us vs e = grind (arith, length-append xs (y ∷ us), put-at s n xs y us vs)
 
@@ -82,7 +82,7 @@ module _ {X : Type 0} where
   module _ (s : X → Bool) (zs sunk : List (Option X)) (from to : ℕ) (x : X) (order : from < to) (within : to < length zs) (long : length sunk ≡ length zs)
       (place : last_place (holds_one s) (reverse zs) ≡ suc to) (below : drop (suc to) sunk ≡ drop (suc to) zs)
       (rest : somes (reverse (set sunk to None)) ≡ somes (reverse (set zs from None))) where
-    pub put-sunk : somes (reverse (set sunk to (Some x))) ≡ put_before s x (somes (reverse (set zs from None)))
+    pub put-sunk : somes (reverse (set sunk to (Some x))) ≡ item_put_before s x (somes (reverse (set zs from None)))
     put-sunk =
         let left = set zs from None in
         let y = get_or zs to None in
@@ -96,8 +96,8 @@ module _ {X : Type 0} where
         let was : reverse zs ≡ low ++ y ∷ reverse (take to zs) = ap reverse (sym (set-get_or zs to None)) ∙ reverse-set zs to y within in
         let at : last_place (holds_one s) (low ++ y ∷ reverse (take to zs)) ≡ suc (length (reverse (take to zs))) =
         ap (last_place (holds_one s)) (sym was) ∙ place ∙ ap suc (sym (length-reverse (take to zs) ∙ length-take-le to zs (omega arith))) in
-        let put : put_before s x (somes (reverse left)) ≡ somes low ++ x ∷ somes (y ∷ high) =
-        sym (put-somes s x (reverse left)) ∙ ap (λ l. somes (put_before (holds_one s) (Some x) l)) split
+        let put : item_put_before s x (somes (reverse left)) ≡ somes low ++ x ∷ somes (y ∷ high) =
+        sym (put-somes s x (reverse left)) ∙ ap (λ l. somes (item_put_before (holds_one s) (Some x) l)) split
         ∙ ap somes (put-at (holds_one s) (Some x) low y (reverse (take to zs)) high at) ∙ somes-append low (Some x ∷ y ∷ high) in
         let gap : somes (reverse (set sunk to None)) ≡ somes low ++ somes (reverse (take to sunk)) =
         somes-set sunk to None (omega arith) ∙ ap (λ l. somes (reverse l) ++ somes (reverse (take to sunk))) below in
@@ -157,7 +157,7 @@ ends-insert ys i x within ends = λ k many none.
 
 -- a new node right below the one that is sought
 pub put-placed : (s : OpenNode ℕ → Bool) (items : List KeptNode) (i : ℕ) (x : OpenNode ℕ) → IsPlaced s items i
-    → somes (reverse (insert (map opened_by items) (i + 1) (Some x))) ≡ put_before s x (stack_of items)
+    → somes (reverse (insert (map opened_by items) (i + 1) (Some x))) ≡ item_put_before s x (stack_of items)
 put-placed s items i x p =
     let ys = map opened_by items in
     let back = map-id ys in
@@ -166,5 +166,5 @@ put-placed s items i x p =
     ap reverse (sym (map-id (insert ys (i + 1) z)))
     ∙ insert_nearest (λ o. o) (holds_one s) ys i p.up z (ap (λ l. position (holds_one s) (reverse l)) back ∙ p.position_is)
     (p.sum ∙ sym (length-map items opened_by))
-    ∙ ap (λ l. put_before (holds_one s) z (reverse l)) back
+    ∙ ap (λ l. item_put_before (holds_one s) z (reverse l)) back
     ) ∙ put-somes s x (slots_of items)

@@ -1,5 +1,5 @@
 -- A node that is special in no set leaves, or gives way to one of its name.
-use Rattle.hopen.proofs.Names.{◌≡◌, ◌≢◌, ℕ, zero, suc, ◌+◌, ◌-◌, ◌<◌, ◌≤◌, eqb, eqb-zero-suc, cond, false, List, [], ◌∷◌, Option, Some, None, length, map, get_or, set, refl, sym, ◌∙◌, ap, arith, transport, get_or-set_same, get_or-set_other, get_or-map, length-map, length-set, map-set, map-set_same, IsAlone, IsLinked, KeepSets, Stands, closing, closing_in, kind_at, kind_of, name_in, names_in, nearest_in, nearest_up, node_in, nodes_in, opened_by, open_of, same_name_of, same_node_of, sets_at, set_node, is_hole_kind, is_special, tag_of, Open, OpenNode, KeptNode, Kind, LastLevels, NameSet, SetNodes}
+use Rattle.hopen.proofs.Names.{◌≡◌, ◌≢◌, ℕ, zero, suc, ◌+◌, ◌-◌, ◌<◌, ◌≤◌, eqb, eqb-zero-suc, cond, false, List, [], ◌∷◌, Option, Some, None, length, map, get_or, set, refl, sym, ◌∙◌, ap, arith, transport, get_or-set_same, get_or-set_other, get_or-map, length-map, length-set, map-set, map-set_same, IsAlone, IsLinked, KeepSets, LevelsStand, closing, closing_in, kept_kind_at, kept_kind, open_name, names_in, nearest_in, nearest_up, node_in, nodes_in, opened_by, open_of, same_name_of, same_node_of, sets_at, set_node, is_hole_kind, is_special, tag_of, Open, OpenNode, KeptNode, Kind, LastLevels, NameSet, SetNodes}
 use Rattle.hopen.specs.declared.kept.Kind.TheVariants as kind
 use Rattle.hopen.proofs.Held.{held, some≢none}
 use Rattle.hopen.proofs.Linked.{either, eqb-same, eqb-not}
@@ -22,7 +22,7 @@ closing-left [] i k h e = absurd (omega arith)
 closing-left (j ∷ ks) zero k h e = omega (arith, ap closing e)
 closing-left (j ∷ ks) (suc i) k h e = omega (arith, closing-left ks i k (omega arith) e)
 
-module _ (last : LastLevels) (items : List KeptNode) (i : ℕ) (x : KeptNode) (s : Stands last items) (within : i < length items) (is : x ≡ get_or items i x)
+module _ (last : LastLevels) (items : List KeptNode) (i : ℕ) (x : KeptNode) (s : LevelsStand last items) (within : i < length items) (is : x ≡ get_or items i x)
     (alone : IsAlone last x (suc i)) where
   abbrev pub ys : List (Option (OpenNode ℕ))
   ys = map opened_by items
@@ -48,9 +48,9 @@ module _ (last : LastLevels) (items : List KeptNode) (i : ℕ) (x : KeptNode) (s
   pub node-known : x.opened.node < length last.nodes.items
   node-known = walk-in last.nodes.items (nodes_in ys) (map same_node_of items) s.nodes i x.opened.node node-here nodes-within
 
-  closed : closing_in (set (map kind_at items) i kind.Hole) + closing x.kind ≡ closing_in (map kind_at items)
-  closed = closing-left (map kind_at items) i x.kind (omega (arith, length-map items kind_at))
-      (ap kind_at is ∙ sym (get_or-map kind_at items i x x.kind within))
+  closed : closing_in (set (map kept_kind_at items) i kind.Hole) + closing x.kind ≡ closing_in (map kept_kind_at items)
+  closed = closing-left (map kept_kind_at items) i x.kind (omega (arith, length-map items kept_kind_at))
+      (ap kept_kind_at is ∙ sym (get_or-map kept_kind_at items i x x.kind within))
 
   pub kind-counted : closing x.kind ≤ last.must_close
   kind-counted = omega (arith, closed, s.closes)
@@ -60,11 +60,11 @@ module _ (last : LastLevels) (items : List KeptNode) (i : ℕ) (x : KeptNode) (s
       → map same_name_of new ≡ set (map same_name_of items') i 0
       → map same_node_of new ≡ set (map same_node_of items) i 0 → ((set : NameSet) (m : ℕ) → m ≢ i
       → get_or (map (set_node set) (map sets_at new)) m 0 ≡ get_or (map (set_node set) (map sets_at items)) m 0)
-      → map kind_at new ≡ set (map kind_at items) i kind.Hole
+      → map kept_kind_at new ≡ set (map kept_kind_at items) i kind.Hole
       → IsLinked next.names.items (set (names_in ys) i 0) (set (map same_name_of items') i 0) → next.nodes.items ≡ set last.nodes.items x.opened.node 0
-      → next.must_close ≡ last.must_close - closing x.kind → Stands next new
+      → next.must_close ≡ last.must_close - closing x.kind → LevelsStand next new
   stands-left items' new next opened same_names same_nodes sets kinds names nodes must_close = record {
-    names = transport (λ t. IsLinked next.names.items (sym (ap names_in opened ∙ map-set name_in ys i None) t) (sym same_names t)) names;
+    names = transport (λ t. IsLinked next.names.items (sym (ap names_in opened ∙ map-set open_name ys i None) t) (sym same_names t)) names;
     nodes = transport (λ t. IsLinked (sym nodes t) (sym (ap nodes_in opened ∙ map-set node_in ys i None) t) (sym same_nodes t))
         (linked-left last.nodes.items (nodes_in ys) (map same_node_of items) s.nodes i x.opened.node 0 nodes-within
         (held-none last.nodes.items (nodes_in ys) (map same_node_of items) s.nodes i x.opened.node node-here long alone.none_below)
@@ -84,7 +84,7 @@ module _ (last : LastLevels) (items : List KeptNode) (i : ℕ) (x : KeptNode) (s
         (λ ne some. sets group m ne ∙ left group m (omega (arith, ap length opened, length-set ys i None, length-map new opened_by)) some)
         (λ e. live (ap (λ l. get_or l m None) opened ∙ e))
         ∙ ap (λ l. nearest_up group l (suc m)) (sym opened);
-    kinds = kinds ∙ ap (λ (ks : List Kind). set ks i kind.Hole) s.kinds ∙ sym (map-set kind_of ys i None) ∙ ap (map kind_of) (sym opened);
+    kinds = kinds ∙ ap (λ (ks : List Kind). set ks i kind.Hole) s.kinds ∙ sym (map-set kept_kind ys i None) ∙ ap (map kept_kind) (sym opened);
     closes = omega (arith, must_close, s.closes, ap closing_in kinds, closed);
     fits = omega (arith, s.fits, ap length nodes, length-set last.nodes.items x.opened.node 0);
   }
@@ -97,7 +97,7 @@ module _ (last : LastLevels) (items : List KeptNode) (i : ℕ) (x : KeptNode) (s
       → new.node < length last.nodes.items → y.opened ≡ new → y.same_name ≡ x.same_name
       → y.same_node ≡ x.same_node → y.sets ≡ x.sets → y.kind ≡ x.kind → next.names.items ≡ last.names.items
       → next.nodes.items ≡ set (set last.nodes.items x.opened.node 0) new.node (suc i)
-      → next.must_close ≡ last.must_close → Stands next (set items i y)
+      → next.must_close ≡ last.must_close → LevelsStand next (set items i y)
   stands-renamed next y new name fresh new_in opened same_name same_node sets kind names nodes must_close = record {
     names = transport (λ t. IsLinked (sym names t) (sym same_numbers t) (sym (map-set_same same_name_of items i y x (same_name ∙ ap same_name_of is)) t))
         s.names;
@@ -108,8 +108,8 @@ module _ (last : LastLevels) (items : List KeptNode) (i : ℕ) (x : KeptNode) (s
     sets = transport (λ t. KeepSets (sym renamed t) (sym (map-set_same sets_at items i y x (sets ∙ ap sets_at is)) t))
         (sets-neutral ys (map sets_at items) i (open_of x.opened) (Some (open_of new)) (omega (arith, many)) here alone.plain
         (λ set a. nearest-plain set (open_of new) a (ap (λ n. is_special (tag_of n)) (sym name) ∙ alone.plain)) s.sets);
-    kinds = map-set_same kind_at items i y x (kind ∙ ap kind_at is) ∙ s.kinds ∙ sym (ap (map kind_of) renamed ∙ same_kinds);
-    closes = must_close ∙ s.closes ∙ ap closing_in (sym (map-set_same kind_at items i y x (kind ∙ ap kind_at is)));
+    kinds = map-set_same kept_kind_at items i y x (kind ∙ ap kept_kind_at is) ∙ s.kinds ∙ sym (ap (map kept_kind) renamed ∙ same_kinds);
+    closes = must_close ∙ s.closes ∙ ap closing_in (sym (map-set_same kept_kind_at items i y x (kind ∙ ap kept_kind_at is)));
     fits = omega (
       arith,
       s.fits,
@@ -123,8 +123,8 @@ module _ (last : LastLevels) (items : List KeptNode) (i : ℕ) (x : KeptNode) (s
       renamed = map-set opened_by items i y ∙ ap (set ys i) (held y (ap is_hole_kind kind ∙ alone.live) ∙ ap (λ (z : Open). Some (open_of z)) opened)
 
       same_numbers : names_in (map opened_by (set items i y)) ≡ names_in ys
-      same_numbers = ap names_in renamed ∙ map-set_same name_in ys i (Some (open_of new)) None (ap suc (sym name) ∙ ap name_in (sym here))
+      same_numbers = ap names_in renamed ∙ map-set_same open_name ys i (Some (open_of new)) None (ap suc (sym name) ∙ ap open_name (sym here))
 
-      same_kinds : map kind_of (set ys i (Some (open_of new))) ≡ map kind_of ys
-      same_kinds = map-set_same kind_of ys i (Some (open_of new)) None (ap (λ n. kind_of (Some (record { node = 0; name = n }))) (sym name)
-          ∙ ap kind_of (sym here))
+      same_kinds : map kept_kind (set ys i (Some (open_of new))) ≡ map kept_kind ys
+      same_kinds = map-set_same kept_kind ys i (Some (open_of new)) None (ap (λ n. kept_kind (Some (record { node = 0; name = n }))) (sym name)
+          ∙ ap kept_kind (sym here))

@@ -1,5 +1,5 @@
 -- What is open in a slot.
-use Rattle.hopen.proofs.Names.{◌≡◌, ◌≢◌, ℕ, ◌<◌, Bool, true, false, cond, List, Option, Some, None, length, map, get_or, refl, ap, arith, get_or-map, is_hole_kind, opened_by, open_of, KeptNode, subst, kind_of, may_stay_open, tag_of, sym, ◌∙◌, IsBelow, LastLevels, Open, OpenNode}
+use Rattle.hopen.proofs.Names.{◌≡◌, ◌≢◌, ℕ, ◌<◌, Bool, true, false, cond, List, Option, Some, None, length, map, get_or, refl, ap, arith, get_or-map, is_hole_kind, opened_by, open_of, KeptNode, subst, kept_kind, may_stay_open, tag_of, sym, ◌∙◌, IsBelow, LastLevels, Open, OpenNode}
 
 pub held : (x : KeptNode) → is_hole_kind x.kind ≡ false → opened_by x ≡ Some (open_of x.opened)
 held x e = ap (λ v. cond v None (Some (open_of x.opened))) e
@@ -21,10 +21,10 @@ pub opened-at : (items : List KeptNode) (i : ℕ) (d : KeptNode) → i < length 
 opened-at items i d h = get_or-map opened_by items i d None h
 
 -- the kind of a slot with a node is no hole's
-pub kind-held : (y : OpenNode ℕ) → is_hole_kind (kind_of (Some y)) ≡ false
+pub kind-held : (y : OpenNode ℕ) → is_hole_kind (kept_kind (Some y)) ≡ false
 kind-held y = go (may_stay_open (tag_of y.name)) refl
   where
-    go : (v : Bool) → may_stay_open (tag_of y.name) ≡ v → is_hole_kind (kind_of (Some y)) ≡ false
+    go : (v : Bool) → may_stay_open (tag_of y.name) ≡ v → is_hole_kind (kept_kind (Some y)) ≡ false
     go true e = rw e refl
     go false e = rw e refl
 

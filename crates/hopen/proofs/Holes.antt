@@ -1,10 +1,10 @@
 -- Vectors of items with holes, and where the entry of a node is in them.
-use Rattle.hopen.proofs.Names.{◌≡◌, if◌then◌else◌, ℕ, zero, suc, ◌+◌, ◌-◌, ◌<◌, ◌≤◌, eqb, Bool, true, false, cond, not, List, [], ◌∷◌, ◌++◌, Option, Some, None, is_some, length, map, filter, take, take-suc, drop, get_or, refl, sym, ◌∙◌, ap, subst, arith, All, position, position_or_len, list_any, slice_get, find, option_and_then, option_map, eqb-zero-suc, append-nil, get_or-map, length-append, length-map, All-drop, All-take, filter-append, EntryOf, Listed, marker, entry, as_entry, entry_of, for_node, is_entry, nth_live, AreSlots, IsSlot, IsStored, hole, is_gone, is_hole, item_of, items_of, live, nowhere, told, by_node, number_by, unless_hole, changed_at, Stored, is_some-position, slice_get_nearest, common_steps, nat_tests, lt-ltb, drop_at, take-append-drop, take_at, IsListed, Slots, ◌==◌, reverse, last_up, get_nearest, reverse_split, ltb, ltb-true, eqb-true, up-found, up-within, take-map}
+use Rattle.hopen.proofs.Names.{◌≡◌, if◌then◌else◌, ℕ, zero, suc, ◌+◌, ◌-◌, ◌<◌, ◌≤◌, eqb, Bool, true, false, cond, not, List, [], ◌∷◌, ◌++◌, Option, Some, None, is_some, length, map, filter, take, take-suc, drop, get_or, refl, sym, ◌∙◌, ap, subst, arith, All, position, position_or_len, list_any, slice_get, find, option_and_then, option_map, eqb-zero-suc, append-nil, get_or-map, length-append, length-map, All-drop, All-take, filter-append, EntryOf, Listed, marker, entry, as_entry, entry_of, for_node, is_entry, nth_live, AreSlots, IsSlot, IsStored, hole, is_gone, is_listed_hole, item_of, listed_items, live, nowhere, stored_entry, by_node, number_by, unless_hole, changed_at, Stored, is_some-position, slice_get_nearest, common_steps, nat_tests, lt-ltb, drop_at, take-append-drop, take_at, AreSlotsListed, Slots, ◌==◌, reverse, last_up, get_nearest, reverse_split, ltb, ltb-true, eqb-true, up-found, up-within, take-map}
 use Rattle.hopen.specs.declared.entry.Slot.TheVariants as stored
 use Rattle.hopen.proofs.ByHash.{last-at, number-at}
 use Rattle.hopen.proofs.ItemLists.{along_last, items_of_more, length-items_of}
 use Rattle.hopen.proofs.Live.{AllSolid, nth-none, nth-real, nth-within}
-use Rattle.hopen.proofs.Chained.{before-is, last-is, last_of}
+use Rattle.hopen.proofs.IndexSteps.{before-is, last-is, last_of}
 use Rattle.hopen.proofs.Listed.{number-same, numbers-back, place, place-le}
 
 -- a smaller number is another
@@ -15,21 +15,21 @@ apart a b h = grind (arith, nat_tests)
 pub unless : (name n : ℕ) → name < nowhere → suc (suc n) ≡ suc (if name == nowhere then zero else suc n)
 unless name n low = ap (λ (v : Bool). suc (cond v zero (suc n))) (sym (apart name nowhere low))
 
-pub gone-is : (x : Stored) → IsStored x → is_hole (item_of x) ≡ is_gone x
+pub gone-is : (x : Stored) → IsStored x → is_listed_hole (item_of x) ≡ is_gone x
 gone-is x s = grind (arith, apart)
 
 -- what is known of an item that is no hole
-pub told-is : (x : Stored) → is_gone x ≡ false → told x ≡ as_entry (item_of x)
-told-is x there = grind arith
+pub stored_entry-is : (x : Stored) → is_gone x ≡ false → stored_entry x ≡ as_entry (item_of x)
+stored_entry-is x there = grind arith
 
 pub slot-is : (x : Stored) → IsStored x → IsSlot (item_of x)
 slot-is x s = grind arith
 
-pub slots-are : (items : List Stored) → All IsStored items → AreSlots (items_of items)
-slots-are items = along_last (λ xs. All IsStored xs → AreSlots (items_of xs)) (λ all. tt) more items
+pub slots-are : (items : List Stored) → All IsStored items → AreSlots (listed_items items)
+slots-are items = along_last (λ xs. All IsStored xs → AreSlots (listed_items xs)) (λ all. tt) more items
   where
-    more : (front : List Stored) (x : Stored) → (All IsStored front → AreSlots (items_of front)) → All IsStored (front ++ x ∷ [])
-        → AreSlots (items_of (front ++ x ∷ []))
+    more : (front : List Stored) (x : Stored) → (All IsStored front → AreSlots (listed_items front)) → All IsStored (front ++ x ∷ [])
+        → AreSlots (listed_items (front ++ x ∷ []))
     more front x before all =
         let first : All IsStored front = subst (λ (xs : List Stored). All IsStored xs) (take_at front (x ∷ []) (length front) refl)
         (All-take IsStored (length front) (front ++ x ∷ []) all) in
@@ -38,31 +38,31 @@ slots-are items = along_last (λ xs. All IsStored xs → AreSlots (items_of xs))
         subst AreSlots (sym (items_of_more front x)) (slot-is x (last 0 x (omega arith)), before first)
 
 -- without the holes, part by part
-pub live-parts : (xs ys : List Stored) → live (items_of (xs ++ ys)) ≡ live (items_of ys) ++ live (items_of xs)
-live-parts xs ys = ap live (reverse_split item_of xs ys) ∙ filter-append (λ i. not (is_hole i)) (items_of ys) (items_of xs)
+pub live-parts : (xs ys : List Stored) → live (listed_items (xs ++ ys)) ≡ live (listed_items ys) ++ live (listed_items xs)
+live-parts xs ys = ap live (reverse_split item_of xs ys) ∙ filter-append (λ i. not (is_listed_hole i)) (listed_items ys) (listed_items xs)
 
 -- nothing is lost with the holes
-live-first : (x : Stored) (items left : List Stored) → IsStored x → live (items_of left) ≡ live (items_of items)
-    → live (items_of (cond (not (is_gone x)) (x ∷ left) left)) ≡ live (items_of (x ∷ items))
+live-first : (x : Stored) (items left : List Stored) → IsStored x → live (listed_items left) ≡ live (listed_items items)
+    → live (listed_items (cond (not (is_gone x)) (x ∷ left) left)) ≡ live (listed_items (x ∷ items))
 live-first x items left s rest = grind (arith, live-parts, append-nil, gone-is, nat_tests, common_steps)
 
-pub live-closed : (items : List Stored) → All IsStored items → live (items_of (filter (λ x. not (is_gone x)) items)) ≡ live (items_of items)
+pub live-closed : (items : List Stored) → All IsStored items → live (listed_items (filter (λ x. not (is_gone x)) items)) ≡ live (listed_items items)
 live-closed [] all = refl
 live-closed (x ∷ items) all = live-first x items (filter (λ y. not (is_gone y)) items) (all 0 x (omega arith))
     (live-closed items (λ k y h. all (suc k) y (omega arith)))
 
-pub live-tail : (items : List Stored) (from : ℕ) → All IsStored items → live (items_of
-    (take from items ++ filter (λ x. not (is_gone x)) (drop from items))) ≡ live (items_of items)
+pub live-tail : (items : List Stored) (from : ℕ) → All IsStored items → live (listed_items
+    (take from items ++ filter (λ x. not (is_gone x)) (drop from items))) ≡ live (listed_items items)
 live-tail items from all =
-    live-parts (take from items) (filter (λ x. not (is_gone x)) (drop from items)) ∙ ap (λ l. l ++ live (items_of (take from items)))
+    live-parts (take from items) (filter (λ x. not (is_gone x)) (drop from items)) ∙ ap (λ l. l ++ live (listed_items (take from items)))
     (live-closed (drop from items) (All-drop IsStored from items all))
-    ∙ sym (live-parts (take from items) (drop from items)) ∙ ap (λ xs. live (items_of xs)) (take-append-drop from items)
+    ∙ sym (live-parts (take from items) (drop from items)) ∙ ap (λ xs. live (listed_items xs)) (take-append-drop from items)
 
 -- one item more on the way from the last one on
 pub taken : (items : List Stored) (k j : ℕ) (x : Stored) → k ≡ suc j → j < length items → x ≡ get_or items j x
-    → items_of (take k items) ≡ item_of x ∷ items_of (take j items)
-taken items k j x next within is = ap (λ n. items_of (take n items)) next ∙ ap items_of (take-suc items j x within)
-    ∙ items_of_more (take j items) (get_or items j x) ∙ ap (λ y. item_of y ∷ items_of (take j items)) (sym is)
+    → listed_items (take k items) ≡ item_of x ∷ listed_items (take j items)
+taken items k j x next within is = ap (λ n. listed_items (take n items)) next ∙ ap listed_items (take-suc items j x within)
+    ∙ items_of_more (take j items) (get_or items j x) ∙ ap (λ y. item_of y ∷ listed_items (take j items)) (sym is)
 
 pub further : (c : ℕ) (o : Option ℕ) → option_map (λ k. c + k) (option_map suc o) ≡ option_map (λ k. suc c + k) o
 further c o = grind arith
@@ -71,17 +71,17 @@ pub none-further : (o : Option ℕ) → option_map (λ k. 0 + k) o ≡ o
 none-further o = grind arith
 
 -- a hole is passed, and so is an item where more are to be
-pub nth-hole : (n : ℕ) (x : Listed ℕ) (xs : List (Listed ℕ)) → is_hole x ≡ true → nth_live n (x ∷ xs) ≡ option_map suc (nth_live n xs)
+pub nth-hole : (n : ℕ) (x : Listed ℕ) (xs : List (Listed ℕ)) → is_listed_hole x ≡ true → nth_live n (x ∷ xs) ≡ option_map suc (nth_live n xs)
 nth-hole n x xs is = grind arith
 
 -- a hole at the end leaves
-pub live-dropped : (items : List Stored) (k j : ℕ) (x : Stored) → k ≡ suc j → j < length items → x ≡ get_or items j x → is_hole (item_of x) ≡ true
-    → live (items_of (take k items)) ≡ live (items_of (take j items))
+pub live-dropped : (items : List Stored) (k j : ℕ) (x : Stored) → k ≡ suc j → j < length items → x ≡ get_or items j x → is_listed_hole (item_of x) ≡ true
+    → live (listed_items (take k items)) ≡ live (listed_items (take j items))
 live-dropped items k j x next within is gone = ap live (taken items k j x next within is)
-    ∙ ap (λ v. cond (not v) (item_of x ∷ live (items_of (take j items))) (live (items_of (take j items)))) gone
+    ∙ ap (λ v. cond (not v) (item_of x ∷ live (listed_items (take j items))) (live (listed_items (take j items)))) gone
 
 -- how many are live
-pub length-live : (items : List Stored) → All IsStored items → length (live (items_of items)) ≡ length (filter (λ x. not (is_gone x)) items)
+pub length-live : (items : List Stored) → All IsStored items → length (live (listed_items items)) ≡ length (filter (λ x. not (is_gone x)) items)
 length-live [] all = refl
 length-live (x ∷ items) all = grind (
   arith,
@@ -93,37 +93,37 @@ length-live (x ∷ items) all = grind (
 )
 
 -- what is at the last place of a number is no hole
-module _ (of : EntryOf ℕ → ℕ) (items : List Stored) (n p : ℕ) (x : Stored) (some : 0 < p) (at : place (unless_hole of) (suc (suc n)) (items_of items) ≡ p)
+module _ (of : EntryOf ℕ → ℕ) (items : List Stored) (n p : ℕ) (x : Stored) (some : 0 < p) (at : place (unless_hole of) (suc (suc n)) (listed_items items) ≡ p)
     (is : x ≡ get_or items (p - 1) x) where
   place-within : p ≤ length items
-  place-within = omega (arith, place-le (unless_hole of) (suc (suc n)) (items_of items), length-items_of items)
+  place-within = omega (arith, place-le (unless_hole of) (suc (suc n)) (listed_items items), length-items_of items)
 
   place-number : number_by (unless_hole of) (item_of x) ≡ suc (suc n)
   place-number =
-      let size : length (map (number_by (unless_hole of)) (items_of items)) ≡ length items = length-map (items_of items) (number_by (unless_hole of))
+      let size : length (map (number_by (unless_hole of)) (listed_items items)) ≡ length items = length-map (listed_items items) (number_by (unless_hole of))
       ∙ length-items_of items in
       ap (λ y. number_by (unless_hole of) (item_of y)) is ∙ sym (get_or-map (λ y. number_by (unless_hole of) (item_of y)) items (p - 1) x 0
       (omega (arith, place-within)))
-      ∙ number-at (unless_hole of) items p some place-within ∙ ap (λ k. get_or (map (number_by (unless_hole of)) (items_of items)) (k - p) 0) (sym size)
-      ∙ last-at (suc (suc n)) p (map (number_by (unless_hole of)) (items_of items)) at some
+      ∙ number-at (unless_hole of) items p some place-within ∙ ap (λ k. get_or (map (number_by (unless_hole of)) (listed_items items)) (k - p) 0) (sym size)
+      ∙ last-at (suc (suc n)) p (map (number_by (unless_hole of)) (listed_items items)) at some
 
   pub place-there : is_gone x ≡ false
   place-there = grind (arith, place-number)
 
-  pub place-told : is_some (told x) ≡ true
-  place-told = grind (arith, place-number)
+  pub place-stored_entry : is_some (stored_entry x) ≡ true
+  place-stored_entry = grind (arith, place-number)
 
 -- where the last entry of a node is
 abbrev pub node_place : ℕ → List (Listed ℕ) → ℕ
 node_place node items = place by_node (suc (suc node)) items
 
 -- as the numbers of the nodes tell it
-module _ (node number p : ℕ) (s : Slots) (l : IsListed s) (e : number ≡ suc (suc node)) (is : p ≡ last_up (λ k. k == number) s.nodes (length s.nodes)) where
-  pub placed : p ≡ node_place node (items_of s.items.items)
+module _ (node number p : ℕ) (s : Slots) (l : AreSlotsListed s) (e : number ≡ suc (suc node)) (is : p ≡ last_up (λ k. k == number) s.nodes (length s.nodes)) where
+  pub placed : p ≡ node_place node (listed_items s.items.items)
   placed = is ∙ last-is number s.nodes ∙ (λ i. last_of (e i) ((ap reverse l.nodes ∙ numbers-back by_node s.items.items) i))
 
   pub placed-within : p ≤ length s.items.items
-  placed-within = omega (arith, placed, place-le by_node (suc (suc node)) (items_of s.items.items), length-items_of s.items.items)
+  placed-within = omega (arith, placed, place-le by_node (suc (suc node)) (listed_items s.items.items), length-items_of s.items.items)
 
 pub entry_of-is : (node : ℕ) (items : List (Listed ℕ)) → entry_of node items ≡ option_and_then as_entry (find (is_entry node) items)
 entry_of-is node [] = refl
@@ -171,42 +171,42 @@ module _ (node : ℕ) (low : node < nowhere) where
       rw (lt-ltb (position_or_len (is_entry node) items) (length items) (omega (arith, place-le by_node (suc (suc node)) items))) (ap (λ k. Some k) first)
 
 -- whether it has one before its last one, as the numbers of the nodes tell it
-module _ (node number p q : ℕ) (low : node < nowhere) (s : Slots) (l : IsListed s) (e : number ≡ suc (suc node))
+module _ (node number p q : ℕ) (low : node < nowhere) (s : Slots) (l : AreSlotsListed s) (e : number ≡ suc (suc node))
     (is : p ≡ last_up (λ k. k == number) s.nodes (length s.nodes)) (some : 0 < p) where
   pub number-placed : get_or s.nodes (p - 1) 0 ≡ suc (suc node)
   number-placed = ap (λ k. get_or s.nodes (k - 1) 0) is ∙ eqb-true _ _ (up-found (λ k. k == number) s.nodes (length s.nodes) (omega (arith, is))) ∙ e
 
-  pub before-any : q ≡ last_up (λ k. k == get_or s.nodes (p - 1) 0) s.nodes (p - 1) → ltb 0 q ≡ list_any (is_entry node) (items_of (take (p - 1) s.items.items))
+  pub before-any : q ≡ last_up (λ k. k == get_or s.nodes (p - 1) 0) s.nodes (p - 1) → ltb 0 q ≡ list_any (is_entry node) (listed_items (take (p - 1) s.items.items))
   before-any before =
       let items = s.items.items in
       let within : p ≤ length s.nodes = omega (arith, is, up-within (λ k. k == number) s.nodes (length s.nodes)) in
-      let numbers : reverse (take (p - 1) s.nodes) ≡ map (number_by by_node) (items_of (take (p - 1) items)) =
+      let numbers : reverse (take (p - 1) s.nodes) ≡ map (number_by by_node) (listed_items (take (p - 1) items)) =
       ap (λ ns. reverse (take (p - 1) ns)) l.nodes ∙ ap reverse (take-map (λ i. number_by by_node (item_of i)) (p - 1) items)
       ∙ numbers-back by_node (take (p - 1) items)
       in
       ap (ltb 0) (before ∙ before-is (get_or s.nodes (p - 1) 0) s.nodes (p - 1) (omega (arith, within)) ∙ (λ i. last_of (number-placed i) (numbers i)))
-      ∙ node-any node low (items_of (take (p - 1) items)) (slots-are (take (p - 1) items) (All-take IsStored (p - 1) items l.stored))
+      ∙ node-any node low (listed_items (take (p - 1) items)) (slots-are (take (p - 1) items) (All-take IsStored (p - 1) items l.stored))
 
 pub no-position : {X : Type 0} (sought : X → Bool) (xs : List X) → list_any sought xs ≡ false → position sought xs ≡ None
 no-position sought xs none = grind (arith, is_some-position sought xs)
 
 -- the last ones of a vector, where there is no hole from an index on
-solid-from : (k : ℕ) (xs : List (Listed ℕ)) → ((j : ℕ) → j < k → j < length xs → is_hole (get_or xs j hole) ≡ false) → AllSolid k xs
+solid-from : (k : ℕ) (xs : List (Listed ℕ)) → ((j : ℕ) → j < k → j < length xs → is_listed_hole (get_or xs j hole) ≡ false) → AllSolid k xs
 solid-from zero xs there = tt
 solid-from (suc k) [] there = tt
 solid-from (suc k) (x ∷ xs) there = (there 0 (omega arith) (omega arith), solid-from k xs (λ j h w. there (suc j) (omega arith) (omega arith)))
 
 pub solid-end : (items : List Stored) (solid k : ℕ) → All IsStored items → ((i : ℕ) → solid ≤ i → i < length items → (x : Stored)
     → is_gone (get_or items i x) ≡ false)
-    → k ≤ length items - solid → AllSolid k (items_of items)
-solid-end items solid k all there h = solid-from k (items_of items) at
+    → k ≤ length items - solid → AllSolid k (listed_items items)
+solid-end items solid k all there h = solid-from k (listed_items items) at
   where
-    at : (j : ℕ) → j < k → j < length (items_of items) → is_hole (get_or (items_of items) j hole) ≡ false
+    at : (j : ℕ) → j < k → j < length (listed_items items) → is_listed_hole (get_or (listed_items items) j hole) ≡ false
     at j below within =
         let i = length items - suc j in
         let low : i < length items = omega (arith, length-items_of items) in
         let is : i + suc j ≡ length items = omega (arith, length-items_of items) in
-        ap is_hole (get_nearest item_of items i j stored.Hole hole is) ∙ gone-is (get_or items i stored.Hole) (all i stored.Hole low)
+        ap is_listed_hole (get_nearest item_of items i j stored.Hole hole is) ∙ gone-is (get_or items i stored.Hole) (all i stored.Hole low)
         ∙ there i (omega arith) low stored.Hole
 
 -- an index that was found for an item with this many after it
@@ -218,20 +218,20 @@ nth-up : (len index : ℕ) (o : Option ℕ) → ((up : ℕ) → o ≡ Some up �
 nth-up len index o within is = grind arith
 
 module _ (items : List Stored) (stored : All IsStored items) (back : ℕ) where
-  pub nth-missing : option_map (λ up. length items - 1 - up) (nth_live back (items_of items)) ≡ None → length (live (items_of items)) ≤ back
-  nth-missing is = nth-none back (items_of items) (none-map (λ up. length items - 1 - up) (nth_live back (items_of items)) is)
+  pub nth-missing : option_map (λ up. length items - 1 - up) (nth_live back (listed_items items)) ≡ None → length (live (listed_items items)) ≤ back
+  nth-missing is = nth-none back (listed_items items) (none-map (λ up. length items - 1 - up) (nth_live back (listed_items items)) is)
 
-  module _ (index : ℕ) (found : Some index ≡ option_map (λ up. length items - 1 - up) (nth_live back (items_of items))) where
-    pub nth-index : (up : ℕ) × ((nth_live back (items_of items) ≡ Some up) × (index + suc up ≡ length items))
+  module _ (index : ℕ) (found : Some index ≡ option_map (λ up. length items - 1 - up) (nth_live back (listed_items items))) where
+    pub nth-index : (up : ℕ) × ((nth_live back (listed_items items) ≡ Some up) × (index + suc up ≡ length items))
     nth-index = grind (arith, length-items_of, nth-up, nth-within)
 
-    pub nth-item : (x : Stored) → x ≡ get_or items index x → slice_get (items_of items) nth-index.0 ≡ Some (item_of x)
+    pub nth-item : (x : Stored) → x ≡ get_or items index x → slice_get (listed_items items) nth-index.0 ≡ Some (item_of x)
     nth-item x is = slice_get_nearest item_of items index nth-index.0 x nth-index.1.1 ∙ ap (λ y. Some (item_of y)) (sym is)
 
     pub nth-there : (x : Stored) → x ≡ get_or items index x → is_gone x ≡ false
     nth-there x is =
         let within : index < length items = omega (arith, nth-index.1.1) in
-        sym (gone-is x (subst IsStored (sym is) (stored index x within))) ∙ nth-real back nth-index.0 (items_of items) nth-index.1.0 (item_of x) (nth-item x is)
+        sym (gone-is x (subst IsStored (sym is) (stored index x within))) ∙ nth-real back nth-index.0 (listed_items items) nth-index.1.0 (item_of x) (nth-item x is)
 
 pub changed-marker : (up node : ℕ) (items : List (Listed ℕ)) → slice_get items up ≡ Some marker → changed_at up (for_node node) items ≡ items
 changed-marker up node [] is = refl
@@ -240,7 +240,7 @@ changed-marker zero node (i ∷ items) is = ap (λ (j : Listed ℕ). for_node no
 changed-marker (suc up) node (i ∷ items) is = ap (λ xs. i ∷ xs) (changed-marker up node items is)
 
 -- what belongs to no entry, and is no hole, is a marker
-pub marker-is : (x : Stored) → is_gone x ≡ false → is_some (told x) ≡ false → item_of x ≡ marker
+pub marker-is : (x : Stored) → is_gone x ≡ false → is_some (stored_entry x) ≡ false → item_of x ≡ marker
 marker-is x there h = grind arith
 
 pub length-live-le : (xs : List (Listed ℕ)) → length (live xs) ≤ length xs

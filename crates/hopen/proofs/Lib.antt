@@ -15,7 +15,7 @@ pub mod AllSpecial
 pub mod ItemLists
 pub mod Earliest
 pub mod Bookmarks
-pub mod Chained
+pub mod IndexSteps
 pub mod Listed
 pub mod SameHash
 pub mod ByHash

@@ -1,6 +1,6 @@
 -- The numbers of the items of a list.
-use Rattle.hopen.proofs.Names.{◌≡◌, ℕ, suc, ◌-◌, ◌<◌, ◌≤◌, nat_eq, eqb, Bool, true, false, cond, not, List, [], ◌∷◌, None, length, map, reverse, take, drop, filter, refl, sym, ◌∙◌, ap, arith, list_any, slice_get, option_and_then, reverse-reverse, length-map, eqb-suc-zero, eqb-zero-suc, without, EntryOf, Listed, marker, entry, as_entry, cleared, find_entry, item_of, items_of, nowhere, by_name, number_by, unless_hole, Stored, reverse-map, drop_nearest, last_place-le, nat_tests, map-map, after}
-use Rattle.hopen.proofs.Chained.{last_of}
+use Rattle.hopen.proofs.Names.{◌≡◌, ℕ, suc, ◌-◌, ◌<◌, ◌≤◌, nat_eq, eqb, Bool, true, false, cond, not, List, [], ◌∷◌, None, length, map, reverse, take, drop, filter, refl, sym, ◌∙◌, ap, arith, list_any, slice_get, option_and_then, reverse-reverse, length-map, eqb-suc-zero, eqb-zero-suc, without, EntryOf, Listed, marker, entry, as_entry, cleared, find_entry, item_of, listed_items, nowhere, by_name, number_by, unless_hole, Stored, reverse-map, drop_nearest, last_place-le, nat_tests, map-map, after}
+use Rattle.hopen.proofs.IndexSteps.{last_of}
 use Rattle.hopen.proofs.ItemLists.{length-items_of}
 
 module _ (of : EntryOf ℕ → ℕ) where
@@ -8,10 +8,10 @@ module _ (of : EntryOf ℕ → ℕ) where
   number i = number_by of (item_of i)
 
   -- the numbers as a search from the last item on meets them
-  pub numbers-back : (items : List Stored) → reverse (map number items) ≡ map (number_by of) (items_of items)
+  pub numbers-back : (items : List Stored) → reverse (map number items) ≡ map (number_by of) (listed_items items)
   numbers-back items = ap reverse (sym (map-map (number_by of) item_of items)) ∙ reverse-map (number_by of) (map item_of items)
 
-  pub numbers-seen : (items : List Stored) → map number items ≡ reverse (map (number_by of) (items_of items))
+  pub numbers-seen : (items : List Stored) → map number items ≡ reverse (map (number_by of) (listed_items items))
   numbers-seen items = sym (reverse-reverse (map number items)) ∙ ap reverse (numbers-back items)
 
   -- the place of the last item of a number
@@ -37,11 +37,11 @@ cleared-place of (entry e ∷ items) =
     rw (eqb-suc-zero (of e)) (cleared-place of items ∙ ap (λ n. drop n (entry e ∷ items)) (sym more))
 
 -- what is left before the last marker of a vector
-pub cleared-take : (items : List Stored) (len : ℕ) → len ≡ marker_place (items_of items) - 1 → cleared (items_of items) ≡ items_of (take len items)
+pub cleared-take : (items : List Stored) (len : ℕ) → len ≡ marker_place (listed_items items) - 1 → cleared (listed_items items) ≡ listed_items (take len items)
 cleared-take items len is =
-    let most : len ≤ length items = omega (arith, place-le by_name 0 (items_of items), length-items_of items) in
-    let up : length (items_of items) - (marker_place (items_of items) - 1) ≡ length items - len = omega (arith, length-items_of items) in
-    cleared-place by_name (items_of items) ∙ ap (λ n. drop n (items_of items)) up ∙ drop_nearest item_of items len (length items - len) (omega arith)
+    let most : len ≤ length items = omega (arith, place-le by_name 0 (listed_items items), length-items_of items) in
+    let up : length (listed_items items) - (marker_place (listed_items items) - 1) ≡ length items - len = omega (arith, length-items_of items) in
+    cleared-place by_name (listed_items items) ∙ ap (λ n. drop n (listed_items items)) up ∙ drop_nearest item_of items len (length items - len) (omega arith)
 
 -- numbers are the same where what they count is
 same-suc : (a b : ℕ) (v : Bool) → eqb a b ≡ v → eqb (suc a) (suc b) ≡ v

@@ -1,15 +1,15 @@
 -- Lists with holes: what is asked of the formatting elements and what is done with them are the same without the holes.
-use Rattle.hopen.proofs.Names.{◌≡◌, ℕ, zero, suc, ◌<◌, ◌≤◌, nat_eq, eqb, Bool, true, false, List, [], ◌∷◌, Option, Some, None, if◌then◌else◌, length, filter, refl, ap, arith, find, list_any, slice_get, option_map, eqb-true, ne_eqb, changed_at, EntryOf, Listed, marker, entry, after_marker, is_entry, entry_of, for_node, find_entry, nth_live, nowhere, is_hole, live, IsSlot, AreSlots, nat_tests}
+use Rattle.hopen.proofs.Names.{◌≡◌, ℕ, zero, suc, ◌<◌, ◌≤◌, nat_eq, eqb, Bool, true, false, List, [], ◌∷◌, Option, Some, None, if◌then◌else◌, length, filter, refl, ap, arith, find, list_any, slice_get, option_map, eqb-true, ne_eqb, changed_at, EntryOf, Listed, marker, entry, after_marker, is_entry, entry_of, for_node, find_entry, nth_live, nowhere, is_listed_hole, live, IsSlot, AreSlots, nat_tests}
 
 -- a number below nowhere is not that of a hole
 pub apart : (a b : ℕ) → a < nowhere → eqb b nowhere ≡ true → eqb a b ≡ false
 apart a b low h = let top : b ≡ nowhere = eqb-true b nowhere h in ne_eqb a b (λ same. omega arith)
 
-pub is_hole-for_node : (node : ℕ) (i : Listed ℕ) → is_hole (for_node node i) ≡ is_hole i
+pub is_hole-for_node : (node : ℕ) (i : Listed ℕ) → is_listed_hole (for_node node i) ≡ is_listed_hole i
 is_hole-for_node node i = grind arith
 
 -- questions of the entries after the last marker, none of which is sought in a hole
-module _ (sought : EntryOf ℕ → Bool) (spares : (e : EntryOf ℕ) → is_hole (entry e) ≡ true → sought e ≡ false) where
+module _ (sought : EntryOf ℕ → Bool) (spares : (e : EntryOf ℕ) → is_listed_hole (entry e) ≡ true → sought e ≡ false) where
   pub find_after-live : (xs : List (Listed ℕ)) → find sought (after_marker (live xs)) ≡ find sought (after_marker xs)
   find_after-live [] = refl
   find_after-live (marker ∷ xs) = refl
@@ -32,9 +32,9 @@ find-live name xs low = find_after-live (λ e. nat_eq name e.name) (λ e h. apar
 -- no hole of a list is sought
 abbrev pub Spares : (Listed ℕ → Bool) → List (Listed ℕ) → Type 0
 Spares sought [] = Unit {0}
-Spares sought (x ∷ xs) = (is_hole x ≡ true → sought x ≡ false) × Spares sought xs
+Spares sought (x ∷ xs) = (is_listed_hole x ≡ true → sought x ≡ false) × Spares sought xs
 
-spares-slot : (node : ℕ) (x : Listed ℕ) → IsSlot x → node < nowhere → is_hole x ≡ true → is_entry node x ≡ false
+spares-slot : (node : ℕ) (x : Listed ℕ) → IsSlot x → node < nowhere → is_listed_hole x ≡ true → is_entry node x ≡ false
 spares-slot node x s low h = grind (arith, nat_tests)
 
 -- the entry of a node is no hole
@@ -72,20 +72,20 @@ some_suc o up e = grind arith
 
 -- an induction along the items before it
 module _ (P : ℕ → List (Listed ℕ) → ℕ → Type 0)
-    (here : (x : Listed ℕ) (xs : List (Listed ℕ)) → is_hole x ≡ false → P 0 (x ∷ xs) 0)
-    (past : (n up : ℕ) (x : Listed ℕ) (xs : List (Listed ℕ)) → is_hole x ≡ true → P n xs up → P n (x ∷ xs) (suc up))
-    (over : (n up : ℕ) (x : Listed ℕ) (xs : List (Listed ℕ)) → is_hole x ≡ false → P n xs up → P (suc n) (x ∷ xs) (suc up)) where
+    (here : (x : Listed ℕ) (xs : List (Listed ℕ)) → is_listed_hole x ≡ false → P 0 (x ∷ xs) 0)
+    (past : (n up : ℕ) (x : Listed ℕ) (xs : List (Listed ℕ)) → is_listed_hole x ≡ true → P n xs up → P n (x ∷ xs) (suc up))
+    (over : (n up : ℕ) (x : Listed ℕ) (xs : List (Listed ℕ)) → is_listed_hole x ≡ false → P n xs up → P (suc n) (x ∷ xs) (suc up)) where
   along_nth : (n up : ℕ) (xs : List (Listed ℕ)) → nth_live n xs ≡ Some up → P n xs up
   along_nth n up [] e = cc
-  along_nth zero up (x ∷ xs) e = go (is_hole x) refl e (λ k. along_nth zero k xs)
+  along_nth zero up (x ∷ xs) e = go (is_listed_hole x) refl e (λ k. along_nth zero k xs)
     where
-      go : (v : Bool) → is_hole x ≡ v → (if v then option_map suc (nth_live zero xs) else Some 0) ≡ Some up
+      go : (v : Bool) → is_listed_hole x ≡ v → (if v then option_map suc (nth_live zero xs) else Some 0) ≡ Some up
           → ((k : ℕ) → nth_live zero xs ≡ Some k → P zero xs k) → P zero (x ∷ xs) up
       go true h e i = let s = some_suc (nth_live zero xs) up e in rw s.2 (past zero s.0 x xs h (i s.0 s.1))
       go false h e i = let first : up ≡ 0 = cc in rw first (here x xs h)
-  along_nth (suc n) up (x ∷ xs) e = go (is_hole x) refl e (λ k. along_nth (suc n) k xs) (λ k. along_nth n k xs)
+  along_nth (suc n) up (x ∷ xs) e = go (is_listed_hole x) refl e (λ k. along_nth (suc n) k xs) (λ k. along_nth n k xs)
     where
-      go : (v : Bool) → is_hole x ≡ v → (if v then option_map suc (nth_live (suc n) xs) else option_map suc (nth_live n xs)) ≡ Some up
+      go : (v : Bool) → is_listed_hole x ≡ v → (if v then option_map suc (nth_live (suc n) xs) else option_map suc (nth_live n xs)) ≡ Some up
           → ((k : ℕ) → nth_live (suc n) xs ≡ Some k → P (suc n) xs k) → ((k : ℕ) → nth_live n xs ≡ Some k → P n xs k)
           → P (suc n) (x ∷ xs) up
       go true h e i j = let s = some_suc (nth_live (suc n) xs) up e in rw s.2 (past (suc n) s.0 x xs h (i s.0 s.1))
@@ -97,14 +97,14 @@ nth-within = along_nth (λ n xs up. up < length xs) (λ x xs h. omega arith) (λ
 pub nth-get : (n up : ℕ) (xs : List (Listed ℕ)) → nth_live n xs ≡ Some up → slice_get (live xs) n ≡ slice_get xs up
 nth-get = along_nth (λ n xs up. slice_get (live xs) n ≡ slice_get xs up) (λ x xs h. rw h refl) (λ n up x xs h i. rw h i) (λ n up x xs h i. rw h i)
 
-pub nth-real : (n up : ℕ) (xs : List (Listed ℕ)) → nth_live n xs ≡ Some up → (x : Listed ℕ) → slice_get xs up ≡ Some x → is_hole x ≡ false
-nth-real = along_nth (λ n xs up. (x : Listed ℕ) → slice_get xs up ≡ Some x → is_hole x ≡ false) first (λ n up x xs h i. i) (λ n up x xs h i. i)
+pub nth-real : (n up : ℕ) (xs : List (Listed ℕ)) → nth_live n xs ≡ Some up → (x : Listed ℕ) → slice_get xs up ≡ Some x → is_listed_hole x ≡ false
+nth-real = along_nth (λ n xs up. (x : Listed ℕ) → slice_get xs up ≡ Some x → is_listed_hole x ≡ false) first (λ n up x xs h i. i) (λ n up x xs h i. i)
   where
-    first : (x : Listed ℕ) (xs : List (Listed ℕ)) → is_hole x ≡ false → (y : Listed ℕ) → ◌≡◌ {A = Option (Listed ℕ)} (Some x) (Some y)
-        → is_hole y ≡ false
+    first : (x : Listed ℕ) (xs : List (Listed ℕ)) → is_listed_hole x ≡ false → (y : Listed ℕ) → ◌≡◌ {A = Option (Listed ℕ)} (Some x) (Some y)
+        → is_listed_hole y ≡ false
     first x xs h y e = let same : x ≡ y = cc in rw (← same) h
 
-pub nth-changed : (f : Listed ℕ → Listed ℕ) → ((i : Listed ℕ) → is_hole (f i) ≡ is_hole i) → (n up : ℕ) (xs : List (Listed ℕ))
+pub nth-changed : (f : Listed ℕ → Listed ℕ) → ((i : Listed ℕ) → is_listed_hole (f i) ≡ is_listed_hole i) → (n up : ℕ) (xs : List (Listed ℕ))
     → nth_live n xs ≡ Some up → changed_at n f (live xs) ≡ live (changed_at up f xs)
 nth-changed f same = along_nth (λ n xs up. changed_at n f (live xs) ≡ live (changed_at up f xs))
     (λ x xs h. rw (same x, h) refl) (λ n up x xs h i. rw h i) (λ n up x xs h i. rw h (ap (λ l. x ∷ l) i))
@@ -121,7 +121,7 @@ nth-none (suc n) (x ∷ xs) e = grind (arith, nth-none (suc n) xs, nth-none n xs
 abbrev pub AllSolid : ℕ → List (Listed ℕ) → Type 0
 AllSolid zero xs = Unit {0}
 AllSolid (suc k) [] = Unit {0}
-AllSolid (suc k) (x ∷ xs) = (is_hole x ≡ false) × AllSolid k xs
+AllSolid (suc k) (x ∷ xs) = (is_listed_hole x ≡ false) × AllSolid k xs
 
 pub nth-solid : (k n : ℕ) (xs : List (Listed ℕ)) → AllSolid k xs → n < k → k ≤ length xs → nth_live n xs ≡ Some n
 nth-solid zero n xs s below within = absurd (omega arith)

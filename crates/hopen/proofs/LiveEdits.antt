@@ -1,9 +1,9 @@
 -- Edits of lists with holes: what is left without the holes, and that each item is still a marker, an entry or the hole.
-use Rattle.hopen.proofs.Names.{arith, ◌≡◌, ℕ, zero, suc, ◌<◌, nat_eq, Bool, true, false, cond, not, List, [], ◌∷◌, Option, Some, None, refl, ◌∙◌, ap, find, remove, option_map_or, without, put_before, changed_at, EntryOf, Listed, marker, entry, cleared, is_entry, for_node, with_node, booked, has_bookmark, without_earliest, with_room, nowhere, hole, is_hole, live, AreSlots, Bookmark, InPlace, After, changed}
+use Rattle.hopen.proofs.Names.{arith, ◌≡◌, ℕ, zero, suc, ◌<◌, nat_eq, Bool, true, false, cond, not, List, [], ◌∷◌, Option, Some, None, refl, ◌∙◌, ap, find, remove, option_map_or, without, item_put_before, changed_at, EntryOf, Listed, marker, entry, cleared, is_entry, for_node, with_node, booked, has_bookmark, without_earliest, with_room, nowhere, hole, is_listed_hole, live, AreSlots, Bookmark, InPlace, After, changed}
 use Rattle.hopen.proofs.Live.{apart, is_hole-for_node, Spares, spares-node, find_is-live, any-live, any_after-live, filter_after-live}
 
 pub live-cons : (x : Listed ℕ) (xs ys : List (Listed ℕ)) → live xs ≡ live ys → live (x ∷ xs) ≡ live (x ∷ ys)
-live-cons x xs ys same = ap (λ l. cond (not (is_hole x)) (x ∷ l) l) same
+live-cons x xs ys same = ap (λ l. cond (not (is_listed_hole x)) (x ∷ l) l) same
 
 -- up to the last marker
 pub cleared-live : (xs : List (Listed ℕ)) → cleared (live xs) ≡ live (cleared xs)
@@ -12,7 +12,7 @@ cleared-live (marker ∷ xs) = refl
 cleared-live (entry e ∷ xs) = grind (arith, cleared-live xs)
 
 -- room for a new entry
-module _ (sought : EntryOf ℕ → Bool) (spares : (e : EntryOf ℕ) → is_hole (entry e) ≡ true → sought e ≡ false) where
+module _ (sought : EntryOf ℕ → Bool) (spares : (e : EntryOf ℕ) → is_listed_hole (entry e) ≡ true → sought e ≡ false) where
   pub earliest-live : (xs : List (Listed ℕ)) → without_earliest sought (live xs) ≡ live (without_earliest sought xs)
   earliest-live [] = refl
   earliest-live (marker ∷ xs) = refl
@@ -30,7 +30,7 @@ hide-live (suc k) (x ∷ xs) = live-cons x (changed_at k (λ _. hole) xs) (remov
 
 -- edits at the nearest that is sought, where no hole is
 module _ (sought : Listed ℕ → Bool) where
-  pub changed_spared : (f : Listed ℕ → Listed ℕ) → ((i : Listed ℕ) → is_hole (f i) ≡ is_hole i) → (xs : List (Listed ℕ)) → Spares sought xs
+  pub changed_spared : (f : Listed ℕ → Listed ℕ) → ((i : Listed ℕ) → is_listed_hole (f i) ≡ is_listed_hole i) → (xs : List (Listed ℕ)) → Spares sought xs
       → changed sought f (live xs) ≡ live (changed sought f xs)
   changed_spared f same [] s = refl
   changed_spared f same (x ∷ xs) s = grind (arith, changed_spared f same xs s.1)
@@ -39,13 +39,13 @@ module _ (sought : Listed ℕ → Bool) where
   without_spared [] s = refl
   without_spared (x ∷ xs) s = grind (arith, without_spared xs s.1)
 
-  pub put_spared : (new : Listed ℕ) → is_hole new ≡ false → (xs : List (Listed ℕ)) → Spares sought xs
-      → put_before sought new (live xs) ≡ live (put_before sought new xs)
+  pub put_spared : (new : Listed ℕ) → is_listed_hole new ≡ false → (xs : List (Listed ℕ)) → Spares sought xs
+      → item_put_before sought new (live xs) ≡ live (item_put_before sought new xs)
   put_spared new real [] s = refl
   put_spared new real (x ∷ xs) s = grind (arith, put_spared new real xs s.1)
 
   -- what is found is no hole
-  pub found_real : (x : Listed ℕ) (xs : List (Listed ℕ)) → Spares sought xs → find sought xs ≡ Some x → is_hole x ≡ false
+  pub found_real : (x : Listed ℕ) (xs : List (Listed ℕ)) → Spares sought xs → find sought xs ≡ Some x → is_listed_hole x ≡ false
   found_real x [] s found = cc
   found_real x (y ∷ xs) s found = grind (arith, found_real x xs s.1)
 
@@ -76,11 +76,11 @@ booked-live old new InPlace xs s low in_list = with_node-live old xs s low new
 booked-live old new (After n) xs s low in_list = rw (find_is-live old xs s low, without1-live old xs s low) (go (find (is_entry old) xs) refl)
   where
     go : (o : Option (Listed ℕ)) → find (is_entry old) xs ≡ o
-        → option_map_or (λ i. put_before (is_entry n) (for_node new i) (live (without (is_entry old) xs))) o (live xs)
-        ≡ live (option_map_or (λ i. put_before (is_entry n) (for_node new i) (without (is_entry old) xs)) o xs)
+        → option_map_or (λ i. item_put_before (is_entry n) (for_node new i) (live (without (is_entry old) xs))) o (live xs)
+        ≡ live (option_map_or (λ i. item_put_before (is_entry n) (for_node new i) (without (is_entry old) xs)) o xs)
     go None found = refl
     go (Some i) found =
-        let real : is_hole i ≡ false = found_real (is_entry old) i xs (spares-node old xs s low) found in
+        let real : is_listed_hole i ≡ false = found_real (is_entry old) i xs (spares-node old xs s low) found in
         let left : Spares (is_entry n) (without (is_entry old) xs) = spares-node n (without (is_entry old) xs) (slots-without (is_entry old) xs s) in_list in
         put_spared (is_entry n) (for_node new i) (is_hole-for_node new i ∙ real) (without (is_entry old) xs) left
 

@@ -1,8 +1,8 @@
 -- Exchanges in a list and what a run of them does; an entry that becomes that of another node, and where an entry
 -- is among the others.
-use Rattle.hopen.proofs.Names.{◌≡◌, ◌≢◌, ℕ, zero, suc, ◌+◌, ◌-◌, ◌<◌, ◌≤◌, ◌==◌, ◌⊎◌, inl, Bool, true, false, IsTrue, cond, eqb, List, [], ◌∷◌, ◌++◌, Option, Some, is_some, length, get_or, set, take, drop, map, reverse, refl, sym, ◌∙◌, ap, arith, subst, All, insert, list_any, position, remove, swap, swap_is, length-swap, eqb-zero-suc, append_assoc, drop-set-lt, get_or-map, get_or-reverse, get_or-set_other, length-append, length-map, length-reverse, length-set, length-take-le, map-set, reverse-append, All-get_or, All-head, All-set, All-tail, last_up, none, EntryOf, for_node, is_entry, IsStored, entry_is, is_gone, item_of, items_of, nowhere, renamed, told, DefaultHasher, IsListed, by_hash, by_name, by_node, number_by, numbers_by, changed_at, put_before, last_place, Stored, Slots, reverse-map, set_nearest, last_place-le, nat_tests, get_or-set_same, set-get_or, set-set, set_split, take-set, insert_nearest, position_nearest, position-none, position-some}
+use Rattle.hopen.proofs.Names.{◌≡◌, ◌≢◌, ℕ, zero, suc, ◌+◌, ◌-◌, ◌<◌, ◌≤◌, ◌==◌, ◌⊎◌, inl, Bool, true, false, IsTrue, cond, eqb, List, [], ◌∷◌, ◌++◌, Option, Some, is_some, length, get_or, set, take, drop, map, reverse, refl, sym, ◌∙◌, ap, arith, subst, All, insert, list_any, position, remove, swap, swap_is, length-swap, eqb-zero-suc, append_assoc, drop-set-lt, get_or-map, get_or-reverse, get_or-set_other, length-append, length-map, length-reverse, length-set, length-take-le, map-set, reverse-append, All-get_or, All-head, All-set, All-tail, last_up, none, EntryOf, for_node, is_entry, IsStored, entry_is, is_gone, item_of, listed_items, nowhere, moved_entry, stored_entry, DefaultHasher, AreSlotsListed, by_hash, by_name, by_node, number_by, numbers_by, changed_at, item_put_before, last_place, Stored, Slots, reverse-map, set_nearest, last_place-le, nat_tests, get_or-set_same, set-get_or, set-set, set_split, take-set, insert_nearest, position_nearest, position-none, position-some}
 use Rattle.hopen.specs.declared.entry.Slot.TheVariants as stored
-use Rattle.hopen.proofs.Chained.{last-is}
+use Rattle.hopen.proofs.IndexSteps.{last-is}
 use Rattle.hopen.proofs.ItemLists.{not_missing}
 use Rattle.hopen.proofs.Listed.{number-same}
 
@@ -53,7 +53,7 @@ abbrev pub NoHoleFrom : ℕ → List Stored → Type 0
 NoHoleFrom from items = (i : ℕ) → from ≤ i → i < length items → (x : Stored) → is_gone (get_or items i x) ≡ false
 
 -- what is kept of the list, where all is exchanged alike
-module _ (i j : ℕ) (old new : Slots) (listed : IsListed old) (low : i < length old.items.items) (high : j < length old.items.items) where
+module _ (i j : ℕ) (old new : Slots) (listed : AreSlotsListed old) (low : i < length old.items.items) (high : j < length old.items.items) where
   numbers-exchanged : (of : EntryOf ℕ → ℕ) (numbers : List ℕ) → numbers ≡ numbers_by of old.items.items
       → exchanged numbers i j 0 ≡ numbers_by of (exchanged old.items.items i j stored.Hole)
   numbers-exchanged of numbers are = ap (λ ns. exchanged ns i j 0) are ∙ sym (map-exchanged
@@ -62,7 +62,7 @@ module _ (i j : ℕ) (old new : Slots) (listed : IsListed old) (low : i < length
   pub listed-exchanged : new.keys ≡ old.keys → new.names ≡ exchanged old.names i j 0 → (is_some old.keys ≡ true → new.hashes ≡ exchanged old.hashes i j 0)
       → new.nodes ≡ exchanged old.nodes i j 0
       → new.items.items ≡ swap old.items.items i j → (old.solid ≤ new.solid) × (i < new.solid) × (j < new.solid) × (new.solid ≤ length old.items.items)
-      → IsListed new
+      → AreSlotsListed new
   listed-exchanged keys names hashes nodes items bounds =
       let xs = old.items.items in
       let now : new.items.items ≡ exchanged xs i j stored.Hole = items ∙ sym (swap_is xs i j stored.Hole low high) in
@@ -81,61 +81,61 @@ module _ (i j : ℕ) (old new : Slots) (listed : IsListed old) (low : i < length
 
 -- an entry that becomes that of another node
 module _ (node : ℕ) where
-  renamed-name : (x : Stored) → number_by by_name (item_of (renamed node x)) ≡ number_by by_name (item_of x)
+  renamed-name : (x : Stored) → number_by by_name (item_of (moved_entry node x)) ≡ number_by by_name (item_of x)
   renamed-name x = grind arith
 
-  renamed-hash : (keys : Option DefaultHasher) (x : Stored) → number_by (by_hash keys) (item_of (renamed node x)) ≡ number_by (by_hash keys) (item_of x)
+  renamed-hash : (keys : Option DefaultHasher) (x : Stored) → number_by (by_hash keys) (item_of (moved_entry node x)) ≡ number_by (by_hash keys) (item_of x)
   renamed-hash keys x = grind arith
 
-  renamed-node : (x : Stored) → is_some (told x) ≡ true → IsStored x → number_by by_node (item_of (renamed node x)) ≡ suc (suc node)
+  renamed-node : (x : Stored) → is_some (stored_entry x) ≡ true → IsStored x → number_by by_node (item_of (moved_entry node x)) ≡ suc (suc node)
   renamed-node x some is = grind (arith, nat_tests)
 
-  renamed-gone : (x : Stored) → is_gone (renamed node x) ≡ is_gone x
+  renamed-gone : (x : Stored) → is_gone (moved_entry node x) ≡ is_gone x
   renamed-gone x = grind arith
 
-  renamed-stored : (x : Stored) → node < nowhere → IsStored x → IsStored (renamed node x)
+  renamed-stored : (x : Stored) → node < nowhere → IsStored x → IsStored (moved_entry node x)
   renamed-stored x low is = grind arith
 
-  pub renamed-item : (x : Stored) → is_some (told x) ≡ true → item_of (renamed node x) ≡ for_node node (item_of x)
+  pub renamed-item : (x : Stored) → is_some (stored_entry x) ≡ true → item_of (moved_entry node x) ≡ for_node node (item_of x)
   renamed-item x some = grind arith
 
   -- a write that leaves what a member is seen as
   map-set_same : {X Y : Type 0} (f : X → Y) (xs : List X) (i : ℕ) (d y : X) → i < length xs → f y ≡ f (get_or xs i d) → map f (set xs i y) ≡ map f xs
   map-set_same f xs i d y h same = map-set f xs i y ∙ ap (set (map f xs) i) (same ∙ sym (get_or-map f xs i d (f d) h)) ∙ set-get_or (map f xs) i (f d)
 
-  module _ (items : List Stored) (i : ℕ) (h : i < length items) (some : is_some (told (get_or items i stored.Hole)) ≡ true) where
+  module _ (items : List Stored) (i : ℕ) (h : i < length items) (some : is_some (stored_entry (get_or items i stored.Hole)) ≡ true) where
     abbrev there : Stored
     there = get_or items i stored.Hole
 
     abbrev now : List Stored
-    now = set items i (renamed node there)
+    now = set items i (moved_entry node there)
 
-    same-by : {Y : Type 0} (f : Stored → Y) → f (renamed node there) ≡ f there → map f now ≡ map f items
-    same-by f same = map-set_same f items i stored.Hole (renamed node there) h same
+    same-by : {Y : Type 0} (f : Stored → Y) → f (moved_entry node there) ≡ f there → map f now ≡ map f items
+    same-by f same = map-set_same f items i stored.Hole (moved_entry node there) h same
 
     renewed-solid : (solid : ℕ) → NoHoleFrom solid items → NoHoleFrom solid now
     renewed-solid solid all k from l x =
-        let within : k < length items = omega (arith, length-set items i (renamed node there)) in
+        let within : k < length items = omega (arith, length-set items i (moved_entry node there)) in
         sym (get_or-map is_gone now k x true l) ∙ ap (λ bs. get_or bs k true) (same-by is_gone (renamed-gone there))
         ∙ get_or-map is_gone items k x true within ∙ all k from within x
 
     -- its place in the list, as that is seen from the last item on
-    pub renewed-items : items_of now ≡ changed_at (length items - 1 - i) (for_node node) (items_of items)
-    renewed-items = set_nearest item_of (for_node node) items i (length items - 1 - i) stored.Hole (renamed node there) (omega arith) (renamed-item there some)
+    pub renewed-items : listed_items now ≡ changed_at (length items - 1 - i) (for_node node) (listed_items items)
+    renewed-items = set_nearest item_of (for_node node) items i (length items - 1 - i) stored.Hole (moved_entry node there) (omega arith) (renamed-item there some)
 
 -- what is kept of the list stays so
-pub listed-renewed : (node i : ℕ) (old new : Slots) → IsListed old → new.keys ≡ old.keys → i < length old.items.items
-    → is_some (told (get_or old.items.items i stored.Hole)) ≡ true → node < nowhere
+pub listed-renewed : (node i : ℕ) (old new : Slots) → AreSlotsListed old → new.keys ≡ old.keys → i < length old.items.items
+    → is_some (stored_entry (get_or old.items.items i stored.Hole)) ≡ true → node < nowhere
     → new.names ≡ old.names → new.hashes ≡ old.hashes → new.nodes ≡ set (set old.nodes i none) i (suc (suc node)) → new.solid ≡ old.solid
-    → new.items.items ≡ set old.items.items i (renamed node (get_or old.items.items i stored.Hole)) → IsListed new
+    → new.items.items ≡ set old.items.items i (moved_entry node (get_or old.items.items i stored.Hole)) → AreSlotsListed new
 listed-renewed node i old new listed keys h some low names hashes nodes solid items =
     let xs = old.items.items in
     let x = get_or xs i stored.Hole in
     let stored : IsStored x = All-get_or IsStored xs i stored.Hole h listed.stored in
-    let ns : set (set old.nodes i none) i (suc (suc node)) ≡ numbers_by by_node (set xs i (renamed node x)) =
+    let ns : set (set old.nodes i none) i (suc (suc node)) ≡ numbers_by by_node (set xs i (moved_entry node x)) =
     set-set old.nodes i none (suc (suc node)) ∙ ap (λ l. set l i (suc (suc node))) listed.nodes
     ∙ ap (set (numbers_by by_node xs) i) (sym (renamed-node node x some stored))
-    ∙ sym (map-set (λ y. number_by by_node (item_of y)) xs i (renamed node x)) in
+    ∙ sym (map-set (λ y. number_by by_node (item_of y)) xs i (moved_entry node x)) in
     record {
       names = names ∙ listed.names ∙ sym (same-by node xs i h some (λ y. number_by by_name (item_of y)) (renamed-name node x))
           ∙ ap (numbers_by by_name) (sym items);
@@ -143,8 +143,8 @@ listed-renewed node i old new listed keys h some low names hashes nodes solid it
           (λ y. number_by (by_hash old.keys) (item_of y)) (renamed-hash node old.keys x))
           ∙ (λ j. numbers_by (by_hash (sym keys j)) (sym items j));
       nodes = nodes ∙ ns ∙ ap (numbers_by by_node) (sym items);
-      stored = subst (All IsStored) (sym items) (All-set IsStored xs i (renamed node x) (renamed-stored node x low stored) listed.stored);
-      within = omega (arith, solid, ap length items, length-set xs i (renamed node x), listed.within);
+      stored = subst (All IsStored) (sym items) (All-set IsStored xs i (moved_entry node x) (renamed-stored node x low stored) listed.stored);
+      within = omega (arith, solid, ap length items, length-set xs i (moved_entry node x), listed.within);
       solid = subst (λ n. NoHoleFrom n new.items.items) (sym solid) (subst (NoHoleFrom old.solid) (sym items)
           (renewed-solid node xs i h some old.solid listed.solid));
     }
@@ -209,16 +209,16 @@ module _ (mark : ℕ) (low : mark < nowhere) where
 
 -- an item that is put right after the entry of the mark
 pub insert-after : (mark : ℕ) (rest : List Stored) (y : Stored) (to : ℕ) → to ≡ last_place (λ x. is_entry mark (item_of x)) (reverse rest)
-    → IsTrue (list_any (is_entry mark) (items_of rest))
-    → items_of (insert rest to y) ≡ put_before (is_entry mark) (item_of y) (items_of rest)
+    → IsTrue (list_any (is_entry mark) (listed_items rest))
+    → listed_items (insert rest to y) ≡ item_put_before (is_entry mark) (item_of y) (listed_items rest)
 insert-after mark rest y zero is there =
     absurd (not_missing mark rest there (position_nearest item_of (is_entry mark) rest
     ∙ position-none (λ x. is_entry mark (item_of x)) (reverse rest) (sym is)))
 insert-after mark rest y (suc i) is there =
-    let found : position (is_entry mark) (items_of rest) ≡ Some (length (reverse rest) - 1 - i) = position_nearest item_of (is_entry mark) rest
+    let found : position (is_entry mark) (listed_items rest) ≡ Some (length (reverse rest) - 1 - i) = position_nearest item_of (is_entry mark) rest
     ∙ position-some (λ x. is_entry mark (item_of x)) (reverse rest) i (sym is) in
     let next : suc i ≡ i + 1 = omega arith in
-    ap (λ n. items_of (insert rest n y)) next
+    ap (λ n. listed_items (insert rest n y)) next
     ∙ insert_nearest item_of (is_entry mark) rest i (length (reverse rest) - 1 - i) y found
     (omega (arith, length-reverse rest, last_place-le (λ x. is_entry mark (item_of x)) (reverse rest)))
 
@@ -227,13 +227,13 @@ pub remove-set : {X : Type 0} (xs : List X) (i : ℕ) (y : X) → remove (set xs
 remove-set xs i y = ap (λ l. l ++ drop (suc i) (set xs i y)) (take-set xs i y) ∙ ap (λ l. take i xs ++ l) (drop-set-lt (suc i) xs i y (omega arith))
 
 -- an entry that becomes that of another node, and is put right after the entry of the mark
-pub moved-after : (node mark : ℕ) (items : List Stored) (i to : ℕ) (y : Stored) → i < length items → is_some (told (get_or items i stored.Hole)) ≡ true
-    → y ≡ renamed node (get_or items i stored.Hole)
-    → to ≡ last_place (λ x. is_entry mark (item_of x)) (reverse (remove items i)) → IsTrue (list_any (is_entry mark) (items_of (remove items i)))
-    → items_of (insert (remove (set items i y) i) to (get_or (set items i y) i stored.Hole))
-    ≡ put_before (is_entry mark) (for_node node (item_of (get_or items i stored.Hole))) (items_of (remove items i))
+pub moved-after : (node mark : ℕ) (items : List Stored) (i to : ℕ) (y : Stored) → i < length items → is_some (stored_entry (get_or items i stored.Hole)) ≡ true
+    → y ≡ moved_entry node (get_or items i stored.Hole)
+    → to ≡ last_place (λ x. is_entry mark (item_of x)) (reverse (remove items i)) → IsTrue (list_any (is_entry mark) (listed_items (remove items i)))
+    → listed_items (insert (remove (set items i y) i) to (get_or (set items i y) i stored.Hole))
+    ≡ item_put_before (is_entry mark) (for_node node (item_of (get_or items i stored.Hole))) (listed_items (remove items i))
 moved-after node mark items i to y within entry new is there =
-    ap items_of (ap (λ l. insert l to (get_or (set items i y) i stored.Hole)) (remove-set items i y)
+    ap listed_items (ap (λ l. insert l to (get_or (set items i y) i stored.Hole)) (remove-set items i y)
     ∙ ap (insert (remove items i) to) (get_or-set_same items i y stored.Hole within ∙ new))
-    ∙ insert-after mark (remove items i) (renamed node (get_or items i stored.Hole)) to is there
-    ∙ ap (λ x. put_before (is_entry mark) x (items_of (remove items i))) (renamed-item node (get_or items i stored.Hole) entry)
+    ∙ insert-after mark (remove items i) (moved_entry node (get_or items i stored.Hole)) to is there
+    ∙ ap (λ x. item_put_before (is_entry mark) x (listed_items (remove items i))) (renamed-item node (get_or items i stored.Hole) entry)

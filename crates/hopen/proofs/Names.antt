@@ -2,26 +2,26 @@
 pub use Rattle.hnodes.proofs.Images.{find-map, after-map, any-map, before-map, changed-map, position-map, put_before-map, without-map, all-map, changed_at-map, filter-map}
 pub use Rattle.hnodes.proofs.LastUp.{up-sought, up-other, up-found, up-within, up-past, up-alike, up-least}
 pub use Rattle.hnodes.proofs.Nearest.{no_words, words, remove_nearest, insert_nearest, slice_get_nearest, is_some-position, change_nearest, length-without, position_is, position_within, remove_run_nearest, reverse-map, reverse_push, take_nearest, drop_nearest, set_nearest, changed_at_past, get_nearest, position_nearest, reverse_split}
-pub use Rattle.hnodes.proofs.Places.{last_place-le, position-some, position-none, all-places}
+pub use Rattle.hnodes.proofs.Places.{last_place-le, position-some, position-none}
 pub use Rattle.hnodes.proofs.Tables.{drop-more, take-more}
-pub use Rattle.hnodes.specs.Chains.{last_up, none}
+pub use Rattle.hnodes.specs.IndexedList.{last_up, none}
 pub use Rattle.hnodes.specs.Forest.{Attribute}
-pub use Rattle.hnodes.specs.Nearest.{put_before, without, after, before, changed, changed_at}
+pub use Rattle.hnodes.specs.Nearest.{item_put_before, without, after, before, changed, changed_at}
 pub use Rattle.hnodes.specs.Places.{last_place, SaysPlaces}
 pub use Rattle.hnodes.specs.Rows.{attribute_of}
-pub use Rattle.hnodes.specs.Spelled.{spelled_attribute}
+pub use Rattle.hnodes.specs.Mapped.{mapped_attribute}
 pub use Rattle.hopen.specs.Formatting.{Listed, marker, entry, entry_of, is_entry, is_of_node, has_bookmark, EntryOf, as_entry, after_marker, without_earliest, most_equal, is_equal, with_room, for_node, cleared, find_entry, with_node, booked, pushed, are_among, same_attribute, entry_at, without_entry, entries}
-pub use Rattle.hopen.specs.FormattingSpelled.{FormattingKnowsNoNames, spelled_entry, spelled_item, spelled_items}
-pub use Rattle.hopen.specs.Hashes.{entry_hash, distinct, hash_of, put_in, token_hash}
+pub use Rattle.hopen.specs.FormattingMapped.{FormattingKnowsNoNames, mapped_entry, mapped_item, mapped_items}
+pub use Rattle.hopen.specs.Hashes.{entry_hash, distinct, hash_of, hash_put_in, token_hash}
 pub use Rattle.hopen.specs.Holes.{nth_live}
-pub use Rattle.hopen.specs.Items.{item_of, items_of, IsStored, entry_is, is_gone, nowhere, AreSlots, IsSlot, hole, is_hole, live, told, renamed}
-pub use Rattle.hopen.specs.Kept.{opened_by, Stands, Rests, EndsOpen, names_in, name_in, same_name_of, stack_of, slots_of, same_node_of, node_in, AreIn, IsIn, sets_at, kind_at, kind_of, closing, closing_in, nodes_in, IsLinked, last_same, exchanged, level_exchanged, AreHoles, IsHeld, KeepSets, nearest_in, nearest_up, CanGiveWay, IsAlone, IsBelow, AreAlike, AreAlikeButNames, AreAsLong, CanPass, StandsAs, HasRoom, is_hole as is_hole_kind}
-pub use Rattle.hopen.specs.Listed.{number_by, IsListed, by_hash, by_name, by_node, numbers_by, unless_hole}
+pub use Rattle.hopen.specs.Items.{item_of, listed_items, IsStored, entry_is, is_gone, nowhere, AreSlots, IsSlot, hole, is_listed_hole, live, stored_entry, moved_entry}
+pub use Rattle.hopen.specs.Kept.{opened_by, LevelsStand, Rests, EndsOpen, names_in, open_name, same_name_of, stack_of, slots_of, same_node_of, node_in, AreIn, IsInSets, sets_at, kept_kind_at, kept_kind, closing, closing_in, nodes_in, IsLinked, last_same, exchanged, level_exchanged, AreHoles, IsHeldLevel, KeepSets, nearest_in, nearest_up, CanGiveWay, IsAlone, IsBelow, AreAlike, AreAlikeButNames, AreAsLong, CanPass, StandsAs, HasRoom, is_hole as is_hole_kind}
+pub use Rattle.hopen.specs.Listed.{number_by, AreSlotsListed, by_hash, by_name, by_node, numbers_by, unless_hole}
 pub use Rattle.hopen.specs.NameSets.{set_node, holds, is_in_set, is_in}
 pub use Rattle.hopen.specs.Opens.{open_of, is_sought}
-pub use Rattle.hopen.specs.Scopes.{is_named, is_of, is_of_group, stops, stops_in}
+pub use Rattle.hopen.specs.Scopes.{is_named, is_of, is_of_group, stops_in_scope, stops_in}
 pub use Rattle.hopen.specs.Slots.{somes, holds_one}
-pub use Rattle.hopen.specs.Spelled.{StackKnowsNoNames, spelled_open, spelled_stack}
+pub use Rattle.hopen.specs.Mapped.{StackKnowsNoNames, mapped_open, mapped_stack}
 pub use Rattle.hopen.specs.Stack.{is_node, OpenNodes, OpenNode, furthest_block, current, in_scope, is_open, topmost_special, above, below}
 pub use Rattle.hopen.specs.StackView.{open_nodes_of}
 pub use Rattle.hopen.specs.declared.bookmark.Bookmark.{Bookmark}
@@ -56,7 +56,7 @@ pub use Rattle.std.proofs.lemmas.Iterator.{YieldsList-from_slice}
 pub use Rattle.std.proofs.lemmas.Iterator.Adapters.{option_map_id}
 pub use Rattle.std.proofs.lemmas.Iterator.Consumers.{YieldsList-from_filter_map, nth_from_yields_List}
 pub use Rattle.std.proofs.lemmas.Iterator.Search.{any_from_yields_List, all_from_yields_List}
-pub use Rattle.std.proofs.lemmas.List.{length-map, map-set, length-set, length-reverse, get_or-map, get_or-set_other, get_or_past, map-append, get_or-set_same, get_or_default, with_items_is, drop_at, length-take-le, take-map, drop-map, reverse-append, reverse-reverse, drop-drop, length-drop, take_all, drop-set, drop-set-lt, get_or_append_left, get_or_push, take_more_set, take_rest, get_or-reverse, append-nil, append_assoc, get_or_read, drop_more, get_or-append_right, get_or-drop, get_or-take, set-get_or, set-set, set_split, take-append-drop, take-set, take-set-le, take_at, take_more, map-id}
+pub use Rattle.std.proofs.lemmas.List.{length-map, map-set, length-set, length-reverse, get_or-map, get_or-set_other, get_or_past, map-append, get_or-set_same, get_or_default, with_items_is, drop_at, length-take-le, take-map, drop-map, reverse-append, reverse-reverse, drop-drop, length-drop, take_all, drop-set, drop-set-lt, get_or_append_left, get_or_push, take_more_set, take_rest, get_or-reverse, append-nil, append_assoc, get_or_read, drop_more, get_or-append_right, get_or-drop, get_or-take, set-get_or, set-set, set_comm, set_split, take-append-drop, take-set, take-set-le, take_at, take_more, map-id}
 pub use Rattle.std.proofs.lemmas.List.Edits.{length-insert, length-remove, swap_is, between_more, length-swap, swapped_from_swap}
 pub use Rattle.std.proofs.lemmas.List.Elements.{All-append, All-drop, All-get_or, All-head, All-tail, All-take, filter-append, All-set, All-filter, filter_passes}
 pub use Rattle.std.proofs.lemmas.List.Filters.{dedup_is}

@@ -1,10 +1,10 @@
 -- What the table says of a node's level.
-use Rattle.hopen.proofs.Names.{◌≡◌, ◌≢◌, ℕ, ◌-◌, ◌<◌, ◌≤◌, true, List, Some, None, length, map, reverse, get_or, set, sym, ◌∙◌, ap, ltb, ltb-true, no_words, position-none, put_before, without, holds_one, is_node, is_open, last_place, opened_by, same_node_of, slots_of, somes, stack_of, KeptNode, LastLevels, OpenNode, Stands}
+use Rattle.hopen.proofs.Names.{◌≡◌, ◌≢◌, ℕ, ◌-◌, ◌<◌, ◌≤◌, true, List, Some, None, length, map, reverse, get_or, set, sym, ◌∙◌, ap, ltb, ltb-true, no_words, position-none, item_put_before, without, holds_one, is_node, is_open, last_place, opened_by, same_node_of, slots_of, somes, stack_of, KeptNode, LastLevels, OpenNode, LevelsStand}
 use Rattle.hopen.proofs.OpenLevels.{level-within, node-level, placed, set-placed}
 use Rattle.hopen.proofs.Somes.{any-somes, left-somes, put-somes}
 
 -- what the table says of a node
-module _ (last : LastLevels) (items : List KeptNode) (s : Stands last items) (n p : ℕ) (is : p ≡ get_or last.nodes.items n 0) where
+module _ (last : LastLevels) (items : List KeptNode) (s : LevelsStand last items) (n p : ℕ) (is : p ≡ get_or last.nodes.items n 0) where
   pub level-of : p ≡ last_place (holds_one (is_node n)) (slots_of items)
   level-of = is ∙ node-level last.nodes.items (map same_node_of items) items s.nodes n
 
@@ -12,7 +12,7 @@ module _ (last : LastLevels) (items : List KeptNode) (s : Stands last items) (n 
   level-le = level-within (is_node n) items p level-of
 
   -- it is not open, so nothing comes below it
-  pub put-none : p ≡ 0 → (x : OpenNode ℕ) → stack_of items ≡ put_before (is_node n) x (stack_of items)
+  pub put-none : p ≡ 0 → (x : OpenNode ℕ) → stack_of items ≡ item_put_before (is_node n) x (stack_of items)
   put-none none x =
       let zs = slots_of items in
       let words = no_words (holds_one (is_node n)) zs (position-none (holds_one (is_node n)) zs (sym level-of ∙ none)) in

@@ -1,5 +1,5 @@
 -- Levels of slots, and what is open there.
-use Rattle.hopen.proofs.Names.{◌≡◌, ◌≢◌, ℕ, zero, suc, ◌+◌, ◌-◌, ◌<◌, ◌≤◌, eqb, Bool, true, false, cond, List, [], ◌∷◌, Option, Some, None, length, map, reverse, take, take-suc, get_or, set, inl, inr, refl, sym, ◌∙◌, ap, arith, cases_lt, eqb-zero-suc, find, position, slice_get, length-map, length-reverse, map-id, reverse-append, take_all, length-take-le, nat_tests, last_place, last_place-le, position-some, position-none, words, no_words, reverse_push, slice_get_nearest, change_nearest, changed, somes, holds_one, opened_by, open_of, slots_of, stack_of, node_in, name_in, names_in, nodes_in, is_node, is_named, nat_eq, IsLinked, EndsOpen, current, get_or_from_slice_get, slice_get_past, KeptNode, OpenNode}
+use Rattle.hopen.proofs.Names.{◌≡◌, ◌≢◌, ℕ, zero, suc, ◌+◌, ◌-◌, ◌<◌, ◌≤◌, eqb, Bool, true, false, cond, List, [], ◌∷◌, Option, Some, None, length, map, reverse, take, take-suc, get_or, set, inl, inr, refl, sym, ◌∙◌, ap, arith, cases_lt, eqb-zero-suc, find, position, slice_get, length-map, length-reverse, map-id, reverse-append, take_all, length-take-le, nat_tests, last_place, last_place-le, position-some, position-none, words, no_words, reverse_push, slice_get_nearest, change_nearest, changed, somes, holds_one, opened_by, open_of, slots_of, stack_of, node_in, open_name, names_in, nodes_in, is_node, is_named, nat_eq, IsLinked, EndsOpen, current, get_or_from_slice_get, slice_get_past, KeptNode, OpenNode}
 use Rattle.hopen.proofs.Held.{held, is-held, opened-at, some≢none}
 use Rattle.hopen.proofs.Linked.{says-levels}
 use Rattle.hopen.proofs.Somes.{find-somes, none-somes}
@@ -142,7 +142,7 @@ node-sought : (k : ℕ) (z : Option (OpenNode ℕ)) → eqb (node_in z) (suc k) 
 node-sought k None = eqb-zero-suc k
 node-sought k (Some y) = grind (arith, nat_tests)
 
-name-sought : (k : ℕ) (z : Option (OpenNode ℕ)) → eqb (name_in z) (suc k) ≡ holds_one (is_named nat_eq k) z
+name-sought : (k : ℕ) (z : Option (OpenNode ℕ)) → eqb (open_name z) (suc k) ≡ holds_one (is_named nat_eq k) z
 name-sought k None = eqb-zero-suc k
 name-sought k (Some y) = grind (arith, nat_tests)
 
@@ -153,4 +153,4 @@ node-level t bs items l k = says-levels node_in t bs (map opened_by items) l k �
 
 pub name-level : (t bs : List ℕ) (items : List KeptNode) → IsLinked t (names_in (map opened_by items)) bs → (k : ℕ)
     → get_or t k 0 ≡ last_place (holds_one (is_named nat_eq k)) (slots_of items)
-name-level t bs items l k = says-levels name_in t bs (map opened_by items) l k ∙ (λ i. last_place (λ z. name-sought k z i) (slots_of items))
+name-level t bs items l k = says-levels open_name t bs (map opened_by items) l k ∙ (λ i. last_place (λ z. name-sought k z i) (slots_of items))

@@ -1,5 +1,5 @@
 -- What is seen of the open nodes after an edit of their vector.
-use Rattle.hopen.proofs.Names.{◌≡◌, ℕ, suc, ◌<◌, ◌≤◌, Bool, List, [], ◌∷◌, Some, None, length, map, reverse, set, refl, sym, ◌∙◌, ap, subst, arith, length-map, length-set, without, changed, last_place, position, position-none, no_words, put_before, somes, holds_one, slots_of, stack_of, OpenNode, OpenNodes, opened_by, open_nodes_of, KeptNode, LastLevels, Inside, Stands, Rests, EndsOpen}
+use Rattle.hopen.proofs.Names.{◌≡◌, ℕ, suc, ◌<◌, ◌≤◌, Bool, List, [], ◌∷◌, Some, None, length, map, reverse, set, refl, sym, ◌∙◌, ap, subst, arith, length-map, length-set, without, changed, last_place, position, position-none, no_words, item_put_before, somes, holds_one, slots_of, stack_of, OpenNode, OpenNodes, opened_by, open_nodes_of, KeptNode, LastLevels, Inside, LevelsStand, Rests, EndsOpen}
 use Rattle.hopen.proofs.ExchangedSlots.{ends-set}
 use Rattle.hopen.proofs.OpenLevels.{set-placed, IsPlaced}
 use Rattle.hopen.proofs.Somes.{changed-somes, left-somes}
@@ -39,7 +39,7 @@ module _ {X : Type 0} (s : X → Bool) where
   length-without-le [] = omega arith
   length-without-le (x ∷ xs) = grind (arith, length-without-le xs)
 
-  pub length-put-le : (y : X) (xs : List X) → length (put_before s y xs) ≤ suc (length xs)
+  pub length-put-le : (y : X) (xs : List X) → length (item_put_before s y xs) ≤ suc (length xs)
   length-put-le y [] = omega arith
   length-put-le y (x ∷ xs) = grind (arith, length-put-le y xs)
 
@@ -52,7 +52,7 @@ module _ (s : OpenNode ℕ → Bool) (items : List KeptNode) (i : ℕ) (p : IsPl
     pub stack-replaced : stack_of new ≡ changed s (λ _. y) (stack_of items)
     stack-replaced = ap (λ l. somes (reverse l)) is ∙ ap somes (set-placed s items i (Some y) p) ∙ changed-somes s y (slots_of items)
 
-    pub rests-replaced : (last next : LastLevels) → Rests last items → Stands next new → next.holes ≡ last.holes → Rests next new
+    pub rests-replaced : (last next : LastLevels) → Rests last items → LevelsStand next new → next.holes ≡ last.holes → Rests next new
     rests-replaced last next r stands holes =
         let within : i < length items = omega (arith, p.sum) in
         let many : length new ≡ length items =

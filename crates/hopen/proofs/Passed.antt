@@ -1,19 +1,11 @@
 -- What is kept of the open nodes where one passes the next one below it.
-use Rattle.hopen.proofs.Names.{◌≡◌, ◌≢◌, ℕ, zero, suc, ◌+◌, ◌<◌, ◌≤◌, false, List, [], ◌∷◌, Option, Some, None, length, map, take, get_or, set, ◌⊎◌, inl, inr, sym, ◌∙◌, ap, subst, transport, arith, cases_eq, cases_lt, get_or_default, get_or-set_same, get_or-set_other, get_or-take, length-map, length-set, length-take-le, map-set, take-map, closing, closing_in, exchanged, is_hole_kind, kind_at, kind_of, name_in, names_in, node_in, nodes_in, nearest_in, nearest_up, opened_by, same_name_of, same_node_of, sets_at, set_node, AreHoles, CanPass, IsLinked, KeepSets, Kind, KeptNode, LastLevels, NameSet, OpenNode, SetNodes, Stands, is_special, tag_of}
+use Rattle.hopen.proofs.Names.{◌≡◌, ◌≢◌, ℕ, zero, suc, ◌+◌, ◌<◌, ◌≤◌, false, List, [], ◌∷◌, Option, Some, None, length, map, get_or, set, ◌⊎◌, inl, inr, sym, ◌∙◌, ap, subst, transport, arith, cases_eq, cases_lt, get_or_default, get_or-set_same, get_or-set_other, length-map, length-set, map-set, closing, closing_in, exchanged, is_hole_kind, kept_kind_at, kept_kind, open_name, names_in, node_in, nodes_in, nearest_in, nearest_up, opened_by, same_name_of, same_node_of, sets_at, set_node, AreHoles, CanPass, IsLinked, KeepSets, Kind, KeptNode, LastLevels, NameSet, OpenNode, SetNodes, LevelsStand, is_special, tag_of}
 use Rattle.hopen.specs.declared.kept.Kind.TheVariants as kind
 use Rattle.std.proofs.Math.ListN.{get_or-map}
 use Rattle.hopen.proofs.Held.{some≢none}
 use Rattle.hopen.proofs.NearestUp.{nearest-alike, nearest-hole, nearest-plain}
 use Rattle.hopen.proofs.Projected.{length-nodes, no-name, node-at}
 use Rattle.hopen.proofs.Swapped.{exchanged-apart, exchanged-length, exchanged-lower, exchanged-map, exchanged-upper, linked-alone}
-
--- what the first slots keep
-pub sets-take : (ys : List (Option (OpenNode ℕ))) (sets : List SetNodes) (n : ℕ) → n ≤ length ys → KeepSets ys sets → KeepSets (take n ys) (take n sets)
-sets-take ys sets n within k = λ set m less live.
-    let h : m < n = omega (arith, length-take-le n ys within) in
-    let same = get_or-take n ys m None h in
-    ap (λ l. get_or l m 0) (sym (take-map (set_node set) n sets)) ∙ get_or-take n (map (set_node set) sets) m 0 h ∙ k set m (omega arith) (λ e. live (same ∙ e))
-    ∙ sym (nearest-alike set ys (take n ys) (suc m) (λ j f. get_or-take n ys j None (omega arith)))
 
 -- slots past an index that are holes alone
 nearest-holes : (set : NameSet) (ys : List (Option (OpenNode ℕ))) (i n : ℕ) → i ≤ n → ((m : ℕ) → i ≤ m → m < n → get_or ys m None ≡ None)
@@ -116,7 +108,7 @@ closing-exchanged ks i j d less within =
       ap closing other,
     )
 
-module _ (last : LastLevels) (items : List KeptNode) (i j : ℕ) (s : Stands last items) (p : CanPass last items i j) (x y : KeptNode)
+module _ (last : LastLevels) (items : List KeptNode) (i j : ℕ) (s : LevelsStand last items) (p : CanPass last items i j) (x y : KeptNode)
     (first : x ≡ get_or items i x) (second : y ≡ get_or items j y) where
   front : i < length items
   front = omega (arith, p.order, p.within)
@@ -126,19 +118,19 @@ module _ (last : LastLevels) (items : List KeptNode) (i j : ℕ) (s : Stands las
       → map same_node_of new ≡ exchanged i j 0 (map same_node_of items)
       → IsLinked after.names.items (exchanged i j 0 (names_in (map opened_by items))) (map same_name_of new)
       → after.nodes.items ≡ set (set last.nodes.items x.opened.node (suc j)) y.opened.node (suc i)
-      → KeepSets (map opened_by new) (map sets_at new) → map kind_at new ≡ exchanged i j kind.Hole (map kind_at items) → after.must_close ≡ last.must_close
-      → Stands after new
+      → KeepSets (map opened_by new) (map sets_at new) → map kept_kind_at new ≡ exchanged i j kind.Hole (map kept_kind_at items) → after.must_close ≡ last.must_close
+      → LevelsStand after new
   stands-passed after new opened same_nodes names nodes sets kinds closes = record {
-    names = subst (λ l. IsLinked after.names.items l (map same_name_of new)) (sym (moved name_in)) names;
+    names = subst (λ l. IsLinked after.names.items l (map same_name_of new)) (sym (moved open_name)) names;
     nodes = transport (λ t. IsLinked (sym nodes t) (sym (moved node_in) t) (sym same_nodes t))
         (linked-alone last.nodes.items (nodes_in ys) (map same_node_of items) s.nodes
         (omega (arith, length-map items same_node_of, length-nodes items)) i j x.opened.node y.opened.node p.order
         (omega (arith, p.within, length-nodes items)) (node-at items i x front first upper.0)
         (node-at items j y p.within second lower.0) holes upper.2 lower.1);
     sets = sets;
-    kinds = kinds ∙ ap (exchanged i j kind.Hole) s.kinds ∙ sym (exchanged-map i j None ys kind_of) ∙ ap (map kind_of) (sym opened);
+    kinds = kinds ∙ ap (exchanged i j kind.Hole) s.kinds ∙ sym (exchanged-map i j None ys kept_kind) ∙ ap (map kept_kind) (sym opened);
     closes = closes ∙ s.closes ∙ sym (ap closing_in kinds
-        ∙ closing-exchanged (map kind_at items) i j kind.Hole p.order (omega (arith, p.within, length-map items kind_at)));
+        ∙ closing-exchanged (map kept_kind_at items) i j kind.Hole p.order (omega (arith, p.within, length-map items kept_kind_at)));
     fits = omega (
       arith,
       s.fits,

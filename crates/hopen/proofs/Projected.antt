@@ -1,12 +1,12 @@
 -- What the items of a vector keep, by index.
-use Rattle.hopen.proofs.Names.{◌≡◌, ℕ, zero, suc, ◌<◌, ◌≤◌, true, false, List, length, map, get_or, set, Option, Some, None, inl, inr, refl, sym, ◌∙◌, ap, arith, cases_lt, length-map, get_or_past, get_or-set_other, get_or_default, map-set, map-set_same, exchanged, is_hole_kind, names_in, name_in, nodes_in, node_in, open_of, opened_by, same_name_of, same_node_of, IsHeld, IsLinked, KeptNode, OpenNode}
+use Rattle.hopen.proofs.Names.{◌≡◌, ℕ, zero, suc, ◌<◌, ◌≤◌, true, false, List, length, map, get_or, set, Option, Some, None, inl, inr, refl, sym, ◌∙◌, ap, arith, cases_lt, length-map, get_or_past, get_or-set_other, get_or_default, map-set, map-set_same, exchanged, is_hole_kind, names_in, open_name, nodes_in, node_in, open_of, opened_by, same_name_of, same_node_of, IsHeldLevel, IsLinked, KeptNode, OpenNode}
 use Rattle.std.proofs.Math.ListN.{get_or-map}
 use Rattle.hopen.proofs.Held.{held, is-held, no-node, some≢none}
 use Rattle.hopen.proofs.Swapped.{walk-in}
 
 module _ (items : List KeptNode) where
   pub length-names : length (names_in (map opened_by items)) ≡ length items
-  length-names = length-map (map opened_by items) name_in ∙ length-map items opened_by
+  length-names = length-map (map opened_by items) open_name ∙ length-map items opened_by
 
   pub length-nodes : length (nodes_in (map opened_by items)) ≡ length items
   length-nodes = length-map (map opened_by items) node_in ∙ length-map items opened_by
@@ -26,12 +26,12 @@ live-of x o e =
     (live, some-same (open_of x.opened) o (sym (held x live) ∙ e))
 
 -- a slot with no name is a hole
-hole-of : (z : Option (OpenNode ℕ)) → name_in z ≡ 0 → z ≡ None
+hole-of : (z : Option (OpenNode ℕ)) → open_name z ≡ 0 → z ≡ None
 hole-of None e = refl
 hole-of (Some x) e = absurd (omega arith)
 
 pub no-name : (ys : List (Option (OpenNode ℕ))) (m : ℕ) → get_or (names_in ys) m 0 ≡ 0 → get_or ys m None ≡ None
-no-name ys m e = hole-of (get_or ys m None) (sym (get_or-map name_in ys m None) ∙ e)
+no-name ys m e = hole-of (get_or ys m None) (sym (get_or-map open_name ys m None) ∙ e)
 
 module _ (items : List KeptNode) (i : ℕ) (x : KeptNode) (h : i < length items) (is : x ≡ get_or items i x) where
   pub same_name-at : get_or (map same_name_of items) i 0 ≡ x.same_name
@@ -42,8 +42,8 @@ module _ (items : List KeptNode) (i : ℕ) (x : KeptNode) (h : i < length items)
 
   pub name-hole : is_hole_kind x.kind ≡ true → get_or (names_in (map opened_by items)) i 0 ≡ 0
   name-hole e =
-      get_or-map name_in (map opened_by items) i None
-      ∙ ap name_in (part-at opened_by None items i x h is ∙ no-node x e)
+      get_or-map open_name (map opened_by items) i None
+      ∙ ap open_name (part-at opened_by None items i x h is ∙ no-node x e)
 
   -- where it is no hole
   module _ (live : is_hole_kind x.kind ≡ false) where
@@ -51,7 +51,7 @@ module _ (items : List KeptNode) (i : ℕ) (x : KeptNode) (h : i < length items)
     opened-at = part-at opened_by None items i x h is ∙ held x live
 
     pub name-at : get_or (names_in (map opened_by items)) i 0 ≡ suc x.opened.name
-    name-at = get_or-map name_in (map opened_by items) i None ∙ ap name_in opened-at
+    name-at = get_or-map open_name (map opened_by items) i None ∙ ap open_name opened-at
 
     pub node-at : get_or (nodes_in (map opened_by items)) i 0 ≡ suc x.opened.node
     node-at = get_or-map node_in (map opened_by items) i None ∙ ap node_in opened-at
@@ -64,7 +64,7 @@ module _ (items : List KeptNode) (i : ℕ) (x : KeptNode) (h : i < length items)
     node-in t bs l = walk-in t (nodes_in (map opened_by items)) bs l i x.opened.node node-at (omega (arith, length-nodes items))
 
 -- one that keeps a level is in the list
-pub held-within : (t bs : List ℕ) (a p n : ℕ) → 0 < p → IsHeld t bs a p n → n ≤ length bs
+pub held-within : (t bs : List ℕ) (a p n : ℕ) → 0 < p → IsHeldLevel t bs a p n → n ≤ length bs
 held-within t bs a p zero h held = omega arith
 held-within t bs a p (suc j) h held =
     elim (cases_lt j (length bs)) [ inl less ↦ omega arith | inr past ↦ absurd (omega (arith, held.there j refl, get_or_past bs j 0 past)) ]

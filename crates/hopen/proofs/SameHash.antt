@@ -1,5 +1,5 @@
 -- Equal entries have the same hash, and the same number by it.
-use Rattle.hopen.proofs.Names.{◌≡◌, ℕ, suc, ◌<◌, Bool, true, false, cond, ltb, eqb, nat_eq, ◌||◌, List, [], ◌∷◌, Option, map, refl, sym, ◌∙◌, ap, arith, list_any, option_map_or, ltb-true, eqb-false, Attribute, DefaultHasher, entry_hash, distinct, hash_of, EntryOf, are_among, as_entry, is_equal, same_attribute, item_of, nowhere, told, by_hash, Stored, nat_tests, nat_cmp, Less, IsSorted, IsPermutation, dedup, dedup_from, AllByRecursion, nat_cmp_is, unsigned_ties, nat_cmp-IsAntisymmetric, is_at, ltb-false, nat_cmp_total, IsStrictlySortedBy-dedup, list_any-IsPermutation, btree_set_from_contains, bytes_eq-true, put_in}
+use Rattle.hopen.proofs.Names.{◌≡◌, ℕ, suc, ◌<◌, Bool, true, false, cond, ltb, eqb, nat_eq, ◌||◌, List, [], ◌∷◌, Option, map, refl, sym, ◌∙◌, ap, arith, list_any, option_map_or, ltb-true, eqb-false, Attribute, DefaultHasher, entry_hash, distinct, hash_of, EntryOf, are_among, as_entry, is_equal, same_attribute, item_of, nowhere, stored_entry, by_hash, Stored, nat_tests, nat_cmp, Less, IsSorted, IsPermutation, dedup, dedup_from, AllByRecursion, nat_cmp_is, unsigned_ties, nat_cmp-IsAntisymmetric, is_at, ltb-false, nat_cmp_total, IsStrictlySortedBy-dedup, list_any-IsPermutation, btree_set_from_contains, bytes_eq-true, hash_put_in}
 use Rattle.std.specs.List.Sorted.{IsStrictlySortedBy}
 
 -- numbers that ascend, with one more
@@ -13,17 +13,17 @@ above-trans : (x y : ℕ) (zs : List ℕ) → nat_cmp x y ≡ Less → AllAbove 
 above-trans x y [] h all = tt
 above-trans x y (z ∷ zs) h all = (nat_cmp_total.trans x y z h all.0, above-trans x y zs h all.1)
 
-above-put : (x n : ℕ) (ys : List ℕ) → nat_cmp x n ≡ Less → AllAbove x ys → AllAbove x (put_in n ys)
+above-put : (x n : ℕ) (ys : List ℕ) → nat_cmp x n ≡ Less → AllAbove x ys → AllAbove x (hash_put_in n ys)
 above-put x n [] h all = (h, tt)
 above-put x n (y ∷ ys) h all = grind (arith, above-put x n ys h all.1)
 
-ascends-put : (n : ℕ) (xs : List ℕ) → IsStrictlySortedBy nat_cmp xs → IsStrictlySortedBy nat_cmp (put_in n xs)
+ascends-put : (n : ℕ) (xs : List ℕ) → IsStrictlySortedBy nat_cmp xs → IsStrictlySortedBy nat_cmp (hash_put_in n xs)
 unfolding IsStrictlySortedBy
 ascends-put n [] s = (tt, tt)
 ascends-put n (x ∷ xs) s = go (ltb n x) refl (eqb n x) refl (ascends-put n xs s.1)
   where
-    go : (v : Bool) → ltb n x ≡ v → (w : Bool) → eqb n x ≡ w → IsStrictlySortedBy nat_cmp (put_in n xs)
-        → IsStrictlySortedBy nat_cmp (cond v (n ∷ x ∷ xs) (cond w (x ∷ xs) (x ∷ put_in n xs)))
+    go : (v : Bool) → ltb n x ≡ v → (w : Bool) → eqb n x ≡ w → IsStrictlySortedBy nat_cmp (hash_put_in n xs)
+        → IsStrictlySortedBy nat_cmp (cond v (n ∷ x ∷ xs) (cond w (x ∷ xs) (x ∷ hash_put_in n xs)))
     go true below w same rest = ((less n x (ltb-true n x below), above-trans n x xs (less n x (ltb-true n x below)) s.0), s)
     go false below true same rest = s
     go false below false same rest = (above-put x n xs (less x n (omega (arith, ltb-false n x below, eqb-false n x same))) s.0, rest)
@@ -35,7 +35,7 @@ ascends (x ∷ xs) = ascends-put x (distinct xs) (ascends xs)
 
 -- a test finds one among them as before
 module _ (p : ℕ → Bool) where
-  any-put : (n : ℕ) (xs : List ℕ) → list_any p (put_in n xs) ≡ (p n || list_any p xs)
+  any-put : (n : ℕ) (xs : List ℕ) → list_any p (hash_put_in n xs) ≡ (p n || list_any p xs)
   any-put n [] = refl
   any-put n (x ∷ xs) = grind (arith, any-put n xs, nat_tests)
 
@@ -94,6 +94,6 @@ module _ (new e : EntryOf ℕ) (equal : is_equal nat_eq new e ≡ true) where
   same-number keys named = grind (arith, same-name, same-entry_hash, nat_tests)
 
 -- an item that is found equal is seen as such an entry
-pub told-equal : (new : EntryOf ℕ) → new.name < nowhere → (x : Stored) → option_map_or (is_equal nat_eq new) (told x) false
+pub stored_entry-equal : (new : EntryOf ℕ) → new.name < nowhere → (x : Stored) → option_map_or (is_equal nat_eq new) (stored_entry x) false
     ≡ option_map_or (is_equal nat_eq new) (as_entry (item_of x)) false
-told-equal new named h = grind (arith, nat_tests)
+stored_entry-equal new named h = grind (arith, nat_tests)

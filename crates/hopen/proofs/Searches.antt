@@ -1,5 +1,5 @@
 -- Searches that go up the open nodes, in the words of the code.
-use Rattle.hopen.proofs.Names.{◌≡◌, ℕ, suc, ◌-◌, ◌+◌, inl, inr, Bool, true, false, ◌&&◌, List, [], ◌∷◌, ◌++◌, Option, Some, None, length, drop, take, map, reverse, refl, sym, ◌∙◌, ap, arith, cases_lt, nat_eq, nat_tests, zero-add, position, find, list_all, list_all-append, option_or, words, no_words, reverse-append, OpenNode, current, topmost_special, furthest_block, is_node, Tag, is_special, may_stay_open, before, after, take_nearest, drop_nearest, tag_of, somes, slots_of, stack_of, holds_one, opened_by, closing, closing_in, kind_of, last_place, KeptNode, LastLevels, Stands, position-none}
+use Rattle.hopen.proofs.Names.{◌≡◌, ℕ, suc, ◌-◌, ◌+◌, inl, inr, Bool, true, false, ◌&&◌, List, [], ◌∷◌, ◌++◌, Option, Some, None, length, drop, take, map, reverse, refl, sym, ◌∙◌, ap, arith, cases_lt, nat_eq, nat_tests, zero-add, position, find, list_all, list_all-append, option_or, words, no_words, reverse-append, OpenNode, current, topmost_special, furthest_block, is_node, Tag, is_special, may_stay_open, before, after, take_nearest, drop_nearest, tag_of, somes, slots_of, stack_of, holds_one, opened_by, closing, closing_in, kept_kind, last_place, KeptNode, LastLevels, LevelsStand, position-none}
 use Rattle.hopen.proofs.OpenLevels.{placed}
 use Rattle.hopen.proofs.Somes.{after-somes, before-somes, reverse-somes}
 
@@ -114,18 +114,18 @@ furthest-level n items level at =
     ∙ before-somes (is_node n) (slots_of items))
 
 -- none must be closed where all may stay
-closing-all : (ys : List (Option (OpenNode ℕ))) → nat_eq (closing_in (map kind_of ys)) 0 ≡ list_all (λ x. may_stay_open (tag_of x.name)) (somes ys)
+closing-all : (ys : List (Option (OpenNode ℕ))) → nat_eq (closing_in (map kept_kind ys)) 0 ≡ list_all (λ x. may_stay_open (tag_of x.name)) (somes ys)
 closing-all [] = refl
-closing-all (None ∷ ys) = ap (λ k. nat_eq k 0) (zero-add (closing_in (map kind_of ys))) ∙ closing-all ys
+closing-all (None ∷ ys) = ap (λ k. nat_eq k 0) (zero-add (closing_in (map kept_kind ys))) ∙ closing-all ys
 closing-all (Some y ∷ ys) = go (may_stay_open (tag_of y.name)) refl (closing-all ys)
   where
-    go : (v : Bool) → may_stay_open (tag_of y.name) ≡ v → nat_eq (closing_in (map kind_of ys)) 0 ≡ list_all (λ x. may_stay_open (tag_of x.name)) (somes ys)
-        → nat_eq (closing (kind_of (Some y)) + closing_in (map kind_of ys)) 0 ≡ (may_stay_open (tag_of y.name) && list_all
+    go : (v : Bool) → may_stay_open (tag_of y.name) ≡ v → nat_eq (closing_in (map kept_kind ys)) 0 ≡ list_all (λ x. may_stay_open (tag_of x.name)) (somes ys)
+        → nat_eq (closing (kept_kind (Some y)) + closing_in (map kept_kind ys)) 0 ≡ (may_stay_open (tag_of y.name) && list_all
         (λ x. may_stay_open (tag_of x.name)) (somes ys))
-    go true e rest = rw e (ap (λ k. nat_eq k 0) (zero-add (closing_in (map kind_of ys))) ∙ rest)
+    go true e rest = rw e (ap (λ k. nat_eq k 0) (zero-add (closing_in (map kept_kind ys))) ∙ rest)
     go false e rest = rw e (grind (arith, nat_tests))
 
-pub all-stay : (last : LastLevels) (items : List KeptNode) → Stands last items → nat_eq last.must_close 0
+pub all-stay : (last : LastLevels) (items : List KeptNode) → LevelsStand last items → nat_eq last.must_close 0
     ≡ list_all (λ x. may_stay_open (tag_of x.name)) (stack_of items)
 all-stay last items s =
     let p : OpenNode ℕ → Bool = λ x. may_stay_open (tag_of x.name) in

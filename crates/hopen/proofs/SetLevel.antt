@@ -1,10 +1,10 @@
 -- The level of the nearest node of a set, by the node that is kept.
-use Rattle.hopen.proofs.Names.{◌≡◌, ℕ, suc, ◌-◌, ◌<◌, ◌≤◌, List, Option, None, length, map, reverse, take, get_or, inl, inr, sym, ◌∙◌, ap, arith, cases_lt, eqb-true, get_or-map, get_or_default, get_or_past, length-map, take-map, take_all, last_up, last_place, up-within, up-found, up-least, Stands, nodes_in, node_in, opened_by, slots_of, holds_one, is_in, nearest_up, same_node_of, KeptNode, LastLevels, NameSet, OpenNode}
+use Rattle.hopen.proofs.Names.{◌≡◌, ℕ, suc, ◌-◌, ◌<◌, ◌≤◌, List, Option, None, length, map, reverse, take, get_or, inl, inr, sym, ◌∙◌, ap, arith, cases_lt, eqb-true, get_or-map, get_or_default, get_or_past, length-map, take-map, take_all, last_up, last_place, up-within, up-found, up-least, LevelsStand, nodes_in, node_in, opened_by, slots_of, holds_one, is_in, nearest_up, same_node_of, KeptNode, LastLevels, NameSet, OpenNode}
 use Rattle.hopen.proofs.Linked.{eqb-same, kept-member, numbered}
 use Rattle.hopen.proofs.NearestUp.{nearest-none, nearest-some, IsNearest}
 use Rattle.hopen.proofs.OpenLevels.{place-at, place-less, place-none}
 
-module _ (last : LastLevels) (items : List KeptNode) (s : Stands last items) (set : NameSet) (n : ℕ)
+module _ (last : LastLevels) (items : List KeptNode) (s : LevelsStand last items) (set : NameSet) (n : ℕ)
     (kept : n ≡ nearest_up set (map opened_by items) (length items)) where
   abbrev pub ys : List (Option (OpenNode ℕ))
   ys = map opened_by items

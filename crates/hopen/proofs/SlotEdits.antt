@@ -1,5 +1,5 @@
 -- Edits of a vector of slots, and the numbers of what is below.
-use Rattle.hopen.proofs.Names.{◌≡◌, ◌≢◌, ℕ, zero, suc, reverse, length-reverse, somes, ◌+◌, ◌<◌, ◌≤◌, List, [], ◌∷◌, ◌++◌, Option, Some, None, length, map, take, drop, insert, set, get_or, refl, sym, ◌∙◌, ap, subst, arith, add-one, drop-set, drop_at, length-take-le, map-append, take-map, drop-map, get_or_default, AreIn, IsIn, opened_by, KeptNode}
+use Rattle.hopen.proofs.Names.{◌≡◌, ◌≢◌, ℕ, zero, suc, reverse, length-reverse, somes, ◌+◌, ◌<◌, ◌≤◌, List, [], ◌∷◌, ◌++◌, Option, Some, None, length, map, take, drop, insert, set, get_or, refl, sym, ◌∙◌, ap, subst, arith, add-one, drop-set, drop_at, length-take-le, map-append, take-map, drop-map, get_or_default, AreIn, IsInSets, opened_by, KeptNode}
 use Rattle.hopen.proofs.Somes.{reverse-somes}
 use Rattle.hopen.proofs.Standing.{numbers-less}
 
@@ -8,7 +8,7 @@ map-insert f xs i x = map-append f (take i xs) (x ∷ drop i xs) ∙ (λ k. sym 
 
 -- the numbers are in the tables where a slot takes the place of another
 pub numbers-replaced : (items : List KeptNode) (i : ℕ) (x : KeptNode) (names nodes : ℕ) → i < length items
-    → AreIn names nodes (map opened_by (drop i items)) → IsIn names nodes (opened_by x)
+    → AreIn names nodes (map opened_by (drop i items)) → IsInSets names nodes (opened_by x)
     → AreIn names nodes (map opened_by (drop i (set items i x)))
 numbers-replaced items i x names nodes within all here =
     let rest = numbers-less items (suc i) i (get_or items i x) refl within (get_or_default items i x (get_or items i x) within) names nodes all in
@@ -16,7 +16,7 @@ numbers-replaced items i x names nodes within all here =
 
 -- and where one comes between
 pub numbers-inserted : (items : List KeptNode) (i : ℕ) (x : KeptNode) (names nodes : ℕ) → i ≤ length items
-    → AreIn names nodes (map opened_by (drop i items)) → IsIn names nodes (opened_by x)
+    → AreIn names nodes (map opened_by (drop i items)) → IsInSets names nodes (opened_by x)
     → AreIn names nodes (map opened_by (drop i (insert items i x)))
 numbers-inserted items i x names nodes within all here =
     subst (λ (xs : List KeptNode). AreIn names nodes (map opened_by xs))

@@ -1,5 +1,5 @@
 -- What the slots of a stack hold, and the words on lists.
-use Rattle.hopen.proofs.Names.{◌≡◌, ◌≢◌, suc, ◌≤◌, Bool, ◌&&◌, leb, ltb, List, [], ◌∷◌, ◌++◌, Option, Some, None, length, reverse, refl, sym, ◌∙◌, ap, arith, nat_tests, last_place, last_place-le, list_any, find, reverse-append, append-nil, before, after, without, changed, put_before, somes, holds_one, OpenNode, in_scope}
+use Rattle.hopen.proofs.Names.{◌≡◌, ◌≢◌, suc, ◌≤◌, Bool, ◌&&◌, leb, ltb, List, [], ◌∷◌, ◌++◌, Option, Some, None, length, reverse, refl, sym, ◌∙◌, ap, arith, nat_tests, last_place, last_place-le, list_any, find, reverse-append, append-nil, before, after, without, changed, item_put_before, somes, holds_one, OpenNode, in_scope}
 
 module _ {X : Type 0} where
   pub length-somes : (zs : List (Option X)) → length (somes zs) ≤ length zs
@@ -46,7 +46,7 @@ module _ {X : Type 0} where
     changed-somes y (None ∷ zs) = changed-somes y zs
     changed-somes y (Some x ∷ zs) = grind (arith, changed-somes y zs)
 
-    pub put-somes : (y : X) (zs : List (Option X)) → somes (put_before (holds_one s) (Some y) zs) ≡ put_before s y (somes zs)
+    pub put-somes : (y : X) (zs : List (Option X)) → somes (item_put_before (holds_one s) (Some y) zs) ≡ item_put_before s y (somes zs)
     put-somes y [] = refl
     put-somes y (None ∷ zs) = put-somes y zs
     put-somes y (Some x ∷ zs) = grind (arith, put-somes y zs)

@@ -1,5 +1,5 @@
 -- Members of a list that change places, leave or give way, and the levels that are kept of them.
-use Rattle.hopen.proofs.Names.{◌≡◌, ◌≢◌, ℕ, zero, suc, ◌-◌, ◌<◌, ◌≤◌, eqb, Bool, true, false, cond, ◌&&◌, List, length, map, get_or, set, ◌⊎◌, inl, inr, refl, sym, ◌∙◌, ap, subst, arith, cases_Bool, cases_eq, cases_lt, eqb-true, eqb-false, eqb-zero-suc, get_or-set_same, get_or-set_other, get_or_past, length-set, map-set, set-get_or, set-set, last_up, last_same, up-sought, up-other, up-within, up-found, up-least, up-past, up-alike, IsHeld, IsLinked, AreHoles, exchanged, level_exchanged, nat_tests}
+use Rattle.hopen.proofs.Names.{◌≡◌, ◌≢◌, ℕ, zero, suc, ◌-◌, ◌<◌, ◌≤◌, eqb, Bool, true, false, cond, ◌&&◌, List, length, map, get_or, set, ◌⊎◌, inl, inr, refl, sym, ◌∙◌, ap, subst, arith, cases_Bool, cases_eq, cases_lt, eqb-true, eqb-false, eqb-zero-suc, get_or-set_same, get_or-set_other, get_or_past, length-set, map-set, set-get_or, set-set, last_up, last_same, up-sought, up-other, up-within, up-found, up-least, up-past, up-alike, IsHeldLevel, IsLinked, AreHoles, exchanged, level_exchanged, nat_tests}
 use Rattle.std.proofs.Math.ListN.{get_or-map}
 use Rattle.hopen.proofs.Linked.{either, eqb-same, eqb-not, numbered, same-from, same-hole, same-member, kept-hole, kept-member}
 
@@ -27,7 +27,7 @@ and-true v w e = grind arith
 
 -- two levels that change, each at the one that keeps it
 module _ (t bs : List ℕ) (i j a b m n p q : ℕ) (less : i < j) (first : p ≡ suc i) (second : q ≡ suc j)
-    (upper : IsHeld t bs a p m) (lower : IsHeld t bs b q n) where
+    (upper : IsHeldLevel t bs a p m) (lower : IsHeldLevel t bs b q n) where
   pub moved-table : (k : ℕ) → cond (eqb n 0 && eqb k b) p (cond (eqb m 0 && eqb k a) q (get_or t k 0)) ≡ level_exchanged i j (get_or t k 0)
   moved-table k = grind (arith, cases_Bool, eqb-same, and-true, moved-lower, moved-upper, moved-other, nat_tests)
 
@@ -35,7 +35,7 @@ module _ (t bs : List ℕ) (i j a b m n p q : ℕ) (less : i < j) (first : p ≡
   moved-list k = grind (arith, cases_Bool, moved-lower, moved-upper, moved-other, nat_tests)
 
 -- a level that changes at the one that keeps it
-module _ (t bs : List ℕ) (i a n b : ℕ) (held : IsHeld t bs a (suc i) n) where
+module _ (t bs : List ℕ) (i a n b : ℕ) (held : IsHeldLevel t bs a (suc i) n) where
   left-table : (k : ℕ) → cond (eqb n 0 && eqb k a) b (get_or t k 0) ≡ level_left i b (get_or t k 0)
   left-table k = grind (arith, cases_Bool, eqb-same, and-true, nat_tests)
 
@@ -134,7 +134,7 @@ module _ (t ns bs : List ℕ) (l : IsLinked t ns bs) (i : ℕ) where
 
     module _ (long : length bs ≡ length ns) where
       -- the table keeps the level of one that has none of its number below it
-      pub held-none : get_or t a 0 ≡ suc i → IsHeld t bs a (suc i) 0
+      pub held-none : get_or t a 0 ≡ suc i → IsHeldLevel t bs a (suc i) 0
       held-none here = record {
         in_table = λ k e. (refl, own-table k e);
         in_list = λ j e. let own = list-own long j e in absurd (omega (arith, own.0, l.says a, past-own (length ns) j own.1 own.2));
@@ -149,7 +149,7 @@ module _ (t ns bs : List ℕ) (l : IsLinked t ns bs) (i : ℕ) where
           let lower = list-own long k f in
           omega (arith, upper.0, kept-member t ns bs l k lower.1 a lower.2, past-own k j less upper.2)
 
-      pub held-next : (n j : ℕ) → n ≡ suc j → get_or bs j 0 ≡ suc i → IsHeld t bs a (suc i) n
+      pub held-next : (n j : ℕ) → n ≡ suc j → get_or bs j 0 ≡ suc i → IsHeldLevel t bs a (suc i) n
       held-next n j next here = record {
         in_table = λ k e. absurd (not-table (ap (λ m. get_or t m 0) (sym (own-table k e)) ∙ e));
         in_list = λ k e. one k e (cases_lt j k) (cases_lt k j);
@@ -166,7 +166,7 @@ module _ (t ns bs : List ℕ) (l : IsLinked t ns bs) (i : ℕ) where
           one k e (inr a) (inr b) = omega arith
 
       -- the member that keeps it is given, or there is none
-      pub held-at : (n : ℕ) → (n ≡ 0 → get_or t a 0 ≡ suc i) → ((j : ℕ) → n ≡ suc j → get_or bs j 0 ≡ suc i) → IsHeld t bs a (suc i) n
+      pub held-at : (n : ℕ) → (n ≡ 0 → get_or t a 0 ≡ suc i) → ((j : ℕ) → n ≡ suc j → get_or bs j 0 ≡ suc i) → IsHeldLevel t bs a (suc i) n
       held-at zero here there = held-none (here refl)
       held-at (suc j) here there = held-next (suc j) j refl (there j refl)
 
@@ -275,7 +275,7 @@ module _ (s : ℕ → Bool) (hole : s 0 ≡ false) (i : ℕ) (ns : List ℕ) (wi
   up-left (suc n) h = grind (arith, up-left n, up-sought, up-other, up-within s ns i, get_or-set_other, cases_Bool, at-hole, nat_tests)
 
 -- a member leaves a hole, and the one that kept its level keeps what it kept
-module _ (t ns bs : List ℕ) (l : IsLinked t ns bs) (i a next : ℕ) (within : i < length ns) (held : IsHeld t bs a (suc i) next) (u cs : List ℕ)
+module _ (t ns bs : List ℕ) (l : IsLinked t ns bs) (i a next : ℕ) (within : i < length ns) (held : IsHeldLevel t bs a (suc i) next) (u cs : List ℕ)
     (table : (k : ℕ) → get_or u k 0 ≡ cond (eqb next 0 && eqb k a) (get_or bs i 0) (get_or t k 0))
     (list : (m : ℕ) → m ≢ i → get_or cs m 0 ≡ cond (eqb next (suc m)) (get_or bs i 0) (get_or bs m 0)) (gone : get_or cs i 0 ≡ 0) where
   abbrev left : List ℕ
@@ -416,10 +416,10 @@ module _ (t ns bs : List ℕ) (l : IsLinked t ns bs) (long : length bs ≡ lengt
   abbrev table : List ℕ
   table = set (set t a (suc j)) b (suc i)
 
-  held-upper : IsHeld t bs a (suc i) 0
+  held-upper : IsHeldLevel t bs a (suc i) 0
   held-upper = held-none t ns bs l i a first long upper
 
-  held-lower : IsHeld t bs b (suc j) 0
+  held-lower : IsHeldLevel t bs b (suc j) 0
   held-lower = held-none t ns bs l j b second long lower
 
   table-alone : (k : ℕ) → get_or table k 0 ≡ level_exchanged i j (get_or t k 0)

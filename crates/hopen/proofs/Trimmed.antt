@@ -1,5 +1,5 @@
 -- A hole at the end of a vector goes.
-use Rattle.hopen.proofs.Names.{◌≡◌, suc, ◌-◌, ◌<◌, ◌≤◌, List, [], ◌∷◌, ◌++◌, None, false, length-append, add-one, get_or_push, is_hole_kind, EndsOpen, length, map, take, get_or, refl, sym, ◌∙◌, ap, subst, arith, length-reverse, length-map, length-take-le, take_all, take-more, get_or_default, opened_by, stack_of, slots_of, somes, Stands, KeptNode, LastLevels}
+use Rattle.hopen.proofs.Names.{◌≡◌, suc, ◌-◌, ◌<◌, ◌≤◌, List, [], ◌∷◌, ◌++◌, None, false, length-append, add-one, get_or_push, is_hole_kind, EndsOpen, length, map, take, get_or, refl, sym, ◌∙◌, ap, subst, arith, length-reverse, length-map, length-take-le, take_all, take-more, get_or_default, opened_by, stack_of, slots_of, somes, LevelsStand, KeptNode, LastLevels}
 use Rattle.hopen.proofs.Held.{is-held, opened-at}
 use Rattle.hopen.proofs.Somes.{length-somes, no-hole}
 use Rattle.hopen.proofs.OpenLevels.{length-slots, slots-more}
@@ -24,11 +24,11 @@ module _ (items : List KeptNode) (some : 0 < length items) (gone : get_or (map o
       refl' : get_or items (length items - 1) d ≡ get_or items (length items - 1) (get_or items (length items - 1) d)
       refl' = get_or_default items (length items - 1) d (get_or items (length items - 1) d) (omega arith)
 
-  pub stands-trimmed : (last : LastLevels) (d : KeptNode) → Stands last items → Stands last (take (length items - 1) items)
+  pub stands-trimmed : (last : LastLevels) (d : KeptNode) → LevelsStand last items → LevelsStand last (take (length items - 1) items)
   stands-trimmed last d s =
       taken-hole items (length items) (length items - 1) (get_or items (length items - 1) d) next (omega arith)
       (get_or_default items (length items - 1) d (get_or items (length items - 1) d) (omega arith)) last
-      (subst (Stands last) (sym (take_all (length items) items (omega arith))) s) (hole-at d)
+      (subst (LevelsStand last) (sym (take_all (length items) items (omega arith))) s) (hole-at d)
 
 -- the last slot of a vector that ends with no hole
 pub ends-live : (items : List KeptNode) (x : KeptNode) → EndsOpen (map opened_by (items ++ x ∷ [])) → is_hole_kind x.kind ≡ false

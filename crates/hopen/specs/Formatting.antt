@@ -5,7 +5,7 @@ use Rattle.std.specs.Prelude.{ℕ, Bool, true, false, not, ◌&&◌, ◌==◌, n
 use Rattle.std.specs.Prelude.{find, if◌then◌else◌, bytes_eq}
 use Rattle.std.specs.List.{list_any, list_all}
 use Rattle.std.specs.Option.{option_map_or}
-use Rattle.hnodes.specs.Nearest.{without, changed, put_before}
+use Rattle.hnodes.specs.Nearest.{without, changed, item_put_before}
 use Rattle.hopen.specs.declared.bookmark.Bookmark.{Bookmark}
 use Rattle.hopen.specs.declared.bookmark.Bookmark.TheVariants.{InPlace, After}
 use Rattle.hnodes.specs.Forest.{Attribute}
@@ -78,7 +78,7 @@ module _ {N : Type 0} where
   booked old new InPlace items = with_node old new items
   booked old new (After n) items =
       option_map_or
-      (λ i. put_before (is_entry n) (for_node new i) (without (is_entry old) items))
+      (λ i. item_put_before (is_entry n) (for_node new i) (without (is_entry old) items))
       (find (is_entry old) items)
       items
 

@@ -9,14 +9,14 @@ use Rattle.hnodes.specs.Forest.{Attribute}
 use Rattle.hopen.specs.Formatting.{EntryOf}
 
 -- numbers that ascend, with one more, unless it is among them
-abbrev pub put_in : ℕ → List ℕ → List ℕ
-put_in n [] = n ∷ []
-put_in n (x ∷ xs) = if nat_lt n x then n ∷ x ∷ xs else (if n == x then x ∷ xs else x ∷ put_in n xs)
+abbrev pub hash_put_in : ℕ → List ℕ → List ℕ
+hash_put_in n [] = n ∷ []
+hash_put_in n (x ∷ xs) = if nat_lt n x then n ∷ x ∷ xs else (if n == x then x ∷ xs else x ∷ hash_put_in n xs)
 
 -- numbers, each once, the least one first
 abbrev pub distinct : List ℕ → List ℕ
 distinct [] = []
-distinct (x ∷ xs) = put_in x (distinct xs)
+distinct (x ∷ xs) = hash_put_in x (distinct xs)
 
 module _ (keys : DefaultHasher) where
   -- the hasher that was fed the number of a name
@@ -28,13 +28,13 @@ module _ (keys : DefaultHasher) where
   hash_of a = finish (write (fed_name a.0) a.1)
 
   -- the hash of a name and of the hashes of attributes
-  abbrev pub total : ℕ → List ℕ → ℕ
-  total name hashes = finish (fold write (fed_name name) (flat_map fed.u64 hashes)) % 2 ^ 32
+  abbrev pub hash_total : ℕ → List ℕ → ℕ
+  hash_total name hashes = finish (fold write (fed_name name) (flat_map fed.u64 hashes)) % 2 ^ 32
 
 -- The hash of a token: of its name and of its attributes' hashes, each once and in their order. Without keys it is the name itself.
 abbrev pub token_hash : Option DefaultHasher → ℕ → List (Attribute ℕ) → ℕ
 token_hash None name attrs = name
-token_hash (Some keys) name attrs = total keys name (distinct (map (hash_of keys) attrs))
+token_hash (Some keys) name attrs = hash_total keys name (distinct (map (hash_of keys) attrs))
 
 abbrev pub entry_hash : Option DefaultHasher → EntryOf ℕ → ℕ
 entry_hash keys e = token_hash keys e.name e.attrs

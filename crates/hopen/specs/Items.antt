@@ -16,13 +16,13 @@ nowhere = 4294967296
 abbrev pub hole : Listed ℕ
 hole = entry (record { node = nowhere; name = nowhere; attrs = [] })
 
-abbrev pub is_hole : Listed ℕ → Bool
-is_hole marker = false
-is_hole (entry e) = e.name == nowhere
+abbrev pub is_listed_hole : Listed ℕ → Bool
+is_listed_hole marker = false
+is_listed_hole (entry e) = e.name == nowhere
 
 -- without the holes
 abbrev pub live : List (Listed ℕ) → List (Listed ℕ)
-live items = filter (λ i. not (is_hole i)) items
+live items = filter (λ i. not (is_listed_hole i)) items
 
 -- a marker, an entry of a node and a name, or the hole
 abbrev pub IsSlot : Listed ℕ → Type 0
@@ -39,8 +39,8 @@ item_of stored.Marker = marker
 item_of (stored.Entry e) = entry (entry_is e)
 
 -- the last one first
-abbrev pub items_of : List Stored → List (Listed ℕ)
-items_of items = reverse (map item_of items)
+abbrev pub listed_items : List Stored → List (Listed ℕ)
+listed_items items = reverse (map item_of items)
 
 -- what a vector holds where no entry is
 abbrev pub is_gone : Stored → Bool
@@ -48,16 +48,16 @@ is_gone stored.Hole = true
 is_gone stored.Marker = false
 is_gone (stored.Entry e) = false
 
-abbrev pub told : Stored → Option (EntryOf ℕ)
-told stored.Hole = None
-told stored.Marker = None
-told (stored.Entry e) = Some (entry_is e)
+abbrev pub stored_entry : Stored → Option (EntryOf ℕ)
+stored_entry stored.Hole = None
+stored_entry stored.Marker = None
+stored_entry (stored.Entry e) = Some (entry_is e)
 
 -- with another node
-abbrev pub renamed : ℕ → Stored → Stored
-renamed node stored.Hole = stored.Hole
-renamed node stored.Marker = stored.Marker
-renamed node (stored.Entry e) = stored.Entry (record e { node = node })
+abbrev pub moved_entry : ℕ → Stored → Stored
+moved_entry node stored.Hole = stored.Hole
+moved_entry node stored.Marker = stored.Marker
+moved_entry node (stored.Entry e) = stored.Entry (record e { node = node })
 
 -- code's nodes and names have smaller numbers
 abbrev pub IsStored : Stored → Type 0

@@ -6,7 +6,7 @@ use Rattle.hopen.specs.Stack.{OpenNode}
 use Rattle.hopen.specs.Opens.{open_of}
 use Rattle.hopen.specs.NameSets.{is_in, set_node}
 use Rattle.hopen.specs.Slots.{somes}
-use Rattle.hnodes.specs.Chains.{last_up}
+use Rattle.hnodes.specs.IndexedList.{last_up}
 use Rattle.names.specs.Sets.{is_special, may_stay_open}
 use Rattle.names.specs.Tags.{tag_of}
 use Rattle.hopen.specs.declared.kept.KeptNode.{KeptNode}
@@ -35,8 +35,8 @@ same_node_of x = x.same_node
 abbrev pub sets_at : KeptNode → SetNodes
 sets_at x = x.sets
 
-abbrev pub kind_at : KeptNode → Kind
-kind_at x = x.kind
+abbrev pub kept_kind_at : KeptNode → Kind
+kept_kind_at x = x.kind
 
 -- the slots of a vector, the current node's first
 abbrev pub slots_of : List KeptNode → List (Option (OpenNode ℕ))
@@ -47,9 +47,9 @@ abbrev pub stack_of : List KeptNode → List (OpenNode ℕ)
 stack_of items = somes (slots_of items)
 
 -- the number after that of the name in a slot; 0 in a hole
-abbrev pub name_in : Option (OpenNode ℕ) → ℕ
-name_in None = 0
-name_in (Some y) = suc y.name
+abbrev pub open_name : Option (OpenNode ℕ) → ℕ
+open_name None = 0
+open_name (Some y) = suc y.name
 
 -- the same of the node
 abbrev pub node_in : Option (OpenNode ℕ) → ℕ
@@ -57,7 +57,7 @@ node_in None = 0
 node_in (Some y) = suc y.node
 
 abbrev pub names_in : List (Option (OpenNode ℕ)) → List ℕ
-names_in ys = map name_in ys
+names_in ys = map open_name ys
 
 abbrev pub nodes_in : List (Option (OpenNode ℕ)) → List ℕ
 nodes_in ys = map node_in ys
@@ -88,9 +88,9 @@ KeepSets ys sets = (set : NameSet) (n : ℕ) → n < length ys → slice_index_o
     → slice_index (map (set_node set) sets) n ≡ nearest_up set ys (suc n)
 
 -- what a slot is
-abbrev pub kind_of : Option (OpenNode ℕ) → Kind
-kind_of None = kind.Hole
-kind_of (Some y) = if may_stay_open (tag_of y.name) then kind.MayStay else kind.MustClose
+abbrev pub kept_kind : Option (OpenNode ℕ) → Kind
+kept_kind None = kind.Hole
+kept_kind (Some y) = if may_stay_open (tag_of y.name) then kind.MayStay else kind.MustClose
 
 -- 1 for a slot whose node may not be open at the end of the body
 abbrev pub closing : Kind → ℕ
@@ -109,12 +109,12 @@ pub record StandsAs (last : LastLevels) (ys : List (Option (OpenNode ℕ))) (sam
   pub names : IsLinked last.names.items (names_in ys) same_names
   pub nodes : IsLinked last.nodes.items (nodes_in ys) same_nodes
   pub sets : KeepSets ys kept
-  pub kinds : ks ≡ map kind_of ys
+  pub kinds : ks ≡ map kept_kind ys
   pub closes : last.must_close ≡ closing_in ks
   pub fits : length last.nodes.items < 2 ^ 32
 
-abbrev pub Stands : LastLevels → List KeptNode → Type 0
-Stands last items = StandsAs last (map opened_by items) (map same_name_of items) (map same_node_of items) (map sets_at items) (map kind_at items)
+abbrev pub LevelsStand : LastLevels → List KeptNode → Type 0
+LevelsStand last items = StandsAs last (map opened_by items) (map same_name_of items) (map same_node_of items) (map sets_at items) (map kept_kind_at items)
 
 -- the last slot is no hole
 abbrev pub EndsOpen : List (Option (OpenNode ℕ)) → Type 0
@@ -122,13 +122,13 @@ EndsOpen ys = (k : ℕ) → length ys ≡ suc k → slice_index_or ys k None ≢
 
 -- All of that between two calls: the last slot is no hole, and the holes are counted.
 pub record Rests (last : LastLevels) (items : List KeptNode) : Type 0 where
-  pub stands : Stands last items
+  pub stands : LevelsStand last items
   pub ends : EndsOpen (map opened_by items)
   pub holes : last.holes + length (stack_of items) ≡ length items
   pub levels : length items < 2 ^ 32
 
 -- a level is kept just by the member at an index, from 1, or where that is 0, just by the table at a number
-pub record IsHeld (table befores : List ℕ) (number level next : ℕ) : Type 0 where
+pub record IsHeldLevel (table befores : List ℕ) (number level next : ℕ) : Type 0 where
   pub in_table : (k : ℕ) → slice_index table k ≡ level → (next ≡ 0) × (k ≡ number)
   pub in_list : (j : ℕ) → slice_index befores j ≡ level → next ≡ suc j
   pub here : next ≡ 0 → slice_index table number ≡ level
@@ -151,7 +151,7 @@ pub record AreAlikeButNames (xs ys : List KeptNode) : Type 0 where
   pub opened : map opened_by xs ≡ map opened_by ys
   pub same_nodes : map same_node_of xs ≡ map same_node_of ys
   pub sets : map sets_at xs ≡ map sets_at ys
-  pub kinds : map kind_at xs ≡ map kind_at ys
+  pub kinds : map kept_kind_at xs ≡ map kept_kind_at ys
 
 -- the same, and the same levels of names, but for where the next node of a name may be
 pub record AreAlike (xs ys : List KeptNode) : Type 0 where
@@ -174,7 +174,7 @@ pub record IsBelow (last : LastLevels) (above : List KeptNode) (new : Open) (x :
   pub same_name : x.same_name ≡ slice_index last.names.items new.name
   pub same_node : x.same_node ≡ slice_index last.nodes.items new.node
   pub sets : (set : NameSet) → set_node set x.sets ≡ nearest_in set (Some (open_of new)) (nearest_up set (map opened_by above) (length above))
-  pub kind : x.kind ≡ kind_of (Some (open_of new))
+  pub kind : x.kind ≡ kept_kind (Some (open_of new))
 
 -- a node that is open at a level and nowhere else, and is not special
 pub record IsAlone (last : LastLevels) (x : KeptNode) (level : ℕ) : Type 0 where
@@ -199,10 +199,10 @@ pub record CanPass (last : LastLevels) (items : List KeptNode) (i j : ℕ) : Typ
   pub lower : (x : KeptNode) → x ≡ slice_index_or items j x → (is_hole x.kind ≡ false) × (slice_index last.nodes.items x.opened.node ≡ suc j)
 
 -- the numbers of a slot are in tables of these lengths
-abbrev pub IsIn : (names nodes : ℕ) → Option (OpenNode ℕ) → Type 0
-IsIn names nodes None = Unit {0}
-IsIn names nodes (Some y) = (y.name < names) × (y.node < nodes)
+abbrev pub IsInSets : (names nodes : ℕ) → Option (OpenNode ℕ) → Type 0
+IsInSets names nodes None = Unit {0}
+IsInSets names nodes (Some y) = (y.name < names) × (y.node < nodes)
 
 abbrev pub AreIn : (names nodes : ℕ) → List (Option (OpenNode ℕ)) → Type 0
 AreIn names nodes [] = Unit {0}
-AreIn names nodes (y ∷ ys) = IsIn names nodes y × AreIn names nodes ys
+AreIn names nodes (y ∷ ys) = IsInSets names nodes y × AreIn names nodes ys

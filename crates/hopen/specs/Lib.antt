@@ -4,7 +4,7 @@ pub mod Opens
 pub mod StackView
 pub mod Coding
 pub mod Rows
-pub mod Spelled
+pub mod Mapped
 pub mod NameSets
 pub mod Slots
 pub mod Kept
@@ -17,4 +17,4 @@ pub mod Listed
 pub mod Hashes
 pub mod Holes
 pub mod FormattingRows
-pub mod FormattingSpelled
+pub mod FormattingMapped

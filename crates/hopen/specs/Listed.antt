@@ -31,7 +31,7 @@ abbrev pub numbers_by : (EntryOf ℕ → ℕ) → List Stored → List ℕ
 numbers_by number items = map (λ i. number_by number (item_of i)) items
 
 -- The numbers that are kept are those of the items, those of the hashes only where there are keys, and from an index on there is no hole.
-pub record IsListed (s : Slots) : Type 0 where
+pub record AreSlotsListed (s : Slots) : Type 0 where
   pub names : s.names ≡ numbers_by by_name s.items.items
   pub hashes : is_some s.keys ≡ true → s.hashes ≡ numbers_by (by_hash s.keys) s.items.items
   pub nodes : s.nodes ≡ numbers_by by_node s.items.items

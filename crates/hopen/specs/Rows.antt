@@ -1,7 +1,7 @@
 -- Worked rows of the definitions, which the prover computes.
 use Rattle.std.specs.Prelude.{◌≡◌, refl, ℕ, Bool, true, false, List, [], ◌∷◌, Some, None, codes, bytes_eq}
 use Rattle.hopen.specs.Stack.{OpenNode, is_node, above, below, in_scope, furthest_block}
-use Rattle.hopen.specs.Scopes.{stops, is_named, is_of}
+use Rattle.hopen.specs.Scopes.{stops_in_scope, is_named, is_of}
 use Rattle.hopen.specs.declared.scope.Scope.{Scope}
 use Rattle.hopen.specs.declared.scope.Scope.TheVariants as scope
 use Rattle.hopen.specs.declared.scope.Group.TheVariants as group
@@ -22,7 +22,7 @@ abbrev cells : List (OpenNode Text)
 cells = node 6 (codes "p") ∷ node 5 (codes "td") ∷ node 4 (codes "table") ∷ node 3 (codes "button") ∷ node 2 (codes "body") ∷ node 1 (codes "html") ∷ []
 
 abbrev finds : Scope → Text → List (OpenNode Text) → Bool
-finds s name stack = in_scope (stops tag_named s) (is_named bytes_eq name) stack
+finds s name stack = in_scope (stops_in_scope tag_named s) (is_named bytes_eq name) stack
 
 -- p is in scope under b; ol is in scope from below li, and in list item scope too, though it is a stop: it is sought
 p_in_scope : finds scope.Default (codes "p") nodes ≡ true
@@ -56,13 +56,13 @@ button_not_in_table_scope : finds scope.Table (codes "button") cells ≡ false
 button_not_in_table_scope = refl
 
 -- a node, and a group
-node_in_scope : in_scope (stops tag_named scope.Default) (is_node 4) nodes ≡ true
+node_in_scope : in_scope (stops_in_scope tag_named scope.Default) (is_node 4) nodes ≡ true
 node_in_scope = refl
 
-node_not_in_scope : in_scope (stops tag_named scope.Default) (is_node 3) cells ≡ false
+node_not_in_scope : in_scope (stops_in_scope tag_named scope.Default) (is_node 3) cells ≡ false
 node_not_in_scope = refl
 
-cell_in_scope : in_scope (stops tag_named scope.Default) (is_of tag_named group.Cell) cells ≡ true
+cell_in_scope : in_scope (stops_in_scope tag_named scope.Default) (is_of tag_named group.Cell) cells ≡ true
 cell_in_scope = refl
 
 -- above and below; the furthest block of the li's node

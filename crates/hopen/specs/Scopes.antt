@@ -25,8 +25,8 @@ is_of_group group.TellsMode t = tells_mode t
 
 module _ {N : Type 0} where
   -- whether an open node stops the search in a scope
-  abbrev pub stops : (N → Tag) → Scope → OpenNode N → Bool
-  stops tag scope x = stops_in scope (tag x.name)
+  abbrev pub stops_in_scope : (N → Tag) → Scope → OpenNode N → Bool
+  stops_in_scope tag scope x = stops_in scope (tag x.name)
 
   -- whether an open node has this name
   abbrev pub is_named : (N → N → Bool) → N → OpenNode N → Bool

@@ -1,5 +1,5 @@
 -- The words of the contracts that several files cite, in one place.
-pub use Rattle.hnodes.specs.Numbered.{numbers_of}
+pub use Rattle.hnodes.specs.Numbered.{attr_numbers}
 pub use Rattle.hnodes.specs.Places.{last_place}
 pub use Rattle.hnodes.specs.Rows.{attribute_of}
 pub use Rattle.hopen.specs.Formatting.{are_among, booked, cleared, entry_at, entry_of, find_entry, for_node, has_bookmark, is_entry, is_equal, marker, pushed}
@@ -7,14 +7,14 @@ pub use Rattle.hopen.specs.Formatting.{same_attribute, same_attributes, with_nod
 pub use Rattle.hopen.specs.Hashes.{distinct, entry_hash, fed_name, hash_of}
 pub use Rattle.hopen.specs.Holes.{nth_live}
 pub use Rattle.hopen.specs.ItemCoding.{coded_items}
-pub use Rattle.hopen.specs.Items.{entry_is, is_gone, item_of, items_of, live, renamed, told, IsStored}
-pub use Rattle.hopen.specs.Kept.{AreAlike, AreAlikeButNames, AreAsLong, AreHoles, AreIn, CanGiveWay, CanPass, EndsOpen, HasRoom, IsAlone, IsBelow, IsHeld, IsLinked, KeepSets, Rests, Stands}
-pub use Rattle.hopen.specs.Kept.{exchanged, is_hole, kind_at, kind_of, closing, name_in, names_in, nearest_in, nearest_up, node_in, nodes_in, opened_by, same_name_of, same_node_of, sets_at, slots_of, stack_of}
+pub use Rattle.hopen.specs.Items.{entry_is, is_gone, item_of, listed_items, live, moved_entry, stored_entry, IsStored}
+pub use Rattle.hopen.specs.Kept.{AreAlike, AreAlikeButNames, AreAsLong, AreHoles, AreIn, CanGiveWay, CanPass, EndsOpen, HasRoom, IsAlone, IsBelow, IsHeldLevel, IsLinked, KeepSets, Rests, LevelsStand}
+pub use Rattle.hopen.specs.Kept.{exchanged, is_hole, kept_kind_at, kept_kind, closing, open_name, names_in, nearest_in, nearest_up, node_in, nodes_in, opened_by, same_name_of, same_node_of, sets_at, slots_of, stack_of}
 pub use Rattle.hopen.specs.Slots.{holds_one, somes}
-pub use Rattle.hopen.specs.Listed.{by_hash, by_name, by_node, number_by, numbers_by, IsListed}
+pub use Rattle.hopen.specs.Listed.{by_hash, by_name, by_node, number_by, numbers_by, AreSlotsListed}
 pub use Rattle.hopen.specs.NameSets.{holds, is_in, set_node}
 pub use Rattle.hopen.specs.Opens.{is_sought, open_of}
-pub use Rattle.hopen.specs.Scopes.{is_named, is_of, stops, stops_item}
+pub use Rattle.hopen.specs.Scopes.{is_named, is_of, stops_in_scope, stops_item}
 pub use Rattle.hopen.specs.Stack.{above, current, furthest_block, in_scope, is_node, is_open}
 pub use Rattle.hopen.specs.declared.scope.Scope.TheVariants.{Default}
 pub use Rattle.names.specs.Sets.{is_special, may_stay_open}

@@ -2,9 +2,9 @@
 
 ghost use Rattle.std.specs.Prelude.{◌≡◌, IfOk, map, nat_eq};
 ghost use Rattle.std.specs.List.{list_any};
-ghost use Rattle.hopen.specs.Vocabulary.{are_among, attribute_of, numbers_of, same_attribute, same_attributes};
+ghost use Rattle.hopen.specs.Vocabulary.{are_among, attribute_of, attr_numbers, same_attribute, same_attributes};
 
-use hnodes::{Chains, FEW_ATTRIBUTES, index_attrs, name_number};
+use hnodes::{FEW_ATTRIBUTES, IndexedList, index_attrs, name_number};
 use names::Attr;
 use std::alloc::{AllocError, Global};
 
@@ -27,8 +27,8 @@ fn are_found(attrs: &[Attr], others: &[Attr]) -> bool
 }
 
 /// `contains`, by the numbers of the names: only attributes of the same name are looked at.
-fn contains_by_name(names: &Chains, attrs: &[Attr], attr: &Attr) -> bool
-    requires { names.now ≡ numbers_of attrs.now }
+fn contains_by_name(names: &IndexedList, attrs: &[Attr], attr: &Attr) -> bool
+    requires { names.now ≡ attr_numbers attrs.now }
     ensures { result ≡ list_any (same_attribute nat_eq (attribute_of attr.now)) (map attribute_of attrs.now) }
 {
     let mut place = names.last(name_number(attr.name()));
@@ -42,8 +42,8 @@ fn contains_by_name(names: &Chains, attrs: &[Attr], attr: &Attr) -> bool
 }
 
 /// `are_found`, by the numbers of the names of the others.
-fn are_found_by_name(names: &Chains, attrs: &[Attr], others: &[Attr]) -> bool
-    requires { names.now ≡ numbers_of others.now }
+fn are_found_by_name(names: &IndexedList, attrs: &[Attr], others: &[Attr]) -> bool
+    requires { names.now ≡ attr_numbers others.now }
     ensures { result ≡ are_among nat_eq (map attribute_of attrs.now) (map attribute_of others.now) }
 {
     for attr in attrs {

@@ -2,7 +2,7 @@
 
 ghost use Rattle.std.specs.Prelude.{◌≡◌, IfOk, map, nat_eq, false};
 ghost use Rattle.std.specs.Option.{option_map, option_map_or};
-ghost use Rattle.hopen.specs.Vocabulary.{attribute_of, entry_is, is_equal, is_gone, renamed, told};
+ghost use Rattle.hopen.specs.Vocabulary.{attribute_of, entry_is, is_equal, is_gone, moved_entry, stored_entry};
 
 use crate::attributes::are_same;
 use hnodes::{Attributes, NodeId};
@@ -41,7 +41,7 @@ impl Entry {
 impl Slot {
     /// The entry, if it is one.
     pub(crate) fn entry(&self) -> Option<&Entry>
-        ensures { option_map (λ e. entry_is e.now) result ≡ told self.now }
+        ensures { option_map (λ e. entry_is e.now) result ≡ stored_entry self.now }
     {
         match self {
             Slot::Hole | Slot::Marker => None,
@@ -65,7 +65,7 @@ impl Slot {
     ) -> Result<bool, AllocError>
         // whatever the new entry's node
         ensures { IfOk result (λ equal. equal
-            ≡ option_map_or (is_equal nat_eq (record { node = 0; name = name; attrs = map attribute_of attrs.now })) (told self.now) false) }
+            ≡ option_map_or (is_equal nat_eq (record { node = 0; name = name; attrs = map attribute_of attrs.now })) (stored_entry self.now) false) }
     {
         let Slot::Entry(entry) = self else {
             return Ok(false);
@@ -75,7 +75,7 @@ impl Slot {
 
     /// Sets the node of an entry; does nothing to a marker or a hole.
     pub(crate) fn set_node(&mut self, node: NodeId)
-        ensures { self.new ≡ renamed node self.old }
+        ensures { self.new ≡ moved_entry node self.old }
     {
         if let Slot::Entry(entry) = self {
             entry.node = node;

@@ -3,10 +3,10 @@
 
 ghost use Rattle.std.specs.Prelude.{◌≡◌, ◌≢◌, ℕ, ◌+◌, ◌<◌, ◌≤◌, ◌^◌, ◌==◌, ◌&&◌, None, false, true, suc, drop, length, map, reverse};
 ghost use Rattle.std.specs.Prelude.{slice_index, slice_index_or, slice_set, vec_capacity, vec_len, if◌then◌else◌};
-ghost use Rattle.hnodes.specs.Nearest.{put_before, without};
+ghost use Rattle.hnodes.specs.Nearest.{item_put_before, without};
 ghost use Rattle.hopen.specs.Vocabulary.{exchanged, is_hole, is_node, is_open, is_special, names_in, open_of, opened_by, same_name_of, same_node_of, sets_at};
-ghost use Rattle.hopen.specs.Vocabulary.{kind_at, somes, stack_of, tag_of, AreAlikeButNames, AreAsLong, AreHoles, CanPass, EndsOpen, HasRoom, IsHeld, IsLinked};
-ghost use Rattle.hopen.specs.Vocabulary.{KeepSets, Rests, Stands};
+ghost use Rattle.hopen.specs.Vocabulary.{kept_kind_at, somes, stack_of, tag_of, AreAlikeButNames, AreAsLong, AreHoles, CanPass, EndsOpen, HasRoom, IsHeldLevel, IsLinked};
+ghost use Rattle.hopen.specs.Vocabulary.{KeepSets, Rests, LevelsStand};
 ghost use Rattle.hopen.specs.declared.kept.Kind.TheVariants as Kind;
 
 use crate::kept::{KeptNode, LastLevels, hint, insert, replace};
@@ -21,7 +21,7 @@ fn next_of_name(names: &[u32], items: &[KeptNode], index: usize) -> u32
     requires levels { length items.now < 2 ^ 32 }
     requires within { index < length items.now }
     requires live { (x : KeptNode) → x ≡ slice_index_or items.now index x → is_hole x.kind ≡ false }
-    ensures { (x : KeptNode) → x ≡ slice_index_or items.now index x → IsHeld names.now (map same_name_of items.now) x.opened.name (index + 1) result }
+    ensures { (x : KeptNode) → x ≡ slice_index_or items.now index x → IsHeldLevel names.now (map same_name_of items.now) x.opened.name (index + 1) result }
 {
     let item = items[index];
     let level = index as u32 + 1;
@@ -127,29 +127,31 @@ fn swap_items(items: &mut [KeptNode], index: usize, below: usize)
     ensures same_names { map same_name_of items.new ≡ map same_name_of items.old }
     ensures same_nodes { map same_node_of items.new ≡ exchanged index below 0 (map same_node_of items.old) }
     ensures sets { KeepSets (map opened_by items.new) (map sets_at items.new) }
-    ensures kinds { map kind_at items.new ≡ exchanged index below Kind.Hole (map kind_at items.old) }
+    ensures kinds { map kept_kind_at items.new ≡ exchanged index below Kind.Hole (map kept_kind_at items.old) }
 {
     let upper = items[index];
     let lower = items[below];
-    items[index] = KeptNode {
-        same_name: upper.same_name,
-        next_name: upper.next_name,
+    items[below] = KeptNode {
+        opened: upper.opened,
+        same_node: upper.same_node,
+        kind: upper.kind,
         ..lower
     };
-    items[below] = KeptNode {
-        same_name: lower.same_name,
-        next_name: lower.next_name,
+    items[index] = KeptNode {
+        opened: lower.opened,
+        same_node: lower.same_node,
         sets: lower.sets,
+        kind: lower.kind,
         ..upper
     };
 }
 
 /// Exchanges a node that is not special and the next one below it. Neither is open further below.
 fn swap(last: &mut LastLevels, items: &mut [KeptNode], index: usize, below: usize)
-    requires stands { Stands last.old items.old }
+    requires stands { LevelsStand last.old items.old }
     requires levels { length items.old < 2 ^ 32 }
     requires can_pass { CanPass last.old items.old index below }
-    ensures stands { Stands last.new items.new }
+    ensures stands { LevelsStand last.new items.new }
     ensures opened { map opened_by items.new ≡ exchanged index below None (map opened_by items.old) }
     ensures tables { AreAsLong last.new last.old }
 {
@@ -196,13 +198,13 @@ fn next_open(items: &[KeptNode], index: usize) -> usize
 
 /// Moves a node down to another index, or up to the first node that it cannot pass, and returns where it then is.
 fn sink(last: &mut LastLevels, items: &mut [KeptNode], from: usize, to: usize) -> usize
-    requires stands { Stands last.old items.old }
+    requires stands { LevelsStand last.old items.old }
     requires ends { EndsOpen (map opened_by items.old) }
     requires levels { length items.old < 2 ^ 32 }
     requires from { from < length items.old }
     requires live { slice_index_or (map opened_by items.old) from None ≢ None }
     requires to { to < length items.old }
-    ensures stands { Stands last.new items.new }
+    ensures stands { LevelsStand last.new items.new }
     ensures ends { EndsOpen (map opened_by items.new) }
     ensures within { result < length items.new }
     ensures same { slice_index_or (map opened_by items.new) result None ≡ slice_index_or (map opened_by items.old) from None }
@@ -239,7 +241,7 @@ fn move_below(
     requires new_in { HasRoom last.old new }
     ensures rests { Rests last.new items.new.items }
     ensures items { stack_of items.new.items
-        ≡ put_before (is_node above) (open_of new) (somes (reverse (slice_set (map opened_by items.old.items) index None))) }
+        ≡ item_put_before (is_node above) (open_of new) (somes (reverse (slice_set (map opened_by items.old.items) index None))) }
 {
     remove(last, items, index);
     let level = last.of_node(above) as usize;
@@ -263,7 +265,7 @@ pub(crate) fn exchange(
     requires levels { length items.old.items + 1 < 2 ^ 32 }
     requires new_in { HasRoom last.old new }
     ensures rests { Rests last.new items.new.items }
-    ensures items { stack_of items.new.items ≡ put_before (is_node above) (open_of new) (without (is_node leaving) (stack_of items.old.items)) }
+    ensures items { stack_of items.new.items ≡ item_put_before (is_node above) (open_of new) (without (is_node leaving) (stack_of items.old.items)) }
 {
     let from = last.of_node(leaving) as usize - 1;
     let to = (last.of_node(above) as usize).saturating_sub(1);

@@ -1,15 +1,15 @@
 //! The list of active formatting elements (HTML Standard, `#the-list-of-active-formatting-elements`).
 
-ghost use Rattle.std.specs.Prelude.{◌≡◌, ℕ, List, suc, ◌-◌, ◌≤◌, ◌∷◌, [], IsTrue, OnOk, OnErr, length, nat_eq};
-ghost use Rattle.std.specs.List.{All, list_any};
+ghost use Rattle.std.specs.Prelude.{◌≡◌, ℕ, List, ◌-◌, ◌<◌, ◌≤◌, ◌∷◌, [], IsTrue, OnOk, OnErr, length, nat_eq, slice_index_or, true};
+ghost use Rattle.std.specs.List.{list_any};
 ghost use Rattle.std.specs.Option.{is_some, option_map};
 ghost use Rattle.hnodes.specs.Nearest.{changed_at, without};
-ghost use Rattle.hopen.specs.Vocabulary.{booked, cleared, entry_at, entry_is, entry_of, find_entry, for_node, has_bookmark, is_entry, items_of, live, marker};
-ghost use Rattle.hopen.specs.Vocabulary.{coded_items, nth_live, pushed, with_node, without_entry, IsListed, IsStored, Listed};
+ghost use Rattle.hopen.specs.Vocabulary.{booked, cleared, entry_at, entry_is, entry_of, find_entry, for_node, has_bookmark, is_entry, is_gone, listed_items, live, marker};
+ghost use Rattle.hopen.specs.Vocabulary.{coded_items, nth_live, pushed, with_node, without_entry, AreSlotsListed, Listed};
+ghost use Rattle.hopen.specs.declared.entry.Slot.TheVariants as stored;
 
 use crate::bookmark::Bookmark;
 use crate::entry::{Entry, Slot};
-use crate::hashes::find_hash;
 use crate::slots::{FEW, MARKER, Numbers, Slots, node_number};
 use hnodes::{Attributes, NodeId, name_number};
 use names::{Keys, NameId};
@@ -34,15 +34,15 @@ impl Model for Formatting {
 
     ghost coded = { coded_items };
 
-    ghost view = { λ f. live (items_of f.slots.items.items) };
+    ghost view = { λ f. live (listed_items f.slots.items.items) };
 
-    ghost invariant = { λ f. IsListed f.slots };
+    ghost invariant = { λ f. AreSlotsListed f.slots };
 }
 
 /// The index of the item with `back` items after it, holes not counted.
 fn slot(slots: &Slots, back: usize) -> Option<usize>
-    requires { IsListed slots.now }
-    ensures { result ≡ option_map (λ up. length slots.now.items.items - 1 - up) (nth_live back (items_of slots.now.items.items)) }
+    requires { AreSlotsListed slots.now }
+    ensures { result ≡ option_map (λ up. length slots.now.items.items - 1 - up) (nth_live back (listed_items slots.now.items.items)) }
 {
     let len = slots.items.len();
     if back < len - slots.solid {
@@ -62,26 +62,31 @@ fn slot(slots: &Slots, back: usize) -> Option<usize>
     None
 }
 
+/// Whether the last item is a hole.
+fn ends_in_hole(slots: &Slots) -> bool
+    ensures { (result ≡ true) → (0 < length slots.now.items.items)
+        × (is_gone (slice_index_or slots.now.items.items (length slots.now.items.items - 1) stored.Hole) ≡ true) }
+{
+    let len = slots.items.len();
+    len > 0 && slots.items[len - 1].is_hole()
+}
+
 /// Removes the holes at the end.
 fn trim(slots: &mut Slots)
-    requires { IsListed slots.old }
-    ensures listed { IsListed slots.new }
-    ensures same { live (items_of slots.new.items.items) ≡ live (items_of slots.old.items.items) }
+    requires { AreSlotsListed slots.old }
+    ensures listed { AreSlotsListed slots.new }
+    ensures same { live (listed_items slots.new.items.items) ≡ live (listed_items slots.old.items.items) }
 {
-    let mut len = slots.items.len();
-    while len > 0 && slots.items[len - 1].is_hole() {
-        len -= 1;
-    }
-    if len < slots.items.len() {
-        slots.truncate(len);
+    while ends_in_hole(slots) {
+        slots.pop();
     }
 }
 
 /// Where the items have no room for one more, closes the holes and makes room for as many as there are.
 fn make_room(slots: &mut Slots) -> Result<(), AllocError>
-    requires { IsListed slots.old }
-    ensures listed { IsListed slots.new }
-    ensures same { live (items_of slots.new.items.items) ≡ live (items_of slots.old.items.items) }
+    requires { AreSlotsListed slots.old }
+    ensures listed { AreSlotsListed slots.new }
+    ensures same { live (listed_items slots.new.items.items) ≡ live (listed_items slots.old.items.items) }
 {
     if slots.items.len() < slots.items.capacity() {
         return Ok(());
@@ -111,10 +116,9 @@ impl Formatting {
         ensures err { OnErr result (self.new ≡ self.old) }
     {
         make_room(&mut self.slots)?;
-        self.slots.hash_if_crowded(self.alloc, &self.keys, name)?;
-        let list = attrs.as_slice();
-        let hash = find_hash(self.alloc, self.slots.keys, name, list)?;
-        let earliest = self.slots.giving_way(self.alloc, hash, name, list)?;
+        let (hash, earliest) = self
+            .slots
+            .prepare(self.alloc, &self.keys, name, attrs.as_slice())?;
         let numbers = Numbers {
             name: name_number(name),
             hash,
@@ -282,7 +286,7 @@ impl Formatting {
         if place < self.slots.items.len() {
             self.slots.hide(place - 1);
         } else {
-            self.slots.truncate(place - 1);
+            self.slots.pop();
         }
         trim(&mut self.slots);
         more

@@ -1,10 +1,10 @@
 //! The levels that open nodes keep, so that no question has to search the stack.
 
 ghost use Rattle.std.specs.Prelude.{◌≡◌, ◌≢◌, List, true, false, ℕ, ◌+◌, ◌-◌, ◌<◌, ◌≤◌, ◌^◌, OnOk, OnErr, ◌∷◌, Some, None, drop, insert, length, map, take};
-ghost use Rattle.std.specs.Prelude.{slice_index, slice_index_or, slice_set, vec_capacity, vec_len, if◌then◌else◌};
+ghost use Rattle.std.specs.Prelude.{slice_index, slice_index_or, slice_set, vec_capacity, vec_len};
 ghost use Rattle.std.specs.Option.{option_map};
-ghost use Rattle.hopen.specs.Vocabulary.{closing, is_hole, kind_of, nearest_up, open_of, opened_by, set_node, sets_at, stack_of, tag_of};
-ghost use Rattle.hopen.specs.Vocabulary.{AreAlike, AreAsLong, AreIn, CanGiveWay, EndsOpen, HasRoom, IsAlone, IsBelow, KeepSets, Rests, Stands};
+ghost use Rattle.hopen.specs.Vocabulary.{closing, is_hole, kept_kind, nearest_up, open_of, opened_by, set_node, sets_at, stack_of, tag_of};
+ghost use Rattle.hopen.specs.Vocabulary.{AreAlike, AreAsLong, AreIn, CanGiveWay, EndsOpen, HasRoom, IsAlone, IsBelow, KeepSets, Rests, LevelsStand};
 ghost use Rattle.hopen.specs.declared.kept.Kind.TheVariants as Kind;
 
 use crate::name_sets::{NameSet, SetNodes};
@@ -83,7 +83,7 @@ impl Kind {
     #[inline(always)]
     fn of(tag: Tag) -> Kind
         ensures live { is_hole result ≡ false }
-        ensures kind { (name : ℕ) → tag ≡ tag_of name → (node : ℕ) → result ≡ kind_of (Some (record { node = node; name = name })) }
+        ensures kind { (name : ℕ) → tag ≡ tag_of name → (node : ℕ) → result ≡ kept_kind (Some (record { node = node; name = name })) }
     {
         if tag.sets() & MAY_STAY_OPEN == 0 {
             Kind::MustClose
@@ -264,9 +264,9 @@ pub(crate) fn hint(items: &mut [KeptNode], level: u32, next: u32)
 
 /// Takes the nodes of the slots from an index on out of the tables, the last one first.
 pub(crate) fn unwind(last: &mut LastLevels, items: &[KeptNode], from: usize)
-    requires stands { Stands last.old items.now }
+    requires stands { LevelsStand last.old items.now }
     requires within { from ≤ length items.now }
-    ensures stands { Stands last.new (take from items.now) }
+    ensures stands { LevelsStand last.new (take from items.now) }
     ensures numbers { AreIn (length last.new.names.items) (length last.new.nodes.items) (map opened_by (drop from items.now)) }
     ensures tables { AreAsLong last.new last.old }
 {
@@ -281,9 +281,9 @@ pub(crate) fn unwind(last: &mut LastLevels, items: &[KeptNode], from: usize)
 #[inline(always)]
 fn close_at(last: &mut LastLevels, items: &[KeptNode], index: usize)
     requires within { index < length items.now }
-    requires stands { Stands last.old (take (index + 1) items.now) }
+    requires stands { LevelsStand last.old (take (index + 1) items.now) }
     requires numbers { AreIn (length last.old.names.items) (length last.old.nodes.items) (map opened_by (drop (index + 1) items.now)) }
-    ensures stands { Stands last.new (take index items.now) }
+    ensures stands { LevelsStand last.new (take index items.now) }
     ensures numbers { AreIn (length last.new.names.items) (length last.new.nodes.items) (map opened_by (drop index items.now)) }
     ensures tables { AreAsLong last.new last.old }
 {
@@ -316,53 +316,53 @@ fn slot_below(last: &LastLevels, sets: SetNodes, opened: Open) -> KeptNode
     }
 }
 
-/// Writes the level of the node of a new slot into the tables.
+/// Writes the level of the node of a new slot, which is this, into the tables.
 #[inline(always)]
-fn enter(last: &mut LastLevels, items: &mut [KeptNode], index: usize)
-    requires stands { Stands last.old (take index items.old) }
+fn enter(last: &mut LastLevels, items: &mut [KeptNode], index: usize, slot: KeptNode)
+    requires stands { LevelsStand last.old (take index items.old) }
     requires within { index < length items.old }
-    requires slot { (x : KeptNode) → x ≡ slice_index_or items.old index x → IsBelow last.old (take index items.old) x.opened x }
-    requires room { (x : KeptNode) → x ≡ slice_index_or items.old index x → HasRoom last.old x.opened }
+    requires slot { slot ≡ slice_index_or items.old index slot }
+    requires below { IsBelow last.old (take index items.old) slot.opened slot }
+    requires room { HasRoom last.old slot.opened }
     requires levels { length items.old < 2 ^ 32 }
-    ensures stands { Stands last.new (take (index + 1) items.new) }
+    ensures stands { LevelsStand last.new (take (index + 1) items.new) }
     ensures same { map opened_by items.new ≡ map opened_by items.old }
     ensures tables { AreAsLong last.new last.old }
 {
     let level = index as u32 + 1;
-    let opened = items[index].opened;
-    let same_name = items[index].same_name;
-    let kind = items[index].kind;
-    last.set(opened, level, level);
-    last.must_close += kind.closing();
-    hint(items, same_name, level);
+    last.set(slot.opened, level, level);
+    last.must_close += slot.kind.closing();
+    hint(items, slot.same_name, level);
 }
 
 /// Opens the node of the slot at an index right below those above it.
 #[inline(always)]
 fn open_at(last: &mut LastLevels, items: &mut [KeptNode], index: usize)
-    requires stands { Stands last.old (take index items.old) }
+    requires stands { LevelsStand last.old (take index items.old) }
     requires within { index < length items.old }
     requires live { (x : KeptNode) → x ≡ slice_index_or items.old index x → is_hole x.kind ≡ false }
     requires numbers { AreIn (length last.old.names.items) (length last.old.nodes.items) (map opened_by (drop index items.old)) }
     requires levels { length items.old < 2 ^ 32 }
-    ensures stands { Stands last.new (take (index + 1) items.new) }
+    ensures stands { LevelsStand last.new (take (index + 1) items.new) }
     ensures numbers { AreIn (length last.new.names.items) (length last.new.nodes.items) (map opened_by (drop (index + 1) items.new)) }
     ensures same { map opened_by items.new ≡ map opened_by items.old }
     ensures tables { AreAsLong last.new last.old }
 {
     let opened = items[index].opened;
-    items[index] = slot_below(last, sets_of(&items[..index]), opened);
-    enter(last, items, index);
+    let slot = slot_below(last, sets_of(&items[..index]), opened);
+    let below = slot;
+    items[index] = below;
+    enter(last, items, index, slot);
 }
 
 /// Puts the slot at an index right below those above it.
 #[inline(always)]
 fn settle(last: &mut LastLevels, items: &mut [KeptNode], index: usize)
-    requires stands { Stands last.old (take index items.old) }
+    requires stands { LevelsStand last.old (take index items.old) }
     requires within { index < length items.old }
     requires numbers { AreIn (length last.old.names.items) (length last.old.nodes.items) (map opened_by (drop index items.old)) }
     requires levels { length items.old < 2 ^ 32 }
-    ensures stands { Stands last.new (take (index + 1) items.new) }
+    ensures stands { LevelsStand last.new (take (index + 1) items.new) }
     ensures numbers { AreIn (length last.new.names.items) (length last.new.nodes.items) (map opened_by (drop (index + 1) items.new)) }
     ensures same { map opened_by items.new ≡ map opened_by items.old }
     ensures tables { AreAsLong last.new last.old }
@@ -377,11 +377,11 @@ fn settle(last: &mut LastLevels, items: &mut [KeptNode], index: usize)
 
 /// Puts the slots from an index on below those above them again, with the levels that they have now.
 pub(crate) fn rewind(last: &mut LastLevels, items: &mut [KeptNode], from: usize)
-    requires stands { Stands last.old (take from items.old) }
+    requires stands { LevelsStand last.old (take from items.old) }
     requires within { from ≤ length items.old }
     requires numbers { AreIn (length last.old.names.items) (length last.old.nodes.items) (map opened_by (drop from items.old)) }
     requires levels { length items.old < 2 ^ 32 }
-    ensures stands { Stands last.new items.new }
+    ensures stands { LevelsStand last.new items.new }
     ensures same { map opened_by items.new ≡ map opened_by items.old }
     ensures tables { AreAsLong last.new last.old }
 {
@@ -411,8 +411,10 @@ pub(crate) fn append(
     ensures capacity { vec_capacity items.old ≤ vec_capacity items.new }
 {
     let index = items.len();
-    items.push(slot_below(last, sets_at_end(items), opened))?;
-    enter(last, items, index);
+    let slot = slot_below(last, sets_at_end(items), opened);
+    let below = slot;
+    items.push(below)?;
+    enter(last, items, index, slot);
     Ok(())
 }
 
@@ -454,11 +456,11 @@ fn can_give_way(last: &LastLevels, item: &KeptNode, level: u32, name: NameId, no
 /// Puts a new node in the place of any: what is kept below it is made anew.
 #[inline(never)]
 fn replace_slowly(last: &mut LastLevels, items: &mut [KeptNode], index: usize, new: Open)
-    requires stands { Stands last.old items.old }
+    requires stands { LevelsStand last.old items.old }
     requires within { index < length items.old }
     requires levels { length items.old < 2 ^ 32 }
     requires new_in { HasRoom last.old new }
-    ensures stands { Stands last.new items.new }
+    ensures stands { LevelsStand last.new items.new }
     ensures items { map opened_by items.new ≡ slice_set (map opened_by items.old) index (Some (open_of new)) }
     ensures tables { AreAsLong last.new last.old }
 {
@@ -470,12 +472,12 @@ fn replace_slowly(last: &mut LastLevels, items: &mut [KeptNode], index: usize, n
 /// Puts a new node in the place of one. It takes constant time where the new node has the name of the old one, which is not special and
 /// open nowhere else; otherwise it updates what is kept below it.
 pub(crate) fn replace(last: &mut LastLevels, items: &mut [KeptNode], index: usize, new: Open)
-    requires stands { Stands last.old items.old }
+    requires stands { LevelsStand last.old items.old }
     requires within { index < length items.old }
     requires live { slice_index_or (map opened_by items.old) index None ≢ None }
     requires levels { length items.old < 2 ^ 32 }
     requires new_in { HasRoom last.old new }
-    ensures stands { Stands last.new items.new }
+    ensures stands { LevelsStand last.new items.new }
     ensures items { map opened_by items.new ≡ slice_set (map opened_by items.old) index (Some (open_of new)) }
     ensures tables { AreAsLong last.new last.old }
 {
@@ -494,12 +496,12 @@ pub(crate) fn replace(last: &mut LastLevels, items: &mut [KeptNode], index: usiz
 
 /// Inserts a slot for a node at an index, and updates the levels below it.
 pub(crate) fn insert(last: &mut LastLevels, items: &mut Vec<KeptNode>, index: usize, new: Open)
-    requires stands { Stands last.old items.old.items }
+    requires stands { LevelsStand last.old items.old.items }
     requires within { index ≤ length items.old.items }
     requires room { vec_len items.old < vec_capacity items.old }
     requires levels { length items.old.items + 1 < 2 ^ 32 }
     requires new_in { HasRoom last.old new }
-    ensures stands { Stands last.new items.new.items }
+    ensures stands { LevelsStand last.new items.new.items }
     ensures items { map opened_by items.new.items ≡ insert (map opened_by items.old.items) index (Some (open_of new)) }
     ensures tables { AreAsLong last.new last.old }
 {

@@ -2,8 +2,8 @@
 //! (`#the-list-of-active-formatting-elements`): edits and questions are the same over numbers of names as over their texts.
 
 ghost use Rattle.std.specs.Prelude.{ℕ, List, nat_eq, bytes_eq};
-ghost use Rattle.hopen.specs.FormattingSpelled.{FormattingKnowsNoNames};
-ghost use Rattle.hopen.specs.Spelled.{StackKnowsNoNames};
+ghost use Rattle.hopen.specs.FormattingMapped.{FormattingKnowsNoNames};
+ghost use Rattle.hopen.specs.Mapped.{StackKnowsNoNames};
 ghost use Rattle.names.specs.Spelling.{SpellsNumbers};
 ghost use Rattle.names.specs.Tags.{tag_of, tag_named};
 

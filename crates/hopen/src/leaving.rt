@@ -3,7 +3,7 @@
 ghost use Rattle.std.specs.Prelude.{◌≡◌, ◌≢◌, ◌+◌, ◌-◌, ◌<◌, ◌≤◌, ◌^◌, true, false, suc, IfSome, None, drop, length, map, reverse, slice_index_or, slice_set};
 ghost use Rattle.std.specs.Prelude.{vec_capacity, vec_len};
 ghost use Rattle.std.specs.Option.{option_map};
-ghost use Rattle.hopen.specs.Vocabulary.{current, open_of, opened_by, somes, stack_of, AreAsLong, EndsOpen, HasRoom, IsAlone, Rests, Stands};
+ghost use Rattle.hopen.specs.Vocabulary.{current, open_of, opened_by, somes, stack_of, AreAsLong, EndsOpen, HasRoom, IsAlone, Rests, LevelsStand};
 
 use crate::exchange::unlink_name;
 use crate::kept::{KeptNode, LastLevels, append, is_alone, rewind, unwind};
@@ -21,7 +21,7 @@ fn ends_in_hole(items: &[KeptNode]) -> bool
 
 /// Takes away the holes at the end, one at a time.
 fn trim(last: &mut LastLevels, items: &mut Vec<KeptNode>)
-    requires stands { Stands last.old items.old.items }
+    requires stands { LevelsStand last.old items.old.items }
     requires holes { last.old.holes + length (stack_of items.old.items) ≡ length items.old.items }
     requires levels { length items.old.items < 2 ^ 32 }
     ensures rests { Rests last.new items.new.items }
@@ -40,7 +40,7 @@ fn trim(last: &mut LastLevels, items: &mut Vec<KeptNode>)
 #[inline(always)]
 fn take_last(last: &mut LastLevels, items: &mut Vec<KeptNode>) -> Option<Open>
     requires { Rests last.old items.old.items }
-    ensures stands { Stands last.new items.new.items }
+    ensures stands { LevelsStand last.new items.new.items }
     ensures holes { last.new.holes + length (stack_of items.new.items) ≡ length items.new.items }
     ensures popped { option_map open_of result ≡ current (stack_of items.old.items) }
     ensures rest { stack_of items.new.items ≡ drop 1 (stack_of items.old.items) }
@@ -83,7 +83,7 @@ fn lift(last: &mut LastLevels, items: &mut Vec<KeptNode>)
 /// at once, however many have left from there.
 #[inline(never)]
 fn tidy(last: &mut LastLevels, items: &mut Vec<KeptNode>)
-    requires stands { Stands last.old items.old.items }
+    requires stands { LevelsStand last.old items.old.items }
     requires holes { last.old.holes + length (stack_of items.old.items) ≡ length items.old.items }
     requires levels { length items.old.items < 2 ^ 32 }
     ensures rests { Rests last.new items.new.items }
@@ -115,11 +115,11 @@ pub(crate) fn pop(last: &mut LastLevels, items: &mut Vec<KeptNode>) -> Option<Op
 
 /// Makes a hole of a slot whose node is open nowhere else and not special. It takes constant time.
 fn leave(last: &mut LastLevels, items: &mut [KeptNode], index: usize)
-    requires stands { Stands last.old items.old }
+    requires stands { LevelsStand last.old items.old }
     requires within { index < length items.old }
     requires levels { length items.old < 2 ^ 32 }
     requires alone { (x : KeptNode) → x ≡ slice_index_or items.old index x → IsAlone last.old x (suc index) }
-    ensures stands { Stands last.new items.new }
+    ensures stands { LevelsStand last.new items.new }
     ensures opened { map opened_by items.new ≡ slice_set (map opened_by items.old) index None }
     ensures tables { AreAsLong last.new last.old }
 {
@@ -134,10 +134,10 @@ fn leave(last: &mut LastLevels, items: &mut [KeptNode], index: usize)
 /// The same of any node: what is kept below it is made anew.
 #[inline(never)]
 fn leave_slowly(last: &mut LastLevels, items: &mut [KeptNode], index: usize)
-    requires stands { Stands last.old items.old }
+    requires stands { LevelsStand last.old items.old }
     requires within { index < length items.old }
     requires levels { length items.old < 2 ^ 32 }
-    ensures stands { Stands last.new items.new }
+    ensures stands { LevelsStand last.new items.new }
     ensures opened { map opened_by items.new ≡ slice_set (map opened_by items.old) index None }
     ensures tables { AreAsLong last.new last.old }
 {
@@ -149,11 +149,11 @@ fn leave_slowly(last: &mut LastLevels, items: &mut [KeptNode], index: usize)
 
 /// Makes a hole of a slot. It takes constant time where its node is not special and open nowhere else.
 fn make_hole(last: &mut LastLevels, items: &mut [KeptNode], index: usize)
-    requires stands { Stands last.old items.old }
+    requires stands { LevelsStand last.old items.old }
     requires within { index < length items.old }
     requires live { slice_index_or (map opened_by items.old) index None ≢ None }
     requires levels { length items.old < 2 ^ 32 }
-    ensures stands { Stands last.new items.new }
+    ensures stands { LevelsStand last.new items.new }
     ensures opened { map opened_by items.new ≡ slice_set (map opened_by items.old) index None }
     ensures tables { AreAsLong last.new last.old }
 {

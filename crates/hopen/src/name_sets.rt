@@ -1,6 +1,6 @@
 //! Sets of known names, and which open nodes are the nearest of each set.
 
-ghost use Rattle.std.specs.Prelude.{◌≡◌, false, if◌then◌else◌};
+ghost use Rattle.std.specs.Prelude.{◌≡◌, if◌then◌else◌};
 ghost use Rattle.hopen.specs.NameSets.{is_in_set, set_node};
 
 use crate::scope::{Group, Scope};

@@ -1,18 +1,18 @@
 //! The items of the list of active formatting elements, with the holes that entries leave: nothing moves where one is removed.
 
-ghost use Rattle.std.specs.Prelude.{◌≡◌, ◌≢◌, ℕ, suc, ◌+◌, ◌-◌, ◌<◌, ◌≤◌, ◌++◌, ◌∷◌, [], IfOk, IfSome, OnOk, OnErr, IsTrue, is_some, true, false, insert};
-ghost use Rattle.std.specs.Prelude.{◌⊎◌, Some, length, map, nat_eq, not, remove, slice_index, slice_index_or, slice_set, filter, take, drop};
+ghost use Rattle.std.specs.Prelude.{◌≡◌, ◌≢◌, suc, ◌+◌, ◌-◌, ◌<◌, ◌≤◌, ◌++◌, ◌∷◌, [], IfOk, IfSome, OnOk, OnErr, IsTrue, is_some, true, false, insert};
+ghost use Rattle.std.specs.Prelude.{◌⊎◌, Some, None, length, map, nat_eq, not, remove, slice_index, slice_index_or, slice_set, filter, take, drop};
 ghost use Rattle.std.specs.List.{All, list_any};
 ghost use Rattle.std.specs.Option.{option_map_or};
-ghost use Rattle.hnodes.specs.Chains.{none};
-ghost use Rattle.hnodes.specs.Nearest.{changed_at, put_before};
-ghost use Rattle.hopen.specs.Vocabulary.{attribute_of, by_hash, by_name, by_node, entry_hash, for_node, is_entry, is_gone, item_of, items_of, live, number_by, numbers_by};
-ghost use Rattle.hopen.specs.Vocabulary.{told, with_room, IsListed, IsStored};
+ghost use Rattle.hnodes.specs.IndexedList.{none};
+ghost use Rattle.hnodes.specs.Nearest.{changed_at, item_put_before};
+ghost use Rattle.hopen.specs.Vocabulary.{attribute_of, by_hash, by_name, by_node, entry_hash, find_entry, for_node, is_entry, is_gone, item_of, listed_items, live, number_by, numbers_by};
+ghost use Rattle.hopen.specs.Vocabulary.{stored_entry, with_room, AreSlotsListed, IsStored};
 ghost use Rattle.hopen.specs.declared.entry.Slot.TheVariants as stored;
 
 use crate::entry::Slot;
 use crate::hashes::find_hash;
-use hnodes::{Chains, NodeId, name_number};
+use hnodes::{IndexedList, NodeId, name_number};
 use names::{Attr, Keys, NameId};
 use std::alloc::{AllocError, Global};
 
@@ -44,10 +44,10 @@ pub(crate) struct Numbers {
 #[derive(Drop)]
 pub(crate) struct Slots {
     pub(crate) items: Vec<Slot>,
-    pub(crate) names: Chains,
+    pub(crate) names: IndexedList,
     /// Kept only where there are keys.
-    pub(crate) hashes: Chains,
-    pub(crate) nodes: Chains,
+    pub(crate) hashes: IndexedList,
+    pub(crate) nodes: IndexedList,
     /// The keys of the hashes; `None` while no name has many entries, and then the name is the hash.
     pub(crate) keys: Option<Keys>,
     /// From this index on there is no hole.
@@ -58,8 +58,8 @@ pub(crate) struct Slots {
 /// changes.
 #[inline(always)]
 fn push_numbers(
-    hashes: &mut Chains,
-    nodes: &mut Chains,
+    hashes: &mut IndexedList,
+    nodes: &mut IndexedList,
     hashed: bool,
     numbers: Numbers,
     len: usize,
@@ -99,8 +99,17 @@ fn last_hole(items: &[Slot], index: usize, place: usize) -> Option<usize>
     None
 }
 
+/// Takes the last number away.
+#[inline(always)]
+fn pop_number(numbers: &mut IndexedList)
+    requires { 0 < length numbers.old }
+    ensures { numbers.new ≡ take (length numbers.old - 1) numbers.old }
+{
+    numbers.truncate(numbers.len() - 1);
+}
+
 /// Moves the number at an index to where none is.
-fn move_number(numbers: &mut Chains, index: usize, to: usize)
+fn move_number(numbers: &mut IndexedList, index: usize, to: usize)
     requires within { index < length numbers.old }
     requires number { slice_index numbers.old index ≢ none }
     requires to { to < length numbers.old }
@@ -117,13 +126,13 @@ fn move_number(numbers: &mut Chains, index: usize, to: usize)
 impl Slots {
     pub(crate) fn new(alloc: Global) -> Self
         ensures items { result.items.items ≡ [] }
-        ensures listed { IsListed result }
+        ensures listed { AreSlotsListed result }
     {
         Slots {
             items: Vec::new(alloc),
-            names: Chains::new(alloc),
-            hashes: Chains::new(alloc),
-            nodes: Chains::new(alloc),
+            names: IndexedList::new(alloc),
+            hashes: IndexedList::new(alloc),
+            nodes: IndexedList::new(alloc),
             keys: None,
             solid: 0,
         }
@@ -131,7 +140,7 @@ impl Slots {
 
     /// Whether there are more entries of a name after the last marker than are compared one by one, or such with many attributes.
     fn is_crowded(&self, name: NameId) -> bool
-        requires { IsListed self.now }
+        requires { AreSlotsListed self.now }
     {
         let marker = self.names.last(MARKER);
         let mut place = self.names.last(name_number(name));
@@ -149,14 +158,14 @@ impl Slots {
     }
 
     /// Before an entry of a name comes: if that name has many, hashes the entries from now on. On an error nothing changes.
-    pub(crate) fn hash_if_crowded(
+    fn hash_if_crowded(
         &mut self,
         alloc: Global,
         keys: &Keys,
         name: NameId,
     ) -> Result<(), AllocError>
-        requires listed { IsListed self.old }
-        ensures listed { IsListed self.new }
+        requires listed { AreSlotsListed self.old }
+        ensures listed { AreSlotsListed self.new }
         ensures items { self.new.items.items ≡ self.old.items.items }
         ensures keys { (self.new.keys ≡ self.old.keys) ⊎ (self.new.keys ≡ Some keys.now) }
     {
@@ -168,8 +177,8 @@ impl Slots {
     }
 
     /// Where the hash of each item is.
-    fn by_hash(&self) -> &Chains
-        requires { IsListed self.now }
+    fn by_hash(&self) -> &IndexedList
+        requires { AreSlotsListed self.now }
         ensures { result.now ≡ numbers_by (by_hash self.now.keys) self.now.items.items }
     {
         match self.keys {
@@ -180,18 +189,18 @@ impl Slots {
 
     /// The Noah's Ark clause: how many items come after the entry that gives way to a new one, the earliest of the equal entries after the
     /// last marker, if there are three. Equal entries have the same hash.
-    pub(crate) fn giving_way(
+    fn giving_way(
         &self,
         alloc: Global,
         number: usize,
         name: NameId,
         attrs: &[Attr],
     ) -> Result<Option<usize>, AllocError>
-        requires listed { IsListed self.now }
+        requires listed { AreSlotsListed self.now }
         requires number { number ≡ suc (suc (entry_hash self.now.keys (record { node = 0; name = name; attrs = map attribute_of attrs.now }))) }
         ensures within { IfOk result (λ earliest. IfSome earliest (λ back. back < length self.now.items.items)) }
-        ensures room { IfOk result (λ earliest. option_map_or (remove (items_of self.now.items.items)) earliest (items_of self.now.items.items)
-            ≡ with_room nat_eq (record { node = 0; name = name; attrs = map attribute_of attrs.now }) (items_of self.now.items.items)) }
+        ensures room { IfOk result (λ earliest. option_map_or (remove (listed_items self.now.items.items)) earliest (listed_items self.now.items.items)
+            ≡ with_room nat_eq (record { node = 0; name = name; attrs = map attribute_of attrs.now }) (listed_items self.now.items.items)) }
     {
         let hashes = self.by_hash();
         let marker = hashes.last(MARKER);
@@ -208,16 +217,51 @@ impl Slots {
         Ok(if equal < MOST_EQUAL { None } else { earliest })
     }
 
+    /// Whether an entry of a name comes after the last marker.
+    fn has(&self, name: NameId) -> bool
+        requires { AreSlotsListed self.now }
+        ensures { (result ≡ false) → find_entry nat_eq name (listed_items self.now.items.items) ≡ None }
+    {
+        let place = self.names.last(name_number(name));
+        place > self.names.last(MARKER)
+    }
+
+    /// Before an entry comes: the number of its hash, and how many items come after the entry that gives way to it. If its name has many
+    /// entries, the entries are hashed from now on. On an error nothing changes.
+    #[inline(always)]
+    pub(crate) fn prepare(
+        &mut self,
+        alloc: Global,
+        keys: &Keys,
+        name: NameId,
+        attrs: &[Attr],
+    ) -> Result<(usize, Option<usize>), AllocError>
+        requires listed { AreSlotsListed self.old }
+        ensures listed { AreSlotsListed self.new }
+        ensures items { self.new.items.items ≡ self.old.items.items }
+        ensures hash { IfOk result (λ p. p.0 ≡ suc (suc (entry_hash self.new.keys (record { node = 0; name = name; attrs = map attribute_of attrs.now })))) }
+        ensures within { IfOk result (λ p. IfSome p.1 (λ back. back < length self.new.items.items)) }
+        ensures room { IfOk result (λ p. option_map_or (remove (listed_items self.new.items.items)) p.1 (listed_items self.new.items.items)
+            ≡ with_room nat_eq (record { node = 0; name = name; attrs = map attribute_of attrs.now }) (listed_items self.new.items.items)) }
+    {
+        if !self.has(name) {
+            return Ok((find_hash(alloc, self.keys, name, attrs)?, None));
+        }
+        self.hash_if_crowded(alloc, keys, name)?;
+        let hash = find_hash(alloc, self.keys, name, attrs)?;
+        Ok((hash, self.giving_way(alloc, hash, name, attrs)?))
+    }
+
     /// Adds an item at the end. On an error no item changes.
     #[inline(always)]
     pub(crate) fn put(&mut self, item: Slot, numbers: Numbers) -> Result<(), AllocError>
-        requires listed { IsListed self.old }
+        requires listed { AreSlotsListed self.old }
         requires stored { IsStored item }
         requires there { is_gone item ≡ false }
         requires name { numbers.name ≡ number_by by_name (item_of item) }
         requires hash { numbers.hash ≡ number_by (by_hash self.old.keys) (item_of item) }
         requires node { numbers.node ≡ number_by by_node (item_of item) }
-        ensures listed { IsListed self.new }
+        ensures listed { AreSlotsListed self.new }
         ensures ok { OnOk result (self.new.items.items ≡ self.old.items.items ++ item ∷ []) }
         ensures err { OnErr result (self.new.items.items ≡ self.old.items.items) }
     {
@@ -238,9 +282,9 @@ impl Slots {
 
     /// Keeps the first `len` items.
     pub(crate) fn truncate(&mut self, len: usize)
-        requires listed { IsListed self.old }
+        requires listed { AreSlotsListed self.old }
         requires within { len ≤ length self.old.items.items }
-        ensures listed { IsListed self.new }
+        ensures listed { AreSlotsListed self.new }
         ensures items { self.new.items.items ≡ take len self.old.items.items }
     {
         if self.keys.is_some() {
@@ -252,11 +296,28 @@ impl Slots {
         self.solid = self.solid.min(len);
     }
 
+    /// Takes the last item away.
+    #[inline(always)]
+    pub(crate) fn pop(&mut self)
+        requires listed { AreSlotsListed self.old }
+        requires some { 0 < length self.old.items.items }
+        ensures listed { AreSlotsListed self.new }
+        ensures items { self.new.items.items ≡ take (length self.old.items.items - 1) self.old.items.items }
+    {
+        if self.keys.is_some() {
+            pop_number(&mut self.hashes);
+        }
+        pop_number(&mut self.names);
+        pop_number(&mut self.nodes);
+        self.items.pop();
+        self.solid = self.solid.min(self.items.len());
+    }
+
     /// Leaves a hole at an index.
     pub(crate) fn hide(&mut self, index: usize)
-        requires listed { IsListed self.old }
+        requires listed { AreSlotsListed self.old }
         requires within { index < length self.old.items.items }
-        ensures listed { IsListed self.new }
+        ensures listed { AreSlotsListed self.new }
         ensures items { self.new.items.items ≡ slice_set self.old.items.items index stored.Hole }
     {
         if self.keys.is_some() {
@@ -271,11 +332,12 @@ impl Slots {
     /// Sets the node of the entry at an index.
     #[inline(always)]
     pub(crate) fn renew(&mut self, index: usize, node: NodeId)
-        requires listed { IsListed self.old }
+        requires listed { AreSlotsListed self.old }
         requires within { index < length self.old.items.items }
-        requires entry { is_some (told (slice_index_or self.old.items.items index stored.Hole)) ≡ true }
-        ensures listed { IsListed self.new }
-        ensures items { items_of self.new.items.items ≡ changed_at (length self.old.items.items - 1 - index) (for_node node) (items_of self.old.items.items) }
+        requires entry { is_some (stored_entry (slice_index_or self.old.items.items index stored.Hole)) ≡ true }
+        ensures listed { AreSlotsListed self.new }
+        ensures items { listed_items self.new.items.items ≡ changed_at (length self.old.items.items - 1 - index) (for_node node)
+            (listed_items self.old.items.items) }
     {
         self.nodes.clear(index);
         self.nodes.set(index, node_number(node));
@@ -284,9 +346,9 @@ impl Slots {
 
     /// Exchanges the items at an index and at the next one.
     fn swap(&mut self, index: usize)
-        requires listed { IsListed self.old }
+        requires listed { AreSlotsListed self.old }
         requires within { index + 1 < length self.old.items.items }
-        ensures listed { IsListed self.new }
+        ensures listed { AreSlotsListed self.new }
         ensures items { self.new.items.items
             ≡ slice_set (slice_set self.old.items.items index (slice_index_or self.old.items.items (index + 1) stored.Hole))
             (index + 1) (slice_index_or self.old.items.items index stored.Hole) }
@@ -302,10 +364,10 @@ impl Slots {
 
     /// Moves an item up to a greater index.
     fn raise(&mut self, from: usize, to: usize)
-        requires listed { IsListed self.old }
+        requires listed { AreSlotsListed self.old }
         requires from { from ≤ to }
         requires to { to < length self.old.items.items }
-        ensures listed { IsListed self.new }
+        ensures listed { AreSlotsListed self.new }
         ensures items { self.new.items.items ≡ insert (remove self.old.items.items from) to (slice_index_or self.old.items.items from stored.Hole) }
     {
         for index in from..to {
@@ -315,10 +377,10 @@ impl Slots {
 
     /// Moves an item down to a smaller index.
     fn lower(&mut self, from: usize, to: usize)
-        requires listed { IsListed self.old }
+        requires listed { AreSlotsListed self.old }
         requires from { from < length self.old.items.items }
         requires to { to ≤ from }
-        ensures listed { IsListed self.new }
+        ensures listed { AreSlotsListed self.new }
         ensures items { self.new.items.items ≡ insert (remove self.old.items.items from) to (slice_index_or self.old.items.items from stored.Hole) }
     {
         let mut index = from;
@@ -330,14 +392,14 @@ impl Slots {
 
     /// Sets the node of the entry at an index, and moves it right after the entry of another node, past one item at a time.
     fn step_after(&mut self, index: usize, node: NodeId, mark: NodeId)
-        requires listed { IsListed self.old }
+        requires listed { AreSlotsListed self.old }
         requires within { index < length self.old.items.items }
-        requires entry { is_some (told (slice_index_or self.old.items.items index stored.Hole)) ≡ true }
-        requires mark { IsTrue (list_any (is_entry mark) (items_of (remove self.old.items.items index))) }
-        ensures listed { IsListed self.new }
-        ensures items { items_of self.new.items.items
-            ≡ put_before (is_entry mark) (for_node node (item_of (slice_index_or self.old.items.items index stored.Hole)))
-            (items_of (remove self.old.items.items index)) }
+        requires entry { is_some (stored_entry (slice_index_or self.old.items.items index stored.Hole)) ≡ true }
+        requires mark { IsTrue (list_any (is_entry mark) (listed_items (remove self.old.items.items index))) }
+        ensures listed { AreSlotsListed self.new }
+        ensures items { listed_items self.new.items.items
+            ≡ item_put_before (is_entry mark) (for_node node (item_of (slice_index_or self.old.items.items index stored.Hole)))
+            (listed_items (remove self.old.items.items index)) }
     {
         self.nodes.clear(index);
         let place = self.nodes.last(node_number(mark));
@@ -352,12 +414,12 @@ impl Slots {
 
     /// Moves the entry at an index to where a hole is, and leaves one.
     fn jump(&mut self, index: usize, hole: usize)
-        requires listed { IsListed self.old }
+        requires listed { AreSlotsListed self.old }
         requires within { index < length self.old.items.items }
-        requires entry { is_some (told (slice_index_or self.old.items.items index stored.Hole)) ≡ true }
+        requires entry { is_some (stored_entry (slice_index_or self.old.items.items index stored.Hole)) ≡ true }
         requires hole_within { hole < length self.old.items.items }
         requires hole { is_gone (slice_index_or self.old.items.items hole stored.Hole) ≡ true }
-        ensures listed { IsListed self.new }
+        ensures listed { AreSlotsListed self.new }
         ensures items { self.new.items.items
             ≡ slice_set (slice_set self.old.items.items index (slice_index_or self.old.items.items hole stored.Hole))
             hole (slice_index_or self.old.items.items index stored.Hole) }
@@ -373,13 +435,13 @@ impl Slots {
 
     /// Moves the entry at an index to the last hole before the entry of a node, if that hole comes after it. Returns where it then is.
     fn approach(&mut self, index: usize, mark: NodeId) -> usize
-        requires listed { IsListed self.old }
+        requires listed { AreSlotsListed self.old }
         requires within { index < length self.old.items.items }
-        requires entry { is_some (told (slice_index_or self.old.items.items index stored.Hole)) ≡ true }
-        ensures listed { IsListed self.new }
+        requires entry { is_some (stored_entry (slice_index_or self.old.items.items index stored.Hole)) ≡ true }
+        ensures listed { AreSlotsListed self.new }
         ensures within { result < length self.new.items.items }
         ensures entry { slice_index_or self.new.items.items result stored.Hole ≡ slice_index_or self.old.items.items index stored.Hole }
-        ensures rest { live (items_of (remove self.new.items.items result)) ≡ live (items_of (remove self.old.items.items index)) }
+        ensures rest { live (listed_items (remove self.new.items.items result)) ≡ live (listed_items (remove self.old.items.items index)) }
     {
         if self.solid <= index {
             return index;
@@ -394,14 +456,14 @@ impl Slots {
 
     /// Sets the node of the entry at an index, and moves it right after the entry of another node: where that comes later, past no hole.
     pub(crate) fn move_after(&mut self, index: usize, node: NodeId, mark: NodeId)
-        requires listed { IsListed self.old }
+        requires listed { AreSlotsListed self.old }
         requires within { index < length self.old.items.items }
-        requires entry { is_some (told (slice_index_or self.old.items.items index stored.Hole)) ≡ true }
-        requires mark { IsTrue (list_any (is_entry mark) (items_of (remove self.old.items.items index))) }
-        ensures listed { IsListed self.new }
-        ensures items { live (items_of self.new.items.items)
-            ≡ live (put_before (is_entry mark) (for_node node (item_of (slice_index_or self.old.items.items index stored.Hole)))
-            (items_of (remove self.old.items.items index))) }
+        requires entry { is_some (stored_entry (slice_index_or self.old.items.items index stored.Hole)) ≡ true }
+        requires mark { IsTrue (list_any (is_entry mark) (listed_items (remove self.old.items.items index))) }
+        ensures listed { AreSlotsListed self.new }
+        ensures items { live (listed_items self.new.items.items)
+            ≡ live (item_put_before (is_entry mark) (for_node node (item_of (slice_index_or self.old.items.items index stored.Hole)))
+            (listed_items (remove self.old.items.items index))) }
     {
         let near = self.approach(index, mark);
         self.step_after(near, node, mark);
@@ -409,9 +471,9 @@ impl Slots {
 
     /// Takes the holes from an index on out.
     pub(crate) fn close(&mut self, from: usize)
-        requires listed { IsListed self.old }
+        requires listed { AreSlotsListed self.old }
         requires within { from ≤ length self.old.items.items }
-        ensures listed { IsListed self.new }
+        ensures listed { AreSlotsListed self.new }
         ensures items { self.new.items.items ≡ take from self.old.items.items ++ filter (λ i. not (is_gone i)) (drop from self.old.items.items) }
     {
         if self.keys.is_some() {
@@ -426,11 +488,11 @@ impl Slots {
 
 /// The numbers of the hashes of items.
 #[inline(never)]
-fn hash_items(alloc: Global, keys: Option<Keys>, items: &[Slot]) -> Result<Chains, AllocError>
+fn hash_items(alloc: Global, keys: Option<Keys>, items: &[Slot]) -> Result<IndexedList, AllocError>
     requires { All IsStored items.now }
     ensures { IfOk result (λ hashes. hashes ≡ numbers_by (by_hash keys) items.now) }
 {
-    let mut hashes = Chains::new(alloc);
+    let mut hashes = IndexedList::new(alloc);
     for index in 0..items.len() {
         match &items[index] {
             Slot::Entry(entry) => {

@@ -4,7 +4,7 @@ ghost use Rattle.std.specs.Prelude.{◌≡◌, ◌-◌, ◌≤◌, length, map, 
 ghost use Rattle.std.specs.List.{find};
 ghost use Rattle.std.specs.Option.{option_map};
 ghost use Rattle.hopen.specs.Vocabulary.{current, holds_one, is_in, is_sought, is_special, last_place, open_of, opened_by, slots_of, somes, stack_of, tag_of};
-ghost use Rattle.hopen.specs.Vocabulary.{EndsOpen, Stands};
+ghost use Rattle.hopen.specs.Vocabulary.{EndsOpen, LevelsStand};
 
 use crate::kept::{KeptNode, LastLevels, sets_at_end};
 use crate::name_sets::{NameSet, SetNodes};
@@ -83,7 +83,7 @@ fn search(items: &[KeptNode], set: NameSet, from: u32) -> u32
 /// The level of the nearest node whose name is in a set; 0 if none is open. It searches only where that node is open twice.
 #[inline(always)]
 pub(crate) fn set_level(last: &LastLevels, items: &[KeptNode], set: NameSet) -> u32
-    requires stands { Stands last.now items.now }
+    requires stands { LevelsStand last.now items.now }
     requires ends { EndsOpen (map opened_by items.now) }
     ensures { result ≡ last_place (holds_one (is_in set)) (slots_of items.now) }
 {
@@ -101,7 +101,7 @@ pub(crate) fn set_level(last: &LastLevels, items: &[KeptNode], set: NameSet) -> 
 /// The level of the nearest node that is sought; 0 if none is open.
 #[inline(always)]
 pub(crate) fn level_of(last: &LastLevels, items: &[KeptNode], sought: Sought) -> u32
-    requires stands { Stands last.now items.now }
+    requires stands { LevelsStand last.now items.now }
     requires ends { EndsOpen (map opened_by items.now) }
     ensures { result ≡ last_place (holds_one (is_sought sought)) (slots_of items.now) }
 {
@@ -114,7 +114,7 @@ pub(crate) fn level_of(last: &LastLevels, items: &[KeptNode], sought: Sought) ->
 
 /// The nearest node that is sought.
 pub(crate) fn nearest(last: &LastLevels, items: &[KeptNode], sought: Sought) -> Option<Open>
-    requires stands { Stands last.now items.now }
+    requires stands { LevelsStand last.now items.now }
     requires ends { EndsOpen (map opened_by items.now) }
     ensures { option_map open_of result ≡ find (is_sought sought) (stack_of items.now) }
 {
@@ -131,7 +131,7 @@ pub(crate) fn nearest_below_first(
     items: &[KeptNode],
     sought: Sought,
 ) -> Option<Open>
-    requires stands { Stands last.now items.now }
+    requires stands { LevelsStand last.now items.now }
     requires ends { EndsOpen (map opened_by items.now) }
     ensures { option_map open_of result ≡ find (is_sought sought) (take (length (stack_of items.now) - 1) (stack_of items.now)) }
 {

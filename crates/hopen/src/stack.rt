@@ -4,9 +4,9 @@ ghost use Rattle.std.specs.Prelude.{◌≡◌, ◌<◌, ◌≤◌, ◌+◌, ◌-
 ghost use Rattle.std.specs.Prelude.{vec_capacity, vec_len};
 ghost use Rattle.std.specs.List.{find, list_all, slice_get};
 ghost use Rattle.std.specs.Option.{option_map};
-ghost use Rattle.hnodes.specs.Nearest.{after, without, changed, put_before};
+ghost use Rattle.hnodes.specs.Nearest.{after, without, changed, item_put_before};
 ghost use Rattle.hopen.specs.Vocabulary.{above as above_of, current as current_of, furthest_block as furthest_block_of, in_scope as is_in_scope, is_in, is_named};
-ghost use Rattle.hopen.specs.Vocabulary.{is_node, is_of, is_open, is_sought, is_special, may_stay_open, open_of, stops as stops_node, stops_item};
+ghost use Rattle.hopen.specs.Vocabulary.{is_node, is_of, is_open, is_sought, is_special, may_stay_open, open_of, stops_in_scope as stops_node, stops_item};
 ghost use Rattle.hopen.specs.Vocabulary.{tag_of, Default, Memory, TooDeep};
 
 use crate::exchange::exchange;
@@ -157,7 +157,10 @@ impl OpenStack {
     /// each slot from the one that leaves down to the other.
     pub fn exchange(&mut self, leaving: NodeId, above: NodeId, new: Open) -> Result<(), AllocError>
         requires { is_open leaving self.old.stack ≡ true }
-        ensures ok { OnOk result (self.new ≡ record self.old { stack = put_before (is_node above) (open_of new) (without (is_node leaving) self.old.stack) }) }
+        ensures ok { OnOk result (self.new ≡ record self.old {
+          stack = item_put_before (is_node above) (open_of new)
+              (without (is_node leaving) self.old.stack);
+        }) }
         ensures err { OnErr result (self.new ≡ self.old) }
     {
         self.last.make_room(new.name, new.node)?;

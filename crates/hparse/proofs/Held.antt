@@ -1,5 +1,5 @@
 -- What a feeding holds after more items, and after the end of the text.
-use Rattle.hparse.proofs.Names.{◌≡◌, ◌<◌, arith, ℕ, zero, suc, ◌+◌, true, false, length, List, [], ◌∷◌, ◌++◌, sym, refl, ap, ◌∙◌, subst, Result, Ok, Err, append-nil, append_assoc, map, MatchResult, IsPermutation, IsPermutation-refl, IsPermutation-append_right, IsPermutation-append_comm, ParseError, Placed, RawKind, Refusal, Texts, Grows, Hands, grows_not, CharItem, Character, InputError, characters_among, errors_among, items, bad_each, input_errors, run_items, start_kind, replaced, Tok, Event, Reports, Item, gives_item, IsRefused, AreFront, tokens_in, errors_in, HandsEvents, Entities, HasTaken, Manner, Began, WasHanded, Intake, HoldsItems, TakesItems, items_ran_out, items_stopped, items_refused, items_taken, Proceeds, EndsText, text_ran_out, text_stopped, text_taken}
+use Rattle.hparse.proofs.Names.{◌≡◌, ◌<◌, arith, ℕ, zero, suc, ◌+◌, true, false, length, List, [], ◌∷◌, ◌++◌, sym, refl, ap, ◌∙◌, subst, Result, Ok, Err, append-nil, append_assoc, map, MatchResult, IsPermutation, IsPermutation-refl, IsPermutation-append_right, IsPermutation-append_comm, ParseError, Placed, RawKind, Refusal, Texts, Grows, Hands, grows_not, CharItem, Character, InputError, characters_among, errors_among, items, bad_each, input_errors, run_items, start_kind, replacement_run, Tok, Event, Reports, Item, gives_item, IsRefused, AreFront, tokens_in, errors_in, HandsEvents, Entities, HasTaken, Manner, Began, WasHanded, Intake, HoldsItems, TakesItems, items_ran_out, items_stopped, items_refused, items_taken, Proceeds, EndsText, text_ran_out, text_stopped, text_taken}
 use Rattle.std.specs.Prelude.{is_err}
 use Rattle.std.specs.Bool.{◌==◌}
 use Rattle.std.specs.Char.{len_utf8}
@@ -261,7 +261,7 @@ module _ {S : Type 0} (gives : S → Item → Result (Unit {0}) Refusal → S �
 
 -- BAD PARTS
 
-characters_of_bad : (n at : ℕ) → characters_among (items (bad_each at n)) ≡ replaced at n
+characters_of_bad : (n at : ℕ) → characters_among (items (bad_each at n)) ≡ replacement_run at n
 characters_of_bad zero at = refl
 characters_of_bad (suc n) at = ap (λ (ps : List Placed). record { ch = 0xFFFD; at = at } ∷ ps) (characters_of_bad n (at + 1))
 
@@ -285,7 +285,7 @@ module _ {S : Type 0} (gives : S → ParseError → Result (Unit {0}) Refusal �
   -- all are taken, and then the characters are fed
   pub bad_fed : (n : ℕ) (mid : S) (answer : Result (Unit {0}) Refusal) → 0 < n → new.unfed ≡ [] → Grows old.names new.names → new.stopped ≡ is_err answer → Hands gives old.sink (input_errors (bad_each at n)) (Ok tt) mid
       → ((table : Entities) (start : RawKind) (before : Texts) (text : List Placed) (taken : List Event) → Grows before old.names → HasTaken table start old.tokenizer before text taken
-      → Takes to_item table start text (replaced at n) taken new.names mid answer new.sink new.tokenizer)
+      → Takes to_item table start text (replacement_run at n) taken new.names mid answer new.sink new.tokenizer)
       → Hands (Proceeds to_item) old (items (bad_each at n)) answer new
   bad_fed zero mid answer some all_fed grows noted opts takes = absurd (omega (arith, some))
   bad_fed (suc n) mid answer some all_fed grows noted opts takes =

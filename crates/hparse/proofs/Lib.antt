@@ -16,7 +16,7 @@ pub mod ReadIn
 pub mod Refusing
 pub mod RunOf
 pub mod Sorting
-pub mod Told
+pub mod OriginsFound
 pub mod Trees
 pub mod Turns
 pub mod Unrefused

@@ -1,15 +1,15 @@
 -- The names of other crates and of specs/ that several proofs cite, in one place.
-pub use Rattle.hparse.specs.Vocabulary.{Entities, token_of, of_document, HasRead, FeedsPiece, EndsInput, WasRead, HoldsItems, EndsText, Refuses, Manner, Began, Comes, as_document, ParseCase, ParseOptions, document, fragment, HasParsed, AnswersParse, options_of, PlacesToken, Shows, HasReadTokens, IsUnrefusedText, IsUnrefused, CharItem, bad_each, input_errors, gives_item, Given, AreNames, Hands, Memory}
+pub use Rattle.hparse.specs.Vocabulary.{Entities, token_of, of_document, HasRead, FeedsPiece, EndsInput, WasRead, HoldsItems, EndsText, Refuses, Manner, Began, Comes, as_document, ParseCase, ParseOptions, document, fragment, HasParsed, AnswersParse, options_of, TakesTokenWithOrigins, ShowsRun, HasReadTokens, IsUnrefusedText, IsUnrefused, CharItem, bad_each, input_errors, gives_item, Given, AreNames, Hands, Memory}
 pub use Rattle.hadopt.proofs.Agreeing.{numbers-agree}
 pub use Rattle.hadopt.specs.Naming.{numbers, texts}
 pub use Rattle.hadopt.specs.Site.{Goes, Refused}
-pub use Rattle.hmodes.proofs.Names.{steps_spelled}
+pub use Rattle.hmodes.proofs.Names.{steps_mapped}
 pub use Rattle.hmodes.specs.Building.{Building, TakesToken}
 pub use Rattle.hmodes.specs.OfTable.{TokensAreOf}
-pub use Rattle.hmodes.specs.Spelled.{spelled_placed, spelled_state}
+pub use Rattle.hmodes.specs.Mapped.{mapped_placed, mapped_state}
 pub use Rattle.hmodes.specs.State.{State, PlacedToken, end, start}
 pub use Rattle.hmodes.specs.Step.{Steps, and}
-pub use Rattle.hmodes.specs.Tokens.{place_of}
+pub use Rattle.hmodes.specs.Tokens.{token_at}
 pub use Rattle.hnodes.specs.Forest.{none, tree}
 pub use Rattle.hnodes.specs.Named.{AreOf}
 pub use Rattle.hnodes.specs.Rows.{attribute_of}
@@ -18,15 +18,15 @@ pub use Rattle.hparse.specs.Fed.{piece_refused, piece_read}
 pub use Rattle.hparse.specs.Holding.{TakesItems, items_ran_out, items_stopped, items_refused, items_taken, Proceeds, text_ran_out, text_stopped, text_taken}
 pub use Rattle.hparse.specs.Input.{tokens_handed, errors_handed, settled_in, reads_in, WasHanded, IsRefusedFor, by_sink, by_tag, by_bytes, by_memory, IsTaken}
 pub use Rattle.hparse.specs.Intake.{Intake}
-pub use Rattle.hparse.specs.Parse.{begins, manner, Parses}
-pub use Rattle.hparse.specs.Parsing.{places_item, BeginsIn, TellsPlaces, a_document, a_fragment}
-pub use Rattle.hparse.specs.Taken.{placed}
+pub use Rattle.hparse.specs.Parse.{first_state, manner, Parses}
+pub use Rattle.hparse.specs.Parsing.{takes_item_with_origins, BeginsIn, TellsPlaces, a_document, a_fragment}
+pub use Rattle.hparse.specs.Taken.{token_placed}
 pub use Rattle.hparse.specs.TokenRun.{TokensMean}
 pub use Rattle.hparse.specs.declared.collect.Collected.{Collected}
 pub use Rattle.hparse.specs.declared.origins.Origin.{Origin}
 pub use Rattle.hparse.specs.declared.parsed.Parsed.{Parsed}
 pub use Rattle.hparse.specs.declared.parser.Parser.{Parser}
-pub use Rattle.hparse.specs.declared.placing.Placing.{Placing}
+pub use Rattle.hparse.specs.declared.builder_with_origins.BuilderWithOrigins.{BuilderWithOrigins}
 pub use Rattle.hparse.specs.declared.reading.Reading.{Reading}
 pub use Rattle.hparse.specs.declared.token_run.TokenRun.{TokenRun}
 pub use Rattle.htag.specs.Attributes.{AttrsMean}
@@ -37,7 +37,7 @@ pub use Rattle.htext.specs.Run.{run_items}
 pub use Rattle.htext.specs.Text.{Policy, Read, decoded}
 pub use Rattle.htext.specs.declared.BadBytes.{BadBytes}
 pub use Rattle.htoken.specs.Handing.{HandsEvents}
-pub use Rattle.htoken.specs.Run.{replaced, run_tokens}
+pub use Rattle.htoken.specs.Run.{replacement_run, run_tokens}
 pub use Rattle.htoken.specs.Standing.{start_kind}
 pub use Rattle.htoken.specs.Token.{Item, ItemToken, ItemError, Tok, Event, Reports, TokenMeans}
 pub use Rattle.htoken.specs.Tokenizing.{HasTaken}

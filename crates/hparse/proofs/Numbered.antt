@@ -1,48 +1,48 @@
 -- The tokens of a text as numbers and as texts: what comes of them is the same.
-use Rattle.hparse.proofs.Names.{◌≡◌, ℕ, List, [], ◌∷◌, map, sym, refl, ap, ◌∙◌, Some, false, slice_get, Attr, Texts, AreNames, tag_named, spelling, AttrsMean, Given, Tok, TokenMeans, tree, none, attribute_of, numbers, texts, spelled_placed, spelled_state, PlacedToken, State, start, end, numbers-agree, TokensMean, placed}
+use Rattle.hparse.proofs.Names.{◌≡◌, ℕ, List, [], ◌∷◌, map, sym, refl, ap, ◌∙◌, Some, false, slice_get, Attr, Texts, AreNames, tag_named, spelling, AttrsMean, Given, Tok, TokenMeans, tree, none, attribute_of, numbers, texts, mapped_placed, mapped_state, PlacedToken, State, start, end, numbers-agree, TokensMean, token_placed}
 use Rattle.names.specs.declared.tag.Tag.{Tag}
 use Rattle.names.specs.declared.tag.Tag.TheVariants.{Html}
 use Rattle.names.specs.Tags.{tag_of}
-use Rattle.names.proofs.AllTexts.{spelled as table_spelled}
+use Rattle.names.proofs.AllTexts.{spelled as table_mapped}
 use Rattle.htoken.specs.declared.token.Token.TheVariants as code
 use Rattle.hnodes.specs.Forest.{document, element}
-use Rattle.hnodes.specs.Spelled.{spelled_attribute}
-use Rattle.hadopt.specs.Spelled.{Agree}
+use Rattle.hnodes.specs.Mapped.{mapped_attribute}
+use Rattle.hadopt.specs.Mapped.{Agree}
 use Rattle.hmodes.specs.Beginning.{Limits, fragment_begins, form_of, control_in}
 use Rattle.hmodes.specs.Reset.{context_mode}
-pub use Rattle.hparse.specs.Placing.{placed_number}
+pub use Rattle.hparse.specs.BuilderWithOrigins.{placed_number}
 
 module _ (names : Texts) (are : AreNames names) where
   abbrev pub spell : ℕ → List ℕ
   spell = spelling names
 
   spells : (id : ℕ) (text : List ℕ) → slice_get names id ≡ Some text → spell id ≡ text
-  spells = (table_spelled names are).table
+  spells = (table_mapped names are).table
 
-  attributes_spelled : (attrs : List Attr) (meant : List (List ℕ × List ℕ)) → AttrsMean names attrs meant → map (spelled_attribute spell) (map attribute_of attrs) ≡ meant
-  attributes_spelled [] [] h = refl
-  attributes_spelled (a ∷ attrs) (t ∷ meant) h =
-      (λ i. (spells a.name t.0 h.0 i, h.1 i) ∷ map (spelled_attribute spell) (map attribute_of attrs))
-      ∙ ap (λ (x : List (List ℕ × List ℕ)). t ∷ x) (attributes_spelled attrs meant h.2)
-  attributes_spelled [] (t ∷ meant) h = absurd h
-  attributes_spelled (a ∷ attrs) [] h = absurd h
+  attributes_mapped : (attrs : List Attr) (meant : List (List ℕ × List ℕ)) → AttrsMean names attrs meant → map (mapped_attribute spell) (map attribute_of attrs) ≡ meant
+  attributes_mapped [] [] h = refl
+  attributes_mapped (a ∷ attrs) (t ∷ meant) h =
+      (λ i. (spells a.name t.0 h.0 i, h.1 i) ∷ map (mapped_attribute spell) (map attribute_of attrs))
+      ∙ ap (λ (x : List (List ℕ × List ℕ)). t ∷ x) (attributes_mapped attrs meant h.2)
+  attributes_mapped [] (t ∷ meant) h = absurd h
+  attributes_mapped (a ∷ attrs) [] h = absurd h
 
-  token_spelled : (t : Given) (tok : Tok) → TokenMeans names t tok → spelled_placed spell (placed_number t) ≡ placed tok
-  token_spelled (code.Doctype doctype at) tok h = sym (ap placed h)
-  token_spelled (code.Start name attrs closing at) tok (text, meant, is, are_meant, e) =
-      (λ i. record { token = start (spells name text is i) (attributes_spelled attrs.items meant are_meant i) closing; at = at }) ∙ sym (ap placed e)
-  token_spelled (code.End name at) tok (text, is, e) =
-      (λ i. record { token = end (spells name text is i); at = at }) ∙ sym (ap placed e)
-  token_spelled (code.Comment text at) tok h = sym (ap placed h)
-  token_spelled (code.Char ch at) tok h = sym (ap placed h)
-  token_spelled (code.Eof at) tok h = sym (ap placed h)
+  token_mapped : (t : Given) (tok : Tok) → TokenMeans names t tok → mapped_placed spell (placed_number t) ≡ token_placed tok
+  token_mapped (code.Doctype doctype at) tok h = sym (ap token_placed h)
+  token_mapped (code.Start name attrs closing at) tok (text, meant, is, are_meant, e) =
+      (λ i. record { token = start (spells name text is i) (attributes_mapped attrs.items meant are_meant i) closing; at = at }) ∙ sym (ap token_placed e)
+  token_mapped (code.End name at) tok (text, is, e) =
+      (λ i. record { token = end (spells name text is i); at = at }) ∙ sym (ap token_placed e)
+  token_mapped (code.Comment text at) tok h = sym (ap token_placed h)
+  token_mapped (code.Char ch at) tok h = sym (ap token_placed h)
+  token_mapped (code.Eof at) tok h = sym (ap token_placed h)
 
-  pub tokens_spelled : (ts : List Given) (ks : List Tok) → TokensMean names ts ks → map (spelled_placed spell) (map placed_number ts) ≡ map placed ks
-  tokens_spelled [] [] h = refl
-  tokens_spelled (t ∷ ts) (k ∷ ks) h =
-      (λ i. token_spelled t k h.0 i ∷ map (spelled_placed spell) (map placed_number ts)) ∙ ap (λ (x : List (PlacedToken (List ℕ))). placed k ∷ x) (tokens_spelled ts ks h.1)
-  tokens_spelled [] (k ∷ ks) h = absurd h
-  tokens_spelled (t ∷ ts) [] h = absurd h
+  pub tokens_mapped : (ts : List Given) (ks : List Tok) → TokensMean names ts ks → map (mapped_placed spell) (map placed_number ts) ≡ map token_placed ks
+  tokens_mapped [] [] h = refl
+  tokens_mapped (t ∷ ts) (k ∷ ks) h =
+      (λ i. token_mapped t k h.0 i ∷ map (mapped_placed spell) (map placed_number ts)) ∙ ap (λ (x : List (PlacedToken (List ℕ))). token_placed k ∷ x) (tokens_mapped ts ks h.1)
+  tokens_mapped [] (k ∷ ks) h = absurd h
+  tokens_mapped (t ∷ ts) [] h = absurd h
 
   agree : Agree numbers texts spell
   agree = numbers-agree names are
@@ -64,9 +64,9 @@ module _ (names : Texts) (are : AreNames names) where
   }
 
   -- a fragment begins in its context
-  pub fragment_spelled : (id : ℕ) (context : List ℕ) (limits : Limits) → slice_get names id ≡ Some context → spelled_state spell (fragment_begins numbers id limits) ≡ fragment_begins texts context limits
+  pub fragment_mapped : (id : ℕ) (context : List ℕ) (limits : Limits) → slice_get names id ≡ Some context → mapped_state spell (fragment_begins numbers id limits) ≡ fragment_begins texts context limits
   unfolding began_in
-  fragment_spelled id context limits is =
+  fragment_mapped id context limits is =
       let html = sym (agree.known Html) in
       let same : tag_of id ≡ tag_named context = sym (agree.spelling.tags id) ∙ ap tag_named (spells id context is) in
       λ i. began_in limits (html i) (same i) (spells id context is i)

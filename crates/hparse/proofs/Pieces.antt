@@ -7,9 +7,9 @@ use Rattle.names.specs.declared.refusal.Refusal.TheVariants.{NotUtf8, TooLarge, 
 use Rattle.names.specs.declared.raw.RefusedName.{RefusedName}
 use Rattle.htext.specs.declared.BadBytes.TheVariants as bad
 use Rattle.htext.specs.Text.{character_of, read_len, refusal_of, refusal_with}
-use Rattle.htext.specs.Decoding.{Feeds, ran_out, sink_refused, took_all, Ends, end_refused, end_reached, HandsOn, answer_at_end}
+use Rattle.htext.specs.Decoding.{Feeds, ran_out, sink_refused, took_all, EndsDecoding, end_refused, end_reached, HandsOn, answer_at_end}
 use Rattle.htoken.specs.Tokens.{Tokens}
-use Rattle.hparse.specs.Input.{how_of, text_in, end_in}
+use Rattle.hparse.specs.Input.{how_of, input_text, end_in}
 use Rattle.htext.proofs.Texts.{items-append, errors_among-items, goes_on}
 use Rattle.hparse.proofs.Held.{characters_among-append, taken_front}
 
@@ -134,7 +134,7 @@ module _ {S : Type 0} (gives : S → Item → Result (Unit {0}) Refusal → S �
   pub ran_out_after : (bytes more : List ℕ) (feeding : Intake S) → HoldsItems gives m began feeding (items (settled_in m bytes)) → IsRefusedFor gives m began (bytes ++ more) feeding.names feeding.sink Memory
   ran_out_after bytes more feeding h =
       let on = goes_on true (how_of m).bom m.bad m.limit bytes more in
-      let text : characters_among h.fed ++ (characters_among feeding.unfed ++ map character_of on.0) ≡ text_in m (bytes ++ more) =
+      let text : characters_among h.fed ++ (characters_among feeding.unfed ++ map character_of on.0) ≡ input_text m (bytes ++ more) =
       sym (append_assoc (characters_among h.fed) (characters_among feeding.unfed) (map character_of on.0))
       ∙ ap (λ (x : List Placed). x ++ map character_of on.0) (sym (characters_among-append h.fed feeding.unfed) ∙ ap characters_among h.items_are ∙ characters_among-items (settled_in m bytes))
       ∙ sym (map-append character_of (settled_in m bytes) on.0) ∙ ap (map character_of) (sym on.1) in
@@ -142,7 +142,7 @@ module _ {S : Type 0} (gives : S → Item → Result (Unit {0}) Refusal → S �
       (taken_front m.table (start_kind m.start) feeding.tokenizer feeding.names (characters_among h.fed) h.was_fed.taken h.was_fed.has_taken (characters_among feeding.unfed ++ map character_of on.0) (end_in m (bytes ++ more))))
 
   module _ (held : List CharItem) (at : ℕ) (refusal : Refusal) (new : Intake S) (here : (refusal ≡ NotUtf8 at) ⊎ (refusal ≡ TooLarge at)) where
-    text_of : (bytes : List ℕ) → held ≡ items (reads_in m bytes) → characters_among held ≡ text_in m bytes
+    text_of : (bytes : List ℕ) → held ≡ items (reads_in m bytes) → characters_among held ≡ input_text m bytes
     text_of bytes is = ap characters_among is ∙ characters_among-items (reads_in m bytes)
 
     -- the text before the bytes that are refused is read
@@ -151,14 +151,14 @@ module _ {S : Type 0} (gives : S → Item → Result (Unit {0}) Refusal → S �
     refuses_bytes (text_stopped r events errors e handed front) = absurd cc
     refuses_bytes (text_taken tokens errors e t handed) = λ bytes is r.
         by_bytes refusal tokens errors (errors_among held ++ errors) handed
-        (subst (λ (n : ℕ). Tokens m.table (start_kind m.start) (text_in m bytes) n tokens errors) (place_of (how_of m) at bytes refusal r here)
+        (subst (λ (n : ℕ). Tokens m.table (start_kind m.start) (input_text m bytes) n tokens errors) (place_of (how_of m) at bytes refusal r here)
         (subst (λ (x : List Placed). Tokens m.table (start_kind m.start) x at tokens errors) (text_of bytes is) t)) r
 
     -- a front of it is one of the input's text
     front_in : (bytes : List ℕ) → held ≡ items (reads_in m bytes) → refusal_of (how_of m) bytes ≡ Some refusal → (events : List Event) → AreFront m.table (start_kind m.start) (characters_among held) at events
-        → AreFront m.table (start_kind m.start) (text_in m bytes) (end_in m bytes) events
+        → AreFront m.table (start_kind m.start) (input_text m bytes) (end_in m bytes) events
     front_in bytes is r events front =
-        subst (λ (n : ℕ). AreFront m.table (start_kind m.start) (text_in m bytes) n events) (place_of (how_of m) at bytes refusal r here)
+        subst (λ (n : ℕ). AreFront m.table (start_kind m.start) (input_text m bytes) n events) (place_of (how_of m) at bytes refusal r here)
         (subst (λ (x : List Placed). AreFront m.table (start_kind m.start) x at events) (text_of bytes is) front)
 
     -- it is refused
@@ -217,10 +217,10 @@ module _ {S : Type 0} (gives : S → Item → Result (Unit {0}) Refusal → S �
 
   module _ (bytes : List ℕ) (old : Reading S) (h : HasRead gives m began old bytes) where
     abbrev pub HasEnded : Result (Unit {0}) Refusal → Intake S → Type 0
-    HasEnded answer feeding = Ends (Proceeds gives) old.decoder.how bytes old.feeding answer feeding
+    HasEnded answer feeding = EndsDecoding (Proceeds gives) old.decoder.how bytes old.feeding answer feeding
 
-    as_ended : (answer : Result (Unit {0}) Refusal) (feeding : Intake S) → HasEnded answer feeding → Ends (Proceeds gives) (how_of m) bytes old.feeding answer feeding
-    as_ended answer feeding f = subst (λ (how : Policy). Ends (Proceeds gives) how bytes old.feeding answer feeding) h.how_is f
+    as_ended : (answer : Result (Unit {0}) Refusal) (feeding : Intake S) → HasEnded answer feeding → EndsDecoding (Proceeds gives) (how_of m) bytes old.feeding answer feeding
+    as_ended answer feeding f = subst (λ (how : Policy). EndsDecoding (Proceeds gives) how bytes old.feeding answer feeding) h.how_is f
 
     -- all that is read is held
     all_held : (feeding : Intake S) → HandsOn (Proceeds gives) (settled_in m bytes) (reads_in m bytes) old.feeding (Ok tt) feeding → HoldsItems gives m began feeding (items (reads_in m bytes))
@@ -235,7 +235,7 @@ module _ {S : Type 0} (gives : S → Item → Result (Unit {0}) Refusal → S �
           subst (λ (f : Intake S). IsRefusedFor gives m began bytes f.names f.sink answer) (sym (stopped noted).1)
           (subst (IsRefusedFor gives m began bytes feeding.names feeding.sink) (sym (stopped noted).0) r)
 
-      refused_at_end : Ends (Proceeds gives) (how_of m) bytes old.feeding (Err e) feeding → EndsInput gives m began bytes (Err answer) new
+      refused_at_end : EndsDecoding (Proceeds gives) (how_of m) bytes old.feeding (Err e) feeding → EndsInput gives m began bytes (Err answer) new
       refused_at_end (end_refused x is handed) =
           let same : x ≡ e = cc in
           by_stop (stops_input bytes e feeding (refused_new (settled_in m bytes) (reads_in m bytes) old.feeding feeding e
@@ -248,7 +248,7 @@ module _ {S : Type 0} (gives : S → Item → Result (Unit {0}) Refusal → S �
 
     -- the end of the text
     module _ (feeding : Intake S) where
-      taken_at_end : Ends (Proceeds gives) (how_of m) bytes old.feeding (Ok tt) feeding → HoldsItems gives m began feeding (items (reads_in m bytes)) × (refusal_of (how_of m) bytes ≡ None)
+      taken_at_end : EndsDecoding (Proceeds gives) (how_of m) bytes old.feeding (Ok tt) feeding → HoldsItems gives m began feeding (items (reads_in m bytes)) × (refusal_of (how_of m) bytes ≡ None)
       taken_at_end (end_refused x is handed) = absurd cc
       taken_at_end (end_reached handed is) = (all_held feeding handed, none_at_end (refusal_of (how_of m) bytes) is)
 
@@ -260,9 +260,9 @@ module _ {S : Type 0} (gives : S → Item → Result (Unit {0}) Refusal → S �
         end_of =
             end_is ∙ sym (whole_from (end_in m bytes) (length bytes) (refusal_with m.bad (utf8_valid_len bytes - end_in m bytes) (end_in m bytes)) (eqb (end_in m bytes) (length bytes)) refl unrefused)
 
-        front_of : (events : List Event) → AreFront m.table (start_kind m.start) (characters_among (items (reads_in m bytes))) end events → AreFront m.table (start_kind m.start) (text_in m bytes) (end_in m bytes) events
+        front_of : (events : List Event) → AreFront m.table (start_kind m.start) (characters_among (items (reads_in m bytes))) end events → AreFront m.table (start_kind m.start) (input_text m bytes) (end_in m bytes) events
         front_of events front =
-            subst (λ (n : ℕ). AreFront m.table (start_kind m.start) (text_in m bytes) n events) end_of
+            subst (λ (n : ℕ). AreFront m.table (start_kind m.start) (input_text m bytes) n events) end_of
             (subst (λ (x : List Placed). AreFront m.table (start_kind m.start) x end events) (characters_among-items (reads_in m bytes)) front)
 
         by_text : (answer : Result (Unit {0}) Refusal) → EndsText gives m began (items (reads_in m bytes)) end answer new.feeding → EndsInput gives m began bytes answer new
@@ -274,7 +274,7 @@ module _ {S : Type 0} (gives : S → Item → Result (Unit {0}) Refusal → S �
             subst (Comes gives m began bytes new.feeding.names new.feeding.sink) (sym is) (record {
               tokens = tokens;
               errors = errors;
-              read = subst (λ (n : ℕ). Tokens m.table (start_kind m.start) (text_in m bytes) n tokens errors) end_is
+              read = subst (λ (n : ℕ). Tokens m.table (start_kind m.start) (input_text m bytes) n tokens errors) end_is
                   (subst (λ (x : List Placed). Tokens m.table (start_kind m.start) x end tokens errors) (characters_among-items (reads_in m bytes)) t);
               handed = subst (λ (es : List ParseError). WasHanded gives new.feeding.names began tokens (es ++ errors) (Ok tt) new.feeding.sink) (errors_among-items (reads_in m bytes)) handed;
               whole = unrefused;

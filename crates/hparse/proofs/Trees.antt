@@ -1,17 +1,17 @@
 -- What the input of a builder becomes, with names as texts.
-use Rattle.hparse.proofs.Names.{◌≡◌, ℕ, List, [], ◌++◌, map, sym, refl, ap, ◌∙◌, subst, Option, None, Ok, Err, append_assoc, inl, inr, ◌⊎◌, IsPermutation, IsPermutation-trans, IsPermutation-append_left, IsPermutation-append_comm, ParseError, Refusal, Memory, Texts, Grows, AreNames, spelling, grows_on, input_errors, Given, Tok, tokens_in, numbers, texts, Goes, Refused, spelled_state, State, PlacedToken, Steps, steps_spelled, numbers-agree, Building, Origin, Parsed, Began, WasHanded, reads_in, tokens_handed, errors_handed, IsRefusedFor, by_sink, by_tag, by_bytes, by_memory, IsTaken, AreOf, TokensAreOf, ParseCase, document, fragment, ParseOptions, Parses, begins, manner, BeginsIn, a_document, a_fragment, AnswersParse, TellsPlaces, placed, TokensMean}
+use Rattle.hparse.proofs.Names.{◌≡◌, ℕ, List, [], ◌++◌, map, sym, refl, ap, ◌∙◌, subst, Option, None, Ok, Err, append_assoc, inl, inr, ◌⊎◌, IsPermutation, IsPermutation-trans, IsPermutation-append_left, IsPermutation-append_comm, ParseError, Refusal, Memory, Texts, Grows, AreNames, spelling, grows_on, input_errors, Given, Tok, tokens_in, numbers, texts, Goes, Refused, mapped_state, State, PlacedToken, Steps, steps_mapped, numbers-agree, Building, Origin, Parsed, Began, WasHanded, reads_in, tokens_handed, errors_handed, IsRefusedFor, by_sink, by_tag, by_bytes, by_memory, IsTaken, AreOf, TokensAreOf, ParseCase, document, fragment, ParseOptions, Parses, first_state, manner, BeginsIn, a_document, a_fragment, AnswersParse, TellsPlaces, token_placed, TokensMean}
 use Rattle.names.proofs.Handing.{text_kept}
 use Rattle.hnodes.specs.Edits.{Nodes}
-use Rattle.hnodes.specs.Spelled.{spelled}
+use Rattle.hnodes.specs.Mapped.{mapped}
 use Rattle.hadopt.specs.Site.{Outcome}
-use Rattle.hadopt.specs.Spelled.{outcome_map}
+use Rattle.hadopt.specs.Mapped.{outcome_map}
 use Rattle.hparse.specs.Parse.{refused_token, refused_tag, refused_bytes, accepted, root_of}
 use Rattle.hparse.specs.Parsing.{IsMadeOf, places_in}
 use Rattle.hparse.proofs.Built.{Became, became, builds, refused_by_rules}
 use Rattle.hparse.proofs.Handing.{tokens_kept, tokens_mean}
 use Rattle.hparse.proofs.OfNames.{within, tokens_of_table, children_are_of}
 use Rattle.hmodes.proofs.OfTable.{document-of, fragment-of}
-use Rattle.hparse.proofs.Numbered.{placed_number, tokens_spelled, fragment_spelled}
+use Rattle.hparse.proofs.Numbered.{placed_number, tokens_mapped, fragment_mapped}
 
 -- the names in what tokens lead to from there are of the table
 trees_of_table : (opts : ParseOptions) (first later : Texts) (parse_case : ParseCase) (s s' : State ℕ) (ts : List (PlacedToken ℕ)) → Grows first later → AreNames later → BeginsIn opts first parse_case s → TokensAreOf later ts
@@ -20,9 +20,9 @@ trees_of_table opts first later document _ s' ts grows are a_document of steps =
 trees_of_table opts first later (fragment _) _ s' ts grows are (a_fragment context id is) of steps = fragment-of later are id opts.limits ts s' (within later id context (text_kept first later id context grows is)) of steps
 
 -- the state in which a parse begins
-pub begins_spelled : (opts : ParseOptions) (first later : Texts) (parse_case : ParseCase) (s : State ℕ) → Grows first later → AreNames later → BeginsIn opts first parse_case s → spelled_state (spelling later) s ≡ begins opts parse_case
-begins_spelled opts first later document _ grows are a_document = refl
-begins_spelled opts first later (fragment _) _ grows are (a_fragment context id is) = fragment_spelled later are id context opts.limits (text_kept first later id context grows is)
+pub begins_mapped : (opts : ParseOptions) (first later : Texts) (parse_case : ParseCase) (s : State ℕ) → Grows first later → AreNames later → BeginsIn opts first parse_case s → mapped_state (spelling later) s ≡ first_state opts parse_case
+begins_mapped opts first later document _ grows are a_document = refl
+begins_mapped opts first later (fragment _) _ grows are (a_fragment context id is) = fragment_mapped later are id context opts.limits (text_kept first later id context grows is)
 
 module _ (opts : ParseOptions) (parse_case : ParseCase) (began : Began Building) (bytes : List ℕ) (names : Texts) (now : Building)
     (unrefused : began.sink.refused ≡ None) (begins_in : BeginsIn opts began.names parse_case began.sink.state) (later : Texts) (grows : Grows names later) (are : AreNames later) where
@@ -31,14 +31,14 @@ module _ (opts : ParseOptions) (parse_case : ParseCase) (began : Began Building)
 
   -- what comes of tokens comes of what they stand for
   in_texts : Grows began.names names → (ts : List Given) (tokens : List Tok) (o : Outcome (State ℕ)) → TokensMean names ts tokens → Steps numbers (map placed_number ts) began.sink.state o
-      → Steps texts (map placed tokens) (begins opts parse_case) (outcome_map (spelled_state spell) o)
+      → Steps texts (map token_placed tokens) (first_state opts parse_case) (outcome_map (mapped_state spell) o)
   in_texts grew ts tokens o mean steps =
-      subst (λ (s : State (List ℕ)). Steps texts (map placed tokens) s (outcome_map (spelled_state spell) o)) (begins_spelled opts began.names later parse_case began.sink.state (grows_on began.names names later grew grows) are begins_in)
-      (subst (λ (ps : List (PlacedToken (List ℕ))). Steps texts ps (spelled_state spell began.sink.state) (outcome_map (spelled_state spell) o)) (tokens_spelled later are ts tokens (tokens_kept names later grows ts tokens mean))
-      ((steps_spelled numbers texts spell (numbers-agree later are)).steps (map placed_number ts) began.sink.state o steps))
+      subst (λ (s : State (List ℕ)). Steps texts (map token_placed tokens) s (outcome_map (mapped_state spell) o)) (begins_mapped opts began.names later parse_case began.sink.state (grows_on began.names names later grew grows) are begins_in)
+      (subst (λ (ps : List (PlacedToken (List ℕ))). Steps texts ps (mapped_state spell began.sink.state) (outcome_map (mapped_state spell) o)) (tokens_mapped later are ts tokens (tokens_kept names later grows ts tokens mean))
+      ((steps_mapped numbers texts spell (numbers-agree later are)).steps (map placed_number ts) began.sink.state o steps))
 
   -- where all of them were handed over
-  pub gone : (tokens : List Tok) (errors : List ParseError) → WasHanded builds names began tokens errors (Ok tt) now → Steps texts (map placed tokens) (begins opts parse_case) (Goes (spelled_state spell now.state))
+  pub gone : (tokens : List Tok) (errors : List ParseError) → WasHanded builds names began tokens errors (Ok tt) now → Steps texts (map token_placed tokens) (first_state opts parse_case) (Goes (mapped_state spell now.state))
   gone tokens errors h = in_texts h.grows (tokens_handed h.items) tokens (Goes now.state) (tokens_mean names h.items tokens h.items_mean) (became began.sink now h.items unrefused h.hands).steps
 
   -- a refusal, but for want of memory
@@ -47,25 +47,25 @@ module _ (opts : ParseOptions) (parse_case : ParseCase) (began : Began Building)
     | inl why ↦ inl why
     | inr steps ↦ inr (refused_token e events front (in_texts h.grows (tokens_handed h.items) (tokens_in events) (Refused e) (tokens_mean names h.items (tokens_in events) h.items_mean) steps))
   ]
-  parses_refused e (by_tag name at tokens errors h refused) = inr (refused_tag name at tokens (spelled_state spell now.state) refused (gone tokens errors h))
+  parses_refused e (by_tag name at tokens errors h refused) = inr (refused_tag name at tokens (mapped_state spell now.state) refused (gone tokens errors h))
   parses_refused e (by_memory events errors h front) = inl refl
-  parses_refused e (by_bytes refusal tokens errors handed h read is) = inr (refused_bytes e errors (spelled_state spell now.state) (record { tokens = tokens; read = read; steps = gone tokens handed h }) is)
+  parses_refused e (by_bytes refusal tokens errors handed h read is) = inr (refused_bytes e errors (mapped_state spell now.state) (record { tokens = tokens; read = read; steps = gone tokens handed h }) is)
 
-  module _ (none_told : began.sink.told ≡ []) (root_is : began.sink.root ≡ root_of parse_case) where
+  module _ (none_told : began.sink.tokenizer_errors ≡ []) (root_is : began.sink.root ≡ root_of parse_case) where
     -- what was built
     pub parses_taken : (parsed : Parsed) → (places : Option (List Origin)) → IsTaken builds (manner opts parse_case) began bytes names now
-        → IsMadeOf later now.state.site.nodes now.root (now.state.site.errors ++ now.told) places parsed → TellsPlaces opts parse_case bytes (places_in parsed) → AnswersParse opts parse_case bytes (Ok parsed)
-    parses_taken parsed places t r told = (
-      record { trees = spelled spell now.state.site.nodes.trees; errors = parsed.errors.items },
+        → IsMadeOf later now.state.site.nodes now.root (now.state.site.errors ++ now.tokenizer_errors) places parsed → TellsPlaces opts parse_case bytes (places_in parsed) → AnswersParse opts parse_case bytes (Ok parsed)
+    parses_taken parsed places t r tokenizer_errors = (
+      record { trees = mapped spell now.state.site.nodes.trees; errors = parsed.errors.items },
       record {
         table = subst AreNames (sym r.names_are) are;
-        trees = ap (λ (n : Texts). spelled (spelling n) parsed.tree.trees) r.names_are ∙ ap (λ (t : Nodes ℕ). spelled spell t.trees) r.tree_is;
+        trees = ap (λ (n : Texts). mapped (spelling n) parsed.tree.trees) r.names_are ∙ ap (λ (t : Nodes ℕ). mapped spell t.trees) r.tree_is;
         names_are = children_are_of parsed.names parsed.root parsed.tree.trees (subst (λ (n : Texts). AreOf n parsed.tree.trees) (sym r.names_are) (subst (λ (t : Nodes ℕ). AreOf later t.trees) (sym r.tree_is) of_table));
         root = r.root_is ∙ b.root ∙ root_is;
         errors = refl;
       },
-      accepted t.errors parsed.errors.items (spelled_state spell now.state) (record { tokens = t.tokens; read = t.read; steps = gone t.tokens (given ++ t.errors) t.handed }) order r.sorted t.whole,
-      told,
+      accepted t.errors parsed.errors.items (mapped_state spell now.state) (record { tokens = t.tokens; read = t.read; steps = gone t.tokens (given ++ t.errors) t.handed }) order r.sorted t.whole,
+      tokenizer_errors,
     ) where
       given : List ParseError
       given = input_errors (reads_in (manner opts parse_case) bytes)
@@ -78,8 +78,8 @@ module _ (opts : ParseOptions) (parse_case : ParseCase) (began : Began Building)
           trees_of_table opts began.names later parse_case began.sink.state now.state (map placed_number (tokens_handed t.handed.items)) (grows_on began.names names later t.handed.grows grows) are begins_in
           (tokens_of_table later (tokens_handed t.handed.items) t.tokens (tokens_kept names later grows (tokens_handed t.handed.items) t.tokens (tokens_mean names t.handed.items t.tokens t.handed.items_mean))) b.steps
 
-      told_is : now.told ≡ errors_handed t.handed.items
-      told_is = b.told ∙ ap (λ (x : List ParseError). x ++ errors_handed t.handed.items) none_told
+      told_is : now.tokenizer_errors ≡ errors_handed t.handed.items
+      told_is = b.tokenizer_errors ∙ ap (λ (x : List ParseError). x ++ errors_handed t.handed.items) none_told
 
       order : IsPermutation (given ++ (t.errors ++ now.state.site.errors)) parsed.errors.items
       order =

@@ -1,5 +1,5 @@
 -- What a reading was fed is unrefused: its tokenizer has handed over every span that is settled.
-use Rattle.hparse.proofs.Names.{◌≡◌, ℕ, List, [], ◌∷◌, ◌++◌, map, sym, ap, ◌∙◌, subst, append-nil, append_assoc, Result, Ok, ParseError, Placed, RawKind, Refusal, Texts, grows_not, Policy, CharItem, items, characters_among, errors_among, characters_among-items, start_kind, Tok, Event, Item, Entities, tokens_in, errors_in, HasTaken, texts, Goes, State, PlacedToken, Steps, and, Parser, Reading, HasRead, WasRead, Manner, Began, settled_in, WasHanded, ParseCase, ParseOptions, begins, manner, places_item, HasParsed, placed, IsUnrefusedText, IsUnrefused}
+use Rattle.hparse.proofs.Names.{◌≡◌, ℕ, List, [], ◌∷◌, ◌++◌, map, sym, ap, ◌∙◌, subst, append-nil, append_assoc, Result, Ok, ParseError, Placed, RawKind, Refusal, Texts, grows_not, Policy, CharItem, items, characters_among, errors_among, characters_among-items, start_kind, Tok, Event, Item, Entities, tokens_in, errors_in, HasTaken, texts, Goes, State, PlacedToken, Steps, and, Parser, Reading, HasRead, WasRead, Manner, Began, settled_in, WasHanded, ParseCase, ParseOptions, first_state, manner, takes_item_with_origins, HasParsed, token_placed, IsUnrefusedText, IsUnrefused}
 use Rattle.std.proofs.lemmas.List.{map-append}
 use Rattle.htext.specs.Decoding.{IsUndecided}
 use Rattle.htext.proofs.Texts.{errors_among-items}
@@ -47,9 +47,9 @@ front_steps [] us s s' steps = (s, none)
 front_steps (t ∷ ts) us s s' (and first rest) = let k = front_steps ts us _ s' rest in (k.0, and first k.1)
 
 -- the same of tokens of a text
-pub leads_on : (tokens front others : List Tok) (s s' : State (List ℕ)) → tokens ≡ front ++ others → Steps texts (map placed tokens) s (Goes s') → (mid : State (List ℕ)) × Steps texts (map placed front) s (Goes mid)
+pub leads_on : (tokens front others : List Tok) (s s' : State (List ℕ)) → tokens ≡ front ++ others → Steps texts (map token_placed tokens) s (Goes s') → (mid : State (List ℕ)) × Steps texts (map token_placed front) s (Goes mid)
 leads_on tokens front others s s' are steps =
-    front_steps (map placed front) (map placed others) s s' (subst (λ (ts : List (PlacedToken (List ℕ))). Steps texts ts s (Goes s')) (ap (map placed) are ∙ map-append placed front others) steps)
+    front_steps (map token_placed front) (map token_placed others) s s' (subst (λ (ts : List (PlacedToken (List ℕ))). Steps texts ts s (Goes s')) (ap (map token_placed) are ∙ map-append token_placed front others) steps)
 
 module _ {S : Type 0} (gives : S → Item → Result (Unit {0}) Refusal → S → Type 0) (m : Manner) (began : Began S) (reading : Reading S) (bytes : List ℕ) (h : HasRead gives m began reading bytes) where
   all_fed : h.holds.fed ≡ items (settled_in m bytes)
@@ -83,14 +83,14 @@ module _ {S : Type 0} (gives : S → Item → Result (Unit {0}) Refusal → S �
 
 module _ (opts : ParseOptions) (parse_case : ParseCase) (bytes : List ℕ) (old : Parser) (h : HasParsed opts parse_case old bytes) where
   -- what was read after that by what the parser reads
-  pub unrefused : (all : List ℕ) → WasRead places_item (manner opts parse_case) h.began all → IsUnrefused opts parse_case all
+  pub unrefused : (all : List ℕ) → WasRead takes_item_with_origins (manner opts parse_case) h.began all → IsUnrefused opts parse_case all
   unrefused all (reading, read) =
       let fed = read.holds.was_fed in
       record {
-        text = unrefused_text places_item (manner opts parse_case) h.began reading all read;
+        text = unrefused_text takes_item_with_origins (manner opts parse_case) h.began reading all read;
         steps = λ spans settled.
-            let t = are_taken places_item (manner opts parse_case) h.began reading all read spans settled in
-            leads_on _ (tokens_of spans) t.others (begins opts parse_case) _ t.tokens_are
+            let t = are_taken takes_item_with_origins (manner opts parse_case) h.began reading all read spans settled in
+            leads_on _ (tokens_of spans) t.others (first_state opts parse_case) _ t.tokens_are
             (gone opts parse_case (inner h.began) all reading.feeding.names reading.feeding.sink.builder h.unrefused h.begins reading.feeding.names (grows_not reading.feeding.names) read.are_names _ _
             (handed_inner reading.feeding.names h.began reading.feeding.sink _ _ fed.handed));
       }

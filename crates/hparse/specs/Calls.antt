@@ -12,6 +12,6 @@ counted_by failures (Some _) = failures
 counted_by failures None = counted failures
 
 -- A read gave its first n bytes, none only at the end or with no room; one that failed took nothing.
-abbrev pub Reads : Option (List ℕ) → Option (List ℕ) → Option ℕ → List ℕ → Type 0
-Reads old new (Some n) buffer = (n ≤ length buffer) × Consumes old new (take n buffer) × (n ≡ 0 → 0 < length buffer → IsAtEnd new)
-Reads old new None buffer = Keeps old new
+abbrev pub ReadsCall : Option (List ℕ) → Option (List ℕ) → Option ℕ → List ℕ → Type 0
+ReadsCall old new (Some n) buffer = (n ≤ length buffer) × Consumes old new (take n buffer) × (n ≡ 0 → 0 < length buffer → IsAtEnd new)
+ReadsCall old new None buffer = Keeps old new

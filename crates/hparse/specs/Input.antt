@@ -44,8 +44,8 @@ settled_in m bytes = settled (how_of m) bytes
 abbrev pub reads_in : Manner → List ℕ → List Read
 reads_in m bytes = decoded (how_of m) bytes
 
-abbrev pub text_in : Manner → List ℕ → List Placed
-text_in m bytes = map character_of (reads_in m bytes)
+abbrev pub input_text : Manner → List ℕ → List Placed
+input_text m bytes = map character_of (reads_in m bytes)
 
 -- how many of the bytes are read
 abbrev pub end_in : Manner → List ℕ → ℕ
@@ -91,22 +91,22 @@ module _ {S : Type 0} (gives : S → Item → Result (Unit {0}) Refusal → S �
   pub data IsRefusedFor : Refusal → Type 0 where
     -- the sink refuses what its text gives
     by_sink : (refusal : Refusal) (events : List Event) (errors : List ParseError) → WasHanded gives names began (tokens_in events) errors (Err refusal) now
-        → AreFront m.table (start_kind m.start) (text_in m bytes) (end_in m bytes) events → IsRefusedFor refusal
+        → AreFront m.table (start_kind m.start) (input_text m bytes) (end_in m bytes) events → IsRefusedFor refusal
     -- a start tag of its text is out of the profile
     by_tag : (name : RefusedName) (at : ℕ) (tokens : List Tok) (errors : List ParseError) → WasHanded gives names began tokens errors (Ok tt) now
-        → IsRefused m.table (start_kind m.start) (text_in m bytes) (end_in m bytes) tokens name at → IsRefusedFor (OutOfProfile name at)
+        → IsRefused m.table (start_kind m.start) (input_text m bytes) (end_in m bytes) tokens name at → IsRefusedFor (OutOfProfile name at)
     -- the sink takes all of its text, but bytes follow that
     by_bytes : (refusal : Refusal) (tokens : List Tok) (errors handed : List ParseError) → WasHanded gives names began tokens handed (Ok tt) now
-        → Tokens m.table (start_kind m.start) (text_in m bytes) (end_in m bytes) tokens errors → refusal_of (how_of m) bytes ≡ Some refusal
+        → Tokens m.table (start_kind m.start) (input_text m bytes) (end_in m bytes) tokens errors → refusal_of (how_of m) bytes ≡ Some refusal
         → IsRefusedFor refusal
     by_memory : (events : List Event) (errors : List ParseError) → WasHanded gives names began (tokens_in events) errors (Ok tt) now
-        → AreFront m.table (start_kind m.start) (text_in m bytes) (end_in m bytes) events → IsRefusedFor Memory
+        → AreFront m.table (start_kind m.start) (input_text m bytes) (end_in m bytes) events → IsRefusedFor Memory
 
   -- The sink took all that the input gives.
   pub record IsTaken : Type 0 where
     pub tokens : List Tok
     pub errors : List ParseError
-    pub read : Tokens m.table (start_kind m.start) (text_in m bytes) (length bytes) tokens errors
+    pub read : Tokens m.table (start_kind m.start) (input_text m bytes) (length bytes) tokens errors
     pub handed : WasHanded gives names began tokens (input_errors (reads_in m bytes) ++ errors) (Ok tt) now
     pub whole : refusal_of (how_of m) bytes ≡ None
 

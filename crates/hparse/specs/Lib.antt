@@ -11,7 +11,7 @@ pub mod Origins
 pub mod PageText
 pub mod Parse
 pub mod Parsing
-pub mod Placing
+pub mod BuilderWithOrigins
 pub mod Reader
 pub mod Shown
 pub mod Taken

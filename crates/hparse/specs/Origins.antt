@@ -10,7 +10,7 @@ use Rattle.htoken.specs.Standing.{start_kind}
 use Rattle.htoken.specs.Token.{Tok}
 use Rattle.htoken.specs.Tokens.{Tokens}
 use Rattle.hnodes.specs.Edits.{Nodes}
-use Rattle.hnodes.specs.Spots.{kind_of, name_of}
+use Rattle.hnodes.specs.Spots.{node_kind, node_name}
 use Rattle.hnodes.specs.declared.node.NodeKind.{NodeKind}
 use Rattle.hnodes.specs.declared.node.NodeKind.TheVariants as kind
 use Rattle.hadopt.specs.Naming.{Naming, texts}
@@ -18,9 +18,9 @@ use Rattle.hadopt.specs.Site.{Goes}
 use Rattle.hmodes.specs.State.{Token, start, character, PlacedToken, State}
 use Rattle.hmodes.specs.Step.{Step}
 use Rattle.hparse.specs.declared.origins.Origin.{Origin}
-use Rattle.hparse.specs.Input.{text_in}
-use Rattle.hparse.specs.Parse.{ParseCase, ParseOptions, begins, manner, start_of}
-use Rattle.hparse.specs.Taken.{placed}
+use Rattle.hparse.specs.Input.{input_text}
+use Rattle.hparse.specs.Parse.{ParseCase, ParseOptions, first_state, manner, start_of}
+use Rattle.hparse.specs.Taken.{token_placed}
 
 -- a node that the token at this byte implied
 abbrev pub implied : ℕ → Origin
@@ -57,12 +57,12 @@ module _ {N : Type 0} (n : Naming N) where
 
   -- The element of a start tag is the last node that its step makes: the others are implied.
   abbrev pub is_own : Option N → Nodes N → ℕ → Bool
-  is_own own nodes k = (k + 1) == nodes.made && are_same own (name_of k nodes.trees)
+  is_own own nodes k = (k + 1) == nodes.made && are_same own (node_name k nodes.trees)
 
   -- how node k was made
   module _ (at first : ℕ) (own : Option N) (nodes : Nodes N) where
     abbrev pub making : ℕ → Origin
-    making k = making_of at first (kind_of k nodes.trees) (is_own own nodes k)
+    making k = making_of at first (node_kind k nodes.trees) (is_own own nodes k)
 
     -- how all of them were made: those after the list in that step
     abbrev pub with_made : List Origin → List Origin
@@ -73,10 +73,10 @@ module _ {N : Type 0} (n : Naming N) where
   after_token t s s' list = with_made t.at (first_of t.token t.at s) (own_name t.token) s'.site.nodes list
 
   -- The tokens lead from one state to another, and so the nodes were made before and after.
-  pub data Makes : List (PlacedToken N) → State N → List Origin → State N → List Origin → Type 0 where
-    none : {s : State N} {list : List Origin} → Makes [] s list s list
+  pub data MakesNodes : List (PlacedToken N) → State N → List Origin → State N → List Origin → Type 0 where
+    none : {s : State N} {list : List Origin} → MakesNodes [] s list s list
     and : {t : PlacedToken N} {ts : List (PlacedToken N)} {s s' s'' : State N} {list list' : List Origin} → Step n t.at t.token s (Goes s')
-        → Makes ts s' (after_token t s s' list) s'' list' → Makes (t ∷ ts) s list s'' list'
+        → MakesNodes ts s' (after_token t s s' list) s'' list' → MakesNodes (t ∷ ts) s list s'' list'
 
 -- the document and a fragment's root, before any token
 abbrev pub first_makings : {N : Type 0} → State N → List Origin
@@ -96,6 +96,6 @@ pub record AreOrigins (opts : ParseOptions) (parse_case : ParseCase) (bytes : Li
   pub errors : List ParseError
   pub state : State (List ℕ)
   pub made : List Origin
-  pub read : Tokens opts.table (start_kind (start_of parse_case)) (text_in (manner opts parse_case) bytes) (length bytes) tokens errors
-  pub makes : Makes texts (map placed tokens) (begins opts parse_case) (first_makings (begins opts parse_case)) state made
+  pub read : Tokens opts.table (start_kind (start_of parse_case)) (input_text (manner opts parse_case) bytes) (length bytes) tokens errors
+  pub makes : MakesNodes texts (map token_placed tokens) (first_state opts parse_case) (first_makings (first_state opts parse_case)) state made
   pub list_is : list ≡ again_laid state.site.again made

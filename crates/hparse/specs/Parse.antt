@@ -26,8 +26,8 @@ use Rattle.hmodes.specs.Beginning.{Limits, document_begins, fragment_begins}
 use Rattle.hmodes.specs.State.{State}
 use Rattle.hmodes.specs.Step.{Steps}
 use Rattle.hparse.specs.Answer.{error_cmp}
-use Rattle.hparse.specs.Input.{Manner, how_of, reads_in, text_in}
-use Rattle.hparse.specs.Taken.{placed}
+use Rattle.hparse.specs.Input.{Manner, how_of, reads_in, input_text}
+use Rattle.hparse.specs.Taken.{token_placed}
 
 -- what is parsed: a document, or a fragment in the context of an element of this name (#html-fragment-parsing-algorithm)
 pub data ParseCase : Type 0 where
@@ -56,9 +56,9 @@ abbrev pub policy : ParseOptions → ParseCase → Policy
 policy opts parse_case = how_of (manner opts parse_case)
 
 -- the state in which it begins
-abbrev pub begins : ParseOptions → ParseCase → State (List ℕ)
-begins opts document = document_begins opts.quirks opts.limits
-begins opts (fragment context) = fragment_begins texts context opts.limits
+abbrev pub first_state : ParseOptions → ParseCase → State (List ℕ)
+first_state opts document = document_begins opts.quirks opts.limits
+first_state opts (fragment context) = fragment_begins texts context opts.limits
 
 -- the document, or a fragment's root element
 abbrev pub root_of : ParseCase → ℕ
@@ -74,20 +74,20 @@ module _ (opts : ParseOptions) (parse_case : ParseCase) (bytes : List ℕ) where
   -- The tokens of what is read of the bytes lead the rules to this state, and the text raises these errors.
   pub record Builds (end : ℕ) (errors : List ParseError) (state : State (List ℕ)) : Type 0 where
     pub tokens : List Tok
-    pub read : Tokens opts.table (start_kind (start_of parse_case)) (text_in (manner opts parse_case) bytes) end tokens errors
-    pub steps : Steps texts (map placed tokens) (begins opts parse_case) (Goes state)
+    pub read : Tokens opts.table (start_kind (start_of parse_case)) (input_text (manner opts parse_case) bytes) end tokens errors
+    pub steps : Steps texts (map token_placed tokens) (first_state opts parse_case) (Goes state)
 
   -- What the bytes are parsed as.
   pub data Parses : Result Parse Refusal → Type 0 where
     -- the rules refuse one of its tokens
     refused_token : (refusal : Refusal) (events : List Event)
-        → AreFront opts.table (start_kind (start_of parse_case)) (text_in (manner opts parse_case) bytes) (read_len (policy opts parse_case) bytes) events
-        → Steps texts (map placed (tokens_in events)) (begins opts parse_case) (Refused refusal) → Parses (Err refusal)
+        → AreFront opts.table (start_kind (start_of parse_case)) (input_text (manner opts parse_case) bytes) (read_len (policy opts parse_case) bytes) events
+        → Steps texts (map token_placed (tokens_in events)) (first_state opts parse_case) (Refused refusal) → Parses (Err refusal)
     -- it has a start tag that is left out of the profile, and the rules take the tokens before that
     refused_tag : (name : RefusedName) (at : ℕ) (tokens : List Tok) (state : State (List ℕ))
-        → IsRefused opts.table (start_kind (start_of parse_case)) (text_in (manner opts parse_case) bytes)
+        → IsRefused opts.table (start_kind (start_of parse_case)) (input_text (manner opts parse_case) bytes)
         (read_len (policy opts parse_case) bytes) tokens name at
-        → Steps texts (map placed tokens) (begins opts parse_case) (Goes state) → Parses (Err (OutOfProfile name at))
+        → Steps texts (map token_placed tokens) (first_state opts parse_case) (Goes state) → Parses (Err (OutOfProfile name at))
     -- the rules take all of its tokens, but bytes follow it
     refused_bytes : (refusal : Refusal) (errors : List ParseError) (state : State (List ℕ)) → Builds (read_len (policy opts parse_case) bytes) errors state
         → refusal_of (policy opts parse_case) bytes ≡ Some refusal → Parses (Err refusal)

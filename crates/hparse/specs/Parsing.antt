@@ -9,7 +9,7 @@ use Rattle.names.specs.Spelling.{spelling}
 use Rattle.htoken.specs.Token.{Item, gives_item}
 use Rattle.hnodes.specs.Edits.{Nodes}
 use Rattle.hnodes.specs.Forest.{children_of}
-use Rattle.hnodes.specs.Spelled.{spelled}
+use Rattle.hnodes.specs.Mapped.{mapped}
 use Rattle.hadopt.specs.Naming.{numbers}
 use Rattle.hmodes.specs.Beginning.{document_begins, fragment_begins}
 use Rattle.hmodes.specs.State.{State}
@@ -19,12 +19,12 @@ use Rattle.hparse.specs.declared.options.Options.{Options}
 use Rattle.hparse.specs.declared.origins.Origin.{Origin}
 use Rattle.hparse.specs.declared.parsed.Parsed.{Parsed}
 use Rattle.hparse.specs.declared.parser.Parser.{Parser}
-use Rattle.hparse.specs.declared.placing.Placing.{Placing}
+use Rattle.hparse.specs.declared.builder_with_origins.BuilderWithOrigins.{BuilderWithOrigins}
 use Rattle.hparse.specs.Answer.{error_cmp}
 use Rattle.hparse.specs.Fed.{HasRead}
 use Rattle.hparse.specs.Input.{Began}
 use Rattle.hparse.specs.Origins.{AreOrigins, again_laid}
-use Rattle.hparse.specs.Placing.{PlacesError, PlacesToken, makings_if, makings_of}
+use Rattle.hparse.specs.BuilderWithOrigins.{TakesErrorWithOrigins, TakesTokenWithOrigins, makings_if, makings_of}
 use Rattle.hnodes.specs.Named.{AreOf}
 use Rattle.hparse.specs.Parse.{ParseCase, document, fragment, ParseOptions, Parse, Parses, manner, root_of}
 
@@ -40,8 +40,8 @@ options_of options = record {
 }
 
 -- a step of what takes the tokens and errors
-abbrev pub places_item : Placing → Item → Result (Unit {0}) Refusal → Placing → Type 0
-places_item = gives_item PlacesError PlacesToken
+abbrev pub takes_item_with_origins : BuilderWithOrigins → Item → Result (Unit {0}) Refusal → BuilderWithOrigins → Type 0
+takes_item_with_origins = gives_item TakesErrorWithOrigins TakesTokenWithOrigins
 
 -- the state in which a parse begins, where names are numbers of this table
 pub data BeginsIn (opts : ParseOptions) (names : Texts) : ParseCase → State ℕ → Type 0 where
@@ -51,21 +51,21 @@ pub data BeginsIn (opts : ParseOptions) (names : Texts) : ParseCase → State �
 -- The parser was fed these bytes, in any pieces, and has refused nothing.
 pub record HasParsed (opts : ParseOptions) (parse_case : ParseCase) (parser : Parser) (bytes : List ℕ) : Type 0 where
   pub accepts : parser.refused ≡ None
-  pub began : Began Placing
+  pub began : Began BuilderWithOrigins
   pub unrefused : began.sink.builder.refused ≡ None
-  pub none_told : began.sink.builder.told ≡ []
+  pub none_told : began.sink.builder.tokenizer_errors ≡ []
   pub root_is : began.sink.builder.root ≡ root_of parse_case
   pub begins : BeginsIn opts began.names parse_case began.sink.builder.state
   pub places : makings_of began.sink ≡ makings_if opts.places began.sink.builder.state
-  pub has_read : HasRead places_item (manner opts parse_case) began parser.reading.value bytes
+  pub has_read : HasRead takes_item_with_origins (manner opts parse_case) began parser.reading.value bytes
 
 -- A parser with this builder and this table of names that was fed nothing.
 pub record IsUnfed (options : Options) (start : Start) (names : Texts) (builder : Building) (parser : Parser) : Type 0 where
   pub accepts : parser.refused ≡ None
-  pub sink : Placing
+  pub sink : BuilderWithOrigins
   pub builder_is : sink.builder ≡ builder
   pub places : makings_of sink ≡ makings_if options.places builder.state
-  pub has_read : HasRead places_item (record { table = options.table.now; start = start; bad = options.bad_bytes; limit = options.limits.input })
+  pub has_read : HasRead takes_item_with_origins (record { table = options.table.now; start = start; bad = options.bad_bytes; limit = options.limits.input })
       (record { names = names; sink = sink }) parser.reading.value []
 
 -- What feeding the last piece of these bytes does: memory ran out, or they are refused, whatever comes after, or they have been read.
@@ -89,15 +89,15 @@ pub record IsMadeOf (names : Texts) (tree : Nodes ℕ) (root : ℕ) (errors : Li
   pub places_are : places_in parsed ≡ places
 
 -- what a builder has built
-abbrev pub IsBuilt : Texts → Placing → Parsed → Type 0
-IsBuilt names sink = IsMadeOf names sink.builder.state.site.nodes sink.builder.root (sink.builder.state.site.errors ++ sink.builder.told)
+abbrev pub IsBuilt : Texts → BuilderWithOrigins → Parsed → Type 0
+IsBuilt names sink = IsMadeOf names sink.builder.state.site.nodes sink.builder.root (sink.builder.state.site.errors ++ sink.builder.tokenizer_errors)
     (option_map (again_laid sink.builder.state.site.again) (makings_of sink))
 
 -- What was parsed is this: the same tree, in which the names inside the root are numbers of its table, the same root and the same
 -- errors. The texts of the table are distinct, the known ones first.
 pub record IsParse (parse_case : ParseCase) (parsed : Parsed) (parse : Parse) : Type 0 where
   pub table : AreNames parsed.names
-  pub trees : spelled (spelling parsed.names) parsed.tree.trees ≡ parse.trees
+  pub trees : mapped (spelling parsed.names) parsed.tree.trees ≡ parse.trees
   pub names_are : AreOf parsed.names (children_of parsed.root parsed.tree.trees)
   pub root : parsed.root ≡ root_of parse_case
   pub errors : parsed.errors.items ≡ parse.errors

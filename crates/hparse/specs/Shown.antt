@@ -17,11 +17,11 @@ use Rattle.hparse.specs.Input.{Began}
 use Rattle.hparse.specs.TokenRun.{TokensMean}
 
 -- The result is the answer of the bytes, unless memory ran out.
-pub data Shows (table : Entities) (how : Policy) (bytes : List ℕ) (result : Result TokenRun Refusal) : Type 0 where
-  ran_out : result ≡ Err Memory → Shows table how bytes result
-  refuses : (refusal : Refusal) → result ≡ Err refusal → Answers table how bytes (Err refusal) → Shows table how bytes result
+pub data ShowsRun (table : Entities) (how : Policy) (bytes : List ℕ) (result : Result TokenRun Refusal) : Type 0 where
+  ran_out : result ≡ Err Memory → ShowsRun table how bytes result
+  refuses : (refusal : Refusal) → result ≡ Err refusal → Answers table how bytes (Err refusal) → ShowsRun table how bytes result
   accepts : (run : TokenRun) (tokens : List Tok) → result ≡ Ok run → TokensMean run.names run.tokens.items tokens
-      → Answers table how bytes (Ok (tokens, run.errors.items)) → Shows table how bytes result
+      → Answers table how bytes (Ok (tokens, run.errors.items)) → ShowsRun table how bytes result
 
 -- The bytes of a document have been read, whose tokens and errors are collected.
 pub record HasReadTokens (table : Entities) (bad : BadBytes) (limit : ℕ) (reading : Reading Collected) (bytes : List ℕ) : Type 0 where

@@ -13,8 +13,8 @@ use Rattle.hadopt.specs.Site.{Goes}
 use Rattle.hmodes.specs.State.{State}
 use Rattle.hmodes.specs.Step.{Steps}
 use Rattle.hparse.specs.Input.{Manner, how_of, settled_in}
-use Rattle.hparse.specs.Parse.{ParseCase, ParseOptions, begins, manner}
-use Rattle.hparse.specs.Taken.{placed}
+use Rattle.hparse.specs.Parse.{ParseCase, ParseOptions, first_state, manner}
+use Rattle.hparse.specs.Taken.{token_placed}
 
 -- the text that is read of the bytes whatever follows them
 abbrev pub settled_text : Manner → List ℕ → List Placed
@@ -34,4 +34,4 @@ pub record IsUnrefusedText (m : Manner) (bytes : List ℕ) : Type 0 where
 pub record IsUnrefused (opts : ParseOptions) (parse_case : ParseCase) (bytes : List ℕ) : Type 0 where
   pub text : IsUnrefusedText (manner opts parse_case) bytes
   pub steps : (spans : List Span) → AreSettledIn (manner opts parse_case) bytes spans
-      → (state : State (List ℕ)) × Steps texts (map placed (tokens_of spans)) (begins opts parse_case) (Goes state)
+      → (state : State (List ℕ)) × Steps texts (map token_placed (tokens_of spans)) (first_state opts parse_case) (Goes state)

@@ -1,7 +1,7 @@
 -- The words of the contracts, in one place.
 pub use Rattle.charref.specs.Reference.{Entities, IsTable}
 pub use Rattle.hadopt.specs.Naming.{numbers}
-pub use Rattle.hmodes.specs.Tokens.{place_of, token_of}
+pub use Rattle.hmodes.specs.Tokens.{token_at, token_of}
 pub use Rattle.hparse.specs.Answer.{of_document}
 pub use Rattle.hparse.specs.Collecting.{IsRunOf}
 pub use Rattle.hparse.specs.Fed.{EndsInput, FeedsPiece, HasRead, WasRead}
@@ -11,9 +11,9 @@ pub use Rattle.hparse.specs.Into.{ReadsInto, as_document}
 pub use Rattle.hparse.specs.Origins.{again_laid, are_same, element_name, first_of, implied, is_own, making, making_of, noted, own_name, with_made}
 pub use Rattle.hparse.specs.Parse.{ParseCase, ParseOptions, document, fragment, is_context}
 pub use Rattle.hparse.specs.Parsing.{AnswersParse, FeedsParser, IsUnfed, HasParsed, IsBuilt, IsMadeOf, ShowsParse, options_of}
-pub use Rattle.hparse.specs.Placing.{PlacesToken, makings_if, makings_of}
+pub use Rattle.hparse.specs.BuilderWithOrigins.{TakesTokenWithOrigins, makings_if, makings_of}
 pub use Rattle.hparse.specs.Reader.{ReadsInput, ReadsTo}
-pub use Rattle.hparse.specs.Shown.{HasReadTokens, Shows}
+pub use Rattle.hparse.specs.Shown.{HasReadTokens, ShowsRun}
 pub use Rattle.hparse.specs.Unrefused.{IsUnrefused, IsUnrefusedText}
 pub use Rattle.htext.specs.Items.{CharItem, bad_each, input_errors}
 pub use Rattle.htext.specs.declared.BadBytes.{BadBytes as Bad}

@@ -3,7 +3,7 @@
 ghost use Rattle.std.specs.Prelude.{◌≡◌, ◌<◌, ℕ, List, [], false, map, unwrap_or};
 ghost use Rattle.std.specs.Iterator.{YieldsFirstBy, item_count};
 ghost use Rattle.std.specs.Option.{option_map, option_map_or};
-ghost use Rattle.hnodes.specs.Vocabulary.{attribute_of, attributes_of, name_of, spelled_attribute, value_of, Attribute};
+ghost use Rattle.hnodes.specs.Vocabulary.{attribute_of, attributes_of, node_name, mapped_attribute, value_of, Attribute};
 ghost use Rattle.names.specs.Names.{text_of};
 ghost use Rattle.hparse.specs.ByText.{stands_for};
 
@@ -25,7 +25,7 @@ impl Parsed {
     /// The attributes of an element, each as the texts of its name and its value, in their order; none for another node.
     pub fn attributes(&self, node: NodeId) -> AttributeTexts
         requires { node < self.now.tree.made }
-        ensures { result ≡ map (spelled_attribute (text_of self.now.names)) (unwrap_or (attributes_of node self.now.tree.trees) []) }
+        ensures { result ≡ map (mapped_attribute (text_of self.now.names)) (unwrap_or (attributes_of node self.now.tree.trees) []) }
     {
         let attrs = self.tree.attrs(node).unwrap_or(&[]);
         AttributeTexts {
@@ -37,7 +37,7 @@ impl Parsed {
     /// Whether a node is an element of this name. `Tree::is` asks for a known name, in less time.
     pub fn is_element(&self, node: NodeId, name: &str) -> bool
         requires { node < self.now.tree.made }
-        ensures { result ≡ option_map_or (stands_for self.now.names name.now) (name_of node self.now.tree.trees) false }
+        ensures { result ≡ option_map_or (stands_for self.now.names name.now) (node_name node self.now.tree.trees) false }
     {
         match self.tree.name(node) {
             Some(own) => self.names.find(name) == Some(own),
@@ -56,7 +56,7 @@ pub struct AttributeTexts<'a> {
 impl<'a> Model for AttributeTexts<'a> {
     ghost Value = { List (Attribute (List ℕ)) };
 
-    ghost view = { λ s. map (spelled_attribute (text_of s.names.now)) (map attribute_of s.attrs.now) };
+    ghost view = { λ s. map (mapped_attribute (text_of s.names.now)) (map attribute_of s.attrs.now) };
 }
 
 impl<'a> Iterator for AttributeTexts<'a> {

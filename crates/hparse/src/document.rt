@@ -2,7 +2,7 @@
 
 ghost use Rattle.std.specs.Prelude.{◌≡◌, ℕ, List, [], MatchResult};
 ghost use Rattle.std.specs.List.{flat_map};
-ghost use Rattle.hparse.specs.Vocabulary.{Entities, Memory, Bad, of_document, IsRunOf, HasReadTokens, Shows};
+ghost use Rattle.hparse.specs.Vocabulary.{Entities, Memory, Bad, of_document, IsRunOf, HasReadTokens, ShowsRun};
 
 use crate::collect::Collected;
 use crate::options::Options;
@@ -14,7 +14,7 @@ use std::alloc::Global;
 
 /// The tokens of the pieces joined, however they are cut.
 pub fn tokens(alloc: Global, pieces: &[&[u8]], options: &Options) -> Result<TokenRun, Refusal>
-    ensures { Shows options.now.table.now (of_document options.now.bad_bytes options.now.limits.input) (flat_map (λ piece. piece.now) pieces.now) result }
+    ensures { ShowsRun options.now.table.now (of_document options.now.bad_bytes options.now.limits.input) (flat_map (λ piece. piece.now) pieces.now) result }
 {
     let mut reading = begin(alloc, options);
     for piece in pieces {
@@ -41,7 +41,7 @@ pub(crate) fn begin<'t>(alloc: Global, options: &Options<'t>) -> Reading<'t, Col
 /// The tokens of a document that has ended.
 fn finish(mut reading: Reading<Collected>) -> Result<TokenRun, Refusal>
     ensures { (table : Entities) (bad : Bad) (limit : ℕ) (bytes : List ℕ) → HasReadTokens table bad limit reading.entry bytes
-        → Shows table (of_document bad limit) bytes result }
+        → ShowsRun table (of_document bad limit) bytes result }
 {
     match reading.end() {
         Ok(()) => run_of(reading),

@@ -2,6 +2,7 @@
 //! are made of is passed on: the table of character references, the quirks list, the limits.
 #![tactic(auto)]
 
+mod builder_with_origins;
 mod by_text;
 mod collect;
 pub mod context;
@@ -13,7 +14,6 @@ pub mod origins;
 mod page_text;
 pub mod parsed;
 pub mod parser;
-mod placing;
 pub mod reader;
 mod reading;
 pub mod source;

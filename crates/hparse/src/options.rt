@@ -2,7 +2,7 @@
 
 ghost use Rattle.std.specs.Prelude.{◌≡◌, false};
 ghost use Rattle.htext.specs.declared.BadBytes.TheVariants as bad;
-ghost use Rattle.hparse.specs.Vocabulary.{MAX_INPUT, ParseOptions, options_of};
+ghost use Rattle.hparse.specs.Vocabulary.{MAX_INPUT, options_of};
 
 use charref::Table;
 use hmarkup::Quirks;

@@ -1,7 +1,7 @@
 //! A page as text.
 
 ghost use Rattle.std.specs.Prelude.{◌≡◌, Some, OnOk};
-ghost use Rattle.hserialize.specs.Vocabulary.{Holds, IsFlushed, WritesText, is_plain, is_plain_document, written};
+ghost use Rattle.hserialize.specs.Vocabulary.{HoldsBytes, IsFlushed, WritesText, is_plain, is_plain_document, written};
 ghost use Rattle.hparse.specs.PageText.{page_name, page_trees};
 
 use crate::parsed::Parsed;
@@ -50,7 +50,7 @@ impl Parsed {
 
     /// The text that [`Parsed::serialize`] writes. An error is `Memory`.
     pub fn serialize_to_vec(&self, alloc: Global, escaping: Escaping) -> Result<Vec<u8>, Refusal>
-        ensures { Holds result (written escaping (page_name self.now) (page_trees self.now)) }
+        ensures { HoldsBytes result (written escaping (page_name self.now) (page_trees self.now)) }
     {
         serialize_to_vec(alloc, &self.tree, &self.names, self.root, escaping)
     }

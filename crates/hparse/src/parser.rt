@@ -3,12 +3,12 @@
 ghost use Rattle.std.specs.Prelude.{◌≡◌, ◌<◌, ◌⊎◌, ℕ, List, [], ◌++◌, None, Some, true, false, Err, option_map, IfErr, IfOk, MatchResult};
 ghost use Rattle.hparse.specs.Vocabulary.{again_laid, Refused, BadContext, Memory, ParseCase, ParseOptions, document, fragment, is_context, ReadsInput, AnswersParse, FeedsParser, IsUnfed, HasParsed, IsBuilt, IsMadeOf, ShowsParse, options_of, IsUnrefused};
 
+use crate::builder_with_origins::BuilderWithOrigins;
 use crate::context::is_context;
 use crate::errors::sort_errors;
 use crate::options::Options;
 use crate::origins::{Origin, lay_again};
 use crate::parsed::Parsed;
-use crate::placing::Placing;
 use crate::reader::read_to_end;
 use crate::reading::Reading;
 use crate::source::Source;
@@ -21,7 +21,7 @@ use std::alloc::{AllocError, Global};
 /// Parses a document or a fragment that comes in pieces. After a refusal each further call returns the same refusal.
 pub struct Parser<'t> {
     // On the heap, so that whoever hands on a parser moves a pointer.
-    pub(crate) reading: Box<Reading<'t, Placing<'t>>>,
+    pub(crate) reading: Box<Reading<'t, BuilderWithOrigins<'t>>>,
     pub(crate) refused: Option<Refusal>,
 }
 
@@ -137,7 +137,7 @@ fn begun<'t>(
 ) -> Result<Parser<'t>, AllocError>
     ensures { IfOk result (IsUnfed options.now start names builder.entry) }
 {
-    let sink = Placing::new(alloc, builder, options.places)?;
+    let sink = BuilderWithOrigins::new(alloc, builder, options.places)?;
     let reading = Reading::new(alloc, options, start, names, sink);
     Ok(Parser {
         reading: Box::new(alloc, reading)?,

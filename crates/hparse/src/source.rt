@@ -1,7 +1,7 @@
 //! What bytes are read from.
 
 ghost use Rattle.std.specs.Prelude.{◌≡◌, ℕ, List, Option};
-ghost use Rattle.hparse.specs.Calls.{counted_by, Reads};
+ghost use Rattle.hparse.specs.Calls.{counted_by, ReadsCall};
 
 /// A reader that counts its failed calls.
 pub trait Source {
@@ -13,7 +13,7 @@ pub trait Source {
 
     /// Reads into the beginning of the buffer, and returns the number of bytes. None if the call failed.
     fn read(&mut self, buffer: &mut [u8]) -> Option<usize>
-        ensures bytes { Reads (left self.old) (left self.new) result buffer.new }
+        ensures bytes { ReadsCall (left self.old) (left self.new) result buffer.new }
         ensures count { failed self.new ≡ counted_by (failed self.old) result };
 
     /// The number of failed calls. It stays at the greatest value.

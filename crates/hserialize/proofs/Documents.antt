@@ -1,13 +1,13 @@
 -- What is tested of a plain document is what its definition asks.
-use Rattle.hserialize.proofs.Names.{◌≡◌, ℕ, ◌<◌, Bool, true, false, not, cond, List, [], Some, None, refl, sym, ◌∙◌, ap, subst, arith, ◌&&◌, map, option_map, Option, tag_of, tag_named, Tag, AreCounted, What, element, doctype, comment, text, Forest, none, tree, children_of, spelled, spelled_what, spelled_attribute, Spot, spot_of, first_or, first_child_of, next_of, what_of, row, takes_role, texts_in, Inside, inside_element, inside_node, are_plain_attributes, codes}
+use Rattle.hserialize.proofs.Names.{◌≡◌, ℕ, ◌<◌, Bool, true, false, not, cond, List, [], Some, None, refl, sym, ◌∙◌, ap, subst, arith, ◌&&◌, map, option_map, Option, tag_of, tag_named, Tag, AreCounted, What, element, doctype, comment, text, Forest, none, tree, children_of, mapped, mapped_what, mapped_attribute, Spot, spot_of, first_or, first_child_of, next_of, what_of, row, takes_role, texts_in, Inside, inside_element, inside_node, are_plain_attributes, codes}
 use Rattle.std.specs.Prelude.{IfSome, bytes_eq, is_some}
 use Rattle.std.specs.Option.{is_none}
 use Rattle.hserialize.proofs.Following.{IsFirst, first-at, first-made, children-from}
 use Rattle.hserialize.specs.ContentTable.{takes_comments}
 use Rattle.hserialize.specs.DocumentTesting.{tree_in, trees_from, past_leaves, ArePassed, IsDoctypePassed, is_plain_doctype_what, is_plain_doctype_at, is_leaf_what, is_leaf_at, is_last_text, is_text_alone, is_metadata_what, is_metadata_at, is_named_what, is_last_at, is_head_at}
 use Rattle.hserialize.specs.Plain.{are_content, begins_with_text, is_plain_text}
-use Rattle.hserialize.specs.PlainDocument.{ends, is_leaf, leaves_then, comments_then, doctype_then, element_then, is_metadata, in_head, are_metadata, are_in_html, body_on, html_on, is_plain_document}
-use Rattle.hserialize.specs.Testing.{is_text, is_text_at}
+use Rattle.hserialize.specs.PlainDocument.{ends_document, is_leaf, leaves_then, comments_then, doctype_then, element_then, is_metadata, inside_head, are_metadata, are_in_html, body_on, html_on, is_plain_document}
+use Rattle.hserialize.specs.Testing.{is_text_node, is_text_at}
 use Rattle.hserialize.specs.Words.{is_empty}
 use Rattle.hserialize.specs.declared.content.Role.{Role}
 use Rattle.hserialize.specs.declared.content.Texts.{Texts as Allowed}
@@ -34,13 +34,10 @@ none_is o false h = ap not (sym h)
 
 abbrev is_one_text : Allowed → Forest (List ℕ) → Bool
 is_one_text allowed none = true
-is_one_text allowed (tree n (text t) kids rest) = is_plain_text allowed t && ends kids && ends rest
+is_one_text allowed (tree n (text t) kids rest) = is_plain_text allowed t && ends_document kids && ends_document rest
 is_one_text allowed (tree n w kids rest) = false
 
-and_false : (u v : Bool) → false ≡ (u && v && false)
-and_false u v = grind (arith)
-
-empty : (i : Inside) (w : What (List ℕ)) (g : Forest (List ℕ)) → are_content (inside_node (text []) i) g ≡ ends g
+empty : (i : Inside) (w : What (List ℕ)) (g : Forest (List ℕ)) → are_content (inside_node (text []) i) g ≡ ends_document g
 empty i w none = refl
 empty i w (tree n (text t) kids rest) = grind (arith)
 empty i w (tree n v kids rest) = refl
@@ -49,7 +46,7 @@ regrouped : (p q e r : Bool) → ((p && q) && e && r) ≡ (p && e && (q && r))
 regrouped p q e r = grind (arith)
 
 module _ (i : Inside) (roles : (r : Role) → takes_role i.content r ≡ false) (comments : takes_comments i.content ≡ false) where
-  after_text : (g : Forest (List ℕ)) → (not (begins_with_text g) && are_content i g) ≡ ends g
+  after_text : (g : Forest (List ℕ)) → (not (begins_with_text g) && are_content i g) ≡ ends_document g
   after_text none = refl
   after_text (tree n (element name attrs) kids rest) = grind (arith, roles)
   after_text (tree n (comment t) kids rest) = grind (arith, comments)
@@ -65,15 +62,15 @@ module _ (i : Inside) (roles : (r : Role) → takes_role i.content r ≡ false) 
   one_text (tree n w kids rest) = refl
 
 -- what is in an element of head
-in_metadata : (t : Tag) (g : Forest (List ℕ)) → is_metadata t ≡ true → are_content (inside_element t in_head) g ≡ is_one_text (texts_in (row t).1) g
-in_metadata tag.Base g h = one_text (inside_element tag.Base in_head) (λ r. refl) refl g
-in_metadata tag.Basefont g h = one_text (inside_element tag.Basefont in_head) (λ r. refl) refl g
-in_metadata tag.Bgsound g h = one_text (inside_element tag.Bgsound in_head) (λ r. refl) refl g
-in_metadata tag.Link g h = one_text (inside_element tag.Link in_head) (λ r. refl) refl g
-in_metadata tag.Meta g h = one_text (inside_element tag.Meta in_head) (λ r. refl) refl g
-in_metadata tag.Script g h = one_text (inside_element tag.Script in_head) (λ r. refl) refl g
-in_metadata tag.Style g h = one_text (inside_element tag.Style in_head) (λ r. refl) refl g
-in_metadata tag.Title g h = one_text (inside_element tag.Title in_head) (λ r. refl) refl g
+in_metadata : (t : Tag) (g : Forest (List ℕ)) → is_metadata t ≡ true → are_content (inside_element t inside_head) g ≡ is_one_text (texts_in (row t).1) g
+in_metadata tag.Base g h = one_text (inside_element tag.Base inside_head) (λ r. refl) refl g
+in_metadata tag.Basefont g h = one_text (inside_element tag.Basefont inside_head) (λ r. refl) refl g
+in_metadata tag.Bgsound g h = one_text (inside_element tag.Bgsound inside_head) (λ r. refl) refl g
+in_metadata tag.Link g h = one_text (inside_element tag.Link inside_head) (λ r. refl) refl g
+in_metadata tag.Meta g h = one_text (inside_element tag.Meta inside_head) (λ r. refl) refl g
+in_metadata tag.Script g h = one_text (inside_element tag.Script inside_head) (λ r. refl) refl g
+in_metadata tag.Style g h = one_text (inside_element tag.Style inside_head) (λ r. refl) refl g
+in_metadata tag.Title g h = one_text (inside_element tag.Title inside_head) (λ r. refl) refl g
 in_metadata _ g h = absurd cc
 
 -- NODE BY NODE
@@ -96,9 +93,9 @@ doctype_first a b c d e = grind (arith)
 module _ (spelling : ℕ → List ℕ) (f : Forest ℕ) where
   -- as the definition has it
   abbrev from : Option ℕ → Forest (List ℕ)
-  from o = spelled spelling (trees_from o f)
+  from o = mapped spelling (trees_from o f)
 
-  childless : (g : Forest ℕ) → is_none (first_or g None) ≡ ends (spelled spelling g)
+  childless : (g : Forest ℕ) → is_none (first_or g None) ≡ ends_document (mapped spelling g)
   childless none = refl
   childless (tree b w kids rest) = refl
 
@@ -106,24 +103,24 @@ module _ (spelling : ℕ → List ℕ) (f : Forest ℕ) where
   before_text None = refl
   before_text (Some n) = go (spot_of n f)
     where
-      at : (s : Spot ℕ) (w : What ℕ) → is_text (Some w)
-          ≡ begins_with_text (tree n (spelled_what spelling w) (spelled spelling s.children) (spelled spelling s.after))
+      at : (s : Spot ℕ) (w : What ℕ) → is_text_node (Some w)
+          ≡ begins_with_text (tree n (mapped_what spelling w) (mapped spelling s.children) (mapped spelling s.after))
       at s (text t) = refl
       at s _ = refl
 
-      go : (s : Option (Spot ℕ)) → is_text (option_map (λ (u : Spot ℕ). u.what) s) ≡ begins_with_text (spelled spelling (tree_in n s))
+      go : (s : Option (Spot ℕ)) → is_text_node (option_map (λ (u : Spot ℕ). u.what) s) ≡ begins_with_text (mapped spelling (tree_in n s))
       go None = refl
       go (Some s) = at s s.what
 
   leaf : (allowed : Allowed) (n : ℕ) (a : IsFirst n f) → is_leaf_at allowed n f
-      ≡ is_leaf allowed (spelled_what spelling a.what) (spelled spelling a.kids) (spelled spelling a.rest)
+      ≡ is_leaf allowed (mapped_what spelling a.what) (mapped spelling a.kids) (mapped spelling a.rest)
   leaf allowed n a =
       (λ k. is_leaf_what allowed (a.is k) ((ap is_none a.first ∙ childless a.kids) k) ((before_text (next_of n f)
-      ∙ ap (λ g. begins_with_text (spelled spelling g)) a.after) k))
+      ∙ ap (λ g. begins_with_text (mapped spelling g)) a.after) k))
       ∙ go a.what
     where
-      go : (w : What ℕ) → is_leaf_what allowed (Some w) (ends (spelled spelling a.kids)) (begins_with_text (spelled spelling a.rest))
-          ≡ is_leaf allowed (spelled_what spelling w) (spelled spelling a.kids) (spelled spelling a.rest)
+      go : (w : What ℕ) → is_leaf_what allowed (Some w) (ends_document (mapped spelling a.kids)) (begins_with_text (mapped spelling a.rest))
+          ≡ is_leaf allowed (mapped_what spelling w) (mapped spelling a.kids) (mapped spelling a.rest)
       go (comment t) = refl
       go (text t) = refl
       go _ = refl
@@ -136,58 +133,58 @@ module _ (spelling : ℕ → List ℕ) (f : Forest ℕ) where
   pub past-step : (allowed : Allowed) (n : ℕ) (a : IsFirst n f) → past_leaves allowed (from (Some n))
       ≡ cond (is_leaf_at allowed n f) (past_leaves allowed (from (next_of n f))) (from (Some n))
   past-step allowed n a =
-      ap (λ g. past_leaves allowed (spelled spelling g)) a.trees
-      ∙ (λ k. cond (sym (leaf allowed n a) k) (past_leaves allowed (spelled spelling (sym a.after k))) (spelled spelling (sym a.trees k)))
+      ap (λ g. past_leaves allowed (mapped spelling g)) a.trees
+      ∙ (λ k. cond (sym (leaf allowed n a) k) (past_leaves allowed (mapped spelling (sym a.after k))) (mapped spelling (sym a.trees k)))
 
   pub doctype-step : (n : ℕ) (a : IsFirst n f) → doctype_then (comments_then html_on) (from (Some n))
       ≡ cond (is_plain_doctype_at n f) (comments_then html_on (from (next_of n f))) (comments_then html_on (from (Some n)))
   doctype-step n a =
-      ap (λ g. doctype_then (comments_then html_on) (spelled spelling g)) a.trees ∙ go a.what
+      ap (λ g. doctype_then (comments_then html_on) (mapped spelling g)) a.trees ∙ go a.what
       ∙ (λ k. cond (is_plain_doctype_what (sym a.is k) (sym (ap is_none a.first ∙ childless a.kids) k))
-      (comments_then html_on (spelled spelling (sym a.after k))) (comments_then html_on (spelled spelling (sym a.trees k))))
+      (comments_then html_on (mapped spelling (sym a.after k))) (comments_then html_on (mapped spelling (sym a.trees k))))
     where
-      go : (w : What ℕ) → doctype_then (comments_then html_on) (spelled spelling (tree n w a.kids a.rest))
-          ≡ cond (is_plain_doctype_what (Some w) (ends (spelled spelling a.kids))) (comments_then html_on (spelled spelling a.rest))
-          (comments_then html_on (spelled spelling (tree n w a.kids a.rest)))
-      go (doctype x p s) = doctype_first (bytes_eq x (codes "html")) (is_empty p) (is_empty s) (ends (spelled spelling a.kids))
-          (comments_then html_on (spelled spelling a.rest))
+      go : (w : What ℕ) → doctype_then (comments_then html_on) (mapped spelling (tree n w a.kids a.rest))
+          ≡ cond (is_plain_doctype_what (Some w) (ends_document (mapped spelling a.kids))) (comments_then html_on (mapped spelling a.rest))
+          (comments_then html_on (mapped spelling (tree n w a.kids a.rest)))
+      go (doctype x p s) = doctype_first (bytes_eq x (codes "html")) (is_empty p) (is_empty s) (ends_document (mapped spelling a.kids))
+          (comments_then html_on (mapped spelling a.rest))
       go _ = refl
 
   pub element-step : (x : List ℕ) (children next : Forest (List ℕ) → Bool) (n : ℕ) (a : IsFirst n f)
       → element_then x children next (from (Some n))
-      ≡ (is_named_what spelling x (what_of n f) && children (spelled spelling (children_of n f)) && next (from (next_of n f)))
+      ≡ (is_named_what spelling x (what_of n f) && children (mapped spelling (children_of n f)) && next (from (next_of n f)))
   element-step x children next n a =
-      ap (λ g. element_then x children next (spelled spelling g)) a.trees ∙ go a.what
-      ∙ (λ k. is_named_what spelling x (sym a.is k) && children (spelled spelling (sym a.kids_are k)) && next (spelled spelling (sym a.after k)))
+      ap (λ g. element_then x children next (mapped spelling g)) a.trees ∙ go a.what
+      ∙ (λ k. is_named_what spelling x (sym a.is k) && children (mapped spelling (sym a.kids_are k)) && next (mapped spelling (sym a.after k)))
     where
-      go : (w : What ℕ) → element_then x children next (spelled spelling (tree n w a.kids a.rest))
-          ≡ (is_named_what spelling x (Some w) && children (spelled spelling a.kids) && next (spelled spelling a.rest))
-      go (element name attrs) = named_first (bytes_eq (spelling name) x) (are_plain_attributes (map (spelled_attribute spelling) attrs))
-          (children (spelled spelling a.kids)) (next (spelled spelling a.rest))
+      go : (w : What ℕ) → element_then x children next (mapped spelling (tree n w a.kids a.rest))
+          ≡ (is_named_what spelling x (Some w) && children (mapped spelling a.kids) && next (mapped spelling a.rest))
+      go (element name attrs) = named_first (bytes_eq (spelling name) x) (are_plain_attributes (map (mapped_attribute spelling) attrs))
+          (children (mapped spelling a.kids)) (next (mapped spelling a.rest))
       go _ = refl
 
   module _ (made : ℕ) (counted : AreCounted made f) where
     -- body, and html
     pub last-is : (x : List ℕ) (children : Forest (List ℕ) → Bool) (o : Option ℕ) (n : ℕ) → o ≡ Some n → IfSome o (λ n. n < made)
-        → element_then x children (comments_then ends) (from o) ≡ (is_last_at spelling x n f && children (spelled spelling (children_of n f)))
+        → element_then x children (comments_then ends_document) (from o) ≡ (is_last_at spelling x n f && children (mapped spelling (children_of n f)))
     last-is x children o n is within =
         let h : n < made = subst (λ o. IfSome o (λ n. n < made)) is within in
-        ap (λ o. element_then x children (comments_then ends) (from o)) is
-        ∙ element-step x children (comments_then ends) n (first-at made f counted n h)
-        ∙ swapped (is_named_what spelling x (what_of n f)) (children (spelled spelling (children_of n f))) (comments_then ends (from (next_of n f)))
+        ap (λ o. element_then x children (comments_then ends_document) (from o)) is
+        ∙ element-step x children (comments_then ends_document) n (first-at made f counted n h)
+        ∙ swapped (is_named_what spelling x (what_of n f)) (children (mapped spelling (children_of n f))) (comments_then ends_document (from (next_of n f)))
 
     -- the children of html, where this is what their comments end with
     pub in-html : (q : ℕ) (o to : Option ℕ) → q < made → o ≡ first_child_of q f → ArePassed texts.None o to f
-        → are_in_html (spelled spelling (children_of q f)) ≡ element_then (codes "head") are_metadata (leaves_then texts.WhiteSpace body_on) (from to)
+        → are_in_html (mapped spelling (children_of q f)) ≡ element_then (codes "head") are_metadata (leaves_then texts.WhiteSpace body_on) (from to)
     in-html q o to h same passed =
-        ap (λ g. are_in_html (spelled spelling g)) (sym (children-from made f counted q h) ∙ ap (λ o. trees_from o f) (sym same))
+        ap (λ g. are_in_html (mapped spelling g)) (sym (children-from made f counted q h) ∙ ap (λ o. trees_from o f) (sym same))
         ∙ past texts.None (element_then (codes "head") are_metadata (leaves_then texts.WhiteSpace body_on)) o to passed
 
     pub head-is : (n : ℕ) (o to : Option ℕ) → n < made → o ≡ next_of n f → ArePassed texts.WhiteSpace o to f
         → element_then (codes "head") are_metadata (leaves_then texts.WhiteSpace body_on) (from (Some n)) ≡ (is_head_at spelling n f && body_on (from to))
     head-is n o to h same passed =
         element-step (codes "head") are_metadata (leaves_then texts.WhiteSpace body_on) n (first-at made f counted n h)
-        ∙ grouped (is_named_what spelling (codes "head") (what_of n f)) (are_metadata (spelled spelling (children_of n f)))
+        ∙ grouped (is_named_what spelling (codes "head") (what_of n f)) (are_metadata (mapped spelling (children_of n f)))
         (leaves_then texts.WhiteSpace body_on (from (next_of n f)))
         ∙ ap (λ o. is_head_at spelling n f && leaves_then texts.WhiteSpace body_on (from o)) (sym same)
         ∙ ap (λ u. is_head_at spelling n f && u) (past texts.WhiteSpace body_on o to passed)
@@ -195,64 +192,64 @@ module _ (spelling : ℕ → List ℕ) (f : Forest ℕ) where
     -- a document, past its comments, its doctype and its other comments
     pub document-is : (q : ℕ) (r o p to : Option ℕ) → q < made → r ≡ first_child_of q f → ArePassed texts.None r o f → IsDoctypePassed o p f
         → ArePassed texts.None p to f
-        → is_plain_document (spelled spelling (children_of q f)) ≡ html_on (from to)
+        → is_plain_document (mapped spelling (children_of q f)) ≡ html_on (from to)
     document-is q r o p to h same first between last =
-        ap (λ g. is_plain_document (spelled spelling g)) (sym (children-from made f counted q h) ∙ ap (λ o. trees_from o f) (sym same))
+        ap (λ g. is_plain_document (mapped spelling g)) (sym (children-from made f counted q h) ∙ ap (λ o. trees_from o f) (sym same))
         ∙ past texts.None (doctype_then (comments_then html_on)) r o first
         ∙ between spelling
         ∙ past texts.None html_on p to last
 
-    ended : (o : Option ℕ) → IfSome o (λ n. n < made) → ends (from o) ≡ is_none o
+    ended : (o : Option ℕ) → IfSome o (λ n. n < made) → ends_document (from o) ≡ is_none o
     ended None h = refl
-    ended (Some n) h = ap (λ g. ends (spelled spelling g)) (first-at made f counted n h).trees
+    ended (Some n) h = ap (λ g. ends_document (mapped spelling g)) (first-at made f counted n h).trees
 
     -- comments alone
     pub comments-end : (o r to : Option ℕ) (u : Bool) → r ≡ o → ArePassed texts.None r to f → IfSome to (λ n. n < made) → is_some to ≡ not u → u
-        ≡ comments_then ends (from o)
+        ≡ comments_then ends_document (from o)
     comments-end o r to u same passed within h =
-        none_is to u h ∙ sym (ap (λ o. comments_then ends (from o)) (sym same) ∙ past texts.None ends r to passed ∙ ended to within)
+        none_is to u h ∙ sym (ap (λ o. comments_then ends_document (from o)) (sym same) ∙ past texts.None ends_document r to passed ∙ ended to within)
 
     alone : (allowed : Allowed) (o : Option ℕ) → IfSome o (λ n. n < made) → is_text_alone allowed o f ≡ is_one_text allowed (from o)
     alone allowed None h = refl
     alone allowed (Some n) h =
         let a = first-at made f counted n h in
         (λ k. is_last_text allowed (a.is k) ((ap is_none a.first ∙ childless a.kids) k) ((ap is_none a.next ∙ childless a.rest) k)) ∙ go n a.kids a.rest a.what
-        ∙ ap (λ g. is_one_text allowed (spelled spelling g)) (sym a.trees)
+        ∙ ap (λ g. is_one_text allowed (mapped spelling g)) (sym a.trees)
       where
-        go : (b : ℕ) (kids rest : Forest ℕ) (w : What ℕ) → is_last_text allowed (Some w) (ends (spelled spelling kids)) (ends (spelled spelling rest))
-            ≡ is_one_text allowed (spelled spelling (tree b w kids rest))
+        go : (b : ℕ) (kids rest : Forest ℕ) (w : What ℕ) → is_last_text allowed (Some w) (ends_document (mapped spelling kids)) (ends_document (mapped spelling rest))
+            ≡ is_one_text allowed (mapped spelling (tree b w kids rest))
         go b kids rest (text t) = refl
         go b kids rest _ = refl
 
     module _ (tags : (id : ℕ) → tag_of id ≡ tag_named (spelling id)) where
       pub metadata-step : (n : ℕ) → n < made → are_metadata (from (Some n)) ≡ (is_metadata_at spelling n f && are_metadata (from (next_of n f)))
       metadata-step n h =
-          ap (λ g. are_metadata (spelled spelling g)) a.trees ∙ go a.what (leaf texts.WhiteSpace n a)
-          ∙ (λ k. is_metadata_what spelling n f (sym a.is k) && are_metadata (spelled spelling (sym a.after k)))
+          ap (λ g. are_metadata (mapped spelling g)) a.trees ∙ go a.what (leaf texts.WhiteSpace n a)
+          ∙ (λ k. is_metadata_what spelling n f (sym a.is k) && are_metadata (mapped spelling (sym a.after k)))
         where
           a : IsFirst n f
           a = first-at made f counted n h
 
-          inner : (t : Tag) → is_metadata t ≡ true → are_content (inside_element t in_head) (spelled spelling a.kids)
+          inner : (t : Tag) → is_metadata t ≡ true → are_content (inside_element t inside_head) (mapped spelling a.kids)
               ≡ is_text_alone (texts_in (row t).1) (first_child_of n f) f
           inner t m =
-              in_metadata t (spelled spelling a.kids) m
+              in_metadata t (mapped spelling a.kids) m
               ∙ sym (alone (texts_in (row t).1) (first_child_of n f) (first-made made f counted n h)
-              ∙ ap (λ g. is_one_text (texts_in (row t).1) (spelled spelling g)) (children-from made f counted n h ∙ a.kids_are))
+              ∙ ap (λ g. is_one_text (texts_in (row t).1) (mapped spelling g)) (children-from made f counted n h ∙ a.kids_are))
 
           held : (u c d v : Bool) (t : Tag) → is_metadata t ≡ u → (u ≡ true → c ≡ d) → (u && v && c) ≡ (u && v && d)
           held true c d v t e same = ap (λ x. v && x) (same refl)
           held false c d v t e same = refl
 
           go : (w : What ℕ) → is_leaf_at texts.WhiteSpace n f
-              ≡ is_leaf texts.WhiteSpace (spelled_what spelling w) (spelled spelling a.kids) (spelled spelling a.rest)
-              → are_metadata (spelled spelling (tree n w a.kids a.rest)) ≡ (is_metadata_what spelling n f (Some w) && are_metadata (spelled spelling a.rest))
+              ≡ is_leaf texts.WhiteSpace (mapped_what spelling w) (mapped spelling a.kids) (mapped spelling a.rest)
+              → are_metadata (mapped spelling (tree n w a.kids a.rest)) ≡ (is_metadata_what spelling n f (Some w) && are_metadata (mapped spelling a.rest))
           go (element name attrs) l =
               let t = tag_named (spelling name) in
-              metadata_first (is_metadata t) (are_plain_attributes (map (spelled_attribute spelling) attrs))
-              (are_content (inside_element t in_head) (spelled spelling a.kids)) (are_metadata (spelled spelling a.rest))
-              ∙ ap (λ u. u && are_metadata (spelled spelling a.rest))
-              (held (is_metadata t) _ _ (are_plain_attributes (map (spelled_attribute spelling) attrs)) t refl (inner t))
-              ∙ ap (λ (u : Tag). (is_metadata u && are_plain_attributes (map (spelled_attribute spelling) attrs)
-              && is_text_alone (texts_in (row u).1) (first_child_of n f) f) && are_metadata (spelled spelling a.rest)) (sym (tags name))
-          go w l = ap (λ u. u && are_metadata (spelled spelling a.rest)) (sym l)
+              metadata_first (is_metadata t) (are_plain_attributes (map (mapped_attribute spelling) attrs))
+              (are_content (inside_element t inside_head) (mapped spelling a.kids)) (are_metadata (mapped spelling a.rest))
+              ∙ ap (λ u. u && are_metadata (mapped spelling a.rest))
+              (held (is_metadata t) _ _ (are_plain_attributes (map (mapped_attribute spelling) attrs)) t refl (inner t))
+              ∙ ap (λ (u : Tag). (is_metadata u && are_plain_attributes (map (mapped_attribute spelling) attrs)
+              && is_text_alone (texts_in (row u).1) (first_child_of n f) f) && are_metadata (mapped spelling a.rest)) (sym (tags name))
+          go w l = ap (λ u. u && are_metadata (mapped spelling a.rest)) (sym l)

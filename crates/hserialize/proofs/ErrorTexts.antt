@@ -6,10 +6,10 @@ use Rattle.std.proofs.Math.Seq.{drop-append_seam, take-append-add}
 use Rattle.names.specs.Codes.{code_text}
 use Rattle.names.specs.declared.error.ParseError.{ParseError}
 use Rattle.hserialize.specs.declared.error_line.ErrorLine.{ErrorLine}
-use Rattle.hserialize.specs.ErrorLines.{after_place}
+use Rattle.hserialize.specs.ErrorLines.{printed_after_place}
 
 -- a line is the digits of its place, and then the rest
-line_parts : (e : ParseError) → decimal e.at ++ after_place e.code ≡ error_line e
+line_parts : (e : ParseError) → decimal e.at ++ printed_after_place e.code ≡ error_line e
 line_parts e =
     sym (append_assoc (decimal e.at ++ codes " ") (code_text e.code) (codes "\n") ∙ append_assoc (decimal e.at) (codes " ") (code_text e.code ++ codes "\n"))
 
@@ -20,7 +20,7 @@ line_of_place line e start bytes is same at written =
     let count : line.end - start ≡ length (decimal e.at) + (line.end - 20) = omega (arith, is.starts, at) in
     (λ i. take (count i) (written i))
     ∙ take-append-add (decimal e.at) (drop 20 line.bytes) (line.end - 20)
-    ∙ ap (λ l. decimal e.at ++ l) (is.rest ∙ ap after_place same)
+    ∙ ap (λ l. decimal e.at ++ l) (is.rest ∙ ap printed_after_place same)
     ∙ line_parts e
 
 -- what is after the digits stays

@@ -1,5 +1,5 @@
 -- A text as it is written, in runs of characters that are written as they are.
-use Rattle.hserialize.proofs.Names.{◌≡◌, ℕ, ◌+◌, ◌-◌, List, [], ◌++◌, length, take, drop, refl, sym, ◌∙◌, ap, arith, length-append, append_assoc, take_rest, encode_utf8, flat_map, Refusal, escaped, Taken, Adds, Fails, Escaping}
+use Rattle.hserialize.proofs.Names.{◌≡◌, ℕ, ◌+◌, ◌-◌, List, [], ◌++◌, length, take, drop, refl, sym, ◌∙◌, ap, arith, length-append, append_assoc, take_rest, encode_utf8, flat_map, Refusal, escaped, Taken, AddsBytes, Fails, Escaping}
 use Rattle.std.proofs.Math.Seq.{drop-append_seam, take-append_seam}
 use Rattle.std.proofs.lemmas.List.{nil_from_length}
 use Rattle.std.proofs.lemmas.Str.{chars-nil, chars_past_char, IsUtf8-past_char}
@@ -57,7 +57,7 @@ module _ (how : Escaping) (setting : Setting) (source : List ℕ) (done at : ℕ
       parted : s.run ++ escaped how setting rest ≡ (part ++ text) ++ escaped how setting next
       parted = (λ i. sym is i ++ escaped_next i) ∙ ap (λ t. part ++ (t ++ escaped how setting next)) same ∙ sym (append_assoc part text (escaped how setting next))
 
-      pub replaced : (new : Taken) (past later : ℕ) → past ≡ at + length (encode_utf8 ch) → later ≡ at + length (encode_utf8 ch) → Adds now new (part ++ text) → IsEscaping how setting source past later next old new
+      pub replaced : (new : Taken) (past later : ℕ) → past ≡ at + length (encode_utf8 ch) → later ≡ at + length (encode_utf8 ch) → AddsBytes now new (part ++ text) → IsEscaping how setting source past later next old new
       replaced new past later stands moved put = record {
         before = s.before ++ (s.run ++ encode_utf8 ch);
         run = [];

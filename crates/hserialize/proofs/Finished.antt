@@ -1,7 +1,7 @@
 -- Texts that are written by way of a buffer, from its beginning to its end.
-use Rattle.hserialize.proofs.Names.{◌≡◌, ℕ, List, [], ◌++◌, Option, Result, Ok, Err, refl, sym, ap, subst, ◌∙◌, IsErrAnd, Appends, Appends-trans, Refusal, Write, counted, WritesText, text_cut, text_written, taken, Adds, Fails}
+use Rattle.hserialize.proofs.Names.{◌≡◌, ℕ, List, [], ◌++◌, Option, Result, Ok, Err, refl, sym, ap, subst, ◌∙◌, IsErrAnd, Appends, Appends-trans, Refusal, Write, counted, WritesText, text_cut, text_written, written_so_far, AddsBytes, Fails}
 use Rattle.std.proofs.Common.{append_assoc}
-use Rattle.hserialize.specs.Output.{Ends}
+use Rattle.hserialize.specs.Output.{EndsOutput}
 use Rattle.hserialize.specs.declared.writer.Writer.{Writer}
 
 module _ {W : Type 0} (written : W → Option (List ℕ)) (failed : W → ℕ) (text : List ℕ) (old last : W) (begun : Writer W) (called : ℕ) (name : begun.target.ghost_name ≡ called) (same : begun.target.now ≡ old) (none : begun.held.now.items ≡ []) where
@@ -19,7 +19,7 @@ module _ {W : Type 0} (written : W → Option (List ℕ)) (failed : W → ℕ) (
       text_cut beginning rest (ap (λ (x : Refusal). Err x) why) split (left (λ a b. Appends (written a) (written b) beginning) now is appended) (left (λ a b. failed b ≡ counted (failed a)) now is count)
 
   -- a write failed
-  pub cut_short : (put' : Writer W) {e : Refusal} (r : Result (Unit {0}) Refusal) → IsErrAnd r (λ y. y ≡ e) → Fails e (taken written failed begun) (taken written failed put') text
+  pub cut_short : (put' : Writer W) {e : Refusal} (r : Result (Unit {0}) Refusal) → IsErrAnd r (λ y. y ≡ e) → Fails e (written_so_far written failed begun) (written_so_far written failed put') text
       → (called ≡ put'.target.ghost_name → last ≡ put'.target.now) → WritesText written failed text old last r
   cut_short put' (Ok _) is h ends = absurd is
   cut_short put' (Err y) is h ends =
@@ -27,7 +27,7 @@ module _ {W : Type 0} (written : W → Option (List ℕ)) (failed : W → ℕ) (
       cut beginning rest put'.target.now (is ∙ h.why) (from_first _ split) (ends (sym (h.name ∙ name))) appended h.failed
 
   -- all writes were done, and then what was held was handed on, or not
-  pub finished : (put' ended : Writer W) (r : Result (Unit {0}) Refusal) → Adds (taken written failed begun) (taken written failed put') text → Ends (taken written failed put') (taken written failed ended) r
+  pub finished : (put' ended : Writer W) (r : Result (Unit {0}) Refusal) → AddsBytes (written_so_far written failed begun) (written_so_far written failed put') text → EndsOutput (written_so_far written failed put') (written_so_far written failed ended) r
       → (called ≡ ended.target.ghost_name → last ≡ ended.target.now) → WritesText written failed text old last r
   finished put' ended (Ok _) h (kept, appended, count) ends =
       let is = ends (sym (kept ∙ h.name ∙ name)) in

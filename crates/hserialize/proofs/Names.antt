@@ -8,16 +8,16 @@ pub use Rattle.hnodes.specs.Differing.{names_differ}
 pub use Rattle.hnodes.specs.Edits.{AreCounted}
 pub use Rattle.hnodes.specs.Forest.{none, tree, Forest, text, comment, join, doctype, document, Attribute, element, times}
 pub use Rattle.hnodes.specs.Passed.{way_up}
-pub use Rattle.hnodes.specs.Spelled.{spelled_what}
-pub use Rattle.hnodes.specs.Spots.{name_of, spot_of, Spot, first_child_of, name_in, next_of, first_or, parent_of}
+pub use Rattle.hnodes.specs.Mapped.{mapped_what}
+pub use Rattle.hnodes.specs.Spots.{node_name, spot_of, Spot, first_child_of, name_in, next_of, first_or, parent_of}
 pub use Rattle.hserialize.specs.Calls.{counted}
 pub use Rattle.hserialize.specs.ContentTable.{row}
-pub use Rattle.hserialize.specs.Lines.{tree_lines, put_in}
-pub use Rattle.hserialize.specs.Output.{Fails, Adds, Taken, text_written, text_cut}
+pub use Rattle.hserialize.specs.Lines.{tree_lines, attribute_put_in}
+pub use Rattle.hserialize.specs.Output.{Fails, AddsBytes, Taken, text_written, text_cut}
 pub use Rattle.hserialize.specs.Plain.{Inside, inside_element, in_context, in_context_of, inside_node, is_plain_node}
 pub use Rattle.hserialize.specs.Regions.{without_form, begins_region}
 pub use Rattle.hserialize.specs.Testing.{tag_or_other}
-pub use Rattle.hserialize.specs.Vocabulary.{What, children_of, tree_at, ancestors_of, is_among, attribute_of, spelled_attribute, spelled, what_of, escaped, gathered, failures_of, what_is, taken, Puts, WritesText, goes_in, visits, visits_from, stands_raw, opening_of, closing_of, start_tag_text, end_tag_text, attribute_text, written, Leave, Enter, text_of, Write, takes_role, texts_in, is_nested, are_plain_attributes, is_form, in_region, are_region_content, content_among, is_phrasing, marked, tag_at, texts_at_top, top_content, AreNumbered, pair_of, IsLine, attribute_line, indented, lines_of, error_line, in_order, error_lines, node_lines, tree_text}
+pub use Rattle.hserialize.specs.Vocabulary.{What, children_of, tree_at, ancestors_of, is_among, attribute_of, mapped_attribute, mapped, what_of, escaped, gathered, gathered_failures, what_is, written_so_far, Puts, WritesText, goes_in, visits, visits_from, stands_raw, opening_of, closing_of, start_tag_text, end_tag_text, attribute_text, written, Leave, Enter, text_of, Write, takes_role, texts_in, is_nested, are_plain_attributes, is_form, in_region, are_region_content, content_among, is_phrasing, marked, tag_at, texts_at_top, top_content, AreEntriesNumbered, pair_of, IsLine, attribute_line, indented, printed_lines, error_line, in_order, error_lines, node_lines, tree_text}
 pub use Rattle.hserialize.specs.Walk.{after_ends, inserts_marker}
 pub use Rattle.hserialize.specs.Writing.{opening, holds_raw}
 pub use Rattle.hserialize.specs.Written.{written_among}

@@ -1,5 +1,5 @@
 -- Attributes in the order of their names.
-use Rattle.hserialize.proofs.Names.{◌≡◌, ℕ, suc, ◌+◌, ◌<◌, Bool, true, false, cond, List, [], ◌∷◌, ◌++◌, get_or, drop, map, length, refl, sym, ◌∙◌, ap, subst, arith, AllByRecursion, filter, IsStableBy, ties, IsStrictWeakOrder, Attribute, attribute_of, AreNumbered, pair_of, in_order, length-append, replicate, cond_both, get_or_append_left, get_or_default, All, IsPermutation, IsSorted, IsTotalOrder, put_in}
+use Rattle.hserialize.proofs.Names.{◌≡◌, ℕ, suc, ◌+◌, ◌<◌, Bool, true, false, cond, List, [], ◌∷◌, ◌++◌, get_or, drop, map, length, refl, sym, ◌∙◌, ap, subst, arith, AllByRecursion, filter, IsStableBy, ties, IsStrictWeakOrder, Attribute, attribute_of, AreEntriesNumbered, pair_of, in_order, length-append, replicate, cond_both, get_or_append_left, get_or_default, All, IsPermutation, IsSorted, IsTotalOrder, attribute_put_in}
 use Rattle.std.proofs.lemmas.Bool.Decides.{nat_tests}
 use Rattle.std.proofs.lemmas.List.Elements.{recursion_from_All}
 use Rattle.std.proofs.Math.Seq.{get_or-append_seam}
@@ -54,7 +54,7 @@ each_is p w [] h = refl
 each_is p w (x ∷ xs) h = cond_both (p x) (x ∷ filter p xs) (filter p xs) (λ l. l ≡ replicate (length l) w) (λ is k. h.0 is k ∷ each_is p w xs h.1 k) (λ _. each_is p w xs h.1)
 
 -- entries that have the numbers of their places stay in the order of these where they tie
-settled : (xs ys : List Entry) → AreNumbered xs → IsPermutation xs ys → IsStableBy is_less xs ys
+settled : (xs ys : List Entry) → AreEntriesNumbered xs → IsPermutation xs ys → IsStableBy is_less xs ys
 settled xs ys numbered moved z = each_is tied it ys (recursion_from_All IsIt ys (All-permutation IsIt xs ys moved own)) ∙ ap (λ n. replicate n it) counts ∙ sym (each_is tied it xs (recursion_from_All IsIt xs own))
   where
     tied : Entry → Bool
@@ -75,13 +75,13 @@ settled xs ys numbered moved z = each_is tied it ys (recursion_from_All IsIt ys 
     counts = length-filter tied ys ∙ sum_by-IsPermutation (λ e. cond (tied e) 1 0) xs ys moved ∙ sym (length-filter tied xs)
 
 -- an entry before others of later places goes where its name does
-put_pair : (a : Entry) (es : List Entry) → AllByRecursion (λ b. a.1 < b.1) es → map pair_of (put is_less a es) ≡ put_in (pair_of a) (map pair_of es)
+put_pair : (a : Entry) (es : List Entry) → AllByRecursion (λ b. a.1 < b.1) es → map pair_of (put is_less a es) ≡ attribute_put_in (pair_of a) (map pair_of es)
 put_pair a [] h = refl
 put_pair a (b ∷ es) h = go (slice_cmp nat_cmp b.0.now a.0.now) (put_pair a es h.1)
   where
-    go : (o : Ordering) → map pair_of (put is_less a es) ≡ put_in (pair_of a) (map pair_of es)
+    go : (o : Ordering) → map pair_of (put is_less a es) ≡ attribute_put_in (pair_of a) (map pair_of es)
         → map pair_of (cond (is_lt (ordering_then (ordering_then o (nat_cmp b.1 a.1)) (slice_cmp nat_cmp b.2.now a.2.now))) (b ∷ put is_less a es) (a ∷ b ∷ es))
-        ≡ cond (is_lt o) (pair_of b ∷ put_in (pair_of a) (map pair_of es)) (pair_of a ∷ pair_of b ∷ map pair_of es)
+        ≡ cond (is_lt o) (pair_of b ∷ attribute_put_in (pair_of a) (map pair_of es)) (pair_of a ∷ pair_of b ∷ map pair_of es)
     go Less i = ap (λ l. pair_of b ∷ l) i
     go Equal i = let before = h.0 in let later : nat_cmp b.1 a.1 ≡ Greater = grind (arith, nat_tests) in rw later refl
     go Greater i = refl
@@ -97,13 +97,13 @@ inserted_all P (a ∷ es) h = put_all P a (inserted is_less es) h.0 (inserted_al
 inserted_pairs : (k : ℕ) (es : List Entry) → ((i : ℕ) (d : Entry) → i < length es → (get_or es i d).1 ≡ k + i) → map pair_of (inserted is_less es) ≡ in_order (map pair_of es)
 inserted_pairs k [] h = refl
 inserted_pairs k (a ∷ es) h =
-    put_pair a (inserted is_less es) (inserted_all (λ b. a.1 < b.1) es (recursion_from_All (λ b. a.1 < b.1) es later)) ∙ ap (put_in (pair_of a)) (inserted_pairs (suc k) es (λ i d p. let next = h (suc i) d (omega arith) in omega (arith, next)))
+    put_pair a (inserted is_less es) (inserted_all (λ b. a.1 < b.1) es (recursion_from_All (λ b. a.1 < b.1) es later)) ∙ ap (attribute_put_in (pair_of a)) (inserted_pairs (suc k) es (λ i d p. let next = h (suc i) d (omega arith) in omega (arith, next)))
   where
     later : All (λ b. a.1 < b.1) es
     later i d p = let first = h 0 a (omega arith) in let next = h (suc i) d (omega arith) in omega (arith, first, next)
 
 -- entries that were sorted are attributes in order
-pub ordered : (xs ys : List Entry) → AreNumbered xs → IsPermutation xs ys → IsSorted compare ys → map pair_of ys ≡ in_order (map pair_of xs)
+pub ordered : (xs ys : List Entry) → AreEntriesNumbered xs → IsPermutation xs ys → IsSorted compare ys → map pair_of ys ≡ in_order (map pair_of xs)
 ordered xs ys numbered moved up =
     ap (map pair_of) (sorted-is is_less entries_order xs ys up (settled xs ys numbered moved)) ∙ inserted_pairs 0 xs (λ i d p. let at = numbered i d p in omega (arith, at))
 
@@ -111,10 +111,10 @@ ordered xs ys numbered moved up =
 pub one_longer : (es new : List Entry) (e : Entry) (n : ℕ) → new ≡ es ++ e ∷ [] → length es ≡ n → length new ≡ n + 1
 one_longer es new e n is many = ap length is ∙ length-append es (e ∷ []) ∙ ap (λ k. k + 1) many
 
-pub one_numbered : (es new : List Entry) (e : Entry) → AreNumbered es → e.1 ≡ length es → new ≡ es ++ e ∷ [] → AreNumbered new
-one_numbered es new e numbered at is = subst AreNumbered (sym is) go
+pub one_numbered : (es new : List Entry) (e : Entry) → AreEntriesNumbered es → e.1 ≡ length es → new ≡ es ++ e ∷ [] → AreEntriesNumbered new
+one_numbered es new e numbered at is = subst AreEntriesNumbered (sym is) go
   where
-    go : AreNumbered (es ++ e ∷ [])
+    go : AreEntriesNumbered (es ++ e ∷ [])
     go i d inside =
         elim (dec_lt i (length es)) [
           | yes before ↦ ap (λ (x : Entry). x.1) (get_or_append_left es (e ∷ []) d i before) ∙ numbered i d before

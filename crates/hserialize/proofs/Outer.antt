@@ -1,11 +1,11 @@
 -- A node with its own tags.
-use Rattle.hserialize.proofs.Names.{◌≡◌, ℕ, ◌<◌, ◌≤◌, ◌⊎◌, inl, inr, Bool, true, false, cond, option_and_then, name_in, goes_in, closing_of, child-spot, at-most, List, [], ◌++◌, map, Some, refl, sym, ◌∙◌, ap, append-nil, option_map, Texts, AreNames, text_of, is_void, tag_of, tag_named, AreCounted, What, element, Forest, none, tree, times, tree_at, children_of, spelled, spelled_attribute, Spot, what_of, is-there, start_tag_text, end_tag_text, written, written_among, opening, opening_of, stands_raw, holds_raw, name_of, Escaping}
+use Rattle.hserialize.proofs.Names.{◌≡◌, ℕ, ◌<◌, ◌≤◌, ◌⊎◌, inl, inr, Bool, true, false, cond, option_and_then, name_in, goes_in, closing_of, child-spot, at-most, List, [], ◌++◌, map, Some, refl, sym, ◌∙◌, ap, append-nil, option_map, Texts, AreNames, text_of, is_void, tag_of, tag_named, AreCounted, What, element, Forest, none, tree, times, tree_at, children_of, mapped, mapped_attribute, Spot, what_of, is-there, start_tag_text, end_tag_text, written, written_among, opening, opening_of, stands_raw, holds_raw, node_name, Escaping}
 use Rattle.hnodes.proofs.ChildSpots.{root-spot}
 use Rattle.hnodes.proofs.Families.{family}
 use Rattle.hnodes.proofs.Levels.{level, Here, Below}
 use Rattle.std.proofs.Common.{not}
 use Rattle.hserialize.specs.declared.walk.Reach.TheVariants.{Written}
-use Rattle.hserialize.specs.Writing.{closing, name_around}
+use Rattle.hserialize.specs.Writing.{closing_tag, name_around}
 use Rattle.hserialize.proofs.KnownNames.{tags-agree}
 use Rattle.hserialize.proofs.Wrote.{own-written, stands-own}
 
@@ -22,13 +22,13 @@ what-there n f one once = go (level n f one once)
 
 -- a node that a walk over what is written goes into or not: its opening, what is in it and its closing
 one-tree : (how : Escaping) (texts : ℕ → List ℕ) → ((id : ℕ) → tag_of id ≡ tag_named (texts id)) → (raw goes : Bool) (n : ℕ) (w : What ℕ) (kids : Forest ℕ) → goes_in Written w ≡ goes
-    → written_among how raw (spelled texts (tree n w kids none)) ≡ opening how texts raw w ++ (cond goes (written how (option_map texts (name_in w)) (spelled texts kids)) [] ++ closing texts w)
+    → written_among how raw (mapped texts (tree n w kids none)) ≡ opening how texts raw w ++ (cond goes (written how (option_map texts (name_in w)) (mapped texts kids)) [] ++ closing_tag texts w)
 one-tree how texts tags raw goes n (element name attrs) kids is =
-    append-nil _ ∙ ap (λ u. start_tag_text how (texts name) (map (spelled_attribute texts) attrs) ++ cond u [] (inner ++ end)) (ap is_void (sym (tags name)))
-    ∙ ap (λ t. start_tag_text how (texts name) (map (spelled_attribute texts) attrs) ++ t) (go (is_void (tag_of name)) ∙ ap (λ u. cond u inner [] ++ cond (is_void (tag_of name)) [] end) is)
+    append-nil _ ∙ ap (λ u. start_tag_text how (texts name) (map (mapped_attribute texts) attrs) ++ cond u [] (inner ++ end)) (ap is_void (sym (tags name)))
+    ∙ ap (λ t. start_tag_text how (texts name) (map (mapped_attribute texts) attrs) ++ t) (go (is_void (tag_of name)) ∙ ap (λ u. cond u inner [] ++ cond (is_void (tag_of name)) [] end) is)
   where
     inner : List ℕ
-    inner = written how (Some (texts name)) (spelled texts kids)
+    inner = written how (Some (texts name)) (mapped texts kids)
 
     end : List ℕ
     end = end_tag_text (texts name)
@@ -36,23 +36,23 @@ one-tree how texts tags raw goes n (element name attrs) kids is =
     go : (u : Bool) → cond u [] (inner ++ end) ≡ cond (not u) inner [] ++ cond u [] end
     go true = refl
     go false = refl
-one-tree how texts tags raw goes n w kids is = ap (λ u. opening how texts raw w ++ (cond u (written how (option_map texts (name_in w)) (spelled texts kids)) [] ++ [])) is
+one-tree how texts tags raw goes n w kids is = ap (λ u. opening how texts raw w ++ (cond u (written how (option_map texts (name_in w)) (mapped texts kids)) [] ++ [])) is
 
 -- a node is its opening, what is in it and its closing
-pub outer-parts : (how : Escaping) (names : Texts) (made : ℕ) (f : Forest ℕ) (n root : ℕ) (raw goes : Bool) → AreNames names → AreCounted made f → n < made → root ≡ n → raw ≡ holds_raw (name_of n f)
+pub outer-parts : (how : Escaping) (names : Texts) (made : ℕ) (f : Forest ℕ) (n root : ℕ) (raw goes : Bool) → AreNames names → AreCounted made f → n < made → root ≡ n → raw ≡ holds_raw (node_name n f)
     → ((w : What ℕ) → what_of n f ≡ Some w → goes_in Written w ≡ goes)
-    → written how (option_map (text_of names) (name_around n f)) (spelled (text_of names) (tree_at n f))
+    → written how (option_map (text_of names) (name_around n f)) (mapped (text_of names) (tree_at n f))
     ≡ opening_of how (text_of names) (stands_raw root raw n f) (what_of n f)
-    ++ (cond goes (written_among how raw (spelled (text_of names) (children_of root f))) [] ++ closing_of (text_of names) (what_of n f))
+    ++ (cond goes (written_among how raw (mapped (text_of names) (children_of root f))) [] ++ closing_of (text_of names) (what_of n f))
 outer-parts how names made f n root raw goes table counted h same own walks =
     let texts = text_of names in
     let one = is-there made f counted n h in
     let kids = children_of n f in
     let there = what-there n f one (at-most made f counted) in
     let what = sym there in
-    sym (own-written how names (spelled texts (tree_at n f)) (name_around n f) table)
-    ∙ (λ i. written_among how (sym (stands-own n n f) i) (spelled texts ((family n f one).1 i)))
-    ∙ one-tree how texts (tags-agree names table) (stands_raw n (holds_raw (name_of n f)) n f) goes n (family n f one).0 kids (walks _ there)
-    ∙ (λ i. opening_of how texts (stands_raw n (holds_raw (name_of n f)) n f) (what i) ++ (cond goes (written how (option_map texts (option_and_then name_in (what i))) (spelled texts kids)) [] ++ closing_of texts (what i)))
-    ∙ (λ i. opening_of how texts (stands_raw n (holds_raw (name_of n f)) n f) (what_of n f) ++ (cond goes (sym (own-written how names (spelled texts kids) (name_of n f) table) i) [] ++ closing_of texts (what_of n f)))
-    ∙ (λ i. opening_of how texts (stands_raw (sym same i) (sym own i) n f) (what_of n f) ++ (cond goes (written_among how (sym own i) (spelled texts (children_of (sym same i) f))) [] ++ closing_of texts (what_of n f)))
+    sym (own-written how names (mapped texts (tree_at n f)) (name_around n f) table)
+    ∙ (λ i. written_among how (sym (stands-own n n f) i) (mapped texts ((family n f one).1 i)))
+    ∙ one-tree how texts (tags-agree names table) (stands_raw n (holds_raw (node_name n f)) n f) goes n (family n f one).0 kids (walks _ there)
+    ∙ (λ i. opening_of how texts (stands_raw n (holds_raw (node_name n f)) n f) (what i) ++ (cond goes (written how (option_map texts (option_and_then name_in (what i))) (mapped texts kids)) [] ++ closing_of texts (what i)))
+    ∙ (λ i. opening_of how texts (stands_raw n (holds_raw (node_name n f)) n f) (what_of n f) ++ (cond goes (sym (own-written how names (mapped texts kids) (node_name n f) table) i) [] ++ closing_of texts (what_of n f)))
+    ∙ (λ i. opening_of how texts (stands_raw (sym same i) (sym own i) n f) (what_of n f) ++ (cond goes (written_among how (sym own i) (mapped texts (children_of (sym same i) f))) [] ++ closing_of texts (what_of n f)))

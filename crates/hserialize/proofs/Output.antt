@@ -1,5 +1,5 @@
 -- Writes one after another.
-use Rattle.hserialize.proofs.Names.{◌≡◌, ℕ, List, [], ◌∷◌, ◌++◌, Option, Some, Result, Ok, Err, refl, sym, ap, subst, ◌∙◌, length, drop, get_or, drop-cons, add-one, ◌+◌, ◌<◌, flat_map, IsErrAnd, Appends, Appends-trans, What, what_is, Refusal, Write, counted, Taken, Adds, Fails, Puts}
+use Rattle.hserialize.proofs.Names.{◌≡◌, ℕ, List, [], ◌∷◌, ◌++◌, Option, Some, Result, Ok, Err, refl, sym, ap, subst, ◌∙◌, length, drop, get_or, drop-cons, add-one, ◌+◌, ◌<◌, flat_map, IsErrAnd, Appends, Appends-trans, What, what_is, Refusal, Write, counted, Taken, AddsBytes, Fails, Puts}
 use Rattle.std.proofs.Common.{append_assoc, append-nil}
 use Rattle.std.specs.Borrow.{Bor}
 use Rattle.std.specs.Prelude.{◌≢◌, IfErr, OnErr, OnOk}
@@ -10,13 +10,13 @@ use Rattle.hserialize.specs.Output.{AppendsBeginning}
 
 -- The known bytes grew by a beginning of these bytes, and the others are left; no call has failed.
 abbrev pub HasLeft : Taken → Taken → (bytes left : List ℕ) → Type 0
-HasLeft old new bytes left = (done : List ℕ) × (bytes ≡ done ++ left) × Adds old new done
+HasLeft old new bytes left = (done : List ℕ) × (bytes ≡ done ++ left) × AddsBytes old new done
 
 -- the bytes of some parts
 abbrev pub all_parts : List (Bor (List ℕ)) → List ℕ
 all_parts parts = flat_map (λ (p : Bor (List ℕ)). p.now) parts
 
-pub none_added : (old : Taken) → Adds old old []
+pub none_added : (old : Taken) → AddsBytes old old []
 none_added old = record { name = refl; done = []; split = append-nil old.held; appended = Appends-nil old.bytes; unfailed = refl }
 
 pub none_put : (old : Taken) (bytes : List ℕ) → HasLeft old old bytes bytes
@@ -31,7 +31,7 @@ moved : (held first done held' part : List ℕ) → held ++ first ≡ done ++ he
 moved held first done held' part e = sym (append_assoc held first part) ∙ ap (λ l. l ++ part) e ∙ append_assoc done held' part
 
 -- two parts
-pub both_added : (old mid new : Taken) (first part : List ℕ) → Adds old mid first → Adds mid new part → Adds old new (first ++ part)
+pub both_added : (old mid new : Taken) (first part : List ℕ) → AddsBytes old mid first → AddsBytes mid new part → AddsBytes old new (first ++ part)
 both_added old mid new first part h k = record {
   name = k.name ∙ h.name;
   done = h.done ++ k.done;
@@ -41,7 +41,7 @@ both_added old mid new first part h k = record {
 }
 
 -- a part, and then one of which a write failed
-pub then_failed : (old mid new : Taken) (first part rest : List ℕ) {e : Refusal} → Adds old mid first → Fails e mid new part → Fails e old new (first ++ (part ++ rest))
+pub then_failed : (old mid new : Taken) (first part rest : List ℕ) {e : Refusal} → AddsBytes old mid first → Fails e mid new part → Fails e old new (first ++ (part ++ rest))
 then_failed old mid new first part rest h k =
     let (done, other, split, more, appended) = k.beginning in
     record {
@@ -60,7 +60,7 @@ then_failed old mid new first part rest h k =
     }
 
 -- one part more
-pub part_put : (old mid new : Taken) (bytes left part rest : List ℕ) → HasLeft old mid bytes left → left ≡ part ++ rest → Adds mid new part → HasLeft old new bytes rest
+pub part_put : (old mid new : Taken) (bytes left part rest : List ℕ) → HasLeft old mid bytes left → left ≡ part ++ rest → AddsBytes mid new part → HasLeft old new bytes rest
 part_put old mid new bytes left part rest (done, split, added) is more =
     (done ++ part, split ∙ ap (λ l. done ++ l) is ∙ sym (append_assoc done part rest), both_added old mid new done part added more)
 
@@ -70,8 +70,8 @@ part_failed old mid new bytes left part rest {e} (done, split, added) is failed 
     subst (Fails e old new) (sym (split ∙ ap (λ l. done ++ l) is)) (then_failed old mid new done part rest added failed)
 
 -- nothing is left
-pub all_put : (old new : Taken) (bytes left : List ℕ) → HasLeft old new bytes left → left ≡ [] → Adds old new bytes
-all_put old new bytes left (done, split, added) empty = subst (Adds old new) (sym (split ∙ ap (λ l. done ++ l) empty ∙ append-nil done)) added
+pub all_put : (old new : Taken) (bytes left : List ℕ) → HasLeft old new bytes left → left ≡ [] → AddsBytes old new bytes
+all_put old new bytes left (done, split, added) empty = subst (AddsBytes old new) (sym (split ∙ ap (λ l. done ++ l) empty ∙ append-nil done)) added
 
 -- the last part
 pub last_put : (old mid new : Taken) (bytes left part : List ℕ) (r : Result (Unit {0}) Refusal) → HasLeft old mid bytes left → left ≡ part → Puts mid new part r → Puts old new bytes r
@@ -88,7 +88,7 @@ pub first_failed : {e : Refusal} (old new : Taken) (bytes part rest : List ℕ) 
 first_failed old new bytes part rest r is split h = passed_on old new bytes r is (part_failed old old new bytes bytes part rest (none_put old bytes) split h)
 
 -- a first part, and what comes of the rest
-pub then_put : (old mid new : Taken) (bytes part rest : List ℕ) (r : Result (Unit {0}) Refusal) → bytes ≡ part ++ rest → Adds old mid part → Puts mid new rest r → Puts old new bytes r
+pub then_put : (old mid new : Taken) (bytes part rest : List ℕ) (r : Result (Unit {0}) Refusal) → bytes ≡ part ++ rest → AddsBytes old mid part → Puts mid new rest r → Puts old new bytes r
 then_put old mid new bytes part rest r split h more = last_put old mid new bytes rest rest r (part_put old old mid bytes bytes part rest (none_put old bytes) split h) refl more
 
 -- a call failed before what was held was handed over

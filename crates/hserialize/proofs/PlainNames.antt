@@ -12,7 +12,7 @@ use Rattle.names.proofs.KnownTags.{different}
 use Rattle.hnodes.specs.Clean.{are_clean, is_clean}
 use Rattle.hnodes.specs.Differing.{names_end}
 use Rattle.hnodes.specs.Forest.{Attribute}
-use Rattle.hnodes.specs.Spelled.{spelled_attribute}
+use Rattle.hnodes.specs.Mapped.{mapped_attribute}
 use Rattle.hserialize.specs.Plain.{is_name_byte, is_plain_name}
 use Rattle.hserialize.specs.Testing.{has_plain_name, ArePlainTo}
 
@@ -41,7 +41,7 @@ plain-within names i h = elim (cases_lt i (length names)) [
 ]
 
 has-name : (names : Texts) (i : ℕ) (attrs : List (Attribute ℕ)) → AreNames names → i < length names → list_all (has_plain_name (text_of names)) attrs ≡ true
-    → list_any (λ b. nat_eq b.0 i) attrs ≡ list_any (λ b. bytes_eq (text_of names i) b.0) (map (spelled_attribute (text_of names)) attrs)
+    → list_any (λ b. nat_eq b.0 i) attrs ≡ list_any (λ b. bytes_eq (text_of names i) b.0) (map (mapped_attribute (text_of names)) attrs)
 has-name names i [] table h plain = refl
 has-name names i (a ∷ attrs) table h plain =
     let (one, others) = and_parts _ _ plain in
@@ -55,7 +55,7 @@ none u v w = grind (arith)
 
 -- attributes are plain if their names are, their values are clean, and the names differ
 pub plain-are : (names : Texts) (attrs : List (Attribute ℕ)) → AreNames names
-    → ((list_all (has_plain_name (text_of names)) attrs && are_clean attrs) && names_differ nat_eq attrs) ≡ are_plain_attributes (map (spelled_attribute (text_of names)) attrs)
+    → ((list_all (has_plain_name (text_of names)) attrs && are_clean attrs) && names_differ nat_eq attrs) ≡ are_plain_attributes (map (mapped_attribute (text_of names)) attrs)
 plain-are names [] table = refl
 plain-are names (a ∷ attrs) table =
     apart name (list_all (has_plain_name (text_of names)) attrs) (is_clean a.1) (are_clean attrs) same (names_differ nat_eq attrs)
@@ -69,10 +69,10 @@ plain-are names (a ∷ attrs) table =
     same = list_any (λ b. nat_eq b.0 a.0) attrs
 
     same_text : Bool
-    same_text = list_any (λ b. bytes_eq (text_of names a.0) b.0) (map (spelled_attribute (text_of names)) attrs)
+    same_text = list_any (λ b. bytes_eq (text_of names a.0) b.0) (map (mapped_attribute (text_of names)) attrs)
 
     others : Bool
-    others = are_plain_attributes (map (spelled_attribute (text_of names)) attrs)
+    others = are_plain_attributes (map (mapped_attribute (text_of names)) attrs)
 
     compared : (u v : Bool) → name ≡ u → others ≡ v → ((list_all (has_plain_name (text_of names)) attrs && are_clean attrs) && names_differ nat_eq attrs) ≡ others
         → (u && is_clean a.1 && not same && v) ≡ (u && is_clean a.1 && not same_text && v)

@@ -1,5 +1,5 @@
 -- A list is content of what it is in exactly if each of its regions is, and no form is in a form.
-use Rattle.hserialize.proofs.Names.{◌≡◌, ℕ, ◌<◌, Bool, true, false, not, cond, List, Some, None, refl, sym, ◌∙◌, ap, arith, option_and_then, ◌&&◌, ◌||◌, Option, Texts, AreNames, text_of, tag_of, tag_named, Tag, AreCounted, What, element, Forest, none, tree, children_of, spelled, spelled_what, name_in, row, takes_role, Inside, are_plain_attributes, in_context, in_context_of, inside_node, is_form, is_nested, is_plain_node, inserts_marker, are_region_content, begins_region, in_region, without_form, is_phrasing, tag_at, tag_or_other, texts_at_top, top_content, visits, Content, Visit}
+use Rattle.hserialize.proofs.Names.{◌≡◌, ℕ, ◌<◌, Bool, true, false, not, cond, List, Some, None, refl, sym, ◌∙◌, ap, arith, option_and_then, ◌&&◌, ◌||◌, Option, Texts, AreNames, text_of, tag_of, tag_named, Tag, AreCounted, What, element, Forest, none, tree, children_of, mapped, mapped_what, name_in, row, takes_role, Inside, are_plain_attributes, in_context, in_context_of, inside_node, is_form, is_nested, is_plain_node, inserts_marker, are_region_content, begins_region, in_region, without_form, is_phrasing, tag_at, tag_or_other, texts_at_top, top_content, visits, Content, Visit}
 use Rattle.hserialize.proofs.KnownNames.{tags-agree}
 use Rattle.hserialize.proofs.Runs.{run, walked, run-visits}
 use Rattle.hserialize.proofs.Seen.{Seen, seen}
@@ -110,49 +110,49 @@ module _ (spelling : ℕ → List ℕ) (tags : (id : ℕ) → tag_of id ≡ tag_
   gone = lost (form_after spelling f) Whole
 
   abbrev region : Forest ℕ → Bool
-  region kids = are_region_content (in_region content.Flow) (spelled spelling kids)
+  region kids = are_region_content (in_region content.Flow) (mapped spelling kids)
 
-  marked_as : (w : What ℕ) → inserts_marker (tag_or_other (name_in w)) ≡ begins_region (spelled_what spelling w)
+  marked_as : (w : What ℕ) → inserts_marker (tag_or_other (name_in w)) ≡ begins_region (mapped_what spelling w)
   marked_as (element name attrs) = ap inserts_marker (tags name)
   marked_as _ = refl
 
-  formed_as : (w : What ℕ) → is_form (tag_or_other (name_in w)) ≡ makes_form (spelled_what spelling w)
+  formed_as : (w : What ℕ) → is_form (tag_or_other (name_in w)) ≡ makes_form (mapped_what spelling w)
   formed_as (element name attrs) = ap is_form (tags name)
   formed_as _ = refl
 
-  finds : (made root p : ℕ) (g : Forest ℕ) → Seen made f root p g → (u : Bool) → walked enters leaves Whole g (Some u) ≡ cond (have_plain_regions u (spelled spelling g)) (Some u) None
+  finds : (made root p : ℕ) (g : Forest ℕ) → Seen made f root p g → (u : Bool) → walked enters leaves Whole g (Some u) ≡ cond (have_plain_regions u (mapped spelling g)) (Some u) None
   finds made root p none s u = refl
   finds made root p (tree b w kids rest) s u =
       ap (λ o. walked enters leaves Whole rest (leaves b (walked enters leaves Whole kids o))) first
-      ∙ go (not (u && makes_form (spelled_what spelling w))) (cond (begins_region (spelled_what spelling w)) (region kids) true) (back_again u (makes_form (spelled_what spelling w))) (finds made root b kids s.1) (finds made root p rest s.2 u)
+      ∙ go (not (u && makes_form (mapped_what spelling w))) (cond (begins_region (mapped_what spelling w)) (region kids) true) (back_again u (makes_form (mapped_what spelling w))) (finds made root b kids s.1) (finds made root p rest s.2 u)
     where
       within : Bool
-      within = u || makes_form (spelled_what spelling w)
+      within = u || makes_form (mapped_what spelling w)
 
       named : tag_at b f ≡ tag_or_other (name_in w)
       named = ap (λ o. tag_or_other (option_and_then name_in o)) s.0.what
 
-      forms : is_form (tag_at b f) ≡ makes_form (spelled_what spelling w)
+      forms : is_form (tag_at b f) ≡ makes_form (mapped_what spelling w)
       forms = ap is_form named ∙ formed_as w
 
-      first : enters b (Some u) ≡ cond (not (u && makes_form (spelled_what spelling w)) && cond (begins_region (spelled_what spelling w)) (region kids) true) (Some within) None
+      first : enters b (Some u) ≡ cond (not (u && makes_form (mapped_what spelling w)) && cond (begins_region (mapped_what spelling w)) (region kids) true) (Some within) None
       first =
           (λ k. cond (u && forms k) None (cond ((ap inserts_marker named ∙ marked_as w) k && not (region (s.0.kids_are k))) None (Some (u || forms k))))
-          ∙ step (u && makes_form (spelled_what spelling w)) (begins_region (spelled_what spelling w)) (region kids) (Some within)
+          ∙ step (u && makes_form (mapped_what spelling w)) (begins_region (mapped_what spelling w)) (region kids) (Some within)
 
-      after : (k r : Bool) → (within && not (makes_form (spelled_what spelling w))) ≡ u → walked enters leaves Whole rest (Some u) ≡ cond r (Some u) None
+      after : (k r : Bool) → (within && not (makes_form (mapped_what spelling w))) ≡ u → walked enters leaves Whole rest (Some u) ≡ cond r (Some u) None
           → walked enters leaves Whole rest (leaves b (cond k (Some within) None)) ≡ cond (k && r) (Some u) None
       after true r back law = ap (λ v. walked enters leaves Whole rest (Some (within && not v))) forms ∙ ap (λ v. walked enters leaves Whole rest (Some v)) back ∙ law
       after false r back law = gone rest
 
-      go : (x y : Bool) → (x ≡ true → (within && not (makes_form (spelled_what spelling w))) ≡ u) → ((v : Bool) → walked enters leaves Whole kids (Some v) ≡ cond (have_plain_regions v (spelled spelling kids)) (Some v) None)
-          → walked enters leaves Whole rest (Some u) ≡ cond (have_plain_regions u (spelled spelling rest)) (Some u) None
+      go : (x y : Bool) → (x ≡ true → (within && not (makes_form (mapped_what spelling w))) ≡ u) → ((v : Bool) → walked enters leaves Whole kids (Some v) ≡ cond (have_plain_regions v (mapped spelling kids)) (Some v) None)
+          → walked enters leaves Whole rest (Some u) ≡ cond (have_plain_regions u (mapped spelling rest)) (Some u) None
           → walked enters leaves Whole rest (leaves b (walked enters leaves Whole kids (cond (x && y) (Some within) None)))
-          ≡ cond (x && y && have_plain_regions within (spelled spelling kids) && have_plain_regions u (spelled spelling rest)) (Some u) None
+          ≡ cond (x && y && have_plain_regions within (mapped spelling kids) && have_plain_regions u (mapped spelling rest)) (Some u) None
       go false y back inner law = ap (λ o. walked enters leaves Whole rest (leaves b o)) (gone kids) ∙ gone rest
       go true false back inner law = ap (λ o. walked enters leaves Whole rest (leaves b o)) (gone kids) ∙ gone rest
       go true true back inner law =
-          ap (λ o. walked enters leaves Whole rest (leaves b o)) (inner within) ∙ after (have_plain_regions within (spelled spelling kids)) (have_plain_regions u (spelled spelling rest)) (back refl) law
+          ap (λ o. walked enters leaves Whole rest (leaves b o)) (inner within) ∙ after (have_plain_regions within (mapped spelling kids)) (have_plain_regions u (mapped spelling rest)) (back refl) law
 
 -- where a list is at the top
 top_is : (c : Content) (form : Bool) → in_context_of c form ≡ option_map (λ own. record { content = own; texts = texts_at_top own; in_a = false; in_button = false; in_form = form }) (top_content c)
@@ -181,10 +181,10 @@ plain_is context t top f named topmost =
 
 -- what is left of the walk finds whether the list is plain
 abbrev pub IsFinding : (names : Texts) (f : Forest ℕ) (root : ℕ) (context : List ℕ) → Bool → List Visit → Type 0
-IsFinding names f root context = Finds (form_after (text_of names) f) (is_plain context (spelled (text_of names) (children_of root f)))
+IsFinding names f root context = Finds (form_after (text_of names) f) (is_plain context (mapped (text_of names) (children_of root f)))
 
 pub begun : (names : Texts) (made : ℕ) (f : Forest ℕ) (root : ℕ) (top : Content) (context : List ℕ) (t : Tag) (in_form : Bool) (left items : List Visit) → AreNames names → AreCounted made f → root < made
-    → in_context_of (row t).1 (is_form t) ≡ in_context context → Some top ≡ top_content (row t).1 → true ≡ are_region_content (in_region top) (spelled (text_of names) (children_of root f)) → in_form ≡ is_form t
+    → in_context_of (row t).1 (is_form t) ≡ in_context context → Some top ≡ top_content (row t).1 → true ≡ are_region_content (in_region top) (mapped (text_of names) (children_of root f)) → in_form ≡ is_form t
     → left ≡ items → items ≡ visits Whole (children_of root f) → IsFinding names f root context in_form left
 begun names made f root top context t in_form left items table counted h named topmost region begins same visited =
     let step = form_after (text_of names) f in
@@ -193,9 +193,9 @@ begun names made f root top context t in_form left items table counted h named t
           (λ i. is_left (run (entering step) (leaving step) ((same ∙ visited) i) (Some (begins i))))
           ∙ ap is_left (run-visits (entering step) (leaving step) Whole (children_of root f) (Some (is_form t)))
           ∙ ap is_left (finds (text_of names) (tags-agree names table) f made root root (children_of root f) (seen made f counted root h) (is_form t))
-          ∙ tells (have_plain_regions (is_form t) (spelled (text_of names) (children_of root f))) (is_form t)
-          ∙ ap (λ u. u && have_plain_regions (is_form t) (spelled (text_of names) (children_of root f))) region
-          ∙ plain_is context t top (spelled (text_of names) (children_of root f)) named topmost;
+          ∙ tells (have_plain_regions (is_form t) (mapped (text_of names) (children_of root f))) (is_form t)
+          ∙ ap (λ u. u && have_plain_regions (is_form t) (mapped (text_of names) (children_of root f))) region
+          ∙ plain_is context t top (mapped (text_of names) (children_of root f)) named topmost;
     }
 
 -- no list is plain where none is at the top

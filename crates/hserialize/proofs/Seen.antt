@@ -2,7 +2,7 @@
 use Rattle.hserialize.proofs.Names.{◌≡◌, ℕ, ◌<◌, false, cond_both, eqb, cond, [], Some, None, refl, sym, ◌∙◌, ap, option_and_then, eq-eqb, IsTrue, What, Forest, none, tree, join, children_of, Spot, spot_of, first_or, first_child_of, next_of, parent_of, what_of, AreCounted, ancestors_of, way_up, is_among, join-assoc, is-there, spot_among, child-spot, apart, own-inside, goes_in, visits, Reach, Visit, Enter, Leave}
 use Rattle.std.specs.List.{All}
 use Rattle.std.proofs.lemmas.List.Elements.{All-append, All-cons, All-nil}
-use Rattle.hserialize.specs.Walk.{node_of}
+use Rattle.hserialize.specs.Walk.{visited_node}
 use Rattle.hnodes.proofs.TreeOrder.{Entered, entered}
 
 -- what is asked of node b, where it is with these children below p, before these siblings
@@ -54,7 +54,7 @@ module _ (made : ℕ) (f : Forest ℕ) (counted : AreCounted made f) (root : ℕ
 -- the nodes that a walk visits were made
 module _ (made : ℕ) (f : Forest ℕ) (root : ℕ) (reach : Reach) where
   abbrev is_made : Visit → Type 0
-  is_made v = node_of v < made
+  is_made v = visited_node v < made
 
   made-among : (p : ℕ) (g : Forest ℕ) → Seen made f root p g → All is_made (visits reach g)
   made-among p none s = All-nil is_made

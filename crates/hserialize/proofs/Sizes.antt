@@ -1,5 +1,5 @@
 -- How long a walk over nodes is.
-use Rattle.hserialize.proofs.Names.{◌≡◌, ℕ, ◌+◌, ◌<◌, ◌≤◌, cond_both, length, length-append, arith, ◌∷◌, ◌++◌, [], What, Forest, none, tree, children_of, AreCounted, goes_in, visits, Reach, Enter, Leave}
+use Rattle.hserialize.proofs.Names.{ℕ, ◌+◌, ◌<◌, ◌≤◌, cond_both, length, length-append, arith, ◌∷◌, ◌++◌, [], Forest, none, tree, children_of, AreCounted, goes_in, visits, Reach, Enter, Leave}
 use Rattle.std.proofs.Common.{◌*◌}
 use Rattle.hnodes.specs.Forest.{size}
 use Rattle.hnodes.proofs.Sizes.{inside-few}

@@ -1,5 +1,5 @@
 -- What a walk over a region tests.
-use Rattle.hserialize.proofs.Names.{◌≡◌, ℕ, ◌<◌, Bool, true, false, not, cond, List, Some, None, refl, ◌∙◌, ap, option_and_then, and_parts, not-true, ◌&&◌, Option, Texts, AreNames, text_of, tag_of, tag_named, Tag, AreCounted, What, element, Forest, none, tree, children_of, spelled, spelled_what, name_in, row, takes_role, texts_in, Inside, inside_node, inside_element, is_nested, is_plain_node, inserts_marker, are_region_content, begins_region, in_region, without_form, is_phrasing, content_among, texts_at_top, tag_or_other, tag_at, marked, visits, Around, Content, Visit}
+use Rattle.hserialize.proofs.Names.{◌≡◌, ℕ, ◌<◌, Bool, true, false, not, cond, List, Some, None, refl, ◌∙◌, ap, option_and_then, and_parts, not-true, ◌&&◌, Option, Texts, AreNames, text_of, tag_of, tag_named, Tag, AreCounted, What, element, Forest, none, tree, children_of, mapped, mapped_what, name_in, row, takes_role, texts_in, Inside, inside_node, inside_element, is_nested, is_plain_node, inserts_marker, are_region_content, begins_region, in_region, without_form, is_phrasing, content_among, texts_at_top, tag_or_other, tag_at, marked, visits, Around, Content, Visit}
 use Rattle.hserialize.proofs.KnownNames.{tags-agree}
 use Rattle.hserialize.proofs.Runs.{run, walked, run-visits}
 use Rattle.hserialize.proofs.Seen.{Seen, seen}
@@ -9,7 +9,7 @@ use Rattle.names.specs.declared.tag.Tag.TheVariants as tag
 use Rattle.hnodes.specs.Forest.{text}
 use Rattle.hnodes.specs.Spots.{first_or, what_of}
 use Rattle.hserialize.specs.Plain.{begins_with_text, begins_with_line_feed as begins_line}
-use Rattle.hserialize.specs.Testing.{alone, standing_at_top, standing_in, standing_of, inside_is, is_text, begins_with_line_feed, is_text_at, begins_at, is_plain_element, is_plain_what, is_plain_at, after_visit}
+use Rattle.hserialize.specs.Testing.{alone, standing_at_top, standing_in, standing_of, inside_is, is_text_node, begins_with_line_feed, is_text_at, begins_at, is_plain_element, is_plain_what, is_plain_at, after_visit}
 use Rattle.hserialize.specs.Walk.{goes_in}
 use Rattle.hserialize.specs.declared.content.Content.TheVariants as content
 use Rattle.hserialize.specs.declared.content.Texts.{Texts as Allowed}
@@ -49,35 +49,35 @@ module _ (spelling : ℕ → List ℕ) (tags : (id : ℕ) → tag_of id ≡ tag_
       go false = refl
 
   -- a node by itself
-  line_feed : (made p : ℕ) (g : Forest ℕ) → Seen made f root p g → begins_at (first_or g None) f ≡ begins_line (spelled spelling g)
+  line_feed : (made p : ℕ) (g : Forest ℕ) → Seen made f root p g → begins_at (first_or g None) f ≡ begins_line (mapped spelling g)
   line_feed made p none s = refl
   line_feed made p (tree b w kids rest) s = ap begins_with_line_feed s.0.what ∙ go w
     where
-      go : (v : What ℕ) → begins_with_line_feed (Some v) ≡ begins_line (tree b (spelled_what spelling v) (spelled spelling kids) (spelled spelling rest))
+      go : (v : What ℕ) → begins_with_line_feed (Some v) ≡ begins_line (tree b (mapped_what spelling v) (mapped spelling kids) (mapped spelling rest))
       go (text t) = refl
       go _ = refl
 
-  before_text : (made p : ℕ) (g : Forest ℕ) → Seen made f root p g → is_text_at (first_or g None) f ≡ begins_with_text (spelled spelling g)
+  before_text : (made p : ℕ) (g : Forest ℕ) → Seen made f root p g → is_text_at (first_or g None) f ≡ begins_with_text (mapped spelling g)
   before_text made p none s = refl
-  before_text made p (tree b w kids rest) s = ap is_text s.0.what ∙ go w
+  before_text made p (tree b w kids rest) s = ap is_text_node s.0.what ∙ go w
     where
-      go : (v : What ℕ) → is_text (Some v) ≡ begins_with_text (tree b (spelled_what spelling v) (spelled spelling kids) (spelled spelling rest))
+      go : (v : What ℕ) → is_text_node (Some v) ≡ begins_with_text (tree b (mapped_what spelling v) (mapped spelling kids) (mapped spelling rest))
       go (text t) = refl
       go _ = refl
 
   tested : (made p b : ℕ) (w : What ℕ) (kids rest : Forest ℕ) → IsSeen made f root p b w kids rest → Seen made f root b kids → Seen made f root p rest → (i : Inside)
-      → is_plain_at spelling i b f ≡ is_plain_node i (spelled_what spelling w) (spelled spelling kids) (spelled spelling rest)
+      → is_plain_at spelling i b f ≡ is_plain_node i (mapped_what spelling w) (mapped spelling kids) (mapped spelling rest)
   tested made p b w kids rest s below after i =
       (λ k. is_plain_what spelling i (s.what k) ((ap (λ o. begins_at o f) s.first ∙ line_feed made b kids below) k) ((ap (λ o. is_text_at o f) s.next ∙ before_text made p rest after) k))
       ∙ go w
     where
-      go : (v : What ℕ) → is_plain_what spelling i (Some v) (begins_line (spelled spelling kids)) (begins_with_text (spelled spelling rest)) ≡ is_plain_node i (spelled_what spelling v) (spelled spelling kids) (spelled spelling rest)
-      go (element name attrs) = ap (λ t. is_plain_element spelling i t attrs (begins_line (spelled spelling kids))) (tags name)
+      go : (v : What ℕ) → is_plain_what spelling i (Some v) (begins_line (mapped spelling kids)) (begins_with_text (mapped spelling rest)) ≡ is_plain_node i (mapped_what spelling v) (mapped spelling kids) (mapped spelling rest)
+      go (element name attrs) = ap (λ t. is_plain_element spelling i t attrs (begins_line (mapped spelling kids))) (tags name)
       go _ = refl
 
   -- whether a walk goes into a node
   abbrev begins : What ℕ → Bool
-  begins w = begins_region (spelled_what spelling w)
+  begins w = begins_region (mapped_what spelling w)
 
   goes : (w : What ℕ) → goes_in Region w ≡ not (begins w)
   goes (element name attrs) = ap (λ t. not (inserts_marker t)) (tags name)
@@ -98,17 +98,17 @@ module _ (spelling : ℕ → List ℕ) (tags : (id : ℕ) → tag_of id ≡ tag_
 
   -- what is around a plain node is around what comes after it, and its children are in it where no marker hides that
   record IsAgain (p b : ℕ) (w : What ℕ) (a : Around) : Type 0 where
-    below : begins w ≡ false → Stands p b a (without_form (inside_node (spelled_what spelling w) (place p a)))
+    below : begins w ≡ false → Stands p b a (without_form (inside_node (mapped_what spelling w) (place p a)))
     back : marked (tag_at b f) false (marked (tag_at b f) true a) ≡ a
 
   entered : (made p b : ℕ) (w : What ℕ) (kids rest : Forest ℕ) (a : Around) → IsSeen made f root p b w kids rest → fits (content_in p a.in_phrasing) a.in_phrasing ≡ true
-      → is_plain_node (place p a) (spelled_what spelling w) (spelled spelling kids) (spelled spelling rest) ≡ true → IsAgain p b w a
+      → is_plain_node (place p a) (mapped_what spelling w) (mapped spelling kids) (mapped spelling rest) ≡ true → IsAgain p b w a
   entered made p b w kids rest a s fit is = go w s.what is
     where
       named : (v : What ℕ) → what_of b f ≡ Some v → tag_at b f ≡ tag_or_other (name_in v)
       named v e = ap (λ o. tag_or_other (option_and_then name_in o)) e
 
-      go : (v : What ℕ) → what_of b f ≡ Some v → is_plain_node (place p a) (spelled_what spelling v) (spelled spelling kids) (spelled spelling rest) ≡ true → IsAgain p b v a
+      go : (v : What ℕ) → what_of b f ≡ Some v → is_plain_node (place p a) (mapped_what spelling v) (mapped spelling kids) (mapped spelling rest) ≡ true → IsAgain p b v a
       go (element name attrs) e h = record {
         below = λ no_marker. below_element p b t a (without_form (inside_element t (place p a))) s.other same (enter_element t (content_in p a.in_phrasing) (texts_of p a.in_phrasing) a no_marker (and_parts _ _ stands).0 fit);
         back = ap (λ u. marked u false (marked u true a)) same ∙ left_again t (content_in p a.in_phrasing) (texts_of p a.in_phrasing) a (and_parts _ _ stands).0 (not-true _ (and_parts _ _ stands).1) fit;
@@ -129,17 +129,17 @@ module _ (spelling : ℕ → List ℕ) (tags : (id : ℕ) → tag_of id ≡ tag_
 
   -- a walk over the trees of a region finds whether they are content, and what is around them is as before
   tests_trees : (made p : ℕ) (g : Forest ℕ) → Seen made f root p g → (a : Around) → fits (content_in p a.in_phrasing) a.in_phrasing ≡ true
-      → walked enters leaves Region g (Some a) ≡ cond (are_region_content (place p a) (spelled spelling g)) (Some a) None
+      → walked enters leaves Region g (Some a) ≡ cond (are_region_content (place p a) (mapped spelling g)) (Some a) None
   tests_trees made p none s a fit = refl
   tests_trees made p (tree b w kids rest) s a fit =
       ap (λ u. walked enters leaves Region rest (leaves b (cond u (walked enters leaves Region kids (enters b (Some a))) (enters b (Some a))))) (goes w)
       ∙ ap (λ o. walked enters leaves Region rest (leaves b (cond (not (begins w)) (walked enters leaves Region kids o) o))) first
-      ∙ go (tests_trees made b kids s.1) (tests_trees made p rest s.2 a fit) (is_plain_node (place p a) (spelled_what spelling w) (spelled spelling kids) (spelled spelling rest)) refl (begins w) refl
+      ∙ go (tests_trees made b kids s.1) (tests_trees made p rest s.2 a fit) (is_plain_node (place p a) (mapped_what spelling w) (mapped spelling kids) (mapped spelling rest)) refl (begins w) refl
     where
       within : Around
       within = marked (tag_at b f) true a
 
-      first : enters b (Some a) ≡ cond (is_plain_node (place p a) (spelled_what spelling w) (spelled spelling kids) (spelled spelling rest)) (Some within) None
+      first : enters b (Some a) ≡ cond (is_plain_node (place p a) (mapped_what spelling w) (mapped spelling kids) (mapped spelling rest)) (Some within) None
       first =
           ap (λ o. cond (is_plain_at spelling (inside_is (standing_of root top a o f)) b f) (Some within) None) s.0.parent
           ∙ ap (λ i. cond (is_plain_at spelling i b f) (Some within) None) (placed p a)
@@ -155,19 +155,19 @@ module _ (spelling : ℕ → List ℕ) (tags : (id : ℕ) → tag_of id ≡ tag_
       after false v back law = gone rest
 
       Inner : Type 0
-      Inner = (a' : Around) → fits (content_in b a'.in_phrasing) a'.in_phrasing ≡ true → walked enters leaves Region kids (Some a') ≡ cond (are_region_content (place b a') (spelled spelling kids)) (Some a') None
+      Inner = (a' : Around) → fits (content_in b a'.in_phrasing) a'.in_phrasing ≡ true → walked enters leaves Region kids (Some a') ≡ cond (are_region_content (place b a') (mapped spelling kids)) (Some a') None
 
-      go : Inner → walked enters leaves Region rest (Some a) ≡ cond (are_region_content (place p a) (spelled spelling rest)) (Some a) None
-          → (u : Bool) → is_plain_node (place p a) (spelled_what spelling w) (spelled spelling kids) (spelled spelling rest) ≡ u → (m : Bool) → begins w ≡ m
+      go : Inner → walked enters leaves Region rest (Some a) ≡ cond (are_region_content (place p a) (mapped spelling rest)) (Some a) None
+          → (u : Bool) → is_plain_node (place p a) (mapped_what spelling w) (mapped spelling kids) (mapped spelling rest) ≡ u → (m : Bool) → begins w ≡ m
           → walked enters leaves Region rest (leaves b (cond (not m) (walked enters leaves Region kids (cond u (Some within) None)) (cond u (Some within) None)))
-          ≡ cond (u && (cond m true (are_region_content (without_form (inside_node (spelled_what spelling w) (place p a))) (spelled spelling kids))) && are_region_content (place p a) (spelled spelling rest)) (Some a) None
+          ≡ cond (u && (cond m true (are_region_content (without_form (inside_node (mapped_what spelling w) (place p a))) (mapped spelling kids))) && are_region_content (place p a) (mapped spelling rest)) (Some a) None
       go inner law false e m e' = ap (λ o. walked enters leaves Region rest (leaves b o)) (unread m) ∙ gone rest
-      go inner law true e true e' = after true (are_region_content (place p a) (spelled spelling rest)) (entered made p b w kids rest a s.0 fit e).back law
+      go inner law true e true e' = after true (are_region_content (place p a) (mapped spelling rest)) (entered made p b w kids rest a s.0 fit e).back law
       go inner law true e false e' =
           let d = entered made p b w kids rest a s.0 fit e in
-          let at : Stands p b a (without_form (inside_node (spelled_what spelling w) (place p a))) = d.below e' in
-          ap (λ o. walked enters leaves Region rest (leaves b o)) (inner within at.1 ∙ ap (λ i. cond (are_region_content i (spelled spelling kids)) (Some within) None) at.0)
-          ∙ after (are_region_content (without_form (inside_node (spelled_what spelling w) (place p a))) (spelled spelling kids)) (are_region_content (place p a) (spelled spelling rest)) d.back law
+          let at : Stands p b a (without_form (inside_node (mapped_what spelling w) (place p a))) = d.below e' in
+          ap (λ o. walked enters leaves Region rest (leaves b o)) (inner within at.1 ∙ ap (λ i. cond (are_region_content i (mapped spelling kids)) (Some within) None) at.0)
+          ∙ after (are_region_content (without_form (inside_node (mapped_what spelling w) (place p a))) (mapped spelling kids)) (are_region_content (place p a) (mapped spelling rest)) d.back law
 
 not_phrasing : (c : Content) → is_phrasing c ≡ false → fits c false ≡ true
 not_phrasing content.Phrasing h = absurd cc
@@ -175,7 +175,7 @@ not_phrasing _ h = refl
 
 -- what is left of a walk finds whether the region is content
 abbrev pub IsTesting : (names : Texts) (f : Forest ℕ) (root : ℕ) (top : Content) → Around → List Visit → Type 0
-IsTesting names f root top = Finds (after_visit (text_of names) f root top) (are_region_content (in_region top) (spelled (text_of names) (children_of root f)))
+IsTesting names f root top = Finds (after_visit (text_of names) f root top) (are_region_content (in_region top) (mapped (text_of names) (children_of root f)))
 
 pub begun : (names : Texts) (made : ℕ) (f : Forest ℕ) (root : ℕ) (top : Content) (around : Around) (left items : List Visit) → AreNames names → AreCounted made f → root < made
     → is_phrasing top ≡ false → around ≡ alone → left ≡ items → items ≡ visits Region (children_of root f) → IsTesting names f root top around left
@@ -186,8 +186,8 @@ begun names made f root top around left items table counted h other begins same 
           (λ i. is_left (run (entering step) (leaving step) ((same ∙ visited) i) (Some (begins i))))
           ∙ ap is_left (run-visits (entering step) (leaving step) Region (children_of root f) (Some alone))
           ∙ ap is_left (tests_trees (text_of names) (tags-agree names table) f root top made root (children_of root f) (seen made f counted root h) alone fit)
-          ∙ ap (λ u. is_left (cond (are_region_content (place_in (cond u top own) (cond u (texts_at_top top) (texts_in own)) alone) (spelled (text_of names) (children_of root f))) (Some alone) None)) self
-          ∙ tells (are_region_content (in_region top) (spelled (text_of names) (children_of root f))) alone;
+          ∙ ap (λ u. is_left (cond (are_region_content (place_in (cond u top own) (cond u (texts_at_top top) (texts_in own)) alone) (mapped (text_of names) (children_of root f))) (Some alone) None)) self
+          ∙ tells (are_region_content (in_region top) (mapped (text_of names) (children_of root f))) alone;
     }
   where
     self : eqb root root ≡ true

@@ -3,11 +3,11 @@ use Rattle.std.specs.Prelude.{◌≡◌, ℕ, Bool, true, false, not, ◌&&◌, 
 use Rattle.std.specs.Option.{is_none}
 use Rattle.names.specs.Tags.{tag_of}
 use Rattle.hnodes.specs.Forest.{What, doctype, element, comment, text, Forest, none, tree, children_of}
-use Rattle.hnodes.specs.Spelled.{spelled, spelled_attribute}
+use Rattle.hnodes.specs.Mapped.{mapped, mapped_attribute}
 use Rattle.hnodes.specs.Spots.{Spot, spot_of, first_child_of, next_of, what_of}
 use Rattle.hserialize.specs.ContentTable.{row, texts_in}
 use Rattle.hserialize.specs.Plain.{are_plain_attributes, is_plain_comment, is_plain_text}
-use Rattle.hserialize.specs.PlainDocument.{are_metadata, comments_then, doctype_then, ends, html_on, is_leaf, is_metadata}
+use Rattle.hserialize.specs.PlainDocument.{are_metadata, comments_then, doctype_then, ends_document, html_on, is_leaf, is_metadata}
 use Rattle.hserialize.specs.Testing.{is_text_at}
 use Rattle.hserialize.specs.Words.{is_empty}
 use Rattle.hserialize.specs.declared.content.Texts.{Texts}
@@ -29,12 +29,12 @@ past_leaves allowed (tree n w kids rest) = if is_leaf allowed w kids rest then p
 
 -- comments and texts alone are between two siblings
 abbrev pub ArePassed : Texts → (from to : Option ℕ) → Forest ℕ → Type 0
-ArePassed allowed from to f = (spelling : ℕ → List ℕ) → past_leaves allowed (spelled spelling (trees_from from f)) ≡ spelled spelling (trees_from to f)
+ArePassed allowed from to f = (spelling : ℕ → List ℕ) → past_leaves allowed (mapped spelling (trees_from from f)) ≡ mapped spelling (trees_from to f)
 
 -- no doctype but a plain one is
 abbrev pub IsDoctypePassed : (from to : Option ℕ) → Forest ℕ → Type 0
 IsDoctypePassed from to f = (spelling : ℕ → List ℕ)
-    → doctype_then (comments_then html_on) (spelled spelling (trees_from from f)) ≡ comments_then html_on (spelled spelling (trees_from to f))
+    → doctype_then (comments_then html_on) (mapped spelling (trees_from from f)) ≡ comments_then html_on (mapped spelling (trees_from to f))
 
 abbrev pub is_plain_doctype_what : Option (What ℕ) → (childless : Bool) → Bool
 is_plain_doctype_what (Some (doctype name public_id system_id)) childless =
@@ -66,7 +66,7 @@ is_text_alone allowed (Some n) f = is_last_text allowed (what_of n f) (is_none (
 module _ (spelling : ℕ → List ℕ) where
   abbrev pub is_metadata_what : ℕ → Forest ℕ → Option (What ℕ) → Bool
   is_metadata_what n f (Some (element name attrs)) =
-      is_metadata (tag_of name) && are_plain_attributes (map (spelled_attribute spelling) attrs)
+      is_metadata (tag_of name) && are_plain_attributes (map (mapped_attribute spelling) attrs)
       && is_text_alone (texts_in (row (tag_of name)).1) (first_child_of n f) f
   is_metadata_what n f _ = is_leaf_at texts.WhiteSpace n f
 
@@ -76,12 +76,12 @@ module _ (spelling : ℕ → List ℕ) where
 
   -- an element of this name with plain attributes
   abbrev pub is_named_what : List ℕ → Option (What ℕ) → Bool
-  is_named_what x (Some (element name attrs)) = bytes_eq (spelling name) x && are_plain_attributes (map (spelled_attribute spelling) attrs)
+  is_named_what x (Some (element name attrs)) = bytes_eq (spelling name) x && are_plain_attributes (map (mapped_attribute spelling) attrs)
   is_named_what x _ = false
 
   -- before comments alone
   abbrev pub is_last_at : List ℕ → ℕ → Forest ℕ → Bool
-  is_last_at x n f = comments_then ends (spelled spelling (trees_from (next_of n f) f)) && is_named_what x (what_of n f)
+  is_last_at x n f = comments_then ends_document (mapped spelling (trees_from (next_of n f) f)) && is_named_what x (what_of n f)
 
   abbrev pub is_head_at : ℕ → Forest ℕ → Bool
-  is_head_at n f = is_named_what (codes "head") (what_of n f) && are_metadata (spelled spelling (children_of n f))
+  is_head_at n f = is_named_what (codes "head") (what_of n f) && are_metadata (mapped spelling (children_of n f))

@@ -8,5 +8,5 @@ abbrev pub pair_of : Bor (List ℕ) × ℕ × Bor (List ℕ) → Attribute (List
 pair_of e = (e.0.now, e.2.now)
 
 -- each entry has the number of its place
-abbrev pub AreNumbered : List (Bor (List ℕ) × ℕ × Bor (List ℕ)) → Type 0
-AreNumbered entries = (i : ℕ) (d : Bor (List ℕ) × ℕ × Bor (List ℕ)) → i < length entries → (get_or entries i d).1 ≡ i
+abbrev pub AreEntriesNumbered : List (Bor (List ℕ) × ℕ × Bor (List ℕ)) → Type 0
+AreEntriesNumbered entries = (i : ℕ) (d : Bor (List ℕ) × ℕ × Bor (List ℕ)) → i < length entries → (get_or entries i d).1 ≡ i

@@ -9,9 +9,9 @@ use Rattle.hserialize.specs.declared.gathered.Gathered.{Gathered}
 abbrev pub gathered : Gathered → Option (List ℕ)
 gathered it = Some it.text.items
 
-abbrev pub failures_of : Gathered → ℕ
-failures_of it = it.failures
+abbrev pub gathered_failures : Gathered → ℕ
+gathered_failures it = it.failures
 
 -- it is this text, or memory ran out
-abbrev pub Holds : Result (Vec ℕ) Refusal → List ℕ → Type 0
-Holds result text = MatchResult result (λ it. it.items ≡ text) (λ refusal. refusal ≡ Memory)
+abbrev pub HoldsBytes : Result (Vec ℕ) Refusal → List ℕ → Type 0
+HoldsBytes result text = MatchResult result (λ it. it.items ≡ text) (λ refusal. refusal ≡ Memory)

@@ -7,7 +7,7 @@ pub mod Written
 pub mod WrittenRows
 pub mod Writing
 pub mod Walk
-pub mod Lent
+pub mod NodeViews
 pub mod Vocabulary
 pub mod ContentTable
 pub mod ContentRows

@@ -13,13 +13,13 @@ abbrev pub indented : ℕ → List ℕ → List ℕ
 indented depth words = codes "| " ++ repeat depth (codes "  ") ++ words ++ codes "\n"
 
 -- attributes in the order of their names' bytes, those of one name as they are
-abbrev pub put_in : Attribute (List ℕ) → List (Attribute (List ℕ)) → List (Attribute (List ℕ))
-put_in a [] = a ∷ []
-put_in a (b ∷ others) = if is_lt (slice_cmp nat_cmp b.0 a.0) then b ∷ put_in a others else a ∷ b ∷ others
+abbrev pub attribute_put_in : Attribute (List ℕ) → List (Attribute (List ℕ)) → List (Attribute (List ℕ))
+attribute_put_in a [] = a ∷ []
+attribute_put_in a (b ∷ others) = if is_lt (slice_cmp nat_cmp b.0 a.0) then b ∷ attribute_put_in a others else a ∷ b ∷ others
 
 abbrev pub in_order : List (Attribute (List ℕ)) → List (Attribute (List ℕ))
 in_order [] = []
-in_order (a ∷ others) = put_in a (in_order others)
+in_order (a ∷ others) = attribute_put_in a (in_order others)
 
 abbrev pub between_quotes : List ℕ → List ℕ
 between_quotes t = codes "\"" ++ t ++ codes "\""

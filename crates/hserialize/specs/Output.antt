@@ -33,11 +33,16 @@ pub record Taken : Type 0 where
   pub failures : ℕ
   pub held : List ℕ
 
-abbrev pub taken : {W : Type 0} → (W → Option (List ℕ)) → (W → ℕ) → Writer W → Taken
-taken written failed out = record { name = out.target.ghost_name; bytes = written out.target.now; failures = failed out.target.now; held = out.held.now.items }
+abbrev pub written_so_far : {W : Type 0} → (W → Option (List ℕ)) → (W → ℕ) → Writer W → Taken
+written_so_far written failed out = record {
+  name = out.target.ghost_name;
+  bytes = written out.target.now;
+  failures = failed out.target.now;
+  held = out.held.now.items;
+}
 
 -- All of the bytes were taken: what was held and then these were handed over, or are held. No call failed.
-pub record Adds (old new : Taken) (bytes : List ℕ) : Type 0 where
+pub record AddsBytes (old new : Taken) (bytes : List ℕ) : Type 0 where
   pub name : new.name ≡ old.name
   pub done : List ℕ
   pub split : old.held ++ bytes ≡ done ++ new.held
@@ -52,12 +57,12 @@ pub record Fails (refusal : Refusal) (old new : Taken) (bytes : List ℕ) : Type
   pub failed : new.failures ≡ counted old.failures
 
 abbrev pub Puts : Taken → Taken → List ℕ → Result (Unit {0}) Refusal → Type 0
-Puts old new bytes (Ok _) = Adds old new bytes
+Puts old new bytes (Ok _) = AddsBytes old new bytes
 Puts old new bytes (Err refusal) = Fails refusal old new bytes
 
 -- What was held was handed over, or a call failed.
-abbrev pub Ends : Taken → Taken → Result (Unit {0}) Refusal → Type 0
-Ends old new (Ok _) = (new.name ≡ old.name) × Appends old.bytes new.bytes old.held × (new.failures ≡ old.failures)
-Ends old new (Err refusal) = (refusal ≡ Write) × (new.name ≡ old.name)
+abbrev pub EndsOutput : Taken → Taken → Result (Unit {0}) Refusal → Type 0
+EndsOutput old new (Ok _) = (new.name ≡ old.name) × Appends old.bytes new.bytes old.held × (new.failures ≡ old.failures)
+EndsOutput old new (Err refusal) = (refusal ≡ Write) × (new.name ≡ old.name)
     × (done : List ℕ) × (rest : List ℕ) × (old.held ≡ done ++ rest) × Appends old.bytes new.bytes done
     × (new.failures ≡ counted old.failures)

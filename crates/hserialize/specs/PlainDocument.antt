@@ -11,14 +11,14 @@ use Rattle.hserialize.specs.declared.content.Texts.{Texts}
 use Rattle.hserialize.specs.declared.content.Texts.TheVariants as texts
 
 -- no tree
-abbrev pub ends : Forest (List ℕ) → Bool
-ends none = true
-ends (tree n w kids rest) = false
+abbrev pub ends_document : Forest (List ℕ) → Bool
+ends_document none = true
+ends_document (tree n w kids rest) = false
 
 -- a plain comment, or a plain text that may be where these may, before these siblings
 abbrev pub is_leaf : Texts → What (List ℕ) → (children rest : Forest (List ℕ)) → Bool
-is_leaf allowed (comment t) kids rest = is_plain_comment t && ends kids
-is_leaf allowed (text t) kids rest = is_plain_text allowed t && ends kids && not (begins_with_text rest)
+is_leaf allowed (comment t) kids rest = is_plain_comment t && ends_document kids
+is_leaf allowed (text t) kids rest = is_plain_text allowed t && ends_document kids && not (begins_with_text rest)
 is_leaf allowed _ kids rest = false
 
 -- LISTS OF SIBLINGS, ONE PART AFTER ANOTHER
@@ -34,7 +34,7 @@ comments_then next f = leaves_then texts.None next f
 -- a doctype, if there is one, named html and without identifiers, and then these
 abbrev pub doctype_then : (Forest (List ℕ) → Bool) → Forest (List ℕ) → Bool
 doctype_then next (tree n (doctype name public_id system_id) kids rest) =
-    bytes_eq name (codes "html") && is_empty public_id && is_empty system_id && ends kids && next rest
+    bytes_eq name (codes "html") && is_empty public_id && is_empty system_id && ends_document kids && next rest
 doctype_then next f = next f
 
 -- an element of this name that has these children, and then these
@@ -56,19 +56,19 @@ is_metadata tag.Style = true
 is_metadata tag.Title = true
 is_metadata _ = false
 
-abbrev pub in_head : Inside
-in_head = record { content = content.Empty; texts = texts.WhiteSpace; in_a = false; in_button = false; in_form = false }
+abbrev pub inside_head : Inside
+inside_head = record { content = content.Empty; texts = texts.WhiteSpace; in_a = false; in_button = false; in_form = false }
 
 -- the children of head: such elements, comments and white space
 abbrev pub are_metadata : Forest (List ℕ) → Bool
 are_metadata none = true
 are_metadata (tree n (element name attrs) kids rest) =
-    is_metadata (tag_named name) && are_plain_attributes attrs && are_content (inside_element (tag_named name) in_head) kids && are_metadata rest
+    is_metadata (tag_named name) && are_plain_attributes attrs && are_content (inside_element (tag_named name) inside_head) kids && are_metadata rest
 are_metadata (tree n w kids rest) = is_leaf texts.WhiteSpace w kids rest && are_metadata rest
 
 -- body, and what "after body" (#parsing-main-afterbody) puts into html
 abbrev pub body_on : Forest (List ℕ) → Bool
-body_on f = element_then (codes "body") (is_plain (codes "body")) (comments_then ends) f
+body_on f = element_then (codes "body") (is_plain (codes "body")) (comments_then ends_document) f
 
 -- The children of html: white space is dropped before head, put into html after it, and into body after body.
 abbrev pub are_in_html : Forest (List ℕ) → Bool
@@ -76,7 +76,7 @@ are_in_html f = comments_then (element_then (codes "head") are_metadata (leaves_
 
 -- html, and what "after after body" (#the-after-after-body-insertion-mode) puts into the document
 abbrev pub html_on : Forest (List ℕ) → Bool
-html_on f = element_then (codes "html") are_in_html (comments_then ends) f
+html_on f = element_then (codes "html") are_in_html (comments_then ends_document) f
 
 -- Whether the children of a document are those of a plain one. There is no text among them: white space is dropped before html, and put
 -- into body after it.

@@ -1,7 +1,7 @@
 -- What a visit of a walk prints, and the depth after it.
 use Rattle.std.specs.Prelude.{ℕ, zero, suc, ◌<◌, List, [], length, Option, Some, None}
 use Rattle.hnodes.specs.Forest.{What, element, Forest}
-use Rattle.hnodes.specs.Spelled.{spelled_what}
+use Rattle.hnodes.specs.Mapped.{mapped_what}
 use Rattle.hnodes.specs.Spots.{what_of}
 use Rattle.hserialize.specs.Lines.{node_lines}
 use Rattle.hserialize.specs.declared.walk.Visit.{Visit}
@@ -16,9 +16,9 @@ depth_after (Enter n) depth = suc depth
 depth_after (Leave n) depth = one_less depth
 
 -- only what is open is left
-abbrev pub IsOpen : ℕ → Visit → Type 0
-IsOpen depth (Enter n) = Unit {0}
-IsOpen depth (Leave n) = 0 < depth
+abbrev pub IsOpenVisit : ℕ → Visit → Type 0
+IsOpenVisit depth (Enter n) = Unit {0}
+IsOpenVisit depth (Leave n) = 0 < depth
 
 -- how many attributes a node has
 abbrev pub attribute_count : Option (What ℕ) → ℕ
@@ -26,10 +26,10 @@ attribute_count (Some (element name attrs)) = length attrs
 attribute_count _ = 0
 
 module _ (texts : ℕ → List ℕ) where
-  abbrev pub lines_of : ℕ → Option (What ℕ) → List ℕ
-  lines_of depth None = []
-  lines_of depth (Some w) = node_lines depth (spelled_what texts w)
+  abbrev pub printed_lines : ℕ → Option (What ℕ) → List ℕ
+  printed_lines depth None = []
+  printed_lines depth (Some w) = node_lines depth (mapped_what texts w)
 
   abbrev pub visit_lines : Forest ℕ → ℕ → Visit → List ℕ
-  visit_lines f depth (Enter n) = lines_of depth (what_of n f)
+  visit_lines f depth (Enter n) = printed_lines depth (what_of n f)
   visit_lines f depth (Leave n) = []

@@ -3,7 +3,7 @@
 use Rattle.std.specs.Prelude.{ℕ, Bool, true, false, not, ◌&&◌, ◌||◌, List, Option, Some, None, if◌then◌else◌}
 use Rattle.names.specs.Tags.{tag_named}
 use Rattle.hnodes.specs.Forest.{What, element, Forest, none, tree, children_of}
-use Rattle.hnodes.specs.Spelled.{spelled}
+use Rattle.hnodes.specs.Mapped.{mapped}
 use Rattle.hserialize.specs.Plain.{Inside, inside_node, is_form, is_plain_node}
 use Rattle.hserialize.specs.Walk.{inserts_marker}
 use Rattle.hserialize.specs.Testing.{tag_at, texts_at_top}
@@ -48,6 +48,6 @@ module _ (spelling : ℕ → List ℕ) where
   abbrev pub form_after : Forest ℕ → Visit → (in_form : Bool) → Option Bool
   form_after f (Enter n) in_form =
       if in_form && is_form (tag_at n f) then None
-      else if inserts_marker (tag_at n f) && not (are_region_content (in_region content.Flow) (spelled spelling (children_of n f))) then None
+      else if inserts_marker (tag_at n f) && not (are_region_content (in_region content.Flow) (mapped spelling (children_of n f))) then None
       else Some (in_form || is_form (tag_at n f))
   form_after f (Leave n) in_form = Some (in_form && not (is_form (tag_at n f)))

@@ -4,8 +4,8 @@ use Rattle.names.specs.declared.tag.Tag.{Tag}
 use Rattle.names.specs.declared.tag.Tag.TheVariants as tag
 use Rattle.names.specs.Tags.{tag_of}
 use Rattle.hnodes.specs.Forest.{Attribute, What, element, comment, text, Forest}
-use Rattle.hnodes.specs.Spelled.{spelled_attribute}
-use Rattle.hnodes.specs.Spots.{first_child_of, name_of, next_of, parent_of, what_of}
+use Rattle.hnodes.specs.Mapped.{mapped_attribute}
+use Rattle.hnodes.specs.Spots.{first_child_of, node_name, next_of, parent_of, what_of}
 use Rattle.hserialize.specs.ContentTable.{row, takes_role, texts_in, takes_comments}
 use Rattle.hserialize.specs.Plain.{Inside, begins_with, is_plain_name, is_plain_text, is_plain_comment, are_plain_attributes, is_nested, is_a}
 use Rattle.hserialize.specs.Plain.{is_button, drops_line_feed}
@@ -59,7 +59,7 @@ tag_or_other None = tag.Other
 tag_or_other (Some name) = tag_of name
 
 abbrev pub tag_at : ℕ → Forest ℕ → Tag
-tag_at n f = tag_or_other (name_of n f)
+tag_at n f = tag_or_other (node_name n f)
 
 -- with nothing around
 abbrev pub alone : Around
@@ -93,16 +93,16 @@ inside_is s = record { content = s.content; texts = s.texts; in_a = s.around.in_
 -- WHAT IS TESTED THERE
 
 -- a text; a text that begins with LF
-abbrev pub is_text : Option (What ℕ) → Bool
-is_text (Some (text t)) = true
-is_text _ = false
+abbrev pub is_text_node : Option (What ℕ) → Bool
+is_text_node (Some (text t)) = true
+is_text_node _ = false
 
 abbrev pub begins_with_line_feed : Option (What ℕ) → Bool
 begins_with_line_feed (Some (text t)) = begins_with (codes "\n") t
 begins_with_line_feed _ = false
 
 abbrev pub is_text_at : Option ℕ → Forest ℕ → Bool
-is_text_at node f = is_text (option_and_then (λ n. what_of n f) node)
+is_text_at node f = is_text_node (option_and_then (λ n. what_of n f) node)
 
 abbrev pub begins_at : Option ℕ → Forest ℕ → Bool
 begins_at node f = begins_with_line_feed (option_and_then (λ n. what_of n f) node)
@@ -118,7 +118,7 @@ module _ (spelling : ℕ → List ℕ) where
 
   abbrev pub is_plain_element : Inside → Tag → List (Attribute ℕ) → (line_feed : Bool) → Bool
   is_plain_element inside t attrs line_feed =
-      takes_role inside.content (row t).0 && not (is_nested inside t) && are_plain_attributes (map (spelled_attribute spelling) attrs)
+      takes_role inside.content (row t).0 && not (is_nested inside t) && are_plain_attributes (map (mapped_attribute spelling) attrs)
       && not (drops_line_feed t && line_feed)
 
   -- a node by itself, where its children begin with such a text and where a text follows it

@@ -13,9 +13,9 @@ use Rattle.hserialize.specs.declared.walk.Visit.{Visit}
 use Rattle.hserialize.specs.declared.walk.Visit.TheVariants.{Enter, Leave}
 
 -- the node of a visit
-abbrev pub node_of : Visit → ℕ
-node_of (Enter n) = n
-node_of (Leave n) = n
+abbrev pub visited_node : Visit → ℕ
+visited_node (Enter n) = n
+visited_node (Leave n) = n
 
 -- elements that insert a marker into the list of active formatting elements (#parsing-main-inbody, #parsing-main-intable,
 -- #parsing-main-intr): an a and a button are not around what is in them

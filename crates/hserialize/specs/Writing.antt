@@ -4,8 +4,8 @@ use Rattle.std.specs.Option.{option_map_or}
 use Rattle.names.specs.Sets.{is_void, raw_kind}
 use Rattle.names.specs.Tags.{tag_of}
 use Rattle.hnodes.specs.Forest.{What, document, doctype, element, comment, text, Forest}
-use Rattle.hnodes.specs.Spelled.{spelled_attribute}
-use Rattle.hnodes.specs.Spots.{parent_of, name_of, what_of}
+use Rattle.hnodes.specs.Mapped.{mapped_attribute}
+use Rattle.hnodes.specs.Spots.{parent_of, node_name, what_of}
 use Rattle.hserialize.specs.Escaping.{escaped}
 use Rattle.hserialize.specs.Written.{has_no_references, start_tag_text, end_tag_text}
 use Rattle.hserialize.specs.declared.escaping.Escaping.{Escaping}
@@ -20,33 +20,33 @@ holds_raw (Some name) = has_no_references (raw_kind (tag_of name))
 
 -- the name of what a node is in
 abbrev pub name_around : ℕ → Forest ℕ → Option ℕ
-name_around n f = option_and_then (λ p. name_of p f) (parent_of n f)
+name_around n f = option_and_then (λ p. node_name p f) (parent_of n f)
 
 -- where the children of node root are written as a list of their own, whose texts are written as they are or not, and in the nodes
 -- inside each by its name: the same in a node, and next to one
 module _ (root : ℕ) (raw : Bool) where
   abbrev pub raw_in : ℕ → Forest ℕ → Bool
-  raw_in n f = if eqb n root then raw else holds_raw (name_of n f)
+  raw_in n f = if eqb n root then raw else holds_raw (node_name n f)
 
   abbrev pub stands_raw : ℕ → Forest ℕ → Bool
   stands_raw n f = option_map_or (λ p. raw_in p f) (parent_of n f) false
 
 module _ (texts : ℕ → List ℕ) where
   -- where a node ends
-  abbrev pub closing : What ℕ → List ℕ
-  closing (element name attrs) = if is_void (tag_of name) then [] else end_tag_text (texts name)
-  closing _ = []
+  abbrev pub closing_tag : What ℕ → List ℕ
+  closing_tag (element name attrs) = if is_void (tag_of name) then [] else end_tag_text (texts name)
+  closing_tag _ = []
 
   abbrev pub closing_of : Option (What ℕ) → List ℕ
   closing_of None = []
-  closing_of (Some w) = closing w
+  closing_of (Some w) = closing_tag w
 
 module _ (escaping : Escaping) (texts : ℕ → List ℕ) where
   -- and where it begins
   abbrev pub opening : (raw : Bool) → What ℕ → List ℕ
   opening raw document = []
   opening raw (doctype name public_id system_id) = codes "<!DOCTYPE " ++ name ++ codes ">"
-  opening raw (element name attrs) = start_tag_text escaping (texts name) (map (spelled_attribute texts) attrs)
+  opening raw (element name attrs) = start_tag_text escaping (texts name) (map (mapped_attribute texts) attrs)
   opening raw (comment t) = codes "<!--" ++ t ++ codes "-->"
   opening raw (text t) = if raw then t else escaped escaping Text t
 

@@ -1,7 +1,7 @@
 //! The line of an error, put together before it is written: one write is cheaper than four.
 
 ghost use Rattle.std.specs.Prelude.{◌≡◌};
-ghost use Rattle.hserialize.specs.Vocabulary.{error_line, IsLine, Puts, taken};
+ghost use Rattle.hserialize.specs.Vocabulary.{error_line, IsLine, Puts, written_so_far};
 
 use crate::{Target, Writer, put};
 use itoa::write_digits;
@@ -62,7 +62,7 @@ pub(crate) fn put_error<W: Target>(
     error: &ParseError,
 ) -> Result<(), Refusal>
     requires { IsLine line.old }
-    ensures text { Puts (taken W.written W.failed out.old) (taken W.written W.failed out.new) (error_line error.now) result }
+    ensures text { Puts (written_so_far W.written W.failed out.old) (written_so_far W.written W.failed out.new) (error_line error.now) result }
     ensures line { IsLine line.new }
 {
     line.turn_to(error.code);

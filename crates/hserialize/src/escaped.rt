@@ -2,7 +2,7 @@
 
 ghost use Rattle.std.specs.Prelude.{◌≡◌, IfSome, None};
 ghost use Rattle.std.specs.Char.{encode_utf8};
-ghost use Rattle.hserialize.specs.Vocabulary.{escaped, written_char, Puts, taken};
+ghost use Rattle.hserialize.specs.Vocabulary.{escaped, written_char, Puts, written_so_far};
 
 use crate::escaping::{Escaping, Setting};
 use crate::target::Target;
@@ -31,7 +31,7 @@ pub(crate) fn put_escaped<W: Target>(
     escaping: Escaping,
     setting: Setting,
 ) -> Result<(), Refusal>
-    ensures { Puts (taken W.written W.failed out.old) (taken W.written W.failed out.new) (escaped escaping setting source.now) result }
+    ensures { Puts (written_so_far W.written W.failed out.old) (written_so_far W.written W.failed out.new) (escaped escaping setting source.now) result }
 {
     let bytes = source.as_bytes();
     // What is before is written.

@@ -1,7 +1,7 @@
 //! A text in memory, as a target.
 
 ghost use Rattle.std.specs.Prelude.{◌≡◌, ℕ, List, [], Ok, Some};
-ghost use Rattle.hserialize.specs.Vocabulary.{Holds, failures_of, gathered, WritesText};
+ghost use Rattle.hserialize.specs.Vocabulary.{HoldsBytes, gathered_failures, gathered, WritesText};
 
 use crate::target::Target;
 use names::Refusal;
@@ -28,7 +28,7 @@ impl Gathered {
     /// The text, if all of it was written: what fails is memory alone.
     pub fn into_text(self, answer: Result<(), Refusal>) -> Result<Vec<u8>, Refusal>
         ensures { (text : List ℕ) (old : Gathered) → gathered old ≡ Some []
-            → WritesText gathered failures_of text old self answer → Holds result text }
+            → WritesText gathered gathered_failures text old self answer → HoldsBytes result text }
     {
         match answer {
             Ok(()) => Ok(self.text),
@@ -40,7 +40,7 @@ impl Gathered {
 impl Target for Gathered {
     ghost written = { gathered };
 
-    ghost failed = { failures_of };
+    ghost failed = { gathered_failures };
 
     fn write(&mut self, bytes: &[u8]) -> Option<usize> {
         if self.text.extend_from_slice(bytes).is_err() {

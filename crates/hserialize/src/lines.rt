@@ -3,7 +3,7 @@
 ghost use Rattle.std.specs.Prelude.{◌≡◌, ◌++◌, ◌<◌, ◌≤◌, ◌^◌, ◌&&◌, ℕ, codes, flat_map, length, map, vec_capacity, OnOk};
 ghost use Rattle.std.specs.List.{repeat};
 ghost use Rattle.std.specs.String.{string_bytes};
-ghost use Rattle.hserialize.specs.Vocabulary.{text_of, children_of, element, attribute_of, what_of, spelled, spelled_what, pair_of, indented, attribute_line, identifiers, node_lines, error_lines, tree_text, Holds, IsFlushed, Puts, WritesText, taken, attribute_count, lines_of, is_empty};
+ghost use Rattle.hserialize.specs.Vocabulary.{text_of, children_of, element, attribute_of, what_of, mapped, mapped_what, pair_of, indented, attribute_line, identifiers, node_lines, error_lines, tree_text, HoldsBytes, IsFlushed, Puts, WritesText, written_so_far, attribute_count, printed_lines, is_empty};
 
 use crate::error_line::{ErrorLine, put_error};
 use crate::sorted::{NamedAttr, in_order};
@@ -14,7 +14,7 @@ use std::alloc::Global;
 
 /// Begins a line at a depth.
 fn begin_line<W: Target>(out: &mut Writer<'_, W>, depth: usize) -> Result<(), Refusal>
-    ensures { Puts (taken W.written W.failed out.old) (taken W.written W.failed out.new) (codes "| " ++ repeat depth (codes "  ")) result }
+    ensures { Puts (written_so_far W.written W.failed out.old) (written_so_far W.written W.failed out.new) (codes "| " ++ repeat depth (codes "  ")) result }
 {
     put(out, b"| ")?;
     for level in 0..depth {
@@ -29,7 +29,8 @@ fn put_line<W: Target>(
     depth: usize,
     parts: &[&[u8]],
 ) -> Result<(), Refusal>
-    ensures { Puts (taken W.written W.failed out.old) (taken W.written W.failed out.new) (indented depth (flat_map (λ p. p.now) parts.now)) result }
+    ensures { Puts (written_so_far W.written W.failed out.old) (written_so_far W.written W.failed out.new)
+        (indented depth (flat_map (λ p. p.now) parts.now)) result }
 {
     begin_line(out, depth)?;
     put_parts(out, parts)?;
@@ -42,7 +43,8 @@ fn put_attributes<W: Target>(
     depth: usize,
     entries: &[NamedAttr<'_>],
 ) -> Result<(), Refusal>
-    ensures { Puts (taken W.written W.failed out.old) (taken W.written W.failed out.new) (flat_map (attribute_line depth) (map pair_of entries.now)) result }
+    ensures { Puts (written_so_far W.written W.failed out.old) (written_so_far W.written W.failed out.new)
+        (flat_map (attribute_line depth) (map pair_of entries.now)) result }
 {
     for entry in entries {
         let (name, value) = (entry.0.as_bytes(), entry.2.as_bytes());
@@ -62,8 +64,8 @@ fn put_element<'a, W: Target>(
 ) -> Result<(), Refusal>
     requires deep { depth < 2 ^ 33 }
     requires room { length attrs.now ≤ vec_capacity entries.old }
-    ensures text { Puts (taken W.written W.failed out.old) (taken W.written W.failed out.new)
-        (node_lines depth (spelled_what (text_of names.now) (element name (map attribute_of attrs.now)))) result }
+    ensures text { Puts (written_so_far W.written W.failed out.old) (written_so_far W.written W.failed out.new)
+        (node_lines depth (mapped_what (text_of names.now) (element name (map attribute_of attrs.now)))) result }
     ensures room { vec_capacity entries.old ≤ vec_capacity entries.new }
 {
     put_line(out, depth, &[b"<", names.text(name).as_bytes(), b">"])?;
@@ -84,7 +86,7 @@ fn put_doctype<W: Target>(
     depth: usize,
     texts: &DocumentType,
 ) -> Result<(), Refusal>
-    ensures { Puts (taken W.written W.failed out.old) (taken W.written W.failed out.new)
+    ensures { Puts (written_so_far W.written W.failed out.old) (written_so_far W.written W.failed out.new)
         (indented depth (codes "<!DOCTYPE " ++ string_bytes texts.now.name
         ++ identifiers (string_bytes texts.now.public_id) (string_bytes texts.now.system_id) ++ codes ">")) result }
 {
@@ -120,8 +122,8 @@ fn put_node<'a, W: Target>(
     requires deep { depth < 2 ^ 33 }
     requires room { attribute_count (what_of node tree.now.trees) ≤ vec_capacity entries.old }
     requires made { node < tree.now.made }
-    ensures text { Puts (taken W.written W.failed out.old) (taken W.written W.failed out.new)
-        (lines_of (text_of names.now) depth (what_of node tree.now.trees)) result }
+    ensures text { Puts (written_so_far W.written W.failed out.old) (written_so_far W.written W.failed out.new)
+        (printed_lines (text_of names.now) depth (what_of node tree.now.trees)) result }
     ensures room { vec_capacity entries.old ≤ vec_capacity entries.new }
 {
     match NodeView::of(tree, node) {
@@ -167,8 +169,8 @@ fn put_nodes<'a, W: Target>(
 ) -> Result<(), Refusal>
     requires made { root < tree.now.made }
     requires room { (n : ℕ) → n < tree.now.made → attribute_count (what_of n tree.now.trees) ≤ vec_capacity entries.old }
-    ensures { Puts (taken W.written W.failed out.old) (taken W.written W.failed out.new)
-        (tree_text (spelled (text_of names.now) (children_of root tree.now.trees))) result }
+    ensures { Puts (written_so_far W.written W.failed out.old) (written_so_far W.written W.failed out.new)
+        (tree_text (mapped (text_of names.now) (children_of root tree.now.trees))) result }
 {
     let mut depth = 0;
     for visit in TreeWalk::new(tree, root, Reach::Whole) {
@@ -194,7 +196,7 @@ pub fn print_tree<W: Target>(
     target: &mut W,
 ) -> Result<(), Refusal>
     requires { root < tree.now.made }
-    ensures text { WritesText W.written W.failed (tree_text (spelled (text_of names.now) (children_of root tree.now.trees))) target.old target.new result }
+    ensures text { WritesText W.written W.failed (tree_text (mapped (text_of names.now) (children_of root tree.now.trees))) target.old target.new result }
     ensures flushed { OnOk result (IsFlushed W.flushes target.new) }
 {
     let mut entries = Vec::with_capacity(alloc, most_attributes(tree))?;
@@ -212,7 +214,7 @@ pub fn tree_text(
     root: NodeId,
 ) -> Result<Vec<u8>, Refusal>
     requires { root < tree.now.made }
-    ensures { Holds result (tree_text (spelled (text_of names.now) (children_of root tree.now.trees))) }
+    ensures { HoldsBytes result (tree_text (mapped (text_of names.now) (children_of root tree.now.trees))) }
 {
     let mut text = Gathered::new(alloc);
     let answer = print_tree(alloc, tree, names, root, &mut text);
@@ -221,7 +223,7 @@ pub fn tree_text(
 
 /// Writes the lines of errors. Nothing is handed on.
 fn put_errors<W: Target>(out: &mut Writer<'_, W>, errors: &[ParseError]) -> Result<(), Refusal>
-    ensures { Puts (taken W.written W.failed out.old) (taken W.written W.failed out.new) (error_lines errors.now) result }
+    ensures { Puts (written_so_far W.written W.failed out.old) (written_so_far W.written W.failed out.new) (error_lines errors.now) result }
 {
     let Some(first) = errors.first() else {
         return Ok(());
@@ -251,7 +253,7 @@ pub fn print_errors<W: Target>(
 
 /// The text that [`print_errors`] writes. An error is `Memory`.
 pub fn error_lines(alloc: Global, errors: &[ParseError]) -> Result<Vec<u8>, Refusal>
-    ensures { Holds result (error_lines errors.now) }
+    ensures { HoldsBytes result (error_lines errors.now) }
 {
     let mut text = Gathered::new(alloc);
     let answer = print_errors(alloc, errors, &mut text);

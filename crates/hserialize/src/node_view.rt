@@ -18,18 +18,18 @@ pub enum NodeView<'a> {
 
 impl<'a> NodeView<'a> {
     /// What a node of a tree is.
-    pub fn of(tree: &'a Tree, at: NodeId) -> NodeView<'a>
-        requires { at < tree.now.made }
-        ensures { Some (what_is result) ≡ what_of at tree.now.trees }
+    pub fn of(tree: &'a Tree, node: NodeId) -> NodeView<'a>
+        requires { node < tree.now.made }
+        ensures { Some (what_is result) ≡ what_of node tree.now.trees }
     {
-        if let Some(name) = tree.name(at) {
-            return NodeView::Element(name, tree.attrs(at).unwrap_or(&[]));
+        if let Some(name) = tree.name(node) {
+            return NodeView::Element(name, tree.attrs(node).unwrap_or(&[]));
         }
-        if let Some(texts) = tree.doctype(at) {
+        if let Some(texts) = tree.doctype(node) {
             return NodeView::Doctype(texts);
         }
-        let kind = tree.kind(at);
-        match tree.text(at) {
+        let kind = tree.kind(node);
+        match tree.text(node) {
             Some(text) if kind == NodeKind::Text => NodeView::Text(text),
             Some(text) => NodeView::Comment(text),
             None => NodeView::Document,

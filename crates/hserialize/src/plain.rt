@@ -2,7 +2,7 @@
 
 ghost use Rattle.std.specs.Prelude.{◌≡◌, ◌<◌, ◌&&◌, ◌||◌, IfSome, Some, false, map};
 ghost use Rattle.std.specs.List.{list_all};
-ghost use Rattle.hserialize.specs.Vocabulary.{text_of, has_plain_name, are_clean, tag_of, children_of, attribute_of, spelled, spelled_attribute, attributes_of, first_child_of, next_of, parent_of, what_of, are_plain_attributes, is_form, is_plain, drops_line_feed, are_region_content, form_after, in_region, tag_at, standing_of, inside_is, is_phrasing, is_text_at, begins_at, is_plain_element, is_plain_at, after_visit, node_of};
+ghost use Rattle.hserialize.specs.Vocabulary.{text_of, has_plain_name, are_clean, tag_of, children_of, attribute_of, mapped, mapped_attribute, attributes_of, first_child_of, parent_of, are_plain_attributes, is_form, is_plain, drops_line_feed, are_region_content, form_after, in_region, tag_at, standing_of, inside_is, is_phrasing, is_text_at, begins_at, is_plain_element, is_plain_at, after_visit, visited_node};
 
 use crate::around::{Around, Standing};
 use crate::content::Content;
@@ -85,7 +85,7 @@ pub(crate) fn are_plain_attributes(
 ) -> bool
     requires made { node < tree.now.made }
     requires own { attributes_of node tree.now.trees ≡ Some (map attribute_of attrs.now) }
-    ensures { result ≡ are_plain_attributes (map (spelled_attribute (text_of names.now)) (map attribute_of attrs.now)) }
+    ensures { result ≡ are_plain_attributes (map (mapped_attribute (text_of names.now)) (map attribute_of attrs.now)) }
 {
     prove!(names.are_names());
     all_plain_attributes(tree, names, node, attrs) && tree.attrs_differ(node)
@@ -138,7 +138,7 @@ fn after_visit(
     around: Around,
     visit: Visit,
 ) -> Option<Around>
-    requires { node_of visit < tree.now.made }
+    requires { visited_node visit < tree.now.made }
     ensures { result ≡ after_visit (text_of names.now) tree.now.trees root top visit around }
 {
     match visit {
@@ -156,7 +156,7 @@ fn after_visit(
 fn is_plain_region(tree: &Tree, names: &PlainNames, root: NodeId, top: Content) -> bool
     requires made { root < tree.now.made }
     requires not_phrasing { is_phrasing top ≡ false }
-    ensures { result ≡ are_region_content (in_region top) (spelled (text_of names.now) (children_of root tree.now.trees)) }
+    ensures { result ≡ are_region_content (in_region top) (mapped (text_of names.now) (children_of root tree.now.trees)) }
 {
     prove!(names.are_names());
     let mut around = Around::alone();
@@ -179,7 +179,7 @@ fn is_form(tag: Tag) -> bool
 /// Whether a form is around the nodes that come after a visit. None if a form is in a form, or if what is in an element
 /// that inserts a marker is not its content.
 fn form_after(tree: &Tree, names: &PlainNames, in_form: bool, visit: Visit) -> Option<bool>
-    requires { node_of visit < tree.now.made }
+    requires { visited_node visit < tree.now.made }
     ensures { result ≡ form_after (text_of names.now) tree.now.trees visit in_form }
 {
     match visit {
@@ -200,7 +200,7 @@ fn form_after(tree: &Tree, names: &PlainNames, in_form: bool, visit: Visit) -> O
 /// Whether the children of a node are a plain list in an element of this name.
 pub(crate) fn is_plain_list(tree: &Tree, names: &PlainNames, root: NodeId, context: &str) -> bool
     requires { root < tree.now.made }
-    ensures { result ≡ is_plain context.now (spelled (text_of names.now) (children_of root tree.now.trees)) }
+    ensures { result ≡ is_plain context.now (mapped (text_of names.now) (children_of root tree.now.trees)) }
 {
     let tag = Tag::named(context);
     let Some(top) = row(tag).1.at_top() else {
@@ -226,7 +226,7 @@ pub(crate) fn is_plain_list(tree: &Tree, names: &PlainNames, root: NodeId, conte
 /// has a smaller number than one of theirs: then each of their names is looked at.
 pub fn is_plain(tree: &Tree, names: &Names, root: NodeId, context: &str) -> bool
     requires { root < tree.now.made }
-    ensures { result ≡ is_plain context.now (spelled (text_of names.now) (children_of root tree.now.trees)) }
+    ensures { result ≡ is_plain context.now (mapped (text_of names.now) (children_of root tree.now.trees)) }
 {
     is_plain_list(tree, &PlainNames::of(names), root, context)
 }

@@ -1,7 +1,7 @@
 //! Whether a document is plain.
 
 ghost use Rattle.std.specs.Prelude.{◌≡◌, ◌<◌, IfSome, Some, map};
-ghost use Rattle.hserialize.specs.Vocabulary.{are_in_html, attribute_of, attributes_of, body_on, children_of, html_on, is_head_at, is_last_at, is_leaf_at, is_metadata, is_metadata_at, is_metadata_what, is_named_what, is_plain_doctype_at, is_plain_document, is_text_alone, spelled, text_of, trees_from, what_of, element, ArePassed, IsDoctypePassed};
+ghost use Rattle.hserialize.specs.Vocabulary.{are_in_html, attribute_of, attributes_of, body_on, children_of, html_on, is_head_at, is_last_at, is_leaf_at, is_metadata, is_metadata_at, is_metadata_what, is_named_what, is_plain_doctype_at, is_plain_document, is_text_alone, mapped, text_of, trees_from, what_of, element, ArePassed, IsDoctypePassed};
 
 use crate::NodeView;
 use crate::content::Texts;
@@ -181,7 +181,7 @@ fn is_head(tree: &Tree, names: &PlainNames, head: NodeId) -> bool
 /// Whether a node is the body of a plain document, and comments alone follow it.
 fn is_body_on(tree: &Tree, names: &PlainNames, node: Option<NodeId>) -> bool
     requires { IfSome node (λ n. n < tree.now.made) }
-    ensures { result ≡ body_on (spelled (text_of names.now) (trees_from node tree.now.trees)) }
+    ensures { result ≡ body_on (mapped (text_of names.now) (trees_from node tree.now.trees)) }
 {
     prove!(tree.are_nodes());
     let Some(body) = node else {
@@ -193,7 +193,7 @@ fn is_body_on(tree: &Tree, names: &PlainNames, node: Option<NodeId>) -> bool
 /// Whether the children of a node are those of html in a plain document.
 fn is_html(tree: &Tree, names: &PlainNames, html: NodeId) -> bool
     requires { html < tree.now.made }
-    ensures { result ≡ are_in_html (spelled (text_of names.now) (children_of html tree.now.trees)) }
+    ensures { result ≡ are_in_html (mapped (text_of names.now) (children_of html tree.now.trees)) }
 {
     prove!(tree.are_nodes());
     let Some(head) = past_leaves(tree, Texts::None, tree.first_child(html)) else {
@@ -206,7 +206,7 @@ fn is_html(tree: &Tree, names: &PlainNames, html: NodeId) -> bool
 /// Whether a node is the html of a plain document, and comments alone follow it.
 fn is_html_on(tree: &Tree, names: &PlainNames, node: Option<NodeId>) -> bool
     requires { IfSome node (λ n. n < tree.now.made) }
-    ensures { result ≡ html_on (spelled (text_of names.now) (trees_from node tree.now.trees)) }
+    ensures { result ≡ html_on (mapped (text_of names.now) (trees_from node tree.now.trees)) }
 {
     prove!(tree.are_nodes());
     let Some(html) = node else {
@@ -219,7 +219,7 @@ fn is_html_on(tree: &Tree, names: &PlainNames, node: Option<NodeId>) -> bool
 /// many steps as [`is_plain`](crate::is_plain).
 pub fn is_plain_document(tree: &Tree, names: &Names, root: NodeId) -> bool
     requires { root < tree.now.made }
-    ensures { result ≡ is_plain_document (spelled (text_of names.now) (children_of root tree.now.trees)) }
+    ensures { result ≡ is_plain_document (mapped (text_of names.now) (children_of root tree.now.trees)) }
 {
     prove!(tree.are_nodes());
     let names = PlainNames::of(names);

@@ -1,8 +1,8 @@
 //! Trees as text (HTML Standard, `#serialising-html-fragments`, "Serializing HTML fragments").
 
-ghost use Rattle.std.specs.Prelude.{◌≡◌, ◌++◌, ◌<◌, codes, map, Some, OnOk, if◌then◌else◌};
+ghost use Rattle.std.specs.Prelude.{◌≡◌, ◌<◌, map, Some, OnOk};
 ghost use Rattle.std.specs.Option.{option_map};
-ghost use Rattle.hserialize.specs.Vocabulary.{text_of, children_of, tree_at, attribute_of, spelled, spelled_attribute, name_of, what_of, escaped, Holds, IsFlushed, Puts, WritesText, taken, attribute_text, start_tag_text, end_tag_text, written, written_among, has_no_references, holds_raw, raw_kind, stands_raw, name_around, opening_of, closing_of, Text};
+ghost use Rattle.hserialize.specs.Vocabulary.{text_of, children_of, tree_at, attribute_of, mapped, mapped_attribute, node_name, what_of, HoldsBytes, IsFlushed, Puts, WritesText, written_so_far, attribute_text, start_tag_text, written, written_among, has_no_references, holds_raw, raw_kind, stands_raw, name_around, opening_of, closing_of, Text};
 
 use crate::escaped::put_escaped;
 use crate::escaping::{Escaping, Setting};
@@ -22,7 +22,8 @@ fn put_attribute<W: Target>(
     name: &str,
     value: &str,
 ) -> Result<(), Refusal>
-    ensures { Puts (taken W.written W.failed out.old) (taken W.written W.failed out.new) (attribute_text escaping (name.now, value.now)) result }
+    ensures { Puts (written_so_far W.written W.failed out.old) (written_so_far W.written W.failed out.new)
+        (attribute_text escaping (name.now, value.now)) result }
 {
     put_between(out, b" ", name, b"=\"")?;
     put_escaped(out, value, escaping, Setting::Value)?;
@@ -37,8 +38,8 @@ fn put_start_tag<W: Target>(
     name: NameId,
     attrs: &[Attr],
 ) -> Result<(), Refusal>
-    ensures { Puts (taken W.written W.failed out.old) (taken W.written W.failed out.new)
-        (start_tag_text escaping (text_of names.now name) (map (spelled_attribute (text_of names.now)) (map attribute_of attrs.now))) result }
+    ensures { Puts (written_so_far W.written W.failed out.old) (written_so_far W.written W.failed out.new)
+        (start_tag_text escaping (text_of names.now name) (map (mapped_attribute (text_of names.now)) (map attribute_of attrs.now))) result }
 {
     put_before(out, b"<", names.text(name))?;
     for attr in attrs {
@@ -60,7 +61,7 @@ fn is_raw(tag: Tag) -> bool
 /// Whether the texts in a node are written as they are, by its name.
 fn holds_raw(tree: &Tree, node: NodeId) -> bool
     requires { node < tree.now.made }
-    ensures { result ≡ holds_raw (name_of node tree.now.trees) }
+    ensures { result ≡ holds_raw (node_name node tree.now.trees) }
 {
     let Some(name) = tree.name(node) else {
         return false;
@@ -80,7 +81,7 @@ impl Listing {
     fn own(tree: &Tree, root: NodeId) -> Listing
         requires { root < tree.now.made }
         ensures root { result.root ≡ root }
-        ensures raw { result.raw ≡ holds_raw (name_of root tree.now.trees) }
+        ensures raw { result.raw ≡ holds_raw (node_name root tree.now.trees) }
     {
         Listing {
             root,
@@ -111,7 +112,7 @@ fn put_opening<W: Target>(
     node: NodeId,
 ) -> Result<(), Refusal>
     requires { node < tree.now.made }
-    ensures { Puts (taken W.written W.failed out.old) (taken W.written W.failed out.new)
+    ensures { Puts (written_so_far W.written W.failed out.old) (written_so_far W.written W.failed out.new)
         (opening_of escaping (text_of names.now) (stands_raw list.now.root list.now.raw node tree.now.trees) (what_of node tree.now.trees))
         result }
 {
@@ -138,7 +139,8 @@ fn put_closing<W: Target>(
     node: NodeId,
 ) -> Result<(), Refusal>
     requires { node < tree.now.made }
-    ensures { Puts (taken W.written W.failed out.old) (taken W.written W.failed out.new) (closing_of (text_of names.now) (what_of node tree.now.trees)) result }
+    ensures { Puts (written_so_far W.written W.failed out.old) (written_so_far W.written W.failed out.new)
+        (closing_of (text_of names.now) (what_of node tree.now.trees)) result }
 {
     match NodeView::of(tree, node) {
         NodeView::Element(name, _) if !name.tag().is_void() => {
@@ -157,8 +159,8 @@ fn put_list<W: Target>(
     list: &Listing,
 ) -> Result<(), Refusal>
     requires { list.now.root < tree.now.made }
-    ensures { Puts (taken W.written W.failed out.old) (taken W.written W.failed out.new)
-        (written_among escaping list.now.raw (spelled (text_of names.now) (children_of list.now.root tree.now.trees))) result }
+    ensures { Puts (written_so_far W.written W.failed out.old) (written_so_far W.written W.failed out.new)
+        (written_among escaping list.now.raw (mapped (text_of names.now) (children_of list.now.root tree.now.trees))) result }
 {
     prove!(names.are_names());
     for visit in TreeWalk::new(tree, list.root, Reach::Written) {
@@ -179,9 +181,9 @@ fn put_outer<W: Target>(
     node: NodeId,
 ) -> Result<(), Refusal>
     requires { node < tree.now.made }
-    ensures { Puts (taken W.written W.failed out.old) (taken W.written W.failed out.new)
+    ensures { Puts (written_so_far W.written W.failed out.old) (written_so_far W.written W.failed out.new)
         (written escaping (option_map (text_of names.now) (name_around node tree.now.trees))
-        (spelled (text_of names.now) (tree_at node tree.now.trees))) result }
+        (mapped (text_of names.now) (tree_at node tree.now.trees))) result }
 {
     prove!(names.are_names());
     prove!(tree.are_nodes());
@@ -204,7 +206,7 @@ fn write_list<W: Target>(
 ) -> Result<(), Refusal>
     requires { list.now.root < tree.now.made }
     ensures text { WritesText W.written W.failed
-        (written_among escaping list.now.raw (spelled (text_of names.now) (children_of list.now.root tree.now.trees)))
+        (written_among escaping list.now.raw (mapped (text_of names.now) (children_of list.now.root tree.now.trees)))
         target.old target.new result }
     ensures flushed { OnOk result (IsFlushed W.flushes target.new) }
 {
@@ -228,7 +230,7 @@ pub fn serialize<W: Target>(
 ) -> Result<(), Refusal>
     requires { node < tree.now.made }
     ensures text { WritesText W.written W.failed
-        (written escaping (option_map (text_of names.now) (name_of node tree.now.trees)) (spelled (text_of names.now) (children_of node tree.now.trees)))
+        (written escaping (option_map (text_of names.now) (node_name node tree.now.trees)) (mapped (text_of names.now) (children_of node tree.now.trees)))
         target.old target.new result }
     ensures flushed { OnOk result (IsFlushed W.flushes target.new) }
 {
@@ -252,8 +254,8 @@ pub fn serialize_to_vec(
     escaping: Escaping,
 ) -> Result<Vec<u8>, Refusal>
     requires { node < tree.now.made }
-    ensures { Holds result
-        (written escaping (option_map (text_of names.now) (name_of node tree.now.trees)) (spelled (text_of names.now) (children_of node tree.now.trees))) }
+    ensures { HoldsBytes result
+        (written escaping (option_map (text_of names.now) (node_name node tree.now.trees)) (mapped (text_of names.now) (children_of node tree.now.trees))) }
 {
     let mut text = Gathered::new(alloc);
     let answer = serialize(alloc, tree, names, node, escaping, &mut text);
@@ -274,7 +276,7 @@ pub fn serialize_in<W: Target>(
 ) -> Result<(), Refusal>
     requires { node < tree.now.made }
     ensures text { WritesText W.written W.failed
-        (written escaping (Some name.now) (spelled (text_of names.now) (children_of node tree.now.trees))) target.old target.new result }
+        (written escaping (Some name.now) (mapped (text_of names.now) (children_of node tree.now.trees))) target.old target.new result }
     ensures flushed { OnOk result (IsFlushed W.flushes target.new) }
 {
     let list = Listing {
@@ -294,7 +296,7 @@ pub fn serialize_in_to_vec(
     escaping: Escaping,
 ) -> Result<Vec<u8>, Refusal>
     requires { node < tree.now.made }
-    ensures { Holds result (written escaping (Some name.now) (spelled (text_of names.now) (children_of node tree.now.trees))) }
+    ensures { HoldsBytes result (written escaping (Some name.now) (mapped (text_of names.now) (children_of node tree.now.trees))) }
 {
     let mut text = Gathered::new(alloc);
     let answer = serialize_in(alloc, tree, names, node, name, escaping, &mut text);
@@ -312,7 +314,7 @@ pub fn serialize_outer<W: Target>(
 ) -> Result<(), Refusal>
     requires { node < tree.now.made }
     ensures text { WritesText W.written W.failed
-        (written escaping (option_map (text_of names.now) (name_around node tree.now.trees)) (spelled (text_of names.now) (tree_at node tree.now.trees)))
+        (written escaping (option_map (text_of names.now) (name_around node tree.now.trees)) (mapped (text_of names.now) (tree_at node tree.now.trees)))
         target.old target.new result }
     ensures flushed { OnOk result (IsFlushed W.flushes target.new) }
 {
@@ -331,8 +333,8 @@ pub fn serialize_outer_to_vec(
     escaping: Escaping,
 ) -> Result<Vec<u8>, Refusal>
     requires { node < tree.now.made }
-    ensures { Holds result
-        (written escaping (option_map (text_of names.now) (name_around node tree.now.trees)) (spelled (text_of names.now) (tree_at node tree.now.trees))) }
+    ensures { HoldsBytes result
+        (written escaping (option_map (text_of names.now) (name_around node tree.now.trees)) (mapped (text_of names.now) (tree_at node tree.now.trees))) }
 {
     let mut text = Gathered::new(alloc);
     let answer = serialize_outer(alloc, tree, names, node, escaping, &mut text);

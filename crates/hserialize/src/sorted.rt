@@ -1,7 +1,7 @@
 //! Attributes in the order of their names.
 
 ghost use Rattle.std.specs.Prelude.{◌≡◌, ◌<◌, ◌≤◌, [], ◌∷◌, ◌++◌, length, map, vec_capacity};
-ghost use Rattle.hserialize.specs.Vocabulary.{text_of, attribute_of, spelled_attribute, AreNumbered, pair_of, in_order};
+ghost use Rattle.hserialize.specs.Vocabulary.{text_of, attribute_of, mapped_attribute, AreEntriesNumbered, pair_of, in_order};
 
 use names::{Attr, Names};
 
@@ -21,8 +21,8 @@ fn add<'a>(entries: &mut Vec<NamedAttr<'a>>, added: NamedAttr<'a>)
 /// Makes these the attributes, as they are.
 fn enter<'a>(entries: &mut Vec<NamedAttr<'a>>, names: &'a Names, attrs: &'a [Attr])
     requires { length attrs.now ≤ vec_capacity entries.old }
-    ensures pairs { map pair_of entries.new.items ≡ map (spelled_attribute (text_of names.now)) (map attribute_of attrs.now) }
-    ensures places { AreNumbered entries.new.items }
+    ensures pairs { map pair_of entries.new.items ≡ map (mapped_attribute (text_of names.now)) (map attribute_of attrs.now) }
+    ensures places { AreEntriesNumbered entries.new.items }
     ensures room { vec_capacity entries.old ≤ vec_capacity entries.new }
 {
     entries.clear();
@@ -35,7 +35,7 @@ fn enter<'a>(entries: &mut Vec<NamedAttr<'a>>, names: &'a Names, attrs: &'a [Att
 /// Makes these the attributes in the order of the names' bytes; those of one name stay as they are. No memory is taken.
 pub(crate) fn in_order<'a>(entries: &mut Vec<NamedAttr<'a>>, names: &'a Names, attrs: &'a [Attr])
     requires { length attrs.now ≤ vec_capacity entries.old }
-    ensures pairs { map pair_of entries.new.items ≡ in_order (map (spelled_attribute (text_of names.now)) (map attribute_of attrs.now)) }
+    ensures pairs { map pair_of entries.new.items ≡ in_order (map (mapped_attribute (text_of names.now)) (map attribute_of attrs.now)) }
     ensures room { vec_capacity entries.old ≤ vec_capacity entries.new }
 {
     enter(entries, names, attrs);

@@ -1,8 +1,8 @@
 //! Walks over the nodes inside a node, without recursion and without memory.
 
-ghost use Rattle.std.specs.Prelude.{◌≡◌, ◌<◌, ◌∷◌, ◌^◌, ℕ, length, Bool, true, false, not, Some, IfSome, IsTrue};
+ghost use Rattle.std.specs.Prelude.{◌≡◌, ◌<◌, ◌∷◌, ◌^◌, ℕ, length, true, false, Some, IfSome, IsTrue};
 ghost use Rattle.std.specs.List.{All};
-ghost use Rattle.hserialize.specs.Vocabulary.{AreNodes, What, children_of, ancestors_of, is_among, goes_in, inserts_marker, visits, visits_from, node_of, what_of, Enter, Leave};
+ghost use Rattle.hserialize.specs.Vocabulary.{AreNodes, What, children_of, ancestors_of, is_among, goes_in, inserts_marker, visits, visits_from, visited_node, what_of, Enter, Leave};
 
 use hnodes::{NodeId, Tree};
 use names::Tag;
@@ -38,14 +38,15 @@ pub struct TreeWalk<'a> {
 impl<'a> Model for TreeWalk<'a> {
     ghost use Rattle.std.specs.Prelude.{List, ◌<◌, IfSome, IsTrue};
     ghost use Rattle.hnodes.specs.Passed.{ancestors_of, is_among};
-    ghost use Rattle.hserialize.specs.Walk.{visits_from, node_of};
+    ghost use Rattle.hserialize.specs.Walk.{visits_from, visited_node};
     ghost use Rattle.hserialize.specs.declared.walk.Visit.{Visit};
 
     ghost Value = { List Visit };
 
     ghost view = { λ s. visits_from s.reach s.root s.next s.tree.now.trees };
 
-    ghost invariant = { λ s. IfSome s.next (λ v. (node_of v < s.tree.now.made) × IsTrue (is_among s.root (ancestors_of (node_of v) s.tree.now.trees))) };
+    ghost invariant = { λ s. IfSome s.next (λ v. (visited_node v < s.tree.now.made)
+        × IsTrue (is_among s.root (ancestors_of (visited_node v) s.tree.now.trees))) };
 }
 
 impl<'a> TreeWalk<'a> {
@@ -53,7 +54,7 @@ impl<'a> TreeWalk<'a> {
     pub fn new(tree: &'a Tree, root: NodeId, reach: Reach) -> TreeWalk<'a>
         requires { root < tree.now.made }
         ensures visits { result ≡ visits reach (children_of root tree.now.trees) }
-        ensures within { All (λ v. node_of v < tree.now.made) result }
+        ensures within { All (λ v. visited_node v < tree.now.made) result }
         ensures few { length result < 2 ^ 33 }
         ensures nodes { AreNodes tree.now }
     {
@@ -92,7 +93,7 @@ impl<'a> Iterator for TreeWalk<'a> {
 fn first_visit(tree: &Tree, root: NodeId) -> Option<Visit>
     requires { root < tree.now.made }
     ensures visits { (reach : Reach) → visits_from reach root result tree.now.trees ≡ visits reach (children_of root tree.now.trees) }
-    ensures inside { IfSome result (λ v. (node_of v < tree.now.made) × IsTrue (is_among root (ancestors_of (node_of v) tree.now.trees))) }
+    ensures inside { IfSome result (λ v. (visited_node v < tree.now.made) × IsTrue (is_among root (ancestors_of (visited_node v) tree.now.trees))) }
     ensures nodes { AreNodes tree.now }
 {
     let child = tree.first_child(root)?;
@@ -104,7 +105,7 @@ fn visit_inside(tree: &Tree, root: NodeId, reach: Reach, node: NodeId) -> Visit
     requires made { node < tree.now.made }
     requires inside { IsTrue (is_among root (ancestors_of node tree.now.trees)) }
     ensures visits { visits_from reach root (Some (Enter node)) tree.now.trees ≡ Enter node ∷ visits_from reach root (Some result) tree.now.trees }
-    ensures inside { (node_of result < tree.now.made) × IsTrue (is_among root (ancestors_of (node_of result) tree.now.trees)) }
+    ensures inside { (visited_node result < tree.now.made) × IsTrue (is_among root (ancestors_of (visited_node result) tree.now.trees)) }
 {
     match tree.first_child(node) {
         Some(child) if goes_in(tree, reach, node) => Visit::Enter(child),
@@ -140,7 +141,7 @@ fn visit_after(tree: &Tree, root: NodeId, node: NodeId) -> Option<Visit>
     requires made { node < tree.now.made }
     requires inside { IsTrue (is_among root (ancestors_of node tree.now.trees)) }
     ensures visits { (reach : Reach) → visits_from reach root (Some (Leave node)) tree.now.trees ≡ Leave node ∷ visits_from reach root result tree.now.trees }
-    ensures inside { IfSome result (λ v. (node_of v < tree.now.made) × IsTrue (is_among root (ancestors_of (node_of v) tree.now.trees))) }
+    ensures inside { IfSome result (λ v. (visited_node v < tree.now.made) × IsTrue (is_among root (ancestors_of (visited_node v) tree.now.trees))) }
 {
     if let Some(next) = tree.next(node) {
         return Some(Visit::Enter(next));

@@ -1,7 +1,7 @@
 //! Bytes to a target by way of a buffer, part by part.
 
 ghost use Rattle.std.specs.Prelude.{◌≡◌, ◌+◌, ◌++◌, ◌≤◌, [], IfOk, OnOk, flat_map, length, vec_capacity};
-ghost use Rattle.hserialize.specs.Output.{Adds, Ends, IsFlushed, Puts, taken};
+ghost use Rattle.hserialize.specs.Output.{AddsBytes, EndsOutput, IsFlushed, Puts, written_so_far};
 
 use crate::target::{Target, write_all};
 use names::Refusal;
@@ -36,7 +36,7 @@ impl<'t, W: Target> Writer<'t, W> {
 
     /// Hands over what is held.
     fn hand_over(&mut self) -> Result<(), Refusal>
-        ensures put { Puts (taken W.written W.failed self.old) (taken W.written W.failed self.new) [] result }
+        ensures put { Puts (written_so_far W.written W.failed self.old) (written_so_far W.written W.failed self.new) [] result }
         ensures none { OnOk result (self.new.held.now.items ≡ []) }
         ensures room { vec_capacity self.new.held.now ≡ vec_capacity self.old.held.now }
     {
@@ -47,7 +47,7 @@ impl<'t, W: Target> Writer<'t, W> {
 
     /// Hands over what is held, and flushes the target.
     pub fn finish(&mut self) -> Result<(), Refusal>
-        ensures ends { Ends (taken W.written W.failed self.old) (taken W.written W.failed self.new) result }
+        ensures ends { EndsOutput (written_so_far W.written W.failed self.old) (written_so_far W.written W.failed self.new) result }
         ensures flushed { OnOk result (IsFlushed W.flushes self.new.target.now) }
     {
         self.hand_over()?;
@@ -63,7 +63,7 @@ impl<'t, W: Target> Writer<'t, W> {
 #[inline]
 fn hold<W: Target>(out: &mut Writer<'_, W>, bytes: &[u8])
     requires { length out.old.held.now.items + length bytes.now ≤ vec_capacity out.old.held.now }
-    ensures { Adds (taken W.written W.failed out.old) (taken W.written W.failed out.new) bytes.now }
+    ensures { AddsBytes (written_so_far W.written W.failed out.old) (written_so_far W.written W.failed out.new) bytes.now }
 {
     let is_held = out.held.extend_from_slice(bytes).is_ok();
     prove!(is_held);
@@ -73,7 +73,7 @@ fn hold<W: Target>(out: &mut Writer<'_, W>, bytes: &[u8])
 #[cold]
 #[inline(never)]
 fn put_past<W: Target>(out: &mut Writer<'_, W>, bytes: &[u8]) -> Result<(), Refusal>
-    ensures { Puts (taken W.written W.failed out.old) (taken W.written W.failed out.new) bytes.now result }
+    ensures { Puts (written_so_far W.written W.failed out.old) (written_so_far W.written W.failed out.new) bytes.now result }
 {
     out.hand_over()?;
     if bytes.len() > out.held.capacity() {
@@ -86,7 +86,7 @@ fn put_past<W: Target>(out: &mut Writer<'_, W>, bytes: &[u8]) -> Result<(), Refu
 /// Writes all of the bytes.
 #[inline]
 pub fn put<W: Target>(out: &mut Writer<'_, W>, bytes: &[u8]) -> Result<(), Refusal>
-    ensures { Puts (taken W.written W.failed out.old) (taken W.written W.failed out.new) bytes.now result }
+    ensures { Puts (written_so_far W.written W.failed out.old) (written_so_far W.written W.failed out.new) bytes.now result }
 {
     if bytes.len() > out.held.capacity() - out.held.len() {
         return put_past(out, bytes);
@@ -97,7 +97,7 @@ pub fn put<W: Target>(out: &mut Writer<'_, W>, bytes: &[u8]) -> Result<(), Refus
 
 /// Writes these parts, one after another.
 pub fn put_parts<W: Target>(out: &mut Writer<'_, W>, parts: &[&[u8]]) -> Result<(), Refusal>
-    ensures { Puts (taken W.written W.failed out.old) (taken W.written W.failed out.new) (flat_map (λ p. p.now) parts.now) result }
+    ensures { Puts (written_so_far W.written W.failed out.old) (written_so_far W.written W.failed out.new) (flat_map (λ p. p.now) parts.now) result }
 {
     for part in parts {
         put(out, part)?;
@@ -112,7 +112,7 @@ pub(crate) fn put_before<W: Target>(
     before: &[u8],
     text: &str,
 ) -> Result<(), Refusal>
-    ensures { Puts (taken W.written W.failed out.old) (taken W.written W.failed out.new) (before.now ++ text.now) result }
+    ensures { Puts (written_so_far W.written W.failed out.old) (written_so_far W.written W.failed out.new) (before.now ++ text.now) result }
 {
     put_parts(out, &[before, text.as_bytes()])
 }
@@ -125,7 +125,7 @@ pub(crate) fn put_between<W: Target>(
     text: &str,
     after: &[u8],
 ) -> Result<(), Refusal>
-    ensures { Puts (taken W.written W.failed out.old) (taken W.written W.failed out.new) (before.now ++ text.now ++ after.now) result }
+    ensures { Puts (written_so_far W.written W.failed out.old) (written_so_far W.written W.failed out.new) (before.now ++ text.now ++ after.now) result }
 {
     put_parts(out, &[before, text.as_bytes(), after])
 }

@@ -1,12 +1,12 @@
 -- An attribute without a value, and the white space that was read after it.
-use Rattle.htag.proofs.Vocabulary.{◌≡◌, ℕ, true, false, List, [], ◌∷◌, ◌++◌, sym, refl, ap, ◌∙◌, subst, append_assoc, append-nil, Some, string_bytes, ParseError, Placed, Texts, begins, stops, all, past, place, is_space, is_equals, null_errors, and_parts, Entities, TagState, TagWalk, Part, IsPart, AreParts, parts_text, errors_after, tag_errors, ends_name, ends_attribute_name, attribute_name_errors, attribute_part, repeated, names_after, HasPhase, IsPast, IsInTag, EndsAttribute, attribute_of}
+use Rattle.htag.proofs.Vocabulary.{◌≡◌, ℕ, true, false, List, [], ◌∷◌, ◌++◌, sym, refl, ap, ◌∙◌, subst, append_assoc, append-nil, Some, string_bytes, ParseError, Placed, Texts, begins, stops, all, past, place, is_space, is_equals, null_errors, and_parts, Entities, TagState, TagWalk, Part, IsPart, AreParts, parts_text, part_errors_after, tag_errors, ends_name, ends_attribute_name, attribute_name_errors, attribute_part, repeated, names_after, HasPhase, IsPast, IsInTag, EndsAttribute, walked_attribute}
 use Rattle.htag.specs.declared.tag_state.TagState.TheVariants as phase
 use Rattle.htag.proofs.Parts.{begins_stops, parts_text-snoc, AreParts-snoc, errors-snoc, holds_plain, past-space}
 use Rattle.htag.proofs.Going.{past_is, held_in}
 use Rattle.htag.proofs.Phases.{space_part, errors_then}
 
 -- white space, whatever comes after it
-space_step : (table : Entities) (names : Texts) (walk : TagWalk) (body : List Placed) (s : Placed) (ahead : List Placed) (errors : List ParseError) → walk.phase ≡ phase.BeforeAttribute → is_space s.ch ≡ true
+space_step : (table : Entities) (names : Texts) (walk : TagWalk) (body : List Placed) (s : Placed) (ahead : List Placed) (errors : List ParseError) → walk.phase ≡ phase.BeforeAttributeName → is_space s.ch ≡ true
     → IsInTag table names walk body (s ∷ ahead) errors → IsInTag table names walk (body ++ s ∷ []) ahead errors
 space_step table names walk body s ahead errors before is h =
     let nothing = subst (λ (x : TagState). HasPhase x table walk h.parts h.held h.own) before h.has_phase in
@@ -23,14 +23,14 @@ space_step table names walk body s ahead errors before is h =
       name_is = h.name_is;
       are_parts = λ end more. AreParts-snoc table end h.parts (space_part s) (ahead ++ more) (subst (λ (x : List Placed). AreParts table end h.parts (x ++ (s ∷ ahead ++ more))) nothing.0 (h.are_parts end more)) (IsPart.space s is refl);
       errors_are = h.errors_are ∙ ap (λ (x : List ParseError). tag_errors h.name h.parts ++ x) nothing.1
-          ∙ ap (λ (x : List ParseError). (null_errors h.name ++ x) ++ []) (sym (append-nil (errors_after [] h.parts)) ∙ sym (errors-snoc [] h.parts (space_part s)));
+          ∙ ap (λ (x : List ParseError). (null_errors h.name ++ x) ++ []) (sym (append-nil (part_errors_after [] h.parts)) ∙ sym (errors-snoc [] h.parts (space_part s)));
       has_attributes = holds_plain names walk walk h.parts (space_part s) refl refl refl refl h.has_attributes;
       past = subst (λ (x : TagState). IsPast x (begins ends_name (parts_text (h.parts ++ space_part s ∷ []) ++ ahead))) (sym before)
           (ap (λ (x : List Placed). begins ends_name (x ++ ahead)) (parts_text-snoc h.parts (space_part s)) ∙ ap (begins ends_name) (append_assoc (parts_text h.parts) (s ∷ []) ahead) ∙ ap (λ (x : List Placed). begins ends_name (parts_text h.parts ++ (x ++ s ∷ ahead))) (sym nothing.0) ∙ gone);
       has_phase = subst (λ (x : TagState). HasPhase x table walk (h.parts ++ space_part s ∷ []) [] []) (sym before) (refl, refl);
     }
 
-pub spaces_follow : (spaces : List Placed) (table : Entities) (names : Texts) (walk : TagWalk) (body : List Placed) (p : Placed) (errors : List ParseError) → walk.phase ≡ phase.BeforeAttribute → all is_space spaces ≡ true
+pub spaces_follow : (spaces : List Placed) (table : Entities) (names : Texts) (walk : TagWalk) (body : List Placed) (p : Placed) (errors : List ParseError) → walk.phase ≡ phase.BeforeAttributeName → all is_space spaces ≡ true
     → IsInTag table names walk body (spaces ++ p ∷ []) errors → IsInTag table names walk (body ++ spaces) (p ∷ []) errors
 spaces_follow [] table names walk body p errors before is h = subst (λ (x : List Placed). IsInTag table names walk x (p ∷ []) errors) (sym (append-nil body)) h
 spaces_follow (s ∷ ss) table names walk body p errors before is h =
@@ -45,7 +45,7 @@ module _ (table : Entities) (names : Texts) (walk : TagWalk) (body : List Placed
       let gone = past_is table names walk body (p ∷ []) errors h phase.AfterAttributeName before in
       let part : Part = attribute_part n.name [] [] [] in
       let text : part.text ++ (n.sign ++ p ∷ []) ≡ h.held ++ p ∷ [] = ap (λ (x : List Placed). x ++ (n.sign ++ p ∷ [])) (append-nil n.name) ∙ sym (append_assoc n.name n.sign (p ∷ [])) ∙ ap (λ (x : List Placed). x ++ p ∷ []) (sym n.held_is) in
-      let same : part.attribute ≡ Some (attribute_of walk) =
+      let same : part.attribute ≡ Some (walked_attribute walk) =
       ap (λ (x : List ℕ). Some (record { name = x; value = []; at = place 0 n.name })) (sym n.has_name.is) ∙ ap (λ (x : List ℕ). Some (record { name = string_bytes walk.attribute; value = x; at = place 0 n.name })) (sym n.no_value.empty)
       ∙ ap (λ (x : ℕ). Some (record { name = string_bytes walk.attribute; value = string_bytes walk.value.text; at = x })) n.has_name.at_is in
       let ended = ends.ends h.parts part same h.has_attributes in

@@ -9,7 +9,7 @@ use Rattle.std.specs.Prelude.{◌⊎◌}
 use Rattle.std.specs.Char.{is_ascii_lowercase}
 use Rattle.htext.proofs.Runs.{placed-append}
 use Rattle.htext.specs.Run.{is_quoted_byte}
-use Rattle.htag.specs.AtOnce.{IsBareName, IsName, IsNameBefore, IsPlainAttribute, IsPlainValue, IsWritten, is_no_reference}
+use Rattle.htag.specs.AtOnce.{IsBareName, IsTagName, IsNameBefore, IsPlainAttribute, IsPlainValue, IsWritten, is_no_reference}
 use Rattle.htag.specs.declared.at_once.PlainValue.{PlainValue}
 use Rattle.htag.specs.Tag.{IsTagFront}
 use Rattle.htag.proofs.InRun.{counted_all, word_bytes, word_in_name, word_nulls, word_plain}
@@ -21,7 +21,7 @@ split n run c l is = sym (take-append-drop n run) ∙ ap (λ (x : List ℕ). tak
 small_letter : (c : ℕ) → is_ascii_lowercase c ≡ true → is_letter c ≡ true
 small_letter c h = grind (arith, h, nat_tests)
 
-pub name_is : (run : List ℕ) (count : ℕ) → count ≡ prefix_len is_word_byte run → count ≤ length run → is_ascii_lowercase (slice_index run 0) ≡ true → 0 < count → IsName run count
+pub name_is : (run : List ℕ) (count : ℕ) → count ≡ prefix_len is_word_byte run → count ≤ length run → is_ascii_lowercase (slice_index run 0) ≡ true → 0 < count → IsTagName run count
 name_is [] count is l first some = absurd (omega (arith, l, some))
 name_is (x ∷ xs) zero is l first some = absurd (omega (arith, some))
 name_is (x ∷ xs) (suc n) is l first some = record {
@@ -46,7 +46,7 @@ module _ (after run : List ℕ) (count : ℕ) (is : IsNameBefore after run count
   named_plain = ap (list_all is_plain_byte) named_taken ∙ all_weaker is_word_byte is_plain_byte word_plain (is.letter ∷ is.letters) is.words
 
   -- and by itself
-  pub named_alone : IsName (take count run) (length (take count run))
+  pub named_alone : IsTagName (take count run) (length (take count run))
   named_alone = record {
     letter = is.letter;
     letters = is.letters;
@@ -58,7 +58,7 @@ module _ (after run : List ℕ) (count : ℕ) (is : IsNameBefore after run count
   }
 
 -- a `>` after it
-pub bare_name_is : (run : List ℕ) (count : ℕ) → IsName run count → count < length run → slice_index run count ≡ 62 → IsBareName run count
+pub bare_name_is : (run : List ℕ) (count : ℕ) → IsTagName run count → count < length run → slice_index run count ≡ 62 → IsBareName run count
 bare_name_is run count is l ends =
     record {
       letter = is.letter;
@@ -111,7 +111,7 @@ module _ (run : List ℕ) (count : ℕ) (is : IsBareName run count) where
     }
 
 -- a start tag has begun with it
-pub named_begins : (name : List ℕ) → IsName name (length name) → (at : ℕ) → (begins is_letter (placed at name) ≡ true) × (list_all is_word_byte name ≡ true)
+pub named_begins : (name : List ℕ) → IsTagName name (length name) → (at : ℕ) → (begins is_letter (placed at name) ≡ true) × (list_all is_word_byte name ≡ true)
 named_begins name is at =
     let long : length is.others ≡ 0 = omega (arith, is.count_is, ap length is.run_is, length-append (is.letter ∷ is.letters) is.others) in
     let all : name ≡ is.letter ∷ is.letters = is.run_is ∙ ap (λ (x : List ℕ). (is.letter ∷ is.letters) ++ x) (nil_from_length is.others long) ∙ append-nil (is.letter ∷ is.letters) in

@@ -1,5 +1,5 @@
 -- The end of an attribute.
-use Rattle.htag.proofs.Vocabulary.{◌≡◌, ℕ, Bool, true, false, not, ◌||◌, List, [], ◌∷◌, ◌++◌, sym, refl, ap, ◌∙◌, subst, append-nil, Option, Some, is_some, Vec, Global, slice_get, if◌then◌else◌, string_bytes, Attr, Texts, Grows, AreNames, error, TagWalk, AttrsMean, HasSeen, has_number, Attribute, Part, attributes_after, has_attribute, is_known, kept, repeated, named_by, names_after, NumbersMean, HasAttributes}
+use Rattle.htag.proofs.Vocabulary.{◌≡◌, ℕ, Bool, true, false, not, ◌||◌, List, [], ◌∷◌, ◌++◌, sym, refl, ap, ◌∙◌, subst, append-nil, Option, Some, is_some, Vec, Global, slice_get, if◌then◌else◌, Attr, Texts, Grows, AreNames, error, TagWalk, AttrsMean, HasSeen, has_number, Attribute, Part, attributes_after, has_attribute, is_known, kept_attribute, repeated, named_by, names_after, NumbersMean, HasAttributes}
 use Rattle.names.specs.declared.error.ErrorCode.TheVariants.{DuplicateAttribute}
 use Rattle.htag.proofs.Naming.{numbers_kept, attrs_kept, attrs-snoc, known_number}
 use Rattle.htag.proofs.Parts.{names-snoc, attributes-snoc, any-snoc}
@@ -17,7 +17,7 @@ module _ (before after : Texts) (grows : Grows before after) (are : AreNames aft
   known : is_known (names_after [] parts) (a.name) ≡ not first
   known = known_number after id (a.name) are number h.numbers (names_after [] parts) (numbers_kept before after grows h.numbers (names_after [] parts) h.named) ∙ flip first (has_number id h.numbers) (seen h.numbers h.seen).0
 
-  holds : AttrsMean after new.attrs.items (attributes_after [] parts ++ kept (names_after [] parts) part.attribute) → HasAttributes after new (parts ++ part ∷ [])
+  holds : AttrsMean after new.attrs.items (attributes_after [] parts ++ kept_attribute (names_after [] parts) part.attribute) → HasAttributes after new (parts ++ part ∷ [])
   holds attributes = record {
     numbers = id ∷ h.numbers;
     seen = (seen h.numbers h.seen).1;
@@ -31,7 +31,7 @@ module _ (before after : Texts) (grows : Grows before after) (are : AreNames aft
       → HasAttributes after new (parts ++ part ∷ []) × (repeated (names_after [] parts) part.attribute ≡ [])
   first_ends value one name is_value attrs =
       let none : is_known (names_after [] parts) (a.name) ≡ false = known ∙ ap not one in (
-        holds (subst (AttrsMean after new.attrs.items) (ap (λ (x : List (List ℕ × List ℕ)). attributes_after [] parts ++ x) (sym (ap (kept (names_after [] parts)) is ∙ ap (λ (b : Bool). if b then [] else (a.name, a.value) ∷ []) none)))
+        holds (subst (AttrsMean after new.attrs.items) (ap (λ (x : List (List ℕ × List ℕ)). attributes_after [] parts ++ x) (sym (ap (kept_attribute (names_after [] parts)) is ∙ ap (λ (b : Bool). if b then [] else (a.name, a.value) ∷ []) none)))
             (subst (λ (x : List Attr). AttrsMean after x (attributes_after [] parts ++ (a.name, a.value) ∷ [])) (sym attrs)
             (attrs-snoc after old.attrs.items (attributes_after [] parts) value (a.name, a.value) (attrs_kept before after grows old.attrs.items (attributes_after [] parts) h.attributes) (ap (slice_get after) name ∙ number) is_value))),
         ap (repeated (names_after [] parts)) is ∙ ap (λ (b : Bool). if b then error DuplicateAttribute a.at ∷ [] else []) none,
@@ -41,8 +41,8 @@ module _ (before after : Texts) (grows : Grows before after) (are : AreNames aft
   pub repeated_ends : first ≡ false → new.attrs ≡ old.attrs → HasAttributes after new (parts ++ part ∷ []) × (repeated (names_after [] parts) part.attribute ≡ error DuplicateAttribute a.at ∷ [])
   repeated_ends again attrs =
       let some : is_known (names_after [] parts) (a.name) ≡ true = known ∙ ap not again in
-      let nothing : kept (names_after [] parts) part.attribute ≡ [] = ap (kept (names_after [] parts)) is ∙ ap (λ (b : Bool). if b then [] else (a.name, a.value) ∷ []) some in (
-        holds (subst (λ (x : Vec Attr Global). AttrsMean after x.items (attributes_after [] parts ++ kept (names_after [] parts) part.attribute)) (sym attrs)
+      let nothing : kept_attribute (names_after [] parts) part.attribute ≡ [] = ap (kept_attribute (names_after [] parts)) is ∙ ap (λ (b : Bool). if b then [] else (a.name, a.value) ∷ []) some in (
+        holds (subst (λ (x : Vec Attr Global). AttrsMean after x.items (attributes_after [] parts ++ kept_attribute (names_after [] parts) part.attribute)) (sym attrs)
             (subst (AttrsMean after old.attrs.items) (sym (ap (λ (x : List (List ℕ × List ℕ)). attributes_after [] parts ++ x) nothing ∙ append-nil (attributes_after [] parts)))
             (attrs_kept before after grows old.attrs.items (attributes_after [] parts) h.attributes))),
         ap (repeated (names_after [] parts)) is ∙ ap (λ (b : Bool). if b then error DuplicateAttribute a.at ∷ [] else []) some,

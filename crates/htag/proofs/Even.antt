@@ -5,7 +5,7 @@ use Rattle.charref.specs.declared.number.Base.{Base}
 use Rattle.charref.specs.declared.number.Base.TheVariants.{Decimal, Hexadecimal}
 use Rattle.charref.specs.declared.reference_state.ReferenceState.{ReferenceState}
 use Rattle.charref.specs.Number.{is_digit_of}
-use Rattle.charref.specs.Held.{IsHeld, IsSign}
+use Rattle.charref.specs.Held.{IsHeldReference, IsSign}
 use Rattle.charref.specs.Reference.{is_hex_digit, is_key, is_key_name, is_empty_list, is_semicolon_if_any}
 use Rattle.charref.proofs.Naming.{is_key_of}
 use Rattle.names.proofs.TableLemmas.{bytes_eq-true}
@@ -24,11 +24,11 @@ quiet_sign _ _ (IsSign.small_x p q e f) = rw (e, f) refl
 quiet_sign _ _ (IsSign.capital_x p q e f) = rw (e, f) refl
 
 -- what a walk through a reference was handed
-pub quiet_held : (table : Entities) (in_value : Bool) (state : ReferenceState) (text : List Placed) → IsHeld table in_value state text → all is_quiet text ≡ true
-quiet_held table in_value _ _ (IsHeld.in_name search text read run goes) = quiet_run text run
-quiet_held table in_value _ _ (IsHeld.after_sign text sign) = quiet_sign Decimal text sign
-quiet_held table in_value _ _ (IsHeld.after_x text sign) = quiet_sign Hexadecimal text sign
-quiet_held table in_value _ _ (IsHeld.in_number base value sign digits text is is_sign begins are value_is) =
+pub quiet_held : (table : Entities) (in_value : Bool) (state : ReferenceState) (text : List Placed) → IsHeldReference table in_value state text → all is_quiet text ≡ true
+quiet_held table in_value _ _ (IsHeldReference.in_name search text read run goes) = quiet_run text run
+quiet_held table in_value _ _ (IsHeldReference.after_sign text sign) = quiet_sign Decimal text sign
+quiet_held table in_value _ _ (IsHeldReference.after_x text sign) = quiet_sign Hexadecimal text sign
+quiet_held table in_value _ _ (IsHeldReference.in_number base value sign digits text is is_sign begins are value_is) =
     ap (all is_quiet) is ∙ all-append is_quiet sign digits (quiet_sign base sign is_sign) (quiet_digits base digits are)
 
 -- no character of a reference is a fault in a value

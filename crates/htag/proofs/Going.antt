@@ -5,7 +5,7 @@ use Rattle.htag.proofs.InValue.{looks_ahead}
 use Rattle.htag.proofs.Parts.{begins-more, holds_same}
 
 -- the attribute's name stays
-pub name_stays : (walk new : TagWalk) (name : List Placed) → new.attribute ≡ walk.attribute → new.place ≡ walk.place → HasName walk name → HasName new name
+pub name_stays : (walk new : TagWalk) (name : List Placed) → new.attribute ≡ walk.attribute → new.at ≡ walk.at → HasName walk name → HasName new name
 name_stays walk new name attribute at h = record { first = h.first; runs = h.runs; is = ap string_bytes attribute ∙ h.is; at_is = h.at_is ∙ sym at }
 
 module _ (table : Entities) (names : Texts) (walk : TagWalk) (body fed : List Placed) (errors : List ParseError) (h : IsInTag table names walk body fed errors) where
@@ -54,7 +54,7 @@ module _ (table : Entities) (names : Texts) (walk : TagWalk) (body fed : List Pl
   equals_more [] b = absurd cc
   equals_more (x ∷ xs) b = refl
 
-  pub letters_follow : walk.phase ≡ phase.AttributeName → (new : TagWalk) (later : List ParseError) → KeepsTag walk new → new.phase ≡ walk.phase → new.place ≡ walk.place → new.value ≡ walk.value
+  pub letters_follow : walk.phase ≡ phase.AttributeName → (new : TagWalk) (later : List ParseError) → KeepsTag walk new → new.phase ≡ walk.phase → new.at ≡ walk.at → new.value ≡ walk.value
       → string_bytes new.attribute ≡ string_bytes walk.attribute ++ name_bytes fed → later ≡ errors ++ flat_map name_errors_here fed → all (λ c. not (ends_attribute_name c)) fed ≡ true → IsInTag table names new (body ++ fed) [] later
   letters_follow in_name new later keeps same at value bytes later_is stay =
       let n = held_in phase.AttributeName in_name in
@@ -78,13 +78,13 @@ module _ (table : Entities) (names : Texts) (walk : TagWalk) (body fed : List Pl
 
   -- A VALUE, which takes the characters and raises some errors
 
-  module _ (new : TagWalk) (more later : List ParseError) (keeps : KeepsTag walk new) (attribute : new.attribute ≡ walk.attribute) (at : new.place ≡ walk.place) (same : new.phase ≡ walk.phase) (later_is : later ≡ errors ++ more) where
-    pub quoted_goes_on : (mark : ℕ) → walk.phase ≡ phase.Quoted mark → ((text : List Placed) (own : List ParseError) → IsInValue table true walk.value text fed own → IsInValue table true new.value (text ++ fed) [] (own ++ more))
+  module _ (new : TagWalk) (more later : List ParseError) (keeps : KeepsTag walk new) (attribute : new.attribute ≡ walk.attribute) (at : new.at ≡ walk.at) (same : new.phase ≡ walk.phase) (later_is : later ≡ errors ++ more) where
+    pub quoted_goes_on : (mark : ℕ) → walk.phase ≡ phase.AttributeValueQuoted mark → ((text : List Placed) (own : List ParseError) → IsInValue table true walk.value text fed own → IsInValue table true new.value (text ++ fed) [] (own ++ more))
         → all (λ c. not (eqb c mark)) fed ≡ true → IsInTag table names new (body ++ fed) [] later
     quoted_goes_on mark before takes others =
-        let q = held_in (phase.Quoted mark) before in
-        let next : new.phase ≡ phase.Quoted mark = same ∙ before in
-        goes_on new more later later_is keeps.name_is keeps.seen_is keeps.attrs_are keeps.any_is (λ b e. subst (λ (x : TagState). IsPast x b) (sym next) e) (past_is (phase.Quoted mark) before)
+        let q = held_in (phase.AttributeValueQuoted mark) before in
+        let next : new.phase ≡ phase.AttributeValueQuoted mark = same ∙ before in
+        goes_on new more later later_is keeps.name_is keeps.seen_is keeps.attrs_are keeps.any_is (λ b e. subst (λ (x : TagState). IsPast x b) (sym next) e) (past_is (phase.AttributeValueQuoted mark) before)
         (subst (λ (x : TagState). HasPhase x table new h.parts (h.held ++ fed) (h.own ++ more)) (sym next) (record {
           name = q.name;
           sign = q.sign;
@@ -101,12 +101,12 @@ module _ (table : Entities) (names : Texts) (walk : TagWalk) (body fed : List Pl
           own_is = ap (λ (x : List ParseError). x ++ more) q.own_is ∙ append_assoc (attribute_name_errors q.name) q.raised more;
         }))
 
-    pub unquoted_goes_on : walk.phase ≡ phase.Unquoted → ((text : List Placed) (own : List ParseError) → IsInValue table false walk.value text fed own → IsInValue table false new.value (text ++ fed) [] (own ++ more))
+    pub unquoted_goes_on : walk.phase ≡ phase.AttributeValueUnquoted → ((text : List Placed) (own : List ParseError) → IsInValue table false walk.value text fed own → IsInValue table false new.value (text ++ fed) [] (own ++ more))
         → all (λ c. not (ends_unquoted c)) fed ≡ true → IsInTag table names new (body ++ fed) [] later
     unquoted_goes_on before takes stay =
-        let n = held_in phase.Unquoted before in
-        let next : new.phase ≡ phase.Unquoted = same ∙ before in
-        goes_on new more later later_is keeps.name_is keeps.seen_is keeps.attrs_are keeps.any_is (λ b x. subst (λ (y : TagState). IsPast y b) (sym next) x) (past_is phase.Unquoted before)
+        let n = held_in phase.AttributeValueUnquoted before in
+        let next : new.phase ≡ phase.AttributeValueUnquoted = same ∙ before in
+        goes_on new more later later_is keeps.name_is keeps.seen_is keeps.attrs_are keeps.any_is (λ b x. subst (λ (y : TagState). IsPast y b) (sym next) x) (past_is phase.AttributeValueUnquoted before)
         (subst (λ (x : TagState). HasPhase x table new h.parts (h.held ++ fed) (h.own ++ more)) (sym next) (record {
           name = n.name;
           sign = n.sign;

@@ -1,17 +1,17 @@
 -- A run of clean characters in a tag.
-use Rattle.htag.proofs.Vocabulary.{◌≡◌, ◌<◌, ◌≤◌, ℕ, ◌+◌, Bool, true, false, not, eqb, List, [], ◌∷◌, ◌++◌, length, take, drop, map, sym, refl, ap, ◌∙◌, subst, append_assoc, append-nil, arith, Some, slice_get, length-drop, and_parts, encode_utf8_all, flat_map, list_all, prefix_len, len_utf8, length-take-le, to_ascii_lowercase, string_bytes, nat_tests, ParseError, Placed, Texts, characters, begins, is_equals, name_bytes, null_errors, placed, without_null, is_plain_byte, is_word_byte, all_weaker, all_placed, Entities, TagWalk, IsInTag, WholeOrNot, ends_attribute_name, ends_name, name_errors_here}
+use Rattle.htag.proofs.Vocabulary.{◌≡◌, ◌<◌, ◌≤◌, ℕ, ◌+◌, Bool, true, false, not, eqb, List, [], ◌∷◌, ◌++◌, length, take, drop, map, sym, refl, ap, ◌∙◌, subst, append_assoc, append-nil, arith, Some, slice_get, length-drop, and_both, and_parts, slice_index, encode_utf8_all, flat_map, list_all, prefix_len, len_utf8, length-take-le, to_ascii_lowercase, string_bytes, nat_tests, ParseError, Placed, Texts, characters, is_equals, name_bytes, null_errors, placed, without_null, is_plain_byte, is_word_byte, all_weaker, all_placed, Entities, TagWalk, IsInTag, WholeOrNot, ends_attribute_name, ends_name, name_errors_here}
 use Rattle.std.specs.Char.{is_ascii}
 use Rattle.std.specs.Str.{chars, IsUtf8}
 use Rattle.htext.specs.Run.{IsCut}
 use Rattle.htext.proofs.Runs.{counted, plain_bytes}
-use Rattle.htext.proofs.Wide.{chars_cut, has_characters, placed_more}
+use Rattle.htext.proofs.Wide.{chars_cut, first_char, has_characters, placed_more}
 -- under the name by which the crate above cites it
 pub use Rattle.htext.proofs.Runs.{counted as prefix_all}
 use Rattle.htag.specs.declared.tag_state.TagState.TheVariants as phase
 use Rattle.htag.specs.Run.{next_at, EndsOrNot, PushesWords}
 use Rattle.std.proofs.lemmas.List.{drop-drop, nil_from_length}
-use Rattle.std.proofs.lemmas.Str.{chars-nil}
-use Rattle.htag.proofs.Ascii.{ascii_cut, ascii_taken}
+use Rattle.std.proofs.lemmas.Str.{chars-nil, len_utf8_ascii}
+use Rattle.htag.proofs.Ascii.{ascii_chars, ascii_cut, ascii_taken}
 use Rattle.htag.proofs.Keeping.{looks_ahead}
 use Rattle.htag.proofs.Names.{name_grows}
 
@@ -93,6 +93,11 @@ none_cut run u = ascii_cut 0 run (omega arith) refl u
 pub none_taken : (table : Entities) (names : Texts) (walk : TagWalk) (body ahead : List Placed) (errors : List ParseError) (at : ℕ) (run : List ℕ) → IsInTag table names walk body ahead errors → IsInTag table names walk (body ++ placed at (chars (take 0 run))) ahead errors
 none_taken table names walk body ahead errors at run h = subst (λ (x : List Placed). IsInTag table names walk x ahead errors) (sym (append-nil body) ∙ ap (λ (x : List ℕ). body ++ placed at x) (sym chars-nil)) h
 
+pub none_gone : (table : Entities) (names : Texts) (walk : TagWalk) (body : List Placed) (errors : List ParseError) (at count : ℕ) (run : List ℕ) → count ≡ 0 → IsInTag table names walk (body ++ placed at (chars (take count run))) (next_at at run count) errors → IsInTag table names walk body (next_at at run 0) errors
+none_gone table names walk body errors at count run none h =
+    subst (λ (x : List Placed). IsInTag table names walk x (next_at at run 0) errors) (ap (λ (x : List ℕ). body ++ placed at x) chars-nil ∙ append-nil body)
+    (subst (λ (n : ℕ). IsInTag table names walk (body ++ placed at (chars (take n run))) (next_at at run n) errors) none h)
+
 -- what comes next in what is left is what comes next in all
 module _ (at count : ℕ) (run : List ℕ) where
   pub next_on : next_at at run count ≡ next_at (at + count) (drop count run) 0
@@ -115,13 +120,30 @@ begins_with (d ∷ ds) c e = (ds, cc)
 pub next_first : (at : ℕ) (run rest : List ℕ) (c : ℕ) → chars run ≡ c ∷ rest → next_at at run 0 ≡ record { ch = c; at = at } ∷ []
 next_first at run rest c is = let same : at + 0 ≡ at = omega arith in ap (λ (x : List ℕ). placed (at + 0) (take 1 x)) is ∙ ap (λ (n : ℕ). record { ch = c; at = n } ∷ []) same
 
--- one character of it has been taken
-pub then_taken : (table : Entities) (names : Texts) (walk : TagWalk) (body : List Placed) (errors : List ParseError) (ended : Bool) → WholeOrNot ended table names walk body errors → (ahead : List Placed) → EndsOrNot ended table names walk body ahead errors
-then_taken table names walk body errors true h ahead = h
-then_taken table names walk body errors false h ahead = looks_ahead table names walk body errors h ahead
+-- and where it ends a name
+pub begins_end : (run : List ℕ) (ch : ℕ) → 0 < length run → ch ≡ slice_index run 0 → ends_name ch ≡ true → IsUtf8 run → (chars run ≡ ch ∷ chars (drop 1 run)) × (1 ≡ len_utf8 ch)
+begins_end [] ch some is ends u = absurd (omega (arith, some))
+begins_end (x ∷ xs) ch some is ends u =
+    let ascii : is_ascii ch ≡ true = grind (arith, ends, nat_tests) in
+    let small : ch < 128 = grind (arith, ascii, nat_tests) in
+    let one : list_all is_ascii (ch ∷ []) ≡ true = and_both (is_ascii ch) true ascii refl in
+    (ap (λ (c : ℕ). chars (c ∷ xs)) (sym is) ∙ (ascii_chars (ch ∷ []) xs one (subst (λ (c : ℕ). IsUtf8 (c ∷ xs)) (sym is) u)).1, sym (len_utf8_ascii ch small))
+
+-- it is known to come next, and it has been taken
+module _ (table : Entities) (names : Texts) (walk : TagWalk) (body : List Placed) (errors : List ParseError) (at : ℕ) (run rest : List ℕ) (ch : ℕ) (is : chars run ≡ ch ∷ rest) where
+  pub first_known : IsInTag table names walk body (next_at at run 0) errors → IsInTag table names walk body (record { ch = ch; at = at } ∷ []) errors
+  first_known h = subst (λ (x : List Placed). IsInTag table names walk body x errors) (next_first at run rest ch is) h
+
+  pub first_taken : (count : ℕ) → count ≡ len_utf8 ch → IsUtf8 run → (ended : Bool) → WholeOrNot ended table names walk (body ++ record { ch = ch; at = at } ∷ []) errors
+      → EndsOrNot ended table names walk (body ++ placed at (chars (take count run))) (next_at at run count) errors
+  first_taken count long u ended h =
+      subst (λ (x : List Placed). EndsOrNot ended table names walk (body ++ x) (next_at at run count) errors) (first_char run u ch rest is at ∙ ap (λ (n : ℕ). placed at (chars (take n run))) (sym long)) (ahead ended h) where
+        ahead : (b : Bool) → WholeOrNot b table names walk (body ++ record { ch = ch; at = at } ∷ []) errors → EndsOrNot b table names walk (body ++ record { ch = ch; at = at } ∷ []) (next_at at run count) errors
+        ahead true it = it
+        ahead false it = looks_ahead table names walk (body ++ record { ch = ch; at = at } ∷ []) errors it (next_at at run count)
 
 -- the tag's name goes on
-pub words_in_name : (table : Entities) (names : Texts) (walk : TagWalk) (body ahead : List Placed) (errors : List ParseError) → IsInTag table names walk body ahead errors → walk.phase ≡ phase.Name
+pub words_in_name : (table : Entities) (names : Texts) (walk : TagWalk) (body ahead : List Placed) (errors : List ParseError) → IsInTag table names walk body ahead errors → walk.phase ≡ phase.TagName
     → (new : TagWalk) → new.phase ≡ walk.phase → new.seen ≡ walk.seen → new.attrs ≡ walk.attrs → new.any ≡ walk.any → (at count : ℕ) (run : List ℕ) → PushesWords (string_bytes walk.name) run count (string_bytes new.name)
     → IsInTag table names new (body ++ placed at (chars (take count run))) (next_at at run count) errors
 words_in_name table names walk body ahead errors h before new same seen attrs any at count run adds =

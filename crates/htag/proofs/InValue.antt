@@ -1,16 +1,17 @@
 -- A value, a character at a time.
-use Rattle.htag.proofs.Vocabulary.{◌≡◌, ℕ, zero, suc, ◌+◌, ◌-◌, ◌≤◌, Bool, true, false, true≢false, ◌&&◌, eqb, List, [], ◌∷◌, ◌++◌, length, take, drop, sym, refl, ap, ◌∙◌, subst, append-nil, append_assoc, arith, Vec, Global, encode_utf8_all, encode_utf8, string_bytes, take-append-drop, encodes-append, UnknownNamedCharacterReference, ParseError, Placed, characters, begins, all, past, is_alphanumeric, error_if, without_null, and_parts, and_both, Reference, IsRead, characters_of, errors_of, Entities, Piece, IsReference, IsTable, ampersand, all-append, Pending, ValueWalk, IsPiece, AreValue, pieces_text, plain_piece, value_bytes, Begins, HasHeld, IsInValue, pieces_errors, plain_pieces, told, nat_tests}
+use Rattle.htag.proofs.Vocabulary.{◌≡◌, ℕ, zero, suc, ◌+◌, ◌-◌, ◌≤◌, Bool, true, false, true≢false, ◌&&◌, eqb, List, [], ◌∷◌, ◌++◌, length, take, drop, sym, refl, ap, ◌∙◌, subst, append-nil, append_assoc, arith, Vec, Global, encode_utf8_all, encode_utf8, string_bytes, take-append-drop, encodes-append, UnknownNamedCharacterReference, ParseError, Placed, characters, begins, all, past, is_alphanumeric, error_if, and_parts, and_both, Reference, IsRead, characters_of, errors_of, Entities, Piece, IsReference, IsTable, ampersand, all-append, Pending, ValueWalk, IsValuePiece, AreValue, pieces_text, value_bytes, BeginsPiece, HasHeld, IsInValue, pieces_errors, plain_pieces, reference_errors, nat_tests}
 use Rattle.std.proofs.lemmas.Bool.{and_right}
 use Rattle.std.proofs.Common.{length-append}
 use Rattle.std.proofs.lemmas.List.{take-append-le, drop-append-le}
 use Rattle.charref.specs.declared.walk.Walk.{Walk}
 use Rattle.charref.specs.declared.reference_state.ReferenceState.{ReferenceState as WalkState}
-use Rattle.charref.specs.Held.{is_number, kept}
-use Rattle.charref.specs.Walk.{HasTaken, LeavesLast}
+use Rattle.charref.specs.Held.{is_number, held_characters}
+use Rattle.charref.specs.Walk.{WalkHasTaken, LeavesLast}
 use Rattle.charref.proofs.Keeping.{kept_all, kept_nothing, is_other, drop-kept, drop-kept-end}
+use Rattle.htag.specs.AtOnce.{is_no_reference}
 use Rattle.htag.specs.declared.pending.Pending.TheVariants as reading
-use Rattle.htag.specs.ValueWalk.{InReference, InRun, IsWholeValue, TellsReference}
-use Rattle.htag.proofs.Pieces.{pieces_text-append, pieces_text-one, value_bytes-append, value_bytes-one, pieces_errors-append, is_even, errors-even, is_quiet, quiet_run, quiet_plain, plain_text, plain_bytes, plain_errors, begins_further, begins_piece, begins_plain}
+use Rattle.htag.specs.ValueWalk.{InReference, InAmbiguousAmpersand, IsWholeValue, TellsReference}
+use Rattle.htag.proofs.Pieces.{pieces_text-append, pieces_text-one, value_bytes-append, value_bytes-one, pieces_errors-append, is_even, errors-even, is_quiet, quiet_run, quiet_plain, plain_text, plain_bytes, plain_errors, begins_alone, begins_further, begins_piece, begins_plain}
 use Rattle.htag.proofs.Even.{quiet_held, reference_even, alone_even}
 use Rattle.htag.proofs.Running.{IsRunRead, characters-append, run_read}
 
@@ -19,7 +20,7 @@ looks_ahead table quoted walk text next errors h = record {
   pieces = h.pieces;
   held = h.held;
   text_is = h.text_is;
-  begins_value = subst (λ (x : List Placed). Begins table h.pieces (x ++ next)) (append-nil h.held) (begins_further table h.pieces (h.held ++ []) next h.begins_value);
+  begins_value = subst (λ (x : List Placed). BeginsPiece table h.pieces (x ++ next)) (append-nil h.held) (begins_further table h.pieces (h.held ++ []) next h.begins_value);
   errors_are = h.errors_are;
   has_held = h.has_held;
 }
@@ -40,11 +41,11 @@ quiet_drop (suc n) (p ∷ ps) h = quiet_drop n ps (and_parts (is_quiet p.ch) (al
 
 are_plain : (table : Entities) (text : List Placed) → all is_quiet text ≡ true → AreValue table (plain_pieces text)
 are_plain table [] h = tt
-are_plain table (p ∷ ps) h = let parts = and_parts (is_quiet p.ch) (all is_quiet ps) h in (IsPiece.plain p (quiet_plain p.ch parts.0) refl, are_plain table ps parts.1)
+are_plain table (p ∷ ps) h = let parts = and_parts (is_quiet p.ch) (all is_quiet ps) h in (IsValuePiece.plain p (quiet_plain p.ch parts.0) refl, are_plain table ps parts.1)
 
 -- a character more is kept, where no number is read
 pub other_kept : (old next : WalkState) (taken : List Placed) (p : Placed) (held : List ℕ) → (is_number old ≡ true → is_number next ≡ true) → is_number next ≡ false
-    → held ≡ characters (kept old taken) → held ++ p.ch ∷ [] ≡ characters (kept next (taken ++ p ∷ []))
+    → held ≡ characters (held_characters old taken) → held ++ p.ch ∷ [] ≡ characters (held_characters next (taken ++ p ∷ []))
 other_kept old next taken p held leads other e =
     ap (λ (x : List ℕ). x ++ p.ch ∷ []) (e ∙ ap characters (kept_all old taken (is_other old (λ number. true≢false (sym (leads number) ∙ other)))))
     ∙ sym (characters-append taken (p ∷ [])) ∙ ap characters (sym (kept_all next (taken ++ p ∷ []) other))
@@ -72,7 +73,7 @@ module _ (pieces : List Piece) (piece : Piece) (back : List Placed) (quiet : all
 
   module _ (table : Entities) (quoted : Bool) (new : ValueWalk) (text : List Placed) (own : List ParseError) (even : is_even piece.text)
       (bytes : string_bytes new.text ≡ value_bytes pieces ++ (encode_utf8_all piece.gives ++ encode_utf8_all (characters back))) (text_is : text ≡ pieces_text pieces ++ (piece.text ++ back)) (own_is : own ≡ pieces_errors quoted pieces) where
-    resolve : (next : List Placed) → Begins table pieces (piece.text ++ (back ++ next)) → ((rest : List Placed) → IsPiece table true ((back ++ next) ++ rest) piece) → new.reading ≡ reading.Nothing → IsInValue table quoted new text next (own ++ piece.errors)
+    resolve : (next : List Placed) → BeginsPiece table pieces (piece.text ++ (back ++ next)) → ((rest : List Placed) → IsValuePiece table true ((back ++ next) ++ rest) piece) → new.reading ≡ reading.Nothing → IsInValue table quoted new text next (own ++ piece.errors)
     resolve next b is_piece nothing = record {
       pieces = all_pieces;
       held = [];
@@ -82,12 +83,12 @@ module _ (pieces : List Piece) (piece : Piece) (back : List Placed) (quiet : all
       has_held = subst (λ (x : Pending). HasHeld x table new all_pieces []) (sym nothing) (refl, bytes ∙ sym resolved_bytes);
     }
 
-    resolve_end : Begins table pieces (piece.text ++ back) → IsPiece table true back piece → IsWholeValue table quoted new text (own ++ piece.errors)
+    resolve_end : BeginsPiece table pieces (piece.text ++ back) → IsValuePiece table true back piece → IsWholeValue table quoted new text (own ++ piece.errors)
     resolve_end b is_piece = record {
       pieces = all_pieces;
       text_is = text_is ∙ sym resolved_text;
       are = subst (AreValue table) (sym (append_assoc pieces (piece ∷ []) (plain_pieces back)))
-          (b.value (piece ∷ plain_pieces back) [] (subst (λ (x : List Placed). IsPiece table true x piece) (sym (plain_text back)) is_piece, are_plain table back quiet)
+          (b.value (piece ∷ plain_pieces back) [] (subst (λ (x : List Placed). IsValuePiece table true x piece) (sym (plain_text back)) is_piece, are_plain table back quiet)
           (ap (λ (x : List Placed). piece.text ++ x) (plain_text back) ∙ sym (append-nil (piece.text ++ back))));
       errors_are = ap (λ (x : List ParseError). x ++ piece.errors) own_is ∙ sym (resolved_errors quoted even);
       bytes = bytes ∙ sym resolved_bytes;
@@ -101,67 +102,72 @@ told_then_given found old mid errors later count bytes t e =
     e ∙ ap (λ (x : List ℕ). x ++ encode_utf8_all (drop (length mid.held.items - count) mid.held.items)) t.bytes
     ∙ ap (λ (x : Vec ℕ Global). (string_bytes old.text ++ encode_utf8_all (characters_of found.characters)) ++ encode_utf8_all (drop (length x.items - count) x.items)) t.held_is
 
+-- CHARACTERS MORE, where nothing is held
+
+module _ (table : Entities) (quoted : Bool) (old : ValueWalk) (text fed : List Placed) (own : List ParseError) (h : IsInValue table quoted old text fed own) (nothing : old.reading ≡ reading.Nothing) where
+  nothing_held : (h.held ≡ []) × (string_bytes old.text ≡ value_bytes h.pieces)
+  nothing_held = subst (λ (x : Pending). HasHeld x table old h.pieces h.held) nothing h.has_held
+
+  text_so_far : text ++ fed ≡ pieces_text h.pieces ++ fed
+  text_so_far = ap (λ (x : List Placed). x ++ fed) (h.text_is ∙ ap (λ (x : List Placed). pieces_text h.pieces ++ x) nothing_held.0 ∙ append-nil (pieces_text h.pieces))
+
+  begins_here : BeginsPiece table h.pieces fed
+  begins_here = subst (λ (x : List Placed). BeginsPiece table h.pieces (x ++ fed)) nothing_held.0 h.begins_value
+
+  -- none of them is an `&`
+  pub plain_steps : (new : ValueWalk) → new.reading ≡ old.reading → string_bytes new.text ≡ string_bytes old.text ++ value_bytes (plain_pieces fed) → all is_no_reference fed ≡ true
+      → IsInValue table quoted new (text ++ fed) [] (own ++ pieces_errors quoted (plain_pieces fed))
+  plain_steps new same bytes plain = record {
+    pieces = h.pieces ++ plain_pieces fed;
+    held = [];
+    text_is = text_so_far ∙ ap (λ (x : List Placed). pieces_text h.pieces ++ x) (sym (plain_text fed)) ∙ sym (pieces_text-append h.pieces (plain_pieces fed)) ∙ sym (append-nil (pieces_text (h.pieces ++ plain_pieces fed)));
+    begins_value = begins_alone table is_no_reference (λ c other. grind (arith, other, nat_tests)) fed h.pieces [] plain (subst (BeginsPiece table h.pieces) (sym (append-nil fed)) begins_here);
+    errors_are = ap (λ (x : List ParseError). x ++ pieces_errors quoted (plain_pieces fed)) h.errors_are ∙ sym (pieces_errors-append quoted h.pieces (plain_pieces fed));
+    has_held = subst (λ (x : Pending). HasHeld x table new (h.pieces ++ plain_pieces fed) []) (sym (same ∙ nothing)) (
+      refl,
+      bytes ∙ ap (λ (x : List ℕ). x ++ value_bytes (plain_pieces fed)) nothing_held.1 ∙ sym (value_bytes-append h.pieces (plain_pieces fed)),
+    );
+  }
+
 -- A CHARACTER MORE
 
 module _ (table : Entities) (quoted : Bool) (old new : ValueWalk) (p : Placed) (text : List Placed) (own : List ParseError) (h : IsInValue table quoted old text (p ∷ []) own) where
   held_in : (r : Pending) → old.reading ≡ r → HasHeld r table old h.pieces h.held
   held_in r e = subst (λ (x : Pending). HasHeld x table old h.pieces h.held) e h.has_held
 
-  -- where nothing is held
-  module _ (nothing : old.reading ≡ reading.Nothing) where
-    text_so_far : text ++ p ∷ [] ≡ pieces_text h.pieces ++ p ∷ []
-    text_so_far = ap (λ (x : List Placed). x ++ p ∷ []) (h.text_is ∙ ap (λ (x : List Placed). pieces_text h.pieces ++ x) (held_in reading.Nothing nothing).0 ∙ append-nil (pieces_text h.pieces))
-
-    begins_here : Begins table h.pieces (p ∷ [])
-    begins_here = subst (λ (x : List Placed). Begins table h.pieces (x ++ p ∷ [])) (held_in reading.Nothing nothing).0 h.begins_value
-
-    pub plain_step : new.reading ≡ old.reading → string_bytes new.text ≡ string_bytes old.text ++ encode_utf8 (without_null p.ch) → eqb p.ch 38 ≡ false
-        → IsInValue table quoted new (text ++ p ∷ []) [] (own ++ pieces_errors quoted (plain_piece p ∷ []))
-    plain_step same bytes plain = record {
-      pieces = h.pieces ++ plain_piece p ∷ [];
-      held = [];
-      text_is = text_so_far ∙ sym (pieces_text-one h.pieces (plain_piece p)) ∙ sym (append-nil (pieces_text (h.pieces ++ plain_piece p ∷ [])));
-      begins_value = begins_piece table h.pieces (plain_piece p) [] begins_here (λ rest. IsPiece.plain p plain refl);
-      errors_are = ap (λ (x : List ParseError). x ++ pieces_errors quoted (plain_piece p ∷ [])) h.errors_are ∙ sym (pieces_errors-append quoted h.pieces (plain_piece p ∷ []));
-      has_held = subst (λ (x : Pending). HasHeld x table new (h.pieces ++ plain_piece p ∷ []) []) (sym (same ∙ nothing)) (
-        refl,
-        bytes ∙ ap (λ (x : List ℕ). x ++ encode_utf8 (without_null p.ch)) (held_in reading.Nothing nothing).1
-            ∙ ap (λ (x : List ℕ). value_bytes h.pieces ++ x) (sym (append-nil (encode_utf8 (without_null p.ch)))) ∙ sym (value_bytes-one h.pieces (plain_piece p)),
-      );
-    }
-
-    pub amp_step : (w : Walk) → new.reading ≡ reading.Reference w → p.ch ≡ 38 → IsTable table → HasTaken w table true [] → new.place ≡ p.at → new.held.items ≡ [] → new.text ≡ old.text → IsInValue table quoted new (text ++ p ∷ []) [] (own ++ [])
-    amp_step w next is is_table taken place empty same = record {
-      pieces = h.pieces;
-      held = p ∷ [];
-      text_is = text_so_far;
-      begins_value = begins_here;
-      errors_are = append-nil own ∙ h.errors_are;
-      has_held = subst (λ (x : Pending). HasHeld x table new h.pieces (p ∷ [])) (sym next) (record {
-        amp = p;
-        taken = [];
-        held_is = refl;
-        is_amp = is;
-        is_table = is_table;
-        has_taken = taken;
-        place_is = place;
-        kept_is = empty ∙ ap characters (sym (kept_nothing w.state));
-        bytes = ap string_bytes same ∙ (held_in reading.Nothing nothing).1;
-      });
-    }
+  -- an `&`, where nothing is held
+  pub amp_step : (nothing : old.reading ≡ reading.Nothing) (w : Walk) → new.reading ≡ reading.Reference w → p.ch ≡ 38 → IsTable table → WalkHasTaken w table true [] → new.at ≡ p.at → new.held.items ≡ [] → new.text ≡ old.text → IsInValue table quoted new (text ++ p ∷ []) [] (own ++ [])
+  amp_step nothing w next is is_table taken place empty same = record {
+    pieces = h.pieces;
+    held = p ∷ [];
+    text_is = text_so_far table quoted old text (p ∷ []) own h nothing;
+    begins_value = begins_here table quoted old text (p ∷ []) own h nothing;
+    errors_are = append-nil own ∙ h.errors_are;
+    has_held = subst (λ (x : Pending). HasHeld x table new h.pieces (p ∷ [])) (sym next) (record {
+      amp = p;
+      taken = [];
+      held_is = refl;
+      is_amp = is;
+      is_table = is_table;
+      has_taken = taken;
+      at_is = place;
+      kept_is = empty ∙ ap characters (sym (kept_nothing w.state));
+      bytes = ap string_bytes same ∙ (held_in reading.Nothing nothing).1;
+    });
+  }
 
   text_more : text ++ p ∷ [] ≡ pieces_text h.pieces ++ (h.held ++ p ∷ [])
   text_more = ap (λ (x : List Placed). x ++ p ∷ []) h.text_is ∙ append_assoc (pieces_text h.pieces) h.held (p ∷ [])
 
-  begins_more : Begins table h.pieces ((h.held ++ p ∷ []) ++ [])
-  begins_more = subst (Begins table h.pieces) (sym (append-nil (h.held ++ p ∷ []))) h.begins_value
+  begins_more : BeginsPiece table h.pieces ((h.held ++ p ∷ []) ++ [])
+  begins_more = subst (BeginsPiece table h.pieces) (sym (append-nil (h.held ++ p ∷ []))) h.begins_value
 
   -- where a reference is being read
   module _ (w : Walk) (before : old.reading ≡ reading.Reference w) where
     abbrev held_here : InReference table w old h.pieces h.held
     held_here = held_in (reading.Reference w) before
 
-    pub reference_on : (w' : Walk) → new.reading ≡ reading.Reference w' → ((taken : List Placed) → HasTaken w table true taken → HasTaken w' table true (taken ++ p ∷ [])) → ((taken : List Placed) → old.held.items ≡ characters (kept w.state taken) → new.held.items ≡ characters (kept w'.state (taken ++ p ∷ []))) → new.place ≡ old.place → new.text ≡ old.text
+    pub reference_on : (w' : Walk) → new.reading ≡ reading.Reference w' → ((taken : List Placed) → WalkHasTaken w table true taken → WalkHasTaken w' table true (taken ++ p ∷ [])) → ((taken : List Placed) → old.held.items ≡ characters (held_characters w.state taken) → new.held.items ≡ characters (held_characters w'.state (taken ++ p ∷ []))) → new.at ≡ old.at → new.text ≡ old.text
         → IsInValue table quoted new (text ++ p ∷ []) [] (own ++ [])
     reference_on w' next takes keeps place same =
         let r = held_here in record {
@@ -177,13 +183,13 @@ module _ (table : Entities) (quoted : Bool) (old new : ValueWalk) (p : Placed) (
             is_amp = r.is_amp;
             is_table = r.is_table;
             has_taken = takes r.taken r.has_taken;
-            place_is = place ∙ r.place_is;
+            at_is = place ∙ r.at_is;
             kept_is = keeps r.taken r.kept_is;
             bytes = ap string_bytes same ∙ r.bytes;
           });
         }
 
-    module _ (found : Reference) (read : (taken : List Placed) → HasTaken w table true taken → (after : List Placed) → IsRead table true (taken ++ p ∷ []) after found) (number : is_number w.state ≡ true → LeavesLast found) where
+    module _ (found : Reference) (read : (taken : List Placed) → WalkHasTaken w table true taken → (after : List Placed) → IsRead table true (taken ++ p ∷ []) after found) (number : is_number w.state ≡ true → LeavesLast found) where
       abbrev all_taken : List Placed
       all_taken = held_here.taken ++ p ∷ []
 
@@ -193,13 +199,13 @@ module _ (table : Entities) (quoted : Bool) (old new : ValueWalk) (p : Placed) (
       one_more : length all_taken ≡ length held_here.taken + 1
       one_more = length-append held_here.taken (p ∷ [])
 
-      module _ (no_run : found.in_run ≡ false) where
-        errors_known : (after : List Placed) → errors_of found held_here.amp.at after ≡ told found held_here.amp.at
-        errors_known after = ap (λ (b : Bool). told found held_here.amp.at ++ error_if (b && begins (λ c. eqb c 59) (past is_alphanumeric after)) UnknownNamedCharacterReference held_here.amp.at) no_run ∙ append-nil (told found held_here.amp.at)
+      module _ (no_run : found.is_ambiguous ≡ false) where
+        errors_known : (after : List Placed) → errors_of found held_here.amp.at after ≡ reference_errors found held_here.amp.at
+        errors_known after = ap (λ (b : Bool). reference_errors found held_here.amp.at ++ error_if (b && begins (λ c. eqb c 59) (past is_alphanumeric after)) UnknownNamedCharacterReference held_here.amp.at) no_run ∙ append-nil (reference_errors found held_here.amp.at)
 
         -- the piece is so much of what was taken
         abbrev piece_of : List Placed → Piece
-        piece_of front = record { text = held_here.amp ∷ front; gives = characters_of found.characters; errors = told found held_here.amp.at }
+        piece_of front = record { text = held_here.amp ∷ front; gives = characters_of found.characters; errors = reference_errors found held_here.amp.at }
 
         is_piece : (front back : List Placed) → take (length all_taken - found.left) all_taken ≡ front → drop (length all_taken - found.left) all_taken ≡ back → (rest : List Placed) → IsReference table true (back ++ rest) (piece_of front)
         is_piece front back taken left rest =
@@ -208,11 +214,11 @@ module _ (table : Entities) (quoted : Bool) (old new : ValueWalk) (p : Placed) (
             (subst (λ (x : List ParseError). IsReference table true (drop (length all_taken - found.left) all_taken ++ rest) (record { text = held_here.amp ∷ take (length all_taken - found.left) all_taken; gives = characters_of found.characters; errors = x })) (errors_known rest)
             ((read held_here.taken held_here.has_taken rest).reads held_here.amp held_here.is_amp)))
 
-        told_here : own ++ told found held_here.amp.at ≡ own ++ told found old.place
-        told_here = ap (λ (x : ℕ). own ++ told found x) (sym held_here.place_is)
+        told_here : own ++ reference_errors found held_here.amp.at ≡ own ++ reference_errors found old.at
+        told_here = ap (λ (x : ℕ). own ++ reference_errors found x) (sym held_here.at_is)
 
         -- it ends with the character
-        pub reference_ends : found.left ≡ 0 → new.reading ≡ reading.Nothing → string_bytes new.text ≡ string_bytes old.text ++ encode_utf8_all (characters_of found.characters) → IsInValue table quoted new (text ++ p ∷ []) [] (own ++ told found old.place)
+        pub reference_ends : found.left ≡ 0 → new.reading ≡ reading.Nothing → string_bytes new.text ≡ string_bytes old.text ++ encode_utf8_all (characters_of found.characters) → IsInValue table quoted new (text ++ p ∷ []) [] (own ++ reference_errors found old.at)
         reference_ends none nothing bytes =
             let whole : take (length all_taken - found.left) all_taken ≡ all_taken = ap (λ (n : ℕ). take (length all_taken - n) all_taken) none ∙ take_whole all_taken in
             let nothing_left : drop (length all_taken - found.left) all_taken ≡ [] = ap (λ (n : ℕ). drop (length all_taken - n) all_taken) none ∙ drop_whole all_taken in
@@ -222,7 +228,7 @@ module _ (table : Entities) (quoted : Bool) (old new : ValueWalk) (p : Placed) (
             (resolve h.pieces (piece_of all_taken) [] refl table quoted new (text ++ p ∷ []) own (reference_even table true [] (piece_of all_taken) held_here.is_table (is []))
             (bytes ∙ ap (λ (x : List ℕ). x ++ encode_utf8_all (characters_of found.characters)) held_here.bytes ∙ ap (λ (x : List ℕ). value_bytes h.pieces ++ x) (sym (append-nil (encode_utf8_all (characters_of found.characters)))))
             (text_more ∙ ap (λ (x : List Placed). pieces_text h.pieces ++ x) (held_more ∙ sym (append-nil (held_here.amp ∷ all_taken)))) h.errors_are []
-            (subst (Begins table h.pieces) (held_more ∙ sym (append-nil (held_here.amp ∷ all_taken))) h.begins_value) (λ rest. IsPiece.reference (is rest)) nothing)
+            (subst (BeginsPiece table h.pieces) (held_more ∙ sym (append-nil (held_here.amp ∷ all_taken))) h.begins_value) (λ rest. IsValuePiece.reference (is rest)) nothing)
           where
             take_whole : (xs : List Placed) → take (length xs - 0) xs ≡ xs
             take_whole xs = (let e : length xs - 0 ≡ length xs = omega arith in ap (λ (n : ℕ). take n xs) e) ∙ go xs where
@@ -239,7 +245,7 @@ module _ (table : Entities) (quoted : Bool) (old new : ValueWalk) (p : Placed) (
         -- it ends before it
         pub reference_read : 1 ≤ found.left → new.reading ≡ reading.Nothing
             → string_bytes new.text ≡ (string_bytes old.text ++ encode_utf8_all (characters_of found.characters)) ++ encode_utf8_all (drop (length old.held.items - (found.left - 1)) old.held.items)
-            → IsInValue table quoted new text (p ∷ []) (own ++ told found old.place)
+            → IsInValue table quoted new text (p ∷ []) (own ++ reference_errors found old.at)
         reference_read some nothing bytes =
             let taken : List Placed = held_here.taken in
             let k : ℕ = length all_taken - found.left in
@@ -248,7 +254,7 @@ module _ (table : Entities) (quoted : Bool) (old new : ValueWalk) (p : Placed) (
             let back : List Placed = drop k taken in
             let is : (rest : List Placed) → IsReference table true ((back ++ p ∷ []) ++ rest) (piece_of front) = is_piece front (back ++ p ∷ []) (take-append-le k taken (p ∷ []) within) (drop-append-le k taken (p ∷ []) within) in
             let quiet : all is_quiet back ≡ true = quiet_drop k taken quiet_taken in
-            let kept_here : List Placed = kept w.state taken in
+            let kept_here : List Placed = held_characters w.state taken in
             let same : length old.held.items - (found.left - 1) ≡ length kept_here + 1 - found.left = (let e : length old.held.items ≡ length kept_here = ap length held_here.kept_is ∙ length-characters kept_here in omega (arith, e, some)) in
             let given : drop (length old.held.items - (found.left - 1)) old.held.items ≡ characters back =
             ap (λ (n : ℕ). drop n old.held.items) same ∙ ap (drop (length kept_here + 1 - found.left)) held_here.kept_is ∙ drop-map (length kept_here + 1 - found.left) kept_here
@@ -259,24 +265,24 @@ module _ (table : Entities) (quoted : Bool) (old new : ValueWalk) (p : Placed) (
             (bytes ∙ ap (λ (x : List ℕ). (x ++ encode_utf8_all (characters_of found.characters)) ++ encode_utf8_all (drop (length old.held.items - (found.left - 1)) old.held.items)) held_here.bytes
             ∙ ap (λ (x : List ℕ). (value_bytes h.pieces ++ encode_utf8_all (characters_of found.characters)) ++ encode_utf8_all x) given ∙ append_assoc (value_bytes h.pieces) (encode_utf8_all (characters_of found.characters)) (encode_utf8_all (characters back)))
             (h.text_is ∙ ap (λ (x : List Placed). pieces_text h.pieces ++ x) joined) h.errors_are (p ∷ [])
-            (subst (Begins table h.pieces) (ap (λ (x : List Placed). x ++ p ∷ []) joined ∙ append_assoc (held_here.amp ∷ front) back (p ∷ [])) h.begins_value) (λ rest. IsPiece.reference (is rest)) nothing)
+            (subst (BeginsPiece table h.pieces) (ap (λ (x : List Placed). x ++ p ∷ []) joined ∙ append_assoc (held_here.amp ∷ front) back (p ∷ [])) h.begins_value) (λ rest. IsValuePiece.reference (is rest)) nothing)
 
       -- no key begins with it
-      pub run_begins : found.in_run ≡ true → new.reading ≡ reading.Run → new.place ≡ old.place
+      pub run_begins : found.is_ambiguous ≡ true → new.reading ≡ reading.AmbiguousAmpersand → new.at ≡ old.at
           → string_bytes new.text ≡ ((string_bytes old.text ++ encode_utf8_all (characters_of found.characters)) ++ encode_utf8_all old.held.items) ++ encode_utf8 p.ch
-          → IsInValue table quoted new (text ++ p ∷ []) [] (own ++ told found old.place)
-      run_begins in_run next place bytes =
+          → IsInValue table quoted new (text ++ p ∷ []) [] (own ++ reference_errors found old.at)
+      run_begins is_ambiguous next place bytes =
           let taken : List Placed = held_here.taken in
           let long : 1 ≤ length all_taken = omega (arith, one_more) in
           let reads : (after : List Placed) → IsRead table true all_taken after found = read taken held_here.has_taken in
-          let r : IsRunRead all_taken found = run_read table all_taken found long reads in_run in
+          let r : IsRunRead all_taken found = run_read table all_taken found long reads is_ambiguous in
           let nothing_off : length all_taken - found.left ≡ 0 = omega (arith, r.left_is) in
           record {
             pieces = h.pieces;
             held = h.held ++ p ∷ [];
             text_is = text_more;
             begins_value = begins_more;
-            errors_are = ap (λ (x : List ParseError). own ++ x) (untold found old.place r.nothing) ∙ append-nil own ∙ h.errors_are;
+            errors_are = ap (λ (x : List ParseError). own ++ x) (untold found old.at r.nothing) ∙ append-nil own ∙ h.errors_are;
             has_held = subst (λ (x : Pending). HasHeld x table new h.pieces (h.held ++ p ∷ [])) (sym next) (record {
               amp = held_here.amp;
               run = all_taken;
@@ -284,15 +290,15 @@ module _ (table : Entities) (quoted : Bool) (old new : ValueWalk) (p : Placed) (
               is_amp = held_here.is_amp;
               is_run = r.letters;
               unknown = λ after. unknown_here r nothing_off after;
-              place_is = place ∙ held_here.place_is;
+              at_is = place ∙ held_here.at_is;
               bytes = bytes ∙ ap (λ (x : List ℕ). ((x ++ encode_utf8_all (characters_of found.characters)) ++ encode_utf8_all old.held.items) ++ encode_utf8 p.ch) held_here.bytes
                   ∙ ap (λ (x : List ℕ). ((value_bytes h.pieces ++ encode_utf8_all x) ++ encode_utf8_all old.held.items) ++ encode_utf8 p.ch) r.gives
-                  ∙ ap (λ (x : List ℕ). ((value_bytes h.pieces ++ encode_utf8_all (38 ∷ [])) ++ encode_utf8_all x) ++ encode_utf8 p.ch) (held_here.kept_is ∙ ap characters (kept_all w.state taken (is_other w.state (λ n. true≢false (sym in_run ∙ (number n).0)))))
+                  ∙ ap (λ (x : List ℕ). ((value_bytes h.pieces ++ encode_utf8_all (38 ∷ [])) ++ encode_utf8_all x) ++ encode_utf8 p.ch) (held_here.kept_is ∙ ap characters (kept_all w.state taken (is_other w.state (λ n. true≢false (sym is_ambiguous ∙ (number n).0)))))
                   ∙ in_order (value_bytes h.pieces) (characters taken) p.ch ∙ ap (λ (x : List ℕ). value_bytes h.pieces ++ encode_utf8_all (38 ∷ x)) (sym (characters-append taken (p ∷ [])));
             });
           }
         where
-          untold : (f : Reference) (at : ℕ) → told f 0 ≡ [] → told f at ≡ []
+          untold : (f : Reference) (at : ℕ) → reference_errors f 0 ≡ [] → reference_errors f at ≡ []
           untold f at e = grind (arith, nat_tests)
 
           in_order : (front cs : List ℕ) (c : ℕ) → ((front ++ encode_utf8_all (38 ∷ [])) ++ encode_utf8_all cs) ++ encode_utf8 c ≡ front ++ encode_utf8_all (38 ∷ (cs ++ c ∷ []))
@@ -306,18 +312,18 @@ module _ (table : Entities) (quoted : Bool) (old new : ValueWalk) (p : Placed) (
               let at : ℕ = held_here.amp.at in
               let late : List ParseError = error_if (begins (λ c. eqb c 59) (past is_alphanumeric after)) UnknownNamedCharacterReference at in
               let errors : errors_of found at after ≡ late =
-              ap (λ (b : Bool). told found at ++ error_if (b && begins (λ c. eqb c 59) (past is_alphanumeric after)) UnknownNamedCharacterReference at) in_run ∙ ap (λ (x : List ParseError). x ++ late) (untold found at r.nothing) in
+              ap (λ (b : Bool). reference_errors found at ++ error_if (b && begins (λ c. eqb c 59) (past is_alphanumeric after)) UnknownNamedCharacterReference at) is_ambiguous ∙ ap (λ (x : List ParseError). x ++ late) (untold found at r.nothing) in
               subst (λ (x : List ParseError). IsReference table true (all_taken ++ after) (record { text = held_here.amp ∷ []; gives = 38 ∷ []; errors = x })) errors
               (subst (λ (x : List ℕ). IsReference table true (all_taken ++ after) (record { text = held_here.amp ∷ []; gives = x; errors = errors_of found at after })) r.gives
               (subst (λ (n : ℕ). IsReference table true (drop n all_taken ++ after) (record { text = held_here.amp ∷ take n all_taken; gives = characters_of found.characters; errors = errors_of found at after })) off
               ((read held_here.taken held_here.has_taken after).reads held_here.amp held_here.is_amp)))
 
   -- in a run
-  module _ (before : old.reading ≡ reading.Run) where
-    abbrev run_here : InRun table old h.pieces h.held
-    run_here = held_in reading.Run before
+  module _ (before : old.reading ≡ reading.AmbiguousAmpersand) where
+    abbrev run_here : InAmbiguousAmpersand table old h.pieces h.held
+    run_here = held_in reading.AmbiguousAmpersand before
 
-    pub run_on : new.reading ≡ old.reading → new.place ≡ old.place → string_bytes new.text ≡ string_bytes old.text ++ encode_utf8 p.ch → is_alphanumeric p.ch ≡ true → IsInValue table quoted new (text ++ p ∷ []) [] (own ++ [])
+    pub run_on : new.reading ≡ old.reading → new.at ≡ old.at → string_bytes new.text ≡ string_bytes old.text ++ encode_utf8 p.ch → is_alphanumeric p.ch ≡ true → IsInValue table quoted new (text ++ p ∷ []) [] (own ++ [])
     run_on same place bytes letter =
         let r = run_here in record {
           pieces = h.pieces;
@@ -334,7 +340,7 @@ module _ (table : Entities) (quoted : Bool) (old new : ValueWalk) (p : Placed) (
             unknown = λ after.
                 subst (λ (x : List Placed). IsReference table true x (ampersand r.amp (error_if (begins (λ c. eqb c 59) (past is_alphanumeric after)) UnknownNamedCharacterReference r.amp.at))) (sym (append_assoc r.run (p ∷ []) after))
                 (subst (λ (x : List Placed). IsReference table true (r.run ++ (p ∷ after)) (ampersand r.amp (error_if (begins (λ c. eqb c 59) x) UnknownNamedCharacterReference r.amp.at))) (past_letter after) (r.unknown (p ∷ after)));
-            place_is = place ∙ r.place_is;
+            at_is = place ∙ r.at_is;
             bytes = bytes ∙ ap (λ (x : List ℕ). x ++ encode_utf8 p.ch) r.bytes ∙ in_order (value_bytes h.pieces) (38 ∷ characters r.run) p.ch
                 ∙ ap (λ (x : List ℕ). value_bytes h.pieces ++ encode_utf8_all (38 ∷ x)) (sym (characters-append r.run (p ∷ [])));
           });
@@ -348,15 +354,15 @@ module _ (table : Entities) (quoted : Bool) (old new : ValueWalk) (p : Placed) (
             append_assoc front (encode_utf8_all cs) (encode_utf8 c)
             ∙ ap (λ (x : List ℕ). front ++ x) (ap (λ (x : List ℕ). encode_utf8_all cs ++ x) (sym (append-nil (encode_utf8 c))) ∙ sym (encodes-append cs (c ∷ [])))
 
-    pub run_ends : new.reading ≡ reading.Nothing → string_bytes new.text ≡ string_bytes old.text → is_alphanumeric p.ch ≡ false → IsInValue table quoted new text (p ∷ []) (own ++ error_if (eqb p.ch 59) UnknownNamedCharacterReference old.place)
+    pub run_ends : new.reading ≡ reading.Nothing → string_bytes new.text ≡ string_bytes old.text → is_alphanumeric p.ch ≡ false → IsInValue table quoted new text (p ∷ []) (own ++ error_if (eqb p.ch 59) UnknownNamedCharacterReference old.at)
     run_ends nothing bytes other =
         let r = run_here in
         let piece : Piece = ampersand r.amp (error_if (eqb p.ch 59) UnknownNamedCharacterReference r.amp.at) in
-        subst (λ (x : ℕ). IsInValue table quoted new text (p ∷ []) (own ++ error_if (eqb p.ch 59) UnknownNamedCharacterReference x)) (sym r.place_is)
+        subst (λ (x : ℕ). IsInValue table quoted new text (p ∷ []) (own ++ error_if (eqb p.ch 59) UnknownNamedCharacterReference x)) (sym r.at_is)
         (resolve h.pieces piece r.run (quiet_run r.run r.is_run) table quoted new text own (alone_even r.amp r.is_amp)
         (bytes ∙ r.bytes ∙ ap (λ (x : List ℕ). value_bytes h.pieces ++ x) (encodes-append (38 ∷ []) (characters r.run))) (h.text_is ∙ ap (λ (x : List Placed). pieces_text h.pieces ++ x) r.held_is) h.errors_are (p ∷ [])
-        (subst (Begins table h.pieces) (ap (λ (x : List Placed). x ++ p ∷ []) r.held_is) h.begins_value)
-        (λ rest. IsPiece.reference (subst (λ (x : List Placed). IsReference table true x piece) (sym (append_assoc r.run (p ∷ []) rest))
+        (subst (BeginsPiece table h.pieces) (ap (λ (x : List Placed). x ++ p ∷ []) r.held_is) h.begins_value)
+        (λ rest. IsValuePiece.reference (subst (λ (x : List Placed). IsReference table true x piece) (sym (append_assoc r.run (p ∷ []) rest))
         (subst (λ (x : List Placed). IsReference table true (r.run ++ (p ∷ rest)) (ampersand r.amp (error_if (begins (λ c. eqb c 59) x) UnknownNamedCharacterReference r.amp.at))) (past_other rest) (r.unknown (p ∷ rest))))) nothing)
       where
         past_other : (after : List Placed) → past is_alphanumeric (p ∷ after) ≡ p ∷ after
@@ -368,8 +374,8 @@ module _ (table : Entities) (quoted : Bool) (old new : ValueWalk) (text : List P
   holds_at_end : (r : Pending) → old.reading ≡ r → HasHeld r table old h.pieces h.held
   holds_at_end r e = subst (λ (x : Pending). HasHeld x table old h.pieces h.held) e h.has_held
 
-  begins_end : Begins table h.pieces h.held
-  begins_end = subst (Begins table h.pieces) (append-nil h.held) h.begins_value
+  begins_end : BeginsPiece table h.pieces h.held
+  begins_end = subst (BeginsPiece table h.pieces) (append-nil h.held) h.begins_value
 
   pub ends_plain : old.reading ≡ reading.Nothing → string_bytes new.text ≡ string_bytes old.text → IsWholeValue table quoted new text (own ++ [])
   ends_plain nothing bytes =
@@ -381,35 +387,35 @@ module _ (table : Entities) (quoted : Bool) (old new : ValueWalk) (text : List P
         bytes = bytes ∙ e.1;
       }
 
-  pub ends_run : old.reading ≡ reading.Run → string_bytes new.text ≡ string_bytes old.text → IsWholeValue table quoted new text (own ++ [])
+  pub ends_run : old.reading ≡ reading.AmbiguousAmpersand → string_bytes new.text ≡ string_bytes old.text → IsWholeValue table quoted new text (own ++ [])
   ends_run before bytes =
-      let r = holds_at_end reading.Run before in
+      let r = holds_at_end reading.AmbiguousAmpersand before in
       resolve_end h.pieces (ampersand r.amp []) r.run (quiet_run r.run r.is_run) table quoted new text own (alone_even r.amp r.is_amp)
       (bytes ∙ r.bytes ∙ ap (λ (x : List ℕ). value_bytes h.pieces ++ x) (encodes-append (38 ∷ []) (characters r.run))) (h.text_is ∙ ap (λ (x : List Placed). pieces_text h.pieces ++ x) r.held_is) h.errors_are
-      (subst (Begins table h.pieces) r.held_is begins_end)
-      (IsPiece.reference (subst (λ (x : List Placed). IsReference table true x (ampersand r.amp [])) (append-nil r.run) (r.unknown [])))
+      (subst (BeginsPiece table h.pieces) r.held_is begins_end)
+      (IsValuePiece.reference (subst (λ (x : List Placed). IsReference table true x (ampersand r.amp [])) (append-nil r.run) (r.unknown [])))
 
-  module _ (w : Walk) (before : old.reading ≡ reading.Reference w) (found : Reference) (read : (taken : List Placed) → HasTaken w table true taken → IsRead table true taken [] found) (number : is_number w.state ≡ true → found.left ≡ 0) where
+  module _ (w : Walk) (before : old.reading ≡ reading.Reference w) (found : Reference) (read : (taken : List Placed) → WalkHasTaken w table true taken → IsRead table true taken [] found) (number : is_number w.state ≡ true → found.left ≡ 0) where
     pub ends_reference : string_bytes new.text ≡ (string_bytes old.text ++ encode_utf8_all (characters_of found.characters)) ++ encode_utf8_all (drop (length old.held.items - found.left) old.held.items)
-        → IsWholeValue table quoted new text (own ++ told found old.place)
+        → IsWholeValue table quoted new text (own ++ reference_errors found old.at)
     ends_reference bytes =
         let r : InReference table w old h.pieces h.held = holds_at_end (reading.Reference w) before in
         let k : ℕ = length r.taken - found.left in
         let front : List Placed = take k r.taken in
         let back : List Placed = drop k r.taken in
-        let piece : Piece = record { text = r.amp ∷ front; gives = characters_of found.characters; errors = told found r.amp.at } in
-        let errors : errors_of found r.amp.at [] ≡ told found r.amp.at = ap (λ (b : Bool). told found r.amp.at ++ error_if b UnknownNamedCharacterReference r.amp.at) (and_right found.in_run false refl) ∙ append-nil (told found r.amp.at) in
+        let piece : Piece = record { text = r.amp ∷ front; gives = characters_of found.characters; errors = reference_errors found r.amp.at } in
+        let errors : errors_of found r.amp.at [] ≡ reference_errors found r.amp.at = ap (λ (b : Bool). reference_errors found r.amp.at ++ error_if b UnknownNamedCharacterReference r.amp.at) (and_right found.is_ambiguous false refl) ∙ append-nil (reference_errors found r.amp.at) in
         let is : IsReference table true back piece =
         subst (λ (x : List ParseError). IsReference table true back (record { text = r.amp ∷ front; gives = characters_of found.characters; errors = x })) errors
         (subst (λ (x : List Placed). IsReference table true x (record { text = r.amp ∷ front; gives = characters_of found.characters; errors = errors_of found r.amp.at [] })) (append-nil back) ((read r.taken r.has_taken).reads r.amp r.is_amp)) in
         let quiet : all is_quiet back ≡ true = quiet_drop k r.taken (quiet_held table true w.state r.taken r.has_taken.held) in
-        let kept_here : List Placed = kept w.state r.taken in
+        let kept_here : List Placed = held_characters w.state r.taken in
         let given : drop (length old.held.items - found.left) old.held.items ≡ characters back =
         ap (λ (x : List ℕ). drop (length x - found.left) x) r.kept_is ∙ ap (λ (n : ℕ). drop (n - found.left) (characters kept_here)) (length-characters kept_here) ∙ drop-map (length kept_here - found.left) kept_here
         ∙ ap characters (drop-kept-end w.state r.taken found.left number) in
         let joined : h.held ≡ (r.amp ∷ front) ++ back = r.held_is ∙ ap (λ (x : List Placed). r.amp ∷ x) (sym (take-append-drop k r.taken)) in
-        subst (λ (x : ℕ). IsWholeValue table quoted new text (own ++ told found x)) (sym r.place_is)
+        subst (λ (x : ℕ). IsWholeValue table quoted new text (own ++ reference_errors found x)) (sym r.at_is)
         (resolve_end h.pieces piece back quiet table quoted new text own (reference_even table true back piece r.is_table is)
         (bytes ∙ ap (λ (x : List ℕ). (x ++ encode_utf8_all (characters_of found.characters)) ++ encode_utf8_all (drop (length old.held.items - found.left) old.held.items)) r.bytes
         ∙ ap (λ (x : List ℕ). (value_bytes h.pieces ++ encode_utf8_all (characters_of found.characters)) ++ encode_utf8_all x) given ∙ append_assoc (value_bytes h.pieces) (encode_utf8_all (characters_of found.characters)) (encode_utf8_all (characters back)))
-        (h.text_is ∙ ap (λ (x : List Placed). pieces_text h.pieces ++ x) joined) h.errors_are (subst (Begins table h.pieces) joined begins_end) (IsPiece.reference is))
+        (h.text_is ∙ ap (λ (x : List Placed). pieces_text h.pieces ++ x) joined) h.errors_are (subst (BeginsPiece table h.pieces) joined begins_end) (IsValuePiece.reference is))

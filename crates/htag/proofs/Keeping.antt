@@ -5,15 +5,15 @@ use Rattle.htag.proofs.Parts.{begins-more, holds_same}
 use Rattle.htag.proofs.Naming.{numbers_kept, attrs_kept}
 
 past_more : (ph : TagState) (a b : Bool) → (a ≡ true → b ≡ true) → IsPast ph a → IsPast ph b
-past_more phase.Name a b f h = tt
-past_more phase.BeforeAttribute a b f h = f h
-past_more phase.Solidus a b f h = f h
+past_more phase.TagName a b f h = tt
+past_more phase.BeforeAttributeName a b f h = f h
+past_more phase.SelfClosingStartTag a b f h = f h
 past_more phase.AttributeName a b f h = f h
 past_more phase.AfterAttributeName a b f h = f h
-past_more phase.BeforeValue a b f h = f h
-past_more (phase.Quoted mark) a b f h = f h
-past_more phase.Unquoted a b f h = f h
-past_more phase.AfterQuoted a b f h = f h
+past_more phase.BeforeAttributeValue a b f h = f h
+past_more (phase.AttributeValueQuoted mark) a b f h = f h
+past_more phase.AttributeValueUnquoted a b f h = f h
+past_more phase.AfterAttributeValueQuoted a b f h = f h
 
 pub looks_further : (table : Entities) (names : Texts) (walk : TagWalk) (body ahead : List Placed) (errors : List ParseError) → IsInTag table names walk body ahead errors → (more : List Placed) → IsInTag table names walk body (ahead ++ more) errors
 looks_further table names walk body ahead errors h more = record {
@@ -40,7 +40,7 @@ pub looks_ahead : (table : Entities) (names : Texts) (walk : TagWalk) (body : Li
 looks_ahead table names walk body errors h ahead = looks_further table names walk body [] errors h ahead
 
 -- before an attribute no other value matters
-pub other_value : (table : Entities) (names : Texts) (walk new : TagWalk) (body ahead : List Placed) (errors : List ParseError) → IsInTag table names walk body ahead errors → walk.phase ≡ phase.BeforeAttribute → new.phase ≡ walk.phase → new.name ≡ walk.name → new.seen ≡ walk.seen → new.attrs ≡ walk.attrs → new.any ≡ walk.any
+pub other_value : (table : Entities) (names : Texts) (walk new : TagWalk) (body ahead : List Placed) (errors : List ParseError) → IsInTag table names walk body ahead errors → walk.phase ≡ phase.BeforeAttributeName → new.phase ≡ walk.phase → new.name ≡ walk.name → new.seen ≡ walk.seen → new.attrs ≡ walk.attrs → new.any ≡ walk.any
     → IsInTag table names new body ahead errors
 other_value table names walk new body ahead errors h before same named seen attrs any =
     let none = subst (λ (x : TagState). HasPhase x table walk h.parts h.held h.own) before h.has_phase in

@@ -44,7 +44,7 @@ begun_in_tag kind walk b table names letters first are named = name_begun kind w
       let other : eqb x.ch 0 ≡ false = grind (arith, nat_tests) in
       rw other (no_null xs parts.1)
 
-module _ (table : Entities) (names : Texts) (walk : TagWalk) (body ahead : List Placed) (errors : List ParseError) (h : IsInTag table names walk body ahead errors) (in_name : walk.phase ≡ phase.Name) where
+module _ (table : Entities) (names : Texts) (walk : TagWalk) (body ahead : List Placed) (errors : List ParseError) (h : IsInTag table names walk body ahead errors) (in_name : walk.phase ≡ phase.TagName) where
   nothing : (h.parts ≡ []) × (h.held ≡ []) × (h.own ≡ [])
   nothing = subst (λ (x : TagState). HasPhase x table walk h.parts h.held h.own) in_name h.has_phase
 
@@ -74,7 +74,7 @@ module _ (table : Entities) (names : Texts) (walk : TagWalk) (body ahead : List 
   }
 
   -- it ends before white space, `/` or `>`
-  pub name_ends : (new : TagWalk) → new.name ≡ walk.name → new.seen ≡ walk.seen → new.attrs ≡ walk.attrs → new.any ≡ walk.any → new.phase ≡ phase.BeforeAttribute → begins ends_name ahead ≡ true → IsInTag table names new body ahead errors
+  pub name_ends : (new : TagWalk) → new.name ≡ walk.name → new.seen ≡ walk.seen → new.attrs ≡ walk.attrs → new.any ≡ walk.any → new.phase ≡ phase.BeforeAttributeName → begins ends_name ahead ≡ true → IsInTag table names new body ahead errors
   name_ends new named seen attrs any next ends = record {
     name = h.name;
     parts = [];

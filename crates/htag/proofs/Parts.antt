@@ -1,6 +1,6 @@
 -- Parts of a tag, one by one.
 use Rattle.std.proofs.Math.Bool.{or-false}
-use Rattle.htag.proofs.Vocabulary.{◌≡◌, ℕ, Bool, true, false, ◌||◌, List, [], ◌∷◌, ◌++◌, sym, refl, ap, ◌∙◌, subst, append_assoc, append-nil, Option, None, is_some, Vec, Global, flat_map-append, ParseError, Placed, begins, stops, all, is_space, past, Texts, and_parts, Entities, Attr, Seen, TagWalk, AttrsMean, HasSeen, Attribute, Part, IsPart, AreParts, parts_text, errors_after, attributes_after, has_attribute, named_by, kept, repeated, names_after, NumbersMean, HasAttributes, arith, nat_tests}
+use Rattle.htag.proofs.Vocabulary.{◌≡◌, ℕ, Bool, true, false, ◌||◌, List, [], ◌∷◌, ◌++◌, sym, refl, ap, ◌∙◌, subst, append_assoc, append-nil, Option, None, is_some, Vec, Global, flat_map-append, ParseError, Placed, begins, stops, all, is_space, past, Texts, and_parts, Entities, Attr, Seen, TagWalk, AttrsMean, HasSeen, Attribute, Part, IsPart, AreParts, parts_text, part_errors_after, attributes_after, has_attribute, named_by, kept_attribute, repeated, names_after, NumbersMean, HasAttributes, arith, nat_tests}
 -- under the names by which they are cited
 pub use Rattle.names.proofs.Words.{begins-append as begins-more, all-one as all-snoc}
 
@@ -28,15 +28,15 @@ pub names-snoc : (names : List (List ℕ)) (parts : List Part) (part : Part) →
 names-snoc names [] part = refl
 names-snoc names (x ∷ xs) part = names-snoc (named_by x.attribute ++ names) xs part
 
-pub errors-snoc : (names : List (List ℕ)) (parts : List Part) (part : Part) → errors_after names (parts ++ part ∷ []) ≡ errors_after names parts ++ (part.errors ++ repeated (names_after names parts) part.attribute)
+pub errors-snoc : (names : List (List ℕ)) (parts : List Part) (part : Part) → part_errors_after names (parts ++ part ∷ []) ≡ part_errors_after names parts ++ (part.errors ++ repeated (names_after names parts) part.attribute)
 errors-snoc names [] part = append-nil (part.errors ++ repeated names part.attribute)
 errors-snoc names (x ∷ xs) part = ap (λ (e : List ParseError). (x.errors ++ repeated names x.attribute) ++ e) (errors-snoc (named_by x.attribute ++ names) xs part)
-    ∙ sym (append_assoc (x.errors ++ repeated names x.attribute) (errors_after (named_by x.attribute ++ names) xs) (part.errors ++ repeated (names_after (named_by x.attribute ++ names) xs) part.attribute))
+    ∙ sym (append_assoc (x.errors ++ repeated names x.attribute) (part_errors_after (named_by x.attribute ++ names) xs) (part.errors ++ repeated (names_after (named_by x.attribute ++ names) xs) part.attribute))
 
-pub attributes-snoc : (names : List (List ℕ)) (parts : List Part) (part : Part) → attributes_after names (parts ++ part ∷ []) ≡ attributes_after names parts ++ kept (names_after names parts) part.attribute
-attributes-snoc names [] part = append-nil (kept names part.attribute)
-attributes-snoc names (x ∷ xs) part = ap (λ (e : List (List ℕ × List ℕ)). kept names x.attribute ++ e) (attributes-snoc (named_by x.attribute ++ names) xs part)
-    ∙ sym (append_assoc (kept names x.attribute) (attributes_after (named_by x.attribute ++ names) xs) (kept (names_after (named_by x.attribute ++ names) xs) part.attribute))
+pub attributes-snoc : (names : List (List ℕ)) (parts : List Part) (part : Part) → attributes_after names (parts ++ part ∷ []) ≡ attributes_after names parts ++ kept_attribute (names_after names parts) part.attribute
+attributes-snoc names [] part = append-nil (kept_attribute names part.attribute)
+attributes-snoc names (x ∷ xs) part = ap (λ (e : List (List ℕ × List ℕ)). kept_attribute names x.attribute ++ e) (attributes-snoc (named_by x.attribute ++ names) xs part)
+    ∙ sym (append_assoc (kept_attribute names x.attribute) (attributes_after (named_by x.attribute ++ names) xs) (kept_attribute (names_after (named_by x.attribute ++ names) xs) part.attribute))
 
 pub any-snoc : (parts : List Part) (part : Part) → has_attribute (parts ++ part ∷ []) ≡ (has_attribute parts || is_some part.attribute)
 any-snoc [] part = grind (arith, nat_tests)
@@ -49,7 +49,7 @@ holds_plain names walk new parts part none seen attrs any h = record {
   seen = subst (λ (x : Seen). HasSeen x h.numbers) (sym seen) h.seen;
   named = subst (NumbersMean names h.numbers) (sym (names-snoc [] parts part ∙ ap (λ (a : Option Attribute). named_by a ++ names_after [] parts) none)) h.named;
   attributes = subst (λ (x : Vec Attr Global). AttrsMean names x.items (attributes_after [] (parts ++ part ∷ []))) (sym attrs)
-      (subst (AttrsMean names walk.attrs.items) (sym (attributes-snoc [] parts part ∙ ap (λ (a : Option Attribute). attributes_after [] parts ++ kept (names_after [] parts) a) none ∙ append-nil (attributes_after [] parts))) h.attributes);
+      (subst (AttrsMean names walk.attrs.items) (sym (attributes-snoc [] parts part ∙ ap (λ (a : Option Attribute). attributes_after [] parts ++ kept_attribute (names_after [] parts) a) none ∙ append-nil (attributes_after [] parts))) h.attributes);
   any = any ∙ h.any ∙ sym (any-snoc parts part ∙ ap (λ (a : Option Attribute). has_attribute parts || is_some a) none ∙ or-false (has_attribute parts));
 }
 

@@ -1,5 +1,5 @@
 -- A tag, a character at a time.
-use Rattle.htag.proofs.Vocabulary.{◌≡◌, ℕ, true, false, not, List, [], ◌∷◌, ◌++◌, sym, refl, ap, ◌∙◌, subst, append_assoc, append-nil, Some, None, encode_utf8, to_ascii_lowercase, string_bytes, UnexpectedEqualsSignBeforeAttributeName, ParseError, Placed, Texts, characters, begins, place, is_space, is_equals, is_greater, error, error_if, null_errors, without_null, and_both, Entities, TagState, TagWalk, Part, IsPart, AreParts, parts_text, errors_after, tag_errors, tag_close, ends_name, ends_attribute_name, attribute_name_errors, name_errors_here, attribute_part, repeated, names_after, HasAttributes, HasName, InName, HasPhase, IsPast, IsInTag, IsWholeTag, KeepsTag, EndsAttribute, attribute_of}
+use Rattle.htag.proofs.Vocabulary.{◌≡◌, ℕ, true, false, not, List, [], ◌∷◌, ◌++◌, sym, refl, ap, ◌∙◌, subst, append_assoc, append-nil, Some, None, encode_utf8, to_ascii_lowercase, string_bytes, UnexpectedEqualsSignBeforeAttributeName, ParseError, Placed, Texts, characters, begins, place, is_space, is_equals, is_greater, error, error_if, null_errors, without_null, and_both, Entities, TagState, TagWalk, Part, IsPart, AreParts, parts_text, part_errors_after, tag_errors, tag_close, ends_name, ends_attribute_name, attribute_name_errors, name_errors_here, attribute_part, repeated, names_after, HasAttributes, HasName, InAttributeName, HasPhase, IsPast, IsInTag, IsWholeTag, KeepsTag, EndsAttribute, walked_attribute}
 use Rattle.names.specs.declared.error.ErrorCode.TheVariants.{UnexpectedSolidusInTag}
 use Rattle.htag.specs.declared.tag_state.TagState.TheVariants as phase
 use Rattle.htag.specs.Steps.{AddsToName, BeginsAttribute}
@@ -15,7 +15,7 @@ pub part_errors : (name : List Placed) (parts : List Part) (held errors : List P
 part_errors name parts held errors so_far part e later own is =
     let r : List ParseError = repeated (names_after [] parts) part.attribute in
     is ∙ ap (λ (x : List ParseError). (x ++ e) ++ r) so_far ∙ ap (λ (x : List ParseError). x ++ r) (append_assoc (tag_errors name parts) held e) ∙ ap (λ (x : List ParseError). (tag_errors name parts ++ x) ++ r) (sym own)
-    ∙ append_assoc (tag_errors name parts) part.errors r ∙ append_assoc (null_errors name) (errors_after [] parts) (part.errors ++ r) ∙ ap (λ (x : List ParseError). null_errors name ++ x) (sym (errors-snoc [] parts part))
+    ∙ append_assoc (tag_errors name parts) part.errors r ∙ append_assoc (null_errors name) (part_errors_after [] parts) (part.errors ++ r) ∙ ap (λ (x : List ParseError). null_errors name ++ x) (sym (errors-snoc [] parts part))
 
 pub keeps_self : (walk : TagWalk) → KeepsTag walk walk
 keeps_self walk = record { kind_is = refl; name_is = refl; attrs_are = refl; seen_is = refl; any_is = refl }
@@ -26,7 +26,7 @@ module _ (table : Entities) (names : Texts) (walk : TagWalk) (body : List Placed
   errors_then part e later own is = part_errors h.name h.parts h.own errors h.errors_are part e later own is ∙ sym (append-nil (tag_errors h.name (h.parts ++ part ∷ [])))
 
   pub part_ends : (part : Part) → part.text ≡ h.held → ((end : ℕ) (more : List Placed) → IsPart table end (p ∷ more) part) → (after : Texts) (new : TagWalk) (e later : List ParseError) → part.errors ≡ h.own ++ e
-      → later ≡ (errors ++ e) ++ repeated (names_after [] h.parts) part.attribute → new.name ≡ walk.name → new.phase ≡ phase.BeforeAttribute → HasAttributes after new (h.parts ++ part ∷ []) → Past table names walk body (p ∷ []) errors h ≡ true
+      → later ≡ (errors ++ e) ++ repeated (names_after [] h.parts) part.attribute → new.name ≡ walk.name → new.phase ≡ phase.BeforeAttributeName → HasAttributes after new (h.parts ++ part ∷ []) → Past table names walk body (p ∷ []) errors h ≡ true
       → IsInTag table after new body (p ∷ []) later
   part_ends part text is after new e later own later_is named before has gone = record {
     name = h.name;
@@ -46,12 +46,12 @@ module _ (table : Entities) (names : Texts) (walk : TagWalk) (body : List Placed
   }
 
   -- an attribute has ended before the character
-  pub attribute_ends : (mid_walk : TagWalk) → KeepsTag walk mid_walk → mid_walk.attribute ≡ walk.attribute → mid_walk.place ≡ walk.place → (name others : List Placed) (value : List ℕ) (e' : List ParseError) → name ++ others ≡ h.held
+  pub attribute_ends : (mid_walk : TagWalk) → KeepsTag walk mid_walk → mid_walk.attribute ≡ walk.attribute → mid_walk.at ≡ walk.at → (name others : List Placed) (value : List ℕ) (e' : List ParseError) → name ++ others ≡ h.held
       → ((end : ℕ) (more : List Placed) → IsPart table end (p ∷ more) (attribute_part name others value e')) → HasName walk name → string_bytes mid_walk.value.text ≡ value → (e mid : List ParseError) → attribute_name_errors name ++ e' ≡ h.own ++ e → mid ≡ errors ++ e
       → (after : Texts) (new : TagWalk) (later : List ParseError) → EndsAttribute names after mid_walk mid new later → Past table names walk body (p ∷ []) errors h ≡ true → IsInTag table after new body (p ∷ []) later
   attribute_ends mid_walk keeps attribute at name others value e' text is has value_is e mid own mid_is after new later ends gone =
       let part : Part = attribute_part name others value e' in
-      let same : part.attribute ≡ Some (attribute_of mid_walk) =
+      let same : part.attribute ≡ Some (walked_attribute mid_walk) =
       ap (λ (x : List ℕ). Some (record { name = x; value = value; at = place 0 name })) (sym has.is ∙ ap string_bytes (sym attribute)) ∙ ap (λ (x : List ℕ). Some (record { name = string_bytes mid_walk.attribute; value = x; at = place 0 name })) (sym value_is)
       ∙ ap (λ (x : ℕ). Some (record { name = string_bytes mid_walk.attribute; value = string_bytes mid_walk.value.text; at = x })) (has.at_is ∙ sym at) in
       let ended = ends.ends h.parts part same (holds_same names walk mid_walk h.parts keeps.seen_is keeps.attrs_are keeps.any_is h.has_attributes) in
@@ -59,12 +59,12 @@ module _ (table : Entities) (names : Texts) (walk : TagWalk) (body : List Placed
 
   -- BEFORE AN ATTRIBUTE
 
-  module _ (before : walk.phase ≡ phase.BeforeAttribute) where
+  module _ (before : walk.phase ≡ phase.BeforeAttributeName) where
     gone : Past table names walk body (p ∷ []) errors h ≡ true
-    gone = past_is table names walk body (p ∷ []) errors h phase.BeforeAttribute before
+    gone = past_is table names walk body (p ∷ []) errors h phase.BeforeAttributeName before
 
     nothing : (h.held ≡ []) × (h.own ≡ [])
-    nothing = held_in table names walk body (p ∷ []) errors h phase.BeforeAttribute before
+    nothing = held_in table names walk body (p ∷ []) errors h phase.BeforeAttributeName before
 
     -- `>`
     pub tag_ends : (new : TagWalk) → new.name ≡ walk.name → new.seen ≡ walk.seen → new.attrs ≡ walk.attrs → new.any ≡ walk.any → new.closing ≡ false → p.ch ≡ 62 → IsWholeTag table names new (body ++ p ∷ []) errors
@@ -103,7 +103,7 @@ module _ (table : Entities) (names : Texts) (walk : TagWalk) (body : List Placed
     }
 
     -- `/`
-    pub solidus_follows : (new : TagWalk) → new.name ≡ walk.name → new.seen ≡ walk.seen → new.attrs ≡ walk.attrs → new.any ≡ walk.any → new.phase ≡ phase.Solidus → p.ch ≡ 47 → IsInTag table names new (body ++ p ∷ []) [] errors
+    pub solidus_follows : (new : TagWalk) → new.name ≡ walk.name → new.seen ≡ walk.seen → new.attrs ≡ walk.attrs → new.any ≡ walk.any → new.phase ≡ phase.SelfClosingStartTag → p.ch ≡ 47 → IsInTag table names new (body ++ p ∷ []) [] errors
     solidus_follows new named seen attrs any then is =
         goes_on table names walk body (p ∷ []) errors h new [] errors (sym (append-nil errors)) named seen attrs any (λ b e. subst (λ (x : TagState). IsPast x b) (sym then) e) gone
         (subst (λ (x : TagState). HasPhase x table new h.parts (h.held ++ p ∷ []) (h.own ++ [])) (sym then) (p, is, ap (λ (x : List Placed). x ++ p ∷ []) nothing.0, append-nil h.own ∙ nothing.1))
@@ -114,28 +114,28 @@ module _ (table : Entities) (names : Texts) (walk : TagWalk) (body : List Placed
         let e : List ParseError = error_if (is_equals p.ch) UnexpectedEqualsSignBeforeAttributeName p.at ++ name_errors_here p in
         goes_on table names walk body (p ∷ []) errors h new e later b.later_is b.keeps.name_is b.keeps.seen_is b.keeps.attrs_are b.keeps.any_is (λ c x. subst (λ (y : TagState). IsPast y c) (sym b.phase_is) x) gone
         (subst (λ (x : TagState). HasPhase x table new h.parts (h.held ++ p ∷ []) (h.own ++ e)) (sym b.phase_is)
-        (subst (λ (x : List Placed). InName new x (h.own ++ e)) (ap (λ (x : List Placed). x ++ p ∷ []) (sym nothing.0)) (record {
-          has_name = record { first = ap not stays; runs = refl; is = b.attribute_is ∙ sym (append-nil _); at_is = sym b.place_is };
+        (subst (λ (x : List Placed). InAttributeName new x (h.own ++ e)) (ap (λ (x : List Placed). x ++ p ∷ []) (sym nothing.0)) (record {
+          has_name = record { first = ap not stays; runs = refl; is = b.attribute_is ∙ sym (append-nil _); at_is = sym b.at_is };
           no_value = b.value_is;
           own_is = ap (λ (x : List ParseError). x ++ e) nothing.1 ∙ ap (λ (x : List ParseError). error_if (is_equals p.ch) UnexpectedEqualsSignBeforeAttributeName p.at ++ x) (sym (append-nil (name_errors_here p)));
         })))
 
   -- AFTER `/`
 
-  module _ (after : walk.phase ≡ phase.Solidus) where
+  module _ (after : walk.phase ≡ phase.SelfClosingStartTag) where
     -- another character is read as before an attribute
-    pub solidus_ends : (new : TagWalk) (later : List ParseError) → new.name ≡ walk.name → new.seen ≡ walk.seen → new.attrs ≡ walk.attrs → new.any ≡ walk.any → new.phase ≡ phase.BeforeAttribute → later ≡ errors ++ error UnexpectedSolidusInTag p.at ∷ []
+    pub solidus_ends : (new : TagWalk) (later : List ParseError) → new.name ≡ walk.name → new.seen ≡ walk.seen → new.attrs ≡ walk.attrs → new.any ≡ walk.any → new.phase ≡ phase.BeforeAttributeName → later ≡ errors ++ error UnexpectedSolidusInTag p.at ∷ []
         → is_greater p.ch ≡ false → IsInTag table names new body (p ∷ []) later
     solidus_ends new later named seen attrs any then later_is other =
-        let e = held_in table names walk body (p ∷ []) errors h phase.Solidus after in
+        let e = held_in table names walk body (p ∷ []) errors h phase.SelfClosingStartTag after in
         let s : Placed = e.0 in
         let part : Part = record { text = s ∷ []; attribute = None; errors = error UnexpectedSolidusInTag p.at ∷ [] } in
         part_ends part (sym e.2) (λ end more. IsPart.solidus s e.1 other refl) names new (error UnexpectedSolidusInTag p.at ∷ []) later (ap (λ (x : List ParseError). x ++ error UnexpectedSolidusInTag p.at ∷ []) (sym e.3))
-        (later_is ∙ sym (append-nil (errors ++ error UnexpectedSolidusInTag p.at ∷ []))) named then (holds_plain names walk new h.parts part refl seen attrs any h.has_attributes) (past_is table names walk body (p ∷ []) errors h phase.Solidus after)
+        (later_is ∙ sym (append-nil (errors ++ error UnexpectedSolidusInTag p.at ∷ []))) named then (holds_plain names walk new h.parts part refl seen attrs any h.has_attributes) (past_is table names walk body (p ∷ []) errors h phase.SelfClosingStartTag after)
 
     pub closing_ends : (new : TagWalk) → new.name ≡ walk.name → new.seen ≡ walk.seen → new.attrs ≡ walk.attrs → new.any ≡ walk.any → new.closing ≡ true → p.ch ≡ 62 → IsWholeTag table names new (body ++ p ∷ []) errors
     closing_ends new named seen attrs any closing is =
-        let e = held_in table names walk body (p ∷ []) errors h phase.Solidus after in
+        let e = held_in table names walk body (p ∷ []) errors h phase.SelfClosingStartTag after in
         record {
           name = h.name;
           parts = h.parts;
@@ -147,20 +147,20 @@ module _ (table : Entities) (names : Texts) (walk : TagWalk) (body : List Placed
           are_parts = λ end rest. subst (AreParts table end h.parts) (sym (append_assoc h.held (p ∷ []) rest)) (h.are_parts end rest);
           errors_are = h.errors_are ∙ ap (λ (x : List ParseError). tag_errors h.name h.parts ++ x) e.3 ∙ append-nil (tag_errors h.name h.parts);
           has_attributes = holds_same names walk new h.parts seen attrs any h.has_attributes;
-          ends = past_is table names walk body (p ∷ []) errors h phase.Solidus after;
+          ends = past_is table names walk body (p ∷ []) errors h phase.SelfClosingStartTag after;
           closes = ap (λ (x : List Placed). characters (x ++ p ∷ [])) e.2 ∙ ap (λ (c : ℕ). c ∷ p.ch ∷ []) e.1 ∙ ap (λ (c : ℕ). 47 ∷ c ∷ []) is ∙ ap tag_close (sym closing);
         }
 
   -- IN AN ATTRIBUTE'S NAME
 
   module _ (in_name : walk.phase ≡ phase.AttributeName) where
-    abbrev named_here : InName walk h.held h.own
+    abbrev named_here : InAttributeName walk h.held h.own
     named_here = held_in table names walk body (p ∷ []) errors h phase.AttributeName in_name
 
     -- it goes on
     pub name_goes_on : (new : TagWalk) (later : List ParseError) → AddsToName walk p errors new later → ends_attribute_name p.ch ≡ false → IsInTag table names new (body ++ p ∷ []) [] later
     name_goes_on new later a stays =
-        letters_follow table names walk body (p ∷ []) errors h in_name new later a.keeps a.phase_is a.place_is a.value_is
+        letters_follow table names walk body (p ∷ []) errors h in_name new later a.keeps a.phase_is a.at_is a.value_is
         (a.attribute_is ∙ ap (λ (x : List ℕ). string_bytes walk.attribute ++ x) (sym (append-nil (encode_utf8 (to_ascii_lowercase (without_null p.ch))))))
         (a.later_is ∙ ap (λ (x : List ParseError). errors ++ x) (sym (append-nil (name_errors_here p)))) (and_both _ true (ap not stays) refl)
 

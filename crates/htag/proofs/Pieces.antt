@@ -1,5 +1,5 @@
 -- Pieces of a value, one after another.
-use Rattle.htag.proofs.Vocabulary.{◌≡◌, ℕ, Bool, true, false, not, ◌&&◌, ◌||◌, eqb, List, [], ◌∷◌, ◌++◌, sym, refl, ap, ◌∙◌, subst, append_assoc, append-nil, arith, encode_utf8_all, encode_utf8, flat_map, nat_tests, flat_map-append, encodes-append, UnexpectedCharacterInUnquotedAttributeValue, ParseError, Placed, characters, all, is_alphanumeric, error_if, null_errors, without_null, and_parts, Entities, Piece, IsPiece, AreValue, pieces_text, plain_piece, value_bytes, is_odd, Begins, pieces_errors, plain_pieces, all-characters, all_weaker}
+use Rattle.htag.proofs.Vocabulary.{◌≡◌, ℕ, Bool, true, false, not, ◌&&◌, ◌||◌, eqb, List, [], ◌∷◌, ◌++◌, sym, refl, ap, ◌∙◌, subst, append_assoc, append-nil, arith, encode_utf8_all, encode_utf8, flat_map, nat_tests, flat_map-append, encodes-append, UnexpectedCharacterInUnquotedAttributeValue, ParseError, Placed, characters, all, is_alphanumeric, error_if, null_errors, without_null, and_parts, Entities, Piece, IsValuePiece, AreValue, pieces_text, plain_piece, value_bytes, is_odd, BeginsPiece, pieces_errors, plain_pieces, all-characters, all_weaker}
 use Rattle.names.specs.Placed.{errors_at}
 
 pub pieces_text-append : (xs ys : List Piece) → pieces_text (xs ++ ys) ≡ pieces_text xs ++ pieces_text ys
@@ -88,24 +88,24 @@ plain_errors quoted text h = alone_errors is_quiet quiet_plain quiet_null quoted
 -- BEGINNINGS OF VALUES
 
 module _ (table : Entities) where
-  pub begins_further : (pieces : List Piece) (next others : List Placed) → Begins table pieces next → Begins table pieces (next ++ others)
+  pub begins_further : (pieces : List Piece) (next others : List Placed) → BeginsPiece table pieces next → BeginsPiece table pieces (next ++ others)
   begins_further pieces next others b = record { value = λ more rest are is. b.value more (others ++ rest) are (is ∙ append_assoc next others rest) }
 
   -- a piece more
-  pub begins_piece : (pieces : List Piece) (piece : Piece) (next : List Placed) → Begins table pieces (piece.text ++ next) → ((rest : List Placed) → IsPiece table true (next ++ rest) piece) → Begins table (pieces ++ piece ∷ []) next
+  pub begins_piece : (pieces : List Piece) (piece : Piece) (next : List Placed) → BeginsPiece table pieces (piece.text ++ next) → ((rest : List Placed) → IsValuePiece table true (next ++ rest) piece) → BeginsPiece table (pieces ++ piece ∷ []) next
   begins_piece pieces piece next b is_piece = record {
     value = λ more rest are is.
         subst (AreValue table) (sym (append_assoc pieces (piece ∷ []) more))
-        (b.value (piece ∷ more) rest (subst (λ (x : List Placed). IsPiece table true x piece) (sym is) (is_piece rest), are) (ap (λ (x : List Placed). piece.text ++ x) is ∙ sym (append_assoc piece.text next rest)));
+        (b.value (piece ∷ more) rest (subst (λ (x : List Placed). IsValuePiece table true x piece) (sym is) (is_piece rest), are) (ap (λ (x : List Placed). piece.text ++ x) is ∙ sym (append_assoc piece.text next rest)));
   }
 
   -- characters more
-  pub begins_alone : (test : ℕ → Bool) → ((c : ℕ) → test c ≡ true → eqb c 38 ≡ false) → (text : List Placed) (pieces : List Piece) (next : List Placed) → all test text ≡ true → Begins table pieces (text ++ next) → Begins table (pieces ++ plain_pieces text) next
-  begins_alone test plain [] pieces next h b = subst (λ (x : List Piece). Begins table x next) (sym (append-nil pieces)) b
+  pub begins_alone : (test : ℕ → Bool) → ((c : ℕ) → test c ≡ true → eqb c 38 ≡ false) → (text : List Placed) (pieces : List Piece) (next : List Placed) → all test text ≡ true → BeginsPiece table pieces (text ++ next) → BeginsPiece table (pieces ++ plain_pieces text) next
+  begins_alone test plain [] pieces next h b = subst (λ (x : List Piece). BeginsPiece table x next) (sym (append-nil pieces)) b
   begins_alone test plain (p ∷ ps) pieces next h b =
       let parts = and_parts (test p.ch) (all test ps) h in
-      subst (λ (x : List Piece). Begins table x next) (append_assoc pieces (plain_piece p ∷ []) (plain_pieces ps))
-      (begins_alone test plain ps (pieces ++ plain_piece p ∷ []) next parts.1 (begins_piece pieces (plain_piece p) (ps ++ next) b (λ rest. IsPiece.plain p (plain p.ch parts.0) refl)))
+      subst (λ (x : List Piece). BeginsPiece table x next) (append_assoc pieces (plain_piece p ∷ []) (plain_pieces ps))
+      (begins_alone test plain ps (pieces ++ plain_piece p ∷ []) next parts.1 (begins_piece pieces (plain_piece p) (ps ++ next) b (λ rest. IsValuePiece.plain p (plain p.ch parts.0) refl)))
 
-  pub begins_plain : (text : List Placed) (pieces : List Piece) (next : List Placed) → all is_quiet text ≡ true → Begins table pieces (text ++ next) → Begins table (pieces ++ plain_pieces text) next
+  pub begins_plain : (text : List Placed) (pieces : List Piece) (next : List Placed) → all is_quiet text ≡ true → BeginsPiece table pieces (text ++ next) → BeginsPiece table (pieces ++ plain_pieces text) next
   begins_plain text pieces next h b = begins_alone is_quiet quiet_plain text pieces next h b

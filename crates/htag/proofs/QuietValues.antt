@@ -1,5 +1,5 @@
 -- Values that are read at once: characters that stand for themselves, and references without errors.
-use Rattle.htag.proofs.Vocabulary.{◌≡◌, ℕ, suc, ◌+◌, ◌-◌, ◌≤◌, ◌<◌, Bool, true, false, not, ◌&&◌, eqb, List, [], ◌∷◌, ◌++◌, length, take, drop, sym, refl, ap, ◌∙◌, subst, append_assoc, append-nil, arith, nat_tests, and_parts, None, Option, encode_utf8_all, flat_map, flat_map-append, list_all, prefix_len, slice_index, all_weaker, take-append-drop, length-drop, length-take-le, take_all, ParseError, Placed, characters, all, error_if, placed, all_placed, Entities, Piece, IsReference, IsRead, characters_of, errors_of, Reference, AreValue, IsPiece, pieces_text, plain_piece, plain_pieces, value_bytes, value_errors}
+use Rattle.htag.proofs.Vocabulary.{◌≡◌, ℕ, suc, ◌+◌, ◌-◌, ◌≤◌, ◌<◌, Bool, true, false, not, ◌&&◌, eqb, List, [], ◌∷◌, ◌++◌, length, take, drop, sym, refl, ap, ◌∙◌, subst, append_assoc, append-nil, arith, nat_tests, and_parts, None, encode_utf8_all, flat_map-append, list_all, prefix_len, slice_index, all_weaker, take-append-drop, length-take-le, take_all, ParseError, Placed, all, error_if, placed, all_placed, Entities, Piece, IsReference, IsRead, characters_of, errors_of, Reference, AreValue, IsValuePiece, pieces_text, plain_pieces, value_bytes, value_errors}
 use Rattle.std.specs.Char.{is_ascii, len_utf8}
 use Rattle.std.specs.Str.{chars, IsUtf8}
 use Rattle.std.proofs.lemmas.Bool.{and_from}
@@ -7,14 +7,13 @@ use Rattle.std.proofs.lemmas.List.{drop-drop, take_at, drop_at, length-append}
 use Rattle.std.proofs.lemmas.List.Folds.{list_all-append}
 use Rattle.std.proofs.lemmas.Str.{chars-nil, encodes-chars}
 use Rattle.charref.specs.declared.reference.Characters.{Characters}
-use Rattle.charref.specs.Reference.{ends_in_semicolon, is_kept, named, kept, unknown, decimal, hexadecimal, no_digits, alone}
-use Rattle.names.specs.declared.error.ErrorCode.{ErrorCode}
+use Rattle.charref.specs.Reference.{ends_in_semicolon, is_kept_as_text, named, kept, unknown, decimal, hexadecimal, no_digits, alone}
 use Rattle.names.specs.declared.error.ErrorCode.TheVariants.{MissingSemicolonAfterCharacterReference}
 use Rattle.htext.specs.Run.{is_clean, is_quoted_byte, IsCut}
 use Rattle.htext.proofs.Clean.{clean_rest, front_of_test}
 use Rattle.htext.proofs.Runs.{take_more}
 use Rattle.htext.proofs.Wide.{cut_more, placed_cut, placed_more}
-use Rattle.htag.specs.AtOnce.{ArePieces, IsQuietFront, IsQuietReference, is_no_reference}
+use Rattle.htag.specs.AtOnce.{IsQuietFront, IsQuietReference, is_no_reference}
 use Rattle.htag.proofs.Ascii.{ascii_chars, ascii_cut, ascii_placed, ascii_taken}
 use Rattle.htag.proofs.InRun.{characters_placed}
 use Rattle.htag.proofs.Pieces.{alone_bytes, alone_errors, pieces_text-append, plain_text, value_bytes-append}
@@ -40,22 +39,34 @@ itself (c ∷ cs) h k =
 
 are_alone : (table : Entities) (text : List Placed) (more : List Piece) → all is_itself text ≡ true → AreValue table more → AreValue table (plain_pieces text ++ more)
 are_alone table [] more h are = are
-are_alone table (p ∷ ps) more h are = let k = and_parts (is_itself p.ch) (all is_itself ps) h in (IsPiece.plain p (no_sign p.ch k.0) refl, are_alone table ps more k.1 are)
+are_alone table (p ∷ ps) more h are = let k = and_parts (is_itself p.ch) (all is_itself ps) h in (IsValuePiece.plain p (no_sign p.ch k.0) refl, are_alone table ps more k.1 are)
+
+-- the front of a run, as characters that stand for themselves
+module _ (run : List ℕ) (count : ℕ) (cut : IsCut count run) (clean : list_all is_clean (chars run) ≡ true) (plain : list_all is_no_reference (chars (take count run)) ≡ true) (at : ℕ) where
+  abbrev front : List Placed
+  front = placed at (chars (take count run))
+
+  pub front_passes : all is_itself (placed at (chars (take count run))) ≡ true
+  front_passes = all_placed is_itself at (chars (take count run)) (itself (chars (take count run)) (clean_rest count run cut clean).0 plain)
+
+  pub front_quiet : value_errors (plain_pieces (placed at (chars (take count run)))) ≡ []
+  front_quiet = alone_errors is_itself no_sign no_null true (λ e. absurd cc) front front_passes
+
+  pub front_bytes : take count run ≡ value_bytes (plain_pieces (placed at (chars (take count run))))
+  front_bytes = sym (alone_bytes is_itself no_sign no_null front front_passes ∙ ap encode_utf8_all (characters_placed at (chars (take count run))) ∙ encodes-chars (take count run) cut.front)
 
 -- this many bytes that are no `&`
 pub plain_front : (table : Entities) (run : List ℕ) (count : ℕ) (old : List ℕ) → IsCut count run → list_all is_clean (chars run) ≡ true → list_all is_no_reference (chars (take count run)) ≡ true → IsQuietFront table run count old (old ++ take count run)
 plain_front table run count old cut clean plain = record {
   cut = cut;
   reads = λ at.
-      let cs = chars (take count run) in
-      let text = placed at cs in
-      let passes : all is_itself text ≡ true = all_placed is_itself at cs (itself cs (clean_rest count run cut clean).0 plain) in
+      let text = placed at (chars (take count run)) in
       record {
         pieces = plain_pieces text;
         text_is = sym (plain_text text);
-        are = λ more are is. are_alone table text more passes are;
-        quiet = alone_errors is_itself no_sign no_null true (λ e. absurd cc) text passes;
-        bytes = ap (λ (x : List ℕ). old ++ x) (sym (alone_bytes is_itself no_sign no_null text passes ∙ ap encode_utf8_all (characters_placed at cs) ∙ encodes-chars (take count run) cut.front));
+        are = λ more are is. are_alone table text more (front_passes run count cut clean plain at) are;
+        quiet = front_quiet run count cut clean plain at;
+        bytes = ap (λ (x : List ℕ). old ++ x) (front_bytes run count cut clean plain at);
       };
 }
 
@@ -119,7 +130,7 @@ more_read table run n m old mid new first then = record {
 -- one that raises no error is one in a value too
 in_value : (table : Entities) (rest : List Placed) (piece : Piece) → IsReference table false rest piece → piece.errors ≡ [] → IsReference table true rest piece
 in_value table rest piece (named amp name entry a b c d e is) quiet = named amp name entry a b c d (closed (ends_in_semicolon entry.key) refl (sym (ap (λ (x : Piece). x.errors) is) ∙ quiet)) is where
-  closed : (b : Bool) → ends_in_semicolon entry.key ≡ b → error_if (not (ends_in_semicolon entry.key)) MissingSemicolonAfterCharacterReference amp.at ≡ [] → is_kept true entry.key rest ≡ false
+  closed : (b : Bool) → ends_in_semicolon entry.key ≡ b → error_if (not (ends_in_semicolon entry.key)) MissingSemicolonAfterCharacterReference amp.at ≡ [] → is_kept_as_text true entry.key rest ≡ false
   closed true f none = rw f refl
   closed false f none = let never : error_if true MissingSemicolonAfterCharacterReference amp.at ≡ [] = ap (λ (b : Bool). error_if (not b) MissingSemicolonAfterCharacterReference amp.at) (sym f) ∙ none in absurd cc
 in_value table rest piece (kept amp entry a b c d is) quiet = absurd cc
@@ -129,7 +140,7 @@ in_value table rest piece (hexadecimal opening digits close a b c d is) quiet = 
 in_value table rest piece (no_digits amp a b c is) quiet = no_digits amp a b c is
 in_value table rest piece (alone amp a b is) quiet = alone amp a b is
 
-no_errors : (found : Reference) → found.missing_semicolon ≡ false → found.fault ≡ None → found.in_run ≡ false → (at : ℕ) (after : List Placed) → errors_of found at after ≡ []
+no_errors : (found : Reference) → found.missing_semicolon ≡ false → found.fault ≡ None → found.is_ambiguous ≡ false → (at : ℕ) (after : List Placed) → errors_of found at after ≡ []
 no_errors found missing fault run at after = rw (missing, fault, run) refl
 
 pub length-placed : (at : ℕ) (xs : List ℕ) → length (placed at xs) ≡ length xs
@@ -138,7 +149,7 @@ length-placed at (x ∷ xs) = ap suc (length-placed (at + len_utf8 x) xs)
 
 -- what a look-up has settled, whatever comes after it
 module _ (table : Entities) (run bytes : List ℕ) (u : IsUtf8 run) (run_is : run ≡ 38 ∷ bytes) (k : ℕ) (within : k ≤ length bytes) (ascii : list_all is_ascii (take k bytes) ≡ true) (found : Reference)
-    (missing : found.missing_semicolon ≡ false) (fault : found.fault ≡ None) (no_run : found.in_run ≡ false) (read : (at : ℕ) (after : List Placed) → IsRead table false (placed at (take k bytes)) after found) where
+    (missing : found.missing_semicolon ≡ false) (fault : found.fault ≡ None) (no_run : found.is_ambiguous ≡ false) (read : (at : ℕ) (after : List Placed) → IsRead table false (placed at (take k bytes)) after found) where
   abbrev own : List ℕ
   own = take (k - found.left) bytes
 
@@ -209,7 +220,7 @@ reference_front table run found count u is old =
           record {
             pieces = piece ∷ [];
             text_is = ap (placed at) (ascii_taken count run within ascii ∙ taken) ∙ sym (append-nil piece.text);
-            are = λ more are rest. (IsPiece.reference (subst (λ (x : List Placed). IsReference table true x piece) (ap (λ (x : List ℕ). placed (at + count) (chars x)) (sym left) ∙ sym rest) (is.reads at)), are);
+            are = λ more are rest. (IsValuePiece.reference (subst (λ (x : List Placed). IsReference table true x piece) (ap (λ (x : List ℕ). placed (at + count) (chars x)) (sym left) ∙ sym rest) (is.reads at)), are);
             quiet = refl;
             bytes = ap (λ (x : List ℕ). old ++ encode_utf8_all x) (sym (append-nil (characters_of found)));
           };

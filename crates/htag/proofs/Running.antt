@@ -1,11 +1,11 @@
 -- A reference of which no key is known when its walk ends: its run of alphanumerics goes on.
-use Rattle.htag.proofs.Vocabulary.{◌≡◌, ℕ, zero, suc, ◌-◌, ◌≤◌, Bool, true, false, true≢false, not, ◌||◌, ◌&&◌, eqb, List, [], ◌∷◌, ◌++◌, length, take, drop, map, slice_get, sym, refl, ap, ◌∙◌, subst, append-nil, arith, Option, Some, None, if◌then◌else◌, option_to_list, codes, ErrorCode, MissingSemicolonAfterCharacterReference, UnknownNamedCharacterReference, ParseError, Placed, characters, lowered, place, begins, all, past, is_alphanumeric, is_space, error, error_if, Reference, IsRead, characters_of, errors_of, Entities, Piece, IsReference, ampersand, and_parts, and_both, longest_among, told, nat_tests}
+use Rattle.htag.proofs.Vocabulary.{◌≡◌, ℕ, zero, suc, ◌-◌, ◌≤◌, Bool, true, false, true≢false, not, ◌||◌, ◌&&◌, eqb, List, [], ◌∷◌, ◌++◌, length, take, drop, map, slice_get, sym, refl, ap, ◌∙◌, subst, append-nil, arith, Option, Some, None, if◌then◌else◌, option_to_list, codes, ErrorCode, MissingSemicolonAfterCharacterReference, UnknownNamedCharacterReference, ParseError, Placed, characters, lowered, place, begins, all, past, is_alphanumeric, is_space, error, error_if, Reference, IsRead, characters_of, errors_of, Entities, Piece, IsReference, ampersand, and_parts, and_both, longest_among, reference_errors, nat_tests}
 use Rattle.std.proofs.Common.{nat_eq, nat_lt, cond}
 use Rattle.std.specs.List.{starts_with}
 use Rattle.std.proofs.lemmas.List.{map-append}
 use Rattle.names.specs.declared.error.ErrorCode.TheVariants.{CharacterReferenceOutsideUnicodeRange, ControlCharacterReference, NoncharacterCharacterReference, NullCharacterReference, SurrogateCharacterReference}
 use Rattle.names.specs.Placed.{is_empty, is_noncharacter}
-use Rattle.charref.specs.Reference.{Entry, longest, longer, ends_in_semicolon, number_from, number_fault, is_surrogate, is_control}
+use Rattle.charref.specs.Reference.{Entry, longest, longer_entry, ends_in_semicolon, number_from, number_fault, is_surrogate, is_control}
 
 -- a key that begins a text begins a longer one
 starts-more : (xs ys key : List ℕ) → starts_with nat_eq xs key ≡ true → starts_with nat_eq (xs ++ ys) key ≡ true
@@ -14,7 +14,7 @@ starts-more [] ys (k ∷ ks) h = absurd cc
 starts-more (x ∷ xs) ys (k ∷ ks) h = let parts = and_parts (nat_eq k x) (starts_with nat_eq xs ks) h in and_both (nat_eq k x) (starts_with nat_eq (xs ++ ys) ks) parts.0 (starts-more xs ys ks parts.1)
 
 -- where no key is the longest, none begins the text
-none_later : (x : Entry) (o : Option Entry) (b : Bool) → cond b (longer x o) o ≡ None → (b ≡ false) × (o ≡ None)
+none_later : (x : Entry) (o : Option Entry) (b : Bool) → cond b (longer_entry x o) o ≡ None → (b ≡ false) × (o ≡ None)
 none_later x o false h = (refl, h)
 none_later x None true h = absurd cc
 none_later x (Some f) true h = grind (arith, nat_tests)
@@ -124,7 +124,7 @@ quiet_piece table amp rest piece (IsReference.alone amp' is none' e) text errors
 pub record IsRunRead (text : List Placed) (found : Reference) : Type 0 where
   pub letters : all is_alphanumeric text ≡ true
   pub left_is : found.left ≡ length text
-  pub nothing : told found 0 ≡ []
+  pub nothing : reference_errors found 0 ≡ []
   pub gives : characters_of found.characters ≡ 38 ∷ []
 
 pub characters-append : (xs ys : List Placed) → characters (xs ++ ys) ≡ characters xs ++ characters ys
@@ -153,7 +153,7 @@ ends_before : (xs : List Placed) → all is_alphanumeric xs ≡ false → begins
 ends_before [] h = absurd cc
 ends_before (x ∷ xs) h = grind (arith, nat_tests, ends_before xs)
 
-module _ (table : Entities) (text : List Placed) (found : Reference) (long : 1 ≤ length text) (read : (after : List Placed) → IsRead table true text after found) (in_run : found.in_run ≡ true) where
+module _ (table : Entities) (text : List Placed) (found : Reference) (long : 1 ≤ length text) (read : (after : List Placed) → IsRead table true text after found) (is_ambiguous : found.is_ambiguous ≡ true) where
   amp : Placed
   amp = record { ch = 38; at = 0 }
 
@@ -167,14 +167,14 @@ module _ (table : Entities) (text : List Placed) (found : Reference) (long : 1 �
   unfolding amp
   reads after = (read after).reads amp refl
 
-  errors_then : errors_of found 0 (semicolon ∷ []) ≡ told found 0 ++ error UnknownNamedCharacterReference 0 ∷ []
-  errors_then = ap (λ (b : Bool). told found 0 ++ error_if (b && true) UnknownNamedCharacterReference 0) in_run
+  errors_then : errors_of found 0 (semicolon ∷ []) ≡ reference_errors found 0 ++ error UnknownNamedCharacterReference 0 ∷ []
+  errors_then = ap (λ (b : Bool). reference_errors found 0 ++ error_if (b && true) UnknownNamedCharacterReference 0) is_ambiguous
 
-  errors_alone : errors_of found 0 [] ≡ told found 0
-  errors_alone = ap (λ (b : Bool). told found 0 ++ error_if (b && false) UnknownNamedCharacterReference 0) in_run ∙ append-nil (told found 0)
+  errors_alone : errors_of found 0 [] ≡ reference_errors found 0
+  errors_alone = ap (λ (b : Bool). reference_errors found 0 ++ error_if (b && false) UnknownNamedCharacterReference 0) is_ambiguous ∙ append-nil (reference_errors found 0)
 
   there : (a : Placed) × Unknown table a (drop (length text - found.left) text ++ semicolon ∷ []) (piece_at (semicolon ∷ []))
-  there = only_unknown table _ (piece_at (semicolon ∷ [])) (reads (semicolon ∷ [])) (ap has_unknown errors_then ∙ ends_unknown (told found 0) 0)
+  there = only_unknown table _ (piece_at (semicolon ∷ [])) (reads (semicolon ∷ [])) (ap has_unknown errors_then ∙ ends_unknown (reference_errors found 0) 0)
 
   text_there : amp ∷ take (length text - found.left) text ≡ there.0 ∷ []
   text_there = ap (λ (x : Piece). x.text) there.1.is
@@ -191,8 +191,8 @@ module _ (table : Entities) (text : List Placed) (found : Reference) (long : 1 �
   all_left : drop (length text - found.left) text ≡ text
   all_left = ap (λ (n : ℕ). drop n text) none_off
 
-  told_there : (told found 0 ≡ []) × (begins (λ c. eqb c 59) (past is_alphanumeric (drop (length text - found.left) text ++ semicolon ∷ [])) ≡ true)
-  told_there = one_error (told found 0) _ _ _ (sym errors_then ∙ ap (λ (x : Piece). x.errors) there.1.is)
+  told_there : (reference_errors found 0 ≡ []) × (begins (λ c. eqb c 59) (past is_alphanumeric (drop (length text - found.left) text ++ semicolon ∷ [])) ≡ true)
+  told_there = one_error (reference_errors found 0) _ _ _ (sym errors_then ∙ ap (λ (x : Piece). x.errors) there.1.is)
 
   letter_first : begins is_alphanumeric (text ++ []) ≡ true
   letter_first = begins_front is_alphanumeric text [] long ∙ sym (begins_front is_alphanumeric text (semicolon ∷ []) long) ∙ ap (λ (x : List Placed). begins is_alphanumeric (x ++ semicolon ∷ [])) (sym all_left) ∙ there.1.letter

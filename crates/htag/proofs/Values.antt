@@ -1,9 +1,9 @@
 -- What follows an attribute's name: `=` and a value.
-use Rattle.htag.proofs.Vocabulary.{◌≡◌, ℕ, Bool, true, false, not, ◌||◌, ◌&&◌, eqb, List, [], ◌∷◌, ◌++◌, sym, refl, ap, ◌∙◌, subst, append_assoc, append-nil, MissingWhitespaceBetweenAttributes, ParseError, Placed, Texts, begins, stops, all, is_space, is_equals, is_greater, is_quote, error, error_if, and_parts, and_both, Entities, TagState, TagWalk, Pending, ValueWalk, pieces_text, value_bytes, HasHeld, IsInValue, EndsValue, pieces_errors, IsPart, ends_name, ends_attribute_name, ends_unquoted, attribute_name_errors, value_errors, unquoted_errors, NoValue, HasPhase, IsPast, IsInTag, KeepsTag, EndsAttribute, InName, arith, nat_tests}
+use Rattle.htag.proofs.Vocabulary.{◌≡◌, ℕ, Bool, true, false, not, ◌||◌, ◌&&◌, eqb, List, [], ◌∷◌, ◌++◌, sym, refl, ap, ◌∙◌, subst, append_assoc, append-nil, MissingWhitespaceBetweenAttributes, ParseError, Placed, Texts, begins, stops, all, is_space, is_equals, is_greater, is_quote, error, error_if, and_parts, and_both, Entities, TagState, TagWalk, Pending, ValueWalk, pieces_text, value_bytes, HasHeld, IsInValue, EndsValue, pieces_errors, IsPart, ends_name, ends_attribute_name, ends_unquoted, attribute_name_errors, value_errors, unquoted_errors, NoValue, HasPhase, IsPast, IsInTag, KeepsTag, EndsAttribute, InAttributeName, arith, nat_tests}
 use Rattle.names.specs.declared.error.ErrorCode.TheVariants.{MissingAttributeValue}
 use Rattle.htag.specs.declared.tag_state.TagState.TheVariants as phase
 use Rattle.htag.specs.ValueWalk.{TakesInValue}
-use Rattle.htag.specs.TagWalk.{PastName}
+use Rattle.htag.specs.TagWalk.{PastAttributeName}
 use Rattle.htag.proofs.InValue.{looks_ahead}
 use Rattle.htag.specs.Tag.{is_sign}
 use Rattle.htag.proofs.Parts.{begins-more, all-snoc}
@@ -29,9 +29,6 @@ pub spaces_sign : (space : List Placed) (p : Placed) → all is_space space ≡ 
 spaces_sign [] p h is = ap (λ (c : ℕ). is_sign (record { ch = c; at = p.at } ∷ [])) is
 spaces_sign (x ∷ xs) p h is = let parts = and_parts (is_space x.ch) (all is_space xs) h in space_first x (xs ++ p ∷ []) parts.0 ∙ spaces_sign xs p parts.1 is
 
-ends_by_space : (c : ℕ) → is_space c ≡ true → ends_attribute_name c ≡ true
-ends_by_space c e = rw e refl
-
 pub sign_stops : (sign : List Placed) → is_sign sign ≡ true → stops ends_attribute_name sign ≡ true
 sign_stops [] h = refl
 sign_stops (x ∷ xs) h = grind (arith, nat_tests)
@@ -52,18 +49,18 @@ begun_value table quoted value n = record {
 
 module _ (table : Entities) (names : Texts) (walk : TagWalk) (body : List Placed) (p : Placed) (errors : List ParseError) (h : IsInTag table names walk body (p ∷ []) errors) where
   -- the same attribute in another phase
-  module _ (new : TagWalk) (named : new.name ≡ walk.name) (seen : new.seen ≡ walk.seen) (attrs : new.attrs ≡ walk.attrs) (any : new.any ≡ walk.any) (attribute : new.attribute ≡ walk.attribute) (at : new.place ≡ walk.place) (value : new.value ≡ walk.value) where
+  module _ (new : TagWalk) (named : new.name ≡ walk.name) (seen : new.seen ≡ walk.seen) (attrs : new.attrs ≡ walk.attrs) (any : new.any ≡ walk.any) (attribute : new.attribute ≡ walk.attribute) (at : new.at ≡ walk.at) (value : new.value ≡ walk.value) where
     moves : (ph : TagState) → new.phase ≡ ph → ((b : Bool) → b ≡ true → IsPast ph b) → Past table names walk body (p ∷ []) errors h ≡ true → HasPhase ph table new h.parts (h.held ++ p ∷ []) h.own → IsInTag table names new (body ++ p ∷ []) [] errors
     moves ph then gone past_it has =
         goes_on table names walk body (p ∷ []) errors h new [] errors (sym (append-nil errors)) named seen attrs any (λ b e. subst (λ (x : TagState). IsPast x b) (sym then) (gone b e)) past_it
         (subst (λ (x : List ParseError). HasPhase new.phase table new h.parts (h.held ++ p ∷ []) x) (sym (append-nil h.own)) (subst (λ (x : TagState). HasPhase x table new h.parts (h.held ++ p ∷ []) h.own) (sym then) has))
 
     -- the character is the first after a name, or one more
-    past_first : (test : List Placed → Bool) → InName walk h.held h.own → test (p ∷ []) ≡ true → ends_attribute_name p.ch ≡ true → PastName test new (h.held ++ p ∷ []) h.own
+    past_first : (test : List Placed → Bool) → InAttributeName walk h.held h.own → test (p ∷ []) ≡ true → ends_attribute_name p.ch ≡ true → PastAttributeName test new (h.held ++ p ∷ []) h.own
     past_first test n is stop =
         record { name = h.held; sign = p ∷ []; held_is = refl; has_name = name_stays walk new h.held attribute at n.has_name; no_value = subst NoValue (sym value) n.no_value; is_sign = is; begun = stop; own_is = n.own_is }
 
-    past_more : (was test : List Placed → Bool) (n : PastName was walk h.held h.own) → test (n.sign ++ p ∷ []) ≡ true → PastName test new (h.held ++ p ∷ []) h.own
+    past_more : (was test : List Placed → Bool) (n : PastAttributeName was walk h.held h.own) → test (n.sign ++ p ∷ []) ≡ true → PastAttributeName test new (h.held ++ p ∷ []) h.own
     past_more was test n is = record {
       name = n.name;
       sign = n.sign ++ p ∷ [];
@@ -80,9 +77,9 @@ module _ (table : Entities) (names : Texts) (walk : TagWalk) (body : List Placed
         moves phase.AfterAttributeName then (λ b e. e) (past_is table names walk body (p ∷ []) errors h phase.AttributeName before)
         (past_first (all is_space) (held_in table names walk body (p ∷ []) errors h phase.AttributeName before) (and_both (is_space p.ch) true is refl) stop)
 
-    pub equals_after_name : walk.phase ≡ phase.AttributeName → new.phase ≡ phase.BeforeValue → p.ch ≡ 61 → IsInTag table names new (body ++ p ∷ []) [] errors
+    pub equals_after_name : walk.phase ≡ phase.AttributeName → new.phase ≡ phase.BeforeAttributeValue → p.ch ≡ 61 → IsInTag table names new (body ++ p ∷ []) [] errors
     equals_after_name before then is =
-        moves phase.BeforeValue then (λ b e. e) (past_is table names walk body (p ∷ []) errors h phase.AttributeName before)
+        moves phase.BeforeAttributeValue then (λ b e. e) (past_is table names walk body (p ∷ []) errors h phase.AttributeName before)
         (past_first is_sign (held_in table names walk body (p ∷ []) errors h phase.AttributeName before) (ap (λ (c : ℕ). is_sign (record { ch = c; at = p.at } ∷ [])) is) (ap ends_attribute_name is))
 
     -- more white space, after a name and after `=`
@@ -91,21 +88,21 @@ module _ (table : Entities) (names : Texts) (walk : TagWalk) (body : List Placed
         let n = held_in table names walk body (p ∷ []) errors h phase.AfterAttributeName before in
         moves phase.AfterAttributeName then (λ b e. e) (past_is table names walk body (p ∷ []) errors h phase.AfterAttributeName before) (past_more _ (all is_space) n (all-snoc is_space n.sign p n.is_sign is))
 
-    pub equals_after_space : walk.phase ≡ phase.AfterAttributeName → new.phase ≡ phase.BeforeValue → p.ch ≡ 61 → IsInTag table names new (body ++ p ∷ []) [] errors
+    pub equals_after_space : walk.phase ≡ phase.AfterAttributeName → new.phase ≡ phase.BeforeAttributeValue → p.ch ≡ 61 → IsInTag table names new (body ++ p ∷ []) [] errors
     equals_after_space before then is =
         let n = held_in table names walk body (p ∷ []) errors h phase.AfterAttributeName before in
-        moves phase.BeforeValue then (λ b e. e) (past_is table names walk body (p ∷ []) errors h phase.AfterAttributeName before) (past_more _ is_sign n (spaces_sign n.sign p n.is_sign is))
+        moves phase.BeforeAttributeValue then (λ b e. e) (past_is table names walk body (p ∷ []) errors h phase.AfterAttributeName before) (past_more _ is_sign n (spaces_sign n.sign p n.is_sign is))
 
-    pub space_after_equals : walk.phase ≡ phase.BeforeValue → new.phase ≡ phase.BeforeValue → is_space p.ch ≡ true → IsInTag table names new (body ++ p ∷ []) [] errors
+    pub space_after_equals : walk.phase ≡ phase.BeforeAttributeValue → new.phase ≡ phase.BeforeAttributeValue → is_space p.ch ≡ true → IsInTag table names new (body ++ p ∷ []) [] errors
     space_after_equals before then is =
-        let n = held_in table names walk body (p ∷ []) errors h phase.BeforeValue before in
-        moves phase.BeforeValue then (λ b e. e) (past_is table names walk body (p ∷ []) errors h phase.BeforeValue before) (past_more _ is_sign n (sign_more n.sign p n.is_sign is))
+        let n = held_in table names walk body (p ∷ []) errors h phase.BeforeAttributeValue before in
+        moves phase.BeforeAttributeValue then (λ b e. e) (past_is table names walk body (p ∷ []) errors h phase.BeforeAttributeValue before) (past_more _ is_sign n (sign_more n.sign p n.is_sign is))
 
     -- a quote
-    pub quote_follows : walk.phase ≡ phase.BeforeValue → new.phase ≡ phase.Quoted p.ch → is_quote p.ch ≡ true → IsInTag table names new (body ++ p ∷ []) [] errors
+    pub quote_follows : walk.phase ≡ phase.BeforeAttributeValue → new.phase ≡ phase.AttributeValueQuoted p.ch → is_quote p.ch ≡ true → IsInTag table names new (body ++ p ∷ []) [] errors
     quote_follows before then is =
-        let n = held_in table names walk body (p ∷ []) errors h phase.BeforeValue before in
-        moves (phase.Quoted p.ch) then (λ b e. e) (past_is table names walk body (p ∷ []) errors h phase.BeforeValue before) (record {
+        let n = held_in table names walk body (p ∷ []) errors h phase.BeforeAttributeValue before in
+        moves (phase.AttributeValueQuoted p.ch) then (λ b e. e) (past_is table names walk body (p ∷ []) errors h phase.BeforeAttributeValue before) (record {
           name = n.name;
           sign = n.sign;
           quote = p ∷ [];
@@ -122,11 +119,11 @@ module _ (table : Entities) (names : Texts) (walk : TagWalk) (body : List Placed
         })
 
   -- the quote that ends the value
-  pub quote_closes : (mark : ℕ) (new : TagWalk) (later : List ParseError) → KeepsTag walk new → new.attribute ≡ walk.attribute → new.place ≡ walk.place → EndsValue walk.value errors new.value later
-      → walk.phase ≡ phase.Quoted mark → new.phase ≡ phase.AfterQuoted → p.ch ≡ mark → IsInTag table names new (body ++ p ∷ []) [] later
+  pub quote_closes : (mark : ℕ) (new : TagWalk) (later : List ParseError) → KeepsTag walk new → new.attribute ≡ walk.attribute → new.at ≡ walk.at → EndsValue walk.value errors new.value later
+      → walk.phase ≡ phase.AttributeValueQuoted mark → new.phase ≡ phase.AfterAttributeValueQuoted → p.ch ≡ mark → IsInTag table names new (body ++ p ∷ []) [] later
   quote_closes mark new later keeps attribute at v before next is =
-      let q = held_in table names walk body (p ∷ []) errors h (phase.Quoted mark) before in
-      goes_on table names walk body (p ∷ []) errors h new v.more later v.later_is keeps.name_is keeps.seen_is keeps.attrs_are keeps.any_is (λ b e. subst (λ (x : TagState). IsPast x b) (sym next) e) (past_is table names walk body (p ∷ []) errors h (phase.Quoted mark) before)
+      let q = held_in table names walk body (p ∷ []) errors h (phase.AttributeValueQuoted mark) before in
+      goes_on table names walk body (p ∷ []) errors h new v.more later v.later_is keeps.name_is keeps.seen_is keeps.attrs_are keeps.any_is (λ b e. subst (λ (x : TagState). IsPast x b) (sym next) e) (past_is table names walk body (p ∷ []) errors h (phase.AttributeValueQuoted mark) before)
       (subst (λ (x : TagState). HasPhase x table new h.parts (h.held ++ p ∷ []) (h.own ++ v.more)) (sym next) (record {
         mark = mark;
         name = q.name;
@@ -147,16 +144,16 @@ module _ (table : Entities) (names : Texts) (walk : TagWalk) (body : List Placed
       }))
 
   -- a value goes on
-  pub quoted_goes_on : (mark : ℕ) (new : TagWalk) (later : List ParseError) → KeepsTag walk new → new.attribute ≡ walk.attribute → new.place ≡ walk.place → TakesInValue table true walk.value p errors new.value later
-      → walk.phase ≡ phase.Quoted mark → new.phase ≡ walk.phase → eqb p.ch mark ≡ false → IsInTag table names new (body ++ p ∷ []) [] later
+  pub quoted_goes_on : (mark : ℕ) (new : TagWalk) (later : List ParseError) → KeepsTag walk new → new.attribute ≡ walk.attribute → new.at ≡ walk.at → TakesInValue table true walk.value p errors new.value later
+      → walk.phase ≡ phase.AttributeValueQuoted mark → new.phase ≡ walk.phase → eqb p.ch mark ≡ false → IsInTag table names new (body ++ p ∷ []) [] later
   quoted_goes_on mark new later keeps attribute at v before same other =
       value_goes_on table names walk body (p ∷ []) errors h new v.more later keeps attribute at same v.later_is mark before v.takes (and_both _ true (ap not other) refl)
 
   -- an attribute in quotes has ended
-  pub quoted_ends : (mid : List ParseError) (after : Texts) (new : TagWalk) (later : List ParseError) → walk.phase ≡ phase.AfterQuoted → mid ≡ errors ++ error_if (not (ends_name p.ch)) MissingWhitespaceBetweenAttributes p.at
+  pub quoted_ends : (mid : List ParseError) (after : Texts) (new : TagWalk) (later : List ParseError) → walk.phase ≡ phase.AfterAttributeValueQuoted → mid ≡ errors ++ error_if (not (ends_name p.ch)) MissingWhitespaceBetweenAttributes p.at
       → EndsAttribute names after walk mid new later → IsInTag table after new body (p ∷ []) later
   quoted_ends mid after new later before mid_is ends =
-      let s = held_in table names walk body (p ∷ []) errors h phase.AfterQuoted before in
+      let s = held_in table names walk body (p ∷ []) errors h phase.AfterAttributeValueQuoted before in
       let v = s.value in
       let fault : List ParseError = error_if (not (ends_name p.ch)) MissingWhitespaceBetweenAttributes p.at in
       attribute_ends table names walk body p errors h walk (keeps_self walk) refl refl s.name (s.sign ++ s.quote ++ pieces_text v.pieces ++ s.close) (value_bytes v.pieces) (value_errors v.pieces ++ fault)
@@ -165,24 +162,24 @@ module _ (table : Entities) (names : Texts) (walk : TagWalk) (body : List Placed
       s.signed s.opens s.is_mark (ap (all (λ c. not (eqb c s.mark))) (sym v.text_is) ∙ s.inside) v.are s.closes refl)
       s.has_name v.bytes fault mid
       (sym (append_assoc (attribute_name_errors s.name) (value_errors v.pieces) fault) ∙ ap (λ (x : List ParseError). (attribute_name_errors s.name ++ x) ++ fault) (sym v.errors_are) ∙ ap (λ (x : List ParseError). x ++ fault) (sym s.own_is)) mid_is after new later ends
-      (past_is table names walk body (p ∷ []) errors h phase.AfterQuoted before)
+      (past_is table names walk body (p ∷ []) errors h phase.AfterAttributeValueQuoted before)
 
   -- `>` in the place of a value
-  pub no_value_ends : (mid : List ParseError) (after : Texts) (new : TagWalk) (later : List ParseError) → walk.phase ≡ phase.BeforeValue → mid ≡ errors ++ error MissingAttributeValue p.at ∷ [] → is_greater p.ch ≡ true
+  pub no_value_ends : (mid : List ParseError) (after : Texts) (new : TagWalk) (later : List ParseError) → walk.phase ≡ phase.BeforeAttributeValue → mid ≡ errors ++ error MissingAttributeValue p.at ∷ [] → is_greater p.ch ≡ true
       → EndsAttribute names after walk mid new later → IsInTag table after new body (p ∷ []) later
   no_value_ends mid after new later before mid_is is ends =
-      let n = held_in table names walk body (p ∷ []) errors h phase.BeforeValue before in
+      let n = held_in table names walk body (p ∷ []) errors h phase.BeforeAttributeValue before in
       let fault : List ParseError = error MissingAttributeValue p.at ∷ [] in
       attribute_ends table names walk body p errors h walk (keeps_self walk) refl refl n.name n.sign [] fault (sym n.held_is)
       (λ end more. IsPart.no_value n.name n.sign (record { first = n.has_name.first; runs = record { passes_none = n.has_name.runs; stops_after = sign_stops n.sign n.is_sign } }) n.is_sign is refl)
-      n.has_name n.no_value.empty fault mid (ap (λ (x : List ParseError). x ++ fault) (sym n.own_is)) mid_is after new later ends (past_is table names walk body (p ∷ []) errors h phase.BeforeValue before)
+      n.has_name n.no_value.empty fault mid (ap (λ (x : List ParseError). x ++ fault) (sym n.own_is)) mid_is after new later ends (past_is table names walk body (p ∷ []) errors h phase.BeforeAttributeValue before)
 
   -- a value without quotes begins
-  pub unquoted_begins : (new : TagWalk) (later : List ParseError) → KeepsTag walk new → new.attribute ≡ walk.attribute → new.place ≡ walk.place → TakesInValue table false walk.value p errors new.value later
-      → walk.phase ≡ phase.BeforeValue → new.phase ≡ phase.Unquoted → not (ends_unquoted p.ch || is_quote p.ch) ≡ true → not (ends_unquoted p.ch) ≡ true → IsInTag table names new (body ++ p ∷ []) [] later
+  pub unquoted_begins : (new : TagWalk) (later : List ParseError) → KeepsTag walk new → new.attribute ≡ walk.attribute → new.at ≡ walk.at → TakesInValue table false walk.value p errors new.value later
+      → walk.phase ≡ phase.BeforeAttributeValue → new.phase ≡ phase.AttributeValueUnquoted → not (ends_unquoted p.ch || is_quote p.ch) ≡ true → not (ends_unquoted p.ch) ≡ true → IsInTag table names new (body ++ p ∷ []) [] later
   unquoted_begins new later keeps attribute at v before next first stays =
-      let n = held_in table names walk body (p ∷ []) errors h phase.BeforeValue before in
-      goes_on table names walk body (p ∷ []) errors h new v.more later v.later_is keeps.name_is keeps.seen_is keeps.attrs_are keeps.any_is (λ b x. subst (λ (y : TagState). IsPast y b) (sym next) x) (past_is table names walk body (p ∷ []) errors h phase.BeforeValue before)
+      let n = held_in table names walk body (p ∷ []) errors h phase.BeforeAttributeValue before in
+      goes_on table names walk body (p ∷ []) errors h new v.more later v.later_is keeps.name_is keeps.seen_is keeps.attrs_are keeps.any_is (λ b x. subst (λ (y : TagState). IsPast y b) (sym next) x) (past_is table names walk body (p ∷ []) errors h phase.BeforeAttributeValue before)
       (subst (λ (x : TagState). HasPhase x table new h.parts (h.held ++ p ∷ []) (h.own ++ v.more)) (sym next) (record {
         name = n.name;
         sign = n.sign;
@@ -198,16 +195,16 @@ module _ (table : Entities) (names : Texts) (walk : TagWalk) (body : List Placed
       }))
 
   -- it goes on
-  pub unquoted_goes_on : (new : TagWalk) (later : List ParseError) → KeepsTag walk new → new.attribute ≡ walk.attribute → new.place ≡ walk.place → TakesInValue table false walk.value p errors new.value later
-      → walk.phase ≡ phase.Unquoted → new.phase ≡ walk.phase → not (ends_unquoted p.ch) ≡ true → IsInTag table names new (body ++ p ∷ []) [] later
+  pub unquoted_goes_on : (new : TagWalk) (later : List ParseError) → KeepsTag walk new → new.attribute ≡ walk.attribute → new.at ≡ walk.at → TakesInValue table false walk.value p errors new.value later
+      → walk.phase ≡ phase.AttributeValueUnquoted → new.phase ≡ walk.phase → not (ends_unquoted p.ch) ≡ true → IsInTag table names new (body ++ p ∷ []) [] later
   unquoted_goes_on new later keeps attribute at v before same stays =
       word_goes_on table names walk body (p ∷ []) errors h new v.more later keeps attribute at same v.later_is before v.takes (and_both _ true stays refl)
 
   -- it ends
-  pub unquoted_ends : (mid_walk : TagWalk) (mid : List ParseError) (after : Texts) (new : TagWalk) (later : List ParseError) → KeepsTag walk mid_walk → mid_walk.attribute ≡ walk.attribute → mid_walk.place ≡ walk.place
-      → EndsValue walk.value errors mid_walk.value mid → walk.phase ≡ phase.Unquoted → ends_unquoted p.ch ≡ true → EndsAttribute names after mid_walk mid new later → IsInTag table after new body (p ∷ []) later
+  pub unquoted_ends : (mid_walk : TagWalk) (mid : List ParseError) (after : Texts) (new : TagWalk) (later : List ParseError) → KeepsTag walk mid_walk → mid_walk.attribute ≡ walk.attribute → mid_walk.at ≡ walk.at
+      → EndsValue walk.value errors mid_walk.value mid → walk.phase ≡ phase.AttributeValueUnquoted → ends_unquoted p.ch ≡ true → EndsAttribute names after mid_walk mid new later → IsInTag table after new body (p ∷ []) later
   unquoted_ends mid_walk mid after new later keeps attribute at e before stop ends =
-      let n = held_in table names walk body (p ∷ []) errors h phase.Unquoted before in
+      let n = held_in table names walk body (p ∷ []) errors h phase.AttributeValueUnquoted before in
       let v = e.ends table false n.text n.raised n.value in
       attribute_ends table names walk body p errors h mid_walk keeps attribute at n.name (n.sign ++ pieces_text v.pieces) (value_bytes v.pieces) (unquoted_errors v.pieces)
       (ap (λ (x : List Placed). n.name ++ (n.sign ++ x)) (sym v.text_is) ∙ sym n.held_is)
@@ -215,4 +212,4 @@ module _ (table : Entities) (names : Texts) (walk : TagWalk) (body : List Placed
       (ap (begins (λ c. not (ends_unquoted c || is_quote c))) (sym v.text_is) ∙ n.first) (record { passes_none = ap (all (λ c. not (ends_unquoted c))) (sym v.text_is) ∙ n.inside; stops_after = stop }) v.are refl)
       n.has_name v.bytes e.more mid
       (ap (λ (x : List ParseError). attribute_name_errors n.name ++ x) (sym v.errors_are) ∙ sym (append_assoc (attribute_name_errors n.name) n.raised e.more) ∙ ap (λ (x : List ParseError). x ++ e.more) (sym n.own_is)) e.later_is
-      after new later ends (past_is table names walk body (p ∷ []) errors h phase.Unquoted before)
+      after new later ends (past_is table names walk body (p ∷ []) errors h phase.AttributeValueUnquoted before)

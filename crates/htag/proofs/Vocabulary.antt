@@ -8,11 +8,11 @@ pub use Rattle.hmarkup.proofs.Marks.{and_parts, and_both, eqb_self}
 pub use Rattle.hmarkup.proofs.Parts.{name_bytes-append}
 pub use Rattle.htag.specs.Attributes.{AttrsMean}
 pub use Rattle.htag.specs.Seen.{HasSeen, has_number}
-pub use Rattle.htag.specs.Steps.{KeepsTag, EndsAttribute, attribute_of}
-pub use Rattle.htag.specs.Tag.{is_odd, AreParts, parts_text, tag_errors, ends_name, ends_attribute_name, ends_unquoted, attribute_name_errors, name_errors_here, Part, attributes_after, Attribute, IsPart, errors_after, has_attribute, named_by, kept, repeated, tag_close, attribute_part, value_errors, unquoted_errors, is_known}
-pub use Rattle.htag.specs.TagWalk.{NoValue, HasName, HasPhase, IsPast, IsInTag, HasAttributes, names_after, NumbersMean, InName, IsWholeTag, WholeOrNot}
-pub use Rattle.htag.specs.Value.{IsPiece, AreValue, pieces_text, plain_piece, value_bytes}
-pub use Rattle.htag.specs.ValueWalk.{Begins, pieces_errors, plain_pieces, IsInValue, told, HasHeld, EndsValue}
+pub use Rattle.htag.specs.Steps.{KeepsTag, EndsAttribute, walked_attribute}
+pub use Rattle.htag.specs.Tag.{is_odd, AreParts, parts_text, tag_errors, ends_name, ends_attribute_name, ends_unquoted, attribute_name_errors, name_errors_here, Part, attributes_after, Attribute, IsPart, part_errors_after, has_attribute, named_by, kept_attribute, repeated, tag_close, attribute_part, value_errors, unquoted_errors, is_known}
+pub use Rattle.htag.specs.TagWalk.{NoValue, HasName, HasPhase, IsPast, IsInTag, HasAttributes, names_after, NumbersMean, InAttributeName, IsWholeTag, WholeOrNot}
+pub use Rattle.htag.specs.Value.{IsValuePiece, AreValue, pieces_text, plain_piece, value_bytes}
+pub use Rattle.htag.specs.ValueWalk.{BeginsPiece, pieces_errors, plain_pieces, IsInValue, reference_errors, HasHeld, EndsValue}
 pub use Rattle.htag.specs.declared.pending.Pending.{Pending}
 pub use Rattle.htag.specs.declared.seen.Seen.{Seen}
 pub use Rattle.htag.specs.declared.tag_state.TagState.{TagState}

@@ -1,5 +1,5 @@
 -- An attribute that stands whole in a run.
-use Rattle.htag.proofs.Vocabulary.{◌≡◌, ◌≤◌, ◌<◌, ℕ, ◌+◌, ◌-◌, Bool, true, false, not, ◌||◌, ◌&&◌, eqb, List, [], ◌∷◌, ◌++◌, length, take, drop, sym, refl, ap, ◌∙◌, subst, append_assoc, append-nil, arith, nat_tests, and_parts, Some, get_or, length-drop, length-take-le, take-append-drop, take_all, string_bytes, flat_map, list_all, len_utf8, ParseError, Placed, MissingWhitespaceBetweenAttributes, UnexpectedEqualsSignBeforeAttributeName, Texts, all, begins, stops, characters, error_if, is_equals, is_greater, is_quote, is_space, name_bytes, past, place, placed, all_weaker, all_placed, Entities, Piece, TagState, TagWalk, AreValue, pieces_text, value_bytes, HasPhase, IsInTag, IsPast, is_unquoted_byte, is_word_byte, Attribute, AreParts, IsPart, Part, attribute_name_errors, attribute_part, ends_attribute_name, ends_name, ends_unquoted, is_odd, name_errors_here, names_after, parts_text, repeated, tag_errors, unquoted_errors, value_errors}
+use Rattle.htag.proofs.Vocabulary.{◌≡◌, ◌≤◌, ◌<◌, ℕ, ◌+◌, ◌-◌, Bool, true, false, not, ◌||◌, eqb, List, [], ◌∷◌, ◌++◌, length, take, drop, sym, refl, ap, ◌∙◌, subst, append_assoc, append-nil, arith, nat_tests, and_parts, Some, get_or, length-take-le, take-append-drop, take_all, string_bytes, flat_map, list_all, len_utf8, ParseError, Placed, MissingWhitespaceBetweenAttributes, UnexpectedEqualsSignBeforeAttributeName, Texts, all, begins, stops, characters, error_if, is_equals, is_greater, is_quote, is_space, name_bytes, past, place, placed, all_weaker, all_placed, Entities, Piece, TagState, TagWalk, AreValue, pieces_text, value_bytes, HasPhase, IsInTag, IsPast, is_unquoted_byte, is_word_byte, Attribute, AreParts, IsPart, Part, attribute_name_errors, attribute_part, ends_attribute_name, ends_name, ends_unquoted, name_errors_here, names_after, parts_text, repeated, tag_errors, unquoted_errors, value_errors}
 use Rattle.std.proofs.Math.Seq.{get_or-append_seam, drop-length}
 use Rattle.std.proofs.lemmas.Bool.{and_from}
 use Rattle.std.proofs.lemmas.List.{length-append, take_at, drop_at, drop-drop}
@@ -46,8 +46,8 @@ ends_attribute c h = grind (arith, h, nat_tests)
 unquoted_begins : (c : ℕ) → is_unquoted_byte c ≡ true → not (ends_unquoted c || is_quote c) ≡ true
 unquoted_begins c h = grind (arith, h, nat_tests)
 
-unquoted_goes_on : (c : ℕ) → is_unquoted_byte c ≡ true → not (ends_unquoted c) ≡ true
-unquoted_goes_on c h = grind (arith, h, nat_tests)
+pub unquoted_inside : (c : ℕ) → is_unquoted_byte c ≡ true → not (ends_unquoted c) ≡ true
+unquoted_inside c h = grind (arith, h, nat_tests)
 
 first_passes : (test other : ℕ → Bool) → ((c : ℕ) → test c ≡ true → other c ≡ true) → (at : ℕ) (xs : List ℕ) → 0 < length xs → list_all test xs ≡ true → begins other (placed at xs) ≡ true
 first_passes test other weaker at [] some h = absurd (omega (arith, some))
@@ -56,7 +56,7 @@ first_passes test other weaker at (x ∷ xs) some h = weaker x (and_parts (test 
 unquoted_long : (byte : ℕ) → 128 ≤ byte → is_unquoted_byte byte ≡ true
 unquoted_long byte l = grind (arith, l, nat_tests)
 
-unquoted_even : (c : ℕ) → is_unquoted_byte c ≡ true → not_odd c ≡ true
+pub unquoted_even : (c : ℕ) → is_unquoted_byte c ≡ true → not_odd c ≡ true
 unquoted_even c h = grind (arith, h, nat_tests)
 
 -- pieces without errors and without characters that are faults
@@ -71,7 +71,7 @@ all_both test (x ∷ xs) ys h =
     let l = all_both test xs ys k.1 in
     (and_from (test x.ch) (all test xs) k.0 l.0, l.1)
 
-even_quiet : (pieces : List Piece) → value_errors pieces ≡ [] → all not_odd (pieces_text pieces) ≡ true → unquoted_errors pieces ≡ []
+pub even_quiet : (pieces : List Piece) → value_errors pieces ≡ [] → all not_odd (pieces_text pieces) ≡ true → unquoted_errors pieces ≡ []
 even_quiet [] none even = refl
 even_quiet (p ∷ ps) none even =
     let errors = no_text p.errors (value_errors ps) none in
@@ -307,7 +307,7 @@ module _ (run : List ℕ) (found : PlainAttribute) (found_is : IsPlainAttribute 
           IsPart.unquoted (placed at name) sign pieces (is_name sign refl) refl
           (ap (begins (λ c. not (ends_unquoted c || is_quote c))) (sym text_is) ∙ first_passes is_unquoted_byte (λ c. not (ends_unquoted c || is_quote c)) unquoted_begins in_value (chars value) (grind (arith, begun, nat_tests)) passes)
           (record {
-            passes_none = ap (all (λ c. not (ends_unquoted c))) (sym text_is) ∙ all_placed (λ c. not (ends_unquoted c)) in_value (chars value) (all_weaker is_unquoted_byte (λ c. not (ends_unquoted c)) unquoted_goes_on (chars value) passes);
+            passes_none = ap (all (λ c. not (ends_unquoted c))) (sym text_is) ∙ all_placed (λ c. not (ends_unquoted c)) in_value (chars value) (all_weaker is_unquoted_byte (λ c. not (ends_unquoted c)) unquoted_inside (chars value) passes);
             stops_after = follows ends_unquoted next rest ends follow;
           })
           are
@@ -323,12 +323,12 @@ module _ (run : List ℕ) (found : PlainAttribute) (found_is : IsPlainAttribute 
           given refl)
 
       -- it has been taken
-      pub whole_taken : (names later_names : Texts) (walk mid new : TagWalk) (body : List Placed) (errors later : List ParseError) → IsInTag table names walk body (next_at at run 0) errors → walk.phase ≡ phase.BeforeAttribute
+      pub whole_taken : (names later_names : Texts) (walk mid new : TagWalk) (body : List Placed) (errors later : List ParseError) → IsInTag table names walk body (next_at at run 0) errors → walk.phase ≡ phase.BeforeAttributeName
           → mid.name ≡ walk.name → mid.seen ≡ walk.seen → mid.attrs ≡ walk.attrs → mid.any ≡ walk.any → EndsAs attribute names later_names mid errors new later
           → IsInTag table later_names new (body ++ placed at (chars (take end run))) (next_at at run end) later
       whole_taken names later_names walk mid new body errors later h before_it name_same seen attrs any ends =
-          let nothing = held_in table names walk body (next_at at run 0) errors h phase.BeforeAttribute before_it in
-          let gone = past_is table names walk body (next_at at run 0) errors h phase.BeforeAttribute before_it in
+          let nothing = held_in table names walk body (next_at at run 0) errors h phase.BeforeAttributeName before_it in
+          let gone = past_is table names walk body (next_at at run 0) errors h phase.BeforeAttributeName before_it in
           let ended = ends.ends h.parts part refl (holds_same names walk mid h.parts seen attrs any h.has_attributes) in
           let ahead : part.text ≡ next_at at run 0 ++ drop 1 part.text = next_then at end run end_cut (omega (arith, found_is.some)) in
           record {

@@ -25,8 +25,8 @@ pub record IsNameBefore (after : List ℕ) (run : List ℕ) (count : ℕ) : Type
   pub words : list_all is_word_byte (letter ∷ letters) ≡ true
 
 -- a tag's name whatever follows, and one with the `>` that ends the tag
-abbrev pub IsName : List ℕ → ℕ → Type 0
-IsName = IsNameBefore []
+abbrev pub IsTagName : List ℕ → ℕ → Type 0
+IsTagName = IsNameBefore []
 
 abbrev pub IsBareName : List ℕ → ℕ → Type 0
 IsBareName = IsNameBefore (62 ∷ [])

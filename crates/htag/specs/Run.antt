@@ -1,6 +1,7 @@
 -- Runs of clean characters in a tag.
 use Rattle.std.specs.Prelude.{◌≡◌, ℕ, ◌+◌, ◌≤◌, Bool, true, false, List, ◌++◌, length, take, drop, Result, MatchResult}
-use Rattle.std.specs.List.{list_all}
+use Rattle.std.specs.Char.{is_ascii}
+use Rattle.std.specs.List.{list_all, prefix_len}
 use Rattle.std.specs.Str.{chars}
 use Rattle.names.specs.declared.error.ParseError.{ParseError}
 use Rattle.names.specs.declared.placed.Placed.{Placed}
@@ -9,7 +10,9 @@ use Rattle.names.specs.declared.refusal.Refusal.TheVariants.{Memory}
 use Rattle.names.specs.Names.{Texts}
 use Rattle.names.specs.Placed.{placed}
 use Rattle.charref.specs.Reference.{Entities}
-use Rattle.htext.specs.Run.{is_word_byte}
+use Rattle.htext.specs.Run.{is_quoted_byte, is_unquoted_byte, is_word_byte}
+use Rattle.htag.specs.declared.tag_state.TagState.{TagState}
+use Rattle.htag.specs.declared.tag_state.TagState.TheVariants as phase
 use Rattle.htag.specs.declared.walk.TagWalk.{TagWalk}
 use Rattle.htag.specs.TagWalk.{IsInTag, IsWholeTag, WholeOrNot}
 
@@ -18,6 +21,12 @@ pub record PushesWords (old run : List ℕ) (count : ℕ) (new : List ℕ) : Typ
   pub few : count ≤ length run
   pub words : list_all is_word_byte (take count run) ≡ true
   pub bytes : new ≡ old ++ take count run
+
+-- So many bytes at the front of a run stand for themselves in the value of an attribute, where a walk is in this state.
+pub data IsValueRun (state : TagState) (run : List ℕ) (count : ℕ) : Type 0 where
+  quoted : (mark : ℕ) → state ≡ phase.AttributeValueQuoted mark → is_ascii mark ≡ true → count ≡ prefix_len (is_quoted_byte mark) run
+      → IsValueRun state run count
+  unquoted : state ≡ phase.AttributeValueUnquoted → count ≡ prefix_len is_unquoted_byte run → IsValueRun state run count
 
 -- what comes next in a run after this many bytes of it, the first of which is at `at`
 abbrev pub next_at : ℕ → List ℕ → ℕ → List Placed
@@ -33,10 +42,10 @@ abbrev pub EndsOrNot : Bool → Entities → Texts → TagWalk → List Placed �
 EndsOrNot true table names walk body ahead errors = IsWholeTag table names walk body errors
 EndsOrNot false table names walk body ahead errors = IsInTag table names walk body ahead errors
 
-abbrev pub TakesFront : Entities → Texts → List Placed → ℕ → List ℕ → Result (ℕ × Bool) Refusal → TagWalk → List ParseError → Type 0
-TakesFront table names body at run answer walk errors =
+abbrev pub TakesTagPart : Entities → Texts → List Placed → ℕ → List ℕ → Result (ℕ × Bool) Refusal → TagWalk → List ParseError → Type 0
+TakesTagPart table names body at run answer walk errors =
     MatchResult answer (λ it. EndsOrNot it.1 table names walk (body ++ placed at (chars (take it.0 run))) (next_at at run it.0) errors) (λ e. e ≡ Memory)
 
-abbrev pub TakesRun : Entities → Texts → List Placed → ℕ → List ℕ → Result (ℕ × Bool) Refusal → TagWalk → List ParseError → Type 0
-TakesRun table names body at run answer walk errors =
+abbrev pub TakesTagRun : Entities → Texts → List Placed → ℕ → List ℕ → Result (ℕ × Bool) Refusal → TagWalk → List ParseError → Type 0
+TakesTagRun table names body at run answer walk errors =
     MatchResult answer (λ it. WholeOrNot it.1 table names walk (body ++ placed at (chars (take it.0 run))) errors) (λ e. e ≡ Memory)

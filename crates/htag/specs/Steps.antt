@@ -19,25 +19,25 @@ use Rattle.htag.specs.TagWalk.{NoValue, names_after, HasAttributes}
 -- A tag of this kind has begun; its name is in the walk already.
 pub record IsBegun (kind : TagKind) (walk : TagWalk) : Type 0 where
   pub kind_is : walk.kind ≡ kind
-  pub in_name : walk.phase ≡ phase.Name
+  pub in_name : walk.phase ≡ phase.TagName
   pub seen : HasSeen walk.seen []
   pub none : walk.attrs.items ≡ []
   pub not_any : walk.any ≡ false
 
 -- the attribute that is being read
-abbrev pub attribute_of : TagWalk → Attribute
-attribute_of walk = record { name = string_bytes walk.attribute; value = string_bytes walk.value.text; at = walk.place }
+abbrev pub walked_attribute : TagWalk → Attribute
+walked_attribute walk = record { name = string_bytes walk.attribute; value = string_bytes walk.value.text; at = walk.at }
 
 -- An attribute has been read to its end: this one is kept, or reported as a duplicate.
 pub record EndsAs (it : Attribute) (before after : Texts) (old : TagWalk) (errors : List ParseError) (new : TagWalk) (later : List ParseError) : Type 0 where
   pub kind_is : new.kind ≡ old.kind
-  pub phase_is : new.phase ≡ phase.BeforeAttribute
+  pub phase_is : new.phase ≡ phase.BeforeAttributeName
   pub name_is : new.name ≡ old.name
   pub ends : (parts : List Part) (part : Part) → part.attribute ≡ Some it → HasAttributes before old parts
       → HasAttributes after new (parts ++ part ∷ []) × (later ≡ errors ++ repeated (names_after [] parts) part.attribute)
 
 abbrev pub EndsAttribute : Texts → Texts → TagWalk → List ParseError → TagWalk → List ParseError → Type 0
-EndsAttribute before after old = EndsAs (attribute_of old) before after old
+EndsAttribute before after old = EndsAs (walked_attribute old) before after old
 
 -- The value of an attribute has been read to its end, and the attribute with it: this value, and these errors in between.
 pub record EndsAttributeValue (before after : Texts) (old : TagWalk) (errors : List ParseError) (new : TagWalk) (later : List ParseError) : Type 0 where
@@ -57,7 +57,7 @@ pub record KeepsTag (old new : TagWalk) : Type 0 where
 pub record AddsToName (old : TagWalk) (p : Placed) (errors : List ParseError) (new : TagWalk) (later : List ParseError) : Type 0 where
   pub keeps : KeepsTag old new
   pub phase_is : new.phase ≡ old.phase
-  pub place_is : new.place ≡ old.place
+  pub at_is : new.at ≡ old.at
   pub value_is : new.value ≡ old.value
   pub attribute_is : string_bytes new.attribute ≡ string_bytes old.attribute ++ encode_utf8 (to_ascii_lowercase (without_null p.ch))
   pub later_is : later ≡ errors ++ name_errors_here p
@@ -65,7 +65,7 @@ pub record AddsToName (old : TagWalk) (p : Placed) (errors : List ParseError) (n
 pub record BeginsAttribute (old : TagWalk) (p : Placed) (errors : List ParseError) (new : TagWalk) (later : List ParseError) : Type 0 where
   pub keeps : KeepsTag old new
   pub phase_is : new.phase ≡ phase.AttributeName
-  pub place_is : new.place ≡ p.at
+  pub at_is : new.at ≡ p.at
   pub value_is : NoValue new.value
   pub attribute_is : string_bytes new.attribute ≡ encode_utf8 (to_ascii_lowercase (without_null p.ch))
   pub later_is : later ≡ errors ++ (error_if (is_equals p.ch) UnexpectedEqualsSignBeforeAttributeName p.at ++ name_errors_here p)

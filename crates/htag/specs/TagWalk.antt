@@ -48,7 +48,7 @@ pub record HasName (walk : TagWalk) (name : List Placed) : Type 0 where
   pub first : begins (λ c. not (ends_name c)) name ≡ true
   pub runs : all (λ c. not (ends_attribute_name c)) (drop 1 name) ≡ true
   pub is : string_bytes walk.attribute ≡ name_bytes name
-  pub at_is : place 0 name ≡ walk.place
+  pub at_is : place 0 name ≡ walk.at
 
 -- nothing is read of a value yet
 pub record NoValue (value : ValueWalk) : Type 0 where
@@ -56,13 +56,13 @@ pub record NoValue (value : ValueWalk) : Type 0 where
   pub nothing : value.reading ≡ reading.Nothing
 
 -- in an attribute's name
-pub record InName (walk : TagWalk) (held : List Placed) (own : List ParseError) : Type 0 where
+pub record InAttributeName (walk : TagWalk) (held : List Placed) (own : List ParseError) : Type 0 where
   pub has_name : HasName walk held
   pub no_value : NoValue walk.value
   pub own_is : own ≡ attribute_name_errors held
 
 -- past it, where such characters are
-pub record PastName (is_such : List Placed → Bool) (walk : TagWalk) (held : List Placed) (own : List ParseError) : Type 0 where
+pub record PastAttributeName (is_such : List Placed → Bool) (walk : TagWalk) (held : List Placed) (own : List ParseError) : Type 0 where
   pub name : List Placed
   pub sign : List Placed
   pub held_is : held ≡ name ++ sign
@@ -73,7 +73,7 @@ pub record PastName (is_such : List Placed → Bool) (walk : TagWalk) (held : Li
   pub own_is : own ≡ attribute_name_errors name
 
 -- in a value, in quotes and without
-pub record InQuotes (table : Entities) (mark : ℕ) (walk : TagWalk) (held : List Placed) (own : List ParseError) : Type 0 where
+pub record InAttributeValueQuoted (table : Entities) (mark : ℕ) (walk : TagWalk) (held : List Placed) (own : List ParseError) : Type 0 where
   pub name : List Placed
   pub sign : List Placed
   pub quote : List Placed
@@ -88,7 +88,7 @@ pub record InQuotes (table : Entities) (mark : ℕ) (walk : TagWalk) (held : Lis
   pub value : IsInValue table true walk.value text [] raised
   pub own_is : own ≡ attribute_name_errors name ++ raised
 
-pub record InUnquoted (table : Entities) (walk : TagWalk) (held : List Placed) (own : List ParseError) : Type 0 where
+pub record InAttributeValueUnquoted (table : Entities) (walk : TagWalk) (held : List Placed) (own : List ParseError) : Type 0 where
   pub name : List Placed
   pub sign : List Placed
   pub text : List Placed
@@ -102,7 +102,7 @@ pub record InUnquoted (table : Entities) (walk : TagWalk) (held : List Placed) (
   pub own_is : own ≡ attribute_name_errors name ++ raised
 
 -- past a value in quotes
-pub record PastQuotes (table : Entities) (walk : TagWalk) (held : List Placed) (own : List ParseError) : Type 0 where
+pub record PastAttributeValueQuoted (table : Entities) (walk : TagWalk) (held : List Placed) (own : List ParseError) : Type 0 where
   pub mark : ℕ
   pub name : List Placed
   pub sign : List Placed
@@ -122,19 +122,19 @@ pub record PastQuotes (table : Entities) (walk : TagWalk) (held : List Placed) (
 
 -- what is held of a part in a phase, and its errors
 abbrev pub HasPhase : TagState → Entities → TagWalk → List Part → List Placed → List ParseError → Type 0
-HasPhase phase.Name table walk parts held own = (parts ≡ []) × (held ≡ []) × (own ≡ [])
-HasPhase phase.BeforeAttribute table walk parts held own = (held ≡ []) × (own ≡ [])
-HasPhase phase.Solidus table walk parts held own = (s : Placed) × (s.ch ≡ 47) × (held ≡ s ∷ []) × (own ≡ [])
-HasPhase phase.AttributeName table walk parts held own = InName walk held own
-HasPhase phase.AfterAttributeName table walk parts held own = PastName (all is_space) walk held own
-HasPhase phase.BeforeValue table walk parts held own = PastName is_sign walk held own
-HasPhase (phase.Quoted mark) table walk parts held own = InQuotes table mark walk held own
-HasPhase phase.Unquoted table walk parts held own = InUnquoted table walk held own
-HasPhase phase.AfterQuoted table walk parts held own = PastQuotes table walk held own
+HasPhase phase.TagName table walk parts held own = (parts ≡ []) × (held ≡ []) × (own ≡ [])
+HasPhase phase.BeforeAttributeName table walk parts held own = (held ≡ []) × (own ≡ [])
+HasPhase phase.SelfClosingStartTag table walk parts held own = (s : Placed) × (s.ch ≡ 47) × (held ≡ s ∷ []) × (own ≡ [])
+HasPhase phase.AttributeName table walk parts held own = InAttributeName walk held own
+HasPhase phase.AfterAttributeName table walk parts held own = PastAttributeName (all is_space) walk held own
+HasPhase phase.BeforeAttributeValue table walk parts held own = PastAttributeName is_sign walk held own
+HasPhase (phase.AttributeValueQuoted mark) table walk parts held own = InAttributeValueQuoted table mark walk held own
+HasPhase phase.AttributeValueUnquoted table walk parts held own = InAttributeValueUnquoted table walk held own
+HasPhase phase.AfterAttributeValueQuoted table walk parts held own = PastAttributeValueQuoted table walk held own
 
 -- past the tag's name a character that ends it is
 abbrev pub IsPast : TagState → Bool → Type 0
-IsPast phase.Name ended = Unit {0}
+IsPast phase.TagName ended = Unit {0}
 IsPast other ended = ended ≡ true
 
 -- The walk has read this text after the mark, its tag goes on, and these errors were raised. `ahead` is known to come next.

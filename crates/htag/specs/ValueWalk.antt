@@ -7,10 +7,10 @@ use Rattle.names.specs.declared.placed.Placed.{Placed}
 use Rattle.names.specs.Placed.{characters, begins, all, past, is_alphanumeric, error, error_if}
 use Rattle.charref.specs.declared.reference.Reference.{Reference}
 use Rattle.charref.specs.declared.walk.Walk.{Walk}
-use Rattle.charref.specs.Held.{kept}
+use Rattle.charref.specs.Held.{held_characters}
 use Rattle.charref.specs.Pieces.{characters_of}
 use Rattle.charref.specs.Reference.{Entities, Piece, IsReference, IsTable, ampersand}
-use Rattle.charref.specs.Walk.{HasTaken}
+use Rattle.charref.specs.Walk.{WalkHasTaken}
 use Rattle.htag.specs.declared.pending.Pending.{Pending}
 use Rattle.htag.specs.declared.pending.Pending.TheVariants as reading
 use Rattle.htag.specs.declared.value.ValueWalk.{ValueWalk}
@@ -26,7 +26,7 @@ abbrev pub plain_pieces : List Placed → List Piece
 plain_pieces text = map plain_piece text
 
 -- A value begins with these pieces, where more of its pieces begin with this text.
-pub record Begins (table : Entities) (pieces : List Piece) (next : List Placed) : Type 0 where
+pub record BeginsPiece (table : Entities) (pieces : List Piece) (next : List Placed) : Type 0 where
   pub value : (more : List Piece) (rest : List Placed) → AreValue table more → pieces_text more ≡ next ++ rest → AreValue table (pieces ++ more)
 
 -- after an `&` that may be a reference's: the characters that may be read again are kept
@@ -36,13 +36,13 @@ pub record InReference (table : Entities) (reference : Walk) (walk : ValueWalk) 
   pub held_is : held ≡ amp ∷ taken
   pub is_amp : amp.ch ≡ 38
   pub is_table : IsTable table
-  pub has_taken : HasTaken reference table true taken
-  pub place_is : walk.place ≡ amp.at
-  pub kept_is : walk.held.items ≡ characters (kept reference.state taken)
+  pub has_taken : WalkHasTaken reference table true taken
+  pub at_is : walk.at ≡ amp.at
+  pub kept_is : walk.held.items ≡ characters (held_characters reference.state taken)
   pub bytes : string_bytes walk.text ≡ value_bytes pieces
 
 -- after an `&` that no key begins: its run of alphanumerics is in the walk's text
-pub record InRun (table : Entities) (walk : ValueWalk) (pieces : List Piece) (held : List Placed) : Type 0 where
+pub record InAmbiguousAmpersand (table : Entities) (walk : ValueWalk) (pieces : List Piece) (held : List Placed) : Type 0 where
   pub amp : Placed
   pub run : List Placed
   pub held_is : held ≡ amp ∷ run
@@ -51,21 +51,21 @@ pub record InRun (table : Entities) (walk : ValueWalk) (pieces : List Piece) (he
   pub unknown : (after : List Placed)
       → IsReference table true (run ++ after) (ampersand amp
       (error_if (begins (λ c. c == 59) (past is_alphanumeric after)) UnknownNamedCharacterReference amp.at))
-  pub place_is : walk.place ≡ amp.at
+  pub at_is : walk.at ≡ amp.at
   pub bytes : string_bytes walk.text ≡ value_bytes pieces ++ encode_utf8_all (38 ∷ characters run)
 
 -- what is held of a piece that is not known yet
 abbrev pub HasHeld : Pending → Entities → ValueWalk → List Piece → List Placed → Type 0
 HasHeld reading.Nothing table walk pieces held = (held ≡ []) × (string_bytes walk.text ≡ value_bytes pieces)
 HasHeld (reading.Reference reference) table walk pieces held = InReference table reference walk pieces held
-HasHeld reading.Run table walk pieces held = InRun table walk pieces held
+HasHeld reading.AmbiguousAmpersand table walk pieces held = InAmbiguousAmpersand table walk pieces held
 
 -- The walk has read this text of a value, in quotes or not, and these errors were raised. `ahead` is known to come next.
 pub record IsInValue (table : Entities) (quoted : Bool) (walk : ValueWalk) (text ahead : List Placed) (errors : List ParseError) : Type 0 where
   pub pieces : List Piece
   pub held : List Placed
   pub text_is : text ≡ pieces_text pieces ++ held
-  pub begins_value : Begins table pieces (held ++ ahead)
+  pub begins_value : BeginsPiece table pieces (held ++ ahead)
   pub errors_are : errors ≡ pieces_errors quoted pieces
   pub has_held : HasHeld walk.reading table walk pieces held
 
@@ -92,13 +92,14 @@ pub record EndsValue (old : ValueWalk) (errors : List ParseError) (new : ValueWa
       → IsWholeValue table quoted new text (own ++ more)
 
 -- the errors of a reference at this place, but for that of its run
-abbrev pub told : Reference → ℕ → List ParseError
-told found at = error_if found.missing_semicolon MissingSemicolonAfterCharacterReference at ++ map (λ code. error code at) (option_to_list found.fault)
+abbrev pub reference_errors : Reference → ℕ → List ParseError
+reference_errors found at = error_if found.missing_semicolon MissingSemicolonAfterCharacterReference at
+    ++ map (λ code. error code at) (option_to_list found.fault)
 
 -- Its characters and its errors are added.
 pub record TellsReference (found : Reference) (old : ValueWalk) (errors : List ParseError) (new : ValueWalk) (later : List ParseError) : Type 0 where
   pub reading_is : new.reading ≡ old.reading
-  pub place_is : new.place ≡ old.place
+  pub at_is : new.at ≡ old.at
   pub held_is : new.held ≡ old.held
   pub bytes : string_bytes new.text ≡ string_bytes old.text ++ encode_utf8_all (characters_of found.characters)
-  pub later_is : later ≡ errors ++ told found old.place
+  pub later_is : later ≡ errors ++ reference_errors found old.at

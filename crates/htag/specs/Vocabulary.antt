@@ -1,8 +1,8 @@
 -- The words of the contracts, in one place.
 pub use Rattle.charref.specs.Reference.{Entities}
 pub use Rattle.charref.specs.declared.walk.Walk.{Walk as Handed}
-pub use Rattle.htag.specs.AtOnce.{IsBareName, IsName, IsPlainAttribute, IsPlainValue, is_no_reference, IsQuietFront, IsQuietReference}
-pub use Rattle.htag.specs.Run.{PushesWords, next_at, TakesFront, TakesRun, TakesWhole}
+pub use Rattle.htag.specs.AtOnce.{IsBareName, IsTagName, IsPlainAttribute, IsPlainValue, is_no_reference, IsQuietFront, IsQuietReference}
+pub use Rattle.htag.specs.Run.{IsValueRun, PushesWords, next_at, TakesTagPart, TakesTagRun, TakesWhole}
 pub use Rattle.htag.specs.Steps.{AddsToName, BeginsAttribute, EndsAs, EndsAttribute, EndsAttributeValue, IsBegun}
 pub use Rattle.htag.specs.Tag.{Attribute, ends_name, is_odd}
 pub use Rattle.htag.specs.TagWalk.{IsCutTag, IsInTag, NoValue, StepsInTag, TakesInTag}

@@ -2,7 +2,7 @@
 
 ghost use Rattle.std.specs.Prelude.{◌≡◌, ◌<◌, ◌≤◌, ◌==◌, ◌+◌, IfSome, length, not, slice_index, true};
 ghost use Rattle.std.specs.List.{prefix_len};
-ghost use Rattle.htag.specs.Vocabulary.{is_quote, is_quoted_byte, IsBareName, IsName, IsPlainAttribute, IsPlainValue, ends_name};
+ghost use Rattle.htag.specs.Vocabulary.{is_quote, is_quoted_byte, IsBareName, IsTagName, IsPlainAttribute, IsPlainValue, ends_name};
 
 use htext::{quoted_run, unquoted_run, word_run};
 
@@ -10,7 +10,7 @@ use htext::{quoted_run, unquoted_run, word_run};
 /// something else is there.
 #[inline(always)]
 pub fn tag_name(run: &[u8]) -> usize
-    ensures { 0 < result → IsName run.now result }
+    ensures { 0 < result → IsTagName run.now result }
 {
     let length = word_run(run);
     if length > 0 && run[0].is_ascii_lowercase() {
@@ -34,14 +34,14 @@ pub fn bare_name(run: &[u8]) -> usize
 /// Whether the `>` of a tag comes after a name of this length.
 #[inline(always)]
 pub fn is_bare(run: &[u8], length: usize) -> bool
-    ensures { result ≡ true → IsName run.now length → IsBareName run.now length }
+    ensures { result ≡ true → IsTagName run.now length → IsBareName run.now length }
 {
     length < run.len() && run[length] == b'>'
 }
 
 /// Whether a byte ends a name.
 #[inline(always)]
-fn ends(byte: u8) -> bool
+pub(crate) fn ends(byte: u8) -> bool
     ensures { result ≡ ends_name byte }
 {
     byte == b'>' || byte == b'/' || byte.is_ascii_whitespace()

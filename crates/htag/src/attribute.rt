@@ -1,6 +1,6 @@
 //! An attribute of a tag.
 
-ghost use Rattle.std.specs.Prelude.{◌≡◌, ◌∷◌, ◌++◌, List, [], slice_get, Some, IfErr, IfOk, OnOk, MatchResult};
+ghost use Rattle.std.specs.Prelude.{◌≡◌, ◌∷◌, ◌++◌, List, [], slice_get, Some, IfErr, OnOk, MatchResult};
 ghost use Rattle.htag.specs.Vocabulary.{AreNames, Attribute, EndsAs, Character, Texts, Grows, Entities, EndsAttribute, EndsAttributeValue, BeginsAttribute, AddsToName, IsInTag, StepsInTag, TakesInTag, Memory};
 
 use crate::push::{Errors, ends_name, keep_if, keep_null, push_lowered};
@@ -27,7 +27,7 @@ impl<'t> TagWalk<'t> {
         keep_if(next.ch == '=', code, next.at, errors)?;
         self.attribute.clear();
         self.value.begin();
-        self.place = next.at;
+        self.at = next.at;
         self.phase = TagState::AttributeName;
         self.add_to_name(next, errors)
     }
@@ -62,7 +62,7 @@ impl<'t> TagWalk<'t> {
             return Ok(false);
         }
         if next.ch == '=' {
-            self.phase = TagState::BeforeValue;
+            self.phase = TagState::BeforeAttributeValue;
             return Ok(false);
         }
         if next.ch == '/' || next.ch == '>' {
@@ -89,7 +89,7 @@ impl<'t> TagWalk<'t> {
             return Ok(false);
         }
         if next.ch == '=' {
-            self.phase = TagState::BeforeValue;
+            self.phase = TagState::BeforeAttributeValue;
             return Ok(false);
         }
         self.past_attribute(names, next, errors)
@@ -97,14 +97,14 @@ impl<'t> TagWalk<'t> {
 
     /// The before attribute value state (`#before-attribute-value-state`).
     #[inline(always)]
-    pub(crate) fn before_value(
+    pub(crate) fn before_attribute_value(
         &mut self,
         table: &'t Table,
         names: &mut Names,
         next: Placed,
         errors: &mut Errors,
     ) -> Result<bool, Refusal>
-        requires { self.old.phase ≡ TagState.BeforeValue }
+        requires { self.old.phase ≡ TagState.BeforeAttributeValue }
         ensures takes { StepsInTag table.now names.old names.new self.old next errors.old.items result self.new errors.new.items }
         ensures grows { Grows names.old names.new }
         ensures kind { OnOk result (self.new.kind ≡ self.old.kind) }
@@ -113,14 +113,14 @@ impl<'t> TagWalk<'t> {
             return Ok(false);
         }
         if next.ch == '"' || next.ch == '\'' {
-            self.phase = TagState::Quoted(next.ch);
+            self.phase = TagState::AttributeValueQuoted(next.ch);
             return Ok(false);
         }
         if next.ch == '>' {
             keep_if(true, ErrorCode::MissingAttributeValue, next.at, errors)?;
             return self.past_attribute(names, next, errors);
         }
-        self.phase = TagState::Unquoted;
+        self.phase = TagState::AttributeValueUnquoted;
         self.value.take(table, false, next, errors)?;
         Ok(false)
     }
@@ -128,20 +128,20 @@ impl<'t> TagWalk<'t> {
     /// The attribute value (double-quoted) and attribute value (single-quoted) states (`#attribute-value-(double-quoted)-state`,
     /// `#attribute-value-(single-quoted)-state`).
     #[inline(always)]
-    pub(crate) fn in_quotes(
+    pub(crate) fn in_attribute_value_quoted(
         &mut self,
         table: &'t Table,
         mark: char,
         next: Placed,
         errors: &mut Errors,
     ) -> Result<bool, Refusal>
-        requires { self.old.phase ≡ TagState.Quoted mark }
+        requires { self.old.phase ≡ TagState.AttributeValueQuoted mark }
         ensures takes { (names : Texts) → StepsInTag table.now names names self.old next errors.old.items result self.new errors.new.items }
         ensures kind { OnOk result (self.new.kind ≡ self.old.kind) }
     {
         if next.ch == mark {
             self.value.end(errors)?;
-            self.phase = TagState::AfterQuoted;
+            self.phase = TagState::AfterAttributeValueQuoted;
             return Ok(false);
         }
         self.value.take(table, true, next, errors)?;
@@ -149,21 +149,21 @@ impl<'t> TagWalk<'t> {
     }
 
     /// The attribute value (unquoted) state (`#attribute-value-(unquoted)-state`).
-    pub(crate) fn in_unquoted(
+    pub(crate) fn in_attribute_value_unquoted(
         &mut self,
         table: &'t Table,
         names: &mut Names,
         next: Placed,
         errors: &mut Errors,
     ) -> Result<bool, Refusal>
-        requires { self.old.phase ≡ TagState.Unquoted }
+        requires { self.old.phase ≡ TagState.AttributeValueUnquoted }
         ensures takes { StepsInTag table.now names.old names.new self.old next errors.old.items result self.new errors.new.items }
         ensures grows { Grows names.old names.new }
         ensures kind { OnOk result (self.new.kind ≡ self.old.kind) }
     {
         if next.ch == '>' || next.ch.is_ascii_whitespace() {
             self.end_value(names, errors)?;
-            return self.before_attribute(next, errors);
+            return self.before_attribute_name(next, errors);
         }
         self.value.take(table, false, next, errors)?;
         Ok(false)
@@ -171,13 +171,13 @@ impl<'t> TagWalk<'t> {
 
     /// The after attribute value (quoted) state (`#after-attribute-value-(quoted)-state`).
     #[inline(always)]
-    pub(crate) fn after_quotes(
+    pub(crate) fn after_attribute_value_quoted(
         &mut self,
         names: &mut Names,
         next: Placed,
         errors: &mut Errors,
     ) -> Result<bool, Refusal>
-        requires { self.old.phase ≡ TagState.AfterQuoted }
+        requires { self.old.phase ≡ TagState.AfterAttributeValueQuoted }
         ensures takes { (table : Entities) → StepsInTag table names.old names.new self.old next errors.old.items result self.new errors.new.items }
         ensures grows { Grows names.old names.new }
         ensures kind { OnOk result (self.new.kind ≡ self.old.kind) }
@@ -203,7 +203,7 @@ impl<'t> TagWalk<'t> {
         ensures kind { OnOk result (self.new.kind ≡ self.old.kind) }
     {
         self.end_attribute(names, errors)?;
-        self.before_attribute(next, errors)
+        self.before_attribute_name(next, errors)
     }
 
     /// A value without quotes, or one that the input cuts off, has been read, and its attribute with it.
@@ -239,7 +239,7 @@ impl<'t> TagWalk<'t> {
     #[inline(always)]
     pub(crate) fn keep(&mut self, attr: Attr, errors: &mut Errors) -> Result<(), Refusal>
         ensures keeps { (before after : Texts) (it : Attribute) → Grows before after → AreNames after → slice_get after attr.name ≡ Some it.name
-            → attr.value ≡ it.value → it.at ≡ self.old.place
+            → attr.value ≡ it.value → it.at ≡ self.old.at
             → OnOk result (EndsAs it before after self.old errors.old.items self.new errors.new.items) }
         ensures memory { IfErr result (λ e. e ≡ Memory) }
         ensures kind { OnOk result (self.new.kind ≡ self.old.kind) }
@@ -248,14 +248,14 @@ impl<'t> TagWalk<'t> {
         if number >= MAX_NUMBER {
             return Err(Refusal::Memory);
         }
-        self.phase = TagState::BeforeAttribute;
+        self.phase = TagState::BeforeAttributeName;
         self.any = true;
         if self.seen.add(number)? {
             self.attrs.push(attr)?;
         } else {
             errors.push(ParseError {
                 code: ErrorCode::DuplicateAttribute,
-                at: self.place,
+                at: self.at,
             })?;
         }
         Ok(())

@@ -12,7 +12,7 @@ mod quiet;
 mod run;
 mod seen;
 mod stamp;
-mod step;
+mod tag_name_state;
 mod tag_state;
 mod value;
 mod walk;

@@ -8,6 +8,7 @@ pub(crate) enum Pending<'t> {
     Nothing,
     /// An `&` and what this walk was handed.
     Reference(Walk<'t>),
-    /// Nothing but an error, at an `&` that no key begins: it is reported if a `;` follows the run of alphanumerics.
-    Run,
+    /// Nothing but an error, at an `&` that no key begins: it is reported if a `;` follows the alphanumerics
+    /// (`#ambiguous-ampersand-state`).
+    AmbiguousAmpersand,
 }

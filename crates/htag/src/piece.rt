@@ -1,8 +1,8 @@
 //! The pieces of a value: characters and references (HTML Standard, `#attribute-value-(double-quoted)-state` to
 //! `#attribute-value-(unquoted)-state` and `#character-reference-state` to `#numeric-character-reference-end-state`).
 
-ghost use Rattle.std.specs.Prelude.{◌≡◌, ◌∷◌, ◌++◌, ◌-◌, ℕ, [], true, false, OnOk, string_bytes, length, drop, encode_utf8_all};
-ghost use Rattle.htag.specs.Vocabulary.{Entities, Handed, plain_piece, NoValue, TakesInValue, EndsValue, TellsReference, pieces_errors, AddsPlain, GivesBack};
+ghost use Rattle.std.specs.Prelude.{◌≡◌, ◌-◌, true, OnOk};
+ghost use Rattle.htag.specs.Vocabulary.{NoValue, TakesInValue, EndsValue, TellsReference, AddsPlain, GivesBack};
 
 use crate::pending::Pending;
 use crate::push::{Errors, is_fault, keep_if, keep_null, push_all, push_value};
@@ -18,7 +18,7 @@ impl<'t> ValueWalk<'t> {
         ValueWalk {
             text: String::new(alloc),
             reading: Pending::Nothing,
-            place: 0,
+            at: 0,
             held: Vec::new(alloc),
         }
     }
@@ -44,7 +44,7 @@ impl<'t> ValueWalk<'t> {
         match self.reading {
             Pending::Nothing => self.take_next(table, quoted, next, errors),
             Pending::Reference(walk) => self.in_reference(walk, table, quoted, next, errors),
-            Pending::Run => self.in_run(table, quoted, next, errors),
+            Pending::AmbiguousAmpersand => self.in_ambiguous_ampersand(table, quoted, next, errors),
         }
     }
 
@@ -55,7 +55,7 @@ impl<'t> ValueWalk<'t> {
         match self.reading {
             Pending::Reference(walk) => self.end_reference(walk, errors),
             Pending::Nothing => Ok(()),
-            Pending::Run => {
+            Pending::AmbiguousAmpersand => {
                 self.reading = Pending::Nothing;
                 Ok(())
             }
@@ -77,7 +77,7 @@ impl<'t> ValueWalk<'t> {
             return self.push(quoted, next, errors);
         }
         self.reading = Pending::Reference(Walk::new(table, true));
-        self.place = next.at;
+        self.at = next.at;
         self.held.clear();
         Ok(())
     }
@@ -120,8 +120,8 @@ impl<'t> ValueWalk<'t> {
             Some(found) => found,
         };
         self.tell(found, errors)?;
-        if found.in_run {
-            self.reading = Pending::Run;
+        if found.is_ambiguous {
+            self.reading = Pending::AmbiguousAmpersand;
             push_all(&mut self.text, &self.held)?;
             self.text.push(next.ch)?;
             return Ok(());
@@ -135,14 +135,14 @@ impl<'t> ValueWalk<'t> {
     }
 
     /// The ambiguous ampersand state (`#ambiguous-ampersand-state`): after an `&` that no key begins.
-    fn in_run(
+    fn in_ambiguous_ampersand(
         &mut self,
         table: &'t Table,
         quoted: bool,
         next: Placed,
         errors: &mut Errors,
     ) -> Result<(), AllocError>
-        requires { self.old.reading ≡ Pending.Run }
+        requires { self.old.reading ≡ Pending.AmbiguousAmpersand }
         ensures { OnOk result (TakesInValue table.now quoted self.old next errors.old.items self.new errors.new.items) }
     {
         if next.ch.is_ascii_alphanumeric() {
@@ -150,7 +150,7 @@ impl<'t> ValueWalk<'t> {
             return Ok(());
         }
         let code = ErrorCode::UnknownNamedCharacterReference;
-        keep_if(next.ch == ';', code, self.place, errors)?;
+        keep_if(next.ch == ';', code, self.at, errors)?;
         self.reading = Pending::Nothing;
         self.take_next(table, quoted, next, errors)
     }
@@ -172,9 +172,9 @@ impl<'t> ValueWalk<'t> {
         ensures { OnOk result (TellsReference found self.old errors.old.items self.new errors.new.items) }
     {
         let code = ErrorCode::MissingSemicolonAfterCharacterReference;
-        keep_if(found.missing_semicolon, code, self.place, errors)?;
+        keep_if(found.missing_semicolon, code, self.at, errors)?;
         if let Some(code) = found.fault {
-            keep_if(true, code, self.place, errors)?;
+            keep_if(true, code, self.at, errors)?;
         }
         found.characters.push_to(&mut self.text)
     }

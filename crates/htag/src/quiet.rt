@@ -19,7 +19,7 @@ fn quiet_reference(table: &Table, run: &str) -> Option<(Characters, usize)>
     ensures { IfSome result (λ it. IsQuietReference table.now run.now it.0 it.1) }
 {
     let (found, count) = Walk::settled(table, &run.as_bytes()[1..])?;
-    if found.missing_semicolon || found.fault.is_some() || found.in_run {
+    if found.missing_semicolon || found.fault.is_some() || found.is_ambiguous {
         return None;
     }
     Some((found.characters, 1 + count - found.left))

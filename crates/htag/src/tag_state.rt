@@ -4,22 +4,22 @@
 #[derive(Clone, Copy)]
 pub(crate) enum TagState {
     /// The tag name state (`#tag-name-state`).
-    Name,
+    TagName,
     /// The before attribute name state (`#before-attribute-name-state`).
-    BeforeAttribute,
+    BeforeAttributeName,
     /// The self-closing start tag state (`#self-closing-start-tag-state`).
-    Solidus,
+    SelfClosingStartTag,
     /// The attribute name state (`#attribute-name-state`).
     AttributeName,
     /// The after attribute name state (`#after-attribute-name-state`).
     AfterAttributeName,
     /// The before attribute value state (`#before-attribute-value-state`).
-    BeforeValue,
+    BeforeAttributeValue,
     /// The attribute value (double-quoted) or attribute value (single-quoted) state, by this quote
     /// (`#attribute-value-(double-quoted)-state`, `#attribute-value-(single-quoted)-state`).
-    Quoted(char),
+    AttributeValueQuoted(char),
     /// The attribute value (unquoted) state (`#attribute-value-(unquoted)-state`).
-    Unquoted,
+    AttributeValueUnquoted,
     /// The after attribute value (quoted) state (`#after-attribute-value-(quoted)-state`).
-    AfterQuoted,
+    AfterAttributeValueQuoted,
 }

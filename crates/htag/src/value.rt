@@ -10,7 +10,7 @@ pub(crate) struct ValueWalk<'t> {
     pub text: String,
     pub reading: Pending<'t>,
     /// The place of the `&` that is being read.
-    pub place: u64,
+    pub at: u64,
     /// The characters after it, but for those of a number.
     pub held: Vec<char>,
 }

@@ -1,7 +1,7 @@
 //! A walk through a tag.
 
 ghost use Rattle.std.specs.Prelude.{◌≡◌, ◌∷◌, ◌++◌, ℕ, List, [], length, true, false, OnOk, IfOk, IfErr, MatchResult, string_bytes};
-ghost use Rattle.htag.specs.Vocabulary.{Character, Texts, Grows, all, begins, is_letter, name_bytes, Entities, Start, End, IsBegun, NoValue, IsInTag, TakesInTag, IsCutTag, IsName, Memory, placed};
+ghost use Rattle.htag.specs.Vocabulary.{Character, Texts, Grows, all, begins, is_letter, name_bytes, Entities, Start, End, IsBegun, NoValue, IsInTag, TakesInTag, IsCutTag, IsTagName, Memory, placed};
 
 use crate::kind::TagKind;
 use crate::push::push_lowered;
@@ -25,7 +25,7 @@ pub struct TagWalk<'t> {
     pub(crate) name: String,
     /// The attribute that is being read: its name, the first byte of it, and its value.
     pub(crate) attribute: String,
-    pub(crate) place: u64,
+    pub(crate) at: u64,
     pub(crate) value: ValueWalk<'t>,
     /// The first attribute of each name.
     pub(crate) attrs: Vec<Attr>,
@@ -47,10 +47,10 @@ impl<'t> TagWalk<'t> {
         TagWalk {
             alloc,
             kind: TagKind::Start,
-            phase: TagState::Name,
+            phase: TagState::TagName,
             name: String::new(alloc),
             attribute: String::new(alloc),
-            place: 0,
+            at: 0,
             value: ValueWalk::new(alloc),
             attrs: Vec::new(alloc),
             seen: Seen::new(alloc),
@@ -76,7 +76,7 @@ impl<'t> TagWalk<'t> {
     #[inline(always)]
     pub fn begin_start(&mut self, name: &str) -> Result<(), AllocError>
         ensures kind { OnOk result (self.new.kind ≡ Start) }
-        ensures begun { OnOk result ((table : Entities) (names : Texts) (at : ℕ) → IsName name.now (length name.now)
+        ensures begun { OnOk result ((table : Entities) (names : Texts) (at : ℕ) → IsTagName name.now (length name.now)
             → IsInTag table names self.new (placed at name.now) [] []) }
     {
         self.name.clear();
@@ -113,15 +113,23 @@ impl<'t> TagWalk<'t> {
     {
         let next = Placed { ch, at };
         match self.phase {
-            TagState::Name => self.in_name(next, errors),
-            TagState::BeforeAttribute => self.before_attribute(next, errors),
-            TagState::Solidus => self.after_solidus(next, errors),
+            TagState::TagName => self.in_tag_name(next, errors),
+            TagState::BeforeAttributeName => self.before_attribute_name(next, errors),
+            TagState::SelfClosingStartTag => self.self_closing_start_tag(next, errors),
             TagState::AttributeName => self.in_attribute_name(names, next, errors),
             TagState::AfterAttributeName => self.after_attribute_name(names, next, errors),
-            TagState::BeforeValue => self.before_value(table, names, next, errors),
-            TagState::Quoted(mark) => self.in_quotes(table, mark, next, errors),
-            TagState::Unquoted => self.in_unquoted(table, names, next, errors),
-            TagState::AfterQuoted => self.after_quotes(names, next, errors),
+            TagState::BeforeAttributeValue => self.before_attribute_value(
+                table, names, next, errors,
+            ),
+            TagState::AttributeValueQuoted(mark) => self.in_attribute_value_quoted(
+                table, mark, next, errors,
+            ),
+            TagState::AttributeValueUnquoted => self.in_attribute_value_unquoted(
+                table, names, next, errors,
+            ),
+            TagState::AfterAttributeValueQuoted => self.after_attribute_value_quoted(
+                names, next, errors,
+            ),
         }
     }
 
@@ -132,12 +140,16 @@ impl<'t> TagWalk<'t> {
         ensures grows { Grows names.old names.new }
     {
         match self.phase {
-            TagState::Name | TagState::BeforeAttribute | TagState::Solidus => Ok(()),
-            TagState::Quoted(_) | TagState::Unquoted => self.end_value(names, errors),
+            TagState::TagName | TagState::BeforeAttributeName | TagState::SelfClosingStartTag => Ok(
+                (),
+            ),
+            TagState::AttributeValueQuoted(_) | TagState::AttributeValueUnquoted => self.end_value(
+                names, errors,
+            ),
             TagState::AttributeName
             | TagState::AfterAttributeName
-            | TagState::BeforeValue
-            | TagState::AfterQuoted => self.end_attribute(names, errors),
+            | TagState::BeforeAttributeValue
+            | TagState::AfterAttributeValueQuoted => self.end_attribute(names, errors),
         }
     }
 
@@ -191,7 +203,7 @@ impl<'t> TagWalk<'t> {
         ensures name { self.new.name ≡ self.old.name }
     {
         self.kind = kind;
-        self.phase = TagState::Name;
+        self.phase = TagState::TagName;
         self.any = false;
         self.attrs.clear();
         self.seen.begin();

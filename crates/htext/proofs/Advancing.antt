@@ -1,5 +1,5 @@
 -- How a front of bytes is read, and the bytes after it.
-use Rattle.htext.proofs.Names.{◌≡◌, ℕ, zero, suc, ◌<◌, ◌≤◌, ◌+◌, ◌-◌, Bool, true, false, List, [], ◌∷◌, ◌++◌, length, map, take, drop, sym, refl, ap, ◌∙◌, subst, arith, append_assoc, append-nil, None, Some, Result, Ok, Err, drop_at, take_at, take-take, take-append-le, length-append, length-take-le, take-append-drop, length-drop, drop-drop, take_all, IsUtf8-nil, chars, IsUtf8, utf8_valid_len, utf8_error_len, utf8_invalid_len, placed, Hands, Refusal, Bom, BadBytes, Refuse, Replace, NextBad, Waits, Refused, next_of, AreBad, Policy, Read, Whole, Bad, reads, normalized, ends_in_return, text_of, valid_len, front_len, decoded, settled, refusal_of, reads_at, CharItem, items, bad_each, HasRead, IsReading, IsRefusedFrom, IsUndecided, HandsOn, Feeds, sink_refused, took_all}
+use Rattle.htext.proofs.Names.{◌≡◌, ℕ, zero, suc, ◌<◌, ◌≤◌, ◌+◌, ◌-◌, Bool, true, false, List, [], ◌∷◌, ◌++◌, length, map, take, drop, sym, refl, ap, ◌∙◌, subst, arith, append_assoc, append-nil, None, Some, Result, Ok, Err, drop_at, take_at, take-take, take-append-le, length-append, length-take-le, take-append-drop, length-drop, drop-drop, take_all, IsUtf8-nil, chars, IsUtf8, utf8_valid_len, utf8_error_len, utf8_invalid_len, placed, Hands, Refusal, Bom, BadBytes, Refuse, Replace, NextBad, Waits, Refused, next_front, AreBad, Policy, Read, Whole, Bad, reads, normalized, ends_in_return, text_of, valid_len, front_len, decoded, settled, refusal_of, reads_at, CharItem, items, bad_each, DecoderHasRead, IsReading, DecodingIsRefusedFrom, IsUndecided, HandsOn, Feeds, sink_refused, took_all}
 use Rattle.std.proofs.lemmas.List.{drop-append-le}
 use Rattle.htext.specs.Next.{AreReplaced}
 use Rattle.htext.specs.Decoding.{Stops, by_sink, by_bytes}
@@ -16,7 +16,7 @@ abbrev pub policy : Bom → BadBytes → ℕ → Policy
 policy bom bad limit = record { bom = bom; bad = bad; limit = limit }
 
 -- what was read of bytes is a front of them where more follow
-module _ (bom : Bom) (bad : BadBytes) (limit read : ℕ) (after_return : Bool) (fed piece : List ℕ) (h : HasRead (policy bom bad limit) read after_return fed) where
+module _ (bom : Bom) (bad : BadBytes) (limit read : ℕ) (after_return : Bool) (fed piece : List ℕ) (h : DecoderHasRead (policy bom bad limit) read after_return fed) where
   read_le : (read ≤ limit) × (read ≤ length fed)
   read_le = (omega (arith, h.length_is, front_le false bad limit fed), omega (arith, h.length_is, front_le false bad limit fed))
 
@@ -187,7 +187,7 @@ module _ (bom : Bom) (bad : BadBytes) (limit read : ℕ) (after_return : Bool) (
         let none : front_len false bad (limit - length front) (drop read all) ≡ 0 = ap (λ (n : ℕ). front_len false bad (limit - n) (drop read all)) len_front ∙ unread in
         ap (front_len false bad limit) (sym (take-append-drop read all)) ∙ omega (arith, front_past false bad limit front (drop read all) front_here within_here, none, len_front)
 
-    pub has_read : HasRead (policy bom bad limit) read after_return all
+    pub has_read : DecoderHasRead (policy bom bad limit) read after_return all
     has_read = record { length_is = sym settled_is; end_is = h.end_is ∙ ap (λ (n : ℕ). ends_in_return false (reads (take n all))) (sym settled_is) }
 
     pub settled_text : settled (policy bom bad limit) all ≡ text_of bom (take read all)
@@ -213,12 +213,12 @@ module _ (bom : Bom) (bad : BadBytes) (limit read : ℕ) (after_return : Bool) (
         (waits_undecided bom bad limit (take read all) (drop read all) front_here within_here stuck_here (subst (λ (n : ℕ). WhatWaits bad (drop read all) (limit - n)) (sym len_front) w))
 
     -- what is left is refused
-    module _ (r : Refusal) (is : next_of bad (drop read all) (limit - read) read ≡ Refused r) where
-      next_here : next_of bad (drop read all) (limit - length (take read all)) (length (take read all)) ≡ Refused r
-      next_here = ap (λ (n : ℕ). next_of bad (drop read all) (limit - n) n) len_front ∙ is
+    module _ (r : Refusal) (is : next_front bad (drop read all) (limit - read) read ≡ Refused r) where
+      next_here : next_front bad (drop read all) (limit - length (take read all)) (length (take read all)) ≡ Refused r
+      next_here = ap (λ (n : ℕ). next_front bad (drop read all) (limit - n) n) len_front ∙ is
 
-      pub refused_here : IsRefusedFrom (policy bom bad limit) all r
-      refused_here = subst (λ (x : List ℕ). IsRefusedFrom (policy bom bad limit) x r) (take-append-drop read all) (refused_from bom bad limit (take read all) (drop read all) front_here within_here stuck_here r next_here)
+      pub refused_here : DecodingIsRefusedFrom (policy bom bad limit) all r
+      refused_here = subst (λ (x : List ℕ). DecodingIsRefusedFrom (policy bom bad limit) x r) (take-append-drop read all) (refused_from bom bad limit (take read all) (drop read all) front_here within_here stuck_here r next_here)
 
       pub settled_here : settled (policy bom bad limit) all ≡ text_of bom (take read all)
       settled_here =
@@ -277,7 +277,7 @@ module _ (bom : Bom) (bad : BadBytes) (limit : ℕ) where
   no_front : front_len false bad limit [] ≡ 0
   no_front = omega (arith, front_le false bad limit [])
 
-  pub nothing_read : HasRead (policy bom bad limit) 0 false []
+  pub nothing_read : DecoderHasRead (policy bom bad limit) 0 false []
   nothing_read = record {
     length_is = sym no_front;
     end_is = ap (ends_in_return false) (sym (reads_nil 0)) ∙ ap (λ (n : ℕ). ends_in_return false (reads (take n []))) (sym no_front);
@@ -335,13 +335,13 @@ module _ {S : Type 0} (gives : S → CharItem → Result (Unit {0}) Refusal → 
     now_stuck : valid_len (limit - (read + length text)) (drop (read + length text) all) ≡ 0
     now_stuck = text_stuck bom bad limit read after_return all h text is
 
-    pub refused_stops : (r : Refusal) → next_of bad (drop (read + length text) all) (limit - (read + length text)) (read + length text) ≡ Refused r → Stops gives (policy bom bad limit) before all old r new
+    pub refused_stops : (r : Refusal) → next_front bad (drop (read + length text) all) (limit - (read + length text)) (read + length text) ≡ Refused r → Stops gives (policy bom bad limit) before all old r new
     refused_stops r e =
         by_bytes (subst (λ (x : List Read). HandsOn gives before x old (Ok tt) new) (sym (settled_here bom bad limit _ _ all now_reading now_stuck r e)) (text_handed (Ok tt) handed))
         (refused_here bom bad limit _ _ all now_reading now_stuck r e)
 
-    pub waits_now : next_of bad (drop (read + length text) all) (limit - (read + length text)) (read + length text) ≡ Waits
-        → HandsOn gives before (settled (policy bom bad limit) all) old (Ok tt) new × HasRead (policy bom bad limit) (read + length text) (ends_in_return after_return (map Whole (placed read (chars text)))) all × IsUndecided (policy bom bad limit) all
+    pub waits_now : next_front bad (drop (read + length text) all) (limit - (read + length text)) (read + length text) ≡ Waits
+        → HandsOn gives before (settled (policy bom bad limit) all) old (Ok tt) new × DecoderHasRead (policy bom bad limit) (read + length text) (ends_in_return after_return (map Whole (placed read (chars text)))) all × IsUndecided (policy bom bad limit) all
     waits_now e =
         let w = what_waits bad _ _ _ e in
         let unread = unread_here bom bad limit _ _ all now_reading now_stuck w in (
@@ -354,7 +354,7 @@ module _ {S : Type 0} (gives : S → CharItem → Result (Unit {0}) Refusal → 
     abbrev IsBadAfter : ℕ → List Read → Type 0
     IsBadAfter n parts = IsReading (policy bom bad limit) (read + length text + n) false all × (text_of bom (take (read + length text + n) all) ≡ text_of bom (take (read + length text) all) ++ parts)
 
-    pub replaced_after : (n : ℕ) → next_of bad (drop (read + length text) all) (limit - (read + length text)) (read + length text) ≡ NextBad n → IsBadAfter n (Bad (read + length text) ∷ [])
+    pub replaced_after : (n : ℕ) → next_front bad (drop (read + length text) all) (limit - (read + length text)) (read + length text) ≡ NextBad n → IsBadAfter n (Bad (read + length text) ∷ [])
     replaced_after n e = let w = what_is_bad bad _ _ _ n e in (bad_reading bom bad limit _ _ all now_reading n w, bad_text bom bad limit _ _ all now_reading n w)
 
     pub each_after : (n : ℕ) → AreReplaced bad (drop (read + length text) all) (limit - (read + length text)) n → 0 < n → IsBadAfter n (bad_each (read + length text) n)
@@ -369,7 +369,7 @@ module _ {S : Type 0} (gives : S → CharItem → Result (Unit {0}) Refusal → 
 
 -- ONE PIECE MORE
 
-module _ (bom : Bom) (bad : BadBytes) (limit read : ℕ) (after_return : Bool) (fed piece joined left : List ℕ) (h : HasRead (policy bom bad limit) read after_return fed) (l : left ≡ drop read fed) (j : joined ≡ left ++ piece) where
+module _ (bom : Bom) (bad : BadBytes) (limit read : ℕ) (after_return : Bool) (fed piece joined left : List ℕ) (h : DecoderHasRead (policy bom bad limit) read after_return fed) (l : left ≡ drop read fed) (j : joined ≡ left ++ piece) where
   pub joined_is : joined ≡ drop read (fed ++ piece)
   joined_is = j ∙ ap (λ (x : List ℕ). x ++ piece) l ∙ sym (left_on bom bad limit read after_return fed piece h)
 

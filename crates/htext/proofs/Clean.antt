@@ -1,5 +1,5 @@
 -- Where a text is cut by the count of bytes that pass a test.
-use Rattle.htext.proofs.Names.{◌≡◌, ℕ, ◌<◌, ◌≤◌, ◌+◌, zero, suc, Bool, true, false, not, cond, List, [], ◌∷◌, ◌++◌, length, take, drop, sym, refl, ap, ◌∙◌, subst, arith, inl, inr, encode_utf8_all, list_all, prefix_len, and_parts, and_from, cases_lt, nat_tests, take_at, drop_at, take-append-drop, length-append, list_all-append, encodes-chars, chars-nil, encode_ascii, IsUtf8-nil, scalars, chars, IsUtf8, encode_utf8, is_plain_byte, is_plain, is_clean, is_clean_byte, is_text_byte, is_inner_byte, IsCut, IsCleanFront}
+use Rattle.htext.proofs.Names.{◌≡◌, ℕ, ◌<◌, ◌≤◌, ◌+◌, zero, suc, Bool, true, false, not, cond, List, [], ◌∷◌, ◌++◌, length, take, drop, sym, refl, ap, ◌∙◌, subst, arith, inl, inr, encode_utf8_all, list_all, prefix_len, and_parts, and_from, cases_lt, nat_tests, take_at, drop_at, take-append-drop, length-append, list_all-append, encodes-chars, chars-nil, encode_ascii, IsUtf8-nil, scalars, chars, IsUtf8, encode_utf8, is_plain_byte, is_plain_character, is_clean, is_clean_byte, is_text_byte, is_inner_byte, IsCut, IsCleanFront}
 use Rattle.std.proofs.lemmas.Bool.{not-true}
 use Rattle.std.proofs.lemmas.Str.{chars-encodes, encodes-append}
 use Rattle.htext.proofs.Plain.{BeginsOutside, clean_bytes, other_bytes, long_bytes, begins_anew, plain_of_text, plain_of_inner}
@@ -104,11 +104,11 @@ outer_bytes c h = elim (cases_lt c 128) [
 ]
 
 module _ (run : List ℕ) (utf8 : IsUtf8 run) (clean : list_all is_clean (chars run) ≡ true) where
-  pub text_front : IsCut (prefix_len is_text_byte run) run × (list_all is_plain (chars (take (prefix_len is_text_byte run) run)) ≡ true)
+  pub text_front : IsCut (prefix_len is_text_byte run) run × (list_all is_plain_character (chars (take (prefix_len is_text_byte run) run)) ≡ true)
   text_front =
       let n : ℕ = prefix_len is_text_byte run in
       let (cut, text) = front_of_test is_text_byte (λ byte l. grind (arith, l, nat_tests)) run utf8 in
-      (cut, both_pass is_clean is_text_byte is_plain plain_of_text (chars (take n run)) (clean_rest n run cut clean).0 text)
+      (cut, both_pass is_clean is_text_byte is_plain_character plain_of_text (chars (take n run)) (clean_rest n run cut clean).0 text)
 
   pub inner_front : IsCut (prefix_len is_inner_byte run) run × (list_all is_plain_byte (take (prefix_len is_inner_byte run) run) ≡ true)
   inner_front =

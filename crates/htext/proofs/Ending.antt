@@ -1,6 +1,6 @@
 -- The end of an input.
-use Rattle.htext.proofs.Names.{◌≡◌, ℕ, ◌<◌, ◌≤◌, ◌+◌, ◌-◌, Bool, true, false, List, [], ◌∷◌, ◌++◌, length, take, drop, sym, refl, ap, ◌∙◌, subst, arith, append-nil, None, Some, Option, Result, Ok, Err, nat_tests, length-drop, take-append-drop, take_all, unwrap_or, utf8_valid_len, utf8_error_len, utf8_invalid_len, Hands, Refusal, NotUtf8, Bom, BadBytes, Refuse, Replace, Front, NextBad, Waits, Refused, next_of, Read, Bad, normalized, ends_in_return, reads, text_of, valid_len, fitting_within, fitting, front_len, refusal_of, refusal_with, decoded, settled, reads_at, CharItem, items, HasRead, IsReading, IsUndecided, HandsOn}
-use Rattle.htext.specs.Decoding.{Ends, end_refused, end_reached, answer_at_end}
+use Rattle.htext.proofs.Names.{◌≡◌, ℕ, ◌<◌, ◌≤◌, ◌+◌, ◌-◌, Bool, true, false, List, [], ◌∷◌, ◌++◌, length, take, drop, sym, refl, ap, ◌∙◌, subst, arith, append-nil, None, Some, Option, Result, Ok, Err, nat_tests, length-drop, take-append-drop, take_all, unwrap_or, utf8_valid_len, utf8_error_len, utf8_invalid_len, Hands, Refusal, NotUtf8, Bom, BadBytes, Refuse, Replace, Front, NextBad, Waits, Refused, next_front, Read, Bad, normalized, ends_in_return, reads, text_of, valid_len, fitting_within, fitting, front_len, refusal_of, refusal_with, decoded, settled, reads_at, CharItem, items, DecoderHasRead, IsReading, IsUndecided, HandsOn}
+use Rattle.htext.specs.Decoding.{EndsDecoding, end_refused, end_reached, answer_at_end}
 use Rattle.htext.proofs.Valid.{refusal_within, refusal_past}
 use Rattle.htext.proofs.Errors.{error_bounds}
 use Rattle.htext.proofs.Parts.{reads_nil, reads_after_bad}
@@ -16,7 +16,7 @@ unfolding fitting_within
 stuck_by Refuse room rest unread = unread
 stuck_by Replace room rest unread = omega (arith, unread)
 
-module _ (bom : Bom) (bad : BadBytes) (limit read : ℕ) (after_return : Bool) (fed : List ℕ) (h : HasRead (policy bom bad limit) read after_return fed) (u : IsUndecided (policy bom bad limit) fed) where
+module _ (bom : Bom) (bad : BadBytes) (limit read : ℕ) (after_return : Bool) (fed : List ℕ) (h : DecoderHasRead (policy bom bad limit) read after_return fed) (u : IsUndecided (policy bom bad limit) fed) where
   reading : IsReading (policy bom bad limit) read after_return fed
   reading = subst (IsReading (policy bom bad limit) read after_return) (append-nil fed) (reading_on bom bad limit read after_return fed [] h)
 
@@ -36,7 +36,7 @@ module _ (bom : Bom) (bad : BadBytes) (limit read : ℕ) (after_return : Bool) (
   stuck = stuck_by bad (limit - read) (drop read fed) unread
 
   -- what is held waits
-  waits_by : (next : Front) → next_of bad (drop read fed) (limit - read) read ≡ next → WhatWaits bad (drop read fed) (limit - read)
+  waits_by : (next : Front) → next_front bad (drop read fed) (limit - read) read ≡ next → WhatWaits bad (drop read fed) (limit - read)
   waits_by (NextBad n) e =
       let w = what_is_bad bad _ _ _ n e in
       let more = bad_reading bom bad limit read after_return fed reading n w in
@@ -46,14 +46,14 @@ module _ (bom : Bom) (bad : BadBytes) (limit read : ℕ) (after_return : Bool) (
   waits_by (Refused r) e = absurd (u r (λ more. (refused_here bom bad limit read after_return fed reading stuck r e more).0))
 
   held : WhatWaits bad (drop read fed) (limit - read)
-  held = waits_by (next_of bad (drop read fed) (limit - read) read) refl
+  held = waits_by (next_front bad (drop read fed) (limit - read) read) refl
 
   pub read_all : length (drop read fed) ≡ 0 → read ≡ length fed
   read_all none = omega (arith, none, length-drop read fed, h.length_is, front_le false bad limit fed)
 
   module _ {S : Type 0} (gives : S → CharItem → Result (Unit {0}) Refusal → S → Type 0) (old : S) where
     -- nothing is held
-    pub ends_at_once : length (drop read fed) ≡ 0 → Ends gives (policy bom bad limit) fed old (Ok tt) old
+    pub ends_at_once : length (drop read fed) ≡ 0 → EndsDecoding gives (policy bom bad limit) fed old (Ok tt) old
     ends_at_once nothing =
         let all : front_len true bad limit fed ≡ length fed = omega (arith, past true, read_all nothing, front_le true bad limit fed) in
         let same : front_len true bad limit fed ≡ front_len false bad limit fed = omega (arith, all, read_all nothing, h.length_is) in
@@ -62,7 +62,7 @@ module _ (bom : Bom) (bad : BadBytes) (limit read : ℕ) (after_return : Bool) (
         (sym (ap answer_at_end none))
 
 -- what is held is no UTF-8
-not_utf8_at_end : (bom : Bom) (limit read : ℕ) (after_return : Bool) (fed : List ℕ) → HasRead (policy bom Refuse limit) read after_return fed → IsUndecided (policy bom Refuse limit) fed → 0 < length (drop read fed) → refusal_of (policy bom Refuse limit) fed ≡ Some (NotUtf8 read)
+not_utf8_at_end : (bom : Bom) (limit read : ℕ) (after_return : Bool) (fed : List ℕ) → DecoderHasRead (policy bom Refuse limit) read after_return fed → IsUndecided (policy bom Refuse limit) fed → 0 < length (drop read fed) → refusal_of (policy bom Refuse limit) fed ≡ Some (NotUtf8 read)
 not_utf8_at_end bom limit read after_return fed h u some =
     let now = reading bom Refuse limit read after_return fed h u in
     let front : List ℕ = take read fed in
@@ -81,7 +81,7 @@ held_read at rest none open' some =
     ∙ reads_after_bad at rest [] (ap utf8_valid_len alone ∙ none) (ap utf8_invalid_len alone ∙ ap (λ (o : Option ℕ). unwrap_or o (length rest)) open') some
     ∙ ap (λ (x : List Read). Bad at ∷ x) (reads_nil (at + length rest))
 
-module _ (bom : Bom) (limit read : ℕ) (after_return : Bool) (fed : List ℕ) (h : HasRead (policy bom Replace limit) read after_return fed) (u : IsUndecided (policy bom Replace limit) fed) where
+module _ (bom : Bom) (limit read : ℕ) (after_return : Bool) (fed : List ℕ) (h : DecoderHasRead (policy bom Replace limit) read after_return fed) (u : IsUndecided (policy bom Replace limit) fed) where
   pub held_fits : read + length (drop read fed) ≤ limit
   held_fits = omega (arith, (held bom Replace limit read after_return fed h u).fits refl, (reading bom Replace limit read after_return fed h u).within)
 
@@ -102,16 +102,16 @@ module _ (bom : Bom) (limit read : ℕ) (after_return : Bool) (fed : List ℕ) (
       ∙ ap (λ (n : ℕ). text_of bom (take n fed) ++ Bad read ∷ []) h.length_is
 
   module _ {S : Type 0} (gives : S → CharItem → Result (Unit {0}) Refusal → S → Type 0) (old new : S) where
-    replaced_ends : (answer : Result (Unit {0}) Refusal) → 0 < length (drop read fed) → Hands gives old (items (Bad read ∷ [])) answer new → Ends gives (policy bom Replace limit) fed old answer new
+    replaced_ends : (answer : Result (Unit {0}) Refusal) → 0 < length (drop read fed) → Hands gives old (items (Bad read ∷ [])) answer new → EndsDecoding gives (policy bom Replace limit) fed old answer new
     replaced_ends (Ok tt) some handed =
         let none : refusal_of (policy bom Replace limit) fed ≡ None = (replaced bom limit fed).1 (omega (arith, held_fits, length-drop read fed)) in
         end_reached (Bad read ∷ [], replaced_text some, handed) (sym (ap answer_at_end none))
     replaced_ends (Err e) some handed = end_refused e refl (Bad read ∷ [], replaced_text some, handed)
 
 pub ends_held : {S : Type 0} (gives : S → CharItem → Result (Unit {0}) Refusal → S → Type 0) (old new : S) (answer : Result (Unit {0}) Refusal) (bom : Bom) (bad : BadBytes) (limit read : ℕ) (after_return : Bool) (fed left : List ℕ)
-    → HasRead (policy bom bad limit) read after_return fed → IsUndecided (policy bom bad limit) fed → left ≡ drop read fed → 0 < length left
+    → DecoderHasRead (policy bom bad limit) read after_return fed → IsUndecided (policy bom bad limit) fed → left ≡ drop read fed → 0 < length left
     → (bad ≡ Refuse → (answer ≡ Err (NotUtf8 read)) × (new ≡ old)) → (bad ≡ Replace → read + length left ≤ limit → Hands gives old (items (Bad read ∷ [])) answer new)
-    → Ends gives (policy bom bad limit) fed old answer new
+    → EndsDecoding gives (policy bom bad limit) fed old answer new
 ends_held gives old new answer bom Refuse limit read after_return fed left h u is some refused replaced' =
     let some' : 0 < length (drop read fed) = omega (arith, ap length is) in
     let end : answer ≡ answer_at_end (refusal_of (policy bom Refuse limit) fed) = (refused refl).0 ∙ sym (ap answer_at_end (not_utf8_at_end bom limit read after_return fed h u some')) in

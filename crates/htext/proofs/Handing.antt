@@ -1,5 +1,5 @@
 -- How items are handed to a sink.
-use Rattle.htext.proofs.Names.{◌≡◌, ℕ, suc, ◌+◌, ◌-◌, ◌<◌, Bool, eqb, List, [], ◌∷◌, ◌++◌, sym, refl, ap, ◌∙◌, subst, Result, Ok, Err, append_assoc, append-nil, map, true, false, length, arith, length-append, nil_from_length, chars_past_char, chars-nil, chars, IsUtf8, encode_utf8, len_utf8, placed, Hands, Continues, Refusal, Bom, Policy, Read, Whole, Bad, read_as, normalized, refusal_of, decoded, settled, CharItem, Character, InputError, items, bad_each, HandsOn, Feeds, IsRefusedFrom, sink_refused, took_all}
+use Rattle.htext.proofs.Names.{◌≡◌, ℕ, suc, ◌+◌, ◌-◌, ◌<◌, Bool, eqb, List, [], ◌∷◌, ◌++◌, sym, refl, ap, ◌∙◌, subst, Result, Ok, Err, append_assoc, append-nil, map, true, false, length, arith, length-append, nil_from_length, chars_past_char, chars-nil, chars, IsUtf8, encode_utf8, len_utf8, placed, Hands, Continues, Refusal, Bom, Policy, Read, Whole, Bad, read_as, normalized, refusal_of, decoded, settled, CharItem, Character, InputError, items, bad_each, HandsOn, Feeds, DecodingIsRefusedFrom, sink_refused, took_all}
 use Rattle.std.proofs.Common.{MatchResult}
 use Rattle.std.specs.Prelude.{⊤}
 use Rattle.names.specs.Placed.{error}
@@ -20,7 +20,7 @@ nothing_more : (xs ys zs whole : List Read) → whole ≡ (xs ++ ys) ++ zs → w
 nothing_more xs ys zs whole e same =
     nil_from_length ys (omega (arith, ap length e, ap length same, length-append (xs ++ ys) zs, length-append xs ys))
 
-stays_same : (how : Policy) (bytes more : List ℕ) (e : Refusal) → IsRefusedFrom how bytes e → settled how (bytes ++ more) ≡ settled how bytes
+stays_same : (how : Policy) (bytes more : List ℕ) (e : Refusal) → DecodingIsRefusedFrom how bytes e → settled how (bytes ++ more) ≡ settled how bytes
 stays_same how bytes more e refused =
     let on = goes_on false how.bom how.bad how.limit bytes more in
     let later = goes_on true how.bom how.bad how.limit (bytes ++ more) [] in
@@ -67,7 +67,7 @@ module _ {S : Type 0} (gives : S → CharItem → Result (Unit {0}) Refusal → 
         sink_refused e is (λ more. subst (λ (x : List ℕ). HandsOn gives (settled how fed) (decoded how (x ++ more)) old (Err e) new) (append_assoc fed first second)
         (HandsOn-append _ (settled how (fed ++ first)) _ old between (Err e) new handed (refused more)))
     Feeds-append fed first second old between answer new handed (took_all took answered) =
-        subst (λ (x : List ℕ). HandsOn gives (settled how fed) (settled how x) old (Ok tt) new → MatchResult answer (λ _. ⊤) (IsRefusedFrom how x) → Feeds gives how fed (first ++ second) old answer new) (sym (append_assoc fed first second)) took_all
+        subst (λ (x : List ℕ). HandsOn gives (settled how fed) (settled how x) old (Ok tt) new → MatchResult answer (λ _. ⊤) (DecodingIsRefusedFrom how x) → Feeds gives how fed (first ++ second) old answer new) (sym (append_assoc fed first second)) took_all
         (HandsOn-append _ (settled how (fed ++ first)) _ old between (Ok tt) new handed took) answered
 
     -- what is refused stays so

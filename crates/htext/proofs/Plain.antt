@@ -1,5 +1,5 @@
 -- Plain and clean characters, and the bytes of characters in UTF-8.
-use Rattle.htext.proofs.Names.{◌≡◌, ℕ, ◌<◌, ◌≤◌, ◌+◌, ◌/◌, ◌%◌, Bool, true, false, eqb, List, [], ◌∷◌, refl, arith, nat_le, list_all, nat_tests, encode_utf8, Bom, Whole, read_as, Character, items_of, is_plain_byte, is_plain, is_clean, is_clean_byte, is_inner_byte, is_text_byte}
+use Rattle.htext.proofs.Names.{◌≡◌, ℕ, ◌<◌, ◌≤◌, ◌+◌, ◌/◌, ◌%◌, Bool, true, false, eqb, List, [], ◌∷◌, refl, arith, nat_le, list_all, nat_tests, encode_utf8, Bom, Whole, read_as, Character, read_items, is_plain_byte, is_plain_character, is_clean, is_clean_byte, is_inner_byte, is_text_byte}
 use Rattle.std.specs.Prelude.{◌&&◌}
 use Rattle.std.proofs.lemmas.Bool.{or_left}
 use Rattle.htext.proofs.Beginnings.{BytesOf, takes_one, takes_two, takes_three, takes_four, bytes_of}
@@ -8,10 +8,10 @@ use Rattle.htext.proofs.Beginnings.{BytesOf, takes_one, takes_two, takes_three, 
 pub plain_small : (x : ℕ) → is_plain_byte x ≡ true → x < 127
 plain_small x h = grind (arith, nat_tests)
 
-pub byte_plain : (x : ℕ) → is_plain_byte x ≡ true → is_plain x ≡ true
+pub byte_plain : (x : ℕ) → is_plain_byte x ≡ true → is_plain_character x ≡ true
 byte_plain x h = or_left (is_plain_byte x) (nat_le 0xC0 x && nat_le x 0xEFFF) h
 
-pub plain_of_text : (c : ℕ) → is_clean c ≡ true → is_text_byte c ≡ true → is_plain c ≡ true
+pub plain_of_text : (c : ℕ) → is_clean c ≡ true → is_text_byte c ≡ true → is_plain_character c ≡ true
 plain_of_text c h m = grind (arith, nat_tests)
 
 pub plain_of_inner : (c : ℕ) → is_clean c ≡ true → is_inner_byte c ≡ true → is_plain_byte c ≡ true
@@ -25,7 +25,7 @@ no_return x h = grind (arith, nat_tests)
 pub as_it_came : (bom : Bom) (x at : ℕ) → is_clean x ≡ true → read_as bom false (record { ch = x; at = at }) ≡ record { ch = x; at = at } ∷ []
 as_it_came bom x at h = grind (arith, nat_tests)
 
-pub item_alone : (x at : ℕ) → is_clean x ≡ true → items_of (Whole (record { ch = x; at = at })) ≡ Character (record { ch = x; at = at }) ∷ []
+pub item_alone : (x at : ℕ) → is_clean x ≡ true → read_items (Whole (record { ch = x; at = at })) ≡ Character (record { ch = x; at = at }) ∷ []
 item_alone x at h = let rest : (x < 0xF000 → x % 0x10000 < 0xF000) = λ h. omega arith in grind (arith, nat_tests, rest)
 
 -- IN UTF-8

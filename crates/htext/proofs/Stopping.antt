@@ -1,5 +1,5 @@
 -- What is left of bytes after a front, and doesn't fit or isn't settled.
-use Rattle.htext.proofs.Names.{◌≡◌, ℕ, suc, ◌<◌, ◌≤◌, ◌+◌, ◌-◌, Bool, true, false, List, [], ◌++◌, length, take, drop, sym, refl, ap, ◌∙◌, arith, append_assoc, append-nil, Option, None, Some, nat_tests, length-append, take_at, utf8_valid_len, utf8_error_len, Refusal, TooLarge, Bom, BadBytes, Refuse, Replace, Waits, Refused, next_of, valid_len, bad_len, after_part, fitting_within, front_len, refusal_of, StaysRefused, text_of, IsRefusedFrom, IsUndecided}
+use Rattle.htext.proofs.Names.{◌≡◌, ℕ, suc, ◌<◌, ◌≤◌, ◌+◌, ◌-◌, Bool, true, false, List, [], ◌++◌, length, take, drop, sym, refl, ap, ◌∙◌, arith, append_assoc, append-nil, Option, None, Some, nat_tests, length-append, take_at, utf8_valid_len, utf8_error_len, Refusal, TooLarge, Bom, BadBytes, Refuse, Replace, Waits, Refused, next_front, valid_len, bad_len, after_part, fitting_within, front_len, refusal_of, DecodingStaysRefused, text_of, DecodingIsRefusedFrom, IsUndecided}
 use Rattle.htext.specs.declared.progress.Front.TheVariants.{Bad}
 use Rattle.htext.proofs.Valid.{going_on}
 use Rattle.htext.proofs.Errors.{error_bounds, error_more, error_open}
@@ -20,19 +20,19 @@ fit_stuck e k room bytes stuck long =
 
 -- WHAT IS REFUSED
 
-part_next : (rest : List ℕ) (room at : ℕ) (r : Refusal) → next_of Replace rest room at ≡ Refused r → (e : Bool) (more : List ℕ) (m : ℕ) → bad_len e (rest ++ more) ≡ Some m → room < m
+part_next : (rest : List ℕ) (room at : ℕ) (r : Refusal) → next_front Replace rest room at ≡ Refused r → (e : Bool) (more : List ℕ) (m : ℕ) → bad_len e (rest ++ more) ≡ Some m → room < m
 part_next rest room at r is e more m h =
     grind (arith, nat_tests, going_on rest more, error_more rest more, error_bounds rest, error_open rest more, length-append rest more)
 
-pub stuck_by : (bad : BadBytes) (rest : List ℕ) (room at : ℕ) → valid_len room rest ≡ 0 → (r : Refusal) → next_of bad rest room at ≡ Refused r → (e : Bool) (more : List ℕ) → front_len e bad room (rest ++ more) ≡ 0
+pub stuck_by : (bad : BadBytes) (rest : List ℕ) (room at : ℕ) → valid_len room rest ≡ 0 → (r : Refusal) → next_front bad rest room at ≡ Refused r → (e : Bool) (more : List ℕ) → front_len e bad room (rest ++ more) ≡ 0
 stuck_by Refuse rest room at stuck r is e more = valid_next Refuse rest room at r is stuck more
 stuck_by Replace rest room at stuck r is e more = fit_stuck e (length (rest ++ more)) room (rest ++ more) (valid_next Replace rest room at r is stuck more) (part_next rest room at r is e more)
 
-too_large_next : (rest : List ℕ) (room at : ℕ) (r : Refusal) → next_of Replace rest room at ≡ Refused r → r ≡ TooLarge at
+too_large_next : (rest : List ℕ) (room at : ℕ) (r : Refusal) → next_front Replace rest room at ≡ Refused r → r ≡ TooLarge at
 too_large_next rest room at r is = grind (arith, nat_tests)
 
-pub refused_by : (bom : Bom) (bad : BadBytes) (limit : ℕ) (front rest : List ℕ) → IsFront bad front rest → length front ≤ limit → valid_len (limit - length front) rest ≡ 0 → (r : Refusal) → next_of bad rest (limit - length front) (length front) ≡ Refused r
-    → StaysRefused (record { bom = bom; bad = bad; limit = limit }) (front ++ rest) r
+pub refused_by : (bom : Bom) (bad : BadBytes) (limit : ℕ) (front rest : List ℕ) → IsFront bad front rest → length front ≤ limit → valid_len (limit - length front) rest ≡ 0 → (r : Refusal) → next_front bad rest (limit - length front) (length front) ≡ Refused r
+    → DecodingStaysRefused (record { bom = bom; bad = bad; limit = limit }) (front ++ rest) r
 refused_by bom Refuse limit front rest u within stuck r is more = stays_refused limit front rest u within stuck r is more
 refused_by bom Replace limit front rest p within stuck r is more =
     ap (refusal_of (record { bom = bom; bad = Replace; limit = limit })) (append_assoc front rest more)
@@ -46,8 +46,8 @@ only_front e bad limit front rest h within stuck =
     let len : length front ≡ front_len e bad limit (front ++ rest) = omega (arith, front_past e bad limit front rest h within, stuck) in
     take_at front rest (front_len e bad limit (front ++ rest)) len
 
-pub refused_from : (bom : Bom) (bad : BadBytes) (limit : ℕ) (front rest : List ℕ) → IsFront bad front rest → length front ≤ limit → valid_len (limit - length front) rest ≡ 0 → (r : Refusal) → next_of bad rest (limit - length front) (length front) ≡ Refused r
-    → IsRefusedFrom (record { bom = bom; bad = bad; limit = limit }) (front ++ rest) r
+pub refused_from : (bom : Bom) (bad : BadBytes) (limit : ℕ) (front rest : List ℕ) → IsFront bad front rest → length front ≤ limit → valid_len (limit - length front) rest ≡ 0 → (r : Refusal) → next_front bad rest (limit - length front) (length front) ≡ Refused r
+    → DecodingIsRefusedFrom (record { bom = bom; bad = bad; limit = limit }) (front ++ rest) r
 refused_from bom bad limit front rest h within stuck r is more =
     let none : (e : Bool) (xs : List ℕ) → front_len e bad (limit - length front) (rest ++ xs) ≡ 0 = stuck_by bad rest (limit - length front) (length front) stuck r is in
     let now : front_len false bad (limit - length front) rest ≡ 0 = ap (front_len false bad (limit - length front)) (sym (append-nil rest)) ∙ none false [] in (
@@ -69,10 +69,10 @@ pub record WhatIsBad (bad : BadBytes) (rest : List ℕ) (room n : ℕ) : Type 0 
   pub is_bad : utf8_error_len rest ≡ Some n
   pub fits : n ≤ room
 
-pub what_waits : (bad : BadBytes) (rest : List ℕ) (room at : ℕ) → next_of bad rest room at ≡ Waits → WhatWaits bad rest room
+pub what_waits : (bad : BadBytes) (rest : List ℕ) (room at : ℕ) → next_front bad rest room at ≡ Waits → WhatWaits bad rest room
 what_waits bad rest room at e = record { none = grind (arith, nat_tests); is_open = grind (arith, nat_tests); fits = grind (arith, nat_tests) }
 
-pub what_is_bad : (bad : BadBytes) (rest : List ℕ) (room at n : ℕ) → next_of bad rest room at ≡ Bad n → WhatIsBad bad rest room n
+pub what_is_bad : (bad : BadBytes) (rest : List ℕ) (room at n : ℕ) → next_front bad rest room at ≡ Bad n → WhatIsBad bad rest room n
 what_is_bad bad rest room at n e =
     record { how = grind (arith, nat_tests); none = grind (arith, nat_tests); is_bad = grind (arith, nat_tests); fits = grind (arith, nat_tests) }
 

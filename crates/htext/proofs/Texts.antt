@@ -1,10 +1,10 @@
 -- Laws of texts.
-use Rattle.htext.proofs.Names.{◌≡◌, ℕ, zero, suc, ◌+◌, ◌-◌, ◌≤◌, ◌<◌, Bool, true, false, cond, ◌&&◌, subst, List, [], ◌∷◌, ◌++◌, length, take, drop, sym, refl, ap, ◌∙◌, arith, append_assoc, eqb, map, length-append, length-drop, length-take-le, take-append-drop, take-append-add, encodes-chars, length-encode, len_utf8_bounds, utf8_valid_len_le, chars, utf8_valid_len, utf8_invalid_len, encode_utf8, len_utf8, placed, Placed, BadBytes, Bom, Read, Whole, Bad, character_of, PlacesRise, read_as, reads, reads_within, normalized, ends_in_return, text, front_len, reads_at, CharItem, Character, InputError, items_of, items}
+use Rattle.htext.proofs.Names.{◌≡◌, ℕ, zero, suc, ◌+◌, ◌-◌, ◌≤◌, ◌<◌, Bool, true, false, cond, ◌&&◌, subst, List, [], ◌∷◌, ◌++◌, length, take, drop, sym, refl, ap, ◌∙◌, arith, append_assoc, eqb, map, length-append, length-drop, length-take-le, take-append-drop, take-append-add, encodes-chars, length-encode, len_utf8_bounds, utf8_valid_len_le, chars, utf8_valid_len, utf8_invalid_len, encode_utf8, len_utf8, placed, Placed, BadBytes, Bom, Read, Whole, Bad, character_of, PlacesRise, read_as, reads, reads_within, normalized, ends_in_return, text, front_len, reads_at, CharItem, Character, InputError, read_items, items}
 use Rattle.std.proofs.Common.{◌||◌}
 use Rattle.std.specs.Str.{encode_utf8_all}
 use Rattle.names.specs.declared.error.ParseError.{ParseError}
 use Rattle.htext.specs.Text.{is_dropped_mark}
-use Rattle.htext.specs.Items.{errors_of, input_errors, characters_among, errors_among}
+use Rattle.htext.specs.Items.{read_errors, input_errors, characters_among, errors_among}
 use Rattle.htext.proofs.Valid.{front_utf8}
 use Rattle.htext.proofs.Parts.{more_left}
 use Rattle.htext.proofs.Errors.{invalid_bounds}
@@ -100,7 +100,7 @@ text_rises bom bytes =
 -- what is handed over of a text
 pub items-append : (xs ys : List Read) → items (xs ++ ys) ≡ items xs ++ items ys
 items-append [] ys = refl
-items-append (r ∷ rs) ys = ap (λ (x : List CharItem). items_of r ++ x) (items-append rs ys) ∙ sym (append_assoc (items_of r) (items rs) (items ys))
+items-append (r ∷ rs) ys = ap (λ (x : List CharItem). read_items r ++ x) (items-append rs ys) ∙ sym (append_assoc (read_items r) (items rs) (items ys))
 
 past_errors : (es : List ParseError) (p : Placed) (rest : List CharItem) → characters_among ((map InputError es ++ Character p ∷ []) ++ rest) ≡ p ∷ characters_among rest
 past_errors [] p rest = refl
@@ -112,8 +112,8 @@ among_errors (e ∷ es) p rest = ap (λ (x : List ParseError). e ∷ x) (among_e
 
 pub characters_among-items : (text : List Read) → characters_among (items text) ≡ map character_of text
 characters_among-items [] = refl
-characters_among-items (r ∷ rs) = past_errors (errors_of r) (character_of r) (items rs) ∙ ap (λ (x : List Placed). character_of r ∷ x) (characters_among-items rs)
+characters_among-items (r ∷ rs) = past_errors (read_errors r) (character_of r) (items rs) ∙ ap (λ (x : List Placed). character_of r ∷ x) (characters_among-items rs)
 
 pub errors_among-items : (text : List Read) → errors_among (items text) ≡ input_errors text
 errors_among-items [] = refl
-errors_among-items (r ∷ rs) = among_errors (errors_of r) (character_of r) (items rs) ∙ ap (λ (x : List ParseError). errors_of r ++ x) (errors_among-items rs)
+errors_among-items (r ∷ rs) = among_errors (read_errors r) (character_of r) (items rs) ∙ ap (λ (x : List ParseError). read_errors r ++ x) (errors_among-items rs)

@@ -3,7 +3,7 @@ use Rattle.std.specs.Prelude.{◌≡◌, ℕ, ◌≤◌, Bool, false, List, ◌+
 use Rattle.names.specs.Sink.{Hands}
 use Rattle.names.specs.declared.refusal.Refusal.{Refusal}
 use Rattle.names.specs.declared.refusal.Refusal.TheVariants.{Memory}
-use Rattle.htext.specs.Text.{Policy, Read, reads, front_len, settled_len, ends_in_return, refusal_of, StaysRefused, decoded, settled}
+use Rattle.htext.specs.Text.{Policy, Read, reads, front_len, settled_len, ends_in_return, refusal_of, DecodingStaysRefused, decoded, settled}
 use Rattle.htext.specs.Items.{CharItem, items}
 
 -- what contracts see of a decoder
@@ -15,13 +15,13 @@ pub record DecoderState : Type 0 where
   pub refused : Option Refusal
 
 -- What is read of the bytes whatever follows them has been read: `read` bytes, with a CR at their end or not.
-pub record HasRead (how : Policy) (read : ℕ) (after_return : Bool) (bytes : List ℕ) : Type 0 where
+pub record DecoderHasRead (how : Policy) (read : ℕ) (after_return : Bool) (bytes : List ℕ) : Type 0 where
   pub length_is : read ≡ settled_len how bytes
   pub end_is : after_return ≡ ends_in_return false (reads (take (settled_len how bytes) bytes))
 
 -- what follows the bytes decides whether and why they are refused
 abbrev pub IsUndecided : Policy → List ℕ → Type 0
-IsUndecided how bytes = (refusal : Refusal) → StaysRefused how bytes refusal → ⊥
+IsUndecided how bytes = (refusal : Refusal) → DecodingStaysRefused how bytes refusal → ⊥
 
 -- A front of the bytes, of characters and bad parts that are settled, has been read: `read` bytes, with a CR at their end or not.
 pub record IsReading (how : Policy) (read : ℕ) (after_return : Bool) (bytes : List ℕ) : Type 0 where
@@ -32,15 +32,15 @@ pub record IsReading (how : Policy) (read : ℕ) (after_return : Bool) (bytes : 
 -- The decoder was fed these bytes, in any pieces, and has refused nothing: it has read what is read of them whatever follows, and holds
 -- the at most three bytes after that. What follows decides whether and why the bytes are refused.
 pub record HasFed (decoder : DecoderState) (bytes : List ℕ) : Type 0 where
-  pub front : HasRead decoder.how decoder.read decoder.after_return bytes
+  pub front : DecoderHasRead decoder.how decoder.read decoder.after_return bytes
   pub undecoded : decoder.undecoded ≡ drop decoder.read bytes
   pub few : length decoder.undecoded ≤ 3
   pub undecided : IsUndecided decoder.how bytes
   pub accepts : decoder.refused ≡ None
 
 -- The bytes are refused, whatever comes after them, and no more of them is read then.
-abbrev pub IsRefusedFrom : Policy → List ℕ → Refusal → Type 0
-IsRefusedFrom how bytes refusal = (more : List ℕ)
+abbrev pub DecodingIsRefusedFrom : Policy → List ℕ → Refusal → Type 0
+DecodingIsRefusedFrom how bytes refusal = (more : List ℕ)
     → (refusal_of how (bytes ++ more) ≡ Some refusal) × (decoded how (bytes ++ more) ≡ settled how bytes)
 
 -- The sink is handed a text, of which it was handed a front before.
@@ -60,7 +60,7 @@ pub data Feeds {S : Type 0} (gives : S → CharItem → Result (Unit {0}) Refusa
       → ((more : List ℕ) → HandsOn gives (settled how fed) (decoded how ((fed ++ piece) ++ more)) old (Err e) new)
       → Feeds gives how fed piece old answer new
   took_all : HandsOn gives (settled how fed) (settled how (fed ++ piece)) old (Ok tt) new
-      → MatchResult answer (λ _. ⊤) (IsRefusedFrom how (fed ++ piece))
+      → MatchResult answer (λ _. ⊤) (DecodingIsRefusedFrom how (fed ++ piece))
       → Feeds gives how fed piece old answer new
 
 -- How reading the bytes stops with an error, after a sink was handed `before`: the sink refused an item, whatever comes after the
@@ -69,7 +69,7 @@ pub data Stops {S : Type 0} (gives : S → CharItem → Result (Unit {0}) Refusa
     (before : List Read) (bytes : List ℕ) (old : S) (e : Refusal) (new : S) : Type 0 where
   by_sink : ((more : List ℕ) → HandsOn gives before (decoded how (bytes ++ more)) old (Err e) new)
       → Stops gives how before bytes old e new
-  by_bytes : HandsOn gives before (settled how bytes) old (Ok tt) new → IsRefusedFrom how bytes e
+  by_bytes : HandsOn gives before (settled how bytes) old (Ok tt) new → DecodingIsRefusedFrom how bytes e
       → Stops gives how before bytes old e new
 
 -- what is answered where nothing more comes
@@ -79,9 +79,9 @@ answer_at_end (Some refusal) = Err refusal
 
 -- What the end of the input does, after these bytes: the sink refused an item of what was held, and that is the answer; or it took
 -- all that is read of the bytes, and the answer is theirs.
-pub data Ends {S : Type 0} (gives : S → CharItem → Result (Unit {0}) Refusal → S → Type 0) (how : Policy)
+pub data EndsDecoding {S : Type 0} (gives : S → CharItem → Result (Unit {0}) Refusal → S → Type 0) (how : Policy)
     (fed : List ℕ) (old : S) (answer : Result (Unit {0}) Refusal) (new : S) : Type 0 where
   end_refused : (e : Refusal) → answer ≡ Err e → HandsOn gives (settled how fed) (decoded how fed) old (Err e) new
-      → Ends gives how fed old answer new
+      → EndsDecoding gives how fed old answer new
   end_reached : HandsOn gives (settled how fed) (decoded how fed) old (Ok tt) new → answer ≡ answer_at_end (refusal_of how fed)
-      → Ends gives how fed old answer new
+      → EndsDecoding gives how fed old answer new

@@ -18,12 +18,12 @@ char_errors p = error_if (is_stray_control p.ch) ControlCharacterInInputStream p
     ++ error_if (is_noncharacter p.ch) NoncharacterInInputStream p.at
 
 -- the errors of a character or a bad part, and those of a text
-abbrev pub errors_of : Read → List ParseError
-errors_of (Whole p) = char_errors p
-errors_of (Bad at) = error ReplacedBytes at ∷ []
+abbrev pub read_errors : Read → List ParseError
+read_errors (Whole p) = char_errors p
+read_errors (Bad at) = error ReplacedBytes at ∷ []
 
 abbrev pub input_errors : List Read → List ParseError
-input_errors text = flat_map errors_of text
+input_errors text = flat_map read_errors text
 
 -- what a sink is handed: a character, or an error of the input stream
 pub data CharItem : Type 0 where
@@ -31,11 +31,11 @@ pub data CharItem : Type 0 where
   InputError : ParseError → CharItem
 
 -- the items of a character or a bad part, the errors first, and those of a text
-abbrev pub items_of : Read → List CharItem
-items_of r = map InputError (errors_of r) ++ Character (character_of r) ∷ []
+abbrev pub read_items : Read → List CharItem
+read_items r = map InputError (read_errors r) ++ Character (character_of r) ∷ []
 
 abbrev pub items : List Read → List CharItem
-items text = flat_map items_of text
+items text = flat_map read_items text
 
 -- this many bad parts of one byte each, from this place on
 abbrev pub bad_each : ℕ → ℕ → List Read

@@ -31,7 +31,7 @@ pub record AreReplaced (bad : BadBytes) (rest : List ℕ) (room n : ℕ) : Type 
   pub fits : n ≤ room
 
 -- of any such bytes; a character at their front is one that doesn't fit
-abbrev pub next_of : BadBytes → List ℕ → ℕ → ℕ → Front
-next_of bad rest room at =
+abbrev pub next_front : BadBytes → List ℕ → ℕ → ℕ → Front
+next_front bad rest room at =
     if nat_lt 0 (utf8_valid_len rest) then Refused (TooLarge at)
     else next_part bad (utf8_error_len rest) (length rest) room at

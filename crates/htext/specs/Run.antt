@@ -15,12 +15,12 @@ is_plain_byte byte = (byte == 9 || byte == 10 || byte == 12 || (nat_le 32 byte &
 
 -- A character of which the same is true: such a byte, or one of U+00C0 to U+EFFF. (Not all are: it leaves out the few of which it is true
 -- next to controls and noncharacters.)
-abbrev pub is_plain : ℕ → Bool
-is_plain c = is_plain_byte c || (nat_le 0xC0 c && nat_le c 0xEFFF)
+abbrev pub is_plain_character : ℕ → Bool
+is_plain_character c = is_plain_byte c || (nat_le 0xC0 c && nat_le c 0xEFFF)
 
 -- a plain character, `<` or `&`: it is in the text as it came but for an LF after a CR, and raises no error
 abbrev pub is_clean : ℕ → Bool
-is_clean c = is_plain c || c == 60 || c == 38
+is_clean c = is_plain_character c || c == 60 || c == 38
 
 -- a byte of one of these characters in UTF-8, and the first byte of no other character
 abbrev pub is_clean_byte : ℕ → Bool
@@ -47,17 +47,17 @@ abbrev pub is_quoted_byte : ℕ → ℕ → Bool
 is_quoted_byte mark byte = not (byte == mark || byte == 38)
 
 -- the bytes of a run of each kind
-abbrev pub is_of : RunBytes → ℕ → Bool
-is_of Inner byte = is_inner_byte byte
-is_of Text byte = is_text_byte byte
-is_of Clean byte = is_clean_byte byte
-is_of Alphanumeric byte = is_alphanumeric byte
-is_of Word byte = is_word_byte byte
-is_of Unquoted byte = is_unquoted_byte byte
-is_of (Quoted mark) byte = is_quoted_byte mark byte
+abbrev pub is_run_byte : RunBytes → ℕ → Bool
+is_run_byte Inner byte = is_inner_byte byte
+is_run_byte Text byte = is_text_byte byte
+is_run_byte Clean byte = is_clean_byte byte
+is_run_byte Alphanumeric byte = is_alphanumeric byte
+is_run_byte Word byte = is_word_byte byte
+is_run_byte Unquoted byte = is_unquoted_byte byte
+is_run_byte (Quoted mark) byte = is_quoted_byte mark byte
 
 abbrev pub is_not_of : RunBytes → ℕ → Bool
-is_not_of kind byte = not (is_of kind byte)
+is_not_of kind byte = not (is_run_byte kind byte)
 
 -- the entries of a byte's low and high half (four bits each) share no bit
 abbrev pub shares_no_bit : Halves → ℕ → Bool

@@ -134,8 +134,8 @@ refusal_of how bytes =
     else Some (refusal_with how.bad (utf8_valid_len bytes - read_len how bytes) (read_len how bytes))
 
 -- the bytes are refused for this, whatever comes after them
-abbrev pub StaysRefused : Policy → List ℕ → Refusal → Type 0
-StaysRefused how bytes refusal = (more : List ℕ) → refusal_of how (bytes ++ more) ≡ Some refusal
+abbrev pub DecodingStaysRefused : Policy → List ℕ → Refusal → Type 0
+DecodingStaysRefused how bytes refusal = (more : List ℕ) → refusal_of how (bytes ++ more) ≡ Some refusal
 
 -- no character is at the front of the bytes
 abbrev pub BeginsNoCharacter : List ℕ → Type 0

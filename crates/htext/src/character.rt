@@ -1,7 +1,7 @@
 //! How a character is handed over.
 
-ghost use Rattle.std.specs.Prelude.{◌≡◌, ◌<◌, map};
-ghost use Rattle.htext.specs.Vocabulary.{Hands, Whole, items, items_of, read_as};
+ghost use Rattle.std.specs.Prelude.{◌<◌, map};
+ghost use Rattle.htext.specs.Vocabulary.{Hands, Whole, items, read_items, read_as};
 
 use crate::Bom;
 use crate::decoder::MAX_INPUT;
@@ -38,7 +38,7 @@ pub(crate) fn hand_char<S: CharSink>(
 #[inline(never)]
 fn hand_read<S: CharSink>(ch: char, at: u64, sink: &mut S) -> Result<(), Refusal>
     requires { at < MAX_INPUT }
-    ensures { Hands S.gives sink.old (items_of (Whole (record { ch = ch; at = at }))) result sink.new }
+    ensures { Hands S.gives sink.old (read_items (Whole (record { ch = ch; at = at }))) result sink.new }
 {
     if ch.is_control() && ch != '\0' && !ch.is_ascii_whitespace() {
         sink.take_error(ParseError {

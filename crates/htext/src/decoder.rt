@@ -1,7 +1,7 @@
 //! Bytes in any pieces, read as UTF-8 up to a limit.
 
 ghost use Rattle.std.specs.Prelude.{◌≡◌, ◌≤◌, ℕ, List, [], ◌∷◌, ◌++◌, length, drop, None, Some, Ok, Err, OnOk, IfErr, vec_len};
-ghost use Rattle.htext.specs.Vocabulary.{Refused, settled, Ends, Feeds, HasFed};
+ghost use Rattle.htext.specs.Vocabulary.{Refused, settled, EndsDecoding, Feeds, HasFed};
 
 use crate::progress::Progress;
 use crate::sink::CharSink;
@@ -132,7 +132,7 @@ impl Decoder {
     /// Ends the input. It must not end inside a character, unless bad bytes are replaced. No byte is held after it, so a second call does
     /// nothing. An error leaves what was read and what is held as it was, and each later call returns the same error.
     pub fn finish<S: CharSink>(&mut self, sink: &mut S) -> Result<(), Refusal>
-        ensures ends { (fed : List ℕ) → HasFed self.old fed → Ends S.gives self.old.how fed sink.old result sink.new }
+        ensures ends { (fed : List ℕ) → HasFed self.old fed → EndsDecoding S.gives self.old.how fed sink.old result sink.new }
         ensures whole { OnOk result ((fed : List ℕ) → HasFed self.old fed → self.new.read ≡ length fed) }
         ensures nothing_held { OnOk result ((self.new.undecoded ≡ []) × (self.new.refused ≡ None)) }
         ensures unchanged { self.old.undecoded ≡ [] → self.old.refused ≡ None
@@ -154,7 +154,7 @@ impl Decoder {
 
     /// The same where nothing was refused.
     fn end<S: CharSink>(&mut self, sink: &mut S) -> Result<(), Refusal>
-        ensures ends { (fed : List ℕ) → HasFed self.old fed → Ends S.gives self.old.how fed sink.old result sink.new }
+        ensures ends { (fed : List ℕ) → HasFed self.old fed → EndsDecoding S.gives self.old.how fed sink.old result sink.new }
         ensures whole { OnOk result ((fed : List ℕ) → HasFed self.old fed → self.new.read ≡ length fed) }
         ensures nothing_held { OnOk result (self.new.undecoded ≡ []) }
         ensures unchanged { self.old.undecoded ≡ [] → (result ≡ Ok tt) × (self.new ≡ self.old) × (sink.new ≡ sink.old) }

@@ -1,12 +1,12 @@
 //! Reads bytes as UTF-8 as far as their text is the same whatever follows, and hands that text to a sink.
 
-ghost use Rattle.std.specs.Prelude.{◌≡◌, ℕ, ◌+◌, ◌-◌, ◌<◌, ◌≤◌, true, false, List, [], ◌∷◌, ◌++◌, length, map, take, drop, Ok, Err, IfOk, OnOk, IfErr};
+ghost use Rattle.std.specs.Prelude.{◌≡◌, ℕ, ◌+◌, ◌-◌, ◌<◌, ◌≤◌, false, List, [], ◌∷◌, ◌++◌, length, map, take, drop, Ok, Err, IfOk, OnOk, IfErr};
 ghost use Rattle.std.specs.Prelude.{MatchOption, MatchResult};
 ghost use Rattle.std.specs.Char.{encode_utf8};
 ghost use Rattle.std.specs.Str.{chars};
 ghost use Rattle.std.specs.Str.Lossy.{utf8_valid_len};
 ghost use Rattle.htext.specs.Vocabulary.{placed, Hands, NotUtf8, MAX_INPUT, Refuse, Replace, Policy, Whole, Bad, normalized, ends_in_return, text, settled, items};
-ghost use Rattle.htext.specs.Vocabulary.{bad_each, IsCleanFront, HasRead, HandsOn, IsReading, IsUndecided, Stops, next_of, AreReplaced, IsBadAlone};
+ghost use Rattle.htext.specs.Vocabulary.{bad_each, IsCleanFront, DecoderHasRead, HandsOn, IsReading, IsUndecided, Stops, next_front, AreReplaced, IsBadAlone};
 
 use crate::character::hand_char;
 use crate::decoder::MAX_INPUT;
@@ -53,7 +53,7 @@ impl Progress {
             (all : List ℕ) → IsReading how self.old.read self.old.after_return all → bytes.now ≡ drop self.old.read all
             → MatchResult result
             (λ count. HandsOn S.gives (text how.bom (take self.old.read all)) (settled how all) sink.old (Ok tt) sink.new
-            × HasRead how self.new.read self.new.after_return all × (drop count bytes.now ≡ drop self.new.read all) × IsUndecided how all)
+            × DecoderHasRead how self.new.read self.new.after_return all × (drop count bytes.now ≡ drop self.new.read all) × IsUndecided how all)
             (λ e. Stops S.gives how (text how.bom (take self.old.read all)) all sink.old e sink.new) }
         ensures few { IfOk result (λ count. (count ≤ length bytes.now) × (length bytes.now ≤ count + 3)) }
         ensures how { (self.new.bom ≡ self.old.bom) × (self.new.bad_bytes ≡ self.old.bad_bytes) × (self.new.limit ≡ self.old.limit) }
@@ -117,7 +117,7 @@ impl Progress {
 
     /// What is at the front of bytes that begin with no character within the limit.
     fn next(&self, rest: &[u8]) -> Front
-        ensures { result ≡ next_of self.now.bad_bytes rest.now (self.now.limit - self.now.read) self.now.read }
+        ensures { result ≡ next_front self.now.bad_bytes rest.now (self.now.limit - self.now.read) self.now.read }
     {
         let at = self.read;
         let room = (self.limit - at) as usize;

@@ -5,7 +5,7 @@ ghost use Rattle.std.specs.Int.{is_in_range};
 ghost use Rattle.std.specs.List.{prefix_len};
 ghost use Rattle.std.specs.Simd.Lanes.{mask_l};
 ghost use Rattle.std.specs.Str.Lossy.{second_byte_min, second_byte_max};
-ghost use Rattle.htext.specs.Vocabulary.{is_alphanumeric, AreBad, IsBadAlone, is_inner_byte, is_clean_byte, is_of, is_not_of, is_quoted_byte, is_text_byte, is_word_byte, is_unquoted_byte, shares_no_bit};
+ghost use Rattle.htext.specs.Vocabulary.{is_alphanumeric, AreBad, IsBadAlone, is_inner_byte, is_clean_byte, is_run_byte, is_not_of, is_quoted_byte, is_text_byte, is_word_byte, is_unquoted_byte, shares_no_bit};
 
 use std::simd::prelude::*;
 
@@ -170,7 +170,7 @@ fn may_follow(first: u8, second: u8) -> bool
 /// Counts the bytes at the front that may be in a run, a vector at a time.
 #[inline(always)]
 fn run(kind: RunBytes, bytes: &[u8]) -> usize
-    ensures counted { result ≡ prefix_len (is_of kind) bytes.now }
+    ensures counted { result ≡ prefix_len (is_run_byte kind) bytes.now }
     ensures few { result ≤ length bytes.now }
 {
     let mut count = 0;
@@ -187,7 +187,7 @@ fn run(kind: RunBytes, bytes: &[u8]) -> usize
 /// The same, quicker where there are 8 to 15 bytes, as at a value before the end of its tag: eight at once, and the others one by one.
 #[inline(always)]
 fn short_run(kind: RunBytes, bytes: &[u8]) -> usize
-    ensures counted { result ≡ prefix_len (is_of kind) bytes.now }
+    ensures counted { result ≡ prefix_len (is_run_byte kind) bytes.now }
     ensures few { result ≤ length bytes.now }
 {
     if bytes.len() < 8 || bytes.len() >= 16 {
@@ -214,7 +214,7 @@ fn twice(eight: u8x8) -> u8x16
 /// The same, a byte at a time.
 #[inline(always)]
 fn run_by_one(kind: RunBytes, bytes: &[u8]) -> usize
-    ensures counted { result ≡ prefix_len (is_of kind) bytes.now }
+    ensures counted { result ≡ prefix_len (is_run_byte kind) bytes.now }
     ensures few { result ≤ length bytes.now }
 {
     for (index, byte) in bytes.iter().enumerate() {
@@ -259,7 +259,7 @@ fn outside(set: Halves, bytes: u8x16) -> u64
 /// Whether a byte may be in a run.
 #[inline(always)]
 fn is_in_run(kind: RunBytes, byte: u8) -> bool
-    ensures { result ≡ is_of kind byte }
+    ensures { result ≡ is_run_byte kind byte }
 {
     match kind {
         RunBytes::Inner => byte.is_ascii() && !matches!(byte, b'<' | b'&' | b'>'),

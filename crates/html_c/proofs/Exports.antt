@@ -1,5 +1,5 @@
 -- What a call gives, from what was given and what came of the input.
-use Rattle.html_c.proofs.Names.{◌≡◌, ℕ, Bool, true, List, [], Option, None, Some, Ok, Err, map, ap, ◌∙◌, refl, subst, sym, if◌then◌else◌, Refusal, Memory, text_of, Forest, children_of, ParseOptions, Parsed, name_of, AllowsContext, context_of, prints_of, ComesToNone, none_for_memory, Tells, context_told, ComesToParse, GivesParse, Given}
+use Rattle.html_c.proofs.Names.{◌≡◌, ℕ, Bool, true, List, [], Option, None, Some, Ok, Err, map, ap, ◌∙◌, refl, subst, sym, if◌then◌else◌, Refusal, Memory, text_of, Forest, children_of, ParseOptions, Parsed, own_context, AllowsContext, context_of, prints_of, ComesToNone, none_for_memory, Tells, context_told, ComesToParse, GivesParse, Given}
 use Rattle.std.proofs.Common.{false}
 use Rattle.hparse.specs.Parsing.{TellsPlaces, places_in}
 use Rattle.hparse.specs.declared.origins.Origin.{Origin}
@@ -26,7 +26,7 @@ allowed other context told is allows = subst AllowsContext (sym is) allows
 
 module _ (input : List ℕ) (given : Given) (opts : ParseOptions) (tells : Tells given opts) where
   module _ (number : ℕ) (command : Command) (is : IsCommand number given command) where
-    pub a_text : (text : List ℕ) → prints_of command.escaping command.task (name_of command.context) opts input (Ok text) → GivesText number input given text
+    pub a_text : (text : List ℕ) → prints_of command.escaping command.task (own_context command.context) opts input (Ok text) → GivesText number input given text
     a_text text its = record {
       task = command.task;
       how = command.escaping;
@@ -38,7 +38,7 @@ module _ (input : List ℕ) (given : Given) (opts : ParseOptions) (tells : Tells
       text_is = subst (λ (c : Option (List ℕ)). prints_of command.escaping command.task c opts input (Ok text)) is.context its;
     }
 
-    pub no_text : (refusal : Refusal) → ComesToNone (prints_of command.escaping command.task (name_of command.context) opts) input refusal → GivesNone number input given (fault.Refused refusal)
+    pub no_text : (refusal : Refusal) → ComesToNone (prints_of command.escaping command.task (own_context command.context) opts) input refusal → GivesNone number input given (fault.Refused refusal)
     no_text refusal why =
         comes_to_none command.task command.escaping opts refusal is.task is.placed is.escaping tells
         (subst (λ (c : Option (List ℕ)). ComesToNone (prints_of command.escaping command.task c opts) input refusal) is.context why) refl

@@ -1,5 +1,5 @@
 -- The nodes of a tree, listed one after another.
-use Rattle.html_c.proofs.Names.{◌≡◌, ℕ, ◌<◌, ◌+◌, List, [], ◌∷◌, ◌++◌, Some, refl, sym, ap, ap₂, append-nil, ◌∙◌, flat_map, length, map, text_of, Forest, none, tree, children_of, spelled, kind_in, kind_number, link_to, rows_of, words_of}
+use Rattle.html_c.proofs.Names.{◌≡◌, ℕ, ◌<◌, ◌+◌, List, [], ◌∷◌, ◌++◌, Some, refl, sym, ap, ap₂, append-nil, ◌∙◌, flat_map, length, map, text_of, Forest, none, tree, children_of, mapped, kind_in, kind_number, link_to, rows_of, words_of}
 use Rattle.std.proofs.Common.{length-append, suc}
 use Rattle.std.proofs.lemmas.Grind.{flat_map-append}
 use Rattle.std.proofs.lemmas.List.{map-append}
@@ -34,7 +34,7 @@ module _ (made : ℕ) (f : Forest ℕ) (root : ℕ) where
       ∙ ap (λ l. row_of b (Some p) w kids rest ∷ l)
       (flat_map-append (node_row f) (order kids) (order rest) ∙ ap₂ (λ (l r : List NodeRow). l ++ r) (rows_listed b kids inside) (rows_listed p rest after))
 
-  words_listed : (names : Texts) (p : ℕ) (g : Forest ℕ) → Seen made f root p g → flat_map (node_bytes names f) (order g) ≡ words_of (spelled (text_of names) g)
+  words_listed : (names : Texts) (p : ℕ) (g : Forest ℕ) → Seen made f root p g → flat_map (node_bytes names f) (order g) ≡ words_of (mapped (text_of names) g)
   words_listed names p none s = refl
   words_listed names p (tree b w kids rest) (is, inside, after) =
       (λ i. node_words_at (text_of names) (is.what i) ++ flat_map (node_bytes names f) (order kids ++ order rest))
@@ -43,7 +43,7 @@ module _ (made : ℕ) (f : Forest ℕ) (root : ℕ) where
 
 -- where none is left, the nodes so far are all of those inside a node
 pub all_listed : (names : Texts) (made : ℕ) (f : Forest ℕ) (root : ℕ) (nodes left : List ℕ) → AreCounted made f → root < made → nodes ++ left ≡ order (children_of root f) → left ≡ []
-    → (flat_map (node_row f) nodes ≡ rows_of root (children_of root f)) × (flat_map (node_bytes names f) nodes ≡ words_of (spelled (text_of names) (children_of root f)))
+    → (flat_map (node_row f) nodes ≡ rows_of root (children_of root f)) × (flat_map (node_bytes names f) nodes ≡ words_of (mapped (text_of names) (children_of root f)))
 all_listed names made f root nodes left counted h are none_left =
     let s = seen made f counted root h in let all = sym (append-nil nodes) ∙ ap (λ l. nodes ++ l) (sym none_left) ∙ are in
     (ap (flat_map (node_row f)) all ∙ rows_listed made f root root (children_of root f) s, ap (flat_map (node_bytes names f)) all ∙ words_listed made f root names root (children_of root f) s)

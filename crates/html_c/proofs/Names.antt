@@ -1,13 +1,13 @@
 -- The names of other crates and of specs/ that several proofs cite, in one place.
-pub use Rattle.charref.specs.Reading.{table_of}
-pub use Rattle.html_c.specs.Vocabulary.{PutsAt, ReadsQuirks, children_of, spelled, ParseOptions, options_of, ComesToNone, IsPiece, Tells, context_told, kind_number, link_to, rows_of, words_of, ReadsTable, ComesToParse, GivesParse, name_of, AllowsContext, context_of, prints_of, Memory}
+pub use Rattle.charref.specs.Reading.{table_of_json}
+pub use Rattle.html_c.specs.Vocabulary.{PutsAt, ReadsQuirks, children_of, mapped, ParseOptions, options_of, ComesToNone, IsPieceSize, Tells, context_told, kind_number, link_to, rows_of, words_of, ReadsTableBytes, ComesToParse, GivesParse, own_context, AllowsContext, context_of, prints_of, Memory}
 pub use Rattle.hnodes.specs.Forest.{Forest, none, tree}
 pub use Rattle.hnodes.specs.Spots.{kind_in}
 pub use Rattle.hparse.specs.declared.parsed.Parsed.{Parsed}
 pub use Rattle.html_c.specs.Exports.{none_for_memory, none_of_bytes, no_command, unmet_rows}
 pub use Rattle.html_c.specs.Given.{no_size, of_size, unmet}
 pub use Rattle.html_c.specs.Input.{left_in}
-pub use Rattle.html_c.specs.Parts.{parts_of}
+pub use Rattle.html_c.specs.Parts.{page_parts}
 pub use Rattle.html_c.specs.declared.answer.Given.{Given}
 pub use Rattle.html_c.specs.declared.fault.CallFault.{CallFault}
 pub use Rattle.html_c.specs.declared.fitted.Fitted.{Fitted}

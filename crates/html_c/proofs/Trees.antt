@@ -1,10 +1,10 @@
 -- What a reading does whose reads do not fail, and the rows of what it gives.
-use Rattle.html_c.proofs.Names.{◌≡◌, ℕ, List, [], ◌∷◌, ◌++◌, Option, Some, None, Result, Ok, Err, inl, inr, sym, subst, map, ap, ap₂, ◌∙◌, refl, append-nil, Bool, IsErrAnd, Refusal, Memory, text_of, Forest, none, tree, children_of, spelled, kind_in, Parsed, ParseOptions, AllowsContext, case_in, ComesToNone, none_for_memory, none_of_bytes, kind_number, link_to, rows_of, words_of, ComesToParse, GivesParse, Given}
+use Rattle.html_c.proofs.Names.{◌≡◌, ℕ, List, [], ◌∷◌, ◌++◌, Option, Some, None, Result, Ok, Err, inl, inr, sym, subst, map, ap, ap₂, ◌∙◌, refl, append-nil, Bool, IsErrAnd, Refusal, Memory, text_of, Forest, none, tree, children_of, mapped, kind_in, Parsed, ParseOptions, AllowsContext, case_in, ComesToNone, none_for_memory, none_of_bytes, kind_number, link_to, rows_of, words_of, ComesToParse, GivesParse, Given}
 use Rattle.std.specs.Prelude.{◌⊎◌}
 use Rattle.names.specs.declared.refusal.Refusal.TheVariants.{BadContext}
 use Rattle.hnodes.specs.Forest.{What, document, doctype, element, comment, text}
 use Rattle.hnodes.specs.Passed.{order}
-use Rattle.hnodes.specs.Spelled.{spelled_what}
+use Rattle.hnodes.specs.Mapped.{mapped_what}
 use Rattle.hnodes.specs.Spots.{first_or}
 use Rattle.hparse.specs.Parse.{Parses}
 use Rattle.hparse.specs.declared.origins.Origin.{Origin}
@@ -33,11 +33,11 @@ module _ {S : Type 0} (left : S → List ℕ) (opts : ParseOptions) (context : O
   parse_of answer (read_to_end bytes un gave end its) = answered bytes answer (gave.given ∙ ap (λ r. bytes ++ r) end ∙ append-nil bytes) its
 
 module _ {N M : Type 0} (g : N → M) where
-  same_first : (f : Forest N) → first_or (spelled g f) None ≡ first_or f None
+  same_first : (f : Forest N) → first_or (mapped g f) None ≡ first_or f None
   same_first none = refl
   same_first (tree n w kids rest) = refl
 
-  same_kind : (w : What N) → kind_in (spelled_what g w) ≡ kind_in w
+  same_kind : (w : What N) → kind_in (mapped_what g w) ≡ kind_in w
   same_kind document = refl
   same_kind (doctype n p s) = refl
   same_kind (element x attrs) = refl
@@ -45,7 +45,7 @@ module _ {N M : Type 0} (g : N → M) where
   same_kind (text t) = refl
 
   -- rows know no names
-  pub same_rows : (p : ℕ) (f : Forest N) → rows_of p (spelled g f) ≡ rows_of p f
+  pub same_rows : (p : ℕ) (f : Forest N) → rows_of p (mapped g f) ≡ rows_of p f
   same_rows p none = refl
   same_rows p (tree n w kids rest) =
       (λ i. record {
@@ -56,11 +56,11 @@ module _ {N M : Type 0} (g : N → M) where
         next = link_to (same_first rest i);
       } ∷ (same_rows n kids i ++ same_rows p rest i))
 
-  same_order : (f : Forest N) → order (spelled g f) ≡ order f
+  same_order : (f : Forest N) → order (mapped g f) ≡ order f
   same_order none = refl
   same_order (tree n w kids rest) = λ i. n ∷ (same_order kids i ++ same_order rest i)
 
-  pub same_origins : (list : List Origin) (f : Forest N) → origins_of list (spelled g f) ≡ origins_of list f
+  pub same_origins : (list : List Origin) (f : Forest N) → origins_of list (mapped g f) ≡ origins_of list f
   same_origins list f = ap (map (origin_at list)) (same_order f)
 
 pub some_rows : (input : List ℕ) (given : Given) (places : Bool) (parsed : Parsed) → GivesParse input given places parsed → GivesRows input given (parsed_rows parsed) (parsed_words parsed)

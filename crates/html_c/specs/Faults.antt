@@ -46,17 +46,17 @@ cause_number cause.Key = 3
 cause_number cause.Codepoints = 4
 cause_number cause.Characters = 5
 
-abbrev pub status_of : CallFault → ℕ
-status_of (fault.Refused why) = refusal_number why
-status_of fault.NotText = 14
-status_of fault.BadNumber = 15
-status_of fault.BadSize = 17
+abbrev pub call_fault_status : CallFault → ℕ
+call_fault_status (fault.Refused why) = refusal_number why
+call_fault_status fault.NotText = 14
+call_fault_status fault.BadNumber = 15
+call_fault_status fault.BadSize = 17
 
 -- the number of the element or of the cause that it names
-abbrev pub detail_of : CallFault → ℕ
-detail_of (fault.Refused (refusal.OutOfProfile name at)) = element_number name
-detail_of (fault.Refused (refusal.BadTable why)) = cause_number why
-detail_of _ = 0
+abbrev pub fault_detail : CallFault → ℕ
+fault_detail (fault.Refused (refusal.OutOfProfile name at)) = element_number name
+fault_detail (fault.Refused (refusal.BadTable why)) = cause_number why
+fault_detail _ = 0
 
 -- its byte or its line
 abbrev pub at_of : CallFault → ℕ

@@ -5,16 +5,16 @@ use Rattle.names.specs.declared.refusal.Refusal.TheVariants.{Memory}
 use Rattle.html_c.specs.declared.fitted.Fitted.{Fitted}
 
 -- the text
-abbrev pub text_of : Fitted → List ℕ
-text_of it = it.all.bytes
+abbrev pub fitted_text : Fitted → List ℕ
+fitted_text it = it.all.bytes
 
 -- what a writer to it keeps: its room, and after that the text
 abbrev pub written : Fitted → Option (List ℕ)
 written it = Some (it.room ∷ it.all.bytes)
 
-abbrev pub failures_of : Fitted → ℕ
-failures_of it = it.failures
+abbrev pub fitted_failures : Fitted → ℕ
+fitted_failures it = it.failures
 
 -- it is this text with this room, or memory ran out
 abbrev pub IsFitted : ℕ → List ℕ → Result Fitted Refusal → Type 0
-IsFitted room text result = MatchResult result (λ it. (it.room ≡ room) × (text_of it ≡ text)) (λ refusal. refusal ≡ Memory)
+IsFitted room text result = MatchResult result (λ it. (it.room ≡ room) × (fitted_text it ≡ text)) (λ refusal. refusal ≡ Memory)

@@ -11,14 +11,14 @@ use Rattle.htext.specs.declared.BadBytes.TheVariants as bad
 use Rattle.htext.specs.declared.decoder.TheConstants.{MAX_INPUT}
 use Rattle.hmodes.specs.Bounds.{AreLimits, Bounds}
 use Rattle.hparse.specs.Parse.{ParseOptions}
-use Rattle.hwrite.specs.Command.{name_of}
+use Rattle.hwrite.specs.Command.{own_context}
 use Rattle.hwrite.specs.Context.{AllowsContext}
 use Rattle.hwrite.specs.declared.command.Command.{Command}
 use Rattle.hwrite.specs.declared.command.Task.{Task}
 use Rattle.hwrite.specs.declared.command.Task.TheVariants as task
 use Rattle.hserialize.specs.declared.escaping.Escaping.{Escaping}
 use Rattle.hserialize.specs.declared.escaping.Escaping.TheVariants.{One, Two}
-use Rattle.html_c.specs.Table.{ReadsTable}
+use Rattle.html_c.specs.Table.{ReadsTableBytes}
 use Rattle.html_c.specs.declared.answer.Given.{Given}
 use Rattle.html_c.specs.declared.given.Lists.{Lists}
 use Rattle.html_c.specs.declared.fault.CallFault.{CallFault}
@@ -63,8 +63,8 @@ pub data GivesNothing (size : ℕ) (reasons : CallFault → Type 0) (why : CallF
   of_size : IsSize size → reasons why → GivesNothing size reasons why
 
 -- this many bytes may be fed at a time
-abbrev pub IsPiece : ℕ → Type 0
-IsPiece piece = (0 < piece) × (piece ≤ 65536)
+abbrev pub IsPieceSize : ℕ → Type 0
+IsPieceSize piece = (0 < piece) × (piece ≤ 65536)
 
 -- the most bytes, nodes and open elements
 abbrev pub bounds_told : Given → Bounds
@@ -74,8 +74,8 @@ bounds_told given = record { input = MAX_INPUT; tree = record { nodes = given.no
 pub record Tells (given : Given) (opts : ParseOptions) : Type 0 where
   pub size : IsSize given.size
   pub context : AllowsContext (context_told given.context.now)
-  pub piece : IsPiece given.piece
-  pub table : ReadsTable given.entities.now (Ok opts.table)
+  pub piece : IsPieceSize given.piece
+  pub table : ReadsTableBytes given.entities.now (Ok opts.table)
   pub quirks : ReadsQuirks given.quirks.now (Ok opts.quirks)
   pub bad_bytes : bad_told given.bad_bytes ≡ Some opts.bad
   pub input_limit : opts.input ≡ (bounds_told given).input
@@ -96,10 +96,10 @@ pub record AreSameButTables (given other : Given) : Type 0 where
 -- Something that is given is not accepted, for this reason.
 pub data Unmet (given : Given) (why : CallFault) : Type 0 where
   no_bad_bytes : bad_told given.bad_bytes ≡ None → why ≡ fault.BadNumber → Unmet given why
-  no_piece : (IsPiece given.piece → ⊥) → why ≡ fault.BadNumber → Unmet given why
+  no_piece : (IsPieceSize given.piece → ⊥) → why ≡ fault.BadNumber → Unmet given why
   no_context : (IsUtf8 given.context.now → ⊥) → why ≡ fault.NotText → Unmet given why
   context_refused : (AllowsContext (context_told given.context.now) → ⊥) → why ≡ fault.Refused BadContext → Unmet given why
-  no_table : ReadsTable given.entities.now (Err why) → Unmet given why
+  no_table : ReadsTableBytes given.entities.now (Err why) → Unmet given why
   no_quirks : (IsUtf8 given.quirks.now → ⊥) → why ≡ fault.NotText → Unmet given why
   quirks_refused : (refusal : Refusal) → ReadsQuirks given.quirks.now (Err refusal) → why ≡ fault.Refused refusal → Unmet given why
   limits_refused : (AreLimits (bounds_told given) → ⊥) → why ≡ fault.Refused BadLimits → Unmet given why
@@ -110,7 +110,7 @@ keys_told given = made_of (given.key_high * 2 ^ 64 + given.key_low)
 
 -- These are the lists that are given.
 abbrev pub HasLists : Given → Lists → Type 0
-HasLists given lists = ReadsTable given.entities.now (Ok lists.table) × ReadsQuirks given.quirks.now (Ok lists.quirks)
+HasLists given lists = ReadsTableBytes given.entities.now (Ok lists.table) × ReadsQuirks given.quirks.now (Ok lists.quirks)
 
 -- These are the limits that are given.
 abbrev pub HasLimits : Given → Bounds → Type 0
@@ -122,10 +122,10 @@ pub record IsCommand (number : ℕ) (given : Given) (command : Command) : Type 0
   pub task : task_told number ≡ Some command.task
   pub placed : may_be_in number (context_told given.context.now) ≡ true
   pub escaping : escaping_told given.escaping ≡ Some command.escaping
-  pub context : name_of command.context ≡ context_told given.context.now
+  pub context : own_context command.context ≡ context_told given.context.now
   pub allows : AllowsContext (context_told given.context.now)
   pub piece : command.piece ≡ given.piece
-  pub is_piece : IsPiece command.piece
+  pub is_piece : IsPieceSize command.piece
 
 -- There is none, for this reason.
 pub data NoCommand (number : ℕ) (given : Given) (why : CallFault) : Type 0 where

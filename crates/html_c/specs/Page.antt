@@ -8,7 +8,7 @@ use Rattle.hparse.specs.Parse.{Parse, Parses, ParseOptions, root_of}
 use Rattle.hparse.specs.declared.origins.Origin.{Origin}
 use Rattle.hserialize.specs.declared.escaping.Escaping.{Escaping}
 use Rattle.html_c.specs.Exports.{GivesRows, GivesNoRows, GivesText, case_given}
-use Rattle.html_c.specs.Faults.{at_of, detail_of, status_of}
+use Rattle.html_c.specs.Faults.{at_of, fault_detail, call_fault_status}
 use Rattle.html_c.specs.Given.{escaping_told, GivesNothing, NoEscaping, Tells}
 use Rattle.html_c.specs.Room.{fit_status, put_over}
 use Rattle.html_c.specs.Rows.{origins_of}
@@ -59,7 +59,7 @@ page_answer fits page = record {
 }
 
 abbrev pub page_fault : CallFault → PageAnswer
-page_fault fault = record { status = status_of fault; detail = detail_of fault; at = at_of fault; nodes = 0; words = 0; errors = 0; text = 0 }
+page_fault fault = record { status = call_fault_status fault; detail = fault_detail fault; at = at_of fault; nodes = 0; words = 0; errors = 0; text = 0 }
 
 -- what is wanted beside the tree, as a sum: 1 the errors, 2 the HTML, 4 where the nodes came from
 abbrev pub wants_told : ℕ → Option Wants

@@ -1,6 +1,6 @@
 -- What is written to a caller's room, and what is answered.
 use Rattle.std.specs.Prelude.{◌≡◌, ◌<◌, ◌≤◌, ◌+◌, ℕ, Bool, List, ◌++◌, length, take, drop, if◌then◌else◌}
-use Rattle.html_c.specs.Faults.{at_of, detail_of, status_of}
+use Rattle.html_c.specs.Faults.{at_of, fault_detail, call_fault_status}
 use Rattle.html_c.specs.declared.answer.Answer.{Answer}
 use Rattle.html_c.specs.declared.fault.CallFault.{CallFault}
 
@@ -34,4 +34,4 @@ room_answer fits bytes nodes = record { status = fit_status fits; detail = 0; at
 
 -- the answer to none
 abbrev pub fault_answer : CallFault → Answer
-fault_answer fault = record { status = status_of fault; detail = detail_of fault; at = at_of fault; length = 0; nodes = 0 }
+fault_answer fault = record { status = call_fault_status fault; detail = fault_detail fault; at = at_of fault; length = 0; nodes = 0 }

@@ -3,8 +3,8 @@ use Rattle.std.specs.Prelude.{if◌then◌else◌, ℕ, List, [], ◌∷◌, ◌
 use Rattle.std.specs.Option.{option_map_or}
 use Rattle.hnodes.specs.Forest.{Attribute, What, document, doctype, element, comment, text, Forest, none, tree}
 use Rattle.hnodes.specs.Passed.{order}
-use Rattle.hnodes.specs.Spelled.{spelled_what}
-use Rattle.hnodes.specs.Spots.{first_or, parent_of, first_child_of, kind_in, kind_of, next_of}
+use Rattle.hnodes.specs.Mapped.{mapped_what}
+use Rattle.hnodes.specs.Spots.{first_or, parent_of, first_child_of, kind_in, node_kind, next_of}
 use Rattle.hnodes.specs.declared.node.NodeKind.{NodeKind}
 use Rattle.hnodes.specs.declared.node.NodeKind.TheVariants as kind
 use Rattle.hparse.specs.Origins.{implied}
@@ -34,7 +34,7 @@ node_words w = words_in w ++ 254 ∷ []
 
 abbrev pub words_at : (ℕ → List ℕ) → Option (What ℕ) → List ℕ
 words_at texts None = []
-words_at texts (Some w) = words_in (spelled_what texts w)
+words_at texts (Some w) = words_in (mapped_what texts w)
 
 abbrev pub node_words_at : (ℕ → List ℕ) → Option (What ℕ) → List ℕ
 node_words_at texts w = words_at texts w ++ 254 ∷ []
@@ -55,7 +55,7 @@ link_to (Some n) = n
 abbrev pub row_at : {N : Type 0} → ℕ → Forest N → NodeRow
 row_at n f = record {
   number = n;
-  kind = option_map_or kind_number (kind_of n f) 0;
+  kind = option_map_or kind_number (node_kind n f) 0;
   parent = link_to (parent_of n f);
   first_child = link_to (first_child_of n f);
   next = link_to (next_of n f);

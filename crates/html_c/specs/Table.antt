@@ -5,7 +5,7 @@ use Rattle.names.specs.declared.refusal.Refusal.TheVariants.{BadTable, Memory}
 use Rattle.names.specs.declared.refusal.TableFault.{TableFault}
 use Rattle.names.specs.declared.refusal.TableFault.TheVariants.{Shape}
 use Rattle.charref.specs.Flat.{flat_of, IsReadable}
-use Rattle.charref.specs.Reading.{table_of}
+use Rattle.charref.specs.Reading.{table_of_json}
 use Rattle.charref.specs.Reference.{Entities, core}
 use Rattle.html_c.specs.Room.{fault_answer, put_over, room_answer}
 use Rattle.html_c.specs.declared.answer.Answer.{Answer}
@@ -23,21 +23,21 @@ form_of (b ∷ bs) = if b == 1 then form.Flat else form.Json
 abbrev pub IsTableOf : Form → List ℕ → Entities → Type 0
 IsTableOf form.Core bytes table = table ≡ core
 IsTableOf form.Flat bytes table = IsReadable table × (flat_of table ≡ bytes)
-IsTableOf form.Json bytes table = table_of bytes ≡ Ok table
+IsTableOf form.Json bytes table = table_of_json bytes ≡ Ok table
 
 -- The outcome of reading them: the table, or why there is none.
-pub data ReadsTable (bytes : List ℕ) (answer : Result Entities CallFault) : Type 0 where
-  table_read : (table : Entities) → IsTableOf (form_of bytes) bytes table → answer ≡ Ok table → ReadsTable bytes answer
-  table_ran_out : answer ≡ Err (fault.Refused Memory) → ReadsTable bytes answer
+pub data ReadsTableBytes (bytes : List ℕ) (answer : Result Entities CallFault) : Type 0 where
+  table_read : (table : Entities) → IsTableOf (form_of bytes) bytes table → answer ≡ Ok table → ReadsTableBytes bytes answer
+  table_ran_out : answer ≡ Err (fault.Refused Memory) → ReadsTableBytes bytes answer
   no_flat : form_of bytes ≡ form.Flat → ((table : Entities) → IsReadable table → flat_of table ≡ bytes → ⊥)
-      → answer ≡ Err (fault.Refused (BadTable Shape)) → ReadsTable bytes answer
-  no_json : (cause : TableFault) → form_of bytes ≡ form.Json → table_of bytes ≡ Err cause → answer ≡ Err (fault.Refused (BadTable cause))
-      → ReadsTable bytes answer
-  no_text : form_of bytes ≡ form.Json → (IsUtf8 bytes → ⊥) → answer ≡ Err fault.NotText → ReadsTable bytes answer
+      → answer ≡ Err (fault.Refused (BadTable Shape)) → ReadsTableBytes bytes answer
+  no_json : (cause : TableFault) → form_of bytes ≡ form.Json → table_of_json bytes ≡ Err cause → answer ≡ Err (fault.Refused (BadTable cause))
+      → ReadsTableBytes bytes answer
+  no_text : form_of bytes ≡ form.Json → (IsUtf8 bytes → ⊥) → answer ≡ Err fault.NotText → ReadsTableBytes bytes answer
 
 -- The flat form of the table is written where it fits, and its length is answered; or why there is no table, and nothing is written.
 pub data AnswersTable (bytes : List ℕ) (old new : List ℕ) (answer : Answer) : Type 0 where
-  table_answered : (table : Entities) → ReadsTable bytes (Ok table) → IsReadable table
+  table_answered : (table : Entities) → ReadsTableBytes bytes (Ok table) → IsReadable table
       → new ≡ put_over (nat_le (length (flat_of table)) (length old)) (flat_of table) old
       → answer ≡ room_answer (nat_le (length (flat_of table)) (length old)) (length (flat_of table)) 0 → AnswersTable bytes old new answer
-  no_table_answered : (why : CallFault) → ReadsTable bytes (Err why) → new ≡ old → answer ≡ fault_answer why → AnswersTable bytes old new answer
+  no_table_answered : (why : CallFault) → ReadsTableBytes bytes (Err why) → new ≡ old → answer ≡ fault_answer why → AnswersTable bytes old new answer

@@ -7,7 +7,7 @@ use Rattle.hparse.specs.Parse.{Parses, ParseOptions}
 use Rattle.hparse.specs.Parsing.{AnswersParse, places_in}
 use Rattle.hparse.specs.declared.origins.Origin.{Origin}
 use Rattle.hwrite.specs.Context.{case_in}
-use Rattle.hwrite.specs.Prints.{nodes_of}
+use Rattle.hwrite.specs.Prints.{parsed_nodes}
 use Rattle.html_c.specs.Exports.{ComesToNone, case_given}
 use Rattle.html_c.specs.Given.{Tells}
 use Rattle.html_c.specs.Page.{Parts, error_row, parts}
@@ -33,7 +33,7 @@ abbrev pub parsed_rows : Parsed → List NodeRow
 parsed_rows parsed = rows_of parsed.root (children_of parsed.root parsed.tree.trees)
 
 abbrev pub parsed_words : Parsed → List ℕ
-parsed_words parsed = words_of (nodes_of parsed)
+parsed_words parsed = words_of (parsed_nodes parsed)
 
 -- the rows of where its nodes came from, if that was asked for
 abbrev pub origins_by : Option (List Origin) → Forest ℕ → List OriginRow

@@ -1,7 +1,7 @@
 //! Why a call gives nothing.
 
 ghost use Rattle.std.specs.Prelude.{◌≡◌};
-ghost use Rattle.html_c.specs.Faults.{at_of, cause_number, detail_of, element_number, refusal_number, status_of};
+ghost use Rattle.html_c.specs.Faults.{at_of, cause_number, fault_detail, element_number, refusal_number, call_fault_status};
 ghost use Rattle.html_c.specs.declared.fault.CallFault.TheVariants as fault;
 
 use names::{Refusal, RefusedName, TableFault};
@@ -30,7 +30,7 @@ impl From<Refusal> for CallFault {
 impl CallFault {
     /// Its number.
     pub(crate) fn status(self) -> u32
-        ensures { result ≡ status_of self }
+        ensures { result ≡ call_fault_status self }
     {
         match self {
             CallFault::Refused(refusal) => refusal_number(refusal),
@@ -43,7 +43,7 @@ impl CallFault {
 
     /// The number of what it names, from 1, or 0.
     pub(crate) fn detail(self) -> u32
-        ensures { result ≡ detail_of self }
+        ensures { result ≡ fault_detail self }
     {
         match self {
             CallFault::Refused(Refusal::OutOfProfile { name, .. }) => element_number(name),

@@ -24,12 +24,12 @@ pub(crate) struct Fitted {
 impl Fitted {
     ghost use Rattle.std.specs.Prelude.{◌++◌, ℕ, List, [], Some, None, true, nat_le};
     ghost use Rattle.hserialize.specs.Output.{WritesText};
-    ghost use Rattle.html_c.specs.Fitted.{failures_of, IsFitted, text_of, written};
+    ghost use Rattle.html_c.specs.Fitted.{fitted_failures, IsFitted, fitted_text, written};
     ghost use Rattle.html_c.specs.Room.{put_over};
 
     /// No text yet.
     pub(crate) fn new(alloc: Global, room: usize) -> Fitted
-        ensures empty { text_of result ≡ [] }
+        ensures empty { fitted_text result ≡ [] }
         ensures room { result.room ≡ room }
     {
         Fitted {
@@ -43,10 +43,10 @@ impl Fitted {
 
     /// Adds bytes, unless there is no memory for them.
     fn add(&mut self, bytes: &[u8]) -> Option<()>
-        ensures added { result ≡ Some tt → text_of self.new ≡ text_of self.old ++ bytes.now }
-        ensures none { result ≡ None → text_of self.new ≡ text_of self.old }
+        ensures added { result ≡ Some tt → fitted_text self.new ≡ fitted_text self.old ++ bytes.now }
+        ensures none { result ≡ None → fitted_text self.new ≡ fitted_text self.old }
         ensures room { self.new.room ≡ self.old.room }
-        ensures failures { failures_of self.new ≡ failures_of self.old }
+        ensures failures { fitted_failures self.new ≡ fitted_failures self.old }
     {
         let count = self.count.checked_add(bytes.len())?;
         if count <= self.room {
@@ -59,8 +59,8 @@ impl Fitted {
 
     /// The text that was written, if all of it was: what fails is memory alone.
     pub(crate) fn written(self, answer: Result<(), Refusal>) -> Result<Fitted, Refusal>
-        ensures { (text : List ℕ) (old : Fitted) → text_of old ≡ []
-            → WritesText written failures_of text old self answer → IsFitted old.room text result }
+        ensures { (text : List ℕ) (old : Fitted) → fitted_text old ≡ []
+            → WritesText written fitted_failures text old self answer → IsFitted old.room text result }
     {
         match answer {
             Ok(()) => Ok(self),
@@ -71,7 +71,7 @@ impl Fitted {
     /// Whether it fits its room.
     pub(crate) fn fits(&self, room: &[u8]) -> bool
         requires { self.now.room ≡ length room.now }
-        ensures { result ≡ nat_le (length (text_of self.now)) (length room.now) }
+        ensures { result ≡ nat_le (length (fitted_text self.now)) (length room.now) }
     {
         self.count <= room.len()
     }
@@ -79,19 +79,19 @@ impl Fitted {
     /// Writes it to the beginning of its room, if it is to be written.
     pub(crate) fn put(&self, fits: bool, room: &mut [u8])
         requires room { self.now.room ≡ length room.old }
-        requires fits { fits ≡ true → length (text_of self.now) ≤ length room.old }
-        ensures { room.new ≡ put_over fits (text_of self.now) room.old }
+        requires fits { fits ≡ true → length (fitted_text self.now) ≤ length room.old }
+        ensures { room.new ≡ put_over fits (fitted_text self.now) room.old }
     {
         put(fits, &self.kept, room);
     }
 }
 
 impl Target for Fitted {
-    ghost use Rattle.html_c.specs.Fitted.{failures_of, written};
+    ghost use Rattle.html_c.specs.Fitted.{fitted_failures, written};
 
     ghost written = { written };
 
-    ghost failed = { failures_of };
+    ghost failed = { fitted_failures };
 
     fn write(&mut self, bytes: &[u8]) -> Option<usize> {
         if self.add(bytes).is_none() {

@@ -1,8 +1,7 @@
 //! The options of a call.
 
-ghost use Rattle.std.specs.Prelude.{◌≡◌, ◌<◌, ◌≤◌, MatchResult, Some, None, Ok, true};
-ghost use Rattle.html_c.specs.Vocabulary.{ReadsQuirks, options_of, name_of, AllowsContext, bad_told, context_told, escaping_told, keys_told, may_be_in, task_told, HasLimits, HasLists, IsCommand, IsPiece, IsSize, NoCommand, NoEscaping, NoSize, Tells, Unmet};
-ghost use Rattle.html_c.specs.declared.fault.CallFault.TheVariants as fault;
+ghost use Rattle.std.specs.Prelude.{◌≡◌, ◌<◌, MatchResult, Some, None, Ok};
+ghost use Rattle.html_c.specs.Vocabulary.{ReadsQuirks, options_of, own_context, AllowsContext, bad_told, context_told, escaping_told, keys_told, may_be_in, task_told, HasLimits, HasLists, IsCommand, IsPieceSize, IsSize, NoCommand, NoEscaping, NoSize, Tells, Unmet};
 
 use crate::answer::Given;
 use crate::fault::CallFault;
@@ -45,7 +44,7 @@ pub(crate) fn task_of(number: u32) -> Option<Task>
 
 /// Whether the task of a number is one for a fragment in this element, or for a document where there is none.
 fn may_be_in(number: u32, context: Option<&str>) -> bool
-    ensures { result ≡ may_be_in number (name_of context.entry) }
+    ensures { result ≡ may_be_in number (own_context context.entry) }
 {
     match context {
         Some(_) => number != TOKENS && number != PLAIN_DOCUMENT,
@@ -87,7 +86,7 @@ impl<'a> Given<'a> {
     /// How many bytes are fed at a time.
     pub(crate) fn piece(&self) -> Result<usize, CallFault>
         requires { IsSize self.now.size }
-        ensures { MatchResult result (λ piece. (piece ≡ self.now.piece) × IsPiece piece) (Unmet self.now) }
+        ensures { MatchResult result (λ piece. (piece ≡ self.now.piece) × IsPieceSize piece) (Unmet self.now) }
     {
         if 0 < self.piece && self.piece <= MOST_PIECE {
             Ok(self.piece as usize)
@@ -100,7 +99,7 @@ impl<'a> Given<'a> {
     pub(crate) fn context(&self) -> Result<Option<&'a str>, CallFault>
         requires { IsSize self.now.size }
         ensures { let told = context_told self.now.context.now in
-            MatchResult result (λ name. (name_of name ≡ told) × AllowsContext told) (Unmet self.now) }
+            MatchResult result (λ name. (own_context name ≡ told) × AllowsContext told) (Unmet self.now) }
     {
         let name = self.context_name()?;
         check_context(name)?;
@@ -110,7 +109,7 @@ impl<'a> Given<'a> {
     /// The name that is given for it, which may be one that no fragment can have.
     fn context_name(&self) -> Result<Option<&'a str>, CallFault>
         requires { IsSize self.now.size }
-        ensures { MatchResult result (λ name. name_of name ≡ context_told self.now.context.now) (Unmet self.now) }
+        ensures { MatchResult result (λ name. own_context name ≡ context_told self.now.context.now) (Unmet self.now) }
     {
         if self.context.is_empty() {
             return Ok(None);
@@ -201,7 +200,7 @@ impl<'a> Given<'a> {
     ) -> Options<'t>
         requires size { IsSize self.now.size }
         requires context { AllowsContext (context_told self.now.context.now) }
-        requires piece { IsPiece self.now.piece }
+        requires piece { IsPieceSize self.now.piece }
         requires lists { HasLists self.now lists.now }
         requires bad_bytes { bad_told self.now.bad_bytes ≡ Some bad_bytes }
         requires limits { HasLimits self.now limits }

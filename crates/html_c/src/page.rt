@@ -1,8 +1,8 @@
 //! A page: the tree of an input, its parse errors and where its nodes came from as rows, and its HTML, by one parse.
 
-ghost use Rattle.std.specs.Prelude.{◌≡◌, ◌≤◌, if◌then◌else◌, ℕ, List, [], true, length, map, None, IfOk, MatchResult};
+ghost use Rattle.std.specs.Prelude.{◌≡◌, ◌≤◌, if◌then◌else◌, [], true, length, map, None, IfOk, MatchResult};
 ghost use Rattle.html_c.specs.Vocabulary.{Memory, parsed_text, IsFitted, all_fit, error_row, page_answer, parts, put_parts, wants_told, GivesNoPage, GivesNothing, GivesPage, parsed_parts, put_over};
-ghost use Rattle.html_c.specs.Parts.{parts_of};
+ghost use Rattle.html_c.specs.Parts.{page_parts};
 ghost use Rattle.hwrite.specs.declared.command.Task.TheVariants as task;
 
 use crate::answer::{ErrorRow, Given, NodeRow, OriginRow, PageAnswer};
@@ -105,7 +105,7 @@ fn page_in(
     room: usize,
 ) -> Result<Page, Refusal>
     ensures made { MatchResult result
-        (λ page. parts_of page ≡ parsed_parts parsed wants.errors (if wants.text then parsed_text escaping task.Write None parsed else []))
+        (λ page. page_parts page ≡ parsed_parts parsed wants.errors (if wants.text then parsed_text escaping task.Write None parsed else []))
         (λ refusal. refusal ≡ Memory) }
     ensures room { IfOk result (λ page. page.text.room ≡ room) }
 {
@@ -126,7 +126,7 @@ pub(crate) fn page_of(
     given: &Given,
     room: usize,
 ) -> Result<Page, CallFault>
-    ensures says { MatchResult result (λ page. GivesPage number input.now given.now (parts_of page))
+    ensures says { MatchResult result (λ page. GivesPage number input.now given.now (page_parts page))
         (GivesNothing given.now.size (GivesNoPage number input.now given.now)) }
     ensures room { IfOk result (λ page. page.text.room ≡ room) }
 {
@@ -142,7 +142,7 @@ pub(crate) fn page_of(
 impl Page {
     /// Its parse errors, if they are wanted.
     fn errors(&self) -> &[ParseError]
-        ensures { map error_row result.now ≡ (parts_of self.now).errors }
+        ensures { map error_row result.now ≡ (page_parts self.now).errors }
     {
         if self.has_errors {
             &self.tree.parsed.errors
@@ -153,7 +153,7 @@ impl Page {
 
     /// How many rows of origins it has: as many as nodes, if they were asked for.
     fn origin_count(&self) -> usize
-        ensures { result ≡ length (parts_of self.now).origins }
+        ensures { result ≡ length (page_parts self.now).origins }
     {
         match &self.tree.parsed.places {
             Some(_) => self.tree.nodes,
@@ -171,7 +171,7 @@ impl Page {
         origins: &[OriginRow],
     ) -> bool
         requires { self.now.text.room ≡ length text.now }
-        ensures { result ≡ all_fit (parts_of self.now) (parts rows.now words.now errors.now text.now origins.now) }
+        ensures { result ≡ all_fit (page_parts self.now) (parts rows.now words.now errors.now text.now origins.now) }
     {
         self.tree.nodes <= rows.len()
             && self.tree.words <= words.len()
@@ -182,7 +182,7 @@ impl Page {
 
     /// How long the parts are, which fit or do not.
     fn answer(&self, fits: bool) -> PageAnswer
-        ensures { result ≡ page_answer fits (parts_of self.now) }
+        ensures { result ≡ page_answer fits (page_parts self.now) }
     {
         PageAnswer {
             status: status(fits),
@@ -206,8 +206,8 @@ impl Page {
     ) -> PageAnswer
         requires { self.now.text.room ≡ length text.old }
         ensures put { parts rows.new words.new errors.new text.new origins.new
-            ≡ put_parts (parts_of self.now) (parts rows.old words.old errors.old text.old origins.old) }
-        ensures answer { result ≡ page_answer (all_fit (parts_of self.now) (parts rows.old words.old errors.old text.old origins.old)) (parts_of self.now) }
+            ≡ put_parts (page_parts self.now) (parts rows.old words.old errors.old text.old origins.old) }
+        ensures answer { result ≡ page_answer (all_fit (page_parts self.now) (parts rows.old words.old errors.old text.old origins.old)) (page_parts self.now) }
     {
         let fits = self.fits(rows, words, errors, text, origins);
         self.tree.put(fits, rows, words);

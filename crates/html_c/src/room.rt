@@ -1,7 +1,7 @@
 //! The caller's rooms.
 
 ghost use Rattle.std.specs.Prelude.{◌≡◌, ◌≤◌, true, length, nat_le};
-ghost use Rattle.html_c.specs.Vocabulary.{PutsAt, fit, parsed_rows, parsed_words, text_of, page_fault, fault_answer, fit_status, put_over, room_answer};
+ghost use Rattle.html_c.specs.Vocabulary.{PutsAt, fit, parsed_rows, parsed_words, fitted_text, page_fault, fault_answer, fit_status, put_over, room_answer};
 
 use crate::answer::{Answer, NodeRow, PageAnswer};
 use crate::fault::CallFault;
@@ -92,8 +92,8 @@ pub(crate) fn put_bytes(bytes: &[u8], room: &mut [u8]) -> Answer
 /// Writes a text to the beginning of its room, if it fits.
 pub(crate) fn put_text(text: &Fitted, room: &mut [u8]) -> Answer
     requires { text.now.room ≡ length room.old }
-    ensures room { room.new ≡ put_over (nat_le (length (text_of text.now)) (length room.old)) (text_of text.now) room.old }
-    ensures answer { result ≡ room_answer (nat_le (length (text_of text.now)) (length room.old)) (length (text_of text.now)) 0 }
+    ensures room { room.new ≡ put_over (nat_le (length (fitted_text text.now)) (length room.old)) (fitted_text text.now) room.old }
+    ensures answer { result ≡ room_answer (nat_le (length (fitted_text text.now)) (length room.old)) (length (fitted_text text.now)) 0 }
 {
     let fits = text.fits(room);
     text.put(fits, room);

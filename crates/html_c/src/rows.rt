@@ -2,7 +2,7 @@
 
 ghost use Rattle.std.specs.Prelude.{◌≡◌, ◌<◌, ◌≤◌, ◌⊎◌, true, length, flat_map, map, IfErr, MatchResult};
 ghost use Rattle.names.specs.Names.{text_of};
-ghost use Rattle.html_c.specs.Vocabulary.{Memory, PutsAt, greatest, attribute_of, spelled_attribute, what_of, attribute_words, ended, kind_number, link_to, parsed_rows, parsed_words, put_over, row_at, words_at};
+ghost use Rattle.html_c.specs.Vocabulary.{Memory, PutsAt, greatest, attribute_of, mapped_attribute, what_of, attribute_words, ended, kind_number, link_to, parsed_rows, parsed_words, put_over, row_at, words_at};
 
 use crate::answer::NodeRow;
 use crate::room::put_at;
@@ -26,7 +26,7 @@ fn put_word(word: &str, room: &mut [u8], at: usize) -> usize
 
 /// Puts the words of attributes.
 fn put_attributes(names: &Names, attrs: &[Attr], room: &mut [u8], at: usize) -> usize
-    ensures { PutsAt at (flat_map attribute_words (map (spelled_attribute (text_of names.now)) (map attribute_of attrs.now))) room.old room.new result }
+    ensures { PutsAt at (flat_map attribute_words (map (mapped_attribute (text_of names.now)) (map attribute_of attrs.now))) room.old room.new result }
 {
     let mut at = at;
     for attr in attrs {

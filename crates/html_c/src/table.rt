@@ -1,7 +1,7 @@
 //! The table of character references: as JSON, or in its flat form.
 
 ghost use Rattle.std.specs.Prelude.{◌≡◌};
-ghost use Rattle.html_c.specs.Table.{form_of, ReadsTable};
+ghost use Rattle.html_c.specs.Table.{form_of, ReadsTableBytes};
 ghost use Rattle.html_c.specs.declared.table.Form.TheVariants as form;
 
 use crate::fault::CallFault;
@@ -33,7 +33,7 @@ fn form_of(bytes: &[u8]) -> Form
 
 /// The table that these bytes say, for the look-ups of a text.
 pub(crate) fn table_of(alloc: Global, bytes: &[u8], text: &[u8]) -> Result<Table, CallFault>
-    ensures { ReadsTable bytes.now result }
+    ensures { ReadsTableBytes bytes.now result }
 {
     match form_of(bytes) {
         Form::Core => Ok(Table::core(alloc)?),
@@ -45,7 +45,7 @@ pub(crate) fn table_of(alloc: Global, bytes: &[u8], text: &[u8]) -> Result<Table
 /// The table of a flat form.
 fn flat_table(alloc: Global, bytes: &[u8], text: &[u8]) -> Result<Table, CallFault>
     requires { form_of bytes.now ≡ form.Flat }
-    ensures { ReadsTable bytes.now result }
+    ensures { ReadsTableBytes bytes.now result }
 {
     let table = Table::for_text(alloc, bytes, text)?;
     // So no other table has this form.
@@ -56,7 +56,7 @@ fn flat_table(alloc: Global, bytes: &[u8], text: &[u8]) -> Result<Table, CallFau
 /// The table of a JSON text.
 fn json_table(alloc: Global, bytes: &[u8]) -> Result<Table, CallFault>
     requires { form_of bytes.now ≡ form.Json }
-    ensures { ReadsTable bytes.now result }
+    ensures { ReadsTableBytes bytes.now result }
 {
     match str::from_utf8(bytes) {
         Ok(text) => Ok(Table::read(alloc, text)?),

@@ -1,7 +1,7 @@
 //! The text of a task.
 
 ghost use Rattle.std.specs.Prelude.{◌≡◌, ◌<◌, ℕ, IfOk, MatchResult, Ok};
-ghost use Rattle.html_c.specs.Vocabulary.{options_of, name_of, AllowsContext, context_of, prints_of, ComesToNone, GivesNone, GivesNothing, GivesText, kept, written_in, HasLists, IsCommand};
+ghost use Rattle.html_c.specs.Vocabulary.{options_of, own_context, AllowsContext, context_of, prints_of, ComesToNone, GivesNone, GivesNothing, GivesText, kept, written_in, HasLists, IsCommand};
 
 use crate::answer::Given;
 use crate::fault::CallFault;
@@ -62,9 +62,9 @@ fn text_in(
     options: &Options,
     room: usize,
 ) -> Result<Fitted, Refusal>
-    requires context { AllowsContext (context_of command.task (name_of command.context)) }
+    requires context { AllowsContext (context_of command.task (own_context command.context)) }
     requires piece { 0 < command.piece }
-    ensures says { let prints = prints_of command.entry.escaping command.entry.task (name_of command.entry.context) (options_of options.now) in
+    ensures says { let prints = prints_of command.entry.escaping command.entry.task (own_context command.entry.context) (options_of options.now) in
         MatchResult result (λ text. prints input.now (Ok (written_in text))) (ComesToNone prints input.now) }
     ensures room { IfOk result (λ text. text.room ≡ room) }
 {

@@ -1,7 +1,7 @@
 //! What an input is parsed as, and the rows of its tree.
 
 ghost use Rattle.std.specs.Prelude.{◌≡◌, ◌<◌, MatchResult};
-ghost use Rattle.html_c.specs.Vocabulary.{options_of, name_of, AllowsContext, GivesNoRows, GivesNothing, GivesRows, HasLists, IsPiece, IsSize, context_told, ComesToParse, GivesParse, parsed_rows, parsed_words};
+ghost use Rattle.html_c.specs.Vocabulary.{options_of, own_context, AllowsContext, GivesNoRows, GivesNothing, GivesRows, HasLists, IsPieceSize, IsSize, context_told, ComesToParse, GivesParse, parsed_rows, parsed_words};
 
 use crate::answer::Given;
 use crate::fault::CallFault;
@@ -52,9 +52,9 @@ fn parse_with(
     places: bool,
 ) -> Result<Parsed, CallFault>
     requires size { IsSize given.now.size }
-    requires context { name_of context ≡ context_told given.now.context.now }
+    requires context { own_context context ≡ context_told given.now.context.now }
     requires allowed { AllowsContext (context_told given.now.context.now) }
-    requires piece { (piece ≡ given.now.piece) × IsPiece piece }
+    requires piece { (piece ≡ given.now.piece) × IsPieceSize piece }
     requires lists { HasLists given.now lists.now }
     ensures { MatchResult result (GivesParse input.now given.now places) (GivesNoRows input.now given.now) }
 {
@@ -72,9 +72,9 @@ fn parsed(
     input: &[u8],
     options: &Options,
 ) -> Result<Parsed, Refusal>
-    requires context { AllowsContext (name_of context) }
+    requires context { AllowsContext (own_context context) }
     requires piece { 0 < piece }
-    ensures { ComesToParse (options_of options.now) (name_of context.entry) (input.now) result }
+    ensures { ComesToParse (options_of options.now) (own_context context.entry) (input.now) result }
 {
     let parser = parser(alloc, context, options)?;
     let mut source = Input::new(input);

@@ -1,5 +1,5 @@
 -- What `clap` says of the program's command line.
-use Rattle.htmlp.proofs.Names.{◌≡◌, ◌⊎◌, inl, inr, refl, sym, ap, subst, ◌∙◌, List, [], ◌∷◌, false, Result, Ok, Err, MatchResult, Option, None, Some, option_map, codes, HasKind, Row, Text, app_of, fault_of, found_of, is_simple_and_free, rows_of, takes, Command, ArgMatches, fault_of_error, Numeric, Says, bad_bytes_of, task_of, value_of, Fault, Line}
+use Rattle.htmlp.proofs.Names.{◌≡◌, ◌⊎◌, inl, inr, refl, sym, ap, subst, ◌∙◌, List, [], ◌∷◌, false, Result, Ok, Err, MatchResult, Option, None, Some, option_map, codes, HasKind, Row, Text, app_of, fault_of, found_of, is_simple_and_free, rows_of, takes, Command, ArgMatches, fault_of_error, Numeric, SaysLine, bad_bytes_of, task_of, option_value, Fault, Line}
 use Rattle.std.proofs.Common.{if◌then◌else◌, Bool, true, is_some, IfOk, IfErr, OnOk, option_and_then}
 use Rattle.std.specs.Prelude.{IsSome, find}
 use Rattle.std.specs.List.{list_all}
@@ -87,21 +87,21 @@ module _ (command : Command) (m found : ArgMatches) (name : Text) (words : List 
   task_read = ap (option_and_then (λ (p : Text × List Row). task_named p.0)) name_and_rows
 
   -- a value that the matches of the subcommand have is that of the command that the words name
-  pub value_read : first_value (found_of found) ≡ value_of words
+  pub value_read : first_value (found_of found) ≡ option_value words
   value_read = λ i. λ (id : Text). (first_value-rows (found_of found) id ∙ ap (option_and_then (λ (p : Text × List Row). first_of id p.1)) name_and_rows) i
 
 -- ---- what the command says
 
 pub said : (r : Result Line Fault) (task given : Option Task) (value read : Text → Option Text) → task ≡ given → value ≡ read
-    → MatchResult r (Says task value) (OptionFault value) → IfOk r (Says given read)
-said (Ok line) task given value read same is h = subst (λ t. Says t read line) same (subst (λ v. Says task v line) is h)
+    → MatchResult r (SaysLine task value) (OptionFault value) → IfOk r (SaysLine given read)
+said (Ok line) task given value read same is h = subst (λ t. SaysLine t read line) same (subst (λ v. SaysLine task v line) is h)
 said (Err why) task given value read same is h = tt
 
 pub anyway : {P : Type 0} (r : Result Line Fault) → P → OnOk r P
 anyway (Ok line) p = p
 anyway (Err why) p = tt
 
-number_fault : (words : List Text) (options : List Numeric) (why : Fault) → fault_of program words ≡ [] → NumberFault (value_of words) numeric_options why → FaultOf words why
+number_fault : (words : List Text) (options : List Numeric) (why : Fault) → fault_of program words ≡ [] → NumberFault (option_value words) numeric_options why → FaultOf words why
 number_fault words options fault.Memory none h = tt
 number_fault words options (fault.Number option text) none h = (none, inl h)
 number_fault words options why none (inl h) = absurd h.1
@@ -110,12 +110,12 @@ number_fault words options why none (inr (h, inr (k, inl l))) = absurd l.1
 number_fault words options why none (inr (h, inr (k, inr (l, inl m)))) = absurd m.1
 number_fault words options why none (inr (h, inr (k, inr (l, inr (m, n))))) = absurd n
 
-option_fault : (words : List Text) (why : Fault) → fault_of program words ≡ [] → OptionFault (value_of words) why → FaultOf words why
+option_fault : (words : List Text) (why : Fault) → fault_of program words ≡ [] → OptionFault (option_value words) why → FaultOf words why
 option_fault words why none (inl h) = number_fault words numeric_options why none h
 option_fault words why none (inr h) = subst (FaultOf words) (sym h.2) (none, inr (h.0, h.1, refl))
 
-pub says_fault : (r : Result Line Fault) (words : List Text) (task : Option Task) (value : Text → Option Text) → fault_of program words ≡ [] → value ≡ value_of words
-    → MatchResult r (Says task value) (OptionFault value) → IfErr r (FaultOf words)
+pub says_fault : (r : Result Line Fault) (words : List Text) (task : Option Task) (value : Text → Option Text) → fault_of program words ≡ [] → value ≡ option_value words
+    → MatchResult r (SaysLine task value) (OptionFault value) → IfErr r (FaultOf words)
 says_fault (Ok line) words task value none is h = tt
 says_fault (Err why) words task value none is h = option_fault words why none (subst (λ v. OptionFault v why) is h)
 
@@ -133,8 +133,8 @@ no_option_fault value why good (inr h) = not_some (bad_bytes_of (value (codes "b
     not_some None some is = absurd cc
     not_some (Some x) some is = absurd cc
 
-pub no_fault : (r : Result Line Fault) (words : List Text) (task : Option Task) (value : Text → Option Text) → value ≡ value_of words
-    → MatchResult r (Says task value) (OptionFault value)
-    → IfErr r (λ f. takes program words ≡ true → AreGood (value_of words) → f ≡ fault.Memory)
+pub no_fault : (r : Result Line Fault) (words : List Text) (task : Option Task) (value : Text → Option Text) → value ≡ option_value words
+    → MatchResult r (SaysLine task value) (OptionFault value)
+    → IfErr r (λ f. takes program words ≡ true → AreGood (option_value words) → f ≡ fault.Memory)
 no_fault (Ok line) words task value is h = tt
-no_fault (Err why) words task value is h = λ taken good. absurd (no_option_fault (value_of words) why good (subst (λ v. OptionFault v why) is h))
+no_fault (Err why) words task value is h = λ taken good. absurd (no_option_fault (option_value words) why good (subst (λ v. OptionFault v why) is h))

@@ -3,7 +3,7 @@ use Rattle.htmlp.proofs.Names.{◌≡◌, Option, Some, Result, Ok, Err, [], ◌
 use Rattle.names.specs.declared.refusal.Refusal.TheVariants.{Memory}
 use Rattle.hmarkup.specs.Quirks.{no_memory, bad_line, read_all}
 use Rattle.htmlp.specs.declared.fault.Fault.TheVariants.{Refused}
-use Rattle.htmlp.specs.Program.{Finds}
+use Rattle.htmlp.specs.Program.{FindsFile}
 
 some_line : (before after : List (List ℕ)) (line : List ℕ) → [] ≡ before ++ line ∷ after → ⊥
 some_line [] after line is = absurd cc
@@ -20,7 +20,7 @@ module _ {R A : Type 0} (has_text : R → List ℕ → List ℕ → Type 0) (lac
     (reads : List ℕ → Result A Refusal → Type 0) (surroundings : R) (name : Option (Bor (List ℕ))) (file : Bor (List ℕ)) (is : name ≡ Some file)
     (read text : List ℕ) (same : read ≡ text) (has : has_text surroundings file.now text) where
   abbrev FindsIn : Option (Bor (List ℕ)) → Result A Fault → Type 0
-  FindsIn its = Finds has_text lacks_text default reads surroundings (option_map (λ s. s.now) its)
+  FindsIn its = FindsFile has_text lacks_text default reads surroundings (option_map (λ s. s.now) its)
 
   has_read : has_text surroundings file.now read
   has_read = subst (has_text surroundings file.now) (sym same) has

@@ -1,5 +1,5 @@
 -- What the words say, where they are read.
-use Rattle.htmlp.proofs.Names.{◌≡◌, ◌⊎◌, ◌∙◌, inl, inr, ap, ap₂, sym, subst, codes, Option, option_map, ℕ, List, Ok, Err, false, Bor, Text, Fault, IsRefused, Numeric, range_of, Line, Says, task_of, value_of, FindsQuirks}
+use Rattle.htmlp.proofs.Names.{◌≡◌, ◌⊎◌, ◌∙◌, inl, inr, ap, ap₂, sym, subst, codes, Option, option_map, ℕ, List, Ok, Err, false, Bor, Text, Fault, IsRefusalOf, Numeric, range_of, Line, SaysLine, task_of, option_value, FindsQuirks}
 use Rattle.std.proofs.Math.Nat.{le_refl}
 use Rattle.charref.specs.Reference.{Entities}
 use Rattle.hmarkup.specs.Quirks.{QuirkLine}
@@ -11,7 +11,7 @@ use Rattle.htmlp.specs.Fault.{IsLimitFault}
 use Rattle.htmlp.specs.declared.fault.Fault.TheVariants.{Limit}
 use Rattle.htmlp.specs.declared.numeric.Numeric.TheVariants.{Nodes, Open}
 use Rattle.htmlp.specs.Numeric.{IsWithin}
-use Rattle.htmlp.specs.Program.{FindsTable, FirstFault, no_table, no_quirks, no_limits, no_context, Tells, ParseOptions, limits_of}
+use Rattle.htmlp.specs.Program.{FindsTable, FirstFault, no_table, no_quirks, no_limits, no_context, TellsOptions, ParseOptions, limits_of}
 
 abbrev name_of : Option (Bor (List ℕ)) → Option Text
 name_of = option_map (λ s. s.now)
@@ -39,17 +39,17 @@ limit_fault nodes depth bad none (inr (within, is)) = inr (
 )
 
 module _ {R : Type 0} (has_text : R → List ℕ → List ℕ → Type 0) (lacks_text : R → List ℕ → Fault → Type 0) (surroundings : R) (words : List Text) (line : Line)
-    (says : Says (task_of words) (value_of words) line) where
+    (says : SaysLine (task_of words) (option_value words) line) where
   abbrev IsTable : Entities → Type 0
   IsTable table = FindsTable has_text lacks_text surroundings (name_of line.entities) (Ok table)
 
   abbrev IsQuirks : List QuirkLine → Type 0
   IsQuirks quirks = FindsQuirks has_text lacks_text surroundings (name_of line.quirks) (Ok quirks)
 
-  table_found : (table : Entities) → IsTable table → FindsTable has_text lacks_text surroundings (value_of words (codes "entities")) (Ok table)
+  table_found : (table : Entities) → IsTable table → FindsTable has_text lacks_text surroundings (option_value words (codes "entities")) (Ok table)
   table_found table is = subst (λ name. FindsTable has_text lacks_text surroundings name (Ok table)) says.entities_is is
 
-  quirks_found : (quirks : List QuirkLine) → IsQuirks quirks → FindsQuirks has_text lacks_text surroundings (value_of words (codes "quirks")) (Ok quirks)
+  quirks_found : (quirks : List QuirkLine) → IsQuirks quirks → FindsQuirks has_text lacks_text surroundings (option_value words (codes "quirks")) (Ok quirks)
   quirks_found quirks is = subst (λ name. FindsQuirks has_text lacks_text surroundings name (Ok quirks)) says.quirks_is is
 
   limits_are : limits_from line.nodes line.open ≡ limits_of words
@@ -74,13 +74,13 @@ module _ {R : Type 0} (has_text : R → List ℕ → List ℕ → Type 0) (lacks
       no_limits table quirks (table_found table found) (quirks_found quirks listed) (λ are. none (limits_said are)) (subst (λ (b : Bounds). IsLimitFault b.tree why) limits_are is)
 
   pub context_refused : (table : Entities) (quirks : List QuirkLine) (why : Fault) → IsTable table → IsQuirks quirks → AreLimits (limits_from line.nodes line.open)
-      → (AllowsContext (name_of line.command.context) → ⊥) → IsRefused (name_of line.command.context) BadContext why → FirstFault has_text lacks_text surroundings words why
+      → (AllowsContext (name_of line.command.context) → ⊥) → IsRefusalOf (name_of line.command.context) BadContext why → FirstFault has_text lacks_text surroundings words why
   context_refused table quirks why found listed are none is =
       no_context table quirks (table_found table found) (quirks_found quirks listed) (limits_found are) (λ allows. none (subst AllowsContext (sym says.context_is) allows))
-      (subst (λ name. IsRefused name BadContext why) says.context_is is)
+      (subst (λ name. IsRefusalOf name BadContext why) says.context_is is)
 
   pub tells : (table : Entities) (quirks : List QuirkLine) (limits : Bounds) → IsTable table → IsQuirks quirks → AreLimits (limits_from line.nodes line.open)
-      → AllowsContext (name_of line.command.context) → limits ≡ limits_from line.nodes line.open → Tells has_text lacks_text surroundings words (told_with line table quirks limits)
+      → AllowsContext (name_of line.command.context) → limits ≡ limits_from line.nodes line.open → TellsOptions has_text lacks_text surroundings words (told_with line table quirks limits)
   tells table quirks limits found listed are allows is =
       record {
         task = says.task_is;

@@ -1,5 +1,5 @@
 -- The names of other crates and of specs/ that several proofs cite, in one place.
-pub use Rattle.htmlp.specs.Vocabulary.{Text, app_of, with_rule, fault_of, found_of, takes, fields_of, range_text, refusal_line, IsRefused, Says, task_of, value_of, choice_rule, named_reads, with_commands, with_rules, bad_bytes_of, range_of, FindsQuirks, WritesAll}
+pub use Rattle.htmlp.specs.Vocabulary.{Text, app_of, with_rule, fault_of, found_of, takes, fields_of, range_text, refusal_line, IsRefusalOf, SaysLine, task_of, option_value, choice_rule, named_reads, with_commands, with_rules, bad_bytes_of, range_of, FindsQuirks, WritesAll}
 pub use Rattle.clap.specs.Words.{HasKind, Row, is_simple_and_free, rows_of}
 pub use Rattle.clap.specs.declared.builder.command.Command.{Command}
 pub use Rattle.clap.specs.declared.parser.matches.ArgMatches.{ArgMatches}

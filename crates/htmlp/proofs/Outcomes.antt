@@ -1,11 +1,11 @@
 -- What comes of a call that is passed up.
-use Rattle.htmlp.proofs.Names.{◌≡◌, Result, Ok, Err, None, MatchResult, ap, refl, sym, subst, IsErrAnd, Refusal, Fault, IsRefused}
+use Rattle.htmlp.proofs.Names.{◌≡◌, Result, Ok, Err, None, MatchResult, ap, refl, sym, subst, IsErrAnd, Refusal, Fault, IsRefusalOf}
 use Rattle.htmlp.specs.declared.fault.Fault.TheVariants as fault
 use Rattle.htmlp.specs.Program.{IsOutcome}
 
 pub refused : (outcome : Result (Unit {0}) Fault) (refusal : Refusal) → IsErrAnd outcome (λ f. f ≡ fault.Refused refusal None) → IsOutcome None (Err refusal) outcome
 refused (Ok _) refusal is = absurd is
-refused (Err f) refusal is = subst (IsRefused None refusal) (sym is) (refl, refl)
+refused (Err f) refusal is = subst (IsRefusalOf None refusal) (sym is) (refl, refl)
 
 pub passed_on : (outcome : Result (Unit {0}) Fault) (f : Fault) → IsErrAnd outcome (λ g. g ≡ f) → outcome ≡ Err f
 passed_on (Ok _) f is = absurd is

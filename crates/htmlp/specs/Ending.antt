@@ -7,7 +7,7 @@ use Rattle.names.specs.declared.refusal.Refusal.TheVariants as refusal
 use Rattle.htmlp.specs.declared.fault.Fault.{Fault}
 use Rattle.htmlp.specs.declared.fault.Fault.TheVariants as fault
 use Rattle.htmlp.specs.declared.numeric.Numeric.{Numeric}
-use Rattle.htmlp.specs.Numeric.{name_of, range_text}
+use Rattle.htmlp.specs.Numeric.{numeric_name, range_text}
 use Rattle.names.specs.RefusalText.{refusal_text}
 
 -- A refusal ends with 2, but where the reader or the writer failed.
@@ -21,9 +21,9 @@ fault_status (fault.Limit option) = 2
 fault_status (fault.Refused refusal name) = refusal_status refusal
 fault_status _ = 3
 
-abbrev pub status_of : Result (Unit {0}) Fault → ℕ
-status_of (Ok _) = 0
-status_of (Err fault) = fault_status fault
+abbrev pub exit_status : Result (Unit {0}) Fault → ℕ
+exit_status (Ok _) = 0
+exit_status (Err fault) = fault_status fault
 
 -- the line of a refusal
 abbrev pub refusal_line : Refusal → Text
@@ -45,7 +45,7 @@ fault_line fault.NotUtf8 = Some (codes "fault: the command line is not UTF-8")
 fault_line fault.BadBytes = Some (codes "fault: --bad-bytes is refuse or replace")
 fault_line fault.NoRandomBytes = Some (codes "fault: no random bytes")
 fault_line (fault.Line error) = None
-fault_line (fault.Number option value) = Some (number_line value.now (name_of option) (range_text option))
+fault_line (fault.Number option value) = Some (number_line value.now (numeric_name option) (range_text option))
 fault_line (fault.Limit option) = Some (refusal_line refusal.BadLimits)
 fault_line (fault.Refused refusal name) = Some (refusal_line refusal)
 
@@ -64,7 +64,7 @@ name_line _ _ = None
 
 -- the line that explains a limit that is out of its range
 abbrev pub limit_line : Numeric → Text
-limit_line option = concat (codes "htmlp: --" ∷ name_of option ∷ codes " is " ∷ range_text option ∷ [])
+limit_line option = concat (codes "htmlp: --" ∷ numeric_name option ∷ codes " is " ∷ range_text option ∷ [])
 
 -- the line that explains a fault: it names what was refused
 abbrev pub explanation : Fault → Option Text
@@ -73,9 +73,9 @@ explanation (fault.Refused refusal name) = name_line (around_name refusal) (opti
 explanation _ = None
 
 -- a line with its end, if there is one
-abbrev pub line_text : Option Text → List ℕ
-line_text None = []
-line_text (Some line) = line ++ 10 ∷ []
+abbrev pub ending_line : Option Text → List ℕ
+ending_line None = []
+ending_line (Some line) = line ++ 10 ∷ []
 
 -- a fault's explanation, where it is explained
 abbrev pub explained : Bool → Fault → Option Text
@@ -84,7 +84,7 @@ explained false fault = None
 
 -- what is written of a fault, but where it is of `clap`: one line, and where it is explained another
 abbrev pub fault_text : Bool → Fault → Option (List ℕ)
-fault_text explains fault = option_map (λ line. (line ++ 10 ∷ []) ++ line_text (explained explains fault)) (fault_line fault)
+fault_text explains fault = option_map (λ line. (line ++ 10 ∷ []) ++ ending_line (explained explains fault)) (fault_line fault)
 
 -- what the program writes at its end
 abbrev pub ending_text : Bool → Result (Unit {0}) Fault → Option (List ℕ)

@@ -22,13 +22,13 @@ abbrev pub fault_of_error : Error → Fault
 fault_of_error error = fault_by_kind (kind_of error) error
 
 -- a refusal of what has this name on the command line, if it has one
-abbrev pub IsRefused : Option Text → Refusal → Fault → Type 0
-IsRefused name refusal (Refused its named) = (its ≡ refusal) × (option_map (λ s. s.now) named ≡ name)
-IsRefused name refusal _ = ⊥
+abbrev pub IsRefusalOf : Option Text → Refusal → Fault → Type 0
+IsRefusalOf name refusal (Refused its named) = (its ≡ refusal) × (option_map (λ s. s.now) named ≡ name)
+IsRefusalOf name refusal _ = ⊥
 
 -- the file of this name has no text that can be read, or memory ran out
 abbrev pub IsUnread : Text → Fault → Type 0
-IsUnread name why = (why ≡ Memory) ⊎ IsRefused (Some name) Read why
+IsUnread name why = (why ≡ Memory) ⊎ IsRefusalOf (Some name) Read why
 
 -- the first of the limits that is out of its range
 abbrev pub IsLimitFault : Limits → Fault → Type 0

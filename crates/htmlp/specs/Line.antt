@@ -18,7 +18,7 @@ use Rattle.htmlp.specs.declared.fault.Fault.{Fault}
 use Rattle.htmlp.specs.declared.fault.Fault.TheVariants as fault
 use Rattle.htmlp.specs.declared.numeric.Numeric.{Numeric}
 use Rattle.htmlp.specs.declared.numeric.Numeric.TheVariants as numeric
-use Rattle.htmlp.specs.Numeric.{accepted, name_of}
+use Rattle.htmlp.specs.Numeric.{accepted, numeric_name}
 use Rattle.htmlp.specs.declared.said.Line.{Line}
 
 -- `[FILE]`
@@ -95,12 +95,12 @@ abbrev pub task_of : List Text → Option Task
 task_of words = option_and_then (λ command. task_named command.0) (subcommand_of program words)
 
 -- the value of a file or an option of the command that the words name
-abbrev pub value_of : List Text → Text → Option Text
-value_of words id = option_and_then (λ command. first_of id command.1) (subcommand_of program words)
+abbrev pub option_value : List Text → Text → Option Text
+option_value words id = option_and_then (λ command. first_of id command.1) (subcommand_of program words)
 
 -- the number that the text writes
-abbrev pub number_of : Text → ℕ
-number_of text = digits_value 10 (without_leading_plus text)
+abbrev pub parsed_number : Text → ℕ
+parsed_number text = digits_value 10 (without_leading_plus text)
 
 -- those of the commands, in the order in which they are read
 abbrev pub numeric_options : List Numeric
@@ -114,7 +114,7 @@ IsNumber option (Some text) = IsUnsignedIn (accepted option).0 (accepted option)
 -- the number of a value, or this one where there is none
 abbrev pub number_or : ℕ → Option Text → ℕ
 number_or default None = default
-number_or default (Some text) = number_of text
+number_or default (Some text) = parsed_number text
 
 -- the way of escaping of a number
 abbrev pub escaping_of : ℕ → Escaping
@@ -128,18 +128,18 @@ bad_bytes_of (Some word) = if bytes_eq word (codes "refuse") then Some Refuse el
 -- each of these options is a number that is read, where it has a value
 abbrev pub AreNumbers : (Text → Option Text) → List Numeric → Type 0
 AreNumbers value [] = ⊤
-AreNumbers value (option ∷ options) = IsNumber option (value (name_of option)) × AreNumbers value options
+AreNumbers value (option ∷ options) = IsNumber option (value (numeric_name option)) × AreNumbers value options
 
 -- a fault says that the value of the option is no such number
 abbrev pub IsNumberFault : (Text → Option Text) → Numeric → Fault → Type 0
-IsNumberFault value option (fault.Number its text) = (its ≡ option) × (value (name_of option) ≡ Some text.now)
+IsNumberFault value option (fault.Number its text) = (its ≡ option) × (value (numeric_name option) ≡ Some text.now)
 IsNumberFault value option _ = ⊥
 
 -- A fault says so of the first of these options whose value is none.
 abbrev pub NumberFault : (Text → Option Text) → List Numeric → Fault → Type 0
 NumberFault value [] why = ⊥
-NumberFault value (option ∷ options) why = ((IsNumber option (value (name_of option)) → ⊥) × IsNumberFault value option why)
-    ⊎ (IsNumber option (value (name_of option)) × NumberFault value options why)
+NumberFault value (option ∷ options) why = ((IsNumber option (value (numeric_name option)) → ⊥) × IsNumberFault value option why)
+    ⊎ (IsNumber option (value (numeric_name option)) × NumberFault value options why)
 
 -- All values are as they should be; or a fault says of the first one that is not.
 abbrev pub AreGood : (Text → Option Text) → Type 0
@@ -150,7 +150,7 @@ OptionFault value why = NumberFault value numeric_options why
     ⊎ (AreNumbers value numeric_options × (bad_bytes_of (value (codes "bad-bytes")) ≡ None) × (why ≡ fault.BadBytes))
 
 -- What a line says: the task that a command names, and the values of its options.
-pub record Says (task : Option Task) (value : Text → Option Text) (line : Line) : Type 0 where
+pub record SaysLine (task : Option Task) (value : Text → Option Text) (line : Line) : Type 0 where
   pub task_is : task ≡ Some line.command.task
   pub context_is : option_map (λ s. s.now) line.command.context ≡ value (codes "in")
   pub numbers : AreNumbers value numeric_options
@@ -167,6 +167,6 @@ pub record Says (task : Option Task) (value : Text → Option Text) (line : Line
 abbrev pub FaultOf : List Text → Fault → Type 0
 FaultOf words fault.Memory = ⊤
 FaultOf words (fault.Line error) = IsAmong (kind_of error) (fault_of program words)
-FaultOf words (fault.Number option text) = (fault_of program words ≡ []) × OptionFault (value_of words) (fault.Number option text)
-FaultOf words fault.BadBytes = (fault_of program words ≡ []) × OptionFault (value_of words) fault.BadBytes
+FaultOf words (fault.Number option text) = (fault_of program words ≡ []) × OptionFault (option_value words) (fault.Number option text)
+FaultOf words fault.BadBytes = (fault_of program words ≡ []) × OptionFault (option_value words) fault.BadBytes
 FaultOf words _ = ⊥

@@ -5,11 +5,11 @@ use Rattle.clap.specs.Words.{Text}
 use Rattle.htmlp.specs.declared.numeric.Numeric.{Numeric}
 use Rattle.htmlp.specs.declared.numeric.Numeric.TheVariants.{Piece, Nodes, Open, Escape}
 
-abbrev pub name_of : Numeric → Text
-name_of Piece = codes "piece"
-name_of Nodes = codes "nodes"
-name_of Open = codes "open"
-name_of Escape = codes "escape"
+abbrev pub numeric_name : Numeric → Text
+numeric_name Piece = codes "piece"
+numeric_name Nodes = codes "nodes"
+numeric_name Open = codes "open"
+numeric_name Escape = codes "escape"
 
 -- the least and the greatest number
 abbrev pub range_of : Numeric → ℕ × ℕ

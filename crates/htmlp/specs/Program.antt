@@ -7,7 +7,7 @@ use Rattle.clap.specs.Words.{Text, takes}
 use Rattle.names.specs.declared.refusal.Refusal.{Refusal}
 use Rattle.names.specs.declared.refusal.Refusal.TheVariants.{Memory, Read, BadContext}
 use Rattle.charref.specs.Reference.{Entities, core}
-use Rattle.charref.specs.Reading.{table_of, IsRefusedWith}
+use Rattle.charref.specs.Reading.{table_of_json, IsRefusedWith}
 use Rattle.hmarkup.specs.Quirks.{QuirkLine, ReadsQuirks}
 use Rattle.htext.specs.declared.decoder.TheConstants.{MAX_INPUT}
 use Rattle.hmodes.specs.Bounds.{AreLimits, Bounds}
@@ -23,15 +23,15 @@ use Rattle.hwrite.specs.Context.{AllowsContext}
 use Rattle.hwrite.specs.Running.{RunsTask}
 use Rattle.htmlp.specs.declared.fault.Fault.{Fault}
 use Rattle.htmlp.specs.declared.fault.Fault.TheVariants as fault
-use Rattle.htmlp.specs.Ending.{ending_text, status_of}
-use Rattle.htmlp.specs.Fault.{IsLimitFault, IsRefused, IsUnread}
-use Rattle.htmlp.specs.Line.{program, task_of, value_of, asks_explanation, asks_version, escaping_of, number_or, bad_bytes_of, AreGood, FaultOf}
+use Rattle.htmlp.specs.Ending.{ending_text, exit_status}
+use Rattle.htmlp.specs.Fault.{IsLimitFault, IsRefusalOf, IsUnread}
+use Rattle.htmlp.specs.Line.{program, task_of, option_value, asks_explanation, asks_version, escaping_of, number_or, bad_bytes_of, AreGood, FaultOf}
 use Rattle.htmlp.specs.declared.version.TheConstants.{VERSION}
 
 -- what a run of the engine, over what has this name, is for the program
 abbrev pub IsOutcome : Option Text → Result (Unit {0}) Refusal → Result (Unit {0}) Fault → Type 0
 IsOutcome name (Ok _) outcome = outcome ≡ Ok tt
-IsOutcome name (Err refusal) outcome = IsErrAnd outcome (IsRefused name refusal)
+IsOutcome name (Err refusal) outcome = IsErrAnd outcome (IsRefusalOf name refusal)
 
 -- what the program is to do, with what
 pub record ParseOptions : Type 0 where
@@ -54,7 +54,7 @@ told_of command options = record {
 abbrev pub limits_of : List Text → Bounds
 limits_of words = record {
   input = MAX_INPUT;
-  tree = record { nodes = number_or 16777216 (value_of words (codes "nodes")); depth = number_or 1048576 (value_of words (codes "open")) };
+  tree = record { nodes = number_or 16777216 (option_value words (codes "nodes")); depth = number_or 1048576 (option_value words (codes "open")) };
 }
 
 -- The engine ran over an input of this name.
@@ -74,49 +74,49 @@ pub record WritesVersion {W : Type 0} (written : W → Option (List ℕ)) (write
 
 -- what is read of the text of a table of character references
 abbrev pub ReadsTable : List ℕ → Result Entities Refusal → Type 0
-ReadsTable text answer = MatchResult answer (λ table. table_of text ≡ Ok table) (IsRefusedWith (table_of text))
+ReadsTable text answer = MatchResult answer (λ table. table_of_json text ≡ Ok table) (IsRefusedWith (table_of_json text))
 
 module _ {R : Type 0} (has_text : R → List ℕ → List ℕ → Type 0) (lacks_text : R → List ℕ → Fault → Type 0) where
   -- What is found of a list: what is read of the text of the named file, or the default, or why there is none.
-  abbrev pub Finds : {A : Type 0} → A → (List ℕ → Result A Refusal → Type 0) → R → Option Text → Result A Fault → Type 0
-  Finds default reads surroundings None (Ok found) = found ≡ default
-  Finds default reads surroundings None (Err why) = IsRefused None Memory why
-  Finds default reads surroundings (Some name) (Ok found) = (text : List ℕ) × has_text surroundings name text × reads text (Ok found)
-  Finds default reads surroundings (Some name) (Err why) = (lacks_text surroundings name why × IsUnread name why)
-      ⊎ ((text : List ℕ) × (refusal : Refusal) × has_text surroundings name text × reads text (Err refusal) × IsRefused (Some name) refusal why)
+  abbrev pub FindsFile : {A : Type 0} → A → (List ℕ → Result A Refusal → Type 0) → R → Option Text → Result A Fault → Type 0
+  FindsFile default reads surroundings None (Ok found) = found ≡ default
+  FindsFile default reads surroundings None (Err why) = IsRefusalOf None Memory why
+  FindsFile default reads surroundings (Some name) (Ok found) = (text : List ℕ) × has_text surroundings name text × reads text (Ok found)
+  FindsFile default reads surroundings (Some name) (Err why) = (lacks_text surroundings name why × IsUnread name why)
+      ⊎ ((text : List ℕ) × (refusal : Refusal) × has_text surroundings name text × reads text (Err refusal) × IsRefusalOf (Some name) refusal why)
 
   -- the table of character references, or the core table; the quirks list, or the empty one
   abbrev pub FindsTable : R → Option Text → Result Entities Fault → Type 0
-  FindsTable = Finds core ReadsTable
+  FindsTable = FindsFile core ReadsTable
 
   abbrev pub FindsQuirks : R → Option Text → Result (List QuirkLine) Fault → Type 0
-  FindsQuirks = Finds [] ReadsQuirks
+  FindsQuirks = FindsFile [] ReadsQuirks
 
   -- What the words say, where all that they name is found and accepted.
-  pub record Tells (surroundings : R) (words : List Text) (opts : ParseOptions) : Type 0 where
+  pub record TellsOptions (surroundings : R) (words : List Text) (opts : ParseOptions) : Type 0 where
     pub task : task_of words ≡ Some opts.task
-    pub context : opts.context ≡ value_of words (codes "in")
+    pub context : opts.context ≡ option_value words (codes "in")
     pub allowed : AllowsContext opts.context
-    pub escaping : opts.escaping ≡ escaping_of (number_or 1 (value_of words (codes "escape")))
-    pub piece : opts.piece ≡ number_or 65536 (value_of words (codes "piece"))
-    pub table : FindsTable surroundings (value_of words (codes "entities")) (Ok opts.settings.table)
-    pub quirks : FindsQuirks surroundings (value_of words (codes "quirks")) (Ok opts.settings.quirks)
-    pub bad_bytes : bad_bytes_of (value_of words (codes "bad-bytes")) ≡ Some opts.settings.bad
+    pub escaping : opts.escaping ≡ escaping_of (number_or 1 (option_value words (codes "escape")))
+    pub piece : opts.piece ≡ number_or 65536 (option_value words (codes "piece"))
+    pub table : FindsTable surroundings (option_value words (codes "entities")) (Ok opts.settings.table)
+    pub quirks : FindsQuirks surroundings (option_value words (codes "quirks")) (Ok opts.settings.quirks)
+    pub bad_bytes : bad_bytes_of (option_value words (codes "bad-bytes")) ≡ Some opts.settings.bad
     pub input_limit : opts.settings.input ≡ (limits_of words).input
     pub limits : opts.settings.limits ≡ (limits_of words).tree
     pub in_range : AreLimits (limits_of words)
 
   -- The first of the things that the words name that is not found or not accepted.
   pub data FirstFault (surroundings : R) (words : List Text) (why : Fault) : Type 0 where
-    no_table : FindsTable surroundings (value_of words (codes "entities")) (Err why) → FirstFault surroundings words why
-    no_quirks : (table : Entities) → FindsTable surroundings (value_of words (codes "entities")) (Ok table)
-        → FindsQuirks surroundings (value_of words (codes "quirks")) (Err why) → FirstFault surroundings words why
-    no_limits : (table : Entities) (quirks : List QuirkLine) → FindsTable surroundings (value_of words (codes "entities")) (Ok table)
-        → FindsQuirks surroundings (value_of words (codes "quirks")) (Ok quirks)
+    no_table : FindsTable surroundings (option_value words (codes "entities")) (Err why) → FirstFault surroundings words why
+    no_quirks : (table : Entities) → FindsTable surroundings (option_value words (codes "entities")) (Ok table)
+        → FindsQuirks surroundings (option_value words (codes "quirks")) (Err why) → FirstFault surroundings words why
+    no_limits : (table : Entities) (quirks : List QuirkLine) → FindsTable surroundings (option_value words (codes "entities")) (Ok table)
+        → FindsQuirks surroundings (option_value words (codes "quirks")) (Ok quirks)
         → (AreLimits (limits_of words) → ⊥) → IsLimitFault (limits_of words).tree why → FirstFault surroundings words why
-    no_context : (table : Entities) (quirks : List QuirkLine) → FindsTable surroundings (value_of words (codes "entities")) (Ok table)
-        → FindsQuirks surroundings (value_of words (codes "quirks")) (Ok quirks) → AreLimits (limits_of words)
-        → (AllowsContext (value_of words (codes "in")) → ⊥) → IsRefused (value_of words (codes "in")) BadContext why
+    no_context : (table : Entities) (quirks : List QuirkLine) → FindsTable surroundings (option_value words (codes "entities")) (Ok table)
+        → FindsQuirks surroundings (option_value words (codes "quirks")) (Ok quirks) → AreLimits (limits_of words)
+        → (AllowsContext (option_value words (codes "in")) → ⊥) → IsRefusalOf (option_value words (codes "in")) BadContext why
         → FirstFault surroundings words why
 
 module _ {R F : Type 0} (opens : R → List ℕ → F → Type 0) (cannot_open : R → List ℕ → Type 0) (left_in_file : F → Option (List ℕ))
@@ -138,17 +138,18 @@ module _ {R F : Type 0} (opens : R → List ℕ → F → Type 0) (cannot_open :
         (outcome : Result (Unit {0}) Fault) : Type 0 where
       -- the words are wrong or ask for help; where they are right memory ran out
       words_refused : (why : Fault) → outcome ≡ Err why → FaultOf words why
-          → (takes program words ≡ true → AreGood (value_of words) → why ≡ fault.Memory) → input' ≡ input → output' ≡ output
+          → (takes program words ≡ true → AreGood (option_value words) → why ≡ fault.Memory) → input' ≡ input → output' ≡ output
           → AnswersWords surroundings words input input' output output' outcome
       -- something that they name is not there, or is refused
       words_without : (why : Fault) → FirstFault has_text lacks_text surroundings words why → outcome ≡ Err why → input' ≡ input → output' ≡ output
           → AnswersWords surroundings words input input' output output' outcome
       -- they name a file
-      words_with_file : (opts : ParseOptions) (name : Text) → Tells has_text lacks_text surroundings words opts → value_of words (codes "file") ≡ Some name
+      words_with_file : (opts : ParseOptions) (name : Text) → TellsOptions has_text lacks_text surroundings words opts
+          → option_value words (codes "file") ≡ Some name
           → AnswersFile written writes opts surroundings name output output' outcome → input' ≡ input
           → AnswersWords surroundings words input input' output output' outcome
       -- they name none: the input is the standard input
-      words_without_file : (opts : ParseOptions) → Tells has_text lacks_text surroundings words opts → value_of words (codes "file") ≡ None
+      words_without_file : (opts : ParseOptions) → TellsOptions has_text lacks_text surroundings words opts → option_value words (codes "file") ≡ None
           → AnswersInput left reads written writes opts (codes "standard input") input input' output output' outcome
           → AnswersWords surroundings words input input' output output' outcome
 
@@ -164,16 +165,16 @@ module _ {R F S W : Type 0} (has_words : R → List Text → Type 0) (cannot_beg
     (left_in_file : F → Option (List ℕ)) (failed_in_file : F → ℕ) (left : S → Option (List ℕ)) (reads : S → ℕ) (written : W → Option (List ℕ))
     (writes : W → ℕ) where
   -- What the command line says is done.
-  pub data Answers (surroundings : R) (input input' : S) (output output' : W) (outcome : Result (Unit {0}) Fault) : Type 0 where
+  pub data ProgramAnswers (surroundings : R) (input input' : S) (output output' : W) (outcome : Result (Unit {0}) Fault) : Type 0 where
     line_missing : (why : Fault) → cannot_begin surroundings why → outcome ≡ Err why → input' ≡ input → output' ≡ output
-        → Answers surroundings input input' output output' outcome
+        → ProgramAnswers surroundings input input' output output' outcome
     line_for_version : (words : List Text) → has_words surroundings words → asks_version words ≡ true
         → WritesVersion written writes output output' outcome → input' ≡ input
-        → Answers surroundings input input' output output' outcome
+        → ProgramAnswers surroundings input input' output output' outcome
     line_answered : (words : List Text) → has_words surroundings words → asks_version words ≡ false
         → AnswersWords opens cannot_open left_in_file failed_in_file has_text lacks_text left reads written writes surroundings words input input' output
         output' outcome
-        → Answers surroundings input input' output output' outcome
+        → ProgramAnswers surroundings input input' output output' outcome
 
   -- Whether a fault is explained: not where there are no words.
   pub data Explains (is_terminal : R → Bool → Type 0) (surroundings : R) (outcome : Result (Unit {0}) Fault) (explains : Bool) : Type 0 where
@@ -183,14 +184,14 @@ module _ {R F S W : Type 0} (has_words : R → List Text → Type 0) (cannot_beg
         → Explains is_terminal surroundings outcome explains
 
   -- The program does what its command line says, writes the lines of its ending to standard error, and returns its status.
-  pub record Ends {E : Type 0} (is_terminal : R → Bool → Type 0) (errors_written : E → Option (List ℕ)) (errors_failed : E → ℕ) (surroundings : R)
+  pub record EndsProgram {E : Type 0} (is_terminal : R → Bool → Type 0) (errors_written : E → Option (List ℕ)) (errors_failed : E → ℕ) (surroundings : R)
       (input input' : S) (output output' : W) (errors errors' : E) (status : ℕ) : Type 0 where
     pub outcome : Result (Unit {0}) Fault
-    pub answered : Answers surroundings input input' output output' outcome
+    pub answered : ProgramAnswers surroundings input input' output output' outcome
     pub explains : Bool
     pub explains_is : Explains is_terminal surroundings outcome explains
     pub told : IfSome (ending_text explains outcome) (EndsWith (errors_written errors) (errors_failed errors) (errors_written errors') (errors_failed errors'))
-    pub status_is : status ≡ status_of outcome
+    pub status_is : status ≡ exit_status outcome
 
 -- The program ran, and this was its status.
 pub record HasRun {R F S W E : Type 0} (has_words : R → List Text → Type 0) (cannot_begin : R → Fault → Type 0) (opens : R → List ℕ → F → Type 0)
@@ -201,5 +202,5 @@ pub record HasRun {R F S W E : Type 0} (has_words : R → List Text → Type 0) 
   pub input : S × S
   pub output : W × W
   pub errors : E × E
-  pub ends : Ends has_words cannot_begin opens cannot_open has_text lacks_text left_in_file failed_in_file left reads written writes
+  pub ends : EndsProgram has_words cannot_begin opens cannot_open has_text lacks_text left_in_file failed_in_file left reads written writes
       is_terminal errors_written errors_failed surroundings input.0 input.1 output.0 output.1 errors.0 errors.1 status

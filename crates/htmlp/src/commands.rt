@@ -1,6 +1,6 @@
 //! The commands of the program, as `clap` reads them.
 
-ghost use Rattle.std.specs.Prelude.{◌≡◌, map, false, codes, IfOk};
+ghost use Rattle.std.specs.Prelude.{◌≡◌, map, false, IfOk};
 ghost use Rattle.htmlp.specs.Vocabulary.{app_of, new_app, rule_of, with_rule, fields_of, bare_program, choice_rule, command_app, context_rules, explain_rule, file_rule, named_reads, program, with_commands, with_rules};
 
 use clap::{Arg, ArgAction, Command};

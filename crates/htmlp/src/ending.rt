@@ -1,7 +1,7 @@
 //! How the program ends: its status, and its lines on standard error.
 
 ghost use Rattle.std.specs.Prelude.{◌≡◌, ◌∷◌, ◌++◌, [], IfSome, option_map};
-ghost use Rattle.htmlp.specs.Vocabulary.{EndsWith, WritesAll, ending_text, explained, fault_status, fault_text, line_text, message_text, number_text, status_of};
+ghost use Rattle.htmlp.specs.Vocabulary.{EndsWith, WritesAll, ending_text, explained, fault_status, fault_text, ending_line, message_text, number_text, exit_status};
 
 use crate::fault::Fault;
 use crate::message::Message;
@@ -22,7 +22,7 @@ const FAULT: u8 = 3;
 /// refused. Returns the status of the program: 0 for an answer, 2 for a refusal, 3 for a fault. If the lines cannot be written,
 /// the status stays the same.
 pub fn ending<W: Target>(outcome: &Result<(), Fault>, explains: bool, target: &mut W) -> u8
-    ensures status { result ≡ status_of outcome.now }
+    ensures status { result ≡ exit_status outcome.now }
     ensures text { IfSome (ending_text explains outcome.now)
         (EndsWith (W.written target.old) (W.failed target.old) (W.written target.new) (W.failed target.new)) }
 {
@@ -71,7 +71,7 @@ fn write_lines<W: Target>(
     explanation: Option<Message>,
 ) -> Result<(), Refusal>
     ensures { WritesAll (W.written target.old) (W.failed target.old) (W.written target.new) (W.failed target.new)
-        ((message_text line.entry ++ 10 ∷ []) ++ line_text (option_map message_text explanation.entry)) result }
+        ((message_text line.entry ++ 10 ∷ []) ++ ending_line (option_map message_text explanation.entry)) result }
 {
     write_line(target, line)?;
     match explanation {

@@ -1,7 +1,7 @@
 //! Why the program ends without an answer, and what it says then.
 
 ghost use Rattle.std.specs.Prelude.{◌≡◌, ◌++◌, IfSome, None, codes, option_map};
-ghost use Rattle.htmlp.specs.Vocabulary.{around_name, detail_text, explanation, fault_line, message_text, name_line, name_of, number_line, number_text, range_text, refusal_line};
+ghost use Rattle.htmlp.specs.Vocabulary.{around_name, detail_text, explanation, fault_line, message_text, name_line, numeric_name, number_line, number_text, range_text, refusal_line};
 ghost use Rattle.htmlp.specs.Fault.{fault_of_error};
 ghost use Rattle.htmlp.specs.declared.fault.Fault.TheVariants as fault;
 
@@ -77,7 +77,7 @@ impl<'a> Fault<'a> {
 }
 
 fn number_line<'a>(option: Numeric, value: &'a str) -> Message<'a>
-    ensures { message_text result ≡ number_line value.now (name_of option) (range_text option) }
+    ensures { message_text result ≡ number_line value.now (numeric_name option) (range_text option) }
 {
     value_line(value, option.name(), option.range_text())
 }

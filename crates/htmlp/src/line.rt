@@ -1,7 +1,7 @@
 //! The command line.
 
 ghost use Rattle.std.specs.Prelude.{◌≡◌, ◌<◌, ◌≤◌, [], true, codes, map, None, Some, string_bytes, IfOk, IfErr, OnOk, IsSome, MatchResult};
-ghost use Rattle.htmlp.specs.Vocabulary.{asks_explanation, fault_of, first_value, found_of, takes, task_named, bad_bytes_of, escaping_of, number_or, program, task_of, value_of, AreGood, FaultOf, IsNumber, IsNumberFault, OptionFault, Says, accepted, name_of, IsWithin};
+ghost use Rattle.htmlp.specs.Vocabulary.{asks_explanation, fault_of, first_value, found_of, takes, task_named, bad_bytes_of, escaping_of, number_or, program, task_of, option_value, AreGood, FaultOf, IsNumber, IsNumberFault, OptionFault, SaysLine, accepted, numeric_name, IsWithin};
 ghost use Rattle.htmlp.specs.declared.fault.Fault.TheVariants as fault;
 
 use crate::commands::command_line;
@@ -20,13 +20,13 @@ const MOST_PIECE: u64 = 65_536;
 /// What the words say; the first one is the program's own name. The fault says what is wrong with them, shows the help that
 /// they ask for, or is out of memory.
 pub fn line<'a>(alloc: Global, words: &'a [String]) -> Result<Line<'a>, Fault<'a>>
-    ensures says { IfOk result (Says (task_of (map string_bytes words.entry.now)) (value_of (map string_bytes words.entry.now))) }
+    ensures says { IfOk result (SaysLine (task_of (map string_bytes words.entry.now)) (option_value (map string_bytes words.entry.now))) }
     ensures in_range { IfOk result (λ line. (0 < line.command.piece) × (line.command.piece ≤ MOST_PIECE)) }
     ensures taken { OnOk result (fault_of program (map string_bytes words.entry.now) ≡ []) }
 
     ensures fault { IfErr result (FaultOf (map string_bytes words.entry.now)) }
     ensures memory { IfErr result (λ f. takes program (map string_bytes words.entry.now) ≡ true
-        → AreGood (value_of (map string_bytes words.entry.now)) → f ≡ fault.Memory) }
+        → AreGood (option_value (map string_bytes words.entry.now)) → f ≡ fault.Memory) }
 {
     let matches = command_line(alloc)?.try_get_matches_from(words)?;
     let (name, found) = matches.subcommand().unwrap();
@@ -38,7 +38,7 @@ pub fn line<'a>(alloc: Global, words: &'a [String]) -> Result<Line<'a>, Fault<'a
 /// What the name of a command and its matches say.
 fn said<'a>(name: &'a str, found: &ArgMatches<'a>) -> Result<Line<'a>, Fault<'a>>
     requires { IsSome (task_named name.now) }
-    ensures says { MatchResult result (Says (task_named name.now) (first_value (found_of found.now)))
+    ensures says { MatchResult result (SaysLine (task_named name.now) (first_value (found_of found.now)))
         (OptionFault (first_value (found_of found.now))) }
     ensures in_range { IfOk result (λ line. (0 < line.command.piece) × (line.command.piece ≤ MOST_PIECE)) }
 {
@@ -92,9 +92,9 @@ fn escaping_of(number: u64) -> Escaping
 fn number<'a>(found: &ArgMatches<'a>, option: Numeric, default: u64) -> Result<u64, Fault<'a>>
     requires { IsWithin (accepted option) default }
     ensures says { MatchResult result
-        (λ number. IsNumber option (first_value (found_of found.now) (name_of option))
-        × (number ≡ number_or default (first_value (found_of found.now) (name_of option))))
-        (λ why. (IsNumber option (first_value (found_of found.now) (name_of option)) → ⊥)
+        (λ number. IsNumber option (first_value (found_of found.now) (numeric_name option))
+        × (number ≡ number_or default (first_value (found_of found.now) (numeric_name option))))
+        (λ why. (IsNumber option (first_value (found_of found.now) (numeric_name option)) → ⊥)
         × IsNumberFault (first_value (found_of found.now)) option why) }
     ensures in_range { IfOk result (IsWithin (accepted option)) }
 {

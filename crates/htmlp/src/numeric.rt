@@ -1,7 +1,7 @@
 //! The options whose values are numbers.
 
 ghost use Rattle.std.specs.Prelude.{◌≡◌};
-ghost use Rattle.htmlp.specs.Numeric.{accepted, name_of, range_of, range_text};
+ghost use Rattle.htmlp.specs.Numeric.{accepted, numeric_name, range_of, range_text};
 
 use hmodes::{LEAST, MAX_DEPTH, MAX_NODES};
 
@@ -17,7 +17,7 @@ pub enum Numeric {
 impl Numeric {
     /// What stands after `--`.
     pub fn name<'a>(self) -> &'a str
-        ensures { result.now ≡ name_of self }
+        ensures { result.now ≡ numeric_name self }
     {
         match self {
             Numeric::Piece => "piece",

@@ -1,7 +1,7 @@
 //! The program: does what the words of its command line say.
 
 ghost use Rattle.std.specs.Prelude.{◌≡◌, ◌<◌, ◌⊎◌, List, map, option_map, MatchResult, Ok, Err, string_bytes};
-ghost use Rattle.htmlp.specs.Vocabulary.{Text, AreLimits, Bounds, AllowsContext, IsLimitFault, IsRefused, task_of, value_of, Says, range_of, IsWithin, AnswersFile, AnswersInput, AnswersWords, Answers, Ends, IsExplained, FindsQuirks, FindsTable, told_of};
+ghost use Rattle.htmlp.specs.Vocabulary.{Text, AreLimits, Bounds, AllowsContext, IsLimitFault, IsRefusalOf, task_of, option_value, SaysLine, range_of, IsWithin, AnswersFile, AnswersInput, AnswersWords, ProgramAnswers, EndsProgram, IsExplained, FindsQuirks, FindsTable, told_of};
 
 use crate::ending::ending;
 use crate::fault::Fault;
@@ -30,7 +30,7 @@ pub fn run_program<R: Surroundings, S: Source, W: Target, E: Target>(
     output: &mut W,
     errors: &mut E,
 ) -> u8
-    ensures { Ends R.has_words R.cannot_begin R.opens R.cannot_open R.has_text R.lacks_text R.File.left R.File.failed S.left S.failed W.written W.failed
+    ensures { EndsProgram R.has_words R.cannot_begin R.opens R.cannot_open R.has_text R.lacks_text R.File.left R.File.failed S.left S.failed W.written W.failed
         R.is_terminal E.written E.failed
         surroundings.now input.old input.new output.old output.new errors.old errors.new result }
 {
@@ -58,7 +58,7 @@ fn answer<'a, R: Surroundings, S: Source, W: Target>(
     output: &mut W,
 ) -> Result<(), Fault<'a>>
     ensures { R.has_words surroundings.now (map string_bytes words.now)
-        → Answers R.has_words R.cannot_begin R.opens R.cannot_open R.has_text R.lacks_text R.File.left R.File.failed S.left S.failed W.written W.failed
+        → ProgramAnswers R.has_words R.cannot_begin R.opens R.cannot_open R.has_text R.lacks_text R.File.left R.File.failed S.left S.failed W.written W.failed
         surroundings.now input.old input.new output.old output.new result }
 {
     let keys = surroundings.keys()?;
@@ -92,7 +92,7 @@ fn answer_line<'a, R: Surroundings, S: Source, W: Target>(
     output: &mut W,
 ) -> Result<(), Fault<'a>>
     requires { 0 < line.command.piece }
-    ensures { (words : List Text) → Says (task_of words) (value_of words) line.entry
+    ensures { (words : List Text) → SaysLine (task_of words) (option_value words) line.entry
         → AnswersWords R.opens R.cannot_open R.File.left R.File.failed R.has_text R.lacks_text S.left S.failed W.written W.failed surroundings.now
         words input.old input.new output.old output.new result }
 {
@@ -115,7 +115,7 @@ fn answer_with<'a, R: Surroundings, S: Source, W: Target>(
     output: &mut W,
 ) -> Result<(), Fault<'a>>
     requires { 0 < line.command.piece }
-    ensures { (words : List Text) → Says (task_of words) (value_of words) line.entry
+    ensures { (words : List Text) → SaysLine (task_of words) (option_value words) line.entry
         → FindsTable R.has_text R.lacks_text surroundings.now (option_map (λ s. s.now) line.entry.entities) (Ok table.now)
         → FindsQuirks R.has_text R.lacks_text surroundings.now (option_map (λ s. s.now) line.entry.quirks) (Ok quirks.now)
         → AnswersWords R.opens R.cannot_open R.File.left R.File.failed R.has_text R.lacks_text S.left S.failed W.written W.failed surroundings.now
@@ -171,7 +171,7 @@ fn bad_limit(nodes: u64) -> Numeric
 /// Accepts a context that there may be.
 fn accept_context(context: Option<&str>) -> Result<(), Fault<'_>>
     ensures { MatchResult result (λ _. AllowsContext (option_map (λ s. s.now) context.entry))
-        (λ why. (AllowsContext (option_map (λ s. s.now) context.entry) → ⊥) × IsRefused (option_map (λ s. s.now) context.entry) Refusal.BadContext why) }
+        (λ why. (AllowsContext (option_map (λ s. s.now) context.entry) → ⊥) × IsRefusalOf (option_map (λ s. s.now) context.entry) Refusal.BadContext why) }
 {
     match check_context(context) {
         Ok(()) => Ok(()),

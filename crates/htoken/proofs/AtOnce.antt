@@ -1,8 +1,7 @@
 -- Tags that stand whole in a run.
-use Rattle.htoken.proofs.Names.{◌≡◌, ◌≤◌, ◌<◌, ℕ, suc, ◌+◌, ◌-◌, true, false, ◌||◌, List, [], ◌∷◌, ◌++◌, length, take, drop, sym, refl, ap, ◌∙◌, subst, Result, Ok, Err, Option, Some, None, append-nil, arith, length-take-le, take-append-drop, IsUtf8-from_ascii, chars-nil, codes, is_some, slice_get, slice_index, list_all, chars, IsUtf8, ParseError, Placed, RawKind, RefusedName, Refusal, Memory, Texts, Grows, name_bytes, placed, raw_kind, refused_name, tag_named, is_plain_byte, IsCut, plain_chars, hand_one, Entities, TagWalk, IsInTag, IsWholeTag, State, Tokenizer, IsSpan, IsSpanOf, next, EndsTag, TakesPart, IsTag, start_tag, end_tag, tag_mark, Tok, Span, Start, End, Item, ItemToken, Event, HandedMeans, gives_item, has_refused, Reads, HasTaken, holds, Takes, take_took, IsHeld, IsLast, less, next_place, slice_range, IsBareName, bare_bytes, bare_front, bare_no_errors, bare_placed, bare_plain, bare_within, tag, MatchResult, get_or, get_or-append_seam, IsCharBoundary, Handed, IsName, IsIn, named_plain, named_within}
+use Rattle.htoken.proofs.Names.{◌≡◌, ◌≤◌, ◌<◌, ℕ, suc, ◌+◌, ◌-◌, true, false, ◌||◌, List, [], ◌∷◌, ◌++◌, length, take, drop, sym, refl, ap, ◌∙◌, subst, Result, Ok, Err, Option, Some, None, append-nil, arith, length-take-le, chars-nil, codes, is_some, slice_get, slice_index, list_all, chars, IsUtf8, ParseError, Placed, RawKind, RefusedName, Refusal, Memory, Texts, Grows, name_bytes, placed, raw_kind, refused_name, tag_named, is_plain_byte, IsCut, plain_chars, hand_one, Entities, IsInTag, State, Tokenizer, IsSpanOf, next, TakesPart, IsTag, start_tag, end_tag, tag_mark, Tok, Span, Start, End, Item, ItemToken, Event, HandedMeans, gives_item, has_refused, Reads, HasTaken, holds, Takes, take_took, IsHeld, IsLast, less, next_place, slice_range, IsBareName, bare_bytes, bare_front, bare_no_errors, bare_placed, bare_plain, bare_within, tag, get_or, get_or-append_seam, IsCharBoundary, Handed, IsTagName, IsStateOf, named_plain, named_within}
 use Rattle.std.proofs.lemmas.Str.{IsCharBoundary-before_ascii}
 use Rattle.names.specs.declared.raw.RawKind.TheVariants as kind
-use Rattle.htag.specs.declared.kind.TagKind.TheVariants as which
 use Rattle.htoken.specs.declared.state.State.TheVariants as state
 use Rattle.htag.proofs.Ascii.{ascii_cut}
 use Rattle.htoken.proofs.Fronts.{part_taken, plain_ascii, takes_nothing}
@@ -10,7 +9,6 @@ use Rattle.htoken.proofs.Going.{spans_end}
 use Rattle.htoken.proofs.Handing.{span_given}
 use Rattle.htoken.proofs.InData.{between_data}
 use Rattle.htoken.proofs.InRun.{next_run}
-use Rattle.htoken.proofs.InTag.{tag_handed}
 use Rattle.htoken.specs.Steps.{BeginsNamed}
 use Rattle.htoken.proofs.Reading.{held_in, kind_in, ran_out_before, reads_as, reads_held}
 
@@ -96,7 +94,7 @@ module _ (run rest : List ℕ) (size : ℕ) (u : IsUtf8 run) (run_is : run ≡ 4
       two ∙ plain_next (size + 2) run end_within end_plain u text at (omega arith) room
 
 -- another name
-pub name_cut : (run : List ℕ) (size : ℕ) → IsUtf8 run → IsName run size → IsCut size run
+pub name_cut : (run : List ℕ) (size : ℕ) → IsUtf8 run → IsTagName run size → IsCut size run
 name_cut run size u named = plain_cut size run (named_within [] run size named) (named_plain [] run size named) u
 
 -- WHAT IS AFTER A `<`
@@ -109,16 +107,16 @@ module _ (table : Entities) (start : RawKind) (t : Tokenizer) (names : Texts) (t
   pub memory_part : {S : Type 0} (gives : S → Item → Result (Unit {0}) Refusal → S → Type 0) (at : ℕ) (run : List ℕ) (s : S) (new : Tokenizer) (answer : Result ℕ Refusal) → answer ≡ Err Memory → TakesPart gives table start text at run taken names s answer s new
   memory_part gives at run s new answer is = subst (λ (x : Result ℕ Refusal). TakesPart gives table start text at run taken names s x s new) (sym is) (memory_out gives (placed at (chars run)) s new)
 
-  module _ (after_less : t.state ≡ state.Less) where
+  module _ (tag_open : t.state ≡ state.TagOpen) where
     held_less : (h.held ≡ less t ∷ []) × (t.raised.errors.items ≡ [])
-    held_less = held_in h state.Less after_less
+    held_less = held_in h state.TagOpen tag_open
 
     here_data : h.here.kind ≡ kind.None
-    here_data = kind_in h state.Less after_less
+    here_data = kind_in h state.TagOpen tag_open
 
     less_ahead : (fed : List Placed) (place : ℕ) → place ≡ next_place (text ++ fed) → Reads table start (record t { next = place }) names text fed taken
     less_ahead fed place is =
-        reads_as h (record t { next = place }) names fed taken refl refl is (λ end more. h.stands end (fed ++ more)) refl h.name_is h.is_in (subst (λ (s : State). IsHeld s table names h.here (record t { next = place }) h.held fed) (sym after_less) held_less)
+        reads_as h (record t { next = place }) names fed taken refl refl is (λ end more. h.stands end (fed ++ more)) refl h.name_is h.is_in (subst (λ (s : State). IsHeld s table names h.here (record t { next = place }) h.held fed) (sym tag_open) held_less)
 
     -- a tag without errors, after which data comes, was handed over
     module _ (fed : List Placed) (tok : Tok) (is_tag : (end : ℕ) (more : List Placed) → IsTag table end more (record { text = less t ∷ fed; tokens = tok ∷ []; errors = [] })) where
@@ -149,7 +147,7 @@ module _ (table : Entities) (start : RawKind) (t : Tokenizer) (names : Texts) (t
         let some : 0 < size = omega (arith, named.count_is) in
         let then = begun.then in
         subst (λ (n : ℕ). Takes gives table start text (placed at (chars (take n run))) taken names s (Ok tt) s new) (sym size_is) (take_took [] refl ([], tt, (refl, refl)) (holds (reads_held h new fed (ap (λ (x : Tokenizer). x.refused) then) (ap (λ (x : Tokenizer). x.table) then) (ap (λ (x : Tokenizer). x.next) then ∙ plain_next size run within plain u text at some room) (λ end more. h.stands end (fed ++ more))
-        (ap (λ (x : Tokenizer). x.kind) then) (ap (λ (x : Tokenizer). x.last) then) (subst (λ (x : State). IsIn x h.here.kind) (sym (ap (λ (x : Tokenizer). x.state) then)) tt) (subst (λ (x : State). IsHeld x table names h.here new (h.held ++ fed) []) (sym (ap (λ (x : Tokenizer). x.state) then)) (record {
+        (ap (λ (x : Tokenizer). x.kind) then) (ap (λ (x : Tokenizer). x.last) then) (subst (λ (x : State). IsStateOf x h.here.kind) (sym (ap (λ (x : Tokenizer). x.state) then)) tt) (subst (λ (x : State). IsHeld x table names h.here new (h.held ++ fed) []) (sym (ap (λ (x : Tokenizer). x.state) then)) (record {
           opening = [];
           body = fed;
           held_is = ap (λ (x : List Placed). x ++ fed) held_less.0 ∙ ap (λ (a : ℕ). record { ch = 60; at = a } ∷ fed) (sym (ap (λ (x : Tokenizer). x.at) then));

@@ -1,5 +1,5 @@
 -- An `&` that is text, and a whole reference, as a run shows them.
-use Rattle.htoken.proofs.Names.{◌≡◌, ◌≤◌, ◌<◌, ℕ, zero, suc, ◌+◌, ◌-◌, Bool, true, false, eqb, ◌&&◌, ◌||◌, List, [], ◌∷◌, ◌++◌, map, length, take, drop, reverse, sym, refl, ap, ◌∙◌, subst, arith, append_assoc, append-nil, Result, Ok, Err, Option, slice_index, list_all, prefix_len, is_ascii, len_utf8, encode_utf8, chars, IsUtf8, and_from, nat_tests, get_or-drop, length-append, length-drop, length-take-le, take-append-drop, take_all, take_at, drop_at, chars-IsAscii, encode_ascii, len_utf8_ascii, IsUtf8-from_ascii, prefix_len-le-length, prefix_len_stops, drop-length, UnknownNamedCharacterReference, ParseError, Placed, RawKind, Refusal, Texts, all, begins, past, is_alphanumeric, placed, error_if, Reference, IsRead, errors_of, characters_of, Entities, Piece, IsReference, IsTable, alone, ampersand, is_plain_byte, is_text_byte, IsCut, list_all-append, all_placed, cut_more, State, Tokenizer, all_at, bare_errors, first_placed, IsBare, IsFront, IsWhole, known_errors, piece_events, HandsEvents, has_references, Standing, run_events, Item, Event, Gives, Reports, Char, AreFront, after_place, holds, later_errors, next_place, IsBetween, IsLast, Reads, Stands, Takes, take_sink_refused, take_took, backwards, reverse-append, IsAscii-take, IsAscii-drop, get_or-append_seam, counted, take_more, and_parts, all-characters, characters_placed}
+use Rattle.htoken.proofs.Names.{◌≡◌, ◌≤◌, ◌<◌, ℕ, zero, suc, ◌+◌, ◌-◌, Bool, true, false, eqb, ◌&&◌, ◌||◌, List, [], ◌∷◌, ◌++◌, map, length, take, drop, reverse, sym, refl, ap, ◌∙◌, subst, arith, append_assoc, append-nil, Result, Ok, Err, Option, slice_index, list_all, prefix_len, is_ascii, len_utf8, encode_utf8, chars, IsUtf8, and_from, nat_tests, get_or-drop, length-append, length-drop, length-take-le, take-append-drop, take_all, take_at, drop_at, chars-IsAscii, encode_ascii, len_utf8_ascii, IsUtf8-from_ascii, prefix_len-le-length, prefix_len_stops, drop-length, UnknownNamedCharacterReference, ParseError, Placed, RawKind, Refusal, Texts, all, begins, past, is_alphanumeric, placed, error_if, Reference, IsRead, errors_of, characters_of, Entities, Piece, IsReference, IsTable, alone, ampersand, is_plain_byte, is_text_byte, IsCut, list_all-append, all_placed, cut_more, Tokenizer, all_at, bare_errors, first_placed, IsBare, IsFront, IsWhole, known_errors, piece_events, HandsEvents, has_references, Standing, run_events, Item, Event, Gives, Reports, Char, AreFront, after_place, holds, later_errors, next_place, IsBetween, IsLast, Reads, Stands, Takes, take_sink_refused, take_took, backwards, reverse-append, IsAscii-take, IsAscii-drop, get_or-append_seam, counted, take_more, and_parts, all-characters, characters_placed}
 use Rattle.htoken.specs.declared.state.State.TheVariants as state
 use Rattle.htoken.proofs.AfterRun.{later_same}
 use Rattle.htag.proofs.Ascii.{ascii_chars, ascii_placed, each_ascii}
@@ -67,13 +67,13 @@ seam (suc n) (x ∷ xs) h =
     rw e (ap (λ (l : List ℕ). x ∷ l) (seam n xs (omega (arith, h))))
 
 -- the letters after it show that no key begins it
-module _ (table : Entities) (kind : RawKind) (bytes : List ℕ) (found : Reference) (k : ℕ) (some : 0 < k) (within : k ≤ length bytes) (in_run : found.in_run ≡ true)
+module _ (table : Entities) (kind : RawKind) (bytes : List ℕ) (found : Reference) (k : ℕ) (some : 0 < k) (within : k ≤ length bytes) (is_ambiguous : found.is_ambiguous ≡ true)
     (read : (at : ℕ) (after : List Placed) → IsRead table false (placed at (take k bytes)) after found) where
   abbrev count : ℕ
   count = prefix_len is_alphanumeric bytes
 
   letters_read : list_all is_alphanumeric (take k bytes) ≡ true
-  letters_read = all_unplaced is_alphanumeric 0 (take k bytes) ((read 0 []).run in_run).1
+  letters_read = all_unplaced is_alphanumeric 0 (take k bytes) ((read 0 []).run is_ambiguous).1
 
   few : k ≤ count
   few = counted_long is_alphanumeric bytes k within letters_read
@@ -120,7 +120,7 @@ module _ (table : Entities) (kind : RawKind) (bytes : List ℕ) (found : Referen
     found_at : IsReference table false (text ++ after) (record { text = amp ∷ []; gives = characters_of found.characters; errors = errors_of found at after })
     found_at =
         let r = read (at + 1) after in
-        let none : length text - found.left ≡ 0 = omega (arith, (r.run in_run).0) in
+        let none : length text - found.left ≡ 0 = omega (arith, (r.run is_ambiguous).0) in
         subst (λ (n : ℕ). IsReference table false (drop n text ++ after) (record { text = amp ∷ take n text; gives = characters_of found.characters; errors = errors_of found at after })) none (r.reads amp refl)
 
     error_is : error_if (begins (λ c. eqb c 59) (past is_alphanumeric (text ++ after))) UnknownNamedCharacterReference at ≡ error_if (eqb next 59) UnknownNamedCharacterReference at
@@ -167,7 +167,7 @@ rest_long (x ∷ xs) = omega arith
 
 -- A WHOLE REFERENCE
 
-pub whole_is : (table : Entities) (kind : RawKind) (run bytes : List ℕ) (found : Reference) (count : ℕ) → has_references kind ≡ true → IsTable table → run ≡ 38 ∷ bytes → count ≤ length bytes → list_all is_ascii (take count bytes) ≡ true → found.in_run ≡ false → found.left ≤ 1
+pub whole_is : (table : Entities) (kind : RawKind) (run bytes : List ℕ) (found : Reference) (count : ℕ) → has_references kind ≡ true → IsTable table → run ≡ 38 ∷ bytes → count ≤ length bytes → list_all is_ascii (take count bytes) ≡ true → found.is_ambiguous ≡ false → found.left ≤ 1
     → ((at : ℕ) (after : List Placed) → IsRead table false (placed at (take count bytes)) after found) → IsWhole table kind run found count
 whole_is table kind run bytes found count may is_table is within ascii known left reads = record {
   may = may;

@@ -1,9 +1,9 @@
 -- What the characters after `<!` begin, and what they do not.
-use Rattle.htoken.proofs.Names.{◌≡◌, ℕ, zero, suc, ◌+◌, ◌<◌, get_or, take, Bool, true, false, ◌&&◌, ◌||◌, eqb, List, [], ◌∷◌, ◌++◌, map, length, sym, refl, ap, ◌∙◌, subst, Some, arith, append_assoc, append-nil, eqb-true, eq-eqb, codes, slice_get, is_some, to_ascii_lowercase, list_all, Placed, characters, lowered, all, is_letter, begins, place, spells_in_any_case, nat_tests, is_plain_in_bogus, and_no, and_parts, and_both, Opened, is_declaration, front_at, IsOpened, take-suc, spells, Opens, Spelled, is_cdata, IsFrontOf, OpensAs, all-one, all-characters, begins-append, list_all-append}
-use Rattle.htoken.specs.declared.declaration.Opened.TheVariants as opened
-use Rattle.htoken.specs.declared.declaration.Opens.TheVariants as opens
-use Rattle.htoken.specs.declared.declaration.Spelled.TheVariants as spelled
-use Rattle.htoken.specs.Declaration.{front_of}
+use Rattle.htoken.proofs.Names.{◌≡◌, ℕ, zero, suc, ◌+◌, ◌<◌, get_or, take, Bool, true, false, ◌&&◌, ◌||◌, eqb, List, [], ◌∷◌, ◌++◌, map, length, sym, refl, ap, ◌∙◌, subst, Some, arith, append_assoc, append-nil, eqb-true, eq-eqb, codes, slice_get, is_some, to_ascii_lowercase, list_all, Placed, characters, lowered, all, is_letter, begins, place, spells_in_any_case, nat_tests, is_plain_in_bogus, and_no, and_parts, and_both, Opened, is_declaration, front_at, IsOpened, take-suc, spells, Opens, WordMatch, is_cdata, IsFrontOf, OpensAs, all-one, all-characters, begins-append, list_all-append}
+use Rattle.htoken.specs.declared.markup_declaration_open.Opened.TheVariants as opened
+use Rattle.htoken.specs.declared.markup_declaration_open.Opens.TheVariants as opens
+use Rattle.htoken.specs.declared.markup_declaration_open.WordMatch.TheVariants as word_match
+use Rattle.htoken.specs.MarkupDeclarationOpen.{front_of}
 
 -- whether a text begins with a word, as each of its characters is read
 abbrev pub spells_as : (ℕ → ℕ) → List ℕ → List Placed → Bool
@@ -51,21 +51,21 @@ module _ (read : ℕ → ℕ) where
   after_next (x ∷ xs) c cs = let one : suc (length xs) + 1 ≡ suc (length xs + 1) = omega arith in ap (slice_get (read x.ch ∷ (as_read xs ++ c ∷ cs))) one ∙ after_next xs c cs
 
   -- what a front of a word is with one more character
-  abbrev pub SpelledAs : List ℕ → Spelled → List Placed → Type 0
-  SpelledAs word spelled.Front text = IsFrontOf word (as_read text)
-  SpelledAs word spelled.Whole text = as_read text ≡ word
-  SpelledAs word spelled.Other text = (more : List Placed) → spells_as read word (text ++ more) ≡ false
+  abbrev pub MatchesWord : List ℕ → WordMatch → List Placed → Type 0
+  MatchesWord word word_match.Front text = IsFrontOf word (as_read text)
+  MatchesWord word word_match.Whole text = as_read text ≡ word
+  MatchesWord word word_match.Other text = (more : List Placed) → spells_as read word (text ++ more) ≡ false
 
-  spelled_at : (text : List Placed) (p : Placed) (c : ℕ) (left : List ℕ) (b : Bool) → eqb (read p.ch) c ≡ b → SpelledAs (as_read text ++ c ∷ left) (front_at (Some c) (is_some (slice_get left 0)) (read p.ch)) (text ++ p ∷ [])
-  spelled_at text p c left false e = rw e (λ more. subst (λ (x : List Placed). spells_as read (as_read text ++ c ∷ left) x ≡ false) (sym (append_assoc text (p ∷ []) more)) (differs text c left p more e))
-  spelled_at text p c [] true e = rw e (
+  matched_at : (text : List Placed) (p : Placed) (c : ℕ) (left : List ℕ) (b : Bool) → eqb (read p.ch) c ≡ b → MatchesWord (as_read text ++ c ∷ left) (front_at (Some c) (is_some (slice_get left 0)) (read p.ch)) (text ++ p ∷ [])
+  matched_at text p c left false e = rw e (λ more. subst (λ (x : List Placed). spells_as read (as_read text ++ c ∷ left) x ≡ false) (sym (append_assoc text (p ∷ []) more)) (differs text c left p more e))
+  matched_at text p c [] true e = rw e (
       sym (append-nil (as_read (text ++ p ∷ []))) ∙ one_more text p [] ∙ ap (λ (x : ℕ). as_read text ++ x ∷ []) (eqb-true (read p.ch) c e))
-  spelled_at text p c (d ∷ left) true e = rw e (d, left, one_more text p (d ∷ left) ∙ ap (λ (x : ℕ). as_read text ++ x ∷ d ∷ left) (eqb-true (read p.ch) c e))
+  matched_at text p c (d ∷ left) true e = rw e (d, left, one_more text p (d ∷ left) ∙ ap (λ (x : ℕ). as_read text ++ x ∷ d ∷ left) (eqb-true (read p.ch) c e))
 
-  pub spelled_is : (word : List ℕ) (text : List Placed) (p : Placed) → IsFrontOf word (as_read text) → SpelledAs word (front_of word (length text) (read p.ch)) (text ++ p ∷ [])
-  spelled_is word text p (c, left, is) =
-      subst (λ (w : List ℕ). SpelledAs w (front_of w (length text) (read p.ch)) (text ++ p ∷ [])) is
-      (rw (next_is text c left, after_next text c left) (spelled_at text p c left (eqb (read p.ch) c) refl))
+  pub matched_is : (word : List ℕ) (text : List Placed) (p : Placed) → IsFrontOf word (as_read text) → MatchesWord word (front_of word (length text) (read p.ch)) (text ++ p ∷ [])
+  matched_is word text p (c, left, is) =
+      subst (λ (w : List ℕ). MatchesWord w (front_of w (length text) (read p.ch)) (text ++ p ∷ [])) is
+      (rw (next_is text c left, after_next text c left) (matched_at text p c left (eqb (read p.ch) c) refl))
 
 -- WHAT THEY ARE
 
@@ -121,33 +121,33 @@ place_first end [] p more = refl
 place_first end (x ∷ xs) p more = refl
 
 -- what a step makes of them
-abbrev by_spelled : Opened → Opens → Spelled → Opens
-by_spelled so whole spelled.Front = opens.Front so
-by_spelled so whole spelled.Whole = whole
-by_spelled so whole spelled.Other = opens.Bogus
+abbrev by_match : Opened → Opens → WordMatch → Opens
+by_match so whole word_match.Front = opens.Front so
+by_match so whole word_match.Whole = whole
+by_match so whole word_match.Other = opens.Bogus
 
-pub doctype_goes : (s : Spelled) (text : List Placed) (p : Placed) → begins (λ c. eqb (to_ascii_lowercase c) 100) text ≡ true → SpelledAs to_ascii_lowercase (codes "doctype") s (text ++ p ∷ []) → OpensAs (by_spelled opened.Doctype opens.Doctype s) (text ++ p ∷ [])
-doctype_goes spelled.Front text p first h = (begins-append _ text (p ∷ []) first, h)
-doctype_goes spelled.Whole text p first h = h
-doctype_goes spelled.Other text p first h = λ more. not_doctype ((text ++ p ∷ []) ++ more) (begins-append _ (text ++ p ∷ []) more (begins-append _ text (p ∷ []) first)) (in_any_case (codes "doctype") ((text ++ p ∷ []) ++ more) ∙ h more)
+pub doctype_goes : (s : WordMatch) (text : List Placed) (p : Placed) → begins (λ c. eqb (to_ascii_lowercase c) 100) text ≡ true → MatchesWord to_ascii_lowercase (codes "doctype") s (text ++ p ∷ []) → OpensAs (by_match opened.Doctype opens.Doctype s) (text ++ p ∷ [])
+doctype_goes word_match.Front text p first h = (begins-append _ text (p ∷ []) first, h)
+doctype_goes word_match.Whole text p first h = h
+doctype_goes word_match.Other text p first h = λ more. not_doctype ((text ++ p ∷ []) ++ more) (begins-append _ (text ++ p ∷ []) more (begins-append _ text (p ∷ []) first)) (in_any_case (codes "doctype") ((text ++ p ∷ []) ++ more) ∙ h more)
 
-pub cdata_goes : (s : Spelled) (text : List Placed) (p : Placed) → begins (λ c. eqb c 91) text ≡ true → SpelledAs (λ c. c) (codes "[CDATA[") s (text ++ p ∷ []) → OpensAs (by_spelled opened.Cdata opens.Cdata s) (text ++ p ∷ [])
-cdata_goes spelled.Front text p first h = (begins-append _ text (p ∷ []) first, h)
-cdata_goes spelled.Whole text p first h = h
-cdata_goes spelled.Other text p first h = λ more. not_cdata ((text ++ p ∷ []) ++ more) (begins-append _ (text ++ p ∷ []) more (begins-append _ text (p ∷ []) first)) (as_it_is (codes "[CDATA[") ((text ++ p ∷ []) ++ more) ∙ h more)
+pub cdata_goes : (s : WordMatch) (text : List Placed) (p : Placed) → begins (λ c. eqb c 91) text ≡ true → MatchesWord (λ c. c) (codes "[CDATA[") s (text ++ p ∷ []) → OpensAs (by_match opened.Cdata opens.Cdata s) (text ++ p ∷ [])
+cdata_goes word_match.Front text p first h = (begins-append _ text (p ∷ []) first, h)
+cdata_goes word_match.Whole text p first h = h
+cdata_goes word_match.Other text p first h = λ more. not_cdata ((text ++ p ∷ []) ++ more) (begins-append _ (text ++ p ∷ []) more (begins-append _ text (p ∷ []) first)) (as_it_is (codes "[CDATA[") ((text ++ p ∷ []) ++ more) ∙ h more)
 
 pub dash_alone : (text : List Placed) (p : Placed) → characters text ≡ codes "-" → eqb p.ch 45 ≡ false → OpensAs opens.Bogus (text ++ p ∷ [])
 dash_alone text p h e = λ more. subst (λ (x : List Placed). is_declaration x ≡ false) (sym (append_assoc text (p ∷ []) more)) (one_dash text p more h e)
 
-pub doctype_after : (s : Spelled) (text : List Placed) (p : Placed) (c count : ℕ) → p.ch ≡ c → count ≡ length text → IsOpened opened.Doctype text → s ≡ front_of (codes "doctype") count (to_ascii_lowercase c) → OpensAs (by_spelled opened.Doctype opens.Doctype s) (text ++ p ∷ [])
+pub doctype_after : (s : WordMatch) (text : List Placed) (p : Placed) (c count : ℕ) → p.ch ≡ c → count ≡ length text → IsOpened opened.Doctype text → s ≡ front_of (codes "doctype") count (to_ascii_lowercase c) → OpensAs (by_match opened.Doctype opens.Doctype s) (text ++ p ∷ [])
 doctype_after s text p c count is long h e = doctype_goes s text p h.0
-    (subst (λ (x : Spelled). SpelledAs to_ascii_lowercase (codes "doctype") x (text ++ p ∷ [])) (sym (e ∙ ap (λ (n : ℕ). front_of (codes "doctype") n (to_ascii_lowercase c)) long ∙ ap (λ (x : ℕ). front_of (codes "doctype") (length text) (to_ascii_lowercase x)) (sym is)))
-    (spelled_is to_ascii_lowercase (codes "doctype") text p h.1))
+    (subst (λ (x : WordMatch). MatchesWord to_ascii_lowercase (codes "doctype") x (text ++ p ∷ [])) (sym (e ∙ ap (λ (n : ℕ). front_of (codes "doctype") n (to_ascii_lowercase c)) long ∙ ap (λ (x : ℕ). front_of (codes "doctype") (length text) (to_ascii_lowercase x)) (sym is)))
+    (matched_is to_ascii_lowercase (codes "doctype") text p h.1))
 
-pub cdata_after : (s : Spelled) (text : List Placed) (p : Placed) (c count : ℕ) → p.ch ≡ c → count ≡ length text → IsOpened opened.Cdata text → s ≡ front_of (codes "[CDATA[") count c → OpensAs (by_spelled opened.Cdata opens.Cdata s) (text ++ p ∷ [])
+pub cdata_after : (s : WordMatch) (text : List Placed) (p : Placed) (c count : ℕ) → p.ch ≡ c → count ≡ length text → IsOpened opened.Cdata text → s ≡ front_of (codes "[CDATA[") count c → OpensAs (by_match opened.Cdata opens.Cdata s) (text ++ p ∷ [])
 cdata_after s text p c count is long h e = cdata_goes s text p h.0
-    (subst (λ (x : Spelled). SpelledAs (λ c. c) (codes "[CDATA[") x (text ++ p ∷ [])) (sym (e ∙ ap (λ (n : ℕ). front_of (codes "[CDATA[") n c) long ∙ ap (λ (x : ℕ). front_of (codes "[CDATA[") (length text) x) (sym is)))
-    (spelled_is (λ c. c) (codes "[CDATA[") text p h.1))
+    (subst (λ (x : WordMatch). MatchesWord (λ c. c) (codes "[CDATA[") x (text ++ p ∷ [])) (sym (e ∙ ap (λ (n : ℕ). front_of (codes "[CDATA[") n c) long ∙ ap (λ (x : ℕ). front_of (codes "[CDATA[") (length text) x) (sym is)))
+    (matched_is (λ c. c) (codes "[CDATA[") text p h.1))
 
 -- the first character of them
 pub first_doctype : (text : List Placed) (p : Placed) → text ≡ [] → eqb (to_ascii_lowercase p.ch) 100 ≡ true → IsOpened opened.Doctype (text ++ p ∷ [])

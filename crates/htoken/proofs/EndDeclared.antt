@@ -10,7 +10,7 @@ use Rattle.htoken.proofs.InMarkup.{keeps, kept, refused}
 use Rattle.htoken.proofs.Reading.{held_in, kind_in}
 
 module _ {S : Type 0} (gives : S → ParseError → Result (Unit {0}) Refusal → S → Type 0) (gives_token : S → Handed → Result (Unit {0}) Refusal → S → Type 0) (table : Entities) (start : RawKind) (end : ℕ) (text : List Placed) (names : Texts)
-    (taken : List Event) (t : Tokenizer) (h : Reads table start t names text [] taken) (at : ℕ) (so : Opened) (after_bang : t.state ≡ state.Declaration at so) where
+    (taken : List Event) (t : Tokenizer) (h : Reads table start t names text [] taken) (at : ℕ) (so : Opened) (after_bang : t.state ≡ state.MarkupDeclarationOpen at so) where
   abbrev body : List Placed
   body = t.held.items
 
@@ -20,14 +20,14 @@ module _ {S : Type 0} (gives : S → ParseError → Result (Unit {0}) Refusal �
   abbrev e : ParseError
   e = error IncorrectlyOpenedComment (place end body)
 
-  abbrev declared : IsHeld (state.Declaration at so) table names h.here t h.held []
-  declared = held_in h (state.Declaration at so) after_bang
+  abbrev declared : IsHeld (state.MarkupDeclarationOpen at so) table names h.here t h.held []
+  declared = held_in h (state.MarkupDeclarationOpen at so) after_bang
 
   pub declared_plain : all is_plain_in_bogus body ≡ true
   declared_plain = opened_plain so body declared.2
 
   here_is : h.here.kind ≡ kind.None
-  here_is = kind_in h (state.Declaration at so) after_bang
+  here_is = kind_in h (state.MarkupDeclarationOpen at so) after_bang
 
   abbrev pub EndsIn : Tokenizer → Result (Unit {0}) Refusal → Raised → Type 0
   EndsIn begun answer raised = WalkEnds keeps (IsCommentOf Bogus) body [] end begun.comment.data begun.raised answer raised

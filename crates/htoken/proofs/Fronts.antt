@@ -1,5 +1,5 @@
 -- A run of characters, a part after another.
-use Rattle.htoken.proofs.Names.{◌≡◌, ◌≤◌, ◌<◌, ℕ, zero, suc, ◌+◌, List, [], ◌∷◌, ◌++◌, length, take, drop, sym, refl, ap, ◌∙◌, subst, Result, Ok, Err, append_assoc, append-nil, arith, true, slice_index, MatchResult, list_all, chars, IsAscii, nat_tests, length-take-le, take_all, IsCharBoundary-from_drop, IsUtf8-from_ascii, Placed, RawKind, Refusal, Texts, Grows, grows_on, placed, text_kept, is_plain_byte, IsCut, plain_chars, plain_drop, placed_cut, placed_more, Entities, Token, Tokenizer, Tok, Item, ItemToken, ItemError, Event, Gives, Reports, TokenMeans, Alone, WithNames, token_in, Handed, HandedMeans, Mean, tokens_in, IsRefused, AreFront, HandsEvents, TakesFront, TakesPart, HasTaken, Takes, take_ran_out, take_refused, take_sink_refused, take_took, IfOk, IsCharBoundary, placed_part, placed_rest, attrs_kept, and_parts, all_weaker, is_ascii}
+use Rattle.htoken.proofs.Names.{◌≡◌, ◌≤◌, ◌<◌, ℕ, ◌+◌, List, [], ◌∷◌, ◌++◌, length, take, drop, sym, refl, ap, ◌∙◌, subst, Result, Ok, Err, append_assoc, append-nil, arith, true, slice_index, MatchResult, list_all, chars, nat_tests, length-take-le, take_all, IsCharBoundary-from_drop, IsUtf8-from_ascii, Placed, RawKind, Refusal, Texts, Grows, grows_on, placed, text_kept, is_plain_byte, IsCut, plain_chars, plain_drop, placed_cut, placed_more, Entities, Token, Tokenizer, Tok, Item, ItemToken, ItemError, Event, Gives, Reports, TokenMeans, Alone, WithNames, token_in, Handed, HandedMeans, Mean, tokens_in, IsRefused, AreFront, HandsEvents, TakesFront, TakesPart, HasTaken, Takes, take_ran_out, take_refused, take_sink_refused, take_took, IfOk, IsCharBoundary, placed_part, placed_rest, attrs_kept, all_weaker, is_ascii}
 use Rattle.std.proofs.lemmas.Result.{IfOk-weaker}
 use Rattle.htag.proofs.Ascii.{each_ascii}
 use Rattle.htoken.specs.declared.token.Token.TheVariants as code
@@ -148,13 +148,6 @@ module _ {S : Type 0} (gives : S → Item → Result (Unit {0}) Refusal → S �
     more_taken part is n new next so then =
         part_taken (placed at (take count run)) taken before names grows old mid t (placed (at + count) (take n (drop count run))) (placed at (take (count + n) run)) (placed_part at count n run plain within) (Ok tt) new next so
         (subst (λ (x : List ℕ). ThenTakes (placed at (take count run)) taken before names grows old mid t (placed (at + count) (take n x)) (Ok tt) new next) is then)
-
-    -- one character more, whatever the answer
-    pub one_taken : (part : List ℕ) → part ≡ drop count run → (answer : Result (Unit {0}) Refusal) (new : S) (next : Tokenizer) → SoFar
-        → ThenTakes (placed at (take count run)) taken before names grows old mid t (placed (at + count) (take 1 part)) answer new next → Takes gives table start text (placed at (take (count + 1) run)) taken names old answer new next
-    one_taken part is answer new next so then =
-        part_taken (placed at (take count run)) taken before names grows old mid t (placed (at + count) (take 1 (drop count run))) (placed at (take (count + 1) run)) (placed_part at count 1 run plain within) answer new next so
-        (subst (λ (x : List ℕ). ThenTakes (placed at (take count run)) taken before names grows old mid t (placed (at + count) (take 1 x)) answer new next) is then)
 
     -- a refusal in all that is left
     pub more_refused : (part : List ℕ) → part ≡ drop count run → (e : Refusal) (new : S) (next : Tokenizer) → SoFar → Then part (Err e) new next → Takes gives table start text (placed at run) taken names old (Err e) new next

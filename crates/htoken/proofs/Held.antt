@@ -8,24 +8,24 @@ use Rattle.names.specs.Placed.{before, null_errors, text_bytes}
 use Rattle.charref.proofs.Opening.{open_taken}
 use Rattle.hmarkup.specs.declared.comment.CommentKind.TheVariants as comment
 use Rattle.hmarkup.specs.Comment.{closes_bogus}
-use Rattle.hmarkup.specs.CommentWalk.{HasReadOf, IsSpan as IsCommentOf}
+use Rattle.hmarkup.specs.CommentWalk.{HasReadOf, IsCommentSpan as IsCommentOf}
 use Rattle.hmarkup.specs.DoctypeWalk.{HasReadDoctype}
 use Rattle.hmarkup.proofs.Closing.{closed_span, closed_doctype}
 use Rattle.htag.specs.declared.kind.TagKind.{TagKind}
 use Rattle.htag.specs.declared.kind.TagKind.TheVariants as tag
 use Rattle.htag.proofs.Parts.{begins_stops}
-use Rattle.htoken.specs.declared.declaration.Opened.{Opened}
-use Rattle.htoken.specs.declared.declaration.Opened.TheVariants as opened
+use Rattle.htoken.specs.declared.markup_declaration_open.Opened.{Opened}
+use Rattle.htoken.specs.declared.markup_declaration_open.Opened.TheVariants as opened
 use Rattle.htoken.specs.declared.state.State.{State}
 use Rattle.htoken.specs.declared.state.State.TheVariants as state
 use Rattle.htoken.specs.declared.tokenizer.Tokenizer.{Tokenizer}
 use Rattle.htoken.specs.Data as d
-use Rattle.htoken.specs.Declaration.{IsOpened}
+use Rattle.htoken.specs.MarkupDeclarationOpen.{IsOpened}
 use Rattle.htoken.specs.HeldFrom.{from_of}
 use Rattle.htoken.specs.Raw.{is_raw, name_ends}
 use Rattle.htoken.specs.Tag.{tag_mark}
 use Rattle.htoken.specs.Token.{doctype_token}
-use Rattle.htoken.specs.Tokenizing.{Reads, holds, in_ambiguous_ampersand, IsHeld, IsIn, IsInMarkup, IsInMarkedTag, IsInReference, less, next_place}
+use Rattle.htoken.specs.Tokenizing.{Reads, holds, in_ambiguous_ampersand, IsHeld, IsStateOf, IsInMarkup, IsInMarkedTag, IsInReference, less, next_place}
 use Rattle.htoken.proofs.Declaring.{nothing_at_end}
 use Rattle.htoken.proofs.Holding.{held_place}
 use Rattle.htoken.proofs.InData.{in_data}
@@ -105,30 +105,30 @@ abbrev solidus : ℕ → Placed
 solidus at = record { ch = 47; at = at }
 
 -- what is left of a name, as a text
-abbrev spelled : List ℕ → List Placed
-spelled left = map (λ c. record { ch = c; at = 0 }) left
+abbrev as_placed : List ℕ → List Placed
+as_placed left = map (λ c. record { ch = c; at = 0 }) left
 
-some_rest : (left : List ℕ) → is_empty (spelled left ++ greater ∷ []) ≡ false
+some_rest : (left : List ℕ) → is_empty (as_placed left ++ greater ∷ []) ≡ false
 some_rest [] = refl
 some_rest (c ∷ cs) = refl
 
 -- letters, and what is left of a name that they agree with
 record IsRest (letters : List Placed) (left : List ℕ) : Type 0 where
-  are_letters : all is_letter (letters ++ spelled left) ≡ true
-  first : begins is_letter (letters ++ spelled left) ≡ true
-  lowers : lowered (letters ++ spelled left) ≡ lowered letters ++ left
+  are_letters : all is_letter (letters ++ as_placed left) ≡ true
+  first : begins is_letter (letters ++ as_placed left) ≡ true
+  lowers : lowered (letters ++ as_placed left) ≡ lowered letters ++ left
 
-rest_lowers : (letters : List Placed) (left : List ℕ) → list_all is_lower (lowered letters ++ left) ≡ true → lowered (letters ++ spelled left) ≡ lowered letters ++ left
+rest_lowers : (letters : List Placed) (left : List ℕ) → list_all is_lower (lowered letters ++ left) ≡ true → lowered (letters ++ as_placed left) ≡ lowered letters ++ left
 rest_lowers [] [] h = refl
 rest_lowers [] (c ∷ cs) h = grind (arith, nat_tests, rest_lowers [] cs)
 rest_lowers (l ∷ ls) left h = grind (arith, nat_tests, rest_lowers ls left)
 
-rest_letters : (letters : List Placed) (left : List ℕ) → all is_letter letters ≡ true → list_all is_lower (lowered letters ++ left) ≡ true → all is_letter (letters ++ spelled left) ≡ true
+rest_letters : (letters : List Placed) (left : List ℕ) → all is_letter letters ≡ true → list_all is_lower (lowered letters ++ left) ≡ true → all is_letter (letters ++ as_placed left) ≡ true
 rest_letters [] [] are h = refl
 rest_letters [] (c ∷ cs) are h = grind (arith, nat_tests, rest_letters [] cs)
 rest_letters (l ∷ ls) left are h = grind (arith, nat_tests, rest_letters ls left)
 
-rest_first : (letters : List Placed) (left : List ℕ) → all is_letter (letters ++ spelled left) ≡ true → is_word (lowered letters ++ left) ≡ true → begins is_letter (letters ++ spelled left) ≡ true
+rest_first : (letters : List Placed) (left : List ℕ) → all is_letter (letters ++ as_placed left) ≡ true → is_word (lowered letters ++ left) ≡ true → begins is_letter (letters ++ as_placed left) ≡ true
 rest_first [] [] are h = absurd cc
 rest_first [] (c ∷ cs) are h = grind arith
 rest_first (l ∷ ls) left are h = grind arith
@@ -141,15 +141,15 @@ rest_of letters left are h =
 
 name_can_end : (table : Entities) (letters : List Placed) (left : List ℕ) → IsRest letters left → CanEnd table letters
 name_can_end table letters left r = record {
-  more = spelled left ++ greater ∷ [];
-  name = letters ++ spelled left;
+  more = as_placed left ++ greater ∷ [];
+  name = letters ++ as_placed left;
   parts = [];
   close = greater ∷ [];
   closing = false;
   some = some_rest left;
-  body_is = sym (append_assoc letters (spelled left) (greater ∷ []));
+  body_is = sym (append_assoc letters (as_placed left) (greater ∷ []));
   first = r.first;
-  passes = letters_stay (letters ++ spelled left) r.are_letters;
+  passes = letters_stay (letters ++ as_placed left) r.are_letters;
   ends = refl;
   are_parts = λ end rest. tt;
   closes = refl;
@@ -194,8 +194,8 @@ module _ (table : Entities) (is_table : IsTable table) (start : RawKind) (names 
       let c = closed_doctype t.doctype i.body (greater ∷ []) i.own i.has_read refl in
       in_markup HasReadDoctype IsDoctype doctype_token t.doctype i greater [] c.value c.errors (c.is_span 0 []) plain
 
-  in_declaration : (bang : ℕ) (so : Opened) → h.held ≡ less t ∷ record { ch = 33; at = bang } ∷ t.held.items → IsOpened so t.held.items → h.here.kind ≡ kind.None → Begins
-  in_declaration bang so held is plain =
+  in_markup_declaration : (bang : ℕ) (so : Opened) → h.held ≡ less t ∷ record { ch = 33; at = bang } ∷ t.held.items → IsOpened so t.held.items → h.here.kind ≡ kind.None → Begins
+  in_markup_declaration bang so held is plain =
       let opening : List Placed = less t ∷ record { ch = 33; at = bang } ∷ [] in
       let body : List Placed = t.held.items ++ greater ∷ [] in
       let none : is_declaration (body ++ []) ≡ false = ap is_declaration (append-nil body) ∙ no_declaration t.held.items [] (nothing_at_end so t.held.items is) in
@@ -229,35 +229,35 @@ module _ (table : Entities) (is_table : IsTable table) (start : RawKind) (names 
     end_span kind.None e r span ends is_tag = absurd cc
     end_span _ e r span ends is_tag = raw_end ends is_tag
 
-    raw_ends : (at : ℕ) (held letters : List Placed) (left : List ℕ) (more : List Placed) → h.held ≡ held → is_empty more ≡ false → held ++ more ≡ less t ∷ solidus at ∷ (letters ++ (spelled left ++ greater ∷ []))
+    raw_ends : (at : ℕ) (held letters : List Placed) (left : List ℕ) (more : List Placed) → h.held ≡ held → is_empty more ≡ false → held ++ more ≡ less t ∷ solidus at ∷ (letters ++ (as_placed left ++ greater ∷ []))
         → all is_letter letters ≡ true → lowered letters ++ left ≡ string_bytes t.tag.name → Begins
     unfolding name_can_end
     raw_ends at held letters left more held_is some whole are agrees =
         let rest : IsRest letters left = rest_of letters left are (ap is_word agrees ∙ word) in
         let w = whole_tag table (less t ∷ solidus at ∷ []) letters (name_can_end table letters left rest) tag.End refl in
-        let text : w.span.text ≡ less t ∷ solidus at ∷ (letters ++ (spelled left ++ greater ∷ [])) = w.text_is in
-        let name_is : lowered (letters ++ spelled left) ≡ string_bytes t.tag.name = rest.lowers ∙ agrees in
-        let ends : is_raw_end h.here (less t ∷ solidus at ∷ ((letters ++ spelled left) ++ greater ∷ [])) ≡ true =
-        a_name h.here (string_bytes t.tag.name) named (less t) refl at ((letters ++ spelled left) ++ greater ∷ []) may
-        (subst (λ (name : List ℕ). name_ends name ((letters ++ spelled left) ++ greater ∷ []) ≡ true) name_is (is_whole (letters ++ spelled left) greater [] refl)) in
+        let text : w.span.text ≡ less t ∷ solidus at ∷ (letters ++ (as_placed left ++ greater ∷ [])) = w.text_is in
+        let name_is : lowered (letters ++ as_placed left) ≡ string_bytes t.tag.name = rest.lowers ∙ agrees in
+        let ends : is_raw_end h.here (less t ∷ solidus at ∷ ((letters ++ as_placed left) ++ greater ∷ [])) ≡ true =
+        a_name h.here (string_bytes t.tag.name) named (less t) refl at ((letters ++ as_placed left) ++ greater ∷ []) may
+        (subst (λ (name : List ℕ). name_ends name ((letters ++ as_placed left) ++ greater ∷ []) ≡ true) name_is (is_whole (letters ++ as_placed left) greater [] refl)) in
         inside more [] 0 w.span some (text ∙ sym whole ∙ ap (λ (x : List Placed). x ++ more) (sym held_is))
         (end_span h.here.kind refl raw w.span
-        (ap (is_raw_end h.here) (append-nil w.span.text ∙ text ∙ ap (λ (x : List Placed). less t ∷ solidus at ∷ x) (sym (append_assoc letters (spelled left) (greater ∷ [])))) ∙ ends) w.is_tag)
+        (ap (is_raw_end h.here) (append-nil w.span.text ∙ text ∙ ap (λ (x : List Placed). less t ∷ solidus at ∷ x) (sym (append_assoc letters (as_placed left) (greater ∷ [])))) ∙ ends) w.is_tag)
 
-  by_state : (s : State) → IsIn s h.here.kind → IsHeld s table names h.here t h.held [] → Begins
+  by_state : (s : State) → IsStateOf s h.here.kind → IsHeld s table names h.here t h.held [] → Begins
   by_state state.Text is_in has = nothing has.0
-  by_state state.Less is_in has = marked tag.Start (less t ∷ []) has.0 refl is_in
-  by_state (state.LessSolidus at) is_in has = marked tag.End (less t ∷ record { ch = 47; at = at } ∷ []) has.0 refl is_in
-  by_state (state.Declaration bang so) is_in has = in_declaration bang so has.0 has.2 is_in
+  by_state state.TagOpen is_in has = marked tag.Start (less t ∷ []) has.0 refl is_in
+  by_state (state.EndTagOpen at) is_in has = marked tag.End (less t ∷ record { ch = 47; at = at } ∷ []) has.0 refl is_in
+  by_state (state.MarkupDeclarationOpen bang so) is_in has = in_markup_declaration bang so has.0 has.2 is_in
   by_state state.Comment is_in (which, i) = in_comment which i is_in
   by_state state.Doctype is_in has = in_doctype has is_in
   by_state state.Tag is_in has = in_tag has
   by_state state.Reference is_in has = referring h.here.kind refl is_in has
   by_state (state.AmbiguousAmpersand amp) is_in has = absurd has
-  by_state state.RawLess is_in has =
-      raw_ends is_in has.may has.named 0 (less t ∷ []) [] (string_bytes t.tag.name) (solidus 0 ∷ (spelled (string_bytes t.tag.name) ++ greater ∷ [])) has.held_is refl refl refl refl
-  by_state (state.RawName at) is_in has =
-      raw_ends is_in has.may has.named at (less t ∷ solidus at ∷ t.held.items) t.held.items has.left (spelled has.left ++ greater ∷ []) has.held_is (some_rest has.left) refl has.letters has.agrees
+  by_state state.RcdataLessThanSign is_in has =
+      raw_ends is_in has.may has.named 0 (less t ∷ []) [] (string_bytes t.tag.name) (solidus 0 ∷ (as_placed (string_bytes t.tag.name) ++ greater ∷ [])) has.held_is refl refl refl refl
+  by_state (state.RcdataEndTagName at) is_in has =
+      raw_ends is_in has.may has.named at (less t ∷ solidus at ∷ t.held.items) t.held.items has.left (as_placed has.left ++ greater ∷ []) has.held_is (some_rest has.left) refl has.letters has.agrees
 
 pub held_begins : HeldBegins
 held_begins table start t names text taken is_table (holds h) = record {

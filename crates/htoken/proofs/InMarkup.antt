@@ -1,5 +1,5 @@
 -- A character of a comment or a doctype, and the input's end in it.
-use Rattle.htoken.proofs.Names.{◌≡◌, ℕ, Bool, true, false, List, [], ◌∷◌, ◌++◌, sym, refl, ap, ◌∙◌, subst, Result, Ok, Err, Option, append_assoc, append-nil, ParseError, Placed, RawKind, Refusal, Memory, Texts, Hands, Entities, WalkEnds, Raised, State, Tokenizer, Tok, Span, Item, Event, gives_item, Standing, next, has_refused, IsDataSpan, Reads, Takes, IsHeld, IsIn, IsLast, IsInMarkup, EndsHeld, held_ran_out, held_ended, Keeps, GivesSpan, EndsDoctype, doctype_ran_out, doctype_given, doctype_token, WalkTakes, walk_ran_out, sink_refused, walk_goes_on, walk_ended, raises, Handed, HandedMeans}
+use Rattle.htoken.proofs.Names.{◌≡◌, ℕ, Bool, true, false, List, [], ◌∷◌, ◌++◌, sym, refl, ap, ◌∙◌, subst, Result, Ok, Err, Option, append_assoc, append-nil, ParseError, Placed, RawKind, Refusal, Memory, Texts, Hands, Entities, WalkEnds, Raised, State, Tokenizer, Tok, Span, Item, Event, gives_item, Standing, next, has_refused, IsDataSpan, Reads, Takes, IsHeld, IsStateOf, IsLast, IsInMarkup, EndsHeld, held_ran_out, held_ended, Keeps, GivesSpan, EndsDoctype, doctype_ran_out, doctype_given, doctype_token, WalkTakes, walk_ran_out, sink_refused, walk_goes_on, walk_ended, raises, Handed, HandedMeans}
 use Rattle.names.specs.declared.raw.RawKind.TheVariants as kind
 use Rattle.htoken.proofs.Going.{stays_both, ran_out, goes_on, span_ends}
 use Rattle.htoken.proofs.Handing.{span_given}
@@ -35,7 +35,7 @@ module _ {S W V : Type 0} (gives : S → ParseError → Result (Unit {0}) Refusa
     markup_stopped r new value raised s last (walk_goes_on reported e hd has) = absurd cc
     markup_stopped r new value raised s last (walk_ended reported e hd is) = absurd cc
 
-    pub markup_goes_on : (new : Tokenizer) (then : W) (value : V) (s : S) (in_state : State) → new.state ≡ in_state → Keeps t new → IsIn in_state h.here.kind
+    pub markup_goes_on : (new : Tokenizer) (then : W) (value : V) (s : S) (in_state : State) → new.state ≡ in_state → Keeps t new → IsStateOf in_state h.here.kind
         → (IsInMarkup HasRead IsOne token then table new (h.held ++ p ∷ []) [] → IsHeld in_state table names h.here new (h.held ++ p ∷ []) [])
         → Took (Ok false) then value new.raised → Takes (gives_item gives gives_token) table start text (p ∷ []) taken names s (Ok tt) s new
     markup_goes_on new then value s in_state same keep is_in holds (walk_ran_out reported e hd b) = absurd cc

@@ -1,5 +1,5 @@
 -- Characters of raw text, and its end tag.
-use Rattle.htoken.proofs.Names.{IsFollowed, ◌≡◌, ℕ, Bool, true, false, cond, ◌&&◌, eqb, List, [], ◌∷◌, ◌++◌, map, length, sym, refl, ap, ◌∙◌, subst, Result, Ok, Err, Option, Some, None, arith, append_assoc, append-nil, eqb-true, slice_get, is_some, nat_lt, MatchResult, Memory, to_ascii_lowercase, string_bytes, UnexpectedNullCharacter, ParseError, Placed, RawKind, Refusal, Texts, lowered, begins, all, is_letter, name_bytes, without_null, error, Entities, backwards, and_parts, and_no, no_null_error, State, TagWalk, Script, HasFront, level_number, Tokenizer, Span, Item, Event, Gives, Reports, Char, piece_span, Standing, is_raw, is_script, may_end, is_raw_end, name_ends, IsSpan, IsSpanOf, IsRawSpan, has_references, raw_character, raw_end, events_of, HandsEvents, run_events, ends_name, Stands, Reads, Takes, take_sink_refused, IsHeld, IsLast, IsBetween, less, Stays, Keeps, IsInTag, tag_mark, tag_ahead, plain_piece, ends_by, IsAfterRawLess, IsInRawName, Holds, all-one, IsDataSpan, true≢false}
+use Rattle.htoken.proofs.Names.{IsFollowed, ◌≡◌, ℕ, Bool, true, false, cond, ◌&&◌, eqb, List, [], ◌∷◌, ◌++◌, map, length, sym, refl, ap, ◌∙◌, subst, Result, Ok, Err, Option, Some, None, arith, append_assoc, append-nil, eqb-true, slice_get, is_some, nat_lt, MatchResult, Memory, to_ascii_lowercase, string_bytes, UnexpectedNullCharacter, ParseError, Placed, RawKind, Refusal, Texts, lowered, begins, all, is_letter, name_bytes, without_null, error, Entities, backwards, and_parts, and_no, no_null_error, TagWalk, Script, HasFront, level_number, Tokenizer, Span, Item, Event, Gives, Reports, Char, piece_span, Standing, is_raw, is_script, may_end, is_raw_end, name_ends, IsSpan, IsSpanOf, IsRawSpan, has_references, raw_character, raw_end, events_of, HandsEvents, run_events, ends_name, Stands, Reads, Takes, take_sink_refused, IsHeld, IsLast, IsBetween, less, Stays, Keeps, IsInTag, tag_mark, tag_ahead, plain_piece, ends_by, IsInRcdataLessThanSign, IsInRcdataEndTagName, Holds, all-one, IsDataSpan, true≢false}
 use Rattle.names.specs.declared.raw.RawKind.TheVariants as kind
 use Rattle.htoken.specs.declared.state.State.TheVariants as state
 use Rattle.htag.specs.declared.kind.TagKind.TheVariants as tag
@@ -156,7 +156,7 @@ module _ {S : Type 0} (gives : S → Item → Result (Unit {0}) Refusal → S �
           inner_goes_on h.here (p ∷ more) (sym may_end_is ∙ e)
 
     -- a `<` that may begin the end tag
-    pub raw_less_begins : (new : Tokenizer) (s : S) (bytes : List ℕ) → Keeps (record t { at = p.at }) new → new.state ≡ state.RawLess → new.raised.errors.items ≡ t.raised.errors.items → new.tag ≡ t.tag → new.script ≡ t.script → p.ch ≡ 60
+    pub raw_less_begins : (new : Tokenizer) (s : S) (bytes : List ℕ) → Keeps (record t { at = p.at }) new → new.state ≡ state.RcdataLessThanSign → new.raised.errors.items ≡ t.raised.errors.items → new.tag ≡ t.tag → new.script ≡ t.script → p.ch ≡ 60
         → h.here.name ≡ Some bytes → may_end h.here.kind h.here.front ≡ true → Takes gives table start text (p ∷ []) taken names s (Ok tt) s new
     raw_less_begins new s bytes keeps less_is raised same keeps_script is named may =
         goes_on gives table start text p names taken t h new s _ less_is keeps.stays keeps.kind_is keeps.last_is here_is (record {
@@ -169,17 +169,17 @@ module _ {S : Type 0} (gives : S → Item → Result (Unit {0}) Refusal → S �
 
   -- AFTER `<`
 
-  module _ (after : t.state ≡ state.RawLess) where
-    abbrev after_less : IsAfterRawLess h.here t h.held
-    after_less = held_in h state.RawLess after
+  module _ (after : t.state ≡ state.RcdataLessThanSign) where
+    abbrev tag_open : IsInRcdataLessThanSign h.here t h.held
+    tag_open = held_in h state.RcdataLessThanSign after
 
     is_raw_here : is_raw h.here.kind ≡ true
-    is_raw_here = kind_in h state.RawLess after
+    is_raw_here = kind_in h state.RcdataLessThanSign after
 
-    pub raw_solidus_follows : (new : Tokenizer) (s : S) → Keeps t new → new.state ≡ state.RawName p.at → new.raised.errors.items ≡ t.raised.errors.items → new.tag ≡ t.tag → new.script ≡ t.script → new.held.items ≡ [] → p.ch ≡ 47
+    pub raw_solidus_follows : (new : Tokenizer) (s : S) → Keeps t new → new.state ≡ state.RcdataEndTagName p.at → new.raised.errors.items ≡ t.raised.errors.items → new.tag ≡ t.tag → new.script ≡ t.script → new.held.items ≡ [] → p.ch ≡ 47
         → Takes gives table start text (p ∷ []) taken names s (Ok tt) s new
     raw_solidus_follows new s keeps then raised same keeps_script none is =
-        let i = after_less in
+        let i = tag_open in
         goes_on gives table start text p names taken t h new s _ then keeps.stays keeps.kind_is keeps.last_is is_raw_here (record {
           held_is = ap (λ (x : List Placed). x ++ p ∷ []) i.held_is ∙ ap (λ (c : ℕ). less t ∷ record { ch = c; at = p.at } ∷ []) is
               ∙ ap (λ (a : ℕ). record { ch = 60; at = a } ∷ record { ch = 47; at = p.at } ∷ []) (sym keeps.at_is) ∙ ap (λ (x : List Placed). less new ∷ record { ch = 47; at = p.at } ∷ x) (sym none);
@@ -193,24 +193,24 @@ module _ {S : Type 0} (gives : S → Item → Result (Unit {0}) Refusal → S �
         })
 
     pub less_go_on : eqb p.ch 47 ≡ false → (more : List Placed) → GoOn h.here (less t ∷ []) (p ∷ more)
-    less_go_on other more = less_goes_on h.here t (p ∷ more) (no_solidus h.here (string_bytes t.tag.name) after_less.named (less t) refl p more other)
+    less_go_on other more = less_goes_on h.here t (p ∷ more) (no_solidus h.here (string_bytes t.tag.name) tag_open.named (less t) refl p more other)
 
     pub less_given : (new : Tokenizer) → eqb p.ch 47 ≡ false → IsFollowed (record t { state = state.Text }) 60 new → Reads table start new names text (p ∷ []) (taken ++ run_events (less t ∷ []))
     less_given new other f = subst (λ (x : Tokenizer). Reads table start x names text (p ∷ []) (taken ++ run_events (less t ∷ []))) (sym f.then)
-        (characters_ended (less t ∷ []) after_less.held_is is_raw_here (less_go_on other) (record t { state = state.Text; script = new.script }) (refl, refl, refl) refl refl refl after_less.raises_none
-        (record { named = after_less.between.named; leveled = λ r. f.follows t.at h.here.front (ap is_script h.kind_is ∙ r) (after_less.between.leveled r) }))
+        (characters_ended (less t ∷ []) tag_open.held_is is_raw_here (less_go_on other) (record t { state = state.Text; script = new.script }) (refl, refl, refl) refl refl refl tag_open.raises_none
+        (record { named = tag_open.between.named; leveled = λ r. f.follows t.at h.here.front (ap is_script h.kind_is ∙ r) (tag_open.between.leveled r) }))
 
     pub less_refused : (new : Tokenizer) (old s : S) (e : Refusal) → eqb p.ch 47 ≡ false → HandsEvents gives names old (run_events (less t ∷ [])) (Err e) s → Takes gives table start text (p ∷ []) taken names old (Err e) s new
-    less_refused new old s e other handed = characters_refused (less t ∷ []) after_less.held_is is_raw_here (less_go_on other) new old s e handed
+    less_refused new old s e other handed = characters_refused (less t ∷ []) tag_open.held_is is_raw_here (less_go_on other) new old s e handed
 
   -- AFTER `</`
 
-  module _ (at : ℕ) (after : t.state ≡ state.RawName at) where
-    abbrev pub in_name : IsInRawName h.here t at h.held
-    in_name = held_in h (state.RawName at) after
+  module _ (at : ℕ) (after : t.state ≡ state.RcdataEndTagName at) where
+    abbrev pub in_name : IsInRcdataEndTagName h.here t at h.held
+    in_name = held_in h (state.RcdataEndTagName at) after
 
     raw_here : is_raw h.here.kind ≡ true
-    raw_here = kind_in h (state.RawName at) after
+    raw_here = kind_in h (state.RcdataEndTagName at) after
 
     abbrev mark : List Placed
     mark = less t ∷ record { ch = 47; at = at } ∷ t.held.items
@@ -220,7 +220,7 @@ module _ {S : Type 0} (gives : S → Item → Result (Unit {0}) Refusal → S �
     word = let s = h.stands 0 [] in raw_word start s.spans h.here (string_bytes t.tag.name) s.leads in_name.named raw_here
 
     -- a letter of the name
-    pub raw_letter_follows : (new : Tokenizer) (s : S) (c : ℕ) → Keeps t new → new.state ≡ state.RawName at → new.raised.errors.items ≡ t.raised.errors.items → new.tag ≡ t.tag → new.script ≡ t.script → new.held.items ≡ t.held.items ++ p ∷ []
+    pub raw_letter_follows : (new : Tokenizer) (s : S) (c : ℕ) → Keeps t new → new.state ≡ state.RcdataEndTagName at → new.raised.errors.items ≡ t.raised.errors.items → new.tag ≡ t.tag → new.script ≡ t.script → new.held.items ≡ t.held.items ++ p ∷ []
         → slice_get (string_bytes t.tag.name) (length t.held.items) ≡ Some c → to_ascii_lowercase p.ch ≡ c → is_letter p.ch ≡ true → Takes gives table start text (p ∷ []) taken names s (Ok tt) s new
     raw_letter_follows new s c keeps then raised same keeps_script more expected is letter =
         let i = in_name in

@@ -1,8 +1,8 @@
 -- A character after an `&`, and the input's end there.
-use Rattle.htoken.proofs.Names.{◌≡◌, ℕ, ◌+◌, ◌-◌, ◌≤◌, Bool, true, false, true≢false, ◌&&◌, eqb, List, [], ◌∷◌, ◌++◌, map, length, drop, take, reverse, sym, refl, ap, ◌∙◌, subst, Result, Ok, Err, Option, arith, append_assoc, append-nil, string_bytes, UnknownNamedCharacterReference, ParseError, Placed, RawKind, Refusal, Texts, all, begins, past, is_alphanumeric, error_if, Reference, IsRead, characters_of, errors_of, Entities, IsTable, IsReference, WalkState, and_no, and_parts, State, Tokenizer, Span, Item, Event, Gives, Reports, Char, piece_span, Standing, next, is_raw, is_script, has_references, known_errors, piece_events, read_events, HandsEvents, run_events, Stays, Stands, Reads, IsInAmbiguousAmpersand, Takes, take_took, take_sink_refused, in_ambiguous_ampersand, IsLast, IsBetween, EndsHeld, held_ended, later_errors, next_place, drop-append-le, take-append-le, drop-append_seam, take-append_seam, CharWalk, is_number, WalkHasTaken, LeavesLast, kept_none, kept_all, kept_nothing, is_other, drop-kept, drop-kept-end, BeginsReference, Finds, HoldsInReference, IsInReference}
+use Rattle.htoken.proofs.Names.{◌≡◌, ℕ, ◌+◌, ◌-◌, ◌≤◌, Bool, true, false, true≢false, ◌&&◌, eqb, List, [], ◌∷◌, ◌++◌, map, length, drop, take, reverse, sym, refl, ap, ◌∙◌, subst, Result, Ok, Err, Option, arith, append_assoc, append-nil, string_bytes, UnknownNamedCharacterReference, ParseError, Placed, RawKind, Refusal, Texts, all, begins, past, is_alphanumeric, error_if, Reference, IsRead, characters_of, errors_of, Entities, IsTable, IsReference, WalkState, and_no, and_parts, Tokenizer, Span, Item, Event, Gives, Reports, Char, piece_span, Standing, next, is_raw, is_script, has_references, known_errors, piece_events, read_events, HandsEvents, run_events, Stays, Stands, Reads, IsInAmbiguousAmpersand, Takes, take_took, take_sink_refused, in_ambiguous_ampersand, IsLast, IsBetween, EndsHeld, held_ended, later_errors, next_place, drop-append-le, take-append-le, drop-append_seam, take-append_seam, CharWalk, is_number, WalkHasTaken, LeavesLast, kept_none, kept_all, kept_nothing, is_other, drop-kept, drop-kept-end, BeginsReference, Finds, HoldsInReference, IsInReference}
 use Rattle.std.proofs.Math.ListN.{length-append}
 use Rattle.names.specs.declared.raw.RawKind.TheVariants as kind
-use Rattle.charref.specs.Held.{kept}
+use Rattle.charref.specs.Held.{held_characters}
 use Rattle.htoken.specs.declared.state.State.TheVariants as state
 use Rattle.htoken.proofs.Going.{goes_on, span_ends}
 use Rattle.htoken.proofs.Pending.{stands_told, later_on, later_told}
@@ -58,7 +58,7 @@ module _ {S : Type 0} (gives : S → Item → Result (Unit {0}) Refusal → S �
   taken_by_walk = inside.has_taken
 
   -- what is kept where the reference goes on
-  kept_on : (next : WalkState) → (is_number t.reference.state ≡ true → is_number next ≡ true) → (number : Bool) → is_number next ≡ number → kept next (t.held.items ++ p ∷ []) ≡ kept next (inside.read ++ p ∷ [])
+  kept_on : (next : WalkState) → (is_number t.reference.state ≡ true → is_number next ≡ true) → (number : Bool) → is_number next ≡ number → held_characters next (t.held.items ++ p ∷ []) ≡ held_characters next (inside.read ++ p ∷ [])
   kept_on next leads true number = kept_none next (t.held.items ++ p ∷ []) number ∙ sym (kept_none next (inside.read ++ p ∷ []) number)
   kept_on next leads false other = kept_all next (t.held.items ++ p ∷ []) other ∙ ap (λ (x : List Placed). x ++ p ∷ []) (inside.kept_is ∙ kept_all t.reference.state inside.read (is_other t.reference.state (λ number. true≢false (sym (leads number) ∙ other))))
       ∙ sym (kept_all next (inside.read ++ p ∷ []) other)
@@ -77,7 +77,7 @@ module _ {S : Type 0} (gives : S → Item → Result (Unit {0}) Refusal → S �
         raises_none = ap (λ (x : Tokenizer). x.raised.errors.items) holds.then ∙ i.raises_none;
         is_table = i.is_table;
         has_taken = subst (λ (w : CharWalk). WalkHasTaken w table false (i.read ++ p ∷ [])) (sym reference) walked;
-        kept_is = holds.held_is ∙ kept_on walk.state leads (is_number walk.state) refl ∙ ap (λ (w : CharWalk). kept w.state (i.read ++ p ∷ [])) (sym reference);
+        kept_is = holds.held_is ∙ kept_on walk.state leads (is_number walk.state) refl ∙ ap (λ (w : CharWalk). held_characters w.state (i.read ++ p ∷ [])) (sym reference);
         between = same_between h.here h.here t new may refl refl (ap (λ (x : Tokenizer). x.tag) holds.then) i.between;
       })
 
@@ -88,7 +88,7 @@ module _ {S : Type 0} (gives : S → Item → Result (Unit {0}) Refusal → S �
     r : (after : List Placed) → IsRead table false (read ++ p ∷ []) after found
     r after = f.reads read after inside.has_taken
 
-    pub in_letters : found.in_run ≡ true → (found.left ≡ 0 → ⊥) × (is_alphanumeric p.ch ≡ true) × (length t.held.items + 1 - found.left ≡ 0)
+    pub in_letters : found.is_ambiguous ≡ true → (found.left ≡ 0 → ⊥) × (is_alphanumeric p.ch ≡ true) × (length t.held.items + 1 - found.left ≡ 0)
     in_letters told =
         let run = (r []).run told in
         let long : length (read ++ p ∷ []) ≡ length read + 1 = length-append read (p ∷ []) in
@@ -101,7 +101,7 @@ module _ {S : Type 0} (gives : S → Item → Result (Unit {0}) Refusal → S �
     amp = record { ch = 38; at = t.at }
 
     -- it ends with the character
-    module _ (none : found.left ≡ 0) (told : found.in_run ≡ false) where
+    module _ (none : found.left ≡ 0) (told : found.is_ambiguous ≡ false) where
       abbrev whole : List Placed
       whole = amp ∷ (read ++ p ∷ [])
 
@@ -173,7 +173,7 @@ module _ {S : Type 0} (gives : S → Item → Result (Unit {0}) Refusal → S �
       reference_refused new old s e handed = take_sink_refused e given refl handed (λ more end. are_front refl (stands_before end more))
 
       -- what does not belong to it is read again
-      pub reference_ended : (new : Tokenizer) → found.in_run ≡ false → Stays t new → new.kind ≡ t.kind → new.last ≡ t.last → new.state ≡ state.Text → new.raised.errors.items ≡ t.raised.errors.items → new.tag ≡ t.tag
+      pub reference_ended : (new : Tokenizer) → found.is_ambiguous ≡ false → Stays t new → new.kind ≡ t.kind → new.last ≡ t.last → new.state ≡ state.Text → new.raised.errors.items ≡ t.raised.errors.items → new.tag ≡ t.tag
           → Reads table start new names text (p ∷ []) (taken ++ given)
       reference_ended new told stays kind last in_text raised tag =
           reads_text after (stays.0 ∙ h.accepts) (ap (λ x. x.now) stays.1 ∙ h.table_is) (stays.2 ∙ h.next_is)
@@ -181,7 +181,7 @@ module _ {S : Type 0} (gives : S → Item → Result (Unit {0}) Refusal → S �
           (kind ∙ h.kind_is) (subst (λ (x : Option ℕ). IsLast names x h.here.name) (sym last) h.name_is) in_text (raised ∙ inside.raises_none) (same_between h.here after t new may refl refl tag inside.between)
 
       -- a run of alphanumerics goes on, and its error comes later
-      pub run_begins : (new : Tokenizer) → found.in_run ≡ true → is_alphanumeric p.ch ≡ true → Stays t new → new.kind ≡ t.kind → new.last ≡ t.last → new.state ≡ state.AmbiguousAmpersand t.at → new.raised.errors.items ≡ t.raised.errors.items → new.tag ≡ t.tag
+      pub run_begins : (new : Tokenizer) → found.is_ambiguous ≡ true → is_alphanumeric p.ch ≡ true → Stays t new → new.kind ≡ t.kind → new.last ≡ t.last → new.state ≡ state.AmbiguousAmpersand t.at → new.raised.errors.items ≡ t.raised.errors.items → new.tag ≡ t.tag
           → IsInAmbiguousAmpersand table start new names text (p ∷ []) (taken ++ given)
       run_begins new told letter stays kind last is_run raised tag = record {
         accepts = stays.0 ∙ h.accepts;
@@ -218,7 +218,7 @@ module _ {S : Type 0} (gives : S → Item → Result (Unit {0}) Refusal → S �
       ap (λ (x : List Placed). drop (length x - found.left) x) i.kept_is ∙ drop-kept-end t.reference.state i.read found.left number in
       let after : Standing = after_reference h.here t.at i.read count in
       held_ended given after (kind ∙ h.kind_is) (λ e. absurd (no_script h.here.kind end_may e))
-      (subst (Stands table start end text [] after (taken ++ given)) (ap (λ (b : Bool). error_if b UnknownNamedCharacterReference t.at) (and_no found.in_run false refl))
+      (subst (Stands table start end text [] after (taken ++ given)) (ap (λ (b : Bool). error_if b UnknownNamedCharacterReference t.at) (and_no found.is_ambiguous false refl))
       (subst (λ (x : List Placed). Stands table start end x [] after (taken ++ given) (run_errors found t.at [])) (ap (λ (x : List Placed). h.front ++ x) (sym i.held_is) ∙ sym h.text_is)
       (stands_read table start end h.front h.here taken t.at i.read count found end_may i.is_table (all-drop is_itself count i.read (held_kept table false _ i.read i.has_taken.held)) [] [] (r.reads (record { ch = 38; at = t.at }) refl)
       (subst (λ (x : List Placed). Stands table start end h.front (x ++ []) h.here taken []) i.held_is (h.stands end [])))))

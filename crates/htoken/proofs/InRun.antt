@@ -1,5 +1,5 @@
 -- A run of plain characters, taken as a whole.
-use Rattle.htoken.proofs.Names.{◌≡◌, ◌≤◌, ◌<◌, ℕ, zero, suc, ◌+◌, Bool, true, false, List, [], ◌∷◌, ◌++◌, length, take, sym, refl, ap, ◌∙◌, subst, arith, drop, Result, Ok, Err, Option, append_assoc, append-nil, nat_tests, list_all, ◌||◌, length-take-le, len_utf8, encode_utf8, chars, string_bytes, ParseError, Placed, RawKind, Refusal, Memory, Texts, Grows, all, placed, is_clean, is_plain_byte, is_plain, IsCut, all_placed, plain_take, Entities, and_parts, HasReadOf, IsCommentOf, TakesRun, IsInTag, State, Tokenizer, Item, Event, Comment, Standing, is_script, FollowsAll, IsDataSpan, HandsEvents, run_events, replaced, tag_mark, after_place, next_from, next_place, less, Stands, Reads, holds, Takes, take_sink_refused, take_took, IsHeld, IsIn, IsLast, IsBetween, IsInMarkup, IsInMarkedTag, ◌==◌, one_long, last_char, run_ran_out, run_refused, run_goes_on, all_weaker, IsUtf8, run_plain, Hands, gives_item, run_tokens, plain_chars, Handed, Keeps, EndsTag, IsWholeTag, names_grow, tag_ahead}
+use Rattle.htoken.proofs.Names.{◌≡◌, ◌≤◌, ◌<◌, ℕ, zero, suc, ◌+◌, Bool, true, false, List, [], ◌∷◌, ◌++◌, length, take, sym, refl, ap, ◌∙◌, subst, arith, drop, Result, Ok, Err, Option, append_assoc, append-nil, nat_tests, list_all, ◌||◌, length-take-le, len_utf8, encode_utf8, chars, string_bytes, ParseError, Placed, RawKind, Refusal, Memory, Texts, Grows, all, placed, is_clean, is_plain_byte, is_plain_character, IsCut, all_placed, plain_take, Entities, and_parts, HasReadOf, IsCommentOf, TakesRun, IsInTag, State, Tokenizer, Item, Event, Comment, Standing, is_script, FollowsAll, IsDataSpan, HandsEvents, run_events, replacement_run, tag_mark, after_place, next_from, next_place, less, Stands, Reads, holds, Takes, take_sink_refused, take_took, IsHeld, IsStateOf, IsLast, IsBetween, IsInMarkup, IsInMarkedTag, ◌==◌, one_long, last_char, run_ran_out, run_refused, run_goes_on, all_weaker, IsUtf8, run_plain, Hands, gives_item, run_tokens, plain_chars, Handed, Keeps, EndsTag, IsWholeTag, names_grow, tag_ahead}
 use Rattle.htoken.specs.declared.state.State.TheVariants as state
 use Rattle.htoken.proofs.InMarkup.{keeps, kept, refused}
 use Rattle.htoken.proofs.InRaw.{after_characters}
@@ -10,26 +10,26 @@ use Rattle.htoken.proofs.Running.{run_given}
 use Rattle.htoken.proofs.Reading.{are_front, held_in, kind_in, ran_out_before, reads_as, reads_held, reads_text}
 use Rattle.htoken.proofs.Scripting.{all_followed}
 
-pub plain_is_clean : (cs : List ℕ) → list_all is_plain cs ≡ true → list_all is_clean cs ≡ true
-plain_is_clean cs h = all_weaker is_plain is_clean (λ c plain. ap (λ (b : Bool). b || c == 60 || c == 38) plain) cs h
+pub plain_is_clean : (cs : List ℕ) → list_all is_plain_character cs ≡ true → list_all is_clean cs ≡ true
+plain_is_clean cs h = all_weaker is_plain_character is_clean (λ c plain. ap (λ (b : Bool). b || c == 60 || c == 38) plain) cs h
 
-pub all_itself : (ps : List Placed) → all is_plain ps ≡ true → all is_itself ps ≡ true
-all_itself ps h = all_imp is_plain is_itself ps (λ c plain. grind (arith, plain, nat_tests)) h
+pub all_itself : (ps : List Placed) → all is_plain_character ps ≡ true → all is_itself ps ≡ true
+all_itself ps h = all_imp is_plain_character is_itself ps (λ c plain. grind (arith, plain, nat_tests)) h
 
-pub replaced_itself : (n at : ℕ) → all is_itself (replaced at n) ≡ true
+pub replaced_itself : (n at : ℕ) → all is_itself (replacement_run at n) ≡ true
 replaced_itself zero at = refl
 replaced_itself (suc n) at = replaced_itself n (at + 1)
 
 -- bad parts after others
-pub replaced_more : (m n at : ℕ) → replaced at (m + n) ≡ replaced at m ++ replaced (at + m) n
+pub replaced_more : (m n at : ℕ) → replacement_run at (m + n) ≡ replacement_run at m ++ replacement_run (at + m) n
 replaced_more zero n at =
     let none : 0 + n ≡ n = omega arith in
     let here : at ≡ at + 0 = omega arith in
-    ap (λ (k : ℕ). replaced at k) none ∙ ap (λ (k : ℕ). replaced k n) here
+    ap (λ (k : ℕ). replacement_run at k) none ∙ ap (λ (k : ℕ). replacement_run k n) here
 replaced_more (suc m) n at =
     let long : suc m + n ≡ suc (m + n) = omega arith in
     let place : at + 1 + m ≡ at + suc m = omega arith in
-    ap (λ (k : ℕ). replaced at k) long ∙ ap (λ (ps : List Placed). record { ch = 0xFFFD; at = at } ∷ ps) (replaced_more m n (at + 1) ∙ ap (λ (k : ℕ). replaced (at + 1) m ++ replaced k n) place)
+    ap (λ (k : ℕ). replacement_run at k) long ∙ ap (λ (ps : List Placed). record { ch = 0xFFFD; at = at } ∷ ps) (replaced_more m n (at + 1) ∙ ap (λ (k : ℕ). replacement_run (at + 1) m ++ replacement_run k n) place)
 
 -- WHERE THE NEXT CHARACTER STANDS
 
@@ -65,13 +65,13 @@ next_last text at n run c cut is =
     sym (ap (λ (x : List Placed). next_place (text ++ x)) (last_char n at run c cut is) ∙ ap next_place (sym (append_assoc text (placed at (chars (take n run))) (record { ch = c; at = at + n } ∷ [])))
     ∙ next_from-append 0 (text ++ placed at (chars (take n run))) (record { ch = c; at = at + n } ∷ []))
 
-next_bad : (n now at : ℕ) → at + suc n ≤ 0xFFFFFFFFFFFFFFFF → next_from now (replaced at (suc n)) ≡ at + suc n
+next_bad : (n now at : ℕ) → at + suc n ≤ 0xFFFFFFFFFFFFFFFF → next_from now (replacement_run at (suc n)) ≡ at + suc n
 next_bad zero now at h = omega (arith, h)
 next_bad (suc n) now at h = next_bad n (after_place at) (at + 1) (omega (arith, h)) ∙ omega arith
 
-pub next_replaced : (text : List Placed) (at n : ℕ) → 0 < n → at + n ≤ 0xFFFFFFFFFFFFFFFF → at + n ≡ next_place (text ++ replaced at n)
+pub next_replaced : (text : List Placed) (at n : ℕ) → 0 < n → at + n ≤ 0xFFFFFFFFFFFFFFFF → at + n ≡ next_place (text ++ replacement_run at n)
 next_replaced text at zero some h = absurd (omega (arith, some))
-next_replaced text at (suc n) some h = sym (next_from-append 0 text (replaced at (suc n)) ∙ next_bad n (next_from 0 text) at h)
+next_replaced text at (suc n) some h = sym (next_from-append 0 text (replacement_run at (suc n)) ∙ next_bad n (next_from 0 text) at h)
 
 -- TEXT
 
@@ -109,10 +109,10 @@ module _ {S : Type 0} (gives : S → Item → Result (Unit {0}) Refusal → S �
   -- MARKUP
 
   -- the span goes on
-  went_on : (new : Tokenizer) (then : State) → new.state ≡ then → new.refused ≡ t.refused → new.table ≡ t.table → new.next ≡ next_place (text ++ run) → new.kind ≡ t.kind → new.last ≡ t.last → IsIn then h.here.kind → IsHeld then table names h.here new (h.held ++ run) []
+  went_on : (new : Tokenizer) (then : State) → new.state ≡ then → new.refused ≡ t.refused → new.table ≡ t.table → new.next ≡ next_place (text ++ run) → new.kind ≡ t.kind → new.last ≡ t.last → IsStateOf then h.here.kind → IsHeld then table names h.here new (h.held ++ run) []
       → (s : S) → Takes gives table start text run taken names s (Ok tt) s new
   went_on new then is refused same next kind last is_in held s = take_took [] refl ([], tt, (refl, refl)) (holds (reads_held h new run refused same next (λ end more. h.stands end (run ++ more)) kind last
-      (subst (λ (x : State). IsIn x h.here.kind) (sym is) is_in) (subst (λ (x : State). IsHeld x table names h.here new (h.held ++ run) []) (sym is) held)))
+      (subst (λ (x : State). IsStateOf x h.here.kind) (sym is) is_in) (subst (λ (x : State). IsHeld x table names h.here new (h.held ++ run) []) (sym is) held)))
 
   -- a comment goes on
   module _ (in_comment : t.state ≡ state.Comment) where
@@ -226,14 +226,14 @@ bytes_taken gives gives_token table start names text taken t h in_text at run u 
     let is = plain_chars run plain u in
     let next = ap (λ (x : Tokenizer). x.next) then in
     subst (λ (x : List ℕ). Takes (gives_item gives gives_token) table start text (placed at x) taken names old answer s new) is
-    (text_taken (gives_item gives gives_token) table start names text taken t h (placed at (chars run)) in_text (all_itself (placed at (chars run)) (all_placed is_plain at (chars run) (run_plain run plain u))) new
+    (text_taken (gives_item gives gives_token) table start names text taken t h (placed at (chars run)) in_text (all_itself (placed at (chars run)) (all_placed is_plain_character at (chars run) (run_plain run plain u))) new
     (then ∙ ap (λ (n : ℕ). record t { next = n; script = new.script }) (sym next)) (next ∙ sym (next_run text at run plain some within) ∙ ap (λ (x : List ℕ). next_place (text ++ placed at x)) (sym is)) follows old s answer
     (run_given gives gives_token names old s (placed at (chars run)) answer given))
 
 -- bad parts where nothing is held
 pub bad_taken : {S : Type 0} (gives : S → ParseError → Result (Unit {0}) Refusal → S → Type 0) (gives_token : S → Handed → Result (Unit {0}) Refusal → S → Type 0) (table : Entities) (start : RawKind) (names : Texts) (text : List Placed) (taken : List Event) (t : Tokenizer) → Reads table start t names text [] taken
-    → t.state ≡ state.Text → is_script t.kind ≡ false → (at n : ℕ) → 0 < n → at + n ≤ 0xFFFFFFFFFFFFFFFF → (old s : S) (answer : Result (Unit {0}) Refusal) → Hands gives_token old (run_tokens (replaced at n)) answer s
-    → Takes (gives_item gives gives_token) table start text (replaced at n) taken names old answer s (record t { next = at + n })
+    → t.state ≡ state.Text → is_script t.kind ≡ false → (at n : ℕ) → 0 < n → at + n ≤ 0xFFFFFFFFFFFFFFFF → (old s : S) (answer : Result (Unit {0}) Refusal) → Hands gives_token old (run_tokens (replacement_run at n)) answer s
+    → Takes (gives_item gives gives_token) table start text (replacement_run at n) taken names old answer s (record t { next = at + n })
 bad_taken gives gives_token table start names text taken t h in_text other at n some within old s answer given =
-    text_taken (gives_item gives gives_token) table start names text taken t h (replaced at n) in_text (replaced_itself n at) (record t { next = at + n }) refl (next_replaced text at n some within) (λ script. absurd cc) old s answer
-    (run_given gives gives_token names old s (replaced at n) answer given)
+    text_taken (gives_item gives gives_token) table start names text taken t h (replacement_run at n) in_text (replaced_itself n at) (record t { next = at + n }) refl (next_replaced text at n some within) (λ script. absurd cc) old s answer
+    (run_given gives gives_token names old s (replacement_run at n) answer given)

@@ -1,7 +1,7 @@
 -- The text at the front of a run, and what ends it.
-use Rattle.htoken.proofs.Names.{◌≡◌, ◌≤◌, ◌<◌, ℕ, zero, suc, ◌+◌, true, false, eqb, ◌||◌, List, [], ◌∷◌, ◌++◌, map, length, take, drop, sym, refl, ap, ◌∙◌, subst, arith, Result, Ok, Err, Option, append_assoc, append-nil, and_from, drop-length, length-append, length-take-le, take_all, take_at, drop_at, nat_tests, chars-IsAscii, chars-nil, encode_ascii, len_utf8_ascii, IsUtf8-from_ascii, IsUtf8-past_char, chars_past_char, list_all, prefix_len, is_ascii, encode_utf8, len_utf8, chars, IsUtf8, string_bytes, UnknownNamedCharacterReference, ParseError, Placed, RawKind, Refusal, Texts, all, begins, past, is_alphanumeric, placed, error_if, is_clean, is_plain, is_text_byte, IsCut, all_placed, cut_more, placed_cut, placed_more, Entities, Piece, IsReference, named, kept, unknown, decimal, hexadecimal, no_digits, alone, ampersand, backwards, Script, Spread, State, Tokenizer, bare_errors, first_placed, IsBare, IsFront, RefusesFront, spread_ran_out, spread_refused, Tok, Span, Item, Event, Gives, Reports, Char, piece_span, HandsEvents, is_script, run_events, FollowsAll, has_references, Standing, next, tokens_in, errors_in, eof_of, AreFront, Stands, Reads, holds, Takes, take_ran_out, take_took, take_sink_refused, IsLast, IsBetween, next_place, text_front, chars_cut, has_characters, spread_events, IsTakenFront, and_parts, length-drop, all_weaker, map-append, drop-drop, Hands, gives_item, run_tokens, Handed}
+use Rattle.htoken.proofs.Names.{◌≡◌, ◌≤◌, ◌<◌, ℕ, zero, suc, ◌+◌, true, false, eqb, ◌||◌, List, [], ◌∷◌, ◌++◌, map, length, take, drop, sym, refl, ap, ◌∙◌, subst, arith, Result, Ok, Err, Option, append_assoc, append-nil, and_from, drop-length, length-append, length-take-le, take_all, take_at, drop_at, nat_tests, chars-IsAscii, chars-nil, IsUtf8-from_ascii, list_all, prefix_len, is_ascii, len_utf8, chars, IsUtf8, string_bytes, UnknownNamedCharacterReference, ParseError, Placed, RawKind, Refusal, Texts, all, begins, past, is_alphanumeric, placed, error_if, is_clean, is_plain_character, is_text_byte, IsCut, all_placed, cut_more, placed_cut, placed_more, Entities, Piece, IsReference, named, kept, unknown, decimal, hexadecimal, no_digits, alone, ampersand, backwards, Script, TextWithReferences, Tokenizer, bare_errors, first_placed, IsBare, IsFront, RefusesFront, with_references_ran_out, with_references_refused, Tok, Span, Item, Event, Gives, Reports, Char, piece_span, HandsEvents, is_script, run_events, FollowsAll, has_references, Standing, next, tokens_in, errors_in, eof_of, AreFront, Stands, Reads, holds, Takes, take_ran_out, take_took, take_sink_refused, IsLast, IsBetween, next_place, text_front, chars_cut, has_characters, events_with_references, IsTakenFront, length-drop, all_weaker, map-append, drop-drop, Hands, gives_item, run_tokens, Handed}
 use Rattle.htoken.specs.declared.state.State.TheVariants as state
-use Rattle.htag.proofs.Ascii.{ascii_chars, ascii_placed, each_ascii}
+use Rattle.htag.proofs.Ascii.{ascii_chars, each_ascii}
 use Rattle.htoken.proofs.Fronts.{takes_both}
 use Rattle.htoken.proofs.Cutting.{stands_on, tokens_in-append, errors_in-append}
 use Rattle.htoken.proofs.Handing.{HandsEvents-append, reports_given}
@@ -191,7 +191,7 @@ module _ (table : Entities) (kind : RawKind) (run : List ℕ) (at : ℕ) where
   front_text u clean n is =
       let front = text_front run u clean in
       let part : List ℕ = chars (take (prefix_len is_text_byte run) run) in
-      subst (λ (k : ℕ). IsFront table kind run at k [] (placed at (chars (take k run)))) (sym is) (front_plain (prefix_len is_text_byte run) front.0 (all_itself (placed at part) (all_placed is_plain at part front.1)))
+      subst (λ (k : ℕ). IsFront table kind run at k [] (placed at (chars (take k run)))) (sym is) (front_plain (prefix_len is_text_byte run) front.0 (all_itself (placed at part) (all_placed is_plain_character at part front.1)))
 
   -- an `&` that is text, with the letters and digits after it
   pub front_bare : IsUtf8 run → (size : ℕ) (is : IsBare table kind run size) → IsFront table kind run at size (bare_errors is.letters is.next at) (placed at (chars (take size run)))
@@ -287,7 +287,7 @@ module _ {S : Type 0} (gives : S → Item → Result (Unit {0}) Refusal → S �
         subst (λ (x : Entities). Stands x start end text (first_placed at run ++ more) h.here taken []) (sym h.table_is)
         (subst (λ (x : List Placed). Stands table start end text x h.here taken []) (sym (append_assoc ahead tail more) ∙ ap (λ (x : List Placed). x ++ more) (sym begins)) (here_stands end (tail ++ more)))))
 
-    pub front_reads : (new : Tokenizer) → new ≡ record t { next = new.next; script = new.script; spread = new.spread } → new.next ≡ next_place ((text ++ part) ++ next_ahead) → (is_script t.kind ≡ true → FollowsAll t.script part new.script)
+    pub front_reads : (new : Tokenizer) → new ≡ record t { next = new.next; script = new.script; with_references = new.with_references } → new.next ≡ next_place ((text ++ part) ++ next_ahead) → (is_script t.kind ≡ true → FollowsAll t.script part new.script)
         → Reads table start new names (text ++ part) next_ahead (taken ++ text_events errors given)
     front_reads new then next follows =
         reads_text (after_characters h.here part) (ap (λ (x : Tokenizer). x.refused) then ∙ h.accepts) (ap (λ (x : Tokenizer). x.table.now) then ∙ h.table_is) next front_stands (ap (λ (x : Tokenizer). x.kind) then ∙ h.kind_is)
@@ -337,9 +337,9 @@ module _ {S : Type 0} (gives : S → ParseError → Result (Unit {0}) Refusal �
   given_reads next next_then place =
       let is : next ≡ record t { next = next.next; script = new.script } = next_then ∙ ap (λ (x : Tokenizer). record x { next = next.next }) then in
       let script_is : next.script ≡ new.script = ap (λ (x : Tokenizer). x.script) is in
-      let spread_is : next.spread ≡ t.spread = ap (λ (x : Tokenizer). x.spread) is in
+      let with_references_is : next.with_references ≡ t.with_references = ap (λ (x : Tokenizer). x.with_references) is in
       front_reads (gives_item gives gives_token) table start names text [] taken t h in_text run at count errors text_part front (first_placed at run) refl next
-      (is ∙ ap (λ (x : Script). record t { next = next.next; script = x }) (sym script_is) ∙ ap (λ (x : Spread). record t { next = next.next; script = next.script; spread = x }) (sym spread_is)) place
+      (is ∙ ap (λ (x : Script). record t { next = next.next; script = x }) (sym script_is) ∙ ap (λ (x : TextWithReferences). record t { next = next.next; script = next.script; with_references = x }) (sym with_references_is)) place
       (λ script. subst (FollowsAll t.script text_part) (sym script_is) (subst (λ (x : List ℕ). FollowsAll t.script (placed at (chars x)) new.script) part_is (follows script)))
 
   both_told : (s : S) (answer : Result (Unit {0}) Refusal) → Hands gives_token mid (run_tokens (placed at (chars part))) answer s → HandsEvents (gives_item gives gives_token) names old (text_events errors (placed at (chars (take count run)))) answer s
@@ -397,9 +397,9 @@ module _ {S : Type 0} (gives : S → Item → Result (Unit {0}) Refusal → S �
 
     module _ (size : ℕ) (errors : List ParseError) (given : List Placed) (more : IsFront t.table.now t.kind (drop count run) (at + count) size errors given) where
       abbrev all_events : List Event
-      all_events = front.events ++ spread_events given errors
+      all_events = front.events ++ events_with_references given errors
 
-      on_reads : (new next : Tokenizer) → new ≡ record t { spread = new.spread } → next ≡ record new { next = next.next }
+      on_reads : (new next : Tokenizer) → new ≡ record t { with_references = new.with_references } → next ≡ record new { next = next.next }
           → next.next ≡ next_place ((text ++ placed at (chars (take (count + size) run))) ++ first_placed (at + (count + size)) (drop (count + size) run))
           → Reads table start next names (text ++ placed at (chars (take (count + size) run))) (first_placed (at + (count + size)) (drop (count + size) run)) (taken ++ all_events)
       on_reads new next then next_then place =
@@ -407,32 +407,32 @@ module _ {S : Type 0} (gives : S → Item → Result (Unit {0}) Refusal → S �
           let far : at + count + size ≡ at + (count + size) = omega arith in
           let ahead_is : first_placed (at + count + size) (drop size (drop count run)) ≡ first_placed (at + (count + size)) (drop (count + size) run) = ap (λ (k : ℕ). first_placed k (drop size (drop count run))) far ∙ ap (first_placed (at + (count + size))) (drop-drop size count run) in
           let text_is : (text ++ front_part) ++ more_part ≡ text ++ placed at (chars (take (count + size) run)) = append_assoc text front_part more_part ∙ ap (λ (x : List Placed). text ++ x) (sym (placed_more count size run cut more.cut at)) in
-          let is : next ≡ record t { next = next.next; spread = new.spread } = next_then ∙ ap (λ (x : Tokenizer). record x { next = next.next }) then in
+          let is : next ≡ record t { next = next.next; with_references = new.with_references } = next_then ∙ ap (λ (x : Tokenizer). record x { next = next.next }) then in
           let before : List Event = taken ++ front.events in
-          let same : (before ++ run_events given) ++ map Reports errors ≡ taken ++ all_events = append_assoc before (run_events given) (map Reports errors) ∙ append_assoc taken front.events (spread_events given errors) in
+          let same : (before ++ run_events given) ++ map Reports errors ≡ taken ++ all_events = append_assoc before (run_events given) (map Reports errors) ∙ append_assoc taken front.events (events_with_references given errors) in
           reads_same table start next names (text ++ placed at (chars (take (count + size) run))) (first_placed (at + (count + size)) (drop (count + size) run)) (before ++ text_events errors given) (taken ++ all_events)
           (sym (text_first_tokens before errors given ∙ ap tokens_in same)) (sym (text_first_errors before errors given ∙ ap errors_in same))
           (subst (λ (x : List Placed). Reads table start next names x (first_placed (at + (count + size)) (drop (count + size) run)) (before ++ text_events errors given)) text_is
           (subst (λ (x : List Placed). Reads table start next names ((text ++ front_part) ++ more_part) x (before ++ text_events errors given)) ahead_is
           (front_reads gives table start names (text ++ front_part) next_part before there here_reads in_text (drop count run) (at + count) size errors given more [] (sym (append-nil next_part)) next
-          (is ∙ ap (λ (x : Script). record t { next = next.next; script = x; spread = new.spread }) (sym (ap (λ (x : Tokenizer). x.script) is)) ∙ ap (λ (x : Spread). record t { next = next.next; script = next.script; spread = x }) (sym (ap (λ (x : Tokenizer). x.spread) is)))
+          (is ∙ ap (λ (x : Script). record t { next = next.next; script = x; with_references = new.with_references }) (sym (ap (λ (x : Tokenizer). x.script) is)) ∙ ap (λ (x : TextWithReferences). record t { next = next.next; script = next.script; with_references = x }) (sym (ap (λ (x : Tokenizer). x.with_references) is)))
           (place ∙ ap next_place (ap (λ (x : List Placed). x ++ first_placed (at + (count + size)) (drop (count + size) run)) (sym text_is) ∙ ap (λ (x : List Placed). ((text ++ front_part) ++ more_part) ++ x) (sym ahead_is)))
           (λ script. absurd (no_script t.kind may script)))))
 
-      pub spread_given : (new : Tokenizer) → new ≡ record t { spread = new.spread } → (s : S) → HandsEvents gives names mid (spread_events given errors) (Ok tt) s → IsTakenFront gives table start new names text taken run at (count + size) old s
-      spread_given new then s handed = record {
+      pub with_references_given : (new : Tokenizer) → new ≡ record t { with_references = new.with_references } → (s : S) → HandsEvents gives names mid (events_with_references given errors) (Ok tt) s → IsTakenFront gives table start new names text taken run at (count + size) old s
+      with_references_given new then s handed = record {
         events = all_events;
-        handed = HandsEvents-append gives names old mid s front.events (spread_events given errors) (Ok tt) front.handed handed;
+        handed = HandsEvents-append gives names old mid s front.events (events_with_references given errors) (Ok tt) front.handed handed;
         reads = λ next next_then place. on_reads new next then next_then place;
       }
 
-      spread_not : (e : Refusal) (s : S) (last : Tokenizer) → HandsEvents gives names mid (spread_events given errors) (Err e) s → Takes gives table start text (placed at (chars run)) taken names old (Err e) s last
-      spread_not e s last handed =
+      with_references_not : (e : Refusal) (s : S) (last : Tokenizer) → HandsEvents gives names mid (events_with_references given errors) (Err e) s → Takes gives table start text (placed at (chars run)) taken names old (Err e) s last
+      with_references_not e s last handed =
           let next : Tokenizer = record t { next = next_place ((text ++ placed at (chars (take (count + size) run))) ++ first_placed (at + (count + size)) (drop (count + size) run)) } in
-          take_sink_refused e all_events refl (HandsEvents-append gives names old mid s front.events (spread_events given errors) (Err e) front.handed handed)
+          take_sink_refused e all_events refl (HandsEvents-append gives names old mid s front.events (events_with_references given errors) (Err e) front.handed handed)
           (run_front table start next names text run at (count + size) (taken ++ all_events) (cut_more count size run cut more.cut) (on_reads t next refl refl refl))
 
-    pub spread_fails : (e : Refusal) (s : S) (last : Tokenizer) → RefusesFront gives names t.table.now t.kind (drop count run) (at + count) mid e s → Takes gives table start text (placed at (chars run)) taken names old (Err e) s last
-    spread_fails e s last (spread_ran_out is same) =
+    pub with_references_fails : (e : Refusal) (s : S) (last : Tokenizer) → RefusesFront gives names t.table.now t.kind (drop count run) (at + count) mid e s → Takes gives table start text (placed at (chars run)) taken names old (Err e) s last
+    with_references_fails e s last (with_references_ran_out is same) =
         take_ran_out front.events (ap (λ (x : Refusal). Err x) is) (subst (HandsEvents gives names old front.events (Ok tt)) (sym same) front.handed) (run_front table start there names text run at count (taken ++ front.events) cut here_reads)
-    spread_fails e s last (spread_refused size f) = spread_not size f.errors f.given f.front e s last f.handed
+    with_references_fails e s last (with_references_refused size f) = with_references_not size f.errors f.given f.front e s last f.handed

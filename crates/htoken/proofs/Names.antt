@@ -1,11 +1,11 @@
 -- The names of other crates and of specs/ that several proofs cite, in one place.
 pub use Rattle.charref.proofs.Keeping.{kept_none, kept_all, kept_nothing, is_other, drop-kept, drop-kept-end}
 pub use Rattle.charref.proofs.KeyTexts.{encode_utf8_all-append}
-pub use Rattle.charref.specs.Held.{is_number, IsHeld as IsWalkHeld, IsSign, in_name, after_sign, after_x, in_number, number_sign, small_x, capital_x}
+pub use Rattle.charref.specs.Held.{is_number, IsHeldReference as IsWalkHeld, IsSign, in_name, after_sign, after_x, in_number, number_sign, small_x, capital_x}
 pub use Rattle.charref.specs.Number.{is_digit_of}
 pub use Rattle.charref.specs.Pieces.{errors_of, IsRead, characters_of}
-pub use Rattle.charref.specs.Reference.{Entities, named, kept, unknown, Piece, IsReference, IsTable, alone, ampersand, decimal, hexadecimal, no_digits, Entry, longest, longer, is_empty_list}
-pub use Rattle.charref.specs.Walk.{HasTaken as WalkHasTaken, LeavesLast}
+pub use Rattle.charref.specs.Reference.{Entities, named, kept, unknown, Piece, IsReference, IsTable, alone, ampersand, decimal, hexadecimal, no_digits, Entry, longest, longer_entry, is_empty_list}
+pub use Rattle.charref.specs.Walk.{WalkHasTaken, LeavesLast}
 pub use Rattle.charref.specs.declared.number.Base.{Base}
 pub use Rattle.charref.specs.declared.number.Base.TheVariants.{Decimal, Hexadecimal}
 pub use Rattle.charref.specs.declared.reference.Reference.{Reference}
@@ -15,10 +15,10 @@ pub use Rattle.hmarkup.proofs.Characters.{no_null_error}
 pub use Rattle.hmarkup.proofs.Handing.{hand_one}
 pub use Rattle.hmarkup.proofs.Marks.{and_no, and_parts, and_both, null_errors-append}
 pub use Rattle.hmarkup.specs.Comment.{is_plain_in_bogus, is_only_data, closed_bogus, IsBogus}
-pub use Rattle.hmarkup.specs.CommentWalk.{HasReadOf, IsSpan as IsCommentOf, backwards}
+pub use Rattle.hmarkup.specs.CommentWalk.{HasReadOf, IsCommentSpan as IsCommentOf, backwards}
 pub use Rattle.hmarkup.specs.Doctype.{IsDoctype, nameless}
 pub use Rattle.hmarkup.specs.DoctypeWalk.{HasReadDoctype}
-pub use Rattle.hmarkup.specs.Walk.{Ends as WalkEnds, TakesRun, Takes as WalkTakes, ran_out as walk_ran_out, sink_refused, goes_on as walk_goes_on, ended as walk_ended, run_ran_out, run_refused, run_goes_on}
+pub use Rattle.hmarkup.specs.Walk.{EndsMarkup as WalkEnds, TakesRun, TakesMarkup as WalkTakes, ran_out as walk_ran_out, sink_refused, goes_on as walk_goes_on, ended as walk_ended, run_ran_out, run_refused, run_goes_on}
 pub use Rattle.hmarkup.specs.declared.comment.CommentKind.TheVariants.{Bogus}
 pub use Rattle.htag.proofs.AtOnce.{named_alone, named_plain, named_within, bare_bytes, bare_front, bare_no_errors, bare_placed, bare_plain, bare_within}
 pub use Rattle.htag.proofs.Ascii.{ascii_chars, ascii_cut, ascii_placed, ascii_taken, each_ascii, edge_of}
@@ -26,7 +26,7 @@ pub use Rattle.htag.proofs.InRun.{begins_with, characters_placed, prefix_all}
 pub use Rattle.htag.proofs.Keeping.{looks_ahead as tag_ahead, attributes_grow, names_grow}
 pub use Rattle.htag.proofs.Naming.{attrs_kept}
 pub use Rattle.htag.proofs.Parts.{begins_stops}
-pub use Rattle.htag.specs.AtOnce.{IsBareName, IsName}
+pub use Rattle.htag.specs.AtOnce.{IsBareName, IsTagName}
 pub use Rattle.htag.specs.Attributes.{AttrsMean}
 pub use Rattle.htag.specs.Tag.{ends_name, parts_text, space, solidus, bare, unquoted, quoted, unclosed, IsTagFront, attributes_after, tag_errors, end_tag_errors}
 pub use Rattle.htag.specs.TagWalk.{IsInTag, IsWholeTag, IsCutTag, HasAttributes}
@@ -37,33 +37,33 @@ pub use Rattle.htext.proofs.Clean.{clean_rest, text_front, nothing_front, inner_
 pub use Rattle.htext.proofs.Handing.{next_bad}
 pub use Rattle.htext.proofs.Runs.{front_of, all_placed, plain_take, plain_chars, plain_drop, counted, take_more, placed_part, placed_rest, one_long}
 pub use Rattle.htext.proofs.Wide.{cut_more, placed_cut, placed_more, bytes_plain, last_char, chars_cut, has_characters, cut_last, one_more, one_refused, none_left, no_characters, first_cut, first_char, run_plain}
-pub use Rattle.htext.specs.Run.{is_plain_byte, is_text_byte, IsCut, is_clean, is_plain, is_inner_byte}
+pub use Rattle.htext.specs.Run.{is_plain_byte, is_text_byte, IsCut, is_clean, is_plain_character, is_inner_byte}
 pub use Rattle.htext.specs.Text.{character_of}
 pub use Rattle.htoken.proofs.Results.{err_is}
 pub use Rattle.htoken.specs.Data.{is_declaration, IsDataSpan, character_span, less_span, character, bogus_declaration, tag, is_cdata, less_than_last, less_than_solidus_last, is_no_markup, less_than, nothing, comment, doctype, bogus_end_tag, bogus_question, bogus_cdata}
-pub use Rattle.htoken.specs.Declaration.{front_at, IsOpened, IsFrontOf, OpensAs}
-pub use Rattle.htoken.specs.Front.{all_at, bare_errors, first_placed, IsBare, IsFront, IsWhole, Adds, IsGathered, TellsText, RefusesFront, spread_ran_out, spread_refused, spread_events, IsTakenFront, GivesSpread, GivesFront}
+pub use Rattle.htoken.specs.MarkupDeclarationOpen.{front_at, IsOpened, IsFrontOf, OpensAs}
+pub use Rattle.htoken.specs.Front.{all_at, bare_errors, first_placed, IsBare, IsFront, IsWhole, AddsReferences, IsGathered, TellsText, RefusesFront, with_references_ran_out, with_references_refused, events_with_references, IsTakenFront, GivesTextWithReferences, GivesFront}
 pub use Rattle.htoken.specs.Giving.{items_of, known_errors, piece_events, read_events, token_items, raises}
 pub use Rattle.htoken.specs.Handing.{HandsEvents}
 pub use Rattle.htoken.specs.HeldFrom.{HoldsFrom, from_of}
 pub use Rattle.htoken.specs.Raw.{is_script, end_errors, is_raw, may_end, is_raw_end, name_ends, level, ends_by, is_end_tag_of}
-pub use Rattle.htoken.specs.Run.{run_tokens, run_events, replaced, IsSpread, is_not_null, StartsAt, TakesSpread}
-pub use Rattle.htoken.specs.Script.{FollowsAll, level_number, is_letter_of, HasFront, level_after, mark_after, mark_by_dash, mark_by_bang, IsMark, is_dashes, is_less_bang_dash, is_read, next_word, word_after, read_back, IsWord, idle}
+pub use Rattle.htoken.specs.Run.{run_tokens, run_events, replacement_run, IsTextWithReferences, is_not_null, StartsAt, TakesTextWithReferences}
+pub use Rattle.htoken.specs.Script.{FollowsAll, level_number, is_letter_of, HasFront, level_after, mark_after, mark_by_dash, mark_by_bang, IsMark, is_dashes, mark_is_less_bang_dash, is_read, next_word, word_after, read_back, IsWord, idle}
 pub use Rattle.htoken.specs.Spans.{IsSpan, raw_character, raw_reference, raw_end, IsSpanOf, has_references, IsRawSpan}
 pub use Rattle.htoken.specs.Standing.{next, Standing, at_start, standing_after, after_tokens}
 pub use Rattle.htoken.specs.Steps.{KeepsIf, IsFollowed, Stays, Keeps, BeginsBogus, GivesSpan, is_out, start_given, EndsTag, start_ended, end_ended, cut_ran_out, cut_given, TakesFront, TakesPart, KeepsFaults, held_in_raw, script_errors, CutsOff, EndsDoctype, doctype_ran_out, doctype_given, BeginsTag, Holds, BeginsReference, Finds, HoldsInReference, EndsStartTag, start_ran_out, tag_ran_out}
 pub use Rattle.htoken.specs.Tag.{start_tag, end_tag, unfinished, tag_mark, IsTag}
 pub use Rattle.htoken.specs.Token.{Span, Event, Tok, is_tag, Handed, Alone, WithNames, token_in, HandedMeans, Item, ItemToken, ItemError, Gives, Reports, Char, Mean, gives_item, Doctype, doctype_token, Start, End, Comment, TokenMeans, Eof, piece_span}
-pub use Rattle.htoken.specs.Tokenizing.{Stands, Reads, IsHeld, IsIn, after_place, next_from, next_place, HasTaken, holds, Takes, take_ran_out, take_refused, take_sink_refused, take_took, IsLast, IsBetween, less, EndsHeld, held_ran_out, held_ended, later_errors, IsInMarkup, in_ambiguous_ampersand, IsInMarkedTag, IsInAmbiguousAmpersand, Finishes, finish_ran_out, finish_sink_refused, finish_took, IsAfterRawLess, IsInRawName, IsInReference}
+pub use Rattle.htoken.specs.Tokenizing.{Stands, Reads, IsHeld, IsStateOf, after_place, next_from, next_place, HasTaken, holds, Takes, take_ran_out, take_refused, take_sink_refused, take_took, IsLast, IsBetween, less, EndsHeld, held_ran_out, held_ended, later_errors, IsInMarkup, in_ambiguous_ampersand, IsInMarkedTag, IsInAmbiguousAmpersand, Finishes, finish_ran_out, finish_sink_refused, finish_took, IsInRcdataLessThanSign, IsInRcdataEndTagName, IsInReference}
 pub use Rattle.htoken.specs.Tokens.{events_of, has_refused, tokens_in, IsRefused, AreFront, eof_of, tokens_of, spans_text, Cut, errors_in, is_refused_tag, Tokens}
-pub use Rattle.htoken.specs.declared.declaration.Opened.{Opened}
-pub use Rattle.htoken.specs.declared.declaration.Opens.{Opens}
-pub use Rattle.htoken.specs.declared.declaration.Spelled.{Spelled}
+pub use Rattle.htoken.specs.declared.markup_declaration_open.Opened.{Opened}
+pub use Rattle.htoken.specs.declared.markup_declaration_open.Opens.{Opens}
+pub use Rattle.htoken.specs.declared.markup_declaration_open.WordMatch.{WordMatch}
 pub use Rattle.htoken.specs.declared.script.Level.{Level}
 pub use Rattle.htoken.specs.declared.script.Mark.{Mark}
 pub use Rattle.htoken.specs.declared.script.Script.{Script}
 pub use Rattle.htoken.specs.declared.script.Word.{Word}
-pub use Rattle.htoken.specs.declared.spread.Spread.{Spread}
+pub use Rattle.htoken.specs.declared.with_references.TextWithReferences.{TextWithReferences}
 pub use Rattle.htoken.specs.declared.state.Raised.{Raised}
 pub use Rattle.htoken.specs.declared.state.State.{State}
 pub use Rattle.htoken.specs.declared.token.Token.{Token}

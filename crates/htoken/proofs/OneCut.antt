@@ -1,5 +1,5 @@
 -- A text is cut into spans in one way.
-use Rattle.htoken.proofs.CutNames.{◌≡◌, ℕ, Bool, true, false, List, [], ◌∷◌, ◌++◌, Some, sym, refl, ap, ◌∙◌, subst, append_assoc, append-nil, false≢true, is_some, ParseError, Placed, RefusedName, refused_name, tag_named, neither, or_none, Entities, Tok, Start, Eof, Span, Standing, at_start, next, standing_after, end_errors, IsSpan, spans_text, Cut, tokens_of, errors_of, is_refused_tag, has_refused, IsOut}
+use Rattle.htoken.proofs.CutNames.{◌≡◌, ℕ, Bool, true, false, List, [], ◌∷◌, ◌++◌, Some, sym, refl, ap, ◌∙◌, subst, append_assoc, append-nil, false≢true, is_some, ParseError, Placed, RefusedName, refused_name, tag_named, neither, or_none, Entities, Tok, Start, Eof, Span, Standing, at_start, next, standing_after, end_errors, IsSpan, spans_text, Cut, tokens_of, span_errors, is_refused_tag, has_refused, IsOut}
 use Rattle.hmarkup.proofs.Marks.{or_left}
 use Rattle.htoken.specs.OneCut.{OneCut, OneListOfTokens, NoTokensOfRefused, OneRefusal}
 use Rattle.htoken.proofs.OneSpan.{one_span, some_span}
@@ -83,7 +83,7 @@ one_whole_cut table start text end spans spans' t c t' c' =
 pub one_list_of_tokens : OneListOfTokens
 one_list_of_tokens table start text end tokens tokens' errors errors' h k =
     let same : h.spans ≡ k.spans = one_whole_cut table start text end h.spans k.spans h.text_is h.cut k.text_is k.cut in
-    let all_of : List Span → List ParseError = λ x. errors_of x ++ end_errors end (standing_after (at_start start) x) in (
+    let all_of : List Span → List ParseError = λ x. span_errors x ++ end_errors end (standing_after (at_start start) x) in (
       h.tokens_are ∙ ap (λ (x : List Span). tokens_of x ++ Eof end ∷ []) same ∙ sym k.tokens_are,
       h.errors_are ∙ ap all_of same ∙ sym k.errors_are,
     )

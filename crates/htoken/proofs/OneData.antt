@@ -3,7 +3,7 @@ use Rattle.htoken.proofs.CutNames.{◌≡◌, ℕ, false, eqb, List, [], ◌∷�
 use Rattle.names.specs.declared.error.ErrorCode.{ErrorCode}
 use Rattle.names.specs.declared.error.ErrorCode.TheVariants.{CdataInHtmlContent, EofBeforeTagName, InvalidFirstCharacterOfTagName, MissingEndTagName, UnexpectedQuestionMarkInsteadOfTagName}
 use Rattle.hmarkup.specs.declared.comment.CommentKind.TheVariants as comments
-use Rattle.hmarkup.specs.CommentWalk.{IsSpan}
+use Rattle.hmarkup.specs.CommentWalk.{IsCommentSpan}
 use Rattle.hmarkup.specs.Doctype.{Found}
 use Rattle.hmarkup.proofs.OneSpan.{one_of}
 use Rattle.hmarkup.proofs.Reading.{one_doctype}
@@ -44,7 +44,7 @@ record IsMarked (end : ℕ) (kind : CommentKind) (mark : List ℕ) (first : List
   contents : List ℕ
   errors : List ParseError
   opens : characters opening ≡ mark
-  is_span : IsSpan kind end rest body contents errors
+  is_span : IsCommentSpan kind end rest body contents errors
   span_is : span ≡ marked_span end first rest opening body contents errors
 
 record IsADoctype (end : ℕ) (rest : List Placed) (span : Span) : Type 0 where

@@ -1,5 +1,5 @@
 -- A value is cut into pieces in one way.
-use Rattle.htoken.proofs.CutNames.{arith, ◌≡◌, ℕ, Bool, true, false, eqb, nat_lt, List, [], ◌∷◌, ◌++◌, sym, refl, ap, ◌∙◌, subst, codes, false≢true, nat_tests, to_ascii_lowercase, Placed, characters, lowered, begins, Entities, Piece, IsReference, IsPiece, plain, plain_piece, pieces_text, AreValue, one_of}
+use Rattle.htoken.proofs.CutNames.{arith, ◌≡◌, ℕ, Bool, true, false, eqb, nat_lt, List, [], ◌∷◌, ◌++◌, sym, refl, ap, ◌∙◌, subst, codes, false≢true, nat_tests, to_ascii_lowercase, Placed, characters, lowered, begins, Entities, Piece, IsReference, IsValuePiece, plain, plain_piece, pieces_text, AreValue, one_of}
 use Rattle.charref.specs.Reference.{named, kept, unknown, decimal, hexadecimal, no_digits, alone}
 use Rattle.htag.specs.Value.{reference}
 use Rattle.htoken.proofs.Words.{heads, tails, begins_more}
@@ -39,7 +39,7 @@ module _ (table : Entities) (in_value : Bool) where
   pub no_reference : (p : Placed) (more rest : List Placed) (piece : Piece) → eqb p.ch 38 ≡ false → IsReference table in_value rest piece → p ∷ more ≡ piece.text ++ rest → ⊥
   no_reference p more rest piece n h e = absurd (false≢true (sym n ∙ ap (begins is_amp) e ∙ begins_more is_amp piece.text rest (at_amp rest piece h)))
 
-  pub one_piece : (rest rest' : List Placed) (piece piece' : Piece) → IsPiece table in_value rest piece → IsPiece table in_value rest' piece' → piece.text ++ rest ≡ piece'.text ++ rest' → (piece ≡ piece') × (rest ≡ rest')
+  pub one_piece : (rest rest' : List Placed) (piece piece' : Piece) → IsValuePiece table in_value rest piece → IsValuePiece table in_value rest' piece' → piece.text ++ rest ≡ piece'.text ++ rest' → (piece ≡ piece') × (rest ≡ rest')
   one_piece rest rest' piece piece' (plain p n is) (plain p' n' is') e =
       let whole : p ∷ rest ≡ p' ∷ rest' = ap (λ (x : Piece). x.text ++ rest) (sym is) ∙ e ∙ ap (λ (x : Piece). x.text ++ rest') is' in
       (is ∙ ap plain_piece (heads p p' rest rest' whole) ∙ sym is', tails p p' rest rest' whole)
@@ -47,7 +47,7 @@ module _ (table : Entities) (in_value : Bool) where
   one_piece rest rest' piece piece' (reference h) (plain p' n' is') e = absurd (no_reference p' rest' rest piece n' h (ap (λ (x : Piece). x.text ++ rest') (sym is') ∙ sym e))
   one_piece rest rest' piece piece' (reference h) (reference h') e = one_of table in_value piece piece' rest rest' h h' e
 
-  pub some_piece : (rest more : List Placed) (piece : Piece) → IsPiece table in_value rest piece → [] ≡ piece.text ++ more → ⊥
+  pub some_piece : (rest more : List Placed) (piece : Piece) → IsValuePiece table in_value rest piece → [] ≡ piece.text ++ more → ⊥
   some_piece rest more piece (plain p n is) e = let none : [] ≡ p ∷ more = e ∙ ap (λ (x : Piece). x.text ++ more) is in absurd cc
   some_piece rest more piece (reference h) e = absurd (false≢true (ap (begins is_amp) e ∙ begins_more is_amp piece.text more (at_amp rest piece h)))
 

@@ -1,5 +1,5 @@
 -- What a tokenizer has read, and what that says of the text.
-use Rattle.htoken.proofs.Names.{◌≡◌, ℕ, List, [], ◌++◌, sym, refl, ap, ◌∙◌, subst, Result, Err, Option, None, append_assoc, append-nil, Placed, RawKind, Refusal, Memory, Texts, ParseError, Entities, State, Tokenizer, Tok, Item, Event, Standing, AreFront, eof_of, Stands, Reads, Takes, take_ran_out, next_place, IsHeld, IsIn, IsLast, IsBetween}
+use Rattle.htoken.proofs.Names.{◌≡◌, ℕ, List, [], ◌++◌, sym, refl, ap, ◌∙◌, subst, Result, Err, Option, None, append_assoc, append-nil, Placed, RawKind, Refusal, Memory, Texts, ParseError, Entities, State, Tokenizer, Tok, Item, Event, Standing, AreFront, eof_of, Stands, Reads, Takes, take_ran_out, next_place, IsHeld, IsStateOf, IsLast, IsBetween}
 use Rattle.htoken.specs.declared.state.State.TheVariants as state
 
 -- spans, and what follows them, are a front of the text
@@ -33,8 +33,8 @@ module _ {S : Type 0} (gives : S → Item → Result (Unit {0}) Refusal → S �
 pub held_in : {table : Entities} {start : RawKind} {t : Tokenizer} {names : Texts} {text ahead : List Placed} {taken : List Event} (h : Reads table start t names text ahead taken) (s : State) → t.state ≡ s → IsHeld s table names h.here t h.held ahead
 held_in {table = table} {t = t} {names = names} {ahead = ahead} h s e = subst (λ (x : State). IsHeld x table names h.here t h.held ahead) e h.is_held
 
-pub kind_in : {table : Entities} {start : RawKind} {t : Tokenizer} {names : Texts} {text ahead : List Placed} {taken : List Event} (h : Reads table start t names text ahead taken) (s : State) → t.state ≡ s → IsIn s h.here.kind
-kind_in h s e = subst (λ (x : State). IsIn x h.here.kind) e h.is_in
+pub kind_in : {table : Entities} {start : RawKind} {t : Tokenizer} {names : Texts} {text ahead : List Placed} {taken : List Event} (h : Reads table start t names text ahead taken) (s : State) → t.state ≡ s → IsStateOf s h.here.kind
+kind_in h s e = subst (λ (x : State). IsStateOf x h.here.kind) e h.is_in
 
 -- nothing is held
 pub reads_text : {table : Entities} {start : RawKind} {new : Tokenizer} {names : Texts} {text ahead : List Placed} {taken : List Event} (here : Standing) → new.refused ≡ None → new.table.now ≡ table → new.next ≡ next_place (text ++ ahead)
@@ -51,13 +51,13 @@ reads_text {table = table} {new = new} {names = names} {text = text} {ahead = ah
   stands = stands;
   kind_is = kind;
   name_is = last;
-  is_in = subst (λ (x : State). IsIn x here.kind) (sym in_text) tt;
+  is_in = subst (λ (x : State). IsStateOf x here.kind) (sym in_text) tt;
   is_held = subst (λ (x : State). IsHeld x table names here new [] ahead) (sym in_text) (refl, none, between);
 }
 
 -- the same is held
 unfoldable pub reads_as : {table : Entities} {start : RawKind} {t : Tokenizer} {names : Texts} {text ahead : List Placed} {taken : List Event} (h : Reads table start t names text ahead taken) (new : Tokenizer) (others : Texts) (after : List Placed) (events : List Event) → new.refused ≡ t.refused → new.table ≡ t.table
-    → new.next ≡ next_place (text ++ after) → ((end : ℕ) (more : List Placed) → Stands table start end h.front (h.held ++ (after ++ more)) h.here events []) → new.kind ≡ t.kind → IsLast others new.last h.here.name → IsIn new.state h.here.kind
+    → new.next ≡ next_place (text ++ after) → ((end : ℕ) (more : List Placed) → Stands table start end h.front (h.held ++ (after ++ more)) h.here events []) → new.kind ≡ t.kind → IsLast others new.last h.here.name → IsStateOf new.state h.here.kind
     → IsHeld new.state table others h.here new h.held after → Reads table start new others text after events
 reads_as h new others after events refused same next stands kind last is_in held = record {
   accepts = refused ∙ h.accepts;
@@ -76,7 +76,7 @@ reads_as h new others after events refused same next stands kind last is_in held
 
 -- what came next is held too
 pub reads_held : {table : Entities} {start : RawKind} {t : Tokenizer} {names : Texts} {text ahead : List Placed} {taken : List Event} (h : Reads table start t names text ahead taken) (new : Tokenizer) (fed : List Placed) → new.refused ≡ t.refused → new.table ≡ t.table → new.next ≡ next_place (text ++ fed)
-    → ((end : ℕ) (more : List Placed) → Stands table start end h.front (h.held ++ (fed ++ more)) h.here taken []) → new.kind ≡ t.kind → new.last ≡ t.last → IsIn new.state h.here.kind → IsHeld new.state table names h.here new (h.held ++ fed) []
+    → ((end : ℕ) (more : List Placed) → Stands table start end h.front (h.held ++ (fed ++ more)) h.here taken []) → new.kind ≡ t.kind → new.last ≡ t.last → IsStateOf new.state h.here.kind → IsHeld new.state table names h.here new (h.held ++ fed) []
     → Reads table start new names (text ++ fed) [] (taken ++ [])
 reads_held {table = table} {start = start} {names = names} {text = text} {taken = taken} h new fed refused same next stands kind last is_in held = record {
   accepts = refused ∙ h.accepts;

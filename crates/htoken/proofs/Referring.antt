@@ -1,5 +1,5 @@
 -- Where a reference is, and what follows it as text.
-use Rattle.htoken.proofs.Names.{◌≡◌, ℕ, suc, Bool, true, false, not, cond, ◌&&◌, eqb, List, [], ◌∷◌, ◌++◌, map, length, drop, take, reverse, zero, sym, refl, ap, ◌∙◌, subst, Option, Some, None, arith, append_assoc, append-nil, nat_tests, take-append-drop, nat_lt, list_all, UnknownNamedCharacterReference, ParseError, Placed, RawKind, all, begins, past, is_alphanumeric, error_if, Reference, WalkState, characters_of, errors_of, Entities, Piece, IsTable, IsReference, named, kept, unknown, decimal, hexadecimal, no_digits, alone, backwards, and_parts, Tok, Span, Event, Gives, Char, piece_span, Standing, next, IsSpan, has_references, raw_reference, known_errors, piece_events, read_events, run_events, has_refused, tokens_in, errors_in, Stands, nat_eq, starts_with, Base, Decimal, Hexadecimal, IsWalkHeld, IsSign, in_name, after_sign, after_x, in_number, number_sign, small_x, capital_x, is_digit_of, Entry, longest, longer, is_empty_list, all-append, all-characters, all_weaker, characters}
+use Rattle.htoken.proofs.Names.{◌≡◌, ℕ, suc, Bool, true, false, not, cond, ◌&&◌, eqb, List, [], ◌∷◌, ◌++◌, map, length, drop, take, reverse, zero, sym, refl, ap, ◌∙◌, subst, Option, Some, None, arith, append_assoc, append-nil, nat_tests, take-append-drop, nat_lt, list_all, UnknownNamedCharacterReference, ParseError, Placed, RawKind, all, begins, past, is_alphanumeric, error_if, Reference, WalkState, characters_of, errors_of, Entities, Piece, IsTable, IsReference, named, kept, unknown, decimal, hexadecimal, no_digits, alone, backwards, and_parts, Tok, Span, Event, Gives, Char, piece_span, Standing, next, IsSpan, has_references, raw_reference, known_errors, piece_events, read_events, run_events, has_refused, tokens_in, errors_in, Stands, nat_eq, starts_with, Base, Decimal, Hexadecimal, IsWalkHeld, IsSign, in_name, after_sign, after_x, in_number, number_sign, small_x, capital_x, is_digit_of, Entry, longest, longer_entry, is_empty_list, all-append, all-characters, all_weaker, characters}
 use Rattle.htoken.specs.Data as d
 use Rattle.htoken.proofs.Cutting.{stands_on, tokens_in-append, errors_in-append, tokens_in-map, errors_in-map}
 use Rattle.htoken.proofs.Pending.{stands_same}
@@ -54,7 +54,7 @@ longest_in test (x ∷ xs) text e is h = by (starts_with nat_eq text x.key) (lon
   last true o k f = let same : x ≡ e = cc in ap test (sym same) ∙ parts.0
   last false o k f = let same : o ≡ e = cc in ap test (sym same) ∙ k
 
-  by : (b : Bool) (o : Option Entry) → ((y : Entry) → o ≡ Some y → test y ≡ true) → cond b (longer x o) o ≡ Some e → test e ≡ true
+  by : (b : Bool) (o : Option Entry) → ((y : Entry) → o ≡ Some y → test y ≡ true) → cond b (longer_entry x o) o ≡ Some e → test e ≡ true
   by true None k f = let same : x ≡ e = cc in ap test (sym same) ∙ parts.0
   by true (Some o) k f = last (nat_lt (length o.key) (length x.key)) o (k o refl) f
   by false None k f = absurd cc
@@ -89,7 +89,7 @@ piece_errors found at = errors_in-map (known_errors found at) (map (λ c. Char c
 
 -- the error of a run that is not known yet
 abbrev pub run_errors : Reference → ℕ → List Placed → List ParseError
-run_errors found at after = error_if (found.in_run && begins (λ c. eqb c 59) (past is_alphanumeric after)) UnknownNamedCharacterReference at
+run_errors found at after = error_if (found.is_ambiguous && begins (λ c. eqb c 59) (past is_alphanumeric after)) UnknownNamedCharacterReference at
 
 -- where the text is after a reference of this many characters, and the others
 abbrev pub after_reference : Standing → ℕ → List Placed → ℕ → Standing

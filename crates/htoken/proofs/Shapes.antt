@@ -1,5 +1,5 @@
 -- What tokens a span gives: one start tag, whose name begins with a letter, or none that is refused.
-use Rattle.htoken.proofs.CutNames.{arith, ◌≡◌, ℕ, Bool, true, false, List, [], ◌∷◌, ◌++◌, sym, refl, ap, ◌∙◌, subst, false≢true, nat_tests, to_ascii_lowercase, Placed, RawKind, begins, is_letter, name_bytes, Entities, Piece, Tok, Start, Span, piece_span, Standing, IsTag, start_tag, end_tag, unfinished, IsDataSpan, character, reference, less_than_last, less_than_solidus_last, less_than, nothing, tag, comment, bogus_end_tag, bogus_question, bogus_cdata, bogus_declaration, doctype, IsRawSpan, IsSpanOf, IsSpan, raw_character, raw_reference, raw_end, has_refused, IsName}
+use Rattle.htoken.proofs.CutNames.{arith, ◌≡◌, ℕ, Bool, true, false, List, [], ◌∷◌, ◌++◌, sym, refl, ap, ◌∙◌, subst, false≢true, nat_tests, to_ascii_lowercase, Placed, RawKind, begins, is_letter, name_bytes, Entities, Piece, Tok, Start, Span, piece_span, Standing, IsTag, start_tag, end_tag, unfinished, IsDataSpan, character, reference, less_than_last, less_than_solidus_last, less_than, nothing, tag, comment, bogus_end_tag, bogus_question, bogus_cdata, bogus_declaration, doctype, IsRawSpan, IsSpanOf, IsSpan, raw_character, raw_reference, raw_end, has_refused, IsLastName}
 use Rattle.std.proofs.Common.{◌<◌, map}
 use Rattle.std.proofs.lemmas.Str.{encode_ascii}
 use Rattle.std.specs.Prelude.{encode_utf8_all}
@@ -83,10 +83,10 @@ pub span_shape : (table : Entities) (end : ℕ) (here : Standing) (rest : List P
 span_shape table end here rest span h = shape_by table end rest span here here.kind h
 
 -- a name stays one
-no_start_name : (here : Standing) (text : List Placed) (tokens : List Tok) → IsName here.name → NoStart tokens → IsName (after_tokens here text tokens).name
+no_start_name : (here : Standing) (text : List Placed) (tokens : List Tok) → IsLastName here.name → NoStart tokens → IsLastName (after_tokens here text tokens).name
 no_start_name here text (Start name attrs closing at ∷ ts) h n = absurd n
 no_start_name here text _ h n = h
 
-pub next_name : (here : Standing) (text : List Placed) (tokens : List Tok) → IsName here.name → IsShape tokens → IsName (after_tokens here text tokens).name
+pub next_name : (here : Standing) (text : List Placed) (tokens : List Tok) → IsLastName here.name → IsShape tokens → IsLastName (after_tokens here text tokens).name
 next_name here text tokens h (others r n) = no_start_name here text tokens h n
-next_name here text tokens h (a_start name attrs closing at is l) = subst (λ (ts : List Tok). IsName (after_tokens here text ts).name) (sym is) l
+next_name here text tokens h (a_start name attrs closing at is l) = subst (λ (ts : List Tok). IsLastName (after_tokens here text ts).name) (sym is) l

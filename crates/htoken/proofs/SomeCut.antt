@@ -1,5 +1,5 @@
 -- Each text is cut, and has an answer.
-use Rattle.htoken.proofs.CutNames.{arith, ◌≡◌, ℕ, zero, suc, ◌≤◌, Bool, true, false, ◌&&◌, ◌||◌, eqb, List, [], ◌∷◌, ◌++◌, length, Option, Some, None, sym, refl, ap, ◌∙◌, subst, append_assoc, append-nil, false≢true, eqb-true, nat_tests, is_some, Placed, RawKind, RefusedName, is_letter, refused_name, tag_named, and_parts, or_none, Entities, IsTable, Tok, Eof, Span, Standing, at_start, next, standing_after, is_end_tag_of, is_raw_end, may_end, end_errors, IsRawSpan, IsSpanOf, IsSpan, has_references, raw_character, raw_reference, raw_end, spans_text, Cut, tokens_of, errors_of, has_refused, IsOut, HasTag, IsName, some_of}
+use Rattle.htoken.proofs.CutNames.{arith, ◌≡◌, ℕ, zero, suc, ◌≤◌, Bool, true, false, ◌&&◌, ◌||◌, eqb, List, [], ◌∷◌, ◌++◌, length, Option, Some, None, sym, refl, ap, ◌∙◌, subst, append_assoc, append-nil, false≢true, eqb-true, nat_tests, is_some, Placed, RawKind, RefusedName, is_letter, refused_name, tag_named, and_parts, or_none, Entities, IsTable, Tok, Eof, Span, Standing, at_start, next, standing_after, is_end_tag_of, is_raw_end, may_end, end_errors, IsRawSpan, IsSpanOf, IsSpan, has_references, raw_character, raw_reference, raw_end, spans_text, Cut, tokens_of, span_errors, has_refused, IsOut, HasTag, IsLastName, some_of}
 use Rattle.names.proofs.Words.{or_second}
 use Rattle.names.specs.declared.raw.RawKind.TheVariants as kind
 use Rattle.htoken.specs.SomeCut.{HasCut, HasAnswer, gives, refuses, SomeSpan, SomeCut, SomeAnswer}
@@ -21,7 +21,7 @@ record HasRaw (table : Entities) (end : ℕ) (here : Standing) (text : List Plac
 
 module _ (table : Entities) (is_table : IsTable table) (end : ℕ) where
   -- an end tag of a name that begins with a letter is a tag
-  end_tag_here : (name : Option (List ℕ)) (text : List Placed) → IsName name → is_end_tag_of name text ≡ true → HasTag table end text
+  end_tag_here : (name : Option (List ℕ)) (text : List Placed) → IsLastName name → is_end_tag_of name text ≡ true → HasTag table end text
   end_tag_here (Some []) text n h = absurd (false≢true n)
   end_tag_here (Some (c ∷ cs)) (p ∷ []) n h = absurd (grind arith)
   end_tag_here (Some (c ∷ cs)) (p ∷ q ∷ []) n h = absurd (grind arith)
@@ -32,7 +32,7 @@ module _ (table : Entities) (is_table : IsTable table) (end : ℕ) where
       some_tag table is_table end Ends (p ∷ q ∷ []) r rs (λ i. less i ∷ solidus i ∷ []) letter
   end_tag_here _ _ n h = absurd (false≢true h)
 
-  module _ (here : Standing) (named : IsName here.name) where
+  module _ (here : Standing) (named : IsLastName here.name) where
     raw_char : (p : Placed) (ps : List Placed) (amp : Bool) → (has_references here.kind && eqb p.ch 38) ≡ amp → is_raw_end here (p ∷ ps) ≡ false → HasRaw table end here (p ∷ ps)
     raw_char p ps true e f =
         let both = and_parts (has_references here.kind) (eqb p.ch 38) e in
@@ -58,7 +58,7 @@ some_span table end here p text is_table named =
 -- CUTS
 
 module _ (table : Entities) (is_table : IsTable table) (end : ℕ) where
-  cut_by : (n : ℕ) (here : Standing) (text : List Placed) → IsName here.name → length text ≤ n → HasCut table end here text
+  cut_by : (n : ℕ) (here : Standing) (text : List Placed) → IsLastName here.name → length text ≤ n → HasCut table end here text
   cut_by n here [] named l = record { spans = []; text_is = refl; cut = tt }
   cut_by zero here (p ∷ ps) named l = absurd (not_empty p ps l)
   cut_by (suc n) here (p ∷ ps) named l =
@@ -142,7 +142,7 @@ module _ (table : Entities) (end : ℕ) where
       let r = refused_from (at_start start) k.spans k.cut e in
       refuses (tokens_of r.front) r.name r.at (record { spans = r.front; rest = r.rest; text_is = k.text_is ∙ r.text_is; cut = r.cut; tokens_are = refl; in_profile = r.in_profile; here = r.out })
   answer_by start text k false e =
-      gives (tokens_of k.spans ++ Eof end ∷ []) (errors_of k.spans ++ end_errors end (standing_after (at_start start) k.spans))
+      gives (tokens_of k.spans ++ Eof end ∷ []) (span_errors k.spans ++ end_errors end (standing_after (at_start start) k.spans))
       (record { spans = k.spans; text_is = k.text_is; cut = k.cut; tokens_are = refl; errors_are = refl; in_profile = e })
 
 pub some_answer : SomeAnswer

@@ -3,7 +3,7 @@ use Rattle.htoken.proofs.CutNames.{◌≡◌, ℕ, Bool, true, false, not, ◌||
 use Rattle.htag.specs.declared.tag_state.TagState.{TagState}
 use Rattle.htag.specs.declared.tag_state.TagState.TheVariants as phase
 use Rattle.htag.specs.declared.walk.TagWalk.{TagWalk}
-use Rattle.htag.specs.TagWalk.{HasName, PastName, InName, InQuotes, InUnquoted, PastQuotes, HasPhase, IsPast, IsInTag}
+use Rattle.htag.specs.TagWalk.{HasName, PastAttributeName, InAttributeName, InAttributeValueQuoted, InAttributeValueUnquoted, PastAttributeValueQuoted, HasPhase, IsPast, IsInTag}
 use Rattle.htag.proofs.Parts.{begins-more, parts_text-snoc, AreParts-snoc}
 use Rattle.htag.proofs.Values.{spaces_sign, sign_stops}
 use Rattle.htoken.specs.SomeEnd.{TagsCanEnd}
@@ -64,13 +64,13 @@ module _ (table : Entities) (is_table : IsTable table) (names : Texts) (walk : T
         closes_with (greater ∷ []) h.parts (s ∷ greater ∷ []) true refl same (past_it (greater ∷ []) h.parts (s ∷ greater ∷ []) same)
         (λ end rest. subst (λ (x : List Placed). AreParts table end h.parts (x ++ (greater ∷ rest))) held (h.are_parts end (greater ∷ rest))) (ap (λ (c : ℕ). c ∷ 62 ∷ []) is)
 
-    bare : InName walk h.held h.own → CanEnd table body
+    bare : InAttributeName walk h.held h.own → CanEnd table body
     bare n =
         part_closes (greater ∷ []) (attribute_part h.held [] [] []) (greater ∷ []) false refl (ap (λ (x : List Placed). x ++ greater ∷ []) (append-nil h.held))
         (λ end rest. IsPart.bare h.held (named walk h.held (greater ∷ rest) n.has_name refl) refl refl) refl
 
     -- `=` after white space, and no value
-    spaced : PastName (all is_space) walk h.held h.own → CanEnd table body
+    spaced : PastAttributeName (all is_space) walk h.held h.own → CanEnd table body
     spaced n =
         let sign : List Placed = n.sign ++ equals ∷ [] in
         let is : is_sign sign ≡ true = spaces_sign n.sign equals n.is_sign refl in
@@ -78,12 +78,12 @@ module _ (table : Entities) (is_table : IsTable table) (names : Texts) (walk : T
         (append_assoc n.name sign (greater ∷ []) ∙ ap (λ (x : List Placed). n.name ++ x) (append_assoc n.sign (equals ∷ []) (greater ∷ [])) ∙ sym (append_assoc n.name n.sign (equals ∷ greater ∷ [])) ∙ ap (λ (x : List Placed). x ++ (equals ∷ greater ∷ [])) (sym n.held_is))
         (λ end rest. IsPart.no_value n.name sign (named walk n.name sign n.has_name (sign_stops sign is)) is refl refl) refl
 
-    valueless : PastName is_sign walk h.held h.own → CanEnd table body
+    valueless : PastAttributeName is_sign walk h.held h.own → CanEnd table body
     valueless n =
         part_closes (greater ∷ []) (attribute_part n.name n.sign [] (error MissingAttributeValue 0 ∷ [])) (greater ∷ []) false refl (ap (λ (x : List Placed). x ++ greater ∷ []) (sym n.held_is))
         (λ end rest. IsPart.no_value n.name n.sign (named walk n.name n.sign n.has_name (sign_stops n.sign n.is_sign)) n.is_sign refl refl) refl
 
-    in_quotes : (mark : ℕ) → InQuotes table mark walk h.held h.own → CanEnd table body
+    in_quotes : (mark : ℕ) → InAttributeValueQuoted table mark walk h.held h.own → CanEnd table body
     in_quotes mark q =
         let v = some_value table is_table q.text in
         let quote : Placed = record { ch = mark; at = 0 } in
@@ -94,7 +94,7 @@ module _ (table : Entities) (is_table : IsTable table) (names : Texts) (walk : T
         (λ end rest. IsPart.quoted q.name q.sign q.quote (quote ∷ []) v.pieces mark (named walk q.name q.sign q.has_name (sign_stops q.sign q.signed)) q.signed q.opens q.is_mark
         (ap (all (λ c. not (eqb c mark))) (sym v.text_is) ∙ q.inside) v.are refl refl) refl
 
-    unquoted : InUnquoted table walk h.held h.own → CanEnd table body
+    unquoted : InAttributeValueUnquoted table walk h.held h.own → CanEnd table body
     unquoted n =
         let v = some_value table is_table n.text in
         part_closes (greater ∷ []) (attribute_part n.name (n.sign ++ pieces_text v.pieces) (value_bytes v.pieces) (unquoted_errors v.pieces)) (greater ∷ []) false refl
@@ -102,7 +102,7 @@ module _ (table : Entities) (is_table : IsTable table) (names : Texts) (walk : T
         (λ end rest. IsPart.unquoted n.name n.sign v.pieces (named walk n.name n.sign n.has_name (sign_stops n.sign n.signed)) n.signed (ap (begins (λ c. not (ends_unquoted c || is_quote c))) (sym v.text_is) ∙ n.first)
         (record { passes_none = ap (all (λ c. not (ends_unquoted c))) (sym v.text_is) ∙ n.inside; stops_after = refl }) v.are refl) refl
 
-    past_quotes : PastQuotes table walk h.held h.own → CanEnd table body
+    past_quotes : PastAttributeValueQuoted table walk h.held h.own → CanEnd table body
     past_quotes s =
         let v = s.value in
         part_closes (greater ∷ []) (attribute_part s.name (s.sign ++ s.quote ++ pieces_text v.pieces ++ s.close) (value_bytes v.pieces) (value_errors v.pieces ++ [])) (greater ∷ []) false refl
@@ -111,16 +111,16 @@ module _ (table : Entities) (is_table : IsTable table) (names : Texts) (walk : T
         (ap (all (λ c. not (eqb c s.mark))) (sym v.text_is) ∙ s.inside) v.are s.closes refl) refl
 
   by_phase : (ph : TagState) → IsPast ph (begins ends_name (parts_text h.parts ++ (h.held ++ []))) → HasPhase ph table walk h.parts h.held h.own → CanEnd table body
-  by_phase phase.Name past has =
+  by_phase phase.TagName past has =
       closes_with (greater ∷ []) [] (greater ∷ []) false refl (ap (λ (x : List Part). (parts_text x ++ h.held) ++ greater ∷ []) has.0 ∙ ap (λ (x : List Placed). x ++ greater ∷ []) has.1) refl (λ end rest. tt) refl
-  by_phase phase.BeforeAttribute past has = before past has.0
-  by_phase phase.Solidus past (s, is, held, own) = solidus past s is held
+  by_phase phase.BeforeAttributeName past has = before past has.0
+  by_phase phase.SelfClosingStartTag past (s, is, held, own) = solidus past s is held
   by_phase phase.AttributeName past has = bare past has
   by_phase phase.AfterAttributeName past has = spaced past has
-  by_phase phase.BeforeValue past has = valueless past has
-  by_phase (phase.Quoted mark) past has = in_quotes past mark has
-  by_phase phase.Unquoted past has = unquoted past has
-  by_phase phase.AfterQuoted past has = past_quotes past has
+  by_phase phase.BeforeAttributeValue past has = valueless past has
+  by_phase (phase.AttributeValueQuoted mark) past has = in_quotes past mark has
+  by_phase phase.AttributeValueUnquoted past has = unquoted past has
+  by_phase phase.AfterAttributeValueQuoted past has = past_quotes past has
 
 pub tags_can_end : TagsCanEnd
 tags_can_end table names walk body errors is_table h = by_phase table is_table names walk body errors h walk.phase h.past h.has_phase

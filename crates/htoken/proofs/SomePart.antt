@@ -1,5 +1,5 @@
 -- A part of a tag is at the front of each text where a tag does not end.
-use Rattle.htoken.proofs.CutNames.{nat_tests, arith, ◌≡◌, ℕ, zero, suc, ◌≤◌, Bool, true, false, not, ◌&&◌, ◌||◌, ◌==◌, eqb, if◌then◌else◌, List, [], ◌∷◌, ◌++◌, length, drop, sym, refl, ap, ◌∙◌, subst, append_assoc, append-nil, length-append, false≢true, eqb-true, not_second, Placed, begins, stops, all, RunsTo, past, is_space, is_equals, is_greater, is_quote, and_both, or_none, Entities, Piece, IsTable, IsPiece, plain, plain_piece, AreValue, pieces_text, Part, IsPart, AreParts, parts_text, IsAttributeName, ends_name, ends_attribute_name, ends_unquoted, is_sign, space, solidus, bare, no_value, unquoted, quoted, unclosed, some_of}
+use Rattle.htoken.proofs.CutNames.{nat_tests, arith, ◌≡◌, ℕ, zero, suc, ◌≤◌, Bool, true, false, not, ◌&&◌, ◌||◌, ◌==◌, eqb, if◌then◌else◌, List, [], ◌∷◌, ◌++◌, length, drop, sym, refl, ap, ◌∙◌, subst, append_assoc, append-nil, length-append, false≢true, eqb-true, not_second, Placed, begins, stops, all, RunsTo, past, is_space, is_equals, is_greater, is_quote, and_both, or_none, Entities, Piece, IsTable, IsValuePiece, plain, plain_piece, AreValue, pieces_text, Part, IsPart, AreParts, parts_text, IsAttributeName, ends_name, ends_attribute_name, ends_unquoted, is_sign, space, solidus, bare, no_value, unquoted, quoted, unclosed, some_of}
 use Rattle.std.proofs.lemmas.Bool.{or_parts, not-true}
 use Rattle.hmarkup.proofs.Endings.{not_either}
 use Rattle.htag.specs.Value.{reference}
@@ -35,7 +35,7 @@ record HasPiece (table : Entities) (text : List Placed) : Type 0 where
   piece : Piece
   rest : List Placed
   text_is : text ≡ piece.text ++ rest
-  is_piece : (more : List Placed) → more ≡ rest → IsPiece table true more piece
+  is_piece : (more : List Placed) → more ≡ rest → IsValuePiece table true more piece
   long : 1 ≤ length piece.text
 
 pub begins_long : (test : ℕ → Bool) (xs : List Placed) → begins test xs ≡ true → 1 ≤ length xs
@@ -55,7 +55,7 @@ module _ (table : Entities) (is_table : IsTable table) where
         piece = k.piece;
         rest = k.rest;
         text_is = k.text_is;
-        is_piece = λ (more : List Placed) (m : more ≡ k.rest). subst (λ (x : List Placed). IsPiece table true x k.piece) (sym m) (reference k.is_reference);
+        is_piece = λ (more : List Placed) (m : more ≡ k.rest). subst (λ (x : List Placed). IsValuePiece table true x k.piece) (sym m) (reference k.is_reference);
         long = begins_long is_amp k.piece.text (at_amp table true k.rest k.piece k.is_reference);
       }
   piece_by p ps false e = record { piece = plain_piece p; rest = ps; text_is = refl; is_piece = λ (more : List Placed) (m : more ≡ ps). plain p e refl; long = omega arith }

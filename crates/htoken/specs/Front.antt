@@ -1,9 +1,9 @@
 -- The text at the front of a run, and what ends it: contracts of the tokenizer's own functions.
-use Rattle.std.specs.Prelude.{◌≡◌, ℕ, ◌+◌, ◌≤◌, ◌<◌, ◌==◌, Bool, true, false, List, [], ◌∷◌, ◌++◌, map, length, take, drop, Result, Ok, Err}
-use Rattle.std.specs.Prelude.{string_bytes, encode_utf8_all}
+use Rattle.std.specs.Prelude.{◌≡◌, ℕ, ◌+◌, ◌≤◌, ◌==◌, Bool, true, false, List, [], ◌∷◌, ◌++◌, map, length, take, drop, Result, Ok, Err}
+use Rattle.std.specs.Prelude.{encode_utf8_all}
 use Rattle.std.specs.Char.{is_ascii}
 use Rattle.std.specs.List.{list_all}
-use Rattle.std.specs.Str.{chars}
+use Rattle.std.specs.Str.{IsUtf8, chars}
 use Rattle.names.specs.declared.error.ErrorCode.TheVariants.{UnknownNamedCharacterReference}
 use Rattle.names.specs.declared.error.ParseError.{ParseError}
 use Rattle.names.specs.declared.placed.Placed.{Placed}
@@ -20,7 +20,7 @@ use Rattle.charref.specs.Pieces.{IsRead}
 use Rattle.charref.specs.Reference.{Entities, IsReference, IsTable, ampersand}
 use Rattle.htoken.specs.declared.front.Ampersand.{Ampersand}
 use Rattle.htoken.specs.declared.front.Ampersand.TheVariants.{Text, Whole, Open}
-use Rattle.htoken.specs.declared.spread.Spread.{Spread}
+use Rattle.htoken.specs.declared.with_references.TextWithReferences.{TextWithReferences}
 use Rattle.htoken.specs.declared.tokenizer.Tokenizer.{Tokenizer}
 use Rattle.htoken.specs.Token.{Item, Event, Reports}
 use Rattle.htoken.specs.Handing.{HandsEvents}
@@ -58,15 +58,15 @@ pub record IsWhole (table : Entities) (kind : RawKind) (run : List ℕ) (found :
   pub run_is : run ≡ 38 ∷ shown ++ others
   pub count_is : count ≡ length shown
   pub ascii : list_all is_ascii shown ≡ true
-  pub known : found.in_run ≡ false
+  pub known : found.is_ambiguous ≡ false
   pub left : found.left ≤ 1
   pub reads : (at : ℕ) (after : List Placed) → IsRead table false (placed at shown) after found
 
 -- what an `&` at the front of this run is, where the run shows it
-abbrev pub Shows : Entities → RawKind → List ℕ → Ampersand → Type 0
-Shows table kind run (Text size) = IsBare table kind run size
-Shows table kind run (Whole found count) = IsWhole table kind run found count
-Shows table kind run Open = Unit {0}
+abbrev pub ShowsAmpersand : Entities → RawKind → List ℕ → Ampersand → Type 0
+ShowsAmpersand table kind run (Text size) = IsBare table kind run size
+ShowsAmpersand table kind run (Whole found count) = IsWhole table kind run found count
+ShowsAmpersand table kind run Open = Unit {0}
 
 -- characters that all are at this place
 abbrev pub all_at : ℕ → List ℕ → List Placed
@@ -93,8 +93,8 @@ pub record TellsText {S : Type 0} (gives : S → ParseError → Result (Unit {0}
   pub front : IsFront table kind run at count errors (placed at (chars (take count run)))
 
 -- the events of a front that is handed over as one text
-abbrev pub spread_events : List Placed → List ParseError → List Event
-spread_events given errors = run_events given ++ map Reports errors
+abbrev pub events_with_references : List Placed → List ParseError → List Event
+events_with_references given errors = run_events given ++ map Reports errors
 
 -- A front of a run was handed over as one text, or the sink refused it.
 pub record GivesFront {S : Type 0} (gives : S → Item → Result (Unit {0}) Refusal → S → Type 0) (names : Texts) (table : Entities)
@@ -102,38 +102,40 @@ pub record GivesFront {S : Type 0} (gives : S → Item → Result (Unit {0}) Ref
   pub errors : List ParseError
   pub given : List Placed
   pub front : IsFront table kind run at count errors given
-  pub handed : HandsEvents gives names old (spread_events given errors) answer new
+  pub handed : HandsEvents gives names old (events_with_references given errors) answer new
 
 -- While it was read, memory ran out before anything was handed over, or the sink refused.
 pub data RefusesFront {S : Type 0} (gives : S → Item → Result (Unit {0}) Refusal → S → Type 0) (names : Texts) (table : Entities)
     (kind : RawKind) (run : List ℕ) (at : ℕ) (old : S) (e : Refusal) (new : S) : Type 0 where
-  spread_ran_out : e ≡ Memory → new ≡ old → RefusesFront gives names table kind run at old e new
-  spread_refused : (count : ℕ) → GivesFront gives names table kind run at count old (Err e) new
+  with_references_ran_out : e ≡ Memory → new ≡ old → RefusesFront gives names table kind run at old e new
+  with_references_refused : (count : ℕ) → GivesFront gives names table kind run at count old (Err e) new
       → RefusesFront gives names table kind run at old e new
 
 -- What was gathered is handed over, unless the sink does not take it as one run.
-abbrev pub GivesSpread : {S : Type 0} → (S → Item → Result (Unit {0}) Refusal → S → Type 0) → Texts → List Placed → List ParseError
+abbrev pub GivesTextWithReferences : {S : Type 0} → (S → Item → Result (Unit {0}) Refusal → S → Type 0) → Texts → List Placed → List ParseError
     → S → Result Bool Refusal → S → Type 0
-GivesSpread gives names given errors old (Ok true) new = HandsEvents gives names old (spread_events given errors) (Ok tt) new
-GivesSpread gives names given errors old (Ok false) new = new ≡ old
-GivesSpread gives names given errors old (Err e) new = HandsEvents gives names old (spread_events given errors) (Err e) new
+GivesTextWithReferences gives names given errors old (Ok true) new = HandsEvents gives names old (events_with_references given errors) (Ok tt) new
+GivesTextWithReferences gives names given errors old (Ok false) new = new ≡ old
+GivesTextWithReferences gives names given errors old (Err e) new = HandsEvents gives names old (events_with_references given errors) (Err e) new
 
 -- A front of a run was added to what is gathered: it gives characters other than NUL, the first of which is at `at`.
-pub record Adds (table : Entities) (kind : RawKind) (run : List ℕ) (at count : ℕ) (old new : Spread) : Type 0 where
+pub record AddsReferences (table : Entities) (kind : RawKind) (run : List ℕ) (at count : ℕ) (old new : TextWithReferences) : Type 0 where
   pub errors : List ParseError
   pub given : List Placed
   pub front : IsFront table kind run at count errors given
   pub raised_is : new.raised.errors.items ≡ old.raised.errors.items ++ errors
-  pub text_is : string_bytes new.text ≡ string_bytes old.text ++ encode_utf8_all (characters given)
+  pub text_is : new.text ≡ old.text ++ encode_utf8_all (characters given)
+  pub utf8 : IsUtf8 new.text
   pub not_null : list_all is_not_null (characters given) ≡ true
-  pub starts : (p : Placed) × (ps : List Placed) × (given ≡ p ∷ ps) × (p.at ≡ at)
-  pub some : 0 < count
+  pub starts : StartsAt given at
+  pub some : given ≡ [] → count ≡ 0
 
 -- This front of a run is what is gathered.
-pub record IsGathered (table : Entities) (kind : RawKind) (run : List ℕ) (at count : ℕ) (s : Spread) : Type 0 where
+pub record IsGathered (table : Entities) (kind : RawKind) (run : List ℕ) (at count : ℕ) (s : TextWithReferences) : Type 0 where
   pub given : List Placed
   pub front : IsFront table kind run at count s.raised.errors.items given
-  pub text_is : string_bytes s.text ≡ encode_utf8_all (characters given)
+  pub text_is : s.text ≡ encode_utf8_all (characters given)
+  pub utf8 : IsUtf8 s.text
   pub not_null : list_all is_not_null (characters given) ≡ true
   pub starts : StartsAt given at
   pub some : given ≡ [] → count ≡ 0

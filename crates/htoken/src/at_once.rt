@@ -1,7 +1,7 @@
 //! Tags without attributes that stand whole in one run of the input (HTML Standard, `#tag-open-state` to `#tag-name-state`).
 
 ghost use Rattle.std.specs.Prelude.{◌≡◌, ◌≤◌, ◌<◌, ◌+◌, true, IfOk, length, drop, slice_index, None};
-ghost use Rattle.htoken.specs.Vocabulary.{BeginsNamed, FeedsPart, gives_item, Grows, IsBareName, IsName, IsCut, MAX_INPUT, raw_kind, refused_name};
+ghost use Rattle.htoken.specs.Vocabulary.{BeginsNamed, FeedsPart, gives_item, Grows, IsBareName, IsTagName, IsCut, MAX_INPUT, raw_kind, refused_name};
 
 use crate::sink::TokenSink;
 use crate::state::State;
@@ -23,14 +23,14 @@ impl<'t> Tokenizer<'t> {
     /// Tag open state (`#tag-open-state`): takes the rest of a tag without attributes, if the run begins with a whole one, or the name of another
     /// start tag. Returns the length, or 0.
     #[inline(always)]
-    pub(crate) fn tag_open<S: TokenSink>(
+    pub(crate) fn take_tag_open<S: TokenSink>(
         &mut self,
         names: &mut Names,
         run: &str,
         at: u64,
         sink: &mut S,
     ) -> Result<usize, Refusal>
-        requires less { self.old.state ≡ State.Less }
+        requires less { self.old.state ≡ State.TagOpen }
         requires some { 0 < length run.now }
         requires within { at + length run.now ≤ MAX_INPUT }
         ensures takes { FeedsPart (gives_item S.gives S.gives_token) self.old names.old at run.now names.new sink.old result sink.new self.new }
@@ -61,7 +61,7 @@ impl<'t> Tokenizer<'t> {
         at: u64,
         sink: &mut S,
     ) -> Result<usize, Refusal>
-        requires less { self.old.state ≡ State.Less }
+        requires less { self.old.state ≡ State.TagOpen }
         requires some { 0 < length run.now }
         requires solidus { slice_index run.now 0 ≡ 47 }
         requires bare { IsBareName (drop 1 run.now) size }
@@ -87,7 +87,7 @@ impl<'t> Tokenizer<'t> {
         at: u64,
         sink: &mut S,
     ) -> Result<usize, Refusal>
-        requires less { self.old.state ≡ State.Less }
+        requires less { self.old.state ≡ State.TagOpen }
         requires bare { IsBareName run.now size }
         requires within { at + length run.now ≤ MAX_INPUT }
         ensures takes { FeedsPart (gives_item S.gives S.gives_token) self.old names.old at run.now names.new sink.old result sink.new self.new }
@@ -114,8 +114,8 @@ impl<'t> Tokenizer<'t> {
     /// Begins a start tag with its name, which has this length.
     #[inline(always)]
     fn begin_start_tag(&mut self, size: usize, run: &str, at: u64) -> Result<usize, AllocError>
-        requires less { self.old.state ≡ State.Less }
-        requires named { IsName run.now size }
+        requires less { self.old.state ≡ State.TagOpen }
+        requires named { IsTagName run.now size }
         requires within { at + length run.now ≤ MAX_INPUT }
         ensures { IfOk result (λ count. (count ≡ size) × BeginsNamed self.old run.now at size self.new) }
     {

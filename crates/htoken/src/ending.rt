@@ -1,10 +1,10 @@
 //! The end of the input, in each state (HTML Standard, `#tokenization`).
 
-ghost use Rattle.std.specs.Prelude.{◌≡◌, ◌∷◌, ◌++◌, ℕ, List, [], true, ◌&&◌, map, nat_lt};
-ghost use Rattle.htoken.specs.Vocabulary.{is_script, level_number, Character, CutsOff, EndsHeld, EndsRead, Entities, Eof, EofBeforeTagName, error, Event, Finishes, Gives, gives_item, Grows, HandsEvents, HasTaken, IsInTag, Kind, less, Reports, script_errors, Texts};
+ghost use Rattle.std.specs.Prelude.{◌≡◌, ◌∷◌, ◌++◌, ℕ, List, [], ◌&&◌, map, nat_lt};
+ghost use Rattle.htoken.specs.Vocabulary.{is_script, level_number, Character, CutsOff, EndsHeld, EndsRead, Entities, Eof, EofBeforeTagName, Event, Finishes, Gives, gives_item, Grows, HandsEvents, HasTaken, IsInTag, Kind, less, Reports, script_errors, Texts};
 
-use crate::declaration::Opened;
 use crate::hand::{give, give_faulty, hand_errors, tell_if};
+use crate::markup_declaration_open::Opened;
 use crate::sink::TokenSink;
 use crate::state::State;
 use crate::token::Token;
@@ -42,34 +42,36 @@ impl<'t> Tokenizer<'t> {
     {
         match self.state {
             State::Text => Ok(()),
-            State::Less => give_faulty(ErrorCode::EofBeforeTagName, end, '<', self.at, sink),
-            State::LessSolidus(solidus) => {
+            State::TagOpen => give_faulty(ErrorCode::EofBeforeTagName, end, '<', self.at, sink),
+            State::EndTagOpen(solidus) => {
                 give_faulty(ErrorCode::EofBeforeTagName, end, '<', self.at, sink)?;
                 give('/', solidus, sink)
             }
-            State::Declaration(bang, so) => self.end_declaration(bang, so, end, sink),
+            State::MarkupDeclarationOpen(bang, so) => self.end_in_markup_declaration_open(
+                bang, so, end, sink,
+            ),
             State::Comment => self.end_in_comment(end, sink),
             State::Doctype => self.end_in_doctype(end, sink),
             State::Reference => self.end_in_reference(sink),
             State::AmbiguousAmpersand(_) => Ok(()),
             State::Tag => self.cut_off(names, end, sink),
-            State::RawLess => {
+            State::RcdataLessThanSign => {
                 let less = self.at;
                 self.give_raw('<', less, sink)
             }
-            State::RawName(solidus) => self.give_held(solidus, sink),
+            State::RcdataEndTagName(solidus) => self.give_held(solidus, sink),
         }
     }
 
     /// What comes after `<!` is read as a comment that ends where the input does.
-    fn end_declaration<S: TokenSink>(
+    fn end_in_markup_declaration_open<S: TokenSink>(
         &mut self,
         bang: u64,
         so: Opened,
         end: u64,
         sink: &mut S,
     ) -> Result<(), Refusal>
-        requires { self.old.state ≡ State.Declaration bang so }
+        requires { self.old.state ≡ State.MarkupDeclarationOpen bang so }
         ensures { EndsRead (gives_item S.gives S.gives_token) self.old end sink.old result self.new sink.new }
     {
         self.begin_held(ErrorCode::IncorrectlyOpenedComment, end)?;

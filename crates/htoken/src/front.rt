@@ -4,7 +4,7 @@
 ghost use Rattle.std.specs.Prelude.{◌≡◌, ◌≤◌, ◌<◌, ◌+◌, List, true, false, IfOk, IfSome, is_some, MatchResult, Err, drop, length, slice_index, take};
 ghost use Rattle.std.specs.List.{list_all};
 ghost use Rattle.std.specs.Str.{chars};
-ghost use Rattle.htoken.specs.Vocabulary.{bare_errors, Character, Entities, Error, Event, FeedsPart, first_placed, FollowsAll, gives_item, GivesFront, Hands, is_clean, is_script, is_text_byte, IsBare, IsCut, IsWhole, Kind, MAX_INPUT, placed, Reads, RefusesFront, run_tokens, Shows, Takes, TakesOn, TakesPart, TellsText, Texts};
+ghost use Rattle.htoken.specs.Vocabulary.{bare_errors, Character, Entities, Error, Event, FeedsPart, first_placed, FollowsAll, gives_item, GivesFront, Hands, is_clean, is_script, is_text_byte, IsBare, IsCut, IsWhole, Kind, MAX_INPUT, placed, Reads, RefusesFront, run_tokens, ShowsAmpersand, Takes, TakesOn, TakesPart, TellsText, Texts};
 
 use crate::hand::{give_piece, tell_unknown};
 use crate::run::last_start;
@@ -18,7 +18,7 @@ use htext::{alphanumeric_run, text_run};
 use names::{RawKind, Refusal};
 
 /// What the run after an `&` shows of it.
-enum Ampersand {
+pub(crate) enum Ampersand {
     /// It is text: its length with the letters and digits after it.
     Text(usize),
     /// It begins a whole reference: that, and how many bytes after the `&` show it. The last may be one that it leaves.
@@ -29,7 +29,12 @@ enum Ampersand {
 
 /// Hands over the error of an `&` that is text, if it has one: it is of this length with the letters and digits after it.
 #[inline(always)]
-fn tell_bare<S: ErrorSink>(run: &str, size: usize, at: u64, sink: &mut S) -> Result<(), Refusal>
+pub(crate) fn tell_bare<S: ErrorSink>(
+    run: &str,
+    size: usize,
+    at: u64,
+    sink: &mut S,
+) -> Result<(), Refusal>
     requires some { 0 < size }
     requires within { size < length run.now }
     ensures { (table : Entities) (kind : Kind) (is : IsBare table kind run.now size)
@@ -44,7 +49,7 @@ fn tell_bare<S: ErrorSink>(run: &str, size: usize, at: u64, sink: &mut S) -> Res
 /// How many bytes at the front of a run are text: plain characters, and each `&` that is text, with the letters and digits after it.
 /// Hands over the errors of these. With it the whole reference that comes next, if the run shows one.
 #[inline(always)]
-pub(crate) fn text_before<S: ErrorSink>(
+fn text_before<S: ErrorSink>(
     table: &Table,
     kind: RawKind,
     run: &str,
@@ -76,9 +81,9 @@ pub(crate) fn text_before<S: ErrorSink>(
 
 /// What an `&` at the front of a run is, as far as the run shows it.
 #[inline(always)]
-fn at_ampersand(table: &Table, kind: RawKind, run: &str) -> Ampersand
+pub(crate) fn at_ampersand(table: &Table, kind: RawKind, run: &str) -> Ampersand
     requires { 0 < length run.now }
-    ensures { Shows table.now kind run.now result }
+    ensures { ShowsAmpersand table.now kind run.now result }
 {
     let bytes = run.as_bytes();
     if bytes[0] != b'&' || bytes.len() < 2 || !allows_references(kind) {
@@ -92,7 +97,7 @@ fn at_ampersand(table: &Table, kind: RawKind, run: &str) -> Ampersand
         return Ampersand::Text(1);
     }
     match Walk::settled(table, &bytes[1..]) {
-        Some((found, _)) if found.in_run => {
+        Some((found, _)) if found.is_ambiguous => {
             let size = 1 + alphanumeric_run(&bytes[1..]);
             if size < bytes.len() && bytes[size].is_ascii() {
                 return Ampersand::Text(size);
@@ -121,8 +126,8 @@ impl<'t> Tokenizer<'t> {
         ensures few { IfOk result (λ count. (0 < count) × IsCut count run.now) }
     {
         let (count, whole) = text_before(self.table, self.kind, run, at, sink)?;
-        self.give_front(&run[..count], at, sink)?;
-        if whole.is_some() && sink.may_spread() {
+        self.give_text(&run[..count], at, sink)?;
+        if whole.is_some() && sink.may_take_with_references() {
             return self.take_references(count, whole, run, at, sink);
         }
         self.take_end(count, whole, run, at, sink)
@@ -149,14 +154,14 @@ impl<'t> Tokenizer<'t> {
         ensures takes { TakesOn (gives_item S.gives S.gives_token) self.old run.now at count sink.old result sink.new self.new }
         ensures few { IfOk result (λ all. (0 < all) × IsCut all run.now) }
     {
-        let (more, next) = self.spread_on(whole, &run[count..], at + count as u64, sink)?;
+        let (more, next) = self.take_as_one_text(whole, &run[count..], at + count as u64, sink)?;
         self.take_end(count + more, next, run, at, sink)
     }
 
     /// Takes the whole reference at the front of a run, if one is there, and the text and references after it, as one text, if the sink takes that.
     /// Returns the length, and the whole reference that comes next, if the run shows one.
     #[inline(always)]
-    fn spread_on<S: TokenSink>(
+    fn take_as_one_text<S: TokenSink>(
         &mut self,
         whole: Option<(Reference, usize)>,
         run: &str,
@@ -170,12 +175,14 @@ impl<'t> Tokenizer<'t> {
         ensures front { (names : Texts) → MatchResult result
             (λ it. GivesFront (gives_item S.gives S.gives_token) names self.old.table.now self.old.kind run.now at it.0 sink.old (Ok tt) sink.new)
             (λ e. RefusesFront (gives_item S.gives S.gives_token) names self.old.table.now self.old.kind run.now at sink.old e sink.new) }
-        ensures then { self.new ≡ record self.old { spread = self.new.spread } }
+        ensures then { self.new ≡ record self.old { with_references = self.new.with_references } }
         ensures ends { IfOk result (λ it. it.0 < length run.now → is_text_byte (slice_index run.now it.0) ≡ false) }
         ensures whole { IfOk result (λ it. IfSome it.1 (λ next. IsWhole self.old.table.now self.old.kind (drop it.0 run.now) next.0 next.1)) }
     {
-        let (size, next) = self.spread.gather(self.table, self.kind, whole, run, at)?;
-        if self.spread.give(at, sink)? {
+        let (size, next) = self
+            .with_references
+            .gather(self.table, self.kind, whole, run, at)?;
+        if self.with_references.give(at, sink)? {
             return Ok((size, next));
         }
         Ok((0, whole))
@@ -207,18 +214,13 @@ impl<'t> Tokenizer<'t> {
         }
         let end = at + count as u64;
         self.next = after(end);
-        let more = self.take_mark(whole, &run[count..], end, sink)?;
+        let more = self.take_less_than_or_ampersand(whole, &run[count..], end, sink)?;
         Ok(count + more)
     }
 
     /// Gives the text at the front of a run, if there is any.
     #[inline(always)]
-    fn give_front<S: TokenSink>(
-        &mut self,
-        front: &str,
-        at: u64,
-        sink: &mut S,
-    ) -> Result<(), Refusal>
+    fn give_text<S: TokenSink>(&mut self, front: &str, at: u64, sink: &mut S) -> Result<(), Refusal>
         requires clean { list_all is_clean (chars front.now) ≡ true }
         requires within { at + length front.now ≤ MAX_INPUT }
         ensures handed { Hands S.gives_token sink.old (run_tokens (placed at (chars front.now))) result sink.new }
@@ -234,7 +236,7 @@ impl<'t> Tokenizer<'t> {
 
     /// Takes the `<` or the `&` at the front of a run, or the whole reference if one is there. Returns the length.
     #[inline(always)]
-    fn take_mark<S: TokenSink>(
+    fn take_less_than_or_ampersand<S: TokenSink>(
         &mut self,
         whole: Option<(Reference, usize)>,
         run: &str,

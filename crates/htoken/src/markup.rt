@@ -1,21 +1,20 @@
 //! What follows `<!`, comments and doctypes (HTML Standard, `#bogus-comment-state` to `#bogus-doctype-state`).
 
-ghost use Rattle.std.specs.Prelude.{◌≡◌, ◌∷◌, List, [], true, OnOk, length, MatchResult};
+ghost use Rattle.std.specs.Prelude.{◌≡◌, ◌∷◌, List, [], true, length, MatchResult};
 ghost use Rattle.htoken.specs.Vocabulary.{all, BeginsBogus, Character, Comment, EndsDoctype, Entities, error, Event, gives_item, GivesSpan, HandedMeans, is_plain_in_bogus, Kind, place, Reader, Reads, Takes, TakesNext, Texts};
 
-use crate::declaration::{Opened, Opens, plain_front};
+use crate::markup_declaration_open::{Opened, Opens, plain_front};
 use crate::sink::TokenSink;
 use crate::state::State;
 use crate::token::Token;
 use crate::tokenizer::Tokenizer;
 use hmarkup::{CommentWalk, DoctypeWalk};
 use names::{ErrorCode, ParseError, Refusal};
-use std::alloc::AllocError;
 use std::mem;
 
 impl<'t> Tokenizer<'t> {
     /// The markup declaration open state (`#markup-declaration-open-state`), after `<!`.
-    pub(crate) fn in_declaration<S: TokenSink>(
+    pub(crate) fn markup_declaration_open<S: TokenSink>(
         &mut self,
         bang: u64,
         so: Opened,
@@ -23,12 +22,12 @@ impl<'t> Tokenizer<'t> {
         at: u64,
         sink: &mut S,
     ) -> Result<(), Refusal>
-        requires { self.old.state ≡ State.Declaration bang so }
+        requires { self.old.state ≡ State.MarkupDeclarationOpen bang so }
         ensures { TakesNext (gives_item S.gives S.gives_token) self.old (record { ch = ch; at = at }) sink.old result sink.new self.new }
     {
         match so.after(self.held_count(), ch) {
             Opens::Front(so) => {
-                self.state = State::Declaration(bang, so);
+                self.state = State::MarkupDeclarationOpen(bang, so);
                 self.hold(ch, at)
             }
             Opens::Comment => {

@@ -1,13 +1,13 @@
 //! References in text, and the runs of alphanumerics after an `&` (HTML Standard, `#character-reference-state` to
 //! `#numeric-character-reference-end-state`).
 
-ghost use Rattle.std.specs.Prelude.{◌≡◌, ◌==◌, ◌∷◌, ◌+◌, ◌-◌, List, [], true, false, length, map, OnOk};
+ghost use Rattle.std.specs.Prelude.{◌≡◌, ◌==◌, ◌∷◌, ◌+◌, ◌-◌, List, [], false, length, OnOk};
 ghost use Rattle.htoken.specs.Vocabulary.{BeginsReference, Character, Entities, Event, Finds, gives_item, HandsEvents, HoldsInReference, IsInAmbiguousAmpersand, Kind, read_events, Reads, Takes, TakesNext, Texts};
 
 use crate::hand::{after_first, give, give_all, give_piece, tell_unknown};
 use crate::sink::TokenSink;
 use crate::state::State;
-use crate::tokenizer::{Tokenizer, after};
+use crate::tokenizer::Tokenizer;
 use charref::{Reference, Walk};
 use names::{Placed, Refusal};
 use std::alloc::AllocError;
@@ -68,7 +68,7 @@ impl<'t> Tokenizer<'t> {
             → Reads table start self.old names text (record { ch = ch; at = at } ∷ []) taken
             → Takes (gives_item S.gives S.gives_token) table start text (record { ch = ch; at = at } ∷ []) taken names sink.old result sink.new self.new }
     {
-        if found.in_run {
+        if found.is_ambiguous {
             let amp = self.at;
             self.state = State::AmbiguousAmpersand(amp);
             self.give_reference(found, self.given_back(found.left), sink)?;

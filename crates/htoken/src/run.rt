@@ -1,9 +1,9 @@
 //! Runs of plain characters, taken as wholes where a state allows it.
 
-ghost use Rattle.std.specs.Prelude.{◌≡◌, ◌≤◌, ◌<◌, ◌+◌, ◌∷◌, ◌++◌, ℕ, List, true, false, Some, Err, IfErr, IfOk, length, take, drop};
+ghost use Rattle.std.specs.Prelude.{◌≡◌, ◌≤◌, ◌<◌, ◌+◌, ℕ, List, true, false, Some, Err, IfErr, IfOk, length, take, drop};
 ghost use Rattle.std.specs.List.{list_all, prefix_len};
 ghost use Rattle.std.specs.Str.{chars};
-ghost use Rattle.htoken.specs.Vocabulary.{Character, Entities, Event, FeedsFront, FeedsPart, FeedsText, FollowsAll, gives_item, Grows, HasTaken, is_clean, is_only_data, is_plain_byte, is_script, IsCut, Kind, MAX_INPUT, placed, Refused, replaced, Takes, Texts};
+ghost use Rattle.htoken.specs.Vocabulary.{Character, Entities, Event, FeedsFront, FeedsPart, FeedsText, FollowsAll, gives_item, Grows, HasTaken, is_clean, is_only_data, is_plain_byte, is_script, IsCut, Kind, MAX_INPUT, placed, Refused, replacement_run, Takes, Texts};
 ghost use Rattle.std.specs.Char.{encode_utf8};
 
 use crate::sink::TokenSink;
@@ -58,14 +58,14 @@ impl<'t> Tokenizer<'t> {
         &mut self,
         names: &mut Names,
         run: &str,
-        place: u64,
+        at: u64,
         sink: &mut S,
     ) -> Result<(), Refusal>
         requires clean { list_all is_clean (chars run.now) ≡ true }
-        requires within { place + length run.now ≤ MAX_INPUT }
+        requires within { at + length run.now ≤ MAX_INPUT }
         ensures takes { (table : Entities) (start : Kind) (before : Texts) (text : List Character) (taken : List Event) → Grows before names.old
             → HasTaken table start self.old before text taken
-            → Takes (gives_item S.gives S.gives_token) table start text (placed place (chars run.now)) taken names.new sink.old result sink.new self.new }
+            → Takes (gives_item S.gives S.gives_token) table start text (placed at (chars run.now)) taken names.new sink.old result sink.new self.new }
         ensures grows { Grows names.old names.new }
 
         // After a refusal every later call returns the same one, and hands over nothing.
@@ -75,7 +75,7 @@ impl<'t> Tokenizer<'t> {
         if let Some(refusal) = self.refused {
             return Err(refusal);
         }
-        let answer = self.take_parts(names, run, place, sink);
+        let answer = self.take_parts(names, run, at, sink);
         if let Err(refusal) = answer {
             self.refused = Some(refusal);
         }
@@ -88,13 +88,13 @@ impl<'t> Tokenizer<'t> {
         &mut self,
         names: &mut Names,
         count: usize,
-        place: u64,
+        at: u64,
         sink: &mut S,
     ) -> Result<(), Refusal>
-        requires within { place + count ≤ MAX_INPUT }
+        requires within { at + count ≤ MAX_INPUT }
         ensures takes { (table : Entities) (start : Kind) (before : Texts) (text : List Character) (taken : List Event) → Grows before names.old
             → HasTaken table start self.old before text taken
-            → Takes (gives_item S.gives S.gives_token) table start text (replaced place count) taken names.new sink.old result sink.new self.new }
+            → Takes (gives_item S.gives S.gives_token) table start text (replacement_run at count) taken names.new sink.old result sink.new self.new }
         ensures grows { Grows names.old names.new }
 
         // After a refusal every later call returns the same one, and hands over nothing.
@@ -105,9 +105,9 @@ impl<'t> Tokenizer<'t> {
             return Err(refusal);
         }
         if count > 0 && self.takes_bad() {
-            self.bad_as_run(count, place, sink)
+            self.bad_as_run(count, at, sink)
         } else {
-            self.bad_by_one(names, count, place, sink)
+            self.bad_by_one(names, count, at, sink)
         }
     }
 
@@ -123,19 +123,19 @@ impl<'t> Tokenizer<'t> {
     fn bad_as_run<S: TokenSink>(
         &mut self,
         count: usize,
-        place: u64,
+        at: u64,
         sink: &mut S,
     ) -> Result<(), Refusal>
         requires text { self.old.state ≡ State.Text }
         requires other { is_script self.old.kind ≡ false }
         requires some { 0 < count }
-        requires within { place + count ≤ MAX_INPUT }
-        ensures takes { (names : Texts) → FeedsText (gives_item S.gives S.gives_token) self.old names (replaced place count) names sink.old result sink.new
+        requires within { at + count ≤ MAX_INPUT }
+        ensures takes { (names : Texts) → FeedsText (gives_item S.gives S.gives_token) self.old names (replacement_run at count) names sink.old result sink.new
             self.new }
         ensures refused { IfErr result (λ refusal. self.new.refused ≡ Some refusal) }
     {
-        self.next = place + count as u64;
-        match sink.take_bad(count, place) {
+        self.next = at + count as u64;
+        match sink.take_bad(count, at) {
             Ok(()) => Ok(()),
             Err(refusal) => self.refuse(refusal),
         }
@@ -146,17 +146,17 @@ impl<'t> Tokenizer<'t> {
         &mut self,
         names: &mut Names,
         count: usize,
-        place: u64,
+        at: u64,
         sink: &mut S,
     ) -> Result<(), Refusal>
-        requires within { place + count ≤ MAX_INPUT }
-        ensures takes { FeedsText (gives_item S.gives S.gives_token) self.old names.old (replaced place count) names.new sink.old result sink.new self.new }
+        requires within { at + count ≤ MAX_INPUT }
+        ensures takes { FeedsText (gives_item S.gives S.gives_token) self.old names.old (replacement_run at count) names.new sink.old result sink.new self.new }
         ensures grows { Grows names.old names.new }
         ensures refused { IfErr result (λ refusal. self.new.refused ≡ Some refusal) }
     {
         let mut fed = 0;
         while fed < count {
-            self.feed_char(names, char::REPLACEMENT_CHARACTER, place + fed as u64, sink)?;
+            self.feed_char(names, char::REPLACEMENT_CHARACTER, at + fed as u64, sink)?;
             fed += 1;
         }
         Ok(())
@@ -167,26 +167,26 @@ impl<'t> Tokenizer<'t> {
         &mut self,
         names: &mut Names,
         run: &str,
-        place: u64,
+        at: u64,
         sink: &mut S,
     ) -> Result<(), Refusal>
         requires clean { list_all is_clean (chars run.now) ≡ true }
-        requires within { place + length run.now ≤ MAX_INPUT }
-        ensures takes { FeedsText (gives_item S.gives S.gives_token) self.old names.old (placed place (chars run.now))
+        requires within { at + length run.now ≤ MAX_INPUT }
+        ensures takes { FeedsText (gives_item S.gives S.gives_token) self.old names.old (placed at (chars run.now))
             names.new sink.old result sink.new self.new }
         ensures grows { Grows names.old names.new }
     {
         let mut count = 0;
         while count < run.len() {
-            let more = self.take_part(names, &run[count..], place + count as u64, sink)?;
+            let more = self.take_part(names, &run[count..], at + count as u64, sink)?;
             count += more;
         }
         Ok(())
     }
 
-    /// Takes a part of a run: where nothing is held, the text at its front and what ends that; after a `<`, a whole tag without attributes, or one
-    /// character; in a tag, all up to its end; and where something else is held, what is ASCII up to what may end it, or one character. Returns
-    /// the length.
+    /// Takes a part of a run: where nothing is held, the text at its front, what ends that, and a whole tag without attributes or the name of another
+    /// start tag; in a tag, all up to its end; after a `<` or `</`, one character; and where something else is held, what is ASCII up to what may end
+    /// it, or one character. Returns the length.
     #[inline(always)]
     fn take_part<S: TokenSink>(
         &mut self,
@@ -203,19 +203,39 @@ impl<'t> Tokenizer<'t> {
         ensures grows { Grows names.old names.new }
     {
         match self.state {
-            State::Text => self.part_of_text(run, at, sink),
+            State::Text => self.text_and_tag(names, run, at, sink),
             State::Tag => self.part_of_tag(names, run, at, sink),
-            State::Less => {
-                let count = self.tag_open(names, run, at, sink)?;
-                if count > 0 {
-                    return Ok(count);
-                }
-                self.one_of_run(names, run, at, sink)
-            }
-            // With an arm of its own, so that the state is not asked for again.
-            State::LessSolidus(_) => self.one_of_run(names, run, at, sink),
+            // With arms of their own, so that the state is not asked for again.
+            State::TagOpen => self.one_of_run(names, run, at, sink),
+            State::EndTagOpen(_) => self.one_of_run(names, run, at, sink),
             _ => self.part_of_markup(names, run, at, sink),
         }
+    }
+
+    /// Takes the text at the front of a run and what ends it, and after a `<` also a whole tag without attributes, or the name of another start tag.
+    /// Returns the length.
+    #[inline(always)]
+    fn text_and_tag<S: TokenSink>(
+        &mut self,
+        names: &mut Names,
+        run: &str,
+        at: u64,
+        sink: &mut S,
+    ) -> Result<usize, Refusal>
+        requires text { self.old.state ≡ State.Text }
+        requires some { 0 < length run.now }
+        requires clean { list_all is_clean (chars run.now) ≡ true }
+        requires within { at + length run.now ≤ MAX_INPUT }
+        ensures takes { FeedsPart (gives_item S.gives S.gives_token) self.old names.old at run.now names.new sink.old result sink.new self.new }
+        ensures few { IfOk result (λ count. (0 < count) × IsCut count run.now) }
+        ensures grows { Grows names.old names.new }
+    {
+        let count = self.part_of_text(run, at, sink)?;
+        if count == run.len() || !matches!(self.state, State::TagOpen) {
+            return Ok(count);
+        }
+        let more = self.take_tag_open(names, &run[count..], at + count as u64, sink)?;
+        Ok(count + more)
     }
 
     /// Takes the characters of a tag at the front of a run, up to its end. Returns the length.

@@ -2,7 +2,7 @@
 
 ghost use Rattle.std.specs.Prelude.{◌≡◌, [], ◌∷◌, ◌==◌, ◌&&◌, ℕ, List, nat_lt, IsTrue};
 ghost use Rattle.std.specs.Str.{chars};
-ghost use Rattle.htoken.specs.Vocabulary.{Character, ends_name, FollowsAll, HasFront, idle, is_dashes, is_less_bang_dash, is_read, level_after, level_number, mark_after, placed, word_after};
+ghost use Rattle.htoken.specs.Vocabulary.{Character, ends_name, FollowsAll, HasFront, idle, is_dashes, mark_is_less_bang_dash, is_read, level_after, level_number, mark_after, placed, word_after};
 ghost use Rattle.std.specs.Char.{to_ascii_lowercase};
 
 use names::Placed;
@@ -112,7 +112,7 @@ impl Mark {
 
     /// Whether a character ends `<!--`.
     fn begins(self, ch: char) -> bool
-        ensures { result ≡ (ch == 45 && is_less_bang_dash self) }
+        ensures { result ≡ (ch == 45 && mark_is_less_bang_dash self) }
     {
         ch == '-' && matches!(self, Mark::LessBangDash)
     }

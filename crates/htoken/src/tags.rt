@@ -1,6 +1,6 @@
 //! Tags (HTML Standard, `#tag-name-state` and `#before-attribute-name-state` to `#self-closing-start-tag-state`).
 
-ghost use Rattle.std.specs.Prelude.{◌≡◌, ◌∷◌, ℕ, List, [], slice_get, Some, OnOk};
+ghost use Rattle.std.specs.Prelude.{◌≡◌, ◌∷◌, ℕ, List, [], Some, OnOk};
 ghost use Rattle.htoken.specs.Vocabulary.{BeginsTag, Character, End, EndsStartTag, EndsTag, Entities, Event, gives_item, Grows, KeepsFaults, KeepsIf, Kind, Reads, Takes, Texts};
 
 use crate::script::Script;

@@ -1,7 +1,7 @@
 //! Text: data, RCDATA, RAWTEXT, script data and PLAINTEXT (HTML Standard, `#data-state` to `#plaintext-state`).
 
-ghost use Rattle.std.specs.Prelude.{◌≡◌, ◌∷◌, ℕ, List, [], true, ◌&&◌, is_some};
-ghost use Rattle.htoken.specs.Vocabulary.{Char, ends_by, Gives, gives_item, HandsEvents, has_references, is_raw, is_script, IsFollowed, level_number, Takes, TakesNext, Texts};
+ghost use Rattle.std.specs.Prelude.{◌≡◌, ◌∷◌, [], true, ◌&&◌, is_some};
+ghost use Rattle.htoken.specs.Vocabulary.{Char, ends_by, Gives, gives_item, HandsEvents, has_references, is_raw, is_script, IsFollowed, level_number, TakesNext, Texts};
 
 use crate::hand::{give, give_faulty};
 use crate::sink::TokenSink;
@@ -50,7 +50,7 @@ impl<'t> Tokenizer<'t> {
     {
         match ch {
             '<' => {
-                self.state = State::Less;
+                self.state = State::TagOpen;
                 self.at = at;
                 Ok(())
             }
@@ -71,7 +71,7 @@ impl<'t> Tokenizer<'t> {
         match ch {
             '<' => {
                 if self.may_end() {
-                    self.state = State::RawLess;
+                    self.state = State::RcdataLessThanSign;
                     self.at = at;
                     return Ok(());
                 }

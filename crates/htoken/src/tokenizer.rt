@@ -6,9 +6,9 @@ ghost use Rattle.htoken.specs.Vocabulary.{after_place, Alone, Character, EndsSpa
 use crate::hand::hand_errors;
 use crate::script::Script;
 use crate::sink::TokenSink;
-use crate::spread::Spread;
 use crate::state::{Raised, State};
 use crate::token::{Start, Token};
+use crate::with_references::TextWithReferences;
 use charref::{Table, Walk};
 use hmarkup::{CommentWalk, DoctypeWalk};
 use htag::TagWalk;
@@ -32,7 +32,7 @@ pub struct Tokenizer<'t> {
     pub(crate) tag: TagWalk<'t>,
     pub(crate) script: Script,
     pub(crate) raised: Raised,
-    pub(crate) spread: Spread,
+    pub(crate) with_references: TextWithReferences,
     pub(crate) refused: Option<Refusal>,
 }
 
@@ -54,7 +54,7 @@ impl<'t> Drop for Tokenizer<'t> {
             tag,
             script: _,
             raised,
-            spread,
+            with_references,
             refused: _,
         } = self;
         drop(held);
@@ -62,15 +62,15 @@ impl<'t> Drop for Tokenizer<'t> {
         drop(doctype);
         drop(tag);
         drop(raised);
-        drop(spread);
+        drop(with_references);
     }
 }
 
 /// One more than the place of a character.
-pub(crate) fn after(place: u64) -> u64
-    ensures { result ≡ after_place place }
+pub(crate) fn after(at: u64) -> u64
+    ensures { result ≡ after_place at }
 {
-    place.saturating_add(1)
+    at.saturating_add(1)
 }
 
 impl<'t> Tokenizer<'t> {
@@ -96,7 +96,7 @@ impl<'t> Tokenizer<'t> {
             raised: Raised {
                 errors: Vec::new(alloc),
             },
-            spread: Spread::new(alloc),
+            with_references: TextWithReferences::new(alloc),
             refused: None,
         }
     }
@@ -107,12 +107,12 @@ impl<'t> Tokenizer<'t> {
         &mut self,
         names: &mut Names,
         ch: char,
-        place: u64,
+        at: u64,
         sink: &mut S,
     ) -> Result<(), Refusal>
         ensures takes { (table : Entities) (start : Kind) (before : Texts) (text : List Character) (taken : List Event) → Grows before names.old
             → HasTaken table start self.old before text taken
-            → Takes (gives_item S.gives S.gives_token) table start text (record { ch = ch; at = place } ∷ []) taken names.new sink.old result sink.new
+            → Takes (gives_item S.gives S.gives_token) table start text (record { ch = ch; at = at } ∷ []) taken names.new sink.old result sink.new
             self.new }
         ensures grows { Grows names.old names.new }
 
@@ -124,13 +124,13 @@ impl<'t> Tokenizer<'t> {
             return Err(refusal);
         }
         if self.is_in_data() {
-            self.next = after(place);
-            match self.in_data(ch, place, sink) {
+            self.next = after(at);
+            match self.in_data(ch, at, sink) {
                 Ok(()) => Ok(()),
                 Err(refusal) => self.refuse(refusal),
             }
         } else {
-            self.feed_other(names, ch, place, sink)
+            self.feed_other(names, ch, at, sink)
         }
     }
 
@@ -196,15 +196,15 @@ impl<'t> Tokenizer<'t> {
         &mut self,
         names: &mut Names,
         ch: char,
-        place: u64,
+        at: u64,
         sink: &mut S,
     ) -> Result<(), Refusal>
-        ensures takes { FeedsText (gives_item S.gives S.gives_token) self.old names.old (record { ch = ch; at = place } ∷ [])
+        ensures takes { FeedsText (gives_item S.gives S.gives_token) self.old names.old (record { ch = ch; at = at } ∷ [])
             names.new sink.old result sink.new self.new }
         ensures grows { Grows names.old names.new }
         ensures refused { IfErr result (λ refusal. self.new.refused ≡ Some refusal) }
     {
-        let answer = self.take(names, ch, place, sink);
+        let answer = self.take(names, ch, at, sink);
         if let Err(refusal) = answer {
             self.refused = Some(refusal);
         }
@@ -227,16 +227,20 @@ impl<'t> Tokenizer<'t> {
         self.next = after(at);
         match self.state {
             State::Text => self.in_text(ch, at, sink),
-            State::Less => self.after_less(ch, at, sink),
-            State::LessSolidus(_) => self.after_solidus(ch, at, sink),
-            State::Declaration(bang, so) => self.in_declaration(bang, so, ch, at, sink),
+            State::TagOpen => self.tag_open(ch, at, sink),
+            State::EndTagOpen(_) => self.end_tag_open(ch, at, sink),
+            State::MarkupDeclarationOpen(bang, so) => self.markup_declaration_open(
+                bang, so, ch, at, sink,
+            ),
             State::Comment => self.in_comment(ch, at, sink),
             State::Doctype => self.in_doctype(ch, at, sink),
             State::Reference => self.in_reference(ch, at, sink),
             State::AmbiguousAmpersand(amp) => self.in_ambiguous_ampersand(amp, ch, at, sink),
             State::Tag => self.in_tag(names, ch, at, sink),
-            State::RawLess => self.after_raw_less(ch, at, sink),
-            State::RawName(solidus) => self.in_raw_name(solidus, names, ch, at, sink),
+            State::RcdataLessThanSign => self.rcdata_less_than_sign(ch, at, sink),
+            State::RcdataEndTagName(solidus) => self.rcdata_end_tag_name(
+                solidus, names, ch, at, sink,
+            ),
         }
     }
 
@@ -262,7 +266,8 @@ impl<'t> Tokenizer<'t> {
         names: &Names,
         sink: &mut S,
     ) -> Result<(), Refusal>
-        ensures handed { Hands (gives_item S.gives S.gives_token) sink.old (items_of self.old.raised.errors.items (Some (WithNames names.now token))) result sink.new }
+        ensures handed { Hands (gives_item S.gives S.gives_token) sink.old (items_of self.old.raised.errors.items (Some (WithNames names.now token)))
+            result sink.new }
         ensures then { EndsSpan self.old self.new }
     {
         self.end_errors(sink)?;

@@ -7,7 +7,7 @@ use Rattle.htext.specs.declared.BadBytes.{BadBytes}
 use Rattle.charref.specs.Reference.{Entities}
 use Rattle.htoken.specs.Token.{Item, ItemToken, ItemError, gives_item}
 use Rattle.hparse.specs.Input.{IsTaken, ItemsMean}
-use Rattle.hparse.specs.Into.{begins, ComesInto, HasSettled, ReadsInto}
+use Rattle.hparse.specs.Into.{began_with, ComesInto, HasSettled, ReadsInto}
 use Rattle.hparse.proofs.Refusing.{RefusesForMemory, answers_refused, answers_taken, errors_taken}
 use Rattle.hparse.proofs.Sorting.{in_order}
 use Rattle.hparse.proofs.Turns.{shown_as, or_memory, but_for_memory}
@@ -43,7 +43,7 @@ module _ {R : Type 0} (left : R → Option (List ℕ)) (failed : R → ℕ) (tab
   IsRead = ReadsInput left failed (PrintsTokens table (of_document of limit)) (IsUnrefusedText (as_document table of limit)) piece [] old new
 
   refused : (e : Refusal) (bytes : List ℕ) → ComesInto drafts (as_document table of limit) draft now bytes (Err e) → or_memory (PrintsTokens table (of_document of limit)) bytes (Err e)
-  refused e bytes r = elim (answers_refused drafts table of limit (begins draft) bytes r.0 now refuses e r.1) [
+  refused e bytes r = elim (answers_refused drafts table of limit (began_with draft) bytes r.0 now refuses e r.1) [
     | inl why ↦ inl (ap (λ (x : Refusal). Err x) why)
     | inr a ↦ inr (not_printed e a)
   ]
@@ -54,17 +54,17 @@ module _ {R : Type 0} (left : R → Option (List ℕ)) (failed : R → ℕ) (tab
       but_for_memory left failed (PrintsTokens table (of_document of limit)) (IsUnrefusedText (as_document table of limit)) piece [] old new b
       (shown_as left failed (ComesInto drafts (as_document table of limit) draft now) (or_memory (PrintsTokens table (of_document of limit)))
       (IsUnrefusedText (as_document table of limit)) (IsUnrefusedText (as_document table of limit))
-      (λ bytes. (names : Texts) × HasSettled drafts (as_document table of limit) (begins draft) bytes names now) (IsUnrefusedText (as_document table of limit))
+      (λ bytes. (names : Texts) × HasSettled drafts (as_document table of limit) (began_with draft) bytes names now) (IsUnrefusedText (as_document table of limit))
       (λ bytes u. u) (λ bytes so. so.1.unrefused) piece [] old new a b fails (λ bytes e same. refused e bytes) shows h)
 
   -- the lines of a document that was taken
   lines_shown : (names : Texts) (b : Result (String Global) Refusal) → MatchResult b (λ text. string_bytes text ≡ drafted now []) (λ e. e ≡ Memory) → (bytes : List ℕ)
-      → IsTaken drafts (as_document table of limit) (begins draft) bytes names now → or_memory (PrintsTokens table (of_document of limit)) bytes b
+      → IsTaken drafts (as_document table of limit) (began_with draft) bytes names now → or_memory (PrintsTokens table (of_document of limit)) bytes b
   lines_shown names (Err e) why bytes t = inl (ap (λ (x : Refusal). Err x) why)
   lines_shown names (Ok text) is bytes t =
       let all = is ∙ all_drafted names draft now t.handed.items t.tokens t.handed.items_mean t.handed.hands ∙ none (lines_of t.tokens) in
       inr (subst (λ (l : List ℕ). Prints (Answers table (of_document of limit)) tokens_text bytes (Ok l)) (sym all)
-      (printed (t.tokens, in_order (errors_taken drafts table of limit (begins draft) bytes names now t)) (answers_taken drafts table of limit (begins draft) bytes names now t)))
+      (printed (t.tokens, in_order (errors_taken drafts table of limit (began_with draft) bytes names now t)) (answers_taken drafts table of limit (began_with draft) bytes names now t)))
 
   -- what reading a document into a draft gives: its lines, or it was refused
   pub lines_read : (a : Result Texts Refusal) (names : Texts) → a ≡ Ok names → (b : Result (String Global) Refusal) → MatchResult b (λ text. string_bytes text ≡ drafted now []) (λ e. e ≡ Memory) → IsInto a → IsRead b

@@ -1,5 +1,5 @@
 -- What tokens do to a draft, and what they are that it is handed.
-use Rattle.hwrite.proofs.Vocabulary.{◌≡◌, ℕ, ◌+◌, ◌<◌, Bool, true, false, List, [], ◌∷◌, ◌++◌, refl, sym, ap, ap₂, ◌∙◌, append_assoc, append-nil, codes, decimal, encode_utf8, drop, flat_map, get_or, length, map, string_bytes, Texts, Token, Tok, TokensMean, drafted, to_write, escaped, Line, Characters, joined, line_of, line_text, lines_of, attribute_of, tok_of, tok_handed}
+use Rattle.hwrite.proofs.Vocabulary.{◌≡◌, ℕ, ◌+◌, ◌<◌, Bool, true, false, List, [], ◌∷◌, ◌++◌, refl, sym, ap, ap₂, ◌∙◌, append_assoc, append-nil, codes, decimal, encode_utf8, drop, flat_map, get_or, length, map, string_bytes, Texts, Token, Tok, TokensMean, drafted, to_write, quote_escaped, Line, Characters, joined, line_of, line_text, lines_of, draft_attribute, tok_of, tok_handed}
 use Rattle.std.proofs.lemmas.List.{at_drop_more}
 use Rattle.std.proofs.lemmas.List.Concat.{flat_map-append}
 use Rattle.std.proofs.lemmas.Option.{get_or_from_slice_get}
@@ -12,25 +12,25 @@ use Rattle.hwrite.specs.Draft.{AddsText, Drafts, after_characters, beginning_of_
 use Rattle.hwrite.specs.TokenLines.{Words}
 
 -- characters that are right after others
-after_characters-joined : (text : List ℕ) (at : ℕ) (lines : List Line) → after_characters (joined (Characters at text) lines) ≡ escaped text ++ after_characters lines
+after_characters-joined : (text : List ℕ) (at : ℕ) (lines : List Line) → after_characters (joined (Characters at text) lines) ≡ quote_escaped text ++ after_characters lines
 after_characters-joined text at [] = refl
 after_characters-joined text at (Words later words ∷ lines) = refl
 after_characters-joined text at (Characters later more ∷ lines) = simp (flat_map-append, append_assoc) refl
 
 -- characters that begin a line
-begun : (text : List ℕ) (at : ℕ) (lines : List Line) → flat_map line_text (joined (Characters at text) lines) ≡ decimal at ++ codes " " ++ codes "chars \"" ++ escaped text ++ after_characters lines
+begun : (text : List ℕ) (at : ℕ) (lines : List Line) → flat_map line_text (joined (Characters at text) lines) ≡ decimal at ++ codes " " ++ codes "chars \"" ++ quote_escaped text ++ after_characters lines
 begun text at [] = simp append_assoc refl
 begun text at (Words later words ∷ lines) = simp append_assoc refl
 begun text at (Characters later more ∷ lines) = simp (flat_map-append, append_assoc) refl
 
-characters_come : (v : Bool) (at : ℕ) (text old mid new : List ℕ) (lines : List Line) → mid ≡ old ++ beginning_of_characters v at → new ≡ mid ++ escaped text
+characters_come : (v : Bool) (at : ℕ) (text old mid new : List ℕ) (lines : List Line) → mid ≡ old ++ beginning_of_characters v at → new ≡ mid ++ quote_escaped text
     → new ++ to_write true lines ≡ old ++ to_write v (joined (Characters at text) lines)
 characters_come true at text old mid new lines b e =
-    rw (e, b, append-nil old) (append_assoc old (escaped text) (after_characters lines) ∙ ap (λ (l : List ℕ). old ++ l) (sym (after_characters-joined text at lines)))
+    rw (e, b, append-nil old) (append_assoc old (quote_escaped text) (after_characters lines) ∙ ap (λ (l : List ℕ). old ++ l) (sym (after_characters-joined text at lines)))
 characters_come false at text old mid new lines b e = rw (e, b, begun text at lines) (simp append_assoc)
 
 -- a character was drafted
-pub character_drafted : (old mid : Draft) (new : List ℕ) (ch at : ℕ) → AddsText old mid (beginning_of_characters old.in_characters at) true → new ≡ string_bytes mid.text ++ escaped (encode_utf8 ch)
+pub character_drafted : (old mid : Draft) (new : List ℕ) (ch at : ℕ) → AddsText old mid (beginning_of_characters old.in_characters at) true → new ≡ string_bytes mid.text ++ quote_escaped (encode_utf8 ch)
     → (lines : List Line) → new ++ to_write mid.in_characters lines ≡ drafted old (joined (line_of (Char ch at)) lines)
 character_drafted old mid new ch at a is lines =
     ap (λ (v : Bool). new ++ to_write v lines) a.open_is ∙ characters_come old.in_characters at (encode_utf8 ch) (string_bytes old.text) (string_bytes mid.text) new lines a.text_is is
@@ -64,7 +64,7 @@ ended true = refl
 ended false = refl
 
 -- what a token stands for is the token with its names as texts
-attributes_are : (names : Texts) (attrs : List Attr) (meant : List (List ℕ × List ℕ)) → AttrsMean names attrs meant → map (attribute_of names) attrs ≡ meant
+attributes_are : (names : Texts) (attrs : List Attr) (meant : List (List ℕ × List ℕ)) → AttrsMean names attrs meant → map (draft_attribute names) attrs ≡ meant
 attributes_are names [] [] h = refl
 attributes_are names (a ∷ attrs) (t ∷ ts) h =
     ap₂ (λ (x : List ℕ × List ℕ) (xs : List (List ℕ × List ℕ)). x ∷ xs) (ap₂ (λ (n v : List ℕ). (n, v)) (get_or_from_slice_get names a.name t.0 [] h.0) h.1) (attributes_are names attrs ts h.2)

@@ -1,5 +1,5 @@
 -- How bytes and characters are between quotes.
-use Rattle.hwrite.proofs.Vocabulary.{◌≡◌, ◌≢◌, ℕ, ◌<◌, ◌≤◌, suc, List, [], ◌∷◌, ◌++◌, length, get_or, true, false, refl, sym, ap, arith, codes, append-nil, encode_utf8, list_all, digits, nat_tests, escaped_byte, escaped, is_unescaped}
+use Rattle.hwrite.proofs.Vocabulary.{◌≡◌, ◌≢◌, ℕ, ◌<◌, ◌≤◌, suc, List, [], ◌∷◌, ◌++◌, length, get_or, true, false, refl, sym, ap, arith, codes, append-nil, encode_utf8, list_all, digits, nat_tests, escaped_byte, quote_escaped, is_unescaped}
 use Rattle.std.proofs.Common.{◌-◌, ◌^◌}
 use Rattle.std.specs.Fmt.{padded_integral, format_spec}
 use Rattle.std.proofs.Math.Decide.{dec_lt}
@@ -10,12 +10,12 @@ use Rattle.std.proofs.lemmas.Fmt.{hex_byte}
 pub escaped_byte-plain : (b : ℕ) → 32 ≤ b → b ≢ 34 → b ≢ 92 → escaped_byte b ≡ b ∷ []
 escaped_byte-plain b low not_quote not_backslash = grind (arith, nat_tests)
 
-pub escaped-high : (text : List ℕ) → ((k : ℕ) → k < length text → 128 ≤ get_or text k 0) → escaped text ≡ text
+pub escaped-high : (text : List ℕ) → ((k : ℕ) → k < length text → 128 ≤ get_or text k 0) → quote_escaped text ≡ text
 escaped-high [] high = refl
 escaped-high (b ∷ bs) high =
     let here : 128 ≤ b = high 0 (omega arith) in
     let plain : escaped_byte b ≡ b ∷ [] = escaped_byte-plain b (omega arith) (omega arith) (omega arith) in
-    let rest : escaped bs ≡ bs = escaped-high bs (λ k h. high (suc k) (omega arith)) in
+    let rest : quote_escaped bs ≡ bs = escaped-high bs (λ k h. high (suc k) (omega arith)) in
     rw (plain, rest)
 
 -- no byte of a character above ASCII is escaped
@@ -25,7 +25,7 @@ byte-high c k wide inside =
     grind arith
 
 -- a character that is not escaped
-pub escaped-plain : (c : ℕ) → 32 ≤ c → c ≢ 34 → c ≢ 92 → escaped (encode_utf8 c) ≡ encode_utf8 c
+pub escaped-plain : (c : ℕ) → 32 ≤ c → c ≢ 34 → c ≢ 92 → quote_escaped (encode_utf8 c) ≡ encode_utf8 c
 escaped-plain c low not_quote not_backslash =
     elim (dec_lt c 128) [
       | yes ascii ↦ rw (encode_ascii c ascii) (ap (λ xs. xs ++ []) (escaped_byte-plain c low not_quote not_backslash))
@@ -33,7 +33,7 @@ escaped-plain c low not_quote not_backslash =
     ]
 
 -- a text in which nothing is escaped
-pub escaped-unescaped : (text : List ℕ) → list_all is_unescaped text ≡ true → escaped text ≡ text
+pub escaped-unescaped : (text : List ℕ) → list_all is_unescaped text ≡ true → quote_escaped text ≡ text
 escaped-unescaped [] h = refl
 escaped-unescaped (b ∷ text) h =
     let here : is_unescaped b ≡ true = grind (arith, h) in

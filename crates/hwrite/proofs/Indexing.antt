@@ -6,8 +6,8 @@ use Rattle.std.proofs.lemmas.List.{get_or_append_left, length_push}
 use Rattle.std.proofs.Math.Seq.{get_or-append_seam}
 use Rattle.hwrite.proofs.Marks.{place_next}
 use Rattle.hwrite.specs.Columns.{begins_character, column_at, ends_line, is_end, line_at}
-use Rattle.hwrite.specs.Indexed.{HasRead}
-use Rattle.hwrite.specs.ByteKinds.{AreAlike, kind_at, kind_of}
+use Rattle.hwrite.specs.Indexed.{IndexHasRead}
+use Rattle.hwrite.specs.ByteKinds.{AreAlikeBytes, kind_at, kind_of}
 use Rattle.hwrite.specs.declared.line_index.LineIndex.{LineIndex}
 
 ends_is : (text : List ℕ) (at : ℕ) → ends_line text at ≡ is_end (get_or text at 0) (get_or text (suc at) 0 == 10)
@@ -48,7 +48,7 @@ column_behind text (suc at) =
     ap₂ (λ ends column. if ends then 1 else (if begins_character (get_or text at 0) then 1 else 0) + column) (ends_behind text at) (column_behind text at)
 
 -- of bytes of one kind a line ends with both or none
-pub ends_alike : (a b : ℕ) (before_lf : Bool) → AreAlike a b → is_end a before_lf ≡ is_end b before_lf
+pub ends_alike : (a b : ℕ) (before_lf : Bool) → AreAlikeBytes a b → is_end a before_lf ≡ is_end b before_lf
 ends_alike a b before_lf alike = ap₂ (λ feeds returns. feeds || (returns && not before_lf)) alike.feeds alike.returns
 
 -- ---- the index
@@ -56,9 +56,9 @@ paired : {place : ℕ × ℕ} {line column : ℕ} → place.0 ≡ line → place
 paired first second = ap₂ {C = ℕ × ℕ} (λ line column. (line, column)) first second
 
 -- what counts of an index with more memory is as before
-pub grown : (old new : LineIndex) (bytes : List ℕ) → HasRead old bytes → new.length ≡ old.length
+pub grown : (old new : LineIndex) (bytes : List ℕ) → IndexHasRead old bytes → new.length ≡ old.length
     → ((k : ℕ) → get_or new.kinds.items k 0 ≡ get_or old.kinds.items k 0) → ((k : ℕ) → get_or new.marks.items k (1, 1) ≡ get_or old.marks.items k (1, 1))
-    → new.last ≡ old.last → new.place ≡ old.place → HasRead new bytes
+    → new.last ≡ old.last → new.place ≡ old.place → IndexHasRead new bytes
 grown old new bytes was length_is kinds marks last place = record {
   length_is = length_is ∙ was.length_is;
   fits = was.fits;
@@ -70,7 +70,7 @@ grown old new bytes was length_is kinds marks last place = record {
 }
 
 -- a byte more has been read
-pub read_on : (old new : LineIndex) (bytes : List ℕ) (byte : ℕ) → HasRead old bytes → new.length ≡ old.length + 1 → old.length + 1 < 2 ^ 64 - 1
+pub read_on : (old new : LineIndex) (bytes : List ℕ) (byte : ℕ) → IndexHasRead old bytes → new.length ≡ old.length + 1 → old.length + 1 < 2 ^ 64 - 1
     → kind_at new.kinds.items old.length ≡ kind_of byte
     → ((k : ℕ) → k < old.length → kind_at new.kinds.items k ≡ kind_at old.kinds.items k)
     → ((k : ℕ) → k * 256 ≡ old.length → get_or new.marks.items k (1, 1) ≡ new.place)
@@ -78,7 +78,7 @@ pub read_on : (old new : LineIndex) (bytes : List ℕ) (byte : ℕ) → HasRead 
     → new.last ≡ byte
     → (old.place.0 < 2 ^ 64 - 1 → new.place.0 ≡ (if is_end old.last (byte == 10) then 1 else 0) + old.place.0)
     → (old.place.1 < 2 ^ 64 - 1 → new.place.1 ≡ (if is_end old.last (byte == 10) then 1 else (if begins_character old.last then 1 else 0) + old.place.1))
-    → HasRead new (bytes ++ byte ∷ [])
+    → IndexHasRead new (bytes ++ byte ∷ [])
 read_on old new bytes byte was length_is fits kind_here kind_before mark_here mark_others last line column =
     let whole = bytes ++ byte ∷ [] in
     let at = length bytes in

@@ -1,6 +1,6 @@
 -- The names of other crates and of specs/ that several proofs cite, in one place.
 pub use Rattle.hnodes.specs.Forest.{Forest}
-pub use Rattle.hwrite.specs.Vocabulary.{spelled, Answers, of_document, counted, as_document, Parses, AnswersParse, options_of, ReadsInput, TokensMean, IsUnrefusedText, WritesText, Doctype, Comment, Char, Tok, Start, name_of, case_in, drafted, table_of, attribute_of, tok_of, Prints, PrintsTokens, tokens_text, plain_line, escaped_byte, escaped, quoted, Runs, RunsIn, BeginsIn, quoted_or_none, line_of, line_text, token_lines, attribute_words}
+pub use Rattle.hwrite.specs.Vocabulary.{mapped, Answers, of_document, counted, as_document, Parses, AnswersParse, options_of, ReadsInput, TokensMean, IsUnrefusedText, WritesText, Doctype, Comment, Char, Tok, Start, own_context, case_in, drafted, draft_table, draft_attribute, tok_of, Prints, PrintsTokens, tokens_text, plain_line, escaped_byte, quote_escaped, quoted, Runs, RunsIn, ParserBeginsIn, quoted_or_none, line_of, line_text, token_lines, attribute_words}
 pub use Rattle.hparse.specs.Parse.{ParseOptions}
 pub use Rattle.hparse.specs.declared.parsed.Parsed.{Parsed}
 pub use Rattle.hserialize.specs.Lines.{error_lines}

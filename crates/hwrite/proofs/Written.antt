@@ -1,5 +1,5 @@
 -- What a run does, from what its reading and its writing do.
-use Rattle.hwrite.proofs.Vocabulary.{◌≡◌, ◌⊎◌, inl, inr, true, false, None, Some, ℕ, List, [], ◌++◌, refl, sym, ap, subst, ◌∙◌, append-nil, Option, Result, Ok, Err, Appends, Refusal, Memory, Write, counted, AppendsBeginning, WritesText, ParseOptions, ReadsInput, Runs, RunsIn, ran, allowed, BeginsIn}
+use Rattle.hwrite.proofs.Vocabulary.{◌≡◌, ◌⊎◌, inl, inr, true, false, None, Some, ℕ, List, [], ◌++◌, refl, sym, ap, subst, ◌∙◌, append-nil, Option, Result, Ok, Err, Appends, Refusal, Memory, Write, counted, AppendsBeginning, WritesText, ParseOptions, ReadsInput, Runs, RunsIn, ran, allowed, ParserBeginsIn}
 use Rattle.std.proofs.Common.{MatchResult}
 use Rattle.std.specs.Io.KnownBytes.{Keeps, IsAtEnd}
 use Rattle.std.proofs.KnownBytes.{Keeps-refl, Appends-kept}
@@ -68,17 +68,17 @@ module _ {W : Type 0} (written : W → Option (List ℕ)) (failed : W → ℕ) w
 
 -- a parse that did not begin
 pub not_begun : {S R : Type 0} (left : S → Option (List ℕ)) (failed : S → ℕ) (answers : List ℕ → Result R Refusal → Type 0) (unrefused : List ℕ → Type 0) (piece : ℕ) (old : S) (opts : ParseOptions) (context : Option (List ℕ))
-    (e : Refusal) → BeginsIn opts context (Err e) → ReadsIn left failed context answers unrefused piece old old (Err e)
+    (e : Refusal) → ParserBeginsIn opts context (Err e) → ReadsIn left failed context answers unrefused piece old old (Err e)
 not_begun left failed answers unrefused piece old opts context e (inl (is, why)) = allowed is (reading_ran_out (ap (λ (x : Refusal). Err x) why) refl)
 not_begun left failed answers unrefused piece old opts context e (inr (not, why)) = not_allowed not (ap (λ (x : Refusal). Err x) why) refl
 
-pub begun_document : (opts : ParseOptions) (r : Result Parser Refusal) → MatchResult r (λ parser. HasParsed opts document parser []) (λ e. e ≡ Memory) → BeginsIn opts None r
+pub begun_document : (opts : ParseOptions) (r : Result Parser Refusal) → MatchResult r (λ parser. HasParsed opts document parser []) (λ e. e ≡ Memory) → ParserBeginsIn opts None r
 begun_document opts (Ok parser) h = (tt, h)
 begun_document opts (Err e) why = inl (tt, why)
 
 pub begun_fragment : (opts : ParseOptions) (context : List ℕ) (r : Result Parser Refusal)
     → MatchResult r (λ parser. (is_context context ≡ true) × HasParsed opts (fragment context) parser [])
-    (λ e. ((is_context context ≡ true) × (e ≡ Memory)) ⊎ ((is_context context ≡ false) × (e ≡ BadContext))) → BeginsIn opts (Some context) r
+    (λ e. ((is_context context ≡ true) × (e ≡ Memory)) ⊎ ((is_context context ≡ false) × (e ≡ BadContext))) → ParserBeginsIn opts (Some context) r
 begun_fragment opts context (Ok parser) h = h
 begun_fragment opts context (Err e) (inl h) = inl h
 begun_fragment opts context (Err e) (inr (isnt, why)) = inr ((λ is. absurd cc), why)

@@ -7,7 +7,7 @@ abbrev pub kind_of : ℕ → ℕ
 kind_of byte = if byte == 10 then 2 else if byte == 13 then 3 else if begins_character byte then 1 else 0
 
 -- two bytes of one kind: both are LF or none is, and so with CR and with bytes that begin a character
-pub record AreAlike (a b : ℕ) : Type 0 where
+pub record AreAlikeBytes (a b : ℕ) : Type 0 where
   pub feeds : (a == 10) ≡ (b == 10)
   pub returns : (a == 13) ≡ (b == 13)
   pub begins : begins_character a ≡ begins_character b

@@ -13,5 +13,5 @@ task_named name =
     else (if bytes_eq name (codes "write") then Some task.Write else (if bytes_eq name (codes "plain") then Some task.Plain else None)))))
 
 -- the text of a name, if there is one
-abbrev pub name_of : Option (Bor (List ℕ)) → Option (List ℕ)
-name_of name = option_map (λ s. s.now) name
+abbrev pub own_context : Option (Bor (List ℕ)) → Option (List ℕ)
+own_context name = option_map (λ s. s.now) name

@@ -7,8 +7,8 @@ abbrev pub inner_of : {T : Type 0} → Counted T → T
 inner_of counted = counted.inner
 
 -- how many calls have failed
-abbrev pub failures_of : {T : Type 0} → Counted T → ℕ
-failures_of counted = counted.failures
+abbrev pub counted_failures : {T : Type 0} → Counted T → ℕ
+counted_failures counted = counted.failures
 
 -- the number of bytes that a write has taken: one that takes none of one or more bytes has failed
 abbrev pub taken_of : {E : Type 0} → List ℕ → Result ℕ E → Option ℕ

@@ -11,21 +11,21 @@ use Rattle.htoken.specs.declared.token.Token.{Token}
 use Rattle.htoken.specs.declared.token.Token.TheVariants as code
 use Rattle.htoken.specs.Token.{Handed, Alone, WithNames, Tok, doctype_token, Start, End, Comment, Char, Eof}
 use Rattle.hwrite.specs.declared.draft.Draft.{Draft}
-use Rattle.hwrite.specs.Quoted.{escaped}
+use Rattle.hwrite.specs.Quoted.{quote_escaped}
 use Rattle.hwrite.specs.TokenLines.{Line, Characters, joined, line_of, line_text}
 
 -- the texts of a table of names, if there is one
-abbrev pub table_of : Option (Bor Texts) → Texts
-table_of None = []
-table_of (Some names) = names.now
+abbrev pub draft_table : Option (Bor Texts) → Texts
+draft_table None = []
+draft_table (Some names) = names.now
 
 -- an attribute and a token with their names as texts
-abbrev pub attribute_of : Texts → Attr → List ℕ × List ℕ
-attribute_of names attr = (text_of names attr.name, attr.value)
+abbrev pub draft_attribute : Texts → Attr → List ℕ × List ℕ
+draft_attribute names attr = (text_of names attr.name, attr.value)
 
 abbrev pub tok_of : Texts → Token → Tok
 tok_of names (code.Doctype doctype at) = doctype_token doctype.value at
-tok_of names (code.Start name attrs closing at) = Start (text_of names name) (map (attribute_of names) attrs.items) closing at
+tok_of names (code.Start name attrs closing at) = Start (text_of names name) (map (draft_attribute names) attrs.items) closing at
 tok_of names (code.End name at) = End (text_of names name) at
 tok_of names (code.Comment text at) = Comment (string_bytes text) at
 tok_of names (code.Char ch at) = Char ch at
@@ -52,7 +52,7 @@ end_of_characters false = []
 
 -- what is still to be written of lines, right after characters that are their line's so far
 abbrev pub after_characters : List Line → List ℕ
-after_characters (Characters at text ∷ lines) = escaped text ++ (codes "\"\n" ++ flat_map line_text lines)
+after_characters (Characters at text ∷ lines) = quote_escaped text ++ (codes "\"\n" ++ flat_map line_text lines)
 after_characters lines = codes "\"\n" ++ flat_map line_text lines
 
 -- what is still to be written of lines, where a line of characters is open or not

@@ -6,7 +6,7 @@ use Rattle.hwrite.specs.declared.line_index.LineIndex.{LineIndex}
 
 -- The index has read these bytes, in any pieces: it has the kind of each, the line and the column of each at a multiple of 256, and the
 -- last byte with its line and column. Before the first byte it is as though one that counts for nothing, a byte 128, had been read.
-pub record HasRead (index : LineIndex) (bytes : List ℕ) : Type 0 where
+pub record IndexHasRead (index : LineIndex) (bytes : List ℕ) : Type 0 where
   pub length_is : index.length ≡ length bytes
   pub fits : length bytes + 2 ≤ 2 ^ 64
   pub kinds : (at : ℕ) → at < length bytes → kind_at index.kinds.items at ≡ kind_of (slice_index_or bytes at 0)

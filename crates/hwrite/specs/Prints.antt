@@ -8,8 +8,8 @@ use Rattle.htext.specs.Text.{Policy}
 use Rattle.charref.specs.Reference.{Entities}
 use Rattle.htoken.specs.Token.{Tok}
 use Rattle.hnodes.specs.Forest.{Forest, children_of}
-use Rattle.hnodes.specs.Spelled.{spelled}
-use Rattle.hnodes.specs.Spots.{name_of}
+use Rattle.hnodes.specs.Mapped.{mapped}
+use Rattle.hnodes.specs.Spots.{node_name}
 use Rattle.hserialize.specs.Lines.{tree_text, error_lines}
 use Rattle.hserialize.specs.Plain.{is_plain}
 use Rattle.hserialize.specs.PlainDocument.{is_plain_document}
@@ -41,7 +41,7 @@ errors_text parse = error_lines parse.errors
 
 -- what is in the root as HTML (#serialising-html-fragments); the root's own name says how its texts are written
 abbrev pub written_text : Escaping → ParseCase → Parse → List ℕ
-written_text escaping parse_case parse = written escaping (name_of (root_of parse_case) parse.trees) (children_of (root_of parse_case) parse.trees)
+written_text escaping parse_case parse = written escaping (node_name (root_of parse_case) parse.trees) (children_of (root_of parse_case) parse.trees)
 
 -- whether the nodes of a fragment are plain in its context, or a document is plain
 abbrev pub is_plain_in : ParseCase → Forest (List ℕ) → Bool
@@ -78,14 +78,15 @@ context_of task.Tokens context = None
 context_of _ context = context
 
 -- the same text by the numbers of names: that of what was parsed, in this element or as a document
-abbrev pub nodes_of : Parsed → Forest (List ℕ)
-nodes_of parsed = spelled (text_of parsed.names) (children_of parsed.root parsed.tree.trees)
+abbrev pub parsed_nodes : Parsed → Forest (List ℕ)
+parsed_nodes parsed = mapped (text_of parsed.names) (children_of parsed.root parsed.tree.trees)
 
 abbrev pub parsed_text : Escaping → Task → Option (List ℕ) → Parsed → List ℕ
 parsed_text escaping task.Errors context parsed = error_lines parsed.errors.items
-parsed_text escaping task.Write context parsed = written escaping (option_map (text_of parsed.names) (name_of parsed.root parsed.tree.trees)) (nodes_of parsed)
-parsed_text escaping task.Plain context parsed = plain_line (is_plain_in (case_in context) (nodes_of parsed))
-parsed_text escaping _ context parsed = tree_text (nodes_of parsed)
+parsed_text escaping task.Write context parsed = written escaping (option_map (text_of parsed.names) (node_name parsed.root parsed.tree.trees))
+    (parsed_nodes parsed)
+parsed_text escaping task.Plain context parsed = plain_line (is_plain_in (case_in context) (parsed_nodes parsed))
+parsed_text escaping _ context parsed = tree_text (parsed_nodes parsed)
 
 -- what is printed of the tokens of a document, as a text in memory
 abbrev pub PrintsTokens : Entities → Policy → List ℕ → Result (String Global) Refusal → Type 0

@@ -12,12 +12,12 @@ escaped_byte b =
     else (if nat_lt b 32 then codes "\\x" ++ digit_char (b / 16) ∷ digit_char (b % 16) ∷ []
     else b ∷ [])))
 
-abbrev pub escaped : List ℕ → List ℕ
-escaped text = flat_map escaped_byte text
+abbrev pub quote_escaped : List ℕ → List ℕ
+quote_escaped text = flat_map escaped_byte text
 
 -- a text between quotes
 abbrev pub quoted : List ℕ → List ℕ
-quoted text = codes "\"" ++ escaped text ++ codes "\""
+quoted text = codes "\"" ++ quote_escaped text ++ codes "\""
 
 -- whether a byte is there as it is
 abbrev pub is_unescaped : ℕ → Bool

@@ -73,6 +73,6 @@ pub data ReadsIn {S R : Type 0} (left : S → Option (List ℕ)) (failed : S →
       → ReadsIn left failed context answers unrefused piece old new answer
 
 -- What beginning a parse does in this element, or of a document: memory runs out, where the element is allowed.
-abbrev pub BeginsIn : ParseOptions → Option (List ℕ) → Result Parser Refusal → Type 0
-BeginsIn opts context (Ok parser) = AllowsContext context × HasParsed opts (case_in context) parser []
-BeginsIn opts context (Err e) = (AllowsContext context × (e ≡ Memory)) ⊎ ((AllowsContext context → ⊥) × (e ≡ BadContext))
+abbrev pub ParserBeginsIn : ParseOptions → Option (List ℕ) → Result Parser Refusal → Type 0
+ParserBeginsIn opts context (Ok parser) = AllowsContext context × HasParsed opts (case_in context) parser []
+ParserBeginsIn opts context (Err e) = (AllowsContext context × (e ≡ Memory)) ⊎ ((AllowsContext context → ⊥) × (e ≡ BadContext))

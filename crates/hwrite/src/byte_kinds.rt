@@ -1,7 +1,7 @@
 //! The kinds of bytes that lines and columns tell apart, four in a byte.
 
 ghost use Rattle.std.specs.Prelude.{◌≡◌, ◌<◌, ◌/◌, ℕ, length};
-ghost use Rattle.hwrite.specs.ByteKinds.{AreAlike, kind_at, kind_of};
+ghost use Rattle.hwrite.specs.ByteKinds.{AreAlikeBytes, kind_at, kind_of};
 
 /// A byte of each kind: one that continues a character, one that begins a character, LF and CR.
 const KINDS: [u8; 4] = [0x80, b'a', b'\n', b'\r'];
@@ -20,7 +20,7 @@ pub fn kind_of(byte: u8) -> u8
 
 /// A byte of the kind at a place.
 pub fn byte_at(kinds: &[u8], at: usize) -> u8
-    ensures { (byte : ℕ) → kind_at kinds.now at ≡ kind_of byte → AreAlike result byte }
+    ensures { (byte : ℕ) → kind_at kinds.now at ≡ kind_of byte → AreAlikeBytes result byte }
 {
     KINDS[kind_at(kinds, at) as usize]
 }

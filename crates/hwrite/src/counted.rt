@@ -3,7 +3,7 @@
 ghost use Rattle.std.specs.Prelude.{◌≡◌, true, Ok, is_ok};
 ghost use Rattle.std.specs.Result.{result_ok};
 ghost use Rattle.std.specs.Io.KnownBytes.{Keeps};
-ghost use Rattle.hwrite.specs.Vocabulary.{CalledOnce, Reads, Writes, counted, counted_by, counted_unless, failures_of, inner_of, taken_of};
+ghost use Rattle.hwrite.specs.Vocabulary.{CalledOnce, ReadsCall, Writes, counted, counted_by, counted_unless, counted_failures, inner_of, taken_of};
 
 use crate::devices::{ReadDevice, WriteDevice};
 use hparse::Source;
@@ -20,7 +20,7 @@ impl<T> Counted<T> {
     /// No call has failed yet.
     pub fn new(inner: T) -> Self
         ensures inner { inner_of result ≡ inner }
-        ensures none { failures_of result ≡ 0 }
+        ensures none { counted_failures result ≡ 0 }
     {
         Counted { inner, failures: 0 }
     }
@@ -34,7 +34,7 @@ impl<T> Counted<T> {
 
     fn count_failure(&mut self)
         ensures inner { inner_of self.new ≡ inner_of self.old }
-        ensures count { failures_of self.new ≡ counted (failures_of self.old) }
+        ensures count { counted_failures self.new ≡ counted (counted_failures self.old) }
     {
         self.failures = self.failures.saturating_add(1);
     }
@@ -43,11 +43,11 @@ impl<T> Counted<T> {
 impl<D: ReadDevice> Source for Counted<D> {
     ghost left = { λ source. D.remaining (inner_of source) };
 
-    ghost failed = { failures_of };
+    ghost failed = { counted_failures };
 
     fn read(&mut self, buffer: &mut [u8]) -> Option<usize>
-        ensures bytes { Reads (D.remaining (inner_of self.old)) (D.remaining (inner_of self.new)) result buffer.new }
-        ensures count { failures_of self.new ≡ counted_by (failures_of self.old) result }
+        ensures bytes { ReadsCall (D.remaining (inner_of self.old)) (D.remaining (inner_of self.new)) result buffer.new }
+        ensures count { counted_failures self.new ≡ counted_by (counted_failures self.old) result }
         ensures once { CalledOnce (λ answer. D.reads (inner_of self.old) answer buffer.new (inner_of self.new)) result_ok result }
     {
         match self.inner.read_once(buffer) {
@@ -67,14 +67,14 @@ impl<D: ReadDevice> Source for Counted<D> {
 impl<D: WriteDevice> Target for Counted<D> {
     ghost written = { λ target. D.contents (inner_of target) };
 
-    ghost failed = { failures_of };
+    ghost failed = { counted_failures };
 
     // One flush of what is inside, which succeeded.
     ghost flushes = { λ before after. D.flushes (inner_of before) (Ok tt) (inner_of after) };
 
     fn write(&mut self, bytes: &[u8]) -> Option<usize>
         ensures bytes { Writes (D.contents (inner_of self.old)) (D.contents (inner_of self.new)) result bytes.now }
-        ensures count { failures_of self.new ≡ counted_by (failures_of self.old) result }
+        ensures count { counted_failures self.new ≡ counted_by (counted_failures self.old) result }
         ensures once { CalledOnce (λ answer. D.writes (inner_of self.old) bytes.now answer (inner_of self.new)) (taken_of bytes.now) result }
     {
         match self.inner.write_once(bytes) {
@@ -89,7 +89,7 @@ impl<D: WriteDevice> Target for Counted<D> {
     fn flush(&mut self) -> bool
         ensures bytes { Keeps (D.contents (inner_of self.old)) (D.contents (inner_of self.new)) }
         ensures flushed { result ≡ true → D.flushes (inner_of self.old) (Ok tt) (inner_of self.new) }
-        ensures count { failures_of self.new ≡ counted_unless (failures_of self.old) result }
+        ensures count { counted_failures self.new ≡ counted_unless (counted_failures self.old) result }
         ensures once { CalledOnce (λ answer. D.flushes (inner_of self.old) answer (inner_of self.new)) is_ok result }
     {
         let is_flushed = self.inner.flush_once().is_ok();

@@ -4,7 +4,7 @@ ghost use Rattle.std.specs.Prelude.{◌≡◌, [], List, false, true, MatchResul
 ghost use Rattle.std.specs.List.{flat_map};
 ghost use Rattle.std.specs.String.{string_bytes};
 ghost use Rattle.names.specs.declared.refusal.Refusal.TheVariants.{Memory};
-ghost use Rattle.hwrite.specs.Vocabulary.{AddsText, beginning_of_characters, Char, drafted, Drafts, end_of_characters, Line, line_text, table_of, tok_of};
+ghost use Rattle.hwrite.specs.Vocabulary.{AddsText, beginning_of_characters, Char, drafted, Drafts, end_of_characters, Line, line_text, draft_table, tok_of};
 
 use crate::quoted::push_escaped;
 use crate::words::{CHARACTERS, END_OF_CHARACTERS, begin_line, push_line};
@@ -65,7 +65,7 @@ impl Draft {
 
     /// Writes a token, with the table of its names if it is a tag.
     pub fn push(&mut self, token: &Token, names: Option<&Names>) -> Result<(), AllocError>
-        ensures { OnOk result (Drafts self.old (tok_of (table_of names.entry) token.now) self.new) }
+        ensures { OnOk result (Drafts self.old (tok_of (draft_table names.entry) token.now) self.new) }
     {
         if let Token::Char { ch, at } = token {
             return self.push_text(*ch, *at);

@@ -1,7 +1,7 @@
 //! An input from a reader, and what is made of it to a writer.
 
-ghost use Rattle.std.specs.Prelude.{◌≡◌, ◌<◌, ◌≤◌, [], OnOk};
-ghost use Rattle.hwrite.specs.Vocabulary.{text_of, children_of, spelled, Answers, of_document, Parses, options_of, AnswersParse, IsUnrefused, IsUnrefusedText, as_document, ReadsInput, name_of, case_in, is_plain_in, parse_text, parsed_text, plain_line, tokens_text, Prints, PrintsTokens, BeginsIn, ReadsIn, Runs, RunsIn, RunsTask, IsFlushed, WritesText};
+ghost use Rattle.std.specs.Prelude.{◌≡◌, ◌<◌, [], OnOk};
+ghost use Rattle.hwrite.specs.Vocabulary.{text_of, children_of, mapped, Answers, of_document, Parses, options_of, AnswersParse, IsUnrefused, IsUnrefusedText, as_document, ReadsInput, own_context, case_in, is_plain_in, parse_text, parsed_text, plain_line, tokens_text, Prints, PrintsTokens, ParserBeginsIn, ReadsIn, Runs, RunsIn, RunsTask, IsFlushed, WritesText};
 
 use crate::command::{Command, Task};
 use crate::draft::Draft;
@@ -22,7 +22,7 @@ pub fn run<S: Source, W: Target>(
     target: &mut W,
 ) -> Result<(), Refusal>
     requires piece { 0 < command.piece }
-    ensures runs { RunsTask S.left S.failed W.written W.failed command.entry.escaping command.entry.task (name_of command.entry.context)
+    ensures runs { RunsTask S.left S.failed W.written W.failed command.entry.escaping command.entry.task (own_context command.entry.context)
         (options_of options.now) command.entry.piece
         source.old source.new target.old target.new result }
     ensures flushed { OnOk result (IsFlushed W.flushes target.new) }
@@ -87,10 +87,10 @@ fn run_parsed<S: Source, W: Target>(
     target: &mut W,
 ) -> Result<(), Refusal>
     requires piece { 0 < command.piece }
-    ensures runs { RunsIn S.left S.failed W.written W.failed (name_of command.entry.context)
-        (Prints (Parses (options_of options.now) (case_in (name_of command.entry.context)))
-        (parse_text command.entry.escaping command.entry.task (case_in (name_of command.entry.context))))
-        (IsUnrefused (options_of options.now) (case_in (name_of command.entry.context)))
+    ensures runs { RunsIn S.left S.failed W.written W.failed (own_context command.entry.context)
+        (Prints (Parses (options_of options.now) (case_in (own_context command.entry.context)))
+        (parse_text command.entry.escaping command.entry.task (case_in (own_context command.entry.context))))
+        (IsUnrefused (options_of options.now) (case_in (own_context command.entry.context)))
         command.entry.piece source.old source.new target.old target.new result }
     ensures flushed { OnOk result (IsFlushed W.flushes target.new) }
 {
@@ -116,7 +116,7 @@ fn print_parsed<W: Target>(
     parsed: &Parsed,
     target: &mut W,
 ) -> Result<(), Refusal>
-    ensures text { WritesText W.written W.failed (parsed_text command.entry.escaping command.entry.task (name_of command.entry.context) parsed.now)
+    ensures text { WritesText W.written W.failed (parsed_text command.entry.escaping command.entry.task (own_context command.entry.context) parsed.now)
         target.old target.new result }
     ensures flushed { OnOk result (IsFlushed W.flushes target.new) }
 {
@@ -139,8 +139,8 @@ fn plain_line(is_plain: bool) -> &'static [u8]
 
 /// Whether what was parsed in an element of this name is plain there, or a document is plain.
 fn is_plain_in(context: Option<&str>, parsed: &Parsed) -> bool
-    ensures { result ≡ is_plain_in (case_in (name_of context.entry))
-        (spelled (text_of parsed.now.names) (children_of parsed.now.root parsed.now.tree.trees)) }
+    ensures { result ≡ is_plain_in (case_in (own_context context.entry))
+        (mapped (text_of parsed.now.names) (children_of parsed.now.root parsed.now.tree.trees)) }
 {
     match context {
         Some(name) => parsed.is_plain(name),
@@ -156,8 +156,8 @@ fn parse<S: Source>(
     source: &mut S,
 ) -> Result<Parsed, Refusal>
     requires piece { 0 < command.piece }
-    ensures { ReadsIn S.left S.failed (name_of command.entry.context) (AnswersParse (options_of options.now) (case_in (name_of command.entry.context)))
-        (IsUnrefused (options_of options.now) (case_in (name_of command.entry.context))) command.entry.piece source.old source.new result }
+    ensures { ReadsIn S.left S.failed (own_context command.entry.context) (AnswersParse (options_of options.now) (case_in (own_context command.entry.context)))
+        (IsUnrefused (options_of options.now) (case_in (own_context command.entry.context))) command.entry.piece source.old source.new result }
 {
     let parser = parser(alloc, command.context, options)?;
     parse_reader(alloc, parser, command.piece, source)
@@ -169,7 +169,7 @@ pub fn parser<'t>(
     context: Option<&str>,
     options: &Options<'t>,
 ) -> Result<Parser<'t>, Refusal>
-    ensures { BeginsIn (options_of options.now) (name_of context.entry) result }
+    ensures { ParserBeginsIn (options_of options.now) (own_context context.entry) result }
 {
     match context {
         None => Parser::document(alloc, options),

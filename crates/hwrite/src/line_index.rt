@@ -2,7 +2,7 @@
 
 ghost use Rattle.std.specs.Prelude.{◌≡◌, ◌≢◌, ◌==◌, ◌<◌, ◌≤◌, ◌^◌, ◌-◌, ◌*◌, ◌+◌, ◌∷◌, ◌++◌, [], List, OnOk, OnErr, length, min, slice_index_or, vec_len, ℕ};
 ghost use Rattle.hwrite.specs.Columns.{column_at, line_at};
-ghost use Rattle.hwrite.specs.Indexed.{HasRead};
+ghost use Rattle.hwrite.specs.Indexed.{IndexHasRead};
 
 use crate::byte_kinds::{byte_at, kind_of, set_kind};
 use crate::columns::{STEP, end_of, next_place};
@@ -28,7 +28,7 @@ pub struct LineIndex {
 impl LineIndex {
     /// The lines of a text of which nothing has come yet.
     pub fn new(alloc: Global) -> LineIndex
-        ensures { HasRead result [] }
+        ensures { IndexHasRead result [] }
     {
         LineIndex {
             length: 0,
@@ -42,8 +42,8 @@ impl LineIndex {
     /// Reads the next piece of the text, in as many steps as it has bytes. On an error nothing of it is read: each question has the
     /// answer that it had, and the piece can be fed again.
     pub fn feed(&mut self, piece: &[u8]) -> Result<(), AllocError>
-        ensures ok { OnOk result ((bytes : List ℕ) → HasRead self.old bytes → HasRead self.new (bytes ++ piece.now)) }
-        ensures err { OnErr result ((bytes : List ℕ) → HasRead self.old bytes → HasRead self.new bytes) }
+        ensures ok { OnOk result ((bytes : List ℕ) → IndexHasRead self.old bytes → IndexHasRead self.new (bytes ++ piece.now)) }
+        ensures err { OnErr result ((bytes : List ℕ) → IndexHasRead self.old bytes → IndexHasRead self.new bytes) }
     {
         self.make_room(piece.len())?;
         for byte in piece {
@@ -54,7 +54,7 @@ impl LineIndex {
 
     /// Makes room for this many bytes more, so that no memory is needed to read them.
     fn make_room(&mut self, more: usize) -> Result<(), AllocError>
-        ensures same { (bytes : List ℕ) → HasRead self.old bytes → HasRead self.new bytes }
+        ensures same { (bytes : List ℕ) → IndexHasRead self.old bytes → IndexHasRead self.new bytes }
         ensures room { OnOk result ((self.new.length + more < 2 ^ 64 - 1) × (self.new.length + more ≤ 4 * vec_len self.new.kinds)
             × (self.new.length + more ≤ 256 * vec_len self.new.marks)) }
     {
@@ -70,7 +70,7 @@ impl LineIndex {
     fn read(&mut self, byte: u8)
         requires fits { self.old.length + 1 < 2 ^ 64 - 1 }
         requires room { (self.old.length < 4 * vec_len self.old.kinds) × (self.old.length < 256 * vec_len self.old.marks) }
-        ensures read { (bytes : List ℕ) → HasRead self.old bytes → HasRead self.new (bytes ++ byte ∷ []) }
+        ensures read { (bytes : List ℕ) → IndexHasRead self.old bytes → IndexHasRead self.new (bytes ++ byte ∷ []) }
         ensures length { self.new.length ≡ self.old.length + 1 }
         ensures room { (vec_len self.new.kinds ≡ vec_len self.old.kinds) × (vec_len self.new.marks ≡ vec_len self.old.marks) }
     {
@@ -84,8 +84,8 @@ impl LineIndex {
 
     /// The line and the column of the byte of the text at this offset, as [`line_column`](crate::line_column) has them.
     pub fn line_column(&self, at: u64) -> (usize, usize)
-        ensures line { (bytes : List ℕ) → HasRead self.now bytes → result.0 ≡ line_at bytes (min at (length bytes)) }
-        ensures column { (bytes : List ℕ) → HasRead self.now bytes → result.1 ≡ column_at bytes (min at (length bytes)) }
+        ensures line { (bytes : List ℕ) → IndexHasRead self.now bytes → result.0 ≡ line_at bytes (min at (length bytes)) }
+        ensures column { (bytes : List ℕ) → IndexHasRead self.now bytes → result.1 ≡ column_at bytes (min at (length bytes)) }
     {
         let end = end_of(self.length, at);
         let mark = end.saturating_sub(1) / STEP;
@@ -96,7 +96,7 @@ impl LineIndex {
     /// The line and the column of a byte, from those of one before it.
     fn place_after(&self, from: usize, end: usize, place: (usize, usize)) -> (usize, usize)
         requires { (from ≤ end) × (end ≤ self.now.length) }
-        ensures { (bytes : List ℕ) → HasRead self.now bytes → place.0 ≡ line_at bytes from → place.1 ≡ column_at bytes from
+        ensures { (bytes : List ℕ) → IndexHasRead self.now bytes → place.0 ≡ line_at bytes from → place.1 ≡ column_at bytes from
             → (result.0 ≡ line_at bytes end) × (result.1 ≡ column_at bytes end) }
     {
         let mut place = place;
@@ -110,7 +110,7 @@ impl LineIndex {
     /// Whether LF is the byte after the one at this place.
     fn is_before_lf(&self, index: usize) -> bool
         requires { index < self.now.length }
-        ensures { (bytes : List ℕ) → HasRead self.now bytes → result ≡ (slice_index_or bytes (1 + index) 0 == 10) }
+        ensures { (bytes : List ℕ) → IndexHasRead self.now bytes → result ≡ (slice_index_or bytes (1 + index) 0 == 10) }
     {
         self.length - index > 1 && byte_at(&self.kinds, index + 1) == b'\n'
     }

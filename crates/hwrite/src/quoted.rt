@@ -3,7 +3,7 @@
 ghost use Rattle.std.specs.Prelude.{◌≡◌, ◌⊎◌, ◌++◌, ◌<◌, OnOk, encode_utf8};
 ghost use Rattle.std.specs.List.{list_all};
 ghost use Rattle.std.specs.String.{string_bytes};
-ghost use Rattle.hwrite.specs.Quoted.{escaped, escaped_byte, is_unescaped, quoted};
+ghost use Rattle.hwrite.specs.Quoted.{quote_escaped, escaped_byte, is_unescaped, quoted};
 
 use std::alloc::AllocError;
 
@@ -28,7 +28,7 @@ fn push_escape(text: &mut String, ch: char) -> Result<(), AllocError>
 #[inline]
 pub fn push_escaped(text: &mut String, ch: char) -> Result<(), AllocError>
     ensures { OnOk result
-        (string_bytes text.new ≡ string_bytes text.old ++ escaped (encode_utf8 ch)) }
+        (string_bytes text.new ≡ string_bytes text.old ++ quote_escaped (encode_utf8 ch)) }
 {
     if ch >= ' ' && ch != '"' && ch != '\\' {
         text.push(ch)
@@ -40,7 +40,7 @@ pub fn push_escaped(text: &mut String, ch: char) -> Result<(), AllocError>
 /// Writes the characters of a text as they are between quotes.
 fn push_each(text: &mut String, source: &str) -> Result<(), AllocError>
     ensures { OnOk result
-        (string_bytes text.new ≡ string_bytes text.old ++ escaped source.now) }
+        (string_bytes text.new ≡ string_bytes text.old ++ quote_escaped source.now) }
 {
     for ch in source.chars() {
         push_escaped(text, ch)?;
@@ -65,7 +65,7 @@ fn are_unescaped(bytes: &[u8]) -> bool
 /// Writes a text as it is between quotes: at once, where nothing in it is escaped.
 fn push_escaped_text(text: &mut String, source: &str) -> Result<(), AllocError>
     ensures { OnOk result
-        (string_bytes text.new ≡ string_bytes text.old ++ escaped source.now) }
+        (string_bytes text.new ≡ string_bytes text.old ++ quote_escaped source.now) }
 {
     if are_unescaped(source.as_bytes()) {
         return text.push_str(source);

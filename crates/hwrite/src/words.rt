@@ -3,8 +3,8 @@
 ghost use Rattle.std.specs.Prelude.{◌≡◌, ◌++◌, [], codes, decimal, if◌then◌else◌, map, OnOk};
 ghost use Rattle.std.specs.List.{flat_map};
 ghost use Rattle.std.specs.String.{string_bytes};
-ghost use Rattle.hmarkup.specs.DoctypeWalk.{text_of as text_if_any};
-ghost use Rattle.hwrite.specs.Vocabulary.{doctype_token, Start, Char, attribute_of, attribute_words, quoted, quoted_or_none, line_of, line_text, table_of, text_of, tok_of};
+ghost use Rattle.hmarkup.specs.DoctypeWalk.{optional_text as text_if_any};
+ghost use Rattle.hwrite.specs.Vocabulary.{doctype_token, Start, Char, draft_attribute, attribute_words, quoted, quoted_or_none, line_of, line_text, draft_table, text_of, tok_of};
 
 use crate::quoted::{push_escaped, push_quoted};
 use hmarkup::Doctype;
@@ -66,7 +66,7 @@ fn push_doctype(text: &mut String, doctype: &Doctype, at: u64) -> Result<(), All
 
 /// The text of a name of this table.
 fn name_text<'n>(names: Option<&'n Names>, name: NameId) -> &'n str
-    ensures { result.now ≡ text_of (table_of names.entry) name }
+    ensures { result.now ≡ text_of (draft_table names.entry) name }
 {
     match names {
         Some(names) => names.text(name),
@@ -77,7 +77,7 @@ fn name_text<'n>(names: Option<&'n Names>, name: NameId) -> &'n str
 /// Writes an attribute of a start tag.
 fn push_attribute(text: &mut String, attr: &Attr, names: Option<&Names>) -> Result<(), AllocError>
     ensures { OnOk result (string_bytes text.new
-        ≡ string_bytes text.old ++ attribute_words (attribute_of (table_of names.entry) attr.now)) }
+        ≡ string_bytes text.old ++ attribute_words (draft_attribute (draft_table names.entry) attr.now)) }
 {
     text.push(' ')?;
     push_quoted(text, name_text(names, attr.name()))?;
@@ -92,7 +92,7 @@ fn push_attributes(
     names: Option<&Names>,
 ) -> Result<(), AllocError>
     ensures { OnOk result (string_bytes text.new
-        ≡ string_bytes text.old ++ flat_map attribute_words (map (attribute_of (table_of names.entry)) attrs.now)) }
+        ≡ string_bytes text.old ++ flat_map attribute_words (map (draft_attribute (draft_table names.entry)) attrs.now)) }
 {
     for attr in attrs {
         push_attribute(text, attr, names)?;
@@ -110,7 +110,7 @@ fn push_start_tag(
     names: Option<&Names>,
 ) -> Result<(), AllocError>
     ensures { OnOk result (string_bytes text.new ≡ string_bytes text.old
-        ++ line_text (line_of (Start (text_of (table_of names.entry) name) (map (attribute_of (table_of names.entry)) attrs.now) closing at))) }
+        ++ line_text (line_of (Start (text_of (draft_table names.entry) name) (map (draft_attribute (draft_table names.entry)) attrs.now) closing at))) }
 {
     begin_line(text, at, "start ")?;
     push_quoted(text, name_text(names, name))?;
@@ -141,7 +141,7 @@ fn push_character(text: &mut String, ch: char, at: u64) -> Result<(), AllocError
 /// Writes the line of a token by itself, with the table of its names if it is a tag.
 pub fn push_line(text: &mut String, token: &Token, names: Option<&Names>) -> Result<(), AllocError>
     ensures { OnOk result (string_bytes text.new
-        ≡ string_bytes text.old ++ line_text (line_of (tok_of (table_of names.entry) token.now))) }
+        ≡ string_bytes text.old ++ line_text (line_of (tok_of (draft_table names.entry) token.now))) }
 {
     match token {
         Token::Doctype { doctype, at } => push_doctype(text, doctype, *at),

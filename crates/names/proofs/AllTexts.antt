@@ -1,5 +1,5 @@
 -- Texts for all numbers.
-use Rattle.names.proofs.Vocabulary.{◌≡◌, ℕ, ◌+◌, ◌<◌, ◌≤◌, zero, suc, Bool, true, false, cond, List, [], ◌∷◌, length, sym, refl, ap, ◌∙◌, subst, arith, inl, inr, bytes_eq, replicate, nat_le, list_all, length-replicate, get_or_past, cases_lt, leb-true, and_parts, slice_get-get_or, slice_get_within, get_or_from_slice_get, Tag, Other, tag_text, tags, tag_of, tag_named, tag_among, Texts, text_of, AreDistinct, AreNames, total, spelling, known}
+use Rattle.names.proofs.Vocabulary.{◌≡◌, ℕ, ◌+◌, ◌<◌, ◌≤◌, zero, suc, Bool, true, false, cond, List, [], ◌∷◌, length, sym, refl, ap, ◌∙◌, subst, arith, inl, inr, bytes_eq, replicate, nat_le, list_all, length-replicate, get_or_past, cases_lt, leb-true, and_parts, slice_get-get_or, slice_get_within, get_or_from_slice_get, Tag, Other, tag_text, tags, tag_of, tag_named, tag_among, Texts, text_of, AreDistinct, AreNames, text_total, spelling, known}
 use Rattle.std.specs.Prelude.{nat_eq}
 use Rattle.std.proofs.lemmas.Bool.{lt-ltb, le-ltb}
 use Rattle.std.proofs.lemmas.List.{length-take}
@@ -9,10 +9,10 @@ use Rattle.names.proofs.KnownTags.{different, tag_of-named}
 use Rattle.names.proofs.TableLemmas.{bytes_eq-same}
 
 abbrev pub beyond : Texts → ℕ → List ℕ
-beyond names id = replicate (1 + (total names + id)) 0
+beyond names id = replicate (1 + (text_total names + id)) 0
 
 -- no text of a table is longer than all of them
-pub length-text_of : (names : Texts) (id : ℕ) → id < length names → length (text_of names id) ≤ total names
+pub length-text_of : (names : Texts) (id : ℕ) → id < length names → length (text_of names id) ≤ text_total names
 length-text_of [] id within = absurd (omega (arith, within))
 length-text_of (text ∷ names) zero within = omega arith
 length-text_of (text ∷ names) (suc id) within = omega (arith, length-text_of names id (omega (arith, within)))
@@ -27,8 +27,8 @@ spelled_beyond names id past = ap (λ (v : Bool). cond v (text_of names id) (bey
 -- so no two numbers have one text
 inside_and_beyond : (names : Texts) (a b : ℕ) → a < length names → length names ≤ b → spelling names a ≡ spelling names b → ⊥
 inside_and_beyond names a b within past e =
-    let same : length (text_of names a) ≡ 1 + (total names + b) =
-    ap length (sym (spelled_within names a within) ∙ e ∙ spelled_beyond names b past) ∙ length-replicate (1 + (total names + b)) 0 in
+    let same : length (text_of names a) ≡ 1 + (text_total names + b) =
+    ap length (sym (spelled_within names a within) ∙ e ∙ spelled_beyond names b past) ∙ length-replicate (1 + (text_total names + b)) 0 in
     omega (arith, length-text_of names a within)
 
 one_to_one : (names : Texts) → AreDistinct names → (a b : ℕ) → spelling names a ≡ spelling names b → a ≡ b
@@ -40,8 +40,8 @@ one_to_one names distinct a b e = elim (cases_lt a (length names)) [
   | inr a_past ↦ elim (cases_lt b (length names)) [
     | inl b_in ↦ absurd (inside_and_beyond names b a b_in a_past (sym e))
     | inr b_past ↦
-        let same : 1 + (total names + a) ≡ 1 + (total names + b) =
-        sym (length-replicate (1 + (total names + a)) 0) ∙ ap length (sym (spelled_beyond names a a_past) ∙ e ∙ spelled_beyond names b b_past) ∙ length-replicate (1 + (total names + b)) 0 in
+        let same : 1 + (text_total names + a) ≡ 1 + (text_total names + b) =
+        sym (length-replicate (1 + (text_total names + a)) 0) ∙ ap length (sym (spelled_beyond names a a_past) ∙ e ∙ spelled_beyond names b b_past) ∙ length-replicate (1 + (text_total names + b)) 0 in
         omega arith
   ]
 ]
@@ -76,7 +76,7 @@ same_tags names h a = elim (cases_lt a (length names)) [
   | inr a_past ↦
       let many : length known ≤ length names = known-within names h in
       ap tag_named (spelled_beyond names a a_past)
-      ∙ tag_among-long tags (beyond names a) refl (subst (λ (n : ℕ). 16 < n) (sym (length-replicate (1 + (total names + a)) 0)) (omega (arith, many, a_past)))
+      ∙ tag_among-long tags (beyond names a) refl (subst (λ (n : ℕ). 16 < n) (sym (length-replicate (1 + (text_total names + a)) 0)) (omega (arith, many, a_past)))
       ∙ sym (get_or_past tags a Other (omega (arith, many, a_past)))
 ]
 

@@ -1,6 +1,6 @@
 -- The names of other crates and of specs/ that several proofs cite, in one place.
 pub use Rattle.names.specs.Names.{Texts, text_of, AreDistinct, AreNames}
-pub use Rattle.names.specs.Spelling.{total, spelling}
+pub use Rattle.names.specs.Spelling.{text_total, spelling}
 pub use Rattle.names.specs.Table.{AreOthers}
 pub use Rattle.names.specs.Tags.{known, tag_text, tags, tag_of, tag_named, tag_among, type_name}
 pub use Rattle.names.specs.declared.tag.Tag.{Tag}

@@ -4,6 +4,6 @@ use Rattle.names.specs.Attr.{AttrParts}
 use Rattle.names.specs.declared.attr.Named.{Named}
 use Rattle.names.specs.declared.attr.Named.TheVariants as named
 
-abbrev pub parts_of : Named → AttrParts
-parts_of (named.Short name value) = record { name = name; value = value }
-parts_of (named.Long name value) = record { name = name; value = string_bytes value }
+abbrev pub attr_parts : Named → AttrParts
+attr_parts (named.Short name value) = record { name = name; value = value }
+attr_parts (named.Long name value) = record { name = name; value = string_bytes value }

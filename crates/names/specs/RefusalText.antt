@@ -6,19 +6,19 @@ use Rattle.names.specs.declared.refusal.Refusal.TheVariants as refusal
 use Rattle.names.specs.declared.refusal.TableFault.{TableFault}
 use Rattle.names.specs.declared.refusal.TableFault.TheVariants as cause
 
-abbrev pub name_of : Refusal → List ℕ
-name_of (refusal.NotUtf8 at) = codes "NotUtf8"
-name_of (refusal.OutOfProfile name at) = codes "OutOfProfile"
-name_of (refusal.TooLarge at) = codes "TooLarge"
-name_of (refusal.TooManyNodes at) = codes "TooManyNodes"
-name_of (refusal.TooDeep at) = codes "TooDeep"
-name_of refusal.Memory = codes "Memory"
-name_of refusal.Read = codes "Read"
-name_of refusal.BadContext = codes "BadContext"
-name_of (refusal.BadTable cause) = codes "BadTable"
-name_of (refusal.BadQuirks line) = codes "BadQuirks"
-name_of refusal.BadLimits = codes "BadLimits"
-name_of refusal.Write = codes "Write"
+abbrev pub refusal_name : Refusal → List ℕ
+refusal_name (refusal.NotUtf8 at) = codes "NotUtf8"
+refusal_name (refusal.OutOfProfile name at) = codes "OutOfProfile"
+refusal_name (refusal.TooLarge at) = codes "TooLarge"
+refusal_name (refusal.TooManyNodes at) = codes "TooManyNodes"
+refusal_name (refusal.TooDeep at) = codes "TooDeep"
+refusal_name refusal.Memory = codes "Memory"
+refusal_name refusal.Read = codes "Read"
+refusal_name refusal.BadContext = codes "BadContext"
+refusal_name (refusal.BadTable cause) = codes "BadTable"
+refusal_name (refusal.BadQuirks line) = codes "BadQuirks"
+refusal_name refusal.BadLimits = codes "BadLimits"
+refusal_name refusal.Write = codes "Write"
 
 abbrev pub cause_text : TableFault → List ℕ
 cause_text cause.Json = codes "Json"
@@ -28,20 +28,20 @@ cause_text cause.Codepoints = codes "Codepoints"
 cause_text cause.Characters = codes "Characters"
 
 -- the element or the cause that a refusal names
-abbrev pub detail_of : Refusal → Option (List ℕ)
-detail_of (refusal.OutOfProfile name at) = Some (refused_text name)
-detail_of (refusal.BadTable cause) = Some (cause_text cause)
-detail_of _ = None
+abbrev pub refusal_detail : Refusal → Option (List ℕ)
+refusal_detail (refusal.OutOfProfile name at) = Some (refused_text name)
+refusal_detail (refusal.BadTable cause) = Some (cause_text cause)
+refusal_detail _ = None
 
 -- its number, after the word that says what it counts
-abbrev pub number_of : Refusal → Option (List ℕ × ℕ)
-number_of (refusal.NotUtf8 at) = Some (codes "at", at)
-number_of (refusal.OutOfProfile name at) = Some (codes "at", at)
-number_of (refusal.TooLarge at) = Some (codes "at", at)
-number_of (refusal.TooManyNodes at) = Some (codes "at", at)
-number_of (refusal.TooDeep at) = Some (codes "at", at)
-number_of (refusal.BadQuirks line) = Some (codes "line", line)
-number_of _ = None
+abbrev pub number_in_refusal : Refusal → Option (List ℕ × ℕ)
+number_in_refusal (refusal.NotUtf8 at) = Some (codes "at", at)
+number_in_refusal (refusal.OutOfProfile name at) = Some (codes "at", at)
+number_in_refusal (refusal.TooLarge at) = Some (codes "at", at)
+number_in_refusal (refusal.TooManyNodes at) = Some (codes "at", at)
+number_in_refusal (refusal.TooDeep at) = Some (codes "at", at)
+number_in_refusal (refusal.BadQuirks line) = Some (codes "line", line)
+number_in_refusal _ = None
 
 -- a space and the word, where there is one
 abbrev pub detail_text : Option (List ℕ) → List ℕ
@@ -54,4 +54,4 @@ number_text None = []
 number_text (Some number) = (codes " " ++ number.0) ++ (codes " " ++ decimal number.1)
 
 abbrev pub refusal_text : Refusal → List ℕ
-refusal_text refusal = name_of refusal ++ detail_text (detail_of refusal) ++ number_text (number_of refusal)
+refusal_text refusal = refusal_name refusal ++ detail_text (refusal_detail refusal) ++ number_text (number_in_refusal refusal)

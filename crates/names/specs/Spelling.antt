@@ -14,13 +14,13 @@ abbrev pub SpellsNumbers : (ℕ → List ℕ) → Type 0
 SpellsNumbers texts = IsSpelling tag_of tag_named nat_eq bytes_eq texts
 
 -- how long the texts are together
-abbrev pub total : Texts → ℕ
-total [] = 0
-total (text ∷ names) = length text + total names
+abbrev pub text_total : Texts → ℕ
+text_total [] = 0
+text_total (text ∷ names) = length text + text_total names
 
 -- the texts of a table, and beyond its end others that are longer than all of them
 abbrev pub spelling : Texts → ℕ → List ℕ
-spelling names id = if nat_lt id (length names) then text_of names id else replicate (1 + (total names + id)) 0
+spelling names id = if nat_lt id (length names) then text_of names id else replicate (1 + (text_total names + id)) 0
 
 -- each table's texts are among those of a spelling of all numbers
 pub record IsSpelled (names : Texts) (texts : ℕ → List ℕ) : Type 0 where

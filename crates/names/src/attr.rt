@@ -30,9 +30,9 @@ impl Model for Attr {
 
     ghost Value = { AttrParts };
 
-    ghost use Rattle.names.specs.AttrView.{parts_of};
+    ghost use Rattle.names.specs.AttrView.{attr_parts};
 
-    ghost view = { λ a. parts_of a.named };
+    ghost view = { λ a. attr_parts a.named };
 }
 
 impl Attr {

@@ -1,7 +1,7 @@
 //! Why an input, a list or a limit is refused.
 
 ghost use Rattle.std.specs.Prelude.{◌≡◌, Some, option_map};
-ghost use Rattle.names.specs.RefusalText.{cause_text, detail_of, name_of, number_of, refusal_text};
+ghost use Rattle.names.specs.RefusalText.{cause_text, refusal_detail, refusal_name, number_in_refusal, refusal_text};
 ghost use Rattle.names.specs.declared.refusal.Refusal.TheVariants.{Memory};
 
 use crate::raw::RefusedName;
@@ -88,7 +88,7 @@ impl TableFault {
 impl Refusal {
     /// The name of the refusal.
     pub fn name(self) -> &'static str
-        ensures { result.now ≡ name_of self }
+        ensures { result.now ≡ refusal_name self }
     {
         match self {
             Refusal::NotUtf8 { .. } => "NotUtf8",
@@ -108,7 +108,7 @@ impl Refusal {
 
     /// The element or the cause that it names, if it names one.
     pub fn detail(self) -> Option<&'static str>
-        ensures { option_map (λ s. s.now) result ≡ detail_of self }
+        ensures { option_map (λ s. s.now) result ≡ refusal_detail self }
     {
         match self {
             Refusal::OutOfProfile { name, .. } => Some(name.text()),
@@ -119,7 +119,7 @@ impl Refusal {
 
     /// Its byte offset or its line, after the word that says which: `at` or `line`.
     pub fn number(self) -> Option<(&'static str, u64)>
-        ensures { option_map (λ p. (p.0.now, p.1)) result ≡ number_of self }
+        ensures { option_map (λ p. (p.0.now, p.1)) result ≡ number_in_refusal self }
     {
         match self {
             Refusal::NotUtf8 { at }

@@ -1,8 +1,7 @@
 //! Names as numbers.
 
-ghost use Rattle.std.specs.Prelude.{◌≡◌, ◌≢◌, ℕ, ◌<◌, List, [], ◌∷◌, ◌++◌, IfOk, IfSome, OnErr, bytes_eq, option_map, length, map, slice_get, Some, true};
-ghost use Rattle.std.specs.Prelude.{false};
-ghost use Rattle.std.specs.List.{list_any, position};
+ghost use Rattle.std.specs.Prelude.{◌≡◌, ◌≢◌, ℕ, ◌<◌, List, ◌++◌, IfOk, IfSome, OnErr, bytes_eq, option_map, length, map, slice_get, Some, true};
+ghost use Rattle.std.specs.List.{position};
 ghost use Rattle.names.specs.Names.{Texts, text_of, Grows, interned, AreNames};
 ghost use Rattle.names.specs.Tags.{known, tags, type_name, tag_of, number_of, tag_named, tag_text};
 ghost use Rattle.names.specs.declared.tag.Tag.{Tag as KnownTag};

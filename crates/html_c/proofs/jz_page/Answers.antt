@@ -1,4 +1,4 @@
-use Rattle.html_c.proofs.Names.{refl, parts_of}
+use Rattle.html_c.proofs.Names.{refl, page_parts}
 use Rattle.html_c.specs.Page.{no_page_answered, page_answered}
 use Rattle.html_c.proofs.jz_page.Goals as goal
 use Rattle.html_c.proofs.jz_page.Goals.{in-Err, in-Ok}
@@ -7,6 +7,6 @@ pub returns-clause-answers : goal.returns-clause-answers
 returns-clause-answers c = elim c.match-page_of.branch [
   | in-Ok w ↦
       rw (w.rows-is, w.words-is, w.errors-is, w.text-is, w.origins-is, w.answer-is)
-      (page_answered (parts_of w.in-Ok.page) w.in-Ok.ensures.says w.put.ensures.put w.put.ensures.answer)
+      (page_answered (page_parts w.in-Ok.page) w.in-Ok.ensures.says w.put.ensures.put w.put.ensures.answer)
   | in-Err w ↦ rw (w.rows-is, w.words-is, w.errors-is, w.text-is, w.origins-is, w.answer-is) (no_page_answered w.in-Err.fault w.in-Err.ensures.says refl w.page_fault.ensures)
 ]

@@ -1,4 +1,4 @@
-use Rattle.charref.proofs.Names.{◌≡◌, [], ◌∷◌, true, sym, ◌∙◌, subst, slice_get_within, is_alphanumeric, HasRead, IsTable, IsSortedTable, Settles}
+use Rattle.charref.proofs.Names.{◌≡◌, [], ◌∷◌, true, sym, ◌∙◌, subst, slice_get_within, is_alphanumeric, SearchHasRead, IsTable, IsSortedTable, Settles}
 use Rattle.charref.proofs.AtOnce.{no_first}
 use Rattle.charref.proofs.at_once.settled.Goals as goal
 
@@ -8,9 +8,9 @@ returns-then-is_over-clause-settles c =
     let search = c.in-Some-after_first.search in
     let byte = c.in-Some.first.now in
     let letter : is_alphanumeric byte ≡ true = sym c.is_alphanumeric.ensures ∙ c.if-is_alphanumeric.true in
-    let read : HasRead search c.table.inside.flat (38 ∷ byte ∷ []) = subst (λ ch. HasRead search c.table.inside.flat (38 ∷ ch ∷ [])) c.from.ensures c.in-Some-after_first.ensures.read in
+    let read : SearchHasRead search c.table.inside.flat (38 ∷ byte ∷ []) = subst (λ ch. SearchHasRead search c.table.inside.flat (38 ∷ ch ∷ [])) c.from.ensures c.in-Some-after_first.ensures.read in
     subst (Settles table c.args.bytes.now 1) (sym c.unknown.ensures)
-    (no_first table c.args.bytes.now byte search (subst IsSortedTable c.table.view_is c.table.invariant.0.sorted) c.in-Some.ensures.value letter (subst (λ t. HasRead search t (38 ∷ byte ∷ [])) c.table.view_is read) (c.is_over.ensures.0 c.if-is_over.true))
+    (no_first table c.args.bytes.now byte search (subst IsSortedTable c.table.view_is c.table.invariant.0.sorted) c.in-Some.ensures.value letter (subst (λ t. SearchHasRead search t (38 ∷ byte ∷ [])) c.table.view_is read) (c.is_over.ensures.0 c.if-is_over.true))
 
 pub whole_key-requires : goal.whole_key-requires
 whole_key-requires c = slice_get_within c.args.table.now c.in-Some-whole_place.place c.in-Some-whole_place.ensures.entry c.in-Some-whole_place.ensures.stands

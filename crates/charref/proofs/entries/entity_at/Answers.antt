@@ -1,15 +1,15 @@
-use Rattle.charref.proofs.Names.{◌≡◌, ℕ, List, ◌+◌, ◌*◌, length, drop, take, ◌-◌, sym, ap, ◌∙◌, subst, take_rest, drop-drop, is_key, characters_of, is_one_or_two, flat_characters, flat_entry, BeginsWith, BeginsWithNone, IsCounted, IsEntryAt, is_entry}
+use Rattle.charref.proofs.Names.{◌≡◌, ℕ, List, ◌+◌, ◌*◌, length, drop, take, ◌-◌, sym, ap, ◌∙◌, subst, take_rest, drop-drop, is_key, characters_of, is_one_or_two, flat_characters, flat_entry, BeginsWith, BeginsWithNone, IsCounted, IsEntryAt, is_table_entry}
 use Rattle.charref.proofs.ReadingFlat.{no_entry_key, no_entry_characters, entry_stands}
 use Rattle.charref.proofs.entries.entity_at.Goals as goal
 
 pub returns-in_err-size : goal.returns-in_err-size
-returns-in_err-size c = rw c.from_residual.ensures (subst (λ bs. BeginsWithNone is_entry flat_entry bs) (take_rest c.args.text.now c.args.start) (no_entry_key _ c.in_err-size.ensures))
+returns-in_err-size c = rw c.from_residual.ensures (subst (λ bs. BeginsWithNone is_table_entry flat_entry bs) (take_rest c.args.text.now c.args.start) (no_entry_key _ c.in_err-size.ensures))
 
 pub returns-in_err-characters : goal.returns-in_err-characters
 returns-in_err-characters c =
     let text : List ℕ = c.args.text.now in
     let rest : List ℕ = take (length text - c.args.start) (drop c.args.start text) in
-    rw c.from_residual-in_err-characters.ensures (subst (λ bs. BeginsWithNone is_entry flat_entry bs) (take_rest text c.args.start)
+    rw c.from_residual-in_err-characters.ensures (subst (λ bs. BeginsWithNone is_table_entry flat_entry bs) (take_rest text c.args.start)
     (no_entry_characters rest c.in_ok-size.size c.in_ok-size.ensures (subst (λ bs. BeginsWithNone is_one_or_two flat_characters bs) (take_rest rest c.in_ok-size.size) c.in_err-characters.ensures)))
 
 pub returns : goal.returns

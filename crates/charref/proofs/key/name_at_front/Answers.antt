@@ -1,4 +1,4 @@
-use Rattle.charref.proofs.Names.{arith, ◌≡◌, ◌+◌, inl, inr, suc, true, true≢false, slice_get, sym, ◌∙◌, subst, passes, is_count}
+use Rattle.charref.proofs.Names.{arith, ◌≡◌, ◌+◌, inl, inr, suc, true, true≢false, slice_get, sym, ◌∙◌, subst, passes_byte, is_count}
 use Rattle.charref.proofs.Fronts.{no_name, run_counted, closed_counted}
 use Rattle.charref.proofs.key.name_at_front.Goals as goal
 use Rattle.charref.proofs.key.name_at_front.Goals.{else-is_semicolon-via-then-is_semicolon+else-is_count-2, else-is_semicolon-via-else-is_semicolon}
@@ -19,7 +19,7 @@ returns c = no_name c.args.bytes.now c.alphanumerics-end.result c.alphanumerics-
   | inr closed ↦ elim c.else-is_semicolon.branch [
     | else-is_semicolon-via-then-is_semicolon+else-is_count-2 w ↦
         let next : suc c.alphanumerics-end.result ≡ c.alphanumerics-end.result + 1 = omega arith in
-        true≢false (sym (subst (λ n. passes is_count (slice_get c.args.bytes.now n) ≡ true) next closed.1) ∙ sym w.is_count-then-is_semicolon.ensures ∙ w.if-is_count-2.false)
+        true≢false (sym (subst (λ n. passes_byte is_count (slice_get c.args.bytes.now n) ≡ true) next closed.1) ∙ sym w.is_count-then-is_semicolon.ensures ∙ w.if-is_count-2.false)
     | else-is_semicolon-via-else-is_semicolon w ↦ true≢false (sym closed.0 ∙ sym c.is_semicolon.ensures ∙ w.if-is_semicolon.false)
   ]
 ])

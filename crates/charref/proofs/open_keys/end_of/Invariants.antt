@@ -3,7 +3,7 @@ use Rattle.charref.proofs.Ends.{AllBegin}
 use Rattle.charref.proofs.open_keys.end_of.Given as goal
 
 abbrev pub invariant-loop-end : goal.invariant-loop-end
-invariant-loop-end l = (l.place < l.end) × (l.end ≤ length l.flat) × ((e : Entry) → slice_get l.flat l.place ≡ Some e → AllBegin l.flat e.key l.place l.end)
+invariant-loop-end l = (l.index < l.end) × (l.end ≤ length l.flat) × ((e : Entry) → slice_get l.flat l.index ≡ Some e → AllBegin l.flat e.key l.index l.end)
 
 abbrev pub decreases-loop-end : goal.decreases-loop-end
 decreases-loop-end l = length l.flat - l.end

@@ -6,7 +6,7 @@ use Rattle.charref.proofs.open_keys.open_key.Goals as goal
 pub loop-next-init : goal.loop-next-init
 loop-next-init c =
     let e : Entry = c.key.ensures.0 in
-    let after = after_key c.args.flat.now c.args.place _ _ e c.requires.sorted c.key.ensures.1 (c.requires.ends.at c.args.place e (omega arith) c.key.ensures.1) (ap length c.key.ensures.2) c.requires.longer in
+    let after = after_key c.args.flat.now c.args.index _ _ e c.requires.sorted c.key.ensures.1 (c.requires.ends.at c.args.index e (omega arith) c.key.ensures.1) (ap length c.key.ensures.2) c.requires.longer in
     (after, omega arith, first_marked c.args.flat.now _ _ after refl, refl)
 
 pub loop-next-smaller : goal.loop-next-smaller

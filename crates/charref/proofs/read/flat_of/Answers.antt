@@ -1,4 +1,4 @@
-use Rattle.charref.proofs.Names.{rules, ◌≡◌, [], ◌∷◌, ◌++◌, string_bytes, sym, ap, ◌∙◌, subst, Entities, entry_of, IsRefusedWith, flat_entry, view}
+use Rattle.charref.proofs.Names.{rules, ◌≡◌, [], ◌∷◌, ◌++◌, string_bytes, sym, ap, ◌∙◌, subst, Entities, entry_of_json, IsRefusedWith, flat_entry, view}
 use Rattle.std.proofs.lemmas.Result.{err_from_is_err_and}
 use Rattle.charref.proofs.Forms.{flat_more}
 use Rattle.charref.proofs.Members.{Pair, HasReadMembers, read_no_members, read_member, read_refused, read_all}
@@ -17,7 +17,7 @@ loop-key-preserved c =
     let was : HasReadMembers c.args.members.now.entries (pair ∷ c.next.new.self) table = subst (λ rest. HasReadMembers c.args.members.now.entries rest table) c.in-Some.ensures.steps l.invariant.1 in
     let added = c.in_ok-add_entry.ensures.ok in (
       table ++ added.0 ∷ [],
-      read_member c.args.members.now.entries c.next.new.self pair table added.0 was (ap (λ k. entry_of k (view c.in-Some.value.now)) (sym c.as_str.ensures.value) ∙ added.1),
+      read_member c.args.members.now.entries c.next.new.self pair table added.0 was (ap (λ k. entry_of_json k (view c.in-Some.value.now)) (sym c.as_str.ensures.value) ∙ added.1),
       added.2 ∙ ap (λ bs. bs ++ flat_entry added.0) l.invariant.2 ∙ flat_more table added.0,
     )
 
@@ -32,6 +32,6 @@ returns-in_err-add_entry-clause-err c =
     let table : Entities = l.invariant.0 in
     let pair : Pair = (c.in-Some.key.now, c.in-Some.value.now) in
     let was : HasReadMembers c.args.members.now.entries (pair ∷ c.next.new.self) table = subst (λ rest. HasReadMembers c.args.members.now.entries rest table) c.in-Some.ensures.steps l.invariant.1 in
-    let refused : IsRefusedWith (entry_of (string_bytes c.in-Some.key.now) (view c.in-Some.value.now)) c.in_err-add_entry.field-0.0 = subst (λ k. IsRefusedWith (entry_of k (view c.in-Some.value.now)) c.in_err-add_entry.field-0.0) c.as_str.ensures.value c.in_err-add_entry.ensures.err in
+    let refused : IsRefusedWith (entry_of_json (string_bytes c.in-Some.key.now) (view c.in-Some.value.now)) c.in_err-add_entry.field-0.0 = subst (λ k. IsRefusedWith (entry_of_json k (view c.in-Some.value.now)) c.in_err-add_entry.field-0.0) c.as_str.ensures.value c.in_err-add_entry.ensures.err in
     let p = err_from_is_err_and c.from_residual-in_err-add_entry.result c.from_residual-in_err-add_entry.ensures.1 in
     rw (p.1, p.2) (read_refused c.args.members.now.entries c.next.new.self pair table c.in_err-add_entry.field-0.0 was refused)

@@ -1,4 +1,4 @@
-use Rattle.charref.proofs.Names.{take, drop, sym, subst, take-append-drop, take_more, HasRead}
+use Rattle.charref.proofs.Names.{take, drop, sym, subst, take-append-drop, take_more, SearchHasRead}
 use Rattle.charref.proofs.Searching.{read_over}
 use Rattle.charref.proofs.search.search_for.Goals as goal
 
@@ -9,7 +9,7 @@ returns-then-is_over-clause-best c = read_over c.args.flat.now c.loop-byte.searc
 pub loop-byte-preserved : goal.loop-byte-preserved
 loop-byte-preserved c =
     let i = c.loop-byte.byte-index in
-    subst (HasRead c.narrow.new.self c.args.flat.now) (sym (take_more c.args.text.now i 0 c.loop-byte-test.true)) (c.narrow.ensures.read (take i c.args.text.now) c.loop-byte.invariant)
+    subst (SearchHasRead c.narrow.new.self c.args.flat.now) (sym (take_more c.args.text.now i 0 c.loop-byte-test.true)) (c.narrow.ensures.read (take i c.args.text.now) c.loop-byte.invariant)
 
 pub narrow-requires-clause-within : goal.narrow-requires-clause-within
 narrow-requires-clause-within c = (c.loop-byte.invariant.range.ordered, c.loop-byte.invariant.range.within)

@@ -1,4 +1,4 @@
-use Rattle.charref.proofs.Names.{arith, nat_tests, nat_eq, NumberSign, IsRead, ◌≡◌, [], ◌∷◌, ◌++◌, true, false, true≢false, ◌&&◌, refl, sym, ap, ◌∙◌, subst, ◌≤◌, length, and_parts, all-one, characters, is_empty, is_alphanumeric, Entities, IsTable, is_whole, HasRead, HasNone, IsOver, GoesOn, key_bytes, in_name, last_of, is_letter_or_digit, NextIs}
+use Rattle.charref.proofs.Names.{arith, nat_tests, nat_eq, NumberSign, IsRead, ◌≡◌, [], ◌∷◌, ◌++◌, true, false, true≢false, ◌&&◌, refl, sym, ap, ◌∙◌, subst, ◌≤◌, length, and_parts, all-one, characters, is_empty, is_alphanumeric, Entities, IsTable, is_whole, SearchHasRead, HasNone, IsOver, EntryGoesOn, key_bytes, in_name, last_of, is_letter_or_digit, NextIs}
 use Rattle.charref.proofs.Extending.{key_bytes-more, front_of, best_before, settled_before, best_after, settled_after, letter_of, nothing_read, something_read, count_read}
 use Rattle.charref.proofs.Indexing.{is_within}
 use Rattle.charref.specs.declared.walking.Next.TheVariants.{Goes}
@@ -34,19 +34,19 @@ returns-then-goes_on-clause-next c = λ text p read run is.
     let table : Entities = c.args.table.now in
     let other-is : c.table.inside.flat ≡ table = c.table.view_is in
     let is_table : IsTable table = subst IsTable c.table.view_is c.table.invariant.0.sorted.is_table in
-    let next : HasRead c.in-Some.next table (key_bytes text ++ c.args.ch ∷ []) = c.in-Some.ensures.read (characters text) read in
+    let next : SearchHasRead c.in-Some.next table (key_bytes text ++ c.args.ch ∷ []) = c.in-Some.ensures.read (characters text) read in
     let bytes-are : key_bytes text ++ c.args.ch ∷ [] ≡ key_bytes (text ++ p ∷ []) = ap (λ x. key_bytes text ++ x ∷ []) (sym is) ∙ sym (key_bytes-more text p) in
-    let next' : HasRead c.in-Some.next table (key_bytes (text ++ p ∷ [])) = subst (λ bs. HasRead c.in-Some.next table bs) bytes-are next in
-    let goes : GoesOn c.table.inside.flat (key_bytes (text ++ p ∷ [])) = c.goes_on.ensures.open (key_bytes (text ++ p ∷ [])) (subst (λ t. HasRead c.in-Some.next t (key_bytes (text ++ p ∷ []))) (sym other-is) next') c.if-goes_on.true in
-    let goes' : GoesOn table (key_bytes (text ++ p ∷ [])) = subst (λ t. GoesOn t (key_bytes (text ++ p ∷ []))) other-is goes in
+    let next' : SearchHasRead c.in-Some.next table (key_bytes (text ++ p ∷ [])) = subst (λ bs. SearchHasRead c.in-Some.next table bs) bytes-are next in
+    let goes : EntryGoesOn c.table.inside.flat (key_bytes (text ++ p ∷ [])) = c.goes_on.ensures.open (key_bytes (text ++ p ∷ [])) (subst (λ t. SearchHasRead c.in-Some.next t (key_bytes (text ++ p ∷ []))) (sym other-is) next') c.if-goes_on.true in
+    let goes' : EntryGoesOn table (key_bytes (text ++ p ∷ [])) = subst (λ t. EntryGoesOn t (key_bytes (text ++ p ∷ []))) other-is goes in
     in_name c.in-Some.next (text ++ p ∷ []) next' (front_of table (text ++ p ∷ []) is_table goes') (λ data-in some. goes')
 
 pub returns-then-waits-clause-next : goal.returns-then-waits-clause-next
 returns-then-waits-clause-next c = λ text p read run is.
     let table : Entities = c.args.table.now in
-    let next : HasRead c.in-Some.next table (key_bytes text ++ c.args.ch ∷ []) = c.in-Some.ensures.read (characters text) read in
+    let next : SearchHasRead c.in-Some.next table (key_bytes text ++ c.args.ch ∷ []) = c.in-Some.ensures.read (characters text) read in
     let bytes-are : key_bytes text ++ c.args.ch ∷ [] ≡ key_bytes (text ++ p ∷ []) = ap (λ x. key_bytes text ++ x ∷ []) (sym is) ∙ sym (key_bytes-more text p) in
-    let next' : HasRead c.in-Some.next table (key_bytes (text ++ p ∷ [])) = subst (λ bs. HasRead c.in-Some.next table bs) bytes-are next in
+    let next' : SearchHasRead c.in-Some.next table (key_bytes (text ++ p ∷ [])) = subst (λ bs. SearchHasRead c.in-Some.next table bs) bytes-are next in
     let parts : ((c.args.in_value && is_letter_or_digit c.of-last.result) ≡ true) × (is_whole c.table.inside.flat c.in-Some.next ≡ true) = and_parts _ _ (sym c.waits.ensures ∙ c.if-waits.true) in
     let more : (c.args.in_value ≡ true) × (is_letter_or_digit c.of-last.result ≡ true) = and_parts _ _ parts.0 in
     let letter : is_alphanumeric p.ch ≡ true = ap is_alphanumeric is ∙ sym (letter_of c.args.ch) ∙ ap is_letter_or_digit (sym c.of-last.ensures) ∙ more.1 in
@@ -57,9 +57,9 @@ returns-clause-next c = λ text p read run is after.
     let table : Entities = c.args.table.now in
     let other-is : c.table.inside.flat ≡ table = c.table.view_is in
     let is_table : IsTable table = subst IsTable c.table.view_is c.table.invariant.0.sorted.is_table in
-    let next : HasRead c.in-Some.next table (key_bytes text ++ c.args.ch ∷ []) = c.in-Some.ensures.read (characters text) read in
-    let next' : HasRead c.in-Some.next table (key_bytes text ++ p.ch ∷ []) = subst (λ x. HasRead c.in-Some.next table (key_bytes text ++ x ∷ [])) (sym is) next in
-    let over : IsOver c.table.inside.flat (key_bytes text ++ p.ch ∷ []) = c.goes_on.ensures.over (key_bytes text ++ p.ch ∷ []) (subst (λ t. HasRead c.in-Some.next t (key_bytes text ++ p.ch ∷ [])) (sym other-is) next') c.if-goes_on.false in
+    let next : SearchHasRead c.in-Some.next table (key_bytes text ++ c.args.ch ∷ []) = c.in-Some.ensures.read (characters text) read in
+    let next' : SearchHasRead c.in-Some.next table (key_bytes text ++ p.ch ∷ []) = subst (λ x. SearchHasRead c.in-Some.next table (key_bytes text ++ x ∷ [])) (sym is) next in
+    let over : IsOver c.table.inside.flat (key_bytes text ++ p.ch ∷ []) = c.goes_on.ensures.over (key_bytes text ++ p.ch ∷ []) (subst (λ t. SearchHasRead c.in-Some.next t (key_bytes text ++ p.ch ∷ [])) (sym other-is) next') c.if-goes_on.false in
     let over' : IsOver table (key_bytes text ++ p.ch ∷ []) = subst (λ t. IsOver t (key_bytes text ++ p.ch ∷ [])) other-is over in
     let letter : is_letter_or_digit c.of-last.result ≡ is_alphanumeric p.ch = ap is_letter_or_digit c.of-last.ensures ∙ letter_of c.args.ch ∙ ap is_alphanumeric (sym is) in
     let waits : (c.args.in_value && is_alphanumeric p.ch && is_whole table c.in-Some.next) ≡ false =

@@ -6,7 +6,7 @@ use Rattle.charref.proofs.walking.name_at_end.Goals as goal
 pub returns-then-search-le1 : goal.returns-then-search-le1
 returns-then-search-le1 c = λ text read run.
     let none : text ≡ [] = nothing_read text (let d : c.args.search.depth ≡ length (key_bytes text) = read.depth in omega arith) in
-    subst (λ r. IsRead c.args.table.now c.args.in_value text [] r) (sym c.as_text.ensures) (subst (λ xs. IsRead c.args.table.now c.args.in_value xs [] (record { characters = One 38; left = 0; missing_semicolon = false; fault = None; in_run = false })) (sym none) (alone_at_end c.args.table.now c.args.in_value))
+    subst (λ r. IsRead c.args.table.now c.args.in_value text [] r) (sym c.as_text.ensures) (subst (λ xs. IsRead c.args.table.now c.args.in_value xs [] (record { characters = One 38; left = 0; missing_semicolon = false; fault = None; is_ambiguous = false })) (sym none) (alone_at_end c.args.table.now c.args.in_value))
 
 pub returns-else-search-le1 : goal.returns-else-search-le1
 returns-else-search-le1 c = λ text read run.

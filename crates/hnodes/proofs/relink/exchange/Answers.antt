@@ -1,4 +1,4 @@
-use Rattle.hnodes.proofs.ChainNames.{◌≡◌, ℕ, ◌+◌, ◌<◌, ◌≢◌, set, List, length, get_or, sym, ◌∙◌, ap, subst, arith, get_or-set_other, none, numbers_of, FitsAt, Link}
+use Rattle.hnodes.proofs.IndexNames.{◌≡◌, ℕ, ◌+◌, ◌<◌, ◌≢◌, set, List, length, get_or, sym, ◌∙◌, ap, subst, arith, get_or-set_other, none, numbers_of, FitsAt, Link}
 use Rattle.hnodes.proofs.Relinked.{length-numbers, freed}
 use Rattle.hnodes.proofs.Swapped.{fit-down, fit-same, fit-other, exchanged}
 use Rattle.hnodes.proofs.relink.exchange.Goals as goal

@@ -1,25 +1,25 @@
-use Rattle.hnodes.proofs.ChainNames.{◌<◌, length, sym, ◌∙◌, ap, add-one, arith, last_up, numbers_of, in_group_of, get_or}
+use Rattle.hnodes.proofs.IndexNames.{◌<◌, length, sym, ◌∙◌, ap, add-one, arith, last_up, numbers_of, in_group_of, get_or}
 use Rattle.hnodes.proofs.Groups.{group-less}
 use Rattle.hnodes.proofs.Relinked.{walk-before, walk-next, length-numbers, down-within, down-less, down-walk}
 use Rattle.hnodes.proofs.relink.link_at.Goals as goal
 
 pub loop-before-init : goal.loop-before-init
 loop-before-init c =
-    let wide : 0 < length c.args.last.now = c.requires.chains.chained.wide (omega arith) in
+    let wide : 0 < length c.args.last.now = c.requires.are_indexed.indexed.wide (omega arith) in
     record {
       within = omega (arith, length-numbers c.args.links.now);
-      is = ap (λ g. get_or c.args.last.now g 0) c.group_of.ensures.group ∙ c.requires.chains.chained.says _ (group-less c.args.number (length c.args.last.now) wide);
+      is = ap (λ g. get_or c.args.last.now g 0) c.group_of.ensures.group ∙ c.requires.are_indexed.indexed.says _ (group-less c.args.number (length c.args.last.now) wide);
       found = λ some. absurd (omega arith);
     }
 
 pub bounds-links-before : goal.bounds-links-before
-bounds-links-before c = omega (arith, down-within c.args.last.now c.args.links.now c.requires.chains.chained _ c.args.index c.loop-before.before c.loop-before.hint c.loop-before.invariant)
+bounds-links-before c = omega (arith, down-within c.args.last.now c.args.links.now c.requires.are_indexed.indexed _ c.args.index c.loop-before.before c.loop-before.hint c.loop-before.invariant)
 
 pub loop-before-smaller : goal.loop-before-smaller
-loop-before-smaller c = down-less c.args.last.now c.args.links.now c.requires.chains.chained _ c.args.index c.loop-before.before c.loop-before.hint c.loop-before.invariant (omega arith)
+loop-before-smaller c = down-less c.args.last.now c.args.links.now c.requires.are_indexed.indexed _ c.args.index c.loop-before.before c.loop-before.hint c.loop-before.invariant (omega arith)
 
 pub loop-before-preserved : goal.loop-before-preserved
-loop-before-preserved c = down-walk c.args.last.now c.args.links.now c.requires.chains.chained _ c.args.index c.loop-before.before c.loop-before.hint c.loop-before.invariant (omega arith)
+loop-before-preserved c = down-walk c.args.last.now c.args.links.now c.requires.are_indexed.indexed _ c.args.index c.loop-before.before c.loop-before.hint c.loop-before.invariant (omega arith)
 
 pub returns-clause-fit : goal.returns-clause-fit
 returns-clause-fit c =

@@ -1,4 +1,4 @@
-use Rattle.hnodes.proofs.ChainNames.{length, numbers_of, in_group_of}
+use Rattle.hnodes.proofs.IndexNames.{length, numbers_of, in_group_of}
 use Rattle.hnodes.proofs.Relinked.{Walk}
 use Rattle.hnodes.proofs.relink.link_at.Given as goal
 

@@ -1,4 +1,4 @@
-use Rattle.hnodes.proofs.ChainNames.{◌+◌, length, ◌∙◌, add-one, arith, length-set, map-set, number_of, group_of, ap, cond, eqb, set}
+use Rattle.hnodes.proofs.IndexNames.{◌+◌, length, ◌∙◌, add-one, arith, length-set, map-set, link_number, group_of, ap, cond, eqb, set}
 use Rattle.hnodes.proofs.Relinked.{rewritten}
 use Rattle.hnodes.proofs.Edited.{In, in-differ, in-group-less, in-here, in-within, in-keeps}
 use Rattle.hnodes.proofs.relink.put_in.Goals as goal
@@ -6,15 +6,15 @@ use Rattle.hnodes.proofs.relink.put_in.Goals as goal
 pub hint_at-requires : goal.hint_at-requires
 hint_at-requires c =
     let o : In c.args.last.now c.args.links.now c.args.index c.args.link =
-    record { chained = c.requires.chains.chained; within = c.requires.within; free = c.requires.free; some = c.requires.number; fits = c.requires.fit } in
+    record { indexed = c.requires.are_indexed.indexed; within = c.requires.within; free = c.requires.free; some = c.requires.number; fits = c.requires.fit } in
     omega (arith, c.keep.auto.links, length-set c.args.links.now c.args.index c.args.link, in-within c.args.last.now c.args.links.now c.args.index c.args.link o)
 
-pub returns-clause-chains : goal.returns-clause-chains
-returns-clause-chains c =
+pub returns-clause-are_indexed : goal.returns-clause-are_indexed
+returns-clause-are_indexed c =
     let o : In c.args.last.now c.args.links.now c.args.index c.args.link =
-    record { chained = c.requires.chains.chained; within = c.requires.within; free = c.requires.free; some = c.requires.number; fits = c.requires.fit } in
+    record { indexed = c.requires.are_indexed.indexed; within = c.requires.within; free = c.requires.free; some = c.requires.number; fits = c.requires.fit } in
     record {
-      chained =
+      indexed =
           rewritten c.args.last.now c.args.links.now c.args.link (group_of c.args.link.number (length c.args.last.now)) c.args.index c.args.link.hint (c.args.index + 1) c.keep.new.last c.keep.new.links c.hint_at.new.links (record {
             differ = in-differ c.args.last.now c.args.links.now c.args.index c.args.link o;
             group = in-group-less c.args.last.now c.args.links.now c.args.index c.args.link o;
@@ -25,9 +25,9 @@ returns-clause-chains c =
             befores3 = c.hint_at.ensures.befores;
             here = λ ne. in-here c.args.last.now c.args.links.now c.args.index c.args.link o;
             keeps = add-one c.args.index ∙ in-keeps c.args.last.now c.args.links.now c.args.index c.args.link o;
-          }) c.requires.chains.chained;
-      fits = omega (arith, c.requires.chains.fits, c.keep.auto.links, c.hint_at.auto.links, length-set c.args.links.now c.args.index c.args.link);
+          }) c.requires.are_indexed.indexed;
+      fits = omega (arith, c.requires.are_indexed.fits, c.keep.auto.links, c.hint_at.auto.links, length-set c.args.links.now c.args.index c.args.link);
     }
 
 pub returns-clause-numbers : goal.returns-clause-numbers
-returns-clause-numbers c = c.hint_at.ensures.numbers ∙ c.keep.ensures.numbers ∙ map-set number_of c.args.links.now c.args.index c.args.link
+returns-clause-numbers c = c.hint_at.ensures.numbers ∙ c.keep.ensures.numbers ∙ map-set link_number c.args.links.now c.args.index c.args.link

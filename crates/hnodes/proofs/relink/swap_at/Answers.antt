@@ -1,4 +1,4 @@
-use Rattle.hnodes.proofs.ChainNames.{◌≡◌, ◌≢◌, ℕ, ◌+◌, List, get_or, set, sym, ◌∙◌, ap, arith, get_or-set_other, set-get_or, set_comm, none, numbers_of, Link}
+use Rattle.hnodes.proofs.IndexNames.{◌≡◌, ◌≢◌, ℕ, ◌+◌, List, get_or, set, sym, ◌∙◌, ap, arith, get_or-set_other, set-get_or, set_comm, none, numbers_of, Link}
 use Rattle.hnodes.proofs.Relinked.{nth, number-at, freed}
 use Rattle.hnodes.proofs.Swapped.{fit-down, fit-up}
 use Rattle.hnodes.proofs.relink.swap_at.Goals as goal

@@ -1,19 +1,19 @@
-use Rattle.hnodes.proofs.ChainNames.{◌≡◌, ℕ, List, length, set, refl, sym, ◌∙◌, subst, arith, length-set, map-set, none, number_of, numbers_of, FitsAt, Link, group_of, ap, cond, eqb}
+use Rattle.hnodes.proofs.IndexNames.{◌≡◌, ℕ, List, length, set, refl, sym, ◌∙◌, subst, arith, length-set, map-set, none, link_number, numbers_of, FitsAt, Link, group_of, ap, cond, eqb}
 use Rattle.hnodes.proofs.Relinked.{nth, rewritten, number-at}
 use Rattle.hnodes.proofs.Edited.{Out, out-differ, out-group, out-before, out-within, out-fit}
 use Rattle.hnodes.proofs.relink.take_out.Goals as goal
 
 pub hint_at-requires : goal.hint_at-requires
 hint_at-requires c =
-    let o : Out c.args.last.now c.args.links.now c.args.index c.above-hint.result = record { chained = c.requires.chains.chained; within = c.requires.within; some = c.requires.number; next_is = c.above-hint.ensures } in
+    let o : Out c.args.last.now c.args.links.now c.args.index c.above-hint.result = record { indexed = c.requires.are_indexed.indexed; within = c.requires.within; some = c.requires.number; next_is = c.above-hint.ensures } in
     omega (arith, c.keep.auto.links, length-set c.args.links.now c.args.index (record { number = 1; before = 0; hint = 0 }), out-within c.args.last.now c.args.links.now c.args.index c.above-hint.result o)
 
-pub returns-clause-chains : goal.returns-clause-chains
-returns-clause-chains c =
-    let o : Out c.args.last.now c.args.links.now c.args.index c.above-hint.result = record { chained = c.requires.chains.chained; within = c.requires.within; some = c.requires.number; next_is = c.above-hint.ensures } in
+pub returns-clause-are_indexed : goal.returns-clause-are_indexed
+returns-clause-are_indexed c =
+    let o : Out c.args.last.now c.args.links.now c.args.index c.above-hint.result = record { indexed = c.requires.are_indexed.indexed; within = c.requires.within; some = c.requires.number; next_is = c.above-hint.ensures } in
     let old : Link = nth c.args.links.now c.args.index in
     record {
-      chained =
+      indexed =
           rewritten c.args.last.now c.args.links.now (record { number = 1; before = 0; hint = 0 }) (group_of old.number (length c.args.last.now)) c.args.index c.above-hint.result old.before c.keep.new.last c.keep.new.links
           c.hint_at.new.links (record {
             differ = out-differ c.args.last.now c.args.links.now c.args.index c.above-hint.result o;
@@ -25,22 +25,22 @@ returns-clause-chains c =
             befores3 = c.hint_at.ensures.befores;
             here = λ ne. absurd (ne refl);
             keeps = out-before c.args.last.now c.args.links.now c.args.index c.above-hint.result o;
-          }) c.requires.chains.chained;
-      fits = omega (arith, c.requires.chains.fits, c.keep.auto.links, c.hint_at.auto.links, length-set c.args.links.now c.args.index (record { number = 1; before = 0; hint = 0 }));
+          }) c.requires.are_indexed.indexed;
+      fits = omega (arith, c.requires.are_indexed.fits, c.keep.auto.links, c.hint_at.auto.links, length-set c.args.links.now c.args.index (record { number = 1; before = 0; hint = 0 }));
     }
 
 pub returns-clause-numbers : goal.returns-clause-numbers
-returns-clause-numbers c = c.hint_at.ensures.numbers ∙ c.keep.ensures.numbers ∙ map-set number_of c.args.links.now c.args.index (record { number = 1; before = 0; hint = 0 })
+returns-clause-numbers c = c.hint_at.ensures.numbers ∙ c.keep.ensures.numbers ∙ map-set link_number c.args.links.now c.args.index (record { number = 1; before = 0; hint = 0 })
 
 pub returns-clause-fit : goal.returns-clause-fit
 returns-clause-fit c =
     let x : Link = record { number = (nth c.args.links.now c.args.index).number; before = (nth c.args.links.now c.args.index).before; hint = c.above-hint.result } in
     let ys : numbers_of c.hint_at.new.links ≡ set (numbers_of c.args.links.now) c.args.index none =
-    c.hint_at.ensures.numbers ∙ c.keep.ensures.numbers ∙ map-set number_of c.args.links.now c.args.index (record { number = 1; before = 0; hint = 0 }) in
+    c.hint_at.ensures.numbers ∙ c.keep.ensures.numbers ∙ map-set link_number c.args.links.now c.args.index (record { number = 1; before = 0; hint = 0 }) in
     subst (λ (w : ℕ). FitsAt w (numbers_of c.hint_at.new.links) c.args.index x) (sym c.keep.auto.last)
     (subst (λ (ns : List ℕ). FitsAt (length c.args.last.now) ns c.args.index x) (sym ys)
     (out-fit c.args.last.now c.args.links.now c.args.index c.above-hint.result
-    (record { chained = c.requires.chains.chained; within = c.requires.within; some = c.requires.number; next_is = c.above-hint.ensures })))
+    (record { indexed = c.requires.are_indexed.indexed; within = c.requires.within; some = c.requires.number; next_is = c.above-hint.ensures })))
 
 pub returns-clause-number : goal.returns-clause-number
 returns-clause-number c = sym (number-at c.args.links.now c.args.index)

@@ -1,4 +1,4 @@
-use Rattle.hopen.proofs.Names.{◌≡◌, ◌≢◌, ℕ, suc, ◌+◌, ◌-◌, ◌<◌, true, List, Option, Some, None, length, map, reverse, get_or, set, drop, sym, ◌∙◌, ap, subst, arith, with_items_is, with_items, length-map, length-set, put_before, without, holds_one, is_node, is_open, last_place, open_of, opened_by, somes, stack_of, AreAsLong, EndsOpen, KeptNode, LastLevels, OpenNode, Rests, Stands}
+use Rattle.hopen.proofs.Names.{◌≡◌, ◌≢◌, ℕ, suc, ◌+◌, ◌-◌, ◌<◌, true, List, Option, Some, None, length, map, reverse, get_or, set, drop, sym, ◌∙◌, ap, subst, arith, with_items_is, with_items, length-map, length-set, item_put_before, without, holds_one, is_node, is_open, last_place, open_of, opened_by, somes, stack_of, AreAsLong, EndsOpen, KeptNode, LastLevels, OpenNode, Rests, LevelsStand}
 use Rattle.hopen.proofs.ExchangedSlots.{ends-set, length-filled, put-sunk}
 use Rattle.hopen.proofs.NodeLevels.{left-is, level-le, level-of, open-here, open-level}
 use Rattle.hopen.proofs.SlotEdits.{length-gone}
@@ -7,7 +7,7 @@ use Rattle.hopen.proofs.exchange.exchange.Goals as goal
 -- what `sink` ensures
 abbrev Sunk : (last after : LastLevels) (items sunk : List KeptNode) (from i : ℕ) → Type 0
 Sunk last after items sunk from i = record {
-  stands : Stands after sunk;
+  stands : LevelsStand after sunk;
   ends : EndsOpen (map opened_by sunk);
   within : i < length sunk;
   same : get_or (map opened_by sunk) i None ≡ get_or (map opened_by items) from None;
@@ -56,7 +56,7 @@ module _ (last after : LastLevels) (items lent sunk : List KeptNode) (r : Rests 
 
   -- another takes its place
   module _ (next : LastLevels) (new : List KeptNode) (x : OpenNode ℕ) (opened : map opened_by new ≡ set zs i (Some x)) where
-    replaced-rests : Stands next new → AreAsLong next after → Rests next new
+    replaced-rests : LevelsStand next new → AreAsLong next after → Rests next new
     replaced-rests stands lengths =
         let count : length new ≡ length items = sym (length-map new opened_by) ∙ ap length opened ∙ length-set zs i (Some x) ∙ length-map sunk opened_by
         ∙ many in
@@ -71,7 +71,7 @@ module _ (last after : LastLevels) (items lent sunk : List KeptNode) (r : Rests 
 
     -- right below the other
     module _ (m q to : ℕ) (other : q ≡ get_or last.nodes.items m 0) (level : to ≡ q - 1) (at : i ≡ to) (order : p - 1 < to) where
-      replaced-items : stack_of new ≡ put_before (is_node m) x (without (is_node n) (stack_of items))
+      replaced-items : stack_of new ≡ item_put_before (is_node m) x (without (is_node n) (stack_of items))
       replaced-items =
           let next : i + 1 ≡ suc to = omega (arith, at) in
           let place : last_place (holds_one (is_node m)) (reverse ys) ≡ suc to = sym (level-of last items r.stands m q other) ∙ (omega (arith, level, order)) in
@@ -81,7 +81,7 @@ module _ (last after : LastLevels) (items lent sunk : List KeptNode) (r : Rests 
           ap (λ k. somes (reverse (set zs k None))) (sym at) ∙ done.rest in
           ap (λ l. somes (reverse l)) opened ∙ ap (λ k. somes (reverse (set zs k (Some x)))) at
           ∙ put-sunk (is_node m) ys zs (p - 1) to x order (omega (arith, at, inside, equal)) equal place below rest
-          ∙ ap (put_before (is_node m) x) (left-is last items r.stands n p is here)
+          ∙ ap (item_put_before (is_node m) x) (left-is last items r.stands n p is here)
 
   -- it is closed
   left-without : (whole : List KeptNode) → whole ≡ sunk → somes (reverse (set (map opened_by whole) i None)) ≡ without (is_node n) (stack_of items)
@@ -188,4 +188,4 @@ returns-clause-items c =
     let gone = left-without c.args.last.now c.sink-index.new.last v.items c.deref_mut.result.now sunk c.requires.rests c.args.leaving c.of_node.result
     c.of_node.ensures c.requires.live c.deref_mut.ensures.value c.sink-index.auto.items c.sink-index.result c.sink-index.ensures (with_items v sunk).items
     back in
-    c.move_below.ensures.items ∙ ap (put_before (is_node c.args.above) (open_of c.args.new)) gone
+    c.move_below.ensures.items ∙ ap (item_put_before (is_node c.args.above) (open_of c.args.new)) gone

@@ -1,4 +1,4 @@
-use Rattle.hopen.proofs.Names.{ap, map-set, map-set_same, opened_by, same_name_of, same_node_of, sets_at, kind_at}
+use Rattle.hopen.proofs.Names.{ap, map-set, map-set_same, opened_by, same_name_of, same_node_of, sets_at, kept_kind_at}
 use Rattle.hopen.proofs.exchange.link.Goals as goal
 
 pub returns-clause-same_names : goal.returns-clause-same_names
@@ -14,5 +14,5 @@ returns-clause-rest c =
       opened = map-set_same opened_by items i _ x (ap opened_by is);
       same_nodes = map-set_same same_node_of items i _ x (ap same_node_of is);
       sets = map-set_same sets_at items i _ x (ap sets_at is);
-      kinds = map-set_same kind_at items i _ x (ap kind_at is);
+      kinds = map-set_same kept_kind_at items i _ x (ap kept_kind_at is);
     }

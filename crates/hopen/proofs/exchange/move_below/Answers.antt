@@ -1,4 +1,4 @@
-use Rattle.hopen.proofs.Names.{◌≡◌, ◌+◌, ◌-◌, ◌≤◌, Some, length, map, reverse, insert, sym, ◌∙◌, ap, subst, arith, length-insert, length-map, put_before, is_node, open_of, opened_by, somes, EndsOpen}
+use Rattle.hopen.proofs.Names.{◌≡◌, ◌+◌, ◌-◌, ◌≤◌, Some, length, map, reverse, insert, sym, ◌∙◌, ap, subst, arith, length-insert, length-map, item_put_before, is_node, open_of, opened_by, somes, EndsOpen}
 use Rattle.hopen.proofs.ExchangedSlots.{ends-insert, length-more, put-placed}
 use Rattle.hopen.proofs.NodeLevels.{level-le, level-of, put-none}
 use Rattle.hopen.proofs.OpenLevels.{placed}
@@ -12,7 +12,7 @@ pub returns-else-level-gt0-clause-items : goal.returns-else-level-gt0-clause-ite
 returns-else-level-gt0-clause-items c =
     let new = open_of c.args.new in
     put-none c.remove.new.last c.remove.new.items.items c.remove.ensures.rests.stands c.args.above c.of_node-level.result c.of_node-level.ensures
-    (omega arith) new ∙ ap (put_before (is_node c.args.above) new) c.remove.ensures.items
+    (omega arith) new ∙ ap (item_put_before (is_node c.args.above) new) c.remove.ensures.items
 
 pub returns-then-level-gt0-clause-rests : goal.returns-then-level-gt0-clause-rests
 returns-then-level-gt0-clause-rests c =
@@ -50,4 +50,4 @@ returns-then-level-gt0-clause-items c =
     let place = placed (is_node c.args.above) left level
     (level-of c.remove.new.last left c.remove.ensures.rests.stands c.args.above level c.of_node-level.ensures) (omega arith) in
     ap (λ l. somes (reverse l)) (c.insert.ensures.items ∙ ap (λ k. insert (map opened_by left) k (Some new)) next)
-    ∙ put-placed (is_node c.args.above) left (level - 1) new place ∙ ap (put_before (is_node c.args.above) new) c.remove.ensures.items
+    ∙ put-placed (is_node c.args.above) left (level - 1) new place ∙ ap (item_put_before (is_node c.args.above) new) c.remove.ensures.items

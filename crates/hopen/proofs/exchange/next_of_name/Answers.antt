@@ -1,4 +1,4 @@
-use Rattle.hopen.proofs.Names.{◌≡◌, ℕ, suc, ◌-◌, ◌+◌, ◌<◌, ◌≤◌, List, length, map, get_or, sym, ◌∙◌, ap, subst, arith, length-map, get_or_default, IsHeld, names_in, opened_by, same_name_of, KeptNode}
+use Rattle.hopen.proofs.Names.{◌≡◌, ℕ, suc, ◌-◌, ◌+◌, ◌<◌, ◌≤◌, List, length, map, get_or, sym, ◌∙◌, ap, subst, arith, length-map, get_or_default, IsHeldLevel, names_in, opened_by, same_name_of, KeptNode}
 use Rattle.hopen.proofs.Projected.{length-names, name-at, name-in, same_name-at}
 use Rattle.hopen.proofs.Swapped.{Walks, held-at, held-next, walk-start, walk-up}
 use Rattle.hopen.proofs.exchange.next_of_name.Goals as goal
@@ -82,7 +82,7 @@ returns-then-items-item c = λ x is.
     let next : suc i ≡ i + 1 = omega arith in
     let at = same_name-at items (n - 1) c.index-items-item.result (omega arith) c.index-items-item.is ∙ ap same_name_of c.index-items-item.is in
     let name = name-at items i x c.requires.within is (c.requires.live x is) in
-    subst (λ p. IsHeld names bs x.opened.name p n) next
+    subst (λ p. IsHeldLevel names bs x.opened.name p n) next
     (held-next names (names_in (map opened_by items)) bs c.requires.linked i x.opened.name name
     (omega (arith, length-names items, length-map items same_name_of))
     n (n - 1) (omega arith) (omega (arith, at)))
@@ -97,6 +97,6 @@ returns c = λ x is.
     let next : suc i ≡ i + 1 = omega arith in
     let here : c.loop-before.before ≡ suc i = omega (arith, w.walks.below) in
     let name = name-at items i x c.requires.within is (c.requires.live x is) in
-    subst (λ p. IsHeld names bs x.opened.name p c.loop-before.next) next
+    subst (λ p. IsHeldLevel names bs x.opened.name p c.loop-before.next) next
     (held-at names (names_in (map opened_by items)) bs c.requires.linked i x.opened.name name (omega (arith, length-names items, length-map items same_name_of))
     c.loop-before.next (λ e. sym (w.top e x is) ∙ here) (λ j e. sym (w.kept j e) ∙ here))

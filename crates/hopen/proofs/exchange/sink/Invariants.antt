@@ -1,9 +1,9 @@
-use Rattle.hopen.proofs.Names.{◌≡◌, ◌+◌, ◌-◌, ◌<◌, None, drop, get_or, set, length, map, reverse, somes, Stands, EndsOpen, opened_by, AreAsLong}
+use Rattle.hopen.proofs.Names.{◌≡◌, ◌+◌, ◌-◌, ◌<◌, None, drop, get_or, set, length, map, reverse, somes, LevelsStand, EndsOpen, opened_by, AreAsLong}
 use Rattle.hopen.proofs.exchange.sink.Given as goal
 
 abbrev pub invariant-loop-index : goal.invariant-loop-index
 invariant-loop-index l = record {
-  stands : Stands l.last l.items;
+  stands : LevelsStand l.last l.items;
   ends : EndsOpen (map opened_by l.items);
   within : l.index < length l.items;
   same : get_or (map opened_by l.items) l.index None ≡ get_or (map opened_by l.initial.items) l.from None;

@@ -1,4 +1,4 @@
-use Rattle.hopen.proofs.Names.{◌≡◌, ◌≢◌, ℕ, suc, ◌+◌, ◌<◌, ◌&&◌, eqb, cond, List, length, map, get_or, set, sym, ◌∙◌, ap, subst, arith, eqb-true, eqb-false, get_or-set_same, get_or-set_other, length-map, length-set, IsHeld, IsLinked, names_in, opened_by, same_name_of, level_exchanged, KeptNode}
+use Rattle.hopen.proofs.Names.{◌≡◌, ◌≢◌, ℕ, suc, ◌+◌, ◌<◌, ◌&&◌, eqb, cond, List, length, map, get_or, set, sym, ◌∙◌, ap, subst, arith, eqb-true, eqb-false, get_or-set_same, get_or-set_other, length-map, length-set, IsHeldLevel, IsLinked, names_in, opened_by, same_name_of, level_exchanged, KeptNode}
 use Rattle.hopen.proofs.Projected.{held-within, length-names, name-at, name-in, same_name-at}
 use Rattle.hopen.proofs.Swapped.{exchanged-same, linked-swapped, moved-list, moved-table}
 use Rattle.hopen.proofs.exchange.swap_names.Goals as goal
@@ -89,8 +89,8 @@ returns-clause-linked c =
     let up : i + 1 ≡ suc i = omega arith in
     let down : j + 1 ≡ suc j = omega arith in
     let differ : a ≢ b = eqb-false _ _ (sym c.eq.ensures ∙ c.if-eq.false) in
-    let held-upper : IsHeld t bs a (i + 1) m = c.next_of_name-upper_next.ensures x first in
-    let held-lower : IsHeld t bs b (j + 1) n = c.next_of_name-lower_next.ensures y second in
+    let held-upper : IsHeldLevel t bs a (i + 1) m = c.next_of_name-upper_next.ensures x first in
+    let held-lower : IsHeldLevel t bs b (j + 1) n = c.next_of_name-lower_next.ensures y second in
     let table : (k : ℕ) → get_or c.keep-2.new.names k 0 ≡ level_exchanged i j (get_or t k 0) = λ k.
     c.keep-2.ensures.table k ∙ ap (λ v. cond (eqb n 0 && eqb k b) (i + 1) v) (c.keep.ensures.table k)
     ∙ moved-table t bs i j a b m n (i + 1) (j + 1) c.requires.order up down held-upper held-lower k in

@@ -1,4 +1,4 @@
-use Rattle.hopen.proofs.Names.{◌≡◌, ◌≢◌, ℕ, suc, ◌+◌, ◌&&◌, eqb, cond, List, length, map, get_or, set, sym, ◌∙◌, ap, subst, arith, get_or-set_same, get_or-set_other, length-map, IsHeld, names_in, opened_by, same_name_of, KeptNode}
+use Rattle.hopen.proofs.Names.{◌≡◌, ◌≢◌, ℕ, suc, ◌+◌, ◌&&◌, eqb, cond, List, length, map, get_or, set, sym, ◌∙◌, ap, subst, arith, get_or-set_same, get_or-set_other, length-map, IsHeldLevel, names_in, opened_by, same_name_of, KeptNode}
 use Rattle.hopen.proofs.Projected.{held-within, length-names, name-in, same_name-at}
 use Rattle.hopen.proofs.Swapped.{linked-left}
 use Rattle.hopen.proofs.exchange.unlink_name.Goals as goal
@@ -34,7 +34,7 @@ returns-clause-linked c =
     let new : List ℕ = map same_name_of c.hint.new.items in
     let level : x.same_name ≡ get_or bs i 0 = sym (same_name-at items i x c.requires.within is) in
     let next : i + 1 ≡ suc i = omega arith in
-    let held : IsHeld t bs x.opened.name (suc i) n = subst (λ p. IsHeld t bs x.opened.name p n) next (c.next_of_name-next.ensures x is) in
+    let held : IsHeldLevel t bs x.opened.name (suc i) n = subst (λ p. IsHeldLevel t bs x.opened.name p n) next (c.next_of_name-next.ensures x is) in
     let table : (k : ℕ) → get_or c.keep.new.names k 0 ≡ cond (eqb n 0 && eqb k x.opened.name) (get_or bs i 0) (get_or t k 0) = λ k.
     c.keep.ensures.table k ∙ ap (λ b. cond (eqb n 0 && eqb k x.opened.name) b (get_or t k 0)) level in
     let list : (m : ℕ) → m ≢ i → get_or (set new i 0) m 0 ≡ cond (eqb n (suc m)) (get_or bs i 0) (get_or bs m 0) = λ m ne.

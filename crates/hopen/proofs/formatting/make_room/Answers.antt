@@ -1,4 +1,4 @@
-use Rattle.hopen.proofs.Names.{◌∙◌, ap, sym, subst, refl, items_of, live, IsListed}
+use Rattle.hopen.proofs.Names.{◌∙◌, ap, sym, subst, refl, listed_items, live, AreSlotsListed}
 use Rattle.hopen.proofs.Slotted.{listed-same}
 use Rattle.hopen.proofs.Holes.{live-tail}
 use Rattle.hopen.proofs.formatting.make_room.Goals as goal
@@ -6,16 +6,16 @@ use Rattle.hopen.proofs.formatting.make_room.Goals.{then-slots-gt0, else-slots-g
 
 pub returns-clause-same : goal.returns-clause-same
 returns-clause-same c =
-    ap (λ xs. live (items_of xs)) c.reserve.ensures.items
+    ap (λ xs. live (listed_items xs)) c.reserve.ensures.items
     ∙ elim c.if-slots-gt0.branch [
-      | then-slots-gt0 w ↦ ap (λ s. live (items_of s.items.items)) w.slots-is ∙ ap (λ xs. live (items_of xs)) w.close.ensures.items
+      | then-slots-gt0 w ↦ ap (λ s. live (listed_items s.items.items)) w.slots-is ∙ ap (λ xs. live (listed_items xs)) w.close.ensures.items
           ∙ live-tail c.args.slots.now.items.items 0 c.requires.stored
-      | else-slots-gt0 w ↦ ap (λ s. live (items_of s.items.items)) w.slots-is
+      | else-slots-gt0 w ↦ ap (λ s. live (listed_items s.items.items)) w.slots-is
     ]
 
 pub returns-clause-listed : goal.returns-clause-listed
 returns-clause-listed c =
     listed-same c.if-slots-gt0.slots _ (elim c.if-slots-gt0.branch [
-      | then-slots-gt0 w ↦ subst IsListed (sym w.slots-is) w.close.ensures.listed
-      | else-slots-gt0 w ↦ subst IsListed (sym w.slots-is) c.requires
+      | then-slots-gt0 w ↦ subst AreSlotsListed (sym w.slots-is) w.close.ensures.listed
+      | else-slots-gt0 w ↦ subst AreSlotsListed (sym w.slots-is) c.requires
     ]) refl c.reserve.ensures.items refl refl refl refl

@@ -1,23 +1,23 @@
-use Rattle.hopen.proofs.Names.{◌≡◌, ◌-◌, true, take_all, subst, sym, ◌∙◌, ap, arith, IsStored, is_hole, item_of, items_of, live}
+use Rattle.hopen.proofs.Names.{◌-◌, length, take_all, get_or, get_or_default, sym, ◌∙◌, ap, arith, length-take-le, listed_items, live}
+use Rattle.hopen.specs.declared.entry.Slot.TheVariants as stored
 use Rattle.hopen.proofs.Holes.{gone-is, live-dropped}
 use Rattle.hopen.proofs.formatting.trim.Goals as goal
 
-pub loop-len-init : goal.loop-len-init
-loop-len-init c =
-    let items = c.args.slots.now.items.items in
-    record { within = omega arith; same = ap (λ xs. live (items_of xs)) (take_all c.len-len.result items (omega arith)) }
+pub loop-slots-smaller : goal.loop-slots-smaller
+loop-slots-smaller c =
+    let items = c.loop-slots.slots.items.items in
+    omega (arith, ap length c.pop.ensures.items, length-take-le (length items - 1) items (omega arith), (c.ends_in_hole.ensures c.loop-slots-test.true).0)
 
-pub loop-len-preserved : goal.loop-len-preserved
-loop-len-preserved c =
-    let items = c.args.slots.now.items.items in
-    let i = c.loop-len.len - 1 in
-    let x = c.index.result.now in
-    let stored = subst IsStored (sym c.index.ensures) (c.requires.stored i x (omega arith)) in
-    let is : is_hole (item_of x) ≡ true = gone-is x stored ∙ sym c.is_hole.ensures ∙ c.if-is_hole.true in
+pub loop-slots-preserved : goal.loop-slots-preserved
+loop-slots-preserved c =
+    let items = c.loop-slots.slots.items.items in
+    let n = length items - 1 in
+    let x = get_or items n stored.Hole in
+    let h = c.ends_in_hole.ensures c.loop-slots-test.true in
+    let is = gone-is x (c.loop-slots.invariant.listed.stored n stored.Hole (omega (arith, h.0))) ∙ h.1 in
     record {
-      within = omega arith;
-      same = sym (live-dropped items c.loop-len.len i x (omega arith) (omega arith) c.index.ensures is) ∙ c.loop-len.invariant.same;
+      listed = c.pop.ensures.listed;
+      same = ap (λ xs. live (listed_items xs)) c.pop.ensures.items
+          ∙ sym (live-dropped items (length items) n x (omega (arith, h.0)) (omega (arith, h.0)) (get_or_default items n stored.Hole x (omega (arith, h.0))) is)
+          ∙ ap (λ xs. live (listed_items xs)) (take_all (length items) items (omega arith)) ∙ c.loop-slots.invariant.same;
     }
-
-pub returns-then-len-clause-same : goal.returns-then-len-clause-same
-returns-then-len-clause-same c = ap (λ xs. live (items_of xs)) c.truncate.ensures.items ∙ c.loop-len.invariant.same

@@ -1,4 +1,4 @@
-use Rattle.hopen.proofs.Names.{◌≡◌, ◌+◌, length, ap, sym, ◌∙◌, arith, length-set, subst, IsIn}
+use Rattle.hopen.proofs.Names.{◌≡◌, ◌+◌, length, ap, sym, ◌∙◌, arith, length-set, subst, IsInSets}
 use Rattle.hopen.proofs.Held.{held, no-node}
 use Rattle.hopen.proofs.Standing.{taken-counted, taken-hole, taken-in, taken-less, numbers-more}
 use Rattle.hopen.proofs.kept.close_at.Goals as goal
@@ -33,7 +33,7 @@ returns-then-not-is_hole-clause-numbers c =
     let both = taken-in c.args.items.now (c.args.index + 1) c.args.index x (omega arith) (omega arith) c.index-items-index.is last c.requires.stands
     (held x (sym c.is_hole.ensures ∙ c.if-not-is_hole.true)) in
     rw (names, nodes) (numbers-more c.args.items.now (c.args.index + 1) c.args.index x (omega arith) (omega arith) c.index-items-index.is
-    (length last.names.items) (length last.nodes.items) c.requires.numbers (subst (IsIn (length last.names.items) (length last.nodes.items))
+    (length last.names.items) (length last.nodes.items) c.requires.numbers (subst (IsInSets (length last.names.items) (length last.nodes.items))
     (sym (held x (sym c.is_hole.ensures ∙ c.if-not-is_hole.true))) both))
 
 pub returns-then-not-is_hole-clause-tables : goal.returns-then-not-is_hole-clause-tables
@@ -56,5 +56,5 @@ pub returns-else-not-is_hole-clause-numbers : goal.returns-else-not-is_hole-clau
 returns-else-not-is_hole-clause-numbers c =
     numbers-more c.args.items.now (c.args.index + 1) c.args.index c.index-items-index.result (omega arith) (omega arith) c.index-items-index.is
     (length c.args.last.now.names.items) (length c.args.last.now.nodes.items)
-    c.requires.numbers (subst (IsIn (length c.args.last.now.names.items) (length c.args.last.now.nodes.items))
+    c.requires.numbers (subst (IsInSets (length c.args.last.now.names.items) (length c.args.last.now.nodes.items))
     (sym (no-node c.index-items-index.result (sym c.is_hole.ensures ∙ c.if-not-is_hole.false))) tt)

@@ -1,4 +1,4 @@
-use Rattle.hopen.proofs.Names.{◌-◌, refl, map-set_same, opened_by, same_name_of, same_node_of, sets_at, kind_at}
+use Rattle.hopen.proofs.Names.{◌-◌, refl, map-set_same, opened_by, same_name_of, same_node_of, sets_at, kept_kind_at}
 use Rattle.hopen.proofs.kept.hint.Goals as goal
 
 pub returns-then-level-items : goal.returns-then-level-items
@@ -11,7 +11,7 @@ returns-then-level-items c =
         opened = map-set_same opened_by items i _ x refl;
         same_nodes = map-set_same same_node_of items i _ x refl;
         sets = map-set_same sets_at items i _ x refl;
-        kinds = map-set_same kind_at items i _ x refl;
+        kinds = map-set_same kept_kind_at items i _ x refl;
       };
       same_names = map-set_same same_name_of items i _ x refl;
     }

@@ -1,4 +1,4 @@
-use Rattle.hopen.proofs.Names.{◌≡◌, List, Some, drop, length, ◌∙◌, sym, ap, subst, map, rules, arith, AreIn, IsIn, Stands, opened_by, open_of, KeptNode, Open, common_steps, insert}
+use Rattle.hopen.proofs.Names.{◌≡◌, List, Some, drop, length, ◌∙◌, sym, ap, subst, map, rules, arith, AreIn, IsInSets, LevelsStand, opened_by, open_of, KeptNode, Open, common_steps, insert}
 use Rattle.hopen.proofs.Held.{held}
 use Rattle.hopen.proofs.SlotEdits.{map-insert, numbers-inserted}
 use Rattle.hopen.proofs.WrittenBack.{written_back}
@@ -15,7 +15,7 @@ returns-clause-items c =
 
 pub returns-clause-stands : goal.returns-clause-stands
 returns-clause-stands c =
-    subst (Stands c.rewind.new.last) (sym (written_back c.rewind.new.items _ _ _ c.rewind.ensures.same c.deref_mut.ensures.value c.deref_mut.ensures.len))
+    subst (LevelsStand c.rewind.new.last) (sym (written_back c.rewind.new.items _ _ _ c.rewind.ensures.same c.deref_mut.ensures.value c.deref_mut.ensures.len))
     c.rewind.ensures.stands
 
 pub rewind-requires-clause-stands : goal.rewind-requires-clause-stands
@@ -31,8 +31,8 @@ rewind-requires-clause-numbers c =
     (map opened_by (drop c.args.index xs))) c.deref.ensures.value c.unwind.ensures.numbers in
     let new : Some (open_of c.args.new) ≡ opened_by c.new.result = sym (held c.new.result c.new.ensures.live
     ∙ ap (λ (z : Open). Some (open_of z)) c.new.ensures.opened) in
-    let here : IsIn names nodes (opened_by c.new.result) =
-    subst (IsIn names nodes) new (
+    let here : IsInSets names nodes (opened_by c.new.result) =
+    subst (IsInSets names nodes) new (
       omega (arith, c.requires.new_in.0, c.unwind.ensures.tables.names),
       omega
           (arith, c.requires.new_in.1, c.unwind.ensures.tables.nodes),

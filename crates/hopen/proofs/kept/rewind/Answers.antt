@@ -1,4 +1,4 @@
-use Rattle.hopen.proofs.Names.{◌∙◌, subst, arith, take_all, Stands}
+use Rattle.hopen.proofs.Names.{◌∙◌, subst, arith, take_all, LevelsStand}
 use Rattle.hopen.proofs.kept.rewind.Goals as goal
 
 pub loop-index-preserved : goal.loop-index-preserved
@@ -15,4 +15,4 @@ loop-index-preserved c = record {
 }
 
 pub returns-clause-stands : goal.returns-clause-stands
-returns-clause-stands c = subst (Stands c.loop-index.last) (take_all c.loop-index.index c.loop-index.items (omega arith)) c.loop-index.invariant.stands
+returns-clause-stands c = subst (LevelsStand c.loop-index.last) (take_all c.loop-index.index c.loop-index.items (omega arith)) c.loop-index.invariant.stands

@@ -1,4 +1,4 @@
-use Rattle.hopen.proofs.Names.{◌≡◌, None, take, sym, ap, ◌∙◌, subst, arith, map-set_same, take_more_set, opened_by, is_hole_kind, List, KeptNode, Stands}
+use Rattle.hopen.proofs.Names.{◌≡◌, None, take, sym, ap, ◌∙◌, subst, arith, map-set_same, take_more_set, opened_by, is_hole_kind, List, KeptNode, LevelsStand}
 use Rattle.hopen.proofs.Held.{no-node}
 use Rattle.hopen.proofs.Standing.{stands-gap}
 use Rattle.hopen.proofs.kept.settle.Goals as goal
@@ -9,7 +9,7 @@ returns-then-is_hole-clause-stands c =
     let i = c.args.index in
     let h = c.hole.result in
     let gone : opened_by h ≡ None = no-node h (ap is_hole_kind c.hole.ensures.hole) in
-    subst (λ (xs : List KeptNode). Stands c.args.last.now xs) (sym (take_more_set items i h (omega arith)))
+    subst (λ (xs : List KeptNode). LevelsStand c.args.last.now xs) (sym (take_more_set items i h (omega arith)))
     (stands-gap (take i items) h c.args.last.now c.requires.stands gone c.hole.ensures.hole c.hole.ensures.levels.0 c.hole.ensures.levels.1)
 
 pub returns-then-is_hole-clause-same : goal.returns-then-is_hole-clause-same

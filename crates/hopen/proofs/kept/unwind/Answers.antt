@@ -1,10 +1,10 @@
-use Rattle.hopen.proofs.Names.{◌≡◌, ◌-◌, ◌+◌, ◌∙◌, subst, take, drop, arith, Stands, AreIn, length, map, opened_by}
+use Rattle.hopen.proofs.Names.{◌≡◌, ◌-◌, ◌+◌, ◌∙◌, subst, take, drop, arith, LevelsStand, AreIn, length, map, opened_by}
 use Rattle.hopen.proofs.kept.unwind.Goals as goal
 
 pub close_at-requires-clause-stands : goal.close_at-requires-clause-stands
 close_at-requires-clause-stands c =
     let next : c.loop-end.end ≡ c.loop-end.end - 1 + 1 = omega arith in
-    subst (λ n. Stands c.loop-end.last (take n c.args.items.now)) next c.loop-end.invariant.stands
+    subst (λ n. LevelsStand c.loop-end.last (take n c.args.items.now)) next c.loop-end.invariant.stands
 
 pub close_at-requires-clause-numbers : goal.close_at-requires-clause-numbers
 close_at-requires-clause-numbers c =

@@ -1,4 +1,4 @@
-use Rattle.hopen.proofs.Names.{◌≡◌, ◌∙◌, sym, ap, subst, arith, List, None, length, map, reverse, set, with_items, with_items_is, opened_by, somes, Stands, KeptNode}
+use Rattle.hopen.proofs.Names.{◌≡◌, ◌∙◌, sym, ap, subst, arith, List, None, length, map, reverse, set, with_items, with_items_is, opened_by, somes, LevelsStand, KeptNode}
 use Rattle.hopen.proofs.SlotEdits.{length-gone}
 use Rattle.hopen.proofs.leaving.remove.Goals as goal
 
@@ -16,8 +16,8 @@ overflow_add-last c =
 pub tidy-requires-clause-stands : goal.tidy-requires-clause-stands
 tidy-requires-clause-stands c =
     let back = with_items_is c.args.items.now c.make_hole.new.items (c.make_hole.auto.items ∙ c.deref_mut.ensures.len) in
-    let s : Stands c.make_hole.new.last (with_items c.args.items.now c.make_hole.new.items).items =
-    subst (Stands c.make_hole.new.last) (sym back) c.make_hole.ensures.stands in
+    let s : LevelsStand c.make_hole.new.last (with_items c.args.items.now c.make_hole.new.items).items =
+    subst (LevelsStand c.make_hole.new.last) (sym back) c.make_hole.ensures.stands in
     record { names = s.names; nodes = s.nodes; sets = s.sets; kinds = s.kinds; closes = s.closes; fits = s.fits }
 
 pub tidy-requires-clause-holes : goal.tidy-requires-clause-holes

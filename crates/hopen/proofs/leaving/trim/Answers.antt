@@ -1,4 +1,4 @@
-use Rattle.hopen.proofs.Names.{◌≡◌, ◌-◌, ◌<◌, List, None, length, map, take, get_or, sym, ap, ◌∙◌, subst, arith, rules, length-take-le, opened_by, stack_of, Stands, EndsOpen, KeptNode}
+use Rattle.hopen.proofs.Names.{◌≡◌, ◌-◌, ◌<◌, List, None, length, map, take, get_or, sym, ap, ◌∙◌, subst, arith, rules, length-take-le, opened_by, stack_of, LevelsStand, EndsOpen, KeptNode}
 use Rattle.hopen.proofs.Trimmed.{first-of, length-stack, stack-trimmed, stands-trimmed}
 use Rattle.hopen.proofs.leaving.trim.Goals as goal
 
@@ -24,7 +24,7 @@ loop-items-preserved c =
     let d = first-of items h.0 in
     let left : c.truncate.new.self.items ≡ take (length items - 1) items = search rules in
     let same : stack_of c.truncate.new.self.items ≡ stack_of items = ap stack_of left ∙ stack-trimmed items h.0 h.1 d in
-    let s : Stands c.loop-items.last c.truncate.new.self.items = subst (Stands c.loop-items.last) (sym left)
+    let s : LevelsStand c.loop-items.last c.truncate.new.self.items = subst (LevelsStand c.loop-items.last) (sym left)
     (stands-trimmed items h.0 h.1 c.loop-items.last d c.loop-items.invariant.stands) in
     let many : length (take (length items - 1) items) ≡ length items - 1 = length-take-le (length items - 1) items (omega arith) in
     record {

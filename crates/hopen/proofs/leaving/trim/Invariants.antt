@@ -1,10 +1,10 @@
-use Rattle.hopen.proofs.Names.{◌≡◌, ◌≤◌, ◌+◌, length, stack_of, Stands}
+use Rattle.hopen.proofs.Names.{◌≡◌, ◌≤◌, ◌+◌, length, stack_of, LevelsStand}
 use Rattle.std.specs.Prelude.{vec_capacity}
 use Rattle.hopen.proofs.leaving.trim.Given as goal
 
 abbrev pub invariant-loop-items : goal.invariant-loop-items
 invariant-loop-items l = record {
-  stands : Stands l.last l.items.items;
+  stands : LevelsStand l.last l.items.items;
   holes : l.last.holes + length (stack_of l.items.items) ≡ length l.items.items;
   same : stack_of l.items.items ≡ stack_of l.initial.items.items;
   names : length l.last.names.items ≡ length l.initial.last.names.items;

@@ -12,9 +12,9 @@ slots-at items i x z within is holds =
     ap (λ l. first (map opened_by l)) (drop-more items (i + 1) i x (omega arith) within is) ∙ ap (λ y. first (y ∷ map opened_by (drop (i + 1) items))) holds
 
 -- a node that is special, or is not
-told : (node : Open) (rest : List (Option (OpenNode ℕ))) (v : Bool) → is_special (tag_of node.name) ≡ v
+stored_entry : (node : Open) (rest : List (Option (OpenNode ℕ))) (v : Bool) → is_special (tag_of node.name) ≡ v
     → first (Some (open_of node) ∷ rest) ≡ (cond v (Some (open_of node)) (first rest))
-told node rest v e = ap (λ b. cond b (Some (open_of node)) (first rest)) e
+stored_entry node rest v e = ap (λ b. cond b (Some (open_of node)) (first rest)) e
 
 pub returns-then-is_special : goal.returns-then-is_special
 returns-then-is_special c =
@@ -22,7 +22,7 @@ returns-then-is_special c =
     let rest = map opened_by (drop (c.loop-item.item-index + 1) c.args.items.now) in
     sym (c.loop-item.invariant ∙ slots-at c.args.items.now c.loop-item.item-index c.item-item.result (Some (open_of node)) (omega arith) c.item-item.is
     (sym c.in-Some.ensures)
-    ∙ told node rest true (ap is_special (sym c.tag.ensures) ∙ sym c.is_special.ensures ∙ c.if-is_special.true))
+    ∙ stored_entry node rest true (ap is_special (sym c.tag.ensures) ∙ sym c.is_special.ensures ∙ c.if-is_special.true))
 
 pub loop-item-preserved : goal.loop-item-preserved
 loop-item-preserved c =
@@ -31,7 +31,7 @@ loop-item-preserved c =
       | in-Some+else-is_special w ↦
           slots-at c.args.items.now c.loop-item.item-index c.item-item.result (Some (open_of w.in-Some.node)) (omega arith) c.item-item.is
           (sym w.in-Some.ensures)
-          ∙ told w.in-Some.node rest false (ap is_special (sym w.tag.ensures) ∙ sym w.is_special.ensures ∙ w.if-is_special.false)
+          ∙ stored_entry w.in-Some.node rest false (ap is_special (sym w.tag.ensures) ∙ sym w.is_special.ensures ∙ w.if-is_special.false)
       | in_default w ↦
           slots-at c.args.items.now c.loop-item.item-index c.item-item.result None (omega arith) c.item-item.is
           (sym c.held.ensures ∙ ap (option_map open_of) w.in_default.is)

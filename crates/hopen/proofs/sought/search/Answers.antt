@@ -5,9 +5,9 @@ use Rattle.hopen.proofs.sought.search.Goals as goal
 use Rattle.hopen.proofs.sought.search.Goals.{else-not-is_hole-via-then-not-is_hole+else-of-gt0, else-not-is_hole-via-else-not-is_hole}
 
 -- whether a name is in the set, by what is kept of it
-told : (v : Bool) (m none : ℕ) → m ≡ cond v 1 none → none ≡ 0 → ((0 < m) → v ≡ true) × ((m ≡ 0) → v ≡ false)
-told true m none e z = (λ _. refl, λ h. absurd (omega (arith, e)))
-told false m none e z = (λ h. absurd (omega (arith, e, z)), λ _. refl)
+stored_entry : (v : Bool) (m none : ℕ) → m ≡ cond v 1 none → none ≡ 0 → ((0 < m) → v ≡ true) × ((m ≡ 0) → v ≡ false)
+stored_entry true m none e z = (λ _. refl, λ h. absurd (omega (arith, e)))
+stored_entry false m none e z = (λ h. absurd (omega (arith, e, z)), λ _. refl)
 
 -- what a slot that is no hole holds is in the set where its name is
 holds-named : (set : NameSet) (x : KeptNode) (t : Tag) (v : Bool) → is_hole_kind x.kind ≡ false → t ≡ tag_of x.opened.name → is_in_set set t ≡ v
@@ -23,7 +23,7 @@ loop-level-preserved c =
     let no : s (opened_by x) ≡ false = elim c.else-not-is_hole.branch [
       | else-not-is_hole-via-then-not-is_hole+else-of-gt0 w ↦
           holds-named c.args.set x w.tag.result false (sym c.is_hole.ensures ∙ w.if-not-is_hole.true) w.tag.ensures
-          ((told (is_in_set c.args.set w.tag.result) w.of.result _ (w.of.ensures ∙ w.with.ensures c.args.set) (w.none.ensures c.args.set)).1 (omega arith))
+          ((stored_entry (is_in_set c.args.set w.tag.result) w.of.result _ (w.of.ensures ∙ w.with.ensures c.args.set) (w.none.ensures c.args.set)).1 (omega arith))
       | else-not-is_hole-via-else-not-is_hole w ↦ ap s (no-node x (sym c.is_hole.ensures ∙ w.if-not-is_hole.false))
     ] in
     record {
@@ -41,7 +41,7 @@ returns-then-of-gt0 c =
     let s = holds_one (is_in c.args.set) in
     let yes : s (opened_by x) ≡ true =
     holds-named c.args.set x c.tag.result true (sym c.is_hole.ensures ∙ c.if-not-is_hole.true) c.tag.ensures
-    ((told (is_in_set c.args.set c.tag.result) c.of.result _ (c.of.ensures ∙ c.with.ensures c.args.set) (c.none.ensures c.args.set)).0 (omega arith)) in
+    ((stored_entry (is_in_set c.args.set c.tag.result) c.of.result _ (c.of.ensures ∙ c.with.ensures c.args.set) (c.none.ensures c.args.set)).0 (omega arith)) in
     let many : p ≡ suc (length (slots_of (take (p - 1) items))) = omega
     (arith, length-slots (take (p - 1) items), length-take-le (p - 1) items (omega arith)) in
     many ∙ sym (c.loop-level.invariant.rest ∙ ap (last_place s) (slots-more items p (p - 1) x (omega arith) (omega arith)

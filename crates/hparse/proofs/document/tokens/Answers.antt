@@ -1,4 +1,4 @@
-use Rattle.hparse.proofs.Names.{◌≡◌, ◌<◌, ◌+◌, ℕ, List, Bor, length, take, drop, sym, subst, arith, Shows, HasReadTokens, of_document, as_document}
+use Rattle.hparse.proofs.Names.{◌≡◌, ◌<◌, ◌+◌, ℕ, List, Bor, length, take, drop, sym, subst, arith, ShowsRun, HasReadTokens, of_document, as_document}
 use Rattle.std.proofs.lemmas.List.{take_all}
 use Rattle.hparse.proofs.Joined.{joined, joined_more, joined_all}
 use Rattle.hparse.proofs.RunOf.{shows_piece, has_read_tokens}
@@ -29,4 +29,4 @@ loop-piece-preserved c =
 pub returns : goal.returns
 returns c =
     let all : take c.loop-piece.piece-index c.args.pieces.now ≡ c.args.pieces.now = take_all c.loop-piece.piece-index c.args.pieces.now c.loop-piece-test.false in
-    subst (λ (ps : List (Bor (List ℕ))). Shows c.args.options.now.table.now (of_document c.args.options.now.bad_bytes c.args.options.now.limits.input) (joined ps) c.finish.result) all (c.finish.ensures c.args.options.now.table.now c.args.options.now.bad_bytes c.args.options.now.limits.input (joined (take c.loop-piece.piece-index c.args.pieces.now)) c.loop-piece.invariant)
+    subst (λ (ps : List (Bor (List ℕ))). ShowsRun c.args.options.now.table.now (of_document c.args.options.now.bad_bytes c.args.options.now.limits.input) (joined ps) c.finish.result) all (c.finish.ensures c.args.options.now.table.now c.args.options.now.bad_bytes c.args.options.now.limits.input (joined (take c.loop-piece.piece-index c.args.pieces.now)) c.loop-piece.invariant)

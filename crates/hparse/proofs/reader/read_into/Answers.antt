@@ -1,5 +1,5 @@
 use Rattle.hparse.proofs.Names.{[], sym, subst, Ok, Err, Texts, gives_item, HasRead, as_document}
-use Rattle.hparse.specs.Into.{ReadsInto, begins}
+use Rattle.hparse.specs.Into.{ReadsInto, began_with}
 use Rattle.hparse.proofs.ReadIn.{read_all, read_some}
 use Rattle.hparse.proofs.reader.read_into.Goals as goal
 
@@ -13,7 +13,7 @@ returns-in-Ok g c =
     subst (λ now. ReadsInto gives m g.R.Source.left g.R.Source.failed c.args.sink c.args.piece c.args.source.now c.read_to_end-answer.new.source now (Ok read.0)) (sym c.into_parts-names.ensures.sink)
     (subst (λ (names : Texts). ReadsInto gives m g.R.Source.left g.R.Source.failed c.args.sink c.args.piece c.args.source.now c.read_to_end-answer.new.source reading.feeding.sink (Ok names)) (sym c.into_parts-names.ensures.names)
     (read_all g.R.Source.left g.R.Source.failed gives m c.args.sink c.args.piece c.args.source.now c.read_to_end-answer.new.source reading c.read_to_end-answer.result
-    (c.read_to_end-answer.ensures m (begins c.args.sink) [] start) c.in-Ok.is))
+    (c.read_to_end-answer.ensures m (began_with c.args.sink) [] start) c.in-Ok.is))
 
 pub returns-in-Err : goal.returns-in-Err
 returns-in-Err g c =
@@ -22,4 +22,4 @@ returns-in-Err g c =
     let start = subst (λ (names : Texts). HasRead gives m (record { names = names; sink = c.args.sink }) c.new-reading.result []) c.new-names.ensures.known c.new-reading.ensures in
     subst (λ now. ReadsInto gives m g.R.Source.left g.R.Source.failed c.args.sink c.args.piece c.args.source.now c.read_to_end-answer.new.source now (Err c.in-Err.refusal)) (sym c.into_parts-names.ensures.sink)
     (read_some g.R.Source.left g.R.Source.failed gives m c.args.sink c.args.piece c.args.source.now c.read_to_end-answer.new.source c.read_to_end-answer.new.reading c.read_to_end-answer.result
-    (c.read_to_end-answer.ensures m (begins c.args.sink) [] start) c.in-Err.refusal c.in-Err.is)
+    (c.read_to_end-answer.ensures m (began_with c.args.sink) [] start) c.in-Err.refusal c.in-Err.is)

@@ -1,4 +1,4 @@
-use Rattle.hserialize.proofs.Names.{◌∙◌, ◌≡◌, ℕ, List, sym, ap, Tag, text_of, tag_named, children_of, spelled, row, in_context, in_context_of, is_form, top_content}
+use Rattle.hserialize.proofs.Names.{◌∙◌, ◌≡◌, ℕ, List, sym, ap, Tag, text_of, tag_named, children_of, mapped, row, in_context, in_context_of, is_form, top_content}
 use Rattle.hserialize.proofs.Regions.{begun, none_plain, not_plain, top_other}
 use Rattle.hserialize.proofs.Walks.{fails, found, goes_on}
 use Rattle.hserialize.proofs.plain.is_plain_list.Goals as goal
@@ -16,7 +16,7 @@ returns-in_default c =
 
 pub returns-then-not-is_plain_region : goal.returns-then-not-is_plain_region
 returns-then-not-is_plain_region c =
-    not_plain c.args.context.now c.named-tag.result c.in-Some.top (spelled (text_of c.args.names.now) (children_of c.args.root c.args.tree.now.trees)) (of_context c.args.context.now c.named-tag.result c.named-tag.ensures)
+    not_plain c.args.context.now c.named-tag.result c.in-Some.top (mapped (text_of c.args.names.now) (children_of c.args.root c.args.tree.now.trees)) (of_context c.args.context.now c.named-tag.result c.named-tag.ensures)
     (sym c.in-Some.is ∙ c.at_top.ensures ∙ ap (λ r. top_content r.1) c.row.ensures) (sym c.if-not-is_plain_region.true ∙ c.is_plain_region.ensures)
 
 pub loop-visit-init : goal.loop-visit-init

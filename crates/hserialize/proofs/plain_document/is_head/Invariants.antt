@@ -1,4 +1,4 @@
-use Rattle.hserialize.proofs.Names.{◌≡◌, ◌<◌, length, children_of, spelled, text_of}
+use Rattle.hserialize.proofs.Names.{◌≡◌, ◌<◌, length, children_of, mapped, text_of}
 use Rattle.std.specs.Prelude.{IfSome}
 use Rattle.hnodes.specs.Forest.{roots}
 use Rattle.hserialize.specs.DocumentTesting.{trees_from}
@@ -8,8 +8,8 @@ use Rattle.hserialize.proofs.plain_document.is_head.Given as goal
 abbrev pub invariant-loop-next : goal.invariant-loop-next
 invariant-loop-next l = record {
   within : IfSome l.next (λ n. n < l.tree.made);
-  same : are_metadata (spelled (text_of l.names) (children_of l.fn.head l.tree.trees))
-      ≡ are_metadata (spelled (text_of l.names) (trees_from l.next l.tree.trees));
+  same : are_metadata (mapped (text_of l.names) (children_of l.fn.head l.tree.trees))
+      ≡ are_metadata (mapped (text_of l.names) (trees_from l.next l.tree.trees));
 }
 
 abbrev pub decreases-loop-next : goal.decreases-loop-next

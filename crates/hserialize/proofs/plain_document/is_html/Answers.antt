@@ -1,4 +1,4 @@
-use Rattle.hserialize.proofs.Names.{◌∙◌, ap, sym, ◌&&◌, Some, None, text_of, spelled}
+use Rattle.hserialize.proofs.Names.{◌∙◌, ap, sym, ◌&&◌, Some, None, text_of, mapped}
 use Rattle.hserialize.proofs.Documents.{head-is, in-html}
 use Rattle.hserialize.specs.DocumentTesting.{trees_from}
 use Rattle.hserialize.specs.PlainDocument.{body_on}
@@ -14,7 +14,7 @@ pub returns-then-is_head : goal.returns-then-is_head
 returns-then-is_head c =
     let f = c.args.tree.now.trees in
     c.is_body_on.ensures
-    ∙ ap (λ u. u && body_on (spelled (text_of c.args.names.now) (trees_from c.past_leaves-body.result f))) (sym c.if-is_head.true ∙ c.is_head.ensures)
+    ∙ ap (λ u. u && body_on (mapped (text_of c.args.names.now) (trees_from c.past_leaves-body.result f))) (sym c.if-is_head.true ∙ c.is_head.ensures)
     ∙ sym (head-is
     (text_of c.args.names.now) f c.args.tree.now.made c.are_nodes.ensures.nodes.counted c.in-Some.head c.next.result c.past_leaves-body.result
     c.in-Some.ensures.within c.next.ensures.sibling c.past_leaves-body.ensures.passed)
@@ -25,7 +25,7 @@ pub returns-else-is_head : goal.returns-else-is_head
 returns-else-is_head c =
     let f = c.args.tree.now.trees in
     c.if-is_head.false
-    ∙ ap (λ u. u && body_on (spelled (text_of c.args.names.now) (trees_from c.past_leaves-body.result f))) (sym c.if-is_head.false ∙ c.is_head.ensures)
+    ∙ ap (λ u. u && body_on (mapped (text_of c.args.names.now) (trees_from c.past_leaves-body.result f))) (sym c.if-is_head.false ∙ c.is_head.ensures)
     ∙ sym (head-is
     (text_of c.args.names.now) f c.args.tree.now.made c.are_nodes.ensures.nodes.counted c.in-Some.head c.next.result c.past_leaves-body.result
     c.in-Some.ensures.within c.next.ensures.sibling c.past_leaves-body.ensures.passed)

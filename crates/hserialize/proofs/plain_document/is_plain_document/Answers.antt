@@ -1,4 +1,4 @@
-use Rattle.hserialize.proofs.Names.{◌∙◌, ap, sym, spelled, text_of}
+use Rattle.hserialize.proofs.Names.{◌∙◌, ap, sym, mapped, text_of}
 use Rattle.hserialize.proofs.Documents.{document-is}
 use Rattle.hserialize.specs.DocumentTesting.{trees_from}
 use Rattle.hserialize.specs.PlainDocument.{html_on}
@@ -6,7 +6,7 @@ use Rattle.hserialize.proofs.plain_document.is_plain_document.Goals as goal
 
 pub returns : goal.returns
 returns c =
-    c.is_html_on.ensures ∙ ap (λ names. html_on (spelled (text_of names) (trees_from c.past_leaves-html.result c.args.tree.now.trees))) c.of-names.ensures
+    c.is_html_on.ensures ∙ ap (λ names. html_on (mapped (text_of names) (trees_from c.past_leaves-html.result c.args.tree.now.trees))) c.of-names.ensures
     ∙ sym (document-is
     (text_of c.args.names.now) c.args.tree.now.trees c.args.tree.now.made c.are_nodes.ensures.nodes.counted c.args.root c.first_child.result
     c.past_leaves-first.result c.past_doctype.result c.past_leaves-html.result c.requires

@@ -1,4 +1,4 @@
-use Rattle.hserialize.proofs.Names.{◌∙◌, ap, sym, subst, ℕ, ◌<◌, cond, Option, Some, spelled}
+use Rattle.hserialize.proofs.Names.{◌∙◌, ap, sym, subst, ℕ, ◌<◌, cond, Option, Some, mapped}
 use Rattle.std.specs.Prelude.{IfSome}
 use Rattle.hserialize.proofs.Documents.{doctype-step}
 use Rattle.hserialize.proofs.Following.{first-at}
@@ -10,8 +10,8 @@ pub returns-in-Some-clause-passed : goal.returns-in-Some-clause-passed
 returns-in-Some-clause-passed c spelling =
     let f = c.args.tree.now.trees in
     let within : c.in-Some.node < c.args.tree.now.made = subst (λ (o : Option ℕ). IfSome o (λ n. n < c.args.tree.now.made)) c.in-Some.is c.requires in
-    ap (λ o. doctype_then (comments_then html_on) (spelled spelling (trees_from o f))) c.in-Some.is
+    ap (λ o. doctype_then (comments_then html_on) (mapped spelling (trees_from o f))) c.in-Some.is
     ∙ doctype-step spelling f c.in-Some.node (first-at c.args.tree.now.made f c.are_nodes.ensures.nodes.counted c.in-Some.node within)
     ∙ (λ k. cond (sym (sym c.if-is_plain_doctype.true ∙ c.is_plain_doctype.ensures) k)
-    (comments_then html_on (spelled spelling (trees_from (sym c.next.ensures.sibling k) f)))
-    (comments_then html_on (spelled spelling (trees_from (Some c.in-Some.node) f))))
+    (comments_then html_on (mapped spelling (trees_from (sym c.next.ensures.sibling k) f)))
+    (comments_then html_on (mapped spelling (trees_from (Some c.in-Some.node) f))))

@@ -1,4 +1,4 @@
-use Rattle.hserialize.proofs.Names.{ℕ, ◌<◌, ◌∙◌, ap, sym, subst, cond, Option, Some, spelled, next_of}
+use Rattle.hserialize.proofs.Names.{ℕ, ◌<◌, ◌∙◌, ap, sym, subst, cond, Option, Some, mapped, next_of}
 use Rattle.std.specs.Prelude.{IfSome}
 use Rattle.hserialize.specs.DocumentTesting.{past_leaves, trees_from}
 use Rattle.hserialize.proofs.Documents.{past-step}
@@ -10,10 +10,10 @@ returns-then-not-is_leaf-clause-passed c spelling =
     let f = c.args.tree.now.trees in
     let within : c.in-Some.node < c.args.tree.now.made = subst
     (λ (o : Option ℕ). IfSome o (λ n. n < c.args.tree.now.made)) c.in-Some.is c.loop-next.invariant.within in
-    c.loop-next.invariant.same spelling ∙ ap (λ o. past_leaves c.args.allowed (spelled spelling (trees_from o f))) c.in-Some.is
+    c.loop-next.invariant.same spelling ∙ ap (λ o. past_leaves c.args.allowed (mapped spelling (trees_from o f))) c.in-Some.is
     ∙ past-step spelling f c.args.allowed c.in-Some.node (first-at c.args.tree.now.made f c.are_nodes.ensures.nodes.counted c.in-Some.node within)
-    ∙ ap (λ u. cond u (past_leaves c.args.allowed (spelled spelling (trees_from (next_of c.in-Some.node f) f)))
-    (spelled spelling (trees_from (Some c.in-Some.node) f))) (sym (sym c.if-not-is_leaf.true ∙ c.is_leaf.ensures))
+    ∙ ap (λ u. cond u (past_leaves c.args.allowed (mapped spelling (trees_from (next_of c.in-Some.node f) f)))
+    (mapped spelling (trees_from (Some c.in-Some.node) f))) (sym (sym c.if-not-is_leaf.true ∙ c.is_leaf.ensures))
 
 pub loop-next-smaller : goal.loop-next-smaller
 loop-next-smaller c =
@@ -30,9 +30,9 @@ loop-next-preserved c =
     record {
       within = c.next-next.ensures.within;
       same = λ spelling.
-          c.loop-next.invariant.same spelling ∙ ap (λ o. past_leaves c.args.allowed (spelled spelling (trees_from o f))) c.in-Some.is
+          c.loop-next.invariant.same spelling ∙ ap (λ o. past_leaves c.args.allowed (mapped spelling (trees_from o f))) c.in-Some.is
           ∙ past-step spelling f c.args.allowed c.in-Some.node (first-at c.args.tree.now.made f c.are_nodes.ensures.nodes.counted c.in-Some.node within)
           ∙ (λ k. cond (sym (sym c.if-not-is_leaf.false ∙ c.is_leaf.ensures) k)
-          (past_leaves c.args.allowed (spelled spelling (trees_from (sym c.next-next.ensures.sibling k) f)))
-          (spelled spelling (trees_from (Some c.in-Some.node) f)));
+          (past_leaves c.args.allowed (mapped spelling (trees_from (sym c.next-next.ensures.sibling k) f)))
+          (mapped spelling (trees_from (Some c.in-Some.node) f)));
     }

@@ -1,5 +1,4 @@
-use Rattle.htag.proofs.Vocabulary.{◌≡◌, ℕ, List, true, ◌-◌, length, take, drop, sym, ◌∙◌, arith, nat_tests, length-drop, take_all, eqb-true, prefix_len, slice_index}
-use Rattle.htext.specs.Run.{is_quoted_byte}
+use Rattle.htag.proofs.Vocabulary.{ℕ, List, ◌-◌, length, take, drop, sym, ◌∙◌, arith, length-drop, take_all, eqb-true}
 use Rattle.htag.proofs.AtOnce.{quoted_is}
 use Rattle.htag.proofs.at_once.quoted_value.Goals as goal
 

@@ -1,4 +1,4 @@
-use Rattle.htag.proofs.Vocabulary.{◌≡◌, ℕ, ◌<◌, length, sym, ap, ◌∙◌, subst, arith, prefix_len, slice_index}
+use Rattle.htag.proofs.Vocabulary.{ℕ, ◌<◌, length, sym, ap, ◌∙◌, subst, prefix_len, slice_index}
 use Rattle.htext.specs.Run.{is_quoted_byte}
 use Rattle.htag.proofs.AtOnce.{quote_first}
 use Rattle.htag.proofs.at_once.value_end.Goals as goal

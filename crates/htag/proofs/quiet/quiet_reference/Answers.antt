@@ -22,7 +22,7 @@ returns c =
     let found = c.in_ok-found.found in
     let missing : found.missing_semicolon ≡ false = search rules in
     let fault : found.fault ≡ None = search rules in
-    let no_run : found.in_run ≡ false = search rules in
+    let no_run : found.is_ambiguous ≡ false = search rules in
     let few = c.in_ok-found.ensures.few in
     settled_is c.args.table.now run (drop 1 all) c.utf8.run (first_amp run c.requires.some c.requires.amp ∙ ap (λ (x : List ℕ). 38 ∷ drop 1 x) (sym c.as_bytes.ensures.value)) k
     (subst (λ (x : List ℕ). k ≤ length x) (rest_of all) few.1) (subst (λ (x : List ℕ). list_all is_ascii (take k x) ≡ true) (rest_of all) c.in_ok-found.ensures.ascii) found missing fault no_run

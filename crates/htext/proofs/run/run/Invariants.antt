@@ -1,9 +1,9 @@
-use Rattle.htext.proofs.Names.{◌≡◌, ◌+◌, ◌-◌, ◌≤◌, length, drop, prefix_len, is_of}
+use Rattle.htext.proofs.Names.{◌≡◌, ◌+◌, ◌-◌, ◌≤◌, length, drop, prefix_len, is_run_byte}
 use Rattle.htext.proofs.run.run.Given as goal
 
 abbrev pub invariant-loop-count : goal.invariant-loop-count
 invariant-loop-count l = record {
-  counted : prefix_len (is_of l.kind) l.bytes ≡ l.count + prefix_len (is_of l.kind) (drop l.count l.bytes);
+  counted : prefix_len (is_run_byte l.kind) l.bytes ≡ l.count + prefix_len (is_run_byte l.kind) (drop l.count l.bytes);
   within : l.count ≤ length l.bytes;
 }
 

@@ -1,4 +1,4 @@
-use Rattle.htext.proofs.Names.{refl, ◌≡◌, ◌∙◌, ℕ, Bool, true, false, not, eqb, List, sym, bit_or, cond, length, map, replicate, arith, zip2_splat, zip2_splat_left, zip2_of_maps, zip2, is_not_of, shares_no_bit}
+use Rattle.htext.proofs.Names.{refl, ◌≡◌, ◌∙◌, ℕ, Bool, true, false, not, eqb, List, bit_or, cond, length, map, replicate, arith, zip2_splat, zip2_splat_left, zip2_of_maps, zip2, is_not_of, shares_no_bit}
 use Rattle.std.proofs.Common.{leb}
 use Rattle.std.specs.Prelude.{◌||◌}
 use lib.Lanes.{top}

@@ -1,4 +1,4 @@
-use Rattle.html_c.proofs.Names.{refl, sym, ◌∙◌, parts_of, no_size, of_size}
+use Rattle.html_c.proofs.Names.{refl, sym, ◌∙◌, page_parts, no_size, of_size}
 use Rattle.html_c.specs.Page.{no_tree, unescaped}
 use Rattle.html_c.specs.declared.fault.CallFault.TheVariants as fault
 use Rattle.html_c.proofs.Exports.{a_page, no_memory}
@@ -25,5 +25,5 @@ returns-in_err-page_in-clause-says c =
 
 pub returns-clause-says : goal.returns-clause-says
 returns-clause-says c =
-    a_page c.args.input.now c.args.given.now c.in-Some.wants.origins c.in_ok-parsed.parsed c.in_ok-parsed.ensures c.in_ok-escaping.escaping c.in_ok-escaping.ensures c.args.number c.in-Some.wants (parts_of c.in_ok-page_in.field-0)
+    a_page c.args.input.now c.args.given.now c.in-Some.wants.origins c.in_ok-parsed.parsed c.in_ok-parsed.ensures c.in_ok-escaping.escaping c.in_ok-escaping.ensures c.args.number c.in-Some.wants (page_parts c.in_ok-page_in.field-0)
     (sym c.wants_of.ensures ∙ c.in-Some.is) refl c.in_ok-page_in.ensures.made

@@ -1,4 +1,4 @@
-use Rattle.html_c.proofs.Names.{subst, options_of, name_of, no_command, IsPiece, context_told, unmet}
+use Rattle.html_c.proofs.Names.{subst, options_of, own_context, no_command, IsPieceSize, context_told, unmet}
 use Rattle.html_c.specs.declared.fault.CallFault.TheVariants as fault
 use Rattle.html_c.proofs.Exports.{a_text, allowed, no_text}
 use Rattle.html_c.proofs.Outcomes.{fails}
@@ -15,11 +15,11 @@ pub options-options-requires-clause-context : goal.options-options-requires-clau
 options-options-requires-clause-context c = c.requires.command.1.allows
 
 pub options-options-requires-clause-piece : goal.options-options-requires-clause-piece
-options-options-requires-clause-piece c = subst IsPiece c.requires.command.1.piece c.requires.command.1.is_piece
+options-options-requires-clause-piece c = subst IsPieceSize c.requires.command.1.piece c.requires.command.1.is_piece
 
 pub text_in-requires-clause-context : goal.text_in-requires-clause-context
 text_in-requires-clause-context c =
-    let is = c.requires.command.1 in allowed c.args.command.task (name_of c.args.command.context) (context_told c.args.given.now.context.now) is.context is.allows
+    let is = c.requires.command.1 in allowed c.args.command.task (own_context c.args.command.context) (context_told c.args.given.now.context.now) is.context is.allows
 
 pub text_in-requires-clause-piece : goal.text_in-requires-clause-piece
 text_in-requires-clause-piece c = c.requires.command.1.is_piece.0

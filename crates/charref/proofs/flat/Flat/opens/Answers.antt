@@ -7,14 +7,14 @@ pub returns-then-entity : goal.returns-then-entity
 returns-then-entity c =
     let text = c.self.inside.text.items in
     let e = c.index-entity.result.now in
-    (entry text e, entry_in text c.self.inside.entities.items c.args.self.now c.args.at e c.self.view_is c.requires c.index-entity.ensures, opens_any text c.args.bytes.now e.start e.end (omega (arith, c.if-entity.true)))
+    (entry text e, entry_in text c.self.inside.entities.items c.args.self.now c.args.index e c.self.view_is c.requires c.index-entity.ensures, opens_any text c.args.bytes.now e.start e.end (omega (arith, c.if-entity.true)))
 
 pub returns-then-bytes-ge-AT_ONCE : goal.returns-then-bytes-ge-AT_ONCE
 returns-then-bytes-ge-AT_ONCE c =
     let text = c.self.inside.text.items in
     let e = c.index-entity.result.now in (
       entry text e,
-      entry_in text c.self.inside.entities.items c.args.self.now c.args.at e c.self.view_is c.requires c.index-entity.ensures,
+      entry_in text c.self.inside.entities.items c.args.self.now c.args.index e c.self.view_is c.requires c.index-entity.ensures,
       opens_named text c.args.bytes.now e.start e.end _ (omega (arith, c.if-entity.false)) (subst (λ (x : List ℕ). c.begin_at_once.result ≡ starts_with nat_eq c.args.bytes.now (take (e.end - e.start - 1) (take (length x - (e.start + 1)) (drop (e.start + 1) x)))) c.deref.ensures.value c.begin_at_once.ensures),
     )
 
@@ -23,6 +23,6 @@ returns c =
     let text = c.self.inside.text.items in
     let e = c.index-entity.result.now in (
       entry text e,
-      entry_in text c.self.inside.entities.items c.args.self.now c.args.at e c.self.view_is c.requires c.index-entity.ensures,
+      entry_in text c.self.inside.entities.items c.args.self.now c.args.index e c.self.view_is c.requires c.index-entity.ensures,
       opens_named text c.args.bytes.now e.start e.end _ (omega (arith, c.if-entity.false)) (subst (λ (x : List ℕ). c.begin_with.result ≡ starts_with nat_eq c.args.bytes.now (take (e.end - e.start - 1) (take (length x - (e.start + 1)) (drop (e.start + 1) x)))) c.deref.ensures.value c.begin_with.ensures),
     )

@@ -1,11 +1,11 @@
-use Rattle.charref.proofs.Names.{[], true, sym, subst, Name, NumberSign, HexadecimalSign, Number, IsHeld, IsRead, number_of}
+use Rattle.charref.proofs.Names.{[], true, sym, subst, Name, NumberSign, HexadecimalSign, Number, IsHeldReference, IsRead, number_reference}
 use Rattle.charref.proofs.Numbers.{no_sign, no_x, number_at_end}
 use Rattle.charref.proofs.Taking.{held_name, held_sign, held_x, own, by_own}
 use Rattle.charref.proofs.walk.Walk.end.Goals as goal
 
 pub returns-in-Name-clause-read : goal.returns-in-Name-clause-read
 returns-in-Name-clause-read c = λ table in_value text taken.
-    let held : IsHeld c.args.self.now.table.now c.args.self.now.in_value (Name c.in-Name.search) text = own c.args.self.now table in_value text (Name c.in-Name.search) taken c.in-Name.is in
+    let held : IsHeldReference c.args.self.now.table.now c.args.self.now.in_value (Name c.in-Name.search) text = own c.args.self.now table in_value text (Name c.in-Name.search) taken c.in-Name.is in
     let parts = held_name c.args.self.now.table.now c.args.self.now.in_value c.in-Name.search text held in
     by_own c.args.self.now table in_value text taken (λ t b. IsRead t b text [] c.name_at_end.result) (c.name_at_end.ensures text parts.0 parts.1)
 
@@ -20,4 +20,4 @@ returns-in-HexadecimalSign-clause-read c = λ table in_value text taken.
 pub returns-in-Number-clause-read : goal.returns-in-Number-clause-read
 returns-in-Number-clause-read c = λ table in_value text taken.
     subst (λ r. IsRead table in_value text [] r) (sym c.number.ensures)
-    (by_own c.args.self.now table in_value text taken (λ t b. IsRead t b text [] (number_of c.in-Number.value 0 true)) (number_at_end c.args.self.now.table.now c.args.self.now.in_value c.in-Number.field-0 c.in-Number.value text (own c.args.self.now table in_value text (Number c.in-Number.field-0 c.in-Number.value) taken c.in-Number.is)))
+    (by_own c.args.self.now table in_value text taken (λ t b. IsRead t b text [] (number_reference c.in-Number.value 0 true)) (number_at_end c.args.self.now.table.now c.args.self.now.in_value c.in-Number.field-0 c.in-Number.value text (own c.args.self.now table in_value text (Number c.in-Number.field-0 c.in-Number.value) taken c.in-Number.is)))

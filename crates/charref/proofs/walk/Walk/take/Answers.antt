@@ -1,4 +1,4 @@
-use Rattle.charref.proofs.Names.{[], ◌∷◌, ◌++◌, Name, IsHeld}
+use Rattle.charref.proofs.Names.{[], ◌∷◌, ◌++◌, Name, IsHeldReference}
 use Rattle.charref.proofs.Taking.{held_name, own, by_own}
 use Rattle.charref.proofs.walk.Walk.take.Goals as goal
 
@@ -9,5 +9,5 @@ returns-clause-taken c = λ table in_value text p taken is.
     record {
       table_is = taken.table_is;
       in_value_is = taken.in_value_is;
-      held = by_own walk table in_value text taken (λ t b. IsHeld t b (Name c.in-Some.next) (text ++ p ∷ [])) (c.in-Some.ensures.held walk.in_value text p parts.0 is);
+      held = by_own walk table in_value text taken (λ t b. IsHeldReference t b (Name c.in-Some.next) (text ++ p ∷ [])) (c.in-Some.ensures.held walk.in_value text p parts.0 is);
     }

@@ -1,6 +1,6 @@
 use Rattle.hmodes.proofs.Vocabulary.{◌≡◌, ◌∙◌, ℕ, ◌++◌, List, length, ap, sym, subst, refl, Ok, encode_utf8, chars, err_from_is_err_and, chars-nil, placed, Hands, run_tokens, TakesToken}
 use Rattle.std.proofs.lemmas.List.{nil_from_length}
-use Rattle.hmodes.proofs.TextRun.{first_refused, is_spread, rest_clean, rest_taken, some_clean}
+use Rattle.hmodes.proofs.TextRun.{first_refused, is_with_references, rest_clean, rest_taken, some_clean}
 use Rattle.hmodes.proofs.builder.Builder.take_first.Goals as goal
 
 pub returns-in_default : goal.returns-in_default
@@ -24,7 +24,7 @@ returns-then-puts_run c =
     let is : c.args.run.now ≡ encode_utf8 c.in-Some.ch ++ c.as_str-rest.result.now = sym c.chars-chars.ensures.rest ∙ c.in-Some.ensures.steps.0 ∙ ap (λ (l : List ℕ). encode_utf8 c.in-Some.ch ++ l) (sym c.as_str-rest.ensures) in
     rest_taken c.args.self.now c.take_text.new.self c.args.at c.args.run.now c.as_str-rest.result.now c.in-Some.ch c.utf8.run is
     c.rest_place-next.result c.rest_place-next.ensures c.in_ok-take_text.ensures c.put_run.result c.put_run.new.self
-    (c.put_run.ensures (placed c.rest_place-next.result (chars c.as_str-rest.result.now)) (is_spread c.rest_place-next.result c.as_str-rest.result.now))
+    (c.put_run.ensures (placed c.rest_place-next.result (chars c.as_str-rest.result.now)) (is_with_references c.rest_place-next.result c.as_str-rest.result.now))
 
 pub returns : goal.returns
 returns c =

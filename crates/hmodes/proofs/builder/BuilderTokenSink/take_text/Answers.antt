@@ -1,4 +1,4 @@
-use Rattle.hmodes.proofs.Vocabulary.{◌≡◌, None, ap, sym, subst, ◌∙◌, character, state_of, Building, Stands, Takes}
+use Rattle.hmodes.proofs.Vocabulary.{◌≡◌, None, ap, sym, subst, ◌∙◌, character, state_of, Building, BuilderStands, TakesTokenAt}
 use Rattle.hmodes.proofs.OneChar.{taken_by_rule, left_by_rule, gives_by_rule, char_parts}
 use Rattle.hmodes.proofs.TextRun.{stands_by_token}
 use Rattle.hmodes.proofs.builder.BuilderTokenSink.take_text.Goals as goal
@@ -8,7 +8,7 @@ returns c =
     let b : Building = c.args.self.now in
     let answer = c.put_one-answer.result in
     let parts = char_parts c.args.ch b (sym c.puts_char.ensures ∙ c.if-not-puts_char.false) in
-    subst (λ (o : Building). Takes c.args.at (character c.args.ch) b answer o)
+    subst (λ (o : Building). TakesTokenAt c.args.at (character c.args.ch) b answer o)
     (sym (left_by_rule b _ (state_of c.put_one-answer.new.self) c.keep.new.refused answer c.self.view_is c.keep.ensures))
     (taken_by_rule b parts.1 parts.2 c.args.at c.args.ch parts.0 answer (state_of c.put_one-answer.new.self)
     (gives_by_rule b _ (state_of c.begin.new.self) (state_of c.put_one-answer.new.self) c.args.at c.args.ch answer c.self.view_is c.begin.ensures c.put_one-answer.ensures))
@@ -18,5 +18,5 @@ invariant_of-self c = λ none.
     let b : Building = c.args.self.now in
     let answer = c.put_one-answer.result in
     let parts = char_parts c.args.ch b (sym c.puts_char.ensures ∙ c.if-not-puts_char.false) in
-    let stands : b.refused ≡ None → Stands b.root b.state = λ u. subst (λ (o : Building). Stands o.root o.state) c.self.view_is (c.self.invariant (ap (λ (o : Building). o.refused) c.self.view_is ∙ u)) in
+    let stands : b.refused ≡ None → BuilderStands b.root b.state = λ u. subst (λ (o : Building). BuilderStands o.root o.state) c.self.view_is (c.self.invariant (ap (λ (o : Building). o.refused) c.self.view_is ∙ u)) in
     stands_by_token c.args.at (character c.args.ch) b _ answer stands parts.1 (sym c.keep.ensures ∙ none) (returns c)

@@ -5,16 +5,16 @@ use Rattle.hnodes.proofs.TextOrder.{within-order}
 use Rattle.hnodes.proofs.tree.Tree.descendants.Goals as goal
 
 pub invariant_of-result : goal.invariant_of-result
-invariant_of-result c = rw c.first_child-next.ensures.child (first-inside c.args.self.now.made c.args.self.now.trees c.first_child-next.ensures.nodes.counted c.args.at c.requires)
+invariant_of-result c = rw c.first_child-next.ensures.child (first-inside c.args.self.now.made c.args.self.now.trees c.first_child-next.ensures.nodes.counted c.args.node c.requires)
 
 pub returns-clause-order : goal.returns-clause-order
-returns-clause-order c = rw c.first_child-next.ensures.child (begins c.args.self.now.made c.args.self.now.trees c.first_child-next.ensures.nodes.counted c.args.at c.requires)
+returns-clause-order c = rw c.first_child-next.ensures.child (begins c.args.self.now.made c.args.self.now.trees c.first_child-next.ensures.nodes.counted c.args.node c.requires)
 
 pub returns-clause-within : goal.returns-clause-within
 returns-clause-within c =
-    subst (λ (ns : List ℕ). All (λ n. n < c.args.self.now.made) ns) (sym (returns-clause-order c)) (within-order c.args.self.now.made c.args.self.now.trees c.first_child-next.ensures.nodes.counted c.args.at c.requires)
+    subst (λ (ns : List ℕ). All (λ n. n < c.args.self.now.made) ns) (sym (returns-clause-order c)) (within-order c.args.self.now.made c.args.self.now.trees c.first_child-next.ensures.nodes.counted c.args.node c.requires)
 
 pub returns-clause-few : goal.returns-clause-few
 returns-clause-few c =
-    let few = inside-few c.args.self.now.made c.args.self.now.trees c.first_child-next.ensures.nodes.counted c.args.at c.requires in
-    omega (arith, ap length (returns-clause-order c), order-long (children_of c.args.at c.args.self.now.trees), few)
+    let few = inside-few c.args.self.now.made c.args.self.now.trees c.first_child-next.ensures.nodes.counted c.args.node c.requires in
+    omega (arith, ap length (returns-clause-order c), order-long (children_of c.args.node c.args.self.now.trees), few)

@@ -9,4 +9,4 @@ returns-clause-child c =
     let f = c.args.self.now.trees in
     element-at_first f c.args.self.now.made c.element_from.result c.element_from.ensures.element ∙ ap (λ ns. slice_get ns 0) (sym c.element_from.ensures.same)
     ∙ ap (λ o. slice_get (elements_among (siblings_from o f) f) 0) c.first_child-first.ensures.child
-    ∙ ap (λ ns. slice_get (elements_among ns f) 0) (children-from c.args.self.now.made f c.first_child-first.ensures.nodes.counted c.args.at c.requires)
+    ∙ ap (λ ns. slice_get (elements_among ns f) 0) (children-from c.args.self.now.made f c.first_child-first.ensures.nodes.counted c.args.node c.requires)

@@ -4,13 +4,13 @@ use Rattle.hnodes.proofs.tree.Tree.next_inside.Goals as goal
 
 pub returns-in-Some-clause-next : goal.returns-in-Some-clause-next
 returns-in-Some-clause-next c =
-    descends c.args.self.now.made c.args.self.now.trees c.first_child.ensures.nodes.counted c.args.top c.args.at c.in-Some.child c.requires.made (sym c.first_child.ensures.child ∙ c.in-Some.is) c.requires.inside
+    descends c.args.self.now.made c.args.self.now.trees c.first_child.ensures.nodes.counted c.args.top c.args.node c.in-Some.child c.requires.made (sym c.first_child.ensures.child ∙ c.in-Some.is) c.requires.inside
 
 pub returns-in-Some-clause-inside : goal.returns-in-Some-clause-inside
 returns-in-Some-clause-inside c =
-    let inside = own-inside c.args.self.now.made c.args.self.now.trees c.first_child.ensures.nodes.counted c.args.top c.args.at c.requires.inside in
-    child-inside c.args.self.now.made c.args.self.now.trees c.first_child.ensures.nodes.counted c.args.top c.args.at c.in-Some.child c.requires.made (sym c.first_child.ensures.child ∙ c.in-Some.is) inside
+    let inside = own-inside c.args.self.now.made c.args.self.now.trees c.first_child.ensures.nodes.counted c.args.top c.args.node c.requires.inside in
+    child-inside c.args.self.now.made c.args.self.now.trees c.first_child.ensures.nodes.counted c.args.top c.args.node c.in-Some.child c.requires.made (sym c.first_child.ensures.child ∙ c.in-Some.is) inside
 
 pub returns-in-None-clause-next : goal.returns-in-None-clause-next
 returns-in-None-clause-next c =
-    leaf c.args.self.now.made c.args.self.now.trees c.first_child.ensures.nodes.counted c.args.top c.args.at c.requires.made (sym c.first_child.ensures.child ∙ c.in-None.is) c.requires.inside ∙ ap (λ xs. c.args.at ∷ xs) c.next_outside.ensures.next
+    leaf c.args.self.now.made c.args.self.now.trees c.first_child.ensures.nodes.counted c.args.top c.args.node c.requires.made (sym c.first_child.ensures.child ∙ c.in-None.is) c.requires.inside ∙ ap (λ xs. c.args.node ∷ xs) c.next_outside.ensures.next

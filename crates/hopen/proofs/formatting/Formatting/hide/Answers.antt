@@ -1,4 +1,4 @@
-use Rattle.hopen.proofs.Names.{◌≡◌, suc, ◌+◌, ◌-◌, ◌<◌, length, refl, sym, ◌∙◌, ap, arith, list_any, remove, is_entry, hole, item_of, items_of, live, by_node, without, drop_nearest, no_words, set_nearest, words, ◌==◌, up-within, ℕ, List, Bool, Listed, Stored, AreSlots, nowhere, position, Some}
+use Rattle.hopen.proofs.Names.{◌≡◌, suc, ◌+◌, ◌-◌, ◌<◌, length, take, refl, sym, ◌∙◌, ap, arith, list_any, remove, is_entry, hole, item_of, listed_items, live, by_node, without, drop_nearest, no_words, set_nearest, words, ◌==◌, up-within, ℕ, List, Bool, Listed, Stored, AreSlots, nowhere, position, Some}
 use Rattle.hopen.specs.declared.entry.Slot.TheVariants as stored
 use Rattle.hopen.proofs.Holes.{before-any, number-placed, no-position, node-at, node-none, node_place, placed, placed-within, slots-are}
 use Rattle.hopen.proofs.ItemLists.{length-items_of}
@@ -13,17 +13,17 @@ returns-then-place-eq0-clause-more c =
     let items = c.self.inside.slots.items.items in
     let place = placed c.args.node c.node_number.result c.last-place.result c.self.inside.slots c.self.invariant c.node_number.ensures c.last-place.ensures in
     let slots = slots-are items c.self.invariant.stored in
-    sym (ap (list_any (is_entry c.args.node)) (sym c.self.view_is) ∙ any-live c.args.node (items_of items) slots (omega arith)
-    ∙ node-none c.args.node (omega arith) (items_of items) slots (omega arith))
+    sym (ap (list_any (is_entry c.args.node)) (sym c.self.view_is) ∙ any-live c.args.node (listed_items items) slots (omega arith)
+    ∙ node-none c.args.node (omega arith) (listed_items items) slots (omega arith))
 
 pub returns-then-place-eq0-clause-entry : goal.returns-then-place-eq0-clause-entry
 returns-then-place-eq0-clause-entry c =
     let items = c.self.inside.slots.items.items in
     let place = placed c.args.node c.node_number.result c.last-place.result c.self.inside.slots c.self.invariant c.node_number.ensures c.last-place.ensures in
     let slots = slots-are items c.self.invariant.stored in
-    let none = no-position (is_entry c.args.node) (items_of items) (node-none c.args.node (omega arith) (items_of items) slots (omega arith)) in
-    sym c.self.view_is ∙ ap live (sym (no_words (is_entry c.args.node) (items_of items) none).without_is)
-    ∙ sym (without1-live c.args.node (items_of items) slots (omega arith)) ∙ ap (without (is_entry c.args.node)) c.self.view_is
+    let none = no-position (is_entry c.args.node) (listed_items items) (node-none c.args.node (omega arith) (listed_items items) slots (omega arith)) in
+    sym c.self.view_is ∙ ap live (sym (no_words (is_entry c.args.node) (listed_items items) none).without_is)
+    ∙ sym (without1-live c.args.node (listed_items items) slots (omega arith)) ∙ ap (without (is_entry c.args.node)) c.self.view_is
 
 pub hide-requires-clause-within : goal.hide-requires-clause-within
 hide-requires-clause-within c = omega (
@@ -33,8 +33,8 @@ hide-requires-clause-within c = omega (
       c.self.invariant c.node_number.ensures c.last-place.ensures,
 )
 
-pub truncate-requires-clause-within : goal.truncate-requires-clause-within
-truncate-requires-clause-within c = omega (
+pub pop-requires-clause-some : goal.pop-requires-clause-some
+pop-requires-clause-some c = omega (
   arith,
   c.if-place-eq0.false,
   placed-within c.args.node c.node_number.result c.last-place.result
@@ -61,7 +61,7 @@ module _ (c : goal.After-trim) where
   items = c.self.inside.slots.items.items
 
   abbrev view : List (Listed ℕ)
-  view = items_of items
+  view = listed_items items
 
   abbrev sought : Listed ℕ → Bool
   sought = is_entry c.args.node
@@ -93,15 +93,16 @@ module _ (c : goal.After-trim) where
   without-is : live (without sought view) ≡ without sought c.args.self.now
   without-is = sym (without1-live c.args.node view slots low) ∙ ap (without sought) c.self.view_is
 
-  gone : live (items_of c.if-place-len.self-inside.slots.items.items) ≡ live (remove view up)
+  gone : live (listed_items c.if-place-len.self-inside.slots.items.items) ≡ live (remove view up)
   gone =
       elim c.if-place-len.branch [
         | then-place-len w ↦
-            ap (λ f. live (items_of f.slots.items.items)) w.self-inside-is ∙ ap (λ xs. live (items_of xs)) w.hide.ensures.items
+            ap (λ f. live (listed_items f.slots.items.items)) w.self-inside-is ∙ ap (λ xs. live (listed_items xs)) w.hide.ensures.items
             ∙ ap live (set_nearest item_of (λ _. hole) items i up stored.Hole stored.Hole at refl) ∙ hide-live up view
         | else-place-len w ↦
             let last : 0 ≡ up = omega (arith, at, w.if-place-len.false) in
-            ap (λ f. live (items_of f.slots.items.items)) w.self-inside-is ∙ ap (λ xs. live (items_of xs)) w.truncate.ensures.items
+            ap (λ f. live (listed_items f.slots.items.items)) w.self-inside-is
+            ∙ ap (λ xs. live (listed_items xs)) (w.pop.ensures.items ∙ ap (λ k. take k items) (omega (arith, last, at)))
             ∙ ap live (sym (drop_nearest item_of items i 1 (omega (arith, last, at)))) ∙ ap (λ k. live (remove view k)) last
       ]
 

@@ -1,4 +1,4 @@
-use Rattle.hopen.proofs.Names.{◌≡◌, ◌-◌, false, Some, length, sym, ◌∙◌, ap, arith, for_node, entry_is, items_of, live, told, changed_at, is_some, changed_at_past}
+use Rattle.hopen.proofs.Names.{◌≡◌, ◌-◌, false, Some, length, sym, ◌∙◌, ap, arith, for_node, entry_is, listed_items, live, stored_entry, changed_at, is_some, changed_at_past}
 use Rattle.hopen.proofs.Bookmarks.{is_some-option_map}
 use Rattle.hopen.proofs.Holes.{changed-marker, marker-is, nth-index, nth-item, nth-missing, nth-there}
 use Rattle.hopen.proofs.Live.{is_hole-for_node, nth-changed}
@@ -9,8 +9,8 @@ returns-then-is_some c =
     let items = c.self.inside.slots.items.items in
     let at = nth-index items c.self.invariant.stored c.args.back c.in-Some.index (sym c.in-Some.is ∙ c.slot.ensures) in
     let up : length items - 1 - c.in-Some.index ≡ at.0 = omega (arith, at.1.1) in
-    ap live c.renew.ensures.items ∙ ap (λ k. live (changed_at k (for_node c.args.node) (items_of items))) up
-    ∙ sym (nth-changed (for_node c.args.node) (is_hole-for_node c.args.node) c.args.back at.0 (items_of items) at.1.0)
+    ap live c.renew.ensures.items ∙ ap (λ k. live (changed_at k (for_node c.args.node) (listed_items items))) up
+    ∙ sym (nth-changed (for_node c.args.node) (is_hole-for_node c.args.node) c.args.back at.0 (listed_items items) at.1.0)
     ∙ ap (changed_at c.args.back (for_node c.args.node)) c.self.view_is
 
 pub returns-else-is_some : goal.returns-else-is_some
@@ -20,11 +20,11 @@ returns-else-is_some c =
     let at = nth-index items c.self.invariant.stored c.args.back c.in-Some.index found in
     let x = c.index.result.now in
     let there = nth-there items c.self.invariant.stored c.args.back c.in-Some.index found x c.index.ensures in
-    let none : is_some (told x) ≡ false = ap is_some (sym c.entry.ensures) ∙ is_some-option_map (λ e. entry_is e.now) c.entry.result
+    let none : is_some (stored_entry x) ≡ false = ap is_some (sym c.entry.ensures) ∙ is_some-option_map (λ e. entry_is e.now) c.entry.result
     ∙ sym c.is_some.ensures ∙ c.if-is_some.false in
     sym (ap (changed_at c.args.back (for_node c.args.node)) (sym c.self.view_is)
-    ∙ nth-changed (for_node c.args.node) (is_hole-for_node c.args.node) c.args.back at.0 (items_of items) at.1.0
-    ∙ ap live (changed-marker at.0 c.args.node (items_of items) (nth-item items c.self.invariant.stored c.args.back c.in-Some.index found x c.index.ensures
+    ∙ nth-changed (for_node c.args.node) (is_hole-for_node c.args.node) c.args.back at.0 (listed_items items) at.1.0
+    ∙ ap live (changed-marker at.0 c.args.node (listed_items items) (nth-item items c.self.invariant.stored c.args.back c.in-Some.index found x c.index.ensures
     ∙ ap (λ i. Some i) (marker-is x there none)))
     ∙ c.self.view_is)
 
@@ -32,5 +32,5 @@ pub returns-in_default : goal.returns-in_default
 returns-in_default c =
     let items = c.self.inside.slots.items.items in
     let past = nth-missing items c.self.invariant.stored c.args.back (sym c.slot.ensures ∙ c.in_default.is) in
-    sym c.self.view_is ∙ sym (changed_at_past (for_node c.args.node) c.args.back (live (items_of items)) past)
+    sym c.self.view_is ∙ sym (changed_at_past (for_node c.args.node) c.args.back (live (listed_items items)) past)
     ∙ ap (changed_at c.args.back (for_node c.args.node)) c.self.view_is

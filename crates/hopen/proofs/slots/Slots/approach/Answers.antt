@@ -1,4 +1,4 @@
-use Rattle.hopen.proofs.Names.{◌≡◌, ◌<◌, ◌∙◌, ap, subst, true, arith, length, get_or, is_gone, items_of, live, remove}
+use Rattle.hopen.proofs.Names.{◌≡◌, ◌<◌, ◌∙◌, ap, subst, true, arith, length, get_or, is_gone, listed_items, live, remove}
 use Rattle.hopen.specs.declared.entry.Slot.TheVariants as stored
 use Rattle.hopen.proofs.Holes.{placed-within}
 use Rattle.hopen.proofs.Jumped.{jumped-rest}
@@ -15,4 +15,4 @@ returns-clause-rest c =
     let items = c.args.self.now.items.items in
     let there = subst (λ xs. (c.args.index < c.in-Some.hole) × (c.in-Some.hole < length xs) × (is_gone (get_or xs c.in-Some.hole stored.Hole) ≡ true))
     c.deref.ensures.value c.in-Some.ensures in
-    ap (λ xs. live (items_of (remove xs c.in-Some.hole))) c.jump.ensures.items ∙ jumped-rest items c.args.index c.in-Some.hole there.0 there.1 there.2
+    ap (λ xs. live (listed_items (remove xs c.in-Some.hole))) c.jump.ensures.items ∙ jumped-rest items c.args.index c.in-Some.hole there.0 there.1 there.2

@@ -1,10 +1,10 @@
-use Rattle.hopen.proofs.Names.{◌≡◌, ℕ, suc, ◌+◌, ◌-◌, ◌<◌, ◌≤◌, None, Some, Option, List, [], IfSome, map, length, get_or, take, nat_eq, drop, reverse, add-zero, ap, sym, ◌∙◌, subst, Bool, true, false, arith, if◌then◌else◌, remove, option_map_or, length-map, attribute_of, EntryOf, Listed, after_marker, as_entry, is_equal, item_of, items_of, nowhere, by_hash, number_by, numbers_by, Stored, slice_get_nearest, drop_of_length-le, zero-add}
+use Rattle.hopen.proofs.Names.{◌≡◌, ℕ, suc, ◌+◌, ◌-◌, ◌<◌, ◌≤◌, None, Some, Option, List, [], IfSome, map, length, get_or, take, nat_eq, drop, reverse, add-zero, ap, sym, ◌∙◌, subst, Bool, true, false, arith, if◌then◌else◌, remove, option_map_or, length-map, attribute_of, EntryOf, Listed, after_marker, as_entry, is_equal, item_of, listed_items, nowhere, by_hash, number_by, numbers_by, Stored, slice_get_nearest, drop_of_length-le, zero-add}
 use Rattle.hopen.proofs.ByHash.{Steps, last-at, length-after, number-at, numbers-before, skips, steps}
-use Rattle.hopen.proofs.Chained.{before-is, last-is, last_of}
+use Rattle.hopen.proofs.IndexSteps.{before-is, last-is, last_of}
 use Rattle.hopen.proofs.Earliest.{farthest, farthest-within, room-made, room-there}
 use Rattle.hopen.proofs.ItemLists.{length-items_of}
 use Rattle.hopen.proofs.Listed.{numbers-back, place, place-le}
-use Rattle.hopen.proofs.SameHash.{same-number, told-equal}
+use Rattle.hopen.proofs.SameHash.{same-number, stored_entry-equal}
 use Rattle.hopen.proofs.slots.Slots.giving_way.Goals as goal
 use Rattle.hopen.proofs.slots.Slots.giving_way.Goals.{then-branch, else-branch}
 
@@ -12,7 +12,7 @@ pub loop-place-init : goal.loop-place-init
 loop-place-init c =
     let items = c.args.self.now.items.items in
     let hashes = c.by_hash-hashes.result.now in
-    let view = items_of items in
+    let view = listed_items items in
     let new : EntryOf ℕ = record { node = 0; name = c.args.name; attrs = map attribute_of c.args.attrs.now } in
     let sought = is_equal nat_eq new in
     let entries = after_marker view in
@@ -37,10 +37,10 @@ loop-place-init c =
 
 -- the number at the place
 number-there : (of : EntryOf ℕ → ℕ) (items : List Stored) (hashes : List ℕ) (number p : ℕ) → hashes ≡ numbers_by of items → 0 < p → p ≤ length items
-    → (0 < p → get_or (map (number_by of) (items_of items)) (length (items_of items) - p) 0 ≡ number) → get_or hashes (p - 1) 0 ≡ number
+    → (0 < p → get_or (map (number_by of) (listed_items items)) (length (listed_items items) - p) 0 ≡ number) → get_or hashes (p - 1) 0 ≡ number
 number-there of items hashes number p is some within there =
     ap (λ ns. get_or ns (p - 1) 0) is ∙ number-at of items p some within
-    ∙ ap (λ k. get_or (map (number_by of) (items_of items)) (k - p) 0) (sym (length-items_of items)) ∙ there some
+    ∙ ap (λ k. get_or (map (number_by of) (listed_items items)) (k - p) 0) (sym (length-items_of items)) ∙ there some
 
 pub before-place-requires-clause-number : goal.before-place-requires-clause-number
 before-place-requires-clause-number c =
@@ -56,7 +56,7 @@ module _ (c : goal.After-before-place) where
   items = c.args.self.now.items.items
 
   abbrev view : List (Listed ℕ)
-  view = items_of items
+  view = listed_items items
 
   abbrev new : EntryOf ℕ
   new = record { node = 0; name = c.args.name; attrs = map attribute_of c.args.attrs.now }
@@ -94,14 +94,14 @@ module _ (c : goal.After-before-place) where
       (slice_get_nearest item_of items (p - 1) (length view - p) c.index.result.now at ∙ ap (λ y. Some (item_of y)) (sym c.index.ensures))
       (c.before-place.ensures ∙ before-is (get_or hashes (p - 1) 0) hashes (p - 1) (omega arith) ∙ (λ i. last_of (number i) (numbers i)))
 
-  told : c.in_ok-is_equal.field-0 ≡ here
-  told = c.in_ok-is_equal.ensures ∙ told-equal new named c.index.result.now
+  stored_entry : c.in_ok-is_equal.field-0 ≡ here
+  stored_entry = c.in_ok-is_equal.ensures ∙ stored_entry-equal new named c.index.result.now
 
   more : c.if-branch.equal ≡ c.loop-place.equal + (if here then 1 else 0)
   more =
       elim c.if-branch.branch [
-        | then-branch w ↦ w.equal-is ∙ ap (λ v. c.loop-place.equal + (if v then 1 else 0)) (sym w.if-branch.true ∙ told)
-        | else-branch w ↦ w.equal-is ∙ sym (add-zero c.loop-place.equal) ∙ ap (λ v. c.loop-place.equal + (if v then 1 else 0)) (sym w.if-branch.false ∙ told)
+        | then-branch w ↦ w.equal-is ∙ ap (λ v. c.loop-place.equal + (if v then 1 else 0)) (sym w.if-branch.true ∙ stored_entry)
+        | else-branch w ↦ w.equal-is ∙ sym (add-zero c.loop-place.equal) ∙ ap (λ v. c.loop-place.equal + (if v then 1 else 0)) (sym w.if-branch.false ∙ stored_entry)
       ]
 
   few : c.if-branch.equal ≤ c.loop-place.equal + 1
@@ -112,9 +112,9 @@ module _ (c : goal.After-before-place) where
       let same : length items ≡ length view = sym (length-items_of items) in
       elim c.if-branch.branch [
         | then-branch w ↦ let size : w.len.result ≡ length view = omega (arith, w.len.ensures, same) in
-            w.earliest-is ∙ (λ i. if (sym w.if-branch.true ∙ told) i then Some (size i - c.loop-place.place) else c.loop-place.earliest)
+            w.earliest-is ∙ (λ i. if (sym w.if-branch.true ∙ stored_entry) i then Some (size i - c.loop-place.place) else c.loop-place.earliest)
         | else-branch w ↦ w.earliest-is
-            ∙ ap (λ v. if v then Some (length view - c.loop-place.place) else c.loop-place.earliest) (sym w.if-branch.false ∙ told)
+            ∙ ap (λ v. if v then Some (length view - c.loop-place.place) else c.loop-place.earliest) (sym w.if-branch.false ∙ stored_entry)
       ]
 
 pub loop-place-smaller : goal.loop-place-smaller
@@ -139,7 +139,7 @@ nothing of items p h = drop_of_length-le (after_marker items) (omega (arith, len
 
 pub returns-then-equal-lt-MOST_EQUAL-clause-room : goal.returns-then-equal-lt-MOST_EQUAL-clause-room
 returns-then-equal-lt-MOST_EQUAL-clause-room c =
-    let view = items_of c.args.self.now.items.items in
+    let view = listed_items c.args.self.now.items.items in
     let count = rw (nothing (by_hash c.args.self.now.keys) view c.loop-place.place (omega (arith, c.loop-place.invariant.marked))) at
     c.loop-place.invariant.count in
     room-there nat_eq (record { node = 0; name = c.args.name; attrs = map attribute_of c.args.attrs.now }) view c.loop-place.equal (omega arith) (omega arith)
@@ -147,7 +147,7 @@ returns-then-equal-lt-MOST_EQUAL-clause-room c =
 pub returns-else-equal-lt-MOST_EQUAL-clause-within : goal.returns-else-equal-lt-MOST_EQUAL-clause-within
 returns-else-equal-lt-MOST_EQUAL-clause-within c =
     let items = c.args.self.now.items.items in
-    let view = items_of items in
+    let view = listed_items items in
     let sought = is_equal nat_eq (record { node = 0; name = c.args.name; attrs = map attribute_of c.args.attrs.now }) in
     let first = rw (nothing (by_hash c.args.self.now.keys) view c.loop-place.place (omega (arith, c.loop-place.invariant.marked))) at
     c.loop-place.invariant.first in
@@ -157,7 +157,7 @@ returns-else-equal-lt-MOST_EQUAL-clause-within c =
 
 pub returns-else-equal-lt-MOST_EQUAL-clause-room : goal.returns-else-equal-lt-MOST_EQUAL-clause-room
 returns-else-equal-lt-MOST_EQUAL-clause-room c =
-    let view = items_of c.args.self.now.items.items in
+    let view = listed_items c.args.self.now.items.items in
     let new : EntryOf ℕ = record { node = 0; name = c.args.name; attrs = map attribute_of c.args.attrs.now } in
     let last = nothing (by_hash c.args.self.now.keys) view c.loop-place.place (omega (arith, c.loop-place.invariant.marked)) in
     let count = rw last at c.loop-place.invariant.count in

@@ -1,4 +1,4 @@
-use Rattle.hopen.proofs.Names.{◌≡◌, ℕ, ◌+◌, ◌-◌, ◌<◌, ◌≤◌, None, List, map, length, get_or, nat_eq, filter, drop, attribute_of, EntryOf, after_marker, is_equal, items_of, by_hash, number_by}
+use Rattle.hopen.proofs.Names.{◌≡◌, ℕ, ◌+◌, ◌-◌, ◌<◌, ◌≤◌, None, List, map, length, get_or, nat_eq, filter, drop, attribute_of, EntryOf, after_marker, is_equal, listed_items, by_hash, number_by}
 use Rattle.hopen.proofs.Earliest.{farthest}
 use Rattle.hopen.proofs.Listed.{place}
 use Rattle.hopen.proofs.slots.Slots.giving_way.Given as goal
@@ -7,7 +7,7 @@ use Rattle.hopen.proofs.slots.Slots.giving_way.Given as goal
 abbrev pub invariant-loop-place : goal.invariant-loop-place
 invariant-loop-place l =
     let new : EntryOf ℕ = record { node = 0; name = l.name; attrs = map attribute_of l.attrs } in
-    let view = items_of l.self.items.items in
+    let view = listed_items l.self.items.items in
     let entries : List (EntryOf ℕ) = after_marker view in
     let up : ℕ = length view - l.place in
     record {

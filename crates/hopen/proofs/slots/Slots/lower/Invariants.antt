@@ -1,4 +1,4 @@
-use Rattle.hopen.proofs.Names.{◌≡◌, ◌≤◌, get_or, insert, remove, IsListed}
+use Rattle.hopen.proofs.Names.{◌≡◌, ◌≤◌, get_or, insert, remove, AreSlotsListed}
 use Rattle.hopen.specs.declared.entry.Slot.TheVariants as stored
 use Rattle.hopen.proofs.slots.Slots.lower.Given as goal
 
@@ -6,7 +6,7 @@ use Rattle.hopen.proofs.slots.Slots.lower.Given as goal
 abbrev pub invariant-loop-index : goal.invariant-loop-index
 invariant-loop-index l =
     record {
-      listed : IsListed l.self;
+      listed : AreSlotsListed l.self;
       below : l.index ≤ l.fn.from;
       above : l.fn.to ≤ l.index;
       moved : l.self.items.items ≡ insert (remove l.fn.self.items.items l.fn.from) l.index (get_or l.fn.self.items.items l.fn.from stored.Hole);

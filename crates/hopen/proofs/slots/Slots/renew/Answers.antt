@@ -1,4 +1,4 @@
-use Rattle.hopen.proofs.Names.{◌≡◌, suc, get_or, set, refl, ◌∙◌, ap, arith, get_or_read, items_of, renamed}
+use Rattle.hopen.proofs.Names.{◌≡◌, suc, get_or, set, refl, ◌∙◌, ap, arith, get_or_read, listed_items, moved_entry}
 use Rattle.hopen.specs.declared.entry.Slot.TheVariants as stored
 use Rattle.hopen.proofs.Moved.{listed-renewed, renewed-items}
 use Rattle.hopen.proofs.Slotted.{freed, freed-within}
@@ -12,14 +12,14 @@ returns-clause-listed c =
     listed-renewed c.args.node c.args.index c.args.self.now _ c.requires.listed refl c.requires.within c.requires.entry (omega arith)
     refl refl (c.set.ensures ∙ ap (λ n. set c.clear.new.self c.args.index n) c.node_number.ensures
     ∙ ap (λ ns. set ns c.args.index (suc (suc c.args.node))) c.clear.ensures) refl
-    (ap (set items c.args.index) (c.set_node.ensures ∙ ap (renamed c.args.node) read))
+    (ap (set items c.args.index) (c.set_node.ensures ∙ ap (moved_entry c.args.node) read))
 
 pub returns-clause-items : goal.returns-clause-items
 returns-clause-items c =
     let items = c.args.self.now.items.items in
     let read : c.index_mut.result.now ≡ get_or items c.args.index stored.Hole = get_or_read items c.args.index c.index_mut.result.now c.requires.within
     c.index_mut.ensures.value stored.Hole in
-    ap (λ x. items_of (set items c.args.index x)) (c.set_node.ensures ∙ ap (renamed c.args.node) read)
+    ap (λ x. listed_items (set items c.args.index x)) (c.set_node.ensures ∙ ap (moved_entry c.args.node) read)
     ∙ renewed-items c.args.node items c.args.index c.requires.within c.requires.entry
 
 pub set-requires-clause-within : goal.set-requires-clause-within

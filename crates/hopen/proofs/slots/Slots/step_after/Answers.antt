@@ -1,4 +1,4 @@
-use Rattle.hopen.proofs.Names.{◌<◌, ◌==◌, suc, length, set, reverse, refl, ◌∙◌, ap, arith, remove, get_or_read, length-reverse, length-set, length-remove, last_up, ◌-◌, is_entry, item_of, items_of, nowhere, renamed, last_place-le}
+use Rattle.hopen.proofs.Names.{◌<◌, ◌==◌, suc, length, set, reverse, refl, ◌∙◌, ap, arith, remove, get_or_read, length-reverse, length-set, length-remove, last_up, ◌-◌, is_entry, item_of, listed_items, nowhere, moved_entry, last_place-le}
 use Rattle.hopen.specs.declared.entry.Slot.TheVariants as stored
 use Rattle.hopen.proofs.Moved.{listed-renewed, mark-place, moved-after}
 use Rattle.hopen.proofs.Slotted.{freed, freed-within}
@@ -11,7 +11,7 @@ lower-requires-clause-listed c =
     listed-renewed c.args.node c.args.index c.args.self.now _ c.requires.listed refl c.requires.within c.requires.entry (omega arith)
     refl refl (c.set.ensures ∙ ap (λ n. set c.clear.new.self c.args.index n) c.node_number-2.ensures
     ∙ ap (λ ns. set ns c.args.index (suc (suc c.args.node))) c.clear.ensures) refl
-    (ap (set items c.args.index) (c.set_node.ensures ∙ ap (renamed c.args.node) read))
+    (ap (set items c.args.index) (c.set_node.ensures ∙ ap (moved_entry c.args.node) read))
 
 pub raise-requires-clause-listed : goal.raise-requires-clause-listed
 raise-requires-clause-listed c =
@@ -20,7 +20,7 @@ raise-requires-clause-listed c =
     listed-renewed c.args.node c.args.index c.args.self.now _ c.requires.listed refl c.requires.within c.requires.entry (omega arith)
     refl refl (c.set.ensures ∙ ap (λ n. set c.clear.new.self c.args.index n) c.node_number-2.ensures
     ∙ ap (λ ns. set ns c.args.index (suc (suc c.args.node))) c.clear.ensures) refl
-    (ap (set items c.args.index) (c.set_node.ensures ∙ ap (renamed c.args.node) read))
+    (ap (set items c.args.index) (c.set_node.ensures ∙ ap (moved_entry c.args.node) read))
 
 pub raise-requires-clause-to : goal.raise-requires-clause-to
 raise-requires-clause-to c =
@@ -49,9 +49,9 @@ returns-then-place-index-clause-items c =
     (c.last-place.ensures ∙ ap (λ n. last_up (λ k. k == n) c.clear.new.self (length c.clear.new.self)) c.node_number.ensures
     ∙ ap (λ l. last_up (λ k. k == suc (suc c.args.mark)) l (length l)) c.clear.ensures) in
     let read = get_or_read items c.args.index c.index_mut.result.now c.requires.within c.index_mut.ensures.value stored.Hole in
-    ap items_of c.lower.ensures.items
+    ap listed_items c.lower.ensures.items
     ∙ moved-after c.args.node c.args.mark items c.args.index c.last-place.result c.set_node.new.self c.requires.within c.requires.entry
-    (c.set_node.ensures ∙ ap (renamed c.args.node) read) (placed.below c.if-place-index.true) c.requires.mark
+    (c.set_node.ensures ∙ ap (moved_entry c.args.node) read) (placed.below c.if-place-index.true) c.requires.mark
 
 pub returns-else-place-index-clause-items : goal.returns-else-place-index-clause-items
 returns-else-place-index-clause-items c =
@@ -62,9 +62,9 @@ returns-else-place-index-clause-items c =
     (c.last-place.ensures ∙ ap (λ n. last_up (λ k. k == n) c.clear.new.self (length c.clear.new.self)) c.node_number.ensures
     ∙ ap (λ l. last_up (λ k. k == suc (suc c.args.mark)) l (length l)) c.clear.ensures) in
     let read = get_or_read items c.args.index c.index_mut.result.now c.requires.within c.index_mut.ensures.value stored.Hole in
-    ap items_of c.raise.ensures.items
+    ap listed_items c.raise.ensures.items
     ∙ moved-after c.args.node c.args.mark items c.args.index (c.last-place.result - 1) c.set_node.new.self c.requires.within c.requires.entry
-    (c.set_node.ensures ∙ ap (renamed c.args.node) read) (placed.above c.if-place-index.false) c.requires.mark
+    (c.set_node.ensures ∙ ap (moved_entry c.args.node) read) (placed.above c.if-place-index.false) c.requires.mark
 
 pub set-requires-clause-within : goal.set-requires-clause-within
 set-requires-clause-within c = freed-within c.args.self.now.items.items c.args.self.now.nodes _ c.args.index c.requires.listed.nodes c.requires.within _

@@ -1,4 +1,4 @@
-use Rattle.hopen.proofs.Names.{◌≡◌, ◌-◌, List, Some, None, length, map, get_or, set, ap, sym, ◌∙◌, arith, subst, with_items_is, with_items, changed, is_node, open_of, opened_by, stack_of, KeptNode, Stands}
+use Rattle.hopen.proofs.Names.{◌≡◌, ◌-◌, List, Some, None, length, map, get_or, set, ap, sym, ◌∙◌, arith, subst, with_items_is, with_items, changed, is_node, open_of, opened_by, stack_of, KeptNode, LevelsStand}
 use Rattle.hopen.proofs.OpenLevels.{node-level, placed}
 use Rattle.hopen.proofs.Opened.{kept, length-changed, none-replaced, rests-replaced, seen, stack-replaced}
 use Rattle.hopen.proofs.stack.OpenStack.replace.Goals as goal
@@ -36,7 +36,7 @@ invariant_of-self-then-level-gt0 c =
         length-changed s (λ _. open_of c.args.by) (stack_of items),
       );
       rests = rests-replaced s items (c.of_node-level.result - 1) p new (open_of c.args.by) is c.self.inside.last c.replace.new.last c.self.invariant.rests
-          (subst (Stands c.replace.new.last) (sym back) c.replace.ensures.stands)
+          (subst (LevelsStand c.replace.new.last) (sym back) c.replace.ensures.stands)
           (c.replace.ensures.tables.holes ∙ c.in_ok-make_room.ensures.counts.1);
     }
 

@@ -1,5 +1,5 @@
 use Rattle.hparse.proofs.Names.{◌∙◌, ap, sym, subst, Building, document, BeginsIn, a_document, options_of}
-use Rattle.hparse.specs.Placing.{makings_if}
+use Rattle.hparse.specs.BuilderWithOrigins.{makings_if}
 use Rattle.hparse.proofs.parser.Parser.document.Goals as goal
 
 pub returns : goal.returns
@@ -10,7 +10,7 @@ returns c =
       accepts = begun.accepts;
       began = record { names = c.new-names.result; sink = begun.sink };
       unrefused = ap (λ (b : Building). b.refused) e;
-      none_told = ap (λ (b : Building). b.told) e;
+      none_told = ap (λ (b : Building). b.tokenizer_errors) e;
       root_is = ap (λ (b : Building). b.root) e;
       begins = subst (λ (b : Building). BeginsIn (options_of c.args.options.now) c.new-names.result document b.state) (sym e) a_document;
       places = begun.places ∙ ap (λ (b : Building). makings_if c.args.options.now.places b.state) (sym begun.builder_is);

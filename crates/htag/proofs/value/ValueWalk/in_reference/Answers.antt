@@ -30,7 +30,7 @@ returns-then-found c =
       more = _;
       later_is = t.later_is;
       takes = λ text own h.
-          run_begins _ _ _ _ _ text own h c.args.walk c.requires c.in-Some.found (λ taken has after. c.in-Some.ensures.taken _ _ taken _ has refl after) c.in-Some.ensures.number c.if-found.true refl t.place_is
+          run_begins _ _ _ _ _ text own h c.args.walk c.requires c.in-Some.found (λ taken has after. c.in-Some.ensures.taken _ _ taken _ has refl after) c.in-Some.ensures.number c.if-found.true refl t.at_is
           (c.in_ok-push.ensures.bytes ∙ ap (λ (x : List ℕ). x ++ encode_utf8 c.args.next.ch) (c.in_ok-push_all.ensures ∙ ap (λ (x : List ℕ). string_bytes c.tell.new.self.text ++ encode_utf8_all x) c.deref.ensures.value
           ∙ ap (λ (x : List ℕ). x ++ encode_utf8_all c.tell.new.self.held.items) t.bytes
           ∙ ap (λ (x : Vec ℕ Global). (string_bytes c.args.self.now.text ++ encode_utf8_all (characters_of c.in-Some.found.characters)) ++ encode_utf8_all x.items) t.held_is));

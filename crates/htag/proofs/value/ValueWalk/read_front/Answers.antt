@@ -1,4 +1,4 @@
-use Rattle.htag.proofs.Vocabulary.{◌≡◌, ◌<◌, ℕ, List, false, ◌++◌, length, take, sym, ap, ◌∙◌, subst, arith, nat_tests, prefix_len, slice_index, string_bytes}
+use Rattle.htag.proofs.Vocabulary.{◌≡◌, ℕ, List, false, ◌++◌, sym, ap, ◌∙◌, subst, arith, nat_tests, prefix_len, slice_index, string_bytes}
 use Rattle.std.proofs.lemmas.List.Sums.{prefix_len_stops}
 use Rattle.htext.specs.Run.{is_quoted_byte}
 use Rattle.htext.proofs.Runs.{front_of}

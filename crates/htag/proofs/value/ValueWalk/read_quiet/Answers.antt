@@ -1,4 +1,4 @@
-use Rattle.htag.proofs.Vocabulary.{◌≡◌, ℕ, List, [], length, drop, sym, ap, ◌∙◌, subst, arith, length-drop, list_all, string_bytes}
+use Rattle.htag.proofs.Vocabulary.{◌≡◌, ℕ, List, [], length, sym, ap, ◌∙◌, subst, arith, length-drop, list_all, string_bytes}
 use Rattle.std.specs.Str.{chars}
 use Rattle.htext.specs.Run.{is_clean}
 use Rattle.htext.proofs.Clean.{clean_rest}

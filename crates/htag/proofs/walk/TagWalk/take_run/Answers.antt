@@ -1,9 +1,9 @@
-use Rattle.htag.proofs.Vocabulary.{◌≡◌, ◌+◌, ◌++◌, [], ℕ, List, refl, true, false, sym, ap, ◌∙◌, subst, length, take, drop, arith, length-drop, list_all, err_from_is_err_and, Placed, placed, grows_not, grows_on, IsInTag}
+use Rattle.htag.proofs.Vocabulary.{◌+◌, ◌++◌, ℕ, List, refl, sym, ap, ◌∙◌, subst, length, take, drop, arith, length-drop, list_all, err_from_is_err_and, Placed, placed, grows_not, grows_on, IsInTag}
 use Rattle.std.specs.Str.{chars}
 use Rattle.htext.specs.Run.{is_clean, IsCut}
 use Rattle.htext.proofs.Clean.{clean_rest}
 use Rattle.htext.proofs.Wide.{cut_more}
-use Rattle.htag.specs.Run.{next_at, EndsOrNot}
+use Rattle.htag.specs.Run.{next_at}
 use Rattle.htag.specs.TagWalk.{IsWholeTag}
 use Rattle.htag.proofs.Ascii.{edge_of}
 use Rattle.htag.proofs.InRun.{next_end, next_more, next_on, none_cut, none_taken, text_more}
@@ -21,8 +21,8 @@ loop-count-init c = record {
 pub range_from-requires : goal.range_from-requires
 range_from-requires c = λ _. edge_of c.loop-count.count c.args.run.now c.loop-count.invariant.cut
 
-pub take_front-requires-clause-clean : goal.take_front-requires-clause-clean
-take_front-requires-clause-clean c =
+pub take_part-requires-clause-clean : goal.take_part-requires-clause-clean
+take_part-requires-clause-clean c =
     ap (λ (x : List ℕ). list_all is_clean (chars x)) c.range_from.ensures.value ∙ (clean_rest c.loop-count.count c.args.run.now c.loop-count.invariant.cut c.requires.clean).1
 
 pub loop-count-preserved : goal.loop-count-preserved
@@ -37,11 +37,11 @@ loop-count-preserved c =
           let front = body ++ placed at (chars (take count run)) in
           let before = subst (λ (x : List Placed). IsInTag c.args.table.now c.loop-count.names c.loop-count.self front x c.loop-count.errors.items) (next_on at count run ∙ ap (λ (x : List ℕ). next_at (at + count) x 0) (sym c.range_from.ensures.value)) (c.loop-count.invariant.takes body h) in
           let took = (rw c.if-ended.false at (c.in_ok-more.ensures.takes front before)) in
-          subst (λ (x : List Placed). IsInTag c.args.table.now c.take_front.new.names c.take_front.new.self x (next_at at run (count + more)) c.take_front.new.errors.items) (text_more at count run body more c.loop-count.invariant.cut again)
-          (subst (λ (x : List Placed). IsInTag c.args.table.now c.take_front.new.names c.take_front.new.self (front ++ placed (at + count) (chars (take more (drop count run)))) x c.take_front.new.errors.items) (next_more at count run more)
-          (subst (λ (x : List ℕ). IsInTag c.args.table.now c.take_front.new.names c.take_front.new.self (front ++ placed (at + count) (chars (take more x))) (next_at (at + count) x more) c.take_front.new.errors.items) c.range_from.ensures.value took));
+          subst (λ (x : List Placed). IsInTag c.args.table.now c.take_part.new.names c.take_part.new.self x (next_at at run (count + more)) c.take_part.new.errors.items) (text_more at count run body more c.loop-count.invariant.cut again)
+          (subst (λ (x : List Placed). IsInTag c.args.table.now c.take_part.new.names c.take_part.new.self (front ++ placed (at + count) (chars (take more (drop count run)))) x c.take_part.new.errors.items) (next_more at count run more)
+          (subst (λ (x : List ℕ). IsInTag c.args.table.now c.take_part.new.names c.take_part.new.self (front ++ placed (at + count) (chars (take more x))) (next_at (at + count) x more) c.take_part.new.errors.items) c.range_from.ensures.value took));
       cut = cut_more count more run c.loop-count.invariant.cut again;
-      grows = grows_on _ _ _ c.loop-count.invariant.grows c.take_front.ensures.grows;
+      grows = grows_on _ _ _ c.loop-count.invariant.grows c.take_part.ensures.grows;
       kind = c.in_ok-more.ensures.kind ∙ c.loop-count.invariant.kind;
     }
 
@@ -58,8 +58,8 @@ returns-then-ended-clause-takes c = λ body h.
     let front = body ++ placed at (chars (take count run)) in
     let before = subst (λ (x : List Placed). IsInTag c.args.table.now c.loop-count.names c.loop-count.self front x c.loop-count.errors.items) (next_on at count run ∙ ap (λ (x : List ℕ). next_at (at + count) x 0) (sym c.range_from.ensures.value)) (c.loop-count.invariant.takes body h) in
     let took = (rw c.if-ended.true at (c.in_ok-more.ensures.takes front before)) in
-    subst (λ (x : List Placed). IsWholeTag c.args.table.now c.take_front.new.names c.take_front.new.self x c.take_front.new.errors.items) (text_more at count run body more c.loop-count.invariant.cut again)
-    (subst (λ (x : List ℕ). IsWholeTag c.args.table.now c.take_front.new.names c.take_front.new.self (front ++ placed (at + count) (chars (take more x))) c.take_front.new.errors.items) c.range_from.ensures.value took)
+    subst (λ (x : List Placed). IsWholeTag c.args.table.now c.take_part.new.names c.take_part.new.self x c.take_part.new.errors.items) (text_more at count run body more c.loop-count.invariant.cut again)
+    (subst (λ (x : List ℕ). IsWholeTag c.args.table.now c.take_part.new.names c.take_part.new.self (front ++ placed (at + count) (chars (take more x))) c.take_part.new.errors.items) c.range_from.ensures.value took)
 
 pub returns-then-ended-clause-cut : goal.returns-then-ended-clause-cut
 returns-then-ended-clause-cut c =
@@ -72,7 +72,7 @@ pub returns-then-ended-clause-kind : goal.returns-then-ended-clause-kind
 returns-then-ended-clause-kind c = c.in_ok-more.ensures.kind ∙ c.loop-count.invariant.kind
 
 pub returns-then-ended-clause-grows : goal.returns-then-ended-clause-grows
-returns-then-ended-clause-grows c = grows_on _ _ _ c.loop-count.invariant.grows c.take_front.ensures.grows
+returns-then-ended-clause-grows c = grows_on _ _ _ c.loop-count.invariant.grows c.take_part.ensures.grows
 
 pub returns-in_err-more-clause-takes : goal.returns-in_err-more-clause-takes
 returns-in_err-more-clause-takes c =
@@ -82,7 +82,7 @@ returns-in_err-more-clause-takes c =
     (next_on c.args.at c.loop-count.count c.args.run.now ∙ ap (λ (x : List ℕ). next_at (c.args.at + c.loop-count.count) x 0) (sym c.range_from.ensures.value)) (c.loop-count.invariant.takes body h)))
 
 pub returns-in_err-more-clause-grows : goal.returns-in_err-more-clause-grows
-returns-in_err-more-clause-grows c = grows_on _ _ _ c.loop-count.invariant.grows c.take_front.ensures.grows
+returns-in_err-more-clause-grows c = grows_on _ _ _ c.loop-count.invariant.grows c.take_part.ensures.grows
 
 pub returns-clause-takes : goal.returns-clause-takes
 returns-clause-takes c = λ body h.

@@ -1,4 +1,4 @@
-use Rattle.htag.proofs.Vocabulary.{◌≡◌, ◌<◌, ◌-◌, ◌++◌, List, [], length, take, Placed, Grows, placed, IsInTag}
+use Rattle.htag.proofs.Vocabulary.{◌≡◌, ◌-◌, ◌++◌, List, [], length, take, Placed, Grows, placed, IsInTag}
 use Rattle.std.specs.Str.{chars}
 use Rattle.htext.specs.Run.{IsCut}
 use Rattle.htag.specs.Run.{next_at}

@@ -1,4 +1,4 @@
-use Rattle.htext.proofs.Names.{◌≡◌, ◌≤◌, ℕ, List, length, drop, Some, rules, sym, ap, ◌∙◌, arith, nat_tests, unwrap_or, utf8_valid_len, utf8_error_len, BadBytes, Replace, NextBad, next_of}
+use Rattle.htext.proofs.Names.{◌≡◌, ◌≤◌, ℕ, List, length, drop, Some, rules, sym, ap, ◌∙◌, arith, nat_tests, unwrap_or, utf8_valid_len, utf8_error_len, BadBytes, Replace, NextBad, next_front}
 use Rattle.htext.proofs.Deciding.{nothing_waits, text_next}
 use Rattle.htext.proofs.progress.Progress.next.Goals as goal
 use Rattle.htext.proofs.progress.Progress.next.Goals.{in-Ok-empty, in-Err}
@@ -19,7 +19,7 @@ returns-in-Replace-None c = elim c.match-from_utf8.branch [
 ]
 
 -- what is at the front where it is a bad part that fits
-bad_next : (bad : BadBytes) (rest : List ℕ) (room at part : ℕ) → bad ≡ Replace → utf8_valid_len rest ≡ 0 → utf8_error_len rest ≡ Some part → part ≤ room → NextBad part ≡ next_of bad rest room at
+bad_next : (bad : BadBytes) (rest : List ℕ) (room at part : ℕ) → bad ≡ Replace → utf8_valid_len rest ≡ 0 → utf8_error_len rest ≡ Some part → part ≤ room → NextBad part ≡ next_front bad rest room at
 bad_next bad rest room at part how none is_bad fits = grind (arith, nat_tests)
 
 pub returns-in-Replace-Some : goal.returns-in-Replace-Some

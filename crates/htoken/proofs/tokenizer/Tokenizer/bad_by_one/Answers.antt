@@ -1,4 +1,4 @@
-use Rattle.htoken.proofs.Names.{◌+◌, ◌-◌, ◌≡◌, ℕ, List, arith, ◌∙◌, sym, subst, ap, Ok, Err, Placed, grows_not, grows_on, replaced, gives_item, Takes, err_is}
+use Rattle.htoken.proofs.Names.{◌+◌, ◌-◌, ◌≡◌, ℕ, List, arith, ◌∙◌, sym, subst, ap, Ok, Err, Placed, grows_not, grows_on, replacement_run, gives_item, Takes, err_is}
 use Rattle.htoken.proofs.Fronts.{takes_nothing, part_taken, refused_longer}
 use Rattle.htoken.proofs.InRun.{replaced_more}
 use Rattle.htoken.proofs.Taking.{taken_kept}
@@ -18,8 +18,8 @@ loop-fed-preserved g c =
     record {
       few = omega (arith, c.loop-fed-test.true);
       takes = λ table start before text taken grows h.
-          part_taken (gives_item g.S.ErrorSink.gives g.S.TokenSink.gives_token) table start text (replaced c.args.place fed) taken c.loop-fed.names c.feed_char.new.names c.feed_char.ensures.grows
-          c.args.sink.now c.loop-fed.sink c.loop-fed.self (replaced (c.args.place + fed) 1) (replaced c.args.place (fed + 1)) (replaced_more fed 1 c.args.place) (Ok tt) c.feed_char.new.sink c.feed_char.new.self
+          part_taken (gives_item g.S.ErrorSink.gives g.S.TokenSink.gives_token) table start text (replacement_run c.args.at fed) taken c.loop-fed.names c.feed_char.new.names c.feed_char.ensures.grows
+          c.args.sink.now c.loop-fed.sink c.loop-fed.self (replacement_run (c.args.at + fed) 1) (replacement_run c.args.at (fed + 1)) (replaced_more fed 1 c.args.at) (Ok tt) c.feed_char.new.sink c.feed_char.new.self
           (c.loop-fed.invariant.takes table start before text taken grows h) (λ text events has. c.in_ok-feed_char.ensures.takes table start c.loop-fed.names text events (grows_not _) has);
       grows = grows_on _ _ _ c.loop-fed.invariant.grows c.feed_char.ensures.grows;
     }
@@ -32,10 +32,10 @@ returns-in_err-feed_char-clause-takes g c =
     let all : (fed + 1) + left ≡ c.args.count = omega (arith, c.loop-fed-test.true) in
     rw (err_is c.from_residual.result _ c.from_residual.ensures.1) (λ table start before text taken grows h.
     subst (λ (ps : List Placed). Takes gives table start text ps taken c.feed_char.new.names c.args.sink.now (Err c.in_err-feed_char.field-0.0) c.feed_char.new.sink c.feed_char.new.self)
-    (sym (replaced_more (fed + 1) left c.args.place) ∙ ap (replaced c.args.place) all)
-    (refused_longer gives table start text (replaced c.args.place (fed + 1)) (replaced (c.args.place + (fed + 1)) left) taken c.feed_char.new.names c.args.sink.now c.feed_char.new.sink c.in_err-feed_char.field-0.0 c.feed_char.new.self c.feed_char.new.self
-    (part_taken gives table start text (replaced c.args.place fed) taken c.loop-fed.names c.feed_char.new.names c.feed_char.ensures.grows
-    c.args.sink.now c.loop-fed.sink c.loop-fed.self (replaced (c.args.place + fed) 1) (replaced c.args.place (fed + 1)) (replaced_more fed 1 c.args.place) (Err c.in_err-feed_char.field-0.0) c.feed_char.new.sink c.feed_char.new.self
+    (sym (replaced_more (fed + 1) left c.args.at) ∙ ap (replacement_run c.args.at) all)
+    (refused_longer gives table start text (replacement_run c.args.at (fed + 1)) (replacement_run (c.args.at + (fed + 1)) left) taken c.feed_char.new.names c.args.sink.now c.feed_char.new.sink c.in_err-feed_char.field-0.0 c.feed_char.new.self c.feed_char.new.self
+    (part_taken gives table start text (replacement_run c.args.at fed) taken c.loop-fed.names c.feed_char.new.names c.feed_char.ensures.grows
+    c.args.sink.now c.loop-fed.sink c.loop-fed.self (replacement_run (c.args.at + fed) 1) (replacement_run c.args.at (fed + 1)) (replaced_more fed 1 c.args.at) (Err c.in_err-feed_char.field-0.0) c.feed_char.new.sink c.feed_char.new.self
     (c.loop-fed.invariant.takes table start before text taken grows h) (λ text events has. c.in_err-feed_char.ensures.takes table start c.loop-fed.names text events (grows_not _) has))))
 
 pub returns-in_err-feed_char-clause-grows : goal.returns-in_err-feed_char-clause-grows
@@ -44,5 +44,5 @@ returns-in_err-feed_char-clause-grows g c = grows_on _ _ _ c.loop-fed.invariant.
 pub returns-clause-takes : goal.returns-clause-takes
 returns-clause-takes g c = λ table start before text taken grows h.
     let same : c.loop-fed.fed ≡ c.args.count = omega (arith, c.loop-fed-test.false) in
-    subst (λ (n : ℕ). Takes (gives_item g.S.ErrorSink.gives g.S.TokenSink.gives_token) table start text (replaced c.args.place n) taken c.loop-fed.names c.args.sink.now (Ok tt) c.loop-fed.sink c.loop-fed.self) same
+    subst (λ (n : ℕ). Takes (gives_item g.S.ErrorSink.gives g.S.TokenSink.gives_token) table start text (replacement_run c.args.at n) taken c.loop-fed.names c.args.sink.now (Ok tt) c.loop-fed.sink c.loop-fed.self) same
     (c.loop-fed.invariant.takes table start before text taken grows h)

@@ -1,4 +1,4 @@
-use Rattle.htoken.proofs.Names.{◌-◌, ◌≤◌, List, Ok, Placed, RawKind, Texts, Grows, Entities, replaced, Event, gives_item, HasTaken, Takes}
+use Rattle.htoken.proofs.Names.{◌-◌, ◌≤◌, List, Ok, Placed, RawKind, Texts, Grows, Entities, replacement_run, Event, gives_item, HasTaken, Takes}
 use Rattle.htoken.proofs.tokenizer.Tokenizer.bad_by_one.Given as goal
 
 -- This many of them have been taken.
@@ -6,7 +6,7 @@ abbrev pub invariant-loop-fed : goal.invariant-loop-fed
 invariant-loop-fed g l = record {
   few : l.fed ≤ l.count;
   takes : (table : Entities) (start : RawKind) (before : Texts) (text : List Placed) (taken : List Event) → Grows before l.fn.names → HasTaken table start l.fn.self before text taken
-      → Takes (gives_item g.S.ErrorSink.gives g.S.TokenSink.gives_token) table start text (replaced l.fn.place l.fed) taken l.names l.fn.sink (Ok tt) l.sink l.self;
+      → Takes (gives_item g.S.ErrorSink.gives g.S.TokenSink.gives_token) table start text (replacement_run l.fn.at l.fed) taken l.names l.fn.sink (Ok tt) l.sink l.self;
   grows : Grows l.fn.names l.names;
 }
 

@@ -1,4 +1,4 @@
-use Rattle.htoken.proofs.Names.{◌∙◌, ℕ, List, [], refl, subst, take, length, sym, placed, front_of, ascii_cut, edge_of, IsInTag, IsName, named_alone, named_plain, named_within}
+use Rattle.htoken.proofs.Names.{◌∙◌, ℕ, List, [], refl, subst, take, length, sym, placed, front_of, ascii_cut, edge_of, IsInTag, IsTagName, named_alone, named_plain, named_within}
 use Rattle.htoken.proofs.Fronts.{plain_ascii}
 use Rattle.htoken.proofs.tokenizer.Tokenizer.begin_start_tag.Goals as goal
 
@@ -14,7 +14,7 @@ returns c =
         kind_is = c.in_ok-begin_start.ensures.kind;
         begun = λ table names place.
             subst (λ (x : List ℕ). IsInTag table names c.begin_start.new.self (placed place x) [] []) part_is
-            (c.in_ok-begin_start.ensures.begun table names place (subst (λ (x : List ℕ). IsName x (length x)) (sym part_is) (named_alone [] run size c.requires.named)));
+            (c.in_ok-begin_start.ensures.begun table names place (subst (λ (x : List ℕ). IsTagName x (length x)) (sym part_is) (named_alone [] run size c.requires.named)));
       },
     )
 

@@ -1,4 +1,4 @@
-use Rattle.htoken.proofs.Names.{◌≡◌, ◌++◌, ◌∙◌, [], ℕ, List, refl, sym, ap, subst, length, take, arith, length-take-le, chars, placed, front_of, IsCharBoundary-from_drop, Placed, Tokenizer, grows_on, gives_item, next_place, err_is}
+use Rattle.htoken.proofs.Names.{◌≡◌, ◌++◌, ◌∙◌, [], ℕ, List, refl, sym, ap, subst, length, take, arith, length-take-le, chars, placed, front_of, IsCharBoundary-from_drop, grows_on, gives_item, next_place, err_is}
 use Rattle.htoken.proofs.Fronts.{cut_refused}
 use Rattle.htoken.proofs.InRun.{next_last, tag_finishes, tag_goes_on, tag_read, tag_stopped}
 use Rattle.htoken.proofs.Taking.{IsCalm, taken_now}

@@ -20,8 +20,8 @@ returns-in_err-more-clause-takes g c =
     let part : List Placed = placed c.args.at (chars (take count run)) in
     let new = record c.args.self.now { next = c.after-self-2.result } in
     let reads = front.reads new refl (c.after-self-2.ensures ∙ mark_next (text ++ part) c.args.at count run c.requires.cut less (c.requires.ends less)) in
-    then_refused (gives_item g.S.ErrorSink.gives g.S.TokenSink.gives_token) table start names text taken c.args.self.now run c.args.at count old c.args.sink.now front c.requires.cut _ c.take_mark.new.sink c.take_mark.new.self
-    (subst (λ (x : List ℕ). Takes (gives_item g.S.ErrorSink.gives g.S.TokenSink.gives_token) table start (text ++ part) (placed (c.args.at + count) (chars x)) (taken ++ front.events) names c.args.sink.now (Err c.in_err-more.field-0.0) c.take_mark.new.sink c.take_mark.new.self) c.range_from.ensures.value
+    then_refused (gives_item g.S.ErrorSink.gives g.S.TokenSink.gives_token) table start names text taken c.args.self.now run c.args.at count old c.args.sink.now front c.requires.cut _ c.take_less_than_or_ampersand.new.sink c.take_less_than_or_ampersand.new.self
+    (subst (λ (x : List ℕ). Takes (gives_item g.S.ErrorSink.gives g.S.TokenSink.gives_token) table start (text ++ part) (placed (c.args.at + count) (chars x)) (taken ++ front.events) names c.args.sink.now (Err c.in_err-more.field-0.0) c.take_less_than_or_ampersand.new.sink c.take_less_than_or_ampersand.new.self) c.range_from.ensures.value
     (c.in_err-more.ensures.takes table start names (text ++ part) (taken ++ front.events) (subst (λ (x : List ℕ). Reads table start new names (text ++ part) (first_placed (c.args.at + count) x) (taken ++ front.events)) (sym c.range_from.ensures.value) reads))))
 
 pub returns-clause-takes : goal.returns-clause-takes
@@ -33,9 +33,9 @@ returns-clause-takes g c =
     let part : List Placed = placed c.args.at (chars (take count run)) in
     let new = record c.args.self.now { next = c.after-self-2.result } in
     let reads = front.reads new refl (c.after-self-2.ensures ∙ mark_next (text ++ part) c.args.at count run c.requires.cut less (c.requires.ends less)) in
-    then_taken (gives_item g.S.ErrorSink.gives g.S.TokenSink.gives_token) table start names text taken c.args.self.now run c.args.at count old c.args.sink.now front c.requires.cut c.in_ok-more.more c.take_mark.new.sink c.take_mark.new.self
+    then_taken (gives_item g.S.ErrorSink.gives g.S.TokenSink.gives_token) table start names text taken c.args.self.now run c.args.at count old c.args.sink.now front c.requires.cut c.in_ok-more.more c.take_less_than_or_ampersand.new.sink c.take_less_than_or_ampersand.new.self
     (subst (λ (x : List ℕ). IsCut c.in_ok-more.more x) c.range_from.ensures.value c.in_ok-more.ensures.few.1)
-    (subst (λ (x : List ℕ). Takes (gives_item g.S.ErrorSink.gives g.S.TokenSink.gives_token) table start (text ++ part) (placed (c.args.at + count) (chars (take c.in_ok-more.more x))) (taken ++ front.events) names c.args.sink.now (Ok tt) c.take_mark.new.sink c.take_mark.new.self) c.range_from.ensures.value
+    (subst (λ (x : List ℕ). Takes (gives_item g.S.ErrorSink.gives g.S.TokenSink.gives_token) table start (text ++ part) (placed (c.args.at + count) (chars (take c.in_ok-more.more x))) (taken ++ front.events) names c.args.sink.now (Ok tt) c.take_less_than_or_ampersand.new.sink c.take_less_than_or_ampersand.new.self) c.range_from.ensures.value
     (c.in_ok-more.ensures.takes table start names (text ++ part) (taken ++ front.events) (subst (λ (x : List ℕ). Reads table start new names (text ++ part) (first_placed (c.args.at + count) x) (taken ++ front.events)) (sym c.range_from.ensures.value) reads)))
 
 pub returns-clause-few : goal.returns-clause-few
@@ -43,12 +43,12 @@ returns-clause-few g c =
     let few = c.in_ok-more.ensures.few in
     (omega (arith, few.0), cut_more c.args.count c.in_ok-more.more c.args.run.now c.requires.cut (subst (λ (x : List ℕ). IsCut c.in_ok-more.more x) c.range_from.ensures.value few.1))
 
-pub take_mark-requires-clause-whole : goal.take_mark-requires-clause-whole
-take_mark-requires-clause-whole g c =
+pub take_less_than_or_ampersand-requires-clause-whole : goal.take_less_than_or_ampersand-requires-clause-whole
+take_less_than_or_ampersand-requires-clause-whole g c =
     subst (λ (x : List ℕ). IfSome c.args.whole (λ it. IsWhole c.args.self.now.table.now c.args.self.now.kind x it.0 it.1)) (sym c.range_from.ensures.value) c.requires.whole
 
-pub take_mark-requires-clause-ends : goal.take_mark-requires-clause-ends
-take_mark-requires-clause-ends g c =
+pub take_less_than_or_ampersand-requires-clause-ends : goal.take_less_than_or_ampersand-requires-clause-ends
+take_less_than_or_ampersand-requires-clause-ends g c =
     let run = c.args.run.now in
     let less : c.args.count < length run = omega (arith, c.if-count-run.false, c.requires.cut.within) in
     let same : c.args.count + 0 ≡ c.args.count = omega arith in

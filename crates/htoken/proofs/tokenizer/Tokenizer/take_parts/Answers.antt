@@ -6,7 +6,7 @@ use Rattle.htoken.proofs.tokenizer.Tokenizer.take_parts.Goals as goal
 pub loop-count-init : goal.loop-count-init
 loop-count-init g c = record {
   takes = λ table start before text taken grows h.
-      subst (λ (x : List ℕ). Takes (gives_item g.S.ErrorSink.gives g.S.TokenSink.gives_token) table start text (placed c.args.place x) taken c.args.names.now c.args.sink.now (Ok tt) c.args.sink.now c.args.self.now) (sym chars-nil)
+      subst (λ (x : List ℕ). Takes (gives_item g.S.ErrorSink.gives g.S.TokenSink.gives_token) table start text (placed c.args.at x) taken c.args.names.now c.args.sink.now (Ok tt) c.args.sink.now c.args.self.now) (sym chars-nil)
       (takes_nothing (gives_item g.S.ErrorSink.gives g.S.TokenSink.gives_token) table start text taken c.args.names.now c.args.sink.now c.args.self.now (taken_kept table start c.args.self.now before c.args.names.now text taken grows h));
   cut = record { within = omega arith; front = IsUtf8-nil; back = c.utf8.run };
   grows = grows_not _;
@@ -26,9 +26,9 @@ loop-count-preserved g c =
     let again = subst (λ (l : List ℕ). IsCut c.in_ok-more.more l) c.range_from.ensures.value c.in_ok-more.ensures.few.1 in
     record {
       takes = λ table start before text taken grows h.
-          cut_more_taken (gives_item g.S.ErrorSink.gives g.S.TokenSink.gives_token) table start text c.args.place count run so.cut taken c.loop-count.names c.take_part.new.names c.take_part.ensures.grows
+          cut_more_taken (gives_item g.S.ErrorSink.gives g.S.TokenSink.gives_token) table start text c.args.at count run so.cut taken c.loop-count.names c.take_part.new.names c.take_part.ensures.grows
           c.args.sink.now c.loop-count.sink c.loop-count.self c.in_ok-more.more again c.take_part.new.sink c.take_part.new.self (so.takes table start before text taken grows h)
-          (λ fed events has. subst (λ (x : List ℕ). Takes (gives_item g.S.ErrorSink.gives g.S.TokenSink.gives_token) table start fed (placed (c.args.place + count) (chars (take c.in_ok-more.more x))) events c.take_part.new.names c.loop-count.sink (Ok tt) c.take_part.new.sink c.take_part.new.self)
+          (λ fed events has. subst (λ (x : List ℕ). Takes (gives_item g.S.ErrorSink.gives g.S.TokenSink.gives_token) table start fed (placed (c.args.at + count) (chars (take c.in_ok-more.more x))) events c.take_part.new.names c.loop-count.sink (Ok tt) c.take_part.new.sink c.take_part.new.self)
           c.range_from.ensures.value (c.in_ok-more.ensures.takes table start c.loop-count.names fed events (grows_not _) has));
       cut = cut_more count c.in_ok-more.more run so.cut again;
       grows = grows_on _ _ _ so.grows c.take_part.ensures.grows;
@@ -37,14 +37,14 @@ loop-count-preserved g c =
 pub returns-in_err-more-clause-takes : goal.returns-in_err-more-clause-takes
 returns-in_err-more-clause-takes g c =
     rw (err_is c.from_residual.result _ c.from_residual.ensures.1) (λ table start before text taken grows h.
-    cut_more_refused (gives_item g.S.ErrorSink.gives g.S.TokenSink.gives_token) table start text c.args.place c.loop-count.count c.args.run.now c.loop-count.invariant.cut taken c.loop-count.names c.take_part.new.names c.take_part.ensures.grows
+    cut_more_refused (gives_item g.S.ErrorSink.gives g.S.TokenSink.gives_token) table start text c.args.at c.loop-count.count c.args.run.now c.loop-count.invariant.cut taken c.loop-count.names c.take_part.new.names c.take_part.ensures.grows
     c.args.sink.now c.loop-count.sink c.loop-count.self c.in_err-more.field-0.0 c.take_part.new.sink c.take_part.new.self (c.loop-count.invariant.takes table start before text taken grows h)
-    (λ fed events has. subst (λ (x : List ℕ). Takes (gives_item g.S.ErrorSink.gives g.S.TokenSink.gives_token) table start fed (placed (c.args.place + c.loop-count.count) (chars x)) events c.take_part.new.names c.loop-count.sink (Err c.in_err-more.field-0.0) c.take_part.new.sink c.take_part.new.self)
+    (λ fed events has. subst (λ (x : List ℕ). Takes (gives_item g.S.ErrorSink.gives g.S.TokenSink.gives_token) table start fed (placed (c.args.at + c.loop-count.count) (chars x)) events c.take_part.new.names c.loop-count.sink (Err c.in_err-more.field-0.0) c.take_part.new.sink c.take_part.new.self)
     c.range_from.ensures.value (c.in_err-more.ensures.takes table start c.loop-count.names fed events (grows_not _) has)))
 
 pub returns-clause-takes : goal.returns-clause-takes
 returns-clause-takes g c = λ table start before text taken grows h.
-    cut_all_taken (gives_item g.S.ErrorSink.gives g.S.TokenSink.gives_token) table start text c.args.place c.loop-count.count c.args.run.now c.loop-count.invariant.cut taken c.loop-count.names c.loop-count.names (grows_not _)
+    cut_all_taken (gives_item g.S.ErrorSink.gives g.S.TokenSink.gives_token) table start text c.args.at c.loop-count.count c.args.run.now c.loop-count.invariant.cut taken c.loop-count.names c.loop-count.names (grows_not _)
     c.args.sink.now c.loop-count.sink c.loop-count.self (omega arith) (c.loop-count.invariant.takes table start before text taken grows h)
 
 pub returns-in_err-more-clause-grows : goal.returns-in_err-more-clause-grows

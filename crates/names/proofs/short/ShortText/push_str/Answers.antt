@@ -1,4 +1,4 @@
-use Rattle.std.proofs.Common.{◌≡◌, ◌++◌, ◌+◌, ◌-◌, length, take, ap, ◌∙◌, arith, rules, subst, sym, IsUtf8}
+use Rattle.std.proofs.Common.{◌++◌, ◌+◌, ◌-◌, length, take, ap, ◌∙◌, arith, rules, subst, sym, IsUtf8}
 use Rattle.std.proofs.lemmas.Slice.{take-put_mid, overwrites}
 use Rattle.std.proofs.lemmas.Str.{IsUtf8-had, IsUtf8-append}
 use Rattle.names.proofs.short.ShortText.push_str.Goals as goal

@@ -1,0 +1,215 @@
+-- What is kept of a list of numbers, under each change.
+use Rattle.hnodes.proofs.IndexNames.{◌≡◌, ◌≢◌, ℕ, suc, ◌<◌, ◌≤◌, false, List, [], ◌∷◌, ◌++◌, length, map, take, get_or, set, inl, inr, refl, sym, ◌∙◌, ap, subst, arith, cases_lt, get_or-set_same, get_or-set_other, get_or-map, length-map, length-set, length-take-le, length_push, take-map, take-append-le, none, last_up, link_number, before_of, numbers_of, befores_of, is_in_group, Keep, SaysLast, IsIndexed, Link, group_of, in_group_of}
+use Rattle.std.proofs.lemmas.Bool.{cases_eq}
+use Rattle.std.proofs.lemmas.List.{get_or-take, get_or_push}
+use Rattle.std.proofs.lemmas.List.{take_all}
+use Rattle.hnodes.proofs.Groups.{group-less, nearest, own_nearest, in-group, not-in-group, none-in-group}
+use Rattle.hnodes.proofs.LastUp.{up-sought, up-other, up-within, up-alike}
+
+-- what a table says, and what is kept, of the first links
+pub record IndexedTo (last : List ℕ) (links : List Link) (k : ℕ) : Type 0 where
+  pub says : (g : ℕ) → g < length last → get_or last g 0 ≡ nearest links (length last) g k
+  pub kept : (i : ℕ) → i < k → get_or (numbers_of links) i 0 ≢ none → get_or (befores_of links) i 0 ≡ own_nearest links (length last) i
+
+-- a table says no place past the end
+pub says-le : (last : List ℕ) (links : List Link) (k g : ℕ) → IndexedTo last links k → g < length last → get_or last g 0 ≤ k
+says-le last links k g c h = omega (arith, c.says g h, up-within (is_in_group (length last) g) (numbers_of links) k)
+
+-- links that begin alike
+module _ (k : ℕ) (xs ys : List Link) (same : take k xs ≡ take k ys) (in_xs : k ≤ length xs) (in_ys : k ≤ length ys) where
+  same-front : (f : Link → ℕ) (i : ℕ) → i < k → get_or (map f xs) i 0 ≡ get_or (map f ys) i 0
+  same-front f i h =
+      sym (get_or-take k (map f xs) i 0 h)
+      ∙ ap (λ ns. get_or ns i 0) (take-map f k xs ∙ ap (map f) same ∙ sym (take-map f k ys))
+      ∙ get_or-take k (map f ys) i 0 h
+
+  nearest-front : (width group i : ℕ) → i ≤ k → nearest xs width group i ≡ nearest ys width group i
+  nearest-front width group i h = up-alike (is_in_group width group) (numbers_of ys) (numbers_of xs) i (λ m less. ap (is_in_group width group) (same-front link_number m (omega arith)))
+
+  pub indexed-front : (last : List ℕ) → IndexedTo last xs k → IndexedTo last ys k
+  indexed-front last c = record {
+    says = λ g h. c.says g h ∙ nearest-front (length last) g k (omega arith);
+    kept = λ i h some.
+        let e : get_or (numbers_of xs) i 0 ≡ get_or (numbers_of ys) i 0 = same-front link_number i h in
+        sym (same-front before_of i h) ∙ c.kept i h (λ is. some (sym e ∙ is))
+        ∙ nearest-front (length last) (group_of (get_or (numbers_of xs) i 0) (length last)) i (omega arith)
+        ∙ ap (λ n. nearest ys (length last) (group_of n (length last)) i) e;
+  }
+
+-- links that differ in their hints alone
+module _ (last : List ℕ) (xs ys : List Link) (numbers : numbers_of ys ≡ numbers_of xs) (befores : befores_of ys ≡ befores_of xs) where
+  pub indexed-same : IsIndexed last xs → IsIndexed last ys
+  indexed-same c = record {
+    wide = λ some. c.wide (omega (arith, ap length numbers, length-map xs link_number, length-map ys link_number));
+    says = subst (λ (ns : List ℕ). SaysLast last ns) (sym numbers) c.says;
+    kept = subst (λ (ns : List ℕ). Keep (length last) ns (befores_of ys)) (sym numbers)
+        (subst (λ (bs : List ℕ). Keep (length last) (numbers_of xs) bs) (sym befores) c.kept);
+  }
+
+  pub indexed_to-same : (k : ℕ) → IndexedTo last xs k → IndexedTo last ys k
+  indexed_to-same k c = record {
+    says = λ g h. c.says g h ∙ ap (λ ns. last_up (is_in_group (length last) g) ns k) (sym numbers);
+    kept = λ i h some.
+        ap (λ bs. get_or bs i 0) befores ∙ c.kept i h (λ e. some (ap (λ ns. get_or ns i 0) numbers ∙ e))
+        ∙ ap (λ ns. last_up (in_group_of (length last) (get_or ns i 0)) ns i) (sym numbers);
+  }
+
+-- what is said and kept of a whole list
+module _ (last : List ℕ) (links : List Link) where
+  indexed-all : IsIndexed last links → IndexedTo last links (length links)
+  indexed-all c =
+      let len = length-map links link_number in
+      record {
+        says = λ g h. c.says g h ∙ ap (nearest links (length last) g) len;
+        kept = λ i h some. c.kept i (omega arith) some;
+      }
+
+  pub is_indexed-all : (0 < length links → 0 < length last) → IndexedTo last links (length links) → IsIndexed last links
+  is_indexed-all wide c =
+      let len = length-map links link_number in
+      record {
+        wide = wide;
+        says = λ g h. c.says g h ∙ ap (nearest links (length last) g) (sym len);
+        kept = λ i h some. c.kept i (omega arith) some;
+      }
+
+-- and of its first links
+module _ (last : List ℕ) (links : List Link) (k : ℕ) (within : k ≤ length links) where
+  front-len : length (take k links) ≡ k
+  front-len = length-take-le k links within
+
+  front-same : take k (take k links) ≡ take k links
+  front-same = take_all k (take k links) (omega (arith, front-len))
+
+  pub indexed-to : IsIndexed last (take k links) → IndexedTo last links k
+  indexed-to c =
+      indexed-front k (take k links) links front-same (omega (arith, front-len)) within last
+      (subst (λ (m : ℕ). IndexedTo last (take k links) m) front-len (indexed-all last (take k links) c))
+
+  pub is_indexed-to : (0 < k → 0 < length last) → IndexedTo last links k → IsIndexed last (take k links)
+  is_indexed-to wide c =
+      is_indexed-all last (take k links) (λ h. wide (omega (arith, front-len)))
+      (subst (λ (m : ℕ). IndexedTo last (take k links) m) (sym front-len)
+      (indexed-front k links (take k links) (sym front-same) within (omega (arith, front-len)) last c))
+
+-- the number at an index comes into the table, or goes out of it
+module _ (last : List ℕ) (links : List Link) (k n : ℕ) (at : get_or (numbers_of links) k 0 ≡ n) where
+  abbrev width : ℕ
+  width = length last
+
+  abbrev group : ℕ
+  group = group_of n width
+
+  others : (g : ℕ) → is_in_group width g n ≡ false → nearest links width g (suc k) ≡ nearest links width g k
+  others g e = up-other (is_in_group width g) (numbers_of links) k (ap (is_in_group width g) at ∙ e)
+
+  -- where it is none, nothing is to do
+  none-comes : n ≡ none → IndexedTo last links k → IndexedTo last links (suc k)
+  none-comes is c = record {
+    says = λ g h. c.says g h ∙ sym (others g (none-in-group width g n is));
+    kept = λ i h some.
+        elim (cases_lt i k) [
+          | inl less ↦ c.kept i less some
+          | inr past ↦ absurd (some (ap (λ m. get_or (numbers_of links) m 0) (omega arith) ∙ at ∙ is))
+        ];
+  }
+
+  none-goes : n ≡ none → IndexedTo last links (suc k) → IndexedTo last links k
+  none-goes is c = record {
+    says = λ g h. c.says g h ∙ others g (none-in-group width g n is);
+    kept = λ i h some. c.kept i (omega arith) some;
+  }
+
+  module _ (some : n ≢ none) (wide : 0 < width) where
+    group-within : group < width
+    group-within = group-less n width wide
+
+    -- another place is said of its group
+    module _ (place : ℕ) where
+      abbrev next : List ℕ
+      next = set last group place
+
+      len : length next ≡ width
+      len = length-set last group place
+
+      said-same : (g m : ℕ) → g ≡ group → place ≡ nearest links width group m → get_or next g 0 ≡ nearest links (length next) g m
+      said-same g m e is = ap (λ i. get_or next i 0) e ∙ get_or-set_same last group place 0 group-within ∙ is ∙ (λ t. nearest links (sym len t) (sym e t) m)
+
+      said-other : (g m : ℕ) → g ≢ group → get_or last g 0 ≡ nearest links width g m → get_or next g 0 ≡ nearest links (length next) g m
+      said-other g m ne is = get_or-set_other last group g place 0 ne ∙ is ∙ ap (λ w. nearest links w g m) (sym len)
+
+    number-goes : IndexedTo last links (suc k) → IndexedTo (set last group (get_or (befores_of links) k 0)) links k
+    number-goes c =
+        let b = get_or (befores_of links) k 0 in
+        let is : b ≡ nearest links width group k = c.kept k (omega arith) (λ e. some (sym at ∙ e)) ∙ ap (λ m. nearest links width (group_of m width) k) at in
+        record {
+          says = λ g h.
+              elim (cases_eq g group) [
+                | inl e ↦ said-same b g k e is
+                | inr ne ↦ said-other b g k ne (c.says g (omega (arith, len b)) ∙ others g (not-in-group width g n (λ e. ne (sym e))))
+              ];
+          kept = λ i h some_i. c.kept i (omega arith) some_i ∙ ap (λ w. own_nearest links w i) (sym (len b));
+        }
+
+    number-comes : get_or (befores_of links) k 0 ≡ get_or last group 0 → IndexedTo last links k → IndexedTo (set last group (suc k)) links (suc k)
+    number-comes before c =
+        let here : suc k ≡ nearest links width group (suc k) = sym (up-sought (is_in_group width group) (numbers_of links) k (ap (is_in_group width group) at ∙ in-group width group n some refl)) in
+        let own : get_or (befores_of links) k 0 ≡ own_nearest links width k = before ∙ c.says group group-within ∙ ap (λ m. nearest links width (group_of m width) k) (sym at) in
+        record {
+          says = λ g h.
+              elim (cases_eq g group) [
+                | inl e ↦ said-same (suc k) g (suc k) e here
+                | inr ne ↦ said-other (suc k) g (suc k) ne (c.says g (omega (arith, len (suc k))) ∙ sym (others g (not-in-group width g n (λ e. ne (sym e)))))
+              ];
+          kept = λ i h some_i.
+              elim (cases_lt i k) [
+                | inl less ↦ c.kept i less some_i ∙ ap (λ w. own_nearest links w i) (sym (len (suc k)))
+                | inr past ↦
+                    let e : i ≡ k = omega arith in
+                    ap (λ m. get_or (befores_of links) m 0) e ∙ own ∙ (λ t. own_nearest links (sym (len (suc k)) t) (sym e t))
+              ];
+        }
+
+-- and so does a link
+module _ (last : List ℕ) (links : List Link) (k next : ℕ) (x : Link) (is_next : next ≡ suc k) (within : k < length links) (is : get_or links k x ≡ x) where
+  number-is : get_or (numbers_of links) k 0 ≡ x.number
+  number-is = get_or-map link_number links k x 0 within ∙ ap link_number is
+
+  before-is : get_or (befores_of links) k 0 ≡ x.before
+  before-is = get_or-map before_of links k x 0 within ∙ ap before_of is
+
+  pub less-none : x.number ≡ none → IndexedTo last links next → IndexedTo last links k
+  less-none e c = none-goes last links k x.number number-is e (subst (λ (m : ℕ). IndexedTo last links m) is_next c)
+
+  pub more-none : x.number ≡ none → IndexedTo last links k → IndexedTo last links next
+  more-none e c = subst (λ (m : ℕ). IndexedTo last links m) (sym is_next) (none-comes last links k x.number number-is e c)
+
+  module _ (group : ℕ) (is_group : group ≡ group_of x.number (length last)) (some : x.number ≢ none) (wide : 0 < length last) where
+    pub less-some : IndexedTo last links next → IndexedTo (set last group x.before) links k
+    less-some c =
+        subst (λ (g : ℕ). IndexedTo (set last g x.before) links k) (sym is_group)
+        (subst (λ (b : ℕ). IndexedTo (set last (group_of x.number (length last)) b) links k) before-is
+        (number-goes last links k x.number number-is some wide (subst (λ (m : ℕ). IndexedTo last links m) is_next c)))
+
+    pub more-some : x.before ≡ get_or last group 0 → IndexedTo last links k → IndexedTo (set last group next) links next
+    more-some before c =
+        subst (λ (m : ℕ). IndexedTo (set last group m) links m) (sym is_next)
+        (subst (λ (g : ℕ). IndexedTo (set last g (suc k)) links (suc k)) (sym is_group)
+        (number-comes last links k x.number number-is some wide (before-is ∙ before ∙ ap (λ g. get_or last g 0) is_group) c))
+
+-- a list with one link more
+module _ (last : List ℕ) (links : List Link) (x : Link) (place : ℕ) (is_place : place ≡ suc (length links)) (c : IsIndexed last links) where
+  abbrev more : List Link
+  more = links ++ x ∷ []
+
+  more-len : length more ≡ place
+  more-len = omega (arith, length_push links x)
+
+  pub indexed-push : (group : ℕ) → group ≡ group_of x.number (length last) → x.number ≢ none → 0 < length last → x.before ≡ get_or last group 0 → IsIndexed (set last group place) more
+  indexed-push group is_group some wide before =
+      let told = set last group place in
+      let same : take (length links) links ≡ take (length links) more = sym (take-append-le (length links) links (x ∷ []) (omega arith)) in
+      let front : IndexedTo last more (length links) = indexed-front (length links) links more same (omega arith) (omega (arith, more-len)) last (indexed-all last links c) in
+      let all : IndexedTo told more place =
+      more-some last more (length links) place x is_place (omega (arith, more-len)) (get_or_push links x x (length links) refl) group is_group some wide before front in
+      is_indexed-all told more (λ _. omega (arith, length-set last group place)) (subst (λ (m : ℕ). IndexedTo told more m) (sym more-len) all)

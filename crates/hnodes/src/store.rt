@@ -1,0 +1,218 @@
+//! The store of a tree: the bytes of its texts, and the attributes of its elements.
+
+ghost use Rattle.std.specs.Prelude.{◌≡◌, ◌≤◌, ◌+◌, ◌++◌, [], None, length, take, IfOk, IfSome, OnErr, OnOk};
+ghost use Rattle.hnodes.specs.Vocabulary.{run_in, IsGrown, IsRun, IsText};
+
+use names::Attr;
+use std::alloc::{AllocError, Global};
+use std::marker::Model;
+
+/// Where a part of the store begins, and how long it is.
+#[derive(Clone, Copy)]
+pub(crate) struct Run {
+    start: u32,
+    len: u32,
+}
+
+impl Run {
+    /// A run of nothing.
+    pub(crate) fn empty() -> Run
+        ensures { result ≡ record { start = 0; len = 0 } }
+    {
+        Run { start: 0, len: 0 }
+    }
+
+    /// A run, if its numbers fit.
+    #[inline(always)]
+    fn of(start: usize, len: usize) -> Option<Run>
+        ensures { IfSome result (λ run. run ≡ record { start = start; len = len }) }
+    {
+        if start > u32::MAX as usize || len > u32::MAX as usize {
+            return None;
+        }
+        Some(Run {
+            start: start as u32,
+            len: len as u32,
+        })
+    }
+
+    /// Where it begins.
+    #[inline(always)]
+    fn start(self) -> usize
+        ensures { result ≡ self.start }
+    {
+        self.start as usize
+    }
+
+    /// Where it ends.
+    #[inline(always)]
+    fn end(self) -> usize
+        ensures { result ≡ self.start + self.len }
+    {
+        self.start as usize + self.len as usize
+    }
+}
+
+/// So many bytes are filled beyond the texts at a time.
+const SPARE: usize = 1024;
+
+/// The bytes of texts, one after another. They lie in a filled vector, into which bytes are copied in fewer steps than to its end.
+#[derive(Drop)]
+pub(crate) struct Texts {
+    filled: Vec<u8>,
+    count: usize,
+}
+
+impl Model for Texts {
+    ghost use Rattle.std.specs.Prelude.{ℕ, List, ◌≤◌, length, take};
+
+    ghost Value = { List ℕ };
+
+    ghost view = { λ t. take t.count t.filled.items };
+
+    ghost invariant = { λ t. t.count ≤ length t.filled.items };
+}
+
+impl Texts {
+    /// No texts.
+    fn new(alloc: Global) -> Self
+        ensures { result ≡ [] }
+    {
+        Texts {
+            filled: Vec::new(alloc),
+            count: 0,
+        }
+    }
+
+    /// How many bytes there are.
+    #[inline(always)]
+    fn len(&self) -> usize
+        ensures { result ≡ length self.now }
+    {
+        self.count
+    }
+
+    /// The text of a run.
+    #[inline(always)]
+    fn get(&self, run: Run) -> &str
+        requires { IsText run self.now }
+        ensures { result.now ≡ run_in run self.now }
+    {
+        unsafe { str::from_utf8_unchecked(&self.filled[run.start()..run.end()]) }
+    }
+
+    /// Adds a text at the end. On an error nothing changes.
+    #[inline(always)]
+    fn push(&mut self, text: &str) -> Result<(), AllocError>
+        ensures ok { OnOk result (self.new ≡ self.old ++ text.now) }
+        ensures err { OnErr result (self.new ≡ self.old) }
+    {
+        let end = self.count + text.len();
+        fill(&mut self.filled, end)?;
+        let filled = &mut self.filled[..];
+        filled[self.count..end].copy_from_slice(text.as_bytes());
+        self.count = end;
+        Ok(())
+    }
+}
+
+/// Fills a vector up to an end at least.
+#[inline(always)]
+fn fill(filled: &mut Vec<u8>, end: usize) -> Result<(), AllocError>
+    ensures same { take (length filled.old.items) filled.new.items ≡ filled.old.items }
+    ensures room { OnOk result (end ≤ length filled.new.items) }
+{
+    if end > filled.len() {
+        return fill_up(filled, end);
+    }
+    Ok(())
+}
+
+/// Fills a vector past its length.
+#[inline(never)]
+fn fill_up(filled: &mut Vec<u8>, end: usize) -> Result<(), AllocError>
+    requires { length filled.old.items ≤ end }
+    ensures same { take (length filled.old.items) filled.new.items ≡ filled.old.items }
+    ensures room { OnOk result (end ≤ length filled.new.items) }
+{
+    filled.resize(end.saturating_add(SPARE), 0)
+}
+
+/// The texts and the attributes of a tree, one after another: a node keeps a run of them.
+#[derive(Drop)]
+pub(crate) struct Store {
+    texts: Texts,
+    attrs: Vec<Attr>,
+}
+
+impl Store {
+    /// An empty store.
+    pub(crate) fn new(alloc: Global) -> Self {
+        Store {
+            texts: Texts::new(alloc),
+            attrs: Vec::new(alloc),
+        }
+    }
+
+    /// The text of a run.
+    #[inline(always)]
+    pub(crate) fn text(&self, run: Run) -> &str
+        requires { IsText run self.now.texts }
+        ensures { result.now ≡ run_in run self.now.texts }
+    {
+        self.texts.get(run)
+    }
+
+    /// The attributes of a run.
+    #[inline(always)]
+    pub(crate) fn attrs(&self, run: Run) -> &[Attr]
+        requires { IsRun run self.now.attrs.items }
+        ensures { result.now ≡ run_in run self.now.attrs.items }
+    {
+        &self.attrs[run.start()..run.end()]
+    }
+
+    /// Adds a text, and gives its run, unless that has no number.
+    #[inline(always)]
+    pub(crate) fn add_text(&mut self, text: &str) -> Result<Option<Run>, AllocError>
+        ensures run { IfOk result (λ run. IfSome run (λ r. IsText r self.new.texts × (run_in r self.new.texts ≡ text.now))) }
+        ensures grown { IsGrown self.old self.new }
+    {
+        let run = Run::of(self.texts.len(), text.len());
+        if run.is_some() {
+            self.texts.push(text)?;
+        }
+        Ok(run)
+    }
+
+    /// Moves attributes here, and gives their run, unless that has no number: then they stay.
+    #[inline(always)]
+    pub(crate) fn add_attrs(&mut self, attrs: &mut Vec<Attr>) -> Result<Option<Run>, AllocError>
+        ensures run { IfOk result (λ run. IfSome run (λ r. IsRun r self.new.attrs.items × (run_in r self.new.attrs.items ≡ attrs.old.items))) }
+        ensures none { result ≡ Ok None → attrs.new.items ≡ attrs.old.items }
+        ensures grown { IsGrown self.old self.new }
+    {
+        let run = Run::of(self.attrs.len(), attrs.len());
+        if run.is_some() {
+            self.attrs.append(attrs)?;
+        }
+        Ok(run)
+    }
+
+    /// Adds a text at the end of another, if that is the last one, and gives the longer run, unless that has no number.
+    #[inline(always)]
+    pub(crate) fn lengthen(&mut self, run: Run, more: &str) -> Result<Option<Run>, AllocError>
+        requires { IsText run self.old.texts }
+        ensures run { IfOk result (λ longer. IfSome longer (λ r. IsText r self.new.texts × (run_in r self.new.texts ≡ run_in run self.old.texts ++ more.now))) }
+        ensures grown { IsGrown self.old self.new }
+    {
+        if run.end() != self.texts.len() {
+            return Ok(None);
+        }
+        let longer = Run::of(run.start(), run.len as usize + more.len());
+        if longer.is_some() {
+            self.texts.push(more)?;
+        }
+        Ok(longer)
+    }
+}

@@ -1,0 +1,13 @@
+use Rattle.hopen.proofs.Names.{◌≡◌, reverse, ◌∙◌, ap, arith, ltb-false, listed_items, by_name}
+use Rattle.hopen.proofs.IndexSteps.{last-is, last_of}
+use Rattle.hopen.proofs.Listed.{numbers-back, marker_place, name_place, find-none}
+use Rattle.hopen.proofs.slots.Slots.has.Goals as goal
+
+pub returns : goal.returns
+returns c = λ few.
+    let items = c.args.self.now.items.items in
+    let numbers = ap reverse c.requires.names ∙ numbers-back by_name items in
+    let place : c.last-place.result ≡ name_place c.args.name (listed_items items) =
+    c.last-place.ensures ∙ last-is c.name_number.result c.args.self.now.names ∙ (λ i. last_of (c.name_number.ensures i) (numbers i)) in
+    let marker : c.last.result ≡ marker_place (listed_items items) = c.last.ensures ∙ last-is 0 c.args.self.now.names ∙ ap (last_of 0) numbers in
+    find-none c.args.name (omega arith) (listed_items items) (omega (arith, place, marker, ltb-false c.last.result c.last-place.result few))

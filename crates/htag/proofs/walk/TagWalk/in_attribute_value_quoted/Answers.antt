@@ -1,0 +1,11 @@
+use Rattle.htag.proofs.Vocabulary.{◌≡◌, false, eqb, refl, arith, nat_tests}
+use Rattle.htag.proofs.Values.{quote_closes, quoted_goes_on}
+use Rattle.htag.proofs.walk.TagWalk.in_attribute_value_quoted.Goals as goal
+
+pub returns-then-next-mark-clause-takes : goal.returns-then-next-mark-clause-takes
+returns-then-next-mark-clause-takes c = λ names body h. quote_closes _ _ _ body _ _ h c.args.mark _ _ (record { kind_is = refl; name_is = refl; attrs_are = refl; seen_is = refl; any_is = refl }) refl refl c.in_ok-end.ensures c.requires refl c.if-next-mark.true
+
+pub returns-clause-takes : goal.returns-clause-takes
+returns-clause-takes c = λ names body h.
+    let other : eqb c.args.next.ch c.args.mark ≡ false = grind (arith, nat_tests) in
+    quoted_goes_on _ _ _ body _ _ h c.args.mark _ _ (record { kind_is = refl; name_is = refl; attrs_are = refl; seen_is = refl; any_is = refl }) refl refl c.in_ok-take.ensures c.requires refl other

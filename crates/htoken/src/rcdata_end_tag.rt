@@ -1,0 +1,123 @@
+//! The end tag of raw text (HTML Standard, `#rcdata-less-than-sign-state` to `#script-data-end-tag-name-state`).
+
+ghost use Rattle.std.specs.Prelude.{◌≡◌, ◌∷◌, ◌++◌, List, [], slice_get, true, false, length, string_bytes, MatchResult};
+ghost use Rattle.htoken.specs.Vocabulary.{backwards, Character, Entities, Event, gives_item, Grows, HandsEvents, HasFront, held_in_raw, Holds, is_script, Kind, name_ends, Reads, run_events, Takes, TakesNext, Texts};
+
+use crate::hand::{give, give_all};
+use crate::script::{agrees, ends_name};
+use crate::sink::TokenSink;
+use crate::state::State;
+use crate::tokenizer::Tokenizer;
+use names::{Names, Placed, Refusal};
+
+impl<'t> Tokenizer<'t> {
+    /// The RCDATA less-than sign state and its like, after `<` in raw text (`#rcdata-less-than-sign-state`,
+    /// `#rawtext-less-than-sign-state`, `#script-data-less-than-sign-state`, `#script-data-escaped-less-than-sign-state`).
+    pub(crate) fn rcdata_less_than_sign<S: TokenSink>(
+        &mut self,
+        ch: char,
+        at: u64,
+        sink: &mut S,
+    ) -> Result<(), Refusal>
+        requires { self.old.state ≡ State.RcdataLessThanSign }
+        ensures { TakesNext (gives_item S.gives S.gives_token) self.old (record { ch = ch; at = at }) sink.old result sink.new self.new }
+    {
+        if ch == '/' {
+            self.state = State::RcdataEndTagName(at);
+            self.held.clear();
+            return Ok(());
+        }
+        let less = self.at;
+        self.state = State::Text;
+        self.give_raw('<', less, sink)?;
+        self.in_text(ch, at, sink)
+    }
+
+    /// The RCDATA end tag open and RCDATA end tag name states and their like: after `</` and letters of the last start tag's name, which
+    /// make an appropriate end tag token (`#appropriate-end-tag-token`, `#rcdata-end-tag-open-state`, `#rcdata-end-tag-name-state`,
+    /// `#rawtext-end-tag-open-state`, `#rawtext-end-tag-name-state`, `#script-data-end-tag-open-state`, `#script-data-end-tag-name-state`,
+    /// `#script-data-escaped-end-tag-open-state`, `#script-data-escaped-end-tag-name-state`).
+    pub(crate) fn rcdata_end_tag_name<S: TokenSink>(
+        &mut self,
+        solidus: u64,
+        names: &mut Names,
+        ch: char,
+        at: u64,
+        sink: &mut S,
+    ) -> Result<(), Refusal>
+        requires { self.old.state ≡ State.RcdataEndTagName solidus }
+        ensures takes { (table : Entities) (start : Kind) (before : Texts) (text : List Character) (taken : List Event) → Grows before names.old
+            → Reads table start self.old before text (record { ch = ch; at = at } ∷ []) taken
+            → Takes (gives_item S.gives S.gives_token) table start text (record { ch = ch; at = at } ∷ []) taken names.new sink.old result sink.new self.new }
+        ensures grows { Grows names.old names.new }
+    {
+        match self.expected() {
+            Some(byte) => {
+                if agrees(ch, byte) {
+                    self.hold(ch, at)
+                } else {
+                    self.after_held(solidus, ch, at, sink)
+                }
+            }
+            None => {
+                if ends_name(ch) {
+                    self.tag.begin_end();
+                    self.state = State::Tag;
+                    self.in_tag(names, ch, at, sink)
+                } else {
+                    self.after_held(solidus, ch, at, sink)
+                }
+            }
+        }
+    }
+
+    /// Takes a character that shows what is held in raw text to be no end tag.
+    fn after_held<S: TokenSink>(
+        &mut self,
+        solidus: u64,
+        ch: char,
+        at: u64,
+        sink: &mut S,
+    ) -> Result<(), Refusal>
+        requires { self.old.state ≡ State.RcdataEndTagName solidus }
+        ensures { ((more : List Character) → name_ends (string_bytes self.old.tag.name) (self.old.held.items ++ record { ch = ch; at = at } ∷ more) ≡ false)
+            → TakesNext (gives_item S.gives S.gives_token) self.old (record { ch = ch; at = at }) sink.old result sink.new self.new }
+    {
+        self.give_held(solidus, sink)?;
+        self.in_text(ch, at, sink)
+    }
+
+    /// Holds a character.
+    pub(crate) fn hold(&mut self, ch: char, at: u64) -> Result<(), Refusal>
+        ensures { MatchResult result (λ _. Holds self.old (record { ch = ch; at = at }) self.new) (λ refusal. refusal ≡ Refusal.Memory) }
+    {
+        self.held.push(Placed { ch, at })?;
+        Ok(())
+    }
+
+    /// What comes next in the name of the end tag, if anything is left of it.
+    fn expected(&self) -> Option<u8>
+        ensures { result ≡ slice_get (string_bytes self.now.tag.name) (length self.now.held.items) }
+    {
+        self.tag.name().as_bytes().get(self.held.len()).copied()
+    }
+
+    /// Hands over what is held in raw text as characters: it is no end tag.
+    pub(crate) fn give_held<S: TokenSink>(
+        &mut self,
+        solidus: u64,
+        sink: &mut S,
+    ) -> Result<(), Refusal>
+        ensures handed { (names : Texts) → HandsEvents (gives_item S.gives S.gives_token) names sink.old (run_events (held_in_raw solidus self.old)) result
+            sink.new }
+        ensures then { self.new ≡ record self.old { state = State.Text; script = self.new.script } }
+        ensures follows { (front : List Character) → is_script self.old.kind ≡ true → HasFront self.old.script front
+            → HasFront self.new.script (backwards front (held_in_raw solidus self.old)) }
+    {
+        self.state = State::Text;
+        self.script = self.script.after('<').after('/').after_all(&self.held);
+        give('<', self.at, sink)?;
+        give('/', solidus, sink)?;
+        give_all(&self.held, sink)
+    }
+}
