@@ -14,6 +14,7 @@ fn main(rt: HostRuntime) -> anyhow::Result<()> {
     let tree = page.tree();
     let plain = is_plain(tree, &names, tree.document(), "body");
     println!(rt; "plain: {plain}")?;
+    println!(rt; "elements: {}", page.elements())?;
     let html = serialize_in_to_vec(
         rt.alloc(),
         tree,

@@ -1,7 +1,10 @@
 //! A page without scripts, that is built a node at a time.
 
-ghost use Rattle.std.specs.Prelude.{◌≡◌};
-ghost use Rattle.own_contract.specs.Page.{HasNoScript};
+ghost use Rattle.std.specs.Prelude.{◌≡◌, ◌⊎◌, ◌≤◌, None, MatchOption, IfOk, OnOk, OnErr, ltb, if◌then◌else◌};
+ghost use Rattle.std.specs.Str.{chars};
+ghost use Rattle.hnodes.specs.Vocabulary.{add_chars, document, none, tree};
+ghost use Rattle.hnodes.specs.declared.node.Place.TheVariants.{LastIn};
+ghost use Rattle.own_contract.specs.Page.{HasNoScript, elements_inside, with_element};
 
 use hnodes::{NodeId, Place, Tree};
 use names::{Refusal, Tag};
@@ -33,7 +36,9 @@ impl Model for Page {
 
 impl Page {
     /// A page of the document alone.
-    pub fn new(alloc: Global) -> Result<Page, AllocError> {
+    pub fn new(alloc: Global) -> Result<Page, AllocError>
+        ensures { IfOk result (λ page. page ≡ record { limit = MOST; made = 1; trees = tree 0 document none none }) }
+    {
         Ok(Page {
             tree: Tree::new(alloc, MOST)?,
         })
@@ -47,14 +52,19 @@ impl Page {
         &self.tree
     }
 
-    /// Puts an element without attributes at the end of a node; nothing where it would be a `script` or an unknown name, or where the
-    /// page has no such node.
+    /// Puts an element without attributes at the end of a node, and returns it; nothing where it would be a `script` or an unknown name,
+    /// or where the page has no such node. On an error nothing changes.
     pub fn put(
         &mut self,
         alloc: Global,
         tag: Tag,
         parent: NodeId,
-    ) -> Result<Option<NodeId>, Refusal> {
+    ) -> Result<Option<NodeId>, Refusal>
+        ensures put { IfOk result (λ it. MatchOption it (self.new ≡ self.old)
+            (λ node. (node ≡ self.old.made) × (self.new ≡ with_element tag parent self.old))) }
+        ensures left_out { IfOk result (λ it. it ≡ None → (tag ≡ Tag.Script) ⊎ (tag ≡ Tag.Other) ⊎ (self.old.made ≤ parent)) }
+        ensures err { OnErr result (self.new ≡ self.old) }
+    {
         if tag == Tag::Script || tag == Tag::Other || !self.tree.has(parent) {
             return Ok(None);
         }
@@ -63,11 +73,29 @@ impl Page {
         Ok(Some(node))
     }
 
-    /// Puts a text at the end of a node, if it is one of the page.
-    pub fn put_text(&mut self, text: &str, parent: NodeId) -> Result<(), Refusal> {
+    /// Puts a text at the end of a node, if it is one of the page. On an error nothing changes.
+    pub fn put_text(&mut self, text: &str, parent: NodeId) -> Result<(), Refusal>
+        ensures page { OnOk result
+            (self.new ≡ (if ltb parent self.old.made then add_chars (chars text.now) (LastIn parent) self.old else self.old)) }
+        ensures err { OnErr result (self.new ≡ self.old) }
+    {
         if !self.tree.has(parent) {
             return Ok(());
         }
         self.tree.put_text(text, Place::LastIn(parent), 0)
+    }
+    /// How many elements are inside the document.
+    pub fn elements(&self) -> usize
+        ensures { result ≡ elements_inside 0 self.now.trees }
+    {
+        // So the count fits.
+        prove!(self.tree.made() <= u32::MAX);
+        let mut count = 0;
+        for node in self.tree.descendants(self.tree.document()) {
+            if self.tree.name(node).is_some() {
+                count += 1;
+            }
+        }
+        count
     }
 }
