@@ -376,6 +376,20 @@ static inline const char *jz_detail_name(const jz_answer *answer) { return jz_de
 
 static inline const char *jz_page_detail_name(const jz_page_answer *answer) { return jz_detail_of(answer->status, answer->detail); }
 
+/* Whether the core table reads an input as the Standard's does, which then need not be read: where each & in it begins &amp; &lt; &gt; &quot;
+ * &nbsp; or a number, or is before what is no letter or digit. */
+static inline int jz_core_serves(const uint8_t *input, size_t length) {
+    static const char *const names[] = { "amp;", "lt;", "gt;", "quot;", "nbsp;" };
+    const uint8_t *at = input, *const end = input + length;
+    while (at < end && (at = (const uint8_t *)memchr(at, '&', (size_t)(end - at)))) {
+        size_t left = (size_t)(end - ++at), i = 0;
+        if (!left || ((at[0] | 32u) - 'a' > 25u && at[0] - (unsigned)'0' > 9u)) continue;
+        while (i < 5 && (strlen(names[i]) > left || memcmp(at, names[i], strlen(names[i])))) i++;
+        if (i == 5) return 0;
+    }
+    return 1;
+}
+
 /* A tree and its parse errors in the caller's memory, made by jz_parse, jz_parse_places or jz_make_page and freed by jz_free. It lends its
  * words and errors until it is freed; several threads may read it at once. Its fields are its own business, but for `root` and the last two. */
 typedef struct jz_node {

@@ -1,11 +1,13 @@
 """The tests of the Python package: what its pages and functions give, on stored cases too, and beside html5lib. The same are run over the module
 in C and, where JEANZIRCON_LIBRARY names a shared object, over ctypes.
 
-    python3 tests.py [CASES]     CASES: the folder data/cases. What wants lxml, bs4, html5lib or mypy is skipped where there is none"""
+    python3 tests.py [CHECKOUT]     CHECKOUT: where the stored cases are (.ci/cases.py). What wants lxml, bs4, html5lib or mypy is skipped where
+                                    there is none"""
 import collections
 import copy
+import ctypes
 import doctest
-import glob
+import functools
 import gzip
 import importlib
 import importlib.util
@@ -31,9 +33,8 @@ from jeanzircon._archives import Archives, Done, Place, kind_of
 from jeanzircon._crew import MORE, are_more, line_of, links_of, said, said_by_nodes
 from jeanzircon._stored import Unread
 
-CASES = sys.argv.pop(1) if len(sys.argv) > 1 and os.path.isdir(sys.argv[1]) else None
+CHECKOUT = sys.argv.pop(1) if len(sys.argv) > 1 and os.path.isdir(sys.argv[1]) else None
 PAGE = b"<!DOCTYPE html><!-- c --><title> a\n b </title><p class=x id=y>1<a href=/one>2<b>3</b></a>&copy;<a>4</a><!--d--></p>5"
-OPTIONS = {"--in": "context", "--nodes": "nodes", "--open": "open", "--bad-bytes": "bad_bytes"}
 
 
 def needs(*names):
@@ -42,35 +43,17 @@ def needs(*names):
     return unittest.skipIf(lacks, f"no {', no '.join(lacks)}")
 
 
-def told(words):
-    """What the options of a command line tell the package."""
-    found, words = {"entities": b"", "quirks": b""}, [part for it in words[1:] for part in it.split("=", 1)]
-    for option, value in zip(words[::2], words[1::2]):
-        found[OPTIONS[option]] = value.encode() if option == "--in" else int(value == "replace") if option == "--bad-bytes" else int(value)
-    return found
-
-
-def records(path):
-    """The pages of a file in html5lib's form: each with its context, its tree and its errors."""
-    with open(path, encoding="utf-8", newline="\n") as file:
-        for record in file.read().removesuffix("\n").split("\n\n"):
-            found = {part.split("\n", 1)[0]: part.split("\n", 1)[1] for part in f"\n{record}\n".split("\n#")[1:] if "\n" in part}
-            yield {name: text.removesuffix("\n") for name, text in found.items()}
-
-
+@functools.cache
 def cases():
     """The stored cases that ask for a tree: the page, what is told, and the tree's lines, or why there is none."""
-    for path in sorted(glob.glob(f"{CASES}/*.jsonl")):
-        with open(path, encoding="utf-8") as file:
-            for it in map(json.loads, file):
-                if it["words"][0] in ("tree", "fragment") and "--in=" not in it["words"] and not {"entities", "quirks", "limit"} & {*it}:
-                    page = it["text"].encode() if "text" in it else bytes.fromhex(it["input"])
-                    yield page, told(it["words"]), it["stdout"] or it["stderr"]
-    for path in sorted(glob.glob(f"{CASES}/*.dat")):
-        for it in records(path):
-            if "data" in it and "document" in it and "\\" not in it["data"]:
-                context = it.get("document-fragment", "").encode()
-                yield it["data"].encode(), {"context": context, "entities": b"", "quirks": b""}, it["document"] + "\n" * bool(it["document"])
+    if CHECKOUT is None:
+        return []
+    sys.path.insert(0, f"{CHECKOUT}/.ci")
+    stored, found = importlib.import_module("cases"), []
+    for run in stored.runs():
+        if run.words[0] in ("tree", "fragment") and not {"--in=", "--entities", "--quirks"} & {*run.words}:
+            found.append((run.input, stored.told(run.words), (run.wanted[1] + run.wanted[2]).decode()))
+    return found
 
 
 def outline(nodes):
@@ -225,6 +208,12 @@ class Pages(unittest.TestCase):
             self.assertEqual(jz.parse(page), jz.parse(PAGE))
         self.assertEqual(jz.parse(b"a\xffb", bad_bytes=1).root.text(), "a\ufffdb")
 
+    def test_sizes(self):
+        types = len(ctypes.Array.__subclasses__())
+        for size in range(99):
+            jz.parse(PAGE * size, entities=b""), jz.text(jz.TREE, b"x" * size, entities=b"")
+        self.assertLessEqual(len(ctypes.Array.__subclasses__()) - types, not jz.is_compiled())
+
     def test_tables(self):
         flat = jz.table(b'{"&copy;": {"codepoints": [169], "characters": "\\u00a9"}}')
         self.assertEqual([jz.parse(b"&copy;&lt;", context=b"p", entities=it).root.text() for it in (flat, b"", None)], ["©&lt;", "&copy;<", "©<"])
@@ -281,7 +270,7 @@ class Pages(unittest.TestCase):
         self.assertEqual(it.returncode, 0, it.stdout + it.stderr)
 
 
-@unittest.skipIf(CASES is None, "no stored cases are named")
+@unittest.skipIf(CHECKOUT is None, "no stored cases are named")
 class Stored(unittest.TestCase):
     def test_trees(self):
         count = 0
@@ -518,7 +507,7 @@ class Crawls(unittest.TestCase):
     def test_said(self):
         pages = [PAGE, b"", b"a<svg>", b"<a href=/b>" * 9,
                  "<title>\t\f é<!--x-->\U0001f600\u2028  \x7f\"\\ </title><a href=é\x01>\ud7ff\r\n\t\x0b</a><p\0>".encode()]
-        for page in pages + [it for it, _, _ in cases() if CASES]:
+        for page in pages + [it for it, _, _ in cases()]:
             came = []
             for call in (said, said_by_nodes):
                 try:

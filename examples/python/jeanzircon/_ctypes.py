@@ -5,6 +5,7 @@ import ctypes
 import functools
 import mmap
 import os
+import re
 import struct
 from collections.abc import Callable
 from typing import Any
@@ -113,10 +114,15 @@ def standard() -> tuple[bytes, bytes]:
         return table(entities.read()), quirks.read()
 
 
-def options(given: Given | None = None, page: bytes = b"&") -> Options:
-    """What is given with an input, as the library reads it. A page that has no `&` can have no reference, and reads no table but a given one."""
+def core_serves(page: bytes) -> bool:
+    """Whether the core table reads a page as the Standard's does: no `&` begins another name than its five, each with a `;`."""
+    return re.search(rb"&(?!(?:amp|lt|gt|quot|nbsp);)[0-9A-Za-z]", page) is None
+
+
+def options(given: Given | None = None, page: bytes = b"&x") -> Options:
+    """What is given with an input, as the library reads it. Where the core table serves, no table is read but a given one."""
     it = given or NONE_GIVEN
-    entities = (standard()[0] if b"&" in page else b"") if it.entities is None else it.entities
+    entities = (b"" if core_serves(page) else standard()[0]) if it.entities is None else it.entities
     quirks = standard()[1] if it.quirks is None else it.quirks
     texts = [it for text in (it.context, entities, quirks) for it in (text, len(text))]
     high, low = it.keys or KEYS

@@ -71,12 +71,13 @@ static int read_given(PyObject *given, jz_options *options) {
     return 1;
 }
 
-/* The options of an input: where it has no `&` it can have no reference, and the Standard's table is not read. */
+/* The options of an input: where the core table serves, the Standard's is not read. */
 static int options_of(const State *state, PyObject *given, jz_bytes input, jz_options *options) {
     static const jz_options core = JZ_DEFAULTS;
     *options = state->standard;
     if (given != Py_None && !read_given(given, options)) return 0;
-    if (options->entities.bytes == state->standard.entities.bytes && !memchr(input.bytes, '&', input.length)) options->entities = core.entities;
+    if (options->entities.bytes == state->standard.entities.bytes && jz_core_serves(input.bytes, input.length))
+        options->entities = core.entities;
     return 1;
 }
 

@@ -58,11 +58,10 @@ impl Table {
         }
     }
 
-    /// The form in which it is handed in with an input. Without `&` that has no reference, and the Standard's table gives what the core
-    /// table does, which it contains.
+    /// The form in which it is handed in with an input: where the core table serves, none in place of the Standard's.
     pub(crate) fn for_input(&self, input: &[u8]) -> &[u8] {
         match self.0 {
-            Form::Standard if !input.contains(&b'&') => &[],
+            Form::Standard if core_serves(input) => &[],
             _ => self.flat(),
         }
     }
@@ -76,6 +75,19 @@ impl Table {
     pub fn core() -> &'static Table {
         &Table(Form::Core)
     }
+}
+
+/// Whether the core table reads an input as the Standard's does: no `&` in it begins another name than its five, each with a `;`.
+fn core_serves(input: &[u8]) -> bool {
+    let mut rest = input;
+    while let Some(at) = raw::find(b'&', rest) {
+        rest = &rest[at + 1..];
+        let is_core = ["amp;", "lt;", "gt;", "quot;", "nbsp;"].iter().any(|name| rest.starts_with(name.as_bytes()));
+        if !is_core && rest.first().is_some_and(u8::is_ascii_alphanumeric) {
+            return false;
+        }
+    }
+    true
 }
 
 impl PartialEq for Table {
