@@ -1,8 +1,7 @@
-/* Calls the library where the Nth allocation and all that follow are refused, for each N: the status is then JZ_MEMORY, nothing is
- * written, and all that was taken is freed. The same of the plain C of its header, which tries again where one allocation is refused in
- * the first parse; and what that plain C costs, in parses, in bytes looked at and in memory kept, and does with null pointers; what a
- * table in its flat form costs, and a text that is only measured; options before a page that cannot be read; pieces; threads with small
- * stacks.
+/* Tries the plain C of the library's header. Where the Nth allocation and all that follow are refused, or it alone, for each N, it makes what
+ * it makes otherwise, or the status is JZ_MEMORY, nothing is made, and all that was taken is freed. And what that plain C costs, in parses, in
+ * bytes looked at and in memory kept, and does with null pointers; what a table in its flat form costs, and a text that is only measured;
+ * options before a page that cannot be read; pieces; threads with small stacks.
  * Its argument names an input, and `once` after it has each function called once. The last line is 'N passed, M failed'.
  * Linked with -Wl,--wrap=X for each X of malloc, realloc, free, jz_text, jz_page and jz_table. */
 #include <malloc.h>
@@ -80,13 +79,10 @@ uint32_t __wrap_jz_table(const uint8_t *entities, size_t length, uint8_t *output
     return __real_jz_table(entities, length, output, room, answer);
 }
 
-/* The tasks of jz_text, and after them what the other functions make. A page has its words and its HTML one after another, and origins too,
- * and what is PLACED is a tree with errors and places. */
-enum { ROOM = 1 << 16, ROWS = 1 << 12, ERRORS = 1 << 10, TASKS = 5, TREE = 5, PAGE = 6, PLACED = 7, TABLE = 8, ALL = 9 };
-static uint8_t text[ROOM], plain[ROOM], input[ROOM];
-static jz_row rows[ROWS], plain_rows[ROWS];
-static jz_error errors[ERRORS], plain_errors[ERRORS];
-static jz_origin origins[ROWS], plain_origins[ROWS];
+/* The tasks of jz_text, and after them what else is made: a tree, a tree with HTML, one with places, one of pieces, a table. */
+enum { ROOM = 1 << 16, TASKS = 5, TREE = 5, PAGE = 6, PLACED = 7, FED = 8, TABLE = 9, ALL = 10 };
+static uint8_t input[ROOM];
+static size_t piece = 1000;
 static jz_options options = JZ_DEFAULTS;
 static const uint8_t entities[] = "{\"&copy;\": {\"codepoints\": [169], \"characters\": \"\\u00a9\"}}";
 
@@ -98,41 +94,7 @@ static void check(int is_right, const char *what) {
 /* What a task reads is in a div, but for tokens, which are those of a document. */
 static void set_context(uint32_t task) { options.context = jz_lent((const uint8_t *)"div", task == JZ_TOKENS ? 0 : 3); }
 
-enum { PART = ROOM / 2 };
-
-/* A page with wants of which each has room. */
-static uint32_t call_page(uint32_t wants, size_t length, const jz_options *given, jz_page_answer *page) {
-    return jz_page(wants, input, length, given, rows, ROWS, text, PART, errors, ERRORS, text + PART, PART, origins, ROWS, page);
-}
-
-static uint32_t call(uint32_t task, size_t length, jz_answer *answer) {
-    jz_page_answer page;
-    memset(text, 'x', sizeof text);
-    memset(rows, 'x', sizeof rows);
-    memset(errors, 'x', sizeof errors);
-    memset(origins, 'x', sizeof origins);
-    if (task < TASKS) return jz_text(task, input, length, &options, text, sizeof text, answer);
-    if (task == TREE) return jz_tree(input, length, &options, rows, ROWS, text, sizeof text, answer);
-    if (task == TABLE) return jz_table(entities, sizeof entities - 1, text, sizeof text, answer);
-    answer->status = call_page(task == PAGE ? 7 : 5, length, &options, &page);
-    check(answer->status == page.status, "the status of a page");
-    return answer->status;
-}
-
-/* Whether nothing was written. */
-static int is_untouched(void) {
-    for (size_t i = 0; i < sizeof text; i++)
-        if (text[i] != 'x') return 0;
-    for (size_t i = 0; i < sizeof rows; i++)
-        if (((uint8_t *)rows)[i] != 'x') return 0;
-    for (size_t i = 0; i < sizeof errors; i++)
-        if (((uint8_t *)errors)[i] != 'x') return 0;
-    for (size_t i = 0; i < sizeof origins; i++)
-        if (((uint8_t *)origins)[i] != 'x') return 0;
-    return 1;
-}
-
-/* What the plain C makes: a text, a table, or a tree and with it its words. */
+/* What is made: a text, a table, or a tree and with it its words. */
 typedef struct made {
     uint8_t *bytes, *html;
     jz_doc doc;
@@ -140,25 +102,38 @@ typedef struct made {
     jz_answer answer;
 } made;
 
+/* A tree of an input that is fed in pieces. */
+static uint32_t feed(const uint8_t *page, size_t length, made *it) {
+    jz_feeder feeder;
+    uint32_t taken = JZ_OK, status;
+    memset(&feeder, 'x', sizeof feeder);
+    jz_begin(&feeder);
+    for (size_t at = 0; at < length; at += piece) taken = jz_feed(&feeder, page + at, piece < length - at ? piece : length - at);
+    check(taken != JZ_OK || (feeder.length == length && (!length || !memcmp(feeder.bytes, page, length))), "what is gathered");
+    status = jz_end(&feeder, &options, &it->doc, &it->answer);
+    check(taken == JZ_OK || (taken == JZ_MEMORY && status == taken), "the status of pieces");
+    check(!feeder.bytes && !feeder.length && !feeder.room && !feeder.status, "a feeder after the end");
+    return status;
+}
+
 static uint32_t make(uint32_t task, const void *page, size_t length, made *it) {
     const uint8_t *bytes = (const uint8_t *)page;
+    uint32_t status;
     memset(it, 'x', sizeof *it);
     if (task < TASKS) return jz_make_text(task, bytes, length, &options, &it->bytes, &it->answer);
     if (task == TABLE) return jz_make_table(entities, sizeof entities - 1, &it->bytes, &it->answer);
-    uint32_t status;
-    if (task != PAGE) {
-        it->html = NULL;
-        status = (task == TREE ? jz_parse : jz_parse_places)(bytes, length, &options, &it->doc, &it->answer);
-    } else {
+    it->html = NULL;
+    if (task == FED) status = feed(bytes, length, it);
+    else if (task == PAGE) {
         status = jz_make_page(bytes, length, &options, &it->doc, &it->html, &it->page);
         jz_answer told = { it->page.status, it->page.detail, it->page.at, it->page.words, it->page.nodes };
         it->answer = told;
-    }
+    } else status = (task == TREE ? jz_parse : jz_parse_places)(bytes, length, &options, &it->doc, &it->answer);
     it->bytes = it->doc.words;
     return status;
 }
 
-static int is_tree(uint32_t task) { return task == TREE || task == PAGE || task == PLACED; }
+static int is_tree(uint32_t task) { return task >= TASKS && task != TABLE; }
 
 static void give_back(uint32_t task, made *it) {
     if (!is_tree(task)) free(it->bytes);
@@ -172,213 +147,50 @@ static int is_empty(const jz_doc *doc) {
     return !doc->nodes && !doc->words && !doc->places && !doc->errors && !doc->count && !doc->root && !doc->error_count;
 }
 
-/* Whether these are the same errors, whatever lies between their fields. */
-static int are_same(const jz_error *some, const jz_error *others, size_t count) {
-    for (size_t i = 0; i < count; i++)
-        if (some[i].at != others[i].at || some[i].code != others[i].code) return 0;
-    return 1;
-}
-
-/* Whether the places of a tree are those of the origins that the call wrote. */
-static int are_placed(const jz_doc *doc, size_t count) {
-    for (size_t i = 0; i < count; i++) {
-        const jz_origin *origin = &plain_origins[i];
-        uint64_t place = jz_place(doc, plain_rows[i].number);
-        if (place != (origin->in_source ? origin->at : origin->again_of == JZ_NONE ? JZ_NOWHERE : jz_place(doc, origin->again_of))) return 0;
-    }
-    return doc->places && jz_place(doc, doc->root) == JZ_NOWHERE && jz_place(doc, doc->count) == JZ_NOWHERE;
-}
-
-/* Whether it is what the call wrote, which is in `plain`. */
-static int is_whole(uint32_t task, const made *it) {
-    if (memcmp(it->bytes, plain, (size_t)it->answer.length)) return 0;
-    if (task == PLACED && !are_placed(&it->doc, (size_t)it->answer.nodes)) return 0;
-    return task != PAGE
-        || (it->doc.error_count == it->page.errors && are_same(it->doc.errors, plain_errors, it->doc.error_count)
-            && !memcmp(it->html, plain + PART, it->page.text));
-}
-
 static int is_nothing(uint32_t task, const made *it) { return is_tree(task) ? is_empty(&it->doc) && !it->html : !it->bytes; }
 
-/* The plain C where allocations are refused: what it makes is in `plain`. */
-static void check_made(uint32_t task, size_t length) {
-    made it;
+/* Whether these are the same bytes, or neither is there. */
+static int are_equal(const void *some, const void *others, size_t length) {
+    return some && others ? !memcmp(some, others, length) : some == others;
+}
+
+static int are_same_trees(const jz_doc *some, const jz_doc *others) {
+    for (size_t i = 0; i < some->error_count && i < others->error_count; i++)
+        if (some->errors[i].at != others->errors[i].at || some->errors[i].code != others->errors[i].code) return 0;
+    return some->count == others->count && some->root == others->root && some->length == others->length
+        && some->error_count == others->error_count && are_equal(some->nodes, others->nodes, some->count * sizeof *some->nodes)
+        && are_equal(some->places, others->places, some->count * sizeof *some->places);
+}
+
+static int are_same(uint32_t task, const made *some, const made *others) {
+    return !memcmp(&some->answer, &others->answer, sizeof some->answer) && are_equal(some->bytes, others->bytes, (size_t)some->answer.length)
+        && (!is_tree(task) || are_same_trees(&some->doc, &others->doc))
+        && (task != PAGE || (some->page.text == others->page.text && are_equal(some->html, others->html, (size_t)some->page.text)));
+}
+
+/* What is made where allocations are refused. One alone is told of where no further parse is tried, which needs less. */
+static void check_refused(uint32_t task, const void *page, size_t length) {
+    made whole, it;
     calls = parses = 0;
-    uint32_t status = make(task, input, length, &it);
-    long all = calls, is_once = parses == 1;
-    give_back(task, &it);
-    check(status == JZ_OK, "what is made of the input");
+    check(make(task, page, length, &whole) == JZ_OK, "what is made of the input");
+    long all = calls, refused = 0;
+    int is_tried_again = parses == 1 && task != TABLE && task != FED;
     for (long at = 0; at < 2 * all; at++) {
         long before = alive;
         calls = 0;
         if (at < all) left = at;
         else only = at - all;
-        status = make(task, input, length, &it);
+        uint32_t status = make(task, page, length, &it);
         left = only = -1;
-        int is_made = status == JZ_OK && is_whole(task, &it);
-        int is_none = status == JZ_MEMORY && (at < all || !is_once || task == TABLE) && is_nothing(task, &it);
+        int is_made = status == JZ_OK && are_same(task, &it, &whole);
+        int is_none = status == JZ_MEMORY && (at < all || !is_tried_again) && is_nothing(task, &it);
+        refused += is_none;
         check(status == it.answer.status && (is_made || is_none), "what is made where memory is refused");
         give_back(task, &it);
         check(alive == before, "what is kept where memory is refused");
     }
-}
-
-static void check_refused(uint32_t task, size_t length) {
-    jz_answer answer;
-    calls = 0;
-    uint32_t wanted = call(task, length, &answer);
-    long all = calls;
-    memcpy(plain, text, sizeof text);
-    memcpy(plain_rows, rows, sizeof rows);
-    memcpy(plain_errors, errors, sizeof errors);
-    memcpy(plain_origins, origins, sizeof origins);
-    for (long at = 0; at <= all; at++) {
-        long before = alive;
-        left = at;
-        uint32_t status = call(task, length, &answer);
-        left = -1;
-        check(alive == before && status == answer.status
-                  && (status == JZ_MEMORY ? at < all && is_untouched()
-                                          : status == wanted && !memcmp(text, plain, ROOM) && !memcmp(rows, plain_rows, sizeof rows)
-                                                && are_same(errors, plain_errors, ERRORS) && !memcmp(origins, plain_origins, sizeof origins)),
-              "a call where memory is refused");
-    }
-}
-
-/* The rows of parse errors with just enough room are the lines of JZ_ERRORS; with less nothing is written, and their number is answered. */
-static void check_errors(size_t length) {
-    jz_answer lines;
-    jz_page_answer page;
-    size_t at = 0;
-    set_context(JZ_ERRORS);
-    call(JZ_ERRORS, length, &lines);
-    memcpy(plain, text, sizeof text);
-    jz_page(1, input, length, &options, rows, ROWS, text, PART, errors, 0, text, 0, origins, 0, &page);
-    check(page.status == JZ_TOO_SHORT && page.errors > 60 && page.errors < ERRORS && !page.text, "the number of errors");
-    for (size_t room = page.errors + 1; room + 2 > page.errors; room--) {
-        int fits = room >= page.errors;
-        memset(errors, 'x', sizeof errors);
-        memset(rows, 'x', sizeof rows);
-        memset(text, 'x', sizeof text);
-        memset(origins, 'x', sizeof origins);
-        uint32_t status = jz_page(1, input, length, &options, rows, ROWS, text, PART, errors, room, text + PART, 0, origins, 0, &page);
-        check(status == (fits ? JZ_OK : JZ_TOO_SHORT) && (fits || is_untouched()), "errors with so much room");
-        if (room == page.errors) memcpy(plain_errors, errors, sizeof errors);
-        if (room >= page.errors) check(*(uint8_t *)&errors[page.errors] == 'x', "what comes after the errors");
-    }
-    for (size_t i = 0; i < page.errors; i++)
-        at += (size_t)sprintf((char *)text + at, "%llu %s\n", (unsigned long long)plain_errors[i].at, jz_error_name(plain_errors[i].code));
-    check(plain[at] == 'x' && !memcmp(text, plain, at), "errors as lines");
-    check(!strcmp(jz_error_name(JZ_ERROR_EOF_IN_TAG), "eof-in-tag") && !strcmp(jz_error_name(JZ_ERROR_COUNT), "?"), "the name of a code");
-}
-
-/* As many origins as nodes are written, where they are wanted and there is room for each. A token of a node's own begins where its markup
- * does, and what there is of other wants changes nothing. */
-static void check_origins(size_t length) {
-    jz_page_answer page;
-    size_t counts[3] = { 0, 0, 0 };
-    set_context(TREE);
-    memset(plain_origins, 'x', sizeof plain_origins);
-    check(jz_page(JZ_WANT_ORIGINS, input, length, &options, rows, ROWS, text, PART, errors, 0, text, 0, plain_origins, ROWS, &page) == JZ_OK,
-          "origins alone");
-    for (size_t i = 0; i < page.nodes; i++) {
-        const jz_origin *it = &plain_origins[i];
-        uint8_t first = input[it->at];
-        counts[it->in_source ? 0 : it->again_of == JZ_NONE ? 1 : 2]++;
-        check(it->at < length && (!it->in_source || rows[i].kind == JZ_TEXT_NODE || first == '<'), "where a node begins");
-    }
-    check(counts[0] > 100 && counts[1] > 10 && counts[2] > 10, "nodes of their own, implied and made again");
-    for (uint32_t wants = 0; wants < 10; wants++)
-        for (size_t room = page.nodes; room + 2 > page.nodes; room--) {
-            int is_known = wants < 8, has_any = is_known && wants & JZ_WANT_ORIGINS, fits = room == page.nodes || !has_any;
-            jz_page_answer told;
-            memset(origins, 'x', sizeof origins);
-            uint32_t status = jz_page(wants, input, length, &options, rows, ROWS, text, PART, errors, ERRORS, text + PART, PART, origins, room, &told);
-            check(status == (!is_known ? JZ_BAD_NUMBER : fits ? JZ_OK : JZ_TOO_SHORT) && told.status == status, "a page with so many origins");
-            check(told.nodes == (is_known ? page.nodes : 0), "how many origins there are");
-            check(fits && has_any ? !memcmp(origins, plain_origins, sizeof origins) : *(uint8_t *)origins == 'x', "origins where they are wanted");
-        }
-}
-
-/* The bytes at the end of a page of memory, after which none can be read. */
-static uint8_t *last_bytes(size_t count) {
-    size_t page = (size_t)sysconf(_SC_PAGESIZE);
-    uint8_t *begin = (uint8_t *)mmap(NULL, 2 * page, PROT_READ | PROT_WRITE, MAP_PRIVATE | MAP_ANONYMOUS, -1, 0);
-    check(begin != MAP_FAILED && !mprotect(begin + page, page, PROT_NONE), "memory that cannot be read");
-    return begin + page - count;
-}
-
-/* Options of a size that the library does not know are refused before anything else is: of these nothing but the size can be read, and
- * there is no such task and no such wish. Those that it knows are read as far as they go. */
-static void check_sizes(size_t length) {
-    size_t *size = (size_t *)last_bytes(sizeof *size);
-    const jz_options *given = (const jz_options *)size;
-    jz_answer answer;
-    jz_page_answer page;
-    for (*size = 0; *size < 4096; *size += *size == sizeof options - 1 ? 2 : 1) {
-        for (uint32_t task = 0; task <= TASKS; task++) {
-            memset(text, 'x', 64);
-            check(jz_text(task, input, length, given, text, 64, &answer) == JZ_BAD_SIZE && !answer.length && *text == 'x', "a text by short options");
-            call_page(task, length, given, &page);
-            check(page.status == JZ_BAD_SIZE && !page.nodes && !page.text && *text == 'x', "a page by short options");
-        }
-        check(jz_tree(input, length, given, rows, ROWS, text, sizeof text, &answer) == JZ_BAD_SIZE && !answer.nodes, "a tree by short options");
-    }
-    *size = SIZE_MAX;
-    check(jz_text(9, input, length, given, text, 64, &answer) == JZ_BAD_SIZE, "a text by options of the greatest size");
-    jz_options *last = (jz_options *)last_bytes(sizeof options);
-    *last = options;
-    check(jz_tree(input, length, last, rows, ROWS, text, sizeof text, &answer) == JZ_OK, "options at the end of what can be read");
-    check(!strcmp(jz_status_name(JZ_BAD_SIZE), "BadSize"), "the name of a status");
-}
-
-/* A file is read whole, or where there is none, no file or no memory, not at all. */
-static void check_file(const char *name, size_t length) {
-    long before = alive;
-    size_t got;
-    uint8_t *bytes = jz_read_file(name, &got);
-    check(bytes && got == length && !memcmp(bytes, input, length), "a file");
-    free(bytes);
-    check(!jz_read_file("no such file", &got) && !jz_read_file("/", &got), "a file that cannot be read");
-    left = 0;
-    check(!jz_read_file(name, &got), "a file where memory is refused");
-    left = -1;
-    check(alive == before, "what is kept of a file");
-}
-
-/* Nothing is left in a result that the caller then frees, whichever pointer is null. */
-static void check_nulls(void) {
-    for (int which = 0; which < 7; which++) {
-        jz_options given = options, *to = which == 1 ? NULL : &given;
-        jz_bytes *lists[] = { &given.context, &given.entities, &given.quirks };
-        const uint8_t *page = which == 0 ? NULL : input;
-        jz_answer answers[4], *answer[4];
-        uint8_t *result = text, **bytes = which == 6 ? NULL : &result;
-        jz_doc doc, *tree = which == 6 ? NULL : &doc;
-        uint32_t statuses[4];
-        memset(answers, 'x', sizeof answers);
-        memset(&doc, 'x', sizeof doc);
-        if (which > 1 && which < 5) lists[which - 2]->bytes = NULL;
-        for (int i = 0; i < 4; i++) answer[i] = which == 5 ? NULL : &answers[i];
-        statuses[0] = jz_make_text(JZ_TREE, page, 1, to, bytes, answer[0]);
-        statuses[1] = jz_parse(page, 1, to, tree, answer[1]);
-        statuses[2] = which == 6 ? JZ_NULL : jz_text_room(JZ_TREE, page, 1, to, answer[2]);
-        statuses[3] = which == 6 ? JZ_NULL : jz_tree_rooms(page, 1, to, answer[3]);
-        uint8_t *html = text;
-        jz_page_answer all;
-        check(jz_make_page(page, 1, to, tree, &html, which == 5 ? NULL : &all) == JZ_NULL && !html
-                  && (which == 5 || (all.status == JZ_NULL && !all.nodes)) && (which == 6 || is_empty(&doc)), "a page with a null pointer");
-        check(which > 2 || jz_make_table(which == 0 ? NULL : entities, 1, which == 1 ? NULL : &result, which == 2 ? NULL : answers) == JZ_NULL,
-              "a table with a null pointer");
-        check(which == 6 || !result, "the text of a call with a null pointer");
-        check(which == 6 || is_empty(&doc), "the tree of a call with a null pointer");
-        for (int i = 0; i < 4; i++) {
-            check(statuses[i] == JZ_NULL, "the status of a call with a null pointer");
-            if (which != 5 && (which != 6 || i < 2))
-                check(answers[i].status == JZ_NULL && !answers[i].detail && !answers[i].at && !answers[i].length && !answers[i].nodes,
-                      "the answer to a call with a null pointer");
-        }
-    }
+    check(refused > 3, "memory that is refused");
+    give_back(task, &whole);
 }
 
 /* The rooms that are asked for are those of what is made, and no more is kept. A refusal is answered to all. */
@@ -398,81 +210,17 @@ static void check_rooms(uint32_t task, const char *page, size_t length) {
     give_back(task, &it);
 }
 
-/* A page of nested lists, with the spaces that are written before each line. */
-static size_t lists_page(char *page, int items) {
-    char *end = page;
-    for (int depth = 0; depth < 6; depth++) end += sprintf(end, "<div class=level>\n");
-    for (int item = 0; item < items; item++)
-        end += sprintf(end, "            <li><a href=\"/%d\">Section %d</a> of the <em>guide</em>, and what it is about.</li>\n", item, item);
-    return (size_t)(end - page);
-}
-
-/* What jz_parse makes of an input that is fed in pieces of this size; `taken` is the status of the last piece. */
-static uint32_t feed(const uint8_t *page, size_t length, size_t size, made *it, uint32_t *taken) {
-    jz_feeder feeder;
-    memset(&feeder, 'x', sizeof feeder);
-    memset(it, 'x', sizeof *it);
-    it->html = NULL;
-    jz_begin(&feeder);
-    *taken = JZ_OK;
-    for (size_t at = 0; at < length; at += size) *taken = jz_feed(&feeder, page + at, size < length - at ? size : length - at);
-    check(*taken != JZ_OK || (feeder.length == length && (!length || !memcmp(feeder.bytes, page, length))), "what is gathered");
-    uint32_t status = jz_end(&feeder, &options, &it->doc, &it->answer);
-    check(!feeder.bytes && !feeder.length && !feeder.room && !feeder.status, "a feeder after the end");
-    it->bytes = it->doc.words;
-    return status;
-}
-
-static int are_same_trees(const made *some, const made *others) {
-    const jz_doc *a = &some->doc, *b = &others->doc;
-    return !memcmp(&some->answer, &others->answer, sizeof some->answer) && a->count == b->count && a->root == b->root && a->length == b->length
-        && a->error_count == b->error_count && (!a->count || !memcmp(a->nodes, b->nodes, a->count * sizeof *a->nodes))
-        && (!a->words || !memcmp(a->words, b->words, (size_t)some->answer.length)) && are_same(a->errors, b->errors, a->error_count);
-}
-
 /* Pieces of each size give the tree, or the refusal, of the whole. */
 static void check_pieces(const void *page, size_t length) {
-    const uint8_t *bytes = (const uint8_t *)page;
     made whole, it;
-    uint32_t taken, wanted = make(TREE, bytes, length, &whole);
+    make(TREE, page, length, &whole);
     for (size_t size = 1; size <= length + 1; size++) {
-        long before = alive;
-        uint32_t status = feed(bytes, length, size, &it, &taken);
-        check(taken == JZ_OK && status == wanted && are_same_trees(&it, &whole), "the tree of pieces");
-        give_back(TREE, &it);
-        check(alive == before, "what is kept of pieces");
+        piece = size;
+        make(FED, page, length, &it);
+        check(are_same(TREE, &it, &whole), "the tree of pieces");
+        give_back(FED, &it);
     }
-    give_back(TREE, &whole);
-}
-
-/* Pieces where one allocation is refused, or it and all after it; what is gathered grows several times. */
-static void check_fed(void) {
-    enum { SIZE = 1000 };
-    static char page[ROOM];
-    const uint8_t *bytes = (const uint8_t *)page;
-    size_t length = lists_page(page, 150);
-    made whole, it;
-    uint32_t taken;
-    check(make(TREE, page, length, &whole) == JZ_OK, "the tree of the whole");
-    calls = 0;
-    check(feed(bytes, length, SIZE, &it, &taken) == JZ_OK, "the tree of pieces");
-    long all = calls, refused = 0;
-    give_back(TREE, &it);
-    for (long at = 0; at < 2 * all; at++) {
-        long before = alive;
-        calls = 0;
-        if (at < all) left = at;
-        else only = at - all;
-        uint32_t status = feed(bytes, length, SIZE, &it, &taken);
-        left = only = -1;
-        refused += taken == JZ_MEMORY;
-        check(status == it.answer.status && (status == JZ_OK ? are_same_trees(&it, &whole) : status == JZ_MEMORY && is_empty(&it.doc)),
-              "pieces where memory is refused");
-        check(taken == JZ_OK || (taken == JZ_MEMORY && status == taken), "the status of pieces where memory is refused");
-        give_back(TREE, &it);
-        check(alive == before, "what is kept of pieces where memory is refused");
-    }
-    check(refused > 3, "pieces that are not taken");
+    piece = 1000;
     give_back(TREE, &whole);
 }
 
@@ -486,21 +234,17 @@ static void check_feeders(void) {
         jz_begin(&feeder);
         check(jz_feed(&feeder, page, 4) == JZ_OK && jz_feed(&feeder, page, 0) == JZ_OK && jz_feed(&feeder, NULL, 0) == JZ_OK, "a piece, and none");
         feeder.length = feeder.room = length;
-        check(jz_feed(&feeder, page, 0) == JZ_OK && jz_feed(&feeder, page, SIZE_MAX) == JZ_TOO_LARGE && !feeder.bytes, "a piece that is too long");
+        check(jz_feed(&feeder, page, 0) == JZ_OK && jz_feed(&feeder, page, JZ_MOST - length + 1) == JZ_TOO_LARGE && !feeder.bytes, "a piece that is too long");
         check(jz_feed(&feeder, page, 1) == JZ_TOO_LARGE && !feeder.bytes && alive == before, "a piece after one that is too long");
         check(jz_end(&feeder, &options, &it.doc, &it.answer) == JZ_TOO_LARGE && it.answer.status == JZ_TOO_LARGE && it.answer.at == JZ_MOST
                   && is_empty(&it.doc), "the end of what is too long");
     }
-    jz_begin(&feeder);
-    feeder.length = JZ_MOST - 1;
-    check(jz_feed(&feeder, page, 2) == JZ_TOO_LARGE, "a byte too many");
-    jz_drop(&feeder);
     check(jz_feed(&feeder, page, 4) == JZ_OK && alive == before + 1, "a feeder that is used again");
     jz_drop(&feeder);
     jz_drop(&feeder);
     jz_drop(NULL);
     jz_begin(NULL);
-    check(alive == before && jz_feed(NULL, page, 1) == JZ_NULL && jz_feed(&feeder, NULL, 1) == JZ_NULL, "a piece with a null pointer");
+    check(jz_feed(NULL, page, 1) == JZ_NULL && jz_feed(&feeder, NULL, 1) == JZ_NULL, "a piece with a null pointer");
     for (int which = 0; which < 4; which++) {
         memset(&it, 'x', sizeof it);
         check(jz_feed(&feeder, page, 4) == JZ_OK, "a piece");
@@ -509,6 +253,91 @@ static void check_feeders(void) {
         jz_drop(&feeder);
     }
     check(alive == before, "what is kept of feeders");
+}
+
+/* The bytes at the end of a page of memory, after which none can be read. */
+static uint8_t *last_bytes(size_t count) {
+    size_t page = (size_t)sysconf(_SC_PAGESIZE);
+    uint8_t *begin = (uint8_t *)mmap(NULL, 2 * page, PROT_READ | PROT_WRITE, MAP_PRIVATE | MAP_ANONYMOUS, -1, 0);
+    check(begin != MAP_FAILED && !mprotect(begin + page, page, PROT_NONE), "memory that cannot be read");
+    return begin + page - count;
+}
+
+/* Options of a size that the library does not know are refused before anything else of them is read. */
+static void check_sizes(size_t length) {
+    size_t *size = (size_t *)last_bytes(sizeof *size);
+    jz_options *last = (jz_options *)last_bytes(sizeof options);
+    jz_answer answer;
+    uint8_t text[64];
+    *size = sizeof options - 1;
+    check(jz_text(9, input, length, (const jz_options *)size, text, 64, &answer) == JZ_BAD_SIZE && !answer.length, "a text by short options");
+    check(!strcmp(jz_status_name(answer.status), "BadSize") && !strcmp(jz_error_name(JZ_ERROR_COUNT), "?"), "the name of a status, and of no error");
+    *last = options;
+    check(jz_text(JZ_TREE, input, length, last, text, 0, &answer) == JZ_TOO_SHORT, "options at the end of what can be read");
+}
+
+/* The places of the nodes of a page: their own, that of what they are made again of, and none. */
+static void check_places(void) {
+    static const uint64_t places[] = { 0, 0, 3, 6, 7, 3, 10, 11, JZ_NOWHERE, 18 };
+    made it;
+    size_t i = 0;
+    check(make(PLACED, "<p><b>x<p>y<table><tr>", 22, &it) == JZ_OK, "a page with places");
+    for (uint32_t node = it.doc.root; node != JZ_NONE; node = jz_after(&it.doc, node, it.doc.root), i++)
+        check(i < 10 && (node == it.doc.root ? jz_place(&it.doc, node) == JZ_NOWHERE : jz_place(&it.doc, node) == places[i]), "the place of a node");
+    check(i == 10 && jz_place(&it.doc, it.doc.count) == JZ_NOWHERE, "the place of no node");
+    give_back(PLACED, &it);
+}
+
+/* A file is read whole, or where there is none, no file or no memory, not at all. */
+static void check_file(const char *name, size_t length) {
+    long before = alive;
+    size_t got;
+    uint8_t *bytes = jz_read_file(name, &got);
+    check(bytes && got == length && !memcmp(bytes, input, length), "a file");
+    free(bytes);
+    check(!jz_read_file("no such file", &got) && !jz_read_file("/", &got), "a file that cannot be read");
+    left = 0;
+    check(!jz_read_file(name, &got), "a file where memory is refused");
+    left = -1;
+    check(alive == before, "what is kept of a file");
+}
+
+/* Nothing is left in a result that the caller then frees, whichever pointer is null: the input, the options, one of them, the answer, or the
+ * result. */
+static void check_nulls(void) {
+    for (int which = 0; which < 7; which++) {
+        jz_options given = options, *to = which == 1 ? NULL : &given;
+        jz_bytes *lists[] = { &given.context, &given.entities, &given.quirks };
+        const uint8_t *page = which == 0 ? NULL : input;
+        jz_answer answers[4], *answer[4];
+        jz_page_answer all;
+        uint8_t *result = input, *html = input, **bytes = which == 6 ? NULL : &result;
+        jz_doc docs[2], *doc[] = { which == 6 ? NULL : &docs[0], which == 6 ? NULL : &docs[1] };
+        memset(answers, 'x', sizeof answers);
+        memset(docs, 'x', sizeof docs);
+        if (which > 1 && which < 5) lists[which - 2]->bytes = NULL;
+        for (int i = 0; i < 4; i++) answer[i] = which == 5 ? NULL : &answers[i];
+        uint32_t statuses[] = { jz_make_text(JZ_TREE, page, 1, to, bytes, answer[0]), jz_parse(page, 1, to, doc[0], answer[1]),
+                                jz_make_page(page, 1, to, doc[1], &html, which == 5 ? NULL : &all),
+                                which == 6 ? JZ_NULL : jz_text_room(JZ_TREE, page, 1, to, answer[2]),
+                                which == 6 ? JZ_NULL : jz_tree_rooms(page, 1, to, answer[3]) };
+        for (int i = 0; i < 5; i++) check(statuses[i] == JZ_NULL, "the status of a call with a null pointer");
+        for (int i = 0; i < (which == 5 ? 0 : which == 6 ? 2 : 4); i++)
+            check(answers[i].status == JZ_NULL && !answers[i].detail && !answers[i].at && !answers[i].length && !answers[i].nodes,
+                  "the answer to a call with a null pointer");
+        check(!html && (which == 6 || (!result && is_empty(&docs[0]) && is_empty(&docs[1]))), "the result of a call with a null pointer");
+        check(which > 2 || jz_make_table(which == 0 ? NULL : entities, 1, which == 1 ? NULL : &result, which == 2 ? NULL : answers) == JZ_NULL,
+              "a table with a null pointer");
+    }
+}
+
+/* A page of nested lists, with the spaces that are written before each line. */
+static size_t lists_page(char *page, int items) {
+    char *end = page;
+    for (int depth = 0; depth < 6; depth++) end += sprintf(end, "<div class=level>\n");
+    for (int item = 0; item < items; item++)
+        end += sprintf(end, "            <li><a href=\"/%d\">Section %d</a> of the <em>guide</em>, and what it is about.</li>\n", item, item);
+    return (size_t)(end - page);
 }
 
 /* How often an ordinary page is parsed, and one whose text or nodes are many for its length. */
@@ -531,11 +360,10 @@ static void check_parses(void) {
     for (length = 0; length + 8 < 4096; length += 8) memcpy(page + length, "<b><div>", 8);
     static const uint32_t tasks[] = { JZ_TREE, TREE, PAGE, PLACED };
     for (int i = 0; i < 4; i++) {
-        uint32_t task = tasks[i];
         parses = 0;
-        check(make(task, page, length, &it) == JZ_OK && parses <= 2, "the parses of a page with long texts or many nodes");
-        give_back(task, &it);
-        check_rooms(task, page, length);
+        check(make(tasks[i], page, length, &it) == JZ_OK && parses <= 2, "the parses of a page with long texts or many nodes");
+        give_back(tasks[i], &it);
+        check_rooms(tasks[i], page, length);
     }
 }
 
@@ -545,17 +373,16 @@ enum { ATTRIBUTES = 20000 };
 static void check_attributes(void) {
     static char page[24 * ATTRIBUTES];
     char *end = page + sprintf(page, "x<p");
-    jz_bytes name, value, last;
+    jz_bytes name, value;
     size_t place = 0, looked;
     made it;
     int is_right = 1;
     for (int i = 0; i < ATTRIBUTES; i++) end += sprintf(end, " a%d=%d", i, i);
     end += sprintf(end, ">");
     check(make(TREE, page, (size_t)(end - page), &it) == JZ_OK, "the parse of many attributes");
-    uint32_t first = jz_first_child(&it.doc, it.doc.root), node = jz_next(&it.doc, first);
+    uint32_t node = jz_next(&it.doc, jz_first_child(&it.doc, it.doc.root));
     looked_at = 0;
-    last = jz_attribute(&it.doc, node, "a19999");
-    check(jz_is(last, "19999") && looked_at <= it.answer.length, "a look-up among many attributes");
+    check(jz_is(jz_attribute(&it.doc, node, "a19999"), "19999") && looked_at <= it.answer.length, "a look-up among many attributes");
     looked_at = 0;
     check(!jz_attribute(&it.doc, node, "none").bytes && looked_at <= it.answer.length, "a look-up in vain");
     looked_at = looked = 0;
@@ -569,7 +396,7 @@ static void check_attributes(void) {
     }
     check(is_right && place == ATTRIBUTES && looked_at <= it.answer.length, "each of many attributes");
     check(!name.bytes && !value.bytes, "what comes after the last attribute");
-    jz_free(&it.doc);
+    give_back(TREE, &it);
 }
 
 /* What is answered where there is no such attribute, or no such word. */
@@ -590,16 +417,25 @@ static void check_none(void) {
         check(!jz_attribute_name(doc, node, place).bytes && !jz_attribute_value(doc, node, place).bytes, "a place after the last");
     }
     check(jz_is(jz_word(doc, node, 2), "0") && !jz_word(doc, node, 5).bytes && !jz_word(doc, node, SIZE_MAX).bytes, "a word by its place");
-    jz_free(&it.doc);
+    give_back(TREE, &it);
 }
 
 static void check_keys(void) {
     jz_options one = JZ_STANDARD, other = JZ_STANDARD;
     check(jz_draw_keys(&one) == 1 && jz_draw_keys(&other) == 1 && memcmp(&one.key_low, &other.key_low, 16) != 0, "two draws of keys");
-    one.key_low = one.key_high = other.key_low = other.key_high = 0;
     check(one.entities.bytes == other.entities.bytes && one.entities.bytes[0] == 1 && one.nodes == options.nodes && one.open == options.open
               && one.piece == options.piece && one.escaping == options.escaping && !one.context.length, "the options to begin with");
     check(jz_draw_keys(NULL) == 0, "keys for no options");
+}
+
+static void check_core(void) {
+    static const char *const serves[] = { "", "&", "&amp;", "a & b&", "&#12;&#x", "&lt;&gt;&quot;&nbsp;", "&&" };
+    static const char *const wants[] = { "&amp", "&am", "a&b", "&copy;", "&&a", "&9", "&amp;&nbs;" };
+    for (int i = 0; i < 7; i++) {
+        check(jz_core_serves((const uint8_t *)serves[i], strlen(serves[i])) == 1, "an input for which the core table serves");
+        check(jz_core_serves((const uint8_t *)wants[i], strlen(wants[i])) == 0, "an input that wants the Standard's table");
+    }
+    check(jz_core_serves((const uint8_t *)"&amp;", 4) == 0, "a reference that is cut off");
 }
 
 /* The least seconds that a parse of a page takes. */
@@ -622,37 +458,37 @@ static double seconds(const char *page, size_t length, const jz_options *given) 
 /* That reading the Standard's lists costs little beside a small page, one of some 5 KB: two or three times that page where nothing else runs
  * on the machine (their JSON takes seventy). */
 static void check_lists(void) {
-    enum { SMALL = 50 };
     static char page[ROOM];
-    size_t length = lists_page(page, SMALL);
+    size_t length = lists_page(page, 50);
     jz_options core = JZ_DEFAULTS, standard = JZ_STANDARD;
     double without = seconds(page, length, &core), with = seconds(page, length, &standard);
-    double small = seconds("<p>&copy;", 9, &core), small_with = seconds("<p>&copy;", 9, &standard);
-    printf("a page of %zu bytes: %.0f us, with the Standard's lists %.0f; one of 9 bytes: %.0f and %.0f. ", length, without * 1e6, with * 1e6,
-           small * 1e6, small_with * 1e6);
+    printf("a page of %zu bytes: %.0f us, with the Standard's lists %.0f. ", length, without * 1e6, with * 1e6);
     check(with <= 5 * without, "the time of a page with the Standard's lists");
 }
 
-/* That a text is measured, and not made, where it has no room, in 200 MB of memory: 100,000 nested elements, and of half of them the
- * 2.5 GB of indentation. */
-static void check_measured(void) {
-    enum { DEEP = 100000 };
-    struct rlimit most = { 200000000, 200000000 };
+/* Checks what a process of its own answers. */
+static void check_alone(int (*is_right)(void), const char *what) {
     int status;
     fflush(stdout);
-    if (fork() == 0) {
-        static uint8_t page[5 * DEEP];
-        jz_answer answer;
-        for (size_t at = 0; at < sizeof page; at += 5) memcpy(page + at, "<div>", 5);
-        setrlimit(RLIMIT_AS, &most);
-        status = jz_text(JZ_WRITE, page, sizeof page, &options, text, 0, &answer) == JZ_TOO_SHORT && answer.length == 11 * DEEP
-            && jz_text(JZ_TREE, page, sizeof page / 2, &options, text, 0, &answer) == JZ_TOO_SHORT && answer.length > 2500000000;
-        _exit(status ? 0 : 1);
-    }
-    check(wait(&status) > 0 && status == 0, "a text that is measured");
+    if (fork() == 0) _exit(!is_right());
+    check(wait(&status) > 0 && status == 0, what);
 }
 
-/* The kilobytes of memory that are resident. */
+/* A text is measured, and not made, where it has no room, in 200 MB of memory: 100,000 nested elements, and of half of them the 2.5 GB of
+ * indentation. */
+static int is_measured(void) {
+    enum { DEEP = 100000 };
+    static uint8_t page[5 * DEEP];
+    struct rlimit most = { 200000000, 200000000 };
+    jz_answer answer;
+    uint8_t none;
+    for (size_t at = 0; at < sizeof page; at += 5) memcpy(page + at, "<div>", 5);
+    setrlimit(RLIMIT_AS, &most);
+    return jz_text(JZ_WRITE, page, sizeof page, &options, &none, 0, &answer) == JZ_TOO_SHORT && answer.length == 11 * DEEP + strlen("<html><head></head><body></body></html>")
+        && jz_text(JZ_TREE, page, sizeof page / 2, &options, &none, 0, &answer) == JZ_TOO_SHORT && answer.length > 2500000000;
+}
+
+/* The kilobytes of memory that are resident, and the most that were. */
 static long resident(void) {
     long pages = 0;
     FILE *file = fopen("/proc/self/statm", "r");
@@ -661,50 +497,41 @@ static long resident(void) {
     return pages * (sysconf(_SC_PAGESIZE) / 1024);
 }
 
-/* That ten parses of 2 MB need no more than 1.5 times the memory of one, and leave little of it behind. (It wants an untried malloc.) */
-static void check_kept(void) {
-    int status;
-    if (fork() == 0) {
-        static char page[2200000];
-        size_t length = lists_page(page, 18000);
-        long before = resident(), first = 0;
-        struct rusage most;
-        for (int i = 0; i < 10; i++) {
-            made it;
-            if (make(PAGE, page, length, &it) != JZ_OK || getrusage(RUSAGE_SELF, &most)) _exit(1);
-            give_back(PAGE, &it);
-            if (i == 0) first = most.ru_maxrss - before;
-        }
-        dprintf(1, "a page of %zu bytes: one parse takes %ld KB, ten take %ld and keep %ld. ", length, first, most.ru_maxrss - before, resident() - before);
-        _exit(resident() - before > first / 4 || most.ru_maxrss - before > first * 3 / 2);
-    }
-    check(wait(&status) > 0 && status == 0, "the memory of ten parses");
+static long most_resident(void) {
+    struct rusage most;
+    return getrusage(RUSAGE_SELF, &most) ? 1L << 40 : most.ru_maxrss;
 }
 
-/* That the rooms of a tree are told in the memory of its parse, however long its words are: of 128 KB, in which each p has a b with the same
- * long attribute, 1 GB. */
-static void check_counted(void) {
-    int status;
-    if (fork() == 0) {
-        static uint8_t page[131072];
-        size_t at = 0, half = sizeof page / 2;
-        at += (size_t)sprintf((char *)page, "<p><b id=%0*d>", (int)half, 0);
-        for (; at + 4 <= sizeof page; at += 4) memcpy(page + at, "<p>x", 4);
-        long before = resident(), parse;
-        struct rusage most;
-        jz_answer answer;
-        jz_page_answer all;
-        jz_row row;
-        jz_error error;
-        jz_origin origin;
-        status = jz_text(JZ_ERRORS, page, at, &options, text, 0, &answer) == JZ_TOO_SHORT && !getrusage(RUSAGE_SELF, &most);
-        parse = most.ru_maxrss - before;
-        status &= jz_page(JZ_WANT_ERRORS, page, at, &options, &row, 0, text, 0, &error, 0, text, 0, &origin, 0, &all) == JZ_TOO_SHORT;
-        status &= all.words > half * (half / 4 - 64) && !getrusage(RUSAGE_SELF, &most);
-        dprintf(1, "a tree with %ld MB of words: its parse takes %ld KB, its rooms %ld. ", (long)all.words >> 20, parse, most.ru_maxrss - before);
-        _exit(!status || most.ru_maxrss - before > 3 * parse);
+/* Ten parses of 2 MB need no more than 1.5 times the memory of one, and leave little of it behind. (It wants an untried malloc.) */
+static int is_given_back(void) {
+    static char page[2200000];
+    size_t length = lists_page(page, 18000);
+    long before = resident(), first = 0;
+    for (int i = 0; i < 10; i++) {
+        made it;
+        if (make(PAGE, page, length, &it) != JZ_OK) return 0;
+        give_back(PAGE, &it);
+        if (i == 0) first = most_resident() - before;
     }
-    check(wait(&status) > 0 && status == 0, "the memory of a tree whose rooms are told");
+    dprintf(1, "a page of %zu bytes: one parse takes %ld KB, ten take %ld and keep %ld. ", length, first, most_resident() - before, resident() - before);
+    return resident() - before <= first / 4 && most_resident() - before <= first * 3 / 2;
+}
+
+/* The rooms of a tree are told in the memory of its parse, however long its words are: of 128 KB, in which each p has a b with the same long
+ * attribute, 1 GB. */
+static int is_counted(void) {
+    static uint8_t page[131072];
+    size_t at = 0, half = sizeof page / 2;
+    at += (size_t)sprintf((char *)page, "<p><b id=%0*d>", (int)half, 0);
+    for (; at + 4 <= sizeof page; at += 4) memcpy(page + at, "<p>x", 4);
+    long before = resident(), parse;
+    jz_answer answer;
+    uint8_t none;
+    if (jz_text(JZ_ERRORS, page, at, &options, &none, 0, &answer) != JZ_TOO_SHORT) return 0;
+    parse = most_resident() - before;
+    if (jz_tree_rooms(page, at, &options, &answer) != JZ_OK || answer.length <= half * (half / 4 - 64)) return 0;
+    dprintf(1, "a tree with %ld MB of words: its parse takes %ld KB, its rooms %ld. ", (long)answer.length >> 20, parse, most_resident() - before);
+    return most_resident() - before <= 3 * parse;
 }
 
 enum { NESTED = 100000, THREADS = 4 };
@@ -725,9 +552,10 @@ static void check_threads(void) {
     for (size_t at = 0; at < sizeof nested; at += 5) memcpy(nested + at, "<div>", 5);
     for (int i = 0; i < THREADS; i++) is_right &= !pthread_create(&threads[i], &small, make_nested, &its[i]);
     for (int i = 0; i < THREADS; i++) is_right &= !pthread_join(threads[i], NULL);
-    for (int i = 0; i < THREADS; i++)
+    for (int i = 0; i < THREADS; i++) {
         is_right &= its[i].page.status == JZ_OK && its[i].page.text == 11 * NESTED && !memcmp(its[i].html, its[0].html, 11 * NESTED)
             && its[i].doc.count == NESTED + its[i].doc.root + 1;
+    }
     check(is_right, "threads that share an input and options");
     for (int i = 0; i < THREADS; i++) give_back(PAGE, &its[i]);
     pthread_attr_destroy(&small);
@@ -736,10 +564,9 @@ static void check_threads(void) {
 /* Each function once, for valgrind. */
 static int call_once(size_t length) {
     for (uint32_t task = 0; task < ALL; task++) {
-        jz_answer answer;
         made it;
         set_context(task);
-        check(call(task, length, &answer) == JZ_OK && make(task, input, length, &it) == JZ_OK, "a call");
+        check(make(task, input, length, &it) == JZ_OK, "a call");
         give_back(task, &it);
     }
     check_feeders();
@@ -754,13 +581,13 @@ int main(int count, char **words) {
     size_t length = fread(input, 1, ROOM, file);
     fclose(file);
     if (count > 2) return call_once(length);
-    check_kept();
-    check_counted();
+    check_alone(is_given_back, "the memory of ten parses");
+    check_alone(is_counted, "the memory of a tree whose rooms are told");
+    check_alone(is_measured, "a text that is measured");
     memset(long_text, 'x', sizeof long_text);
     for (uint32_t task = 0; task < ALL; task++) {
         set_context(task);
-        check_refused(task, length);
-        check_made(task, length);
+        check_refused(task, input, length);
         if (task == TABLE) continue;
         check_rooms(task, (const char *)input, length);
         check_rooms(task, long_text, sizeof long_text);
@@ -768,22 +595,21 @@ int main(int count, char **words) {
         check_rooms(task, "a<svg>", 6);
         check_rooms(task, "\xff", 1);
     }
-    check_errors(length);
-    check_origins(length);
-    check_sizes(length);
     set_context(TREE);
+    check_refused(FED, long_text, lists_page(long_text, 150));
     check_pieces(input, length);
     check_pieces("", 0);
     check_pieces("a<svg>", 6);
     check_pieces("\xff", 1);
-    check_fed();
     check_feeders();
+    check_sizes(length);
+    check_places();
     check_threads();
     check_file(words[1], length);
     check_nulls();
     check_keys();
+    check_core();
     check_lists();
-    check_measured();
     check_parses();
     check_attributes();
     check_none();

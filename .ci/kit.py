@@ -4,6 +4,7 @@ import importlib.machinery
 import importlib.util
 import os
 import re
+import shutil
 import subprocess
 import sys
 
@@ -68,22 +69,42 @@ def write(path, content):
     return path
 
 
+def renew(path, renewed):
+    """Renews a page by what a function makes of it; with the word --check it only says whether the page is new."""
+    words, page = sys.argv[1:], text(path)
+    if words not in ([], ["--check"]):
+        usage()
+    new = renewed(page)
+    if words and new != page:
+        sys.exit(f"{os.path.relpath(path, ROOT)} is not what {os.path.relpath(os.path.realpath(sys.argv[0]), ROOT)} makes")
+    if not words:
+        write(path, new)
+
+
+def linked(one, other):
+    """Gives a file a second name, where that can be."""
+    try:
+        os.link(one, other)
+    except OSError:
+        shutil.copy2(one, other)
+
+
 def ran(words, **how):
     """The status of a run and what it writes, also on standard error where it fails; 127 where there is no such program, None where it is late."""
     try:
-        it = subprocess.run(words, capture_output=True, **how)
+        it = subprocess.run(words, **{"stdout": subprocess.PIPE, "stderr": subprocess.PIPE, **how})
     except subprocess.TimeoutExpired as late:
         return None, f"not in {late.timeout} s"
     except OSError as error:
         return 127, str(error)
-    return it.returncode, (it.stdout + it.stderr if it.returncode else it.stdout).decode()
+    return it.returncode, (it.stdout + (it.stderr or b"") if it.returncode else it.stdout).decode()
 
 
-def instructions(program, words, profile="/dev/null"):
-    """The instructions that a program takes for these words (valgrind's callgrind, which no load changes)."""
+def instructions(program, words, profile="/dev/null", input=b""):
+    """The instructions that a program takes for these words and this input (valgrind's callgrind, which no load changes)."""
     words = ["valgrind", "--tool=callgrind", f"--callgrind-out-file={profile}", program, *words]
-    said = subprocess.run(words, stdin=subprocess.DEVNULL, stdout=subprocess.DEVNULL, stderr=subprocess.PIPE, text=True, check=False).stderr
-    return int(re.search(r"Collected : (\d+)", said)[1])
+    said = subprocess.run(words, input=input, stdout=subprocess.DEVNULL, stderr=subprocess.PIPE, check=False).stderr
+    return int(re.search(rb"Collected : (\d+)", said)[1])
 
 
 def loaded(path):

@@ -1,6 +1,5 @@
-//! What each call has at hand: a tree, names, and the answers.
+//! What each call has at hand: a tree and names.
 
-use crate::answers::Answers;
 use hnodes::{NodeId, Tree};
 use hopen::Open;
 use names::{Attr, Keys, NameId, Names};
@@ -9,23 +8,21 @@ use std::alloc::{AllocError, Global};
 /// The place of the token that each call is made for, if a refusal names it.
 pub const PLACE: u64 = 7;
 
-/// A tree, whose nodes words name by their numbers, the names, and the answers.
+/// A tree, whose nodes calls name by their numbers, and the names.
 #[derive(Drop)]
 pub struct Hand {
     pub alloc: Global,
     pub tree: Tree,
     pub names: Names,
-    pub out: Answers,
 }
 
 impl Hand {
-    /// The document alone, and no answers.
+    /// The document alone.
     pub fn new(alloc: Global) -> Result<Self, AllocError> {
         Ok(Hand {
             alloc,
             tree: Tree::new(alloc, 1)?,
             names: Names::new(alloc, Keys::for_tests()),
-            out: Answers::new(alloc)?,
         })
     }
 

@@ -7,14 +7,14 @@ use hopen::{Formatting, Open};
 use names::{Attr, Refusal};
 use std::alloc::AllocError;
 
-/// Makes one of many calls. Whether the entry that it is of is then found, or is not.
-pub fn call_one(
+/// Makes a call. Whether the entry that it is of is then found, or is not.
+pub fn call(
     list: &mut Formatting,
     hand: &mut Hand,
     line: &str,
     turn: usize,
 ) -> Result<bool, Refusal> {
-    match word(line, 2) {
+    match word(line, 1) {
         "marker" => list.marker()?,
         "clear" => list.clear(),
         "get" => {
@@ -29,11 +29,11 @@ pub fn call_one(
 
 /// Pushes an entry.
 fn push(list: &mut Formatting, hand: &mut Hand, line: &str, turn: usize) -> Result<bool, Refusal> {
-    let named = word(line, 2) == "push";
+    let named = word(line, 1) == "push";
     let Open { node, name } = hand.open(turn, if named { turn } else { 0 })?;
-    let attrs = match word(line, 2) {
+    let attrs = match word(line, 1) {
         "alike" => alike(hand, turn)?,
-        "wide" => attrs(&mut hand.names, hand.alloc, number(line, 4), turn)?,
+        "wide" => attrs(&mut hand.names, hand.alloc, number(line, 3), turn)?,
         _ => Vec::new(hand.alloc),
     };
     list.push(node, name, Attributes::new(attrs, hand.alloc)?)?;
@@ -53,10 +53,10 @@ fn alike(hand: &mut Hand, turn: usize) -> Result<Vec<Attr>, AllocError> {
 
 /// Takes out the entry of a node, or gives it to another: the numbers of the first nodes are in the line.
 fn edit(list: &mut Formatting, hand: &mut Hand, line: &str, turn: usize) -> Result<bool, Refusal> {
-    let from = number(line, 4).saturating_add(turn);
+    let from = number(line, 3).saturating_add(turn);
     let Open { node, name } = hand.open(from, from)?;
-    let to = hand.node(number(line, 5).saturating_add(turn));
-    let replaced = word(line, 2) == "replace";
+    let to = hand.node(number(line, 4).saturating_add(turn));
+    let replaced = word(line, 1) == "replace";
     if replaced {
         list.replace(node, to);
     } else {

@@ -1,4 +1,4 @@
-//! Names, tables of references and quirks lists that are made by number.
+//! Names, tables of references, quirks lists and sites that are made by number.
 
 use crate::hand::{Hand, name};
 use charref::Table;
@@ -42,14 +42,6 @@ pub fn is_longest(alloc: Global, table: &Table, number: usize) -> Result<bool, R
     })
 }
 
-/// How many errors a new site has.
-pub fn errors(alloc: Global) -> Result<usize, Refusal> {
-    let site = Site::new(alloc, Keys::for_tests(), 1, 1)?;
-    let count = site.errors().len();
-    drop(site);
-    Ok(count)
-}
-
 /// A quirks list of so many lines.
 pub fn quirks(alloc: Global, count: usize) -> Result<Quirks, Refusal> {
     let mut text = String::new(alloc);
@@ -57,4 +49,12 @@ pub fn quirks(alloc: Global, count: usize) -> Result<Quirks, Refusal> {
         write!(text, "public-is {number}\n")?;
     }
     Quirks::read(alloc, &text)
+}
+
+/// Whether a new site has no errors.
+pub fn has_no_errors(alloc: Global) -> Result<bool, Refusal> {
+    let site = Site::new(alloc, Keys::for_tests(), 1, 1)?;
+    let count = site.errors().len();
+    drop(site);
+    Ok(count == 0)
 }

@@ -1,22 +1,18 @@
-//! Makes the calls of a script, one a line, and prints a line for each: what it answers, `ok` where it answers nothing, `refused` and
-//! why where it is refused, and `-` where there is no such call. A line `many` makes a call again and again, and answers how often all was
-//! as it should be after it. Lines that are empty or begin with `#` are skipped. `model_runs tree FILE` counts what is in a file, in pieces
-//! of 65,536 bytes, without printing it.
+//! Makes the calls of a script. A line has a structure, a call of it, and how often it is made; its answer is a line: how often all was as
+//! it should be after it, or `refused` and why. The file stdin says what the calls are.
 //!
 //! What the calls are made on, and the room for the answers, is there before the script is read. So after its end memory is asked for by
-//! its calls alone, unless the answers are longer than that room.
+//! its calls alone.
 #![tactic(auto)]
 
-mod answers;
-mod engine;
 mod hand;
 mod list;
 mod made;
+mod page;
 mod stack;
 mod tree;
 mod words;
 
-use crate::engine::print_count;
 use crate::hand::Hand;
 use crate::words::{after, number, word};
 use charref::Table;
@@ -24,35 +20,29 @@ use hmarkup::Quirks;
 use hopen::{Formatting, OpenStack};
 use names::{Keys, Refusal};
 use std::alloc::{AllocError, Global};
-use std::{env, io};
+use std::io;
 
 /// How many elements may be open.
 const MOST_OPEN: u32 = 1 << 20;
+/// How many bytes of answers need no more memory.
+const ROOM: usize = 1 << 14;
 
 fn main(rt: HostRuntime) -> io::Result<()> {
-    match env::args(&rt)?.nth(2) {
-        Some(name) => print_count(&rt, &name),
-        None => run_script(&rt),
-    }
-}
-
-/// Makes the calls of the script.
-fn run_script(rt: &HostRuntime) -> io::Result<()> {
     let mut structures = Structures::new(rt.alloc()).map_err(|_| AllocError)?;
-    let done = read(rt, &mut structures);
+    let done = run(&rt, &mut structures);
     drop(structures);
     done
 }
 
 /// Reads the script, makes its calls, and prints what they answer.
-fn read(rt: &HostRuntime, structures: &mut Structures) -> io::Result<()> {
+fn run(rt: &HostRuntime, structures: &mut Structures) -> io::Result<()> {
+    let mut answers = String::with_capacity(rt.alloc(), ROOM)?;
     let script = io::read_to_string(rt.alloc(), rt.reader())?;
-    structures.play(&script);
-    rt.print(structures.hand.out.lines()?)
+    structures.play(&script, &mut answers)?;
+    rt.print(&answers)
 }
 
-/// A stack of open elements, a list of active formatting elements, a table of references, a quirks list, and a tree, names and answers for
-/// all calls.
+/// A stack of open elements, a list of active formatting elements, a table of references, a quirks list, and a tree and names for all calls.
 #[derive(Drop)]
 struct Structures {
     hand: Hand,
@@ -75,29 +65,28 @@ impl Structures {
         })
     }
 
-    /// Makes the call of each line.
-    fn play(&mut self, script: &str) {
+    /// Makes the calls of each line.
+    fn play(&mut self, script: &str, answers: &mut String) -> Result<(), AllocError> {
         for line in script.lines() {
             if !line.is_empty() && !line.starts_with('#') {
-                let answer = match word(line, 0) {
-                    "many" => self.many(line),
-                    _ => self.call_again(line, 0).map(|_| ()),
-                };
-                self.hand.out.end(answer);
+                match self.calls(line) {
+                    Ok(right) => write!(answers, "{right}\n")?,
+                    Err(refusal) => write!(answers, "refused {refusal}\n")?,
+                }
             }
         }
+        Ok(())
     }
 
-    /// Makes a call as often as a line says, and says how often all was as it should be after it.
-    fn many(&mut self, line: &str) -> Result<(), Refusal> {
+    /// Makes a call as often as a line says. How often all was as it should be after it.
+    fn calls(&mut self, line: &str) -> Result<usize, Refusal> {
         let mut right = 0usize;
-        for turn in 0..number(line, 3) {
+        for turn in 0..number(line, 2) {
             if self.call_again(line, turn)? {
                 right = right.saturating_add(1);
             }
         }
-        self.hand.out.number(right);
-        Ok(())
+        Ok(right)
     }
 
     /// Makes a call, and makes it again where memory was refused: the call that failed has changed nothing.
@@ -108,52 +97,31 @@ impl Structures {
         }
     }
 
-    /// Makes a call. Of one of many, whether all is as it should be after it.
+    /// Makes a call. Whether all is as it should be after it.
     fn call(&mut self, line: &str, turn: usize) -> Result<bool, Refusal> {
-        match word(line, 0) {
-            "many" => self.call_one(line, turn),
-            "tree" => tree::call(&mut self.hand, line).map(|()| true),
-            _ => self.call_text(line).map(|()| true),
-        }
-    }
-
-    /// Makes one of many calls.
-    fn call_one(&mut self, line: &str, turn: usize) -> Result<bool, Refusal> {
         let hand = &mut self.hand;
-        match word(line, 1) {
-            "tree" => tree::call_one(hand, word(line, 2), turn),
-            "stack" => stack::call_one(&mut self.stack, hand, word(line, 2), turn),
-            "list" => list::call_one(&mut self.list, hand, line, turn),
+        match word(line, 0) {
+            "tree" => tree::call(hand, line, turn),
+            "stack" => stack::call(&mut self.stack, hand, word(line, 1), turn),
+            "list" => list::call(&mut self.list, hand, line, turn),
             "names" => made::intern(hand, turn),
-            "table" => made::is_longest(hand.alloc, &self.table, turn),
-            _ => Ok(false),
+            _ => self.call_text(line, turn),
         }
     }
 
-    /// Reads a table or a quirks list that is made by number, or a long page.
-    fn call_text(&mut self, line: &str) -> Result<(), Refusal> {
-        let hand = &mut self.hand;
+    /// Reads a table or a quirks list, or a page by them, or looks a key up.
+    fn call_text(&mut self, line: &str, turn: usize) -> Result<bool, Refusal> {
+        let alloc = self.hand.alloc;
         match word(line, 0) {
-            "table" => self.table = made::table(hand.alloc, number(line, 1))?,
-            "quirks" => self.quirks = made::quirks(hand.alloc, number(line, 1))?,
-            "page" => return engine::say_page(hand, &self.table, &self.quirks, line),
-            "site" => hand.out.number(made::errors(hand.alloc)?),
-            _ => return self.call_engine(line),
+            "table" => self.table = made::table(alloc, number(line, 3))?,
+            "quirks" => self.quirks = made::quirks(alloc, number(line, 3))?,
+            "key" => return made::is_longest(alloc, &self.table, turn),
+            "page" => return page::is_so(alloc, &self.table, &self.quirks, line),
+            "tokens" => {
+                return page::has_tokens(alloc, &self.table, &self.quirks, after(line, 3));
+            }
+            _ => return made::has_no_errors(alloc),
         }
-        Ok(())
-    }
-
-    /// Runs the engine, or reads a list for it.
-    fn call_engine(&mut self, line: &str) -> Result<(), Refusal> {
-        let hand = &mut self.hand;
-        let alloc = hand.alloc;
-        match word(line, 0) {
-            "core" => self.table = Table::core(alloc)?,
-            "entities" => self.table = Table::read(alloc, after(line, 1))?,
-            "doctypes" => self.quirks = Quirks::read(alloc, &words::text(alloc, word(line, 1))?)?,
-            "run" => return engine::call(hand, &self.table, &self.quirks, line),
-            _ => hand.out.say("-"),
-        }
-        Ok(())
+        Ok(true)
     }
 }

@@ -4,8 +4,8 @@ use crate::hand::{Hand, PLACE};
 use hopen::{Group, Open, OpenStack, Scope};
 use names::Refusal;
 
-/// Makes one of many calls. Whether the topmost node is then found, and no heading.
-pub fn call_one(
+/// Makes a call. Whether the topmost node is then found, and no heading.
+pub fn call(
     stack: &mut OpenStack,
     hand: &mut Hand,
     call: &str,
