@@ -59,23 +59,27 @@ impl TokenSink for Taken {
     ghost gives_token = { λ _ _ _ _. Unit {0} };
 
     fn take_token(&mut self, token: Token) -> Result<(), Refusal> {
-        let letter = match &token {
-            Token::Doctype { .. } => 'D',
-            Token::Start { .. } => 'S',
-            Token::End { .. } => 'E',
-            Token::Comment { .. } => 'C',
-            Token::Char { ch, .. } => *ch,
-            Token::Eof { .. } => '.',
-        };
-        self.add(letter)
+        self.add(letter(&token))
     }
 
-    fn take_tag(&mut self, token: Token, _names: &Names) -> Result<(), Refusal> {
-        self.take_token(token)
+    fn take_tag(&mut self, token: &mut Token, _names: &Names) -> Result<(), Refusal> {
+        self.add(letter(token))
     }
 
     fn take_text(&mut self, ch: char, _at: u64) -> Result<(), Refusal> {
         self.add(ch)
+    }
+}
+
+/// The letter of a token.
+fn letter(token: &Token) -> char {
+    match token {
+        Token::Doctype { .. } => 'D',
+        Token::Start { .. } => 'S',
+        Token::End { .. } => 'E',
+        Token::Comment { .. } => 'C',
+        Token::Char { ch, .. } => *ch,
+        Token::Eof { .. } => '.',
     }
 }
 

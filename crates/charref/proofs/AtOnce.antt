@@ -9,9 +9,9 @@ use Rattle.std.specs.Option.{IsNone, MatchOption}
 use Rattle.std.specs.Char.{len_utf8}
 use Rattle.charref.specs.Walk.{TakesCharacter}
 use Rattle.charref.specs.AtOnce.{HasWhole}
-use Rattle.charref.proofs.Keys.{longest-whole, longest-over, no_longer}
+use Rattle.charref.proofs.Keys.{longest-whole, longest-over, no_longer, begins_itself, begins_later, in_order, whole as whole_key}
 use Rattle.charref.proofs.Core.{once}
-use Rattle.charref.proofs.Naming.{is_key_of, key_of}
+use Rattle.charref.proofs.Naming.{is_key_of, key_of, key_opens, Opens}
 use Rattle.charref.proofs.Ranges.{within}
 use Rattle.charref.proofs.Searching.{read_ampersand}
 use Rattle.charref.proofs.Fronts.{run_more}
@@ -151,6 +151,21 @@ closed_over table text is_table closed = record {
     | inr most ↦ most
   ];
 }
+
+-- so it is with a key of the table
+key_closed_over : (table : Entities) (k : ℕ) (e : Entry) → IsTable table → slice_get table k ≡ Some e → ends_in_semicolon e.key ≡ true → IsOver table e.key
+key_closed_over table k e is_table stands closed =
+    let opens : Opens e.key = key_opens e.key (is_key_of table k e is_table stands) in
+    let is : key_bytes (placed 0 (opens.first ∷ opens.others)) ≡ e.key = ap (λ cs. 38 ∷ cs) (characters-placed 0 (opens.first ∷ opens.others)) ∙ sym opens.is in
+    subst (IsOver table) is (closed_over table (placed 0 (opens.first ∷ opens.others)) is_table (subst (λ xs. ends_in_semicolon xs ≡ true) (sym is) closed))
+
+-- and no other key begins with it
+pub closed_alone : (table : Entities) (k : ℕ) (e f : Entry) → IsSortedTable table → slice_get table k ≡ Some e → slice_get table (k + 1) ≡ Some f → ends_in_semicolon e.key ≡ true → starts_with nat_eq f.key e.key ≡ true → ⊥
+closed_alone table k e f sorted at next closed opens =
+    let most : length f.key ≤ length e.key = (key_closed_over table k e sorted.is_table at closed).no_more (k + 1) f next opens in
+    let least : length e.key ≤ length f.key = no_longer f.key e.key opens in
+    let same : e.key ≡ f.key = whole_key f.key e.key opens (omega arith) in
+    begins_later e.key f.key (subst (λ xs. starts_with nat_eq e.key xs ≡ true) same (begins_itself e.key)) (in_order table sorted.sorted k (k + 1) e f at next (omega arith))
 
 -- so what it stands for comes, whatever follows
 abbrev whole : Characters → Reference

@@ -1,8 +1,9 @@
 -- Whether bytes begin with a name, seen 16 at a time through the mask of those that differ.
-use Rattle.charref.proofs.Names.{◌≡◌, ℕ, zero, suc, ◌+◌, ◌-◌, ◌≤◌, ◌<◌, Bool, true, false, not, cond, ◌&&◌, nat_eq, nat_le, List, [], ◌∷◌, map, length, take, drop, refl, sym, ap, ◌∙◌, arith, starts_with, nat_tests, take_rest, drop-drop}
+use Rattle.charref.proofs.Names.{◌≡◌, ℕ, zero, suc, ◌+◌, ◌-◌, ◌≤◌, ◌<◌, Bool, true, false, not, cond, ◌&&◌, nat_eq, nat_le, List, [], ◌∷◌, map, length, take, drop, refl, sym, ap, ◌∙◌, arith, starts_with, nat_tests, take_rest, drop-drop, nat_lt, get_or, is_lt, slice_cmp, nat_cmp, false≢true, min}
 use Rattle.std.proofs.Common.{w8, ◌^◌, ◌%◌}
 use Rattle.std.specs.List.{prefix_len, slice_range}
 use Rattle.std.proofs.lemmas.Simd.{first_set_mask_l, length-zip2, tops_compared, mask_l-mod, length-chunk}
+use Rattle.std.proofs.lemmas.List.Sums.{prefix_len-le-length}
 use lib.Count.{count_trailing_zeros}
 use lib.Lanes.{zip2, mask_l, top}
 
@@ -49,6 +50,67 @@ module _ (n : ℕ) (xs ys : List ℕ) (few : n ≤ 16) (long_x : 16 ≤ length x
 
   pub first_differs : nat_eq (mask_of xs ys) 0 ≡ false → starts_with nat_eq xs (take n ys) ≡ nat_le n (count_trailing_zeros 64 (mask_of xs ys))
   first_differs some = starts ∙ ap (λ (b : Bool). nat_le n (cond b 16 (count_trailing_zeros 64 (mask_of xs ys)))) some
+
+-- WHICH KEY IS BEFORE THE OTHER
+
+-- how many bytes are the same, of so many
+abbrev pub same_bytes : ℕ → List ℕ → List ℕ → ℕ
+same_bytes k xs ys = prefix_len (λ b. not b) (zip2 differs (take k xs) (take k ys))
+
+-- whether a key of n bytes is before one of m bytes, where the bytes after them differ first at a place
+abbrev pub is_earlier : ℕ → ℕ → ℕ → List ℕ → List ℕ → Bool
+is_earlier place n m xs ys = cond (nat_lt place n && nat_lt place m) (nat_lt (get_or xs place 0) (get_or ys place 0)) (nat_lt n m)
+
+order_lanes : (k n m : ℕ) (xs ys : List ℕ) → k ≤ length xs → k ≤ length ys → same_bytes k xs ys < k → is_lt (slice_cmp nat_cmp (take n xs) (take m ys)) ≡ is_earlier (same_bytes k xs ys) n m xs ys
+order_lanes zero n m xs ys long_x long_y apart = absurd (omega (arith, apart))
+order_lanes (suc k) n m [] ys long_x long_y apart = absurd (omega arith)
+order_lanes (suc k) n m (x ∷ xs) [] long_x long_y apart = absurd (omega arith)
+order_lanes (suc k) zero zero (x ∷ xs) (y ∷ ys) long_x long_y apart = grind (arith, nat_tests)
+order_lanes (suc k) zero (suc m) (x ∷ xs) (y ∷ ys) long_x long_y apart = grind (arith, nat_tests)
+order_lanes (suc k) (suc n) zero (x ∷ xs) (y ∷ ys) long_x long_y apart = grind (arith, nat_tests)
+order_lanes (suc k) (suc n) (suc m) (x ∷ xs) (y ∷ ys) long_x long_y apart = by (nat_eq x y) refl apart (order_lanes k n m xs ys (omega arith) (omega arith))
+  where
+    by : (b : Bool) → nat_eq x y ≡ b → same_bytes (suc k) (x ∷ xs) (y ∷ ys) < suc k → (same_bytes k xs ys < k → is_lt (slice_cmp nat_cmp (take n xs) (take m ys)) ≡ is_earlier (same_bytes k xs ys) n m xs ys)
+        → is_lt (slice_cmp nat_cmp (take (suc n) (x ∷ xs)) (take (suc m) (y ∷ ys))) ≡ is_earlier (same_bytes (suc k) (x ∷ xs) (y ∷ ys)) (suc n) (suc m) (x ∷ xs) (y ∷ ys)
+    by true e within others =
+        let next : same_bytes (suc k) (x ∷ xs) (y ∷ ys) ≡ suc (same_bytes k xs ys) = grind (arith, nat_tests, e) in
+        let less : same_bytes k xs ys < k = omega (arith, next, within) in
+        let later = others less in
+        rw next (grind (arith, nat_tests, later, e))
+    by false e within others =
+        let here : same_bytes (suc k) (x ∷ xs) (y ∷ ys) ≡ 0 = grind (arith, nat_tests, e) in
+        rw here (grind (arith, nat_tests, e))
+
+none_set : (bs : List Bool) → prefix_len (λ b. not b) bs ≡ length bs → mask_l bs ≡ 0
+none_set [] all = refl
+none_set (true ∷ bs) all = absurd (omega (arith, all))
+none_set (false ∷ bs) all = let others : mask_l bs ≡ 0 = none_set bs (omega (arith, all)) in omega (arith, others)
+
+order_at_once : (n m : ℕ) (xs ys : List ℕ) → 16 ≤ length xs → 16 ≤ length ys → nat_eq (mask_of xs ys) 0 ≡ false
+    → is_lt (slice_cmp nat_cmp (take n xs) (take m ys)) ≡ is_earlier (count_trailing_zeros 64 (mask_of xs ys)) n m xs ys
+order_at_once n m xs ys long_x long_y some =
+    let place : count_trailing_zeros 64 (mask_of xs ys) ≡ same_bytes 16 xs ys = ap (λ (b : Bool). cond b 16 (count_trailing_zeros 64 (mask_of xs ys))) (sym some) ∙ alike 16 xs ys (omega arith) long_x long_y in
+    let size : length (lanes 16 xs ys (omega arith) long_x long_y) ≡ 16 = long 16 xs ys (omega arith) long_x long_y in
+    let most : same_bytes 16 xs ys ≤ length (zip2 differs (take 16 xs) (take 16 ys)) = prefix_len-le-length (λ b. not b) (zip2 differs (take 16 xs) (take 16 ys)) in
+    let one : same_bytes 16 xs ys ≡ 16 → ⊥ = λ (all : same_bytes 16 xs ys ≡ 16).
+    (let none : mask_of xs ys ≡ 0 = mask_is 16 xs ys (omega arith) long_x long_y ∙ ap mask_l (as_it_is (zip2 differs (take 16 xs) (take 16 ys))) ∙ none_set (zip2 differs (take 16 xs) (take 16 ys)) (all ∙ sym size) in
+    false≢true (sym some ∙ ap (λ (m : ℕ). nat_eq m 0) none)) in
+    let within : same_bytes 16 xs ys < 16 = omega (arith, one, most, size) in
+    order_lanes 16 n m xs ys long_x long_y within ∙ ap (λ d. is_earlier d n m xs ys) (sym place)
+
+pub order_by_byte : (n m : ℕ) (xs ys : List ℕ) → 16 ≤ length xs → 16 ≤ length ys → nat_eq (mask_of xs ys) 0 ≡ false → count_trailing_zeros 64 (mask_of xs ys) < n → count_trailing_zeros 64 (mask_of xs ys) < m
+    → nat_lt (get_or xs (count_trailing_zeros 64 (mask_of xs ys)) 0) (get_or ys (count_trailing_zeros 64 (mask_of xs ys)) 0) ≡ is_lt (slice_cmp nat_cmp (take n xs) (take m ys))
+order_by_byte n m xs ys long_x long_y some in_x in_y = sym (order_at_once n m xs ys long_x long_y some ∙ by (count_trailing_zeros 64 (mask_of xs ys)) in_x in_y)
+  where
+    by : (place : ℕ) → place < n → place < m → is_earlier place n m xs ys ≡ nat_lt (get_or xs place 0) (get_or ys place 0)
+    by place p q = grind (arith, nat_tests, p, q)
+
+pub order_by_size : (n m : ℕ) (xs ys : List ℕ) → 16 ≤ length xs → 16 ≤ length ys → nat_eq (mask_of xs ys) 0 ≡ false → min n m ≤ count_trailing_zeros 64 (mask_of xs ys)
+    → nat_lt n m ≡ is_lt (slice_cmp nat_cmp (take n xs) (take m ys))
+order_by_size n m xs ys long_x long_y some past = sym (order_at_once n m xs ys long_x long_y some ∙ by (count_trailing_zeros 64 (mask_of xs ys)) past)
+  where
+    by : (place : ℕ) → min n m ≤ place → is_earlier place n m xs ys ≡ nat_lt n m
+    by place p = grind (arith, nat_tests, p)
 
 -- a name is begun with where its front is, and then its rest
 pub starts_both : (n : ℕ) (xs ys : List ℕ) → starts_with nat_eq xs ys ≡ (starts_with nat_eq xs (take n ys) && starts_with nat_eq (drop n xs) (drop n ys))

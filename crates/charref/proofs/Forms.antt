@@ -1,5 +1,5 @@
 -- A flat form is of one table only.
-use Rattle.charref.proofs.Names.{arith, ◌≡◌, ℕ, ◌≤◌, ◌<◌, Bool, true, not, ◌&&◌, ◌||◌, nat_lt, nat_le, nat_eq, ◌==◌, List, [], ◌∷◌, ◌++◌, length, Result, Ok, Err, inl, inr, refl, sym, ap, ◌∙◌, subst, append_assoc, and_parts, and_from, nat_tests, append-nil, list_all, flat_map, is_alphanumeric, Refusal, TableFault, Memory, Entry, Entities, is_key, is_key_name, is_character, IsRefusedWith, is_one_or_two, flat_character, flat_characters, flat_entry, flat_of, IsReadable, is_count, is_table_entry}
+use Rattle.charref.proofs.Names.{arith, ◌≡◌, ℕ, ◌≤◌, ◌<◌, Bool, true, not, ◌&&◌, ◌||◌, nat_lt, nat_le, nat_eq, ◌==◌, List, [], ◌∷◌, ◌++◌, length, Result, Ok, Err, inl, inr, refl, sym, ap, ◌∙◌, subst, append_assoc, and_parts, and_from, nat_tests, append-nil, list_all, flat_map, is_alphanumeric, Refusal, TableFault, Memory, Entry, Entities, is_key, is_key_name, is_character, IsRefusedWith, is_one_or_two, flat_character, flat_characters, flat_entry, flat_of, IsReadable, is_count, is_table_entry, BeginsWith, drop, numbers_in, characters_in}
 use Rattle.std.proofs.Common.{◌^◌, IfOk, IfErr}
 use Rattle.std.proofs.lemmas.Nat.{from_le_bytes-to_le_bytes_4}
 use Rattle.std.proofs.lemmas.List.Concat.{flat_map-append}
@@ -35,6 +35,17 @@ same_characters (c ∷ cs) (d ∷ ds) r s p q size is =
     let first : c ≡ d = one_character c d (and_parts _ _ p).0 (and_parts _ _ q).0 four.0 in
     let others : (cs ≡ ds) × (r ≡ s) = same_characters cs ds r s (and_parts _ _ p).1 (and_parts _ _ q).1 (omega arith) four.1 in
     ((λ i. first i ∷ others.0 i), others.1)
+
+-- what four bytes each are read as
+decoded : (cs rest : List ℕ) → list_all is_character cs ≡ true → numbers_in (length cs) (flat_map flat_character cs ++ rest) ≡ cs
+decoded [] rest is = refl
+decoded (c ∷ cs) rest is =
+    let first : from_le_bytes w32 (flat_character c) ≡ c = from_le_bytes-to_le_bytes_4 c (small c (and_parts (is_character c) _ is).0) in
+    let others : numbers_in (length cs) (flat_map flat_character cs ++ rest) ≡ cs = decoded cs rest (and_parts (is_character c) _ is).1 in
+    ((λ i. first i ∷ others i))
+
+pub read_characters : (cs bytes : List ℕ) (n : ℕ) → is_one_or_two cs ≡ true → BeginsWith (flat_characters cs) bytes n → characters_in bytes ≡ cs
+read_characters cs bytes n is begins = ap characters_in begins.is ∙ decoded cs (drop n bytes) (and_parts _ (list_all is_character cs) is).1
 
 pub counted : (cs : List ℕ) → is_one_or_two cs ≡ true → is_count (length cs) ≡ true
 counted cs is = let few : (nat_eq (length cs) 1 || nat_eq (length cs) 2) ≡ true = (and_parts _ (list_all is_character cs) is).0 in grind (arith, nat_tests)

@@ -1,9 +1,9 @@
 -- The names and keys that bytes begin with.
-use Rattle.charref.proofs.Names.{arith, ◌≡◌, ℕ, zero, suc, ◌+◌, ◌<◌, ◌⊎◌, inl, inr, Bool, true, false, true≢false, nat_eq, ◌||◌, bytes_eq, codes, List, [], ◌∷◌, ◌++◌, length, take, slice_get, get_or, Some, slice_get-get_or, refl, sym, ◌∙◌, subst, and_parts, and_from, agree_below_at, nat_tests, append-nil, take_more, ap, list_all, slice_index, is_alphanumeric, ALPHANUMERICS, is_key, is_key_name, is_empty_list, passes_byte, is_count, IsCounted, HasNoCounted}
+use Rattle.charref.proofs.Names.{arith, ◌≡◌, ℕ, zero, suc, ◌+◌, ◌≤◌, ◌<◌, ◌⊎◌, inl, inr, Bool, true, false, true≢false, nat_eq, ◌==◌, ◌||◌, bytes_eq, codes, List, [], ◌∷◌, ◌++◌, length, take, drop, slice_get, get_or, take-append-drop, Some, slice_get-get_or, refl, sym, ◌∙◌, subst, and_parts, and_from, agree_below_at, nat_tests, append-nil, take_more, ap, list_all, slice_index, is_alphanumeric, ALPHANUMERICS, is_key, is_key_name, is_empty_list, passes_byte, is_count, IsCounted, HasNoCounted}
 use Rattle.std.proofs.Math.Bool.{or-true}
 use Rattle.std.specs.List.{prefix_len}
 use Rattle.std.specs.Prelude.{cond}
-use Rattle.std.proofs.lemmas.List.{length-take-le}
+use Rattle.std.proofs.lemmas.List.{length-take-le, take-append-le}
 use Rattle.std.proofs.lemmas.List.Folds.{list_all_more}
 use Rattle.charref.specs.Front.{is_semicolon}
 use Rattle.charref.proofs.Extending.{follows, ends, closes, continues}
@@ -74,20 +74,53 @@ run_name (c ∷ d ∷ ds) tail some run last =
     let others : is_key_name (d ∷ ds ++ tail) ≡ true = run_name (d ∷ ds) tail (omega arith) (and_parts (is_alphanumeric c) _ run).1 last in
     and_from (is_alphanumeric c) _ (and_parts (is_alphanumeric c) _ run).0 (ap (λ b. bytes_eq (d ∷ ds ++ tail) (codes ";") || b) others ∙ or-true (bytes_eq (d ∷ ds ++ tail) (codes ";")))
 
+pub is_run_name : (bytes : List ℕ) (end : ℕ) → 0 < end → end ≤ length bytes → list_all is_alphanumeric (take end bytes) ≡ true → is_key_name (take end bytes) ≡ true
+is_run_name bytes end some within run =
+    let size : length (take end bytes) ≡ end = length-take-le end bytes within in
+    subst (λ xs. is_key_name xs ≡ true) (append-nil (take end bytes)) (run_name (take end bytes) [] (omega arith) run refl)
+
+pub is_closed_name : (bytes : List ℕ) (end : ℕ) → 0 < end → end < length bytes → list_all is_alphanumeric (take end bytes) ≡ true → get_or bytes end 0 ≡ 59 → is_key_name (take (end + 1) bytes) ≡ true
+is_closed_name bytes end some within run close =
+    let size : length (take end bytes) ≡ end = length-take-le end bytes (omega arith) in
+    let one_more : take end bytes ++ 59 ∷ [] ≡ take (end + 1) bytes = ap (λ c. take end bytes ++ c ∷ []) (sym close) ∙ sym (take_more bytes end 0 within) in
+    subst (λ xs. is_key_name xs ≡ true) one_more (run_name (take end bytes) (59 ∷ []) (omega arith) run refl)
+
 pub run_counted : (bytes : List ℕ) (end : ℕ) → 0 < end → list_all is_alphanumeric (take end bytes) ≡ true → passes_byte is_count (slice_get bytes end) ≡ true → IsCounted is_key_name bytes end
 run_counted bytes end some run counted =
     let within : end < length bytes = (passes_at is_count bytes end counted).0 in
-    let size : length (take end bytes) ≡ end = length-take-le end bytes (omega arith) in
-    record { within = within; passing = subst (λ xs. is_key_name xs ≡ true) (append-nil (take end bytes)) (run_name (take end bytes) [] (omega arith) run refl); counted = counted }
+    record { within = within; passing = is_run_name bytes end some (omega arith) run; counted = counted }
 
 pub closed_counted : (bytes : List ℕ) (end : ℕ) → 0 < end → list_all is_alphanumeric (take end bytes) ≡ true → passes_byte is_semicolon (slice_get bytes end) ≡ true
     → passes_byte is_count (slice_get bytes (end + 1)) ≡ true → IsCounted is_key_name bytes (end + 1)
 closed_counted bytes end some run close counted =
-    let within : end < length bytes = (passes_at is_semicolon bytes end close).0 in
-    let size : length (take end bytes) ≡ end = length-take-le end bytes (omega arith) in
-    let semicolon : get_or bytes end 0 ≡ 59 = (let test = (passes_at is_semicolon bytes end close).1 in grind (arith, nat_tests, test)) in
-    let one_more : take end bytes ++ 59 ∷ [] ≡ take (end + 1) bytes = ap (λ c. take end bytes ++ c ∷ []) (sym semicolon) ∙ sym (take_more bytes end 0 within) in
-    record { within = (passes_at is_count bytes (end + 1) counted).0; passing = subst (λ xs. is_key_name xs ≡ true) one_more (run_name (take end bytes) (59 ∷ []) (omega arith) run refl); counted = counted }
+    let there = passes_at is_semicolon bytes end close in
+    let semicolon : get_or bytes end 0 ≡ 59 = (let test = there.1 in grind (arith, nat_tests, test)) in
+    record { within = (passes_at is_count bytes (end + 1) counted).0; passing = is_closed_name bytes end some there.0 run semicolon; counted = counted }
+
+-- a name after an `&` is a key
+key_of_name : (b : ℕ) (bs : List ℕ) (end : ℕ) → b ≡ 38 → is_key_name (take end bs) ≡ true → is_key (take (suc end) (b ∷ bs)) ≡ true
+key_of_name b bs end is name = and_from (b == 38) _ (grind (arith, nat_tests, is)) name
+
+-- the run among the first 16 bytes after it
+run_within : (end : ℕ) (bs : List ℕ) → end ≤ 16 → 16 ≤ length bs → list_all is_alphanumeric (take end (take 16 bs)) ≡ true → list_all is_alphanumeric (take end bs) ≡ true
+run_within end bs few long run =
+    let size : length (take 16 bs) ≡ 16 = length-take-le 16 bs long in
+    subst (λ xs. list_all is_alphanumeric xs ≡ true) (sym (take-append-le end (take 16 bs) (drop 16 bs) (omega arith)) ∙ ap (take end) (take-append-drop 16 bs)) run
+
+pub short_run_key : (bytes : List ℕ) (end : ℕ) → 18 ≤ length bytes → get_or bytes 0 0 ≡ 38 → 0 < end → end ≤ 16 → list_all is_alphanumeric (take end (take 16 (drop 1 bytes))) ≡ true → is_key (take (end + 1) bytes) ≡ true
+short_run_key [] end long first some few run = absurd (omega arith)
+short_run_key (b ∷ bs) end long first some few run =
+    let next : suc end ≡ end + 1 = omega arith in
+    subst (λ n. is_key (take n (b ∷ bs)) ≡ true) next (key_of_name b bs end first (is_run_name bs end some (omega arith) (run_within end bs few (omega arith) run)))
+
+pub short_closed_key : (bytes : List ℕ) (end : ℕ) → 18 ≤ length bytes → get_or bytes 0 0 ≡ 38 → 0 < end → end ≤ 16 → list_all is_alphanumeric (take end (take 16 (drop 1 bytes))) ≡ true → get_or bytes (end + 1) 0 ≡ 59
+    → is_key (take (end + 2) bytes) ≡ true
+short_closed_key [] end long first some few run close = absurd (omega arith)
+short_closed_key (b ∷ bs) end long first some few run close =
+    let next : suc (end + 1) ≡ end + 2 = omega arith in
+    let here : suc end ≡ end + 1 = omega arith in
+    let there : get_or bs end 0 ≡ 59 = ap (λ n. get_or (b ∷ bs) n 0) here ∙ close in
+    subst (λ n. is_key (take n (b ∷ bs)) ≡ true) next (key_of_name b bs (end + 1) first (is_closed_name bs end some (omega arith) (run_within end bs few (omega arith) run) there))
 
 pub no_key : (name : List ℕ) → HasNoCounted is_key_name name → HasNoCounted is_key (38 ∷ name)
 no_key name none [] rest count is counts same = true≢false (sym is)

@@ -1,5 +1,5 @@
 -- The index of the bytes after the `&`.
-use Rattle.charref.proofs.Names.{arith, ◌≡◌, inl, inr, ℕ, ◌+◌, ◌≤◌, ◌<◌, Bool, true, false, nat_lt, ◌&&◌, List, [], ◌∷◌, ◌++◌, length, slice_get, get_or, Option, Some, None, nat_le, refl, sym, ap, ◌∙◌, subst, length-append, and_from, and_parts, nat_tests, slice_get_within, slice_get-get_or, get_or_from_slice_get, Search, Entry, Entities, code_at, IsSortedTable, IsRange, IsRising, IsStart, IsIndex, SearchHasRead}
+use Rattle.charref.proofs.Names.{arith, ◌≡◌, inl, inr, ℕ, ◌+◌, ◌≤◌, ◌<◌, Bool, true, false, nat_lt, ◌&&◌, List, [], ◌∷◌, ◌++◌, length, slice_get, get_or, Option, Some, None, nat_le, refl, sym, ap, ◌∙◌, subst, length-append, and_from, and_parts, nat_tests, slice_get_within, slice_get-get_or, get_or_from_slice_get, Search, Entry, Entities, code_at, IsSortedTable, IsRange, IsRising, IsParted, IsStart, IsIndex, SearchHasRead}
 use Rattle.std.proofs.Common.{IfSome}
 use Rattle.std.proofs.lemmas.List.{get_or_append_left, get_or-append-add}
 use Rattle.std.proofs.lemmas.Bool.{cases_lt}
@@ -49,6 +49,19 @@ start_at table place code sorted within below least =
         ];
       };
     }
+
+-- where a place moves on to the first key of a code
+pub start_moved : (table : Entities) (low place code : ℕ) → IsSortedTable table → low ≤ place → place ≤ length table → AreBelow table low code
+    → (IsRising table low (length table) 1 → IsParted table low place (length table) 1 code) → IsStart table place code
+start_moved table low place code sorted least within below moved =
+    let all : IsRising table 0 (length table) 1 = range_rises table (38 ∷ []) 0 (length table) sorted (read_ampersand table (length table) sorted refl).range in
+    let parted : IsParted table low place (length table) 1 code = moved (record { at = λ j k e f one other from order to. all.at j k e f one other (omega arith) order to }) in
+    start_at table place code sorted within
+    (λ k e got less. elim (cases_lt k low) [
+      | inl before ↦ below k e got before
+      | inr past ↦ parted.below k e got past less
+    ])
+    (λ e got. parted.above place e got (omega arith) (slice_get_within table place e got))
 
 pub below_next : (table : Entities) (place code : ℕ) → IsStart table place code → AreBelow table place (code + 1)
 below_next table place code start k e p h = (let less : code_at e.key 1 < code = start.parted.below k e p (omega arith) h in omega arith)

@@ -1,15 +1,15 @@
 -- Reading a flat form, entry by entry.
-use Rattle.charref.proofs.Names.{arith, ◌≡◌, ℕ, suc, ◌+◌, ◌-◌, ◌*◌, ◌≤◌, ◌<◌, Bool, true, false, true≢false, ◌&&◌, nat_le, List, [], ◌∷◌, ◌++◌, map, length, take, drop, slice_get, get_or, is_lt, Less, refl, sym, ap, ◌∙◌, subst, append_assoc, and_parts, and_from, nat_tests, append-nil, take-append-drop, take_rest, drop-drop, length-drop, map-append, slice_cmp, list_all, flat_map, Entity, Characters, characters_of, Entry, Entities, is_key, is_character, key_at, entry, entries, is_one_or_two, flat_character, flat_characters, flat_entry, flat_of, IsReadable, passes_byte, is_count, BeginsWith, BeginsWithNone, IsCounted, HasNoCounted, IsEntryAt, is_table_entry}
+use Rattle.charref.proofs.Names.{arith, ◌≡◌, ℕ, suc, ◌+◌, ◌-◌, ◌*◌, ◌≤◌, ◌<◌, Bool, true, false, true≢false, ◌&&◌, ◌==◌, nat_le, List, [], ◌∷◌, ◌++◌, map, length, take, drop, slice_get, get_or, is_lt, Less, refl, sym, ap, ◌∙◌, subst, append_assoc, and_parts, and_from, nat_tests, append-nil, take-append-drop, take_rest, drop-drop, length-drop, map-append, slice_cmp, list_all, flat_map, Entity, Characters, characters_of, Entry, Entities, is_key, is_character, key_at, entry, entries, is_one_or_two, flat_character, flat_characters, flat_entry, flat_of, IsReadable, passes_byte, is_count, BeginsWith, BeginsWithNone, IsCounted, HasNoCounted, IsEntity, IsEntryTo, is_table_entry, entity_to, next_place, characters_in, All, length-append}
 use Rattle.std.specs.List.Sorted.{IsStrictlySortedBy}
 use Rattle.std.proofs.Common.{nat_cmp, Ordering}
-use Rattle.std.proofs.lemmas.List.{drop_all, drop_more}
+use Rattle.std.proofs.lemmas.List.{drop_all, drop_more, get_or-drop, length-take-le}
 use Rattle.std.proofs.lemmas.List.Folds.{list_all-append}
-use Rattle.charref.specs.Table.{is_inside}
-use Rattle.std.proofs.Math.Seq.{drop-cons}
+use Rattle.std.proofs.Math.Seq.{drop-cons, drop-append_seam}
+use Rattle.std.proofs.lemmas.List.Elements.{All-push}
 use Rattle.charref.proofs.Fronts.{passes_at}
 use Rattle.charref.proofs.Members.{readable_from_parts}
 use Rattle.charref.proofs.Orders.{last_key, last_key-more, sorted_more, last_below}
-use Rattle.charref.proofs.Forms.{flat_more, counted, key_past, same_key, same_entries, entry_split, are_entries, Rest, rest_of, tail_of}
+use Rattle.charref.proofs.Forms.{flat_more, counted, read_characters, key_past, same_key, same_entries, entry_split, are_entries, Rest, rest_of, tail_of}
 
 -- CHARACTERS
 
@@ -47,36 +47,79 @@ no_entry_characters bytes n key none e rest is same =
     at.3 (counted e.stands_for (and_parts (is_key e.key) _ is).1) (ap (λ bs. take n bytes ++ bs) (sym at.2) ∙ take-append-drop n bytes ∙ same ∙ entry_split e rest) in
     none e.stands_for rest (and_parts (is_key e.key) _ is).1 (at.2 ∙ parts.1)
 
-pub entry_stands : (text : List ℕ) (start n : ℕ) (cs : Characters) → start ≤ length text → IsCounted is_key (drop start text) n → is_one_or_two (characters_of cs) ≡ true
-    → BeginsWith (flat_characters (characters_of cs)) (drop (start + n) text) (1 + 4 * length (characters_of cs)) → IsEntryAt text start (record { start = start; end = start + n; characters = cs }) (start + n + 1 + 4 * length (characters_of cs))
-entry_stands text start n cs within key ones chars =
+some_count : (cs : List ℕ) → is_one_or_two cs ≡ true → 1 ≤ length cs
+some_count [] is = absurd (true≢false (sym is))
+some_count (c ∷ cs) is = omega arith
+
+key_size : (key : List ℕ) → is_key key ≡ true → 2 ≤ length key
+key_size [] is = absurd (true≢false (sym is))
+key_size (c ∷ []) is = absurd (true≢false (sym (and_parts (c == 38) false is).1))
+key_size (c ∷ d ∷ cs) is = omega arith
+
+pub entry_stands : (text : List ℕ) (start n : ℕ) (cs : Characters) → start ≤ length text → n < length (drop start text) → is_key (take n (drop start text)) ≡ true → is_one_or_two (characters_of cs) ≡ true
+    → BeginsWith (flat_characters (characters_of cs)) (drop (start + n) text) (1 + 4 * length (characters_of cs)) → IsEntryTo text start (start + n)
+entry_stands text start n cs within less key ones chars =
     let left : length (drop start text) ≡ length text - start = length-drop start text in
-    let less : n < length (drop start text) = key.within in
-    let first : nat_le start (start + n) ≡ true = grind (arith, nat_tests) in
-    let last : nat_le (start + n) (length text) ≡ true = (let le : start + n ≤ length text = omega arith in grind (arith, nat_tests)) in
+    let end : ℕ = start + n in
+    let first : nat_le start end ≡ true = grind (arith, nat_tests) in
+    let last : nat_le end (length text) ≡ true = (let le : start + n ≤ length text = omega arith in grind (arith, nat_tests)) in
     let size : start + n - start ≡ n = omega arith in
-    let d : Entity = record { start = start; end = start + n; characters = cs } in
+    let d : Entity = entity_to start end in
     let key-is : key_at text d ≡ take n (drop start text) = ap (λ k. take k (drop start text)) size in
     let count : ℕ = 1 + 4 * length (characters_of cs) in
-    let end-is : start + n + count ≡ start + n + 1 + 4 * length (characters_of cs) = omega arith in
-    let room : length (drop (start + n) text) ≡ length text - (start + n) = length-drop (start + n) text in
-    let fits : 1 + 4 * length (characters_of cs) ≤ length (drop (start + n) text) = chars.within in
+    let reads : characters_in (drop end text) ≡ characters_of cs = read_characters (characters_of cs) (drop end text) count ones chars in
+    let counts : get_or text end 0 ≡ length (characters_of cs) = ap (λ k. get_or text k 0) (omega arith) ∙ sym (get_or-drop end text 0 0) ∙ ap (λ bs. get_or bs 0 0) chars.is in
+    let next : end + count ≡ next_place text end = omega (arith, counts) in
+    let old : Entry = record { key = key_at text d; stands_for = characters_of cs } in
+    let same : old ≡ entry text d = ap (λ xs. record { key = key_at text d; stands_for = xs }) (sym reads) in
+    let room : length (drop end text) ≡ length text - end = length-drop end text in
+    let fits : count ≤ length (drop end text) = chars.within in
+    let many : 1 ≤ length (characters_of cs) = some_count (characters_of cs) ones in
+    let two : 2 ≤ n = (let long : 2 ≤ length (take n (drop start text)) = key_size (take n (drop start text)) key in let is : length (take n (drop start text)) ≡ n = length-take-le n (drop start text) (omega arith) in omega arith) in
     record {
-      passing = and_from (is_key (key_at text d)) _ (ap is_key key-is ∙ key.passing) ones;
-      inside = and_from (nat_le start (start + n)) (nat_le (start + n) (length text)) first last;
+      passing = subst (λ (e : Entry). is_table_entry e ≡ true) same (and_from (is_key (key_at text d)) _ (ap is_key key-is ∙ key) ones);
+      is_entity = record {
+        inside = and_from (nat_le start end) (nat_le end (length text)) first last;
+        passing = ap is_one_or_two reads ∙ ones;
+        rest = drop count (drop end text);
+        stands = chars.is ∙ ap (λ xs. flat_characters xs ++ drop count (drop end text)) (sym reads);
+      };
       some = omega arith;
+      more = omega arith;
       within = omega arith;
-      is = sym (take-append-drop n (drop start text)) ∙ ap (λ bs. take n (drop start text) ++ bs) (drop-drop n start text ∙ chars.is ∙ ap (λ bs. flat_characters (characters_of cs) ++ bs) (drop-drop count (start + n) text ∙ ap (λ k. drop k text) end-is))
-          ∙ sym (append_assoc (take n (drop start text)) (flat_characters (characters_of cs)) (drop (start + n + 1 + 4 * length (characters_of cs)) text))
-          ∙ ap (λ k. (k ++ flat_characters (characters_of cs)) ++ drop (start + n + 1 + 4 * length (characters_of cs)) text) (sym key-is);
+      is = sym (take-append-drop n (drop start text)) ∙ ap (λ bs. take n (drop start text) ++ bs) (drop-drop n start text ∙ chars.is ∙ ap (λ bs. flat_characters (characters_of cs) ++ bs) (drop-drop count end text ∙ ap (λ k. drop k text) next))
+          ∙ sym (append_assoc (take n (drop start text)) (flat_characters (characters_of cs)) (drop (next_place text end) text))
+          ∙ ap (λ k. (k ++ flat_characters (characters_of cs)) ++ drop (next_place text end) text) (sym key-is)
+          ∙ ap (λ (e : Entry). flat_entry e ++ drop (next_place text end) text) same;
     }
+
+-- what the first bytes begin with, all do
+pub begins_more : (form bytes : List ℕ) (m n : ℕ) → BeginsWith form (take m bytes) n → BeginsWith form bytes n
+begins_more form bytes m n begins =
+    let all : bytes ≡ form ++ (drop n (take m bytes) ++ drop m bytes) = sym (take-append-drop m bytes) ∙ ap (λ bs. bs ++ drop m bytes) begins.is ∙ append_assoc form (drop n (take m bytes)) (drop m bytes) in
+    let size : length (take m bytes) ≡ length form + length (drop n (take m bytes)) = ap length begins.is ∙ length-append form (drop n (take m bytes)) in
+    let left : length (drop n (take m bytes)) ≡ length (take m bytes) - n = length-drop n (take m bytes) in
+    let within : n ≤ length (take m bytes) = begins.within in
+    let whole : length bytes ≡ length (take m bytes) + length (drop m bytes) = ap length (sym (take-append-drop m bytes)) ∙ length-append (take m bytes) (drop m bytes) in
+    let own : length form ≡ n = omega arith in
+    record {
+      within = omega arith;
+      is = all ∙ ap (λ bs. form ++ bs) (sym (ap (drop n) all ∙ ap (λ k. drop k (form ++ (drop n (take m bytes) ++ drop m bytes))) (sym own) ∙ drop-append_seam form (drop n (take m bytes) ++ drop m bytes)));
+    }
+
+-- the order of two keys, as it is computed of what they begin
+pub keys_before : (text : List ℕ) (a b m n : ℕ) (r : Bool) → r ≡ is_lt (slice_cmp nat_cmp (take (b - a) (take (length text - a) (drop a text))) (take (n - m) (take (length text - m) (drop m text))))
+    → r ≡ is_lt (slice_cmp nat_cmp (key_at text (entity_to a b)) (key_at text (entity_to m n)))
+keys_before text a b m n r is =
+    is ∙ ap (λ xs. is_lt (slice_cmp nat_cmp (take (b - a) xs) (take (n - m) (take (length text - m) (drop m text))))) (take_rest text a) ∙ ap (λ ys. is_lt (slice_cmp nat_cmp (take (b - a) (drop a text)) (take (n - m) ys))) (take_rest text m)
 
 -- TABLES
 
 -- The entries of the text up to this place have been read, and this is the key of the last.
 pub record HasReadTo (text : List ℕ) (entities : List Entity) (last : List ℕ) (start : ℕ) : Type 0 where
   pub readable : IsReadable (entries text entities)
-  pub inside : list_all (is_inside text) entities ≡ true
+  pub inside : All (IsEntity text) entities
+  pub few : 7 * length entities < start
   pub within : start ≤ length text
   pub is : text ≡ flat_of (entries text entities) ++ drop start text
   pub last_is : last ≡ last_key (map (λ e. e.key) (entries text entities))
@@ -88,7 +131,8 @@ nothing_readable = readable_from_parts [] refl refl tt
 pub begun : (text : List ℕ) → 1 ≤ length text → get_or text 0 0 ≡ 1 → HasReadTo text [] [] 1
 begun text some first = record {
   readable = nothing_readable;
-  inside = refl;
+  inside = λ k d less. absurd (omega (arith, less));
+  few = omega arith;
   within = some;
   is = drop_more text 0 0 some ∙ ap (λ b. b ∷ drop 1 text) first;
   last_is = refl;
@@ -111,18 +155,22 @@ is_less a b h = by (slice_cmp nat_cmp a b) h
     by Less h = refl
     by _ h = cc
 
-pub one_more : (text : List ℕ) (es : List Entity) (last : List ℕ) (start : ℕ) (d : Entity) (end : ℕ) → HasReadTo text es last start → IsEntryAt text start d end
-    → is_lt (slice_cmp nat_cmp last (key_at text d)) ≡ true → HasReadTo text (es ++ d ∷ []) (key_at text d) end
-one_more text es last start d end was at before =
+pub one_more : (text : List ℕ) (es : List Entity) (last : List ℕ) (start end : ℕ) → HasReadTo text es last start → IsEntryTo text start end
+    → is_lt (slice_cmp nat_cmp last (key_at text (entity_to start end))) ≡ true → HasReadTo text (es ++ entity_to start end ∷ []) (key_at text (entity_to start end)) (next_place text end)
+one_more text es last start end was at before =
     let table : Entities = entries text es in
+    let d : Entity = entity_to start end in
     let e : Entry = entry text d in
     let more : entries text (es ++ d ∷ []) ≡ table ++ e ∷ [] = map-append (entry text) es (d ∷ []) in
     let below : slice_cmp nat_cmp (last_key (map (λ e. e.key) table)) e.key ≡ Less = ap (λ k. slice_cmp nat_cmp k e.key) (sym was.last_is) ∙ is_less last e.key before in
+    let size : length (es ++ d ∷ []) ≡ length es + 1 = length-append es (d ∷ []) in
     record {
       readable = subst IsReadable (sym more) (readable_more table e was.readable at.passing below);
-      inside = all_more (is_inside text) es d was.inside at.inside;
+      inside = All-push (IsEntity text) es d was.inside at.is_entity;
+      few = omega (arith, size, was.few, at.some, at.more);
       within = at.within;
-      is = was.is ∙ ap (λ bs. flat_of table ++ bs) at.is ∙ sym (append_assoc (flat_of table) (flat_entry e) (drop end text)) ∙ ap (λ bs. bs ++ drop end text) (flat_more table e) ∙ ap (λ t. flat_of t ++ drop end text) (sym more);
+      is = was.is ∙ ap (λ bs. flat_of table ++ bs) at.is ∙ sym (append_assoc (flat_of table) (flat_entry e) (drop (next_place text end) text)) ∙ ap (λ bs. bs ++ drop (next_place text end) text) (flat_more table e)
+          ∙ ap (λ t. flat_of t ++ drop (next_place text end) text) (sym more);
       last_is = sym (ap (λ (t : Entities). last_key (map (λ e. e.key) t)) more ∙ ap last_key (map-append (λ (e : Entry). e.key) table (e ∷ [])) ∙ last_key-more (map (λ e. e.key) table) e.key);
     }
 
@@ -152,24 +200,24 @@ below_first : (key : List ℕ) → is_key key ≡ true → slice_cmp nat_cmp [] 
 below_first [] is = absurd (true≢false (sym is))
 below_first (c ∷ cs) is = refl
 
-pub no_order : (text : List ℕ) (es : List Entity) (last : List ℕ) (start : ℕ) (d : Entity) (end : ℕ) → HasReadTo text es last start → IsEntryAt text start d end
-    → is_lt (slice_cmp nat_cmp last (key_at text d)) ≡ false → HasNoTable text
-no_order text es last start d end was at before table readable is = by rest.more rest.is rest.flat rest.entries
+pub no_order : (text : List ℕ) (es : List Entity) (last : List ℕ) (start end : ℕ) → HasReadTo text es last start → IsEntryTo text start end
+    → is_lt (slice_cmp nat_cmp last (key_at text (entity_to start end))) ≡ false → HasNoTable text
+no_order text es last start end was at before table readable is = by rest.more rest.is rest.flat rest.entries
   where
     e : Entry
-    e = entry text d
+    e = entry text (entity_to start end)
 
     rest : Rest (entries text es) table (drop start text)
     rest = others text es last start table was readable is
 
-    some : [] ≡ flat_entry e ++ drop end text → ⊥
+    some : [] ≡ flat_entry e ++ drop (next_place text end) text → ⊥
     some none = (let size : length (drop start text) ≡ length text - start = length-drop start text in let no : 0 ≡ length (drop start text) = ap length (none ∙ sym at.is) in
-        let first : start < end = at.some in let last : end ≤ length text = at.within in omega arith)
+        omega (arith, at.some, at.more, at.within))
 
     by : (more : Entities) → table ≡ entries text es ++ more → flat_map flat_entry more ≡ drop start text → list_all is_table_entry more ≡ true → ⊥
     by [] whole flat are = some (flat ∙ at.is)
     by (f ∷ more) whole flat are =
-        let same : (f ≡ e) × (flat_map flat_entry more ≡ drop end text) = same_entries f e (flat_map flat_entry more) (drop end text) (and_parts (is_table_entry f) (list_all is_table_entry more) are).0 at.passing (flat ∙ at.is) in
+        let same : (f ≡ e) × (flat_map flat_entry more ≡ drop (next_place text end) text) = same_entries f e (flat_map flat_entry more) (drop (next_place text end) text) (and_parts (is_table_entry f) (list_all is_table_entry more) are).0 at.passing (flat ∙ at.is) in
         let keys : map (λ (e : Entry). e.key) table ≡ map (λ e. e.key) (entries text es) ++ e.key ∷ map (λ e. e.key) more =
         ap (map (λ (e : Entry). e.key)) whole ∙ map-append (λ (e : Entry). e.key) (entries text es) (f ∷ more) ∙ ap (λ (x : Entry). map (λ e. e.key) (entries text es) ++ x.key ∷ map (λ e. e.key) more) same.0 in
         let below : slice_cmp nat_cmp (last_key (map (λ e. e.key) (entries text es))) e.key ≡ Less =

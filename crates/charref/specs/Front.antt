@@ -1,9 +1,9 @@
 -- What is at the front of the rest of a flat form.
-use Rattle.std.specs.Prelude.{◌≡◌, ℕ, ◌≤◌, ◌<◌, Bool, true, false, ◌&&◌, ◌==◌, nat_le, List, ◌∷◌, ◌++◌, length, take, drop, slice_get, Option, Some, None}
+use Rattle.std.specs.Prelude.{◌≡◌, ℕ, ◌+◌, ◌*◌, ◌≤◌, get_or, ◌<◌, Bool, true, false, ◌&&◌, ◌==◌, nat_le, List, ◌∷◌, ◌++◌, length, take, drop, slice_get, Option, Some, None}
 use Rattle.charref.specs.declared.entries.Entity.{Entity}
 use Rattle.charref.specs.Reference.{Entry, is_key}
 use Rattle.charref.specs.Table.{entry, is_inside}
-use Rattle.charref.specs.Flat.{is_one_or_two, flat_entry}
+use Rattle.charref.specs.Flat.{is_one_or_two, flat_characters, flat_entry}
 
 -- The bytes begin with the form of no value that passes.
 abbrev pub BeginsWithNone : {A : Type 0} → (A → Bool) → (A → List ℕ) → List ℕ → Type 0
@@ -38,10 +38,25 @@ HasNoCounted test bytes = (key rest : List ℕ) (count : ℕ) → test key ≡ t
 abbrev pub is_table_entry : Entry → Bool
 is_table_entry e = is_key e.key && is_one_or_two e.stands_for
 
--- An entry stands in the text from this place up to that.
-pub record IsEntryAt (text : List ℕ) (start : ℕ) (entity : Entity) (end : ℕ) : Type 0 where
-  pub passing : is_table_entry (entry text entity) ≡ true
+-- An entry of a text: its key is inside it, and one or two characters are after the key.
+pub record IsEntity (text : List ℕ) (entity : Entity) : Type 0 where
   pub inside : is_inside text entity ≡ true
-  pub some : start < end
-  pub within : end ≤ length text
-  pub is : drop start text ≡ flat_entry (entry text entity) ++ drop end text
+  pub passing : is_one_or_two (entry text entity).stands_for ≡ true
+  pub rest : List ℕ
+  pub stands : drop entity.end text ≡ flat_characters (entry text entity).stands_for ++ rest
+
+abbrev pub entity_to : ℕ → ℕ → Entity
+entity_to start end = record { start = start; end = end }
+
+-- where an entry ends whose key ends here: after the count come so many characters
+abbrev pub next_place : List ℕ → ℕ → ℕ
+next_place text end = end + 1 + 4 * get_or text end 0
+
+-- An entry stands in the text, its key from this place up to that. The key has two bytes or more, and one or two characters are after it.
+pub record IsEntryTo (text : List ℕ) (start end : ℕ) : Type 0 where
+  pub passing : is_table_entry (entry text (entity_to start end)) ≡ true
+  pub is_entity : IsEntity text (entity_to start end)
+  pub some : start + 2 ≤ end
+  pub more : end + 5 ≤ next_place text end
+  pub within : next_place text end ≤ length text
+  pub is : drop start text ≡ flat_entry (entry text (entity_to start end)) ++ drop (next_place text end) text

@@ -1,6 +1,7 @@
 -- A table in memory, and the state of a look-up in it.
 use Rattle.std.specs.Prelude.{◌≡◌, ℕ, ◌+◌, ◌≤◌, ◌<◌, Bool, true, false, nat_eq, nat_le, nat_lt, ◌&&◌}
-use Rattle.std.specs.Prelude.{List, map, length, get_or, slice_get, slice_range, Option, Some, None, IfSome}
+use Rattle.std.specs.Int.{w32, from_le_bytes}
+use Rattle.std.specs.Prelude.{zero, suc, List, [], ◌∷◌, map, length, take, drop, get_or, slice_get, slice_range, Option, Some, None, IfSome}
 use Rattle.std.specs.List.{starts_with}
 use Rattle.std.specs.List.Sorted.{IsStrictlySortedBy}
 use Rattle.std.specs.Cmp.Lexicographic.{slice_cmp}
@@ -8,19 +9,28 @@ use Rattle.std.specs.Ordering.{nat_cmp}
 use Rattle.charref.specs.declared.entries.Entity.{Entity}
 use Rattle.charref.specs.declared.open_keys.OpenKey.{OpenKey}
 use Rattle.charref.specs.declared.search.Search.{Search}
-use Rattle.charref.specs.Pieces.{characters_of}
 use Rattle.charref.specs.Reference.{Entry, Entities, IsTable, longest}
 
 -- whether the ends of an entry's key are in this order in this text
 abbrev pub is_inside : List ℕ → Entity → Bool
 is_inside text entity = nat_le entity.start entity.end && nat_le entity.end (length text)
 
--- an entry of a text: its key is the part between its ends
+-- an entry of a text: its key is the part between its ends, and what it stands for is after it
 abbrev pub key_at : List ℕ → Entity → List ℕ
 key_at text entity = slice_range text entity.start entity.end
 
+-- so many characters, the number of each in four bytes
+abbrev pub numbers_in : ℕ → List ℕ → List ℕ
+numbers_in zero bytes = []
+numbers_in (suc n) bytes = from_le_bytes w32 (take 4 bytes) ∷ numbers_in n (drop 4 bytes)
+
+-- the characters after their count
+abbrev pub characters_in : List ℕ → List ℕ
+characters_in [] = []
+characters_in (count ∷ bytes) = numbers_in count bytes
+
 abbrev pub entry : List ℕ → Entity → Entry
-entry text entity = record { key = key_at text entity; stands_for = characters_of entity.characters }
+entry text entity = record { key = key_at text entity; stands_for = characters_in (drop entity.end text) }
 
 abbrev pub entries : List ℕ → List Entity → Entities
 entries text entities = map (entry text) entities

@@ -1,19 +1,18 @@
 //! The entries of a table, and how they are written to its flat form and read from it.
 
-ghost use Rattle.std.specs.Prelude.{◌≡◌, ◌+◌, ◌*◌, ◌≤◌, Some, None, length, drop, ◌++◌, OnOk, if◌then◌else◌, true, IfOk, IfErr, MatchOption};
-ghost use Rattle.charref.specs.Vocabulary.{is_character, list_all, characters_of, entries, is_inside, is_one_or_two, flat_character, flat_characters, flat_entry, flat_of, IsReadable, IsRefusedFlat, BeginsWith, BeginsWithNone, is_table_entry, IsEntryAt};
+ghost use Rattle.std.specs.Prelude.{◌≡◌, ◌+◌, ◌*◌, ◌≤◌, Some, None, IfSome, length, drop, ◌++◌, OnOk, if◌then◌else◌, true, IfOk, IfErr, MatchOption};
+ghost use Rattle.charref.specs.Vocabulary.{All, is_character, characters_of, entries, is_one_or_two, flat_character, flat_characters, flat_entry, flat_of, IsReadable, IsRefusedFlat, BeginsWith, BeginsWithNone, is_table_entry, IsEntity, IsEntryTo};
 
-use crate::key::{is_before, key_at_front};
+use crate::key::{is_key_before, key_at_front, short_key_at_front};
 use crate::reference::Characters;
 use names::{Refusal, TableFault};
 use std::alloc::{AllocError, Global};
 
-/// An entry: where its key, with its `&`, begins and ends in the table's flat form, and the characters that it stands for.
+/// An entry: where its key, with its `&`, begins and ends in the table's flat form. After it is what the key stands for.
 #[derive(Clone, Copy)]
 pub(crate) struct Entity {
-    pub(crate) start: usize,
-    pub(crate) end: usize,
-    pub(crate) characters: Characters,
+    pub(crate) start: u32,
+    pub(crate) end: u32,
 }
 
 /// Appends the entry of a key: the key, the count of its characters, and these.
@@ -38,9 +37,23 @@ pub(crate) fn add_flat(
     }
 }
 
+/// The characters below it are all characters but NUL.
+const FIRST_SURROGATE: u32 = 0xD800;
+
 /// The character with this number, if it is one other than NUL.
 #[inline(always)]
 pub(crate) fn character(number: u32) -> Option<char>
+    ensures { result ≡ (if is_character number then Some number else None) }
+{
+    if number.wrapping_sub(1) < FIRST_SURROGATE - 1 {
+        return char::from_u32(number);
+    }
+    rare_character(number)
+}
+
+/// The same, of any number: apart, so that the number is read at once.
+#[inline(never)]
+fn rare_character(number: u32) -> Option<char>
     ensures { result ≡ (if is_character number then Some number else None) }
 {
     match char::from_u32(number) {
@@ -63,7 +76,7 @@ fn character_at_front(bytes: &[u8]) -> Option<char>
 
 /// The characters at the front, after their count.
 #[inline(always)]
-fn characters_at_front(bytes: &[u8]) -> Option<Characters>
+pub(crate) fn characters_at_front(bytes: &[u8]) -> Option<Characters>
     ensures { MatchOption result (BeginsWithNone is_one_or_two flat_characters bytes.now)
         (λ it. (is_one_or_two (characters_of it) ≡ true) × BeginsWith (flat_characters (characters_of it)) bytes.now (1 + 4 * length (characters_of it))) }
 {
@@ -81,31 +94,58 @@ fn characters_at_front(bytes: &[u8]) -> Option<Characters>
     }
 }
 
-/// The entry at `start`, and where it ends.
+/// An entry with a short key, of at most 15 letters and digits, has no more bytes than this.
+const SHORT: usize = 32;
+
+/// A count and two characters have so many bytes.
+const CHARACTERS: usize = 9;
+
+/// Where the key of the entry at `start` ends, if it is short. (Where this finds none there may be one.)
 #[inline(always)]
-fn entity_at(text: &[u8], start: usize) -> Option<(Entity, usize)>
+fn short_key_end(text: &[u8], start: usize) -> Option<usize>
+    requires { start + SHORT ≤ length text.now }
+    ensures { IfSome result (λ end. IsEntryTo text.now start end) }
+{
+    let rest = &text[start..];
+    let size = short_key_at_front(rest)?;
+    characters_at_front(&rest[size..size + CHARACTERS])?;
+    Some(start + size)
+}
+
+/// Where the key of the entry at `start` ends.
+#[inline(never)]
+fn any_key_end(text: &[u8], start: usize) -> Option<usize>
     requires { start ≤ length text.now }
-    ensures { MatchOption result (BeginsWithNone is_table_entry flat_entry (drop start text.now)) (λ it. IsEntryAt text.now start it.0 it.1) }
+    ensures { MatchOption result (BeginsWithNone is_table_entry flat_entry (drop start text.now)) (IsEntryTo text.now start) }
 {
     let rest = &text[start..];
     let size = key_at_front(rest)?;
-    let characters = characters_at_front(&rest[size..])?;
-    let end = start + size;
-    let entity = Entity {
-        start,
-        end,
-        characters,
-    };
-    Some((entity, end + 1 + 4 * characters.count()))
+    characters_at_front(&rest[size..])?;
+    Some(start + size)
 }
 
-/// An entry has seldom fewer bytes than this.
-const ENTRY: usize = 10;
+/// Where the key of the entry at `start` ends. Most are short.
+#[inline(always)]
+fn key_end(text: &[u8], start: usize) -> Option<usize>
+    requires { start ≤ length text.now }
+    ensures { MatchOption result (BeginsWithNone is_table_entry flat_entry (drop start text.now)) (IsEntryTo text.now start) }
+{
+    if text.len() - start >= SHORT
+        && let Some(end) = short_key_end(text, start)
+    {
+        return Some(end);
+    }
+    any_key_end(text, start)
+}
 
-/// The entries of a flat form.
+/// No entry has fewer bytes than this.
+const ENTRY: usize = 7;
+
+/// The entries of a flat form. (For one of 4 GB or more memory is said to be out, since places are numbers of four bytes.)
+#[inline(never)]
 pub(crate) fn entities_of(alloc: Global, text: &[u8]) -> Result<Vec<Entity>, Refusal>
     ensures ok { IfOk result (λ entities. IsReadable (entries text.now entities.items) × (flat_of (entries text.now entities.items) ≡ text.now)
-        × (list_all (is_inside text.now) entities.items ≡ true)) }
+        × All (IsEntity text.now) entities.items) }
     ensures err { IfErr result (λ e. IsRefusedFlat text.now e) }
 {
     let refused = Refusal::BadTable {
@@ -114,20 +154,25 @@ pub(crate) fn entities_of(alloc: Global, text: &[u8]) -> Result<Vec<Entity>, Ref
     if text.is_empty() || text[0] != 1 {
         return Err(refused);
     }
-    let mut entities = Vec::with_capacity(alloc, text.len() / ENTRY)?;
-    let mut last: &[u8] = &[];
+    if text.len() > u32::MAX as usize {
+        return Err(Refusal::Memory);
+    }
+    let mut entities = Vec::with_capacity(alloc, text.len() / ENTRY + 1)?;
+    let (mut last, mut last_end) = (0, 0);
     let mut start = 1;
     while start < text.len() {
-        let Some((entity, end)) = entity_at(text, start) else {
+        let Some(end) = key_end(text, start) else {
             return Err(refused);
         };
-        let key = &text[entity.start..entity.end];
-        if !is_before(last, key) {
+        if !is_key_before(&text[last..], last_end - last, &text[start..], end - start) {
             return Err(refused);
         }
-        entities.push(entity)?;
-        last = key;
-        start = end;
+        entities.push_reserved(Entity {
+            start: start as u32,
+            end: end as u32,
+        });
+        (last, last_end) = (start, end);
+        start = end + 1 + 4 * usize::from(text[end]);
     }
     Ok(entities)
 }

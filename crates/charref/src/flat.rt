@@ -1,13 +1,14 @@
 //! A table in its flat form.
 
-ghost use Rattle.std.specs.Prelude.{◌≡◌, ◌<◌, drop, length, nat_eq, slice_get, true, Some, IfOk, IfErr};
-ghost use Rattle.std.specs.List.{list_all, starts_with};
+ghost use Rattle.std.specs.Prelude.{◌≡◌, ◌<◌, drop, length, nat_eq, slice_get, Some, IfOk, IfErr};
+ghost use Rattle.std.specs.List.{All, starts_with};
 ghost use Rattle.charref.specs.Reference.{Entry, Entities};
-ghost use Rattle.charref.specs.Table.{entries, is_inside};
+ghost use Rattle.charref.specs.Front.{IsEntity};
+ghost use Rattle.charref.specs.Table.{entries};
 ghost use Rattle.charref.specs.Flat.{flat_of, IsReadable, IsRefusedFlat};
 ghost use Rattle.charref.specs.Pieces.{characters_of};
 
-use crate::entries::{Entity, entities_of};
+use crate::entries::{Entity, characters_at_front, entities_of};
 use crate::key::{AT_ONCE, begin_at_once, begin_with};
 use crate::reference::Characters;
 use names::Refusal;
@@ -27,7 +28,7 @@ impl Model for Flat {
     ghost view = { λ flat. entries flat.text.items flat.entities.items };
 
     ghost invariant = { λ flat. (flat_of (entries flat.text.items flat.entities.items) ≡ flat.text.items)
-        × (list_all (is_inside flat.text.items) flat.entities.items ≡ true) };
+        × All (IsEntity flat.text.items) flat.entities.items };
 }
 
 impl Flat {
@@ -62,7 +63,7 @@ impl Flat {
         ensures { (e : Entry) × (slice_get self.now index ≡ Some e) × (result.now ≡ e.key) }
     {
         let entity = &self.entities[index];
-        &self.text[entity.start..entity.end]
+        &self.text[entity.start as usize..entity.end as usize]
     }
 
     /// The characters that the key of an entry stands for.
@@ -71,7 +72,11 @@ impl Flat {
         requires { index < length self.now }
         ensures { (e : Entry) × (slice_get self.now index ≡ Some e) × (characters_of result ≡ e.stands_for) }
     {
-        self.entities[index].characters
+        let end = self.entities[index].end as usize;
+        match characters_at_front(&self.text[end..]) {
+            Some(characters) => characters,
+            None => unreachable!(),
+        }
     }
 
     /// Whether these bytes begin with all of the key of an entry after its `&`.
@@ -84,8 +89,8 @@ impl Flat {
         if entity.start >= entity.end {
             return true;
         }
-        let name = &self.text[entity.start + 1..];
-        let count = entity.end - entity.start - 1;
+        let name = &self.text[entity.start as usize + 1..];
+        let count = (entity.end - entity.start) as usize - 1;
         if count <= AT_ONCE && name.len() >= AT_ONCE && bytes.len() >= AT_ONCE {
             return begin_at_once(bytes, name, count);
         }

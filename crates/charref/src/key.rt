@@ -1,6 +1,6 @@
 //! The keys of a table.
 
-ghost use Rattle.std.specs.Prelude.{◌≡◌, ◌≤◌, true, false, length, nat_eq, take, slice_get, MatchOption};
+ghost use Rattle.std.specs.Prelude.{◌≡◌, ◌≤◌, true, false, length, nat_eq, take, slice_get, IfSome, MatchOption};
 ghost use Rattle.charref.specs.Vocabulary.{list_all, starts_with, nat_cmp, is_lt, slice_cmp, is_alphanumeric, is_key, is_key_name, passes_byte, is_count, is_semicolon, IsCounted, HasNoCounted};
 
 use htext::alphanumeric_run;
@@ -101,9 +101,53 @@ pub(crate) fn key_at_front(bytes: &[u8]) -> Option<usize>
     }
 }
 
-/// Whether one key is before another; by hand, since keys are too short for the groups that `<` compares.
+/// The length of the key that these bytes begin with, if it has at most 15 letters and digits: these are told apart at once.
 #[inline(always)]
-pub(crate) fn is_before(a: &[u8], b: &[u8]) -> bool
+pub(crate) fn short_key_at_front(bytes: &[u8]) -> Option<usize>
+    requires { 18 ≤ length bytes.now }
+    ensures few { IfSome result (λ size. size ≤ 17) }
+    ensures key { IfSome result (λ size. is_key (take size bytes.now) ≡ true) }
+{
+    let end = alphanumerics(&bytes[1..17]);
+    if bytes[0] != b'&' || end == 0 || end == 16 {
+        return None;
+    }
+    if bytes[end + 1] == b';' {
+        Some(end + 2)
+    } else {
+        Some(end + 1)
+    }
+}
+
+/// How many bytes are compared at once.
+pub(crate) const AT_ONCE: usize = 16;
+
+/// Whether the key of so many bytes at the front of some bytes is before that at the front of other bytes: 16 bytes of each are compared at once.
+#[inline(always)]
+pub(crate) fn is_key_before(bytes: &[u8], size: usize, others: &[u8], other_size: usize) -> bool
+    requires key { size ≤ length bytes.now }
+    requires other { other_size ≤ length others.now }
+    requires longer { length others.now ≤ length bytes.now }
+    ensures { result ≡ is_lt (slice_cmp nat_cmp (take size bytes.now) (take other_size others.now)) }
+{
+    if others.len() >= AT_ONCE {
+        let differ = u8x16::from_slice(bytes)
+            .simd_ne(u8x16::from_slice(others))
+            .to_bitmask();
+        if differ != 0 {
+            let same = differ.trailing_zeros() as usize;
+            if same < size && same < other_size {
+                return bytes[same] < others[same];
+            }
+            return size < other_size;
+        }
+    }
+    is_before(&bytes[..size], &others[..other_size])
+}
+
+/// Whether one key is before another; by hand, since keys are too short for the groups that `<` compares.
+#[inline(never)]
+fn is_before(a: &[u8], b: &[u8]) -> bool
     ensures { result ≡ is_lt (slice_cmp nat_cmp a.now b.now) }
 {
     for (index, byte) in b.iter().enumerate() {
@@ -116,9 +160,6 @@ pub(crate) fn is_before(a: &[u8], b: &[u8]) -> bool
     }
     false
 }
-
-/// How many bytes are compared at once.
-pub(crate) const AT_ONCE: usize = 16;
 
 /// Whether these bytes begin with this many bytes of a name: 16 are compared at once.
 #[inline(always)]

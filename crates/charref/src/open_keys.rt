@@ -7,6 +7,7 @@ ghost use Rattle.charref.specs.Vocabulary.{All, AreEnds, Entities, Entry, IsOpen
 use crate::flat::Flat;
 use crate::key::begin_with;
 use crate::search::{Search, code_at};
+use crate::walking::ends_in_semicolon;
 use std::alloc::{AllocError, Global};
 
 /// How many pairs of letters are told apart.
@@ -38,8 +39,9 @@ fn pair_number(first: u8, second: u8) -> usize {
     usize::from(first % 64) * 64 + usize::from(second % 64)
 }
 
-/// Where the keys that begin with the key at this place end, by where those that begin with each later key do. Over a table this
-/// compares no more bytes than all its keys have, twice: each key is found to begin with one other, the longest that it begins with.
+/// Where the keys that begin with the key at this place end, by where those that begin with each later key do: with one that ends in a `;`
+/// no other does. Over a table this compares no more bytes than all its keys have, twice: each key is found to begin with one other, the
+/// longest that it begins with.
 fn end_of(flat: &Flat, index: usize, ends: &[usize]) -> usize
     requires sorted { IsSortedTable flat.now }
     requires within { index < length flat.now }
@@ -48,6 +50,9 @@ fn end_of(flat: &Flat, index: usize, ends: &[usize]) -> usize
 {
     let key = flat.key(index);
     let mut end = index + 1;
+    if ends_in_semicolon(key) {
+        return end;
+    }
     while end < flat.len() && begin_with(flat.key(end), key) {
         end = ends[end];
     }

@@ -28,7 +28,7 @@ pub(crate) fn code_at(key: &[u8], depth: usize) -> u16
 }
 
 /// Of the entries from `low` up to `high`, the first whose key has at least this code at `depth`, or `high`.
-fn first_from(flat: &Flat, low: usize, high: usize, depth: usize, code: u16) -> usize
+pub(crate) fn first_from(flat: &Flat, low: usize, high: usize, depth: usize, code: u16) -> usize
     requires ordered { low ≤ high }
     requires within { high ≤ length flat.now }
     ensures after { low ≤ result }

@@ -1,28 +1,25 @@
 //! The index of the bytes after the `&`.
 
-ghost use Rattle.std.specs.Prelude.{◌≡◌, ◌<◌, ◌≤◌, ℕ, Some, length, slice_get, IfOk};
-ghost use Rattle.charref.specs.Vocabulary.{Entry, code_at, IsSortedTable, IsStart, IsIndex};
+ghost use Rattle.std.specs.Prelude.{◌≡◌, Some, slice_get, IfOk};
+ghost use Rattle.charref.specs.Vocabulary.{Entry, code_at, IsSortedTable, IsIndex};
 
 use crate::flat::Flat;
-use crate::search::code_at;
+use crate::search::{code_at, first_from};
 use std::alloc::{AllocError, Global};
 
 /// The codes that are indexed: of the end of a key, of each ASCII byte, and the one after them, which ends the last range.
 const CODES: u16 = 130;
 
-/// The first entry whose key has at least this code after the `&`, where those before `low` have less.
+/// The code after the `&` of the key at this place; past all keys one that is above all others.
 #[inline(always)]
-fn start_from(flat: &Flat, low: usize, code: u16) -> usize
-    requires sorted { IsSortedTable flat.now }
-    requires within { low ≤ length flat.now }
-    requires below { (k : ℕ) (e : Entry) → slice_get flat.now k ≡ Some e → k < low → code_at e.key 1 < code }
-    ensures { IsStart flat.now result code }
+fn code_from(flat: &Flat, place: usize) -> u16
+    ensures { (e : Entry) → slice_get flat.now place ≡ Some e → result ≡ code_at e.key 1 }
 {
-    let mut place = low;
-    while place < flat.len() && code_at(flat.key(place), 1) < code {
-        place += 1;
+    if place < flat.len() {
+        code_at(flat.key(place), 1)
+    } else {
+        CODES
     }
-    place
 }
 
 /// For each code, the first entry whose key has at least this code after the `&`.
@@ -32,9 +29,13 @@ pub(crate) fn starts_of(alloc: Global, flat: &Flat) -> Result<Vec<usize>, AllocE
 {
     let mut starts = Vec::with_capacity(alloc, usize::from(CODES))?;
     let mut place = 0;
+    let mut here = code_from(flat, place);
     for code in 0..CODES {
-        place = start_from(flat, place, code);
-        starts.push(place)?;
+        if here < code {
+            place = first_from(flat, place, flat.len(), 1, code);
+            here = code_from(flat, place);
+        }
+        starts.push_reserved(place);
     }
     Ok(starts)
 }

@@ -77,11 +77,11 @@ impl Table {
         ensures ok { IfOk result (λ table. table ≡ core) }
         ensures err { IfErr result (λ e. e ≡ Refusal.Memory) }
     {
-        Table::of_flat(alloc, Vec::from_slice(alloc, CORE)?, true)
+        Table::of_flat(alloc, Vec::from_slice(alloc, CORE)?, false)
     }
 
-    /// Reads a table from its flat form ([`Table::as_flat`]), without an allocation for each entry. The error is `Memory`, or
-    /// `BadTable` with the cause `Shape` if these bytes are not what `as_flat` gives of any table.
+    /// Reads a table from its flat form ([`Table::as_flat`]), without an allocation for each entry. The error is `Memory`, also
+    /// for 4 GB or more, or `BadTable` with the cause `Shape` if these bytes are not what `as_flat` gives of any table.
     pub fn from_flat(alloc: Global, bytes: &[u8]) -> Result<Table, Refusal>
         ensures readable { IfOk result (λ table. IsReadable table) }
         ensures ok { IfOk result (λ table. flat_of table ≡ bytes.now) }

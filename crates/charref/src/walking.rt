@@ -126,6 +126,7 @@ fn no_digits(left: usize) -> Reference
 }
 
 /// Whether a key ends in a `;`.
+#[inline(always)]
 pub(crate) fn ends_in_semicolon(key: &[u8]) -> bool
     ensures { result ≡ ends_in_semicolon key.now }
 {

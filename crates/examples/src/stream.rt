@@ -98,8 +98,8 @@ impl<'a> TokenSink for Links<'a> {
         Ok(())
     }
 
-    fn take_tag(&mut self, tag: Token, names: &Names) -> Result<(), Refusal> {
-        if let Token::Start { name, attrs, .. } = &tag
+    fn take_tag(&mut self, tag: &mut Token, names: &Names) -> Result<(), Refusal> {
+        if let Token::Start { name, attrs, .. } = &*tag
             && name.tag() == Tag::A
         {
             for attr in attrs {

@@ -312,17 +312,17 @@ impl Site {
     pub(crate) fn create(
         &mut self,
         name: NameId,
-        attrs: Vec<Attr>,
+        attrs: &mut Vec<Attr>,
         at: u64,
     ) -> Result<NodeId, Refusal>
-        ensures done { Gives result self.new (made at (element name (map attribute_of attrs.items)) self.old) }
+        ensures done { Gives result self.new (made at (element name (map attribute_of attrs.old.items)) self.old) }
         ensures number { IfOk result (λ n. (n ≡ self.old.nodes.made) × (0 < n)) }
         ensures outside { IfOk result (λ n. (k : ℕ) → k < n → IsOutside k n (trees self.new)) }
         ensures apart { IfOk result (λ n. (k : ℕ) → k < n → IsOutside n k (trees self.new)) }
         ensures places { IfOk result (λ n. (p : Place) → IsPlace p self.old.nodes → IsPlace p self.new.nodes) }
         ensures few { self.new.nodes.made ≤ self.old.nodes.made + 1 }
     {
-        self.tree.create_element(name, attrs, at)
+        self.tree.create_element_from(name, attrs, at)
     }
 
     /// Creates an element for a token (`#create-an-element-for-the-token`), whose attributes it shares.

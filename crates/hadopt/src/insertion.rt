@@ -12,17 +12,17 @@ use names::{Attr, NameId, Refusal, Tag};
 
 impl Site {
     /// Inserts an HTML element (`#insert-an-html-element`): puts a new one at a place and makes it the current node. `at` is the byte
-    /// offset of the token, here as in all calls.
+    /// offset of the token, here as in all calls. The attributes leave their list.
     #[inline(always)]
     pub fn insert_element(
         &mut self,
         name: NameId,
-        attrs: Vec<Attr>,
+        attrs: &mut Vec<Attr>,
         place: Place,
         at: u64,
     ) -> Result<NodeId, Refusal>
         requires { IsPlace place self.old.nodes }
-        ensures done { Gives result self.new (inserted at name (map attribute_of attrs.items) place self.old) }
+        ensures done { Gives result self.new (inserted at name (map attribute_of attrs.old.items) place self.old) }
         ensures number { IfOk result (λ n. n ≡ self.old.nodes.made) }
         ensures kept { IsSound numbers self.old → PlaceStands place (trees self.old) → IfOk result (λ _. IsSound numbers self.new) }
     {
@@ -67,18 +67,16 @@ impl Site {
     pub fn insert_formatting(
         &mut self,
         name: NameId,
-        attrs: Vec<Attr>,
+        attrs: Attributes,
         place: Place,
         at: u64,
     ) -> Result<NodeId, Refusal>
         requires { IsPlace place self.old.nodes }
-        ensures done { Gives result self.new (and_then (inserted at name (map attribute_of attrs.items) place self.old)
-            (λ t. Goes (listed numbers name (map attribute_of attrs.items) t))) }
+        ensures done { Gives result self.new (and_then (inserted at name attrs place self.old) (λ t. Goes (listed numbers name attrs t))) }
         ensures number { IfOk result (λ n. n ≡ self.old.nodes.made) }
         ensures kept { IsSound numbers self.old → PlaceStands place (trees self.old) → nat_eq name (number_of Tag.Table) ≡ false
             → IfOk result (λ _. IsSound numbers self.new) }
     {
-        let attrs = Attributes::new(attrs, self.alloc)?;
         let new = self.insert_sharing(name, attrs.share()?, place, at)?;
         self.list.push(new, name, attrs)?;
         Ok(new)

@@ -26,4 +26,5 @@ pub mod Lines
 pub mod SomeSpan
 pub mod Closing
 pub mod Running
+pub mod DoctypeRuns
 pub mod DoctypeRows

@@ -132,6 +132,12 @@ kept_found (keeps.Inside which) p known = identified which (text_bytes (p ∷ []
 abbrev pub found_by : Step → Placed → Found → Found
 found_by step p known = if step.forces then force (kept_found step.keeps p known) else kept_found step.keeps p known
 
+-- the contents after characters that are only data in a phase
+abbrev pub with_run : DoctypeState → List ℕ → Found → Found
+with_run phase.Name bytes known = with_name bytes known
+with_run (phase.Quoted which mark) bytes known = identified which bytes known
+with_run _ bytes known = known
+
 -- the errors of the character
 abbrev pub fault_errors : Option ParseError → List ParseError
 fault_errors None = []

@@ -1,9 +1,10 @@
 -- What a doctype walk has read.
-use Rattle.std.specs.Prelude.{◌≡◌, ◌<◌, ℕ, drop, true, false, List, ◌∷◌, ◌++◌, Option, Some, None, is_some, String, string_bytes}
+use Rattle.std.specs.Prelude.{◌≡◌, ◌<◌, ℕ, Bool, drop, true, false, not, ◌==◌, ◌||◌, List, ◌∷◌, ◌++◌, Option, Some, None, is_some, String, string_bytes}
+use Rattle.std.specs.Char.{is_ascii_uppercase}
 use Rattle.names.specs.declared.error.ParseError.{ParseError}
 use Rattle.names.specs.declared.error.ErrorCode.TheVariants.{InvalidCharacterSequenceAfterDoctypeName}
 use Rattle.names.specs.declared.placed.Placed.{Placed}
-use Rattle.names.specs.Placed.{lowered, spells_in_any_case, is_quote, error}
+use Rattle.names.specs.Placed.{lowered, spells_in_any_case, is_space, is_greater, is_quote, error}
 use Rattle.hmarkup.specs.declared.keyword.Identifier.{Identifier}
 use Rattle.hmarkup.specs.declared.keyword.Identifier.TheVariants.{Public, System}
 use Rattle.hmarkup.specs.declared.keyword.Letters.{Letters}
@@ -58,6 +59,12 @@ FitsState phase.Name known = is_some known.name ≡ true
 FitsState (phase.Keyword letters first) known = letters.read < 6
 FitsState (phase.Quoted which mark) known = (is_quote mark ≡ true) × (is_some (identifier_of which known) ≡ true)
 FitsState _ known = Unit {0}
+
+-- a character that is only data in a phase: it is part of the name or of an identifier as it is, and no error
+abbrev pub is_data : DoctypeState → ℕ → Bool
+is_data phase.Name c = not ((is_space c || is_ascii_uppercase c) || (is_greater c || c == 0))
+is_data (phase.Quoted which mark) c = not (c == mark || (is_greater c || c == 0))
+is_data _ c = false
 
 -- A doctype begins with this text, and its errors with these, and from there it goes on as the walk's phase says.
 pub record GoesOnAfter (walk : Reading) (text : List Placed) (errors : List ParseError) (end : ℕ) (after rest span : List Placed) (found : Found)

@@ -1,8 +1,10 @@
 //! Reads a doctype (HTML Standard, `#doctype-state` to `#bogus-doctype-state`), one character at a time.
 
-ghost use Rattle.std.specs.Prelude.{◌≡◌, ◌++◌, ◌∷◌, ℕ, [], List, Option, Some, OnOk, codes};
+ghost use Rattle.std.specs.Prelude.{◌≡◌, ◌≤◌, ◌++◌, ◌∷◌, ℕ, [], List, Option, Some, OnOk, true, codes, length};
 ghost use Rattle.std.specs.Char.{encode_utf8};
-ghost use Rattle.hmarkup.specs.Vocabulary.{Error, Placed, characters, null_errors, without_null, Hands, IsDoctype, force, lengthened, fault_errors, found_by, Reading};
+ghost use Rattle.std.specs.List.{list_all, prefix_len};
+ghost use Rattle.std.specs.Str.{chars};
+ghost use Rattle.hmarkup.specs.Vocabulary.{Error, Placed, characters, placed, null_errors, without_null, Hands, IsDoctype, force, lengthened, fault_errors, found_by, Reading, is_data, with_run};
 ghost use Rattle.hmarkup.specs.Vocabulary.{HasReadDoctype, optional_text, BeginsSpans, IsOpenMarkup, ClosedBy, HasMarkupSpan, IsOneSpan, TakesMarkup, EndsMarkup};
 
 use crate::doctype_state::{DoctypeState, Keeps, Step};
@@ -74,12 +76,11 @@ fn add(part: &mut Option<String>, ch: char, alloc: Global) -> Result<(), AllocEr
     push(part.get_or_insert(String::new(alloc)), ch)
 }
 
-/// Makes a missing text empty.
-fn begin(part: &mut Option<String>, alloc: Global) -> Result<(), AllocError>
-    ensures { OnOk result (optional_text part.new ≡ Some (lengthened (optional_text part.old) [])) }
+/// Appends a run, which may be empty; a missing text begins with it.
+fn add_run(part: &mut Option<String>, run: &str, alloc: Global) -> Result<(), AllocError>
+    ensures { OnOk result (optional_text part.new ≡ Some (lengthened (optional_text part.old) run.now)) }
 {
-    part.get_or_insert(String::new(alloc));
-    Ok(())
+    part.get_or_insert(String::new(alloc)).push_str(run)
 }
 
 impl Doctype {
@@ -98,10 +99,22 @@ impl Doctype {
         match step.keeps {
             Keeps::Nothing => Ok(()),
             Keeps::Name => add(&mut self.name, ch.to_ascii_lowercase(), alloc),
-            Keeps::Quote(Identifier::Public) => begin(&mut self.public_id, alloc),
-            Keeps::Quote(Identifier::System) => begin(&mut self.system_id, alloc),
+            Keeps::Quote(Identifier::Public) => add_run(&mut self.public_id, "", alloc),
+            Keeps::Quote(Identifier::System) => add_run(&mut self.system_id, "", alloc),
             Keeps::Inside(Identifier::Public) => add(&mut self.public_id, ch, alloc),
             Keeps::Inside(Identifier::System) => add(&mut self.system_id, ch, alloc),
+        }
+    }
+
+    /// Keeps a run that is only data in a state.
+    fn take_run(&mut self, phase: DoctypeState, run: &str, alloc: Global) -> Result<(), AllocError>
+        ensures { OnOk result (self.new ≡ with_run phase run.now self.old) }
+    {
+        match phase {
+            DoctypeState::Name => add_run(&mut self.name, run, alloc),
+            DoctypeState::Quoted(Identifier::Public, _) => add_run(&mut self.public_id, run, alloc),
+            DoctypeState::Quoted(Identifier::System, _) => add_run(&mut self.system_id, run, alloc),
+            _ => Ok(()),
         }
     }
 }
@@ -143,6 +156,25 @@ impl DoctypeWalk {
         };
         self.phase = phase;
         Ok(false)
+    }
+
+    /// How many bytes at the front of a run are only data here: in the name all before white space, a capital letter, `>` or NUL, inside an
+    /// identifier all before its quote, `>` or NUL.
+    pub fn data_run(&self, run: &str) -> usize
+        ensures counted { result ≡ prefix_len (is_data self.now.phase) run.now }
+        ensures few { result ≤ length run.now }
+    {
+        self.phase.data_run(run)
+    }
+
+    /// Reads a run of characters that are only data here, as `take_char` would one by one. It raises no error.
+    pub fn take_run(&mut self, run: &str) -> Result<(), AllocError>
+        requires { list_all (is_data self.old.phase) run.now ≡ true }
+        ensures { (at : ℕ) (text : List Placed) (raised : List Error) → HasReadDoctype self.old text raised
+            → OnOk result (HasReadDoctype self.new (text ++ placed at (chars run.now)) raised) }
+    {
+        let alloc = self.alloc;
+        self.found.take_run(self.phase, run, alloc)
     }
 
     /// Tells the walk that the input ends here, at byte offset `end`. An error is the sink's refusal.

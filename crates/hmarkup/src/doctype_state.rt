@@ -1,9 +1,10 @@
 //! The states of reading a doctype (HTML Standard, `#doctype-state` to `#bogus-doctype-state`), and what a character does in each.
 
-ghost use Rattle.std.specs.Prelude.{◌≡◌, ◌==◌};
+ghost use Rattle.std.specs.Prelude.{◌≡◌, ◌≤◌, ◌==◌, length};
+ghost use Rattle.std.specs.List.{prefix_len};
 ghost use Rattle.std.specs.Char.{to_ascii_lowercase};
 ghost use Rattle.hmarkup.specs.Vocabulary.{is_space, is_greater, is_quote, goes_to, ends_doctype, faulty, refuses, skips, step, before_name, in_name, after_name};
-ghost use Rattle.hmarkup.specs.Vocabulary.{in_keyword, after_keyword, in_quotes, after_public, after_system, first_letter, next_letter, end_fault};
+ghost use Rattle.hmarkup.specs.Vocabulary.{in_keyword, after_keyword, in_quotes, after_public, after_system, first_letter, next_letter, end_fault, is_data};
 
 use crate::keyword::{Identifier, Letters};
 use names::{ErrorCode, ParseError};
@@ -137,6 +138,36 @@ impl DoctypeState {
             DoctypeState::AfterSystem => Step::after_system(ch, at),
             DoctypeState::Skipped if ch == '>' => Step::end(),
             DoctypeState::Skipped => Step::to(DoctypeState::Skipped),
+        }
+    }
+
+    /// How many bytes at the front of a run are only data in this state.
+    pub fn data_run(self, run: &str) -> usize
+        ensures counted { result ≡ prefix_len (is_data self) run.now }
+        ensures few { result ≤ length run.now }
+    {
+        for (index, byte) in run.as_bytes().iter().enumerate() {
+            if !self.is_data(*byte) {
+                return index;
+            }
+        }
+        run.len()
+    }
+
+    /// Whether this byte is only data: it is kept as it is, without an error, and the state stays.
+    fn is_data(self, byte: u8) -> bool
+        ensures { result ≡ is_data self byte }
+    {
+        match self {
+            DoctypeState::Name => {
+                !byte.is_ascii_whitespace()
+                    && !byte.is_ascii_uppercase()
+                    && !matches!(byte, b'>' | 0)
+            }
+            DoctypeState::Quoted(_, mark) => {
+                char::from(byte) != mark && !matches!(byte, b'>' | 0)
+            }
+            _ => false,
         }
     }
 

@@ -1,5 +1,5 @@
 -- Characters that are put as they are.
-use Rattle.hmodes.proofs.Vocabulary.{◌≡◌, ℕ, zero, suc, Bool, true, false, List, [], ◌∷◌, ◌++◌, ◌+◌, ◌-◌, length, Option, Some, None, Result, Ok, Err, refl, sym, ap, ◌∙◌, arith, subst, list_all, ◌&&◌, ◌==◌, not, is_none, result_err, and_parts, false≢true, nat_tests, placed, characters, Placed, one_more, one_refused, len_utf8, encode_utf8, repeat, chars, IsUtf8, IsUtf8-nil, IsUtf8-encode, IsUtf8-append, chars-nil, chars_past_char, AreNodes, IsPlace, Hands, Refusal, Place, run_tokens, replacement_run, StartsAt, IsTextWithReferences, Gives, put_each, Outcome, SiteOf, with_site, State, Token, step_begun, Building, BuilderStands, TakesTokenAt, TakesToken, puts_run, refused_by, AreSome, puts_in, puts_each, put_all, Alone, Handed}
+use Rattle.hmodes.proofs.Vocabulary.{◌≡◌, ℕ, zero, suc, Bool, true, false, List, [], ◌∷◌, ◌++◌, ◌+◌, ◌-◌, length, Option, Some, None, Result, Ok, Err, refl, sym, ap, ◌∙◌, arith, subst, list_all, ◌&&◌, ◌==◌, not, is_none, result_err, and_parts, false≢true, nat_tests, placed, characters, Placed, one_more, one_refused, len_utf8, encode_utf8, repeat, chars, IsUtf8, IsUtf8-nil, IsUtf8-encode, IsUtf8-append, chars-nil, chars_past_char, AreNodes, IsPlace, Hands, Refusal, Place, run_tokens, replacement_run, StartsAt, IsTextWithReferences, Gives, put_each, Outcome, SiteOf, with_site, State, Token, step_begun, Building, BuilderStands, TakesTokenAt, TakesToken, refused_by, AreSome, puts_in, puts_each, put_all, Alone, Handed}
 use Rattle.std.proofs.lemmas.List.{length-append}
 use Rattle.names.proofs.Handing.{Continues-all}
 use Rattle.htext.specs.Run.{is_clean}
@@ -126,13 +126,13 @@ stands_by_token at t old new answer stands free none h =
     stands-on at t old new (stands free) (taken at t old new (Ok tt) free (subst (λ (a : Result (Unit {0}) Refusal). TakesTokenAt at t old a new) (ok-of answer none) h))
 
 -- what the test of a run says
-pub run_parts : (run : List ℕ) (b : Building) → puts_run run b ≡ true → (false ≡ (length run == 0)) × (b.refused ≡ None) × (puts_each b.state ≡ true)
-run_parts run b h = go (length run == 0) b.refused (puts_each b.state) h
+pub run_parts : (run : List ℕ) (b : Building) (whole : Bool) → (not (length run == 0) && is_none b.refused && whole) ≡ true → (false ≡ (length run == 0)) × (b.refused ≡ None) × (whole ≡ true)
+run_parts run b whole h = go (length run == 0) b.refused whole h
   where
-    go : (none : Bool) (o : Option Refusal) (puts : Bool) → (not none && is_none o && puts) ≡ true → (false ≡ none) × (o ≡ None) × (puts ≡ true)
-    go true o puts h = absurd cc
-    go false (Some r) puts h = absurd cc
-    go false None puts h = (refl, refl, h)
+    go : (none : Bool) (o : Option Refusal) (whole : Bool) → (not none && is_none o && whole) ≡ true → (false ≡ none) × (o ≡ None) × (whole ≡ true)
+    go true o whole h = absurd cc
+    go false (Some r) whole h = absurd cc
+    go false None whole h = (refl, refl, h)
 
 -- what is left of a run of plain characters is one
 pub rest_clean : (run rest : List ℕ) (c : ℕ) → IsUtf8 run → run ≡ encode_utf8 c ++ rest → list_all is_clean (chars run) ≡ true → list_all is_clean (chars rest) ≡ true

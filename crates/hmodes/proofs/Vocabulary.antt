@@ -20,7 +20,7 @@ pub use Rattle.hopen.specs.Formatting.{EntryOf, Listed, after_marker, cleared, e
 pub use Rattle.hmarkup.specs.Quirks.{QuirkLine}
 pub use Rattle.hmodes.specs.Beginning.{Limits, document_begins, fragment_begins}
 pub use Rattle.hmodes.specs.Body.{character_in_body, formatting, text}
-pub use Rattle.hmodes.specs.Building.{Building, ChainGives, HasBegun, IsReprocessed, BuilderStands, BuilderStaysRefused, StepGives, TakesTokenAt, BuilderTakesOn, TakesToken, puts_run, refused_by}
+pub use Rattle.hmodes.specs.Building.{Building, ChainGives, HasBegun, IsReprocessed, BuilderStands, BuilderStaysRefused, StepGives, TakesTokenAt, BuilderTakesOn, TakesToken, puts_run, pends_run, refused_by}
 pub use Rattle.hmodes.specs.Doctypes.{conforms, doctype_node, forces_quirks}
 pub use Rattle.hmodes.specs.Families.{family_of}
 pub use Rattle.hmodes.specs.Flows.{FlowGives, StateGives, performed_for}
@@ -32,7 +32,7 @@ pub use Rattle.hmodes.specs.RawFollows.{ComesToText, Inserts, IsInText, IsLimit,
 pub use Rattle.hmodes.specs.Reached.{Reached, after, fragment}
 pub use Rattle.hmodes.specs.Reset.{context_mode, open_mode, reset_mode, root_mode}
 pub use Rattle.hmodes.specs.Rules.{mode_error, rule_of}
-pub use Rattle.hmodes.specs.Runs.{AreSome, before_text, char_rule, is_for_text, put_all, puts_each, puts_in, takes_char}
+pub use Rattle.hmodes.specs.Runs.{AreSome, before_text, char_rule, is_for_text, keeps, pends_each, put_all, puts_each, puts_in, takes_char}
 pub use Rattle.hmodes.specs.Mapped.{StepsKnowNoNames, mapped_flow, mapped_placed, mapped_state, mapped_token}
 pub use Rattle.hmodes.specs.State.{Again, Control, Done, Flow, PlacedToken, Refused, State, Token, character, comment, doctype, end, eof, flow_map, flow_then, is_self_closing, kind_of, renamed, start, token_attrs, token_char, token_name, token_text}
 pub use Rattle.hmodes.specs.States.{state_of}

@@ -8,7 +8,7 @@ use Rattle.hadopt.specs.Naming.{numbers}
 use Rattle.hadopt.specs.Site.{Goes}
 use Rattle.hadopt.specs.Site as site
 use Rattle.hmodes.specs.Reached.{Reached}
-use Rattle.hmodes.specs.Runs.{puts_each}
+use Rattle.hmodes.specs.Runs.{puts_each, pends_each}
 use Rattle.hmodes.specs.State.{Again, State, Token}
 use Rattle.hmodes.specs.Step.{Chain, Rule, Step, step_begun}
 use Rattle.hmodes.specs.Tokens.{token_of, token_at}
@@ -51,6 +51,10 @@ refused_by (Err e) = Some e
 -- Whether a run can be put whole: it has characters, nothing was refused, and each of them is put as it is.
 abbrev pub puts_run : List ℕ → Building → Bool
 puts_run run b = not (length run == 0) && is_none b.refused && puts_each b.state
+
+-- the same, and each of them is kept as pending
+abbrev pub pends_run : List ℕ → Building → Bool
+pends_run run b = not (length run == 0) && is_none b.refused && pends_each b.state
 
 -- What is refused stays so, and nothing changes.
 pub record BuilderStaysRefused (r : Refusal) (old : Building) (answer : Result (Unit {0}) Refusal) (new : Building) : Type 0 where

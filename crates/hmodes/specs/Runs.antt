@@ -53,3 +53,11 @@ char_rule _ = character_in_body
 -- whether a character goes so, where no LF is dropped before it
 abbrev pub takes_char : State ℕ → Bool
 takes_char s = not s.control.drop_lf && is_for_text s.control.mode
+
+-- whether a character is kept as pending, where no LF is dropped before it
+abbrev pub keeps : Mode → Bool
+keeps InTableText = true
+keeps _ = false
+
+abbrev pub pends_each : State ℕ → Bool
+pends_each s = not s.control.drop_lf && keeps s.control.mode

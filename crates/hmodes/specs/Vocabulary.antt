@@ -10,7 +10,7 @@ pub use Rattle.hmodes.specs.Beginning.{control_in, form_of, document_begins, fra
 pub use Rattle.hmodes.specs.Body.{block, close_block, close_item, end_item, in_body, after_body, after_after_body, body_ends, character_in_body, text, formatting}
 pub use Rattle.hmodes.specs.Body.{void_in_text}
 pub use Rattle.hmodes.specs.Bounds.{AreLimits, Bounds}
-pub use Rattle.hmodes.specs.Building.{TakesTokenAt, TakesToken, puts_run, HasBegun, IsReprocessed, ChainGives, StepGives}
+pub use Rattle.hmodes.specs.Building.{TakesTokenAt, TakesToken, puts_run, pends_run, HasBegun, IsReprocessed, ChainGives, StepGives}
 pub use Rattle.hmodes.specs.Doctypes.{is_text, conforms, forces_quirks, doctype_node}
 pub use Rattle.hmodes.specs.Ended.{ended}
 pub use Rattle.hmodes.specs.Families.{family_of}
@@ -26,7 +26,7 @@ pub use Rattle.hmodes.specs.RawFollows.{RawFollows}
 pub use Rattle.hmodes.specs.Reached.{HasOneStep, Reached}
 pub use Rattle.hmodes.specs.Reset.{context_mode, open_mode, root_mode, reset_mode}
 pub use Rattle.hmodes.specs.Rules.{rule_of, mode_error}
-pub use Rattle.hmodes.specs.Runs.{AreSome, puts_each, takes_char, before_text, put_all, char_rule}
+pub use Rattle.hmodes.specs.Runs.{AreSome, puts_each, pends_each, takes_char, before_text, put_all, char_rule}
 pub use Rattle.hmodes.specs.Mapped.{StepsKnowNoNames}
 pub use Rattle.hmodes.specs.Stand.{OpenNodesStand}
 pub use Rattle.hmodes.specs.State.{character, Token, State, is_self_closing, Token as TokenOf, Done as DoneOf, token_attrs, token_name, token_text, token_char}

@@ -20,9 +20,9 @@ impl<'q> TreeConstruction<'q> {
             TokenKind::Ws => Ok(Flow::Done),
             TokenKind::Start(Family::Html) => {
                 let name = token_name(token);
-                let attrs = take_attrs(self.alloc, token);
+                let mut attrs = take_attrs(self.alloc, token);
                 let place = self.site.place_in_document();
-                self.site.insert_element(name, attrs, place, at)?;
+                self.site.insert_element(name, &mut attrs, place, at)?;
                 self.control.mode = Mode::BeforeHead;
                 Ok(Flow::Done)
             }
@@ -40,7 +40,7 @@ impl<'q> TreeConstruction<'q> {
     {
         let place = self.site.place_in_document();
         self.site
-            .insert_element(Tag::Html.number(), Vec::new(self.alloc), place, at)?;
+            .insert_element(Tag::Html.number(), &mut Vec::new(self.alloc), place, at)?;
         self.control.mode = Mode::BeforeHead;
         Ok(Flow::Again)
     }

@@ -25,6 +25,7 @@ fn control_in(alloc: Global, mode: Mode, form: Option<NodeId>) -> Control
         form,
         quirks: false,
         pending: Vec::new(alloc),
+        spaces: String::new(alloc),
         drop_lf: false,
         acknowledged: false,
     }
@@ -36,7 +37,7 @@ fn fragment_site(alloc: Global, keys: Keys, limits: Limits) -> Result<(Site, Nod
 {
     let mut site = Site::new(alloc, keys, limits.nodes(), limits.depth())?;
     let place = site.place_in_document();
-    let root = site.insert_element(Tag::Html.number(), Vec::new(alloc), place, 0);
+    let root = site.insert_element(Tag::Html.number(), &mut Vec::new(alloc), place, 0);
     match root {
         Ok(root) => Ok((site, root)),
         Err(refusal) => {

@@ -5,7 +5,7 @@ ghost use Rattle.std.specs.List.{list_all};
 ghost use Rattle.std.specs.Option.{option_map};
 ghost use Rattle.std.specs.Result.{result_err};
 ghost use Rattle.std.specs.Str.{chars};
-ghost use Rattle.hmodes.specs.Vocabulary.{Refused, Memory, numbers, document_begins, fragment_begins, token_of, TakesTokenAt, TakesToken, puts_run, AreSome, puts_each, takes_char, is_clean, MAX_INPUT, run_tokens, IsTextWithReferences, placed};
+ghost use Rattle.hmodes.specs.Vocabulary.{Refused, Memory, numbers, document_begins, fragment_begins, token_of, TakesTokenAt, TakesToken, puts_run, pends_run, AreSome, puts_each, takes_char, is_clean, MAX_INPUT, run_tokens, IsTextWithReferences, placed};
 ghost use Rattle.hmodes.specs.Vocabulary.{Placed, Hands};
 
 use crate::limits::Limits;
@@ -160,8 +160,8 @@ impl<'q> Builder<'q> {
         })
     }
 
-    /// Takes the first character of a run by itself. If what is left can be put whole then, as after one that changes the mode, or an LF
-    /// that is dropped, it is; otherwise its characters are taken one by one.
+    /// Takes the first character of a run by itself. If what is left can be put or kept whole then, as after one that changes the mode, or
+    /// an LF that is dropped, it is; otherwise its characters are taken one by one.
     fn take_first(&mut self, run: &str, at: u64) -> Result<(), Refusal>
         requires clean { list_all is_clean (chars run.now) ≡ true }
         requires within { at + length run.now ≤ MAX_INPUT }
@@ -176,6 +176,9 @@ impl<'q> Builder<'q> {
         let next = rest_place(run, rest, at);
         if self.puts_run(rest) {
             return self.put_run(rest, next);
+        }
+        if self.pends_run(rest) {
+            return self.pend_run(rest, next);
         }
         self.take_run_by_one(rest, next)
     }
@@ -209,9 +212,31 @@ impl<'q> Builder<'q> {
         answer
     }
 
-    /// Takes a token, whose first byte is at this place.
+    /// Whether a run has characters, nothing was refused, and each of them is kept as pending.
     #[inline(always)]
-    fn take(&mut self, token: &mut Token, at: u64) -> Result<(), Refusal>
+    fn pends_run(&self, run: &str) -> bool
+        ensures { result ≡ pends_run run.now self.now }
+    {
+        !run.is_empty() && self.refused.is_none() && self.state.pends_each()
+    }
+
+    /// Keeps the characters of a run as pending.
+    #[inline(always)]
+    fn pend_run(&mut self, run: &str, at: u64) -> Result<(), Refusal>
+        requires some { AreSome (chars run.now) }
+        requires within { at + length run.now ≤ MAX_INPUT }
+        requires pends { pends_run run.now self.old ≡ true }
+        ensures { Hands TakesToken self.old (run_tokens (placed at (chars run.now))) result self.new }
+    {
+        self.state.begin();
+        let answer = self.state.pend_run(run, at);
+        keep(&mut self.refused, answer);
+        answer
+    }
+
+    /// Takes a token, whose first byte is at this place. What it leaves of the token is the caller's.
+    #[inline(always)]
+    pub fn take(&mut self, token: &mut Token, at: u64) -> Result<(), Refusal>
         ensures { TakesTokenAt at (token_of token.old) self.old result self.new }
     {
         again(self.refused)?;
@@ -296,9 +321,9 @@ impl<'q> TokenSink for Builder<'q> {
     }
 
     #[inline(always)]
-    fn take_tag(&mut self, mut token: Token, _names: &Names) -> Result<(), Refusal> {
+    fn take_tag(&mut self, token: &mut Token, _names: &Names) -> Result<(), Refusal> {
         let at = token.place();
-        self.take(&mut token, at)
+        self.take(token, at)
     }
 
     fn take_text(&mut self, ch: char, at: u64) -> Result<(), Refusal> {

@@ -18,6 +18,8 @@ pub(crate) struct Control {
     pub(crate) quirks: bool,
     /// The pending table character tokens.
     pub(crate) pending: Vec<Placed>,
+    /// Room for their text, if they are white space.
+    pub(crate) spaces: String,
     /// Whether the next token is ignored if it is a LF.
     pub(crate) drop_lf: bool,
     /// Whether the self-closing flag of this token was acknowledged (`#acknowledge-self-closing-flag`).

@@ -9,7 +9,7 @@ ghost use Rattle.hopen.specs.declared.scope.Scope.TheVariants as scope;
 ghost use Rattle.names.specs.declared.tag.Tag.TheVariants as tag;
 
 use crate::mode::Mode;
-use crate::token::{rename, take_attrs, token_name};
+use crate::token::{rename, share_attrs, token_name};
 use crate::tree_construction::{Flow, Ruling, TreeConstruction, done};
 use hadopt::Passing;
 use hnodes::NodeId;
@@ -23,7 +23,7 @@ impl<'q> TreeConstruction<'q> {
         ensures { StateGives result (state_of self.new) (perform numbers at (token_of token.old) (insert ▸ push_to_list) (state_of self.old)) }
     {
         let name = token_name(token);
-        let attrs = take_attrs(self.alloc, token);
+        let attrs = share_attrs(self.alloc, token)?;
         let place = self.site.place();
         self.site.insert_formatting(name, attrs, place, at)?;
         Ok(())

@@ -1,7 +1,7 @@
 //! Characters of text, one alone or a run.
 
 ghost use Rattle.std.specs.Prelude.{◌≡◌, List};
-ghost use Rattle.hmodes.specs.Vocabulary.{Gives, numbers, StateGives, perform, with_site, character, state_of, Placed, IsTextWithReferences, puts_each, before_text, put_all, takes_char, char_rule};
+ghost use Rattle.hmodes.specs.Vocabulary.{Gives, numbers, StateGives, perform, with_site, character, state_of, Placed, IsTextWithReferences, puts_each, before_text, put_all, takes_char, char_rule, pends_each};
 
 use crate::mode::Mode;
 use crate::tree_construction::TreeConstruction;
@@ -45,6 +45,14 @@ impl<'q> TreeConstruction<'q> {
         prove!(self.site.tree().are_nodes());
         let place = self.site.place_in_current();
         self.site.put_text(run, place, at)
+    }
+
+    /// Whether a character other than NUL is kept as pending, and so is each of a run.
+    #[inline(always)]
+    pub(crate) fn pends_each(&self) -> bool
+        ensures { result ≡ pends_each (state_of self.now) }
+    {
+        !self.control.drop_lf && matches!(self.control.mode, Mode::InTableText)
     }
 
     /// Whether the rules put a character other than NUL, maybe after the formatting elements, or keep it as pending, and drop no LF.

@@ -1,8 +1,9 @@
 //! The "in table text" insertion mode (HTML Standard, `#parsing-main-intabletext`).
 
-ghost use Rattle.std.specs.Prelude.{◌≡◌, [], if◌then◌else◌};
+ghost use Rattle.std.specs.Prelude.{◌≡◌, ◌+◌, ◌≤◌, ◌++◌, ◌&&◌, [], not, true, false, if◌then◌else◌, length, map, OnOk, IfErr, string_bytes, encode_utf8_all};
 ghost use Rattle.std.specs.List.{list_all};
-ghost use Rattle.hmodes.specs.Vocabulary.{each_of, with_control, in_table_text, numbers, StateGives, perform, state_of, other_in_table, character, choose, put, Char, each_pending, pend, pending_is_ws, is_space, Performs, Does};
+ghost use Rattle.std.specs.Str.{chars};
+ghost use Rattle.hmodes.specs.Vocabulary.{each_of, with_control, in_table_text, numbers, StateGives, perform, state_of, other_in_table, character, choose, put, Char, each_pending, pend, pending_is_ws, is_space, Performs, Does, Memory, MAX_INPUT, placed};
 
 use crate::mode::Mode;
 use crate::token::token_char;
@@ -10,6 +11,7 @@ use crate::token_kind::TokenKind;
 use crate::tree_construction::{Flow, Ruling, TreeConstruction, done};
 use htoken::Token;
 use names::{Placed, Refusal};
+use std::alloc::AllocError;
 use std::mem;
 
 /// Whether all of them are white space.
@@ -17,6 +19,32 @@ fn are_ws(pending: &[Placed]) -> bool
     ensures { result ≡ list_all (λ c. is_space c.ch) pending.now }
 {
     pending.iter().all(|c| c.ch.is_ascii_whitespace())
+}
+
+/// Writes the characters into a text.
+fn write(text: &mut String, pending: &[Placed]) -> Result<(), AllocError>
+    ensures { OnOk result (string_bytes text.new ≡ encode_utf8_all (map (λ c. c.ch) pending.now)) }
+{
+    text.clear();
+    for c in pending {
+        text.push(c.ch)?;
+    }
+    Ok(())
+}
+
+/// Adds the characters of a run, the first byte of which is at `at`.
+fn push_run(pending: &mut Vec<Placed>, run: &str, at: u64) -> Result<(), Refusal>
+    requires { at + length run.now ≤ MAX_INPUT }
+    ensures added { OnOk result (pending.new.items ≡ pending.old.items ++ placed at (chars run.now)) }
+    ensures memory { IfErr result (λ e. e ≡ Memory) }
+{
+    for (index, ch) in run.char_indices() {
+        pending.push(Placed {
+            ch,
+            at: at + index as u64,
+        })?;
+    }
+    Ok(())
 }
 
 impl<'q> TreeConstruction<'q> {
@@ -44,12 +72,50 @@ impl<'q> TreeConstruction<'q> {
         Ok(())
     }
 
+    /// The characters of a run are pending, the first byte of which is at `at`.
+    pub(crate) fn pend_run(&mut self, run: &str, at: u64) -> Result<(), Refusal>
+        requires { at + length run.now ≤ MAX_INPUT }
+        ensures pending { OnOk result (state_of self.new
+            ≡ with_control (record self.old.control { pending = self.old.control.pending ++ placed at (chars run.now) }) (state_of self.old)) }
+        ensures memory { IfErr result (λ e. e ≡ Memory) }
+    {
+        push_run(&mut self.control.pending, run, at)
+    }
+
     /// All pending characters are put.
     fn put_pending(&mut self) -> Result<(), Refusal>
         ensures { Does 0 (choose pending_is_ws (each_pending put) (each_pending (other_in_table Char))) self.old result self.new }
     {
+        if self.pends_spaces() {
+            return self.put_spaces();
+        }
         let pending = self.take_pending();
         self.put_all(pending)
+    }
+
+    /// Whether all pending characters are white space, and nothing is foster parented.
+    fn pends_spaces(&self) -> bool
+        ensures { result ≡ (not self.now.site.foster && list_all (λ c. is_space c.ch) self.now.control.pending) }
+    {
+        !self.site.fosters() && are_ws(&self.control.pending)
+    }
+
+    /// Puts pending white space at the current node as one text: the same comes of it wherever all characters but the first are.
+    fn put_spaces(&mut self) -> Result<(), Refusal>
+        requires unfostered { self.old.site.foster ≡ false }
+        requires spaces { list_all (λ c. is_space c.ch) self.old.control.pending ≡ true }
+        ensures { StateGives result (state_of self.new) (each_of (λ c. perform numbers c.at (character c.ch) put) self.old.control.pending
+            (with_control (record self.old.control { pending = [] }) (state_of self.old))) }
+    {
+        let Some(first) = self.control.pending.first() else {
+            return Ok(());
+        };
+        let at = first.at;
+        write(&mut self.control.spaces, &self.control.pending)?;
+        self.control.pending.clear();
+        prove!(self.site.tree().are_nodes());
+        let place = self.site.place_in_current();
+        self.site.put_text(&self.control.spaces, place, at)
     }
 
     /// Characters that were pending: white space is put as it is, others go as anything else in a table.

@@ -1,12 +1,13 @@
 //! What the rules of the insertion modes take of a token: its name, attributes, text or character.
 
-ghost use Rattle.std.specs.Prelude.{◌≡◌, string_bytes, map};
+ghost use Rattle.std.specs.Prelude.{◌≡◌, IfOk, string_bytes, map};
 ghost use Rattle.std.specs.List.{list_any};
 ghost use Rattle.hmodes.specs.Vocabulary.{numbers, token_attrs, token_of, attribute_of, token_name, token_text, token_char, renamed, is_hidden};
 
+use hnodes::Attributes;
 use htoken::Token;
 use names::{Attr, NameId, Tag};
-use std::alloc::Global;
+use std::alloc::{AllocError, Global};
 use std::mem;
 
 /// The name of a tag; html for any other token, where no rule asks.
@@ -26,6 +27,16 @@ pub(crate) fn take_attrs(alloc: Global, token: &mut Token) -> Vec<Attr>
     match token {
         Token::Start { attrs, .. } => mem::replace(attrs, Vec::new(alloc)),
         _ => Vec::new(alloc),
+    }
+}
+
+/// The same, to be shared.
+pub(crate) fn share_attrs(alloc: Global, token: &mut Token) -> Result<Attributes, AllocError>
+    ensures { IfOk result (λ attrs. attrs ≡ token_attrs (token_of token.old)) }
+{
+    match token {
+        Token::Start { attrs, .. } => Attributes::take(attrs, alloc),
+        _ => Attributes::take(&mut Vec::new(alloc), alloc),
     }
 }
 

@@ -37,7 +37,10 @@ impl<'q> TreeConstruction<'q> {
         ensures kept { IsSound numbers self.old.site → IfOk result (λ _. IsSound numbers self.new.site) }
     {
         let name = token_name(token);
-        let attrs = take_attrs(self.alloc, token);
+        // No rule inserts one for another token.
+        let Token::Start { attrs, .. } = token else {
+            return self.insert_named(name, at);
+        };
         let place = self.site.place();
         self.site.insert_element(name, attrs, place, at)?;
         Ok(())
@@ -50,7 +53,7 @@ impl<'q> TreeConstruction<'q> {
     {
         let place = self.site.place();
         self.site
-            .insert_element(name, Vec::new(self.alloc), place, at)?;
+            .insert_element(name, &mut Vec::new(self.alloc), place, at)?;
         Ok(())
     }
 

@@ -23,7 +23,7 @@ doctype_texts d = (string_bytes d.name, string_bytes d.public_id, string_bytes d
 -- what a new node is to be
 abbrev pub given_is : Given → What ℕ
 given_is (given.Doctype d) = doctype (string_bytes d.name) (string_bytes d.public_id) (string_bytes d.system_id)
-given_is (given.Element name attrs) = element name (map attribute_of attrs.items)
+given_is (given.Element name attrs) = element name (map attribute_of attrs.now.items)
 given_is (given.Sharing name attrs) = element name attrs
 given_is (given.Comment t) = comment (string_bytes t)
 given_is (given.Text t) = text t.now

@@ -8,6 +8,7 @@ use crate::indexed_list::IndexedList;
 use names::{Attr, NameId};
 use std::alloc::{AllocError, Global};
 use std::marker::Model;
+use std::mem;
 
 /// So many attributes are looked at one by one; the names of more are numbered or sorted.
 pub const FEW_ATTRIBUTES: usize = 16;
@@ -136,6 +137,18 @@ pub(crate) fn names_end(attrs: &[Attr]) -> usize
         end = end.max(past(attr.name()));
     }
     end
+}
+
+/// Takes attributes out of a list. Few are moved to memory for as many, and the list keeps its own.
+pub(crate) fn taken(attrs: &mut Vec<Attr>, alloc: Global) -> Result<Vec<Attr>, AllocError>
+    ensures { IfOk result (λ taken. taken.items ≡ attrs.old.items) }
+{
+    if attrs.len() > FEW_ATTRIBUTES {
+        return Ok(mem::replace(attrs, Vec::new(alloc)));
+    }
+    let mut taken = Vec::with_capacity(alloc, attrs.len())?;
+    taken.append(attrs)?;
+    Ok(taken)
 }
 
 impl Indexed {

@@ -3,7 +3,7 @@
 ghost use Rattle.std.specs.Prelude.{◌≡◌, Some, None, OnOk, OnErr, IfOk, ◌++◌, ◌∷◌, [], ◌<◌, map, string_bytes};
 ghost use Rattle.hnodes.specs.Vocabulary.{attribute_of, comment, content_is, element, given_is, text, with_attribute, with_text, Holds, IsGrown, IsKept, Store};
 
-use crate::attributes::{FEW_ATTRIBUTES, Indexed};
+use crate::attributes::{FEW_ATTRIBUTES, Indexed, taken};
 use crate::shared::{Attributes, Listed};
 use crate::store::{Run, Store};
 use names::{Attr, NameId};
@@ -168,7 +168,7 @@ impl Node {
 #[derive(Drop)]
 pub(crate) enum Given<'a> {
     Doctype(DocumentType),
-    Element(NameId, Vec<Attr>),
+    Element(NameId, &'a mut Vec<Attr>),
     Sharing(NameId, Attributes),
     Comment(String),
     Text(&'a str),
@@ -193,27 +193,26 @@ pub(crate) fn content(
     }
 }
 
-/// An element with these attributes.
+/// An element with these attributes, which leave the list.
 #[inline(always)]
 fn element(
     name: NameId,
-    attrs: Vec<Attr>,
+    attrs: &mut Vec<Attr>,
     store: &mut Store,
     alloc: Global,
 ) -> Result<NodeData, AllocError>
-    ensures content { IfOk result (λ c. Holds store.new c (element name (map attribute_of attrs.items))) }
+    ensures content { IfOk result (λ c. Holds store.new c (element name (map attribute_of attrs.old.items))) }
     ensures grown { IsGrown store.old store.new }
 {
     if attrs.is_empty() {
         return Ok(NodeData::Element(name, Run::empty()));
     }
-    let mut attrs = attrs;
     if attrs.len() <= FEW_ATTRIBUTES {
-        if let Some(run) = store.add_attrs(&mut attrs)? {
+        if let Some(run) = store.add_attrs(attrs)? {
             return Ok(NodeData::Element(name, run));
         }
     }
-    wide(name, attrs, alloc)
+    wide(name, taken(attrs, alloc)?, alloc)
 }
 
 /// An element with an index of its attributes.

@@ -6,11 +6,12 @@ ghost use Rattle.std.specs.Rc.{rc_value};
 ghost use Rattle.hnodes.specs.Shared.{IsFound};
 ghost use Rattle.hnodes.specs.Vocabulary.{are_clean, attribute_of, names_differ, names_end};
 
-use crate::attributes::{FEW_ATTRIBUTES, are_clean, differ, few_differ, names_end};
+use crate::attributes::{FEW_ATTRIBUTES, are_clean, differ, few_differ, names_end, taken};
 use names::Attr;
 use std::alloc::{AllocError, Global};
 use std::marker::Model;
 use std::rc::Rc;
+use std::slice;
 
 /// What is found once of attributes.
 #[derive(Clone, Copy, Debug)]
@@ -44,9 +45,16 @@ fn look_at(attrs: &[Attr], alloc: Global) -> Result<Option<Box<Found>>, AllocErr
 
 /// Attributes, and what is found of them.
 #[derive(Debug, Drop)]
+enum Held {
+    /// One with a short value.
+    One(Attr),
+    Others(Vec<Attr>, Option<Box<Found>>),
+}
+
+/// Attributes that are looked at once.
+#[derive(Debug, Drop)]
 pub(crate) struct Listed {
-    attrs: Vec<Attr>,
-    found: Option<Box<Found>>,
+    held: Held,
 }
 
 impl Model for Listed {
@@ -60,34 +68,70 @@ impl Model for Listed {
 
     ghost use Rattle.hnodes.specs.Shared.{listed_in, IsListed};
 
-    ghost view = { listed_in };
+    ghost view = { λ l. listed_in l.held };
 
-    ghost invariant = { IsListed };
+    ghost invariant = { λ l. IsListed l.held };
 }
 
 impl Listed {
-    /// These attributes.
-    fn new(attrs: Vec<Attr>, alloc: Global) -> Result<Self, AllocError>
-        ensures { IfOk result (λ listed. listed ≡ map attribute_of attrs.items) }
+    /// Attributes that are taken out of a list.
+    fn take(attrs: &mut Vec<Attr>, alloc: Global) -> Result<Self, AllocError>
+        ensures { IfOk result (λ listed. listed ≡ map attribute_of attrs.old.items) }
     {
-        let found = look_at(&attrs, alloc)?;
-        Ok(Listed { attrs, found })
+        let found = look_at(attrs, alloc)?;
+        if attrs.len() > 1 || found.is_some() {
+            return Listed::others(attrs, found, alloc);
+        }
+        match attrs.pop() {
+            Some(attr) => Ok(Listed {
+                held: Held::One(attr),
+            }),
+            None => Listed::others(attrs, None, alloc),
+        }
+    }
+
+    /// More than one, or one with a long value.
+    fn others(
+        attrs: &mut Vec<Attr>,
+        found: Option<Box<Found>>,
+        alloc: Global,
+    ) -> Result<Self, AllocError>
+        requires { IfSome found (λ found. IsFound found.value (map attribute_of attrs.old.items)) }
+        ensures { IfOk result (λ listed. listed ≡ map attribute_of attrs.old.items) }
+    {
+        let attrs = taken(attrs, alloc)?;
+        Ok(Listed {
+            held: Held::Others(attrs, found),
+        })
     }
 
     /// The attributes.
     pub(crate) fn attrs(&self) -> &[Attr]
         ensures { map attribute_of result.now ≡ self.now }
     {
-        &self.attrs
+        match &self.held {
+            Held::One(attr) => slice::from_ref(attr),
+            Held::Others(attrs, _) => attrs,
+        }
+    }
+
+    /// What was found of them when they were looked at.
+    fn found(&self) -> Option<&Found>
+        ensures { IfSome result (λ found. IsFound found.now self.now) }
+    {
+        match &self.held {
+            Held::One(_) => None,
+            Held::Others(_, found) => found.as_deref(),
+        }
     }
 
     /// Whether their names differ.
     pub(crate) fn differ(&self) -> bool
         ensures { result ≡ names_differ nat_eq self.now }
     {
-        match &self.found {
+        match self.found() {
             Some(found) => found.differ,
-            None => few_differ(&self.attrs),
+            None => few_differ(self.attrs()),
         }
     }
 
@@ -95,9 +139,9 @@ impl Listed {
     pub(crate) fn clean(&self) -> bool
         ensures { result ≡ are_clean self.now }
     {
-        match &self.found {
+        match self.found() {
             Some(found) => found.clean,
-            None => are_clean(&self.attrs),
+            None => are_clean(self.attrs()),
         }
     }
 
@@ -105,9 +149,9 @@ impl Listed {
     pub(crate) fn names_end(&self) -> usize
         ensures { result ≡ names_end self.now }
     {
-        match &self.found {
+        match self.found() {
             Some(found) => found.names_end,
-            None => names_end(&self.attrs),
+            None => names_end(self.attrs()),
         }
     }
 }
@@ -134,13 +178,20 @@ impl Model for Attributes {
 
 impl Attributes {
     /// These attributes, to be shared.
-    pub fn new(attrs: Vec<Attr>, alloc: Global) -> Result<Self, AllocError>
+    pub fn new(mut attrs: Vec<Attr>, alloc: Global) -> Result<Self, AllocError>
         ensures { IfOk result (λ shared. shared ≡ map attribute_of attrs.items) }
+    {
+        Attributes::take(&mut attrs, alloc)
+    }
+
+    /// Attributes that are taken out of a list, to be shared.
+    pub fn take(attrs: &mut Vec<Attr>, alloc: Global) -> Result<Self, AllocError>
+        ensures { IfOk result (λ shared. shared ≡ map attribute_of attrs.old.items) }
     {
         if attrs.is_empty() {
             return Ok(Attributes { list: None });
         }
-        let listed = Listed::new(attrs, alloc)?;
+        let listed = Listed::take(attrs, alloc)?;
         let list = Some(Rc::new(alloc, listed)?);
         Ok(Attributes { list })
     }

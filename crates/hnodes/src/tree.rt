@@ -134,10 +134,23 @@ impl Tree {
     pub fn create_element(
         &mut self,
         name: NameId,
-        attrs: Vec<Attr>,
+        mut attrs: Vec<Attr>,
         at: u64,
     ) -> Result<NodeId, Refusal>
         ensures { Makes (element name (map attribute_of attrs.items)) at self.old self.new result }
+    {
+        self.create_element_from(name, &mut attrs, at)
+    }
+
+    /// Makes an element, loose, of attributes that leave their list, which keeps its memory for others.
+    #[inline(always)]
+    pub fn create_element_from(
+        &mut self,
+        name: NameId,
+        attrs: &mut Vec<Attr>,
+        at: u64,
+    ) -> Result<NodeId, Refusal>
+        ensures { Makes (element name (map attribute_of attrs.old.items)) at self.old self.new result }
     {
         self.make(Given::Element(name, attrs), at)
     }

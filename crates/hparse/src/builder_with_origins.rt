@@ -86,11 +86,11 @@ impl<'q> BuilderWithOrigins<'q> {
 
     /// Takes a token, and keeps how the nodes are made that it makes.
     #[inline(never)]
-    fn place_token(&mut self, token: Token) -> Result<(), Refusal>
-        ensures { TakesTokenWithOrigins self.old (Alone token) result self.new }
+    fn place_token(&mut self, token: &mut Token) -> Result<(), Refusal>
+        ensures { TakesTokenWithOrigins self.old (Alone token.old) result self.new }
     {
-        let maker = self.maker(&token);
-        self.builder.take_token(token)?;
+        let maker = self.maker(token);
+        self.builder.take(token, maker.at)?;
         self.keep(&maker)
     }
 
@@ -125,15 +125,15 @@ impl<'q> TokenSink for BuilderWithOrigins<'q> {
     ghost gives_token = { TakesTokenWithOrigins };
 
     #[inline(always)]
-    fn take_token(&mut self, token: Token) -> Result<(), Refusal> {
+    fn take_token(&mut self, mut token: Token) -> Result<(), Refusal> {
         if self.makings.is_none() {
             return self.builder.take_token(token);
         }
-        self.place_token(token)
+        self.place_token(&mut token)
     }
 
     #[inline(always)]
-    fn take_tag(&mut self, token: Token, names: &Names) -> Result<(), Refusal> {
+    fn take_tag(&mut self, token: &mut Token, names: &Names) -> Result<(), Refusal> {
         if self.makings.is_none() {
             return self.builder.take_tag(token, names);
         }

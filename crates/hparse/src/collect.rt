@@ -9,6 +9,7 @@ use hmarkup::ErrorSink;
 use htoken::{Token, TokenSink};
 use names::{Names, ParseError, Refusal};
 use std::alloc::Global;
+use std::mem;
 
 /// The tokens and the parse errors so far, each in the order in which they came.
 #[derive(Drop)]
@@ -64,8 +65,8 @@ impl TokenSink for Collected {
         Ok(())
     }
 
-    fn take_tag(&mut self, token: Token, _names: &Names) -> Result<(), Refusal> {
-        self.take_token(token)
+    fn take_tag(&mut self, token: &mut Token, _names: &Names) -> Result<(), Refusal> {
+        self.take_token(mem::replace(token, Token::Eof { at: 0 }))
     }
 
     fn take_text(&mut self, ch: char, at: u64) -> Result<(), Refusal> {

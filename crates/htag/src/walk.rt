@@ -1,6 +1,6 @@
 //! A walk through a tag.
 
-ghost use Rattle.std.specs.Prelude.{◌≡◌, ◌∷◌, ◌++◌, ℕ, List, [], length, true, false, OnOk, IfOk, IfErr, MatchResult, string_bytes};
+ghost use Rattle.std.specs.Prelude.{◌≡◌, ◌∷◌, ◌++◌, ℕ, List, [], length, true, false, OnOk, MatchResult, string_bytes};
 ghost use Rattle.htag.specs.Vocabulary.{Character, Texts, Grows, all, begins, is_letter, name_bytes, Entities, Start, End, IsBegun, NoValue, IsInTag, TakesInTag, IsCutTag, IsTagName, Memory, placed};
 
 use crate::kind::TagKind;
@@ -12,9 +12,6 @@ use charref::Table;
 use names::{Attr, Names, ParseError, Placed, Refusal};
 use std::alloc::{AllocError, Global};
 use std::mem;
-
-/// More attributes than these are handed over in the memory in which they were gathered.
-const FEW: usize = 16;
 
 /// Reads tags after their mark, one after another, a character at a time. What it keeps of a tag stays until the next one begins.
 #[derive(Drop)]
@@ -180,21 +177,24 @@ impl<'t> TagWalk<'t> {
         self.any
     }
 
-    /// The first attribute of each name, in order. They are gone from the walk then; if memory has run out, it is as it was. Few of them
-    /// are moved to memory for as many; the walk keeps its own for the next tag.
-    pub fn take_attributes(&mut self) -> Result<Vec<Attr>, AllocError>
-        ensures attributes { IfOk result (λ attrs. attrs.items ≡ self.old.attrs.items) }
-        ensures gone { OnOk result (self.new.attrs.items ≡ []) }
+    /// The first attribute of each name, in order. They are gone from the walk then.
+    #[inline(always)]
+    pub fn take_attributes(&mut self) -> Vec<Attr>
+        ensures attributes { result.items ≡ self.old.attrs.items }
+        ensures gone { self.new.attrs.items ≡ [] }
         ensures others { self.new ≡ record self.old { attrs = self.new.attrs } }
         ensures name { self.new.name ≡ self.old.name }
-        ensures error { IfErr result (λ _. self.new ≡ self.old) }
     {
-        if self.attrs.len() > FEW {
-            return Ok(mem::replace(&mut self.attrs, Vec::new(self.alloc)));
-        }
-        let mut attrs = Vec::with_capacity(self.alloc, self.attrs.len())?;
-        attrs.append(&mut self.attrs)?;
-        Ok(attrs)
+        mem::replace(&mut self.attrs, Vec::new(self.alloc))
+    }
+
+    /// Takes back the memory of the attributes for those of the next tag.
+    #[inline(always)]
+    pub fn give_back(&mut self, attrs: Vec<Attr>)
+        ensures others { self.new ≡ record self.old { attrs = attrs } }
+        ensures name { self.new.name ≡ self.old.name }
+    {
+        self.attrs = attrs;
     }
 
     #[inline(always)]

@@ -1,10 +1,11 @@
 -- Where a text is cut by the count of bytes that pass a test.
-use Rattle.htext.proofs.Names.{◌≡◌, ℕ, ◌<◌, ◌≤◌, ◌+◌, zero, suc, Bool, true, false, not, cond, List, [], ◌∷◌, ◌++◌, length, take, drop, sym, refl, ap, ◌∙◌, subst, arith, inl, inr, encode_utf8_all, list_all, prefix_len, and_parts, and_from, cases_lt, nat_tests, take_at, drop_at, take-append-drop, length-append, list_all-append, encodes-chars, chars-nil, encode_ascii, IsUtf8-nil, scalars, chars, IsUtf8, encode_utf8, is_plain_byte, is_plain_character, is_clean, is_clean_byte, is_text_byte, is_inner_byte, IsCut, IsCleanFront}
+use Rattle.htext.proofs.Names.{◌≡◌, ℕ, ◌<◌, ◌≤◌, ◌+◌, ◌-◌, zero, suc, Bool, true, false, not, cond, List, [], ◌∷◌, ◌++◌, length, take, drop, sym, refl, ap, ◌∙◌, subst, arith, inl, inr, encode_utf8_all, list_all, prefix_len, and_parts, and_from, cases_lt, nat_tests, take_at, drop_at, take-append-drop, length-append, length-drop, drop-drop, append-nil, take-add, chars-append, chars_past_char, length-encode, len_utf8, list_all-append, encodes-chars, chars-nil, encode_ascii, IsUtf8-nil, scalars, chars, IsUtf8, encode_utf8, is_plain_byte, is_plain_character, is_clean, is_of_clean_bytes, is_clean_byte, is_text_byte, is_inner_byte, IsCut, IsCleanFront}
 use Rattle.std.proofs.lemmas.Bool.{not-true}
 use Rattle.std.proofs.lemmas.Str.{chars-encodes, encodes-append}
-use Rattle.htext.proofs.Plain.{BeginsOutside, clean_bytes, other_bytes, long_bytes, begins_anew, plain_of_text, plain_of_inner}
+use Rattle.htext.proofs.Plain.{BeginsOutside, of_clean_bytes, clean_bytes, other_bytes, long_bytes, begins_anew, plain_of_text, plain_of_inner}
 use Rattle.htext.proofs.Runs.{counted, plain_bytes}
-use Rattle.htext.proofs.Wide.{chars_cut}
+use Rattle.names.proofs.Words.{all_weaker}
+use Rattle.htext.proofs.Wide.{chars_cut, cut_more, first_cut}
 
 take_scalars : (n : ℕ) (cs : List ℕ) → scalars cs ≡ true → (scalars (take n cs) ≡ true) × (scalars (drop n cs) ≡ true)
 take_scalars zero cs s = (refl, s)
@@ -59,7 +60,33 @@ module _ (test byte_test : ℕ → Bool) (inside : (c : ℕ) → test c ≡ true
 -- CLEAN CHARACTERS
 
 pub clean_front : (bytes : List ℕ) → IsUtf8 bytes → IsCleanFront (prefix_len is_clean_byte bytes) bytes
-clean_front bytes u = let (cut, clean) = front is_clean is_clean_byte clean_bytes other_bytes bytes u in record { cut = cut; clean = clean }
+clean_front bytes u =
+    let (cut, clean) = front is_of_clean_bytes is_clean_byte clean_bytes other_bytes bytes u in
+    record { cut = cut; clean = all_weaker is_of_clean_bytes is_clean of_clean_bytes (chars (take (prefix_len is_clean_byte bytes) bytes)) clean }
+
+-- one after another
+pub clean_more : (n m : ℕ) (bytes : List ℕ) → IsCleanFront n bytes → IsCleanFront m (drop n bytes) → IsCleanFront (n + m) bytes
+clean_more n m bytes here more = record {
+  cut = cut_more n m bytes here.cut more.cut;
+  clean = ap (λ (l : List ℕ). list_all is_clean (chars l)) (take-add n m bytes)
+      ∙ ap (list_all is_clean) (chars-append (take n bytes) (take m (drop n bytes)) here.cut.front)
+      ∙ list_all-append is_clean (chars (take n bytes)) (chars (take m (drop n bytes))) ∙ and_from _ _ here.clean more.clean;
+}
+
+alone : (c : ℕ) → IsUtf8 (encode_utf8 c) → chars (encode_utf8 c) ≡ c ∷ []
+alone c u =
+    let all = sym (append-nil (encode_utf8 c)) in
+    ap chars all ∙ chars_past_char (encode_utf8 c ++ []) [] c (subst IsUtf8 all u) refl ∙ ap (λ (l : List ℕ). c ∷ l) chars-nil
+
+-- a clean character
+pub clean_first : (bytes after : List ℕ) (c : ℕ) → IsUtf8 bytes → bytes ≡ encode_utf8 c ++ after → is_clean c ≡ true → IsCleanFront (len_utf8 c) bytes
+clean_first bytes after c u is clean =
+    let cut = first_cut bytes u c (chars after) (chars_past_char bytes after c u is) in
+    let front = ap (take (len_utf8 c)) is ∙ take_at (encode_utf8 c) after (len_utf8 c) (length-encode c) in
+    record {
+      cut = cut;
+      clean = ap (λ (l : List ℕ). list_all is_clean (chars l)) front ∙ ap (list_all is_clean) (alone c (subst IsUtf8 front cut.front)) ∙ and_from _ _ clean refl;
+    }
 
 pub nothing_front : (bytes : List ℕ) → IsUtf8 bytes → IsCleanFront 0 bytes
 nothing_front bytes u = record { cut = record { within = omega arith; front = IsUtf8-nil; back = u }; clean = ap (list_all is_clean) chars-nil }
@@ -67,6 +94,30 @@ nothing_front bytes u = record { cut = record { within = omega arith; front = Is
 pub clean_rest : (n : ℕ) (run : List ℕ) → IsCut n run → list_all is_clean (chars run) ≡ true → (list_all is_clean (chars (take n run)) ≡ true) × (list_all is_clean (chars (drop n run)) ≡ true)
 clean_rest n run cut clean =
     and_parts (list_all is_clean (chars (take n run))) _ (sym (list_all-append is_clean (chars (take n run)) (chars (drop n run))) ∙ ap (list_all is_clean) (sym (chars_cut n run cut)) ∙ clean)
+
+-- what is left of a text, where all before it is clean
+pub record IsLeft (text rest : List ℕ) : Type 0 where
+  pub clean : IsCleanFront (length text - length rest) text
+  pub left : rest ≡ drop (length text - length rest) text
+
+pub all_left : (text : List ℕ) → IsUtf8 text → IsLeft text text
+all_left text u =
+    let none : 0 ≡ length text - length text = omega arith in
+    record { clean = subst (λ (n : ℕ). IsCleanFront n text) none (nothing_front text u); left = ap (λ (n : ℕ). drop n text) none }
+
+pub past_front : (n : ℕ) (text rest next : List ℕ) → IsLeft text rest → IsCleanFront n rest → next ≡ drop n rest → IsLeft text next
+past_front n text rest next here more is =
+    let before : ℕ = length text - length rest in
+    let long : before + n ≡ length text - length next = omega (arith, ap length is, length-drop n rest, more.cut.within, ap length here.left, length-drop before text) in
+    record {
+      clean = subst (λ (k : ℕ). IsCleanFront k text) long (clean_more before n text here.clean (subst (IsCleanFront n) here.left more));
+      left = is ∙ ap (drop n) here.left ∙ drop-drop n before text ∙ ap (λ (k : ℕ). drop k text) long;
+    }
+
+pub past_char : (text rest after : List ℕ) (c : ℕ) → IsLeft text rest → IsUtf8 rest → rest ≡ encode_utf8 c ++ after → is_clean c ≡ true → IsLeft text after
+past_char text rest after c here u is clean =
+    past_front (len_utf8 c) text rest after here (clean_first rest after c u is clean)
+    (sym (ap (drop (len_utf8 c)) is ∙ drop_at (encode_utf8 c) after (len_utf8 c) (length-encode c)))
 
 -- THE FRONTS OF CLEAN CHARACTERS
 

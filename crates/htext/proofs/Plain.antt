@@ -1,6 +1,7 @@
 -- Plain and clean characters, and the bytes of characters in UTF-8.
-use Rattle.htext.proofs.Names.{◌≡◌, ℕ, ◌<◌, ◌≤◌, ◌+◌, ◌/◌, ◌%◌, Bool, true, false, eqb, List, [], ◌∷◌, refl, arith, nat_le, list_all, nat_tests, encode_utf8, Bom, Whole, read_as, Character, read_items, is_plain_byte, is_plain_character, is_clean, is_clean_byte, is_inner_byte, is_text_byte}
-use Rattle.std.specs.Prelude.{◌&&◌}
+use Rattle.htext.proofs.Names.{◌≡◌, ℕ, ◌<◌, ◌≤◌, ◌+◌, ◌/◌, ◌%◌, Bool, true, false, eqb, List, [], ◌∷◌, refl, arith, nat_le, list_all, nat_tests, encode_utf8, Bom, Whole, read_as, Character, read_items, is_plain_byte, is_plain_character, is_clean, is_of_clean_bytes, is_clean_byte, is_inner_byte, is_text_byte}
+use Rattle.std.specs.Prelude.{not, ◌&&◌, ◌||◌, ◌==◌}
+use Rattle.names.specs.Placed.{is_noncharacter}
 use Rattle.std.proofs.lemmas.Bool.{or_left}
 use Rattle.htext.proofs.Beginnings.{BytesOf, takes_one, takes_two, takes_three, takes_four, bytes_of}
 
@@ -9,7 +10,7 @@ pub plain_small : (x : ℕ) → is_plain_byte x ≡ true → x < 127
 plain_small x h = grind (arith, nat_tests)
 
 pub byte_plain : (x : ℕ) → is_plain_byte x ≡ true → is_plain_character x ≡ true
-byte_plain x h = or_left (is_plain_byte x) (nat_le 0xC0 x && nat_le x 0xEFFF) h
+byte_plain x h = or_left (is_plain_byte x) (nat_le 0xA0 x && not (is_noncharacter x || x == 0xFEFF)) h
 
 pub plain_of_text : (c : ℕ) → is_clean c ≡ true → is_text_byte c ≡ true → is_plain_character c ≡ true
 plain_of_text c h m = grind (arith, nat_tests)
@@ -30,30 +31,33 @@ item_alone x at h = let rest : (x < 0xF000 → x % 0x10000 < 0xF000) = λ h. ome
 
 -- IN UTF-8
 
-high : (c : ℕ) → 128 ≤ c → is_clean c ≡ true → (192 ≤ c) × (c ≤ 0xEFFF)
+pub of_clean_bytes : (c : ℕ) → is_of_clean_bytes c ≡ true → is_clean c ≡ true
+of_clean_bytes c h = let rest : (c < 0xF000 → c % 0x10000 < 0xF000) = λ h. omega arith in grind (arith, nat_tests, rest)
+
+high : (c : ℕ) → 128 ≤ c → is_of_clean_bytes c ≡ true → (192 ≤ c) × (c ≤ 0xEFFF)
 high c l h = (grind (arith, nat_tests), grind (arith, nat_tests))
 
--- the bytes of a clean character are clean
-clean_by : (c : ℕ) (bytes : List ℕ) → is_clean c ≡ true → BytesOf c bytes → list_all is_clean_byte bytes ≡ true
+-- the bytes of such a character are clean
+clean_by : (c : ℕ) (bytes : List ℕ) → is_of_clean_bytes c ≡ true → BytesOf c bytes → list_all is_clean_byte bytes ≡ true
 clean_by c _ h (takes_one a) = grind (arith, nat_tests)
 clean_by c _ h (takes_two a b) = grind (arith, nat_tests)
 clean_by c _ h (takes_three a b) = let is = high c (omega arith) h in grind (arith, nat_tests, is.1)
 clean_by c _ h (takes_four a) = absurd (omega (arith, high c (omega arith) h))
 
-pub clean_bytes : (c : ℕ) → is_clean c ≡ true → list_all is_clean_byte (encode_utf8 c) ≡ true
+pub clean_bytes : (c : ℕ) → is_of_clean_bytes c ≡ true → list_all is_clean_byte (encode_utf8 c) ≡ true
 clean_bytes c h = clean_by c (encode_utf8 c) h (bytes_of c)
 
 -- the first byte of another one is not
 abbrev pub BeginsOutside : (ℕ → Bool) → List ℕ → Type 0
 BeginsOutside test bytes = (b : ℕ) × (bs : List ℕ) × (bytes ≡ b ∷ bs) × (test b ≡ false)
 
-other_by : (c : ℕ) (bytes : List ℕ) → is_clean c ≡ false → BytesOf c bytes → BeginsOutside is_clean_byte bytes
+other_by : (c : ℕ) (bytes : List ℕ) → is_of_clean_bytes c ≡ false → BytesOf c bytes → BeginsOutside is_clean_byte bytes
 other_by c _ h (takes_one a) = (_, _, refl, grind (arith, nat_tests))
 other_by c _ h (takes_two a b) = (_, _, refl, grind (arith, nat_tests))
 other_by c _ h (takes_three a b) = (_, _, refl, grind (arith, nat_tests))
 other_by c _ h (takes_four a) = (_, _, refl, grind (arith, nat_tests))
 
-pub other_bytes : (c : ℕ) → is_clean c ≡ false → BeginsOutside is_clean_byte (encode_utf8 c)
+pub other_bytes : (c : ℕ) → is_of_clean_bytes c ≡ false → BeginsOutside is_clean_byte (encode_utf8 c)
 other_bytes c h = other_by c (encode_utf8 c) h (bytes_of c)
 
 -- the bytes of a character that is not in ASCII are not either

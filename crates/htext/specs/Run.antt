@@ -3,7 +3,7 @@ use Rattle.std.specs.Prelude.{◌≡◌, ℕ, ◌≤◌, Bool, true, not, ◌&&�
 use Rattle.std.specs.List.{list_all}
 use Rattle.std.specs.Char.{is_ascii}
 use Rattle.std.specs.Str.{chars, IsUtf8}
-use Rattle.names.specs.Placed.{placed, is_alphanumeric, is_quote, is_space}
+use Rattle.names.specs.Placed.{placed, is_alphanumeric, is_noncharacter, is_quote, is_space}
 use Rattle.htext.specs.Items.{CharItem, Character}
 use Rattle.htext.specs.declared.run.Halves.{Halves}
 use Rattle.htext.specs.declared.run.RunBytes.{RunBytes}
@@ -13,16 +13,19 @@ use Rattle.htext.specs.declared.run.RunBytes.TheVariants.{Inner, Text, Clean, Al
 abbrev pub is_plain_byte : ℕ → Bool
 is_plain_byte byte = (byte == 9 || byte == 10 || byte == 12 || (nat_le 32 byte && nat_le byte 126)) && not (byte == 60 || byte == 38)
 
--- A character of which the same is true: such a byte, or one of U+00C0 to U+EFFF. (Not all are: it leaves out the few of which it is true
--- next to controls and noncharacters.)
+-- a character of which the same is true: such a byte, or one from U+00A0 on that is neither a noncharacter nor a byte order mark
 abbrev pub is_plain_character : ℕ → Bool
-is_plain_character c = is_plain_byte c || (nat_le 0xC0 c && nat_le c 0xEFFF)
+is_plain_character c = is_plain_byte c || (nat_le 0xA0 c && not (is_noncharacter c || c == 0xFEFF))
 
 -- a plain character, `<` or `&`: it is in the text as it came but for an LF after a CR, and raises no error
 abbrev pub is_clean : ℕ → Bool
 is_clean c = is_plain_character c || c == 60 || c == 38
 
--- a byte of one of these characters in UTF-8, and the first byte of no other character
+-- one of those of which no byte in UTF-8 begins a character that is not clean
+abbrev pub is_of_clean_bytes : ℕ → Bool
+is_of_clean_bytes c = is_plain_byte c || c == 60 || c == 38 || (nat_le 0xC0 c && nat_le c 0xEFFF)
+
+-- a byte of one of these in UTF-8, and the first byte of no other character
 abbrev pub is_clean_byte : ℕ → Bool
 is_clean_byte byte = is_plain_byte byte || byte == 60 || byte == 38 || (nat_le 0x80 byte && nat_le byte 0xBF) || (nat_le 0xC3 byte && nat_le byte 0xEE)
 

@@ -1,7 +1,7 @@
 //! How a character is handed over.
 
-ghost use Rattle.std.specs.Prelude.{◌<◌, map};
-ghost use Rattle.htext.specs.Vocabulary.{Hands, Whole, items, read_items, read_as};
+ghost use Rattle.std.specs.Prelude.{◌≡◌, ◌<◌, map};
+ghost use Rattle.htext.specs.Vocabulary.{Hands, Whole, is_clean, items, read_items, read_as};
 
 use crate::Bom;
 use crate::decoder::MAX_INPUT;
@@ -9,6 +9,17 @@ use crate::sink::CharSink;
 use names::{ErrorCode, ParseError, Refusal, is_noncharacter};
 
 const BYTE_ORDER_MARK: char = '\u{FEFF}';
+
+/// Whether a character is in the text as it came, unless it is an LF after a CR, and raises no error.
+#[inline(always)]
+pub(crate) fn is_clean(ch: char) -> bool
+    ensures { result ≡ is_clean ch }
+{
+    match ch {
+        '\t' | '\n' | '\u{C}' | ' '..='~' => true,
+        _ => ch >= '\u{A0}' && ch != BYTE_ORDER_MARK && !is_noncharacter(ch as u32),
+    }
+}
 
 /// Hands over what a character is in the text, with newlines normalized, after its errors: preprocessing the input stream
 /// (`#preprocessing-the-input-stream`).

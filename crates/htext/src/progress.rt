@@ -8,9 +8,9 @@ ghost use Rattle.std.specs.Str.Lossy.{utf8_valid_len};
 ghost use Rattle.htext.specs.Vocabulary.{placed, Hands, NotUtf8, MAX_INPUT, Refuse, Replace, Policy, Whole, Bad, normalized, ends_in_return, text, settled, items};
 ghost use Rattle.htext.specs.Vocabulary.{bad_each, IsCleanFront, DecoderHasRead, HandsOn, IsReading, IsUndecided, Stops, next_front, AreReplaced, IsBadAlone};
 
-use crate::character::hand_char;
+use crate::character::{hand_char, is_clean};
 use crate::decoder::MAX_INPUT;
-use crate::run::{bad_run, clean_run};
+use crate::run::{bad_run, clean_bytes};
 use crate::sink::CharSink;
 use crate::{BadBytes, Bom};
 use names::Refusal;
@@ -175,7 +175,7 @@ impl Progress {
         let mut place = self.read;
         let mut after_return = self.after_return;
         while let Some((ch, after)) = split_first(rest) {
-            let run = run_at(rest, ch, after_return);
+            let run = run_at(rest, after_return);
             if run > 0 {
                 sink.take_run(&rest[..run], place)?;
                 place += run as u64;
@@ -204,17 +204,28 @@ fn split_first(text: &str) -> Option<(char, &str)>
     Some((first, chars.as_str()))
 }
 
-/// How many bytes the run of clean characters at the front of a text has, whose first character is `first`. It is 0 after a CR, since an
-/// LF is left out there, and where `first` is in a range that has no clean characters.
+/// How many bytes the run of clean characters at the front of a text has. It is 0 after a CR, since an LF is left out there.
 #[inline(always)]
-fn run_at(text: &str, first: char, after_return: bool) -> usize
+fn run_at(text: &str, after_return: bool) -> usize
     ensures front { IsCleanFront result text.now }
     ensures after_return { 0 < result → after_return ≡ false }
 {
-    if after_return || matches!(first, '\u{7F}'..='\u{BF}' | '\u{F000}'..) {
-        0
-    } else {
-        clean_run(text.as_bytes())
+    if after_return { 0 } else { clean_run(text) }
+}
+
+/// How many bytes the run of clean characters at the front of a text has.
+#[inline(always)]
+fn clean_run(text: &str) -> usize
+    ensures { IsCleanFront result text.now }
+{
+    let mut rest = text;
+    loop {
+        let count = clean_bytes(rest.as_bytes());
+        rest = &rest[count..];
+        match split_first(rest) {
+            Some((ch, after)) if is_clean(ch) => rest = after,
+            _ => return text.len() - rest.len(),
+        }
     }
 }
 

@@ -16,7 +16,7 @@ pub(crate) enum RunBytes {
     Inner,
     /// All but `<` and `&`.
     Text,
-    /// Those of clean characters (`clean_run` says which).
+    /// Those of which most clean characters are (`clean_bytes` says which).
     Clean,
     /// ASCII letters and digits.
     Alphanumeric,
@@ -36,7 +36,7 @@ struct Halves {
     high: [u8; 16],
 }
 
-/// The bytes of clean characters (`clean_run` says which). 1 stands for the high half 0, 2 for 2 to 6, 4 for 7, 8 for 8 to B and D, 16 for C,
+/// The bytes of most clean characters (`clean_bytes` says which). 1 stands for the high half 0, 2 for 2 to 6, 4 for 7, 8 for 8 to B and D, 16 for C,
 /// and 32 for E.
 const CLEAN: Halves = Halves {
     low: [
@@ -81,10 +81,9 @@ pub fn text_run(bytes: &[u8]) -> usize
     run(RunBytes::Text, bytes)
 }
 
-/// Counts the bytes before the first one that is not of a clean character in UTF-8: of tab, LF, FF, 20 to 7E, or U+00C0 to U+EFFF. Each
-/// of these is in the text as it came, unless it is an LF after a CR, and raises no error.
+/// Counts the bytes before the first one that is not of tab, LF, FF, 20 to 7E, or U+00C0 to U+EFFF in UTF-8.
 #[inline(always)]
-pub fn clean_run(bytes: &[u8]) -> usize
+pub(crate) fn clean_bytes(bytes: &[u8]) -> usize
     ensures { result ≡ prefix_len is_clean_byte bytes.now }
 {
     run(RunBytes::Clean, bytes)

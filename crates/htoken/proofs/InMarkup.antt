@@ -20,6 +20,27 @@ refused s t [] x h = let never = h.0 in absurd cc
 refused s t (e ∷ es) x (Ok u, next, given, more) = refused next t es x more
 refused s t (e ∷ es) x (Err y, next, given, more) = let is = more.0 in let why : y ≡ Memory = given in cc
 
+-- more characters of a comment or a doctype are read
+pub markup_more : {W V : Type 0} (HasRead : W → List Placed → List ParseError → Type 0) (IsOne : ℕ → List Placed → List Placed → V → List ParseError → Type 0) (token : V → ℕ → Tok) (table : Entities) (t : Tokenizer) (held run : List Placed) (walk : W)
+    (i : IsInMarkup HasRead IsOne token walk table t held run) (new : Tokenizer) (then : W) (reported : List ParseError) → new.at ≡ t.at → new.raised.errors.items ≡ t.raised.errors.items ++ reported → HasRead then (i.body ++ run) (i.own ++ reported)
+    → IsInMarkup HasRead IsOne token then table new (held ++ run) []
+markup_more HasRead IsOne token table t held run walk i new then reported at_is raised has = record {
+  opening = i.opening;
+  body = i.body ++ run;
+  first = i.first;
+  own = i.own ++ reported;
+  others = i.others ++ run;
+  starts = ap (λ (x : List Placed). x ++ run) i.starts ∙ ap (λ (a : ℕ). record { ch = 60; at = a } ∷ (i.others ++ run)) (sym at_is);
+  held_is = ap (λ (x : List Placed). x ++ run) i.held_is ∙ append_assoc i.opening i.body run;
+  has_read = has;
+  raised_is = raised ∙ ap (λ (x : List ParseError). x ++ reported) i.raised_is ∙ append_assoc i.first i.own reported;
+  opens = λ end rest more contents errors is.
+      let same_text : (i.body ++ run) ++ more ≡ i.body ++ (run ++ more) = append_assoc i.body run more in
+      subst (λ (x : List Placed). IsDataSpan table end rest (record { text = i.opening ++ x; tokens = token contents new.at ∷ []; errors = i.first ++ errors })) (sym same_text)
+      (subst (λ (a : ℕ). IsDataSpan table end rest (record { text = i.opening ++ (i.body ++ (run ++ more)); tokens = token contents a ∷ []; errors = i.first ++ errors })) (sym at_is)
+      (i.opens end rest more contents errors (subst (λ (x : List Placed). IsOne end rest x contents errors) same_text is)));
+}
+
 module _ {S W V : Type 0} (gives : S → ParseError → Result (Unit {0}) Refusal → S → Type 0) (gives_token : S → Handed → Result (Unit {0}) Refusal → S → Type 0)
     (HasRead : W → List Placed → List ParseError → Type 0) (IsOne : ℕ → List Placed → List Placed → V → List ParseError → Type 0) (token : V → ℕ → Tok)
     (given : (here : Standing) (text : List Placed) (value : V) (at : ℕ) (errors : List ParseError) → ((next here (record { text = text; tokens = token value at ∷ []; errors = errors })).kind ≡ kind.None)
@@ -42,22 +63,8 @@ module _ {S W V : Type 0} (gives : S → ParseError → Result (Unit {0}) Refusa
     markup_goes_on new then value s in_state same keep is_in holds (sink_refused x reported e hd b) = absurd cc
     markup_goes_on new then value s in_state same keep is_in holds (walk_ended reported e hd is) = absurd cc
     markup_goes_on new then value s in_state same keep is_in holds (walk_goes_on reported e hd has) =
-        goes_on (gives_item gives gives_token) table start text p names taken t h new s in_state same keep.stays keep.kind_is keep.last_is is_in (holds (record {
-          opening = i.opening;
-          body = i.body ++ p ∷ [];
-          first = i.first;
-          own = i.own ++ reported;
-          others = i.others ++ p ∷ [];
-          starts = ap (λ (x : List Placed). x ++ p ∷ []) i.starts ∙ ap (λ (a : ℕ). record { ch = 60; at = a } ∷ (i.others ++ p ∷ [])) (sym keep.at_is);
-          held_is = ap (λ (x : List Placed). x ++ p ∷ []) i.held_is ∙ append_assoc i.opening i.body (p ∷ []);
-          has_read = has;
-          raised_is = kept t.raised new.raised reported hd ∙ ap (λ (x : List ParseError). x ++ reported) i.raised_is ∙ append_assoc i.first i.own reported;
-          opens = λ end rest more contents errors is.
-              let same_text : (i.body ++ p ∷ []) ++ more ≡ i.body ++ ((p ∷ []) ++ more) = append_assoc i.body (p ∷ []) more in
-              subst (λ (x : List Placed). IsDataSpan table end rest (record { text = i.opening ++ x; tokens = token contents new.at ∷ []; errors = i.first ++ errors })) (sym same_text)
-              (subst (λ (a : ℕ). IsDataSpan table end rest (record { text = i.opening ++ (i.body ++ ((p ∷ []) ++ more)); tokens = token contents a ∷ []; errors = i.first ++ errors })) (sym keep.at_is)
-              (i.opens end rest more contents errors (subst (λ (x : List Placed). IsOne end rest x contents errors) same_text is)));
-        }))
+        goes_on (gives_item gives gives_token) table start text p names taken t h new s in_state same keep.stays keep.kind_is keep.last_is is_in
+        (holds (markup_more HasRead IsOne token table t h.held (p ∷ []) walk i new then reported keep.at_is (kept t.raised new.raised reported hd) has))
 
     pub markup_ends : (mid new : Tokenizer) (then : W) (value : V) (old s : S) (answer : Result (Unit {0}) Refusal) → Keeps t mid → Took (Ok true) then value mid.raised
         → GivesSpan (gives_item gives gives_token) (λ names x. HandedMeans names x (token value mid.at)) mid old answer new s → Takes (gives_item gives gives_token) table start text (p ∷ []) taken names old answer s new

@@ -1,7 +1,7 @@
 -- A run of plain characters, taken as a whole.
-use Rattle.htoken.proofs.Names.{◌≡◌, ◌≤◌, ◌<◌, ℕ, zero, suc, ◌+◌, Bool, true, false, List, [], ◌∷◌, ◌++◌, length, take, sym, refl, ap, ◌∙◌, subst, arith, drop, Result, Ok, Err, Option, append_assoc, append-nil, nat_tests, list_all, ◌||◌, length-take-le, len_utf8, encode_utf8, chars, string_bytes, ParseError, Placed, RawKind, Refusal, Memory, Texts, Grows, all, placed, is_clean, is_plain_byte, is_plain_character, IsCut, all_placed, plain_take, Entities, and_parts, HasReadOf, IsCommentOf, TakesRun, IsInTag, State, Tokenizer, Item, Event, Comment, Standing, is_script, FollowsAll, IsDataSpan, HandsEvents, run_events, replacement_run, tag_mark, after_place, next_from, next_place, less, Stands, Reads, holds, Takes, take_sink_refused, take_took, IsHeld, IsStateOf, IsLast, IsBetween, IsInMarkup, IsInMarkedTag, ◌==◌, one_long, last_char, run_ran_out, run_refused, run_goes_on, all_weaker, IsUtf8, run_plain, Hands, gives_item, run_tokens, plain_chars, Handed, Keeps, EndsTag, IsWholeTag, names_grow, tag_ahead}
+use Rattle.htoken.proofs.Names.{◌≡◌, ◌≤◌, ◌<◌, ℕ, zero, suc, ◌+◌, Bool, true, false, List, [], ◌∷◌, ◌++◌, length, take, sym, refl, ap, ◌∙◌, subst, arith, drop, Result, Ok, Err, Option, append_assoc, append-nil, nat_tests, list_all, ◌||◌, length-take-le, len_utf8, encode_utf8, chars, string_bytes, ParseError, Placed, RawKind, Refusal, Memory, Texts, Grows, all, placed, is_clean, is_plain_byte, is_plain_character, IsCut, all_placed, plain_take, Entities, and_parts, HasReadOf, HasReadDoctype, IsDoctype, doctype_token, IsCommentOf, TakesRun, IsInTag, Raised, State, Tokenizer, Tok, Item, Event, Comment, Standing, is_script, FollowsAll, HandsEvents, run_events, replacement_run, tag_mark, after_place, next_from, next_place, less, Stands, Reads, holds, Takes, take_sink_refused, take_took, IsHeld, IsStateOf, IsLast, IsBetween, IsInMarkup, IsInMarkedTag, ◌==◌, one_long, last_char, run_ran_out, run_refused, run_goes_on, all_weaker, IsUtf8, run_plain, Hands, gives_item, run_tokens, plain_chars, Handed, Keeps, EndsTag, IsWholeTag, names_grow, tag_ahead}
 use Rattle.htoken.specs.declared.state.State.TheVariants as state
-use Rattle.htoken.proofs.InMarkup.{keeps, kept, refused}
+use Rattle.htoken.proofs.InMarkup.{keeps, kept, markup_more, refused}
 use Rattle.htoken.proofs.InRaw.{after_characters}
 use Rattle.htoken.proofs.InTag.{last_kept, reads_kept, tag_handed}
 use Rattle.htoken.proofs.Plain.{is_itself, plain_stands}
@@ -114,7 +114,27 @@ module _ {S : Type 0} (gives : S → Item → Result (Unit {0}) Refusal → S �
   went_on new then is refused same next kind last is_in held s = take_took [] refl ([], tt, (refl, refl)) (holds (reads_held h new run refused same next (λ end more. h.stands end (run ++ more)) kind last
       (subst (λ (x : State). IsStateOf x h.here.kind) (sym is) is_in) (subst (λ (x : State). IsHeld x table names h.here new (h.held ++ run) []) (sym is) held)))
 
-  -- a comment goes on
+  -- a comment or a doctype goes on
+  module _ {W V : Type 0} (HasRead : W → List Placed → List ParseError → Type 0) (IsOne : ℕ → List Placed → List Placed → V → List ParseError → Type 0) (token : V → ℕ → Tok) (walk then : W) (i : IsInMarkup HasRead IsOne token walk table t h.held []) (new : Tokenizer)
+      (same : new ≡ record t { next = new.next; comment = new.comment; doctype = new.doctype; raised = new.raised }) (next : new.next ≡ next_place (text ++ run)) where
+    markup_goes_on : (reported : List ParseError) → new.raised.errors.items ≡ t.raised.errors.items ++ reported → HasRead then (i.body ++ run) (i.own ++ reported) → (here : State) → t.state ≡ here → IsStateOf here h.here.kind
+        → (IsInMarkup HasRead IsOne token then table new (h.held ++ run) [] → IsHeld here table names h.here new (h.held ++ run) []) → (s : S) → Takes gives table start text run taken names s (Ok tt) s new
+    markup_goes_on reported raised has here in_here is_in held s =
+        let ahead : IsInMarkup HasRead IsOne token walk table t h.held run = record {
+          opening = i.opening;
+          body = i.body;
+          first = i.first;
+          own = i.own;
+          others = i.others;
+          starts = i.starts;
+          held_is = i.held_is;
+          has_read = i.has_read;
+          raised_is = i.raised_is;
+          opens = λ end rest more. i.opens end rest (run ++ more);
+        } in
+        went_on new here (ap (λ (x : Tokenizer). x.state) same ∙ in_here) (ap (λ (x : Tokenizer). x.refused) same) (ap (λ (x : Tokenizer). x.table) same) next (ap (λ (x : Tokenizer). x.kind) same) (ap (λ (x : Tokenizer). x.last) same) is_in
+        (held (markup_more HasRead IsOne token table t h.held run walk ahead new then reported (ap (λ (x : Tokenizer). x.at) same) raised has)) s
+
   module _ (in_comment : t.state ≡ state.Comment) where
     pub comment_here : IsHeld state.Comment table names h.here t h.held []
     comment_here = held_in h state.Comment in_comment
@@ -132,31 +152,23 @@ module _ {S : Type 0} (gives : S → Item → Result (Unit {0}) Refusal → S �
         subst (λ (y : Result (Unit {0}) Refusal). Takes gives table start text run taken names s y s last) (sym (is ∙ ap (λ (y : Refusal). Err y) why)) (ran_out_before gives table start text run names taken t h last s)
     comment_stopped e new last s (run_goes_on reported is handed has) = absurd cc
 
-    pub comment_goes_on : (new : Tokenizer) (s : S) → new ≡ record t { next = new.next; comment = new.comment; raised = new.raised } → new.next ≡ next_place (text ++ run) → Took (Ok tt) new → Takes gives table start text run taken names s (Ok tt) s new
-    comment_goes_on new s then next (run_ran_out reported is handed b) = absurd cc
-    comment_goes_on new s then next (run_refused x reported is handed b) = absurd cc
-    comment_goes_on new s then next (run_goes_on reported is handed has) =
-        let i = inside in
-        let at_is : new.at ≡ t.at = ap (λ (x : Tokenizer). x.at) then in
-        went_on new _ (ap (λ (x : Tokenizer). x.state) then ∙ in_comment) (ap (λ (x : Tokenizer). x.refused) then) (ap (λ (x : Tokenizer). x.table) then) next (ap (λ (x : Tokenizer). x.kind) then) (ap (λ (x : Tokenizer). x.last) then) (kind_in h state.Comment in_comment) (
-          comment_here.0,
-          record {
-            opening = i.opening;
-            body = i.body ++ run;
-            first = i.first;
-            own = i.own ++ reported;
-            others = i.others ++ run;
-            starts = ap (λ (x : List Placed). x ++ run) i.starts ∙ ap (λ (a : ℕ). record { ch = 60; at = a } ∷ (i.others ++ run)) (sym at_is);
-            held_is = ap (λ (x : List Placed). x ++ run) i.held_is ∙ append_assoc i.opening i.body run;
-            has_read = has;
-            raised_is = kept t.raised new.raised reported handed ∙ ap (λ (x : List ParseError). x ++ reported) i.raised_is ∙ append_assoc i.first i.own reported;
-            opens = λ end rest more contents errors is.
-                let same_text : (i.body ++ run) ++ more ≡ i.body ++ (run ++ more) = append_assoc i.body run more in
-                subst (λ (x : List Placed). IsDataSpan table end rest (record { text = i.opening ++ x; tokens = Comment contents new.at ∷ []; errors = i.first ++ errors })) (sym same_text)
-                (subst (λ (a : ℕ). IsDataSpan table end rest (record { text = i.opening ++ (i.body ++ (run ++ more)); tokens = Comment contents a ∷ []; errors = i.first ++ errors })) (sym at_is)
-                (i.opens end rest (run ++ more) contents errors (subst (λ (x : List Placed). IsCommentOf comment_here.0 end rest x contents errors) same_text is)));
-          },
-        ) s
+    pub comment_goes_on : (new : Tokenizer) (s : S) → new ≡ record t { next = new.next; comment = new.comment; doctype = new.doctype; raised = new.raised } → new.next ≡ next_place (text ++ run) → Took (Ok tt) new → Takes gives table start text run taken names s (Ok tt) s new
+    comment_goes_on new s same next (run_ran_out reported is handed b) = absurd cc
+    comment_goes_on new s same next (run_refused x reported is handed b) = absurd cc
+    comment_goes_on new s same next (run_goes_on reported is handed has) =
+        markup_goes_on (HasReadOf comment_here.0) (IsCommentOf comment_here.0) Comment t.comment new.comment inside new same next reported (kept t.raised new.raised reported handed) has state.Comment in_comment (kind_in h state.Comment in_comment) (λ x. (comment_here.0, x)) s
+
+  module _ (in_doctype : t.state ≡ state.Doctype) where
+    pub doctype_here : IsHeld state.Doctype table names h.here t h.held []
+    doctype_here = held_in h state.Doctype in_doctype
+
+    pub doctype_goes_on : (new : Tokenizer) (s : S) → new ≡ record t { next = new.next; doctype = new.doctype } → new.next ≡ next_place (text ++ run) → HasReadDoctype new.doctype (doctype_here.body ++ run) doctype_here.own
+        → Takes gives table start text run taken names s (Ok tt) s new
+    doctype_goes_on new s same next has =
+        let raised : new.raised ≡ t.raised = ap (λ (x : Tokenizer). x.raised) same in
+        markup_goes_on HasReadDoctype IsDoctype doctype_token t.doctype new.doctype doctype_here new
+        (same ∙ ap (λ (x : Tokenizer). record t { next = new.next; comment = x.comment; doctype = new.doctype; raised = x.raised }) (sym same)) next [] (ap (λ (x : Raised). x.errors.items) raised ∙ sym (append-nil t.raised.errors.items))
+        (subst (HasReadDoctype new.doctype (doctype_here.body ++ run)) (sym (append-nil doctype_here.own)) has) state.Doctype in_doctype (kind_in h state.Doctype in_doctype) (λ x. x) s
 
 -- A TAG
 

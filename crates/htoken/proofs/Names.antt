@@ -17,7 +17,7 @@ pub use Rattle.hmarkup.proofs.Marks.{and_no, and_parts, and_both, null_errors-ap
 pub use Rattle.hmarkup.specs.Comment.{is_plain_in_bogus, is_only_data, closed_bogus, IsBogus}
 pub use Rattle.hmarkup.specs.CommentWalk.{HasReadOf, IsCommentSpan as IsCommentOf, backwards}
 pub use Rattle.hmarkup.specs.Doctype.{IsDoctype, nameless}
-pub use Rattle.hmarkup.specs.DoctypeWalk.{HasReadDoctype}
+pub use Rattle.hmarkup.specs.DoctypeWalk.{HasReadDoctype, is_data}
 pub use Rattle.hmarkup.specs.Walk.{EndsMarkup as WalkEnds, TakesRun, TakesMarkup as WalkTakes, ran_out as walk_ran_out, sink_refused, goes_on as walk_goes_on, ended as walk_ended, run_ran_out, run_refused, run_goes_on}
 pub use Rattle.hmarkup.specs.declared.comment.CommentKind.TheVariants.{Bogus}
 pub use Rattle.htag.proofs.AtOnce.{named_alone, named_plain, named_within, bare_bytes, bare_front, bare_no_errors, bare_placed, bare_plain, bare_within}

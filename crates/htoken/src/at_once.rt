@@ -3,6 +3,7 @@
 ghost use Rattle.std.specs.Prelude.{◌≡◌, ◌≤◌, ◌<◌, ◌+◌, true, IfOk, length, drop, slice_index, None};
 ghost use Rattle.htoken.specs.Vocabulary.{BeginsNamed, FeedsPart, gives_item, Grows, IsBareName, IsTagName, IsCut, MAX_INPUT, raw_kind, refused_name};
 
+use crate::hand::give_tag;
 use crate::sink::TokenSink;
 use crate::state::State;
 use crate::token::Token;
@@ -73,7 +74,7 @@ impl<'t> Tokenizer<'t> {
         let name = names.intern(self.alloc, &run[1..size + 1])?;
         self.next = at + size as u64 + 2;
         self.state = State::Text;
-        sink.take_tag(Token::End { name, at: self.at }, names)?;
+        give_tag(Token::End { name, at: self.at }, names, sink)?;
         Ok(size + 2)
     }
 
@@ -107,7 +108,7 @@ impl<'t> Tokenizer<'t> {
             closing: false,
             at: self.at,
         };
-        sink.take_tag(token, names)?;
+        give_tag(token, names, sink)?;
         Ok(size + 1)
     }
 

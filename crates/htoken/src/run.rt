@@ -348,6 +348,7 @@ impl<'t> Tokenizer<'t> {
         match self.state {
             State::Text => self.run_of_text(run, at, sink),
             State::Comment => self.run_of_comment(names, run, at, sink),
+            State::Doctype => self.run_of_doctype(names, run, at, sink),
             _ => self.take_first(names, run, at, sink),
         }
     }
@@ -424,6 +425,31 @@ impl<'t> Tokenizer<'t> {
         }
         self.next = at + count as u64;
         self.comment.take_run(&run[..count], at, &mut self.raised)?;
+        Ok(count)
+    }
+
+    /// Takes the characters of a doctype at the front of a run that are only data, or the first one.
+    fn run_of_doctype<S: TokenSink>(
+        &mut self,
+        names: &mut Names,
+        run: &str,
+        at: u64,
+        sink: &mut S,
+    ) -> Result<usize, Refusal>
+        requires doctype { self.old.state ≡ State.Doctype }
+        requires some { 0 < length run.now }
+        requires plain { list_all is_plain_byte run.now ≡ true }
+        requires within { at + length run.now ≤ MAX_INPUT }
+        ensures takes { FeedsFront (gives_item S.gives S.gives_token) self.old names.old at run.now names.new sink.old result sink.new self.new }
+        ensures few { IfOk result (λ count. (0 < count) × (count ≤ length run.now)) }
+        ensures grows { Grows names.old names.new }
+    {
+        let count = self.doctype.data_run(run);
+        if count == 0 {
+            return self.take_first(names, run, at, sink);
+        }
+        self.next = at + count as u64;
+        self.doctype.take_run(&run[..count])?;
         Ok(count)
     }
 }

@@ -113,13 +113,27 @@ impl<'t> Tokenizer<'t> {
         self.last = Some(name);
         self.script = Script::new();
         let closing = self.tag.is_closing();
-        let attrs = self.tag.take_attributes()?;
-        let token = Token::Start {
+        let attrs = self.tag.take_attributes();
+        self.end_errors(sink)?;
+        let mut token = Token::Start {
             name,
             attrs,
             closing,
             at,
         };
-        self.end_tag_span(token, names, sink)
+        let answer = sink.take_tag(&mut token, names);
+        self.keep_memory(token);
+        answer
+    }
+
+    /// Keeps the memory of a tag's attributes for those of the next.
+    #[inline(always)]
+    fn keep_memory(&mut self, token: Token)
+        ensures others { self.new ≡ record self.old { tag = self.new.tag } }
+        ensures name { self.new.tag.name ≡ self.old.tag.name }
+    {
+        if let Token::Start { attrs, .. } = token {
+            self.tag.give_back(attrs);
+        }
     }
 }

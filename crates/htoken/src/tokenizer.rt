@@ -3,7 +3,7 @@
 ghost use Rattle.std.specs.Prelude.{◌≡◌, ◌∷◌, List, [], Some, Err, IfErr, MatchBool};
 ghost use Rattle.htoken.specs.Vocabulary.{after_place, Alone, Character, EndsSpan, Entities, Event, FeedsText, Finishes, from_of, gives_item, Grows, Hands, HasTaken, HoldsFrom, IsTable, items_of, Kind, Refused, start_kind, Takes, Texts, WithNames};
 
-use crate::hand::hand_errors;
+use crate::hand::{give_tag, hand_errors};
 use crate::script::Script;
 use crate::sink::TokenSink;
 use crate::state::{Raised, State};
@@ -271,12 +271,12 @@ impl<'t> Tokenizer<'t> {
         ensures then { EndsSpan self.old self.new }
     {
         self.end_errors(sink)?;
-        sink.take_tag(token, names)
+        give_tag(token, names, sink)
     }
 
     /// Hands over the errors of the span that has ended.
     #[inline(always)]
-    fn end_errors<S: TokenSink>(&mut self, sink: &mut S) -> Result<(), Refusal>
+    pub(crate) fn end_errors<S: TokenSink>(&mut self, sink: &mut S) -> Result<(), Refusal>
         ensures handed { Hands S.gives sink.old self.old.raised.errors.items result sink.new }
         ensures then { EndsSpan self.old self.new }
     {

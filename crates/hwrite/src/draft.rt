@@ -103,8 +103,8 @@ impl TokenSink for Draft {
         Ok(())
     }
 
-    fn take_tag(&mut self, token: Token, names: &Names) -> Result<(), Refusal> {
-        self.push(&token, Some(names))?;
+    fn take_tag(&mut self, token: &mut Token, names: &Names) -> Result<(), Refusal> {
+        self.push(token, Some(names))?;
         Ok(())
     }
 

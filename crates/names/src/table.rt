@@ -84,7 +84,7 @@ impl Tag {
 }
 
 /// How many slots there are for the numbers that were found last.
-const SLOTS: usize = 64;
+const SLOTS: usize = 256;
 
 /// The slot of a text: by its ends and its length, so that the few names of which most pages consist seldom share one.
 #[inline(always)]

@@ -1,9 +1,18 @@
-use Rattle.charref.proofs.Names.{arith, ◌≡◌, ℕ, ◌<◌, false≢true, List, length, slice_get, Some, sym, ap, ◌∙◌, slice_get_within, some_same, Entry, Entities}
+use Rattle.charref.proofs.Names.{arith, ◌≡◌, ℕ, ◌+◌, ◌<◌, true, false≢true, ends_in_semicolon, subst, List, length, slice_get, Some, sym, ap, ◌∙◌, slice_get_within, some_same, Entry, Entities}
+use Rattle.charref.proofs.AtOnce.{closed_alone}
 use Rattle.charref.proofs.Ends.{one_begins, more_begin, range_ends, ends_later}
 use Rattle.charref.proofs.open_keys.end_of.Goals as goal
 
 same_key : (table : Entities) (k : ℕ) (d e : Entry) (key : List ℕ) → slice_get table k ≡ Some d → key ≡ d.key → slice_get table k ≡ Some e → e.key ≡ key
 same_key table k d e key stands is at = ap (λ (y : Entry). y.key) (some_same e d (sym at ∙ stands)) ∙ sym is
+
+pub returns-then-ends_in_semicolon : goal.returns-then-ends_in_semicolon
+returns-then-ends_in_semicolon c = λ e stands.
+    let table = c.args.flat.now in
+    let at : ℕ = c.args.index in
+    let closed : ends_in_semicolon e.key ≡ true = subst (λ xs. ends_in_semicolon xs ≡ true) (sym (same_key table at c.key-key.ensures.0 e c.key-key.result.now c.key-key.ensures.1 c.key-key.ensures.2 stands)) (sym c.ends_in_semicolon.ensures ∙ c.if-ends_in_semicolon.true) in
+    range_ends table at (at + 1) e c.requires.sorted stands (omega arith) (omega (arith, c.requires.within)) (one_begins table at e stands)
+    (λ f got opens. closed_alone table at e f c.requires.sorted stands got closed opens)
 
 pub loop-end-init : goal.loop-end-init
 loop-end-init c = (omega arith, omega arith, one_begins c.args.flat.now c.args.index)

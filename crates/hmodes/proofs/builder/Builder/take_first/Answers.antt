@@ -19,12 +19,23 @@ put_run-requires-clause-some c =
     let is : c.args.run.now ≡ encode_utf8 c.in-Some.ch ++ c.as_str-rest.result.now = sym c.chars-chars.ensures.rest ∙ c.in-Some.ensures.steps.0 ∙ ap (λ (l : List ℕ). encode_utf8 c.in-Some.ch ++ l) (sym c.as_str-rest.ensures) in
     some_clean (chars c.as_str-rest.result.now) (rest_clean c.args.run.now c.as_str-rest.result.now c.in-Some.ch c.utf8.run is c.requires.clean)
 
+pub pend_run-requires-clause-some : goal.pend_run-requires-clause-some
+pend_run-requires-clause-some c =
+    let is : c.args.run.now ≡ encode_utf8 c.in-Some.ch ++ c.as_str-rest.result.now = sym c.chars-chars.ensures.rest ∙ c.in-Some.ensures.steps.0 ∙ ap (λ (l : List ℕ). encode_utf8 c.in-Some.ch ++ l) (sym c.as_str-rest.ensures) in
+    some_clean (chars c.as_str-rest.result.now) (rest_clean c.args.run.now c.as_str-rest.result.now c.in-Some.ch c.utf8.run is c.requires.clean)
+
 pub returns-then-puts_run : goal.returns-then-puts_run
 returns-then-puts_run c =
     let is : c.args.run.now ≡ encode_utf8 c.in-Some.ch ++ c.as_str-rest.result.now = sym c.chars-chars.ensures.rest ∙ c.in-Some.ensures.steps.0 ∙ ap (λ (l : List ℕ). encode_utf8 c.in-Some.ch ++ l) (sym c.as_str-rest.ensures) in
     rest_taken c.args.self.now c.take_text.new.self c.args.at c.args.run.now c.as_str-rest.result.now c.in-Some.ch c.utf8.run is
     c.rest_place-next.result c.rest_place-next.ensures c.in_ok-take_text.ensures c.put_run.result c.put_run.new.self
     (c.put_run.ensures (placed c.rest_place-next.result (chars c.as_str-rest.result.now)) (is_with_references c.rest_place-next.result c.as_str-rest.result.now))
+
+pub returns-then-pends_run : goal.returns-then-pends_run
+returns-then-pends_run c =
+    let is : c.args.run.now ≡ encode_utf8 c.in-Some.ch ++ c.as_str-rest.result.now = sym c.chars-chars.ensures.rest ∙ c.in-Some.ensures.steps.0 ∙ ap (λ (l : List ℕ). encode_utf8 c.in-Some.ch ++ l) (sym c.as_str-rest.ensures) in
+    rest_taken c.args.self.now c.take_text.new.self c.args.at c.args.run.now c.as_str-rest.result.now c.in-Some.ch c.utf8.run is
+    c.rest_place-next.result c.rest_place-next.ensures c.in_ok-take_text.ensures c.pend_run.result c.pend_run.new.self c.pend_run.ensures
 
 pub returns : goal.returns
 returns c =

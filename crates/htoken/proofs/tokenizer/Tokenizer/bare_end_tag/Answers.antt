@@ -11,23 +11,23 @@ returns-in_err-name-clause-takes g c =
     memory_out table start c.args.self.now c.intern.new.self text taken (taken_now table start c.args.self.now before c.intern.new.self text taken (subst IsCalm (sym c.requires.less) tt) (grows_on _ _ _ grows c.intern.ensures.grows) h)
     (gives_item g.S.ErrorSink.gives g.S.TokenSink.gives_token) _ _ _)
 
-pub returns-in_err-take_tag-clause-takes : goal.returns-in_err-take_tag-clause-takes
-returns-in_err-take_tag-clause-takes g c =
+pub returns-in_err-give_tag-clause-takes : goal.returns-in_err-give_tag-clause-takes
+returns-in_err-give_tag-clause-takes g c =
     let run = c.args.run.now in
     let run_is = first_is run c.requires.some c.requires.solidus in
-    rw (err_is c.from_residual-in_err-take_tag.result _ c.from_residual-in_err-take_tag.ensures.1) (λ table start before text taken grows h.
+    rw (err_is c.from_residual-in_err-give_tag.result _ c.from_residual-in_err-give_tag.ensures.1) (λ table start before text taken grows h.
     let gives = gives_item g.S.ErrorSink.gives g.S.TokenSink.gives_token in
     let k = taken_now table start c.args.self.now before c.intern.new.self text taken (subst IsCalm (sym c.requires.less) tt) (grows_on _ _ _ grows c.in_ok-name.ensures.grows) h in
     cut_refused gives table start text c.args.at (c.args.size + 2) run (end_cut run (drop 1 run) c.args.size c.utf8.run run_is c.requires.bare) taken _ _ _ _ _ _
     (end_given table start c.args.self.now c.intern.new.self text taken k c.requires.less g.S.ErrorSink.gives g.S.TokenSink.gives_token run c.args.at c.args.size c.utf8.run (omega (arith, c.requires.within)) (drop 1 run) run_is c.requires.bare _ refl _
-    (grows_not _, refl, (take c.args.size (drop 1 run), c.in_ok-name.ensures.number ∙ ap (λ (x : List ℕ). Some x) (c.range.ensures.value ∙ range_after_first c.args.size run), refl)) _ _ _ c.in_err-take_tag.ensures))
+    (grows_not _, refl, (take c.args.size (drop 1 run), c.in_ok-name.ensures.number ∙ ap (λ (x : List ℕ). Some x) (c.range.ensures.value ∙ range_after_first c.args.size run), refl)) _ _ _ c.in_err-give_tag.ensures))
 
 pub returns-clause-takes : goal.returns-clause-takes
 returns-clause-takes g c = λ table start before text taken grows h.
     let run = c.args.run.now in
     let k = taken_now table start c.args.self.now before c.intern.new.self text taken (subst IsCalm (sym c.requires.less) tt) (grows_on _ _ _ grows c.in_ok-name.ensures.grows) h in
     end_given table start c.args.self.now c.intern.new.self text taken k c.requires.less g.S.ErrorSink.gives g.S.TokenSink.gives_token run c.args.at c.args.size c.utf8.run (omega (arith, c.requires.within)) (drop 1 run) (first_is run c.requires.some c.requires.solidus) c.requires.bare _ refl _
-    (grows_not _, refl, (take c.args.size (drop 1 run), c.in_ok-name.ensures.number ∙ ap (λ (x : List ℕ). Some x) (c.range.ensures.value ∙ range_after_first c.args.size run), refl)) _ _ _ c.in_ok-take_tag.ensures
+    (grows_not _, refl, (take c.args.size (drop 1 run), c.in_ok-name.ensures.number ∙ ap (λ (x : List ℕ). Some x) (c.range.ensures.value ∙ range_after_first c.args.size run), refl)) _ _ _ c.in_ok-give_tag.ensures
 
 pub returns-clause-cut : goal.returns-clause-cut
 returns-clause-cut g c = end_cut c.args.run.now (drop 1 c.args.run.now) c.args.size c.utf8.run (first_is c.args.run.now c.requires.some c.requires.solidus) c.requires.bare

@@ -15,11 +15,11 @@ returns-then-not-leads_to_data-clause-takes g c = λ table start before text tak
     nothing_taken (gives_item g.S.ErrorSink.gives g.S.TokenSink.gives_token) table start text taken c.args.at c.intern.new.self c.args.sink.now c.args.self.now
     (taken_kept table start c.args.self.now before c.intern.new.self text taken (grows_on _ _ _ grows c.in_ok-name.ensures.grows) h)
 
-pub returns-in_err-take_tag-clause-takes : goal.returns-in_err-take_tag-clause-takes
-returns-in_err-take_tag-clause-takes g c =
+pub returns-in_err-give_tag-clause-takes : goal.returns-in_err-give_tag-clause-takes
+returns-in_err-give_tag-clause-takes g c =
     let run = c.args.run.now in
     let name = take c.args.size run in
-    rw (err_is c.from_residual-in_err-take_tag.result _ c.from_residual-in_err-take_tag.ensures.1) (λ table start before text taken grows h.
+    rw (err_is c.from_residual-in_err-give_tag.result _ c.from_residual-in_err-give_tag.ensures.1) (λ table start before text taken grows h.
     let gives = gives_item g.S.ErrorSink.gives g.S.TokenSink.gives_token in
     let k = taken_now table start c.args.self.now before c.intern.new.self text taken (subst IsCalm (sym c.requires.less) tt) (grows_on _ _ _ grows c.in_ok-name.ensures.grows) h in
     let named = c.range.ensures.value ∙ front_of c.args.size run in
@@ -28,7 +28,7 @@ returns-in_err-take_tag-clause-takes g c =
     let number = c.in_ok-name.ensures.number ∙ ap (λ (x : List ℕ). Some x) named in
     cut_refused gives table start text c.args.at (c.args.size + 1) run (start_cut run c.args.size c.utf8.run c.requires.bare) taken _ _ _ _ _ _
     (start_given table start c.args.self.now c.intern.new.self text taken k c.requires.less g.S.ErrorSink.gives g.S.TokenSink.gives_token run c.args.at c.args.size c.utf8.run (omega (arith, c.requires.within)) c.requires.bare c.in_ok-name.name _ refl
-    number (ap refused_name tag ∙ leads.0) (ap raw_kind tag ∙ leads.1) _ (grows_not _, refl, (name, [], number, subst (λ x. AttrsMean c.intern.new.self x []) (sym c.new.ensures.items) tt, refl)) _ _ _ c.in_err-take_tag.ensures))
+    number (ap refused_name tag ∙ leads.0) (ap raw_kind tag ∙ leads.1) _ (grows_not _, refl, (name, [], number, subst (λ x. AttrsMean c.intern.new.self x []) (sym c.new.ensures.items) tt, refl)) _ _ _ c.in_err-give_tag.ensures))
 
 pub returns-clause-takes : goal.returns-clause-takes
 returns-clause-takes g c = λ table start before text taken grows h.
@@ -40,7 +40,7 @@ returns-clause-takes g c = λ table start before text taken grows h.
     let leads = c.leads_to_data.ensures c.if-not-leads_to_data.false in
     let number = c.in_ok-name.ensures.number ∙ ap (λ (x : List ℕ). Some x) named in
     start_given table start c.args.self.now c.intern.new.self text taken k c.requires.less g.S.ErrorSink.gives g.S.TokenSink.gives_token run c.args.at c.args.size c.utf8.run (omega (arith, c.requires.within)) c.requires.bare c.in_ok-name.name _ refl
-    number (ap refused_name tag ∙ leads.0) (ap raw_kind tag ∙ leads.1) _ (grows_not _, refl, (name, [], number, subst (λ x. AttrsMean c.intern.new.self x []) (sym c.new.ensures.items) tt, refl)) _ _ _ c.in_ok-take_tag.ensures
+    number (ap refused_name tag ∙ leads.0) (ap raw_kind tag ∙ leads.1) _ (grows_not _, refl, (name, [], number, subst (λ x. AttrsMean c.intern.new.self x []) (sym c.new.ensures.items) tt, refl)) _ _ _ c.in_ok-give_tag.ensures
 
 pub returns-clause-cut : goal.returns-clause-cut
 returns-clause-cut g c = start_cut c.args.run.now c.args.size c.utf8.run c.requires.bare

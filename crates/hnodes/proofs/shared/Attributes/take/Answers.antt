@@ -1,5 +1,5 @@
 use Rattle.hnodes.proofs.Names.{◌∙◌, arith, common_steps}
-use Rattle.hnodes.proofs.shared.Attributes.new.Goals as goal
+use Rattle.hnodes.proofs.shared.Attributes.take.Goals as goal
 
 pub returns-then-is_empty : goal.returns-then-is_empty
 returns-then-is_empty c = grind (arith, common_steps)
