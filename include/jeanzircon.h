@@ -516,28 +516,30 @@ static inline void jz_free(jz_doc *doc) {
     jz_give_back(length);
 }
 
-/* Puts rows into their places by number, and finds their words. */
+/* Puts rows into their places by number, and finds their words. Numbers mostly come in order, so that a node is written once. */
 static inline uint32_t jz_index(jz_doc *doc, const jz_row *rows, size_t count, size_t bytes) {
     size_t i, at = 0;
-    doc->count = doc->root + 1;
+    uint32_t made = doc->root + 1; /* what the nodes below this number hold is written */
+    doc->count = made;
     for (i = 0; i < count; i++)
         if (rows[i].number >= doc->count) doc->count = rows[i].number + 1;
     if (!(doc->nodes = (jz_node *)malloc(doc->count * sizeof *doc->nodes))) return JZ_MEMORY;
-    memset(doc->nodes, 0xFF, doc->count * sizeof *doc->nodes); /* JZ_NONE in each link */
+    memset(doc->nodes, 0xFF, made * sizeof *doc->nodes); /* JZ_NONE in each link */
     doc->nodes[doc->root].words = doc->nodes[doc->root].end = 0;
     doc->nodes[doc->root].kind = doc->root == 0 ? JZ_DOCUMENT : JZ_ELEMENT;
     if (count) doc->nodes[doc->root].first_child = rows[0].number;
     for (i = 0; i < count; i++) {
-        const uint8_t *end = (const uint8_t *)memchr(doc->words + at, 0xFE, bytes - at);
-        size_t stop = (size_t)(end - doc->words);
-        jz_node *node = &doc->nodes[rows[i].number];
-        node->kind = rows[i].kind;
-        node->parent = rows[i].parent;
-        node->first_child = rows[i].first_child;
-        node->next = rows[i].next;
+        const jz_row *row = &rows[i];
+        jz_node *node = &doc->nodes[row->number];
+        if (row->number > made) memset(&doc->nodes[made], 0xFF, (row->number - made) * sizeof *node);
+        if (row->number >= made) made = row->number + 1;
+        node->kind = row->kind;
+        node->parent = row->parent;
+        node->first_child = row->first_child;
+        node->next = row->next;
         node->words = at;
-        node->end = stop;
-        at = stop + 1;
+        node->end = (size_t)((const uint8_t *)memchr(doc->words + at, 0xFE, bytes - at) - doc->words);
+        at = node->end + 1;
     }
     return JZ_OK;
 }

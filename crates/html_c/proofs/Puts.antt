@@ -1,6 +1,6 @@
 -- Items that are put into a room one after another.
-use Rattle.html_c.proofs.Names.{◌≡◌, ℕ, ◌+◌, List, [], ◌++◌, length, refl, sym, ap, ap₂, ◌∙◌, PutsAt, arith, common_steps}
-use Rattle.std.proofs.Common.{◌≤◌, length-append}
+use Rattle.html_c.proofs.Names.{◌≡◌, ℕ, ◌<◌, ◌+◌, List, [], ◌∷◌, ◌++◌, length, refl, sym, ap, ap₂, ◌∙◌, PutsAt, arith, common_steps}
+use Rattle.std.proofs.Common.{◌≤◌, length-append, set, suc, zero}
 use Rattle.std.proofs.lemmas.List.{take-append-drop}
 use Rattle.std.proofs.lemmas.Slice.{overwrites}
 use Rattle.html_c.specs.Room.{over_at}
@@ -22,3 +22,8 @@ both {at = at} {a = a} {b = b} {old = old} p q is = rw is let e = length-append 
 
 pub no_more : {A : Type 0} {at : ℕ} {room : List A} → PutsAt at [] room room at
 no_more {at = at} {room = room} = record { onward = omega arith; counted = λ h. omega arith; further = λ h. omega (arith, h); long = refl; fits = λ fits. (omega arith, sym (take-append-drop at room)) }
+
+pub set_over : {A : Type 0} (at : ℕ) (x : A) (old : List A) → at < length old → set old at x ≡ over_at at (x ∷ []) old
+set_over at x [] h = absurd (omega (arith, h))
+set_over zero x (y ∷ ys) h = refl
+set_over (suc n) x (y ∷ ys) h = ap (λ l. y ∷ l) (set_over n x ys (omega (arith, h)))

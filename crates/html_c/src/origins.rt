@@ -4,7 +4,7 @@ ghost use Rattle.std.specs.Prelude.{◌≡◌, ◌≤◌, true, length};
 ghost use Rattle.html_c.specs.Vocabulary.{PutsAt, children_of, parsed_origins, origin_at, origin_row, origins_of, put_over};
 
 use crate::answer::OriginRow;
-use crate::room::put_at;
+use crate::room::put_one;
 use crate::rows::link_to;
 use hnodes::NodeId;
 use hparse::{Origin, Parsed};
@@ -40,7 +40,7 @@ fn put_listed(parsed: &Parsed, list: &[Origin], room: &mut [OriginRow]) -> usize
 {
     let mut at = 0;
     for node in parsed.tree.descendants(parsed.root) {
-        at = put_at(&[origin_at(list, node)], room, at);
+        at = put_one(origin_at(list, node), room, at);
     }
     at
 }

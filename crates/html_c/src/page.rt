@@ -9,7 +9,7 @@ use crate::answer::{ErrorRow, Given, NodeRow, OriginRow, PageAnswer};
 use crate::fault::CallFault;
 use crate::fitted::Fitted;
 use crate::origins::put_origins;
-use crate::room::{put_at, status};
+use crate::room::{put_one, status};
 use crate::rows::Rows;
 use crate::tree::parse_of;
 use hparse::Parsed;
@@ -66,7 +66,7 @@ fn put_errors(fits: bool, errors: &[ParseError], room: &mut [ErrorRow])
     if fits {
         let mut at = 0;
         for error in errors {
-            at = put_at(&[error_row(error)], room, at);
+            at = put_one(error_row(error), room, at);
         }
     }
 }

@@ -1,6 +1,6 @@
 //! The caller's rooms.
 
-ghost use Rattle.std.specs.Prelude.{◌≡◌, ◌≤◌, true, length, nat_le};
+ghost use Rattle.std.specs.Prelude.{◌≡◌, ◌≤◌, ◌∷◌, [], true, length, nat_le};
 ghost use Rattle.html_c.specs.Vocabulary.{PutsAt, fit, parsed_rows, parsed_words, fitted_text, page_fault, fault_answer, fit_status, put_over, room_answer};
 
 use crate::answer::{Answer, NodeRow, PageAnswer};
@@ -60,6 +60,7 @@ fn room_answer(fits: bool, length: usize, nodes: usize) -> Answer
 }
 
 /// Puts items at a place of a room, if they fit there. Returns the place after them, or the greatest number.
+#[inline(always)]
 pub(crate) fn put_at<T: Copy>(items: &[T], room: &mut [T], at: usize) -> usize
     ensures { PutsAt at items.now room.old room.new result }
 {
@@ -67,6 +68,18 @@ pub(crate) fn put_at<T: Copy>(items: &[T], room: &mut [T], at: usize) -> usize
         room[at..at + items.len()].copy_from_slice(items);
     }
     at.saturating_add(items.len())
+}
+
+/// The same of one item, which is written where it is made.
+#[inline(always)]
+#[tactic(auto, using(crate::proofs::Puts::set_over))]
+pub(crate) fn put_one<T: Copy>(item: T, room: &mut [T], at: usize) -> usize
+    ensures { PutsAt at (item ∷ []) room.old room.new result }
+{
+    if at < room.len() {
+        room[at] = item;
+    }
+    at.saturating_add(1)
 }
 
 /// Writes items to the beginning of a room, where all that an answer writes fits.

@@ -5,7 +5,7 @@ ghost use Rattle.names.specs.Names.{text_of};
 ghost use Rattle.html_c.specs.Vocabulary.{Memory, PutsAt, greatest, attribute_of, mapped_attribute, what_of, attribute_words, ended, kind_number, link_to, parsed_rows, parsed_words, put_over, row_at, words_at};
 
 use crate::answer::NodeRow;
-use crate::room::put_at;
+use crate::room::{put_at, put_one};
 use hnodes::{NodeId, NodeKind, Tree};
 use hparse::Parsed;
 use hserialize::NodeView;
@@ -17,14 +17,16 @@ const WORD_END: u8 = 0xFF;
 const NODE_END: u8 = 0xFE;
 
 /// Puts a word at a place, and returns the place after it, as do the next.
+#[inline(always)]
 fn put_word(word: &str, room: &mut [u8], at: usize) -> usize
     ensures { PutsAt at (ended word.now) room.old room.new result }
 {
     let end = put_at(word.as_bytes(), room, at);
-    put_at(&[WORD_END], room, end)
+    put_one(WORD_END, room, end)
 }
 
 /// Puts the words of attributes.
+#[inline(always)]
 fn put_attributes(names: &Names, attrs: &[Attr], room: &mut [u8], at: usize) -> usize
     ensures { PutsAt at (flat_map attribute_words (map (mapped_attribute (text_of names.now)) (map attribute_of attrs.now))) room.old room.new result }
 {
@@ -37,6 +39,7 @@ fn put_attributes(names: &Names, attrs: &[Attr], room: &mut [u8], at: usize) -> 
 }
 
 /// Puts the words of a node.
+#[inline(always)]
 fn put_words(tree: &Tree, names: &Names, node: NodeId, room: &mut [u8], at: usize) -> usize
     requires { node < tree.now.made }
     ensures { PutsAt at (words_at (text_of names.now) (what_of node tree.now.trees)) room.old room.new result }
@@ -89,6 +92,8 @@ fn row_at(tree: &Tree, node: NodeId) -> NodeRow
 }
 
 /// Puts the rows and the words of what was parsed, each at the beginning of a room. Returns the places after them.
+/// Compiled for each call by itself, so that with empty rooms it counts and does no more.
+#[inline(always)]
 fn put_parsed(parsed: &Parsed, rows: &mut [NodeRow], words: &mut [u8]) -> (usize, usize)
     ensures rows { PutsAt 0 (parsed_rows parsed.now) rows.old rows.new result.0 }
     ensures words { PutsAt 0 (parsed_words parsed.now) words.old words.new result.1 }
@@ -97,9 +102,9 @@ fn put_parsed(parsed: &Parsed, rows: &mut [NodeRow], words: &mut [u8]) -> (usize
     let mut row_end = 0;
     let mut word_end = 0;
     for node in tree.descendants(parsed.root) {
-        row_end = put_at(&[row_at(tree, node)], rows, row_end);
+        row_end = put_one(row_at(tree, node), rows, row_end);
         word_end = put_words(tree, &parsed.names, node, words, word_end);
-        word_end = put_at(&[NODE_END], words, word_end);
+        word_end = put_one(NODE_END, words, word_end);
     }
     (row_end, word_end)
 }

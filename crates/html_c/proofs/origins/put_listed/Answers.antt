@@ -4,7 +4,7 @@ use Rattle.html_c.proofs.Puts.{both}
 use Rattle.html_c.proofs.origins.put_listed.Goals as goal
 
 pub loop-node-preserved : goal.loop-node-preserved
-loop-node-preserved c = record { rows = both c.loop-node.invariant.rows c.put_at-at.ensures (grind (arith, common_steps)); nodes = grind (arith, common_steps) }
+loop-node-preserved c = record { rows = both c.loop-node.invariant.rows c.put_one-at.ensures (grind (arith, common_steps)); nodes = grind (arith, common_steps) }
 
 pub returns : goal.returns
 returns c =

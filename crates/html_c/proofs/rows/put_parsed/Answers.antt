@@ -5,8 +5,8 @@ use Rattle.html_c.proofs.rows.put_parsed.Goals as goal
 
 pub loop-node-preserved : goal.loop-node-preserved
 loop-node-preserved c = record {
-  rows = both c.loop-node.invariant.rows c.put_at-row_end.ensures (grind (arith, common_steps));
-  words = both c.loop-node.invariant.words (both c.put_words-word_end.ensures c.put_at-word_end.ensures refl) (grind (arith, common_steps));
+  rows = both c.loop-node.invariant.rows c.put_one-row_end.ensures (grind (arith, common_steps));
+  words = both c.loop-node.invariant.words (both c.put_words-word_end.ensures c.put_one-word_end.ensures refl) (grind (arith, common_steps));
   nodes = grind (arith, common_steps);
 }
 
