@@ -24,14 +24,16 @@ import tempfile
 import threading
 import time
 import unittest
+import unittest.mock
 import warnings
 import xml.etree.ElementTree as ElementTree
 import zlib
 
 import jeanzircon as jz
+from jeanzircon import _warc
 from jeanzircon._archives import Archives, Done, Place, kind_of
-from jeanzircon._crew import MORE, are_more, line_of, links_of, said, said_by_nodes
-from jeanzircon._stored import Unread
+from jeanzircon._crew import MORE, Lines, are_more, links_of, said, said_by_nodes
+from jeanzircon._stored import PARTS, Unread
 
 CHECKOUT = sys.argv.pop(1) if len(sys.argv) > 1 and os.path.isdir(sys.argv[1]) else None
 PAGE = b"<!DOCTYPE html><!-- c --><title> a\n b </title><p class=x id=y>1<a href=/one>2<b>3</b></a>&copy;<a>4</a><!--d--></p>5"
@@ -396,7 +398,8 @@ def folder_of(case, **files):
 def lines_of(*paths, most=1 << 20, done=None):
     """The lines that are made of archives, and what is left out of them."""
     archives = Archives(done or Done(), most)
-    return [json.loads(line_of(it, most).text) for it in archives.pages(paths)], dict(archives.left_out)
+    text = Lines(archives.pages(paths), most).text
+    return list(map(json.loads, text.splitlines())), dict(archives.left_out)
 
 
 def tar_of(**files):
@@ -443,6 +446,34 @@ class Crawls(unittest.TestCase):
             self.assertEqual({json.dumps(it["links"]) for it in lines if it["bytes"] == len(PAGE)}, {'[["/one", "23"]]'})
             self.assertEqual([(it["at"], it["links"]) for it in lines if "svg" in it["status"]], [(1, [])])
             self.assertEqual([it["errors"] for it in lines if it["address"] == "http://a/bytes"], [{"replaced-bytes": 1, "tree-initial": 1}])
+
+    def test_usual_heads(self):
+        """What is read of both heads at once is what is read of them header by header."""
+        usual = response("a", PAGE, "Content-Length: 9", "X-A: \xe9")
+        others = [(b"WARC-Type", b"warc-type"), (b"WARC-Type: response\r\n", b""),
+                  (b"e: response", b"e: response\r\nWARC-Type: request"), (b"e: response", b"e: request"),
+                  (b"http://a/a", b"<http://a/a>"), (b"http://a/a", b"http://a/ a"), (b"http://a/a", b"http://a/\xc3\xa9"), (b"WARC-Target-URI", b"X-URI"),
+                  (b"http://a/a", b"http://a/a\r\nWARC-Target-URI: b"), (b"Content-Length: ", b"Content-Length:0"), (b"Content-Length: ", b"Content-Length: 9"),
+                  (b"Content-Length: ", b"Content-Length: 9\r\nContent-Length: "), (b"Content-Length: ", b"content-length: 5\r\nContent-Length: "),
+                  (b"Content-Length: ", b"Content-Length: 5\r\ncontent-length: "), (b"\r\nContent-Length: ", b"\r\n Content-Length: "),
+                  (b"application/http;", b"application/httpx;"), (b"application/http;", b"text/html;"), (b"1.0\r\n", b"1.0\n"),
+                  (b"1.0\r\n", b"1.0\r\n x: y\r\n"),
+                  (b"1.0\r\n", b"1.0\r\nx: \ny: \r\n"), (b"1.0\r\n", b"1.0\r\nx: " + b"y" * 70000 + b"\r\n"), (b"200 OK\r\n", b"200 OK\r\n\r\n"),
+                  (b"HTTP/1.1 200 OK\r\n", b""), (b"text/html;", b"Text/HTML ;"), (b"text/html;", b"text/htm;"), (b"text/html;", b"text/html;\r\n "),
+                  (b"text/html;", b"image/png\r\nContent-Type: text/html;"), (b"text/html;", b"text/html\r\nContent-Type: image/png;"),
+                  (b"200 OK\r\n", b"200 OK\r\nContent-Encoding: x\r\n"), (b"200 OK\r\n", b"200 OK\r\ntransfer-encoding : chunked\r\n"), (b"", b"")]
+        records = [usual.replace(one, other, 1) for one, other in others] + [usual[:-9], usual + b"x", response("a", b"a\r\n\r\nb")]
+        text = b"".join(it for record in records for it in (record, response("b", b"b")))
+        room = folder_of(self, a_warc=text, b_warc_gz=gzip.compress(text), c_warc_gz=b"".join(map(gzip.compress, records)))
+        for most in (20, 1 << 20):
+            came = []
+            for way in (_warc.USUAL, re.compile(b"(?!)")):
+                with unittest.mock.patch.object(_warc, "USUAL", way):
+                    archives = Archives(Done(), most)
+                    pages = [it._replace(content=PARTS.read(it.archive, *it.span), span=(0, 0)) if it.span[1] else it for it in archives.pages([room])]
+                    came.append((pages, archives.left_out))
+            self.assertEqual(*came)
+        self.assertEqual((_warc.USUAL.match(usual).end(), _warc.USUAL.match(usual[1:])), (usual.index(PAGE), None))
 
     def test_damage(self):
         members = [gzip.compress(it) for it in (response(str(number), PAGE * 9) for number in range(5))]

@@ -30,8 +30,8 @@ class Done:
         blocks[block] = blocks.get(block, 0) | 1 << bit
 
     def has(self, archive: str, record: int) -> bool:
-        block, bit = divmod(record, BLOCK)
-        return bool(self._blocks.get(archive, {}).get(block, 0) >> bit & 1)
+        blocks, (block, bit) = self._blocks.get(archive), divmod(record, BLOCK)
+        return blocks is not None and bool(blocks.get(block, 0) >> bit & 1)
 
     def of(self, archives: Iterable[str]) -> Done:
         """What is known of these archives."""

@@ -8,7 +8,7 @@ from collections.abc import Callable, Iterable, Iterator
 from typing import TYPE_CHECKING, Any
 
 from ._archives import Archives, Done, Place
-from ._crew import Line, Worker, batches, line_of
+from ._crew import Lines, Worker, batches
 from ._stored import Found
 
 if TYPE_CHECKING:  # distributed need not be there for a check of types
@@ -25,18 +25,17 @@ else:
 
 # How many bytes of lines a part has, and one page more; how many files are handed out together; how often a part that failed is tried again.
 PART, FILES, AGAIN = 1 << 22, 256, 3
-Given = tuple[list[Line], "Counter[str]", list[Place]]
+Given = tuple[Lines, "Counter[str]", list[Place]]
 
 
 def read(places: list[Place], done: Done, most: int) -> Given:
     """The lines of a part, from the first of these places on, what is left out of it, and the places that are left."""
-    archives, lines, room = Archives(done, most), list[Line](), PART
+    archives, lines = Archives(done, most), Lines([], most)
     for number, place in enumerate(places):
         for found in archives.at(place):
-            if room < 0 and found.record:
+            if len(lines.text) > PART and found.record:
                 return lines, archives.left_out, [place._replace(record=found.record, begin=found.begin), *places[number + 1:]]
-            lines.append(line_of(found, most))
-            room -= len(lines[-1].text)
+            lines.add(found, most)
     return lines, archives.left_out, []
 
 
@@ -58,7 +57,7 @@ def bundles(places: Iterable[Place | Found]) -> Iterator[list[Place] | Found]:
 class Cluster:
     """The workers of a scheduler, each core of which has two parts to read. What they give is written here, each part once, whoever read it."""
 
-    def __init__(self, address: str, most: int, write: Callable[[list[Line]], None]) -> None:
+    def __init__(self, address: str, most: int, write: Callable[[Lines], None]) -> None:
         self._client, self._most, self._write = Client(address, set_as_default=False), most, write
         self._came: queue.SimpleQueue[Any] = queue.SimpleQueue()
         self._parts: dict[Any, tuple[list[Place], Done]] = {}
@@ -86,7 +85,7 @@ class Cluster:
         room = 2 * max(1, sum(self._client.nthreads().values())) - len(self._parts)
         while room > 0 and (it := next(left, None)) is not None:
             if isinstance(it, Found):
-                self._write([line_of(it, self._most)])
+                self._write(Lines([it], self._most))
             else:
                 self._give(it, archives.done.of(place.path for place in it))
                 room -= 1
@@ -130,8 +129,9 @@ class Cluster:
         archives = Archives(done, self._most)
         for place in places:
             for batch in batches(archives.at(place)):
-                self._write(self._here.lines_of(batch, lambda: self.is_ending))
-        return [], archives.left_out, []
+                for lines in self._here.lines_of(batch, lambda: self.is_ending):
+                    self._write(lines)
+        return Lines([], self._most), archives.left_out, []
 
     def _end(self) -> None:
         """Leaves what is not read yet."""

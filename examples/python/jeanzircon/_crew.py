@@ -9,10 +9,10 @@ import resource
 import signal
 import threading
 import time
+from collections import Counter
 from collections.abc import Callable, Iterable, Iterator
 from multiprocessing import resource_tracker
 from multiprocessing.connection import Connection
-from typing import NamedTuple
 
 from . import Page, Refused, parse
 from ._archives import Archives
@@ -27,16 +27,9 @@ NOTHING = b'"title": null, "links": [], "errors": {}'
 
 
 # Pages are handed over so many bytes at a time, and one page more.
-BATCH = 1 << 16
-SETTINGS = given(bad_bytes=1)
+BATCH = 1 << 18
+SETTINGS, CALL = given(bad_bytes=1), getattr(ENGINE, "said", None)
 quoted = json.JSONEncoder().encode
-
-
-class Line(NamedTuple):
-    """A line of the output, with what is counted of it."""
-    status: str
-    size: int
-    text: bytes
 
 
 def depth_of(node: Node | None, known: dict[int, int]) -> int:
@@ -82,32 +75,47 @@ def said_by_nodes(content: bytes) -> bytes:
 
 
 def said(content: bytes) -> bytes:
-    if (call := getattr(ENGINE, "said", None)) is None:
+    if CALL is None:
         return said_by_nodes(content)
-    found: bytes | None = call(content, SETTINGS, TIMES * len(content) + MORE)
+    found: bytes | None = CALL(content, SETTINGS, TIMES * len(content) + MORE)
     if found is None:
         raise Unread("LinksTooLarge")
     return found
 
 
-def line_of(found: Found, most: int) -> Line:
-    begun, size, status, at = time.perf_counter(), 0, "ok", None
-    it = NOTHING
+def read(found: Found, most: int) -> tuple[str, int | None, int, bytes]:
+    """What comes of a page: its status, the byte of a refusal, how large it is, and what is said of it."""
+    size = 0
     try:
         content = content_of(found, most)
         size = len(content)
-        it = said(content)
+        return "ok", None, size, said(content)
     except Unread as why:
-        status, at = why.status, why.at
+        return why.status, why.at, size, NOTHING
     except Refused as why:
         status, place, _ = str(why).partition(" at ")
-        at = why.at if place else None
+        return status, why.at if place else None, size, NOTHING
     except MemoryError:
-        status = "Memory"
-    taken = time.perf_counter() - begun
-    archive, address, what = map(quoted, (found.archive, found.address, status))
-    begin = f'{{"archive": {archive}, "record": {found.record}, "address": {address}, "status": {what}, "at": {"null" if at is None else at}, '
-    return Line(status, size, b'%b%b, "bytes": %d, "seconds": %.6f}\n' % (begin.encode(), it, size, taken))
+        return "Memory", None, size, NOTHING
+
+
+class Lines:
+    """Lines of the output, and what is counted of them: how many there are of each status, by its first word, and the bytes of their pages."""
+
+    def __init__(self, pages: Iterable[Found], most: int) -> None:
+        self.text, self.counts, self.size = bytearray(), Counter[str](), 0
+        for it in pages:
+            self.add(it, most)
+
+    def add(self, found: Found, most: int) -> None:
+        """Reads a page, and adds its line."""
+        begun = time.perf_counter()
+        status, at, size, it = read(found, most)
+        begin = (f'{{"archive": {quoted(found.archive)}, "record": {found.record}, "address": {quoted(found.address)}, "status": {quoted(status)}, '
+                 f'"at": {"null" if at is None else at}, ')
+        self.text += b'%b%b, "bytes": %d, "seconds": %.6f}\n' % (begin.encode(), it, size, time.perf_counter() - begun)
+        self.counts[status.partition(" ")[0]] += 1
+        self.size += size
 
 
 def work(link: Connection, most: int) -> None:
@@ -118,7 +126,7 @@ def work(link: Connection, most: int) -> None:
     resource.setrlimit(resource.RLIMIT_AS, (room if hardest == resource.RLIM_INFINITY else min(room, hardest), hardest))
     try:
         while True:
-            link.send([line_of(it, most) for it in link.recv()])
+            link.send(Lines(link.recv(), most))
     except (EOFError, OSError):
         pass
 
@@ -128,7 +136,7 @@ def batches(pages: Iterable[Found]) -> Iterator[list[Found]]:
     room = BATCH
     for it in pages:
         few.append(it)
-        room -= len(it.content) + 256
+        room -= len(it.content) + it.span[1] + 256
         if room < 0:
             yield few
             few, room = [], BATCH
@@ -150,20 +158,23 @@ class Worker:
         self._process.start()
         other.close()
 
-    def lines_of(self, batch: list[Found], is_ending: Callable[[], bool]) -> list[Line]:
+    def lines_of(self, batch: list[Found], is_ending: Callable[[], bool]) -> Iterator[Lines]:
         """The lines of some pages. Where the process ends, each is read by itself."""
         try:
             self._link.send(batch)
-            lines: list[Line] = self._link.recv()
-            return lines
+            lines: Lines = self._link.recv()
+            yield lines
+            return
         except (EOFError, OSError):
             if is_ending():
-                return []
+                return
         self.close()
         self._start()
         if len(batch) > 1:
-            return [line for it in batch for line in self.lines_of([it], is_ending)]
-        return [line_of(it._replace(content=b"", status="ProcessEnded", at=None), self._most) for it in batch]
+            for it in batch:
+                yield from self.lines_of([it], is_ending)
+        else:
+            yield Lines([it._replace(content=b"", status="ProcessEnded", at=None) for it in batch], self._most)
 
     def terminate(self) -> None:
         """Ends the process, if it is not closed already."""
@@ -179,7 +190,7 @@ class Worker:
 class Crew:
     """Workers, each with a thread that hands it pages and takes its lines to `write`. After `stop` no more are written; `fault` is what failed."""
 
-    def __init__(self, count: int, most: int, write: Callable[[list[Line]], None]) -> None:
+    def __init__(self, count: int, most: int, write: Callable[[Lines], None]) -> None:
         self._count, self._most, self._write = count, most, write
         self._waiting: queue.Queue[list[Found] | None] = queue.Queue(2 * count)
         self._threads: list[threading.Thread] = []
@@ -214,7 +225,8 @@ class Crew:
     def _serve(self, worker: Worker) -> None:
         while (batch := self._waiting.get()) is not None:
             try:
-                self._write([] if self.is_ending else worker.lines_of(batch, lambda: self.is_ending))
+                for lines in [] if self.is_ending else worker.lines_of(batch, lambda: self.is_ending):
+                    self._write(lines)
             except Exception as fault:
                 self.fault = self.fault or fault
                 self.stop()

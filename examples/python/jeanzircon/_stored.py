@@ -1,6 +1,7 @@
 """A page as an archive has it, and how it is read: chunks and codings of HTTP are undone where the standard library can."""
 from __future__ import annotations
 
+import os
 import re
 import zlib
 from typing import NamedTuple
@@ -23,18 +24,23 @@ class Broken(Unread):
         super().__init__(f"BrokenRecord {why}")
 
 
+# An archive, the number of a record, its address, and from where on the archive can be read again: a byte, and how many records are before it.
+Where = tuple[str, int, str, "tuple[int, int]"]
+
+
 class Found(NamedTuple):
-    """A page of an archive, or why it is not read. Its content is as it is stored, with the codings that HTTP names. `begin` is from where on the
-    archive can be read again: a byte, and how many records are before it."""
+    """A page of an archive, or why it is not read. Its content is as it is stored, with the codings that HTTP names; or `span` says where in the
+    archive it is, and how many bytes it has, for the process that reads the page."""
     archive: str
     record: int
     address: str
+    begin: tuple[int, int] = (0, 0)
     content: bytes = b""
     transfer: str = ""
     coding: str = ""
     status: str = ""
     at: int | None = None
-    begin: tuple[int, int] = (0, 0)
+    span: tuple[int, int] = (0, 0)
 
 
 def whole_chunks(content: bytes) -> bytes:
@@ -92,13 +98,42 @@ def codings(words: str) -> list[str]:
     return [it for it in reversed(found) if it not in ("", "identity", "none", "utf-8")]
 
 
+class Parts:
+    """Reads parts of archives, of which the last one stays open."""
+
+    def __init__(self) -> None:
+        self._path, self._file = "", -1
+
+    def read(self, path: str, at: int, size: int) -> bytes:
+        """So many bytes of a file, from this one on."""
+        try:
+            if path != self._path:
+                self.close()
+                self._file, self._path = os.open(path, os.O_RDONLY), path
+            content = os.pread(self._file, size, at)
+        except OSError as why:
+            raise Unread(f"Unreadable {why.strerror}") from why
+        if len(content) < size:
+            raise Broken("it is cut off")
+        return content
+
+    def close(self) -> None:
+        if self._path:
+            os.close(self._file)
+        self._path = ""
+
+
+PARTS = Parts()
+
+
 def content_of(found: Found, most: int) -> bytes:
     """The bytes of a page, which are no more than `most`."""
     if found.status:
         raise Unread(found.status, found.at)
-    content = found.content
-    for coding in [*codings(found.transfer), *codings(found.coding)]:
-        content = whole_chunks(content) if coding == "chunked" else unpacked(content, coding, most)
+    content = PARTS.read(found.archive, *found.span) if found.span[1] else found.content
+    if found.transfer or found.coding:
+        for coding in codings(found.transfer) + codings(found.coding):
+            content = whole_chunks(content) if coding == "chunked" else unpacked(content, coding, most)
     if len(content) > most:
         raise Unread("TooLarge", most)
     return content

@@ -8,10 +8,18 @@ from collections import Counter
 from collections.abc import Callable, Iterator
 from typing import BinaryIO, Union
 
-from ._stored import Broken, Found
+from ._stored import Broken, Found, Unread, Where
 
-PIECE, LONGEST_HEAD, MAGIC = 1 << 16, 1 << 16, b"\x1f\x8b\x08"
-EMPTY_LINE, RECORD = re.compile(rb"\r?\n\r?\n"), re.compile(rb"(?<=\n)WARC/[01]\.")
+PIECE, LONGEST_HEAD, MAGIC = 1 << 18, 1 << 16, b"\x1f\x8b\x08"
+RECORD, FOLDED = re.compile(rb"(?<=\n)WARC/[01]\."), re.compile(rb"\r?\n[ \t]+")
+OF_RECORD, OF_HTTP = "warc-type|warc-target-uri|content-type|content-length", "content-type|content-encoding|transfer-encoding"
+FIELD = re.compile(rf"\n({OF_RECORD}|{OF_HTTP})[ \t]*:(.*)", re.ASCII | re.IGNORECASE)
+# Both heads of a page as most are stored, where no header makes it another: address, length, where its block begins.
+USUAL = re.compile(rb"""WARC/1\.[01]\r\n
+    (?: WARC-Type:[ ](response)\r\n | WARC-Target-URI:[ ]([!-;=?-~]+)\r\n | Content-Length:[ ]([0-9]{1,9})\r\n
+      | Content-Type:[ ]application/http\b[^\r\n]*\r\n | (?!(?i:%b)) [^\s][^\r\n]*\r\n )* \r\n
+    () HTTP/[^\r\n]*\r\n (?: Content-Type:[ ](text/html)(?:;[^\r\n]*)?\r\n | (?!(?i:%b)) [^\s][^\r\n]*\r\n )* \r\n""" %
+                   (OF_RECORD.encode(), OF_HTTP.encode()), re.VERBOSE)
 
 
 class Mark(enum.Enum):
@@ -94,95 +102,122 @@ class Pieces:
 
 
 class Window:
-    """The bytes of an archive that were read and not yet taken. It stays before a mark until it is told to go on."""
+    """The bytes of an archive that were read, of which those from `_at` on are not yet taken. It stays before a mark until it is told to go on."""
 
     def __init__(self, source: Members | Pieces) -> None:
-        self._source, self._pieces, self._kept = source, iter(source), bytearray()
+        self._source, self._pieces = source, iter(source)
+        self._kept, self._at = b"", 0
         self._mark: Mark | None = None
-        self._begin, self._taken = source.begin, 0
+        self._begin, self._before = source.begin, 0
 
     def begin(self, number: int, before: tuple[int, int]) -> tuple[int, int]:
         """From where on the archive can be read again, which so many records are before; in a packed one that is where a member begins."""
-        return (self._begin + self._taken, number) if isinstance(self._source, Pieces) or not self._taken else before
+        taken = self._before + self._at
+        return (self._begin + taken, number) if isinstance(self._source, Pieces) or not taken else before
 
-    def _drop(self, size: int) -> None:
-        del self._kept[:size]
-        self._taken += size
-
-    def _has_more(self) -> bool:
-        """Reads a piece, unless a mark is next."""
+    def _piece(self) -> bytes:
+        """The next piece, or nothing where a mark is next."""
         if self._mark is None:
             piece = next(self._pieces, Mark.END)
             if not isinstance(piece, Mark):
-                self._kept += piece
-                return True
+                return piece
             self._mark = piece
-        return False
+        return b""
+
+    def _leave(self) -> int:
+        """Leaves what is taken; returns how many bytes are not."""
+        self._before += self._at
+        self._kept, self._at = self._kept[self._at:], 0
+        return len(self._kept)
+
+    def _has(self, size: int) -> bool:
+        """Whether so many bytes come before a mark. They are read."""
+        if len(self._kept) - self._at >= size:
+            return True
+        count, parts = self._leave(), [self._kept]
+        while count < size and (piece := self._piece()):
+            parts.append(piece)
+            count += len(piece)
+        self._kept = b"".join(parts)
+        return count >= size
 
     def take(self, size: int) -> bytes:
         """So many bytes, or what there is before a mark."""
-        while len(self._kept) < size and self._has_more():
-            pass
-        found = bytes(self._kept[:size])
-        self._drop(len(found))
+        self._has(size)
+        found = self._kept[self._at:self._at + size]
+        self._at += len(found)
         return found
 
     def head(self, most: int) -> bytes:
         """What is before the first empty line, with it."""
-        begin = 0
+        size = 4096
         while True:
-            found = EMPTY_LINE.search(self._kept, begin)
-            if found and found.end() <= most:
-                return self.take(found.end())
-            begin = max(0, len(self._kept) - 3)
-            if found or begin >= most or not self._has_more():
+            has_so_many = self._has(min(size, most))
+            line = self._kept.find(b"\n\r\n", self._at, self._at + most)
+            bare = self._kept.find(b"\n\n", self._at, line + 1 if line >= 0 else self._at + most)
+            if bare >= 0 or line >= 0:
+                return self.take((bare + 2 if bare >= 0 else line + 3) - self._at)
+            if not has_so_many or size >= most:
                 raise Broken("its headers do not end")
+            size *= 4
+
+    def usual_page(self, most: int) -> tuple[str, bytes, tuple[int, int]] | None:
+        """The address and the content of a page that is stored as most are and is read already, with its record. It is taken; any other is not. Of
+        an archive that is not packed the span of the content stands for it."""
+        found = USUAL.match(self._kept, self._at)
+        if found is None or None in (groups := found.groups()):
+            return None
+        begin, end = found.end(), found.start(4) + int(groups[2])
+        if begin - self._at > LONGEST_HEAD or not begin <= end <= begin + 2 * most or not self._kept.startswith(b"\r\n\r\n", end):
+            return None
+        self._at = end
+        if isinstance(self._source, Pieces):
+            return groups[1].decode(), b"", (self._begin + self._before + begin, end - begin)
+        return groups[1].decode(), self._kept[begin:end], (0, 0)
 
     def is_between(self) -> bool:
         """Whether what ends a record comes next: two line ends, or at least a record or a mark."""
-        while len(self._kept) < 32 and self._has_more():
-            pass
-        begin = bytes(self._kept[:32])
+        self._has(32)
+        begin = self._kept[self._at:self._at + 32]
         return begin.startswith(b"\r\n\r\n") or b"WARC/".startswith(begin.lstrip(b"\r\n")[:5])
 
     def begins(self, word: bytes) -> bool:
         """Whether what comes next begins so."""
-        while len(self._kept) < len(word) and self._has_more():
-            pass
-        return self._kept.startswith(word)
+        self._has(len(word))
+        return self._kept.startswith(word, self._at)
 
     def is_left(self) -> bool:
         """Leaves line ends, and says whether anything follows them."""
         while True:
-            while count := len(begin := self._kept[:64]) - len(begin.lstrip(b"\r\n")):
-                self._drop(count)
-            if self._kept or self._mark in (Mark.DAMAGE, Mark.END):
-                return self._mark is not Mark.END or bool(self._kept)
-            if self._mark:
-                self._begin, self._taken = self._source.begin, 0
-            self._mark = None
-            self._has_more()
+            while self._has(1):
+                begin = self._kept[self._at:self._at + 64]
+                left = len(begin.lstrip(b"\r\n"))
+                self._at += len(begin) - left
+                if left:
+                    return True
+            if self._mark is not Mark.START:
+                return self._mark is Mark.DAMAGE
+            self._begin, self._before, self._mark = self._source.begin, 0, None
 
     def seek(self) -> None:
         """Goes on to where a record begins, past one that is broken."""
-        while True:
-            found = RECORD.search(self._kept)
-            self._drop(found.start() if found else max(0, len(self._kept) - 8))
-            if found:
-                break
-            if not self._has_more():
-                self._drop(len(self._kept))
-                if self._mark in (Mark.START, Mark.END):
-                    break
+        self._leave()
+        while (found := RECORD.search(self._kept)) is None:
+            self._at = max(0, len(self._kept) - 8)
+            if not self._has(len(self._kept) - self._at + 1):
+                self._at = len(self._kept)
+                self._leave()
+                if self._mark is not Mark.DAMAGE:
+                    return
                 self._mark = None
+        self._at = found.start()
 
 
 def fields_of(head: bytes) -> dict[str, str]:
-    """The headers below a first line, by their names in small letters."""
+    """Those headers below a first line that are asked for, by their names in small letters."""
     if b"\n " in head or b"\n\t" in head:
-        head = re.sub(rb"\r?\n[ \t]+", b" ", head)
-    pairs = [it.partition(":") for it in head.decode("utf-8", "replace").split("\n")[1:]]
-    return {name.strip().lower(): value.strip() for name, colon, value in pairs if colon}
+        head = FOLDED.sub(b" ", head)
+    return {name.lower(): value.strip() for name, value in FIELD.findall(head.decode("utf-8", "replace"))}
 
 
 class Record:
@@ -193,7 +228,7 @@ class Record:
             raise Broken("none begins here")
         self.fields, self._window = fields_of(window.head(LONGEST_HEAD)), window
         length = self.fields.get("content-length", "")
-        if not re.fullmatch("[0-9]{1,18}", length):
+        if not (length.isascii() and length.isdecimal() and len(length) < 19):
             raise Broken("it has no length")
         self.left = int(length)
 
@@ -220,7 +255,7 @@ class Record:
             raise Broken("its length is wrong")
 
 
-def page_in(record: Record, found: Found, left_out: Counter[str], most: int) -> Found | None:
+def page_in(record: Record, where: Where, left_out: Counter[str], most: int) -> Found | None:
     """The page that a record has, if it has one."""
     kind, fields = record.fields.get("warc-type", "").lower(), record.fields
     if kind not in ("response", "resource"):
@@ -233,17 +268,18 @@ def page_in(record: Record, found: Found, left_out: Counter[str], most: int) -> 
         left_out["of another type"] += 1
         return None
     if record.left > 2 * most:  # (chunks take more than what they hold)
-        return found._replace(status="TooLarge", at=most)
-    codings = [fields.get(it, "") for it in ("transfer-encoding", "content-encoding")] if kind == "response" else ["", ""]
-    return found._replace(content=record.take(record.left), transfer=codings[0], coding=codings[1])
+        raise Unread("TooLarge", most)
+    if kind == "resource":  # (no message of HTTP, so without codings)
+        fields = {}
+    return Found(*where, record.take(record.left), fields.get("transfer-encoding", ""), fields.get("content-encoding", ""))
 
 
-def passed(record: Record, found: Found, left_out: Counter[str], most: int) -> Found | None:
+def passed(record: Record, where: Where, left_out: Counter[str], most: int) -> Found | None:
     """The page that a record has, or why it is not read, when all of the record is passed."""
     try:
-        page = page_in(record, found, left_out, most)
-    except Broken as why:
-        page = found._replace(status=why.status)
+        page = page_in(record, where, left_out, most)
+    except Unread as why:
+        page = Found(*where, status=why.status, at=why.at)
     record.end()
     return page
 
@@ -257,16 +293,20 @@ def pages(archive: str, file: BinaryIO, begin: tuple[int, int], is_done: Callabl
     while window.is_left():
         begin = window.begin(number, begin)
         number += 1
-        found = Found(archive, number, archive, begin=begin)
+        if usual := window.usual_page(most):
+            if not is_done(number):
+                yield Found(archive, number, usual[0], begin, usual[1], span=usual[2])
+            continue
+        where = archive, number, archive, begin
         try:
             record = Record(window)
-            found = found._replace(address=record.fields.get("warc-target-uri", archive).strip("<>"))
+            where = archive, number, record.fields.get("warc-target-uri", archive).strip("<>"), begin
             if is_done(number):
                 record.end()
                 continue
-            page = passed(record, found, left_out, most)
+            page = passed(record, where, left_out, most)
         except Broken as why:
-            page = None if is_done(number) else found._replace(status=why.status)
+            page = None if is_done(number) else Found(*where, status=why.status)
             window.seek()
         if page:
             yield page

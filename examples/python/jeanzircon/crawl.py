@@ -15,7 +15,7 @@ from typing import TYPE_CHECKING
 
 from . import __version__
 from ._archives import Archives, Done
-from ._crew import Crew, Line
+from ._crew import Crew, Lines
 
 if TYPE_CHECKING:
     from ._cluster import Cluster
@@ -36,13 +36,13 @@ class Output:
         self._counts: Counter[str] = Counter()
         self._size, self._begun, self._shown = 0, time.monotonic(), 0.0
 
-    def write(self, lines: list[Line]) -> None:
+    def write(self, lines: Lines) -> None:
         with self._lock:
-            left = memoryview(b"".join(it.text for it in lines))
+            left = memoryview(lines.text)
             while left:
                 left = left[os.write(self._file, left):]
-            self._counts.update(it.status.partition(" ")[0] for it in lines)
-            self._size += sum(it.size for it in lines)
+            self._counts.update(lines.counts)
+            self._size += lines.size
             if sys.stderr.isatty() and time.monotonic() - self._shown > 0.25:
                 self._shown = time.monotonic()
                 print(f"\r\x1b[K{self.progress()}", end="", file=sys.stderr, flush=True)
@@ -99,7 +99,7 @@ def told() -> argparse.Namespace:
     return found
 
 
-def readers(given: argparse.Namespace, write: Callable[[list[Line]], None]) -> Crew | Cluster:
+def readers(given: argparse.Namespace, write: Callable[[Lines], None]) -> Crew | Cluster:
     """Who reads the pages: processes of this machine, or the workers of a cluster."""
     if given.scheduler is None:
         return Crew(given.processes, given.largest, write)

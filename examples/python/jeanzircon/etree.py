@@ -9,11 +9,11 @@ from typing import Any
 from ._base import Page
 
 # What XML takes in no text, and neither does lxml.
-NO_TEXT = re.compile("[^\t\n\r -\ud7ff\ue000-\ufffd\U00010000-\U0010ffff]")
+NO_TEXT = "[^\t\n\r -\ud7ff\ue000-\ufffd\U00010000-\U0010ffff]"
 # What begins a name of XML, but U+FFFD, and what else is in one.
 START = ("A-Z_a-z\xc0-\xd6\xd8-\xf6\xf8-\u02ff\u0370-\u037d\u037f-\u1fff\u200c\u200d\u2070-\u218f\u2c00-\u2fef\u3001-\ud7ff\uf900-\ufdcf\ufdf0-\ufffc"
          "\U00010000-\U000effff")
-NO_START, NO_NAME = re.compile(f"[^{START}]"), re.compile(f"[^-.0-9\xb7\u0300-\u036f\u203f\u2040{START}]")
+NO_START, NO_NAME = f"[^{START}]", f"[^-.0-9\xb7\u0300-\u036f\u203f\u2040{START}]"
 
 
 def to_etree(page: Page, etree: Any = xml.etree.ElementTree) -> Any:
@@ -32,14 +32,14 @@ def to_etree(page: Page, etree: Any = xml.etree.ElementTree) -> Any:
 def allowed_name(name: str) -> str:
     def number(found: re.Match[str]) -> str:
         return f"U{ord(found[0]):05X}"
-    return NO_START.sub(number, name[:1]) + NO_NAME.sub(number, name[1:])
+    return re.sub(NO_START, number, name[:1]) + re.sub(NO_NAME, number, name[1:])
 
 
 def allowed(what: str, it: str) -> str:
     """A name, a text or a comment as XML takes it; what it takes already stays."""
     if what == "name":
         return allowed_name(it)
-    it = NO_TEXT.sub("\ufffd", it.replace("\f", " "))
+    it = re.sub(NO_TEXT, "\ufffd", it.replace("\f", " "))
     if what == "comment":
         while "--" in it:
             it = it.replace("--", "- -")

@@ -1,6 +1,6 @@
-/* The links of a tree, found in one walk without Python's lock. The texts inside links go one after another into one buffer, in which
+/* The links of a tree, found in one walk. The texts inside links go one after another into one buffer, in which
  * each link has its part: so nested links take no more than others. */
-#include "module.h"
+#include "found.h"
 
 static int add_link(Links *found, uint32_t node, jz_bytes href) {
     Link *link;
@@ -22,14 +22,17 @@ static int add_link(Links *found, uint32_t node, jz_bytes href) {
 
 /* A node is entered: a text is kept where a link is open, and an element may be one. Returns 0 where memory runs out. */
 static int enter(Links *found, const jz_doc *doc, uint32_t node) {
+    jz_words words = jz_words_of(doc, node);
     jz_bytes it;
+    if (jz_kind(doc, node) == JZ_ELEMENT) {
+        if (words.at == words.end || words.at[0] != 'a' || words.at[1] != 0xFF) return 1; /* (0xFF ends the name) */
+        it = jz_attribute(doc, node, "href");
+        return !it.bytes || add_link(found, node, it);
+    }
     if (found->open != JZ_NONE && jz_kind(doc, node) == JZ_TEXT_NODE) {
-        it = jz_data(doc, node);
+        it = jz_next_word(&words);
         memcpy(found->text + found->length, it.bytes, it.length);
         found->length += it.length;
-    } else if (jz_kind(doc, node) == JZ_ELEMENT && jz_is(jz_name(doc, node), "a")) {
-        it = jz_attribute(doc, node, "href");
-        if (it.bytes) return add_link(found, node, it);
     }
     return 1;
 }
@@ -58,25 +61,6 @@ int find_links(const jz_doc *doc, size_t words, Links *found) {
         node = next;
     }
     return 1;
-}
-
-static PyObject *pair(PyObject *one, PyObject *other) {
-    PyObject *both = one && other ? PyTuple_Pack(2, one, other) : NULL;
-    Py_XDECREF(one);
-    Py_XDECREF(other);
-    return both;
-}
-
-/* A list of each link's href and text. */
-PyObject *give_links(const Links *found, int is_found) {
-    PyObject *list = is_found ? PyList_New((Py_ssize_t)found->count) : PyErr_NoMemory();
-    size_t i;
-    for (i = 0; list && i < found->count; i++) {
-        const Link *link = &found->links[i];
-        PyObject *it = pair(string(link->href), string(jz_lent(found->text + link->begin, link->end - link->begin)));
-        if (!it || PyList_SetItem(list, (Py_ssize_t)i, it) < 0) Py_CLEAR(list);
-    }
-    return list;
 }
 
 void free_links(Links *found) {

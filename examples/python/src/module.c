@@ -134,6 +134,25 @@ static PyObject *module_parse(PyObject *module, PyObject *args) {
     return new_page(call.state, call.input, call.given, &doc, (size_t)call.answer.length);
 }
 
+static PyObject *pair(PyObject *one, PyObject *other) {
+    PyObject *both = one && other ? PyTuple_Pack(2, one, other) : NULL;
+    Py_XDECREF(one);
+    Py_XDECREF(other);
+    return both;
+}
+
+/* A list of each link's href and text. */
+PyObject *give_links(const Links *found, int is_found) {
+    PyObject *list = is_found ? PyList_New((Py_ssize_t)found->count) : PyErr_NoMemory();
+    size_t i;
+    for (i = 0; list && i < found->count; i++) {
+        const Link *link = &found->links[i];
+        PyObject *it = pair(string(link->href), string(jz_lent(found->text + link->begin, link->end - link->begin)));
+        if (!it || PyList_SetItem(list, (Py_ssize_t)i, it) < 0) Py_CLEAR(list);
+    }
+    return list;
+}
+
 static PyObject *module_links(PyObject *module, PyObject *args) {
     PyObject *input, *given;
     Call call;
@@ -153,17 +172,24 @@ static PyObject *module_links(PyObject *module, PyObject *args) {
     return list;
 }
 
+/* What jeanzircon.crawl says of a page, or None where there are too many links. */
 static PyObject *module_said(PyObject *module, PyObject *args) {
-    PyObject *input, *given;
+    PyObject *input, *given, *bytes;
     Py_ssize_t room;
+    Text said = { NULL, 0, 0 };
     Call call;
     jz_doc doc;
     if (!PyArg_ParseTuple(args, "OOn", &input, &given, &room) || !read_call(state_in(module), input, given, &call)) return NULL;
     Py_BEGIN_ALLOW_THREADS
-    jz_parse(call.bytes.bytes, call.bytes.length, &call.options, &doc, &call.answer);
+    if (jz_parse(call.bytes.bytes, call.bytes.length, &call.options, &doc, &call.answer) == JZ_OK)
+        said = said_of(&doc, (size_t)call.answer.length, room < 0 ? 0 : (size_t)room);
+    jz_free(&doc);
     Py_END_ALLOW_THREADS
     if (call.answer.status != JZ_OK) return refuse(call.state, &call.answer);
-    return give_said(&doc, (size_t)call.answer.length, room < 0 ? 0 : (size_t)room);
+    if (!said.text) return PyErr_NoMemory();
+    bytes = said.length ? PyBytes_FromStringAndSize(said.text, (Py_ssize_t)said.length) : Py_NewRef(Py_None);
+    free(said.text);
+    return bytes;
 }
 
 /* Bytes of a block, which is freed; a refusal where there is none. */

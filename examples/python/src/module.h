@@ -8,6 +8,7 @@
 #define Py_LIMITED_API 0x030A0000
 #include <Python.h>
 
+#include "found.h"
 #include "jeanzircon_data.h"
 
 enum { FRAGMENT = 5, KIND_COUNT = 6, NAME_COUNT = 1024 };
@@ -49,27 +50,7 @@ PyObject *name(State *state, jz_bytes bytes);
 PyObject *kind_of(const State *state, const jz_doc *doc, uint32_t number);
 int find_places(State *state, Page *page);
 
-/* --- links.c */
-typedef struct {
-    jz_bytes href;
-    size_t begin, end; /* its text in that of all links */
-    uint32_t node, outer;
-} Link;
-
-typedef struct {
-    Link *links;
-    size_t count, room;
-    uint8_t *text;
-    size_t length;
-    uint32_t open; /* the innermost link that is open, or JZ_NONE */
-} Links;
-
-int find_links(const jz_doc *doc, size_t words, Links *found);
 PyObject *give_links(const Links *found, int is_found);
-void free_links(Links *found);
-
-/* --- said.c */
-PyObject *give_said(jz_doc *doc, size_t words, size_t room);
 
 /* --- page.c */
 extern PyType_Spec page_spec;

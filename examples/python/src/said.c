@@ -1,11 +1,5 @@
-/* What jeanzircon.crawl says of a page: its title, links and numbers of errors, written as json.dumps writes them, without Python's lock. */
-#include "module.h"
-
-/* A text that grows. Where memory runs out it has none, and stays so. */
-typedef struct {
-    char *text;
-    size_t length, room;
-} Text;
+/* What jeanzircon.crawl says of a page: its title, links and numbers of errors, written as json.dumps writes them. */
+#include "found.h"
 
 static char *more(Text *it, size_t size) {
     if (it->text && it->room - it->length < size) {
@@ -119,43 +113,33 @@ static void put_errors(Text *it, const jz_doc *doc) {
     put(it, *before == '{' ? "{}" : "}");
 }
 
-/* What is said of a page. Its text is null where memory runs out, and empty where the links have more characters than `room`. */
-static Text said_of(const jz_doc *doc, const Links *found, size_t words, size_t room) {
-    Text it = { NULL, 0, 4096 };
-    uint8_t *all = (uint8_t *)malloc(words + 1);
+static void put_links(Text *it, const Links *found) {
     size_t i;
+    for (i = 0; i < found->count; i++) {
+        const Link *link = &found->links[i];
+        put(it, i ? ", [" : "[");
+        put_string(it, link->href);
+        put(it, ", ");
+        put_string(it, jz_lent(found->text + link->begin, link->end - link->begin));
+        put(it, "]");
+    }
+}
+
+/* What is said of a page. Its text is null where memory runs out, and empty where the links have more characters than `room`. */
+Text said_of(const jz_doc *doc, size_t words, size_t room) {
+    Text it = { NULL, 0, 4096 };
+    Links found;
+    uint8_t *all = find_links(doc, words, &found) ? (uint8_t *)malloc(words + 1) : NULL;
     it.text = all ? (char *)malloc(it.room) : NULL;
-    if (all && is_room(found, room)) {
+    if (all && is_room(&found, room)) {
         put(&it, "\"title\": ");
         put_string(&it, title_of(doc, all));
         put(&it, ", \"links\": [");
-        for (i = 0; i < found->count; i++) {
-            const Link *link = &found->links[i];
-            put(&it, i ? ", [" : "[");
-            put_string(&it, link->href);
-            put(&it, ", ");
-            put_string(&it, jz_lent(found->text + link->begin, link->end - link->begin));
-            put(&it, "]");
-        }
+        put_links(&it, &found);
         put(&it, "], \"errors\": ");
         put_errors(&it, doc);
     }
     free(all);
-    return it;
-}
-
-/* The bytes of it, or None where there are too many links. It frees the tree. */
-PyObject *give_said(jz_doc *doc, size_t words, size_t room) {
-    Text it = { NULL, 0, 0 };
-    PyObject *bytes;
-    Links found;
-    Py_BEGIN_ALLOW_THREADS
-    if (find_links(doc, words, &found)) it = said_of(doc, &found, words, room);
     free_links(&found);
-    jz_free(doc);
-    Py_END_ALLOW_THREADS
-    if (!it.text) return PyErr_NoMemory();
-    bytes = it.length ? PyBytes_FromStringAndSize(it.text, (Py_ssize_t)it.length) : Py_NewRef(Py_None);
-    free(it.text);
-    return bytes;
+    return it;
 }
