@@ -132,11 +132,6 @@ first_off zero [] = refl
 first_off (suc k) [] = refl
 first_off k (x ∷ xs) = refl
 
-pub opens_any : (text bytes : List ℕ) (start end : ℕ) → end ≤ start → true ≡ starts_with nat_eq bytes (drop 1 (slice_range text start end))
-opens_any text bytes start end same =
-    let none : end - start ≡ 0 = omega (arith, same) in
-    ap (λ (n : ℕ). starts_with nat_eq bytes (drop 1 (take n (drop start text)))) (sym none)
-
 pub opens_named : (text bytes : List ℕ) (start end : ℕ) (r : Bool) → start < end
     → r ≡ starts_with nat_eq bytes (take (end - start - 1) (take (length text - (start + 1)) (drop (start + 1) text))) → r ≡ starts_with nat_eq bytes (drop 1 (slice_range text start end))
 opens_named text bytes start end r some e =

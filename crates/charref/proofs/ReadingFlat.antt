@@ -79,6 +79,7 @@ entry_stands text start n cs within less key ones chars =
     record {
       passing = subst (λ (e : Entry). is_table_entry e ≡ true) same (and_from (is_key (key_at text d)) _ (ap is_key key-is ∙ key) ones);
       is_entity = record {
+        some = omega arith;
         inside = and_from (nat_le start end) (nat_le end (length text)) first last;
         passing = ap is_one_or_two reads ∙ ones;
         rest = drop count (drop end text);

@@ -38,8 +38,9 @@ HasNoCounted test bytes = (key rest : List ℕ) (count : ℕ) → test key ≡ t
 abbrev pub is_table_entry : Entry → Bool
 is_table_entry e = is_key e.key && is_one_or_two e.stands_for
 
--- An entry of a text: its key is inside it, and one or two characters are after the key.
+-- An entry of a text: its key, which is not empty, is inside it, and one or two characters are after the key.
 pub record IsEntity (text : List ℕ) (entity : Entity) : Type 0 where
+  pub some : entity.start < entity.end
   pub inside : is_inside text entity ≡ true
   pub passing : is_one_or_two (entry text entity).stands_for ≡ true
   pub rest : List ℕ

@@ -86,9 +86,6 @@ impl Flat {
         ensures { (e : Entry) × (slice_get self.now index ≡ Some e) × (result ≡ starts_with nat_eq bytes.now (drop 1 e.key)) }
     {
         let entity = &self.entities[index];
-        if entity.start >= entity.end {
-            return true;
-        }
         let name = &self.text[entity.start as usize + 1..];
         let count = (entity.end - entity.start) as usize - 1;
         if count <= AT_ONCE && name.len() >= AT_ONCE && bytes.len() >= AT_ONCE {
