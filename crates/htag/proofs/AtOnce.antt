@@ -1,12 +1,11 @@
 -- What stands whole in a run: a tag without attributes, or an attribute.
-use Rattle.htag.proofs.Vocabulary.{◌≡◌, ◌≤◌, ◌<◌, ℕ, zero, suc, ◌+◌, ◌-◌, Bool, true, false, not, ◌||◌, ◌&&◌, eqb, eqb_self, List, [], ◌∷◌, ◌++◌, length, take, drop, sym, refl, ap, ◌∙◌, subst, append_assoc, append-nil, arith, nat_tests, length-drop, length-take-le, take-append-drop, take_all, slice_index, list_all, prefix_len, ParseError, Placed, begins, characters, is_greater, is_letter, is_quote, name_bytes, placed, is_plain_byte, all_weaker, all_placed, Entities, is_unquoted_byte, is_word_byte, ends_name, ends_unquoted, tag_errors}
-use Rattle.std.proofs.Common.{cond, inl, inr}
+use Rattle.htag.proofs.Vocabulary.{◌≡◌, ◌≤◌, ◌<◌, ℕ, zero, suc, ◌+◌, ◌-◌, Bool, true, false, not, ◌||◌, ◌&&◌, eqb, eqb_self, List, [], ◌∷◌, ◌++◌, length, take, drop, sym, refl, ap, ◌∙◌, subst, append_assoc, append-nil, arith, nat_tests, length-drop, length-take-le, take-append-drop, take_all, slice_index, list_all, prefix_len, ParseError, Placed, begins, characters, is_equals, is_greater, is_letter, is_quote, is_space, name_bytes, placed, is_plain_byte, all_weaker, all_placed, Entities, is_unquoted_byte, is_word_byte, ends_name, ends_unquoted, tag_errors}
+use Rattle.std.proofs.Common.{cond}
 use Rattle.std.proofs.Math.Seq.{drop-cons}
 use Rattle.std.proofs.lemmas.List.{length-append, take_at, nil_from_length}
 use Rattle.std.proofs.lemmas.List.Folds.{list_all-append}
 use Rattle.std.proofs.lemmas.List.Sums.{prefix_len_stops}
-use Rattle.std.specs.Prelude.{◌⊎◌}
-use Rattle.std.specs.Char.{is_ascii_lowercase}
+use Rattle.std.specs.Char.{is_ascii, is_ascii_lowercase}
 use Rattle.htext.proofs.Runs.{placed-append}
 use Rattle.htext.specs.Run.{is_quoted_byte}
 use Rattle.htag.specs.AtOnce.{IsBareName, IsTagName, IsNameBefore, IsPlainAttribute, IsPlainValue, IsWritten, is_no_reference}
@@ -184,9 +183,8 @@ unquoted_is (x ∷ others) rest n rest_is l equals is some within ends =
       written = IsWritten.unquoted refl (omega (arith, some, long)) (counted_all is_unquoted_byte rest n is) refl ends;
     }
 
-pub missing_is : (run : List ℕ) → (slice_index run 0 ≡ 47) ⊎ (slice_index run 0 ≡ 62) → IsPlainValue run (record { before = 0; value = 0; after = 0; plain = true })
-missing_is [] (inl e) = absurd cc
-missing_is [] (inr e) = absurd cc
+pub missing_is : (run : List ℕ) → (eqb (slice_index run 0) 47 || is_greater (slice_index run 0)) ≡ true → IsPlainValue run (record { before = 0; value = 0; after = 0; plain = true })
+missing_is [] ends = absurd cc
 missing_is (x ∷ rest) ends = record {
   before = [];
   value = [];
@@ -199,11 +197,26 @@ missing_is (x ∷ rest) ends = record {
   after_is = refl;
   plain = λ e. refl;
   bare = λ e. refl;
-  written = IsWritten.missing refl refl refl (either ends);
-} where
-  either : (x ≡ 47) ⊎ (x ≡ 62) → (eqb x 47 || is_greater x) ≡ true
-  either (inl e) = rw e refl
-  either (inr e) = rw e refl
+  written = IsWritten.missing refl refl refl ends;
+}
+
+pub apart_is : (run : List ℕ) → 1 < length run → is_space (slice_index run 0) ≡ true → is_ascii (slice_index run 1) ≡ true → not (is_space (slice_index run 1) || is_equals (slice_index run 1)) ≡ true → IsPlainValue run (record { before = 0; value = 0; after = 1; plain = true })
+apart_is [] l space small other = absurd (omega (arith, l))
+apart_is (x ∷ []) l space small other = absurd (omega (arith, l))
+apart_is (x ∷ y ∷ rest) l space small other = record {
+  before = [];
+  value = [];
+  after = x ∷ [];
+  next = y;
+  others = rest;
+  run_is = refl;
+  before_is = refl;
+  value_is = refl;
+  after_is = refl;
+  plain = λ e. refl;
+  bare = λ e. refl;
+  written = IsWritten.apart x refl refl refl space small other;
+}
 
 pub attribute_is : (run : List ℕ) (n : ℕ) (value : PlainValue) → n ≡ prefix_len is_word_byte run → (n ≡ 0 → ⊥) → n ≤ length run → IsPlainValue (take (length run - n) (drop n run)) value → IsPlainAttribute run (record { name = n; value = value })
 attribute_is run n value is some few h = record {

@@ -120,14 +120,17 @@ begins_with (d ∷ ds) c e = (ds, cc)
 pub next_first : (at : ℕ) (run rest : List ℕ) (c : ℕ) → chars run ≡ c ∷ rest → next_at at run 0 ≡ record { ch = c; at = at } ∷ []
 next_first at run rest c is = let same : at + 0 ≡ at = omega arith in ap (λ (x : List ℕ). placed (at + 0) (take 1 x)) is ∙ ap (λ (n : ℕ). record { ch = c; at = n } ∷ []) same
 
--- and where it ends a name
-pub begins_end : (run : List ℕ) (ch : ℕ) → 0 < length run → ch ≡ slice_index run 0 → ends_name ch ≡ true → IsUtf8 run → (chars run ≡ ch ∷ chars (drop 1 run)) × (1 ≡ len_utf8 ch)
-begins_end [] ch some is ends u = absurd (omega (arith, some))
-begins_end (x ∷ xs) ch some is ends u =
-    let ascii : is_ascii ch ≡ true = grind (arith, ends, nat_tests) in
+-- and where it is ASCII
+pub begins_ascii : (run : List ℕ) (ch : ℕ) → 0 < length run → ch ≡ slice_index run 0 → is_ascii ch ≡ true → IsUtf8 run → (chars run ≡ ch ∷ chars (drop 1 run)) × (1 ≡ len_utf8 ch)
+begins_ascii [] ch some is ascii u = absurd (omega (arith, some))
+begins_ascii (x ∷ xs) ch some is ascii u =
     let small : ch < 128 = grind (arith, ascii, nat_tests) in
     let one : list_all is_ascii (ch ∷ []) ≡ true = and_both (is_ascii ch) true ascii refl in
     (ap (λ (c : ℕ). chars (c ∷ xs)) (sym is) ∙ (ascii_chars (ch ∷ []) xs one (subst (λ (c : ℕ). IsUtf8 (c ∷ xs)) (sym is) u)).1, sym (len_utf8_ascii ch small))
+
+-- as where it ends a name
+pub begins_end : (run : List ℕ) (ch : ℕ) → 0 < length run → ch ≡ slice_index run 0 → ends_name ch ≡ true → IsUtf8 run → (chars run ≡ ch ∷ chars (drop 1 run)) × (1 ≡ len_utf8 ch)
+begins_end run ch some is ends u = begins_ascii run ch some is (grind (arith, ends, nat_tests)) u
 
 -- it is known to come next, and it has been taken
 module _ (table : Entities) (names : Texts) (walk : TagWalk) (body : List Placed) (errors : List ParseError) (at : ℕ) (run rest : List ℕ) (ch : ℕ) (is : chars run ≡ ch ∷ rest) where

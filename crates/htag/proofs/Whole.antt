@@ -20,28 +20,41 @@ use Rattle.htag.specs.declared.tag_state.TagState.TheVariants as phase
 use Rattle.htag.specs.Tag.{IsAttributeName}
 use Rattle.htag.proofs.Ascii.{ascii_chars, ascii_placed, cut_at, each_ascii}
 use Rattle.htag.proofs.Even.{even_of, not_odd}
+use Rattle.htag.proofs.Ahead.{spaces_follow}
 use Rattle.htag.proofs.Going.{held_in, past_is}
 use Rattle.htag.proofs.InRun.{next_then, word_ascii, word_bytes, word_errors, word_in_attribute, word_in_name, word_no_equals}
-use Rattle.htag.proofs.Parts.{AreParts-snoc, begins-more, holds_same, parts_text-snoc}
+use Rattle.htag.proofs.Parts.{AreParts-snoc, begins-more, holds_same, parts_text-snoc, past-space}
 use Rattle.htag.proofs.Phases.{part_errors}
 use Rattle.htag.proofs.QuietValues.{all_chars}
+
+-- The front of this text is a part of a tag with this attribute and without errors, where this character comes next, and after it is white space.
+record HasFront (table : Entities) (attribute : Attribute) (first text : List Placed) (next : ℕ) : Type 0 where
+  pub own : List Placed
+  pub spaces : List Placed
+  pub text_is : text ≡ own ++ spaces
+  pub begins_so : own ≡ first ++ drop 1 own
+  pub are_spaces : all is_space spaces ≡ true
+  pub is_part : (last : ℕ) (rest : List Placed) → characters (take 1 rest) ≡ next ∷ [] → IsPart table last (spaces ++ rest) (record { text = own; attribute = Some attribute; errors = [] })
 
 -- what follows begins with this character
 follows : (test : ℕ → Bool) (c : ℕ) (rest : List Placed) → test c ≡ true → characters (take 1 rest) ≡ c ∷ [] → stops test rest ≡ true
 follows test c [] passes is = absurd cc
 follows test c (p ∷ ps) passes is = let same : p.ch ≡ c = cc in ap test same ∙ passes
 
-none_follows : (c : ℕ) (rest : List Placed) → (eqb c 47 || is_greater c) ≡ true → characters (take 1 rest) ≡ c ∷ [] → begins is_equals (past is_space rest) ≡ false
-none_follows c [] ends is = absurd cc
-none_follows c (p ∷ ps) ends is =
+none_follows : (spaces : List Placed) (c : ℕ) (rest : List Placed) → all is_space spaces ≡ true → not (is_space c || is_equals c) ≡ true → characters (take 1 rest) ≡ c ∷ [] → begins is_equals (past is_space (spaces ++ rest)) ≡ false
+none_follows spaces c [] are other is = absurd cc
+none_follows spaces c (p ∷ ps) are other is =
     let same : p.ch ≡ c = cc in
-    let ends_here : (eqb p.ch 47 || is_greater p.ch) ≡ true = ap (λ (n : ℕ). eqb n 47 || is_greater n) same ∙ ends in
-    let space : is_space p.ch ≡ false = grind (arith, ends_here, nat_tests) in
-    let equals : is_equals p.ch ≡ false = grind (arith, ends_here, nat_tests) in
-    rw space equals
+    let here : not (is_space p.ch || is_equals p.ch) ≡ true = ap (λ (n : ℕ). not (is_space n || is_equals n)) same ∙ other in
+    let space : is_space p.ch ≡ false = grind (arith, here, nat_tests) in
+    let equals : is_equals p.ch ≡ false = grind (arith, here, nat_tests) in
+    ap (begins is_equals) (past-space spaces p ps are space) ∙ equals
 
-ends_attribute : (c : ℕ) → (eqb c 47 || is_greater c) ≡ true → ends_attribute_name c ≡ true
-ends_attribute c h = grind (arith, h, nat_tests)
+ends_attribute : (c : ℕ) → (eqb c 47 || is_greater c) ≡ true → (ends_attribute_name c ≡ true) × (not (is_space c || is_equals c) ≡ true)
+ends_attribute c h = (grind (arith, h, nat_tests), grind (arith, h, nat_tests))
+
+space_ends : (c : ℕ) → is_space c ≡ true → ends_attribute_name c ≡ true
+space_ends c h = grind (arith, h, nat_tests)
 
 unquoted_begins : (c : ℕ) → is_unquoted_byte c ≡ true → not (ends_unquoted c || is_quote c) ≡ true
 unquoted_begins c h = grind (arith, h, nat_tests)
@@ -124,6 +137,10 @@ module _ (run : List ℕ) (found : PlainAttribute) (found_is : IsPlainAttribute 
     by (IsWritten.missing b none a ends) =
         let last : is_ascii next ≡ true = grind (arith, ends, nat_tests) in
         (ap (list_all is_ascii) b, ap (list_all is_ascii) a, last)
+    by (IsWritten.apart space b none a is_white small other) =
+        let white : is_ascii space ≡ true = grind (arith, is_white, nat_tests) in
+        let one : list_all is_ascii (space ∷ []) ≡ true = and_from (is_ascii space) true white refl in
+        (ap (list_all is_ascii) b, ap (list_all is_ascii) a ∙ one, small)
 
   -- what is left after each part
   whole : run ≡ name ++ (before ++ (value ++ far))
@@ -274,32 +291,49 @@ module _ (run : List ℕ) (found : PlainAttribute) (found_is : IsPlainAttribute 
       abbrev pub attribute : Attribute
       attribute = record { name = take found.name run; value = bytes; at = at }
 
-      abbrev pub part : Part
-      part = record { text = placed at (chars (take (found.name + found.value.before + found.value.value + found.value.after) run)); attribute = Some attribute; errors = [] }
+      abbrev whole_text : List Placed
+      whole_text = placed at (chars (take (found.name + found.value.before + found.value.value + found.value.after) run))
 
       -- by what follows the name
-      part_is : (others : List Placed) (given : List ℕ) (errors : List ParseError) → placed after_name before ++ (text ++ close) ≡ others → bytes ≡ given → errors ≡ [] → part ≡ attribute_part (placed at name) others given errors
-      part_is others given errors others_are same quiet_too =
-          ap (λ (x : List Placed). record { text = x; attribute = Some attribute; errors = [] }) (front_placed ∙ ap (λ (x : List Placed). placed at name ++ x) others_are)
+      part_is : (own others : List Placed) (given : List ℕ) (errors : List ParseError) → own ≡ placed at name ++ others → bytes ≡ given → errors ≡ [] → record { text = own; attribute = Some attribute; errors = [] } ≡ attribute_part (placed at name) others given errors
+      part_is own others given errors own_is same quiet_too =
+          ap (λ (x : List Placed). record { text = x; attribute = Some attribute; errors = [] }) own_is
           ∙ ap (λ (x : List ℕ). record { text = placed at name ++ others; attribute = Some (record { name = x; value = bytes; at = at }); errors = [] }) (sym (word_bytes at name found_is.words))
           ∙ ap (λ (x : List ℕ). record { text = placed at name ++ others; attribute = Some (record { name = name_bytes (placed at name); value = x; at = at }); errors = [] }) same
           ∙ ap (λ (n : ℕ). record { text = placed at name ++ others; attribute = Some (record { name = name_bytes (placed at name); value = given; at = n }); errors = [] }) (sym name_place)
           ∙ ap (λ (x : List ParseError). record { text = placed at name ++ others; attribute = Some (record { name = name_bytes (placed at name); value = given; at = place 0 (placed at name) }); errors = x })
           (sym (ap (λ (x : List ParseError). x ++ errors) name_quiet ∙ quiet_too))
 
-      part_here : IsWritten before value after next → (last : ℕ) (rest : List Placed) → characters (take 1 rest) ≡ next ∷ [] → IsPart table last rest part
-      part_here (IsWritten.quoted mark quote before_is inside after_is ends) last rest follow =
+      whole_is : (others : List Placed) → placed after_name before ++ (text ++ close) ≡ others → placed at (chars (take end run)) ≡ placed at name ++ others
+      whole_is others are = front_placed ∙ ap (λ (x : List Placed). placed at name ++ x) are
+
+      nothing_between : before ≡ [] → value ≡ [] → placed after_name before ++ (text ++ close) ≡ close
+      nothing_between before_is no_value = ap (λ (x : List ℕ). placed after_name x ++ (text ++ close)) before_is ∙ ap (λ (x : List ℕ). placed in_value (chars x) ++ close) no_value ∙ ap (λ (x : List ℕ). placed in_value x ++ close) chars-nil
+
+      -- the part is all of it
+      all_own : ((last : ℕ) (rest : List Placed) → characters (take 1 rest) ≡ next ∷ [] → IsPart table last rest (record { text = whole_text; attribute = Some attribute; errors = [] })) → HasFront table attribute (next_at at run 0) whole_text next
+      all_own is = record {
+        own = whole_text;
+        spaces = [];
+        text_is = sym (append-nil whole_text);
+        begins_so = next_then at end run end_cut (omega (arith, found_is.some));
+        are_spaces = refl;
+        is_part = is;
+      }
+
+      front_here : IsWritten before value after next → HasFront table attribute (next_at at run 0) whole_text next
+      front_here (IsWritten.quoted mark quote before_is inside after_is ends) = all_own (λ last rest follow.
           let sign : List Placed = record { ch = 61; at = after_name } ∷ [] in
           let opens : List Placed = record { ch = mark; at = after_name + 1 } ∷ [] in
           let closes : List Placed = record { ch = mark; at = in_value + length value } ∷ [] in
           IsPart.quoted (placed at name) sign opens closes pieces mark (is_name sign refl) refl refl quote
           (ap (all (λ c. not (eqb c mark))) (sym text_is) ∙ all_placed (λ c. not (eqb c mark)) in_value (chars value) (all_chars (λ c. not (eqb c mark)) (λ byte l. grind (arith, l, quote, nat_tests)) value value_utf8 inside)) are refl
-          (part_is (sign ++ opens ++ pieces_text pieces ++ closes) (value_bytes pieces) (value_errors pieces ++ error_if (not (stops ends_name rest)) MissingWhitespaceBetweenAttributes (place last rest))
-          (ap (λ (x : List ℕ). placed after_name x ++ (text ++ close)) before_is ∙ ap (λ (x : List ℕ). sign ++ (opens ++ (text ++ placed (in_value + length value) x))) after_is ∙ ap (λ (x : List Placed). sign ++ (opens ++ (x ++ closes))) text_is)
+          (part_is whole_text (sign ++ opens ++ pieces_text pieces ++ closes) (value_bytes pieces) (value_errors pieces ++ error_if (not (stops ends_name rest)) MissingWhitespaceBetweenAttributes (place last rest))
+          (whole_is (sign ++ opens ++ pieces_text pieces ++ closes) (ap (λ (x : List ℕ). placed after_name x ++ (text ++ close)) before_is ∙ ap (λ (x : List ℕ). sign ++ (opens ++ (text ++ placed (in_value + length value) x))) after_is ∙ ap (λ (x : List Placed). sign ++ (opens ++ (x ++ closes))) text_is))
           value_is
           (ap (λ (x : List ParseError). x ++ error_if (not (stops ends_name rest)) MissingWhitespaceBetweenAttributes (place last rest)) none
-          ∙ ap (λ (b : Bool). error_if (not b) MissingWhitespaceBetweenAttributes (place last rest)) (follows ends_name next rest ends follow)))
-      part_here (IsWritten.unquoted before_is some inside after_is ends) last rest follow =
+          ∙ ap (λ (b : Bool). error_if (not b) MissingWhitespaceBetweenAttributes (place last rest)) (follows ends_name next rest ends follow))))
+      front_here (IsWritten.unquoted before_is some inside after_is ends) = all_own (λ last rest follow.
           let sign : List Placed = record { ch = 61; at = after_name } ∷ [] in
           let passes : list_all is_unquoted_byte (chars value) ≡ true = all_chars is_unquoted_byte unquoted_long value value_utf8 inside in
           let one : false ≡ eqb (length value) 0 = grind (arith, some, nat_tests) in
@@ -311,27 +345,43 @@ module _ (run : List ℕ) (found : PlainAttribute) (found_is : IsPlainAttribute 
             stops_after = follows ends_unquoted next rest ends follow;
           })
           are
-          (part_is (sign ++ pieces_text pieces) (value_bytes pieces) (unquoted_errors pieces)
-          (ap (λ (x : List ℕ). placed after_name x ++ (text ++ close)) before_is ∙ ap (λ (x : List ℕ). sign ++ (text ++ placed (in_value + length value) x)) after_is ∙ ap (λ (x : List Placed). sign ++ x) (append-nil text ∙ text_is))
+          (part_is whole_text (sign ++ pieces_text pieces) (value_bytes pieces) (unquoted_errors pieces)
+          (whole_is (sign ++ pieces_text pieces) (ap (λ (x : List ℕ). placed after_name x ++ (text ++ close)) before_is ∙ ap (λ (x : List ℕ). sign ++ (text ++ placed (in_value + length value) x)) after_is ∙ ap (λ (x : List Placed). sign ++ x) (append-nil text ∙ text_is)))
           value_is
-          (even_quiet pieces none (ap (all not_odd) (sym text_is) ∙ all_placed not_odd in_value (chars value) (all_weaker is_unquoted_byte not_odd unquoted_even (chars value) passes))))
-      part_here (IsWritten.missing before_is no_value after_is ends) last rest follow =
+          (even_quiet pieces none (ap (all not_odd) (sym text_is) ∙ all_placed not_odd in_value (chars value) (all_weaker is_unquoted_byte not_odd unquoted_even (chars value) passes)))))
+      front_here (IsWritten.missing before_is no_value after_is ends) = all_own (λ last rest follow.
           let given : bytes ≡ [] = plain (found_is.value.bare (found_is.value.before_is ∙ ap length before_is)) ∙ no_value in
-          IsPart.bare (placed at name) (is_name rest (follows ends_attribute_name next rest (ends_attribute next ends) follow)) (none_follows next rest ends follow)
-          (part_is [] [] []
-          (ap (λ (x : List ℕ). placed after_name x ++ (text ++ close)) before_is ∙ ap (λ (x : List ℕ). text ++ placed (in_value + length value) x) after_is ∙ append-nil text ∙ ap (λ (x : List ℕ). placed in_value (chars x)) no_value ∙ ap (placed in_value) chars-nil)
-          given refl)
+          let other = ends_attribute next ends in
+          IsPart.bare (placed at name) (is_name rest (follows ends_attribute_name next rest other.0 follow)) (none_follows [] next rest refl other.1 follow)
+          (part_is whole_text [] [] [] (whole_is [] (nothing_between before_is no_value ∙ ap (placed (in_value + length value)) after_is)) given refl))
+      front_here (IsWritten.apart space before_is no_value after_is is_white small other) =
+          let given : bytes ≡ [] = plain (found_is.value.bare (found_is.value.before_is ∙ ap length before_is)) ∙ no_value in
+          let white : all is_space close ≡ true = ap (λ (x : List ℕ). all is_space (placed (in_value + length value) x)) after_is ∙ and_from (is_space space) true is_white refl in
+          let stops_here : (rest : List Placed) → stops ends_attribute_name (close ++ rest) ≡ true = λ rest. ap (λ (x : List ℕ). stops ends_attribute_name (placed (in_value + length value) x ++ rest)) after_is ∙ space_ends space is_white in
+          let named : placed at (chars name) ≡ placed at name = ap (placed at) (chars-IsAscii name (each_ascii name name_ascii)) in
+          record {
+            own = placed at name;
+            spaces = close;
+            text_is = whole_is close (nothing_between before_is no_value);
+            begins_so = subst (λ (x : List Placed). x ≡ next_at at run 0 ++ drop 1 x) named (next_then at found.name run (cut_at found.name run u name_edge) found_is.some);
+            are_spaces = white;
+            is_part = λ last rest follow. IsPart.bare (placed at name) (is_name (close ++ rest) (stops_here rest)) (none_follows close next rest white other follow) (part_is (placed at name) [] [] [] (sym (append-nil (placed at name))) given refl);
+          }
 
       -- it has been taken
       pub whole_taken : (names later_names : Texts) (walk mid new : TagWalk) (body : List Placed) (errors later : List ParseError) → IsInTag table names walk body (next_at at run 0) errors → walk.phase ≡ phase.BeforeAttributeName
           → mid.name ≡ walk.name → mid.seen ≡ walk.seen → mid.attrs ≡ walk.attrs → mid.any ≡ walk.any → EndsAs attribute names later_names mid errors new later
           → IsInTag table later_names new (body ++ placed at (chars (take end run))) (next_at at run end) later
       whole_taken names later_names walk mid new body errors later h before_it name_same seen attrs any ends =
+          let front = front_here found_is.value.written in
+          let part : Part = record { text = front.own; attribute = Some attribute; errors = [] } in
+          let p : Placed = record { ch = next; at = at + end } in
+          let after : List Placed = front.spaces ++ p ∷ [] in
           let nothing = held_in table names walk body (next_at at run 0) errors h phase.BeforeAttributeName before_it in
           let gone = past_is table names walk body (next_at at run 0) errors h phase.BeforeAttributeName before_it in
           let ended = ends.ends h.parts part refl (holds_same names walk mid h.parts seen attrs any h.has_attributes) in
-          let ahead : part.text ≡ next_at at run 0 ++ drop 1 part.text = next_then at end run end_cut (omega (arith, found_is.some)) in
-          record {
+          let ahead : part.text ≡ next_at at run 0 ++ drop 1 part.text = front.begins_so in
+          let early : IsInTag table later_names new (body ++ part.text) after later = record {
             name = h.name;
             parts = h.parts ++ part ∷ [];
             held = [];
@@ -342,17 +392,20 @@ module _ (run : List ℕ) (found : PlainAttribute) (found_is : IsPlainAttribute 
             passes = h.passes;
             name_is = ap string_bytes (ends.name_is ∙ name_same) ∙ h.name_is;
             are_parts = λ last more.
-                let rest : List Placed = next_at at run end ++ more in
+                let rest : List Placed = after ++ more in
                 AreParts-snoc table last h.parts part rest
                 (subst (AreParts table last h.parts) (ap (λ (x : List Placed). x ++ (next_at at run 0 ++ (drop 1 part.text ++ rest))) nothing.0 ∙ sym (append_assoc (next_at at run 0) (drop 1 part.text) rest) ∙ ap (λ (x : List Placed). x ++ rest) (sym ahead))
                 (h.are_parts last (drop 1 part.text ++ rest)))
-                (part_here found_is.value.written last rest (ap (λ (x : List Placed). characters (take 1 (x ++ more))) next_is));
+                (subst (λ (x : List Placed). IsPart table last x part) (sym (append_assoc front.spaces (p ∷ []) more)) (front.is_part last (p ∷ more) refl));
             errors_are = part_errors h.name h.parts h.own errors h.errors_are part [] later (sym (append-nil h.own ∙ nothing.1)) (ended.1 ∙ ap (λ (x : List ParseError). x ++ repeated (names_after [] h.parts) part.attribute) (sym (append-nil errors)))
                 ∙ sym (append-nil (tag_errors h.name (h.parts ++ part ∷ [])));
             has_attributes = ended.0;
-            past = subst (λ (x : TagState). IsPast x (begins ends_name (parts_text (h.parts ++ part ∷ []) ++ next_at at run end))) (sym ends.phase_is)
-                (ap (λ (x : List Placed). begins ends_name (x ++ next_at at run end)) (parts_text-snoc h.parts part ∙ ap (λ (x : List Placed). parts_text h.parts ++ x) ahead ∙ sym (append_assoc (parts_text h.parts) (next_at at run 0) (drop 1 part.text)))
-                ∙ ap (begins ends_name) (append_assoc (parts_text h.parts ++ next_at at run 0) (drop 1 part.text) (next_at at run end))
-                ∙ begins-more ends_name (parts_text h.parts ++ next_at at run 0) (drop 1 part.text ++ next_at at run end) (ap (λ (x : List Placed). begins ends_name (parts_text h.parts ++ (x ++ next_at at run 0))) (sym nothing.0) ∙ gone));
+            past = subst (λ (x : TagState). IsPast x (begins ends_name (parts_text (h.parts ++ part ∷ []) ++ after))) (sym ends.phase_is)
+                (ap (λ (x : List Placed). begins ends_name (x ++ after)) (parts_text-snoc h.parts part ∙ ap (λ (x : List Placed). parts_text h.parts ++ x) ahead ∙ sym (append_assoc (parts_text h.parts) (next_at at run 0) (drop 1 part.text)))
+                ∙ ap (begins ends_name) (append_assoc (parts_text h.parts ++ next_at at run 0) (drop 1 part.text) after)
+                ∙ begins-more ends_name (parts_text h.parts ++ next_at at run 0) (drop 1 part.text ++ after) (ap (λ (x : List Placed). begins ends_name (parts_text h.parts ++ (x ++ next_at at run 0))) (sym nothing.0) ∙ gone));
             has_phase = subst (λ (x : TagState). HasPhase x table new (h.parts ++ part ∷ []) [] []) (sym ends.phase_is) (refl, refl);
-          }
+          } in
+          subst (λ (x : List Placed). IsInTag table later_names new (body ++ placed at (chars (take end run))) x later) (sym next_is)
+          (subst (λ (x : List Placed). IsInTag table later_names new x (p ∷ []) later) (append_assoc body front.own front.spaces ∙ ap (λ (x : List Placed). body ++ x) (sym front.text_is))
+          (spaces_follow front.spaces table later_names new (body ++ front.own) p later ends.phase_is front.are_spaces early))

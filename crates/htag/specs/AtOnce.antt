@@ -4,7 +4,7 @@ use Rattle.std.specs.Char.{is_ascii}
 use Rattle.std.specs.List.{list_all}
 use Rattle.std.specs.Str.{chars}
 use Rattle.names.specs.declared.placed.Placed.{Placed}
-use Rattle.names.specs.Placed.{is_greater, is_letter, is_quote, placed}
+use Rattle.names.specs.Placed.{is_equals, is_greater, is_letter, is_quote, is_space, placed}
 use Rattle.charref.specs.declared.reference.Characters.{Characters}
 use Rattle.charref.specs.Pieces.{characters_of}
 use Rattle.charref.specs.Reference.{Entities, IsReference, Piece}
@@ -31,13 +31,16 @@ IsTagName = IsNameBefore []
 abbrev pub IsBareName : List ℕ → ℕ → Type 0
 IsBareName = IsNameBefore (62 ∷ [])
 
--- This is a value of an attribute with what is before and after it, where this character comes next: in quotes, without, or missing.
+-- This is a value of an attribute with what is before and after it, where this character comes next: in quotes, without, or missing, also
+-- before white space and what begins no value.
 pub data IsWritten (before value after : List ℕ) (next : ℕ) : Type 0 where
   quoted : (mark : ℕ) → is_quote mark ≡ true → before ≡ 61 ∷ mark ∷ [] → list_all (λ c. not (c == mark)) value ≡ true → after ≡ mark ∷ []
       → ends_name next ≡ true → IsWritten before value after next
   unquoted : before ≡ 61 ∷ [] → 0 < length value → list_all is_unquoted_byte value ≡ true → after ≡ [] → ends_unquoted next ≡ true
       → IsWritten before value after next
   missing : before ≡ [] → value ≡ [] → after ≡ [] → (next == 47 || is_greater next) ≡ true → IsWritten before value after next
+  apart : (space : ℕ) → before ≡ [] → value ≡ [] → after ≡ space ∷ [] → is_space space ≡ true → is_ascii next ≡ true
+      → not (is_space next || is_equals next) ≡ true → IsWritten before value after next
 
 -- what is no `&`
 abbrev pub is_no_reference : ℕ → Bool

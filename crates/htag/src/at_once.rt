@@ -48,7 +48,7 @@ pub(crate) fn ends(byte: u8) -> bool
 }
 
 /// What follows an attribute's name: the lengths of what is before its value (`=` and a quote, `=` alone, or nothing), of the value, and of
-/// what is after it (the quote, if there is one); and whether no `&` is in the value.
+/// what is after it (the quote, or white space after a missing value); and whether no `&` is in the value.
 #[derive(Clone, Copy)]
 pub(crate) struct PlainValue {
     pub before: usize,
@@ -131,8 +131,39 @@ fn unquoted_value(run: &[u8]) -> Option<PlainValue>
     None
 }
 
-/// After attribute name state (`#after-attribute-name-state`): what follows an attribute's name, where the value is plain, or where `/` or `>`
-/// comes in its place.
+/// No value, and so many bytes after its place.
+#[inline(always)]
+fn no_value(after: usize) -> PlainValue
+    ensures { result ≡ record { before = 0; value = 0; after = after; plain = true } }
+{
+    PlainValue {
+        before: 0,
+        value: 0,
+        after,
+        plain: true,
+    }
+}
+
+/// A missing value: `/` or `>` comes in its place, or white space, after which another attribute may begin, but no value.
+#[inline(always)]
+fn missing_value(run: &[u8]) -> Option<PlainValue>
+    requires { 0 < length run.now }
+    ensures { IfSome result (IsPlainValue run.now) }
+{
+    let first = run[0];
+    if first == b'/' || first == b'>' {
+        return Some(no_value(0));
+    }
+    if first.is_ascii_whitespace() && run.len() > 1 {
+        let next = run[1];
+        if b'/' <= next && next <= b'z' && next != b'=' {
+            return Some(no_value(1));
+        }
+    }
+    None
+}
+
+/// After attribute name state (`#after-attribute-name-state`): what follows an attribute's name, where the value is plain or missing.
 #[inline(always)]
 fn plain_value(run: &[u8]) -> Option<PlainValue>
     ensures { IfSome result (IsPlainValue run.now) }
@@ -143,13 +174,7 @@ fn plain_value(run: &[u8]) -> Option<PlainValue>
     match run[0] {
         b'=' if run.len() > 1 && matches!(run[1], b'"' | b'\'') => quoted_value(run),
         b'=' => unquoted_value(run),
-        b'/' | b'>' => Some(PlainValue {
-            before: 0,
-            value: 0,
-            after: 0,
-            plain: true,
-        }),
-        _ => None,
+        _ => missing_value(run),
     }
 }
 

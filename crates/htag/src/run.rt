@@ -1,7 +1,8 @@
 //! Runs of clean characters in a tag: its name, each attribute that stands whole, and the characters of other values at once, and all else a
 //! character at a time.
 
-ghost use Rattle.std.specs.Prelude.{◌≡◌, ◌≤◌, ◌<◌, ◌+◌, ℕ, List, [], false, length, true, IfOk, OnOk};
+ghost use Rattle.std.specs.Prelude.{◌≡◌, ◌≤◌, ◌<◌, ◌+◌, ℕ, List, [], false, length, slice_index, true, IfOk, OnOk};
+ghost use Rattle.std.specs.Char.{is_ascii_lowercase};
 ghost use Rattle.std.specs.List.{list_all};
 ghost use Rattle.std.specs.Str.{chars};
 ghost use Rattle.htag.specs.Vocabulary.{Character, Entities, Grows, Texts, MAX_INPUT, is_clean, IsCut, IsValueRun, next_at, TakesTagPart, TakesTagRun, TakesWhole, IsInTag};
@@ -131,6 +132,9 @@ impl<'t> TagWalk<'t> {
             TagState::BeforeAttributeName if is_small => self.whole_attribute(
                 table, names, run, at, errors,
             ),
+            TagState::AfterAttributeName if is_small => self.whole_after_name(
+                table, names, run, at, errors,
+            ),
             TagState::AttributeValueQuoted(mark) => {
                 if !mark.is_ascii() {
                     return Ok(0);
@@ -160,6 +164,30 @@ impl<'t> TagWalk<'t> {
         }
         self.value.text.push_str(&run[..count])?;
         Ok(count)
+    }
+
+    /// Ends the attribute whose name was read, as another begins with the letter at the front of a run, and takes that one as the next function does.
+    #[inline(never)]
+    fn whole_after_name(
+        &mut self,
+        table: &Table,
+        names: &mut Names,
+        run: &str,
+        at: u64,
+        errors: &mut Vec<ParseError>,
+    ) -> Result<usize, Refusal>
+        requires after { self.old.phase ≡ TagState.AfterAttributeName }
+        requires some { 0 < length run.now }
+        requires letter { is_ascii_lowercase (slice_index run.now 0) ≡ true }
+        requires clean { list_all is_clean (chars run.now) ≡ true }
+        ensures cut { IfOk result (λ count. IsCut count run.now) }
+        ensures takes { (body : List Character) → IsInTag table.now names.old self.old body (next_at at run.now 0) errors.old.items
+            → TakesWhole table.now names.new body at run.now result self.new errors.new.items }
+        ensures grows { Grows names.old names.new }
+        ensures kind { OnOk result (self.new.kind ≡ self.old.kind) }
+    {
+        self.end_attribute(names, errors)?;
+        self.whole_attribute(table, names, run, at, errors)
     }
 
     /// Takes the attribute at the front of a run, if its name and value stand there whole and raise no errors. Returns its length, or 0.

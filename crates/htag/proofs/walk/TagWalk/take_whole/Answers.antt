@@ -27,6 +27,9 @@ returns-then-not-is_ascii-clause-cut c = none_cut c.args.run.now c.utf8.run
 pub returns-in_default-3 : goal.returns-in_default-3
 returns-in_default-3 c = record { cut = none_cut c.args.run.now c.utf8.run; takes = λ body h. none_taken _ _ _ body _ _ c.args.at c.args.run.now h; grows = grows_not _; kind = refl }
 
+pub returns-in_default-4-clause-takes : goal.returns-in_default-4-clause-takes
+returns-in_default-4-clause-takes c = λ body h. none_taken _ _ _ body _ _ c.args.at c.args.run.now h
+
 pub returns-in_ok-push_words-in-TagName-clause-takes : goal.returns-in_ok-push_words-in-TagName-clause-takes
 returns-in_ok-push_words-in-TagName-clause-takes c = λ body h. words_in_name _ _ c.args.self.now body _ _ h c.in-TagName.is _ refl refl refl refl c.args.at _ c.args.run.now c.in_ok-push_words-in-TagName.ensures
 
