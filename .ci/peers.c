@@ -51,7 +51,7 @@ static void write_line(const char *archive, unsigned long record, const char *ad
     jz_doc doc;
     if (jz_core_serves(page.bytes, page.length)) options.entities = (jz_bytes)JZ_NO_BYTES;
     options.bad_bytes = 1;
-    if (jz_parse(page.bytes, page.length, &options, &doc, &answer) == JZ_OK) said = said_of(&doc, (size_t)answer.length, 8 * page.length + 65536);
+    if (jz_parse(page.bytes, page.length, &options, &doc, &answer) == JZ_OK) said = said_of(&doc, 8 * page.length + 65536);
     jz_free(&doc);
     printf("{\"archive\": \"%s\", \"record\": %lu, \"address\": \"%s\", \"status\": ", archive, record, address);
     if (answer.status == JZ_OK) printf("\"ok\", \"at\": null, %.*s", (int)said.length, said.text);

@@ -28,6 +28,9 @@
 #ifdef __GLIBC__
 #include <malloc.h>
 #endif
+#ifdef __linux__
+#include <sys/mman.h>
+#endif
 #ifdef __has_include
 #if __has_include(<sys/random.h>)
 #include <sys/random.h>
@@ -394,7 +397,7 @@ static inline int jz_core_serves(const uint8_t *input, size_t length) {
  * words and errors until it is freed; several threads may read it at once. Its fields are its own business, but for `root` and the last two. */
 typedef struct jz_node {
     uint32_t kind, parent, first_child, next;
-    size_t words, end;
+    size_t words; /* where its words begin */
 } jz_node;
 
 typedef struct jz_doc {
@@ -403,6 +406,7 @@ typedef struct jz_doc {
     uint32_t count;
     uint32_t root; /* the document, or a fragment's root, an element without name and attributes */
     uint8_t *words;
+    size_t words_length;
     uint64_t *places; /* by number; null where they were not asked for */
     jz_error *errors; /* in the order of the input */
     size_t error_count;
@@ -450,6 +454,17 @@ static inline void jz_give_back(size_t length) {
     if (length >= 1048576) malloc_trim(0);
 #else
     (void)length;
+#endif
+}
+
+/* Asks for large pages under a large room, of which the system hands out as much as is written to: by small ones that takes a seventh of a
+ * large parse. */
+static inline void jz_by_large_pages(void *room, size_t length) {
+#ifdef MADV_HUGEPAGE
+    size_t before = (size_t)-(uintptr_t)room % 65536; /* where a page begins, of whatever size */
+    if (room && length >= 4194304) madvise((uint8_t *)room + before, length - before, MADV_HUGEPAGE);
+#else
+    (void)room, (void)length;
 #endif
 }
 
@@ -517,15 +532,17 @@ static inline void jz_free(jz_doc *doc) {
 }
 
 /* Puts rows into their places by number, and finds their words. Numbers mostly come in order, so that a node is written once. */
-static inline uint32_t jz_index(jz_doc *doc, const jz_row *rows, size_t count, size_t bytes) {
-    size_t i, at = 0;
+static inline uint32_t jz_index(jz_doc *doc, const jz_row *rows, size_t count) {
+    const uint8_t *at = doc->words, *end = doc->words + doc->words_length;
     uint32_t made = doc->root + 1; /* what the nodes below this number hold is written */
+    size_t i;
     doc->count = made;
     for (i = 0; i < count; i++)
         if (rows[i].number >= doc->count) doc->count = rows[i].number + 1;
     if (!(doc->nodes = (jz_node *)malloc(doc->count * sizeof *doc->nodes))) return JZ_MEMORY;
+    jz_by_large_pages(doc->nodes, doc->count * sizeof *doc->nodes);
     memset(doc->nodes, 0xFF, made * sizeof *doc->nodes); /* JZ_NONE in each link */
-    doc->nodes[doc->root].words = doc->nodes[doc->root].end = 0;
+    doc->nodes[doc->root].words = doc->words_length;
     doc->nodes[doc->root].kind = doc->root == 0 ? JZ_DOCUMENT : JZ_ELEMENT;
     if (count) doc->nodes[doc->root].first_child = rows[0].number;
     for (i = 0; i < count; i++) {
@@ -537,9 +554,8 @@ static inline uint32_t jz_index(jz_doc *doc, const jz_row *rows, size_t count, s
         node->parent = row->parent;
         node->first_child = row->first_child;
         node->next = row->next;
-        node->words = at;
-        node->end = (size_t)((const uint8_t *)memchr(doc->words + at, 0xFE, bytes - at) - doc->words);
-        at = node->end + 1;
+        node->words = (size_t)(at - doc->words);
+        at = (const uint8_t *)memchr(at, 0xFE, (size_t)(end - at)) + 1;
     }
     return JZ_OK;
 }
@@ -572,32 +588,38 @@ typedef struct jz_rooms {
     size_t rows, words, errors, text, origins;
 } jz_rooms;
 
-/* A page made by way of these rooms. */
+/* A page made by way of these rooms. Those that are not kept are one block: by the size of what is freed glibc tells how much it keeps for the
+ * next parse, and where it keeps less than a parse takes, each is handed its memory anew. */
 static inline uint32_t jz_page_in(jz_rooms rooms, uint32_t wants, const uint8_t *input, size_t length, const jz_options *options, jz_doc *doc,
                                   uint8_t **text, jz_page_answer *answer) {
     uint32_t status = JZ_MEMORY;
-    jz_row *rows = (jz_row *)malloc((rooms.rows + 1) * sizeof *rows);
-    jz_origin *origins = (jz_origin *)malloc((rooms.origins + 1) * sizeof *origins);
+    size_t row_bytes = rooms.rows * sizeof(jz_row), origin_bytes = rooms.origins * sizeof(jz_origin);
+    jz_error *errors = (jz_error *)malloc(rooms.errors * sizeof *errors + origin_bytes + row_bytes + 1);
+    jz_origin *origins = errors ? (jz_origin *)(errors + rooms.errors) : NULL;
+    jz_row *rows = errors ? (jz_row *)(origins + rooms.origins) : NULL;
     uint8_t *html = (uint8_t *)malloc(rooms.text + 1);
     doc->length = length;
     doc->root = options->context.length ? 1 : 0;
     doc->words = (uint8_t *)malloc(rooms.words + 1);
-    doc->errors = (jz_error *)malloc((rooms.errors + 1) * sizeof *doc->errors);
-    if (rows && origins && html && doc->words && doc->errors)
-        status = jz_page(wants, input, length, options, rows, rooms.rows, doc->words, rooms.words, doc->errors, rooms.errors, html,
-                         rooms.text, origins, rooms.origins, answer);
+    jz_by_large_pages(doc->words, rooms.words);
+    jz_by_large_pages(origins, origin_bytes + row_bytes);
+    if (errors && html && doc->words)
+        status = jz_page(wants, input, length, options, rows, rooms.rows, doc->words, rooms.words, errors, rooms.errors, html, rooms.text,
+                         origins, rooms.origins, answer);
     if (status == JZ_OK) {
-        doc->words = (uint8_t *)jz_cut(doc->words, (size_t)answer->words);
-        doc->errors = (jz_error *)jz_cut(doc->errors, (size_t)answer->errors * sizeof *doc->errors);
+        doc->words_length = (size_t)answer->words;
+        doc->words = (uint8_t *)jz_cut(doc->words, doc->words_length);
         doc->error_count = (size_t)answer->errors;
+        doc->errors = (jz_error *)malloc(doc->error_count * sizeof *errors + 1);
         jz_give_back(length);
-        status = jz_index(doc, rows, (size_t)answer->nodes, (size_t)answer->words);
+        if (doc->errors) memcpy(doc->errors, errors, doc->error_count * sizeof *errors);
+        else status = JZ_MEMORY;
     }
+    if (status == JZ_OK) status = jz_index(doc, rows, (size_t)answer->nodes);
     if (status == JZ_OK && wants & JZ_WANT_ORIGINS) status = jz_find_places(doc, rows, origins, (size_t)answer->nodes);
     if (status == JZ_OK && text) *text = (uint8_t *)jz_cut(html, (size_t)answer->text);
     else free(html);
-    free(origins);
-    free(rows);
+    free(errors);
     if (status != JZ_OK) jz_free(doc);
     return status == JZ_MEMORY ? jz_page_fault(answer, status) : status;
 }
@@ -770,24 +792,24 @@ static inline jz_bytes jz_lent(const uint8_t *bytes, size_t length) {
     return lent;
 }
 
-/* What is left of a node's words, or of an element's attributes, while they are gone through. */
+/* What is left of a node's words, or of an element's attributes, while they are gone through: to the byte 0xFE. */
 typedef struct jz_words {
     const uint8_t *at;
-    const uint8_t *end;
+    const uint8_t *end; /* that of all words */
 } jz_words;
 
 static inline jz_words jz_words_of(const jz_doc *doc, uint32_t node) {
     jz_words left = { NULL, NULL };
     if (jz_kind(doc, node) == JZ_NONE) return left;
     left.at = doc->words + doc->nodes[node].words;
-    left.end = doc->words + doc->nodes[node].end;
+    left.end = doc->words + doc->words_length;
     return left;
 }
 
 /* The next word; its bytes are null where none is left. */
 static inline jz_bytes jz_next_word(jz_words *left) {
     const uint8_t *start = left->at, *end;
-    if (start == left->end) return jz_lent(NULL, 0);
+    if (start == left->end || *start == 0xFE) return jz_lent(NULL, 0);
     end = (const uint8_t *)memchr(start, 0xFF, (size_t)(left->end - start));
     left->at = end + 1;
     return jz_lent(start, (size_t)(end - start));

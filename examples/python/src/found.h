@@ -19,7 +19,7 @@ typedef struct {
     uint32_t open; /* the innermost link that is open, or JZ_NONE */
 } Links;
 
-int find_links(const jz_doc *doc, size_t words, Links *found);
+int find_links(const jz_doc *doc, Links *found);
 void free_links(Links *found);
 
 /* --- said.c */
@@ -30,6 +30,6 @@ typedef struct {
     size_t length, room;
 } Text;
 
-Text said_of(const jz_doc *doc, size_t words, size_t room);
+Text said_of(const jz_doc *doc, size_t room);
 
 #endif

@@ -25,7 +25,7 @@ static int enter(Links *found, const jz_doc *doc, uint32_t node) {
     jz_words words = jz_words_of(doc, node);
     jz_bytes it;
     if (jz_kind(doc, node) == JZ_ELEMENT) {
-        if (words.at == words.end || words.at[0] != 'a' || words.at[1] != 0xFF) return 1; /* (0xFF ends the name) */
+        if (words.at[0] != 'a' || words.at[1] != 0xFF) return 1; /* (0xFF ends the name) */
         it = jz_attribute(doc, node, "href");
         return !it.bytes || add_link(found, node, it);
     }
@@ -43,13 +43,12 @@ static void leave(Links *found, uint32_t node) {
     found->open = found->links[found->open].outer;
 }
 
-/* Finds the links of a tree whose words have so many bytes, which its texts do not pass. Returns 0 where memory runs out; what is found is
- * freed by free_links in either case. */
-int find_links(const jz_doc *doc, size_t words, Links *found) {
+/* Finds the links of a tree. Returns 0 where memory runs out; what is found is freed by free_links in either case. */
+int find_links(const jz_doc *doc, Links *found) {
     uint32_t node = jz_first_child(doc, doc->root), next;
     memset(found, 0, sizeof *found);
     found->open = JZ_NONE;
-    if (!(found->text = (uint8_t *)malloc(words + 1))) return 0;
+    if (!(found->text = (uint8_t *)malloc(doc->words_length + 1))) return 0;
     while (node != JZ_NONE) {
         if (!enter(found, doc, node)) return 0;
         next = jz_first_child(doc, node);

@@ -131,7 +131,7 @@ static PyObject *module_parse(PyObject *module, PyObject *args) {
     jz_parse(call.bytes.bytes, call.bytes.length, &call.options, &doc, &call.answer);
     Py_END_ALLOW_THREADS
     if (call.answer.status != JZ_OK) return refuse(call.state, &call.answer);
-    return new_page(call.state, call.input, call.given, &doc, (size_t)call.answer.length);
+    return new_page(call.state, call.input, call.given, &doc);
 }
 
 static PyObject *pair(PyObject *one, PyObject *other) {
@@ -163,7 +163,7 @@ static PyObject *module_links(PyObject *module, PyObject *args) {
     if (!PyArg_ParseTuple(args, "OO", &input, &given) || !read_call(state_in(module), input, given, &call)) return NULL;
     Py_BEGIN_ALLOW_THREADS
     if (jz_parse(call.bytes.bytes, call.bytes.length, &call.options, &doc, &call.answer) == JZ_OK)
-        is_found = find_links(&doc, (size_t)call.answer.length, &found);
+        is_found = find_links(&doc, &found);
     Py_END_ALLOW_THREADS
     if (call.answer.status != JZ_OK) return refuse(call.state, &call.answer);
     list = give_links(&found, is_found);
@@ -182,7 +182,7 @@ static PyObject *module_said(PyObject *module, PyObject *args) {
     if (!PyArg_ParseTuple(args, "OOn", &input, &given, &room) || !read_call(state_in(module), input, given, &call)) return NULL;
     Py_BEGIN_ALLOW_THREADS
     if (jz_parse(call.bytes.bytes, call.bytes.length, &call.options, &doc, &call.answer) == JZ_OK)
-        said = said_of(&doc, (size_t)call.answer.length, room < 0 ? 0 : (size_t)room);
+        said = said_of(&doc, room < 0 ? 0 : (size_t)room);
     jz_free(&doc);
     Py_END_ALLOW_THREADS
     if (call.answer.status != JZ_OK) return refuse(call.state, &call.answer);

@@ -31,7 +31,6 @@ typedef struct {
 typedef struct {
     PyObject_HEAD
     PyObject *input, *given; /* what was parsed, and what was given with it: bytes, and None or a tuple */
-    size_t words;            /* the bytes of all words */
     jz_doc doc;
 } Page;
 
@@ -54,7 +53,7 @@ PyObject *give_links(const Links *found, int is_found);
 
 /* --- page.c */
 extern PyType_Spec page_spec;
-PyObject *new_page(State *state, PyObject *input, PyObject *given, jz_doc *doc, size_t words);
+PyObject *new_page(State *state, PyObject *input, PyObject *given, jz_doc *doc);
 
 /* --- node.c */
 extern PyType_Spec node_spec, walk_spec;

@@ -2,7 +2,7 @@
 #include "module.h"
 
 /* A page of a tree, which it owns from then on; where there is none the tree is freed. */
-PyObject *new_page(State *state, PyObject *input, PyObject *given, jz_doc *doc, size_t words) {
+PyObject *new_page(State *state, PyObject *input, PyObject *given, jz_doc *doc) {
     Page *page = PyObject_GC_New(Page, state->page);
     if (!page) {
         jz_free(doc);
@@ -10,7 +10,6 @@ PyObject *new_page(State *state, PyObject *input, PyObject *given, jz_doc *doc, 
     }
     page->input = Py_NewRef(input);
     page->given = Py_NewRef(given);
-    page->words = words;
     page->doc = *doc;
     return (PyObject *)page;
 }
@@ -93,7 +92,7 @@ static PyObject *page_links(PyObject *self, PyObject *none) {
     int is_found;
     (void)none;
     Py_BEGIN_ALLOW_THREADS
-    is_found = find_links(&page->doc, page->words, &found);
+    is_found = find_links(&page->doc, &found);
     Py_END_ALLOW_THREADS
     list = give_links(&found, is_found);
     free_links(&found);
@@ -109,8 +108,8 @@ static PyObject *page_iter_by(PyObject *self, PyObject *args) {
 static int is_same(const Page *one, const Page *other) {
     const jz_doc *a = &one->doc, *b = &other->doc;
     size_t i;
-    if (a->count != b->count || a->root != b->root || one->words != other->words || a->error_count != b->error_count) return 0;
-    if (memcmp(a->nodes, b->nodes, a->count * sizeof *a->nodes) != 0 || memcmp(a->words, b->words, one->words) != 0) return 0;
+    if (a->count != b->count || a->root != b->root || a->words_length != b->words_length || a->error_count != b->error_count) return 0;
+    if (memcmp(a->nodes, b->nodes, a->count * sizeof *a->nodes) != 0 || memcmp(a->words, b->words, a->words_length) != 0) return 0;
     for (i = 0; i < a->error_count; i++)
         if (a->errors[i].at != b->errors[i].at || a->errors[i].code != b->errors[i].code) return 0;
     return 1;

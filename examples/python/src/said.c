@@ -126,10 +126,10 @@ static void put_links(Text *it, const Links *found) {
 }
 
 /* What is said of a page. Its text is null where memory runs out, and empty where the links have more characters than `room`. */
-Text said_of(const jz_doc *doc, size_t words, size_t room) {
+Text said_of(const jz_doc *doc, size_t room) {
     Text it = { NULL, 0, 4096 };
     Links found;
-    uint8_t *all = find_links(doc, words, &found) ? (uint8_t *)malloc(words + 1) : NULL;
+    uint8_t *all = find_links(doc, &found) ? (uint8_t *)malloc(doc->words_length + 1) : NULL;
     it.text = all ? (char *)malloc(it.room) : NULL;
     if (all && is_room(&found, room)) {
         put(&it, "\"title\": ");
