@@ -438,6 +438,19 @@ static void check_core(void) {
     check(jz_core_serves((const uint8_t *)"&amp;", 4) == 0, "a reference that is cut off");
 }
 
+static void check_quirks(void) {
+    static const char *const may[] = { "&#32;", "<!-- c --><!doctype html>", "</p>", "\xEF\xBB\xBF", "<", "<!doctyp", "\v",
+                                       "<?x?>\r<!DocType html public '-//w3c//dtd html 3.2//EN'>", "<!doctype a\"HTML>", "<!doctype'htmL" };
+    static const char *const cannot[] = { "", " \t\n\f\r", "x&", "0", "<p><!doctype html public 'html'>", "<p", "<?x \"html", "<!doctype html>'html'",
+                                          "<!DOCTYPE html PUBLIC \"-//W3C//DTD XHTML 1.0 Strict//EN\" \"http://www.w3.org/\">", "<!doctype '-//w3c" };
+    jz_options standard = JZ_STANDARD;
+    for (int i = 0; i < 10; i++) {
+        check(jz_quirks_matter((const uint8_t *)may[i], strlen(may[i]), standard.quirks) == 1, "an input for which the quirks list may matter");
+        check(jz_quirks_matter((const uint8_t *)cannot[i], strlen(cannot[i]), standard.quirks) == 0, "an input for which the quirks list does not matter");
+    }
+    check(jz_quirks_matter((const uint8_t *)"<!doctype'htmL", 10, standard.quirks) == 0, "an identifier that is cut off");
+}
+
 /* The least seconds that a parse of a page takes. */
 static double seconds(const char *page, size_t length, const jz_options *given) {
     double best = 1;
@@ -609,6 +622,7 @@ int main(int count, char **words) {
     check_nulls();
     check_keys();
     check_core();
+    check_quirks();
     check_lists();
     check_parses();
     check_attributes();

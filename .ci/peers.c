@@ -17,13 +17,20 @@ static double now(void) {
     return (double)it.tv_sec * 1e3 + (double)it.tv_nsec / 1e6;
 }
 
-/* As Python and Rust do it, where the core table serves a page no other is read. */
-static double parse(char way, jz_options options, const uint8_t *bytes, size_t length) {
+/* As Python and Rust do it, of the Standard's lists those are not read that a page does not need. */
+static jz_options needed(jz_options options, const uint8_t *bytes, size_t length) {
     static const jz_options core = JZ_DEFAULTS;
+    if (jz_core_serves(bytes, length)) options.entities = core.entities;
+    if (!jz_quirks_matter(bytes, length, options.quirks)) options.quirks = core.quirks;
+    return options;
+}
+
+static double parse(char way, jz_options options, const uint8_t *bytes, size_t length) {
     double begun = now(), taken;
     jz_answer answer;
     jz_doc doc;
-    if (way == 'c' || (way == 'p' && jz_core_serves(bytes, length))) options.entities = core.entities;
+    if (way == 'p') options = needed(options, bytes, length);
+    if (way == 'c') options.entities = (jz_bytes)JZ_NO_BYTES;
     jz_parse(bytes, length, &options, &doc, &answer);
     taken = now() - begun;
     jz_free(&doc);
@@ -49,7 +56,7 @@ static void write_line(const char *archive, unsigned long record, const char *ad
     jz_answer answer;
     Text said = { NULL, 0, 0 };
     jz_doc doc;
-    if (jz_core_serves(page.bytes, page.length)) options.entities = (jz_bytes)JZ_NO_BYTES;
+    options = needed(options, page.bytes, page.length);
     options.bad_bytes = 1;
     if (jz_parse(page.bytes, page.length, &options, &doc, &answer) == JZ_OK) said = said_of(&doc, 8 * page.length + 65536);
     jz_free(&doc);

@@ -379,6 +379,8 @@ static inline const char *jz_detail_name(const jz_answer *answer) { return jz_de
 
 static inline const char *jz_page_detail_name(const jz_page_answer *answer) { return jz_detail_of(answer->status, answer->detail); }
 
+static inline int jz_is_letter_or_digit(uint8_t byte) { return (byte | 32u) - 'a' <= 25u || byte - (unsigned)'0' <= 9u; }
+
 /* Whether the core table reads an input as the Standard's does, which then need not be read: where each & in it begins &amp; &lt; &gt; &quot;
  * &nbsp; or a number, or is before what is no letter or digit. */
 static inline int jz_core_serves(const uint8_t *input, size_t length) {
@@ -386,11 +388,45 @@ static inline int jz_core_serves(const uint8_t *input, size_t length) {
     const uint8_t *at = input, *const end = input + length;
     while (at < end && (at = (const uint8_t *)memchr(at, '&', (size_t)(end - at)))) {
         size_t left = (size_t)(end - ++at), i = 0;
-        if (!left || ((at[0] | 32u) - 'a' > 25u && at[0] - (unsigned)'0' > 9u)) continue;
+        if (!left || !jz_is_letter_or_digit(*at)) continue;
         while (i < 5 && (strlen(names[i]) > left || memcmp(at, names[i], strlen(names[i])))) i++;
         if (i == 5) return 0;
     }
     return 1;
+}
+
+/* Whether a text begins here, in upper or lower letters. */
+static inline int jz_begins(const uint8_t *at, const uint8_t *end, const void *text, size_t length) {
+    const uint8_t *wanted = (const uint8_t *)text;
+    if ((size_t)(end - at) < length) return 0;
+    for (; length; length--, at++, wanted++)
+        if (*at != *wanted && ((*at ^ *wanted) != 32 || (*at | 32u) - 'a' > 25u)) return 0;
+    return 1;
+}
+
+/* Whether an identifier of a quirks list begins here: each line has one, after a space. */
+static inline int jz_is_listed(const uint8_t *at, const uint8_t *end, jz_bytes list) {
+    const uint8_t *line = list.bytes, *const last = line + list.length, *text, *next;
+    for (; line < last; line = next + 1) {
+        if (!(next = (const uint8_t *)memchr(line, '\n', (size_t)(last - line)))) next = last;
+        text = (const uint8_t *)memchr(line, ' ', (size_t)(next - line));
+        if (!text || jz_begins(at, end, text + 1, (size_t)(next - text - 1))) return 1;
+    }
+    return 0;
+}
+
+/* Whether a quirks list may matter to an input, for which else none need be read: where it begins, after white space and what is in <? >,
+ * with a doctype in which an identifier of the list stands after a quote, or with what is no doctype, start tag, letter or digit. */
+static inline int jz_quirks_matter(const uint8_t *input, size_t length, jz_bytes list) {
+    const uint8_t *at = input, *end = input + length;
+    while (at < end && (jz_begins(at, end, "<?", 2) || (*at && strchr("\t\n\f\r ", *at)))) {
+        if (*at == '<' && !(at = (const uint8_t *)memchr(at, '>', (size_t)(end - at)))) return 0;
+        at++;
+    }
+    if (!jz_begins(at, end, "<!doctype", 9)) return at < end && !jz_is_letter_or_digit(at[*at == '<' && end - at > 1]);
+    for (; at < end && *at != '>'; at++)
+        if ((*at == '"' || *at == '\'') && jz_is_listed(at + 1, end, list)) return 1;
+    return 0;
 }
 
 /* A tree and its parse errors in the caller's memory, made by jz_parse, jz_parse_places or jz_make_page and freed by jz_free. It lends its

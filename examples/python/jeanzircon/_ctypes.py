@@ -119,11 +119,26 @@ def core_serves(page: bytes) -> bool:
     return re.search(rb"&(?!(?:amp|lt|gt|quot|nbsp);)[0-9A-Za-z]", page) is None
 
 
+HEAD = re.compile(rb"(?:[\t\n\f\r ]|<\?[^>]*>)*(?:<!doctype([^>]*)|<?[0-9a-z]|<\?[^>]*\Z|\Z)", re.I)
+
+
+@functools.lru_cache(None)
+def listed(quirks: bytes) -> re.Pattern[bytes]:
+    """An identifier of a quirks list after a quote."""
+    return re.compile(rb"[\"'](?:%b)" % b"|".join(re.escape(line.partition(b" ")[2]) for line in quirks.splitlines()), re.I)
+
+
+def quirks_matter(page: bytes, quirks: bytes) -> bool:
+    """Whether the quirks list may matter to a page: not where it begins with a doctype without an identifier of the list, with a tag or a text."""
+    head = HEAD.match(page)
+    return head is None or (head[1] is not None and listed(quirks).search(head[1]) is not None)
+
+
 def options(given: Given | None = None, page: bytes = b"&x") -> Options:
-    """What is given with an input, as the library reads it. Where the core table serves, no table is read but a given one."""
+    """What is given with an input, as the library reads it. Of the Standard's lists those are not read that the input does not need."""
     it = given or NONE_GIVEN
     entities = (b"" if core_serves(page) else standard()[0]) if it.entities is None else it.entities
-    quirks = standard()[1] if it.quirks is None else it.quirks
+    quirks = (standard()[1] if quirks_matter(page, standard()[1]) else b"") if it.quirks is None else it.quirks
     texts = [it for text in (it.context, entities, quirks) for it in (text, len(text))]
     high, low = it.keys or KEYS
     return Options(ctypes.sizeof(Options), *texts, it.nodes, it.open, it.piece, low, high, it.escaping, it.bad_bytes)

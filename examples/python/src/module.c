@@ -71,13 +71,15 @@ static int read_given(PyObject *given, jz_options *options) {
     return 1;
 }
 
-/* The options of an input: where the core table serves, the Standard's is not read. */
+/* The options of an input: where the core table serves and the quirks list does not matter, the Standard's are not read. */
 static int options_of(const State *state, PyObject *given, jz_bytes input, jz_options *options) {
     static const jz_options core = JZ_DEFAULTS;
     *options = state->standard;
     if (given != Py_None && !read_given(given, options)) return 0;
     if (options->entities.bytes == state->standard.entities.bytes && jz_core_serves(input.bytes, input.length))
         options->entities = core.entities;
+    if (options->quirks.bytes == state->standard.quirks.bytes && !jz_quirks_matter(input.bytes, input.length, options->quirks))
+        options->quirks = core.quirks;
     return 1;
 }
 

@@ -13,6 +13,7 @@ mod tree;
 
 pub use error::{Error, ErrorCode, ErrorKind, ParseError};
 pub use lines::Lines;
+use table::quirks_for;
 pub use table::{Table, QUIRKS};
 pub use tree::{links, Doctype, Kind, Node, Tree};
 
@@ -100,7 +101,7 @@ impl Options<'_> {
             size: size_of::<raw::Options>(),
             context: raw::Bytes::of(self.context.as_bytes()),
             entities: raw::Bytes::of(self.entities.for_input(input)),
-            quirks: raw::Bytes::of(self.quirks.as_bytes()),
+            quirks: raw::Bytes::of(quirks_for(self.quirks, input).as_bytes()),
             nodes: self.nodes,
             open: self.open,
             piece: self.piece,

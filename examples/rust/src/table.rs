@@ -90,6 +90,30 @@ fn core_serves(input: &[u8]) -> bool {
     true
 }
 
+/// The quirks list that is handed in with an input: where the Standard's does not matter, none.
+pub(crate) fn quirks_for<'a>(list: &'a str, input: &[u8]) -> &'a str {
+    if list == QUIRKS && !quirks_matter(input, list) { "" } else { list }
+}
+
+/// Whether the quirks list may matter to an input: where it begins, after white space and what is in `<? >`, with a doctype in which an
+/// identifier of the list stands after a quote, or with what is no doctype, start tag, letter or digit.
+fn quirks_matter(input: &[u8], list: &str) -> bool {
+    let begins = |rest: &[u8], text: &[u8]| rest.get(..text.len()).is_some_and(|front| front.eq_ignore_ascii_case(text));
+    let mut rest = input;
+    while rest.starts_with(b"<?") || rest.first().is_some_and(u8::is_ascii_whitespace) {
+        let end = if rest[0] == b'<' { raw::find(b'>', rest) } else { Some(0) };
+        let Some(end) = end else { return false };
+        rest = &rest[end + 1..];
+    }
+    if !begins(rest, b"<!doctype") {
+        let rest = rest.strip_prefix(b"<").filter(|it| !it.is_empty()).unwrap_or(rest);
+        return rest.first().is_some_and(|it| !it.is_ascii_alphanumeric());
+    }
+    let doctype = &rest[..raw::find(b'>', rest).unwrap_or(rest.len())];
+    let mut quoted = (1..=doctype.len()).filter(|&at| matches!(doctype[at - 1], b'"' | b'\'')).map(|at| &doctype[at..]);
+    quoted.any(|id| list.lines().filter_map(|line| line.split_once(' ')).any(|(_, it)| begins(id, it.as_bytes())))
+}
+
 impl PartialEq for Table {
     fn eq(&self, other: &Self) -> bool {
         self.flat() == other.flat()

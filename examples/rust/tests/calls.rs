@@ -2,7 +2,7 @@
 
 use jeanzircon::{
     errors, is_plain, links, text, version, BadBytes, Doctype, Error, ErrorKind, Kind, Lines, Node,
-    Options, Page, Parser, Table, Task, Tree,
+    Options, Page, Parser, Table, Task, Tree, QUIRKS,
 };
 use std::collections::HashSet;
 use std::iter::successors;
@@ -333,4 +333,26 @@ fn lines_are_found_once() {
         .map(|&at| lines.line_column(at))
         .collect();
     assert_eq!(found, [(1, 1), (1, 5), (2, 1), (3, 1), (41, 2), (61, 6)]);
+}
+
+#[test]
+fn the_quirks_list_is_left_out_where_it_does_not_matter() {
+    let own = format!("{QUIRKS}public-is an identifier of no page");
+    let by_own = Options {
+        quirks: &own,
+        ..Options::default()
+    };
+    let mut are_quirky = 0;
+    for before in ["", " \r<?xml?>", "<?", "<!-- c -->", "&#32;", "\u{FEFF}", "<p>", "a", "<"] {
+        for public in ["", "PUBLIC 'htmL'", "public\"-//W3C//dtd HTML 3.2//x\"", "PUBLIC 'x'"] {
+            for more in [">", "\"html\">", "", " 'http://x/'>"] {
+                let page = format!("{before}<!DocType html {public}{more}<p><table>");
+                let tree = |given| text(Task::Tree, page.as_bytes(), &given);
+                let found = tree(Options::default());
+                assert_eq!(found, tree(by_own), "{page}");
+                are_quirky += usize::from(found.unwrap().ends_with("      <table>\n"));
+            }
+        }
+    }
+    assert!(are_quirky > 20);
 }
