@@ -1,6 +1,6 @@
 //! An input in memory, as a source.
 
-ghost use Rattle.std.specs.Prelude.{◌≡◌, ◌++◌, min, length, take, drop, Some};
+ghost use Rattle.std.specs.Prelude.{◌≡◌, ◌<◌, ◌++◌, min, length, take, drop, Some};
 ghost use Rattle.html_c.specs.Input.{left_in};
 
 use hparse::Source;
@@ -18,6 +18,13 @@ impl<'a> Input<'a> {
     {
         Input { rest: bytes }
     }
+}
+
+/// How many bytes of an input are read at a time: its buffer has no more than there are.
+pub(crate) fn buffer_for(piece: usize, input: &[u8]) -> usize
+    ensures { 0 < result }
+{
+    piece.min(input.len()).max(1)
 }
 
 /// Copies as many bytes as there are and have room, and returns how many.

@@ -1,13 +1,13 @@
 //! The text of a task.
 
-ghost use Rattle.std.specs.Prelude.{◌≡◌, ◌<◌, ℕ, IfOk, MatchResult, Ok};
+ghost use Rattle.std.specs.Prelude.{◌≡◌, ℕ, IfOk, MatchResult, Ok};
 ghost use Rattle.html_c.specs.Vocabulary.{options_of, own_context, AllowsContext, context_of, prints_of, ComesToNone, GivesNone, GivesNothing, GivesText, kept, written_in, HasLists, IsCommand};
 
 use crate::answer::Given;
 use crate::fault::CallFault;
 use crate::fitted::Fitted;
 use crate::given::Lists;
-use crate::input::Input;
+use crate::input::{Input, buffer_for};
 use hparse::Options;
 use hwrite::{Command, run};
 use names::Refusal;
@@ -62,12 +62,15 @@ fn text_in(
     options: &Options,
     room: usize,
 ) -> Result<Fitted, Refusal>
-    requires context { AllowsContext (context_of command.task (own_context command.context)) }
-    requires piece { 0 < command.piece }
+    requires { AllowsContext (context_of command.task (own_context command.context)) }
     ensures says { let prints = prints_of command.entry.escaping command.entry.task (own_context command.entry.context) (options_of options.now) in
         MatchResult result (λ text. prints input.now (Ok (written_in text))) (ComesToNone prints input.now) }
     ensures room { IfOk result (λ text. text.room ≡ room) }
 {
+    let command = Command {
+        piece: buffer_for(command.piece, input),
+        ..command
+    };
     let mut source = Input::new(input);
     let mut target = Fitted::new(alloc, room);
     match run(alloc, command, options, &mut source, &mut target) {

@@ -1,12 +1,12 @@
 //! What an input is parsed as, and the rows of its tree.
 
-ghost use Rattle.std.specs.Prelude.{◌≡◌, ◌<◌, MatchResult};
+ghost use Rattle.std.specs.Prelude.{◌≡◌, MatchResult};
 ghost use Rattle.html_c.specs.Vocabulary.{options_of, own_context, AllowsContext, GivesNoRows, GivesNothing, GivesRows, HasLists, IsPieceSize, IsSize, context_told, ComesToParse, GivesParse, parsed_rows, parsed_words};
 
 use crate::answer::Given;
 use crate::fault::CallFault;
 use crate::given::Lists;
-use crate::input::Input;
+use crate::input::{Input, buffer_for};
 use crate::rows::Rows;
 use hparse::{Options, Parsed, parse_reader};
 use hwrite::parser;
@@ -72,11 +72,10 @@ fn parsed(
     input: &[u8],
     options: &Options,
 ) -> Result<Parsed, Refusal>
-    requires context { AllowsContext (own_context context) }
-    requires piece { 0 < piece }
+    requires { AllowsContext (own_context context) }
     ensures { ComesToParse (options_of options.now) (own_context context.entry) (input.now) result }
 {
     let parser = parser(alloc, context, options)?;
     let mut source = Input::new(input);
-    parse_reader(alloc, parser, piece, &mut source)
+    parse_reader(alloc, parser, buffer_for(piece, input), &mut source)
 }

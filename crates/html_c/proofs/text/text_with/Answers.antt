@@ -17,12 +17,9 @@ options-options-requires-clause-context c = c.requires.command.1.allows
 pub options-options-requires-clause-piece : goal.options-options-requires-clause-piece
 options-options-requires-clause-piece c = subst IsPieceSize c.requires.command.1.piece c.requires.command.1.is_piece
 
-pub text_in-requires-clause-context : goal.text_in-requires-clause-context
-text_in-requires-clause-context c =
+pub text_in-requires : goal.text_in-requires
+text_in-requires c =
     let is = c.requires.command.1 in allowed c.args.command.task (own_context c.args.command.context) (context_told c.args.given.now.context.now) is.context is.allows
-
-pub text_in-requires-clause-piece : goal.text_in-requires-clause-piece
-text_in-requires-clause-piece c = c.requires.command.1.is_piece.0
 
 pub returns-in_err-text_in-clause-says : goal.returns-in_err-text_in-clause-says
 returns-in_err-text_in-clause-says c = λ number is.

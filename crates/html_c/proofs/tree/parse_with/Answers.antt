@@ -13,11 +13,8 @@ returns-in_err-limits c = fails c.from_residual-in_err-limits.result c.in_err-li
 pub options-options-requires-clause-piece : goal.options-options-requires-clause-piece
 options-options-requires-clause-piece c = subst IsPieceSize c.requires.piece.0 c.requires.piece.1
 
-pub parsed-requires-clause-context : goal.parsed-requires-clause-context
-parsed-requires-clause-context c = subst AllowsContext (sym c.requires.context) c.requires.allowed
-
-pub parsed-requires-clause-piece : goal.parsed-requires-clause-piece
-parsed-requires-clause-piece c = c.requires.piece.1.0
+pub parsed-requires : goal.parsed-requires
+parsed-requires c = subst AllowsContext (sym c.requires.context) c.requires.allowed
 
 pub returns-in_err-parsed : goal.returns-in_err-parsed
 returns-in_err-parsed c =
