@@ -1,6 +1,6 @@
 /* What .ci/peers measures in C: bytes to a tree by jz_parse, or by gumbo, in processor milliseconds; and the lines of a crawl.
  *
- *   peers parse|core|whole|gumbo ROUNDS FILE..     the least of some rounds, for all files together: by jz_parse with the table that Python
+ *   peers parse|core|whole|gumbo ROUNDS FILE..     the least of some rounds, for all files together: by jz_parse with the lists that Python
  *                                                  and Rust choose, with the core table or the Standard's, or by gumbo
  *   peers lines PART PARTS FILE                    the lines that jeanzircon.crawl writes of each page of a WARC file whose number leaves PART
  *                                                  when divided by PARTS; all records are whole responses of type text/html */
