@@ -343,6 +343,24 @@ impl Site {
         self.tree.create_sharing(name, attrs, at)
     }
 
+    /// Creates an element for a token, of attributes that its entry shares.
+    #[inline(always)]
+    pub(crate) fn create_copying(
+        &mut self,
+        name: NameId,
+        attrs: &Attributes,
+        at: u64,
+    ) -> Result<NodeId, Refusal>
+        ensures done { Gives result self.new (made at (element name attrs.now) self.old) }
+        ensures number { IfOk result (λ n. (n ≡ self.old.nodes.made) × (0 < n)) }
+        ensures outside { IfOk result (λ n. (k : ℕ) → k < n → IsOutside k n (trees self.new)) }
+        ensures apart { IfOk result (λ n. (k : ℕ) → k < n → IsOutside n k (trees self.new)) }
+        ensures places { IfOk result (λ n. (p : Place) → IsPlace p self.old.nodes → IsPlace p self.new.nodes) }
+        ensures few { self.new.nodes.made ≤ self.old.nodes.made + 1 }
+    {
+        self.tree.create_copying(name, attrs, at)
+    }
+
     /// Moves a node from where it is to a place.
     #[inline(always)]
     pub(crate) fn graft(&mut self, child: NodeId, place: Place)

@@ -31,6 +31,24 @@ impl Site {
         Ok(node)
     }
 
+    /// Inserts a new element of attributes that its entry shares, and makes it the current node.
+    #[inline(always)]
+    fn insert_copying(
+        &mut self,
+        name: NameId,
+        attrs: &Attributes,
+        place: Place,
+        at: u64,
+    ) -> Result<NodeId, Refusal>
+        requires { IsPlace place self.old.nodes }
+        ensures done { Gives result self.new (inserted at name attrs.now place self.old) }
+        ensures number { IfOk result (λ n. n ≡ self.old.nodes.made) }
+    {
+        let node = self.create_copying(name, attrs, at)?;
+        self.enter(node, name, place, at)?;
+        Ok(node)
+    }
+
     /// Inserts a new element that shares its attributes, and makes it the current node.
     #[inline(always)]
     pub(crate) fn insert_sharing(
@@ -77,7 +95,7 @@ impl Site {
         ensures kept { IsSound numbers self.old → PlaceStands place (trees self.old) → nat_eq name (number_of Tag.Table) ≡ false
             → IfOk result (λ _. IsSound numbers self.new) }
     {
-        let new = self.insert_sharing(name, attrs.share()?, place, at)?;
+        let new = self.insert_copying(name, &attrs, place, at)?;
         self.list.push(new, name, attrs)?;
         Ok(new)
     }

@@ -1,8 +1,8 @@
 -- Attributes whose names differ, and their names in ascending order.
 use Rattle.std.proofs.lemmas.Bool.{and_parts, not-true, false_from_ne_true, false≢true, ltb-true}
-use Rattle.hnodes.proofs.Names.{◌≡◌, ℕ, ◌+◌, ◌-◌, ◌<◌, ◌≤◌, Bool, true, false, not, eqb, nat_eq, List, [], ◌∷◌, ◌++◌, length, length-drop, map, get_or, refl, sym, ◌∙◌, ap, subst, arith, drop, take, Vec, Global, lt-ltb, take_all, map-append, list_any-append, list_any, IsTrue, Attr, names_differ, Attribute, names_of, attr_numbers, attribute_of}
-use Rattle.std.proofs.Common.{◌↔◌, drop-cons, add-one}
-use Rattle.std.proofs.lemmas.List.{drop_all, take-append-le}
+use Rattle.hnodes.proofs.Names.{◌≡◌, ℕ, ◌+◌, ◌-◌, Bool, true, false, not, eqb, nat_eq, List, [], ◌∷◌, ◌++◌, length, map, get_or, refl, sym, ◌∙◌, ap, subst, arith, take, Vec, Global, lt-ltb, map-append, list_any-append, list_any, IsTrue, Attr, names_differ, Attribute, names_of, attr_numbers, attribute_of}
+use Rattle.std.proofs.Common.{◌↔◌}
+use Rattle.std.proofs.lemmas.List.{take-append-le}
 use Rattle.std.proofs.lemmas.List.Sorted.{IsPermutation-sym}
 use Rattle.std.proofs.lemmas.Map.Keys.{IsDistinct-IsPermutation, IsDistinct-cons, IsDistinct-head, IsDistinct-tail, IsDistinct-from_sorted, IsStrictlyIncreasing-from_distinct, sorted_from_strictly_increasing}
 use Rattle.std.specs.Cmp.{unsigned_tied}
@@ -12,7 +12,7 @@ use Rattle.std.specs.Ordering.{nat_cmp}
 use Rattle.std.specs.Prelude.{◌&&◌, ◌||◌, ltb}
 use Rattle.hnodes.specs.Numbered.{AreNumbered, inside_attributes}
 use Rattle.hnodes.specs.declared.attributes.Indexed.TheInside.{Inside}
-use Rattle.hnodes.proofs.Indexed.{searched-is, within}
+use Rattle.hnodes.proofs.Indexed.{within}
 
 flips : (x y : ℕ) → nat_eq x y ≡ nat_eq y x
 flips x y = grind arith
@@ -32,26 +32,26 @@ risen : (names : List ℕ) → IsStrictlyIncreasing names → IsDistinct eqb nam
 risen names up = subst (λ (e : ℕ → ℕ → Bool). IsDistinct e names) (λ i x y. unsigned_tied x y i) (IsDistinct-from_sorted nat_cmp names (sorted_from_strictly_increasing names up))
 
 -- whether the name of an attribute is one of these
-abbrev among : (n : ℕ) (attrs : List Attr) → Bool
-among n attrs = list_any (λ b. nat_eq b.0 n) (map attribute_of attrs)
+abbrev among : (n : ℕ) (attrs : List (Attribute ℕ)) → Bool
+among n attrs = list_any (λ b. nat_eq b.0 n) attrs
 
-others : (n : ℕ) (attrs : List Attr) → among n attrs ≡ false → AllByRecursion (λ m. eqb n m ≡ false) (names_of attrs)
+others : (n : ℕ) (attrs : List (Attribute ℕ)) → among n attrs ≡ false → AllByRecursion (λ m. eqb n m ≡ false) (names_of attrs)
 others n [] h = tt
 others n (a ∷ attrs) h = grind (arith, others n attrs)
 
-no-other : (n : ℕ) (attrs : List Attr) → AllByRecursion (λ m. eqb n m ≡ false) (names_of attrs) → among n attrs ≡ false
+no-other : (n : ℕ) (attrs : List (Attribute ℕ)) → AllByRecursion (λ m. eqb n m ≡ false) (names_of attrs) → among n attrs ≡ false
 no-other n [] h = refl
-no-other n (a ∷ attrs) h = (λ i. (flips a.name n ∙ h.0) i || among n attrs) ∙ no-other n attrs h.1
+no-other n (a ∷ attrs) h = (λ i. (flips a.0 n ∙ h.0) i || among n attrs) ∙ no-other n attrs h.1
 
-distinct : (attrs : List Attr) → names_differ nat_eq (map attribute_of attrs) ≡ true → IsDistinct eqb (names_of attrs)
+distinct : (attrs : List (Attribute ℕ)) → names_differ nat_eq attrs ≡ true → IsDistinct eqb (names_of attrs)
 distinct [] h = risen [] (λ k p. absurd (omega (arith, p)))
 distinct (a ∷ attrs) h =
-    let parts = and_parts (not (among a.name attrs)) (names_differ nat_eq (map attribute_of attrs)) h in
-    IsDistinct-cons eqb a.name (names_of attrs) (others a.name attrs (not-true (among a.name attrs) parts.0)) (distinct attrs parts.1)
+    let parts = and_parts (not (among a.0 attrs)) (names_differ nat_eq attrs) h in
+    IsDistinct-cons eqb a.0 (names_of attrs) (others a.0 attrs (not-true (among a.0 attrs) parts.0)) (distinct attrs parts.1)
 
-differing : (attrs : List Attr) → IsDistinct eqb (names_of attrs) → names_differ nat_eq (map attribute_of attrs) ≡ true
+differing : (attrs : List (Attribute ℕ)) → IsDistinct eqb (names_of attrs) → names_differ nat_eq attrs ≡ true
 differing [] h = refl
-differing (a ∷ attrs) h = λ i. not (no-other a.name attrs (IsDistinct-head eqb a.name (names_of attrs) h) i) && differing attrs (IsDistinct-tail eqb a.name (names_of attrs) h) i
+differing (a ∷ attrs) h = λ i. not (no-other a.0 attrs (IsDistinct-head eqb a.0 (names_of attrs) h) i) && differing attrs (IsDistinct-tail eqb a.0 (names_of attrs) h) i
 
 -- whether each number is less than the next
 pub rising : (xs : List ℕ) (r : Bool) → IsAllAdjacentAnswer (λ x y b. b ≡ ltb x y) xs r → IsTrue r ↔ IsStrictlyIncreasing xs
@@ -62,30 +62,9 @@ rising xs false h = (
 )
 
 -- names differ if they rise where they are in ascending order
-pub differ-is : (attrs : List Attr) (names : List ℕ) (r : Bool) → IsPermutation (names_of attrs) names → IsNonDecreasing names → IsTrue r ↔ IsStrictlyIncreasing names → r ≡ names_differ nat_eq (map attribute_of attrs)
+pub differ-is : (attrs : List (Attribute ℕ)) (names : List ℕ) (r : Bool) → IsPermutation (names_of attrs) names → IsNonDecreasing names → IsTrue r ↔ IsStrictlyIncreasing names → r ≡ names_differ nat_eq attrs
 differ-is attrs names true p up h = sym (differing attrs (IsDistinct-IsPermutation eqb flips names (names_of attrs) (IsPermutation-sym _ _ p) (risen names (h.0 refl))))
 differ-is attrs names false p up h = sym (false_from_ne_true _ (λ e. false≢true (h.1 (IsStrictlyIncreasing-from_distinct names up (IsDistinct-IsPermutation eqb flips (names_of attrs) names p (distinct attrs e))))))
-
--- those from one on
-abbrev pub differ_from : ℕ → List Attr → Bool
-differ_from i attrs = names_differ nat_eq (map attribute_of (drop i attrs))
-
--- if this one's name is not among the others', and those differ
-differ-step : (attrs : List Attr) (i : ℕ) (x : Attr) → i < length attrs → x ≡ get_or attrs i x → differ_from i attrs ≡ (not (list_any (λ (a : Attr). nat_eq a.name x.name) (drop (i + 1) attrs)) && differ_from (i + 1) attrs)
-differ-step attrs i x h is =
-    ap (λ (l : List Attr). names_differ nat_eq (map attribute_of l)) (drop-cons attrs i x h ∙ (λ k. sym is k ∷ drop (sym (add-one i) k) attrs))
-    ∙ ap (λ u. not u && differ_from (i + 1) attrs) (sym (searched-is x.name (drop (i + 1) attrs)))
-
--- one is tested, as a range of the others is lent
-pub differ-one : (attrs : List Attr) (i : ℕ) (x : Attr) (u : Bool) → i < length attrs → x ≡ get_or attrs i x → differ_from i attrs ≡ differ_from 0 attrs
-    → u ≡ list_any (λ (a : Attr). nat_eq a.name x.name) (take (length attrs - (i + 1)) (drop (i + 1) attrs)) → (not u && differ_from (i + 1) attrs) ≡ differ_from 0 attrs
-differ-one attrs i x u h is before test =
-    ap (λ v. not v && differ_from (i + 1) attrs)
-    (test ∙ ap (list_any (λ (a : Attr). nat_eq a.name x.name)) (take_all (length attrs - (i + 1)) (drop (i + 1) attrs) (omega (arith, length-drop (i + 1) attrs))))
-    ∙ sym (differ-step attrs i x h is) ∙ before
-
-pub none-left : (attrs : List Attr) (i : ℕ) → length attrs ≤ i → differ_from i attrs ≡ differ_from 0 attrs → true ≡ differ_from 0 attrs
-none-left attrs i h before = ap (λ (l : List Attr). names_differ nat_eq (map attribute_of l)) (sym (drop_all i attrs h)) ∙ before
 
 -- an attribute more, which the index does not have yet
 pub pushed : (x : Inside) (old : List (Attribute ℕ)) (new : Vec Attr Global) (a : Attr) (u : Bool) → AreNumbered x → inside_attributes x ≡ old → new.items ≡ x.attrs.items ++ a ∷ []

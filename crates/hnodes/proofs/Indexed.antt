@@ -30,11 +30,6 @@ any-named name (a ∷ attrs) =
     λ i. (eqb-suc-suc (suc a.name) (suc name) ∙ eqb-suc-suc a.name name) i || any-named name attrs i
 
 -- a search of the attributes
-pub searched-is : (name : ℕ) (attrs : List Attr) → list_any (λ (a : Attr). nat_eq a.name name) attrs ≡ list_any (λ a. nat_eq a.0 name) (map attribute_of attrs)
-searched-is name [] = refl
-searched-is name (a ∷ attrs) = ap (λ b. nat_eq a.name name || b) (searched-is name attrs)
-
--- a number is somewhere where an attribute of its name is there
 pub named-is : (names : List ℕ) (attrs : List Attr) (number name : ℕ) → names ≡ attr_numbers attrs → number ≡ suc (suc name)
     → ltb 0 (last_up (λ k. k == number) names (length names)) ≡ list_any (λ a. nat_eq a.0 name) (map attribute_of attrs)
 named-is names attrs number name same is = (λ i. ltb 0 (last_up (λ k. k == is i) (same i) (length (same i)))) ∙ last-any (λ k. k == suc (suc name)) (attr_numbers attrs) ∙ any-named name attrs
@@ -45,11 +40,11 @@ within names attrs first = omega (arith, ap length first, length-map (take (leng
 
 -- an attribute of a name is among the first or the rest
 found-is : (names : List ℕ) (attrs : List Attr) (number name : ℕ) → names ≡ attr_numbers (take (length names) attrs) → number ≡ suc (suc name)
-    → (ltb 0 (last_up (λ k. k == number) names (length names)) || list_any (λ (a : Attr). nat_eq a.name name) (take (length attrs - length names) (drop (length names) attrs)))
+    → (ltb 0 (last_up (λ k. k == number) names (length names)) || list_any (λ a. nat_eq a.0 name) (map attribute_of (take (length attrs - length names) (drop (length names) attrs))))
     ≡ list_any (λ a. nat_eq a.0 name) (map attribute_of attrs)
 found-is names attrs number name first is =
     (λ i. named-is names front number name first is i
-    || (ap (list_any (λ (a : Attr). nat_eq a.name name)) (take_all (length attrs - length names) rest (omega (arith, length-drop (length names) attrs))) ∙ searched-is name rest) i)
+    || ap (λ (l : List Attr). list_any (λ a. nat_eq a.0 name) (map attribute_of l)) (take_all (length attrs - length names) rest (omega (arith, length-drop (length names) attrs))) i)
     ∙ sym (list_any-append (λ (a : Attribute ℕ). nat_eq a.0 name) (map attribute_of front) (map attribute_of rest)) ∙ ap (list_any (λ a. nat_eq a.0 name)) (sym (map-append attribute_of front rest))
     ∙ ap (λ (l : List Attr). list_any (λ a. nat_eq a.0 name) (map attribute_of l)) (take-append-drop (length names) attrs)
   where
@@ -63,11 +58,11 @@ pub found_first : (names : List ℕ) (attrs : List Attr) (number name last : ℕ
     → ltb 0 last ≡ list_any (λ a. nat_eq a.0 name) (map attribute_of attrs)
 found_first names attrs number name last first is at some =
     let yes : ltb 0 last ≡ true = lt-ltb 0 last some in
-    yes ∙ (λ i. (sym yes ∙ ap (ltb 0) at) i || list_any (λ (a : Attr). nat_eq a.name name) (take (length attrs - length names) (drop (length names) attrs))) ∙ found-is names attrs number name first is
+    yes ∙ (λ i. (sym yes ∙ ap (ltb 0) at) i || list_any (λ a. nat_eq a.0 name) (map attribute_of (take (length attrs - length names) (drop (length names) attrs)))) ∙ found-is names attrs number name first is
 
 pub found_rest : (names : List ℕ) (attrs lent : List Attr) (number name last len : ℕ) (u : Bool) → names ≡ attr_numbers (take (length names) attrs) → number ≡ suc (suc name) → last ≡ last_up (λ k. k == number) names (length names) → last ≤ 0
-    → lent ≡ attrs → len ≡ length names → u ≡ list_any (λ (a : Attr). nat_eq a.name name) (take (length lent - len) (drop len lent)) → u ≡ list_any (λ a. nat_eq a.0 name) (map attribute_of attrs)
+    → lent ≡ attrs → len ≡ length names → u ≡ list_any (λ a. nat_eq a.0 name) (map attribute_of (take (length lent - len) (drop len lent))) → u ≡ list_any (λ a. nat_eq a.0 name) (map attribute_of attrs)
 found_rest names attrs lent number name last len u first is at none same long test =
-    test ∙ (λ i. list_any (λ (a : Attr). nat_eq a.name name) (take (length (same i) - long i) (drop (long i) (same i))))
-    ∙ ap (λ v. v || list_any (λ (a : Attr). nat_eq a.name name) (take (length attrs - length names) (drop (length names) attrs))) (sym (le-ltb 0 last none) ∙ ap (ltb 0) at)
+    test ∙ (λ i. list_any (λ a. nat_eq a.0 name) (map attribute_of (take (length (same i) - long i) (drop (long i) (same i)))))
+    ∙ ap (λ v. v || list_any (λ a. nat_eq a.0 name) (map attribute_of (take (length attrs - length names) (drop (length names) attrs)))) (sym (le-ltb 0 last none) ∙ ap (ltb 0) at)
     ∙ found-is names attrs number name first is

@@ -1,9 +1,10 @@
 -- What a run has stays what it is when more comes after it.
-use Rattle.hnodes.proofs.Names.{◌≡◌, ℕ, ◌+◌, ◌≤◌, ◌++◌, List, [], length, take, drop, refl, sym, ◌∙◌, ap, subst, arith, map, Option, Some, None, IfSome, element, text, comment, attribute_of, content_is, Attr, NodeData, IsKept, Holds, IsGrown, IsRun, IsText, Store, Run, run_in}
+use Rattle.hnodes.proofs.Names.{◌≡◌, ℕ, ◌+◌, ◌≤◌, ◌++◌, List, [], length, take, drop, refl, sym, ◌∙◌, ap, subst, arith, map, map-append, append_assoc, Option, Some, None, IfSome, All-head, element, text, comment, content_is, ◌∷◌, Attribute, NodeData, Adds, AreStored, AreTexts, IsKept, Holds, IsGrown, IsLonger, IsRun, IsText, Store, StoredAttr, Run, attributes_in_run, run_in, stored_attribute}
 use Rattle.std.specs.Prelude.{IsUtf8}
 use Rattle.std.proofs.lemmas.Str.{IsUtf8-append}
 use Rattle.std.proofs.lemmas.Slice.{between_is}
-use Rattle.std.proofs.lemmas.List.{take-append-le, take-take, take_all, drop_at, drop-append-le, length-append, append-nil}
+use Rattle.std.proofs.lemmas.List.Elements.{All-push, All-tail, All-weaker}
+use Rattle.std.proofs.lemmas.List.{take-append-le, take-take, take_all, drop_at, drop-append-le, length-append, length-map, append-nil}
 use Rattle.hnodes.specs.declared.node.NodeData.TheVariants as content
 
 module _ {X : Type 0} where
@@ -34,6 +35,48 @@ module _ {X : Type 0} where
 pub is_text-more : (r : Run) (xs ys : List ℕ) → IsText r xs → IsText r (xs ++ ys)
 is_text-more r xs ys h = (is_run-more r xs ys h.0, subst IsUtf8 (sym (run-more r xs ys h.0)) h.1)
 
+pub longer-trans : {X : Type 0} (xs ys zs : List X) → IsLonger xs ys → IsLonger ys zs → IsLonger xs zs
+longer-trans xs ys zs h j = (h.0 ++ j.0, j.1 ∙ ap (λ l. l ++ j.0) h.1 ∙ append_assoc xs h.0 j.0)
+
+-- what attributes are stays, whatever is added to the texts
+module _ (xs ys : List ℕ) where
+  pub stored-more : (attrs : List StoredAttr) → AreTexts xs attrs → map (stored_attribute (xs ++ ys)) attrs ≡ map (stored_attribute xs) attrs
+  stored-more [] h = refl
+  stored-more (a ∷ attrs) h =
+      λ i. (a.name, run-more a.value xs ys (All-head (λ b. IsText b.value xs) a attrs h.each).0 i) ∷ stored-more attrs (record { each = All-tail (λ b. IsText b.value xs) a attrs h.each }) i
+
+  pub texts-more : (attrs : List StoredAttr) → AreTexts xs attrs → AreTexts (xs ++ ys) attrs
+  texts-more attrs h = record { each = All-weaker (λ a. IsText a.value xs) (λ a. IsText a.value (xs ++ ys)) (λ a t. is_text-more a.value xs ys t) attrs h.each }
+
+-- attributes that are added one by one
+pub adds-one : (attrs : List (Attribute ℕ)) (x : Attribute ℕ) (a : StoredAttr) (old mid new : Store) → Adds attrs old mid → IsLonger mid.texts new.texts → IsText a.value new.texts
+    → (a.name, run_in a.value new.texts) ≡ x → new.attrs.items ≡ mid.attrs.items ++ a ∷ [] → Adds (attrs ++ x ∷ []) old new
+adds-one attrs x a old mid new are longer is same items = record {
+  more = are.more ++ a ∷ [];
+  items = items ∙ ap (λ xs. xs ++ a ∷ []) are.items ∙ append_assoc old.attrs.items are.more (a ∷ []);
+  values = record { each = All-push (λ b. IsText b.value new.texts) are.more a (subst (λ t. AreTexts t are.more) (sym longer.1) (texts-more mid.texts longer.0 are.more are.values)).each is };
+  same = map-append (stored_attribute new.texts) are.more (a ∷ [])
+      ∙ (λ i. (ap (λ t. map (stored_attribute t) are.more) longer.1 ∙ stored-more mid.texts longer.0 are.more are.values ∙ are.same) i ++ same i ∷ []);
+}
+
+-- the run of attributes that were added
+pub added-run : (o : Option Run) (attrs : List (Attribute ℕ)) (old new : Store) (a l : ℕ) → Adds attrs old new → a ≡ length old.attrs.items → l ≡ length attrs → IfSome o (λ r. r ≡ record { start = a; len = l })
+    → IfSome o (λ r. AreStored r new × (attributes_in_run r new ≡ attrs))
+added-run None attrs old new a l are at long is = tt
+added-run (Some r) attrs old new a l are at long is = (record { inside = inside; values = subst (AreTexts new.texts) (sym run) are.values }, ap (map (stored_attribute new.texts)) run ∙ are.same)
+  where
+    many : l ≡ length are.more
+    many = long ∙ ap length (sym are.same) ∙ length-map are.more (stored_attribute new.texts)
+
+    whole : r ≡ record { start = length old.attrs.items; len = length are.more }
+    whole = is ∙ (λ i. record { start = at i; len = many i })
+
+    run : run_in r new.attrs.items ≡ are.more
+    run = (λ i. run_in (whole i) (are.items i)) ∙ run-added old.attrs.items are.more
+
+    inside : IsRun r new.attrs.items
+    inside = omega (arith, ap (λ (x : Run). x.start) whole, ap (λ (x : Run). x.len) whole, ap length are.items, length-append old.attrs.items are.more)
+
 -- what the calls of a store answer
 pub longer-is : (o : Option Run) (run : Run) (a l : ℕ) (old new more : List ℕ) → IfSome o (λ r. r ≡ record { start = a; len = l }) → a ≡ run.start → l ≡ run.len + length more
     → run.start + run.len ≡ length old → new ≡ old ++ more → IsText run old → IsUtf8 more → IfSome o (λ r. IsText r new × (run_in r new ≡ run_in run old ++ more))
@@ -52,7 +95,11 @@ pub grown-holds : (old new : Store) (c : NodeData) → IsGrown old new → IsKep
 grown-holds old new content.Document g k = (tt, refl)
 grown-holds old new (content.Doctype d) g k = (tt, refl)
 grown-holds old new (content.Element name r) g k =
-    (subst (IsRun r) (sym g.attrs.1) (is_run-more r old.attrs.items g.attrs.0 k), ap (λ (xs : List Attr). element name (map attribute_of xs)) (ap (run_in r) g.attrs.1 ∙ run-more r old.attrs.items g.attrs.0 k))
+    let run : run_in r new.attrs.items ≡ run_in r old.attrs.items = ap (run_in r) g.attrs.1 ∙ run-more r old.attrs.items g.attrs.0 k.inside in
+    let there = subst (AreTexts old.texts) (sym run) k.values in (
+      record { inside = subst (IsRun r) (sym g.attrs.1) (is_run-more r old.attrs.items g.attrs.0 k.inside); values = subst (λ t. AreTexts t (run_in r new.attrs.items)) (sym g.texts.1) (texts-more old.texts g.texts.0 (run_in r new.attrs.items) there) },
+      ap (element name) (ap (λ t. map (stored_attribute t) (run_in r new.attrs.items)) g.texts.1 ∙ stored-more old.texts g.texts.0 (run_in r new.attrs.items) there ∙ ap (map (stored_attribute old.texts)) run),
+    )
 grown-holds old new (content.Wide name attrs) g k = (tt, refl)
 grown-holds old new (content.Shared name list) g k = (tt, refl)
 grown-holds old new (content.Comment r) g k = (subst (IsText r) (sym g.texts.1) (is_text-more r old.texts g.texts.0 k), ap comment (ap (run_in r) g.texts.1 ∙ run-more r old.texts g.texts.0 k.0))

@@ -12,6 +12,7 @@ pub mod Raw
 pub mod Coding
 pub mod Store
 pub mod Rows
+pub mod AttrsView
 pub mod Numbered
 pub mod Shared
 pub mod View

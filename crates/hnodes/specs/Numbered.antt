@@ -6,9 +6,6 @@ use Rattle.hnodes.specs.Rows.{attribute_of}
 use Rattle.names.specs.declared.attr.Attr.{Attr}
 use Rattle.hnodes.specs.declared.attributes.Indexed.TheInside.{Inside}
 
-abbrev pub names_of : List Attr → List ℕ
-names_of attrs = map (λ a. a.name) attrs
-
 abbrev pub attr_numbers : List Attr → List ℕ
 attr_numbers attrs = map (λ a. suc (suc a.name)) attrs
 

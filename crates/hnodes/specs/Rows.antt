@@ -4,7 +4,7 @@ use Rattle.std.specs.List.{All}
 use Rattle.std.specs.Rc.{rc_value}
 use Rattle.hnodes.specs.Forest.{What, document, doctype, element, comment, text, Attribute}
 use Rattle.hnodes.specs.Links.{Row, Look, at_row}
-use Rattle.hnodes.specs.Store.{run_in, IsRun, IsText}
+use Rattle.hnodes.specs.Store.{attributes_in_run, run_in, AreStored, IsText}
 use Rattle.names.specs.declared.attr.Attr.{Attr}
 use Rattle.hnodes.specs.declared.node.DocumentType.{DocumentType as DoctypeOf}
 use Rattle.hnodes.specs.declared.node.Given.{Given}
@@ -25,13 +25,14 @@ abbrev pub given_is : Given → What ℕ
 given_is (given.Doctype d) = doctype (string_bytes d.name) (string_bytes d.public_id) (string_bytes d.system_id)
 given_is (given.Element name attrs) = element name (map attribute_of attrs.now.items)
 given_is (given.Sharing name attrs) = element name attrs
+given_is (given.Copied name attrs) = element name attrs.now
 given_is (given.Comment t) = comment (string_bytes t)
 given_is (given.Text t) = text t.now
 
 abbrev pub content_is : Store → NodeData → What ℕ
 content_is s content.Document = document
 content_is s (content.Doctype d) = doctype (string_bytes d.value.name) (string_bytes d.value.public_id) (string_bytes d.value.system_id)
-content_is s (content.Element name r) = element name (map attribute_of (run_in r s.attrs.items))
+content_is s (content.Element name r) = element name (attributes_in_run r s)
 content_is s (content.Wide name attrs) = element name attrs.value
 content_is s (content.Shared name list) = element name (rc_value list)
 content_is s (content.Comment r) = comment (run_in r s.texts)
@@ -41,7 +42,7 @@ content_is s (content.Long t) = text (string_bytes t.value)
 
 -- a run of a node lies in the store; that of a text or a comment is a text
 abbrev pub IsKept : Store → NodeData → Type 0
-IsKept s (content.Element name r) = IsRun r s.attrs.items
+IsKept s (content.Element name r) = AreStored r s
 IsKept s (content.Comment r) = IsText r s.texts
 IsKept s (content.Text r) = IsText r s.texts
 IsKept s c = Unit {0}

@@ -4,6 +4,7 @@ ghost use Rattle.std.specs.Prelude.{◌≡◌, ◌&&◌, ◌++◌, ◌∷◌, []
 ghost use Rattle.std.specs.List.{list_any};
 ghost use Rattle.hnodes.specs.Vocabulary.{are_clean, attribute_of, is_clean, names_differ, names_end, attr_numbers};
 
+use crate::attrs_view::Attrs;
 use crate::indexed_list::IndexedList;
 use names::{Attr, NameId};
 use std::alloc::{AllocError, Global};
@@ -46,10 +47,15 @@ pub fn name_number(name: NameId) -> usize
 }
 
 /// Whether an attribute of a name is among others.
-pub(crate) fn has_name(attrs: &[Attr], name: NameId) -> bool
-    ensures { result ≡ list_any (λ a. nat_eq a.name name) attrs.now }
+pub(crate) fn has_name(attrs: Attrs, name: NameId) -> bool
+    ensures { result ≡ list_any (λ a. nat_eq a.0 name) attrs.entry }
 {
-    attrs.iter().any(|attr| attr.name() == name)
+    for (own, _) in attrs {
+        if own == name {
+            return true;
+        }
+    }
+    false
 }
 
 /// Adds the numbers of the names of attributes to those of the first of them.
@@ -74,11 +80,11 @@ pub fn index_attrs(attrs: &[Attr], alloc: Global) -> Result<IndexedList, AllocEr
 }
 
 /// Whether the names of a few attributes differ. Compares each with all that follow it.
-pub(crate) fn few_differ(attrs: &[Attr]) -> bool
-    ensures { result ≡ names_differ nat_eq (map attribute_of attrs.now) }
+pub(crate) fn few_differ(mut attrs: Attrs) -> bool
+    ensures { result ≡ names_differ nat_eq attrs.entry }
 {
-    for (index, attr) in attrs.iter().enumerate() {
-        if has_name(&attrs[index + 1..], attr.name()) {
+    while let Some((name, _)) = attrs.next() {
+        if has_name(attrs.copy(), name) {
             return false;
         }
     }
@@ -86,20 +92,20 @@ pub(crate) fn few_differ(attrs: &[Attr]) -> bool
 }
 
 /// Whether the names of many attributes differ. Sorts them.
-pub(crate) fn many_differ(attrs: &[Attr], alloc: Global) -> Result<bool, AllocError>
-    ensures { IfOk result (λ differ. differ ≡ names_differ nat_eq (map attribute_of attrs.now)) }
+pub(crate) fn many_differ(attrs: Attrs, alloc: Global) -> Result<bool, AllocError>
+    ensures { IfOk result (λ differ. differ ≡ names_differ nat_eq attrs.entry) }
 {
     let mut names = Vec::new(alloc);
-    for attr in attrs {
-        names.push(attr.name().index())?;
+    for (name, _) in attrs {
+        names.push(name.index())?;
     }
     names.sort_unstable();
     Ok(names.is_sorted_by(|name, next| name < next))
 }
 
 /// Whether the names of attributes differ.
-pub(crate) fn differ(attrs: &[Attr], alloc: Global) -> Result<bool, AllocError>
-    ensures { IfOk result (λ differ. differ ≡ names_differ nat_eq (map attribute_of attrs.now)) }
+pub(crate) fn differ(attrs: Attrs, alloc: Global) -> Result<bool, AllocError>
+    ensures { IfOk result (λ differ. differ ≡ names_differ nat_eq attrs.entry) }
 {
     if attrs.len() <= FEW_ATTRIBUTES {
         return Ok(few_differ(attrs));
@@ -115,10 +121,15 @@ pub fn is_clean(text: &str) -> bool
 }
 
 /// Whether all values of attributes are clean.
-pub(crate) fn are_clean(attrs: &[Attr]) -> bool
-    ensures { result ≡ are_clean (map attribute_of attrs.now) }
+pub(crate) fn are_clean(attrs: Attrs) -> bool
+    ensures { result ≡ are_clean attrs.entry }
 {
-    attrs.iter().all(|attr| is_clean(attr.value()))
+    for (_, value) in attrs {
+        if !is_clean(value) {
+            return false;
+        }
+    }
+    true
 }
 
 /// One more than the number of a name.
@@ -129,12 +140,12 @@ fn past(name: NameId) -> usize
 }
 
 /// One more than the greatest number among the names of attributes; 0 without any.
-pub(crate) fn names_end(attrs: &[Attr]) -> usize
-    ensures { result ≡ names_end (map attribute_of attrs.now) }
+pub(crate) fn names_end(attrs: Attrs) -> usize
+    ensures { result ≡ names_end attrs.entry }
 {
     let mut end = 0;
-    for attr in attrs {
-        end = end.max(past(attr.name()));
+    for (name, _) in attrs {
+        end = end.max(past(name));
     }
     end
 }
@@ -156,7 +167,7 @@ impl Indexed {
     pub(crate) fn of(attrs: Vec<Attr>, alloc: Global) -> Result<Self, AllocError>
         ensures { IfOk result (λ indexed. indexed ≡ map attribute_of attrs.items) }
     {
-        let differ = differ(&attrs, alloc)?;
+        let differ = differ(Attrs::listed(&attrs), alloc)?;
         Ok(Indexed {
             attrs,
             names: IndexedList::new(alloc),
@@ -165,10 +176,10 @@ impl Indexed {
     }
 
     /// The attributes.
-    pub(crate) fn attrs(&self) -> &[Attr]
-        ensures { map attribute_of result.now ≡ self.now }
+    pub(crate) fn attrs(&self) -> Attrs
+        ensures { result ≡ self.now }
     {
-        &self.attrs
+        Attrs::listed(&self.attrs)
     }
 
     /// Whether their names differ.
@@ -189,7 +200,8 @@ impl Indexed {
     pub(crate) fn has(&self, name: NameId) -> bool
         ensures { result ≡ list_any (λ a. nat_eq a.0 name) self.now }
     {
-        self.names.last(name_number(name)) > 0 || has_name(&self.attrs[self.names.len()..], name)
+        self.names.last(name_number(name)) > 0
+            || has_name(Attrs::listed(&self.attrs[self.names.len()..]), name)
     }
 
     /// Whether the names differ with one more.

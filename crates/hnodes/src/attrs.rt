@@ -1,19 +1,20 @@
 //! What is asked of the attributes of an element.
 
-ghost use Rattle.std.specs.Prelude.{◌≡◌, ◌<◌, map, nat_eq, true};
-ghost use Rattle.std.specs.Option.{option_map, option_map_or};
-ghost use Rattle.hnodes.specs.Vocabulary.{are_clean, attribute_of, attributes_of, is_present, names_differ, names_end};
+ghost use Rattle.std.specs.Prelude.{◌≡◌, ◌<◌, nat_eq, true};
+ghost use Rattle.std.specs.Option.{option_map_or};
+ghost use Rattle.hnodes.specs.Vocabulary.{are_clean, attributes_of, is_present, names_differ, names_end};
 
 use crate::attributes::{are_clean, few_differ, has_name, names_end};
+use crate::attrs_view::Attrs;
 use crate::node::{NodeData, NodeId};
 use crate::tree::Tree;
-use names::{Attr, NameId};
+use names::NameId;
 
 impl Tree {
     /// The attributes of an element.
-    pub fn attrs(&self, node: NodeId) -> Option<&[Attr]>
+    pub fn attrs(&self, node: NodeId) -> Option<Attrs>
         requires { node < self.now.made }
-        ensures { option_map (λ attrs. map attribute_of attrs.now) result ≡ attributes_of node self.now.trees }
+        ensures { result ≡ attributes_of node self.now.trees }
     {
         let (content, store) = self.content(node);
         match content {

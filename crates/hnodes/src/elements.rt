@@ -18,9 +18,9 @@ impl Tree {
         requires { node < self.now.made }
         ensures { option_map (λ value. value.now) result ≡ value_of (nat_eq name) node self.now.trees }
     {
-        for attr in self.attrs(node)? {
-            if attr.name() == name {
-                return Some(attr.value());
+        for (own, value) in self.attrs(node)? {
+            if own == name {
+                return Some(value);
             }
         }
         None

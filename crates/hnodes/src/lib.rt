@@ -3,6 +3,7 @@
 
 pub mod attributes;
 mod attrs;
+mod attrs_view;
 mod elements;
 pub mod indexed_list;
 mod laws;
@@ -15,6 +16,7 @@ mod tree;
 mod walks;
 
 pub use attributes::{FEW_ATTRIBUTES, index_attrs, is_clean, name_number};
+pub use attrs_view::Attrs;
 pub use elements::ChildElements;
 pub use indexed_list::{IndexedList, NONE};
 pub use laws::{edits_know_no_names, questions_know_no_names};

@@ -1,9 +1,11 @@
 //! Nodes and their numbers.
 
-ghost use Rattle.std.specs.Prelude.{◌≡◌, Some, None, OnOk, OnErr, IfOk, ◌++◌, ◌∷◌, [], ◌<◌, map, string_bytes};
-ghost use Rattle.hnodes.specs.Vocabulary.{attribute_of, comment, content_is, element, given_is, text, with_attribute, with_text, Holds, IsGrown, IsKept, Store};
+ghost use Rattle.std.specs.Prelude.{◌≡◌, Some, None, OnOk, OnErr, IfOk, IfSome, ◌++◌, ◌∷◌, [], ◌<◌, map, string_bytes};
+ghost use Rattle.hnodes.specs.Vocabulary.{attribute_of, attributes_in_run, comment, content_is, element, given_is, text, with_attribute, with_text};
+ghost use Rattle.hnodes.specs.Vocabulary.{AreStored, Holds, IsGrown, IsKept, Store};
 
 use crate::attributes::{FEW_ATTRIBUTES, Indexed, taken};
+use crate::attrs_view::Attrs;
 use crate::shared::{Attributes, Listed};
 use crate::store::{Run, Store};
 use names::{Attr, NameId};
@@ -170,6 +172,7 @@ pub(crate) enum Given<'a> {
     Doctype(DocumentType),
     Element(NameId, &'a mut Vec<Attr>),
     Sharing(NameId, Attributes),
+    Copied(NameId, &'a Attributes),
     Comment(String),
     Text(&'a str),
 }
@@ -188,6 +191,7 @@ pub(crate) fn content(
         Given::Doctype(texts) => Ok(NodeData::Doctype(Box::new(alloc, texts)?)),
         Given::Element(name, attrs) => element(name, attrs, store, alloc),
         Given::Sharing(name, attrs) => Ok(sharing(name, attrs)),
+        Given::Copied(name, attrs) => copied(name, attrs, store),
         Given::Comment(text) => comment(text, store, alloc),
         Given::Text(run) => text(run, store, alloc),
     }
@@ -207,12 +211,35 @@ fn element(
     if attrs.is_empty() {
         return Ok(NodeData::Element(name, Run::empty()));
     }
-    if attrs.len() <= FEW_ATTRIBUTES {
-        if let Some(run) = store.add_attrs(attrs)? {
-            return Ok(NodeData::Element(name, run));
-        }
+    if let Some(run) = stored(attrs, store)? {
+        attrs.clear();
+        return Ok(NodeData::Element(name, run));
     }
     wide(name, taken(attrs, alloc)?, alloc)
+}
+
+/// The run of attributes that are added to the store, if they are few and it has room for them.
+#[inline(always)]
+fn stored(attrs: &[Attr], store: &mut Store) -> Result<Option<Run>, AllocError>
+    ensures run { IfOk result (λ run. IfSome run (λ r. AreStored r store.new × (attributes_in_run r store.new ≡ map attribute_of attrs.now))) }
+    ensures grown { IsGrown store.old store.new }
+{
+    if attrs.len() > FEW_ATTRIBUTES {
+        return Ok(None);
+    }
+    store.add_attrs(attrs)
+}
+
+/// An element with attributes of a list that others share. A few are copied to the store.
+#[inline(always)]
+fn copied(name: NameId, attrs: &Attributes, store: &mut Store) -> Result<NodeData, AllocError>
+    ensures content { IfOk result (λ c. Holds store.new c (element name attrs.now)) }
+    ensures grown { IsGrown store.old store.new }
+{
+    match stored(attrs.as_slice(), store)? {
+        Some(run) => Ok(NodeData::Element(name, run)),
+        None => Ok(sharing(name, attrs.share()?)),
+    }
 }
 
 /// An element with an index of its attributes.
@@ -320,12 +347,12 @@ pub(crate) fn add_attr(
 }
 
 /// Copies of attributes, and one more.
-fn with(attrs: &[Attr], attr: Attr, alloc: Global) -> Result<Vec<Attr>, AllocError>
-    ensures { IfOk result (λ own. map attribute_of own.items ≡ map attribute_of attrs.now ++ attribute_of attr ∷ []) }
+fn with(attrs: Attrs, attr: Attr, alloc: Global) -> Result<Vec<Attr>, AllocError>
+    ensures { IfOk result (λ own. map attribute_of own.items ≡ attrs.entry ++ attribute_of attr ∷ []) }
 {
     let mut own = Vec::with_capacity(alloc, attrs.len())?;
-    for attr in attrs {
-        own.push(attr.copy(alloc)?)?;
+    for (name, value) in attrs {
+        own.push(Attr::new(name, value, alloc)?)?;
     }
     own.push(attr)?;
     Ok(own)

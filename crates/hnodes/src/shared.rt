@@ -7,6 +7,7 @@ ghost use Rattle.hnodes.specs.Shared.{IsFound};
 ghost use Rattle.hnodes.specs.Vocabulary.{are_clean, attribute_of, names_differ, names_end};
 
 use crate::attributes::{FEW_ATTRIBUTES, are_clean, differ, few_differ, names_end, taken};
+use crate::attrs_view::Attrs;
 use names::Attr;
 use std::alloc::{AllocError, Global};
 use std::marker::Model;
@@ -36,9 +37,9 @@ fn look_at(attrs: &[Attr], alloc: Global) -> Result<Option<Box<Found>>, AllocErr
         return Ok(None);
     }
     let found = Found {
-        differ: differ(attrs, alloc)?,
-        clean: are_clean(attrs),
-        names_end: names_end(attrs),
+        differ: differ(Attrs::listed(attrs), alloc)?,
+        clean: are_clean(Attrs::listed(attrs)),
+        names_end: names_end(Attrs::listed(attrs)),
     };
     Ok(Some(Box::new(alloc, found)?))
 }
@@ -106,13 +107,20 @@ impl Listed {
     }
 
     /// The attributes.
-    pub(crate) fn attrs(&self) -> &[Attr]
+    pub(crate) fn as_slice(&self) -> &[Attr]
         ensures { map attribute_of result.now ≡ self.now }
     {
         match &self.held {
             Held::One(attr) => slice::from_ref(attr),
             Held::Others(attrs, _) => attrs,
         }
+    }
+
+    /// The same, as a tree lends them.
+    pub(crate) fn attrs(&self) -> Attrs
+        ensures { result ≡ self.now }
+    {
+        Attrs::listed(self.as_slice())
     }
 
     /// What was found of them when they were looked at.
@@ -212,7 +220,7 @@ impl Attributes {
         ensures { map attribute_of result.now ≡ self.now }
     {
         match &self.list {
-            Some(list) => list.attrs(),
+            Some(list) => list.as_slice(),
             None => &[],
         }
     }

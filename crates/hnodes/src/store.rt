@@ -1,9 +1,10 @@
 //! The store of a tree: the bytes of its texts, and the attributes of its elements.
 
-ghost use Rattle.std.specs.Prelude.{◌≡◌, ◌≤◌, ◌+◌, ◌++◌, [], None, length, take, IfOk, IfSome, OnErr, OnOk};
-ghost use Rattle.hnodes.specs.Vocabulary.{run_in, IsGrown, IsRun, IsText};
+ghost use Rattle.std.specs.Prelude.{◌≡◌, ◌≤◌, ◌+◌, ◌++◌, [], length, map, take, IfOk, IfSome, IsTrue, OnErr, OnOk};
+ghost use Rattle.hnodes.specs.Vocabulary.{attribute_of, attributes_in_run, run_in, Adds, AreStored, IsGrown, IsLonger, IsText};
 
-use names::Attr;
+use crate::attrs_view::Attrs;
+use names::{Attr, NameId};
 use std::alloc::{AllocError, Global};
 use std::marker::Model;
 
@@ -53,6 +54,15 @@ impl Run {
     }
 }
 
+/// An attribute whose value is in a store.
+#[derive(Clone, Copy)]
+pub(crate) struct StoredAttr {
+    pub(crate) name: NameId,
+    pub(crate) value: Run,
+}
+
+const _: () = prove!(std::mem::size_of::<StoredAttr>() == 12);
+
 /// So many bytes are filled beyond the texts at a time.
 const SPARE: usize = 1024;
 
@@ -94,11 +104,24 @@ impl Texts {
 
     /// The text of a run.
     #[inline(always)]
-    fn get(&self, run: Run) -> &str
+    pub(crate) fn get(&self, run: Run) -> &str
         requires { IsText run self.now }
         ensures { result.now ≡ run_in run self.now }
     {
         unsafe { str::from_utf8_unchecked(&self.filled[run.start()..run.end()]) }
+    }
+
+    /// Adds a text, and gives its run, unless that has no number.
+    #[inline(always)]
+    fn add(&mut self, text: &str) -> Result<Option<Run>, AllocError>
+        ensures run { IfOk result (λ run. IfSome run (λ r. IsText r self.new × (run_in r self.new ≡ text.now))) }
+        ensures grown { IsLonger self.old self.new }
+    {
+        let run = Run::of(self.len(), text.len());
+        if run.is_some() {
+            self.push(text)?;
+        }
+        Ok(run)
     }
 
     /// Adds a text at the end. On an error nothing changes.
@@ -142,7 +165,7 @@ fn fill_up(filled: &mut Vec<u8>, end: usize) -> Result<(), AllocError>
 #[derive(Drop)]
 pub(crate) struct Store {
     texts: Texts,
-    attrs: Vec<Attr>,
+    attrs: Vec<StoredAttr>,
 }
 
 impl Store {
@@ -165,11 +188,11 @@ impl Store {
 
     /// The attributes of a run.
     #[inline(always)]
-    pub(crate) fn attrs(&self, run: Run) -> &[Attr]
-        requires { IsRun run self.now.attrs.items }
-        ensures { result.now ≡ run_in run self.now.attrs.items }
+    pub(crate) fn attrs(&self, run: Run) -> Attrs
+        requires { AreStored run self.now }
+        ensures { result ≡ attributes_in_run run self.now }
     {
-        &self.attrs[run.start()..run.end()]
+        Attrs::stored(&self.attrs[run.start()..run.end()], &self.texts)
     }
 
     /// Adds a text, and gives its run, unless that has no number.
@@ -178,25 +201,37 @@ impl Store {
         ensures run { IfOk result (λ run. IfSome run (λ r. IsText r self.new.texts × (run_in r self.new.texts ≡ text.now))) }
         ensures grown { IsGrown self.old self.new }
     {
-        let run = Run::of(self.texts.len(), text.len());
-        if run.is_some() {
-            self.texts.push(text)?;
-        }
-        Ok(run)
+        self.texts.add(text)
     }
 
-    /// Moves attributes here, and gives their run, unless that has no number: then they stay.
+    /// Adds attributes at the end, and says whether each of their values has a run.
+    fn push_attrs(&mut self, attrs: &[Attr]) -> Result<bool, AllocError>
+        ensures added { IfOk result (λ all. IsTrue all → Adds (map attribute_of attrs.now) self.old self.new) }
+        ensures grown { IsGrown self.old self.new }
+    {
+        for attr in attrs {
+            let Some(value) = self.texts.add(attr.value())? else {
+                return Ok(false);
+            };
+            self.attrs.push(StoredAttr {
+                name: attr.name(),
+                value,
+            })?;
+        }
+        Ok(true)
+    }
+
+    /// Adds attributes, and gives their run, unless that has no number.
     #[inline(always)]
-    pub(crate) fn add_attrs(&mut self, attrs: &mut Vec<Attr>) -> Result<Option<Run>, AllocError>
-        ensures run { IfOk result (λ run. IfSome run (λ r. IsRun r self.new.attrs.items × (run_in r self.new.attrs.items ≡ attrs.old.items))) }
-        ensures none { result ≡ Ok None → attrs.new.items ≡ attrs.old.items }
+    pub(crate) fn add_attrs(&mut self, attrs: &[Attr]) -> Result<Option<Run>, AllocError>
+        ensures run { IfOk result (λ run. IfSome run (λ r. AreStored r self.new × (attributes_in_run r self.new ≡ map attribute_of attrs.now))) }
         ensures grown { IsGrown self.old self.new }
     {
         let run = Run::of(self.attrs.len(), attrs.len());
-        if run.is_some() {
-            self.attrs.append(attrs)?;
+        if run.is_some() && self.push_attrs(attrs)? {
+            return Ok(run);
         }
-        Ok(run)
+        Ok(None)
     }
 
     /// Adds a text at the end of another, if that is the last one, and gives the longer run, unless that has no number.

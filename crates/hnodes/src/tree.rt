@@ -168,6 +168,19 @@ impl Tree {
         self.make(Given::Sharing(name, attrs), at)
     }
 
+    /// Makes an element of attributes that others share, loose. A few are copied.
+    #[inline(always)]
+    pub fn create_copying(
+        &mut self,
+        name: NameId,
+        attrs: &Attributes,
+        at: u64,
+    ) -> Result<NodeId, Refusal>
+        ensures { Makes (element name attrs.now) at self.old self.new result }
+    {
+        self.make(Given::Copied(name, attrs), at)
+    }
+
     /// Makes a comment, loose.
     pub fn create_comment(&mut self, text: String, at: u64) -> Result<NodeId, Refusal>
         ensures { Makes (comment (string_bytes text)) at self.old self.new result }

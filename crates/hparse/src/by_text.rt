@@ -3,13 +3,13 @@
 ghost use Rattle.std.specs.Prelude.{◌≡◌, ◌<◌, ℕ, List, [], false, map, unwrap_or};
 ghost use Rattle.std.specs.Iterator.{YieldsFirstBy, item_count};
 ghost use Rattle.std.specs.Option.{option_map, option_map_or};
-ghost use Rattle.hnodes.specs.Vocabulary.{attribute_of, attributes_of, node_name, mapped_attribute, value_of, Attribute};
+ghost use Rattle.hnodes.specs.Vocabulary.{attributes_of, node_name, mapped_attribute, value_of, Attribute};
 ghost use Rattle.names.specs.Names.{text_of};
 ghost use Rattle.hparse.specs.ByText.{stands_for};
 
 use crate::parsed::Parsed;
-use hnodes::NodeId;
-use names::{Attr, Names};
+use hnodes::{Attrs, NodeId};
+use names::Names;
 use std::marker::Model;
 
 impl Parsed {
@@ -27,7 +27,7 @@ impl Parsed {
         requires { node < self.now.tree.made }
         ensures { result ≡ map (mapped_attribute (text_of self.now.names)) (unwrap_or (attributes_of node self.now.tree.trees) []) }
     {
-        let attrs = self.tree.attrs(node).unwrap_or(&[]);
+        let attrs = self.tree.attrs(node).unwrap_or(Attrs::empty());
         AttributeTexts {
             names: &self.names,
             attrs,
@@ -50,13 +50,13 @@ impl Parsed {
 #[derive(Drop)]
 pub struct AttributeTexts<'a> {
     names: &'a Names,
-    attrs: &'a [Attr],
+    attrs: Attrs<'a>,
 }
 
 impl<'a> Model for AttributeTexts<'a> {
     ghost Value = { List (Attribute (List ℕ)) };
 
-    ghost view = { λ s. map (mapped_attribute (text_of s.names.now)) (map attribute_of s.attrs.now) };
+    ghost view = { λ s. map (mapped_attribute (text_of s.names.now)) s.attrs };
 }
 
 impl<'a> Iterator for AttributeTexts<'a> {
@@ -67,8 +67,9 @@ impl<'a> Iterator for AttributeTexts<'a> {
     ghost remaining = { item_count (λ s. s) };
 
     fn next(&mut self) -> Option<(&'a str, &'a str)> {
-        let (attr, rest) = self.attrs.split_first()?;
-        self.attrs = rest;
-        Some((self.names.text(attr.name()), attr.value()))
+        match self.attrs.next() {
+            Some((name, value)) => Some((self.names.text(name), value)),
+            None => None,
+        }
     }
 }

@@ -1,9 +1,7 @@
 -- Attributes in the order of their names.
-use Rattle.hserialize.proofs.Names.{◌≡◌, ℕ, suc, ◌+◌, ◌<◌, Bool, true, false, cond, List, [], ◌∷◌, ◌++◌, get_or, drop, map, length, refl, sym, ◌∙◌, ap, subst, arith, AllByRecursion, filter, IsStableBy, ties, IsStrictWeakOrder, Attribute, attribute_of, AreEntriesNumbered, pair_of, in_order, length-append, replicate, cond_both, get_or_append_left, get_or_default, All, IsPermutation, IsSorted, IsTotalOrder, attribute_put_in}
+use Rattle.hserialize.proofs.Names.{◌≡◌, ℕ, suc, ◌+◌, ◌<◌, Bool, true, false, cond, List, [], ◌∷◌, get_or, map, length, refl, sym, ◌∙◌, ap, arith, AllByRecursion, filter, IsStableBy, ties, IsStrictWeakOrder, AreEntriesNumbered, pair_of, in_order, replicate, cond_both, get_or_default, All, IsPermutation, IsSorted, IsTotalOrder, attribute_put_in}
 use Rattle.std.proofs.lemmas.Bool.Decides.{nat_tests}
 use Rattle.std.proofs.lemmas.List.Elements.{recursion_from_All}
-use Rattle.std.proofs.Math.Seq.{get_or-append_seam}
-use Rattle.std.proofs.Math.Decide.{dec_lt}
 use Rattle.std.proofs.lemmas.List.Sorted.{ranks_by, All-permutation, sum_by-IsPermutation}
 use Rattle.std.proofs.lemmas.List.Sums.{length-filter}
 use Rattle.std.proofs.lemmas.Cmp.{nat_cmp_total, nat_list_cmp_total, on_total, then_total, ranked}
@@ -12,8 +10,6 @@ use Rattle.std.specs.Cmp.Lexicographic.{slice_cmp}
 use Rattle.std.specs.Ordering.{nat_cmp, is_lt, ordering_reverse, ordering_then}
 use Rattle.std.specs.declared.cmp.Ordering.{Ordering}
 use Rattle.std.specs.declared.cmp.Ordering.TheVariants.{Less, Equal, Greater}
-use Rattle.names.specs.declared.attr.Attr.{Attr}
-use Rattle.hserialize.proofs.Attributes.{dropped}
 use Rattle.hserialize.proofs.Sorting.{put, inserted, parts, sorted-is}
 
 abbrev pub Entry : Type 0
@@ -106,32 +102,3 @@ inserted_pairs k (a ∷ es) h =
 pub ordered : (xs ys : List Entry) → AreEntriesNumbered xs → IsPermutation xs ys → IsSorted compare ys → map pair_of ys ≡ in_order (map pair_of xs)
 ordered xs ys numbered moved up =
     ap (map pair_of) (sorted-is is_less entries_order xs ys up (settled xs ys numbered moved)) ∙ inserted_pairs 0 xs (λ i d p. let at = numbered i d p in omega (arith, at))
-
--- one entry more
-pub one_longer : (es new : List Entry) (e : Entry) (n : ℕ) → new ≡ es ++ e ∷ [] → length es ≡ n → length new ≡ n + 1
-one_longer es new e n is many = ap length is ∙ length-append es (e ∷ []) ∙ ap (λ k. k + 1) many
-
-pub one_numbered : (es new : List Entry) (e : Entry) → AreEntriesNumbered es → e.1 ≡ length es → new ≡ es ++ e ∷ [] → AreEntriesNumbered new
-one_numbered es new e numbered at is = subst AreEntriesNumbered (sym is) go
-  where
-    go : AreEntriesNumbered (es ++ e ∷ [])
-    go i d inside =
-        elim (dec_lt i (length es)) [
-          | yes before ↦ ap (λ (x : Entry). x.1) (get_or_append_left es (e ∷ []) d i before) ∙ numbered i d before
-          | no last ↦
-              let here : i ≡ length es = let long = length-append es (e ∷ []) in omega (arith, long) in
-              ap (λ n. (get_or (es ++ e ∷ []) n d).1) here ∙ ap (λ (x : Entry). x.1) (get_or-append_seam es e [] d) ∙ at ∙ sym here
-        ]
-
--- one pair more
-pub one-more : (f : Attribute ℕ → Attribute (List ℕ)) (attrs : List Attr) (i : ℕ) (x : Attr) (pairs new : List Entry) (p : Entry) (all : List (Attribute (List ℕ))) → i < length attrs → x ≡ get_or attrs i x
-    → new ≡ pairs ++ p ∷ [] → pair_of p ≡ f (attribute_of x) → map pair_of pairs ++ map f (map attribute_of (drop i attrs)) ≡ all → map pair_of new ++ map f (map attribute_of (drop (i + 1) attrs)) ≡ all
-one-more f attrs i x pairs new p all h is e same before =
-    ap (λ l. map pair_of l ++ rest) e ∙ moved pairs ∙ ap (λ a. map pair_of pairs ++ a ∷ rest) same ∙ ap (λ (l : List Attr). map pair_of pairs ++ map f (map attribute_of l)) (sym (dropped attrs i x h is)) ∙ before
-  where
-    rest : List (Attribute (List ℕ))
-    rest = map f (map attribute_of (drop (i + 1) attrs))
-
-    moved : (ps : List Entry) → map pair_of (ps ++ p ∷ []) ++ rest ≡ map pair_of ps ++ pair_of p ∷ rest
-    moved [] = refl
-    moved (q ∷ ps) = ap (λ l. pair_of q ∷ l) (moved ps)

@@ -3,13 +3,13 @@
 ghost use Rattle.std.specs.Prelude.{◌≡◌, ◌++◌, ◌<◌, ◌≤◌, ◌^◌, ◌&&◌, ℕ, codes, flat_map, length, map, vec_capacity, OnOk};
 ghost use Rattle.std.specs.List.{repeat};
 ghost use Rattle.std.specs.String.{string_bytes};
-ghost use Rattle.hserialize.specs.Vocabulary.{text_of, children_of, element, attribute_of, what_of, mapped, mapped_what, pair_of, indented, attribute_line, identifiers, node_lines, error_lines, tree_text, HoldsBytes, IsFlushed, Puts, WritesText, written_so_far, attribute_count, printed_lines, is_empty};
+ghost use Rattle.hserialize.specs.Vocabulary.{text_of, children_of, element, what_of, mapped, mapped_what, pair_of, indented, attribute_line, identifiers, node_lines, error_lines, tree_text, HoldsBytes, IsFlushed, Puts, WritesText, written_so_far, attribute_count, printed_lines, is_empty};
 
 use crate::error_line::{ErrorLine, put_error};
 use crate::sorted::{NamedAttr, in_order};
 use crate::{Gathered, NodeView, Reach, Target, TreeWalk, Visit, Writer, put, put_parts, room};
-use hnodes::{DocumentType, NodeId, Tree};
-use names::{Attr, NameId, Names, ParseError, Refusal};
+use hnodes::{Attrs, DocumentType, NodeId, Tree};
+use names::{NameId, Names, ParseError, Refusal};
 use std::alloc::Global;
 
 /// Begins a line at a depth.
@@ -60,12 +60,12 @@ fn put_element<'a, W: Target>(
     names: &'a Names,
     depth: usize,
     name: NameId,
-    attrs: &'a [Attr],
+    attrs: Attrs<'a>,
 ) -> Result<(), Refusal>
     requires deep { depth < 2 ^ 33 }
-    requires room { length attrs.now ≤ vec_capacity entries.old }
+    requires room { length attrs ≤ vec_capacity entries.old }
     ensures text { Puts (written_so_far W.written W.failed out.old) (written_so_far W.written W.failed out.new)
-        (node_lines depth (mapped_what (text_of names.now) (element name (map attribute_of attrs.now)))) result }
+        (node_lines depth (mapped_what (text_of names.now) (element name attrs.entry))) result }
     ensures room { vec_capacity entries.old ≤ vec_capacity entries.new }
 {
     put_line(out, depth, &[b"<", names.text(name).as_bytes(), b">"])?;

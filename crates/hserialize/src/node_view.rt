@@ -3,27 +3,28 @@
 ghost use Rattle.std.specs.Prelude.{◌≡◌, ◌<◌, Some};
 ghost use Rattle.hserialize.specs.Vocabulary.{what_of, what_is};
 
-use hnodes::{DocumentType, NodeId, NodeKind, Tree};
-use names::{Attr, NameId};
+use hnodes::{Attrs, DocumentType, NodeId, NodeKind, Tree};
+use names::NameId;
 
 /// What a node is, as its tree lends it.
-#[derive(Clone, Copy)]
+#[derive(Drop)]
 pub enum NodeView<'a> {
     Document,
     Doctype(&'a DocumentType),
-    Element(NameId, &'a [Attr]),
+    Element(NameId, Attrs<'a>),
     Comment(&'a str),
     Text(&'a str),
 }
 
 impl<'a> NodeView<'a> {
     /// What a node of a tree is.
+    #[inline(always)]
     pub fn of(tree: &'a Tree, node: NodeId) -> NodeView<'a>
         requires { node < tree.now.made }
         ensures { Some (what_is result) ≡ what_of node tree.now.trees }
     {
         if let Some(name) = tree.name(node) {
-            return NodeView::Element(name, tree.attrs(node).unwrap_or(&[]));
+            return NodeView::Element(name, tree.attrs(node).unwrap_or(Attrs::empty()));
         }
         if let Some(texts) = tree.doctype(node) {
             return NodeView::Doctype(texts);

@@ -2,7 +2,7 @@
 
 ghost use Rattle.std.specs.Prelude.{◌≡◌, ◌<◌, ◌&&◌, ◌||◌, IfSome, Some, false, map};
 ghost use Rattle.std.specs.List.{list_all};
-ghost use Rattle.hserialize.specs.Vocabulary.{text_of, has_plain_name, are_clean, tag_of, children_of, attribute_of, mapped, mapped_attribute, attributes_of, first_child_of, parent_of, are_plain_attributes, is_form, is_plain, drops_line_feed, are_region_content, form_after, in_region, tag_at, standing_of, inside_is, is_phrasing, is_text_at, begins_at, is_plain_element, is_plain_at, after_visit, visited_node};
+ghost use Rattle.hserialize.specs.Vocabulary.{text_of, has_plain_name, are_clean, tag_of, children_of, mapped, mapped_attribute, attributes_of, first_child_of, parent_of, are_plain_attributes, is_form, is_plain, drops_line_feed, are_region_content, form_after, in_region, tag_at, standing_of, inside_is, is_phrasing, is_text_at, begins_at, is_plain_element, is_plain_at, after_visit, visited_node};
 
 use crate::around::{Around, Standing};
 use crate::content::Content;
@@ -10,8 +10,8 @@ use crate::content_rows::row;
 use crate::plain_names::PlainNames;
 use crate::plain_texts::{begins_with, is_plain_comment, is_plain_text};
 use crate::{NodeView, Reach, TreeWalk, Visit, inserts_marker};
-use hnodes::{NodeId, NodeKind, Tree};
-use names::{Attr, NameId, Names, Tag};
+use hnodes::{Attrs, NodeId, NodeKind, Tree};
+use names::{NameId, Names, Tag};
 
 /// The known name of an element; `Tag::Other` for another node.
 fn tag_at(tree: &Tree, node: NodeId) -> Tag
@@ -68,10 +68,10 @@ fn drops_line_feed(tag: Tag) -> bool
 }
 
 /// Whether each attribute of an element is plain by itself.
-fn all_plain_attributes(tree: &Tree, names: &PlainNames, node: NodeId, attrs: &[Attr]) -> bool
+fn all_plain_attributes(tree: &Tree, names: &PlainNames, node: NodeId, attrs: Attrs) -> bool
     requires made { node < tree.now.made }
-    requires own { attributes_of node tree.now.trees ≡ Some (map attribute_of attrs.now) }
-    ensures { result ≡ (list_all (has_plain_name (text_of names.now)) (map attribute_of attrs.now) && are_clean (map attribute_of attrs.now)) }
+    requires own { attributes_of node tree.now.trees ≡ Some attrs }
+    ensures { result ≡ (list_all (has_plain_name (text_of names.now)) attrs.entry && are_clean attrs.entry) }
 {
     names.are_plain(tree.attr_names_end(node), attrs) && tree.attrs_clean(node)
 }
@@ -81,11 +81,11 @@ pub(crate) fn are_plain_attributes(
     tree: &Tree,
     names: &PlainNames,
     node: NodeId,
-    attrs: &[Attr],
+    attrs: Attrs,
 ) -> bool
     requires made { node < tree.now.made }
-    requires own { attributes_of node tree.now.trees ≡ Some (map attribute_of attrs.now) }
-    ensures { result ≡ are_plain_attributes (map (mapped_attribute (text_of names.now)) (map attribute_of attrs.now)) }
+    requires own { attributes_of node tree.now.trees ≡ Some attrs }
+    ensures { result ≡ are_plain_attributes (map (mapped_attribute (text_of names.now)) attrs.entry) }
 {
     prove!(names.are_names());
     all_plain_attributes(tree, names, node, attrs) && tree.attrs_differ(node)
@@ -98,11 +98,11 @@ fn is_plain_element(
     standing: Standing,
     node: NodeId,
     name: NameId,
-    attrs: &[Attr],
+    attrs: Attrs,
 ) -> bool
     requires made { node < tree.now.made }
-    requires own { attributes_of node tree.now.trees ≡ Some (map attribute_of attrs.now) }
-    ensures { result ≡ is_plain_element (text_of names.now) (inside_is standing) (tag_of name) (map attribute_of attrs.now)
+    requires own { attributes_of node tree.now.trees ≡ Some attrs }
+    ensures { result ≡ is_plain_element (text_of names.now) (inside_is standing) (tag_of name) attrs.entry
         (begins_at (first_child_of node tree.now.trees) tree.now.trees) }
 {
     let tag = name.tag();

@@ -1,7 +1,7 @@
 //! Whether a document is plain.
 
-ghost use Rattle.std.specs.Prelude.{◌≡◌, ◌<◌, IfSome, Some, map};
-ghost use Rattle.hserialize.specs.Vocabulary.{are_in_html, attribute_of, attributes_of, body_on, children_of, html_on, is_head_at, is_last_at, is_leaf_at, is_metadata, is_metadata_at, is_metadata_what, is_named_what, is_plain_doctype_at, is_plain_document, is_text_alone, mapped, text_of, trees_from, what_of, element, ArePassed, IsDoctypePassed};
+ghost use Rattle.std.specs.Prelude.{◌≡◌, ◌<◌, IfSome, Some};
+ghost use Rattle.hserialize.specs.Vocabulary.{are_in_html, attributes_of, body_on, children_of, html_on, is_head_at, is_last_at, is_leaf_at, is_metadata, is_metadata_at, is_metadata_what, is_named_what, is_plain_doctype_at, is_plain_document, is_text_alone, mapped, text_of, trees_from, what_of, element, ArePassed, IsDoctypePassed};
 
 use crate::NodeView;
 use crate::content::Texts;
@@ -9,8 +9,8 @@ use crate::content_rows::row;
 use crate::plain::{are_plain_attributes, is_plain_list, is_text};
 use crate::plain_names::PlainNames;
 use crate::plain_texts::{is_plain_comment, is_plain_text};
-use hnodes::{NodeId, Tree};
-use names::{Attr, NameId, Names, Tag};
+use hnodes::{Attrs, NodeId, Tree};
+use names::{NameId, Names, Tag};
 
 /// Whether a node is a plain comment, or a plain text that may be where these may, before its siblings.
 fn is_leaf(tree: &Tree, allowed: Texts, node: NodeId) -> bool
@@ -136,11 +136,11 @@ fn is_metadata_element(
     names: &PlainNames,
     node: NodeId,
     name: NameId,
-    attrs: &[Attr],
+    attrs: Attrs,
 ) -> bool
     requires made { node < tree.now.made }
-    requires own { attributes_of node tree.now.trees ≡ Some (map attribute_of attrs.now) }
-    ensures { result ≡ is_metadata_what (text_of names.now) node tree.now.trees (Some (element name (map attribute_of attrs.now))) }
+    requires own { attributes_of node tree.now.trees ≡ Some attrs }
+    ensures { result ≡ is_metadata_what (text_of names.now) node tree.now.trees (Some (element name attrs.entry)) }
 {
     let tag = name.tag();
     is_metadata(tag)

@@ -1,11 +1,12 @@
 //! Names of attributes that are plain.
 
-ghost use Rattle.std.specs.Prelude.{◌≡◌, map, true};
+ghost use Rattle.std.specs.Prelude.{◌≡◌, true};
 ghost use Rattle.std.specs.List.{list_all};
 ghost use Rattle.names.specs.Names.{AreNames};
-ghost use Rattle.hserialize.specs.Vocabulary.{attribute_of, has_plain_name, is_name_byte, is_plain_name, names_end, text_of, ArePlainTo};
+ghost use Rattle.hserialize.specs.Vocabulary.{has_plain_name, is_name_byte, is_plain_name, names_end, text_of, ArePlainTo};
 
-use names::{Attr, NameId, Names};
+use hnodes::Attrs;
+use names::{NameId, Names};
 use std::marker::Model;
 
 /// Whether a byte may be in the name of an attribute.
@@ -97,19 +98,22 @@ impl<'a> PlainNames<'a> {
     }
 
     /// Whether the names of all these attributes, whose numbers end here, are plain.
-    pub(crate) fn are_plain(&self, end: usize, attrs: &[Attr]) -> bool
-        requires { end ≡ names_end (map attribute_of attrs.now) }
-        ensures { result ≡ list_all (has_plain_name (text_of self.now)) (map attribute_of attrs.now) }
+    pub(crate) fn are_plain(&self, end: usize, attrs: Attrs) -> bool
+        requires { end ≡ names_end attrs }
+        ensures { result ≡ list_all (has_plain_name (text_of self.now)) attrs.entry }
     {
         end <= self.end || have_plain_names(self.names, attrs)
     }
 }
 
 /// Whether the names of all these attributes are plain.
-fn have_plain_names(names: &Names, attrs: &[Attr]) -> bool
-    ensures { result ≡ list_all (has_plain_name (text_of names.now)) (map attribute_of attrs.now) }
+fn have_plain_names(names: &Names, attrs: Attrs) -> bool
+    ensures { result ≡ list_all (has_plain_name (text_of names.now)) attrs.entry }
 {
-    attrs
-        .iter()
-        .all(|attr| is_plain_name(names.text(attr.name())))
+    for (name, _) in attrs {
+        if !is_plain_name(names.text(name)) {
+            return false;
+        }
+    }
+    true
 }

@@ -2,7 +2,7 @@
 
 ghost use Rattle.std.specs.Prelude.{◌≡◌, ◌<◌, map, Some, OnOk};
 ghost use Rattle.std.specs.Option.{option_map};
-ghost use Rattle.hserialize.specs.Vocabulary.{text_of, children_of, tree_at, attribute_of, mapped, mapped_attribute, node_name, what_of, HoldsBytes, IsFlushed, Puts, WritesText, written_so_far, attribute_text, start_tag_text, written, written_among, has_no_references, holds_raw, raw_kind, stands_raw, name_around, opening_of, closing_of, Text};
+ghost use Rattle.hserialize.specs.Vocabulary.{text_of, children_of, tree_at, mapped, mapped_attribute, node_name, what_of, HoldsBytes, IsFlushed, Puts, WritesText, written_so_far, attribute_text, start_tag_text, written, written_among, has_no_references, holds_raw, raw_kind, stands_raw, name_around, opening_of, closing_of, Text};
 
 use crate::escaped::put_escaped;
 use crate::escaping::{Escaping, Setting};
@@ -11,8 +11,8 @@ use crate::node_view::NodeView;
 use crate::target::Target;
 use crate::walk::{Reach, TreeWalk, Visit, goes_in};
 use crate::writer::{Writer, put, put_before, put_between, room};
-use hnodes::{NodeId, Tree};
-use names::{Attr, NameId, Names, RawKind, Refusal, Tag};
+use hnodes::{Attrs, NodeId, Tree};
+use names::{NameId, Names, RawKind, Refusal, Tag};
 use std::alloc::Global;
 
 /// Writes an attribute.
@@ -36,14 +36,14 @@ fn put_start_tag<W: Target>(
     escaping: Escaping,
     names: &Names,
     name: NameId,
-    attrs: &[Attr],
+    attrs: Attrs,
 ) -> Result<(), Refusal>
     ensures { Puts (written_so_far W.written W.failed out.old) (written_so_far W.written W.failed out.new)
-        (start_tag_text escaping (text_of names.now name) (map (mapped_attribute (text_of names.now)) (map attribute_of attrs.now))) result }
+        (start_tag_text escaping (text_of names.now name) (map (mapped_attribute (text_of names.now)) attrs.entry)) result }
 {
     put_before(out, b"<", names.text(name))?;
-    for attr in attrs {
-        put_attribute(out, escaping, names.text(attr.name()), attr.value())?;
+    for (name, value) in attrs {
+        put_attribute(out, escaping, names.text(name), value)?;
     }
     put(out, b">")
 }

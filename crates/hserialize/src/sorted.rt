@@ -1,9 +1,10 @@
 //! Attributes in the order of their names.
 
 ghost use Rattle.std.specs.Prelude.{◌≡◌, ◌<◌, ◌≤◌, [], ◌∷◌, ◌++◌, length, map, vec_capacity};
-ghost use Rattle.hserialize.specs.Vocabulary.{text_of, attribute_of, mapped_attribute, AreEntriesNumbered, pair_of, in_order};
+ghost use Rattle.hserialize.specs.Vocabulary.{text_of, mapped_attribute, AreEntriesNumbered, pair_of, in_order};
 
-use names::{Attr, Names};
+use hnodes::Attrs;
+use names::Names;
 
 /// An attribute: the text of its name, its place among those of its element, and its value.
 pub(crate) type NamedAttr<'a> = (&'a str, usize, &'a str);
@@ -19,23 +20,23 @@ fn add<'a>(entries: &mut Vec<NamedAttr<'a>>, added: NamedAttr<'a>)
 }
 
 /// Makes these the attributes, as they are.
-fn enter<'a>(entries: &mut Vec<NamedAttr<'a>>, names: &'a Names, attrs: &'a [Attr])
-    requires { length attrs.now ≤ vec_capacity entries.old }
-    ensures pairs { map pair_of entries.new.items ≡ map (mapped_attribute (text_of names.now)) (map attribute_of attrs.now) }
+fn enter<'a>(entries: &mut Vec<NamedAttr<'a>>, names: &'a Names, attrs: Attrs<'a>)
+    requires { length attrs ≤ vec_capacity entries.old }
+    ensures pairs { map pair_of entries.new.items ≡ map (mapped_attribute (text_of names.now)) attrs.entry }
     ensures places { AreEntriesNumbered entries.new.items }
     ensures room { vec_capacity entries.old ≤ vec_capacity entries.new }
 {
     entries.clear();
-    for attr in attrs {
+    for (name, value) in attrs {
         let place = entries.len();
-        add(entries, (names.text(attr.name()), place, attr.value()));
+        add(entries, (names.text(name), place, value));
     }
 }
 
 /// Makes these the attributes in the order of the names' bytes; those of one name stay as they are. No memory is taken.
-pub(crate) fn in_order<'a>(entries: &mut Vec<NamedAttr<'a>>, names: &'a Names, attrs: &'a [Attr])
-    requires { length attrs.now ≤ vec_capacity entries.old }
-    ensures pairs { map pair_of entries.new.items ≡ in_order (map (mapped_attribute (text_of names.now)) (map attribute_of attrs.now)) }
+pub(crate) fn in_order<'a>(entries: &mut Vec<NamedAttr<'a>>, names: &'a Names, attrs: Attrs<'a>)
+    requires { length attrs ≤ vec_capacity entries.old }
+    ensures pairs { map pair_of entries.new.items ≡ in_order (map (mapped_attribute (text_of names.now)) attrs.entry) }
     ensures room { vec_capacity entries.old ≤ vec_capacity entries.new }
 {
     enter(entries, names, attrs);

@@ -2,14 +2,14 @@
 
 ghost use Rattle.std.specs.Prelude.{◌≡◌, ◌<◌, ◌≤◌, ◌⊎◌, true, length, flat_map, map, IfErr, MatchResult};
 ghost use Rattle.names.specs.Names.{text_of};
-ghost use Rattle.html_c.specs.Vocabulary.{Memory, PutsAt, greatest, attribute_of, mapped_attribute, what_of, attribute_words, ended, kind_number, link_to, parsed_rows, parsed_words, put_over, row_at, words_at};
+ghost use Rattle.html_c.specs.Vocabulary.{Memory, PutsAt, greatest, mapped_attribute, what_of, attribute_words, ended, kind_number, link_to, parsed_rows, parsed_words, put_over, row_at, words_at};
 
 use crate::answer::NodeRow;
 use crate::room::{put_at, put_one};
-use hnodes::{NodeId, NodeKind, Tree};
+use hnodes::{Attrs, NodeId, NodeKind, Tree};
 use hparse::Parsed;
 use hserialize::NodeView;
-use names::{Attr, Names, Refusal};
+use names::{Names, Refusal};
 
 /// What ends a word, and what ends the words of a node. Neither is in a UTF-8 text.
 const WORD_END: u8 = 0xFF;
@@ -27,13 +27,13 @@ fn put_word(word: &str, room: &mut [u8], at: usize) -> usize
 
 /// Puts the words of attributes.
 #[inline(always)]
-fn put_attributes(names: &Names, attrs: &[Attr], room: &mut [u8], at: usize) -> usize
-    ensures { PutsAt at (flat_map attribute_words (map (mapped_attribute (text_of names.now)) (map attribute_of attrs.now))) room.old room.new result }
+fn put_attributes(names: &Names, attrs: Attrs, room: &mut [u8], at: usize) -> usize
+    ensures { PutsAt at (flat_map attribute_words (map (mapped_attribute (text_of names.now)) attrs.entry)) room.old room.new result }
 {
     let mut at = at;
-    for attr in attrs {
-        let end = put_word(names.text(attr.name()), room, at);
-        at = put_word(attr.value(), room, end);
+    for (name, value) in attrs {
+        let end = put_word(names.text(name), room, at);
+        at = put_word(value, room, end);
     }
     at
 }

@@ -1,7 +1,9 @@
-use Rattle.hnodes.proofs.Names.{◌≡◌}
-use Rattle.hnodes.proofs.Differing.{differ_from}
+use Rattle.hnodes.proofs.Names.{◌≡◌, length, names_differ, nat_eq}
 use Rattle.hnodes.proofs.attributes.few_differ.Given as goal
 
 -- the names differ if those of the rest do
-abbrev pub invariant-loop-index : goal.invariant-loop-index
-invariant-loop-index l = differ_from l.index l.attrs ≡ differ_from 0 l.attrs
+abbrev pub invariant-loop-name : goal.invariant-loop-name
+invariant-loop-name l = names_differ nat_eq l.attrs ≡ names_differ nat_eq l.fn.attrs
+
+abbrev pub decreases-loop-name : goal.decreases-loop-name
+decreases-loop-name l = length l.attrs

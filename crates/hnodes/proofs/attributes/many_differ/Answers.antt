@@ -1,4 +1,4 @@
-use Rattle.hnodes.proofs.Names.{◌∙◌, ap, subst, rules, take_all, names_of}
+use Rattle.hnodes.proofs.Names.{◌≡◌, subst, rules, names_of}
 use Rattle.std.specs.List.Sorted.{IsPermutation}
 use Rattle.std.proofs.lemmas.Fn.{always_returns_same}
 use Rattle.std.proofs.lemmas.List.Sorted.{IsNonDecreasingBy-from_sort}
@@ -9,7 +9,7 @@ use Rattle.hnodes.proofs.attributes.many_differ.Goals as goal
 pub returns : goal.returns
 returns c =
     let sorted = c.sort_unstable.new.self.items in
-    let all = c.loop-attr.invariant ∙ ap names_of (take_all c.loop-attr.attr-index c.args.attrs.now c.loop-attr-test.false) in
-    differ-is c.args.attrs.now sorted c.is_sorted_by.result (subst (λ xs. IsPermutation xs sorted) all c.sort_unstable.ensures.permutation)
+    let all : c.loop-name.names.items ≡ names_of c.args.attrs = search rules in
+    differ-is c.args.attrs sorted c.is_sorted_by.result (subst (λ xs. IsPermutation xs sorted) all c.sort_unstable.ensures.permutation)
     (IsNonDecreasingBy-from_sort (λ n. n) sorted c.sort_unstable.ensures.sorted)
     (rw (← c.deref.ensures.value) (rising c.deref.result.now c.is_sorted_by.result (c.is_sorted_by.ensures.cases ltb (always_returns_same _ _ _ (λ a r q k. search rules)))))

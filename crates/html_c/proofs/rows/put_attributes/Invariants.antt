@@ -1,7 +1,11 @@
-use Rattle.html_c.proofs.Names.{PutsAt, flat_map, map, take, text_of}
-use Rattle.html_c.specs.Vocabulary.{attribute_of, attribute_words, mapped_attribute}
+use Rattle.html_c.proofs.Names.{ℕ, List, PutsAt, flat_map, map, text_of}
+use Rattle.html_c.specs.Vocabulary.{attribute_words, mapped_attribute}
 use Rattle.html_c.proofs.rows.put_attributes.Given as goal
 
-abbrev pub invariant-loop-attr : goal.invariant-loop-attr
-invariant-loop-attr l =
-    PutsAt l.initial.at (flat_map attribute_words (map (mapped_attribute (text_of l.names)) (map attribute_of (take l.attr-index l.attrs)))) l.initial.room l.room l.at
+-- whatever puts the words of the attributes that are left has then put those of all
+abbrev pub invariant-loop-name : goal.invariant-loop-name
+invariant-loop-name l =
+    (goal.iterator-loop-name).can_next l.name-iterator ×
+    (goal.iterator-loop-name).is_finite l.name-iterator ×
+    ((new : List ℕ) (next : ℕ) → PutsAt l.at (flat_map attribute_words (map (mapped_attribute (text_of l.names)) l.name-iterator)) l.room new next
+    → PutsAt l.initial.at (flat_map attribute_words (map (mapped_attribute (text_of l.names)) l.fn.attrs)) l.initial.room new next)

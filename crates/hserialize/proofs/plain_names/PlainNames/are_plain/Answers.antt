@@ -1,4 +1,4 @@
-use Rattle.hserialize.proofs.Names.{◌∙◌, subst, arith, map, text_of, Texts, attribute_of}
+use Rattle.hserialize.proofs.Names.{◌∙◌, subst, arith, text_of, Texts}
 use Rattle.std.proofs.lemmas.Bool.{le-leb}
 use Rattle.hserialize.specs.Testing.{ArePlainTo}
 use Rattle.hserialize.proofs.PlainNames.{plain-to}
@@ -7,5 +7,5 @@ use Rattle.hserialize.proofs.plain_names.PlainNames.are_plain.Goals as goal
 pub returns-then-end-self : goal.returns-then-end-self
 returns-then-end-self c =
     le-leb c.args.end c.self.inside.end c.if-end-self.true
-    ∙ plain-to c.args.self.now c.self.inside.end (map attribute_of c.args.attrs.now)
+    ∙ plain-to c.args.self.now c.self.inside.end c.args.attrs
     (subst (λ (names : Texts). ArePlainTo (text_of names) c.self.inside.end) c.self.view_is c.self.invariant) (omega (arith, c.requires, c.if-end-self.true))
