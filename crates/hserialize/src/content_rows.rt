@@ -7,6 +7,7 @@ use crate::content::{Content, Role};
 use names::Tag;
 
 /// What an element of this name is among its siblings, and what its children are.
+#[inline(always)]
 pub(crate) fn row(tag: Tag) -> (Role, Content)
     ensures { result ≡ row tag }
 {

@@ -88,6 +88,9 @@ pub(crate) fn are_plain_attributes(
     ensures { result ≡ are_plain_attributes (map (mapped_attribute (text_of names.now)) attrs.entry) }
 {
     prove!(names.are_names());
+    if attrs.len() == 0 {
+        return true;
+    }
     all_plain_attributes(tree, names, node, attrs) && tree.attrs_differ(node)
 }
 

@@ -114,6 +114,7 @@ fn visit_inside(tree: &Tree, root: NodeId, reach: Reach, node: NodeId) -> Visit
 }
 
 /// Whether an element of this name inserts a marker into the list of active formatting elements.
+#[inline(always)]
 pub fn inserts_marker(tag: Tag) -> bool
     ensures { result ≡ inserts_marker tag }
 {
