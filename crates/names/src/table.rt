@@ -100,6 +100,47 @@ fn slot_of(text: &str) -> usize
     }
 }
 
+/// Whether these are the same bytes, of which there are at most three.
+#[inline(always)]
+fn few_are_same(a: &[u8], b: &[u8]) -> bool
+    ensures { result ≡ true → a.now ≡ b.now }
+{
+    match (a, b) {
+        ([], []) => true,
+        ([a], [b]) => a == b,
+        ([a, c], [b, d]) => a == b && c == d,
+        ([a, c, e], [b, d, f]) => a == b && c == d && e == f,
+        _ => false,
+    }
+}
+
+/// Whether these are the same bytes, of which there are at most seven: four are compared at once.
+#[inline(always)]
+fn short_are_same(a: &[u8], b: &[u8]) -> bool
+    ensures { result ≡ true → a.now ≡ b.now }
+{
+    match (a, b) {
+        ([a, c, e, g, more @ ..], [b, d, f, h, others @ ..]) => {
+            a == b && c == d && e == f && g == h && few_are_same(more, others)
+        }
+        _ => few_are_same(a, b),
+    }
+}
+
+/// A name with so many bytes is no short one.
+const LONG: usize = 8;
+
+/// Whether two names are the same. Most are short, and a call takes longer than to compare these.
+#[inline(always)]
+fn are_same(a: &str, b: &str) -> bool
+    ensures { result ≡ true → a.now ≡ b.now }
+{
+    if a.len() >= LONG {
+        return a == b;
+    }
+    short_are_same(a.as_bytes(), b.as_bytes())
+}
+
 /// A table of names: texts in the order in which they were added, the known names first.
 pub struct Names {
     /// The names that are not known ones: a set, but the type says less than `IndexSet`, and a library that mentions a table carries all of it.
@@ -199,7 +240,7 @@ impl Names {
     {
         let index = self.recent[slot_of(text)];
         let found = self.nth(index as usize)?;
-        if found == text {
+        if are_same(found, text) {
             Some(NameId { index })
         } else {
             None
