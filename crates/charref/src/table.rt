@@ -16,6 +16,7 @@ use crate::starts::starts_of;
 use names::Refusal;
 use std::alloc::Global;
 use std::marker::Model;
+use std::simd::prelude::*;
 
 /// A table of named character references, sorted by the bytes of the keys, so that the keys with a common beginning are a
 /// range. A look-up narrows this range byte by byte until no key goes on with what was read: all keys begin with the `&`, an
@@ -67,6 +68,18 @@ const SHORT_TEXT: usize = 65_536;
 
 const FEW_REFERENCES: usize = 256;
 
+/// How many `&` there are in a text, by 16 bytes at once. It tells what is faster, and nothing else.
+fn count_references(text: &[u8]) -> usize {
+    let mut count = 0usize;
+    for part in 0..text.len() / 16 {
+        let found = u8x16::from_slice(&text[part * 16..])
+            .simd_eq(u8x16::splat(b'&'))
+            .to_bitmask();
+        count = count.wrapping_add(found.count_ones() as usize);
+    }
+    count
+}
+
 /// The flat form of [`Table::core`].
 const CORE: &[u8] =
     b"\x01&amp;\x01&\0\0\0&gt;\x01>\0\0\0&lt;\x01<\0\0\0&nbsp;\x01\xA0\0\0\0&quot;\x01\"\0\0\0";
@@ -96,8 +109,7 @@ impl Table {
         ensures ok { IfOk result (λ table. flat_of table ≡ bytes.now) }
         ensures err { IfErr result (λ e. IsRefusedFlat bytes.now e) }
     {
-        let indexed = text.len() > SHORT_TEXT
-            || text.iter().filter(|byte| **byte == b'&').count() > FEW_REFERENCES;
+        let indexed = text.len() > SHORT_TEXT || count_references(text) > FEW_REFERENCES;
         Table::of_flat(alloc, Vec::from_slice(alloc, bytes)?, indexed)
     }
 
