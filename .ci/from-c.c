@@ -428,14 +428,43 @@ static void check_keys(void) {
     check(jz_draw_keys(NULL) == 0, "keys for no options");
 }
 
-static void check_core(void) {
-    static const char *const serves[] = { "", "&", "&amp;", "a & b&", "&#12;&#x", "&lt;&gt;&quot;&nbsp;", "&&" };
-    static const char *const wants[] = { "&amp", "&am", "a&b", "&copy;", "&&a", "&9", "&amp;&nbs;" };
-    for (int i = 0; i < 7; i++) {
-        check(jz_core_serves((const uint8_t *)serves[i], strlen(serves[i])) == 1, "an input for which the core table serves");
-        check(jz_core_serves((const uint8_t *)wants[i], strlen(wants[i])) == 0, "an input that wants the Standard's table");
+/* Of the Standard's table a page needs so many bytes, with which each task gives the same as with all of it. */
+static void check_needed(const char *page, size_t length, size_t wanted) {
+    static uint8_t room[8192];
+    jz_bytes none = JZ_NO_BYTES, whole = { jz_standard_entities, sizeof jz_standard_entities };
+    jz_bytes needed = jz_entities_for((const uint8_t *)page, length, whole, jz_standard_parts, room, sizeof room);
+    check(needed.length == wanted, "how much of the Standard's table a page needs");
+    for (uint32_t task = 0; task < TABLE; task++) {
+        made some, others;
+        set_context(task);
+        options.entities = needed;
+        check(make(task, page, length, &some) == JZ_OK, "what is made with what a page needs of a table");
+        options.entities = whole;
+        check(make(task, page, length, &others) == JZ_OK && are_same(task, &some, &others), "what is made with all of a table");
+        give_back(task, &some);
+        give_back(task, &others);
     }
-    check(jz_core_serves((const uint8_t *)"&amp;", 4) == 0, "a reference that is cut off");
+    options.entities = none;
+}
+
+/* Each part begins with its letters, and they are the whole table. */
+static void check_entities(void) {
+    static const struct { const char *page; size_t wanted; } pages[] = {
+        { "", 0 }, { "&", 0 }, { "&amp;", 0 }, { "a & b&", 0 }, { "&#12;&#x", 0 }, { "&lt;&gt;&quot;&nbsp;", 0 }, { "&&", 0 }, { "&amp", 44 },
+        { "&am", 44 }, { "x&c", 1 }, { "a&b", 1 }, { "&9", 1 }, { "&&copy", 218 }, { "&COPY&#99;&copy", 239 }, { "&#&#x&#y;&zz;&Copy", 142 },
+        { "&amp;&nbs;", 98 }, { "<a b=&copyx c='&copy=&notit;&notin;' d=\"&not;&eacute\">", 430 }, { "<xmp>&copy;</xmp><title>&COPY", 239 } };
+    enum { COUNT = sizeof jz_standard_parts / sizeof *jz_standard_parts };
+    static char all[3 * COUNT];
+    const uint8_t *at = jz_standard_entities + 1;
+    for (size_t i = 0; i < sizeof pages / sizeof *pages; i++) check_needed(pages[i].page, strlen(pages[i].page), pages[i].wanted);
+    check_needed("&amp;", 4, 44);
+    check_needed("&\0copy;&c\0opy;&co\0py;&copy\0;", 28, 218);
+    for (size_t i = 0; i < COUNT; at += jz_standard_parts[i++].length) {
+        check(*at == '&' && jz_standard_parts[i].letters == (at[1] & 63) * 64 + (at[2] & 63), "the letters of a part");
+        check_needed((char *)memcpy(all + 3 * i, at, 3), 3, 1u + jz_standard_parts[i].length);
+    }
+    check(at == jz_standard_entities + sizeof jz_standard_entities, "the parts of the Standard's table");
+    check_needed(all, sizeof all, sizeof jz_standard_entities);
 }
 
 static void check_quirks(void) {
@@ -621,7 +650,7 @@ int main(int count, char **words) {
     check_file(words[1], length);
     check_nulls();
     check_keys();
-    check_core();
+    check_entities();
     check_quirks();
     check_lists();
     check_parses();

@@ -17,10 +17,11 @@ static double now(void) {
     return (double)it.tv_sec * 1e3 + (double)it.tv_nsec / 1e6;
 }
 
-/* As Python and Rust do it, of the Standard's lists those are not read that a page does not need. */
+/* As Python and Rust do it, of the Standard's lists no more is read than a page needs. */
 static jz_options needed(jz_options options, const uint8_t *bytes, size_t length) {
     static const jz_options core = JZ_DEFAULTS;
-    if (jz_core_serves(bytes, length)) options.entities = core.entities;
+    static uint8_t room[8192];
+    options.entities = jz_entities_for(bytes, length, options.entities, jz_standard_parts, room, sizeof room);
     if (!jz_quirks_matter(bytes, length, options.quirks)) options.quirks = core.quirks;
     return options;
 }

@@ -219,7 +219,8 @@ class Pages(unittest.TestCase):
     def test_tables(self):
         flat = jz.table(b'{"&copy;": {"codepoints": [169], "characters": "\\u00a9"}}')
         self.assertEqual([jz.parse(b"&copy;&lt;", context=b"p", entities=it).root.text() for it in (flat, b"", None)], ["©&lt;", "&copy;<", "©<"])
-        self.assertEqual(jz.parse(b"x &amp y", entities=jz.standard()[0], quirks=jz.standard()[1]), jz.parse(b"x &amp y"))
+        page = b"x &amp y&&eacute<a b='&copy=&notit;'>&zz;&"
+        self.assertEqual(jz.parse(page, entities=jz.standard()[0], quirks=jz.standard()[1]), jz.parse(page))
         quirks = b'<!DOCTYPE html PUBLIC "-//W3C//DTD HTML 3.2//EN"><p><table>'
         self.assertEqual([next(jz.parse(quirks, quirks=it).iter("table")).parent.name for it in (None, b"")], ["p", "body"])
 

@@ -114,9 +114,20 @@ def standard() -> tuple[bytes, bytes]:
         return table(entities.read()), quirks.read()
 
 
-def core_serves(page: bytes) -> bool:
-    """Whether the core table reads a page as the Standard's does: no `&` begins another name than its five, each with a `;`."""
-    return re.search(rb"&(?!(?:amp|lt|gt|quot|nbsp);)[0-9A-Za-z]", page) is None
+@functools.lru_cache(None)
+def parts() -> dict[bytes, bytes]:
+    """The entries of the Standard's table, in its flat form, by the first two letters of their names."""
+    found: dict[bytes, bytes] = {}
+    for it in re.finditer(rb"&(..)[^\x01\x02]*(?:\x01.{4}|\x02.{8})", standard()[0], re.S):
+        found[it[1]] = found.get(it[1], b"") + it[0]
+    return found
+
+
+def entities_for(page: bytes) -> bytes:
+    """What a page needs of the Standard's table: none where no `&` begins other than five names with a `;`, else what begins as its names do."""
+    if not re.search(rb"&(?!(?:amp|lt|gt|quot|nbsp);)[0-9A-Za-z]", page):
+        return b""
+    return b"\1" + b"".join(parts()[it] for it in sorted(parts().keys() & {it[1] for it in re.finditer(b"&(?=([A-Za-z].))", page, re.S)}))
 
 
 HEAD = re.compile(rb"(?:[\t\n\f\r ]|<\?[^>]*>)*(?:<!doctype([^>]*)|<?[0-9a-z]|<\?[^>]*\Z|\Z)", re.I)
@@ -137,7 +148,7 @@ def quirks_matter(page: bytes, quirks: bytes) -> bool:
 def options(given: Given | None = None, page: bytes = b"&x") -> Options:
     """What is given with an input, as the library reads it. Of the Standard's lists those are not read that the input does not need."""
     it = given or NONE_GIVEN
-    entities = (b"" if core_serves(page) else standard()[0]) if it.entities is None else it.entities
+    entities = entities_for(page) if it.entities is None else it.entities
     quirks = (standard()[1] if quirks_matter(page, standard()[1]) else b"") if it.quirks is None else it.quirks
     texts = [it for text in (it.context, entities, quirks) for it in (text, len(text))]
     high, low = it.keys or KEYS

@@ -71,18 +71,6 @@ static int read_given(PyObject *given, jz_options *options) {
     return 1;
 }
 
-/* The options of an input: where the core table serves and the quirks list does not matter, the Standard's are not read. */
-static int options_of(const State *state, PyObject *given, jz_bytes input, jz_options *options) {
-    static const jz_options core = JZ_DEFAULTS;
-    *options = state->standard;
-    if (given != Py_None && !read_given(given, options)) return 0;
-    if (options->entities.bytes == state->standard.entities.bytes && jz_core_serves(input.bytes, input.length))
-        options->entities = core.entities;
-    if (options->quirks.bytes == state->standard.quirks.bytes && !jz_quirks_matter(input.bytes, input.length, options->quirks))
-        options->quirks = core.quirks;
-    return 1;
-}
-
 /* Raises Refused. */
 static PyObject *refuse(const State *state, const jz_answer *answer) {
     PyObject *value = PyObject_CallFunction(state->refused, "IIK", answer->status, answer->detail, (unsigned long long)answer->at);
@@ -98,13 +86,23 @@ typedef struct {
     jz_bytes bytes;
     jz_options options;
     jz_answer answer;
+    uint8_t entities[8192];
 } Call;
 
+/* Of the Standard's lists a call has what its input needs. */
 static int read_call(State *state, PyObject *input, PyObject *given, Call *call) {
+    static const jz_options core = JZ_DEFAULTS;
+    jz_options *options = &call->options;
     call->state = state;
     call->input = input;
     call->given = given;
-    return lent(input, &call->bytes) && options_of(call->state, given, call->bytes, &call->options);
+    *options = state->standard;
+    if (!lent(input, &call->bytes) || (given != Py_None && !read_given(given, options))) return 0;
+    if (options->entities.bytes == state->standard.entities.bytes)
+        options->entities = jz_entities_for(call->bytes.bytes, call->bytes.length, options->entities, jz_standard_parts, call->entities, sizeof call->entities);
+    if (options->quirks.bytes == state->standard.quirks.bytes && !jz_quirks_matter(call->bytes.bytes, call->bytes.length, options->quirks))
+        options->quirks = core.quirks;
+    return 1;
 }
 
 /* Finds the places of a page's nodes, by another parse of its input. Those that another thread has found meanwhile are kept. */

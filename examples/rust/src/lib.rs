@@ -96,11 +96,12 @@ impl Default for Options<'_> {
 }
 
 impl Options<'_> {
-    fn raw(&self, input: &[u8]) -> raw::Options {
+    /// What is handed in with an input, with these entries.
+    fn raw(&self, input: &[u8], entities: &[u8]) -> raw::Options {
         raw::Options {
             size: size_of::<raw::Options>(),
             context: raw::Bytes::of(self.context.as_bytes()),
-            entities: raw::Bytes::of(self.entities.for_input(input)),
+            entities: raw::Bytes::of(entities),
             quirks: raw::Bytes::of(quirks_for(self.quirks, input).as_bytes()),
             nodes: self.nodes,
             open: self.open,
@@ -152,7 +153,8 @@ fn utf8(bytes: Vec<u8>) -> String {
 
 /// The text of a task.
 pub fn text(task: Task, input: &[u8], options: &Options) -> Result<String, Error> {
-    let given = options.raw(input);
+    let entities = options.entities.for_input(input);
+    let given = options.raw(input, &entities);
     let bytes = written(text_room(task, input), |output, answer| {
         // SAFETY: the memory is Rust's and does not overlap, and lives through the call.
         unsafe {
@@ -241,7 +243,8 @@ const WANT_ORIGINS: u32 = 4;
 
 /// The tree of an input, and its errors, its HTML and where its nodes come from where they are wanted.
 fn parsed(wants: u32, input: &[u8], options: &Options) -> Result<Page, Error> {
-    let (given, mut answer) = (options.raw(input), raw::PageAnswer::default());
+    let entities = options.entities.for_input(input);
+    let (given, mut answer) = (options.raw(input, &entities), raw::PageAnswer::default());
     let few = input.len() / 4 + 64;
     let mut rooms = [few, input.len() * 2 + 256, 0, 0, 0];
     if wants & WANT_ERRORS != 0 {

@@ -1,6 +1,8 @@
 //! The Standard's lists, and tables of character references.
 
 use crate::{raw, written, Error};
+use std::borrow::Cow;
+use std::collections::BTreeMap;
 use std::fmt;
 use std::sync::OnceLock;
 
@@ -58,11 +60,11 @@ impl Table {
         }
     }
 
-    /// The form in which it is handed in with an input: where the core table serves, none in place of the Standard's.
-    pub(crate) fn for_input(&self, input: &[u8]) -> &[u8] {
+    /// The form in which it is handed in with an input: of the Standard's what the input needs.
+    pub(crate) fn for_input(&self, input: &[u8]) -> Cow<'_, [u8]> {
         match self.0 {
-            Form::Standard if core_serves(input) => &[],
-            _ => self.flat(),
+            Form::Standard => Cow::Owned(entities_for(input)),
+            _ => Cow::Borrowed(self.flat()),
         }
     }
 
@@ -77,17 +79,39 @@ impl Table {
     }
 }
 
-/// Whether the core table reads an input as the Standard's does: no `&` in it begins another name than its five, each with a `;`.
-fn core_serves(input: &[u8]) -> bool {
-    let mut rest = input;
+/// A number of the first two letters of a name, in whose order the keys are; 0 where it has no two.
+fn letters(name: &[u8]) -> usize {
+    let &[first, second, ..] = name else { return 0 };
+    usize::from(first & 63) << 6 | usize::from(second & 63)
+}
+
+/// The entries of a flat form, by the first two letters of their names.
+fn parts_of(flat: &[u8]) -> BTreeMap<usize, Vec<u8>> {
+    let (mut parts, mut rest) = (BTreeMap::<_, Vec<u8>>::new(), &flat[1..]);
+    while let Some(end) = rest.iter().position(|it| matches!(it, 1 | 2)) {
+        let (entry, after) = rest.split_at(end + 1 + 4 * usize::from(rest[end]));
+        parts.entry(letters(&entry[1..])).or_default().extend_from_slice(entry);
+        rest = after;
+    }
+    parts
+}
+
+/// What an input needs of the Standard's table: none where no `&` begins another name than five, each with a `;`, else the entries that begin as
+/// its names do.
+fn entities_for(input: &[u8]) -> Vec<u8> {
+    static PARTS: OnceLock<BTreeMap<usize, Vec<u8>>> = OnceLock::new();
+    let (mut wanted, mut is_core, mut rest) = ([false; 4096], true, input);
     while let Some(at) = raw::find(b'&', rest) {
         rest = &rest[at + 1..];
-        let is_core = ["amp;", "lt;", "gt;", "quot;", "nbsp;"].iter().any(|name| rest.starts_with(name.as_bytes()));
-        if !is_core && rest.first().is_some_and(u8::is_ascii_alphanumeric) {
-            return false;
-        }
+        let is_name = rest.first().is_some_and(u8::is_ascii_alphanumeric);
+        wanted[letters(rest)] |= is_name;
+        is_core = is_core && (!is_name || ["amp;", "lt;", "gt;", "quot;", "nbsp;"].iter().any(|it| rest.starts_with(it.as_bytes())));
     }
-    true
+    if is_core {
+        return Vec::new();
+    }
+    let parts = PARTS.get_or_init(|| parts_of(Table::standard().flat())).iter();
+    [FLAT].iter().chain(parts.filter(|(&it, _)| wanted[it]).flat_map(|(_, entries)| entries)).copied().collect()
 }
 
 /// The quirks list that is handed in with an input: where the Standard's does not matter, none.

@@ -284,6 +284,7 @@ fn the_standard_table_is_left_out_where_nothing_refers_to_it() {
         "<p title='\"<'>x\u{A0}y</p>",
         "<xmp>copy;</xmp>",
         "<p>&copy",
+        "x &amp y&&eacute<a b='&copy=&notit;'>&zz;&",
     ] {
         for task in tasks {
             let given = Options {
