@@ -74,6 +74,7 @@ impl<'q> TreeConstruction<'q> {
     }
 
     /// A token ends: a self-closing flag that no rule acknowledged is a parse error (`#acknowledge-self-closing-flag`).
+    #[inline(always)]
     fn end(&mut self, closing: bool, at: u64) -> Result<(), Refusal>
         ensures { (token : TokenOf ℕ) → is_self_closing token ≡ closing → Gives result (state_of self.new) (Goes (finished at token (state_of self.old))) }
     {

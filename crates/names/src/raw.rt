@@ -51,6 +51,7 @@ impl RefusedName {
 
 impl Tag {
     /// The refused name, if it is one.
+    #[inline(always)]
     pub fn refused_name(self) -> Option<RefusedName>
         ensures { result ≡ refused_name self }
     {
@@ -76,6 +77,7 @@ impl Tag {
     }
 
     /// How the text after a start tag of the name is read.
+    #[inline(always)]
     pub fn raw_kind(self) -> RawKind
         ensures { result ≡ raw_kind self }
     {
