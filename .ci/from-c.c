@@ -29,14 +29,11 @@ static void *search(const void *bytes, int byte, size_t length) {
 void *__real_malloc(size_t size);
 void *__real_realloc(void *block, size_t size);
 void __real_free(void *block);
-uint32_t __real_jz_text(uint32_t, const uint8_t *, size_t, const jz_options *, uint8_t *, size_t, jz_answer *);
-uint32_t __real_jz_page(uint32_t, const uint8_t *, size_t, const jz_options *, jz_row *, size_t, uint8_t *, size_t, jz_error *, size_t,
-                        uint8_t *, size_t, jz_origin *, size_t, jz_page_answer *);
-uint32_t __real_jz_table(const uint8_t *, size_t, uint8_t *, size_t, jz_answer *);
 
 /* `left` allocations are given before all are refused, `only` is the one that is refused, and -1 of either refuses none. */
 static long left = -1, only = -1, passed, failed;
-static _Atomic long alive, calls, parses;
+static _Atomic long alive, calls;
+_Atomic long parses;
 
 static int is_refused(void) {
     if (calls++ == only) return 1;
@@ -60,24 +57,11 @@ void __wrap_free(void *block) {
     __real_free(block);
 }
 
-uint32_t __wrap_jz_text(uint32_t task, const uint8_t *page, size_t length, const jz_options *options, uint8_t *output, size_t room,
-                        jz_answer *answer) {
-    parses++;
-    return __real_jz_text(task, page, length, options, output, room, answer);
-}
-
-uint32_t __wrap_jz_page(uint32_t wants, const uint8_t *page, size_t length, const jz_options *options, jz_row *rows, size_t row_room,
-                        uint8_t *words, size_t word_room, jz_error *errors, size_t error_room, uint8_t *text, size_t text_room,
-                        jz_origin *origins, size_t origin_room, jz_page_answer *answer) {
-    parses++;
-    return __real_jz_page(wants, page, length, options, rows, row_room, words, word_room, errors, error_room, text, text_room, origins,
-                          origin_room, answer);
-}
-
-uint32_t __wrap_jz_table(const uint8_t *entities, size_t length, uint8_t *output, size_t room, jz_answer *answer) {
-    parses++;
-    return __real_jz_table(entities, length, output, room, answer);
-}
+/* A call of the library is counted, and goes on to it. */
+#define COUNTED(call) __asm__(".text\n.globl __wrap_" #call "\n__wrap_" #call ": lock incq parses(%rip)\n jmp __real_" #call "\n");
+COUNTED(jz_text)
+COUNTED(jz_page)
+COUNTED(jz_table)
 
 /* The tasks of jz_text, and after them what else is made: a tree, a tree with HTML, one with places, one of pieces, a table. */
 enum { ROOM = 1 << 16, TASKS = 5, TREE = 5, PAGE = 6, PLACED = 7, FED = 8, TABLE = 9, ALL = 10 };
@@ -482,19 +466,17 @@ static void check_quirks(void) {
 
 /* The least seconds that a parse of a page takes. */
 static double seconds(const char *page, size_t length, const jz_options *given) {
-    double best = 1;
+    clock_t best = CLOCKS_PER_SEC;
     for (int i = 0; i < 200; i++) {
-        struct timespec begun, ended;
         jz_doc doc;
         jz_answer answer;
-        clock_gettime(CLOCK_THREAD_CPUTIME_ID, &begun);
+        clock_t begun = clock(), took;
         check(jz_parse((const uint8_t *)page, length, given, &doc, &answer) == JZ_OK, "a parse that is timed");
-        clock_gettime(CLOCK_THREAD_CPUTIME_ID, &ended);
+        took = clock() - begun;
         jz_free(&doc);
-        double took = (double)(ended.tv_sec - begun.tv_sec) + (double)(ended.tv_nsec - begun.tv_nsec) * 1e-9;
         if (took < best) best = took;
     }
-    return best;
+    return (double)best / CLOCKS_PER_SEC;
 }
 
 /* That reading the Standard's lists costs little beside a small page, one of some 5 KB: two or three times that page where nothing else runs
@@ -627,22 +609,16 @@ int main(int count, char **words) {
     check_alone(is_counted, "the memory of a tree whose rooms are told");
     check_alone(is_measured, "a text that is measured");
     memset(long_text, 'x', sizeof long_text);
+    const char *pages[] = { (const char *)input, "", "a<svg>", "\xff", long_text };
+    size_t lengths[] = { length, 0, 6, 1, sizeof long_text };
     for (uint32_t task = 0; task < ALL; task++) {
         set_context(task);
         check_refused(task, input, length);
-        if (task == TABLE) continue;
-        check_rooms(task, (const char *)input, length);
-        check_rooms(task, long_text, sizeof long_text);
-        check_rooms(task, "", 0);
-        check_rooms(task, "a<svg>", 6);
-        check_rooms(task, "\xff", 1);
+        for (int i = 0; task != TABLE && i < 5; i++) check_rooms(task, pages[i], lengths[i]);
     }
     set_context(TREE);
     check_refused(FED, long_text, lists_page(long_text, 150));
-    check_pieces(input, length);
-    check_pieces("", 0);
-    check_pieces("a<svg>", 6);
-    check_pieces("\xff", 1);
+    for (int i = 0; i < 4; i++) check_pieces(pages[i], lengths[i]);
     check_feeders();
     check_sizes(length);
     check_places();

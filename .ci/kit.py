@@ -1,5 +1,5 @@
-"""What the scripts share: usage, counts of checks, files, runs, scripts as modules; the crates of crates.txt, and the words with which the kit's
-`rattle` reads one of them over the libraries that stand built in crates/*/out/rlib."""
+"""What the scripts share: usage, counts of checks, files, runs, programs that are there, scripts as modules; the crates of crates.txt, and the words
+with which the kit's `rattle` reads one of them over the libraries that stand built in crates/*/out/rlib."""
 import importlib.machinery
 import importlib.util
 import os
@@ -69,6 +69,10 @@ def write(path, content):
     return path
 
 
+# That of all files that have one.
+VERSION = re.search(r'^#define JZ_VERSION "(.*)"$', text(f"{ROOT}/include/jeanzircon.h"), re.M)[1]
+
+
 def renew(path, renewed):
     """Renews a page by what a function makes of it; with the word --check it only says whether the page is new."""
     words, page = sys.argv[1:], text(path)
@@ -100,6 +104,19 @@ def ran(words, **how):
     return it.returncode, (it.stdout + (it.stderr or b"") if it.returncode else it.stdout).decode()
 
 
+def has(*programs):
+    """Whether these programs are there; a line says which is not."""
+    missing = [it for it in programs if not shutil.which(it)]
+    if missing:
+        print(f"no {missing[0]}, so what wants one is left out")
+    return not missing
+
+
+def is_current(sums):
+    """Whether what tools/sums wrote these sums of is still the same."""
+    return subprocess.run([f"{ROOT}/tools/current", sums], cwd=ROOT).returncode == 0
+
+
 def instructions(program, words, profile="/dev/null", input=b""):
     """The instructions that a program takes for these words and this input (valgrind's callgrind, which no load changes)."""
     words = ["valgrind", "--tool=callgrind", f"--callgrind-out-file={profile}", program, *words]
@@ -129,7 +146,7 @@ def below(crate, used):
 
 def kit():
     """The folder of the kit."""
-    return os.path.dirname(subprocess.run(["rt", "doc"], capture_output=True, text=True, check=True).stdout.strip())
+    return os.path.dirname(os.path.dirname(os.path.realpath(shutil.which("rt") or sys.exit("there is no rt on the PATH"))))
 
 
 def words(crate, proves=True):

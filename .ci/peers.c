@@ -39,16 +39,13 @@ static double parse(char way, jz_options options, const uint8_t *bytes, size_t l
 }
 
 static double gumbo(const uint8_t *bytes, size_t length) {
-    double begun = now(), taken;
+    double taken = now();
 #ifdef WITH_GUMBO
     GumboOutput *output = gumbo_parse_with_options(&kGumboDefaultOptions, (const char *)bytes, length);
-    taken = now() - begun;
+    taken = now() - taken;
     gumbo_destroy_output(&kGumboDefaultOptions, output);
-#else
-    (void)bytes, (void)length;
-    taken = now() - begun;
 #endif
-    return taken;
+    return bytes && length ? taken : 0;
 }
 
 /* Writes the line of a page, as Python does. */

@@ -33,8 +33,7 @@ static int is_reading, is_at_end, one_byte;    /* whether standard input has bee
 static int kind_refused, way;    /* in a child: the kind of the call that failed, and how */
 static int *goes_on;             /* shared by parent and child */
 
-__attribute__((constructor)) static void begin(void)
-{
+__attribute__((constructor)) static void begin(void) {
     const char *letters = getenv("REFUSE");
     goes_on = mmap(NULL, sizeof *goes_on, PROT_READ | PROT_WRITE, MAP_SHARED | MAP_ANONYMOUS, -1, 0);
     if (!letters || goes_on == MAP_FAILED)
@@ -44,14 +43,12 @@ __attribute__((constructor)) static void begin(void)
     swept = letters;
 }
 
-static int is_swept(int kind)
-{
+static int is_swept(int kind) {
     return strchr(swept, kind) || (kind == 'm' && ((is_reading && strchr(swept, 'l')) || (is_at_end && strchr(swept, 'e'))));
 }
 
 /* Reports what the child wrote, and empties its outputs. */
-static void report(struct outcome it)
-{
+static void report(struct outcome it) {
     static char text[1 << 18];
     it.out = syscall(SYS_pread64, OUT, text, sizeof text / 2, 0);
     it.err = syscall(SYS_pread64, ERR, text + it.out, sizeof text / 2, 0);
@@ -59,15 +56,13 @@ static void report(struct outcome it)
         _exit(99);
 }
 
-static void empty(int file)
-{
+static void empty(int file) {
     if (ftruncate(file, 0) || lseek(file, 0, SEEK_SET))
         _exit(99);
 }
 
 /* Whether this process is to let the call fail. */
-static int fails(int kind, int ways)
-{
+static int fails(int kind, int ways) {
     static int calls;
     off_t at[FILES];
     if (kind_refused) {
@@ -105,8 +100,7 @@ static int fails(int kind, int ways)
 }
 
 /* An allocation fails alone, or with all that follow. */
-static int has_memory(void)
-{
+static int has_memory(void) {
     if (!fails('m', strchr(swept, 'e') ? 1 : 2))
         return 1;
     errno = ENOMEM;
@@ -117,13 +111,11 @@ void *malloc(size_t size) { return has_memory() ? __libc_malloc(size) : NULL; }
 void *calloc(size_t count, size_t size) { return has_memory() ? __libc_calloc(count, size) : NULL; }
 void *realloc(void *old, size_t size) { return has_memory() ? __libc_realloc(old, size) : NULL; }
 void *aligned_alloc(size_t alignment, size_t size) { return has_memory() ? __libc_memalign(alignment, size) : NULL; }
-int posix_memalign(void **place, size_t alignment, size_t size)
-{
+int posix_memalign(void **place, size_t alignment, size_t size) {
     return has_memory() && (*place = __libc_memalign(alignment, size)) ? 0 : ENOMEM;
 }
 
-int getentropy(void *bytes, size_t size)
-{
+int getentropy(void *bytes, size_t size) {
     if (!strchr(swept, 'n'))
         return syscall(SYS_getrandom, bytes, size, 0) == (long)size ? 0 : -1;
     errno = ENOSYS;
@@ -131,8 +123,7 @@ int getentropy(void *bytes, size_t size)
 }
 
 /* A read fails by the device, or is interrupted. */
-ssize_t read(int file, void *bytes, size_t size)
-{
+ssize_t read(int file, void *bytes, size_t size) {
     is_reading |= file == 0;
     if (fails('r', 2)) {
         errno = way ? EINTR : EIO;
@@ -144,8 +135,7 @@ ssize_t read(int file, void *bytes, size_t size)
 }
 
 /* A write finds no room, is interrupted, or takes nothing. */
-ssize_t write(int file, const void *bytes, size_t size)
-{
+ssize_t write(int file, const void *bytes, size_t size) {
     if ((file == 1 && fails('w', 3)) || (file == 2 && fails('s', 3))) {
         errno = way ? EINTR : ENOSPC;
         return way == 2 ? 0 : -1;
