@@ -1,15 +1,6 @@
 -- What is tested of a plain document is what its definition asks.
-use Rattle.hserialize.proofs.Names.{◌≡◌, ℕ, ◌<◌, Bool, true, false, not, cond, List, [], Some, None, refl, sym, ◌∙◌, ap, subst, arith, ◌&&◌, map, option_map, Option, tag_of, tag_named, Tag, AreCounted, What, element, doctype, comment, text, Forest, none, tree, children_of, mapped, mapped_what, mapped_attribute, Spot, spot_of, first_or, first_child_of, next_of, what_of, row, takes_role, texts_in, Inside, inside_element, inside_node, are_plain_attributes, codes}
-use Rattle.std.specs.Prelude.{IfSome, bytes_eq, is_some}
-use Rattle.std.specs.Option.{is_none}
+use Rattle.hserialize.proofs.Names.{◌≡◌, ℕ, ◌<◌, Bool, true, false, not, cond, List, [], Some, None, refl, sym, ◌∙◌, ap, subst, arith, ◌&&◌, map, option_map, Option, tag_of, tag_named, Tag, AreCounted, What, element, doctype, comment, text, Forest, none, tree, children_of, mapped, mapped_what, mapped_attribute, Spot, spot_of, first_or, first_child_of, next_of, what_of, row, takes_role, texts_in, Inside, inside_element, inside_node, are_plain_attributes, codes, IfSome, bytes_eq, is_some, is_none, takes_comments, tree_in, trees_from, past_leaves, ArePassed, IsDoctypePassed, is_plain_doctype_what, is_plain_doctype_at, is_leaf_what, is_leaf_at, is_last_text, is_text_alone, is_metadata_what, is_metadata_at, is_named_what, is_last_at, is_head_at, are_content, begins_with_text, is_plain_text, ends_document, is_leaf, leaves_then, comments_then, doctype_then, element_then, is_metadata, inside_head, are_metadata, are_in_html, body_on, html_on, is_plain_document, is_text_node, is_text_at, is_empty_text, Role}
 use Rattle.hserialize.proofs.Following.{IsFirst, first-at, first-made, children-from}
-use Rattle.hserialize.specs.ContentTable.{takes_comments}
-use Rattle.hserialize.specs.DocumentTesting.{tree_in, trees_from, past_leaves, ArePassed, IsDoctypePassed, is_plain_doctype_what, is_plain_doctype_at, is_leaf_what, is_leaf_at, is_last_text, is_text_alone, is_metadata_what, is_metadata_at, is_named_what, is_last_at, is_head_at}
-use Rattle.hserialize.specs.Plain.{are_content, begins_with_text, is_plain_text}
-use Rattle.hserialize.specs.PlainDocument.{ends_document, is_leaf, leaves_then, comments_then, doctype_then, element_then, is_metadata, inside_head, are_metadata, are_in_html, body_on, html_on, is_plain_document}
-use Rattle.hserialize.specs.Testing.{is_text_node, is_text_at}
-use Rattle.hserialize.specs.Words.{is_empty}
-use Rattle.hserialize.specs.declared.content.Role.{Role}
 use Rattle.hserialize.specs.declared.content.Texts.{Texts as Allowed}
 use Rattle.hserialize.specs.declared.content.Texts.TheVariants as texts
 use Rattle.names.specs.declared.tag.Tag.TheVariants as tag
@@ -32,7 +23,7 @@ none_is o false h = ap not (sym h)
 
 -- AT MOST ONE TEXT
 
-abbrev is_one_text : Allowed → Forest (List ℕ) → Bool
+abbrev pub is_one_text : Allowed → Forest (List ℕ) → Bool
 is_one_text allowed none = true
 is_one_text allowed (tree n (text t) kids rest) = is_plain_text allowed t && ends_document kids && ends_document rest
 is_one_text allowed (tree n w kids rest) = false
@@ -52,7 +43,7 @@ module _ (i : Inside) (roles : (r : Role) → takes_role i.content r ≡ false) 
   after_text (tree n (comment t) kids rest) = grind (arith, comments)
   after_text (tree n w kids rest) = refl
 
-  one_text : (g : Forest (List ℕ)) → are_content i g ≡ is_one_text i.texts g
+  pub one_text : (g : Forest (List ℕ)) → are_content i g ≡ is_one_text i.texts g
   one_text none = refl
   one_text (tree n (text t) kids rest) =
       regrouped (is_plain_text i.texts t) (not (begins_with_text rest)) (are_content (inside_node (text t) i) kids) (are_content i rest)
@@ -146,7 +137,7 @@ module _ (spelling : ℕ → List ℕ) (f : Forest ℕ) where
       go : (w : What ℕ) → doctype_then (comments_then html_on) (mapped spelling (tree n w a.kids a.rest))
           ≡ cond (is_plain_doctype_what (Some w) (ends_document (mapped spelling a.kids))) (comments_then html_on (mapped spelling a.rest))
           (comments_then html_on (mapped spelling (tree n w a.kids a.rest)))
-      go (doctype x p s) = doctype_first (bytes_eq x (codes "html")) (is_empty p) (is_empty s) (ends_document (mapped spelling a.kids))
+      go (doctype x p s) = doctype_first (bytes_eq x (codes "html")) (is_empty_text p) (is_empty_text s) (ends_document (mapped spelling a.kids))
           (comments_then html_on (mapped spelling a.rest))
       go _ = refl
 

@@ -1,9 +1,7 @@
 -- What is around the children of an element, and around the element once it is left.
-use Rattle.hserialize.proofs.Names.{◌≡◌, Bool, true, false, not, cond, refl, sym, ◌∙◌, ap, subst, not-true, arith, ◌||◌, Tag, row, takes_role, texts_in, Inside, is_nested, inside_element, inserts_marker, in_region, without_form, content_among, is_phrasing, marked, Around, Content}
+use Rattle.hserialize.proofs.Names.{◌≡◌, Bool, true, false, not, cond, refl, sym, ◌∙◌, ap, subst, not-true, arith, ◌||◌, Tag, row, takes_role, texts_in, Inside, is_nested, inside_element, inserts_marker, in_region, without_form, content_among, is_phrasing, marked, Around, Content, is_button, is_a, content_within, Role}
 use Rattle.names.specs.declared.tag.Tag.TheVariants as tag
-use Rattle.hserialize.specs.Plain.{is_a, is_button, content_within}
 use Rattle.hserialize.specs.declared.content.Content.TheVariants as content
-use Rattle.hserialize.specs.declared.content.Role.{Role}
 use Rattle.hserialize.specs.declared.content.Role.TheVariants as role
 use Rattle.hserialize.specs.declared.content.Texts.{Texts}
 use Rattle.hserialize.specs.declared.content.Texts.TheVariants as texts

@@ -1,8 +1,5 @@
 -- The line of an error, where a place is written before what is kept of it.
-use Rattle.hserialize.proofs.Names.{◌≡◌, ℕ, ◌+◌, ◌-◌, ◌≤◌, List, ◌++◌, codes, length, drop, sym, ap, subst, ◌∙◌, arith, decimal, IsLine, error_line}
-use Rattle.std.proofs.Common.{take, append_assoc}
-use Rattle.std.proofs.lemmas.List.{drop-drop}
-use Rattle.std.proofs.Math.Seq.{drop-append_seam, take-append-add}
+use Rattle.hserialize.proofs.Names.{◌≡◌, ℕ, ◌+◌, ◌-◌, ◌≤◌, List, ◌++◌, codes, length, drop, sym, ap, subst, ◌∙◌, arith, decimal, IsLine, error_line, take, append_assoc, drop-drop, drop-append_seam, take-append-add}
 use Rattle.names.specs.Codes.{code_text}
 use Rattle.names.specs.declared.error.ParseError.{ParseError}
 use Rattle.hserialize.specs.declared.error_line.ErrorLine.{ErrorLine}

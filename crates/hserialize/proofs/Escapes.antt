@@ -1,7 +1,5 @@
 -- A text as it is written, in runs of characters that are written as they are.
-use Rattle.hserialize.proofs.Names.{◌≡◌, ℕ, ◌+◌, ◌-◌, List, [], ◌++◌, length, take, drop, refl, sym, ◌∙◌, ap, arith, length-append, append_assoc, take_rest, encode_utf8, flat_map, Refusal, escaped, Taken, AddsBytes, Fails, Escaping}
-use Rattle.std.proofs.Math.Seq.{drop-append_seam, take-append_seam}
-use Rattle.std.proofs.lemmas.List.{nil_from_length}
+use Rattle.hserialize.proofs.Names.{◌≡◌, ℕ, ◌+◌, ◌-◌, List, [], ◌++◌, length, take, drop, refl, sym, ◌∙◌, ap, arith, length-append, append_assoc, take_rest, encode_utf8, flat_map, Refusal, escaped, Taken, AddsBytes, Fails, Escaping, drop-append_seam, take-append_seam, nil_from_length}
 use Rattle.std.proofs.lemmas.Str.{chars-nil, chars_past_char, IsUtf8-past_char}
 use Rattle.std.specs.Str.{IsUtf8}
 use Rattle.hserialize.specs.Escaping.{written_char}

@@ -1,7 +1,5 @@
 -- Texts that are written by way of a buffer, from its beginning to its end.
-use Rattle.hserialize.proofs.Names.{◌≡◌, ℕ, List, [], ◌++◌, Option, Result, Ok, Err, refl, sym, ap, subst, ◌∙◌, IsErrAnd, Appends, Appends-trans, Refusal, Write, counted, WritesText, text_cut, text_written, written_so_far, AddsBytes, Fails}
-use Rattle.std.proofs.Common.{append_assoc}
-use Rattle.hserialize.specs.Output.{EndsOutput}
+use Rattle.hserialize.proofs.Names.{◌≡◌, ℕ, List, [], ◌++◌, Option, Result, Ok, Err, refl, sym, ap, subst, ◌∙◌, IsErrAnd, Appends, Appends-trans, Refusal, Write, counted, WritesText, text_cut, text_written, written_so_far, AddsBytes, Fails, append_assoc, EndsOutput}
 use Rattle.hserialize.specs.declared.writer.Writer.{Writer}
 
 module _ {W : Type 0} (written : W → Option (List ℕ)) (failed : W → ℕ) (text : List ℕ) (old last : W) (begun : Writer W) (called : ℕ) (name : begun.target.ghost_name ≡ called) (same : begun.target.now ≡ old) (none : begun.held.now.items ≡ []) where

@@ -1,13 +1,5 @@
 -- A node with the siblings after it, and what is asked of it.
-use Rattle.hserialize.proofs.Names.{◌≡◌, ℕ, ◌<◌, Some, None, refl, sym, ◌∙◌, ap, subst, arith, eq-eqb, ◌∷◌, length, option_and_then, option_map, ◌⊎◌, inl, inr, Option, What, Forest, none, tree, join, times, children_of, Spot, spot_of, first_or, first_child_of, next_of, what_of, AreCounted, child-spot, is-there, was-made, at-most, spot-children, some_inj, join-assoc}
-use Rattle.std.specs.Prelude.{IfSome}
-use Rattle.hnodes.specs.Forest.{roots}
-use Rattle.hnodes.proofs.ChildSpots.{root-spot}
-use Rattle.hnodes.proofs.Counted.{one-there}
-use Rattle.hnodes.proofs.Families.{children-among, first_child-is}
-use Rattle.hnodes.proofs.Forests.{times-join}
-use Rattle.hnodes.proofs.Levels.{level, Here, Below}
-use Rattle.hserialize.specs.DocumentTesting.{tree_in, trees_from}
+use Rattle.hserialize.proofs.Names.{◌≡◌, ℕ, ◌<◌, Some, None, refl, sym, ◌∙◌, ap, subst, arith, eq-eqb, ◌∷◌, length, option_and_then, option_map, ◌⊎◌, inl, inr, Option, What, Forest, none, tree, join, times, children_of, Spot, spot_of, first_or, first_child_of, next_of, what_of, AreCounted, child-spot, is-there, was-made, at-most, spot-children, some_inj, join-assoc, IfSome, roots, root-spot, one-there, children-among, first_child-is, times-join, level, Here, Below, tree_in, trees_from}
 
 -- node n, with what is inside it and after it
 pub record IsFirst (n : ℕ) (f : Forest ℕ) : Type 0 where

@@ -1,11 +1,6 @@
 -- The known name of a number is that of its text, for numbers beyond the table too.
-use Rattle.hserialize.proofs.Names.{◌≡◌, ℕ, ◌<◌, ◌≤◌, [], length, take, sym, ◌∙◌, ap, arith, ◌⊎◌, inl, inr, Texts, AreNames, text_of, tag_of, tag_named}
-use Rattle.std.proofs.lemmas.Bool.{cases_lt}
-use Rattle.std.proofs.lemmas.List.{get_or_past, length-take}
-use Rattle.std.proofs.lemmas.Option.{slice_get-get_or}
+use Rattle.hserialize.proofs.Names.{◌≡◌, ℕ, ◌<◌, ◌≤◌, [], length, take, sym, ◌∙◌, ap, arith, ◌⊎◌, inl, inr, Texts, AreNames, text_of, tag_of, tag_named, cases_lt, get_or_past, length-take, slice_get-get_or, known, tags, tag_of-named}
 use Rattle.names.specs.declared.tag.Tag.TheVariants.{Other}
-use Rattle.names.specs.Tags.{known, tags}
-use Rattle.names.proofs.KnownTags.{tag_of-named}
 
 pub tags-agree : (names : Texts) → AreNames names → (id : ℕ) → tag_of id ≡ tag_named (text_of names id)
 tags-agree names table id = go (cases_lt id (length names))

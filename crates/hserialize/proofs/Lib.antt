@@ -10,7 +10,6 @@ pub mod Finished
 pub mod Escapes
 pub mod Wrote
 pub mod Outer
-pub mod Kept
 pub mod Entering
 pub mod Walks
 pub mod Tested

@@ -1,9 +1,5 @@
 -- Lines that are put together of parts.
-use Rattle.hserialize.proofs.Names.{◌≡◌, ℕ, suc, ◌+◌, ◌-◌, ◌<◌, ◌≤◌, ◌&&◌, false, cond, List, [], ◌∷◌, ◌++◌, length, drop, get_or, map, sym, ap, ◌∙◌, arith, append_assoc, flat_map, repeat, codes, Attribute, attribute_line, indented, pair_of}
-use Rattle.std.proofs.Common.{drop-cons, add-one}
-use Rattle.std.specs.Borrow.{Bor}
-use Rattle.hserialize.specs.Lines.{between_quotes, identifiers}
-use Rattle.hserialize.specs.Words.{is_empty}
+use Rattle.hserialize.proofs.Names.{◌≡◌, ℕ, suc, ◌+◌, ◌-◌, ◌<◌, ◌≤◌, ◌&&◌, false, cond, List, [], ◌∷◌, ◌++◌, length, drop, get_or, map, sym, ap, ◌∙◌, arith, append_assoc, flat_map, repeat, codes, Attribute, attribute_line, indented, pair_of, drop-cons, add-one, Bor, between_quotes, identifiers, is_empty_text}
 
 -- the lines from an index on, by the first of them
 pub next_lines : {A : Type 0} (f : A → List ℕ) (xs : List A) (i : ℕ) (d : A) → i < length xs → flat_map f (drop i xs) ≡ f (get_or xs i d) ++ flat_map f (drop (i + 1) xs)
@@ -33,7 +29,7 @@ next_attribute depth xs i d name value h n v =
     ap (λ l. flat_map (attribute_line depth) (map pair_of l)) (drop-cons xs i d h ∙ (λ k. get_or xs i d ∷ drop (sym (add-one i) k) xs))
     ∙ ap (λ t. t ++ flat_map (attribute_line depth) (map pair_of (drop (i + 1) xs))) (sym ((λ k. indented depth (n k ++ (codes "=\"" ++ (v k ++ codes "\"")))) ∙ attribute_parts depth (get_or xs i d).0.now (get_or xs i d).2.now))
 
-pub doctype_parts : (depth : ℕ) (name public_id system_id : List ℕ) → is_empty public_id && is_empty system_id ≡ false
+pub doctype_parts : (depth : ℕ) (name public_id system_id : List ℕ) → is_empty_text public_id && is_empty_text system_id ≡ false
     → indented depth (codes "<!DOCTYPE " ++ (name ++ (codes " \"" ++ (public_id ++ (codes "\" \"" ++ (system_id ++ codes "\">"))))))
     ≡ indented depth (codes "<!DOCTYPE " ++ name ++ identifiers public_id system_id ++ codes ">")
 doctype_parts depth name public_id system_id some =

@@ -1,14 +1,6 @@
 -- The moves of a walk.
-use Rattle.hserialize.proofs.Names.{◌≡◌, ℕ, ◌<◌, Bool, true, false, eqb, cond, List, [], ◌∷◌, ◌++◌, Option, Some, None, refl, sym, ◌∙◌, ap, subst, arith, drop, option_and_then, ◌⊎◌, inl, inr, eq-eqb, append_assoc, append-nil, IsTrue, option_map, What, Forest, none, tree, join, children_of, Spot, spot_of, first_or, first_child_of, next_of, parent_of, what_of, AreCounted, ancestors_of, way_up, is_among, some_inj, join-assoc, spot-children, at-most, is-there, was-made, spot_among, child-spot, IsInside, apart, own-inside, goes_in, visits, after_ends, visits_from, Reach, Enter, Leave}
-use Rattle.std.proofs.Common.{◌≢◌}
-use Rattle.std.proofs.lemmas.Bool.{ne_eqb}
-use Rattle.hnodes.specs.Passed.{trees_after}
-use Rattle.hnodes.proofs.Levels.{level, Here, Below}
-use Rattle.hnodes.proofs.Families.{first_child-is}
-use Rattle.hnodes.proofs.ChildSpots.{root-spot}
-use Rattle.hnodes.proofs.TreeOrder.{Entered, entered}
+use Rattle.hserialize.proofs.Names.{◌≡◌, ℕ, ◌<◌, Bool, true, false, eqb, cond, List, [], ◌∷◌, ◌++◌, Option, Some, None, refl, sym, ◌∙◌, ap, subst, arith, drop, option_and_then, ◌⊎◌, inl, inr, eq-eqb, append_assoc, append-nil, IsTrue, option_map, What, Forest, none, tree, join, children_of, Spot, spot_of, first_or, first_child_of, next_of, parent_of, what_of, AreCounted, ancestors_of, way_up, is_among, some_inj, join-assoc, spot-children, at-most, is-there, was-made, spot_among, child-spot, IsInside, apart, own-inside, goes_in, visits, after_ends, visits_from, Reach, Enter, Leave, ◌≢◌, ne_eqb, trees_after, level, Here, Below, first_child-is, root-spot, Entered, entered, visits_inside}
 use Rattle.hnodes.proofs.WaysUp.{way-step}
-use Rattle.hserialize.specs.Walk.{visits_inside}
 
 no-first : (g : Forest ℕ) → first_or g None ≡ None → g ≡ none
 no-first none e = refl
@@ -88,14 +80,6 @@ module _ (made : ℕ) (f : Forest ℕ) (counted : AreCounted made f) (root : ℕ
   descends reach n c h inside is =
       let (there, within) = first reach n c h is (own-inside made f counted root n inside) in
       ((λ goes. ap (λ vs. Enter n ∷ vs ++ after_ends reach root (way_up (Some n) f) f) (inner reach true n h goes) ∙ ap (λ vs. Enter n ∷ vs) (sym there)), within)
-
-  -- past a node into which the walk does not go, and past one that has no children
-  pub passes : (reach : Reach) (n : ℕ) → n < made → ((w : What ℕ) → what_of n f ≡ Some w → goes_in reach w ≡ false) → visits_from reach root (Some (Enter n)) f ≡ Enter n ∷ visits_from reach root (Some (Leave n)) f
-  passes reach n h stays = ap (λ vs. Enter n ∷ vs ++ after_ends reach root (way_up (Some n) f) f) (inner reach false n h stays)
-
-  pub turns : (reach : Reach) (n : ℕ) → n < made → first_child_of n f ≡ None → ((w : What ℕ) → what_of n f ≡ Some w → goes_in reach w ≡ true)
-      → visits_from reach root (Some (Enter n)) f ≡ Enter n ∷ visits_from reach root (Some (Leave n)) f
-  turns reach n h is goes = ap (λ vs. Enter n ∷ vs ++ after_ends reach root (way_up (Some n) f) f) (inner reach true n h goes ∙ ap (visits reach) (no-child n h is))
 
   -- to the next sibling
   pub next : (reach : Reach) (n m : ℕ) → n < made → IsTrue (is_among root (ancestors_of n f)) → next_of n f ≡ Some m

@@ -1,11 +1,5 @@
 -- A node with its own tags.
-use Rattle.hserialize.proofs.Names.{◌≡◌, ℕ, ◌<◌, ◌≤◌, ◌⊎◌, inl, inr, Bool, true, false, cond, option_and_then, name_in, goes_in, closing_of, child-spot, at-most, List, [], ◌++◌, map, Some, refl, sym, ◌∙◌, ap, append-nil, option_map, Texts, AreNames, text_of, is_void, tag_of, tag_named, AreCounted, What, element, Forest, none, tree, times, tree_at, children_of, mapped, mapped_attribute, Spot, what_of, is-there, start_tag_text, end_tag_text, written, written_among, opening, opening_of, stands_raw, holds_raw, node_name, Escaping}
-use Rattle.hnodes.proofs.ChildSpots.{root-spot}
-use Rattle.hnodes.proofs.Families.{family}
-use Rattle.hnodes.proofs.Levels.{level, Here, Below}
-use Rattle.std.proofs.Common.{not}
-use Rattle.hserialize.specs.declared.walk.Reach.TheVariants.{Written}
-use Rattle.hserialize.specs.Writing.{closing_tag, name_around}
+use Rattle.hserialize.proofs.Names.{◌≡◌, ℕ, ◌<◌, ◌≤◌, ◌⊎◌, inl, inr, Bool, true, false, cond, option_and_then, name_in, goes_in, closing_of, child-spot, at-most, List, [], ◌++◌, map, Some, refl, sym, ◌∙◌, ap, append-nil, option_map, Texts, AreNames, text_of, is_void, tag_of, tag_named, AreCounted, What, element, Forest, none, tree, times, tree_at, children_of, mapped, mapped_attribute, Spot, what_of, is-there, start_tag_text, end_tag_text, written, written_among, opening, opening_of, stands_raw, holds_raw, node_name, Escaping, root-spot, family, level, Here, Below, not, Written, closing_tag, name_around}
 use Rattle.hserialize.proofs.KnownNames.{tags-agree}
 use Rattle.hserialize.proofs.Wrote.{own-written, stands-own}
 

@@ -1,12 +1,6 @@
 -- Writes one after another.
-use Rattle.hserialize.proofs.Names.{◌≡◌, ℕ, List, [], ◌∷◌, ◌++◌, Option, Some, Result, Ok, Err, refl, sym, ap, subst, ◌∙◌, length, drop, get_or, drop-cons, add-one, ◌+◌, ◌<◌, flat_map, IsErrAnd, Appends, Appends-trans, What, what_is, Refusal, Write, counted, Taken, AddsBytes, Fails, Puts}
-use Rattle.std.proofs.Common.{append_assoc, append-nil}
-use Rattle.std.specs.Borrow.{Bor}
-use Rattle.std.specs.Prelude.{◌≢◌, IfErr, OnErr, OnOk}
-use Rattle.std.proofs.KnownBytes.{Appends-nil}
+use Rattle.hserialize.proofs.Names.{◌≡◌, ℕ, List, [], ◌∷◌, ◌++◌, Option, Some, Result, Ok, Err, refl, sym, ap, subst, ◌∙◌, length, drop, get_or, drop-cons, add-one, ◌+◌, ◌<◌, flat_map, IsErrAnd, Appends, Appends-trans, What, what_is, Refusal, Write, counted, Taken, AddsBytes, Fails, Puts, append_assoc, append-nil, Bor, ◌≢◌, IfErr, OnErr, OnOk, Appends-nil, counted_by_result, AppendsBeginning}
 use Rattle.hserialize.specs.declared.node_view.NodeView.{NodeView}
-use Rattle.hserialize.specs.Calls.{counted_by_result}
-use Rattle.hserialize.specs.Output.{AppendsBeginning}
 
 -- The known bytes grew by a beginning of these bytes, and the others are left; no call has failed.
 abbrev pub HasLeft : Taken → Taken → (bytes left : List ℕ) → Type 0

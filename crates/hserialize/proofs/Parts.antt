@@ -1,10 +1,6 @@
 -- Where a part is in a text.
-use Rattle.hserialize.proofs.Names.{◌≡◌, ℕ, Bool, true, false, List, [], ◌∷◌, drop, length, refl, ap, sym, or_right, Decides-eqb, ◌||◌}
-use Rattle.std.proofs.Common.{◌++◌}
-use Rattle.std.proofs.lemmas.Slice.Eq.{starts_is}
-use Rattle.std.proofs.lemmas.Bool.{false_from_ne_true}
+use Rattle.hserialize.proofs.Names.{◌≡◌, ℕ, Bool, true, false, List, [], ◌∷◌, drop, length, refl, ap, sym, or_right, Decides-eqb, ◌||◌, ◌++◌, starts_is, false_from_ne_true, begins_with, has_part}
 use Rattle.std.specs.Str.Iter.{HasSubslice}
-use Rattle.hserialize.specs.Plain.{begins_with, has_part}
 
 begins : (part t : List ℕ) → begins_with part t ≡ true → t ≡ part ++ drop (length part) t
 begins part t = (starts_is Decides-eqb t part (begins_with part t) refl).0

@@ -1,14 +1,10 @@
 -- A list is content of what it is in exactly if each of its regions is, and no form is in a form.
-use Rattle.hserialize.proofs.Names.{◌≡◌, ℕ, ◌<◌, Bool, true, false, not, cond, List, Some, None, refl, sym, ◌∙◌, ap, arith, option_and_then, ◌&&◌, ◌||◌, Option, Texts, AreNames, text_of, tag_of, tag_named, Tag, AreCounted, What, element, Forest, none, tree, children_of, mapped, mapped_what, name_in, row, takes_role, Inside, are_plain_attributes, in_context, in_context_of, inside_node, is_form, is_nested, is_plain_node, inserts_marker, are_region_content, begins_region, in_region, without_form, is_phrasing, tag_at, tag_or_other, texts_at_top, top_content, visits, Content, Visit}
+use Rattle.hserialize.proofs.Names.{◌≡◌, ℕ, ◌<◌, Bool, true, false, not, cond, List, Some, None, refl, sym, ◌∙◌, ap, arith, option_and_then, ◌&&◌, ◌||◌, Option, Texts, AreNames, text_of, tag_of, tag_named, Tag, AreCounted, What, element, Forest, none, tree, children_of, mapped, mapped_what, name_in, row, takes_role, Inside, are_plain_attributes, in_context, in_context_of, inside_node, is_form_element, is_nested, is_plain_node, inserts_marker, are_region_content, begins_region, in_region, without_form, is_phrasing, tag_at, tag_or_other, texts_at_top, top_content, visits, Content, Visit, option_map, are_content, are_content_if, begins_with_line_feed, drops_line_feed, is_plain, form_after, have_plain_regions, makes_form, Whole}
 use Rattle.hserialize.proofs.KnownNames.{tags-agree}
 use Rattle.hserialize.proofs.Runs.{run, walked, run-visits}
 use Rattle.hserialize.proofs.Seen.{Seen, seen}
-use Rattle.std.specs.Option.{option_map}
 use Rattle.names.specs.declared.tag.Tag.TheVariants as tag
-use Rattle.hserialize.specs.Plain.{are_content, are_content_if, begins_with_line_feed, drops_line_feed, is_plain}
-use Rattle.hserialize.specs.Regions.{form_after, have_plain_regions, makes_form}
 use Rattle.hserialize.specs.declared.content.Content.TheVariants as content
-use Rattle.hserialize.specs.declared.walk.Reach.TheVariants.{Whole}
 use Rattle.hserialize.proofs.Entering.{enters_region}
 use Rattle.hserialize.proofs.Walks.{is_left, tells, entering, leaving, lost, Finds}
 
@@ -22,7 +18,7 @@ one_form : (u : Bool) → not u ≡ not (u && true)
 one_form u = grind (arith)
 
 -- an element that is in none of its name, whether forms are asked for or not
-nested_apart : (i : Inside) (t : Tag) → not (is_nested i t) ≡ (not (is_nested (without_form i) t) && not (i.in_form && is_form t))
+nested_apart : (i : Inside) (t : Tag) → not (is_nested i t) ≡ (not (is_nested (without_form i) t) && not (i.in_form && is_form_element t))
 nested_apart i tag.A = no_form i.in_form (not i.in_a)
 nested_apart i tag.Button = no_form i.in_form (not i.in_button)
 nested_apart i tag.Form = one_form i.in_form
@@ -35,7 +31,7 @@ moved a b c d e = grind (arith)
 node_apart : (i : Inside) (w : What (List ℕ)) (kids rest : Forest (List ℕ)) → is_plain_node i w kids rest ≡ (is_plain_node (without_form i) w kids rest && not (i.in_form && makes_form w))
 node_apart i (element name attrs) kids rest =
     ap (λ u. takes_role i.content (row (tag_named name)).0 && u && are_plain_attributes attrs && line_feed) (nested_apart i (tag_named name))
-    ∙ moved (takes_role i.content (row (tag_named name)).0) (not (is_nested (without_form i) (tag_named name))) (are_plain_attributes attrs) line_feed (not (i.in_form && is_form (tag_named name)))
+    ∙ moved (takes_role i.content (row (tag_named name)).0) (not (is_nested (without_form i) (tag_named name))) (are_plain_attributes attrs) line_feed (not (i.in_form && is_form_element (tag_named name)))
   where
     line_feed : Bool
     line_feed = not (drops_line_feed (tag_named name) && begins_with_line_feed kids)
@@ -116,8 +112,8 @@ module _ (spelling : ℕ → List ℕ) (tags : (id : ℕ) → tag_of id ≡ tag_
   marked_as (element name attrs) = ap inserts_marker (tags name)
   marked_as _ = refl
 
-  formed_as : (w : What ℕ) → is_form (tag_or_other (name_in w)) ≡ makes_form (mapped_what spelling w)
-  formed_as (element name attrs) = ap is_form (tags name)
+  formed_as : (w : What ℕ) → is_form_element (tag_or_other (name_in w)) ≡ makes_form (mapped_what spelling w)
+  formed_as (element name attrs) = ap is_form_element (tags name)
   formed_as _ = refl
 
   finds : (made root p : ℕ) (g : Forest ℕ) → Seen made f root p g → (u : Bool) → walked enters leaves Whole g (Some u) ≡ cond (have_plain_regions u (mapped spelling g)) (Some u) None
@@ -132,8 +128,8 @@ module _ (spelling : ℕ → List ℕ) (tags : (id : ℕ) → tag_of id ≡ tag_
       named : tag_at b f ≡ tag_or_other (name_in w)
       named = ap (λ o. tag_or_other (option_and_then name_in o)) s.0.what
 
-      forms : is_form (tag_at b f) ≡ makes_form (mapped_what spelling w)
-      forms = ap is_form named ∙ formed_as w
+      forms : is_form_element (tag_at b f) ≡ makes_form (mapped_what spelling w)
+      forms = ap is_form_element named ∙ formed_as w
 
       first : enters b (Some u) ≡ cond (not (u && makes_form (mapped_what spelling w)) && cond (begins_region (mapped_what spelling w)) (region kids) true) (Some within) None
       first =
@@ -172,39 +168,39 @@ top_other c top h = ap is_other h ∙ go c
     go _ = refl
 
 -- a list is plain if its top region is content, and so are the others, and no form is in a form
-pub plain_is : (context : List ℕ) (t : Tag) (top : Content) (f : Forest (List ℕ)) → in_context_of (row t).1 (is_form t) ≡ in_context context → Some top ≡ top_content (row t).1
-    → (are_region_content (in_region top) f && have_plain_regions (is_form t) f) ≡ is_plain context f
+pub plain_is : (context : List ℕ) (t : Tag) (top : Content) (f : Forest (List ℕ)) → in_context_of (row t).1 (is_form_element t) ≡ in_context context → Some top ≡ top_content (row t).1
+    → (are_region_content (in_region top) f && have_plain_regions (is_form_element t) f) ≡ is_plain context f
 plain_is context t top f named topmost =
-    sym (by_regions (record { content = top; texts = texts_at_top top; in_a = false; in_button = false; in_form = is_form t }) f)
-    ∙ ap (λ o. are_content_if (option_map (λ own. record { content = own; texts = texts_at_top own; in_a = false; in_button = false; in_form = is_form t }) o) f) topmost
-    ∙ ap (λ o. are_content_if o f) (sym (top_is (row t).1 (is_form t)) ∙ named)
+    sym (by_regions (record { content = top; texts = texts_at_top top; in_a = false; in_button = false; in_form = is_form_element t }) f)
+    ∙ ap (λ o. are_content_if (option_map (λ own. record { content = own; texts = texts_at_top own; in_a = false; in_button = false; in_form = is_form_element t }) o) f) topmost
+    ∙ ap (λ o. are_content_if o f) (sym (top_is (row t).1 (is_form_element t)) ∙ named)
 
 -- what is left of the walk finds whether the list is plain
 abbrev pub IsFinding : (names : Texts) (f : Forest ℕ) (root : ℕ) (context : List ℕ) → Bool → List Visit → Type 0
 IsFinding names f root context = Finds (form_after (text_of names) f) (is_plain context (mapped (text_of names) (children_of root f)))
 
 pub begun : (names : Texts) (made : ℕ) (f : Forest ℕ) (root : ℕ) (top : Content) (context : List ℕ) (t : Tag) (in_form : Bool) (left items : List Visit) → AreNames names → AreCounted made f → root < made
-    → in_context_of (row t).1 (is_form t) ≡ in_context context → Some top ≡ top_content (row t).1 → true ≡ are_region_content (in_region top) (mapped (text_of names) (children_of root f)) → in_form ≡ is_form t
+    → in_context_of (row t).1 (is_form_element t) ≡ in_context context → Some top ≡ top_content (row t).1 → true ≡ are_region_content (in_region top) (mapped (text_of names) (children_of root f)) → in_form ≡ is_form_element t
     → left ≡ items → items ≡ visits Whole (children_of root f) → IsFinding names f root context in_form left
 begun names made f root top context t in_form left items table counted h named topmost region begins same visited =
     let step = form_after (text_of names) f in
     record {
       same =
           (λ i. is_left (run (entering step) (leaving step) ((same ∙ visited) i) (Some (begins i))))
-          ∙ ap is_left (run-visits (entering step) (leaving step) Whole (children_of root f) (Some (is_form t)))
-          ∙ ap is_left (finds (text_of names) (tags-agree names table) f made root root (children_of root f) (seen made f counted root h) (is_form t))
-          ∙ tells (have_plain_regions (is_form t) (mapped (text_of names) (children_of root f))) (is_form t)
-          ∙ ap (λ u. u && have_plain_regions (is_form t) (mapped (text_of names) (children_of root f))) region
+          ∙ ap is_left (run-visits (entering step) (leaving step) Whole (children_of root f) (Some (is_form_element t)))
+          ∙ ap is_left (finds (text_of names) (tags-agree names table) f made root root (children_of root f) (seen made f counted root h) (is_form_element t))
+          ∙ tells (have_plain_regions (is_form_element t) (mapped (text_of names) (children_of root f))) (is_form_element t)
+          ∙ ap (λ u. u && have_plain_regions (is_form_element t) (mapped (text_of names) (children_of root f))) region
           ∙ plain_is context t top (mapped (text_of names) (children_of root f)) named topmost;
     }
 
 -- no list is plain where none is at the top
-pub none_plain : (context : List ℕ) (t : Tag) (f : Forest (List ℕ)) → in_context_of (row t).1 (is_form t) ≡ in_context context → top_content (row t).1 ≡ None → false ≡ is_plain context f
+pub none_plain : (context : List ℕ) (t : Tag) (f : Forest (List ℕ)) → in_context_of (row t).1 (is_form_element t) ≡ in_context context → top_content (row t).1 ≡ None → false ≡ is_plain context f
 none_plain context t f named missing =
-    ap (λ o. are_content_if (option_map (λ own. record { content = own; texts = texts_at_top own; in_a = false; in_button = false; in_form = is_form t }) o) f) (sym missing)
-    ∙ ap (λ o. are_content_if o f) (sym (top_is (row t).1 (is_form t)) ∙ named)
+    ap (λ o. are_content_if (option_map (λ own. record { content = own; texts = texts_at_top own; in_a = false; in_button = false; in_form = is_form_element t }) o) f) (sym missing)
+    ∙ ap (λ o. are_content_if o f) (sym (top_is (row t).1 (is_form_element t)) ∙ named)
 
 -- a top region that is not content
-pub not_plain : (context : List ℕ) (t : Tag) (top : Content) (f : Forest (List ℕ)) → in_context_of (row t).1 (is_form t) ≡ in_context context → Some top ≡ top_content (row t).1
+pub not_plain : (context : List ℕ) (t : Tag) (top : Content) (f : Forest (List ℕ)) → in_context_of (row t).1 (is_form_element t) ≡ in_context context → Some top ≡ top_content (row t).1
     → false ≡ are_region_content (in_region top) f → false ≡ is_plain context f
-not_plain context t top f named topmost region = ap (λ u. u && have_plain_regions (is_form t) f) region ∙ plain_is context t top f named topmost
+not_plain context t top f named topmost region = ap (λ u. u && have_plain_regions (is_form_element t) f) region ∙ plain_is context t top f named topmost

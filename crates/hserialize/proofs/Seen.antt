@@ -1,9 +1,5 @@
 -- What is asked of the nodes inside one is what is in their trees.
-use Rattle.hserialize.proofs.Names.{◌≡◌, ℕ, ◌<◌, false, cond_both, eqb, cond, [], Some, None, refl, sym, ◌∙◌, ap, option_and_then, eq-eqb, IsTrue, What, Forest, none, tree, join, children_of, Spot, spot_of, first_or, first_child_of, next_of, parent_of, what_of, AreCounted, ancestors_of, way_up, is_among, join-assoc, is-there, spot_among, child-spot, apart, own-inside, goes_in, visits, Reach, Visit, Enter, Leave}
-use Rattle.std.specs.List.{All}
-use Rattle.std.proofs.lemmas.List.Elements.{All-append, All-cons, All-nil}
-use Rattle.hserialize.specs.Walk.{visited_node}
-use Rattle.hnodes.proofs.TreeOrder.{Entered, entered}
+use Rattle.hserialize.proofs.Names.{◌≡◌, ℕ, ◌<◌, false, cond_both, eqb, cond, [], Some, None, refl, sym, ◌∙◌, ap, option_and_then, eq-eqb, IsTrue, What, Forest, none, tree, join, children_of, Spot, spot_of, first_or, first_child_of, next_of, parent_of, what_of, AreCounted, ancestors_of, way_up, is_among, join-assoc, is-there, spot_among, child-spot, apart, own-inside, goes_in, visits, Reach, Visit, Enter, Leave, All, All-append, All-cons, All-nil, visited_node, Entered, entered}
 
 -- what is asked of node b, where it is with these children below p, before these siblings
 pub record IsSeen (made : ℕ) (f : Forest ℕ) (root p b : ℕ) (w : What ℕ) (kids rest : Forest ℕ) : Type 0 where

@@ -1,7 +1,5 @@
 -- How long a walk over nodes is.
-use Rattle.hserialize.proofs.Names.{ℕ, ◌+◌, ◌<◌, ◌≤◌, cond_both, length, length-append, arith, ◌∷◌, ◌++◌, [], Forest, none, tree, children_of, AreCounted, goes_in, visits, Reach, Enter, Leave}
-use Rattle.std.proofs.Common.{◌*◌}
-use Rattle.hnodes.specs.Forest.{size}
+use Rattle.hserialize.proofs.Names.{ℕ, ◌+◌, ◌<◌, ◌≤◌, cond_both, length, length-append, arith, ◌∷◌, ◌++◌, [], Forest, none, tree, children_of, AreCounted, goes_in, visits, Reach, Enter, Leave, ◌*◌, size}
 use Rattle.hnodes.proofs.Sizes.{inside-few}
 
 visits-long : (reach : Reach) (f : Forest ℕ) → length (visits reach f) ≤ 2 * size f

@@ -1,8 +1,19 @@
--- A stable sort has one result: that of inserting each element in turn.
-use Rattle.hserialize.proofs.Names.{◌≡◌, ℕ, ◌<◌, ◌≤◌, Bool, true, false, cond, ◌&&◌, List, [], ◌∷◌, length, get_or, suc, refl, sym, ◌∙◌, ap, subst, arith, filter, AllByRecursion, IsStableBy, ties, IsStrictWeakOrder, not, and_parts, cond_both, false_from_ne_true, not-true, IsSortedBy}
-use Rattle.std.proofs.lemmas.List.Elements.{recursion_from_All}
-use Rattle.names.proofs.Words.{heads, tails}
-use Rattle.std.proofs.lemmas.List.Sorted.{sorted_far}
+-- A list is in order in one way, where what ties is one element: that of inserting each element in turn.
+use Rattle.hserialize.proofs.Names.{◌≡◌, ℕ, ◌+◌, ◌<◌, ◌≤◌, Bool, false, cond, List, [], ◌∷◌, length, get_or, suc, refl, sym, ◌∙◌, ap, arith, nat_tests, AllByRecursion, All, IsPermutation, IsStrictWeakOrder, IsTotalOrder, cond_both, IsSortedBy, recursion_from_All, All-permutation, sum_by-IsPermutation, sorted_far}
+use Rattle.std.proofs.lemmas.List.Sorted.{IsPermutation-refl}
+use Rattle.std.proofs.lemmas.List.Sums.{sum_by-cons}
+use Rattle.std.specs.List.{sum_by}
+use Rattle.std.specs.Ordering.{is_lt, ordering_reverse}
+use Rattle.std.specs.declared.cmp.Ordering.{Ordering}
+use Rattle.std.specs.declared.cmp.Ordering.TheVariants.{Equal}
+
+neither : (o : Ordering) → is_lt o ≡ false → is_lt (ordering_reverse o) ≡ false → o ≡ Equal
+neither Equal p q = refl
+neither _ p q = cc
+
+-- of two elements neither of which is less, each is equal to the other
+pub tied_equal : {X : Type 0} (cmp : X → X → Ordering) → IsTotalOrder cmp → (x y : X) → is_lt (cmp x y) ≡ false → is_lt (cmp y x) ≡ false → cmp x y ≡ Equal
+tied_equal cmp total x y p q = neither (cmp x y) p (ap is_lt (sym (total.antisymm y x)) ∙ q)
 
 module _ {X : Type 0} (lt : X → X → Bool) where
   -- an element goes before the first that is not less
@@ -14,6 +25,14 @@ module _ {X : Type 0} (lt : X → X → Bool) where
   inserted [] = []
   inserted (a ∷ xs) = put a (inserted xs)
 
+  put_all : (P : X → Type 0) (a : X) (xs : List X) → P a → AllByRecursion P xs → AllByRecursion P (put a xs)
+  put_all P a [] p h = (p, tt)
+  put_all P a (b ∷ xs) p h = cond_both (lt b a) (b ∷ put a xs) (a ∷ b ∷ xs) (AllByRecursion P) (λ _. (h.0, put_all P a xs p h.1)) (λ _. (p, h))
+
+  pub inserted_all : (P : X → Type 0) (xs : List X) → AllByRecursion P xs → AllByRecursion P (inserted xs)
+  inserted_all P [] h = tt
+  inserted_all P (a ∷ xs) h = put_all P a (inserted xs) h.0 (inserted_all P xs h.1)
+
   -- none of the list is less
   abbrev Above : X → List X → Type 0
   Above x xs = AllByRecursion (λ y. lt y x ≡ false) xs
@@ -22,44 +41,29 @@ module _ {X : Type 0} (lt : X → X → Bool) where
   Up [] = Unit {0}
   Up (x ∷ xs) = Above x xs × Up xs
 
-  put-above : (x a : X) (xs : List X) → lt a x ≡ false → Above x xs → Above x (put a xs)
-  put-above x a [] p h = (p, tt)
-  put-above x a (b ∷ xs) p h = cond_both (lt b a) (b ∷ put a xs) (a ∷ b ∷ xs) (Above x) (λ _. (h.0, put-above x a xs p h.1)) (λ _. (p, h))
+  put-sum : (f : X → ℕ) (a : X) (xs : List X) → sum_by f (put a xs) ≡ f a + sum_by f xs
+  put-sum f a [] = sum_by-cons f a []
+  put-sum f a (b ∷ xs) = cond_both (lt b a) (b ∷ put a xs) (a ∷ b ∷ xs) (λ l. sum_by f l ≡ f a + sum_by f (b ∷ xs))
+      (λ _. omega (arith, sum_by-cons f b (put a xs), sum_by-cons f b xs, put-sum f a xs)) (λ _. sum_by-cons f a (b ∷ xs))
 
-  head-is : (P : X → Type 0) (p : X → Bool) (y : X) (more xs : List X) → filter p xs ≡ y ∷ more → AllByRecursion P xs → P y
-  head-is P p y more [] e h = absurd (let no : [] ≡ y ∷ more = e in cc)
-  head-is P p y more (x ∷ xs) e h = cond_both (p x) (x ∷ filter p xs) (filter p xs) (λ l. l ≡ y ∷ more → P y) (λ _ e'. subst P (heads x y (filter p xs) more e') h.0) (λ _ e'. head-is P p y more xs e' h.1) e
+  inserted-sum : (f : X → ℕ) (xs : List X) → sum_by f (inserted xs) ≡ sum_by f xs
+  inserted-sum f [] = refl
+  inserted-sum f (a ∷ xs) = omega (arith, put-sum f a (inserted xs), sum_by-cons f a xs, inserted-sum f xs)
 
-  -- a first element that is the same, where it is there
-  rests-same : (u : Bool) (x : X) (xs ys : List X) → cond u (x ∷ xs) xs ≡ cond u (x ∷ ys) ys → xs ≡ ys
-  rests-same true x xs ys e = tails x x xs ys e
-  rests-same false x xs ys e = e
+  -- how many of a list are less than this one
+  abbrev count : X → X → ℕ
+  count x y = cond (lt y x) 1 0
 
-  swap : (a b : X) (F : List X) (u v : Bool) → (u ≡ true → v ≡ true → ⊥) → cond u (b ∷ cond v (a ∷ F) F) (cond v (a ∷ F) F) ≡ cond v (a ∷ cond u (b ∷ F) F) (cond u (b ∷ F) F)
-  swap a b F true true apart = absurd (apart refl refl)
-  swap a b F true false apart = refl
-  swap a b F false v apart = refl
+  none-counted : (x : X) (ys : List X) → Above x ys → sum_by (count x) ys ≡ 0
+  none-counted x [] h = refl
+  none-counted x (y ∷ ys) h = omega (arith, sum_by-cons (count x) y ys, ap {B = ℕ} (λ (b : Bool). cond b 1 0) h.0, none-counted x ys h.1)
+
+  first-after : (x y : X) (ys : List X) → sum_by (count x) (y ∷ ys) ≡ 0 → lt y x ≡ false
+  first-after x y ys none = let sum = sum_by-cons (count x) y ys in grind (arith, nat_tests)
 
   module _ (o : IsStrictWeakOrder lt) where
     irreflexive : (x : X) → lt x x ≡ false
-    irreflexive x = false_from_ne_true (lt x x) (λ e. let clash = sym e ∙ o.one_way x x e in cc)
-
-    tied : (x y : X) → lt x y ≡ false → lt y x ≡ false → ties lt x y ≡ true
-    tied x y p q = λ i. not (p i) && not (q i)
-
-    pub parts : (x y : X) → ties lt x y ≡ true → (lt x y ≡ false) × (lt y x ≡ false)
-    parts x y h = let k = and_parts _ _ h in (not-true (lt x y) k.0, not-true (lt y x) k.1)
-
-    put-filter : (z a : X) (xs : List X) → filter (ties lt z) (put a xs) ≡ filter (ties lt z) (a ∷ xs)
-    put-filter z a [] = refl
-    put-filter z a (b ∷ xs) = cond_both (lt b a) (b ∷ put a xs) (a ∷ b ∷ xs) (λ l. filter (ties lt z) l ≡ filter (ties lt z) (a ∷ b ∷ xs))
-        (λ e. ap (λ l. cond (ties lt z b) (b ∷ l) l) (put-filter z a xs)
-        ∙ swap a b (filter (ties lt z) xs) (ties lt z b) (ties lt z a) (λ p q. let no : lt b a ≡ false = o.chain b z a (parts z b p).1 (parts z a q).0 in cc))
-        (λ _. refl)
-
-    inserted-filter : (z : X) (xs : List X) → filter (ties lt z) (inserted xs) ≡ filter (ties lt z) xs
-    inserted-filter z [] = refl
-    inserted-filter z (a ∷ xs) = put-filter z a (inserted xs) ∙ ap (λ l. cond (ties lt z a) (a ∷ l) l) (inserted-filter z xs)
+    irreflexive x = grind (arith, o.one_way x x)
 
     above-chain : (a b : X) (xs : List X) → lt b a ≡ false → Above b xs → Above a xs
     above-chain a b [] p h = tt
@@ -67,43 +71,32 @@ module _ {X : Type 0} (lt : X → X → Bool) where
 
     put-up : (a : X) (xs : List X) → Up xs → Up (put a xs)
     put-up a [] h = (tt, tt)
-    put-up a (b ∷ xs) h = cond_both (lt b a) (b ∷ put a xs) (a ∷ b ∷ xs) Up (λ e. (put-above b a xs (o.one_way b a e) h.0, put-up a xs h.1)) (λ e. ((e, above-chain a b xs e h.0), h))
+    put-up a (b ∷ xs) h = cond_both (lt b a) (b ∷ put a xs) (a ∷ b ∷ xs) Up (λ e. (put_all _ a xs (o.one_way b a e) h.0, put-up a xs h.1)) (λ e. ((e, above-chain a b xs e h.0), h))
 
     inserted-up : (xs : List X) → Up (inserted xs)
     inserted-up [] = tt
     inserted-up (a ∷ xs) = put-up a (inserted xs) (inserted-up xs)
 
-    self : (x : X) → ties lt x x ≡ true
-    self x = tied x x (irreflexive x) (irreflexive x)
-
-    -- two lists in order that agree on what ties with each element are one
-    same : (xs ys : List X) → Up xs → Up ys → ((z : X) → filter (ties lt z) xs ≡ filter (ties lt z) ys) → xs ≡ ys
-    same [] [] p q e = refl
-    same [] (y ∷ ys) p q e = absurd (let no : [] ≡ y ∷ filter (ties lt y) ys = e y ∙ ap (λ u. cond u (y ∷ filter (ties lt y) ys) (filter (ties lt y) ys)) (self y) in cc)
-    same (x ∷ xs) [] p q e = absurd (let no : x ∷ filter (ties lt x) xs ≡ [] = ap (λ u. cond u (x ∷ filter (ties lt x) xs) (filter (ties lt x) xs)) (sym (self x)) ∙ e x in cc)
-    same (x ∷ xs) (y ∷ ys) p q e = λ i. head i ∷ same xs ys p.1 q.1 rests i
-      where
-        at : (z : X) (u : Bool) → ties lt z y ≡ u → cond (ties lt z x) (x ∷ filter (ties lt z) xs) (filter (ties lt z) xs) ≡ cond u (y ∷ filter (ties lt z) ys) (filter (ties lt z) ys)
-        at z u is = e z ∙ ap (λ v. cond v (y ∷ filter (ties lt z) ys) (filter (ties lt z) ys)) is
-
-        up : lt y x ≡ false
-        up = head-is (λ w. lt w x ≡ false) (ties lt y) y (filter (ties lt y) ys) (x ∷ xs) (at y true (self y)) (irreflexive x, p.0)
-
-        down : lt x y ≡ false
-        down = head-is (λ w. lt w y ≡ false) (ties lt x) x (filter (ties lt x) xs) (y ∷ ys) (sym (e x) ∙ ap (λ v. cond v (x ∷ filter (ties lt x) xs) (filter (ties lt x) xs)) (self x)) (irreflexive y, q.0)
-
-        both : x ∷ filter (ties lt x) xs ≡ y ∷ filter (ties lt x) ys
-        both = ap (λ v. cond v (x ∷ filter (ties lt x) xs) (filter (ties lt x) xs)) (sym (self x)) ∙ at x true (tied x y down up)
-
-        head : x ≡ y
-        head = heads x y _ _ both
-
-        rests : (z : X) → filter (ties lt z) xs ≡ filter (ties lt z) ys
-        rests z = rests-same (ties lt z x) x _ _ (e z ∙ (λ i. cond (ties lt z (sym head i)) (sym head i ∷ filter (ties lt z) ys) (filter (ties lt z) ys)))
-
     up_of : (xs : List X) → ((i j : ℕ) (d : X) → i ≤ j → j < length xs → lt (get_or xs j d) (get_or xs i d) ≡ false) → Up xs
     up_of [] h = tt
     up_of (x ∷ xs) h = (recursion_from_All _ _ (λ k d p. h 0 (suc k) d (omega arith) (omega arith)), up_of xs (λ i j d p q. h (suc i) (suc j) d (omega arith) (omega arith)))
 
-    pub sorted-is : (xs ys : List X) → IsSortedBy lt ys → IsStableBy lt xs ys → ys ≡ inserted xs
-    sorted-is xs ys up stable = same ys (inserted xs) (up_of ys (sorted_far lt o ys up)) (inserted-up xs) (λ z. stable z ∙ sym (inserted-filter z xs))
+    module _ (P : X → Type 0) (one : (x y : X) → P x → P y → lt x y ≡ false → lt y x ≡ false → x ≡ y) where
+      -- whatever is counted of two lists in order, it is as much
+      once : (xs ys : List X) → Up xs → Up ys → AllByRecursion P xs → AllByRecursion P ys → ((f : X → ℕ) → sum_by f xs ≡ sum_by f ys) → xs ≡ ys
+      once [] [] h k p q same = refl
+      once [] (y ∷ ys) h k p q same = absurd (omega (arith, same (λ _. 1), sum_by-cons (λ (e : X). 1) y ys))
+      once (x ∷ xs) [] h k p q same = absurd (omega (arith, same (λ _. 1), sum_by-cons (λ (e : X). 1) x xs))
+      once (x ∷ xs) (y ∷ ys) h k p q same =
+          let left : lt y x ≡ false = first-after x y ys (sym (same (count x)) ∙ none-counted x (x ∷ xs) (irreflexive x, h.0)) in
+          let right : lt x y ≡ false = first-after y x xs (same (count y) ∙ none-counted y (y ∷ ys) (irreflexive y, k.0)) in
+          let first : x ≡ y = one x y p.0 q.0 right left in
+          λ i. first i ∷ once xs ys h.1 k.1 p.1 q.1 (λ f. omega (arith, same f, sum_by-cons f x xs, sum_by-cons f y ys, ap f first)) i
+
+      pub sorted-is : (xs ys : List X) → IsPermutation xs ys → IsSortedBy lt ys → All P xs → ys ≡ inserted xs
+      sorted-is xs ys moved up all =
+          once ys (inserted xs) (up_of ys (sorted_far lt o ys up)) (inserted-up xs) (recursion_from_All P ys (All-permutation P xs ys moved all)) (inserted_all P xs (recursion_from_All P xs all))
+          (λ f. sum_by-IsPermutation f xs ys moved ∙ sym (inserted-sum f xs))
+
+      pub sorted-once : (xs ys : List X) → IsPermutation xs ys → IsSortedBy lt xs → IsSortedBy lt ys → All P xs → xs ≡ ys
+      sorted-once xs ys moved up up' all = sorted-is xs xs (IsPermutation-refl xs) up all ∙ sym (sorted-is xs ys moved up' all)

@@ -1,20 +1,13 @@
 -- What a walk over a region tests.
-use Rattle.hserialize.proofs.Names.{◌≡◌, ℕ, ◌<◌, Bool, true, false, not, cond, List, Some, None, refl, ◌∙◌, ap, option_and_then, and_parts, not-true, ◌&&◌, Option, Texts, AreNames, text_of, tag_of, tag_named, Tag, AreCounted, What, element, Forest, none, tree, children_of, mapped, mapped_what, name_in, row, takes_role, texts_in, Inside, inside_node, inside_element, is_nested, is_plain_node, inserts_marker, are_region_content, begins_region, in_region, without_form, is_phrasing, content_among, texts_at_top, tag_or_other, tag_at, marked, visits, Around, Content, Visit}
+use Rattle.hserialize.proofs.Names.{◌≡◌, ℕ, ◌<◌, Bool, true, false, not, cond, List, Some, None, refl, ◌∙◌, ap, option_and_then, and_parts, not-true, ◌&&◌, Option, Texts, AreNames, text_of, tag_of, tag_named, Tag, AreCounted, What, element, Forest, none, tree, children_of, mapped, mapped_what, name_in, row, takes_role, texts_in, Inside, inside_node, inside_element, is_nested, is_plain_node, inserts_marker, are_region_content, begins_region, in_region, without_form, is_phrasing, content_among, texts_at_top, tag_or_other, tag_at, marked, visits, Around, Content, Visit, eqb, eq-eqb, text, first_or, what_of, begins_with_text, alone, standing_at_top, standing_in, standing_of, inside_is, is_text_node, node_begins_with_line_feed, is_text_at, begins_at, is_plain_element, is_plain_what, is_plain_at, after_visit, goes_in, Region}
 use Rattle.hserialize.proofs.KnownNames.{tags-agree}
 use Rattle.hserialize.proofs.Runs.{run, walked, run-visits}
 use Rattle.hserialize.proofs.Seen.{Seen, seen}
-use Rattle.std.proofs.Common.{eqb}
-use Rattle.std.proofs.lemmas.Bool.{eq-eqb}
 use Rattle.names.specs.declared.tag.Tag.TheVariants as tag
-use Rattle.hnodes.specs.Forest.{text}
-use Rattle.hnodes.specs.Spots.{first_or, what_of}
-use Rattle.hserialize.specs.Plain.{begins_with_text, begins_with_line_feed as begins_line}
-use Rattle.hserialize.specs.Testing.{alone, standing_at_top, standing_in, standing_of, inside_is, is_text_node, begins_with_line_feed, is_text_at, begins_at, is_plain_element, is_plain_what, is_plain_at, after_visit}
-use Rattle.hserialize.specs.Walk.{goes_in}
+use Rattle.hserialize.specs.Plain.{begins_with_line_feed as begins_line}
 use Rattle.hserialize.specs.declared.content.Content.TheVariants as content
 use Rattle.hserialize.specs.declared.content.Texts.{Texts as Allowed}
 use Rattle.hserialize.specs.declared.content.Texts.TheVariants as texts
-use Rattle.hserialize.specs.declared.walk.Reach.TheVariants.{Region}
 use Rattle.hserialize.proofs.Entering.{fits, place_in, IsEntered, enter_element, enter_other, left_again}
 use Rattle.hserialize.proofs.Seen.{IsSeen}
 use Rattle.hserialize.proofs.Walks.{is_left, tells, entering, leaving, lost, Finds}
@@ -51,9 +44,9 @@ module _ (spelling : ℕ → List ℕ) (tags : (id : ℕ) → tag_of id ≡ tag_
   -- a node by itself
   line_feed : (made p : ℕ) (g : Forest ℕ) → Seen made f root p g → begins_at (first_or g None) f ≡ begins_line (mapped spelling g)
   line_feed made p none s = refl
-  line_feed made p (tree b w kids rest) s = ap begins_with_line_feed s.0.what ∙ go w
+  line_feed made p (tree b w kids rest) s = ap node_begins_with_line_feed s.0.what ∙ go w
     where
-      go : (v : What ℕ) → begins_with_line_feed (Some v) ≡ begins_line (tree b (mapped_what spelling v) (mapped spelling kids) (mapped spelling rest))
+      go : (v : What ℕ) → node_begins_with_line_feed (Some v) ≡ begins_line (tree b (mapped_what spelling v) (mapped spelling kids) (mapped spelling rest))
       go (text t) = refl
       go _ = refl
 

@@ -1,7 +1,6 @@
 -- A walk with a state, which is lost at a visit that finds what is not to be.
-use Rattle.hserialize.proofs.Names.{◌≡◌, ℕ, Bool, true, false, cond, cond_both, List, [], ◌∷◌, Some, None, refl, sym, ◌∙◌, ap, option_and_then, Option, Forest, none, tree, goes_in, Visit, Enter, Leave}
+use Rattle.hserialize.proofs.Names.{◌≡◌, ℕ, Bool, true, false, cond, cond_both, List, [], ◌∷◌, Some, None, refl, sym, ◌∙◌, ap, option_and_then, Option, Forest, none, tree, goes_in, Visit, Enter, Leave, Reach}
 use Rattle.hserialize.proofs.Runs.{run, walked}
-use Rattle.hserialize.specs.declared.walk.Reach.{Reach}
 
 -- whether the state was not lost
 abbrev pub is_left : {S : Type 0} → Option S → Bool

@@ -9,7 +9,7 @@ use Rattle.hserialize.specs.ContentTable.{row, texts_in}
 use Rattle.hserialize.specs.Plain.{are_plain_attributes, is_plain_comment, is_plain_text}
 use Rattle.hserialize.specs.PlainDocument.{are_metadata, comments_then, doctype_then, ends_document, html_on, is_leaf, is_metadata}
 use Rattle.hserialize.specs.Testing.{is_text_at}
-use Rattle.hserialize.specs.Words.{is_empty}
+use Rattle.hserialize.specs.Words.{is_empty_text}
 use Rattle.hserialize.specs.declared.content.Texts.{Texts}
 use Rattle.hserialize.specs.declared.content.Texts.TheVariants as texts
 
@@ -38,7 +38,7 @@ IsDoctypePassed from to f = (spelling : ℕ → List ℕ)
 
 abbrev pub is_plain_doctype_what : Option (What ℕ) → (childless : Bool) → Bool
 is_plain_doctype_what (Some (doctype name public_id system_id)) childless =
-    bytes_eq name (codes "html") && is_empty public_id && is_empty system_id && childless
+    bytes_eq name (codes "html") && is_empty_text public_id && is_empty_text system_id && childless
 is_plain_doctype_what _ childless = false
 
 abbrev pub is_plain_doctype_at : ℕ → Forest ℕ → Bool

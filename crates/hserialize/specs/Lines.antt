@@ -6,7 +6,7 @@ use Rattle.std.specs.Cmp.Lexicographic.{slice_cmp}
 use Rattle.names.specs.Codes.{code_text}
 use Rattle.names.specs.declared.error.ParseError.{ParseError}
 use Rattle.hnodes.specs.Forest.{Attribute, What, document, doctype, element, comment, text, Forest, none, tree}
-use Rattle.hserialize.specs.Words.{is_empty}
+use Rattle.hserialize.specs.Words.{is_empty_text}
 
 -- a line at a depth: two spaces a level
 abbrev pub indented : ℕ → List ℕ → List ℕ
@@ -30,7 +30,7 @@ attribute_line depth a = indented depth (a.0 ++ codes "=" ++ between_quotes a.1)
 -- the identifiers of a doctype, where one of them is not empty
 abbrev pub identifiers : List ℕ → List ℕ → List ℕ
 identifiers public_id system_id =
-    if is_empty public_id && is_empty system_id then [] else codes " " ++ between_quotes public_id ++ codes " " ++ between_quotes system_id
+    if is_empty_text public_id && is_empty_text system_id then [] else codes " " ++ between_quotes public_id ++ codes " " ++ between_quotes system_id
 
 -- the lines of a node, and of its attributes
 abbrev pub node_lines : ℕ → What (List ℕ) → List ℕ

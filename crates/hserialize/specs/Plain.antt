@@ -4,11 +4,12 @@ use Rattle.std.specs.Char.{is_ascii_whitespace, is_ascii_lowercase, is_ascii_dig
 use Rattle.std.specs.List.{list_any, list_all, starts_with}
 use Rattle.names.specs.declared.tag.Tag.{Tag}
 use Rattle.names.specs.declared.tag.Tag.TheVariants as tag
+use Rattle.names.specs.Sets.{is_button}
 use Rattle.names.specs.Tags.{tag_named}
 use Rattle.hnodes.specs.Clean.{is_clean}
 use Rattle.hnodes.specs.Forest.{Attribute, What, document, doctype, element, comment, text, Forest, none, tree}
 use Rattle.hserialize.specs.Walk.{inserts_marker}
-use Rattle.hserialize.specs.Words.{is_empty}
+use Rattle.hserialize.specs.Words.{is_empty_text}
 use Rattle.hserialize.specs.ContentTable.{row, takes_role, texts_in, takes_comments}
 use Rattle.hserialize.specs.declared.content.Content.{Content}
 use Rattle.hserialize.specs.declared.content.Content.TheVariants as content
@@ -34,19 +35,19 @@ is_among_texts texts.Script t = not (has_part (codes "</") t) && not (has_part (
 is_among_texts texts.None t = false
 
 abbrev pub is_plain_text : Texts → List ℕ → Bool
-is_plain_text allowed t = not (is_empty t) && is_clean t && is_among_texts allowed t
+is_plain_text allowed t = not (is_empty_text t) && is_clean t && is_among_texts allowed t
 
 abbrev pub is_plain_comment : List ℕ → Bool
 is_plain_comment t = is_clean t && not (has_part (codes "-->") t) && not (has_part (codes "--!>") t) && not (begins_with (codes ">") t)
     && not (begins_with (codes "->") t)
 
 -- a lower letter, then lower letters, digits, `-`, `_` and `:`
-abbrev pub is_name_byte : ℕ → Bool
-is_name_byte b = is_ascii_lowercase b || is_ascii_digit b || b == 45 || b == 95 || b == 58
+abbrev pub is_plain_name_byte : ℕ → Bool
+is_plain_name_byte b = is_ascii_lowercase b || is_ascii_digit b || b == 45 || b == 95 || b == 58
 
 abbrev pub is_plain_name : List ℕ → Bool
 is_plain_name [] = false
-is_plain_name (b ∷ bs) = is_ascii_lowercase b && list_all is_name_byte bs
+is_plain_name (b ∷ bs) = is_ascii_lowercase b && list_all is_plain_name_byte bs
 
 -- attributes with such names, no two of which are the same
 abbrev pub are_plain_attributes : List (Attribute (List ℕ)) → Bool
@@ -80,13 +81,9 @@ abbrev pub is_a : Tag → Bool
 is_a tag.A = true
 is_a _ = false
 
-abbrev pub is_button : Tag → Bool
-is_button tag.Button = true
-is_button _ = false
-
-abbrev pub is_form : Tag → Bool
-is_form tag.Form = true
-is_form _ = false
+abbrev pub is_form_element : Tag → Bool
+is_form_element tag.Form = true
+is_form_element _ = false
 
 -- where the children of an element are
 abbrev pub inside_element : Tag → Inside → Inside
@@ -98,7 +95,7 @@ inside_element t inside =
       texts = texts_in own;
       in_a = (seen && inside.in_a) || is_a t;
       in_button = (seen && inside.in_button) || is_button t;
-      in_form = inside.in_form || is_form t;
+      in_form = inside.in_form || is_form_element t;
     }
 
 -- where those of a node do: a node that is no element has none
@@ -161,7 +158,7 @@ in_context_of content.Empty form = None
 
 -- where the list of a fragment in this context is, if there are plain ones there; a context form is around it
 abbrev pub in_context : List ℕ → Option Inside
-in_context context = in_context_of (row (tag_named context)).1 (is_form (tag_named context))
+in_context context = in_context_of (row (tag_named context)).1 (is_form_element (tag_named context))
 
 abbrev pub are_content_if : Option Inside → Forest (List ℕ) → Bool
 are_content_if None f = false

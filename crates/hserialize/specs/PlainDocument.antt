@@ -5,7 +5,7 @@ use Rattle.names.specs.declared.tag.Tag.TheVariants as tag
 use Rattle.names.specs.Tags.{tag_named}
 use Rattle.hnodes.specs.Forest.{What, doctype, element, comment, text, Forest, none, tree}
 use Rattle.hserialize.specs.Plain.{Inside, are_content, are_plain_attributes, begins_with_text, inside_element, is_plain, is_plain_comment, is_plain_text}
-use Rattle.hserialize.specs.Words.{is_empty}
+use Rattle.hserialize.specs.Words.{is_empty_text}
 use Rattle.hserialize.specs.declared.content.Content.TheVariants as content
 use Rattle.hserialize.specs.declared.content.Texts.{Texts}
 use Rattle.hserialize.specs.declared.content.Texts.TheVariants as texts
@@ -34,7 +34,7 @@ comments_then next f = leaves_then texts.None next f
 -- a doctype, if there is one, named html and without identifiers, and then these
 abbrev pub doctype_then : (Forest (List ℕ) → Bool) → Forest (List ℕ) → Bool
 doctype_then next (tree n (doctype name public_id system_id) kids rest) =
-    bytes_eq name (codes "html") && is_empty public_id && is_empty system_id && ends_document kids && next rest
+    bytes_eq name (codes "html") && is_empty_text public_id && is_empty_text system_id && ends_document kids && next rest
 doctype_then next f = next f
 
 -- an element of this name that has these children, and then these

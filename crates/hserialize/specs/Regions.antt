@@ -4,7 +4,7 @@ use Rattle.std.specs.Prelude.{ℕ, Bool, true, false, not, ◌&&◌, ◌||◌, L
 use Rattle.names.specs.Tags.{tag_named}
 use Rattle.hnodes.specs.Forest.{What, element, Forest, none, tree, children_of}
 use Rattle.hnodes.specs.Mapped.{mapped}
-use Rattle.hserialize.specs.Plain.{Inside, inside_node, is_form, is_plain_node}
+use Rattle.hserialize.specs.Plain.{Inside, inside_node, is_form_element, is_plain_node}
 use Rattle.hserialize.specs.Walk.{inserts_marker}
 use Rattle.hserialize.specs.Testing.{tag_at, texts_at_top}
 use Rattle.hserialize.specs.declared.content.Content.{Content}
@@ -18,7 +18,7 @@ begins_region (element name attrs) = inserts_marker (tag_named name)
 begins_region _ = false
 
 abbrev pub makes_form : What (List ℕ) → Bool
-makes_form (element name attrs) = is_form (tag_named name)
+makes_form (element name attrs) = is_form_element (tag_named name)
 makes_form _ = false
 
 -- the same place, as if no form were around it
@@ -47,7 +47,7 @@ module _ (spelling : ℕ → List ℕ) where
   -- whether a form is around what comes after a visit, if none is in a form, and what is in a region that is entered is its content
   abbrev pub form_after : Forest ℕ → Visit → (in_form : Bool) → Option Bool
   form_after f (Enter n) in_form =
-      if in_form && is_form (tag_at n f) then None
+      if in_form && is_form_element (tag_at n f) then None
       else if inserts_marker (tag_at n f) && not (are_region_content (in_region content.Flow) (mapped spelling (children_of n f))) then None
-      else Some (in_form || is_form (tag_at n f))
-  form_after f (Leave n) in_form = Some (in_form && not (is_form (tag_at n f)))
+      else Some (in_form || is_form_element (tag_at n f))
+  form_after f (Leave n) in_form = Some (in_form && not (is_form_element (tag_at n f)))

@@ -2,13 +2,14 @@
 use Rattle.std.specs.Prelude.{◌≡◌, ◌<◌, ℕ, Bool, true, false, not, ◌&&◌, eqb, List, Option, Some, None, codes, map, option_and_then, if◌then◌else◌}
 use Rattle.names.specs.declared.tag.Tag.{Tag}
 use Rattle.names.specs.declared.tag.Tag.TheVariants as tag
+use Rattle.names.specs.Sets.{is_button}
 use Rattle.names.specs.Tags.{tag_of}
 use Rattle.hnodes.specs.Forest.{Attribute, What, element, comment, text, Forest}
 use Rattle.hnodes.specs.Mapped.{mapped_attribute}
 use Rattle.hnodes.specs.Spots.{first_child_of, node_name, next_of, parent_of, what_of}
 use Rattle.hserialize.specs.ContentTable.{row, takes_role, texts_in, takes_comments}
 use Rattle.hserialize.specs.Plain.{Inside, begins_with, is_plain_name, is_plain_text, is_plain_comment, are_plain_attributes, is_nested, is_a}
-use Rattle.hserialize.specs.Plain.{is_button, drops_line_feed}
+use Rattle.hserialize.specs.Plain.{drops_line_feed}
 use Rattle.hserialize.specs.declared.around.Around.{Around}
 use Rattle.hserialize.specs.declared.around.Standing.{Standing}
 use Rattle.hserialize.specs.declared.content.Content.{Content}
@@ -97,15 +98,15 @@ abbrev pub is_text_node : Option (What ℕ) → Bool
 is_text_node (Some (text t)) = true
 is_text_node _ = false
 
-abbrev pub begins_with_line_feed : Option (What ℕ) → Bool
-begins_with_line_feed (Some (text t)) = begins_with (codes "\n") t
-begins_with_line_feed _ = false
+abbrev pub node_begins_with_line_feed : Option (What ℕ) → Bool
+node_begins_with_line_feed (Some (text t)) = begins_with (codes "\n") t
+node_begins_with_line_feed _ = false
 
 abbrev pub is_text_at : Option ℕ → Forest ℕ → Bool
 is_text_at node f = is_text_node (option_and_then (λ n. what_of n f) node)
 
 abbrev pub begins_at : Option ℕ → Forest ℕ → Bool
-begins_at node f = begins_with_line_feed (option_and_then (λ n. what_of n f) node)
+begins_at node f = node_begins_with_line_feed (option_and_then (λ n. what_of n f) node)
 
 module _ (spelling : ℕ → List ℕ) where
   -- an attribute

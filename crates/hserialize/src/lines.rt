@@ -3,7 +3,7 @@
 ghost use Rattle.std.specs.Prelude.{◌≡◌, ◌++◌, ◌<◌, ◌≤◌, ◌^◌, ◌&&◌, ℕ, codes, flat_map, length, map, vec_capacity, OnOk};
 ghost use Rattle.std.specs.List.{repeat};
 ghost use Rattle.std.specs.String.{string_bytes};
-ghost use Rattle.hserialize.specs.Vocabulary.{text_of, children_of, element, what_of, mapped, mapped_what, pair_of, indented, attribute_line, identifiers, node_lines, error_lines, tree_text, HoldsBytes, IsFlushed, Puts, WritesText, written_so_far, attribute_count, printed_lines, is_empty};
+ghost use Rattle.hserialize.specs.Vocabulary.{text_of, children_of, element, what_of, mapped, mapped_what, pair_of, indented, attribute_line, identifiers, node_lines, error_lines, tree_text, HoldsBytes, IsFlushed, Puts, WritesText, written_so_far, attribute_count, printed_lines, is_empty_text};
 
 use crate::error_line::{ErrorLine, put_error};
 use crate::sorted::{NamedAttr, in_order};
@@ -75,7 +75,7 @@ fn put_element<'a, W: Target>(
 
 /// Whether a doctype has no identifier.
 fn has_none(public_id: &str, system_id: &str) -> bool
-    ensures { result ≡ (is_empty public_id.now && is_empty system_id.now) }
+    ensures { result ≡ (is_empty_text public_id.now && is_empty_text system_id.now) }
 {
     public_id.is_empty() && system_id.is_empty()
 }

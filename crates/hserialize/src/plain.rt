@@ -2,7 +2,7 @@
 
 ghost use Rattle.std.specs.Prelude.{◌≡◌, ◌<◌, ◌&&◌, ◌||◌, IfSome, Some, false, map};
 ghost use Rattle.std.specs.List.{list_all};
-ghost use Rattle.hserialize.specs.Vocabulary.{text_of, has_plain_name, are_clean, tag_of, children_of, mapped, mapped_attribute, attributes_of, first_child_of, parent_of, are_plain_attributes, is_form, is_plain, drops_line_feed, are_region_content, form_after, in_region, tag_at, standing_of, inside_is, is_phrasing, is_text_at, begins_at, is_plain_element, is_plain_at, after_visit, visited_node};
+ghost use Rattle.hserialize.specs.Vocabulary.{text_of, has_plain_name, are_clean, tag_of, children_of, mapped, mapped_attribute, attributes_of, first_child_of, parent_of, are_plain_attributes, is_form_element, is_plain, drops_line_feed, are_region_content, form_after, in_region, tag_at, standing_of, inside_is, is_phrasing, is_text_at, begins_at, is_plain_element, is_plain_at, after_visit, visited_node};
 
 use crate::around::{Around, Standing};
 use crate::content::Content;
@@ -173,8 +173,8 @@ fn is_plain_region(tree: &Tree, names: &PlainNames, root: NodeId, top: Content) 
 }
 
 /// Whether an element of this name is a form.
-fn is_form(tag: Tag) -> bool
-    ensures { result ≡ is_form tag }
+fn is_form_element(tag: Tag) -> bool
+    ensures { result ≡ is_form_element tag }
 {
     matches!(tag, Tag::Form)
 }
@@ -188,15 +188,15 @@ fn form_after(tree: &Tree, names: &PlainNames, in_form: bool, visit: Visit) -> O
     match visit {
         Visit::Enter(node) => {
             let tag = tag_at(tree, node);
-            if in_form && is_form(tag) {
+            if in_form && is_form_element(tag) {
                 return None;
             }
             if inserts_marker(tag) && !is_plain_region(tree, names, node, Content::Flow) {
                 return None;
             }
-            Some(in_form || is_form(tag))
+            Some(in_form || is_form_element(tag))
         }
-        Visit::Leave(node) => Some(in_form && !is_form(tag_at(tree, node))),
+        Visit::Leave(node) => Some(in_form && !is_form_element(tag_at(tree, node))),
     }
 }
 
@@ -213,7 +213,7 @@ pub(crate) fn is_plain_list(tree: &Tree, names: &PlainNames, root: NodeId, conte
         return false;
     }
     prove!(names.are_names());
-    let mut in_form = is_form(tag);
+    let mut in_form = is_form_element(tag);
     for visit in TreeWalk::new(tree, root, Reach::Whole) {
         match form_after(tree, names, in_form, visit) {
             Some(after) => in_form = after,

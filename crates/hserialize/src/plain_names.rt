@@ -3,24 +3,24 @@
 ghost use Rattle.std.specs.Prelude.{◌≡◌, true};
 ghost use Rattle.std.specs.List.{list_all};
 ghost use Rattle.names.specs.Names.{AreNames};
-ghost use Rattle.hserialize.specs.Vocabulary.{has_plain_name, is_name_byte, is_plain_name, names_end, text_of, ArePlainTo};
+ghost use Rattle.hserialize.specs.Vocabulary.{has_plain_name, is_plain_name_byte, is_plain_name, names_end, text_of, ArePlainTo};
 
 use hnodes::Attrs;
 use names::{NameId, Names};
 use std::marker::Model;
 
 /// Whether a byte may be in the name of an attribute.
-fn is_name_byte(byte: u8) -> bool
-    ensures { result ≡ is_name_byte byte }
+fn is_plain_name_byte(byte: u8) -> bool
+    ensures { result ≡ is_plain_name_byte byte }
 {
     matches!(byte, b'a'..=b'z' | b'0'..=b'9' | b'-' | b'_' | b':')
 }
 
 /// Whether all of these bytes may be.
 fn are_name_bytes(bytes: &[u8]) -> bool
-    ensures { result ≡ list_all is_name_byte bytes.now }
+    ensures { result ≡ list_all is_plain_name_byte bytes.now }
 {
-    bytes.iter().all(|&byte| is_name_byte(byte))
+    bytes.iter().all(|&byte| is_plain_name_byte(byte))
 }
 
 /// Whether the name of an attribute is plain.

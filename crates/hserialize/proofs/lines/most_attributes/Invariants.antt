@@ -1,5 +1,4 @@
-use Rattle.hserialize.proofs.Names.{ℕ, ◌<◌, ◌≤◌, what_of}
-use Rattle.hserialize.specs.Printing.{attribute_count}
+use Rattle.hserialize.proofs.Names.{ℕ, ◌<◌, ◌≤◌, what_of, attribute_count}
 use Rattle.hserialize.proofs.lines.most_attributes.Given as goal
 
 -- no node so far has more

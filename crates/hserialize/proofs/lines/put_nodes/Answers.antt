@@ -1,7 +1,6 @@
-use Rattle.hserialize.proofs.Names.{◌∙◌, ◌∷◌, ap, arith}
+use Rattle.hserialize.proofs.Names.{◌∙◌, ◌∷◌, ap, arith, Enter, Leave}
 use Rattle.hserialize.proofs.Output.{none_added, passed_on}
 use Rattle.hserialize.proofs.Printed.{begun_putting, put_more, put_failed, all_printed, one_less_is}
-use Rattle.hserialize.specs.declared.walk.Visit.TheVariants.{Enter, Leave}
 use Rattle.hserialize.proofs.lines.put_nodes.Goals as goal
 
 pub loop-visit-init : goal.loop-visit-init

@@ -1,6 +1,4 @@
-use Rattle.hserialize.proofs.Names.{◌∙◌, ap, sym, true, ◌&&◌}
-use Rattle.std.specs.Option.{option_map_or}
-use Rattle.hnodes.specs.Clean.{are_clean}
+use Rattle.hserialize.proofs.Names.{◌∙◌, ap, sym, true, ◌&&◌, option_map_or, are_clean}
 use Rattle.hserialize.proofs.plain.all_plain_attributes.Goals as goal
 
 pub returns-then-are_plain : goal.returns-then-are_plain

@@ -1,5 +1,4 @@
-use Rattle.hserialize.proofs.Names.{◌∙◌, ap, sym, nat_eq, true, ◌&&◌, names_differ}
-use Rattle.std.specs.Option.{option_map_or}
+use Rattle.hserialize.proofs.Names.{◌∙◌, ap, sym, nat_eq, true, ◌&&◌, names_differ, option_map_or}
 use Rattle.hserialize.proofs.PlainNames.{plain-are}
 use Rattle.hserialize.proofs.plain.are_plain_attributes.Goals as goal
 

@@ -1,5 +1,4 @@
-use Rattle.hserialize.proofs.Names.{◌∙◌, ap, sym, ◌&&◌, codes, text_of, children_of, mapped}
-use Rattle.hserialize.specs.Plain.{is_plain}
+use Rattle.hserialize.proofs.Names.{◌∙◌, ap, sym, ◌&&◌, codes, text_of, children_of, mapped, is_plain}
 use Rattle.hserialize.proofs.Documents.{last-is}
 use Rattle.hserialize.proofs.plain_document.is_body_on.Goals as goal
 

@@ -1,10 +1,7 @@
-use Rattle.hserialize.proofs.Names.{◌≡◌, ◌∙◌, ap, sym, subst, ℕ, ◌<◌, false, ◌&&◌, Option, next_of, children_of, mapped, text_of}
-use Rattle.std.specs.Prelude.{IfSome}
+use Rattle.hserialize.proofs.Names.{◌≡◌, ◌∙◌, ap, sym, subst, ℕ, ◌<◌, false, ◌&&◌, Option, next_of, children_of, mapped, text_of, IfSome, trees_from, are_metadata}
 use Rattle.hserialize.proofs.Documents.{metadata-step}
 use Rattle.hserialize.proofs.Following.{children-from, shorter}
 use Rattle.hserialize.proofs.KnownNames.{tags-agree}
-use Rattle.hserialize.specs.DocumentTesting.{trees_from}
-use Rattle.hserialize.specs.PlainDocument.{are_metadata}
 use Rattle.hserialize.proofs.plain_document.is_head.Goals as goal
 
 pub loop-next-init : goal.loop-next-init

@@ -1,8 +1,4 @@
-use Rattle.hserialize.proofs.Names.{◌≡◌, ◌<◌, length, children_of, mapped, text_of}
-use Rattle.std.specs.Prelude.{IfSome}
-use Rattle.hnodes.specs.Forest.{roots}
-use Rattle.hserialize.specs.DocumentTesting.{trees_from}
-use Rattle.hserialize.specs.PlainDocument.{are_metadata}
+use Rattle.hserialize.proofs.Names.{◌≡◌, ◌<◌, length, children_of, mapped, text_of, IfSome, roots, trees_from, are_metadata}
 use Rattle.hserialize.proofs.plain_document.is_head.Given as goal
 
 abbrev pub invariant-loop-next : goal.invariant-loop-next

@@ -1,7 +1,5 @@
-use Rattle.hserialize.proofs.Names.{◌∙◌, ap, sym, ◌&&◌, Some, None, text_of, mapped}
+use Rattle.hserialize.proofs.Names.{◌∙◌, ap, sym, ◌&&◌, Some, None, text_of, mapped, trees_from, body_on}
 use Rattle.hserialize.proofs.Documents.{head-is, in-html}
-use Rattle.hserialize.specs.DocumentTesting.{trees_from}
-use Rattle.hserialize.specs.PlainDocument.{body_on}
 use Rattle.hserialize.proofs.plain_document.is_html.Goals as goal
 
 pub returns-in_default : goal.returns-in_default

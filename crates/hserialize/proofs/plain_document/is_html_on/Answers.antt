@@ -1,5 +1,4 @@
-use Rattle.hserialize.proofs.Names.{◌∙◌, ap, sym, ◌&&◌, codes, text_of, children_of, mapped}
-use Rattle.hserialize.specs.PlainDocument.{are_in_html}
+use Rattle.hserialize.proofs.Names.{◌∙◌, ap, sym, ◌&&◌, codes, text_of, children_of, mapped, are_in_html}
 use Rattle.hserialize.proofs.Documents.{last-is}
 use Rattle.hserialize.proofs.plain_document.is_html_on.Goals as goal
 

@@ -1,6 +1,5 @@
-use Rattle.hserialize.proofs.Names.{◌∙◌, ap, sym, ◌&&◌, text_of, what_of, next_of}
+use Rattle.hserialize.proofs.Names.{◌∙◌, ap, sym, ◌&&◌, text_of, what_of, next_of, is_named_what}
 use Rattle.hserialize.proofs.Documents.{comments-end}
-use Rattle.hserialize.specs.DocumentTesting.{is_named_what}
 use Rattle.hserialize.proofs.plain_document.is_last.Goals as goal
 
 pub returns-then-is_none : goal.returns-then-is_none

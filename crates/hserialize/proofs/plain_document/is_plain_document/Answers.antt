@@ -1,7 +1,5 @@
-use Rattle.hserialize.proofs.Names.{◌∙◌, ap, sym, mapped, text_of}
+use Rattle.hserialize.proofs.Names.{◌∙◌, ap, sym, mapped, text_of, trees_from, html_on}
 use Rattle.hserialize.proofs.Documents.{document-is}
-use Rattle.hserialize.specs.DocumentTesting.{trees_from}
-use Rattle.hserialize.specs.PlainDocument.{html_on}
 use Rattle.hserialize.proofs.plain_document.is_plain_document.Goals as goal
 
 pub returns : goal.returns

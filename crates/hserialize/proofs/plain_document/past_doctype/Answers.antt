@@ -1,9 +1,6 @@
-use Rattle.hserialize.proofs.Names.{◌∙◌, ap, sym, subst, ℕ, ◌<◌, cond, Option, Some, mapped}
-use Rattle.std.specs.Prelude.{IfSome}
+use Rattle.hserialize.proofs.Names.{◌∙◌, ap, sym, subst, ℕ, ◌<◌, cond, Option, Some, mapped, IfSome, trees_from, comments_then, doctype_then, html_on}
 use Rattle.hserialize.proofs.Documents.{doctype-step}
 use Rattle.hserialize.proofs.Following.{first-at}
-use Rattle.hserialize.specs.DocumentTesting.{trees_from}
-use Rattle.hserialize.specs.PlainDocument.{comments_then, doctype_then, html_on}
 use Rattle.hserialize.proofs.plain_document.past_doctype.Goals as goal
 
 pub returns-in-Some-clause-passed : goal.returns-in-Some-clause-passed

@@ -1,6 +1,4 @@
-use Rattle.hserialize.proofs.Names.{ℕ, ◌<◌, ◌∙◌, ap, sym, subst, cond, Option, Some, mapped, next_of}
-use Rattle.std.specs.Prelude.{IfSome}
-use Rattle.hserialize.specs.DocumentTesting.{past_leaves, trees_from}
+use Rattle.hserialize.proofs.Names.{ℕ, ◌<◌, ◌∙◌, ap, sym, subst, cond, Option, Some, mapped, next_of, IfSome, past_leaves, trees_from}
 use Rattle.hserialize.proofs.Documents.{past-step}
 use Rattle.hserialize.proofs.Following.{first-at, shorter}
 use Rattle.hserialize.proofs.plain_document.past_leaves.Goals as goal

@@ -1,7 +1,4 @@
-use Rattle.hserialize.proofs.Names.{◌≡◌, ℕ, ◌<◌, List, length, mapped}
-use Rattle.std.specs.Prelude.{IfSome}
-use Rattle.hnodes.specs.Forest.{roots}
-use Rattle.hserialize.specs.DocumentTesting.{past_leaves, trees_from}
+use Rattle.hserialize.proofs.Names.{◌≡◌, ℕ, ◌<◌, List, length, mapped, IfSome, roots, past_leaves, trees_from}
 use Rattle.hserialize.proofs.plain_document.past_leaves.Given as goal
 
 abbrev pub invariant-loop-next : goal.invariant-loop-next

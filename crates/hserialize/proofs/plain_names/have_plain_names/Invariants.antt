@@ -1,6 +1,4 @@
-use Rattle.hserialize.proofs.Names.{◌≡◌, text_of}
-use Rattle.std.specs.List.{list_all}
-use Rattle.hserialize.specs.Testing.{has_plain_name}
+use Rattle.hserialize.proofs.Names.{◌≡◌, text_of, list_all, has_plain_name}
 use Rattle.hserialize.proofs.plain_names.have_plain_names.Given as goal
 
 abbrev pub invariant-loop-name : goal.invariant-loop-name

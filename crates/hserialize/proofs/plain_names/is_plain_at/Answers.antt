@@ -1,8 +1,4 @@
-use Rattle.hserialize.proofs.Names.{List, ℕ, Option, [], ◌∙◌, sym, ap}
-use Rattle.std.proofs.Common.{option_map, unwrap_or}
-use Rattle.std.specs.Borrow.{Bor}
-use Rattle.std.proofs.lemmas.Option.{unwrap_or-slice_get}
-use Rattle.hserialize.specs.Plain.{is_plain_name}
+use Rattle.hserialize.proofs.Names.{List, ℕ, Option, [], ◌∙◌, sym, ap, option_map, unwrap_or, Bor, unwrap_or-slice_get, is_plain_name}
 use Rattle.hserialize.proofs.plain_names.is_plain_at.Goals as goal
 
 pub returns-in-None : goal.returns-in-None

@@ -1,5 +1,4 @@
-use Rattle.hserialize.proofs.Names.{text_of}
-use Rattle.hserialize.specs.Testing.{ArePlainTo}
+use Rattle.hserialize.proofs.Names.{text_of, ArePlainTo}
 use Rattle.hserialize.proofs.plain_names.plain_end.Given as goal
 
 abbrev pub invariant-loop-index : goal.invariant-loop-index

@@ -1,6 +1,4 @@
-use Rattle.hserialize.proofs.Names.{◌∙◌, true, false, refl, sym, ap, what_of, goes_in}
-use Rattle.std.specs.Option.{option_map_or}
-use Rattle.hserialize.specs.declared.walk.Reach.TheVariants.{Written}
+use Rattle.hserialize.proofs.Names.{◌∙◌, true, false, refl, sym, ap, what_of, goes_in, option_map_or, Written}
 use Rattle.hserialize.proofs.Outer.{outer-parts}
 use Rattle.hserialize.proofs.Output.{first_failed, then_put}
 use Rattle.hserialize.proofs.serializer.put_outer.Goals as goal

@@ -1,6 +1,4 @@
-use Rattle.hserialize.proofs.Names.{◌∙◌, ap, subst, text_of, mapped, children_of, written_among, WritesText}
-use Rattle.names.specs.Sets.{raw_kind}
-use Rattle.hserialize.specs.Written.{has_no_references}
+use Rattle.hserialize.proofs.Names.{◌∙◌, ap, subst, text_of, mapped, children_of, written_among, WritesText, raw_kind, has_no_references}
 use Rattle.hserialize.proofs.serializer.serialize_in.Goals as goal
 
 pub returns-clause-text : goal.returns-clause-text

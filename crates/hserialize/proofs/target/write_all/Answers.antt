@@ -1,6 +1,5 @@
 -- One call more: the first bytes of the rest were taken after what was taken before.
-use Rattle.hserialize.proofs.Names.{◌≡◌, ℕ, ◌-◌, List, ◌++◌, length, take, drop, sym, ap, ◌∙◌, take_rest, Appends-trans}
-use Rattle.std.proofs.Common.{append_assoc, take-append-drop}
+use Rattle.hserialize.proofs.Names.{◌≡◌, ℕ, ◌-◌, List, ◌++◌, length, take, drop, sym, ap, ◌∙◌, take_rest, Appends-trans, append_assoc, take-append-drop}
 use Rattle.hserialize.proofs.target.write_all.Goals as goal
 
 moves_front : (all done rest : List ℕ) (n : ℕ) → all ≡ done ++ rest → all ≡ (done ++ take n rest) ++ take (length rest - n) (drop n rest)

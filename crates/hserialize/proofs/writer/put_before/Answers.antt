@@ -1,5 +1,4 @@
-use Rattle.hserialize.proofs.Names.{◌∙◌, ◌++◌, ap, subst, Puts, written_so_far}
-use Rattle.std.proofs.Common.{append-nil}
+use Rattle.hserialize.proofs.Names.{◌∙◌, ◌++◌, ap, subst, Puts, written_so_far, append-nil}
 use Rattle.hserialize.proofs.writer.put_before.Goals as goal
 
 pub returns : goal.returns

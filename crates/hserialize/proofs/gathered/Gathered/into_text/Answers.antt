@@ -1,5 +1,4 @@
-use Rattle.hserialize.proofs.Names.{◌≡◌, ℕ, List, [], Some, Ok, subst, Appends, gathered, gathered_failures, WritesText, text_cut, text_written}
-use Rattle.hserialize.specs.Output.{no_buffer}
+use Rattle.hserialize.proofs.Names.{◌≡◌, ℕ, List, [], Some, Ok, subst, Appends, gathered, gathered_failures, WritesText, text_cut, text_written, no_buffer}
 use Rattle.hserialize.specs.declared.gathered.Gathered.{Gathered}
 use Rattle.hserialize.proofs.gathered.Gathered.into_text.Goals as goal
 

@@ -1,6 +1,4 @@
-use Rattle.hserialize.proofs.Names.{◌∙◌, subst, arith, text_of, Texts}
-use Rattle.std.proofs.lemmas.Bool.{le-leb}
-use Rattle.hserialize.specs.Testing.{ArePlainTo}
+use Rattle.hserialize.proofs.Names.{◌∙◌, subst, arith, text_of, Texts, le-leb, ArePlainTo}
 use Rattle.hserialize.proofs.PlainNames.{plain-to}
 use Rattle.hserialize.proofs.plain_names.PlainNames.are_plain.Goals as goal
 
