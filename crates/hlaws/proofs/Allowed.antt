@@ -1,5 +1,5 @@
 -- A context in which lists are plain is one that a parser takes.
-use Rattle.hlaws.proofs.Names.{◌≡◌, ℕ, Bool, true, not, ◌&&◌, ◌||◌, List, refl, sym, ◌∙◌, ap, nat_le, bytes_eq, codes, Tag, is_refused, tags, tag_named, tag_text, Forest, row, are_content_if, in_context_of, is_form, is_context}
+use Rattle.hlaws.proofs.Names.{◌≡◌, ℕ, Bool, true, not, ◌&&◌, ◌||◌, List, refl, sym, ◌∙◌, ap, nat_le, bytes_eq, codes, Tag, is_refused, tags, tag_named, tag_text, Forest, row, are_content_if, in_context_of, is_form_element, is_context}
 use Rattle.std.specs.Prelude.{length}
 use Rattle.names.specs.declared.tag.Tag.TheVariants as tag
 use Rattle.hserialize.specs.Plain.{is_plain}
@@ -12,7 +12,7 @@ is_taken t name = nat_le (length name) 64 && is_name name && not (bytes_eq name 
 
 -- whether a list is plain in it
 abbrev is_plain_in : Tag → Forest (List ℕ) → Bool
-is_plain_in t l = are_content_if (in_context_of (row t).1 (is_form t)) l
+is_plain_in t l = are_content_if (in_context_of (row t).1 (is_form_element t)) l
 
 known : (t : Tag) (l : Forest (List ℕ)) → is_plain_in t l ≡ true → is_taken t (tag_text t) ≡ true
 known tag.Other l h = cc

@@ -1,5 +1,5 @@
 -- Plain trees come back, where what is written of them is read as their own tokens.
-use Rattle.hlaws.proofs.Names.{◌≡◌, ℕ, ◌+◌, Bool, true, false, List, [], ◌∷◌, ◌++◌, map, Some, refl, sym, ◌∙◌, ap, subst, arith, ◌⊎◌, inl, inr, ne_eqb, false≢true, Forest, none, tree, size, children_of, join-none, raw_kind, tag_named, tag_text, Tag, Tok, texts, Goes, Mode, InBody, InCaption, InCell, InTable, InTableBody, InRow, fragment_begins, rule_of, perform, PlacedToken, State, eof, Done, Rule, step_begun, ends, Step, goes, Steps, and, Content, Escaping, BuildsForest, fits_mode, fits_current, is_flow_mode, numbered_forest, AreTexts, AreRead, PlainTokens, ParseOptions, fragment, is_context, token_placed, token_taken, row, texts_in, Inside, are_content, are_content_if, in_context_of, is_form, plain_tokens}
+use Rattle.hlaws.proofs.Names.{◌≡◌, ℕ, ◌+◌, Bool, true, false, List, [], ◌∷◌, ◌++◌, map, Some, refl, sym, ◌∙◌, ap, subst, arith, ◌⊎◌, inl, inr, ne_eqb, false≢true, Forest, none, tree, size, children_of, join-none, raw_kind, tag_named, tag_text, Tag, Tok, texts, Goes, Mode, InBody, InCaption, InCell, InTable, InTableBody, InRow, fragment_begins, rule_of, perform, PlacedToken, State, eof, Done, Rule, step_begun, ends, Step, goes, Steps, and, Content, Escaping, BuildsForest, fits_mode, fits_current, is_flow_mode, numbered_forest, AreTexts, AreRead, PlainTokens, ParseOptions, fragment, is_context, token_placed, token_taken, row, texts_in, Inside, are_content, are_content_if, in_context_of, is_form_element, plain_tokens}
 use Rattle.hlaws.specs.Building.{IsQuiet}
 use Rattle.names.specs.declared.tag.Tag.TheVariants as tag
 use Rattle.hadopt.specs.Site.{stack}
@@ -66,7 +66,7 @@ module _ (opts : ParseOptions) (escaping : Escaping) (context : List ℕ) (allow
   mode = context_mode (tag_named context)
 
   begins : (inside : Inside) → fits_mode inside.content mode ≡ true → fits_current inside.content inside.texts (tag_named (tag_text tag.Html)) ≡ true → (inside.texts ≡ texts_in inside.content) ⊎ (inside.texts ≡ allowed.None)
-      → inside.in_form ≡ is_form (tag_named context) → IsQuiet texts inside start_state
+      → inside.in_form ≡ is_form_element (tag_named context) → IsQuiet texts inside start_state
   begins inside m cur t form = record {
     current = record { node = 1; name = tag_text tag.Html };
     up = [];
@@ -92,7 +92,7 @@ module _ (opts : ParseOptions) (escaping : Escaping) (context : List ℕ) (allow
   at_end at acted opened m = ap (λ r. perform texts at eof r (step_begun acted)) (eof_rule acted.control.mode m) ∙ rw opened refl
 
   from_inside : (inside : Inside) → fits_mode inside.content mode ≡ true → fits_current inside.content inside.texts (tag_named (tag_text tag.Html)) ≡ true → (inside.texts ≡ texts_in inside.content) ⊎ (inside.texts ≡ allowed.None)
-      → inside.in_form ≡ is_form (tag_named context) → ends_body mode ≡ true → are_content inside l ≡ true → GivesForest opts context (written escaping (Some context) l) l
+      → inside.in_form ≡ is_form_element (tag_named context) → ends_body mode ≡ true → are_content inside l ≡ true → GivesForest opts context (written escaping (Some context) l) l
   unfolding begins
   from_inside inside m cur t form ending plain =
       let q = begins inside m cur t form in
@@ -111,10 +111,10 @@ module _ (opts : ParseOptions) (escaping : Escaping) (context : List ℕ) (allow
       let built = ap (λ f. erased (children_of 1 f)) b.built.trees_are ∙ ap erased (join-none (numbered_forest 2 l)) ∙ erased-numbered 2 l in
       record { allowed = allowed_here; parse = done.parse; parses = done.parses; children = ap (λ f. erased (children_of 1 f)) done.trees ∙ built }
 
-  comes : (k : Content) → (row (tag_named context)).1 ≡ k → are_content_if (in_context_of k (is_form (tag_named context))) l ≡ true → GivesForest opts context (written escaping (Some context) l) l
+  comes : (k : Content) → (row (tag_named context)).1 ≡ k → are_content_if (in_context_of k (is_form_element (tag_named context))) l ≡ true → GivesForest opts context (written escaping (Some context) l) l
   comes k e h = go k (ap (λ c. mode_ok c mode) (sym e) ∙ context_ok (tag_named context)) h
     where
-      go : (k : Content) → mode_ok k mode ≡ true → are_content_if (in_context_of k (is_form (tag_named context))) l ≡ true → GivesForest opts context (written escaping (Some context) l) l
+      go : (k : Content) → mode_ok k mode ≡ true → are_content_if (in_context_of k (is_form_element (tag_named context))) l ≡ true → GivesForest opts context (written escaping (Some context) l) l
       go content.TableParts m h = from_inside _ m refl (inr refl) refl (ap ends_body (parts_mode_is mode m)) h
       go content.TableRows m h = from_inside _ m refl (inr refl) refl (ap ends_body (rows_mode_is mode m)) h
       go content.Cells m h = from_inside _ m refl (inr refl) refl (ap ends_body (cells_mode_is mode m)) h

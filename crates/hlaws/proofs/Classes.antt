@@ -1,5 +1,5 @@
 -- What the rules ask of the names of plain elements, a class at a time.
-use Rattle.hlaws.proofs.Names.{◌≡◌, Bool, true, false, false≢true, Option, Some, refl, Tag, is_void, is_heading, has_implied_end, stops_button_scope, is_fostering, Family, Mode, InTable, InCaption, InColumnGroup, InTableBody, InRow, InCell, family_of, is_table_context, is_body_context, is_row_context, open_mode, Content, Role, is_list, is_dl, row, is_a, is_button, is_form, drops_line_feed, inserts_marker}
+use Rattle.hlaws.proofs.Names.{◌≡◌, Bool, true, false, false≢true, Option, Some, refl, Tag, is_void, is_heading, has_implied_end, stops_button_scope, is_fostering, Family, Mode, InTable, InCaption, InColumnGroup, InTableBody, InRow, InCell, family_of, is_table_context, is_body_context, is_row_context, open_mode, Content, Role, holds_list_items, is_dl, row, is_a, is_button, is_form_element, drops_line_feed, inserts_marker}
 use Rattle.names.specs.declared.tag.Tag.TheVariants as tag
 use Rattle.hmodes.specs.declared.family.Family.TheVariants as family
 use Rattle.hserialize.specs.declared.content.Content.TheVariants as content
@@ -18,13 +18,13 @@ pub record Profile : Type 0 where
   pub is_p : Bool
   pub is_a : Bool
   pub is_button : Bool
-  pub is_form : Bool
+  pub is_form_element : Bool
   pub is_heading : Bool
   pub drops : Bool
   pub has_implied_end : Bool
   pub mode : Option Mode
   pub stops_button : Bool
-  pub is_list : Bool
+  pub holds_list_items : Bool
   pub is_dl : Bool
   pub is_colgroup : Bool
   pub table_context : Bool
@@ -42,13 +42,13 @@ profile t = record {
   is_p = is_p t;
   is_a = is_a t;
   is_button = is_button t;
-  is_form = is_form t;
+  is_form_element = is_form_element t;
   is_heading = is_heading t;
   drops = drops_line_feed t;
   has_implied_end = has_implied_end t;
   mode = open_mode t;
   stops_button = stops_button_scope t;
-  is_list = is_list t;
+  holds_list_items = holds_list_items t;
   is_dl = is_dl t;
   is_colgroup = is_colgroup t;
   table_context = is_table_context t;
@@ -71,13 +71,13 @@ a_void f r = record (plain_profile f r content.Empty) { is_void = true }
 
 -- all rules treat names of one family and one content alike where they are plain; a family without plain names has no profile of its own
 abbrev pub class_profile : Family → Content → Profile
-class_profile family.Block content.ListItems = record (plain_profile family.Block role.Flow content.ListItems) { is_list = true }
+class_profile family.Block content.ListItems = record (plain_profile family.Block role.Flow content.ListItems) { holds_list_items = true }
 class_profile family.Block content.Definitions = record (plain_profile family.Block role.Flow content.Definitions) { is_dl = true }
 class_profile family.Block k = plain_profile family.Block role.Flow content.Flow
 class_profile family.P k = record (plain_profile family.P role.Flow content.Phrasing) { is_p = true; has_implied_end = true }
 class_profile family.Heading k = record (plain_profile family.Heading role.Flow content.Phrasing) { is_heading = true }
 class_profile family.Pre k = record (plain_profile family.Pre role.Flow content.Phrasing) { drops = true }
-class_profile family.Form k = record (plain_profile family.Form role.Flow content.Flow) { is_form = true }
+class_profile family.Form k = record (plain_profile family.Form role.Flow content.Flow) { is_form_element = true }
 class_profile family.Li k = record (plain_profile family.Li role.ListItem content.Flow) { has_implied_end = true }
 class_profile family.Dd k = record (plain_profile family.Dd role.Definition content.Flow) { has_implied_end = true }
 class_profile family.Formatting k = around family.Formatting false false

@@ -1,5 +1,5 @@
 -- Facts of content, of the modes in which it is and of the names that it holds.
-use Rattle.hlaws.proofs.Names.{arith, ◌≡◌, ℕ, ◌&&◌, List, and_parts, What, Forest, tree, are_content, inside_node, is_plain_node, Bool, true, false, not, refl, ap, false≢true, stops_item, Tag, is_heading, Mode, InBody, InTable, InTableBody, InRow, InColumnGroup, Comment, rule_of, Content, Role, takes_role, texts_in, Inside, is_nested, is_a, is_button, is_form, inserts_marker, is_flow_mode, fits_mode, fits_current, is_list, is_dl}
+use Rattle.hlaws.proofs.Names.{arith, ◌≡◌, ℕ, ◌&&◌, List, and_parts, What, Forest, tree, are_content, inside_node, is_plain_node, Bool, true, false, not, refl, ap, false≢true, stops_item, Tag, is_heading, Mode, InBody, InTable, InTableBody, InRow, InColumnGroup, Comment, rule_of, Content, Role, takes_role, texts_in, Inside, is_nested, is_a, is_button, is_form_element, inserts_marker, is_flow_mode, fits_mode, fits_current, holds_list_items, is_dl}
 use Rattle.names.specs.declared.tag.Tag.TheVariants as tag
 use Rattle.names.specs.Sets.{stops_scope}
 use Rattle.hmodes.specs.Words.{insert_comment}
@@ -79,7 +79,7 @@ pub nested_button : (i : Inside) (t : Tag) → is_button t ≡ true → is_neste
 nested_button i tag.Button h = refl
 nested_button i _ h = absurd (false≢true h)
 
-pub nested_form : (i : Inside) (t : Tag) → is_form t ≡ true → is_nested i t ≡ i.in_form
+pub nested_form : (i : Inside) (t : Tag) → is_form_element t ≡ true → is_nested i t ≡ i.in_form
 nested_form i tag.Form h = refl
 nested_form i _ h = absurd (false≢true h)
 
@@ -87,7 +87,7 @@ pub marker_stops : (t : Tag) → inserts_marker t ≡ true → stops_scope t ≡
 marker_stops tag.Caption h = refl
 marker_stops _ h = cc
 
-pub list_stops : (t : Tag) → is_list t ≡ true → stops_item t ≡ true
+pub list_stops : (t : Tag) → holds_list_items t ≡ true → stops_item t ≡ true
 list_stops tag.Ul h = refl
 list_stops _ h = cc
 

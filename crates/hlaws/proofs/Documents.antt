@@ -19,7 +19,7 @@ use Rattle.hmodes.specs.declared.token_kind.TokenKind.TheVariants.{Ws, Doctype, 
 use Rattle.hmodes.specs.declared.family.Family.TheVariants as family
 use Rattle.names.specs.declared.tag.Tag.TheVariants as tag
 use Rattle.hserialize.specs.Plain.{is_plain, is_plain_text, is_plain_comment, are_plain_attributes}
-use Rattle.hserialize.specs.Words.{is_empty}
+use Rattle.hserialize.specs.Words.{is_empty_text}
 use Rattle.hserialize.specs.PlainDocument as plain
 use Rattle.hserialize.specs.PlainDocument.{is_leaf, leaves_then, comments_then, doctype_then, element_then, is_metadata, inside_head, are_metadata, body_on, are_in_html, html_on, is_plain_document}
 use Rattle.hserialize.specs.declared.content.Content.TheVariants as content
@@ -645,7 +645,7 @@ module _ (limits : Limits) where
       (made + 1) f (under 0 (tree made w none none) f) s refl refl refl (λ c e. (refl, refl, refl)) (itself here)
       (simp (node_fits here.stands made room, grown) refl))
 
-  empty_is : (t : Name) → is_empty t ≡ true → t ≡ []
+  empty_is : (t : Name) → is_empty_text t ≡ true → t ≡ []
   empty_is [] h = refl
   empty_is (c ∷ cs) h = absurd (false≢true h)
 

@@ -8,7 +8,7 @@ pub use Rattle.htoken.proofs.OneCut.{one_list_of_tokens, no_tokens_of_refused, o
 pub use Rattle.htoken.proofs.SomeCut.{some_answer}
 pub use Rattle.htoken.specs.SomeCut.{HasAnswer, gives, refuses}
 pub use Rattle.hopen.specs.Formatting.{Listed, marker, entry, entry_of, find_entry, without_entry, cleared, EntryOf, with_room}
-pub use Rattle.hlaws.specs.Building.{BuildsForest, fits_mode, fits_current, is_flow_mode, numbered_forest, is_list, is_dl, takes_space, under, EntriesOpen, Thinned, same, kept, lost, EntriesLower}
+pub use Rattle.hlaws.specs.Building.{BuildsForest, fits_mode, fits_current, is_flow_mode, numbered_forest, holds_list_items, is_dl, takes_space, under, EntriesOpen, Thinned, same, kept, lost, EntriesLower}
 pub use Rattle.hlaws.specs.ComesBack.{decoded_text, AreTexts, AreRead, PlainTokens}
 pub use Rattle.hlaws.specs.OneAnswer.{ExactlyOne}
 pub use Rattle.hlaws.specs.PlainTokens.{plain_tokens}
@@ -38,12 +38,12 @@ pub use Rattle.hparse.specs.Input.{reads_in, input_text}
 pub use Rattle.hparse.specs.Parse.{ParseOptions, fragment, manner, policy, Parse, Parses, accepted, is_context, start_of, refused_token, refused_tag}
 pub use Rattle.hparse.specs.Taken.{token_placed, token_taken}
 pub use Rattle.hserialize.specs.ContentTable.{row, texts_in, takes_role, takes_comments}
-pub use Rattle.hserialize.specs.Plain.{are_content_if, in_context_of, is_form, Inside, are_content, is_a, is_button, drops_line_feed, is_nested, inside_element, inside_node, is_plain_node, are_plain_attributes, is_plain_text, is_plain_comment, is_among_texts, begins_with, begins_with_text, begins_with_line_feed, has_part, is_name_byte}
+pub use Rattle.hserialize.specs.Plain.{are_content_if, in_context_of, is_form_element, Inside, are_content, is_a, drops_line_feed, is_nested, inside_element, inside_node, is_plain_node, are_plain_attributes, is_plain_text, is_plain_comment, is_among_texts, begins_with, begins_with_text, begins_with_line_feed, has_part, is_plain_name_byte}
 pub use Rattle.hserialize.specs.declared.content.Content.{Content}
 pub use Rattle.hserialize.specs.declared.content.Role.{Role}
 pub use Rattle.hserialize.specs.Escaping.{written_char, escaped}
 pub use Rattle.hserialize.specs.Walk.{inserts_marker}
-pub use Rattle.hserialize.specs.Words.{is_empty}
+pub use Rattle.hserialize.specs.Words.{is_empty_text}
 pub use Rattle.hserialize.specs.Written.{start_tag_text, end_tag_text}
 pub use Rattle.hserialize.specs.declared.escaping.Escaping.{Escaping}
 pub use Rattle.htag.specs.Tag.{parts_text, attributes_after, ends_name, is_known, ends_attribute_name}
@@ -58,7 +58,7 @@ pub use Rattle.htoken.specs.Tokens.{Tokens, spans_text, AreFront, eof_of, Cut, h
 pub use Rattle.names.proofs.Words.{first_is, all-characters, all_weaker}
 pub use Rattle.names.specs.Codes.{code_rank}
 pub use Rattle.names.specs.Placed.{begins, is_space, is_alphanumeric, characters, place, spells, all, is_letter, without_null, name_bytes}
-pub use Rattle.names.specs.Sets.{raw_kind, is_refused, is_void, is_heading, has_implied_end, stops_button_scope}
+pub use Rattle.names.specs.Sets.{raw_kind, is_button, is_refused, is_void, is_heading, has_implied_end, stops_button_scope}
 pub use Rattle.names.specs.Tags.{tag_named, tags, tag_text}
 pub use Rattle.names.specs.declared.error.ErrorCode.{ErrorCode}
 pub use Rattle.names.specs.declared.error.ParseError.{ParseError}

@@ -1,5 +1,5 @@
 -- What is used of names, where they are texts.
-use Rattle.hlaws.proofs.Names.{false_from_ne_true, ◌≡◌, ℕ, Bool, true, false, cond, List, [], ◌∷◌, refl, sym, ◌∙◌, ap, false≢true, bytes_eq-Decides, bytes_eq, Tag, tag_text, tags, tag_named, texts, family_of, is_list, is_dl, is_a, is_button}
+use Rattle.hlaws.proofs.Names.{false_from_ne_true, ◌≡◌, ℕ, Bool, true, false, cond, List, [], ◌∷◌, refl, sym, ◌∙◌, ap, false≢true, bytes_eq-Decides, bytes_eq, Tag, tag_text, tags, tag_named, texts, family_of, holds_list_items, is_dl, is_a, is_button}
 use Rattle.names.specs.declared.tag.Tag.TheVariants as tag
 use Rattle.names.specs.Tags.{tag_among}
 use Rattle.names.proofs.KnownTags.{different}
@@ -61,7 +61,7 @@ text_laws = record {
   table = λ x e. is_named tag.Table (λ e. cc) x (only_table (tag_named x) e);
   caption = λ x e. is_named tag.Caption (λ e. cc) x (only_caption (tag_named x) e);
   table_row = λ x e. is_named tag.Tr (λ e. cc) x (only_row (tag_named x) e);
-  li = λ x e. not_named tag.Li is_list x refl e;
+  li = λ x e. not_named tag.Li holds_list_items x refl e;
   dd = λ x e. not_named tag.Dd is_dl x refl e;
   dt = λ x e. not_named tag.Dt is_dl x refl e;
 }

@@ -1,5 +1,5 @@
 -- Plain lists are read as their own tokens.
-use Rattle.hlaws.proofs.Names.{and_right, has_references, all_weaker, arith, ◌≡◌, ℕ, Bool, true, false, not, ◌&&◌, ◌||◌, List, [], ◌∷◌, ◌++◌, map, refl, sym, ◌∙◌, ap, subst, true≢false, and_parts, and_from, or_from, or_parts, false_from_ne_true, not-true, bytes_eq-Decides, encodes-chars, scalars-chars, codes, chars, IsUtf8, flat_map, list_all, list_any, Placed, RawKind, Tag, characters, raw_kind, is_refused, is_void, tag_named, tag_text, tags, Entities, IsTable, HasCore, Attribute, Standing, standing_after, is_known, Token, start, end, comment, character, Content, Role, Escaping, escaped, row, takes_role, are_plain_attributes, is_plain_comment, is_clean, is_name_byte, start_tag_text, end_tag_text}
+use Rattle.hlaws.proofs.Names.{and_right, has_references, all_weaker, arith, ◌≡◌, ℕ, Bool, true, false, not, ◌&&◌, ◌||◌, List, [], ◌∷◌, ◌++◌, map, refl, sym, ◌∙◌, ap, subst, true≢false, and_parts, and_from, or_from, or_parts, false_from_ne_true, not-true, bytes_eq-Decides, encodes-chars, scalars-chars, codes, chars, IsUtf8, flat_map, list_all, list_any, Placed, RawKind, Tag, characters, raw_kind, is_refused, is_void, tag_named, tag_text, tags, Entities, IsTable, HasCore, Attribute, Standing, standing_after, is_known, Token, start, end, comment, character, Content, Role, Escaping, escaped, row, takes_role, are_plain_attributes, is_plain_comment, is_clean, is_plain_name_byte, start_tag_text, end_tag_text}
 use Rattle.std.proofs.Common.{bytes_eq}
 use Rattle.std.specs.Char.{is_ascii_lowercase}
 use Rattle.names.proofs.Words.{or_second}
@@ -132,8 +132,8 @@ reads-append table bs cs ts us a b = record {
 good_attribute : (name : List ℕ) → is_plain_name name ≡ true → (list_all is_good name ≡ true) × (is_some_name name ≡ true)
 good_attribute [] h = absurd cc
 good_attribute (b ∷ bs) h =
-    let both = and_parts (is_ascii_lowercase b) (list_all is_name_byte bs) h in
-    (all_weaker is_name_byte is_good name_byte_good (b ∷ bs) (and_from _ _ (rw both.0 refl) both.1), refl)
+    let both = and_parts (is_ascii_lowercase b) (list_all is_plain_name_byte bs) h in
+    (all_weaker is_plain_name_byte is_good name_byte_good (b ∷ bs) (and_from _ _ (rw both.0 refl) both.1), refl)
 
 eq_other : (a b : List ℕ) → bytes_eq a b ≡ false → bytes_eq b a ≡ false
 eq_other a b h = false_from_ne_true _ (λ e. let x : a ≡ b = sym ((bytes_eq-Decides b a).0 e) in true≢false (sym ((bytes_eq-Decides a b).1 x) ∙ h))

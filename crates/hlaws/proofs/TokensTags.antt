@@ -1,5 +1,5 @@
 -- Tags and comments as they are written are spans.
-use Rattle.hlaws.proofs.Names.{list_all-append, ◌≡◌, ℕ, zero, suc, ◌<◌, Bool, true, false, not, cond, ◌&&◌, ◌||◌, nat_eq, Some, None, List, [], ◌∷◌, ◌++◌, drop, refl, sym, ◌∙◌, ap, subst, arith, append_assoc, and_parts, and_from, eqb-true, nat_tests, encode_ascii, ◌==◌, codes, encode_utf8_all, to_ascii_lowercase, list_all, all-characters, all_weaker, first_is, Placed, characters, place, begins, all, is_letter, is_space, without_null, name_bytes, Entities, Piece, IsTable, named_piece, Attribute, plain_piece, parts_text, ends_name, ends_attribute_name, is_known, attributes_after, is_name_byte}
+use Rattle.hlaws.proofs.Names.{list_all-append, ◌≡◌, ℕ, zero, suc, ◌<◌, Bool, true, false, not, cond, ◌&&◌, ◌||◌, nat_eq, Some, None, List, [], ◌∷◌, ◌++◌, drop, refl, sym, ◌∙◌, ap, subst, arith, append_assoc, and_parts, and_from, eqb-true, nat_tests, encode_ascii, ◌==◌, codes, encode_utf8_all, to_ascii_lowercase, list_all, all-characters, all_weaker, first_is, Placed, characters, place, begins, all, is_letter, is_space, without_null, name_bytes, Entities, Piece, IsTable, named_piece, Attribute, plain_piece, parts_text, ends_name, ends_attribute_name, is_known, attributes_after, is_plain_name_byte}
 use Rattle.std.specs.List.{flat_map}
 use Rattle.names.specs.Placed.{error_if, stops}
 use Rattle.htag.specs.Value.{plain, pieces_text, AreValue, value_bytes}
@@ -19,16 +19,16 @@ is_good c = (not (ends_attribute_name c) && to_ascii_lowercase (without_null c) 
 
 abbrev are_good_below : ℕ → Bool
 are_good_below zero = true
-are_good_below (suc n) = (not (is_name_byte n) || is_good n) && are_good_below n
+are_good_below (suc n) = (not (is_plain_name_byte n) || is_good n) && are_good_below n
 
-good_below : (n c : ℕ) → are_good_below n ≡ true → c < n → is_name_byte c ≡ true → is_good c ≡ true
+good_below : (n c : ℕ) → are_good_below n ≡ true → c < n → is_plain_name_byte c ≡ true → is_good c ≡ true
 good_below zero c all less h = absurd (omega (arith, less))
 good_below (suc n) c all less h =
-    let k = and_parts (not (is_name_byte n) || is_good n) _ all in
+    let k = and_parts (not (is_plain_name_byte n) || is_good n) _ all in
     let here : nat_eq c n ≡ true → c ≡ n = eqb-true c n in
     grind (arith, nat_tests, good_below n c)
 
-pub name_byte_good : (c : ℕ) → is_name_byte c ≡ true → is_good c ≡ true
+pub name_byte_good : (c : ℕ) → is_plain_name_byte c ≡ true → is_good c ≡ true
 name_byte_good c h = good_below 128 c refl (let small : c < 128 = grind (arith, nat_tests) in small) h
 
 pub goods_ascii : (cs : List ℕ) → list_all is_good cs ≡ true → list_all is_written_ascii cs ≡ true

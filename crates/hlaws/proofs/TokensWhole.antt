@@ -1,5 +1,5 @@
 -- Plain lists are read as their own tokens, in every context.
-use Rattle.hlaws.proofs.Names.{are_plain_attributes, arith, ◌≡◌, ℕ, Bool, true, false, not, cond, nat_lt, Option, Some, None, List, [], ◌∷◌, ◌++◌, map, length, refl, sym, ◌∙◌, ap, subst, append-nil, append_assoc, and_parts, false≢true, map-append, scalars-chars, codes, chars, IsUtf8, flat_map, Placed, RawKind, characters, raw_kind, is_void, tag_named, Entities, IsTable, HasCore, Attribute, What, Forest, none, tree, Eof, Standing, at_start, standing_after, has_references, may_end, texts, Token, start, end, comment, character, eof, Content, Role, Escaping, escaped, written_char, row, takes_role, takes_comments, Inside, inside_element, in_context_of, is_form, are_content, are_content_if, is_plain_comment, is_among_texts, is_clean, begins_with_text, has_part, plain_tokens, start_tag_text, end_tag_text, AreTexts, AreRead, PlainTokens, decoded_text, token_taken}
+use Rattle.hlaws.proofs.Names.{are_plain_attributes, arith, ◌≡◌, ℕ, Bool, true, false, not, cond, nat_lt, Option, Some, None, List, [], ◌∷◌, ◌++◌, map, length, refl, sym, ◌∙◌, ap, subst, append-nil, append_assoc, and_parts, false≢true, map-append, scalars-chars, codes, chars, IsUtf8, flat_map, Placed, RawKind, characters, raw_kind, is_void, tag_named, Entities, IsTable, HasCore, Attribute, What, Forest, none, tree, Eof, Standing, at_start, standing_after, has_references, may_end, texts, Token, start, end, comment, character, eof, Content, Role, Escaping, escaped, written_char, row, takes_role, takes_comments, Inside, inside_element, in_context_of, is_form_element, are_content, are_content_if, is_plain_comment, is_among_texts, is_clean, begins_with_text, has_part, plain_tokens, start_tag_text, end_tag_text, AreTexts, AreRead, PlainTokens, decoded_text, token_taken}
 use Rattle.std.proofs.lemmas.Str.{chars-nil, IsUtf8-nil}
 use Rattle.names.specs.declared.raw.RawKind.TheVariants as kind
 use Rattle.hnodes.specs.Forest as forest
@@ -303,4 +303,4 @@ module _ (table : Entities) (is_table : IsTable table) (core : HasCore table) (h
 -- the law
 pub tokens_law : PlainTokens
 tokens_law table escaping context l is_table core u plain =
-    in_kind table is_table core escaping (raw_kind (tag_named context)) (row (tag_named context)).1 (is_form (tag_named context)) l (all_contexts (tag_named context)) u plain
+    in_kind table is_table core escaping (raw_kind (tag_named context)) (row (tag_named context)).1 (is_form_element (tag_named context)) l (all_contexts (tag_named context)) u plain

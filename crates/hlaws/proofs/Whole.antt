@@ -1,5 +1,5 @@
 -- The tokens of a plain list of trees build it under the current node.
-use Rattle.hlaws.proofs.Names.{◌≡◌, ℕ, suc, ◌+◌, ◌<◌, ◌≤◌, Bool, true, false, not, ◌&&◌, ◌||◌, List, [], ◌∷◌, ◌++◌, length, map, Option, Some, None, refl, sym, ◌∙◌, ap, subst, arith, and_parts, or_parts, and_right, eq-eqb, lt-leb, false≢true, not-true, nat_le, encode_utf8, encode_utf8_all, chars, ◌==◌, list_all, Attribute, What, element, text, Forest, none, tree, size, times, graft_last, join, if_text, text_before, LastIn, OpenNode, in_scope, stops_in_scope, stops_item, EntryOf, Listed, marker, entry, with_room, without_entry, entry_of, find_entry, cleared, Placed, is_space, is_void, is_heading, has_implied_end, stops_button_scope, Naming, Goes, is, is_table_context, is_body_context, is_row_context, is_fostering, Family, Start, End, Mode, InCaption, InCell, Text, InTable, InTableText, InTableBody, InRow, InColumnGroup, family_of, rule_of, perform, void, raw, void_in_text, Token, start, end, comment, character, PlacedToken, Control, State, Done, kind_of, reset_mode, Rule, step_begun, ends, goes_again, Step, goes, Steps, and, Content, Role, row, takes_role, takes_comments, texts_in, Inside, inside_element, is_nested, is_a, is_button, is_form, drops_line_feed, inserts_marker, is_flow_mode, fits_mode, fits_current, is_list, is_dl, takes_space, numbered_forest, under, Thinned, same, kept, lost, EntriesOpen, EntriesLower, plain_tokens}
+use Rattle.hlaws.proofs.Names.{◌≡◌, ℕ, suc, ◌+◌, ◌<◌, ◌≤◌, Bool, true, false, not, ◌&&◌, ◌||◌, List, [], ◌∷◌, ◌++◌, length, map, Option, Some, None, refl, sym, ◌∙◌, ap, subst, arith, and_parts, or_parts, and_right, eq-eqb, lt-leb, false≢true, not-true, nat_le, encode_utf8, encode_utf8_all, chars, ◌==◌, list_all, Attribute, What, element, text, Forest, none, tree, size, times, graft_last, join, if_text, text_before, LastIn, OpenNode, in_scope, stops_in_scope, stops_item, EntryOf, Listed, marker, entry, with_room, without_entry, entry_of, find_entry, cleared, Placed, is_space, is_void, is_heading, has_implied_end, stops_button_scope, Naming, Goes, is, is_table_context, is_body_context, is_row_context, is_fostering, Family, Start, End, Mode, InCaption, InCell, Text, InTable, InTableText, InTableBody, InRow, InColumnGroup, family_of, rule_of, perform, void, raw, void_in_text, Token, start, end, comment, character, PlacedToken, Control, State, Done, kind_of, reset_mode, Rule, step_begun, ends, goes_again, Step, goes, Steps, and, Content, Role, row, takes_role, takes_comments, texts_in, Inside, inside_element, is_nested, is_a, is_button, is_form_element, drops_line_feed, inserts_marker, is_flow_mode, fits_mode, fits_current, holds_list_items, is_dl, takes_space, numbered_forest, under, Thinned, same, kept, lost, EntriesOpen, EntriesLower, plain_tokens}
 use Rattle.std.proofs.lemmas.List.{append-nil, append_assoc}
 use Rattle.std.specs.Prelude.{unwrap_or}
 use Rattle.hnodes.specs.Forest as forest
@@ -34,7 +34,7 @@ pub record NameLaws {N : Type 0} (n : Naming N) : Type 0 where
   pub table : (x : N) → family_of (n.tag x) ≡ family.Table → n.same x (n.known tag.Table) ≡ true
   pub caption : (x : N) → family_of (n.tag x) ≡ family.Caption → n.same x (n.known tag.Caption) ≡ true
   pub table_row : (x : N) → family_of (n.tag x) ≡ family.Row → n.same x (n.known tag.Tr) ≡ true
-  pub li : (x : N) → is_list (n.tag x) ≡ true → n.same x (n.known tag.Li) ≡ false
+  pub li : (x : N) → holds_list_items (n.tag x) ≡ true → n.same x (n.known tag.Li) ≡ false
   pub dd : (x : N) → is_dl (n.tag x) ≡ true → n.same x (n.known tag.Dd) ≡ false
   pub dt : (x : N) → is_dl (n.tag x) ≡ true → n.same x (n.known tag.Dt) ≡ false
 
@@ -609,7 +609,7 @@ module _ {N : Type 0} (n : Naming N) (laws : NameLaws n) (z : State N) where
       anchors_same m h y e = q.no_a (or_parts i.in_a (is_a (n.tag x)) (ap (λ u. (not u && i.in_a) || is_a (n.tag x)) (sym m) ∙ h)).0 y e
 
       forms_same : j.in_form ≡ false → c.form ≡ None
-      forms_same h = q.no_form (or_parts i.in_form (is_form (n.tag x)) h).0
+      forms_same h = q.no_form (or_parts i.in_form (is_form_element (n.tag x)) h).0
 
       self : n.same x x ≡ true
       self = laws.same_self x
@@ -686,7 +686,7 @@ module _ {N : Type 0} (n : Naming N) (laws : NameLaws n) (z : State N) where
             (λ items2 c2 t k. closes (cleared items2) back c2.form (subst (λ (l : List (Listed N)). Thinned items l) (sym (ap cleared (marked t))) same) was k.head k.form k.quirks (λ at m g. ends_so at m g items2 (begun_control c2) k.mode))
 
       -- blocks, and lists
-      a_block : (k : Content) (lists dls : Bool) → profile (n.tag x) ≡ record (plain_profile family.Block role.Flow k) { is_list = lists; is_dl = dls } → content_within i.content k ≡ k → ((m : Mode) → fits_mode k m ≡ is_flow_mode m)
+      a_block : (k : Content) (lists dls : Bool) → profile (n.tag x) ≡ record (plain_profile family.Block role.Flow k) { holds_list_items = lists; is_dl = dls } → content_within i.content k ≡ k → ((m : Mode) → fits_mode k m ≡ is_flow_mode m)
           → fits_current k (texts_in k) (n.tag x) ≡ true → (ts : List (PlacedToken N)) → Spells ts → Node ts
       a_block k lists dls p within fit cur =
           let flow = in_flow _ p refl in
@@ -766,7 +766,7 @@ module _ {N : Type 0} (n : Naming N) (laws : NameLaws n) (z : State N) where
       a_raw_element w k rule p within no_comments no_elements = a_raw w k false p within no_comments no_elements (flow_start _ p raw _ (phrasing_flows _ p refl) rule (λ at. simp (full, high, grown) refl))
 
       of_class : (w : Family) (k : Content) → profile (n.tag x) ≡ class_profile w k → is_void (n.tag x) ≡ false → (ts : List (PlacedToken N)) → Spells ts → Node ts
-      of_class family.Block content.ListItems p plain = a_block content.ListItems true false p refl (λ m. refl) (ap (λ r. r.is_list) p)
+      of_class family.Block content.ListItems p plain = a_block content.ListItems true false p refl (λ m. refl) (ap (λ r. r.holds_list_items) p)
       of_class family.Block content.Definitions p plain = a_block content.Definitions false true p refl (λ m. refl) (ap (λ r. r.is_dl) p)
       of_class family.Block _ p plain = a_block content.Flow false false p refl (λ m. refl) (ap (λ r. not r.is_heading) p)
       of_class family.Title k p plain = a_raw_element family.Title content.Text (refl, refl, refl) p refl refl (λ r. refl)
@@ -789,7 +789,7 @@ module _ {N : Type 0} (n : Naming N) (laws : NameLaws n) (z : State N) where
       of_class family.Li k p plain =
           let e : i.content ≡ content.ListItems = stands _ p refl in
           let flows : is_flow_mode c.mode ≡ true = mode_in n q content.ListItems e in
-          let within : is_list (n.tag d.name) ≡ true = current_in n q content.ListItems e in
+          let within : holds_list_items (n.tag d.name) ≡ true = current_in n q content.ListItems e in
           let no_p = q.no_p (ap closes_p e) in
           let no_li : in_scope (λ y. stops_item (n.tag y.name)) (is n tag.Li) (d ∷ up) ≡ false = rw (laws.li d.name within, list_stops (n.tag d.name) within) refl in
           own _ p content.Flow refl flows flows (ap (λ r. not r.is_heading) p) refl refl (λ h. p_below (ap (λ r. r.is_p) p) no_p)
@@ -812,10 +812,10 @@ module _ {N : Type 0} (n : Naming N) (laws : NameLaws n) (z : State N) where
           (flow_ends _ p close_block (refl, refl, refl) (λ at m g items2 c2. simp (self, stays _ p) refl))
       of_class family.Form k p plain =
           let flow = in_flow _ p refl in
-          let formed : is_form (n.tag x) ≡ true = ap (λ r. r.is_form) p in
+          let formed : is_form_element (n.tag x) ≡ true = ap (λ r. r.is_form_element) p in
           let no_form : c.form ≡ None = q.no_form (sym (nested_form i (n.tag x) formed) ∙ alone) in
           by_law _ p content.Flow refl items (record (begun_control c) { form = Some made }) q.mode_is flow.0 (ap (λ r. not r.is_heading) p) refl as_before (λ h. p_below (ap (λ r. r.is_p) p) flow.1) (anchors_same (ap (λ r. r.marks) p))
-          (λ h. absurd (let y = (or_parts i.in_form (is_form (n.tag x)) h).1 in cc)) (flow_start _ p (by_start family.Form) _ flow.0 (refl, refl, refl) (λ at. simp (no_form, flow.1, full, high, grown) refl))
+          (λ h. absurd (let y = (or_parts i.in_form (is_form_element (n.tag x)) h).1 in cc)) (flow_start _ p (by_start family.Form) _ flow.0 (refl, refl, refl) (λ at. simp (no_form, flow.1, full, high, grown) refl))
           (λ items2 c2 t k.
           let pointer : c2.form ≡ Some made = k.form in
           closes items2 c2.mode None t k.mode k.head (sym no_form) k.quirks (λ at m g. flow_end _ p (by_end family.Form) _ _ at (refl, refl, refl) (ap is_flow_mode k.mode ∙ flow.0) (simp (pointer, eq-eqb made made refl, stays _ p) refl)))
