@@ -1,10 +1,8 @@
 pub mod Names
 pub mod Moves
-pub mod Sizes
 pub mod Seen
 pub mod Runs
 pub mod KnownNames
-pub mod Attributes
 pub mod Output
 pub mod Finished
 pub mod Escapes
@@ -16,10 +14,8 @@ pub mod Tested
 pub mod Regions
 pub mod Following
 pub mod Documents
-pub mod Parts
 pub mod PlainNames
 pub mod Sorting
 pub mod Ordered
 pub mod LineTexts
-pub mod ErrorTexts
 pub mod Printed

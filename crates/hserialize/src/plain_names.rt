@@ -33,23 +33,14 @@ fn is_plain_name(name: &str) -> bool
     }
 }
 
-/// Whether the table has a name of this number, and it is plain.
-fn is_plain_at(names: &Names, index: usize) -> bool
-    ensures { result ≡ is_plain_name (text_of names.now index) }
-{
-    match names.nth(index) {
-        Some(name) => is_plain_name(name),
-        None => false,
-    }
-}
-
 /// The number of the first name of a table that is not plain, or of the first that it does not have.
 fn plain_end(names: &Names) -> usize
     ensures { ArePlainTo (text_of names.now) result }
 {
     for index in 0..usize::MAX {
-        if !is_plain_at(names, index) {
-            return index;
+        match names.nth(index) {
+            Some(name) if is_plain_name(name) => {}
+            _ => return index,
         }
     }
     usize::MAX

@@ -1,7 +1,12 @@
 use Rattle.hserialize.proofs.Names.{◌≡◌, ◌∙◌, ℕ, List, [], ◌∷◌, ◌++◌, codes, map, sym, ap, append_assoc, flat_map, rules, text_of, Attribute, mapped_attribute, attribute_text, start_tag_text, Escaping}
-use Rattle.hserialize.proofs.Attributes.{next-text}
 use Rattle.hserialize.proofs.Output.{none_put, part_put, part_failed, last_put, passed_on}
 use Rattle.hserialize.proofs.serializer.put_start_tag.Goals as goal
+
+-- the text of the next attribute, and of those after it
+next-text : (f : Attribute ℕ → Attribute (List ℕ)) (g : Attribute (List ℕ) → List ℕ) (attrs : List (Attribute ℕ)) (x : Attribute ℕ) (rest : List (Attribute ℕ)) (a : Attribute (List ℕ)) (end : List ℕ) → attrs ≡ x ∷ rest → a ≡ f x
+    → flat_map g (map f attrs) ++ end ≡ g a ++ (flat_map g (map f rest) ++ end)
+next-text f g attrs x rest a end is same =
+    ap (λ l. flat_map g (map f l) ++ end) is ∙ ap (λ b. (g b ++ flat_map g (map f rest)) ++ end) (sym same) ∙ append_assoc (g a) (flat_map g (map f rest)) end
 
 -- the name, and then the attributes and the end
 parted : (how : Escaping) (name lent : List ℕ) (attrs : List (Attribute (List ℕ))) → lent ≡ name → start_tag_text how name attrs ≡ (60 ∷ lent) ++ (flat_map (attribute_text how) attrs ++ codes ">")
